@@ -1,6 +1,7 @@
 mod Completing
 mod CompletingSessions
 mod OpenedSessions
+mod Serving
 mod Answering
 mod Compiling
 mod Decompiling

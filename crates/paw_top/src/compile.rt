@@ -1,12 +1,11 @@
 // From a source to an image.
 
-ghost use Rattle.std.specs.Prelude.{◌≡◌, ◌≢◌, ◌≤◌, ◌↔◌, [], ◌∷◌, length, string_bytes, Ok, IfOk, IfErr, IfSome};
+ghost use Rattle.std.specs.Prelude.{◌≡◌, ◌≢◌, ◌≤◌, [], ◌∷◌, length, string_bytes, Ok, IfOk, IfErr};
 ghost use Rattle.paw_game.specs.Game.{GameLists};
 ghost use Rattle.paw_game.specs.Image.{image};
 ghost use Rattle.paw_base.specs.declared.limits.TheConstants.{IMAGE_LIMIT};
 ghost use Rattle.paw_grammar.specs.Spells.{spelled};
-ghost use Rattle.paw_stage.specs.Stage.{Faulted};
-ghost use Rattle.paw_stage.specs.Across.{Across, IsOneOf};
+ghost use Rattle.paw_stage.specs.Across.{Across, Serves, IsOneOf};
 ghost use Rattle.paw_stage.specs.declared.StageCall.TheVariants as call;
 ghost use Rattle.paw_top.specs.Answers.{IfMemory, load_calls, load_memory, failed_call};
 ghost use Rattle.paw_top.specs.Compile.{Compiles, image_line};
@@ -67,9 +66,7 @@ fn line_of(alloc: Global, size: usize) -> Result<String, Outcome>
 
 /// Saves an image, and then shows a line.
 fn keep<S: Stage>(stage: &mut S, name: &str, image: &[u8], line: &[u8]) -> Outcome
-    ensures tells { S.Tells stage.old ↔ S.Tells stage.new }
-    ensures faulted { Faulted (failed_call result) (S.faults stage.old) (S.faults stage.new) }
-    ensures outside { IfSome (failed_call result) (IsOneOf (call.Save ∷ call.Show ∷ [])) }
+    ensures serves { Serves S.Stage (call.Save ∷ call.Show ∷ []) (failed_call result) stage.old stage.new }
     ensures form { result ≢ outcome.Usage }
     ensures memory { IfMemory result (λ at. ⊥) }
     ensures keeps { Across S.Stage stage.old stage.new (λ old new. SavesSo name.now image.now line.now old new result) }
@@ -82,9 +79,7 @@ fn keep<S: Stage>(stage: &mut S, name: &str, image: &[u8], line: &[u8]) -> Outco
 
 /// Compiles a source file to an image file, and shows how many bytes the image has.
 pub(crate) fn compile<S: Stage>(alloc: Global, stage: &mut S, source: &str, image: &str) -> Outcome
-    ensures tells { S.Tells stage.old ↔ S.Tells stage.new }
-    ensures faulted { Faulted (failed_call result) (S.faults stage.old) (S.faults stage.new) }
-    ensures outside { IfSome (failed_call result) (IsOneOf (call.Save ∷ call.Show ∷ load_calls)) }
+    ensures serves { Serves S.Stage (call.Save ∷ call.Show ∷ load_calls) (failed_call result) stage.old stage.new }
     ensures form { result ≢ outcome.Usage }
     ensures memory { IfMemory result (IsOneOf (memory.Source ∷ load_memory)) }
     ensures compiles { Across S.Stage stage.old stage.new (λ old new. Compiles source.now image.now old new result) }

@@ -1,9 +1,8 @@
 // From an image to its source.
 
-ghost use Rattle.std.specs.Prelude.{◌≢◌, ◌↔◌, ◌∷◌, IfSome};
-ghost use Rattle.paw_stage.specs.Stage.{Faulted};
+ghost use Rattle.std.specs.Prelude.{◌≢◌, ◌∷◌};
 ghost use Rattle.paw_stage.specs.declared.StageCall.TheVariants as call;
-ghost use Rattle.paw_stage.specs.Across.{IsOneOf};
+ghost use Rattle.paw_stage.specs.Across.{Serves, IsOneOf};
 ghost use Rattle.paw_top.specs.Answers.{IfMemory, load_calls, load_memory, failed_call};
 ghost use Rattle.paw_top.specs.Decompile.{Decompiles};
 ghost use Rattle.paw_top.specs.declared.outcome.MemoryAt.TheVariants as memory;
@@ -20,9 +19,7 @@ use std::alloc::Global;
 
 /// Shows the canonical source of the game of an image file.
 pub(crate) fn decompile<S: Stage>(alloc: Global, stage: &mut S, image: &str) -> Outcome
-    ensures tells { S.Tells stage.old ↔ S.Tells stage.new }
-    ensures faulted { Faulted (failed_call result) (S.faults stage.old) (S.faults stage.new) }
-    ensures outside { IfSome (failed_call result) (IsOneOf (call.Show ∷ load_calls)) }
+    ensures serves { Serves S.Stage (call.Show ∷ load_calls) (failed_call result) stage.old stage.new }
     ensures form { result ≢ outcome.Usage }
     ensures memory { IfMemory result (IsOneOf (memory.Print ∷ load_memory)) }
     ensures decompiles { S.Tells stage.old → Decompiles image.now (S.standing stage.old) (S.standing stage.new) result }

@@ -1,11 +1,10 @@
 // Loading a file.
 
-ghost use Rattle.std.specs.Prelude.{◌≢◌, ◌↔◌, IfOk, IfErr, IfSome};
+ghost use Rattle.std.specs.Prelude.{◌≢◌, IfOk, IfErr};
 ghost use Rattle.paw_stage.specs.Moments.{Still};
-ghost use Rattle.paw_stage.specs.Stage.{Faulted};
-ghost use Rattle.paw_stage.specs.Across.{Across, IsOneOf};
+ghost use Rattle.paw_stage.specs.Across.{Across, Serves, IsOneOf};
 ghost use Rattle.paw_stage.specs.inner.Across.{Throughout};
-ghost use Rattle.paw_top.specs.Answers.{IfMemory, load_calls, load_memory, failed_call};
+ghost use Rattle.paw_top.specs.Answers.{IfMemory, load_calls, load_memory};
 ghost use Rattle.paw_top.specs.inner.Answers.{failed_or};
 ghost use Rattle.paw_top.specs.inner.Loads.{LoadsSome, LoadsNone};
 ghost use Rattle.paw_top.specs.declared.outcome.Outcome.TheVariants as outcome;
@@ -33,9 +32,7 @@ pub(crate) fn load<S: Stage>(
     name: &str,
     most: usize,
 ) -> Result<Vec<u8>, Outcome>
-    ensures tells { S.Tells stage.old ↔ S.Tells stage.new }
-    ensures faulted { Faulted (failed_or result) (S.faults stage.old) (S.faults stage.new) }
-    ensures outside { IfErr result (λ o. IfSome (failed_call o) (IsOneOf load_calls)) }
+    ensures serves { Serves S.Stage load_calls (failed_or result) stage.old stage.new }
     ensures form { IfErr result (λ o. o ≢ outcome.Usage) }
     ensures memory { IfErr result (λ o. IfMemory o (IsOneOf load_memory)) }
     ensures some { Across S.Stage stage.old stage.new (λ old new.

@@ -1,6 +1,6 @@
 // Playing the game of an image file: a walk, a new session, and one that is taken up again.
 
-ghost use Rattle.std.specs.Prelude.{◌≡◌, ◌≢◌, ◌↔◌, ℕ, List, [], ◌∷◌, ◌++◌, IfSome};
+ghost use Rattle.std.specs.Prelude.{◌≡◌, ◌≢◌, ℕ, List, [], ◌∷◌, ◌++◌};
 ghost use Rattle.paw_effects.specs.Story.{Story};
 ghost use Rattle.paw_play.specs.inner.Telling.{told_as};
 ghost use Rattle.paw_play.specs.Calls.{walk_calls, session_calls};
@@ -8,11 +8,10 @@ ghost use Rattle.paw_play.specs.Play.{InGame, InAgain, InGoingOn, ShowsState, st
 ghost use Rattle.paw_play.specs.Stands.{Stands, IsPlayedWith};
 ghost use Rattle.paw_reading.specs.Turn.{reading};
 ghost use Rattle.paw_state.specs.State.{State};
-ghost use Rattle.paw_stage.specs.Across.{Across, EachMoment, IsOneOf};
+ghost use Rattle.paw_stage.specs.Across.{Across, EachMoment, Serves, IsOneOf};
 ghost use Rattle.paw_routines.specs.Routines.{AreRowsOf, HaveRows};
 ghost use Rattle.paw_stage.specs.Disk.{IsStable};
 ghost use Rattle.paw_top.specs.Answers.{IfMemory, load_calls, load_memory, failed_call};
-ghost use Rattle.paw_stage.specs.Stage.{Faulted};
 ghost use Rattle.paw_top.specs.Loads.{Holds};
 ghost use Rattle.paw_top.specs.Sessions.{PlaysNewIn, PlaysAgainIn, GoesOnIn, digest_of, session_from};
 ghost use Rattle.paw_top.specs.Walk.{WalksAs};
@@ -41,14 +40,12 @@ pub(crate) fn walk<P: Preface, S: Stage, F: Fn(u8, u8) -> u8>(
     seed: u64,
 ) -> Outcome
     requires rows { HaveRows F.Fn routines.now }
+    ensures serves { Serves S.Stage (load_calls ++ walk_calls) (failed_call result) stage.old stage.new }
     ensures walks { Across S.Stage stage.old stage.new (λ old new. (X : List (List ℕ)) →
         AreRowsOf F.Fn routines.now X →
         WalksAs (λ s n. told_as P.telling (reading s n)) X image.now seed old new result) }
     ensures form { result ≢ outcome.Usage }
     ensures memory { IfMemory result (IsOneOf (memory.Play ∷ load_memory)) }
-    ensures outside { IfSome (failed_call result) (IsOneOf (load_calls ++ walk_calls)) }
-    ensures tells { S.Tells stage.old ↔ S.Tells stage.new }
-    ensures faulted { Faulted (failed_call result) (S.faults stage.old) (S.faults stage.new) }
 {
     let bytes = given!(load(alloc, stage, image, IMAGE_LIMIT));
     let view = given!(view_in(alloc, bytes.as_slice()));
@@ -66,11 +63,9 @@ pub(crate) fn play<S: Stage, F: Fn(u8, u8) -> u8>(
 ) -> Outcome
     requires rows { HaveRows F.Fn routines.now }
     requires synced { S.Tells stage.old → IsStable (S.standing stage.old).disk }
-    ensures tells { S.Tells stage.old ↔ S.Tells stage.new }
-    ensures faulted { Faulted (failed_call result) (S.faults stage.old) (S.faults stage.new) }
+    ensures serves { Serves S.Stage (load_calls ++ session_calls) (failed_call result) stage.old stage.new }
     ensures form { result ≢ outcome.Usage }
     ensures memory { IfMemory result (IsOneOf (memory.Play ∷ load_memory)) }
-    ensures outside { IfSome (failed_call result) (IsOneOf (load_calls ++ session_calls)) }
     ensures plays { Across S.Stage stage.old stage.new (λ old new. (X : List (List ℕ)) →
         AreRowsOf F.Fn routines.now X → PlaysNewIn X image.now store.now seed old new result) }
     ensures any_moment { Across S.Stage stage.old stage.new (λ old new. (s : Story) →
@@ -93,11 +88,9 @@ pub(crate) fn resume<S: Stage, F: Fn(u8, u8) -> u8>(
 ) -> Outcome
     requires synced { S.Tells stage.old → IsStable (S.standing stage.old).disk }
     requires rows { HaveRows F.Fn routines.now }
-    ensures faulted { Faulted (failed_call result) (S.faults stage.old) (S.faults stage.new) }
-    ensures tells { S.Tells stage.old ↔ S.Tells stage.new }
+    ensures serves { Serves S.Stage (load_calls ++ session_calls) (failed_call result) stage.old stage.new }
     ensures form { result ≢ outcome.Usage }
     ensures memory { IfMemory result (IsOneOf (memory.Play ∷ load_memory)) }
-    ensures outside { IfSome (failed_call result) (IsOneOf (load_calls ++ session_calls)) }
     ensures plays { Across S.Stage stage.old stage.new (λ old new. (X : List (List ℕ)) →
         AreRowsOf F.Fn routines.now X → PlaysAgainIn X image.now store.now old new result) }
     ensures any_moment { Across S.Stage stage.old stage.new (λ old new. (s : Story) (st : State) (piece : List ℕ) →

@@ -1,7 +1,7 @@
 // Showing what a command ends with.
 
-ghost use Rattle.std.specs.Prelude.{◌≡◌, ◌≢◌, ◌↔◌, IfSome};
-ghost use Rattle.paw_stage.specs.Stage.{Faulted};
+ghost use Rattle.std.specs.Prelude.{◌≢◌, [], ◌∷◌};
+ghost use Rattle.paw_stage.specs.Across.{Serves};
 ghost use Rattle.paw_stage.specs.declared.StageCall.TheVariants as call;
 ghost use Rattle.paw_top.specs.Answers.{IfMemory, failed_call};
 ghost use Rattle.paw_top.specs.Shows.{Shows};
@@ -13,9 +13,7 @@ use paw_stage::{Stage, StageCall};
 
 /// Shows the text that a command ends with.
 pub(crate) fn tell<S: Stage>(stage: &mut S, text: &[u8]) -> Outcome
-    ensures tells { S.Tells stage.old ↔ S.Tells stage.new }
-    ensures faulted { Faulted (failed_call result) (S.faults stage.old) (S.faults stage.new) }
-    ensures outside { IfSome (failed_call result) (λ c. c ≡ call.Show) }
+    ensures serves { Serves S.Stage (call.Show ∷ []) (failed_call result) stage.old stage.new }
     ensures form { result ≢ outcome.Usage }
     ensures memory { IfMemory result (λ at. ⊥) }
     ensures shows { S.Tells stage.old → Shows text.now (S.standing stage.old) (S.standing stage.new) result }

@@ -1,15 +1,14 @@
 // The top call.
 
-ghost use Rattle.std.specs.Prelude.{◌≡◌, ◌↔◌, ℕ, List, [], Some, None, IfSome};
+ghost use Rattle.std.specs.Prelude.{◌≡◌, ◌↔◌, ℕ, List, [], Some, None};
 ghost use Rattle.paw_top.specs.Commands.{Compile as CompileOf, Decompile as DecompileOf, Walk as WalkOf};
 ghost use Rattle.paw_top.specs.Commands.{Trace as TraceOf, Play as PlayOf, Resume as ResumeOf};
 ghost use Rattle.paw_top.specs.Commands.{Trial as TrialOf, asked_for};
 ghost use Rattle.paw_routines.specs.Routines.{AreRowsOf, HaveRows};
 ghost use Rattle.paw_effects.specs.Story.{Story};
-ghost use Rattle.paw_stage.specs.Across.{Across, EachMoment, IsOneOf};
+ghost use Rattle.paw_stage.specs.Across.{Across, EachMoment, Serves, IsOneOf};
 ghost use Rattle.paw_stage.specs.Disk.{IsStable};
 ghost use Rattle.paw_top.specs.Answers.{IfMemory, calls_of, memory_of, failed_call};
-ghost use Rattle.paw_stage.specs.Stage.{Faulted};
 ghost use Rattle.paw_state.specs.State.{State};
 ghost use Rattle.paw_play.specs.Play.{InGame, InAgain, InGoingOn, ShowsState, store_bytes};
 ghost use Rattle.paw_play.specs.Stands.{Stands, IsPlayedWith};
@@ -68,11 +67,9 @@ pub fn paw<S: Stage, F: Fn(u8, u8) -> u8>(
 ) -> Outcome
     requires rows { HaveRows F.Fn routines.now }
     requires synced { S.Tells stage.old → IsStable (S.standing stage.old).disk }
-    ensures tells { S.Tells stage.old ↔ S.Tells stage.new }
-    ensures faulted { Faulted (failed_call result) (S.faults stage.old) (S.faults stage.new) }
+    ensures serves { Serves S.Stage (calls_of (asked_for words.now)) (failed_call result) stage.old stage.new }
     ensures usage { (result ≡ outcome.Usage) ↔ (asked_for words.now ≡ None) }
     ensures idle { asked_for words.now ≡ None → stage.new ≡ stage.old }
-    ensures outside { IfSome (failed_call result) (IsOneOf (calls_of (asked_for words.now))) }
     ensures memory { IfMemory result (IsOneOf (memory_of (asked_for words.now))) }
     ensures compiles { Across S.Stage stage.old stage.new (λ old new. (source image : List ℕ) →
         asked_for words.now ≡ Some (CompileOf source image) → Compiles source image old new result) }

@@ -1,9 +1,9 @@
 // Playing a trial.
 
-ghost use Rattle.std.specs.Prelude.{◌≡◌, ◌≢◌, ◌↔◌, ℕ, [], ◌∷◌, None, IfSome};
-ghost use Rattle.paw_stage.specs.Stage.{Standing, Faulted};
+ghost use Rattle.std.specs.Prelude.{◌≡◌, ◌≢◌, ℕ, [], ◌∷◌, None, IfSome};
+ghost use Rattle.paw_stage.specs.Stage.{Standing};
 ghost use Rattle.paw_stage.specs.declared.StageCall.TheVariants as call;
-ghost use Rattle.paw_stage.specs.Across.{IsOneOf};
+ghost use Rattle.paw_stage.specs.Across.{Serves, IsOneOf};
 ghost use Rattle.paw_trial.specs.Trial.{trial_reading};
 ghost use Rattle.paw_trial.specs.inner.Trial.{StopsAs};
 ghost use Rattle.paw_top.specs.Answers.{IfMemory, failed_call};
@@ -35,11 +35,9 @@ fn stopped_as(end: TrialEnd) -> Outcome
 
 /// Plays the trial of this number, and shows its line.
 pub(crate) fn trial<S: Stage>(alloc: Global, stage: &mut S, n: u16) -> Outcome
-    ensures tells { S.Tells stage.old ↔ S.Tells stage.new }
-    ensures faulted { Faulted (failed_call result) (S.faults stage.old) (S.faults stage.new) }
+    ensures serves { Serves S.Stage (call.Show ∷ []) (failed_call result) stage.old stage.new }
     ensures form { result ≢ outcome.Usage }
     ensures memory { IfMemory result (IsOneOf (memory.Trial ∷ [])) }
-    ensures outside { IfSome (failed_call result) (IsOneOf (call.Show ∷ [])) }
     ensures tries { S.Tells stage.old → Tries n (S.standing stage.old) (S.standing stage.new) result }
 {
     match trial_line(alloc, n) {

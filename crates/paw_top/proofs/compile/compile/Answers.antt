@@ -1,12 +1,13 @@
-use Rattle.std.proofs.Common.{◌∙◌, ap, sym, subst, length}
+use Rattle.std.proofs.Common.{[], ◌∷◌, ◌∙◌, ap, sym, subst, length}
 use Rattle.paw_grammar.specs.Spells.{spelled}
 use Rattle.paw_top.specs.Compile.{memory, image_line}
 use Rattle.paw_top.specs.inner.Compile.{IsRefusal}
 use Rattle.paw_top.specs.declared.outcome.MemoryAt.TheVariants as at
 use Rattle.paw_top.proofs.Compiling.{no_source, no_image, keeps_image}
-use Rattle.paw_stage.proofs.Counted.{Faulted_on}
-use Rattle.paw_top.specs.Answers.{failed_call}
+use Rattle.paw_stage.specs.declared.StageCall.TheVariants as call
+use Rattle.paw_top.specs.Answers.{failed_call, load_calls}
 use Rattle.paw_top.proofs.Answering.{refused_faulted}
+use Rattle.paw_top.proofs.Serving.{in_front, behind, serves_among, serves_still, serves_then}
 use Rattle.paw_top.proofs.compile.compile.Goals as goal
 
 pub returns-in-Err-clause-compiles : goal.returns-in-Err-clause-compiles
@@ -30,13 +31,18 @@ returns-clause-compiles g c = λ tells.
     (made.0, ap spelled (sym c.as_slice.ensures.value) ∙ made.1, c.as_slice-2.ensures.value ∙ made.2)
     (c.as_bytes.ensures.value ∙ c.in-Ok-line_of.ensures.line
     ∙ ap image_line (c.len.ensures ∙ c.in-Ok-image_of.made.ok.0 ∙ ap length (sym c.as_slice-2.ensures.value)))
-    (c.keep.ensures.keeps (c.load.ensures.tells.0 tells))
+    (c.keep.ensures.keeps (c.load.ensures.serves.tells.0 tells))
 
-pub returns-in-Err-image_of-clause-faulted : goal.returns-in-Err-image_of-clause-faulted
-returns-in-Err-image_of-clause-faulted g c = rw (refused_faulted _ c.in-Err-image_of.refusal c.in-Err-image_of.ensures.refusal) c.in-Ok.ensures.faulted
+pub returns-in-Err-clause-serves : goal.returns-in-Err-clause-serves
+returns-in-Err-clause-serves g c = serves_among _ _ _ _ _ _ (behind (call.Save ∷ call.Show ∷ []) load_calls) c.in-Err.ensures.serves
 
-pub returns-in-Err-line_of-clause-faulted : goal.returns-in-Err-line_of-clause-faulted
-returns-in-Err-line_of-clause-faulted g c = rw c.in-Err-line_of.ensures.memory c.in-Ok.ensures.faulted
+pub returns-in-Err-image_of-clause-serves : goal.returns-in-Err-image_of-clause-serves
+returns-in-Err-image_of-clause-serves g c =
+    serves_still _ _ _ _ _ _ (refused_faulted _ c.in-Err-image_of.refusal c.in-Err-image_of.ensures.refusal) c.in-Ok.ensures.serves
 
-pub returns-clause-faulted : goal.returns-clause-faulted
-returns-clause-faulted g c = Faulted_on (failed_call c.keep.result) _ _ _ c.in-Ok.ensures.faulted c.keep.ensures.faulted
+pub returns-in-Err-line_of-clause-serves : goal.returns-in-Err-line_of-clause-serves
+returns-in-Err-line_of-clause-serves g c = serves_still _ _ _ _ _ _ (ap failed_call c.in-Err-line_of.ensures.memory) c.in-Ok.ensures.serves
+
+pub returns-clause-serves : goal.returns-clause-serves
+returns-clause-serves g c = serves_then _ _ _ _ _ _ _ c.in-Ok.ensures.serves
+    (serves_among _ _ _ _ _ _ (in_front (call.Save ∷ call.Show ∷ []) load_calls) c.keep.ensures.serves)

@@ -1,10 +1,11 @@
-use Rattle.std.proofs.Common.{◌∙◌, subst}
+use Rattle.std.proofs.Common.{[], ◌∷◌, ◌∙◌, refl, subst}
 use Rattle.paw_top.specs.Decompile.{unprinted}
 use Rattle.paw_top.specs.inner.Loads.{GivesNone}
 use Rattle.paw_top.proofs.Decompiling.{no_file, no_game, shows_source}
 use Rattle.paw_top.proofs.Images.{holds_given}
-use Rattle.paw_stage.proofs.Counted.{Faulted_on}
-use Rattle.paw_top.specs.Answers.{failed_call}
+use Rattle.paw_stage.specs.declared.StageCall.TheVariants as call
+use Rattle.paw_top.specs.Answers.{load_calls}
+use Rattle.paw_top.proofs.Serving.{in_front, behind, serves_among, serves_still, serves_then}
 use Rattle.paw_top.proofs.decompile.decompile.Goals as goal
 
 pub returns-in-Err-clause-decompiles : goal.returns-in-Err-clause-decompiles
@@ -24,7 +25,17 @@ returns-clause-decompiles g c = λ tells.
     let holds = holds_given c.args.image.now _ _ _ _ c.in-Ok-game_in.given c.as_slice.ensures.value f c.in-Ok-game_in.ensures.found in
     shows_source c.args.image.now c.as_slice-2.result.now c.in-Ok-game_in.given _ _ _ c.tell.result holds f.3
     (c.as_slice-2.ensures.value ∙ c.in-Ok-canonical.ensures.value)
-    (c.tell.ensures.shows (c.load.ensures.tells.0 tells))
+    (c.tell.ensures.shows (c.load.ensures.serves.tells.0 tells))
 
-pub returns-clause-faulted : goal.returns-clause-faulted
-returns-clause-faulted g c = Faulted_on (failed_call c.tell.result) _ _ _ c.in-Ok.ensures.faulted c.tell.ensures.faulted
+pub returns-in-Err-clause-serves : goal.returns-in-Err-clause-serves
+returns-in-Err-clause-serves g c = serves_among _ _ _ _ _ _ (behind (call.Show ∷ []) load_calls) c.in-Err.ensures.serves
+
+pub returns-in-Err-game_in-clause-serves : goal.returns-in-Err-game_in-clause-serves
+returns-in-Err-game_in-clause-serves g c = serves_still _ _ _ _ _ _ c.in-Err-game_in.ensures.fine c.in-Ok.ensures.serves
+
+pub returns-in_default-clause-serves : goal.returns-in_default-clause-serves
+returns-in_default-clause-serves g c = serves_still _ _ _ _ _ _ refl c.in-Ok.ensures.serves
+
+pub returns-clause-serves : goal.returns-clause-serves
+returns-clause-serves g c = serves_then _ _ _ _ _ _ _ c.in-Ok.ensures.serves
+    (serves_among _ _ _ _ _ _ (in_front (call.Show ∷ []) load_calls) c.tell.ensures.serves)

@@ -7,7 +7,9 @@ use Rattle.paw_stage.proofs.Time.{Passes_map, Passes_on}
 use Rattle.paw_play.specs.Calls.{session_calls}
 use Rattle.paw_play.specs.Play.{InGame, store_bytes}
 use Rattle.paw_top.specs.Ends.{plays}
-use Rattle.paw_top.proofs.Answering.{played_outside, played_faulted}
+use Rattle.paw_top.specs.Answers.{load_calls}
+use Rattle.paw_top.proofs.Answering.{ended_among, played_serves}
+use Rattle.paw_top.proofs.Serving.{in_front, serves_among, serves_still}
 use Rattle.paw_top.proofs.Images.{holds_given}
 use Rattle.paw_top.proofs.OpenedSessions.{still_new, game_moment, plays_game, same_story}
 use Rattle.paw_top.proofs.Refusals.{unloaded, undecoded}
@@ -33,16 +35,14 @@ returns-in-Err-view_in-clause-any_moment g c = λ tells s rows holds empty.
     Passes_map _ _ _ _ _ (InGame s c.args.seed c.args.store.now (g.S.Stage.standing c.args.stage.now)) (c.load.ensures.time tells)
     (still_new s c.args.seed c.args.store.now (g.S.Stage.standing c.args.stage.now))
 
-pub returns-clause-outside : goal.returns-clause-outside
-returns-clause-outside g c = played_outside session_calls c.play_loop.result c.outcome_of.result c.outcome_of.ensures.value c.play_loop.ensures.outside
-
 pub returns-clause-plays : goal.returns-clause-plays
 returns-clause-plays g c = λ tells X rows.
     let f = c.in-Ok.ensures.some tells in
     let game = game_read c.in-Ok-view_in.given in
     rw c.outcome_of.ensures.value
     (plays game c.play_loop.result (holds_given c.args.image.now _ _ _ _ game c.as_slice.ensures.value f c.in-Ok-view_in.ensures.found)
-    (plays_game (story_of game X) c.args.seed c.args.store.now _ _ _ c.play_loop.result f.3 (c.play_loop.ensures.plays (c.load.ensures.tells.0 tells) X rows)))
+    (plays_game (story_of game X) c.args.seed c.args.store.now _ _ _ c.play_loop.result f.3
+    (c.play_loop.ensures.plays (c.load.ensures.serves.tells.0 tells) X rows)))
 
 pub returns-clause-any_moment : goal.returns-clause-any_moment
 returns-clause-any_moment g c = λ tells s rows holds empty.
@@ -53,9 +53,18 @@ returns-clause-any_moment g c = λ tells s rows holds empty.
     let same = same_story old c.args.image.now game s mine holds in
     Passes_on _ _ _ _ _ _ (InGame s c.args.seed c.args.store.now old) _
     (Passes_map _ _ _ _ _ (InGame s c.args.seed c.args.store.now old) (c.load.ensures.time tells) (still_new s c.args.seed c.args.store.now old))
-    (c.play_loop.ensures.any_moment (c.load.ensures.tells.0 tells) s.rows rows (subst (λ q. store_bytes q c.args.store.now ≡ []) (sym f.3) empty))
+    (c.play_loop.ensures.any_moment (c.load.ensures.serves.tells.0 tells) s.rows rows (subst (λ q. store_bytes q c.args.store.now ≡ []) (sym f.3) empty))
     (λ m i. game_moment s (story_of game s.rows) c.args.seed c.args.store.now old (g.S.Stage.standing c.load.new.stage) m f.3 same i)
 
-pub returns-clause-faulted : goal.returns-clause-faulted
-returns-clause-faulted g c = played_faulted c.play_loop.result c.outcome_of.result _ _ _ c.outcome_of.ensures.value
-    c.in-Ok.ensures.faulted c.play_loop.ensures.faulted
+pub returns-in-Err-clause-serves : goal.returns-in-Err-clause-serves
+returns-in-Err-clause-serves g c = serves_among _ _ _ _ _ _ (in_front load_calls session_calls) c.in-Err.ensures.serves
+
+pub returns-in-Err-view_in-clause-serves : goal.returns-in-Err-view_in-clause-serves
+returns-in-Err-view_in-clause-serves g c = serves_still _ _ _ _ _ _ c.in-Err-view_in.ensures.fine c.in-Ok.ensures.serves
+
+pub returns-clause-serves : goal.returns-clause-serves
+returns-clause-serves g c = played_serves session_calls c.play_loop.result c.outcome_of.result c.outcome_of.ensures.value c.in-Ok.ensures.serves (record {
+  tells = c.play_loop.ensures.tells;
+  faulted = c.play_loop.ensures.faulted;
+  among = ended_among session_calls c.play_loop.result c.play_loop.ensures.outside;
+})

@@ -9,7 +9,9 @@ use Rattle.paw_play.specs.Play.{PlayedSession, InAgain, InGoingOn, kept_session,
 use Rattle.paw_play.proofs.Standing.{standing_shows, in_going_on}
 use Rattle.paw_top.specs.Ends.{plays}
 use Rattle.paw_top.specs.Sessions.{session_from, digest_of}
-use Rattle.paw_top.proofs.Answering.{played_outside, played_faulted}
+use Rattle.paw_top.specs.Answers.{load_calls}
+use Rattle.paw_top.proofs.Answering.{ended_among, played_serves}
+use Rattle.paw_top.proofs.Serving.{in_front, serves_among, serves_still}
 use Rattle.paw_top.proofs.Completing.{same_game}
 use Rattle.paw_top.proofs.Images.{holds_given}
 use Rattle.paw_top.proofs.OpenedSessions.{still_again, still_on, again_moment, plays_again, goes_on_in, shows_same, one_kept_session, same_story}
@@ -59,7 +61,7 @@ returns-clause-plays g c = λ tells X rows.
     rw c.outcome_of.ensures.value
     (plays game c.resume_loop.result (holds_given c.args.image.now _ _ _ _ game c.as_slice.ensures.value f c.in-Ok-view_in.ensures.found)
     (plays_again (story_of game X) (digest_of game) c.digest-kept.result c.args.store.now _ _ _ c.resume_loop.result f.3 kept
-    (c.resume_loop.ensures.plays (c.load.ensures.tells.0 tells) X rows)))
+    (c.resume_loop.ensures.plays (c.load.ensures.serves.tells.0 tells) X rows)))
 
 pub returns-clause-any_moment : goal.returns-clause-any_moment
 returns-clause-any_moment g c = λ tells s st piece rows holds shows.
@@ -76,7 +78,7 @@ returns-clause-any_moment g c = λ tells s st piece rows holds shows.
     (same_story old c.args.image.now game s mine holds) kept in
     Passes_on _ _ _ _ _ _ (InAgain p old) _
     (Passes_map _ _ _ _ _ (InAgain p old) (c.load.ensures.time tells) (still_again p old))
-    (c.resume_loop.ensures.any_moment (c.load.ensures.tells.0 tells) s.rows rows st piece
+    (c.resume_loop.ensures.any_moment (c.load.ensures.serves.tells.0 tells) s.rows rows st piece
     (shows_same s.game game c.digest-kept.result c.args.store.now old mid st piece f.3 one kept shows))
     (λ m i. again_moment p k old mid m f.3 same i)
 
@@ -91,13 +93,10 @@ returns-clause-goes_on g c = λ tells s seed es rows holds played stands.
     (goes_on_in c.args.image.now c.args.store.now s (story_of game s.rows) seed es old (g.S.Stage.standing c.resume_loop.new.stage) c.resume_loop.result
     (same_story old c.args.image.now game s mine holds) mine
     (plays_again (story_of game s.rows) (digest_of game) c.digest-kept.result c.args.store.now _ _ _ c.resume_loop.result f.3 kept
-    (c.resume_loop.ensures.plays (c.load.ensures.tells.0 tells) s.rows rows)) played stands)
+    (c.resume_loop.ensures.plays (c.load.ensures.serves.tells.0 tells) s.rows rows)) played stands)
 
 pub resume_loop-requires-clause-game : goal.resume_loop-requires-clause-game
 resume_loop-requires-clause-game g c = c.digest-kept.ensures.value ∙ ap sha256 (c.bytes.ensures.value ∙ c.bytes.ensures.image.spelled)
-
-pub returns-clause-outside : goal.returns-clause-outside
-returns-clause-outside g c = played_outside session_calls c.resume_loop.result c.outcome_of.result c.outcome_of.ensures.value c.resume_loop.ensures.outside
 
 pub returns-clause-any_moment_on : goal.returns-clause-any_moment_on
 returns-clause-any_moment_on g c = λ tells s seed es rows holds played stands.
@@ -106,6 +105,15 @@ returns-clause-any_moment_on g c = λ tells s seed es rows holds played stands.
     Passes_map _ _ _ _ _ (InGoingOn s seed es c.args.store.now old) (returns-clause-any_moment g c tells s shown.state shown.piece rows holds shown.shows)
     (λ m i. in_going_on s seed es (store_bytes old c.args.store.now) shown.state shown.piece c.args.store.now played stands shown.shows old m i)
 
-pub returns-clause-faulted : goal.returns-clause-faulted
-returns-clause-faulted g c = played_faulted c.resume_loop.result c.outcome_of.result _ _ _ c.outcome_of.ensures.value
-    c.in-Ok.ensures.faulted c.resume_loop.ensures.faulted
+pub returns-in-Err-clause-serves : goal.returns-in-Err-clause-serves
+returns-in-Err-clause-serves g c = serves_among _ _ _ _ _ _ (in_front load_calls session_calls) c.in-Err.ensures.serves
+
+pub returns-in-Err-view_in-clause-serves : goal.returns-in-Err-view_in-clause-serves
+returns-in-Err-view_in-clause-serves g c = serves_still _ _ _ _ _ _ c.in-Err-view_in.ensures.fine c.in-Ok.ensures.serves
+
+pub returns-clause-serves : goal.returns-clause-serves
+returns-clause-serves g c = played_serves session_calls c.resume_loop.result c.outcome_of.result c.outcome_of.ensures.value c.in-Ok.ensures.serves (record {
+  tells = c.resume_loop.ensures.tells;
+  faulted = c.resume_loop.ensures.faulted;
+  among = ended_among session_calls c.resume_loop.result c.resume_loop.ensures.outside;
+})

@@ -7,7 +7,9 @@ use Rattle.paw_play.specs.Calls.{walk_calls}
 use Rattle.paw_play.specs.Walk.{Walks}
 use Rattle.paw_play.specs.inner.Telling.{told_as}
 use Rattle.paw_top.specs.Ends.{plays}
-use Rattle.paw_top.proofs.Answering.{played_outside, played_faulted}
+use Rattle.paw_top.specs.Answers.{load_calls}
+use Rattle.paw_top.proofs.Answering.{ended_among, played_serves}
+use Rattle.paw_top.proofs.Serving.{in_front, serves_among, serves_still}
 use Rattle.paw_top.proofs.Images.{holds_given}
 use Rattle.paw_top.proofs.Refusals.{unloaded, undecoded}
 use Rattle.paw_top.proofs.sessions.walk.Goals as goal
@@ -27,11 +29,17 @@ returns-clause-walks g c = λ tells X rows.
     rw c.outcome_of.ensures.value
     (plays game c.walk_loop.result (holds_given c.args.image.now _ _ _ _ game c.as_slice.ensures.value f c.in-Ok-view_in.ensures.found)
     (subst (λ s. Walks (told_as g.P.Preface.telling (reading (story_of game X) c.args.seed)) EVENT_LIMIT s new c.walk_loop.result) f.3
-    (c.walk_loop.ensures.walks (c.load.ensures.tells.0 tells) X rows)))
+    (c.walk_loop.ensures.walks (c.load.ensures.serves.tells.0 tells) X rows)))
 
-pub returns-clause-outside : goal.returns-clause-outside
-returns-clause-outside g c = played_outside walk_calls c.walk_loop.result c.outcome_of.result c.outcome_of.ensures.value c.walk_loop.ensures.outside
+pub returns-in-Err-clause-serves : goal.returns-in-Err-clause-serves
+returns-in-Err-clause-serves g c = serves_among _ _ _ _ _ _ (in_front load_calls walk_calls) c.in-Err.ensures.serves
 
-pub returns-clause-faulted : goal.returns-clause-faulted
-returns-clause-faulted g c = played_faulted c.walk_loop.result c.outcome_of.result _ _ _ c.outcome_of.ensures.value
-    c.in-Ok.ensures.faulted c.walk_loop.ensures.faulted
+pub returns-in-Err-view_in-clause-serves : goal.returns-in-Err-view_in-clause-serves
+returns-in-Err-view_in-clause-serves g c = serves_still _ _ _ _ _ _ c.in-Err-view_in.ensures.fine c.in-Ok.ensures.serves
+
+pub returns-clause-serves : goal.returns-clause-serves
+returns-clause-serves g c = played_serves walk_calls c.walk_loop.result c.outcome_of.result c.outcome_of.ensures.value c.in-Ok.ensures.serves (record {
+  tells = c.walk_loop.ensures.tells;
+  faulted = c.walk_loop.ensures.faulted;
+  among = ended_among walk_calls c.walk_loop.result c.walk_loop.ensures.outside;
+})

@@ -1,6 +1,7 @@
 use Rattle.std.proofs.Common.{refl, subst, sym}
 use Rattle.paw_trial.specs.Trial.{trial_reading}
 use Rattle.paw_trial.specs.inner.Trial.{IsTextOf}
+use Rattle.paw_top.proofs.Serving.{serves_none}
 use Rattle.paw_top.proofs.Trying.{told}
 use Rattle.paw_top.proofs.trial.trial.Goals as goal
 
@@ -12,5 +13,5 @@ returns-in-Ok-clause-tries g c = λ tells.
 pub returns-in-Err-clause-tries : goal.returns-in-Err-clause-tries
 returns-in-Err-clause-tries g c = λ tells. c.stopped_as.ensures.tries c.args.n (g.S.Stage.standing c.args.stage.now) c.in-Err.ensures.stops
 
-pub returns-in-Err-clause-faulted : goal.returns-in-Err-clause-faulted
-returns-in-Err-clause-faulted g c = rw c.stopped_as.ensures.fine (λ k. refl)
+pub returns-in-Err-clause-serves : goal.returns-in-Err-clause-serves
+returns-in-Err-clause-serves g c = rw c.stopped_as.ensures.fine (serves_none _ _ _)
