@@ -1,6 +1,6 @@
 // Playing a trial.
 
-ghost use Rattle.std.specs.Prelude.{◌≡◌, ◌≢◌, ℕ, [], ◌∷◌, None, IfSome};
+ghost use Rattle.std.specs.Prelude.{◌≡◌, ◌≢◌, ℕ, [], ◌∷◌, None};
 ghost use Rattle.paw_stage.specs.Stage.{Standing};
 ghost use Rattle.paw_stage.specs.declared.StageCall.TheVariants as call;
 ghost use Rattle.paw_stage.specs.Across.{Serves, IsOneOf};
@@ -21,7 +21,6 @@ use std::alloc::Global;
 fn stopped_as(end: TrialEnd) -> Outcome
     ensures form { result ≢ outcome.Usage }
     ensures memory { IfMemory result (IsOneOf (memory.Trial ∷ [])) }
-    ensures outside { IfSome (failed_call result) (λ _. ⊥) }
     ensures fine { failed_call result ≡ None }
     ensures tries { (n : ℕ) (s : Standing) → StopsAs end (trial_reading n) → Tries n s s result }
 {
