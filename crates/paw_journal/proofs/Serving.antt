@@ -1,25 +1,52 @@
 -- What calls leave of a stage, one after the other.
-use Rattle.std.proofs.Common.{◌≡◌, List, [], ◌∷◌, inl, inr}
+use Rattle.std.proofs.Common.{◌≡◌, ◌↔◌, List, [], ◌∷◌, ◌++◌, inl, inr, sym, subst}
 use Rattle.std.specs.Prelude.{Option, Some, None}
 use Rattle.paw_stage.specs.declared.StageCall.{StageCall}
 use Rattle.paw_stage.specs.declared.Stage.{Ghosts}
+use Rattle.paw_stage.specs.Stage.{Faulted}
 use Rattle.paw_stage.specs.Across.{IsOneOf, Serves}
 use Rattle.paw_stage.proofs.Counted.{Faulted_same, Faulted_on}
+
+-- ---- lists ----
 
 -- one of a list of one
 pub the_only_one : {A : Type 0} (x y : A) → IsOneOf (y ∷ []) x → x ≡ y
 the_only_one x y (inl e) = e
 the_only_one x y (inr h) = absurd h
 
+-- more may come behind
+pub in_front : {A : Type 0} (few more : List A) (x : A) → IsOneOf few x → IsOneOf (few ++ more) x
+in_front [] more x h = absurd h
+in_front (y ∷ few) more x (inl e) = inl e
+in_front (y ∷ few) more x (inr h) = inr (in_front few more x h)
+
+-- or before
+pub behind : {A : Type 0} (more few : List A) (x : A) → IsOneOf few x → IsOneOf (more ++ few) x
+behind [] few x h = h
+behind (y ∷ more) few x h = inr (behind more few x h)
+
+-- ---- calls ----
+
 -- no call
 pub serves_none : {S : Type 0} (g : Ghosts S) (calls : List StageCall) (s : S) → Serves g calls None s s
 serves_none g calls s = record { tells = (λ t. t, λ t. t); faulted = Faulted_same (g.faults s); among = tt }
+
+-- a call that didn't fail
+pub serves_done : {S : Type 0} (g : Ghosts S) (old new : S) → g.Tells old ↔ g.Tells new → Faulted None (g.faults old) (g.faults new) →
+    Serves g [] None old new
+serves_done g old new t f = record { tells = t; faulted = f; among = tt }
 
 -- calls that are among more
 pub serves_among : {S : Type 0} (g : Ghosts S) (few many : List StageCall) (failed : Option StageCall) (old new : S) →
     ((c : StageCall) → IsOneOf few c → IsOneOf many c) → Serves g few failed old new → Serves g many failed old new
 serves_among g few many None old new h s = record { tells = s.tells; faulted = s.faulted; among = tt }
 serves_among g few many (Some c) old new h s = record { tells = s.tells; faulted = s.faulted; among = h c s.among }
+
+-- calls none of which failed, and then an answer that names none
+pub serves_still : {S : Type 0} (g : Ghosts S) (few many : List StageCall) (failed : Option StageCall) (old new : S) → failed ≡ None →
+    Serves g few None old new → Serves g many failed old new
+serves_still g few many failed old new e s =
+    subst (λ f. Serves g many f old new) (sym e) (record { tells = s.tells; faulted = s.faulted; among = tt })
 
 -- calls none of which failed, and then others
 pub serves_then : {S : Type 0} (g : Ghosts S) (first next : List StageCall) (failed : Option StageCall) (old mid new : S) →

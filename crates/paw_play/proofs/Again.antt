@@ -1,26 +1,30 @@
 -- The attach of the store of a session that is taken up again.
-use Rattle.std.proofs.Common.{◌≡◌, ◌≢◌, ℕ, ◌+◌, List, [], Some, refl, sym, ap, ◌∙◌, subst, arith, inl, inr}
+use Rattle.std.proofs.Common.{◌≡◌, ◌≢◌, ℕ, ◌+◌, List, [], ◌∷◌, Some, None, refl, sym, ap, ◌∙◌, subst, arith, inl, inr}
+use Rattle.std.specs.Prelude.{IfSome}
 use Rattle.std.proofs.lemmas.List.{append-nil}
 use Rattle.paw_effects.specs.Story.{Story}
 use Rattle.paw_game.specs.Valid.{Valid}
 use Rattle.paw_stage.specs.Disk.{MayLeave, stable}
-use Rattle.paw_stage.specs.Stage.{Standing, Faulted}
+use Rattle.paw_stage.specs.Stage.{Standing}
 use Rattle.paw_stage.specs.Moments.{Moment, moment_of, InAttach, Still}
 use Rattle.paw_reading.specs.Turn.{text_of}
 use Rattle.paw_journal.specs.Session.{recover}
 use Rattle.paw_state.specs.State.{State}
 use Rattle.paw_stage.specs.declared.StageCall.{StageCall}
-use Rattle.paw_stage.specs.Across.{IsOneOf}
-use Rattle.paw_journal.specs.inner.Journal.{IsSessionRefused, IsCaused, outside}
+use Rattle.paw_stage.specs.declared.StageCall.TheVariants as call
+use Rattle.paw_stage.specs.declared.Stage.{Ghosts}
+use Rattle.paw_stage.specs.Across.{IsOneOf, Serves}
+use Rattle.paw_journal.specs.inner.Journal.{IsSessionRefused, outside}
 use Rattle.paw_journal.specs.declared.refusal.JournalRefusal.{JournalRefusal}
 use Rattle.paw_journal.specs.declared.refusal.JournalRefusal.TheVariants as refusal
 use Rattle.paw_play.specs.Calls.{session_calls}
-use Rattle.paw_play.specs.inner.Calls.{IfEndOutside, call_of_end}
+use Rattle.paw_play.specs.inner.Calls.{IsNotForCall, call_of_end}
 use Rattle.paw_play.specs.Session.{IsKept}
 use Rattle.paw_play.specs.Play.{InPlay, InAgain, ShowsState, attached_to, store_bytes, going_on, kept_session, PlaysAgain, refused, unread}
 use Rattle.paw_play.specs.inner.OnTheWay.{end_of}
 use Rattle.paw_journal.proofs.Disks.{stable_is, stable_leaves}
 use Rattle.paw_play.proofs.Attaching.{files_so, other_file, playing_from}
+use Rattle.paw_journal.proofs.Serving.{serves_among}
 use Rattle.paw_play.proofs.Showing.{state_kept}
 
 module _ (g : Story) (digest name : List ℕ) (st : State) (piece : List ℕ) (old : Standing) (valid : Valid g.game)
@@ -73,22 +77,30 @@ module _ (g : Story) (digest name : List ℕ) (st : State) (piece : List ℕ) (o
 -- ---- where there is no session ----
 
 module _ (g : Story) (digest name : List ℕ) (old new : Standing) where
-  pub refused_again : (r : JournalRefusal) → IsSessionRefused (recover (store_bytes old name)) digest r → IsCaused r →
+  pub refused_again : (r : JournalRefusal) → IsSessionRefused (recover (store_bytes old name)) digest r →
+      IfSome (outside r) (IsOneOf (call.Read ∷ [])) →
       new ≡ attached_to old name → PlaysAgain g digest name old new (end_of r)
   refused_again (refusal.Unmade n mark) h c e = refused (refusal.Unmade n mark) h e
   refused_again (refusal.Damaged part at) h c e = refused (refusal.Damaged part at) h e
   refused_again (refusal.WrongGame kept found) h c e = refused (refusal.WrongGame kept found) h e
-  refused_again (refusal.Outside q) h c e = rw c (unread e)
+  refused_again (refusal.Outside q) h (inl c) e = rw c (unread e)
+  refused_again (refusal.Outside q) h (inr c) e = absurd c
 
-pub outside_again : (r : JournalRefusal) → IsCaused r → IfEndOutside (end_of r) (IsOneOf session_calls)
-outside_again (refusal.Unmade n mark) c = tt
-outside_again (refusal.Damaged part at) c = tt
-outside_again (refusal.WrongGame kept found) c = tt
-outside_again (refusal.Outside q) c = inr (inl c)
+-- a store isn't refused for the call that failed
+pub not_for_call : (r : JournalRefusal) → IsNotForCall (end_of r)
+not_for_call (refusal.Unmade n mark) = tt
+not_for_call (refusal.Damaged part at) = tt
+not_for_call (refusal.WrongGame kept found) = tt
+not_for_call (refusal.Outside q) = tt
+
+read_sessions : (c : StageCall) → IsOneOf (call.Read ∷ []) c → IsOneOf session_calls c
+read_sessions c (inl e) = inr (inl e)
+read_sessions c (inr h) = absurd h
 
 -- a search that found no session came to its end by the call that failed
-pub refused_faults : (r : JournalRefusal) (before after : StageCall → ℕ) → Faulted (outside r) before after → Faulted (call_of_end (end_of r)) before after
-refused_faults (refusal.Unmade n mark) before after h = h
-refused_faults (refusal.Damaged part at) before after h = h
-refused_faults (refusal.WrongGame kept found) before after h = h
-refused_faults (refusal.Outside q) before after h = h
+pub serves_refused : {S : Type 0} (g : Ghosts S) (r : JournalRefusal) (old new : S) → Serves g (call.Read ∷ []) (outside r) old new →
+    Serves g session_calls (call_of_end (end_of r)) old new
+serves_refused g (refusal.Unmade n mark) old new s = serves_among g (call.Read ∷ []) session_calls None old new read_sessions s
+serves_refused g (refusal.Damaged part at) old new s = serves_among g (call.Read ∷ []) session_calls None old new read_sessions s
+serves_refused g (refusal.WrongGame kept found) old new s = serves_among g (call.Read ∷ []) session_calls None old new read_sessions s
+serves_refused g (refusal.Outside q) old new s = serves_among g (call.Read ∷ []) session_calls (Some q) old new read_sessions s

@@ -1,5 +1,5 @@
 -- A new session, from the attach of its store to its first prompt.
-use Rattle.std.proofs.Common.{◌≡◌, ◌≢◌, ℕ, ◌+◌, List, [], ◌++◌, Option, Some, None, refl, sym, ap, ◌∙◌, subst, take, drop, length, arith, inl, inr, ◌⊎◌}
+use Rattle.std.proofs.Common.{◌≡◌, ◌≢◌, ℕ, ◌+◌, List, [], ◌∷◌, ◌++◌, Option, Some, None, refl, sym, ap, ◌∙◌, subst, take, drop, length, arith, inl, inr, ◌⊎◌}
 use Rattle.std.proofs.lemmas.List.{take-append-drop}
 use Rattle.paw_base.specs.declared.limits.TheConstants.{EVENT_LIMIT}
 use Rattle.paw_stage.specs.Disk.{IsStable}
@@ -15,7 +15,8 @@ use Rattle.paw_turn.specs.declared.Step.{Step}
 use Rattle.paw_turn.specs.declared.Step.TheVariants as step
 use Rattle.paw_journal.specs.Session.{Shown, IsUnmade, recover, kept_digest}
 use Rattle.paw_journal.specs.inner.Store.{IsBeside, InStore, Leaves}
-use Rattle.paw_journal.specs.Journal.{IsWriting}
+use Rattle.paw_stage.specs.Across.{IsOneOf}
+use Rattle.paw_journal.specs.Journal.{writing_calls}
 use Rattle.paw_play.specs.declared.PlayEnd.{PlayEnd}
 use Rattle.paw_play.specs.declared.PlayEnd.TheVariants as end
 use Rattle.paw_play.specs.Walk.{Walks}
@@ -98,9 +99,10 @@ module _ {F : Type 0} {g : Story} {s : PlayedSession} {first kept : Standing} {n
   }
 
   -- the session couldn't be made
-  pub not_begun : (c : StageCall) → IsWriting c → BegunAs s first kept (end.Outside c)
+  pub not_begun : (c : StageCall) → IsOneOf writing_calls c → BegunAs s first kept (end.Outside c)
   not_begun c (inl e) = rw e (beside_is first kept b.beside, stays)
-  not_begun c (inr e) = rw e (beside_is first kept b.beside, stays)
+  not_begun c (inr (inl e)) = rw e (beside_is first kept b.beside, stays)
+  not_begun c (inr (inr h)) = absurd h
 
   -- once it is made in a store that was empty
   module _ (empty : length first.disk.bytes ≡ 0) (stable : IsStable kept.disk)

@@ -17,7 +17,7 @@ pub begun_plays : (g : Story) (seed : ℕ) (digest name : List ℕ) (first now :
 begun_plays g seed digest name first now (end.Spent kind) b = spent kind b.0 b.1 b.2
 begun_plays g seed digest name first now (end.TooDeep table) b = too_deep table b.0 b.1 b.2
 begun_plays g seed digest name first now (end.Outside call.Write) b = unmade call.Write (inl refl) b.0 b.1
-begun_plays g seed digest name first now (end.Outside call.Sync) b = unmade call.Sync (inr refl) b.0 b.1
+begun_plays g seed digest name first now (end.Outside call.Sync) b = unmade call.Sync (inr (inl refl)) b.0 b.1
 begun_plays g seed digest name first now o b = plays o b
 
 -- a session that a new player plays

@@ -1,20 +1,22 @@
 -- What holds over calls that follow each other.
-use Rattle.std.proofs.Common.{◌≡◌, ℕ, ◌+◌, ◌++◌, List, Option, Some, None, sym, subst, inr}
-use Rattle.std.specs.Prelude.{IfSome, IfOk, IfErr}
-use Rattle.paw_stage.specs.Stage.{Standing, Faulted}
+use Rattle.std.proofs.Common.{◌≡◌, ℕ, ◌+◌, ◌++◌, List, [], ◌∷◌, Option, Some, None, sym, subst, inl, inr}
+use Rattle.std.specs.Prelude.{Result, Ok, Err, IfSome, IfOk, IfErr}
+use Rattle.paw_stage.specs.Stage.{Standing}
 use Rattle.paw_stage.specs.declared.StageCall.{StageCall}
-use Rattle.paw_stage.specs.Across.{IsOneOf}
+use Rattle.paw_stage.specs.declared.StageCall.TheVariants as call
+use Rattle.paw_stage.specs.declared.Stage.{Ghosts}
+use Rattle.paw_stage.specs.Across.{IsOneOf, Serves}
+use Rattle.paw_journal.specs.Journal.{writing_calls}
 use Rattle.paw_journal.specs.declared.journal.Journal.{Journal}
-use Rattle.paw_journal.specs.declared.refusal.JournalRefusal.TheVariants as refusal
 use Rattle.paw_journal.specs.inner.Room.{Room}
-use Rattle.paw_journal.specs.inner.Journal.{KeptIn}
+use Rattle.paw_journal.specs.inner.Journal.{KeptIn, failed_stage_call}
 use Rattle.paw_play.specs.declared.PlayEnd.{PlayEnd}
-use Rattle.paw_play.specs.declared.PlayEnd.TheVariants as end
-use Rattle.paw_play.specs.Calls.{walk_calls, play_calls}
-use Rattle.paw_play.specs.inner.Calls.{IfEndOutside, failed_so_far, failed_or, unless_ended}
+use Rattle.paw_play.specs.Calls.{walk_calls, play_calls, session_calls}
+use Rattle.paw_play.specs.inner.Calls.{IsNotForCall, call_of_end, failed_so_far, failed_or, unless_ended}
 use Rattle.paw_play.specs.inner.OnTheWay.{Told}
 use Rattle.paw_play.specs.declared.line.Session.{Session}
 use Rattle.paw_turn.specs.declared.Step.{Step}
+use Rattle.paw_journal.proofs.Serving.{serves_among}
 
 -- ---- the store ----
 
@@ -34,11 +36,17 @@ keeps_shown journal room now new text k e =
 
 -- ---- the call that failed ----
 
--- a walk's calls are those of playing too
-pub outside_walk : (o : PlayEnd) → IfEndOutside o (IsOneOf walk_calls) → IfEndOutside o (IsOneOf play_calls)
-outside_walk (end.Outside q) h = inr (inr h)
-outside_walk (end.Refused (refusal.Outside q)) h = h
-outside_walk _ h = tt
+-- the calls of a commit and those of a walk are calls of playing too, and those are calls of a session
+pub writing_plays : (c : StageCall) → IsOneOf writing_calls c → IsOneOf play_calls c
+writing_plays c (inl e) = inl e
+writing_plays c (inr (inl e)) = inr (inl e)
+writing_plays c (inr (inr h)) = absurd h
+
+pub walk_plays : (c : StageCall) → IsOneOf walk_calls c → IsOneOf play_calls c
+walk_plays c h = inr (inr h)
+
+pub play_sessions : (c : StageCall) → IsOneOf play_calls c → IsOneOf session_calls c
+play_sessions c h = inr (inr h)
 
 -- ---- where playing goes on unless it has ended ----
 
@@ -46,15 +54,14 @@ pub goes_on_unless : {A : Type 0} (P : A → Type 0) (o : Option PlayEnd) (a : A
 goes_on_unless P None a h = h
 goes_on_unless P (Some o) a h = tt
 
-pub outside_unless : {A : Type 0} (o : Option PlayEnd) (a : A) → IfSome o (λ e. IfEndOutside e (IsOneOf walk_calls)) →
-    IfErr (unless_ended o a) (λ e. IfEndOutside e (IsOneOf play_calls))
-outside_unless None a h = tt
-outside_unless (Some o) a h = outside_walk o h
+pub refused_unless : {A : Type 0} (o : Option PlayEnd) (a : A) → IfSome o IsNotForCall → IfErr (unless_ended o a) IsNotForCall
+refused_unless None a h = tt
+refused_unless (Some o) a h = h
 
-pub faulted_unless : {A : Type 0} (o : Option PlayEnd) (a : A) (before after : StageCall → ℕ) → Faulted (failed_so_far o) before after →
-    Faulted (failed_or (unless_ended o a)) before after
-faulted_unless None a before after h = h
-faulted_unless (Some o) a before after h = h
+pub serves_unless : {S A : Type 0} (g : Ghosts S) (o : Option PlayEnd) (a : A) (old new : S) → Serves g walk_calls (failed_so_far o) old new →
+    Serves g play_calls (failed_or (unless_ended o a)) old new
+serves_unless g None a old new s = serves_among g walk_calls play_calls None old new walk_plays s
+serves_unless g (Some o) a old new s = serves_among g walk_calls play_calls (call_of_end o) old new walk_plays s
 
 -- the store keeps what it did while the piece was shown
 pub keeps_unless : (room : Room) (kept new : Standing) (piece : List ℕ) (step : Step) (o : Option PlayEnd) (session : Session) →

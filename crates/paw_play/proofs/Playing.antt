@@ -20,7 +20,8 @@ use Rattle.paw_turn.specs.declared.Step.{Step}
 use Rattle.paw_turn.specs.declared.Step.TheVariants as step
 use Rattle.paw_journal.specs.Session.{Shown, recover, kept_digest}
 use Rattle.paw_journal.specs.inner.Store.{IsBeside, InStore, Leaves, IsEither}
-use Rattle.paw_journal.specs.Journal.{IsWriting}
+use Rattle.paw_stage.specs.Across.{IsOneOf}
+use Rattle.paw_journal.specs.Journal.{writing_calls}
 use Rattle.paw_play.specs.declared.PlayEnd.{PlayEnd}
 use Rattle.paw_play.specs.declared.PlayEnd.TheVariants as end
 use Rattle.paw_play.specs.Walk.{first_lines, advanced, Walks}
@@ -274,9 +275,10 @@ module _ {F : Type 0} {g : Story} {s : PlayedSession} {most n events : ℕ} {fir
       others = λ f other. beside.files f (not_this f other) ∙ others_still f other;
     }
 
-    pub plays_not : (c : StageCall) → IsWriting c → PlaysOn s most first kept (end.Outside c)
+    pub plays_not : (c : StageCall) → IsOneOf writing_calls c → PlaysOn s most first kept (end.Outside c)
     plays_not c (inl e) = rw e (record { shows = uncommitted; session = stays })
-    plays_not c (inr e) = rw e (record { shows = uncommitted; session = stays })
+    plays_not c (inr (inl e)) = rw e (record { shows = uncommitted; session = stays })
+    plays_not c (inr (inr h)) = absurd h
 
     module _ (stable : IsStable kept.disk) (is : recover kept.disk.bytes ≡ Shown (kept_digest mid.disk.bytes) (seat_state events next) next.piece) where
       -- the store is at rest, and keeps all lines

@@ -2,6 +2,7 @@
 use Rattle.std.specs.Prelude.{take, ◌∷◌, ◌-◌, ◌≡◌, ◌≢◌, ◌⊎◌, ℕ, suc, ◌+◌, ◌<◌, ◌≤◌, List, [], length, None}
 use Rattle.paw_stage.specs.Stage.{Standing, Unattached, file_bytes, made_if_missing, opened}
 use Rattle.paw_stage.specs.Moments.{Moment}
+use Rattle.paw_stage.specs.Across.{IsOneOf}
 use Rattle.paw_stage.specs.declared.StageCall.{StageCall}
 use Rattle.paw_stage.specs.declared.StageCall.TheVariants as call
 use Rattle.paw_base.specs.declared.fault.SpentKind.{SpentKind}
@@ -12,7 +13,7 @@ use Rattle.paw_reading.specs.Run.{Run}
 use Rattle.paw_reading.specs.Reading.{RunsOut, CallsTooDeep}
 use Rattle.paw_reading.specs.Turn.{Halted, reading, on, text_of}
 use Rattle.paw_journal.specs.Session.{Recovered, Unmade, Damaged, Shown, recover, state_length}
-use Rattle.paw_journal.specs.Journal.{IsWriting}
+use Rattle.paw_journal.specs.Journal.{writing_calls}
 use Rattle.paw_journal.specs.declared.refusal.JournalRefusal.{JournalRefusal}
 use Rattle.paw_journal.specs.declared.refusal.JournalRefusal.TheVariants as refusal
 use Rattle.paw_state.specs.State.{State, Keeps, FitsFields}
@@ -80,7 +81,7 @@ pub data PlaysIn (Kept : ℕ → List ℕ → Type 0) (whole : EndingOf) (name :
   too_deep : (table : ℕ) (r : Run) → whole [] ≡ Halted (CallsTooDeep table) r → new ≡ old →
       PlaysIn Kept whole name old new (end.TooDeep table)
   -- the session couldn't be made; nothing was asked or shown, and no other file has changed
-  unmade : (c : StageCall) → IsWriting c → new ≡ with_store new old → StaysAttached name old new →
+  unmade : (c : StageCall) → IsOneOf writing_calls c → new ≡ with_store new old → StaysAttached name old new →
       PlaysIn Kept whole name old new (end.Outside c)
   plays : (o : PlayEnd) → PlaysWith Kept whole 0 name EVENT_LIMIT old new o → PlaysIn Kept whole name old new o
 

@@ -1,22 +1,21 @@
 // Playing with a session: each line is taken, committed and then shown.
 
-ghost use Rattle.std.specs.Prelude.{◌≡◌, ◌+◌, ◌<◌, ◌≤◌, ◌^◌, ◌↔◌, take, length, IfOk, IfErr};
+ghost use Rattle.std.specs.Prelude.{◌≡◌, ◌+◌, ◌<◌, ◌≤◌, ◌^◌, [], ◌∷◌, take, length, IfOk, IfErr};
 ghost use Rattle.paw_base.specs.declared.limits.TheConstants.{EVENT_LIMIT, READ_LIMIT};
-ghost use Rattle.paw_stage.specs.Stage.{Faulted};
-ghost use Rattle.paw_stage.specs.Across.{Across, EachMoment, IsOneOf};
+ghost use Rattle.paw_stage.specs.Across.{Across, EachMoment, Serves};
 ghost use Rattle.paw_stage.specs.inner.Across.{Once, Throughout};
+ghost use Rattle.paw_stage.specs.declared.StageCall.TheVariants as call;
 ghost use Rattle.paw_routines.specs.Routines.{HaveRows};
 ghost use Rattle.paw_turn.specs.inner.Player.{IsSeated};
 ghost use Rattle.paw_turn.specs.inner.Parts.{IsStanding};
 ghost use Rattle.paw_journal.specs.Session.{state_length, piece_length};
 ghost use Rattle.paw_journal.specs.inner.Store.{IsBeside};
 ghost use Rattle.paw_journal.specs.inner.Steps.{SameDigest};
-ghost use Rattle.paw_journal.specs.Journal.{IsWriting};
 ghost use Rattle.paw_journal.specs.inner.Journal.{KeptIn, failed_stage_call};
 ghost use Rattle.paw_play.specs.Play.{InPlay};
 ghost use Rattle.paw_play.specs.inner.OnTheWay.{EachStory, EachPlaying, Commits, InCommit, seat_state, PlaysTo};
 ghost use Rattle.paw_play.specs.Calls.{play_calls};
-ghost use Rattle.paw_play.specs.inner.Calls.{IfEndOutside, failed_or, unless_ended};
+ghost use Rattle.paw_play.specs.inner.Calls.{IsNotForCall, failed_or, unless_ended};
 
 use crate::PlayEnd;
 use crate::preface::Nothing;
@@ -67,9 +66,7 @@ fn commit<S: Stage, T: Tables, F: Fn(u8, u8) -> u8>(
     requires seated { IsSeated player.now }
     requires standing { IsStanding player.now.last }
     requires kept { S.Tells stage.old → KeptIn journal room.old (S.standing stage.old) }
-    ensures tells { S.Tells stage.old ↔ S.Tells stage.new }
-    ensures faulted { Faulted (failed_stage_call result) (S.faults stage.old) (S.faults stage.new) }
-    ensures cause { IfErr result IsWriting }
+    ensures serves { Serves S.Stage (call.Write ∷ call.Sync ∷ []) (failed_stage_call result) stage.old stage.new }
     ensures shown { Once S.Stage stage.old stage.new result (Commits events player.now) }
     ensures kept { S.Tells stage.old → IfOk result (λ kept. KeptIn kept room.new (S.standing stage.new)) }
     ensures digest { Once S.Stage stage.old stage.new result SameDigest }
@@ -107,9 +104,8 @@ pub(crate) fn play_line<S: Stage, T: Tables, F: Fn(u8, u8) -> u8>(
     ensures game { player.new.game ≡ player.old.game }
     ensures routines { player.new.routines ≡ player.old.routines }
     ensures draws { player.new.world.draws ≤ player.old.world.draws + READ_LIMIT }
-    ensures tells { S.Tells stage.old ↔ S.Tells stage.new }
-    ensures faulted { Faulted (failed_or result) (S.faults stage.old) (S.faults stage.new) }
-    ensures outside { IfErr result (λ o. IfEndOutside o (IsOneOf play_calls)) }
+    ensures serves { Serves S.Stage play_calls (failed_or result) stage.old stage.new }
+    ensures refused { IfErr result IsNotForCall }
     ensures events { IfOk result (λ next. next.events ≡ session.events + 1) }
     ensures kept { S.Tells stage.old → IfOk result (λ next. KeptIn next.journal room.new (S.standing stage.new)) }
     ensures meaning { Across S.Stage stage.old stage.new (λ old new.

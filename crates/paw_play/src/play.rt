@@ -1,12 +1,11 @@
 // Playing a new session.
 
-ghost use Rattle.std.specs.Prelude.{◌≡◌, ◌+◌, ◌-◌, ◌*◌, ◌≤◌, ◌↔◌, ℕ, [], List, length, IfOk, IfErr};
+ghost use Rattle.std.specs.Prelude.{◌≡◌, ◌+◌, ◌-◌, ◌*◌, ◌≤◌, ℕ, [], List, length, IfOk, IfErr};
 ghost use Rattle.sha2.specs.Sha256.{sha256};
 ghost use Rattle.paw_base.specs.declared.limits.TheConstants.{EVENT_LIMIT, READ_LIMIT};
 ghost use Rattle.paw_game.specs.Image.{image};
 ghost use Rattle.paw_stage.specs.Disk.{IsStable};
-ghost use Rattle.paw_stage.specs.Stage.{Faulted};
-ghost use Rattle.paw_stage.specs.Across.{Across, EachMoment, IsOneOf};
+ghost use Rattle.paw_stage.specs.Across.{Across, EachMoment, Serves};
 ghost use Rattle.paw_routines.specs.Routines.{HaveRows};
 ghost use Rattle.paw_turn.specs.inner.Player.{IsSeated, IsNew};
 ghost use Rattle.paw_journal.specs.inner.Journal.{IsAtRest, KeptIn};
@@ -14,7 +13,7 @@ ghost use Rattle.paw_play.specs.Play.{InPlay, InGame, PlaysOn, PlaysGame, store_
 ghost use Rattle.paw_play.specs.inner.OnTheWay.{EachStory, EachStarting, InNew, PlaysInStore};
 ghost use Rattle.paw_play.specs.inner.OnTheWay.{Begins, IsStore, new_session};
 ghost use Rattle.paw_play.specs.Calls.{play_calls, session_calls};
-ghost use Rattle.paw_play.specs.inner.Calls.{IfEndOutside, call_of_end, failed_or};
+ghost use Rattle.paw_play.specs.inner.Calls.{IsNotForCall, call_of_end, failed_or};
 
 use crate::PlayEnd;
 use crate::line::{Session, play_line, put_state, unless_ended};
@@ -41,9 +40,8 @@ pub(crate) fn play_lines<S: Stage, T: Tables, F: Fn(u8, u8) -> u8>(
     requires few { session.events ≤ EVENT_LIMIT }
     requires draws { player.old.world.draws ≤ READ_LIMIT * (session.events + 1) }
     requires kept { S.Tells stage.old → KeptIn session.journal room.old (S.standing stage.old) }
-    ensures tells { S.Tells stage.old ↔ S.Tells stage.new }
-    ensures faulted { Faulted (call_of_end result) (S.faults stage.old) (S.faults stage.new) }
-    ensures outside { IfEndOutside result (IsOneOf play_calls) }
+    ensures serves { Serves S.Stage play_calls (call_of_end result) stage.old stage.new }
+    ensures refused { IsNotForCall result }
     ensures meaning { Across S.Stage stage.old stage.new (λ old new.
         EachStory F.Fn player.old.routines player.old.game (λ g.
         EachStarting g player.old session.events old (λ s first.
@@ -83,9 +81,8 @@ fn begin<S: Stage, T: Tables, F: Fn(u8, u8) -> u8>(
     ensures game { player.new.game ≡ player.old.game }
     ensures routines { player.new.routines ≡ player.old.routines }
     ensures draws { player.new.world.draws ≤ READ_LIMIT }
-    ensures tells { S.Tells stage.old ↔ S.Tells stage.new }
-    ensures faulted { Faulted (failed_or result) (S.faults stage.old) (S.faults stage.new) }
-    ensures outside { IfErr result (λ o. IfEndOutside o (IsOneOf play_calls)) }
+    ensures serves { Serves S.Stage play_calls (failed_or result) stage.old stage.new }
+    ensures refused { IfErr result IsNotForCall }
     ensures events { IfOk result (λ session. session.events ≡ 0) }
     ensures kept { S.Tells stage.old → IfOk result (λ session. KeptIn session.journal room.new (S.standing stage.new)) }
     ensures meaning { Across S.Stage stage.old stage.new (λ old new.
@@ -125,9 +122,8 @@ fn play_in<S: Stage, T: Tables, F: Fn(u8, u8) -> u8>(
     requires empty { at.length ≡ 0 }
     requires rests { S.Tells stage.old → IsAtRest (S.standing stage.old) }
     requires attached { S.Tells stage.old → at.length ≡ length (S.standing stage.old).disk.bytes }
-    ensures tells { S.Tells stage.old ↔ S.Tells stage.new }
-    ensures faulted { Faulted (call_of_end result) (S.faults stage.old) (S.faults stage.new) }
-    ensures outside { IfEndOutside result (IsOneOf play_calls) }
+    ensures serves { Serves S.Stage play_calls (call_of_end result) stage.old stage.new }
+    ensures refused { IsNotForCall result }
     ensures plays { Across S.Stage stage.old stage.new (λ old new.
         EachStory F.Fn routines.now (T.game tables.now) (λ g. (name : List ℕ) → IsStore name old →
         PlaysInStore (new_session g seed game.now name) old new result)) }
@@ -163,9 +159,8 @@ pub fn play_loop<S: Stage, T: Tables, F: Fn(u8, u8) -> u8>(
     requires rows { HaveRows F.Fn routines.now }
     requires game { game.now ≡ sha256 (image (T.game tables.now)) }
     requires synced { S.Tells stage.old → IsStable (S.standing stage.old).disk }
-    ensures tells { S.Tells stage.old ↔ S.Tells stage.new }
-    ensures faulted { Faulted (call_of_end result) (S.faults stage.old) (S.faults stage.new) }
-    ensures outside { IfEndOutside result (IsOneOf session_calls) }
+    ensures serves { Serves S.Stage session_calls (call_of_end result) stage.old stage.new }
+    ensures refused { IsNotForCall result }
     ensures plays { Across S.Stage stage.old stage.new (λ old new.
         EachStory F.Fn routines.now (T.game tables.now) (λ g. PlaysGame g seed name.now old new result)) }
     ensures any_moment { Across S.Stage stage.old stage.new (λ old new.

@@ -1,11 +1,10 @@
 // Taking up a session again.
 
-ghost use Rattle.std.specs.Prelude.{◌≡◌, ◌↔◌, ℕ, List, IfSome};
+ghost use Rattle.std.specs.Prelude.{◌≡◌, ℕ, List, IfSome};
 ghost use Rattle.sha2.specs.Sha256.{sha256};
 ghost use Rattle.paw_game.specs.Image.{image};
 ghost use Rattle.paw_stage.specs.Disk.{IsStable};
-ghost use Rattle.paw_stage.specs.Stage.{Faulted};
-ghost use Rattle.paw_stage.specs.Across.{Across, EachMoment, IsOneOf};
+ghost use Rattle.paw_stage.specs.Across.{Across, EachMoment, Serves};
 ghost use Rattle.paw_stage.specs.inner.Across.{Throughout};
 ghost use Rattle.paw_stage.specs.Moments.{InShow};
 ghost use Rattle.paw_routines.specs.Routines.{HaveRows};
@@ -15,7 +14,7 @@ ghost use Rattle.paw_journal.specs.inner.Journal.{KeptIn};
 ghost use Rattle.paw_play.specs.Play.{InPlay, InAgain, PlaysUp, PlaysAgain, ShowsState, kept_session, store_bytes};
 ghost use Rattle.paw_play.specs.inner.OnTheWay.{EachStory, IsStore, ShowsAgain, end_of};
 ghost use Rattle.paw_play.specs.Calls.{play_calls, session_calls};
-ghost use Rattle.paw_play.specs.inner.Calls.{IfEndOutside, call_of_end, failed_so_far};
+ghost use Rattle.paw_play.specs.inner.Calls.{IsNotForCall, call_of_end, failed_so_far};
 
 use crate::PlayEnd;
 use crate::line::Session;
@@ -32,9 +31,8 @@ use std::alloc::Global;
 
 /// Shows the last piece of a session again. None where the session waits for a line; else what playing it comes to.
 fn show_again<S: Stage>(stage: &mut S, piece: &[u8], prompt: Prompt) -> Option<PlayEnd>
-    ensures tells { S.Tells stage.old ↔ S.Tells stage.new }
-    ensures faulted { Faulted (failed_so_far result) (S.faults stage.old) (S.faults stage.new) }
-    ensures outside { IfSome result (λ o. IfEndOutside o (IsOneOf play_calls)) }
+    ensures serves { Serves S.Stage play_calls (failed_so_far result) stage.old stage.new }
+    ensures refused { IfSome result IsNotForCall }
     ensures meaning { Across S.Stage stage.old stage.new (λ old new. ShowsAgain old new piece.now prompt result) }
     ensures time { Throughout S.Stage stage.old stage.new (λ s. InShow s piece.now) }
 {
@@ -71,9 +69,8 @@ fn take_up<S: Stage, T: Tables, F: Fn(u8, u8) -> u8>(
 ) -> PlayEnd
     requires rows { HaveRows F.Fn routines.now }
     requires kept { S.Tells stage.old → KeptIn journal room.old (S.standing stage.old) }
-    ensures tells { S.Tells stage.old ↔ S.Tells stage.new }
-    ensures faulted { Faulted (call_of_end result) (S.faults stage.old) (S.faults stage.new) }
-    ensures outside { IfEndOutside result (IsOneOf play_calls) }
+    ensures serves { Serves S.Stage play_calls (call_of_end result) stage.old stage.new }
+    ensures refused { IsNotForCall result }
     ensures plays { Across S.Stage stage.old stage.new (λ old new.
         EachStory F.Fn routines.now (T.game tables.now) (λ g. (name : List ℕ) → IsStore name old →
         PlaysUp g (kept_digest old.disk.bytes) name old new result)) }
@@ -119,9 +116,8 @@ pub fn resume_loop<S: Stage, T: Tables, F: Fn(u8, u8) -> u8>(
     requires game { game.now ≡ sha256 (image (T.game tables.now)) }
     requires rows { HaveRows F.Fn routines.now }
     requires synced { S.Tells stage.old → IsStable (S.standing stage.old).disk }
-    ensures tells { S.Tells stage.old ↔ S.Tells stage.new }
-    ensures faulted { Faulted (call_of_end result) (S.faults stage.old) (S.faults stage.new) }
-    ensures outside { IfEndOutside result (IsOneOf session_calls) }
+    ensures serves { Serves S.Stage session_calls (call_of_end result) stage.old stage.new }
+    ensures refused { IsNotForCall result }
     ensures plays { Across S.Stage stage.old stage.new (λ old new.
         EachStory F.Fn routines.now (T.game tables.now) (λ g. PlaysAgain g game.now name.now old new result)) }
     ensures any_moment { Across S.Stage stage.old stage.new (λ old new.

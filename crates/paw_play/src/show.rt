@@ -1,9 +1,9 @@
 // Showing texts.
 
-ghost use Rattle.std.specs.Prelude.{◌≡◌, ◌<◌, ◌↔◌, length, OnOk, OnErr, IsErr, Some, None};
-ghost use Rattle.paw_stage.specs.Stage.{Faulted, ShowsPart, with_shown};
+ghost use Rattle.std.specs.Prelude.{◌≡◌, ◌<◌, [], ◌∷◌, length, OnErr, IsErr};
+ghost use Rattle.paw_stage.specs.Stage.{ShowsPart, failed_in, with_shown};
 ghost use Rattle.paw_stage.specs.Moments.{InShow};
-ghost use Rattle.paw_stage.specs.Across.{Across};
+ghost use Rattle.paw_stage.specs.Across.{Across, Serves};
 ghost use Rattle.paw_stage.specs.inner.Across.{Once, Throughout};
 ghost use Rattle.paw_stage.specs.declared.StageCall.TheVariants as call;
 
@@ -14,9 +14,7 @@ use paw_stage::{Failed, Stage};
 /// # Errors
 /// Failed where the stage's `show` failed; a first part of the text was shown then.
 pub fn show<S: Stage>(stage: &mut S, text: &[u8]) -> Result<(), Failed>
-    ensures tells { S.Tells stage.old ↔ S.Tells stage.new }
-    ensures fine { OnOk result (Faulted None (S.faults stage.old) (S.faults stage.new)) }
-    ensures failed { OnErr result (Faulted (Some call.Show) (S.faults stage.old) (S.faults stage.new)) }
+    ensures serves { Serves S.Stage (call.Show ∷ []) (failed_in call.Show result) stage.old stage.new }
     ensures some { IsErr result → 0 < length text.now }
     ensures shown { Once S.Stage stage.old stage.new result (λ old new. new ≡ with_shown text.now old) }
     ensures part { Across S.Stage stage.old stage.new (λ old new. OnErr result (ShowsPart text.now old new)) }

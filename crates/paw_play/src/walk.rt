@@ -1,11 +1,10 @@
 // A walk through a game, and a trace, which is a walk that shows steps before each piece.
 
-ghost use Rattle.std.specs.Prelude.{◌≡◌, ◌+◌, ◌<◌, ◌≤◌, ◌^◌, ◌↔◌, ℕ, suc, length, IfSome, OnOk, OnErr, IsErr};
-ghost use Rattle.std.specs.Prelude.{Some, None};
+ghost use Rattle.std.specs.Prelude.{◌≡◌, ◌+◌, ◌<◌, ◌≤◌, ◌^◌, ℕ, suc, [], ◌∷◌, length, None, IfSome, OnErr, IsErr};
 ghost use Rattle.paw_base.specs.declared.limits.TheConstants.{EVENT_LIMIT, READ_LIMIT};
 ghost use Rattle.paw_routines.specs.Routines.{HaveRows};
-ghost use Rattle.paw_stage.specs.Stage.{Standing, Faulted, ShowsPart, with_shown};
-ghost use Rattle.paw_stage.specs.Across.{Across, IsOneOf};
+ghost use Rattle.paw_stage.specs.Stage.{Standing, ShowsPart, failed_in, with_shown};
+ghost use Rattle.paw_stage.specs.Across.{Across, Serves};
 ghost use Rattle.paw_stage.specs.inner.Across.{Once, Throughout};
 ghost use Rattle.paw_stage.specs.declared.StageCall.TheVariants as call;
 ghost use Rattle.paw_reading.specs.Turn.{reading};
@@ -15,7 +14,7 @@ ghost use Rattle.paw_play.specs.Walk.{EndingOf, Walks};
 ghost use Rattle.paw_play.specs.inner.Telling.{seat_text, told_as};
 ghost use Rattle.paw_play.specs.inner.OnTheWay.{EachStory, IsWalking, WalksTo, Told, refusal_of};
 ghost use Rattle.paw_play.specs.Calls.{walk_calls};
-ghost use Rattle.paw_play.specs.inner.Calls.{IfEndOutside, call_of_end, failed_so_far};
+ghost use Rattle.paw_play.specs.inner.Calls.{IsNotForCall, call_of_end, failed_so_far};
 
 use crate::PlayEnd;
 use crate::preface::Preface;
@@ -48,9 +47,7 @@ fn show_last<P: Preface, S: Stage, T: Tables, F: Fn(u8, u8) -> u8>(
     stage: &mut S,
     player: &Player<'_, T, F>,
 ) -> Result<(), Failed>
-    ensures tells { S.Tells stage.old ↔ S.Tells stage.new }
-    ensures fine { OnOk result (Faulted None (S.faults stage.old) (S.faults stage.new)) }
-    ensures failed { OnErr result (Faulted (Some call.Show) (S.faults stage.old) (S.faults stage.new)) }
+    ensures serves { Serves S.Stage (call.Show ∷ []) (failed_in call.Show result) stage.old stage.new }
     ensures some { IsErr result → 0 < length (seat_text P.telling player.now) }
     ensures shown { Once S.Stage stage.old stage.new result (λ old new.
         new ≡ with_shown (seat_text P.telling player.now) old) }
@@ -72,9 +69,8 @@ pub(crate) fn told<P: Preface, S: Stage, T: Tables, F: Fn(u8, u8) -> u8>(
     step: Step,
 ) -> Option<PlayEnd>
     requires last { player.now.last ≡ step }
-    ensures tells { S.Tells stage.old ↔ S.Tells stage.new }
-    ensures faulted { Faulted (failed_so_far result) (S.faults stage.old) (S.faults stage.new) }
-    ensures outside { IfSome result (λ o. IfEndOutside o (IsOneOf walk_calls)) }
+    ensures serves { Serves S.Stage walk_calls (failed_so_far result) stage.old stage.new }
+    ensures refused { IfSome result IsNotForCall }
     ensures meaning { Across S.Stage stage.old stage.new (λ old new.
         Told old new (seat_text P.telling player.now) step result) }
     ensures time { Throughout S.Stage stage.old stage.new (λ s. InShow s (seat_text P.telling player.now)) }
@@ -104,9 +100,8 @@ fn walk_line<P: Preface, S: Stage, T: Tables, F: Fn(u8, u8) -> u8>(
     ensures seated { IsSeated player.new }
     ensures game { player.new.game ≡ player.old.game }
     ensures draws { player.new.world.draws ≤ player.old.world.draws + READ_LIMIT }
-    ensures tells { S.Tells stage.old ↔ S.Tells stage.new }
-    ensures faulted { Faulted (failed_so_far result) (S.faults stage.old) (S.faults stage.new) }
-    ensures outside { IfSome result (λ o. IfEndOutside o (IsOneOf walk_calls)) }
+    ensures serves { Serves S.Stage walk_calls (failed_so_far result) stage.old stage.new }
+    ensures refused { IfSome result IsNotForCall }
     ensures routines { player.new.routines ≡ player.old.routines }
     ensures meaning { Across S.Stage stage.old stage.new (λ old new.
         EachStory F.Fn player.old.routines player.old.game (λ g. (whole : EndingOf) (most n : ℕ) (first : Standing) →
@@ -133,9 +128,8 @@ fn walk_lines<P: Preface, S: Stage, T: Tables, F: Fn(u8, u8) -> u8>(
     requires seated { IsSeated player.old }
     requires rows { HaveRows F.Fn player.old.routines }
     requires draws { player.old.world.draws ≤ READ_LIMIT }
-    ensures tells { S.Tells stage.old ↔ S.Tells stage.new }
-    ensures faulted { Faulted (call_of_end result) (S.faults stage.old) (S.faults stage.new) }
-    ensures outside { IfEndOutside result (IsOneOf walk_calls) }
+    ensures serves { Serves S.Stage walk_calls (call_of_end result) stage.old stage.new }
+    ensures refused { IsNotForCall result }
     ensures meaning { Across S.Stage stage.old stage.new (λ old new.
         EachStory F.Fn player.old.routines player.old.game (λ g. (whole : EndingOf) (first : Standing) →
         IsWalking P.telling g whole first old player.old 0 →
@@ -161,9 +155,8 @@ pub fn walk_loop<P: Preface, S: Stage, T: Tables, F: Fn(u8, u8) -> u8>(
     seed: u64,
 ) -> PlayEnd
     requires rows { HaveRows F.Fn routines.now }
-    ensures tells { S.Tells stage.old ↔ S.Tells stage.new }
-    ensures faulted { Faulted (call_of_end result) (S.faults stage.old) (S.faults stage.new) }
-    ensures outside { IfEndOutside result (IsOneOf walk_calls) }
+    ensures serves { Serves S.Stage walk_calls (call_of_end result) stage.old stage.new }
+    ensures refused { IsNotForCall result }
     ensures walks { Across S.Stage stage.old stage.new (λ old new. EachStory F.Fn routines.now (T.game tables.now)
         (λ g. Walks (told_as P.telling (reading g seed)) EVENT_LIMIT old new result)) }
 {

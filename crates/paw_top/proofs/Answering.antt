@@ -1,13 +1,13 @@
 -- Answers that name a call that failed.
 use Rattle.std.proofs.Common.{◌≡◌, ◌∙◌, ◌++◌, List, None, refl, sym, ap, subst}
-use Rattle.std.specs.Prelude.{Result, IfSome}
+use Rattle.std.specs.Prelude.{Result}
 use Rattle.paw_base.specs.declared.fault.SourceFault.{SourceFault}
 use Rattle.paw_game.specs.Game.{GameLists}
 use Rattle.paw_stage.specs.declared.Stage.{Ghosts}
 use Rattle.paw_stage.specs.declared.StageCall.{StageCall}
-use Rattle.paw_stage.specs.Across.{IsOneOf, Serves}
+use Rattle.paw_stage.specs.Across.{Serves}
 use Rattle.paw_journal.specs.declared.refusal.JournalRefusal.TheVariants as refusal
-use Rattle.paw_play.specs.inner.Calls.{IfEndOutside, call_of_end}
+use Rattle.paw_play.specs.inner.Calls.{call_of_end}
 use Rattle.paw_play.specs.declared.PlayEnd.{PlayEnd}
 use Rattle.paw_play.specs.declared.PlayEnd.TheVariants as end
 use Rattle.paw_top.specs.Answers.{failed_call, load_calls}
@@ -15,15 +15,9 @@ use Rattle.paw_top.specs.inner.Compile.{IsRefusal}
 use Rattle.paw_top.specs.Ends.{outcome_of}
 use Rattle.paw_top.specs.declared.outcome.Outcome.{Outcome}
 use Rattle.paw_top.specs.declared.outcome.Outcome.TheVariants as outcome
-use Rattle.paw_top.proofs.Serving.{behind, serves_among, serves_then}
+use Rattle.paw_journal.proofs.Serving.{behind, serves_among, serves_then}
 
--- the call that playing ended for
-pub ended_among : (calls : List StageCall) (o : PlayEnd) → IfEndOutside o (IsOneOf calls) → IfSome (call_of_end o) (IsOneOf calls)
-ended_among calls (end.Refused (refusal.Outside c)) h = absurd h
-ended_among calls (end.Outside c) h = h
-ended_among calls _ h = tt
-
--- it is the one that is answered
+-- the call that playing ended for is the one that is answered
 failed_same : (o : PlayEnd) → failed_call (outcome_of o) ≡ call_of_end o
 failed_same (end.Refused (refusal.Outside c)) = refl
 failed_same _ = refl

@@ -8,7 +8,8 @@ use Rattle.paw_stage.specs.Stage.{Standing, Faulted}
 use Rattle.paw_stage.specs.declared.StageCall.{StageCall}
 use Rattle.paw_stage.specs.declared.StageCall.TheVariants as call
 use Rattle.paw_journal.specs.Session.{Recovered, Unmade, Damaged, Shown, recover, state_length}
-use Rattle.paw_journal.specs.Journal.{IsWriting}
+use Rattle.paw_stage.specs.Across.{IsOneOf}
+use Rattle.paw_journal.specs.Journal.{writing_calls}
 use Rattle.paw_journal.specs.declared.refusal.JournalRefusal.{JournalRefusal}
 use Rattle.paw_journal.specs.declared.refusal.JournalRefusal.TheVariants as refusal
 use Rattle.paw_play.specs.Session.{kept_bytes}
@@ -52,9 +53,10 @@ plays_on whole most old new first last (end.Outside call.Read) s out none = absu
 -- ---- a new session ----
 
 -- a session isn't made where a write or a sync fails
-no_writing : (c : StageCall) → IsWriting c → c ≢ call.LoadAbsent
+no_writing : (c : StageCall) → IsOneOf writing_calls c → c ≢ call.LoadAbsent
 no_writing c (inl h) = λ q. cc
-no_writing c (inr h) = λ q. cc
+no_writing c (inr (inl h)) = λ q. cc
+no_writing c (inr (inr h)) = absurd h
 
 plays_in : (Kept : ℕ → List ℕ → Type 0) (whole : EndingOf) (name : List ℕ) (old new : Standing)
     (first last : StageCall → ℕ) (o : PlayEnd) → PlaysIn Kept whole name old new o →

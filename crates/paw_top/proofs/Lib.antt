@@ -1,7 +1,6 @@
 mod Completing
 mod CompletingSessions
 mod OpenedSessions
-mod Serving
 mod Answering
 mod Compiling
 mod Decompiling

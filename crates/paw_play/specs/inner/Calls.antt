@@ -6,11 +6,10 @@ use Rattle.paw_journal.specs.declared.refusal.JournalRefusal.TheVariants as refu
 use Rattle.paw_play.specs.declared.PlayEnd.{PlayEnd}
 use Rattle.paw_play.specs.declared.PlayEnd.TheVariants as end
 
--- a fact for the answer Outside, of the call that failed; a store is never refused for one
-abbrev pub IfEndOutside : PlayEnd → (StageCall → Type 0) → Type 0
-IfEndOutside (end.Outside c) P = P c
-IfEndOutside (end.Refused (refusal.Outside c)) P = ⊥
-IfEndOutside _ P = Unit {0}
+-- a store is never refused for a call that failed: that is the answer Outside
+abbrev pub IsNotForCall : PlayEnd → Type 0
+IsNotForCall (end.Refused (refusal.Outside c)) = ⊥
+IsNotForCall _ = Unit {0}
 
 -- the call that failed, by what playing came to
 abbrev pub call_of_end : PlayEnd → Option StageCall

@@ -11,6 +11,9 @@ use Rattle.paw_play.proofs.line.commit.Goals as goal
 same_shown : (digest state piece s p : List ℕ) → state ≡ s → piece ≡ p → Shown digest state piece ≡ Shown digest s p
 same_shown digest state piece s p e f = ap (λ x. Shown digest x piece) e ∙ ap (λ x. Shown digest s x) f
 
+pub returns-clause-serves : goal.returns-clause-serves
+returns-clause-serves g c = c.commit.ensures.serves
+
 pub returns-clause-shown : goal.returns-clause-shown
 returns-clause-shown g c = λ tells.
     let kept : List ℕ = kept_digest (g.S.Stage.standing c.args.stage.now).disk.bytes in

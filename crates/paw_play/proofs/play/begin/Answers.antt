@@ -3,19 +3,27 @@ use Rattle.paw_stage.proofs.Time.{Passes_map, Passes_on}
 use Rattle.paw_journal.specs.Session.{IsUnmade}
 use Rattle.paw_journal.specs.inner.Store.{InStore, Leaves}
 use Rattle.paw_play.specs.declared.line.Session.{Session}
-use Rattle.paw_play.specs.inner.Calls.{failed_so_far}
 use Rattle.paw_play.specs.inner.OnTheWay.{InNew, new_session}
 use Rattle.paw_play.proofs.Beginning.{begin_refused, begun, not_begun, shown_as, in_making, in_first_show, begins_to}
-use Rattle.paw_play.proofs.Following.{goes_on_unless, outside_unless, faulted_unless, keeps_unless}
-use Rattle.paw_stage.proofs.Counted.{Faulted_on}
+use Rattle.paw_journal.proofs.Serving.{serves_among, serves_none, serves_then}
+use Rattle.paw_play.proofs.Following.{goes_on_unless, refused_unless, serves_unless, keeps_unless, writing_plays}
 use Rattle.paw_effects.specs.Story.{story_of}
 use Rattle.paw_play.proofs.play.begin.Goals as goal
 
-pub returns-clause-tells : goal.returns-clause-tells
-returns-clause-tells g c = (λ t. c.told.ensures.tells.0 (c.create.ensures.tells.0 t), λ t. c.create.ensures.tells.1 (c.told.ensures.tells.1 t))
+pub returns-in-Some-clause-serves : goal.returns-in-Some-clause-serves
+returns-in-Some-clause-serves g c = rw c.in-Some.ensures.fine (serves_none g.S.Stage _ _)
 
-pub returns-clause-outside : goal.returns-clause-outside
-returns-clause-outside g c = rw c.unless_ended.ensures.value (outside_unless c.told.result _ c.told.ensures.outside)
+pub returns-in-Err-clause-serves : goal.returns-in-Err-clause-serves
+returns-in-Err-clause-serves g c = serves_among g.S.Stage _ _ _ _ _ writing_plays c.in-Err.ensures.serves
+
+pub returns-clause-serves : goal.returns-clause-serves
+returns-clause-serves g c =
+    rw c.unless_ended.ensures.value
+    (serves_then g.S.Stage _ _ _ _ _ _ c.in-Ok.ensures.serves
+    (serves_unless g.S.Stage c.told.result _ _ _ c.told.ensures.serves))
+
+pub returns-clause-refused : goal.returns-clause-refused
+returns-clause-refused g c = rw c.unless_ended.ensures.value (refused_unless c.told.result _ c.told.ensures.refused)
 
 pub returns-clause-events : goal.returns-clause-events
 returns-clause-events g c = rw c.unless_ended.ensures.value (goes_on_unless (λ (session : Session). session.events ≡ 0) c.told.result _ refl)
@@ -23,7 +31,7 @@ returns-clause-events g c = rw c.unless_ended.ensures.value (goes_on_unless (λ 
 pub returns-clause-kept : goal.returns-clause-kept
 returns-clause-kept g c = λ tells. rw c.unless_ended.ensures.value
     (keeps_unless _ (g.S.Stage.standing c.create.new.stage) (g.S.Stage.standing c.told.new.stage) _ c.start-step.result c.told.result _
-    (c.in-Ok.ensures.kept tells) (c.told.ensures.meaning (c.create.ensures.tells.0 tells)))
+    (c.in-Ok.ensures.kept tells) (c.told.ensures.meaning (c.create.ensures.serves.tells.0 tells)))
 
 pub returns-in-Some-clause-meaning : goal.returns-in-Some-clause-meaning
 returns-in-Some-clause-meaning g c = λ tells X rows name store.
@@ -37,7 +45,7 @@ returns-in-Err-clause-meaning g c = λ tells X rows name store.
     let story = story_of c.args.player.now.game X in
     let b = begun story c.args.player.now.world.seed c.args.game.now name _ _ c.start-step.new.self c.start-step.result store c.start-step.ensures.seated
     c.start-step.ensures.last (c.start-step.ensures.meaning X rows) c.in_default.ensures.value (c.create.ensures.beside tells) in
-    not_begun b c.in-Err.call c.in-Err.ensures.cause
+    not_begun b c.in-Err.call c.in-Err.ensures.serves.among
 
 pub returns-in-Err-clause-any_moment : goal.returns-in-Err-clause-any_moment
 returns-in-Err-clause-any_moment g c = λ tells X rows name store.
@@ -56,7 +64,7 @@ returns-clause-meaning g c = λ tells X rows name store.
     c.start-step.ensures.last (c.start-step.ensures.meaning X rows) c.in_default.ensures.value (c.create.ensures.beside tells) in
     rw c.unless_ended.ensures.value (begins_to b (sym (c.requires.attached tells) ∙ c.requires.empty) (c.in-Ok.ensures.kept tells).rests.stable
     (c.in-Ok.ensures.shown tells ∙ shown_as _ c.put_state.ensures.state c.piece.ensures.value)
-    _ (g.S.Stage.standing c.told.new.stage) c.told.result (c.in-Ok.ensures.digest tells) (c.told.ensures.meaning (c.create.ensures.tells.0 tells)))
+    _ (g.S.Stage.standing c.told.new.stage) c.told.result (c.in-Ok.ensures.digest tells) (c.told.ensures.meaning (c.create.ensures.serves.tells.0 tells)))
 
 pub returns-clause-any_moment : goal.returns-clause-any_moment
 returns-clause-any_moment g c = λ tells X rows name store.
@@ -68,13 +76,6 @@ returns-clause-any_moment g c = λ tells X rows name store.
     Passes_on _ _ _ _ _ _ _ _
     (Passes_map _ _ _ _ _ (InNew (new_session story c.args.player.now.world.seed c.args.game.now name) old)
     (c.create.ensures.any_moment tells) (λ m i. inl (in_making b m (subst (λ x. InStore old (Leaves (λ r. IsUnmade r ⊎ (r ≡ x))) m) same i))))
-    (c.told.ensures.time (c.create.ensures.tells.0 tells))
+    (c.told.ensures.time (c.create.ensures.serves.tells.0 tells))
     (λ m i. inr (in_first_show b (sym (c.requires.attached tells) ∙ c.requires.empty) (c.in-Ok.ensures.kept tells).rests.stable
     (c.in-Ok.ensures.shown tells ∙ same) m i))
-
-pub returns-in-Some-clause-faulted : goal.returns-in-Some-clause-faulted
-returns-in-Some-clause-faulted g c = rw c.in-Some.ensures.fine (λ k. refl)
-
-pub returns-clause-faulted : goal.returns-clause-faulted
-returns-clause-faulted g c = rw c.unless_ended.ensures.value (faulted_unless c.told.result _ _ _
-    (Faulted_on (failed_so_far c.told.result) _ _ _ c.in-Ok.ensures.faulted c.told.ensures.faulted))

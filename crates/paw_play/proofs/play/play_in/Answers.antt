@@ -5,7 +5,7 @@ use Rattle.paw_stage.proofs.Time.{Passes_on}
 use Rattle.paw_play.specs.Play.{memory, plays}
 use Rattle.paw_play.specs.inner.OnTheWay.{InNew, IsPlaying, PlaysInStore, new_session}
 use Rattle.paw_play.proofs.Begun.{begun_plays, session_of}
-use Rattle.paw_stage.proofs.Counted.{Faulted_on}
+use Rattle.paw_journal.proofs.Serving.{serves_then}
 use Rattle.paw_play.specs.inner.Calls.{call_of_end}
 use Rattle.paw_effects.specs.Story.{story_of}
 use Rattle.paw_play.proofs.play.play_in.Goals as goal
@@ -17,14 +17,7 @@ pub play_lines-requires-clause-rows : goal.play_lines-requires-clause-rows
 play_lines-requires-clause-rows g c = subst (λ r. HaveRows g.F.Fn r) (sym (c.begin.ensures.routines ∙ c.in-Ok-new.ensures.routines)) c.requires.rows
 
 pub play_lines-requires-clause-kept : goal.play_lines-requires-clause-kept
-play_lines-requires-clause-kept g c = λ tells. c.in-Ok-begin.ensures.kept (c.begin.ensures.tells.1 tells)
-
-pub returns-in-Ok-begin-clause-tells : goal.returns-in-Ok-begin-clause-tells
-returns-in-Ok-begin-clause-tells g c = (
-  λ t. c.play_lines.ensures.tells.0 (c.begin.ensures.tells.0 t),
-  λ t.
-      c.begin.ensures.tells.1 (c.play_lines.ensures.tells.1 t),
-)
+play_lines-requires-clause-kept g c = λ tells. c.in-Ok-begin.ensures.kept (c.begin.ensures.serves.tells.1 tells)
 
 pub returns-in_default-clause-plays : goal.returns-in_default-clause-plays
 returns-in_default-clause-plays g c = λ tells X rows name store. memory refl
@@ -42,7 +35,7 @@ returns-in-Ok-begin-clause-plays g c = λ tells X rows name store.
     subst (λ q. PlaysInStore q old (g.S.Stage.standing c.play_lines.new.stage) c.play_lines.result)
     (session_of c.in-Ok-new.player (g.T.Tables.game c.args.tables.now) X c.args.seed c.args.game.now name
     c.in-Ok-new.ensures.new c.in-Ok-new.ensures.game)
-    (plays c.play_lines.result (c.play_lines.ensures.meaning (c.begin.ensures.tells.0 tells) X
+    (plays c.play_lines.result (c.play_lines.ensures.meaning (c.begin.ensures.serves.tells.0 tells) X
     (subst (λ r. AreRowsOf g.F.Fn r X) (sym c.begin.ensures.routines) own) s old playing c.in-Ok-begin.ensures.events))
 
 pub returns-clause-plays : goal.returns-clause-plays
@@ -66,7 +59,7 @@ returns-in-Ok-begin-clause-any_moment g c = λ tells X rows name store.
     (session_of c.in-Ok-new.player (g.T.Tables.game c.args.tables.now) X c.args.seed c.args.game.now name
     c.in-Ok-new.ensures.new c.in-Ok-new.ensures.game)
     (Passes_on _ _ _ _ _ _ (InNew s old) _ (c.begin.ensures.any_moment tells X own name store)
-    (c.play_lines.ensures.any_moment (c.begin.ensures.tells.0 tells) X (subst (λ r. AreRowsOf g.F.Fn r X) (sym c.begin.ensures.routines) own) s old
+    (c.play_lines.ensures.any_moment (c.begin.ensures.serves.tells.0 tells) X (subst (λ r. AreRowsOf g.F.Fn r X) (sym c.begin.ensures.routines) own) s old
     playing c.in-Ok-begin.ensures.events) (λ m i. inr i))
 
 pub returns-clause-any_moment : goal.returns-clause-any_moment
@@ -78,5 +71,6 @@ returns-clause-any_moment g c = λ tells X rows name store.
     c.in-Ok-new.ensures.new c.in-Ok-new.ensures.game)
     (c.begin.ensures.any_moment tells X own name store)
 
-pub returns-in-Ok-begin-clause-faulted : goal.returns-in-Ok-begin-clause-faulted
-returns-in-Ok-begin-clause-faulted g c = Faulted_on (call_of_end c.play_lines.result) _ _ _ c.in-Ok-begin.ensures.faulted c.play_lines.ensures.faulted
+pub returns-in-Ok-begin-clause-serves : goal.returns-in-Ok-begin-clause-serves
+returns-in-Ok-begin-clause-serves g c =
+    serves_then g.S.Stage _ _ (call_of_end c.play_lines.result) _ _ _ c.in-Ok-begin.ensures.serves c.play_lines.ensures.serves

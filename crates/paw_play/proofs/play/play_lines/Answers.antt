@@ -4,7 +4,7 @@ use Rattle.paw_stage.proofs.Time.{Passes_on, Passes_none}
 use Rattle.paw_play.specs.Play.{InPlay}
 use Rattle.paw_play.specs.inner.OnTheWay.{IsPlaying}
 use Rattle.paw_play.proofs.Playing.{long_play}
-use Rattle.paw_stage.proofs.Counted.{Faulted_on, Faulted_same}
+use Rattle.paw_journal.proofs.Serving.{serves_none, serves_then}
 use Rattle.paw_play.specs.inner.Calls.{call_of_end}
 use Rattle.paw_effects.specs.Story.{story_of}
 use Rattle.paw_play.proofs.play.play_lines.Goals as goal
@@ -18,8 +18,7 @@ loop-init g c = record {
   from = omega arith;
   few = c.requires.few;
   draws = c.requires.draws;
-  tells = (λ t. t, λ t. t);
-  faulted = Faulted_same _;
+  serves = serves_none g.S.Stage _ _;
   kept = c.requires.kept;
   playing = λ tells X rows s first start events.
       let none : 0 ≡ c.args.session.events - s.before = omega (arith, events) in
@@ -28,15 +27,12 @@ loop-init g c = record {
 }
 
 pub play_line-requires-clause-kept : goal.play_line-requires-clause-kept
-play_line-requires-clause-kept g c = λ tells. c.loop.invariant.kept (c.loop.invariant.tells.1 tells)
-
-pub returns-in-Err-clause-tells : goal.returns-in-Err-clause-tells
-returns-in-Err-clause-tells g c = (λ t. c.play_line.ensures.tells.0 (c.loop.invariant.tells.0 t), λ t. c.loop.invariant.tells.1 (c.play_line.ensures.tells.1 t))
+play_line-requires-clause-kept g c = λ tells. c.loop.invariant.kept (c.loop.invariant.serves.tells.1 tells)
 
 pub returns-in-Err-clause-meaning : goal.returns-in-Err-clause-meaning
 returns-in-Err-clause-meaning g c = λ tells X rows s first start events.
     let i = c.loop.invariant in
-    c.in-Err.ensures.meaning (i.tells.0 tells) X (rw i.routines rows) s (EVENT_LIMIT - s.before) (c.loop.counter - s.before) first
+    c.in-Err.ensures.meaning (i.serves.tells.0 tells) X (rw i.routines rows) s (EVENT_LIMIT - s.before) (c.loop.counter - s.before) first
     (i.playing tells X rows s first start events) (omega (arith, i.events, i.from, events)) (omega (arith, c.loop-test.true, i.from, events))
 
 pub returns-in-Err-clause-any_moment : goal.returns-in-Err-clause-any_moment
@@ -45,7 +41,7 @@ returns-in-Err-clause-any_moment g c = λ tells X rows s first start events.
     let few : c.loop.counter - s.before < EVENT_LIMIT - s.before = omega (arith, c.loop-test.true, i.from, events) in
     let at : c.loop.session.events ≡ s.before + (c.loop.counter - s.before) = omega (arith, i.events, i.from, events) in
     Passes_on _ _ _ _ _ _ (InPlay s first) _ (i.passes tells X rows s first start events)
-    (c.in-Err.ensures.any_moment (i.tells.0 tells) X (rw i.routines rows) s (EVENT_LIMIT - s.before) (c.loop.counter - s.before)
+    (c.in-Err.ensures.any_moment (i.serves.tells.0 tells) X (rw i.routines rows) s (EVENT_LIMIT - s.before) (c.loop.counter - s.before)
     first (i.playing tells X rows s first start events) at few) (λ m j. j)
 
 pub loop-preserved : goal.loop-preserved
@@ -60,13 +56,12 @@ loop-preserved g c =
       from = omega (arith, i.from);
       few = omega (arith, c.loop-test.true);
       draws = omega (arith, c.play_line.ensures.draws, i.draws);
-      tells = (λ t. c.play_line.ensures.tells.0 (i.tells.0 t), λ t. i.tells.1 (c.play_line.ensures.tells.1 t));
-      faulted = Faulted_on None _ _ _ i.faulted c.in-Ok.ensures.faulted;
-      kept = λ tells. c.in-Ok.ensures.kept (i.tells.0 tells);
+      serves = serves_then g.S.Stage _ _ None _ _ _ i.serves c.in-Ok.ensures.serves;
+      kept = λ tells. c.in-Ok.ensures.kept (i.serves.tells.0 tells);
       playing = λ tells X rows s first start events.
           let few : c.loop.counter - s.before < EVENT_LIMIT - s.before = omega (arith, c.loop-test.true, i.from, events) in
           let at : c.loop.session.events ≡ s.before + (c.loop.counter - s.before) = omega (arith, i.events, i.from, events) in
-          let next = c.in-Ok.ensures.meaning (i.tells.0 tells) X (rw i.routines rows) s (EVENT_LIMIT - s.before)
+          let next = c.in-Ok.ensures.meaning (i.serves.tells.0 tells) X (rw i.routines rows) s (EVENT_LIMIT - s.before)
           (c.loop.counter - s.before) first (i.playing tells X rows s first start events) at few in
           let n : suc (c.loop.counter - s.before) ≡ c.loop.counter + 1 - s.before = omega (arith, i.from, events) in
           subst (λ k. IsPlaying (story_of k X) s first after_play_line c.play_line.new.player (c.loop.counter + 1 - s.before)) (sym c.play_line.ensures.game)
@@ -75,7 +70,7 @@ loop-preserved g c =
           let few : c.loop.counter - s.before < EVENT_LIMIT - s.before = omega (arith, c.loop-test.true, i.from, events) in
           let at : c.loop.session.events ≡ s.before + (c.loop.counter - s.before) = omega (arith, i.events, i.from, events) in
           Passes_on _ _ _ _ _ _ (InPlay s first) _ (i.passes tells X rows s first start events)
-          (c.in-Ok.ensures.any_moment (i.tells.0 tells) X (rw i.routines rows) s (EVENT_LIMIT - s.before)
+          (c.in-Ok.ensures.any_moment (i.serves.tells.0 tells) X (rw i.routines rows) s (EVENT_LIMIT - s.before)
           (c.loop.counter - s.before) first (i.playing tells X rows s first start events) at few) (λ m j. j);
     }
 
@@ -86,5 +81,5 @@ returns-clause-meaning g c = λ tells X rows s first start events.
     long_play (story_of c.loop.player.game X) s (EVENT_LIMIT - s.before) (c.loop.counter - s.before) first
     (g.S.Stage.standing c.loop.stage) c.loop.player (i.playing tells X rows s first start events) i.seated all
 
-pub returns-in-Err-clause-faulted : goal.returns-in-Err-clause-faulted
-returns-in-Err-clause-faulted g c = Faulted_on (call_of_end c.in-Err.end) _ _ _ c.loop.invariant.faulted c.in-Err.ensures.faulted
+pub returns-in-Err-clause-serves : goal.returns-in-Err-clause-serves
+returns-in-Err-clause-serves g c = serves_then g.S.Stage _ _ (call_of_end c.in-Err.end) _ _ _ c.loop.invariant.serves c.in-Err.ensures.serves

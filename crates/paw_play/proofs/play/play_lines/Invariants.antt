@@ -1,11 +1,13 @@
-use Rattle.std.proofs.Common.{◌≡◌, ◌+◌, ◌-◌, ◌*◌, ◌≤◌, ◌↔◌, ℕ, List, None}
+use Rattle.std.proofs.Common.{◌≡◌, ◌+◌, ◌-◌, ◌*◌, ◌≤◌, ℕ, List, None}
 use Rattle.paw_base.specs.declared.limits.TheConstants.{EVENT_LIMIT}
 use Rattle.paw_routines.specs.Routines.{AreRowsOf, HaveRows}
 use Rattle.paw_effects.specs.Story.{story_of}
-use Rattle.paw_stage.specs.Stage.{Standing, Faulted}
+use Rattle.paw_stage.specs.Stage.{Standing}
+use Rattle.paw_stage.specs.Across.{Serves}
 use Rattle.paw_stage.specs.Moments.{Passes}
 use Rattle.paw_turn.specs.inner.Player.{IsSeated}
 use Rattle.paw_journal.specs.inner.Journal.{KeptIn}
+use Rattle.paw_play.specs.Calls.{play_calls}
 use Rattle.paw_play.specs.Play.{PlayedSession, InPlay}
 use Rattle.paw_play.specs.inner.OnTheWay.{IsPlaying}
 use Rattle.paw_play.proofs.play.play_lines.Given as goal
@@ -20,8 +22,7 @@ invariant-loop g l = record {
   from : l.fn.session.events ≤ l.counter;
   few : l.counter ≤ EVENT_LIMIT;
   draws : l.player.world.draws ≤ 200000 * (l.counter + 1);
-  tells : g.S.Stage.Tells l.fn.stage ↔ g.S.Stage.Tells l.stage;
-  faulted : Faulted None (g.S.Stage.faults l.fn.stage) (g.S.Stage.faults l.stage);
+  serves : Serves g.S.Stage play_calls None l.fn.stage l.stage;
   kept : g.S.Stage.Tells l.fn.stage → KeptIn l.session.journal l.room (g.S.Stage.standing l.stage);
   playing : g.S.Stage.Tells l.fn.stage → (X : List (List ℕ)) → AreRowsOf g.F.Fn l.fn.player.routines X → (s : PlayedSession) (first : Standing) →
       IsPlaying (story_of l.fn.player.game X) s first (g.S.Stage.standing l.fn.stage) l.fn.player 0 → l.fn.session.events ≡ s.before →

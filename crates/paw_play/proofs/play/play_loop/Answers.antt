@@ -1,17 +1,20 @@
-use Rattle.std.proofs.Common.{◌<◌, ◌⊎◌, sym, subst, arith}
+use Rattle.std.proofs.Common.{◌<◌, ◌⊎◌, [], ◌∷◌, None, refl, sym, subst, arith}
 use Rattle.paw_stage.proofs.Time.{Passes_map, Passes_on}
 use Rattle.paw_stage.specs.Stage.{Standing}
 use Rattle.paw_play.specs.Play.{PlayedSession, InGame, InPlay, unattached, occupied, plays_in}
 use Rattle.paw_play.specs.inner.OnTheWay.{InMaking, PlaysInStore, IsStore, new_session}
 use Rattle.paw_play.proofs.Attaching.{store_attached, store_empty, in_new_attach}
 use Rattle.paw_play.proofs.Games.{game_plays, in_game}
-use Rattle.paw_stage.proofs.Counted.{Faulted_on}
+use Rattle.paw_stage.specs.declared.StageCall.TheVariants as call
+use Rattle.paw_journal.proofs.Serving.{in_front, serves_among, serves_still, serves_then, the_only_one}
+use Rattle.paw_play.specs.Calls.{play_calls}
+use Rattle.paw_play.proofs.Following.{play_sessions}
 use Rattle.paw_play.specs.inner.Calls.{call_of_end}
 use Rattle.paw_effects.specs.Story.{story_of}
 use Rattle.paw_play.proofs.play.play_loop.Goals as goal
 
 pub returns-in-Err-clause-plays : goal.returns-in-Err-clause-plays
-returns-in-Err-clause-plays g c = λ tells X rows. rw c.in-Err.ensures.cause (unattached (c.in-Err.ensures.left tells))
+returns-in-Err-clause-plays g c = λ tells X rows. rw (the_only_one c.in-Err.call call.Attach c.in-Err.ensures.serves.among) (unattached (c.in-Err.ensures.left tells))
 
 pub returns-then-at-ne0-clause-plays : goal.returns-then-at-ne0-clause-plays
 returns-then-at-ne0-clause-plays g c = λ tells X rows.
@@ -29,7 +32,7 @@ returns-clause-plays g c = λ tells X rows.
     subst (IsStore c.args.name.now) (sym a.1) (store_attached old c.args.name.now) in
     plays_in c.play_in.result (store_empty old _ c.args.name.now c.in-Ok.at.length a (omega (arith, c.if-at-ne0.false)))
     (game_plays (story_of game2 X) c.args.seed c.args.game.now c.args.name.now c.requires.game old after_play_in c.play_in.result
-    (subst (λ q. PlaysInStore s q after_play_in c.play_in.result) a.1 (c.play_in.ensures.plays (c.attach.ensures.tells.0 tells) X rows c.args.name.now store)))
+    (subst (λ q. PlaysInStore s q after_play_in c.play_in.result) a.1 (c.play_in.ensures.plays (c.attach.ensures.serves.tells.0 tells) X rows c.args.name.now store)))
 
 pub returns-clause-any_moment : goal.returns-clause-any_moment
 returns-clause-any_moment g c = λ tells X rows empty.
@@ -42,8 +45,16 @@ returns-clause-any_moment g c = λ tells X rows empty.
     Passes_on _ _ _ _ _ _ (InGame (story_of game2 X) c.args.seed c.args.name.now old) _
     (Passes_map _ _ _ _ _ (InGame (story_of game2 X) c.args.seed c.args.name.now old) (c.in-Ok.ensures.time tells)
     (λ m i. in_new_attach (story_of game2 X) c.args.seed c.args.name.now old after_attach m a.1 empty i))
-    (c.play_in.ensures.any_moment (c.attach.ensures.tells.0 tells) X rows c.args.name.now store)
+    (c.play_in.ensures.any_moment (c.attach.ensures.serves.tells.0 tells) X rows c.args.name.now store)
     (λ m i. in_game (story_of game2 X) c.args.seed c.args.game.now c.args.name.now c.requires.game old m (subst (λ q. InMaking s q m ⊎ InPlay s q m) a.1 i))
 
-pub returns-clause-faulted : goal.returns-clause-faulted
-returns-clause-faulted g c = Faulted_on (call_of_end c.play_in.result) _ _ _ c.in-Ok.ensures.faulted c.play_in.ensures.faulted
+pub returns-in-Err-clause-serves : goal.returns-in-Err-clause-serves
+returns-in-Err-clause-serves g c = serves_among g.S.Stage _ _ _ _ _ (in_front (call.Attach ∷ []) (call.Read ∷ play_calls)) c.in-Err.ensures.serves
+
+pub returns-then-at-ne0-clause-serves : goal.returns-then-at-ne0-clause-serves
+returns-then-at-ne0-clause-serves g c = serves_still g.S.Stage _ _ None _ _ refl c.in-Ok.ensures.serves
+
+pub returns-clause-serves : goal.returns-clause-serves
+returns-clause-serves g c =
+    serves_then g.S.Stage _ _ (call_of_end c.play_in.result) _ _ _ c.in-Ok.ensures.serves
+    (serves_among g.S.Stage _ _ (call_of_end c.play_in.result) _ _ play_sessions c.play_in.ensures.serves)

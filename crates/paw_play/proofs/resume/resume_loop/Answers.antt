@@ -1,4 +1,4 @@
-use Rattle.std.proofs.Common.{None, ◌≡◌, sym, ◌∙◌, subst}
+use Rattle.std.proofs.Common.{None, [], ◌∷◌, ◌≡◌, refl, sym, ◌∙◌, subst}
 use Rattle.paw_stage.specs.Stage.{Standing}
 use Rattle.paw_stage.proofs.Time.{Passes_map, Passes_on}
 use Rattle.paw_journal.specs.Session.{recover}
@@ -6,23 +6,20 @@ use Rattle.paw_journal.specs.inner.Journal.{IsSessionRefused}
 use Rattle.paw_effects.specs.Story.{story_of}
 use Rattle.paw_play.specs.inner.Calls.{call_of_end}
 use Rattle.paw_play.specs.Play.{InAgain, InPlay, PlaysUp, ShowsState, unattached, wanting, plays_up, attached_to, kept_session}
-use Rattle.paw_play.specs.inner.OnTheWay.{IsStore}
+use Rattle.paw_play.specs.inner.OnTheWay.{IsStore, end_of}
 use Rattle.paw_play.proofs.Attaching.{store_attached}
-use Rattle.paw_play.proofs.Again.{in_again_attach, in_finding, in_taking_up, refused_again, outside_again, refused_faults}
-use Rattle.paw_stage.proofs.Counted.{Faulted_on}
+use Rattle.paw_play.proofs.Again.{in_again_attach, in_finding, in_taking_up, refused_again, not_for_call, serves_refused}
+use Rattle.paw_stage.specs.declared.StageCall.TheVariants as call
+use Rattle.paw_journal.proofs.Serving.{in_front, serves_among, serves_still, serves_then, the_only_one}
+use Rattle.paw_play.specs.Calls.{play_calls}
+use Rattle.paw_play.proofs.Following.{play_sessions}
 use Rattle.paw_play.proofs.resume.resume_loop.Goals as goal
 
 pub take_up-requires-clause-kept : goal.take_up-requires-clause-kept
-take_up-requires-clause-kept g c = λ tells. c.in-Ok-find.ensures.kept (c.find.ensures.tells.1 tells)
-
-pub returns-clause-tells : goal.returns-clause-tells
-returns-clause-tells g c = (
-  λ t. c.take_up.ensures.tells.0 (c.find.ensures.tells.0 (c.attach.ensures.tells.0 t)),
-  λ t. c.attach.ensures.tells.1 (c.find.ensures.tells.1 (c.take_up.ensures.tells.1 t)),
-)
+take_up-requires-clause-kept g c = λ tells. c.in-Ok-find.ensures.kept (c.find.ensures.serves.tells.1 tells)
 
 pub returns-in-Err-clause-plays : goal.returns-in-Err-clause-plays
-returns-in-Err-clause-plays g c = λ tells X rows. rw c.in-Err.ensures.cause (unattached (c.in-Err.ensures.left tells))
+returns-in-Err-clause-plays g c = λ tells X rows. rw (the_only_one c.in-Err.call call.Attach c.in-Err.ensures.serves.among) (unattached (c.in-Err.ensures.left tells))
 
 pub returns-in_default-clause-plays : goal.returns-in_default-clause-plays
 returns-in_default-clause-plays g c = λ tells X rows. wanting (c.in-Ok.ensures.attached tells).1
@@ -36,20 +33,19 @@ returns-in_default-clause-any_moment g c = λ tells X rows st piece shows.
     (λ m i. in_again_attach (story_of game2 X) c.args.game.now c.args.name.now st piece old
     c.counts-counts.ensures.valid shows (g.S.Stage.standing c.attach.new.stage) m a.1 i)
 
-pub returns-in-Err-find-clause-outside : goal.returns-in-Err-find-clause-outside
-returns-in-Err-find-clause-outside g c =
-    rw c.not_found.ensures.value (outside_again c.in-Err-find.refusal c.in-Err-find.ensures.cause)
+pub returns-in-Err-find-clause-refused : goal.returns-in-Err-find-clause-refused
+returns-in-Err-find-clause-refused g c = rw c.not_found.ensures.value (not_for_call c.in-Err-find.refusal)
 
 pub returns-in-Err-find-clause-plays : goal.returns-in-Err-find-clause-plays
 returns-in-Err-find-clause-plays g c = λ tells X rows.
     let a = c.in-Ok.ensures.attached tells in
-    let now = c.attach.ensures.tells.0 tells in
+    let now = c.attach.ensures.serves.tells.0 tells in
     let found = c.in-Err-find.ensures.found now in
     rw c.not_found.ensures.value
     (refused_again (story_of (g.T.Tables.game c.args.tables.now) X) c.args.game.now c.args.name.now
     (g.S.Stage.standing c.args.stage.now) (g.S.Stage.standing c.find.new.stage) c.in-Err-find.refusal
     (subst (λ (q : Standing). IsSessionRefused (recover q.disk.bytes) c.args.game.now c.in-Err-find.refusal) a.1 found)
-    c.in-Err-find.ensures.cause (c.find.ensures.still now ∙ a.1))
+    c.in-Err-find.ensures.serves.among (c.find.ensures.still now ∙ a.1))
 
 pub returns-in-Err-find-clause-any_moment : goal.returns-in-Err-find-clause-any_moment
 returns-in-Err-find-clause-any_moment g c = λ tells X rows st piece shows.
@@ -61,7 +57,7 @@ returns-in-Err-find-clause-any_moment g c = λ tells X rows st piece shows.
     (Passes_on _ _ _ _ _ _ (InAgain session old) _
     (Passes_map _ _ _ _ _ (InAgain session old) (c.in-Ok.ensures.time tells)
     (λ m i. in_again_attach (story_of game2 X) c.args.game.now c.args.name.now st piece old c.counts-counts.ensures.valid shows after_attach m a.1 i))
-    (c.find.ensures.time (c.attach.ensures.tells.0 tells))
+    (c.find.ensures.time (c.attach.ensures.serves.tells.0 tells))
     (λ m i. in_finding (story_of game2 X) c.args.game.now c.args.name.now st piece old c.counts-counts.ensures.valid shows after_attach m a.1 i))
 
 pub returns-clause-plays : goal.returns-clause-plays
@@ -71,10 +67,10 @@ returns-clause-plays g c = λ tells X rows.
     let after_find = g.S.Stage.standing c.find.new.stage in
     let after_take_up = g.S.Stage.standing c.take_up.new.stage in
     let a = c.in-Ok.ensures.attached tells in
-    let now = c.attach.ensures.tells.0 tells in
+    let now = c.attach.ensures.serves.tells.0 tells in
     let is : g.S.Stage.standing c.find.new.stage ≡ attached_to old c.args.name.now = c.find.ensures.still now ∙ a.1 in
     let store : IsStore c.args.name.now after_find = subst (IsStore c.args.name.now) (sym is) (store_attached old c.args.name.now) in
-    let up = c.take_up.ensures.plays (c.find.ensures.tells.0 now) X rows c.args.name.now store in
+    let up = c.take_up.ensures.plays (c.find.ensures.serves.tells.0 now) X rows c.args.name.now store in
     plays_up c.take_up.result
     (subst (λ q. PlaysUp (story_of game2 X) c.args.game.now c.args.name.now q after_take_up c.take_up.result) is
     (subst (λ d. PlaysUp (story_of game2 X) d c.args.name.now after_find after_take_up c.take_up.result) (c.in-Ok-find.ensures.digest now) up))
@@ -87,17 +83,17 @@ returns-clause-any_moment g c = λ tells X rows st piece shows.
     let after_attach = g.S.Stage.standing c.attach.new.stage in
     let session = kept_session (story_of game2 X) st piece c.args.game.now c.args.name.now in
     let a = c.in-Ok.ensures.attached tells in
-    let now = c.attach.ensures.tells.0 tells in
+    let now = c.attach.ensures.serves.tells.0 tells in
     let is : g.S.Stage.standing c.find.new.stage ≡ attached_to old c.args.name.now = c.find.ensures.still now ∙ a.1 in
     let store : IsStore c.args.name.now after_find = subst (IsStore c.args.name.now) (sym is) (store_attached old c.args.name.now) in
     let there = subst (λ (q : Standing). ShowsState game2 c.args.game.now q.disk.bytes st piece) (sym is) shows in
     let own = subst (λ d. ShowsState game2 d after_find.disk.bytes st piece) (sym (c.in-Ok-find.ensures.digest now)) there in
-    let up = c.take_up.ensures.any_moment (c.find.ensures.tells.0 now) X rows c.args.name.now store st piece own in
+    let up = c.take_up.ensures.any_moment (c.find.ensures.serves.tells.0 now) X rows c.args.name.now store st piece own in
     Passes_on _ _ _ _ _ _ (InAgain session old) _
     (Passes_on _ _ _ _ _ _ (InAgain session old) _
     (Passes_map _ _ _ _ _ (InAgain session old) (c.in-Ok.ensures.time tells)
     (λ m i. in_again_attach (story_of game2 X) c.args.game.now c.args.name.now st piece old c.counts-counts.ensures.valid shows after_attach m a.1 i))
-    (c.find.ensures.time (c.attach.ensures.tells.0 tells))
+    (c.find.ensures.time (c.attach.ensures.serves.tells.0 tells))
     (λ m i. in_finding (story_of game2 X) c.args.game.now c.args.name.now st piece old c.counts-counts.ensures.valid shows after_attach m a.1 i))
     up
     (λ m i. in_taking_up (story_of game2 X) c.args.game.now c.args.name.now st piece old c.counts-counts.ensures.valid shows m
@@ -105,11 +101,21 @@ returns-clause-any_moment g c = λ tells X rows st piece shows.
     (λ d. InPlay (kept_session (story_of game2 X) st piece d c.args.name.now) after_find m)
     (c.in-Ok-find.ensures.digest now) i)))
 
-pub returns-in-Err-find-clause-faulted : goal.returns-in-Err-find-clause-faulted
-returns-in-Err-find-clause-faulted g c =
-    Faulted_on (call_of_end c.not_found.result) _ _ _ c.in-Ok.ensures.faulted
-    (rw c.not_found.ensures.value (refused_faults c.in-Err-find.refusal _ _ c.in-Err-find.ensures.faulted))
+pub returns-in-Err-clause-serves : goal.returns-in-Err-clause-serves
+returns-in-Err-clause-serves g c = serves_among g.S.Stage _ _ _ _ _ (in_front (call.Attach ∷ []) (call.Read ∷ play_calls)) c.in-Err.ensures.serves
 
-pub returns-clause-faulted : goal.returns-clause-faulted
-returns-clause-faulted g c =
-    Faulted_on (call_of_end c.take_up.result) _ _ _ (Faulted_on None _ _ _ c.in-Ok.ensures.faulted c.in-Ok-find.ensures.faulted) c.take_up.ensures.faulted
+pub returns-in_default-clause-serves : goal.returns-in_default-clause-serves
+returns-in_default-clause-serves g c = serves_still g.S.Stage _ _ None _ _ refl c.in-Ok.ensures.serves
+
+pub returns-in-Err-find-clause-serves : goal.returns-in-Err-find-clause-serves
+returns-in-Err-find-clause-serves g c =
+    rw c.not_found.ensures.value
+    (serves_then g.S.Stage _ _ (call_of_end (end_of c.in-Err-find.refusal)) _ _ _
+    c.in-Ok.ensures.serves
+    (serves_refused g.S.Stage c.in-Err-find.refusal _ _ c.in-Err-find.ensures.serves))
+
+pub returns-clause-serves : goal.returns-clause-serves
+returns-clause-serves g c =
+    serves_then g.S.Stage _ _ (call_of_end c.take_up.result) _ _ _ (serves_then g.S.Stage _ _ None _ _ _
+    c.in-Ok.ensures.serves c.in-Ok-find.ensures.serves)
+    (serves_among g.S.Stage _ _ (call_of_end c.take_up.result) _ _ play_sessions c.take_up.ensures.serves)

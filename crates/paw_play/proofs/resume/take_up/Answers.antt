@@ -13,7 +13,7 @@ use Rattle.paw_play.specs.Play.{InPlay, memory, no_state, plays_on}
 use Rattle.paw_play.specs.inner.OnTheWay.{ShowsAgain}
 use Rattle.paw_play.proofs.Showing.{read_fits, resumed, one_session}
 use Rattle.paw_play.proofs.Resuming.{in_again_show, again_next, again_last, seat_routines, read_session}
-use Rattle.paw_stage.proofs.Counted.{Faulted_on}
+use Rattle.paw_journal.proofs.Serving.{serves_then}
 use Rattle.paw_play.specs.inner.Calls.{call_of_end}
 use Rattle.paw_play.proofs.Following.{keeps_shown}
 use Rattle.paw_play.proofs.resume.take_up.Goals as goal
@@ -26,16 +26,9 @@ play_lines-requires-clause-rows g c = subst (λ r. HaveRows g.F.Fn r)
 
 pub play_lines-requires-clause-kept : goal.play_lines-requires-clause-kept
 play_lines-requires-clause-kept g c = λ tells.
-    let before = c.show_again.ensures.tells.1 tells in
+    let before = c.show_again.ensures.serves.tells.1 tells in
     keeps_shown _ c.args.room.now (g.S.Stage.standing c.args.stage.now) (g.S.Stage.standing c.show_again.new.stage) _
     (c.requires.kept before) (c.in_default-show_again.ensures.meaning before).1
-
-pub returns-clause-tells : goal.returns-clause-tells
-returns-clause-tells g c = (
-  λ t. c.play_lines.ensures.tells.0 (c.show_again.ensures.tells.0 t),
-  λ t.
-      c.show_again.ensures.tells.1 (c.play_lines.ensures.tells.1 t),
-)
 
 not_ok : (r : Result Restored StateFault) (e : StateFault) → r ≡ Err e → IsOk r → ⊥
 not_ok (Ok x) e is h = cc
@@ -87,7 +80,7 @@ returns-clause-plays g c = λ tells X rows name store.
     c.piece.ensures.value (c.in_default-show_again.ensures.meaning tells)) in
     let own = subst (λ r. AreRowsOf g.F.Fn r X) (sym (seat_routines _ c.args.routines.now _ _ _ _ c.in-Ok-adopt.player c.in-Ok-adopt.ensures.value)) rows in
     plays_on c.play_lines.result (state_read c.in-Ok.restored) c.args.room.now.piece u.state
-    (c.play_lines.ensures.meaning (c.show_again.ensures.tells.0 tells) X own _ (g.S.Stage.standing c.args.stage.now) start refl)
+    (c.play_lines.ensures.meaning (c.show_again.ensures.serves.tells.0 tells) X own _ (g.S.Stage.standing c.args.stage.now) start refl)
 
 pub returns-clause-any_moment : goal.returns-clause-any_moment
 returns-clause-any_moment g c = λ tells X rows name store st piece shows.
@@ -106,7 +99,8 @@ returns-clause-any_moment g c = λ tells X rows name store st piece shows.
     (Passes_on _ _ _ _ _ _ (InPlay session (g.S.Stage.standing c.args.stage.now)) _
     (Passes_map _ _ _ _ _ (InPlay session (g.S.Stage.standing c.args.stage.now)) (c.in_default-show_again.ensures.time tells)
     (λ m i. in_again_show u m (subst (λ x. InShow (g.S.Stage.standing c.args.stage.now) x m) c.piece.ensures.value i)))
-    (c.play_lines.ensures.any_moment (c.show_again.ensures.tells.0 tells) X own session (g.S.Stage.standing c.args.stage.now) start refl) (λ m j. j))
+    (c.play_lines.ensures.any_moment (c.show_again.ensures.serves.tells.0 tells) X own session (g.S.Stage.standing c.args.stage.now) start refl) (λ m j. j))
 
-pub returns-clause-faulted : goal.returns-clause-faulted
-returns-clause-faulted g c = Faulted_on (call_of_end c.play_lines.result) _ _ _ c.in_default-show_again.ensures.faulted c.play_lines.ensures.faulted
+pub returns-clause-serves : goal.returns-clause-serves
+returns-clause-serves g c =
+    serves_then g.S.Stage _ _ (call_of_end c.play_lines.result) _ _ _ c.in_default-show_again.ensures.serves c.play_lines.ensures.serves

@@ -1,11 +1,11 @@
-use Rattle.std.proofs.Common.{◌≡◌, ◌<◌, ◌++◌, ◌∙◌, List, ℕ, Some, None, refl, ap, subst, length, arith, length-append}
+use Rattle.std.proofs.Common.{◌≡◌, ◌<◌, ◌++◌, ◌∙◌, List, ℕ, refl, ap, subst, length, arith, length-append}
 use Rattle.std.specs.Prelude.{Result, Ok, Err, OnOk, OnErr}
-use Rattle.paw_stage.specs.Stage.{Standing, ShowsPart, with_shown}
+use Rattle.paw_stage.specs.Stage.{Standing, ShowsPart, failed_in, with_shown}
 use Rattle.paw_stage.specs.Moments.{InShow}
 use Rattle.paw_stage.specs.declared.StageCall.TheVariants as call
-use Rattle.paw_stage.proofs.Counted.{Faulted_on}
 use Rattle.paw_stage.proofs.Time.{Passes_map, Passes_on}
 use Rattle.paw_play.specs.inner.Telling.{preface}
+use Rattle.paw_journal.proofs.Serving.{serves_then}
 use Rattle.paw_play.proofs.Telling.{part_before, moment_before, both_shown, part_after, moment_after}
 use Rattle.paw_play.proofs.walk.show_last.Goals as goal
 
@@ -39,16 +39,12 @@ returns-in-Err-clause-time g c = λ tells.
     Passes_map _ _ _ _ _ (InShow old (before ++ c.args.player.now.piece)) (c.in-Err.ensures.time tells)
     (λ m i. moment_before old before c.args.player.now.piece m (subst (λ t. InShow old t m) is i))
 
-pub returns-in-Ok-clause-fine : goal.returns-in-Ok-clause-fine
-returns-in-Ok-clause-fine g c = of_ok c.show-in-Ok.result
-    (Faulted_on None (g.S.Stage.faults c.args.stage.now) (g.S.Stage.faults c.show.new.stage) (g.S.Stage.faults c.show-in-Ok.new.stage) c.in-Ok.ensures.fine)
-    c.show-in-Ok.ensures.fine
+pub returns-in-Err-clause-serves : goal.returns-in-Err-clause-serves
+returns-in-Err-clause-serves g c = c.in-Err.ensures.serves
 
-pub returns-in-Ok-clause-failed : goal.returns-in-Ok-clause-failed
-returns-in-Ok-clause-failed g c = of_err c.show-in-Ok.result
-    (Faulted_on (Some call.Show) (g.S.Stage.faults c.args.stage.now) (g.S.Stage.faults c.show.new.stage) (g.S.Stage.faults c.show-in-Ok.new.stage)
-    c.in-Ok.ensures.fine)
-    c.show-in-Ok.ensures.failed
+pub returns-in-Ok-clause-serves : goal.returns-in-Ok-clause-serves
+returns-in-Ok-clause-serves g c =
+    serves_then g.S.Stage _ _ (failed_in call.Show c.show-in-Ok.result) _ _ _ c.in-Ok.ensures.serves c.show-in-Ok.ensures.serves
 
 pub returns-in-Ok-clause-some : goal.returns-in-Ok-clause-some
 returns-in-Ok-clause-some g c = λ h.
@@ -63,7 +59,7 @@ returns-in-Ok-clause-shown g c = λ tells.
     let e = c.in-Ok.ensures.shown tells ∙ ap (λ t. with_shown t (g.S.Stage.standing c.args.stage.now)) is in
     of_ok c.show-in-Ok.result
     (λ f. both_shown (g.S.Stage.standing c.args.stage.now) _ _ mid _ e (f ∙ ap (λ t. with_shown t mid) c.piece.ensures.value))
-    (c.show-in-Ok.ensures.shown (c.show.ensures.tells.0 tells))
+    (c.show-in-Ok.ensures.shown (c.show.ensures.serves.tells.0 tells))
 
 pub returns-in-Ok-clause-part : goal.returns-in-Ok-clause-part
 returns-in-Ok-clause-part g c = λ tells.
@@ -73,7 +69,7 @@ returns-in-Ok-clause-part g c = λ tells.
     let e = c.in-Ok.ensures.shown tells ∙ ap (λ t. with_shown t (g.S.Stage.standing c.args.stage.now)) is in
     of_err c.show-in-Ok.result
     (λ h. part_after (g.S.Stage.standing c.args.stage.now) _ _ mid new e (subst (λ t. ShowsPart t mid new) c.piece.ensures.value h))
-    (c.show-in-Ok.ensures.part (c.show.ensures.tells.0 tells))
+    (c.show-in-Ok.ensures.part (c.show.ensures.serves.tells.0 tells))
 
 pub returns-in-Ok-clause-time : goal.returns-in-Ok-clause-time
 returns-in-Ok-clause-time g c = λ tells.
@@ -86,5 +82,5 @@ returns-in-Ok-clause-time g c = λ tells.
     Passes_on _ _ _ _ _ _ (InShow old (before ++ piece)) _
     (Passes_map _ _ _ _ _ (InShow old (before ++ piece)) (c.in-Ok.ensures.time tells)
     (λ m i. moment_before old before piece m (subst (λ t. InShow old t m) is i)))
-    (c.show-in-Ok.ensures.time (c.show.ensures.tells.0 tells))
+    (c.show-in-Ok.ensures.time (c.show.ensures.serves.tells.0 tells))
     (λ m i. moment_after old before piece mid m e (subst (λ t. InShow mid t m) c.piece.ensures.value i))

@@ -1,5 +1,5 @@
-use Rattle.std.proofs.Common.{refl}
+use Rattle.paw_journal.proofs.Serving.{serves_none}
 use Rattle.paw_play.proofs.walk.told.Goals as goal
 
-pub returns-in-Some-clause-faulted : goal.returns-in-Some-clause-faulted
-returns-in-Some-clause-faulted g c = rw c.in-Some.ensures.fine (λ k. refl)
+pub returns-in-Some-clause-serves : goal.returns-in-Some-clause-serves
+returns-in-Some-clause-serves g c = rw c.in-Some.ensures.fine (serves_none g.S.Stage _ _)

@@ -1,5 +1,6 @@
+use Rattle.std.proofs.Common.{refl, inl}
 use Rattle.paw_play.proofs.Walking.{walks_on, none_left, none_asked}
-use Rattle.paw_stage.proofs.Counted.{Faulted_on}
+use Rattle.paw_journal.proofs.Serving.{serves_done, serves_then}
 use Rattle.paw_effects.specs.Story.{story_of}
 use Rattle.paw_play.specs.inner.Calls.{failed_so_far}
 use Rattle.paw_play.proofs.walk.walk_line.Goals as goal
@@ -22,5 +23,12 @@ returns-in-Failed-clause-meaning g c = λ tells X rows whole most n first w few.
     g.P.Preface.telling (story_of c.args.player.now.game X) whole most n first _ _ c.args.player.now w c.requires.seated few
     (c.in-Failed.ensures.answer tells)
 
-pub returns-in-Line-clause-faulted : goal.returns-in-Line-clause-faulted
-returns-in-Line-clause-faulted g c = Faulted_on (failed_so_far c.told.result) _ _ _ c.in-Line.ensures.faulted c.told.ensures.faulted
+pub returns-in-Line-clause-serves : goal.returns-in-Line-clause-serves
+returns-in-Line-clause-serves g c = serves_then g.S.Stage _ _ (failed_so_far c.told.result) _ _ _
+    (serves_done g.S.Stage _ _ c.ask.ensures.tells c.in-Line.ensures.faulted) c.told.ensures.serves
+
+pub returns-in-End-clause-serves : goal.returns-in-End-clause-serves
+returns-in-End-clause-serves g c = record { tells = c.ask.ensures.tells; faulted = c.in-End.ensures.faulted; among = tt }
+
+pub returns-in-Failed-clause-serves : goal.returns-in-Failed-clause-serves
+returns-in-Failed-clause-serves g c = record { tells = c.ask.ensures.tells; faulted = c.in-Failed.ensures.faulted; among = inl refl }

@@ -1,7 +1,7 @@
 use Rattle.std.proofs.Common.{◌≡◌, ◌+◌, ◌<◌, ◌∙◌, suc, arith, None, subst, sym}
 use Rattle.paw_base.specs.declared.limits.TheConstants.{EVENT_LIMIT}
 use Rattle.paw_play.proofs.Walking.{long_walk}
-use Rattle.paw_stage.proofs.Counted.{Faulted_on}
+use Rattle.paw_journal.proofs.Serving.{serves_then}
 use Rattle.paw_play.specs.inner.Calls.{call_of_end}
 use Rattle.paw_effects.specs.Story.{story_of}
 use Rattle.paw_play.specs.inner.OnTheWay.{IsWalking}
@@ -11,7 +11,7 @@ pub returns-in-Some-clause-meaning : goal.returns-in-Some-clause-meaning
 returns-in-Some-clause-meaning g c = λ tells X rows whole first start.
     let w = c.loop.invariant.walking tells X rows whole first start in
     let few : c.loop.counter < EVENT_LIMIT = omega (arith, c.loop-test.true) in
-    c.in-Some.ensures.meaning (c.loop.invariant.tells.0 tells) X (rw c.loop.invariant.routines rows) whole EVENT_LIMIT c.loop.counter first w few
+    c.in-Some.ensures.meaning (c.loop.invariant.serves.tells.0 tells) X (rw c.loop.invariant.routines rows) whole EVENT_LIMIT c.loop.counter first w few
 
 pub loop-preserved : goal.loop-preserved
 loop-preserved g c =
@@ -22,12 +22,11 @@ loop-preserved g c =
       routines = c.walk_line.ensures.routines ∙ c.loop.invariant.routines;
       rows = rw c.walk_line.ensures.routines c.loop.invariant.rows;
       draws = omega (arith, c.walk_line.ensures.draws, c.loop.invariant.draws);
-      tells = (λ t. c.walk_line.ensures.tells.0 (c.loop.invariant.tells.0 t), λ t. c.loop.invariant.tells.1 (c.walk_line.ensures.tells.1 t));
-      faulted = Faulted_on None _ _ _ c.loop.invariant.faulted c.in_default.ensures.faulted;
+      serves = serves_then g.S.Stage _ _ None _ _ _ c.loop.invariant.serves c.in_default.ensures.serves;
       walking = λ tells X rows whole first start.
           let w = c.loop.invariant.walking tells X rows whole first start in
           let few : c.loop.counter < EVENT_LIMIT = omega (arith, c.loop-test.true) in
-          let on = c.in_default.ensures.meaning (c.loop.invariant.tells.0 tells) X (rw c.loop.invariant.routines rows) whole
+          let on = c.in_default.ensures.meaning (c.loop.invariant.serves.tells.0 tells) X (rw c.loop.invariant.routines rows) whole
           EVENT_LIMIT c.loop.counter first w few in
           let n : suc c.loop.counter ≡ c.loop.counter + 1 = omega arith in
           subst (λ k. IsWalking g.P.Preface.telling (story_of k X) whole first after_walk_line c.walk_line.new.player (c.loop.counter + 1))
@@ -41,5 +40,5 @@ returns-clause-meaning g c = λ tells X rows whole first start.
     long_walk g.P.Preface.telling (story_of c.loop.player.game X) whole EVENT_LIMIT c.loop.counter first (g.S.Stage.standing c.loop.stage) c.loop.player
     (c.loop.invariant.walking tells X rows whole first start) c.loop.invariant.seated all
 
-pub returns-in-Some-clause-faulted : goal.returns-in-Some-clause-faulted
-returns-in-Some-clause-faulted g c = Faulted_on (call_of_end c.in-Some.end) _ _ _ c.loop.invariant.faulted c.in-Some.ensures.faulted
+pub returns-in-Some-clause-serves : goal.returns-in-Some-clause-serves
+returns-in-Some-clause-serves g c = serves_then g.S.Stage _ _ (call_of_end c.in-Some.end) _ _ _ c.loop.invariant.serves c.in-Some.ensures.serves

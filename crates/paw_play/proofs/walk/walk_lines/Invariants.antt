@@ -1,6 +1,8 @@
-use Rattle.std.proofs.Common.{◌≡◌, ◌+◌, ◌*◌, ◌≤◌, ◌↔◌, ℕ, List, None}
-use Rattle.paw_stage.specs.Stage.{Standing, Faulted}
+use Rattle.std.proofs.Common.{◌≡◌, ◌+◌, ◌*◌, ◌≤◌, ℕ, List, None}
+use Rattle.paw_stage.specs.Stage.{Standing}
+use Rattle.paw_stage.specs.Across.{Serves}
 use Rattle.paw_turn.specs.inner.Player.{IsSeated}
+use Rattle.paw_play.specs.Calls.{walk_calls}
 use Rattle.paw_play.specs.Walk.{EndingOf}
 use Rattle.paw_play.specs.inner.OnTheWay.{IsWalking}
 use Rattle.paw_routines.specs.Routines.{AreRowsOf, HaveRows}
@@ -13,8 +15,7 @@ invariant-loop g l = record {
   seated : IsSeated l.player;
   game : l.player.game ≡ l.fn.player.game;
   draws : l.player.world.draws ≤ 200000 * (l.counter + 1);
-  tells : g.S.Stage.Tells l.fn.stage ↔ g.S.Stage.Tells l.stage;
-  faulted : Faulted None (g.S.Stage.faults l.fn.stage) (g.S.Stage.faults l.stage);
+  serves : Serves g.S.Stage walk_calls None l.fn.stage l.stage;
   routines : l.player.routines ≡ l.fn.player.routines;
   rows : HaveRows g.F.Fn l.player.routines;
   walking : g.S.Stage.Tells l.fn.stage → (X : List (List ℕ)) → AreRowsOf g.F.Fn l.fn.player.routines X → (whole : EndingOf) (first : Standing) →

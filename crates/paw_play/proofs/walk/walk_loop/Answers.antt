@@ -6,7 +6,7 @@ use Rattle.paw_play.specs.Walk.{Walks}
 use Rattle.paw_play.specs.inner.Telling.{told_as}
 use Rattle.paw_play.specs.inner.OnTheWay.{IsWalking}
 use Rattle.paw_play.proofs.Walking.{walk_starts}
-use Rattle.paw_stage.proofs.Counted.{Faulted_on}
+use Rattle.paw_journal.proofs.Serving.{serves_then}
 use Rattle.paw_effects.specs.Story.{story_of}
 use Rattle.paw_play.specs.inner.Calls.{call_of_end}
 use Rattle.paw_play.proofs.walk.walk_loop.Goals as goal
@@ -38,9 +38,9 @@ returns-clause-walks g c = λ tells X rows.
     c.start-step.ensures.last (c.start-step.ensures.meaning X own) (c.in_default-told.ensures.meaning tells) in
     subst (λ k. Walks (told_as telling (reading (story_of k X) c.args.seed)) EVENT_LIMIT old (g.S.Stage.standing c.walk_lines.new.stage)
     c.walk_lines.result) c.in-Ok-new.ensures.game
-    (c.walk_lines.ensures.meaning (c.told.ensures.tells.0 tells) X later _ old
+    (c.walk_lines.ensures.meaning (c.told.ensures.serves.tells.0 tells) X later _ old
     (subst (λ k. IsWalking telling (story_of k X) (reading story c.args.seed) old (g.S.Stage.standing c.told.new.stage)
     c.start-step.new.self 0) (sym c.start-step.ensures.game) walking))
 
-pub returns-clause-faulted : goal.returns-clause-faulted
-returns-clause-faulted g c = Faulted_on (call_of_end c.walk_lines.result) _ _ _ c.in_default-told.ensures.faulted c.walk_lines.ensures.faulted
+pub returns-clause-serves : goal.returns-clause-serves
+returns-clause-serves g c = serves_then g.S.Stage _ _ (call_of_end c.walk_lines.result) _ _ _ c.in_default-told.ensures.serves c.walk_lines.ensures.serves

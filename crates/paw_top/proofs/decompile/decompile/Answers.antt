@@ -5,7 +5,7 @@ use Rattle.paw_top.proofs.Decompiling.{no_file, no_game, shows_source}
 use Rattle.paw_top.proofs.Images.{holds_given}
 use Rattle.paw_stage.specs.declared.StageCall.TheVariants as call
 use Rattle.paw_top.specs.Answers.{load_calls}
-use Rattle.paw_top.proofs.Serving.{in_front, behind, serves_among, serves_still, serves_then}
+use Rattle.paw_journal.proofs.Serving.{in_front, behind, serves_among, serves_still, serves_then}
 use Rattle.paw_top.proofs.decompile.decompile.Goals as goal
 
 pub returns-in-Err-clause-decompiles : goal.returns-in-Err-clause-decompiles

@@ -8,8 +8,8 @@ use Rattle.paw_play.specs.Calls.{session_calls}
 use Rattle.paw_play.specs.Play.{InGame, store_bytes}
 use Rattle.paw_top.specs.Ends.{plays}
 use Rattle.paw_top.specs.Answers.{load_calls}
-use Rattle.paw_top.proofs.Answering.{ended_among, played_serves}
-use Rattle.paw_top.proofs.Serving.{in_front, serves_among, serves_still}
+use Rattle.paw_top.proofs.Answering.{played_serves}
+use Rattle.paw_journal.proofs.Serving.{in_front, serves_among, serves_still}
 use Rattle.paw_top.proofs.Images.{holds_given}
 use Rattle.paw_top.proofs.OpenedSessions.{still_new, game_moment, plays_game, same_story}
 use Rattle.paw_top.proofs.Refusals.{unloaded, undecoded}
@@ -63,8 +63,4 @@ pub returns-in-Err-view_in-clause-serves : goal.returns-in-Err-view_in-clause-se
 returns-in-Err-view_in-clause-serves g c = serves_still _ _ _ _ _ _ c.in-Err-view_in.ensures.fine c.in-Ok.ensures.serves
 
 pub returns-clause-serves : goal.returns-clause-serves
-returns-clause-serves g c = played_serves session_calls c.play_loop.result c.outcome_of.result c.outcome_of.ensures.value c.in-Ok.ensures.serves (record {
-  tells = c.play_loop.ensures.tells;
-  faulted = c.play_loop.ensures.faulted;
-  among = ended_among session_calls c.play_loop.result c.play_loop.ensures.outside;
-})
+returns-clause-serves g c = played_serves session_calls c.play_loop.result c.outcome_of.result c.outcome_of.ensures.value c.in-Ok.ensures.serves c.play_loop.ensures.serves

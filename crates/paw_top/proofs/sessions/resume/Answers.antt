@@ -10,8 +10,8 @@ use Rattle.paw_play.proofs.Standing.{standing_shows, in_going_on}
 use Rattle.paw_top.specs.Ends.{plays}
 use Rattle.paw_top.specs.Sessions.{session_from, digest_of}
 use Rattle.paw_top.specs.Answers.{load_calls}
-use Rattle.paw_top.proofs.Answering.{ended_among, played_serves}
-use Rattle.paw_top.proofs.Serving.{in_front, serves_among, serves_still}
+use Rattle.paw_top.proofs.Answering.{played_serves}
+use Rattle.paw_journal.proofs.Serving.{in_front, serves_among, serves_still}
 use Rattle.paw_top.proofs.Completing.{same_game}
 use Rattle.paw_top.proofs.Images.{holds_given}
 use Rattle.paw_top.proofs.OpenedSessions.{still_again, still_on, again_moment, plays_again, goes_on_in, shows_same, one_kept_session, same_story}
@@ -112,8 +112,4 @@ pub returns-in-Err-view_in-clause-serves : goal.returns-in-Err-view_in-clause-se
 returns-in-Err-view_in-clause-serves g c = serves_still _ _ _ _ _ _ c.in-Err-view_in.ensures.fine c.in-Ok.ensures.serves
 
 pub returns-clause-serves : goal.returns-clause-serves
-returns-clause-serves g c = played_serves session_calls c.resume_loop.result c.outcome_of.result c.outcome_of.ensures.value c.in-Ok.ensures.serves (record {
-  tells = c.resume_loop.ensures.tells;
-  faulted = c.resume_loop.ensures.faulted;
-  among = ended_among session_calls c.resume_loop.result c.resume_loop.ensures.outside;
-})
+returns-clause-serves g c = played_serves session_calls c.resume_loop.result c.outcome_of.result c.outcome_of.ensures.value c.in-Ok.ensures.serves c.resume_loop.ensures.serves

@@ -8,8 +8,8 @@ use Rattle.paw_play.specs.Walk.{Walks}
 use Rattle.paw_play.specs.inner.Telling.{told_as}
 use Rattle.paw_top.specs.Ends.{plays}
 use Rattle.paw_top.specs.Answers.{load_calls}
-use Rattle.paw_top.proofs.Answering.{ended_among, played_serves}
-use Rattle.paw_top.proofs.Serving.{in_front, serves_among, serves_still}
+use Rattle.paw_top.proofs.Answering.{played_serves}
+use Rattle.paw_journal.proofs.Serving.{in_front, serves_among, serves_still}
 use Rattle.paw_top.proofs.Images.{holds_given}
 use Rattle.paw_top.proofs.Refusals.{unloaded, undecoded}
 use Rattle.paw_top.proofs.sessions.walk.Goals as goal
@@ -38,8 +38,4 @@ pub returns-in-Err-view_in-clause-serves : goal.returns-in-Err-view_in-clause-se
 returns-in-Err-view_in-clause-serves g c = serves_still _ _ _ _ _ _ c.in-Err-view_in.ensures.fine c.in-Ok.ensures.serves
 
 pub returns-clause-serves : goal.returns-clause-serves
-returns-clause-serves g c = played_serves walk_calls c.walk_loop.result c.outcome_of.result c.outcome_of.ensures.value c.in-Ok.ensures.serves (record {
-  tells = c.walk_loop.ensures.tells;
-  faulted = c.walk_loop.ensures.faulted;
-  among = ended_among walk_calls c.walk_loop.result c.walk_loop.ensures.outside;
-})
+returns-clause-serves g c = played_serves walk_calls c.walk_loop.result c.outcome_of.result c.outcome_of.ensures.value c.in-Ok.ensures.serves c.walk_loop.ensures.serves

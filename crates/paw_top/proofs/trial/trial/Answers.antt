@@ -1,7 +1,7 @@
 use Rattle.std.proofs.Common.{refl, subst, sym}
 use Rattle.paw_trial.specs.Trial.{trial_reading}
 use Rattle.paw_trial.specs.inner.Trial.{IsTextOf}
-use Rattle.paw_top.proofs.Serving.{serves_none}
+use Rattle.paw_journal.proofs.Serving.{serves_none}
 use Rattle.paw_top.proofs.Trying.{told}
 use Rattle.paw_top.proofs.trial.trial.Goals as goal
 
