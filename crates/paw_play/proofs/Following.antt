@@ -1,15 +1,14 @@
 -- What holds over calls that follow each other.
-use Rattle.std.proofs.Common.{◌≡◌, ℕ, ◌+◌, ◌++◌, List, [], ◌∷◌, Option, Some, None, sym, subst, inl, inr}
-use Rattle.std.specs.Prelude.{Result, Ok, Err, IfSome, IfOk, IfErr}
+use Rattle.std.proofs.Common.{◌≡◌, ℕ, ◌+◌, ◌++◌, List, Option, Some, None, sym, subst, inl, inr}
+use Rattle.std.specs.Prelude.{IfSome, IfOk, IfErr}
 use Rattle.paw_stage.specs.Stage.{Standing}
 use Rattle.paw_stage.specs.declared.StageCall.{StageCall}
-use Rattle.paw_stage.specs.declared.StageCall.TheVariants as call
 use Rattle.paw_stage.specs.declared.Stage.{Ghosts}
 use Rattle.paw_stage.specs.Across.{IsOneOf, Serves}
 use Rattle.paw_journal.specs.Journal.{writing_calls}
 use Rattle.paw_journal.specs.declared.journal.Journal.{Journal}
 use Rattle.paw_journal.specs.inner.Room.{Room}
-use Rattle.paw_journal.specs.inner.Journal.{KeptIn, failed_stage_call}
+use Rattle.paw_journal.specs.inner.Journal.{KeptIn}
 use Rattle.paw_play.specs.declared.PlayEnd.{PlayEnd}
 use Rattle.paw_play.specs.Calls.{walk_calls, play_calls, session_calls}
 use Rattle.paw_play.specs.inner.Calls.{IsNotForCall, call_of_end, failed_so_far, failed_or, unless_ended}
