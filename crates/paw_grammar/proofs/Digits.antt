@@ -18,7 +18,7 @@ same_number : (a b : ℕ) (ds : List ℕ) → min a 4294967295 ≡ min b 4294967
 same_number a b [] h = ap Some h
 same_number a b (d ∷ ds) h =
     elim (is_ascii_digit d) as (λ v. capped (cond (v && list_all is_ascii_digit ds) (Some (digits_value_after 10 (a * 10 + digit_value d) ds)) None)
-        ≡ capped (cond (v && list_all is_ascii_digit ds) (Some (digits_value_after 10 (b * 10 + digit_value d) ds)) None)) [
+    ≡ capped (cond (v && list_all is_ascii_digit ds) (Some (digits_value_after 10 (b * 10 + digit_value d) ds)) None)) [
       | true ↦ same_number (a * 10 + digit_value d) (b * 10 + digit_value d) ds (omega arith)
       | false ↦ refl
     ]

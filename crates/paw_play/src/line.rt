@@ -1,16 +1,16 @@
 // Playing with a session: each line is taken, committed and then shown.
 
-ghost use Rattle.std.specs.Prelude.{◌≡◌, ◌+◌, ◌<◌, ◌≤◌, ◌^◌, [], ◌∷◌, take, length, IfOk, IfErr};
+ghost use Rattle.std.specs.Prelude.{◌≡◌, ◌+◌, ◌<◌, ◌≤◌, ◌^◌, take, length, IfOk, IfErr};
 ghost use Rattle.paw_base.specs.declared.limits.TheConstants.{EVENT_LIMIT, READ_LIMIT};
 ghost use Rattle.paw_stage.specs.Across.{Across, EachMoment, Serves};
 ghost use Rattle.paw_stage.specs.inner.Across.{Once, Throughout};
-ghost use Rattle.paw_stage.specs.declared.StageCall.TheVariants as call;
 ghost use Rattle.paw_routines.specs.Routines.{HaveRows};
 ghost use Rattle.paw_turn.specs.inner.Player.{IsSeated};
 ghost use Rattle.paw_turn.specs.inner.Parts.{IsStanding};
 ghost use Rattle.paw_journal.specs.Session.{state_length, piece_length};
 ghost use Rattle.paw_journal.specs.inner.Store.{IsBeside};
 ghost use Rattle.paw_journal.specs.inner.Steps.{SameDigest};
+ghost use Rattle.paw_journal.specs.Journal.{writing_calls};
 ghost use Rattle.paw_journal.specs.inner.Journal.{KeptIn, failed_stage_call};
 ghost use Rattle.paw_play.specs.Play.{InPlay};
 ghost use Rattle.paw_play.specs.inner.OnTheWay.{EachStory, EachPlaying, Commits, InCommit, seat_state, PlaysTo};
@@ -66,7 +66,7 @@ fn commit<S: Stage, T: Tables, F: Fn(u8, u8) -> u8>(
     requires seated { IsSeated player.now }
     requires standing { IsStanding player.now.last }
     requires kept { S.Tells stage.old → KeptIn journal room.old (S.standing stage.old) }
-    ensures serves { Serves S.Stage (call.Write ∷ call.Sync ∷ []) (failed_stage_call result) stage.old stage.new }
+    ensures serves { Serves S.Stage writing_calls (failed_stage_call result) stage.old stage.new }
     ensures shown { Once S.Stage stage.old stage.new result (Commits events player.now) }
     ensures kept { S.Tells stage.old → IfOk result (λ kept. KeptIn kept room.new (S.standing stage.new)) }
     ensures digest { Once S.Stage stage.old stage.new result SameDigest }

@@ -27,7 +27,8 @@ TakesLine bytes left asked.Failed into = ⊤
 abbrev pub GathersLine : List ℕ → Option (List ℕ) → Option ℕ → List ℕ → Type 0
 GathersLine bytes left None into = (bytes ≡ []) × (left ≡ Some [])
 GathersLine bytes left (Some len) into =
-    (0 < length bytes) × (len ≡ length (first_line bytes)) × (take (min len LINE_LIMIT) into ≡ take LINE_LIMIT (first_line bytes))
+    (0 < length bytes) × (len ≡ length (first_line bytes))
+    × (take (min len LINE_LIMIT) into ≡ take LINE_LIMIT (first_line bytes))
     × (left ≡ Some (drop_through 10 bytes))
 
 -- What an ask, the gathering of a line and the taking of a byte do to a reader, where its bytes are known.

@@ -5,10 +5,11 @@ use Rattle.paw_grammar.proofs.numbers.number.Goals as goal
 pub loop-byte-preserved : goal.loop-byte-preserved
 loop-byte-preserved c =
     let digit = sym c.is_ascii_digit.ensures.value ∙ c.if-not-is_ascii_digit.false in
+    let worth = digit_worth (get_or c.args.token.now c.loop-byte.byte-index 0) digit in
     record {
       same = sym (digit_read c.loop-byte.number c.saturating_add-number.result c.args.token.now c.loop-byte.byte-index
           c.loop-byte-test.true digit
-          (omega (arith, digit_worth (get_or c.args.token.now c.loop-byte.byte-index 0) digit, c.saturating_add-number.ensures, c.saturating_mul.ensures, c.from.ensures)))
+          (omega (arith, worth, c.saturating_add-number.ensures, c.saturating_mul.ensures, c.from.ensures)))
           ∙ c.loop-byte.invariant.same;
       small = omega (arith, c.saturating_add-number.ensures);
     }

@@ -14,7 +14,8 @@ use Rattle.paw_effects.specs.Story.{story_of}
 use Rattle.paw_play.proofs.play.play_loop.Goals as goal
 
 pub returns-in-Err-clause-plays : goal.returns-in-Err-clause-plays
-returns-in-Err-clause-plays g c = λ tells X rows. rw (the_only_one c.in-Err.call call.Attach c.in-Err.ensures.serves.among) (unattached (c.in-Err.ensures.left tells))
+returns-in-Err-clause-plays g c = λ tells X rows.
+    rw (the_only_one c.in-Err.call call.Attach c.in-Err.ensures.serves.among) (unattached (c.in-Err.ensures.left tells))
 
 pub returns-then-at-ne0-clause-plays : goal.returns-then-at-ne0-clause-plays
 returns-then-at-ne0-clause-plays g c = λ tells X rows.
@@ -49,7 +50,8 @@ returns-clause-any_moment g c = λ tells X rows empty.
     (λ m i. in_game (story_of game2 X) c.args.seed c.args.game.now c.args.name.now c.requires.game old m (subst (λ q. InMaking s q m ⊎ InPlay s q m) a.1 i))
 
 pub returns-in-Err-clause-serves : goal.returns-in-Err-clause-serves
-returns-in-Err-clause-serves g c = serves_among g.S.Stage _ _ _ _ _ (in_front (call.Attach ∷ []) (call.Read ∷ play_calls)) c.in-Err.ensures.serves
+returns-in-Err-clause-serves g c =
+    serves_among g.S.Stage _ _ _ _ _ (in_front (call.Attach ∷ []) (call.Read ∷ play_calls)) c.in-Err.ensures.serves
 
 pub returns-then-at-ne0-clause-serves : goal.returns-then-at-ne0-clause-serves
 returns-then-at-ne0-clause-serves g c = serves_still g.S.Stage _ _ None _ _ refl c.in-Ok.ensures.serves

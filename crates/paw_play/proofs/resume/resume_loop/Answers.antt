@@ -19,7 +19,8 @@ pub take_up-requires-clause-kept : goal.take_up-requires-clause-kept
 take_up-requires-clause-kept g c = λ tells. c.in-Ok-find.ensures.kept (c.find.ensures.serves.tells.1 tells)
 
 pub returns-in-Err-clause-plays : goal.returns-in-Err-clause-plays
-returns-in-Err-clause-plays g c = λ tells X rows. rw (the_only_one c.in-Err.call call.Attach c.in-Err.ensures.serves.among) (unattached (c.in-Err.ensures.left tells))
+returns-in-Err-clause-plays g c = λ tells X rows.
+    rw (the_only_one c.in-Err.call call.Attach c.in-Err.ensures.serves.among) (unattached (c.in-Err.ensures.left tells))
 
 pub returns-in_default-clause-plays : goal.returns-in_default-clause-plays
 returns-in_default-clause-plays g c = λ tells X rows. wanting (c.in-Ok.ensures.attached tells).1
@@ -102,7 +103,8 @@ returns-clause-any_moment g c = λ tells X rows st piece shows.
     (c.in-Ok-find.ensures.digest now) i)))
 
 pub returns-in-Err-clause-serves : goal.returns-in-Err-clause-serves
-returns-in-Err-clause-serves g c = serves_among g.S.Stage _ _ _ _ _ (in_front (call.Attach ∷ []) (call.Read ∷ play_calls)) c.in-Err.ensures.serves
+returns-in-Err-clause-serves g c =
+    serves_among g.S.Stage _ _ _ _ _ (in_front (call.Attach ∷ []) (call.Read ∷ play_calls)) c.in-Err.ensures.serves
 
 pub returns-in_default-clause-serves : goal.returns-in_default-clause-serves
 returns-in_default-clause-serves g c = serves_still g.S.Stage _ _ None _ _ refl c.in-Ok.ensures.serves

@@ -63,4 +63,6 @@ pub returns-in-Err-view_in-clause-serves : goal.returns-in-Err-view_in-clause-se
 returns-in-Err-view_in-clause-serves g c = serves_still _ _ _ _ _ _ c.in-Err-view_in.ensures.fine c.in-Ok.ensures.serves
 
 pub returns-clause-serves : goal.returns-clause-serves
-returns-clause-serves g c = played_serves session_calls c.play_loop.result c.outcome_of.result c.outcome_of.ensures.value c.in-Ok.ensures.serves c.play_loop.ensures.serves
+returns-clause-serves g c =
+    played_serves session_calls c.play_loop.result c.outcome_of.result c.outcome_of.ensures.value
+    c.in-Ok.ensures.serves c.play_loop.ensures.serves

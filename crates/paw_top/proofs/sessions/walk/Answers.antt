@@ -38,4 +38,6 @@ pub returns-in-Err-view_in-clause-serves : goal.returns-in-Err-view_in-clause-se
 returns-in-Err-view_in-clause-serves g c = serves_still _ _ _ _ _ _ c.in-Err-view_in.ensures.fine c.in-Ok.ensures.serves
 
 pub returns-clause-serves : goal.returns-clause-serves
-returns-clause-serves g c = played_serves walk_calls c.walk_loop.result c.outcome_of.result c.outcome_of.ensures.value c.in-Ok.ensures.serves c.walk_loop.ensures.serves
+returns-clause-serves g c =
+    played_serves walk_calls c.walk_loop.result c.outcome_of.result c.outcome_of.ensures.value
+    c.in-Ok.ensures.serves c.walk_loop.ensures.serves
