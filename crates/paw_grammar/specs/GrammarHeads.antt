@@ -1,6 +1,7 @@
 -- Lines that begin with `/`: headers and items.
 use Rattle.std.specs.Prelude.{ℕ, suc, ◌==◌, ◌&&◌, ◌||◌, Bool, false, not, List, [], ◌∷◌, ◌++◌, length}
 use Rattle.std.specs.Prelude.{nat_lt, if◌then◌else◌, Option, Some, None, Result, Ok, Err, codes}
+use Rattle.paw_base.specs.declared.limits.TheConstants.{TABLE_LIMIT}
 use Rattle.paw_base.specs.declared.fault.SourceKind.{SourceKind}
 use Rattle.paw_base.specs.declared.fault.SourceKind.TheVariants as kind
 use Rattle.paw_grammar.specs.declared.section.Section.{Section}
@@ -44,7 +45,7 @@ lacks_rows d = (length d.tables == 0) && nat_lt (length d.facts) (length d.names
 -- a header of two tokens, of which the second is the number of the next table
 abbrev pub pro_header : Spelt → List (List ℕ) → Result Spelt SourceKind
 pro_header d ts =
-    number_below 256 ts >>= λ n.
+    number_below TABLE_LIMIT ts >>= λ n.
     if not (n.0 == length d.tables) then Err kind.Section
     else ended n.1 >>= λ _.
     if lacks_rows d then Err kind.Missing

@@ -171,6 +171,7 @@ fn up_to<'a>(row: &'a [u8], count: u8, condacts: &[u8]) -> Option<&'a [u8]>
     ensures value { option_copied result ≡ up_to row.now (each past_condact count condacts.now) }
 {
     match past_condacts(count, condacts) {
+        // What comes after is a part of the row: saturating says so without a proof.
         Ok(after) => Some(&row[..row.len().saturating_sub(after.len())]),
         Err(_) => None,
     }

@@ -59,6 +59,7 @@ pub fn pass_whole(alloc: Global, bytes: &[u8]) -> Result<Passed, ImageRefusal>
         Err(Unread::Fault(left)) => left,
         Err(Unread::Memory) => return Err(ImageRefusal::Memory),
     };
+    // What is left is no more than all bytes, so nothing is cut off here; saturating says so without a proof.
     let at = bytes.len().saturating_sub(left) as u64;
     Err(ImageRefusal::Damaged { at })
 }
