@@ -11,7 +11,7 @@ use Rattle.paw_stage.specs.inner.Seen.{writes, is_written, FindsStore}
 use Rattle.paw_stage.specs.declared.log.Call.{Call}
 use Rattle.paw_stage.specs.declared.replay.Store.{Store}
 use Rattle.paw_stage.proofs.Disks.{length-spoiled, index-spoiled}
-use Rattle.paw_stage.proofs.Sees.{after_filed}
+use Rattle.paw_stage.specs.inner.Filed.{after_filed}
 use Rattle.paw_stage.proofs.Stores.{is_written-push}
 
 spoiled_twice : (a b : Bool) (x : ℕ) → spoiled_if b (spoiled_if a x) ≡ spoiled_if (a || b) x

@@ -1,59 +1,16 @@
 -- What is seen of a file after one call more.
-use Rattle.std.proofs.Common.{◌≡◌, inl, inr, ℕ, ◌+◌, ◌≤◌, ◌<◌, Bool, true, false, List, [], ◌∷◌, length, take, drop, max, min, refl, sym, ap, ◌∙◌, subst, arith}
+use Rattle.std.proofs.Common.{◌≡◌, inl, inr, ℕ, ◌+◌, ◌≤◌, ◌<◌, true, List, length, take, drop, max, min, sym, ap, ◌∙◌, arith}
 use Rattle.std.proofs.Common.{slice_index}
-use Rattle.std.specs.Prelude.{Option, Some, None, is_some, if◌then◌else◌}
-use Rattle.std.specs.Str.{bytes_eq}
+use Rattle.std.specs.Prelude.{Option, Some, None, is_some}
 use Rattle.std.proofs.lemmas.Slice.Eq.{bytes_eq-Decides}
 use Rattle.std.proofs.lemmas.List.{ext_get_or, get_or-take, get_or-drop, length-take, length-drop}
-use Rattle.paw_stage.specs.Disk.{Disk, put, stable, touched}
-use Rattle.paw_stage.specs.Stage.{Standing, Files, store_holding, made_if_missing, bytes_or_none, wrote}
-use Rattle.paw_stage.specs.inner.Done.{DoneCall, fresh, step_done, stepped, after, is_attached}
+use Rattle.paw_stage.specs.Disk.{put, touched}
+use Rattle.paw_stage.specs.Stage.{Standing, store_holding, bytes_or_none, wrote}
+use Rattle.paw_stage.specs.inner.Done.{is_attached}
 use Rattle.paw_stage.specs.inner.Seen.{Sees, IsFiled, laid_over}
-use Rattle.paw_stage.specs.declared.log.CallKind.{CallKind}
-use Rattle.paw_stage.specs.declared.log.CallKind.TheVariants as kind
 use Rattle.paw_stage.specs.declared.replay.Seen.{Seen}
 use Rattle.paw_stage.proofs.Names.{holds_same}
 use Rattle.paw_stage.proofs.Writes.{length-put, index-put, where_is, laid_before, laid_in, laid_behind}
-
--- the store's bytes stay those of its file
-either_filed : (b : Bool) (o : Option (List ℕ)) (bytes : List ℕ) (d : Disk) → o ≡ Some d.bytes →
-    (if b then Some bytes else o) ≡ Some (if b then stable bytes else d).bytes
-either_filed true o bytes d h = refl
-either_filed false o bytes d h = h
-
-saved_filed : (s : Standing) (name bytes : List ℕ) → IsFiled s → IsFiled (stepped kind.Save name bytes s)
-saved_filed s name bytes h n e =
-    let k : is_attached s.attached name ≡ bytes_eq n name = ap (λ a. is_attached a name) e in
-    either_filed (bytes_eq n name) (s.files n) bytes s.disk (h n e) ∙ sym (ap (λ b. Some (if b then stable bytes else s.disk).bytes) k)
-
-made_gives : (o : Option (List ℕ)) (files : Files) (name : List ℕ) → files name ≡ o → made_if_missing name o files name ≡ Some (bytes_or_none o)
-made_gives None files name h = holds_same name (Some []) files
-made_gives (Some b) files name h = h
-
-some_same : (a b : List ℕ) → Some a ≡ Some b → a ≡ b
-some_same a b e = cc
-
-stepped_filed : (k : CallKind) (name bytes : List ℕ) (s : Standing) → IsFiled s → IsFiled (stepped k name bytes s)
-stepped_filed kind.Add name bytes s h n e = saved_filed s name bytes h n e
-stepped_filed kind.Load name bytes s h n e = h n e
-stepped_filed kind.Save name bytes s h n e = saved_filed s name bytes h n e
-stepped_filed kind.Attach name bytes s h n e =
-    subst (λ m. made_if_missing name (s.files name) s.files m ≡ Some (bytes_or_none (s.files name)))
-    (some_same name n e) (made_gives (s.files name) s.files name refl)
-stepped_filed kind.Read name bytes s h n e = h n e
-stepped_filed (kind.Write at) name bytes s h n e =
-    ap (λ a. store_holding a (put at bytes s.disk.bytes) s.files n) e ∙ holds_same n (Some (put at bytes s.disk.bytes)) s.files
-stepped_filed kind.Sync name bytes s h n e = h n e
-stepped_filed kind.Take name bytes s h n e = h n e
-stepped_filed kind.End name bytes s h n e = h n e
-stepped_filed kind.Show name bytes s h n e = h n e
-
-later_filed : (s : Standing) (ds : List DoneCall) → IsFiled s → IsFiled (after s ds)
-later_filed s [] h = h
-later_filed s (d ∷ ds) h = later_filed (step_done s d) ds (stepped_filed d.kind d.name d.bytes s h)
-
-pub after_filed : (ds : List DoneCall) → IsFiled (after fresh ds)
-after_filed ds = later_filed fresh ds (λ n e. cc)
 
 attached_is : (a : Option (List ℕ)) (name : List ℕ) → is_attached a name ≡ true → a ≡ Some name
 attached_is None name h = cc

@@ -10,6 +10,7 @@ pub mod Seen
 pub mod Log
 pub mod LogInside
 pub mod Memory
+pub mod Filed
 pub mod Refusing
 pub mod Failing
 pub mod Input

@@ -71,11 +71,11 @@ pub enum Asked {
 /// A store is a file. What a crash leaves of it follows the disk of `specs/Disk.antt`: any bytes wherever it was
 /// written since the last sync, and all others as they were.
 pub trait Stage {
-    ghost use Rattle.std.specs.Prelude.{◌≡◌, ◌≤◌, ◌+◌, ◌↔◌, ℕ, length, IsSome};
+    ghost use Rattle.std.specs.Prelude.{◌≡◌, ◌≤◌, ◌+◌, ◌↔◌, ℕ, List, length, Some, IsSome};
     ghost use Rattle.paw_stage.specs.declared.StageCall.{StageCall};
     ghost use Rattle.paw_stage.specs.declared.StageCall.TheVariants as call;
     ghost use Rattle.paw_stage.specs.Disk.{IsStable};
-    ghost use Rattle.paw_stage.specs.Stage.{Standing, Faulted, failed_in, failed_load, failed_ask};
+    ghost use Rattle.paw_stage.specs.Stage.{Standing, file_bytes, Faulted, failed_in, failed_load, failed_ask};
     ghost use Rattle.paw_stage.specs.Stage.{LoadsTo, SavesTo, AttachesTo, ReadsTo, WritesTo, SyncsTo, AsksTo, ShowsTo};
     ghost use Rattle.paw_stage.specs.Moments.{Moment, Moments, moment_of, Still};
     ghost use Rattle.paw_stage.specs.Moments.{InAsk, InShow, InSave, InAttach, InWrite, InSync};
@@ -179,4 +179,8 @@ pub trait Stage {
 
     /// This moment is one of those since any earlier time.
     ghost counts_now: { (s : Self) (t : ℕ) → Tells s → t ≤ clock s → since s t (moment_of (standing s)) };
+
+    /// While a store is attached, the file of its name holds the store's bytes.
+    ghost files_hold: { (s : Self) (name : List ℕ) → Tells s → (standing s).attached ≡ Some name →
+        file_bytes (standing s) name ≡ (standing s).disk.bytes };
 }

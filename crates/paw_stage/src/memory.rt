@@ -20,6 +20,7 @@ ghost use Rattle.paw_stage.specs.inner.Done.{end_done, showed, call_at};
 ghost use Rattle.paw_stage.specs.inner.Memory.{empty, standing_of, clock_of, moments_of, only_moment, Throughout};
 ghost use Rattle.paw_stage.specs.inner.Memory.{can_note, recorded, failed, Notes, found_none};
 ghost use Rattle.paw_stage.specs.inner.Memory.{line_taken, with_file, with_line_left};
+ghost use Rattle.paw_stage.specs.inner.Filed.{file_holds};
 
 use crate::log::{CallKind, Log};
 use crate::{Asked, Failed, FaultCounts, LoadRefusal, Stage, StageCall};
@@ -272,6 +273,8 @@ impl Stage for MemoryStage {
     ghost only_now = { λ s m _ h. only_moment s m h };
 
     ghost counts_now = { λ s t _ _. inl refl };
+
+    ghost files_hold = { λ s name _ h. file_holds s name h };
 }
 
 // How many bytes a load gives of a file of this length.

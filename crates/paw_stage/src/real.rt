@@ -172,4 +172,6 @@ impl<R: Files + Input + Print + Drop> Stage for RealStage<R> {
     ghost only_now = { λ s m no. absurd no };
 
     ghost counts_now = { λ s t no. absurd no };
+
+    ghost files_hold = { λ s name no. absurd no };
 }

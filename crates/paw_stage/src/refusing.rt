@@ -14,6 +14,7 @@ ghost use Rattle.paw_stage.specs.inner.Done.{loaded_file, saved, attached_store,
 ghost use Rattle.paw_stage.specs.inner.Done.{wrote_store, synced_store, took};
 ghost use Rattle.paw_stage.specs.inner.Done.{end_done, showed};
 ghost use Rattle.paw_stage.specs.inner.Memory.{clock_of, moments_of, only_moment, recorded, found_none, line_taken};
+ghost use Rattle.paw_stage.specs.inner.Filed.{file_holds};
 ghost use Rattle.paw_stage.specs.inner.Refusing.{faults_of, standing_of, Throughout};
 ghost use Rattle.paw_stage.specs.inner.Refusing.{refused, passed, FailsBelow, CannotPass, Forwards};
 
@@ -219,4 +220,6 @@ impl<R: Refusals + Drop> Stage for RefusingStage<R> {
     ghost only_now = { λ s m _ h. only_moment s.inner m h };
 
     ghost counts_now = { λ s t _ _. inl refl };
+
+    ghost files_hold = { λ s name _ h. file_holds s.inner name h };
 }

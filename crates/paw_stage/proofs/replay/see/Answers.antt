@@ -3,7 +3,7 @@ use Rattle.paw_stage.specs.inner.Done.{fresh, after}
 use Rattle.paw_stage.specs.inner.Log.{all_done}
 use Rattle.paw_stage.specs.inner.Seen.{Sees}
 use Rattle.paw_stage.proofs.Logs.{laid-at, laid-next, laid-from, done-next, after-push}
-use Rattle.paw_stage.proofs.Sees.{after_filed}
+use Rattle.paw_stage.specs.inner.Filed.{after_filed}
 use Rattle.paw_stage.proofs.replay.see.Goals as goal
 
 pub loop-call-preserved : goal.loop-call-preserved

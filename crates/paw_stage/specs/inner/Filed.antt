@@ -1,0 +1,61 @@
+-- The file of the attached store's name holds the store's bytes: so it is after every call of a stage in memory.
+use Rattle.std.proofs.Common.{◌≡◌, ℕ, Bool, true, false, List, [], ◌∷◌, refl, sym, ap, ◌∙◌, subst}
+use Rattle.std.specs.Prelude.{Option, Some, None, if◌then◌else◌}
+use Rattle.std.specs.Str.{bytes_eq}
+use Rattle.paw_stage.specs.Disk.{Disk, put, stable}
+use Rattle.std.proofs.lemmas.Slice.Eq.{bytes_eq-Decides}
+use Rattle.paw_stage.specs.Stage.{Standing, Files, file_holding, store_holding, made_if_missing, bytes_or_none, file_bytes}
+use Rattle.paw_stage.specs.inner.Done.{DoneCall, fresh, step_done, stepped, after, is_attached}
+use Rattle.paw_stage.specs.inner.Seen.{IsFiled}
+use Rattle.paw_stage.specs.inner.Memory.{Memory, standing_of}
+use Rattle.paw_stage.specs.declared.log.CallKind.{CallKind}
+use Rattle.paw_stage.specs.declared.log.CallKind.TheVariants as kind
+
+-- the file of this name is what it was made
+holds : (name : List ℕ) (bytes : Option (List ℕ)) (files : Files) → file_holding name bytes files name ≡ bytes
+holds name bytes files = ap (λ b. if b then bytes else files name) ((bytes_eq-Decides name name).1 refl)
+
+-- the store's bytes stay those of its file
+either_filed : (b : Bool) (o : Option (List ℕ)) (bytes : List ℕ) (d : Disk) → o ≡ Some d.bytes →
+    (if b then Some bytes else o) ≡ Some (if b then stable bytes else d).bytes
+either_filed true o bytes d h = refl
+either_filed false o bytes d h = h
+
+saved_filed : (s : Standing) (name bytes : List ℕ) → IsFiled s → IsFiled (stepped kind.Save name bytes s)
+saved_filed s name bytes h n e =
+    let k : is_attached s.attached name ≡ bytes_eq n name = ap (λ a. is_attached a name) e in
+    either_filed (bytes_eq n name) (s.files n) bytes s.disk (h n e) ∙ sym (ap (λ b. Some (if b then stable bytes else s.disk).bytes) k)
+
+made_gives : (o : Option (List ℕ)) (files : Files) (name : List ℕ) → files name ≡ o → made_if_missing name o files name ≡ Some (bytes_or_none o)
+made_gives None files name h = holds name (Some []) files
+made_gives (Some b) files name h = h
+
+some_same : (a b : List ℕ) → Some a ≡ Some b → a ≡ b
+some_same a b e = cc
+
+stepped_filed : (k : CallKind) (name bytes : List ℕ) (s : Standing) → IsFiled s → IsFiled (stepped k name bytes s)
+stepped_filed kind.Add name bytes s h n e = saved_filed s name bytes h n e
+stepped_filed kind.Load name bytes s h n e = h n e
+stepped_filed kind.Save name bytes s h n e = saved_filed s name bytes h n e
+stepped_filed kind.Attach name bytes s h n e =
+    subst (λ m. made_if_missing name (s.files name) s.files m ≡ Some (bytes_or_none (s.files name)))
+    (some_same name n e) (made_gives (s.files name) s.files name refl)
+stepped_filed kind.Read name bytes s h n e = h n e
+stepped_filed (kind.Write at) name bytes s h n e =
+    ap (λ a. store_holding a (put at bytes s.disk.bytes) s.files n) e ∙ holds n (Some (put at bytes s.disk.bytes)) s.files
+stepped_filed kind.Sync name bytes s h n e = h n e
+stepped_filed kind.Take name bytes s h n e = h n e
+stepped_filed kind.End name bytes s h n e = h n e
+stepped_filed kind.Show name bytes s h n e = h n e
+
+later_filed : (s : Standing) (ds : List DoneCall) → IsFiled s → IsFiled (after s ds)
+later_filed s [] h = h
+later_filed s (d ∷ ds) h = later_filed (step_done s d) ds (stepped_filed d.kind d.name d.bytes s h)
+
+pub after_filed : (ds : List DoneCall) → IsFiled (after fresh ds)
+after_filed ds = later_filed fresh ds (λ n e. cc)
+
+-- what the stage in memory tells of it
+pub file_holds : (m : Memory) (name : List ℕ) → (standing_of m).attached ≡ Some name →
+    file_bytes (standing_of m) name ≡ (standing_of m).disk.bytes
+file_holds m name h = ap bytes_or_none (after_filed m.log.calls name h)
