@@ -22,6 +22,7 @@ use Rattle.paw_play.specs.inner.Calls.{IsNotForCall, call_of_end}
 use Rattle.paw_play.specs.Session.{IsKept}
 use Rattle.paw_play.specs.Play.{InPlay, InAgain, ShowsState, attached_to, store_bytes, going_on, kept_session, PlaysAgain, refused, unread}
 use Rattle.paw_play.specs.inner.OnTheWay.{end_of}
+use Rattle.paw_stage.proofs.Attaches.{AttachParts, attach_parts}
 use Rattle.paw_journal.proofs.Disks.{stable_is, stable_leaves}
 use Rattle.paw_play.proofs.Attaching.{files_so, other_file, playing_from}
 use Rattle.paw_journal.proofs.Serving.{serves_among}
@@ -56,10 +57,11 @@ module _ (g : Story) (digest name : List ℕ) (st : State) (piece : List ℕ) (o
   pub in_again_attach : (new : Standing) (m : Moment) → new ≡ attached_to old name → InAttach old new name m →
       InAgain (kept_session g st piece digest name) old m
   in_again_attach new m is i =
-      elim i.store [
-        | inl before ↦ inl (record { asked = i.asked; shown = i.shown; files = i.files; store = inl before })
-        | inr after ↦ inr (at_attached m i.asked i.shown (after.0 ∙ ap (λ (q : Standing). q.attached) is)
-            (λ n ne. files_so old name m.files n ne i.files) (after.1 ∙ ap (λ (q : Standing). q.disk) is))
+      let p : AttachParts old new name m = attach_parts old new name m is i in
+      elim p.store [
+        | inl before ↦ inl (record { asked = p.asked; shown = p.shown; files = p.files; store = inl before })
+        | inr after ↦ inr (at_attached m p.asked p.shown (after.0 ∙ ap (λ (q : Standing). q.attached) is)
+            (λ n ne. files_so old name m.files n ne p.files) (after.1 ∙ ap (λ (q : Standing). q.disk) is))
       ]
 
   -- while the session is found

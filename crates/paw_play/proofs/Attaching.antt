@@ -4,6 +4,7 @@ use Rattle.paw_effects.specs.Story.{Story}
 use Rattle.paw_stage.specs.Disk.{MayLeave, stable}
 use Rattle.paw_stage.specs.Stage.{Standing, Files, bytes_or_none, made_if_missing, AttachesTo}
 use Rattle.paw_stage.specs.Moments.{Moment, InAttach}
+use Rattle.paw_stage.proofs.Attaches.{AttachParts, attach_parts}
 use Rattle.paw_stage.proofs.Names.{holds_same, holds_other}
 use Rattle.paw_journal.proofs.Disks.{stable_is, stable_leaves}
 use Rattle.paw_journal.specs.Session.{IsUnmade, recover, recover_by}
@@ -58,13 +59,14 @@ pub in_new_attach : (g : Story) (seed : ℕ) (name : List ℕ) (old new : Standi
     new ≡ attached_to old name → store_bytes old name ≡ [] → InAttach old new name m →
     InGame g seed name old m
 in_new_attach g seed name old new m is empty i =
-    elim i.store [
-      | inl before ↦ inl (record { asked = i.asked; shown = i.shown; files = i.files; store = inl before })
+    let p : AttachParts old new name m = attach_parts old new name m is i in
+    elim p.store [
+      | inl before ↦ inl (record { asked = p.asked; shown = p.shown; files = p.files; store = inl before })
       | inr after ↦ inr (inl (record {
-        asked = i.asked;
-        shown = i.shown;
+        asked = p.asked;
+        shown = p.shown;
         attached = after.0 ∙ ap (λ (q : Standing). q.attached) is;
-        files = λ n ne. files_so old name m.files n ne i.files;
+        files = λ n ne. files_so old name m.files n ne p.files;
         leaves = λ image may. inl (none_unmade image
             (stable_leaves (stable (store_bytes old name)) image (stable_is (store_bytes old name))
             (subst (λ d. MayLeave d image) (after.1 ∙ ap (λ (q : Standing). q.disk) is) may) ∙ empty));

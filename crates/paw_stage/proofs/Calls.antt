@@ -5,7 +5,7 @@ use Rattle.std.specs.Str.{bytes_eq}
 use Rattle.std.proofs.lemmas.Slice.Eq.{bytes_eq-Decides}
 use Rattle.paw_stage.specs.Disk.{Disk, put, stable}
 use Rattle.paw_stage.specs.Stage.{Standing, Saves, bytes_or_none, opened}
-use Rattle.paw_stage.specs.Moments.{Moment, Passes, InAsk, InSave, InAttach, InWrite, InSync}
+use Rattle.paw_stage.specs.Moments.{Moment, moment_of, Passes, InAsk, InSave, InAttach, InWrite, InSync}
 use Rattle.paw_stage.specs.inner.Done.{DoneCall, fresh, step_done, after, filed, is_attached, saved, attached_store}
 use Rattle.paw_stage.specs.inner.Done.{wrote_store, synced_store}
 use Rattle.paw_stage.specs.inner.Replay.{MayStand, StandsInside, since_of}
@@ -77,17 +77,11 @@ in_save old name bytes m (inr h) =
       disk = λ ne. not_attached old.attached name (stable (bytes_or_none h.0)) old.disk ne;
     })
 
-pub in_attach : (old new : Standing) (name : List ℕ) (m : Moment) → new.attached ≡ (opened name old).attached →
-    new.disk ≡ (opened name old).disk → StandsInside old (attached_store name) m → InAttach old new name m
-in_attach old new name m ea ed (inl e) =
-    subst (λ x. InAttach old new name x) (sym e)
-    (record { asked = refl; shown = refl; files = inr refl; store = inl (refl, refl) })
-in_attach old new name m ea ed (inr (inl e)) =
-    subst (λ x. InAttach old new name x) (sym e)
-    (record { asked = refl; shown = refl; files = inl refl; store = inl (refl, refl) })
-in_attach old new name m ea ed (inr (inr e)) =
-    subst (λ x. InAttach old new name x) (sym e)
-    (record { asked = refl; shown = refl; files = inr refl; store = inr (sym ea, sym ed) })
+pub in_attach : (old new : Standing) (name : List ℕ) (m : Moment) → moment_of new ≡ moment_of (opened name old) →
+    StandsInside old (attached_store name) m → InAttach old new name m
+in_attach old new name m e (inl made) = inr (inl made)
+in_attach old new name m e (inr (inl before)) = inl before
+in_attach old new name m e (inr (inr after)) = inr (inr (after ∙ sym e))
 
 pub in_write : (old : Standing) (at : ℕ) (bytes : List ℕ) (m : Moment) → StandsInside old (wrote_store at bytes) m → InWrite old at (length bytes) m
 in_write old at bytes m (inl e) =

@@ -1,5 +1,6 @@
 pub mod Time
 pub mod Names
+pub mod Attaches
 pub mod Counted
 mod Logs
 mod Replays

@@ -52,12 +52,12 @@ pub record InSave (old : Standing) (name : List ℕ) (m : Moment) : Type 0 where
   pub files : (m.files ≡ old.files) ⊎ ((bytes : Option (List ℕ)) × (m.files ≡ file_holding name bytes old.files))
   pub disk : old.attached ≢ Some name → m.disk ≡ old.disk
 
--- Inside an attach: a missing file may be there already, and the store is that before the call or that after it.
-pub record InAttach (old new : Standing) (name : List ℕ) (m : Moment) : Type 0 where
-  pub asked : m.asked ≡ old.asked
-  pub shown : m.shown ≡ old.shown
-  pub files : (m.files ≡ old.files) ⊎ (m.files ≡ made_if_missing name (old.files name) old.files)
-  pub store : ((m.attached ≡ old.attached) × (m.disk ≡ old.disk)) ⊎ ((m.attached ≡ new.attached) × (m.disk ≡ new.disk))
+-- Inside an attach all stands as before it; or a missing file is there already, empty, and all else as before; or all
+-- stands as after it.
+abbrev pub InAttach : Standing → Standing → List ℕ → Moment → Type 0
+InAttach old new name m =
+    (m ≡ moment_of old) ⊎ (m ≡ record (moment_of old) { files = made_if_missing name (old.files name) old.files })
+    ⊎ (m ≡ moment_of new)
 
 -- Inside a write of n bytes: the store's file may hold any bytes, and a crash leaves what it left before, or any bytes
 -- in the range.

@@ -1,4 +1,5 @@
 use Rattle.std.proofs.Common.{refl, ap, sym}
+use Rattle.paw_stage.specs.Moments.{moment_of}
 use Rattle.paw_stage.specs.inner.Done.{attached_store}
 use Rattle.paw_stage.specs.inner.Memory.{standing_of}
 use Rattle.paw_stage.specs.contracts.memory.MemoryStage.{the_view}
@@ -14,4 +15,4 @@ returns-clause-time c =
     let stands = stood c.args.self.now new c.self.inside.log (attached_store name)
     (ap (λ m. m.log) (sym c.self.view_is)) kept (ap (λ m. m.lines) c.self.view_is) in
     Passes_map _ _ _ _ _ _ (passed c.args.self.now new c.self.inside.log (attached_store name) (ap (λ m. m.log) (sym c.self.view_is)) kept)
-    (λ m. in_attach (standing_of c.args.self.now) (standing_of new) name m (ap (λ s. s.attached) stands) (ap (λ s. s.disk) stands))
+    (λ m. in_attach (standing_of c.args.self.now) (standing_of new) name m (ap moment_of stands))
