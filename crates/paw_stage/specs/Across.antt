@@ -1,6 +1,6 @@
 -- What happened at a stage across a call, or across several one after the other: `old` is the stage before, `new` the
 -- stage after, and `g` has what a stage tells.
-use Rattle.std.specs.Prelude.{◌≡◌, ◌↔◌, ◌⊎◌, List, [], ◌∷◌, Option, IfSome}
+use Rattle.std.specs.Prelude.{◌≡◌, ◌↔◌, ◌⊎◌, ◌≤◌, ℕ, List, [], ◌∷◌, Option, IfSome}
 use Rattle.paw_stage.specs.declared.StageCall.{StageCall}
 use Rattle.paw_stage.specs.Stage.{Standing, Faulted}
 use Rattle.paw_stage.specs.Moments.{Moment, Moments}
@@ -26,3 +26,10 @@ Across g old new Holds = g.Tells old → Holds (g.standing old) (g.standing new)
 -- The moments of the calls are those before them, and besides only such ones.
 abbrev pub EachMoment : {S : Type 0} → Ghosts S → S → S → (Moment → Type 0) → Type 0
 EachMoment g old new Inside = Moments g.clock g.since old new Inside
+
+-- The moments of the calls: at first only such ones as `Before` tells, and from some time on, once a store is attached,
+-- only such ones as `After` tells. Where that time never came there are only the first.
+pub data InTwoParts {S : Type 0} (g : Ghosts S) (old new : S) (Before After : Moment → Type 0) : Type 0 where
+  first_alone : EachMoment g old new Before → InTwoParts g old new Before After
+  both : (turn : ℕ) → g.clock old ≤ turn → turn ≤ g.clock new → ((m : Moment) → g.since new turn m → After m) →
+      EachMoment g old new (λ m. Before m ⊎ g.since new turn m) → InTwoParts g old new Before After
