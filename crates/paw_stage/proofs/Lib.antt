@@ -4,6 +4,7 @@ pub mod Attaches
 pub mod Counted
 mod Logs
 mod Replays
+mod Prefixes
 mod Writes
 mod Disks
 mod Sees

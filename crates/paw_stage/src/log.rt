@@ -1,16 +1,18 @@
 // A record of calls, kept in rooms that were taken beforehand.
 
-ghost use Rattle.std.specs.Prelude.{◌≡◌, ◌≤◌, ◌<◌, ◌+◌, ◌++◌, ◌∷◌, [], IsTrue, IsFalse, IfOk, IfSome, IfNone, IsSome};
+ghost use Rattle.std.specs.Prelude.{◌≡◌, ◌↔◌, ◌≤◌, ◌<◌, ◌+◌, ◌++◌, ◌∷◌, [], IsTrue, IsFalse, IfOk, IfSome, IfNone, IsSome};
 ghost use Rattle.std.specs.Prelude.{None, OnOk, OnErr, length, take, drop, vec_len, vec_capacity, List, ℕ};
 ghost use Rattle.std.specs.Option.{option_map};
 ghost use Rattle.paw_stage.specs.Stage.{Standing, bytes_or_none};
 ghost use Rattle.paw_stage.specs.inner.Stage.{IfAttached};
-ghost use Rattle.paw_stage.specs.inner.Done.{call_of, call_at, added, fresh, stepped, after};
-ghost use Rattle.paw_stage.specs.inner.Crash.{crashed};
+ghost use Rattle.paw_stage.specs.inner.Done.{call_of, call_at, added, fresh, stepped, after, calls_made, right_after};
+ghost use Rattle.paw_stage.specs.inner.Crash.{crashed, HasNoStore};
 ghost use Rattle.paw_stage.specs.inner.Log.{has_room, logged, call_logged, all_done, AreLaid, KeepsText};
 ghost use Rattle.paw_stage.specs.inner.Seen.{HasLength};
 
-use crate::replay::{call_at, crash, file_len, first_bytes, read_store, store_len};
+use crate::replay::{
+    call_at, calls_made, crash, crash_after, file_len, first_bytes, read_store, store_len,
+};
 use paw_base::fault::NoRoom;
 use std::alloc::Global;
 use std::marker::Model;
@@ -116,6 +118,13 @@ impl Log {
         call_at(self.calls.as_slice(), self.room.as_slice(), number)
     }
 
+    /// How many calls of the stage these are: a file that was put there beside them is none.
+    pub fn calls_made(&self) -> usize
+        ensures { result ≡ calls_made self.now.calls }
+    {
+        calls_made(self.calls.as_slice())
+    }
+
     /// The text shown.
     pub fn shown(&self) -> &[u8]
         ensures { result.now ≡ (after fresh self.now.calls).shown }
@@ -169,6 +178,27 @@ impl Log {
         ensures none { (after fresh self.now.calls).attached ≡ None → IfOk result (λ v. v.items ≡ []) }
     {
         crash(self.calls.as_slice(), self.room.as_slice(), alloc, pick)
+    }
+
+    /// The attached store as a crash right after the call of this number may leave it, by a pick. None where fewer
+    /// calls were made, or where no store was attached by then.
+    pub fn crash_after(
+        &self,
+        alloc: Global,
+        number: u64,
+        pick: u8,
+    ) -> Result<Option<Vec<u8>>, NoRoom>
+        ensures made { IfOk result (λ left. IfSome left (λ v.
+            v.items ≡ crashed (right_after number self.now.calls).disk pick)) }
+        ensures none { IfOk result (λ left. (left ≡ None) ↔ HasNoStore number self.now.calls) }
+    {
+        crash_after(
+            self.calls.as_slice(),
+            self.room.as_slice(),
+            alloc,
+            number,
+            pick,
+        )
     }
 }
 

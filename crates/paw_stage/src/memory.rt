@@ -1,6 +1,7 @@
 // A stage in memory.
 
-ghost use Rattle.std.specs.Prelude.{◌≡◌, ◌≤◌, ◌+◌, ◌↔◌, [], ℕ, length, min, IsFalse, IfOk, OnOk, OnErr, IsSome};
+ghost use Rattle.std.specs.Prelude.{◌≡◌, ◌≤◌, ◌+◌, ◌↔◌, [], ℕ, length, min, IsFalse, IfOk, IfSome, OnOk, OnErr};
+ghost use Rattle.std.specs.Prelude.{IsSome};
 ghost use Rattle.std.specs.Prelude.{None};
 ghost use Rattle.std.specs.Option.{option_map};
 ghost use Rattle.std.proofs.Common.{inl, refl};
@@ -13,10 +14,10 @@ ghost use Rattle.paw_stage.specs.inner.Stage.{IfAttached};
 ghost use Rattle.paw_stage.specs.Stage.{LoadsTo, SavesTo, AttachesTo, ReadsTo, WritesTo, SyncsTo, AsksTo, ShowsTo};
 ghost use Rattle.paw_stage.specs.Moments.{Still, InAsk, InShow, InSave, InAttach, InWrite, InSync};
 ghost use Rattle.paw_stage.specs.inner.Faults.{count_of};
-ghost use Rattle.paw_stage.specs.inner.Crash.{crashed};
+ghost use Rattle.paw_stage.specs.inner.Crash.{crashed, HasNoStore};
 ghost use Rattle.paw_stage.specs.inner.Done.{loaded_file, saved, attached_store, read_store};
 ghost use Rattle.paw_stage.specs.inner.Done.{wrote_store, synced_store, took};
-ghost use Rattle.paw_stage.specs.inner.Done.{end_done, showed, call_at};
+ghost use Rattle.paw_stage.specs.inner.Done.{end_done, showed, call_at, calls_made, right_after};
 ghost use Rattle.paw_stage.specs.inner.Memory.{empty, standing_of, clock_of, moments_of, only_moment, Throughout};
 ghost use Rattle.paw_stage.specs.inner.Memory.{can_note, recorded, failed, Notes, found_none};
 ghost use Rattle.paw_stage.specs.inner.Memory.{line_taken, with_file, with_line_left};
@@ -119,6 +120,27 @@ impl MemoryStage {
         ensures none { (standing_of self.now).attached ≡ None → IfOk result (λ v. v.items ≡ []) }
     {
         self.log.crash(alloc, pick)
+    }
+
+    /// The number of stage calls that were made: those that took one of the spare calls. A call that was Failed is none
+    /// of them, and a load that was Absent is one.
+    pub fn calls(&self) -> u64
+        ensures { result ≡ calls_made self.now.log.calls }
+    {
+        self.log.calls_made() as u64
+    }
+
+    /// The attached store as a crash right after the stage call of this number may leave it, by a pick as in `crash`.
+    /// The calls that `calls` tells are counted, from 0. None exactly where fewer were made, or where no store was
+    /// attached by then.
+    pub fn crash_after(&self, alloc: Global, call: u64, pick: u8) -> Result<Option<Vec<u8>>, NoRoom>
+        ensures made { IfOk result (λ left. IfSome left (λ v.
+            v.items ≡ crashed (right_after call self.now.log.calls).disk pick)) }
+        ensures among { IfOk result (λ left. IfSome left (λ v.
+            MayLeave (right_after call self.now.log.calls).disk v.items)) }
+        ensures none { IfOk result (λ left. (left ≡ None) ↔ HasNoStore call self.now.log.calls) }
+    {
+        self.log.crash_after(alloc, call, pick)
     }
 }
 

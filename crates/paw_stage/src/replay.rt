@@ -1,16 +1,16 @@
 // What a record of calls makes of a file and of the attached store, found by playing the calls again.
 
-ghost use Rattle.std.specs.Prelude.{◌≡◌, ◌⊎◌, ◌≤◌, ◌<◌, ◌+◌, ◌-◌, ◌^◌, ◌++◌, ◌∷◌, ◌||◌, min, max};
+ghost use Rattle.std.specs.Prelude.{◌≡◌, ◌↔◌, ◌⊎◌, ◌≤◌, ◌<◌, ◌+◌, ◌-◌, ◌^◌, ◌++◌, ◌∷◌, ◌||◌, min, max};
 ghost use Rattle.std.specs.Prelude.{true, [], IfOk, IfSome, IfNone, IsSome, Some, None, length, take, drop};
-ghost use Rattle.std.specs.Prelude.{slice_range, replicate, List};
+ghost use Rattle.std.specs.Prelude.{slice_range, replicate, List, ℕ};
 ghost use Rattle.std.specs.Option.{option_map};
 ghost use Rattle.paw_stage.specs.declared.log.CallKind.TheVariants as kind;
 ghost use Rattle.paw_stage.specs.Disk.{put};
 ghost use Rattle.paw_stage.specs.Stage.{Standing, file_bytes};
 ghost use Rattle.paw_stage.specs.inner.Stage.{IfAttached};
-ghost use Rattle.paw_stage.specs.inner.Done.{DoneCall, step_done, call_at};
-ghost use Rattle.paw_stage.specs.inner.Crash.{crashed, all_spoiled};
-ghost use Rattle.paw_stage.specs.inner.Log.{done_in, all_done, replayed, AreLaid};
+ghost use Rattle.paw_stage.specs.inner.Done.{DoneCall, step_done, call_at, is_call, calls_made, right_after};
+ghost use Rattle.paw_stage.specs.inner.Crash.{crashed, all_spoiled, HasNoStore};
+ghost use Rattle.paw_stage.specs.inner.Log.{done_in, all_done, replayed, AreLaid, IsEndOf};
 ghost use Rattle.paw_stage.specs.inner.Seen.{HasLength, Sees, IsFiled, IsNamed, FindsStore};
 ghost use Rattle.paw_stage.specs.inner.Seen.{FindsNext, LaysOver, Spoils};
 ghost use Rattle.paw_stage.specs.inner.Seen.{writes, is_written};
@@ -107,6 +107,90 @@ pub fn crash(calls: &[Call], room: &[u8], alloc: Global, pick: u8) -> Result<Vec
     match find_store(calls, room) {
         None => Ok(Vec::new(alloc)),
         Some(store) => leave(calls, room, alloc, store, pick),
+    }
+}
+
+/// How many calls of the stage these are: a file that was put there beside them is none.
+pub fn calls_made(calls: &[Call]) -> usize
+    ensures { (room : List ℕ) → result ≡ calls_made (all_done room calls.now) }
+{
+    let mut made = 0;
+    for k in 0..calls.len() {
+        if is_call(calls[k].kind) {
+            made += 1;
+        }
+    }
+    made
+}
+
+/// The attached store as a crash right after the call of this number may leave it, by a pick. None where fewer calls
+/// were made, or where no store was attached by then.
+pub fn crash_after(
+    calls: &[Call],
+    room: &[u8],
+    alloc: Global,
+    number: u64,
+    pick: u8,
+) -> Result<Option<Vec<u8>>, NoRoom>
+    requires { AreLaid calls.now 0 (length room.now) }
+    ensures made { IfOk result (λ left. IfSome left (λ v.
+        v.items ≡ crashed (right_after number (all_done room.now calls.now)).disk pick)) }
+    ensures none { IfOk result (λ left. (left ≡ None) ↔ HasNoStore number (all_done room.now calls.now)) }
+{
+    match end_of(calls, number) {
+        None => Ok(None),
+        Some(n) => crash_attached(&calls[..n], room, alloc, pick),
+    }
+}
+
+// The attached store as a crash may leave it, by a pick; None where none is attached.
+fn crash_attached(
+    calls: &[Call],
+    room: &[u8],
+    alloc: Global,
+    pick: u8,
+) -> Result<Option<Vec<u8>>, NoRoom>
+    requires { AreLaid calls.now 0 (length room.now) }
+    ensures made { IfOk result (λ left. IfSome left (λ v. v.items ≡ crashed (replayed room.now calls.now).disk pick)) }
+    ensures none { IfOk result (λ left. (left ≡ None) ↔ ((replayed room.now calls.now).attached ≡ None)) }
+{
+    match find_store(calls, room) {
+        None => Ok(None),
+        Some(store) => Ok(Some(leave(calls, room, alloc, store, pick)?)),
+    }
+}
+
+// How many of these calls there are up to the call of the stage of this number, with it; None where fewer were made.
+fn end_of(calls: &[Call], number: u64) -> Option<usize>
+    ensures { IsEndOf calls.now number result }
+{
+    let mut before = number;
+    for k in 0..calls.len() {
+        if is_call(calls[k].kind) {
+            if before == 0 {
+                return Some(k + 1);
+            }
+            before -= 1;
+        }
+    }
+    None
+}
+
+// Whether this is a call of the stage.
+fn is_call(kind: CallKind) -> bool
+    ensures { result ≡ is_call kind }
+{
+    match kind {
+        CallKind::Add => false,
+        CallKind::Load => true,
+        CallKind::Save => true,
+        CallKind::Attach => true,
+        CallKind::Read => true,
+        CallKind::Write(_) => true,
+        CallKind::Sync => true,
+        CallKind::Take => true,
+        CallKind::End => true,
+        CallKind::Show => true,
     }
 }
 

@@ -1,6 +1,7 @@
 -- What a crash makes of a store, by a pick.
-use Rattle.std.specs.Prelude.{ℕ, ◌+◌, ◌==◌, Bool, List, [], ◌∷◌, if◌then◌else◌}
+use Rattle.std.specs.Prelude.{◌≡◌, ◌⊎◌, ◌≤◌, ℕ, ◌+◌, ◌==◌, Bool, List, [], ◌∷◌, None, if◌then◌else◌}
 use Rattle.paw_stage.specs.Disk.{Disk, Range, is_dirty}
+use Rattle.paw_stage.specs.inner.Done.{DoneCall, calls_made, right_after}
 
 -- A byte, or 255 where it is spoiled.
 abbrev pub spoiled_if : Bool → ℕ → ℕ
@@ -19,3 +20,7 @@ all_spoiled d = spoiled d.dirty 0 d.bytes
 -- spoiled.
 abbrev pub crashed : Disk → ℕ → List ℕ
 crashed d pick = if pick == 0 then d.synced else if pick == 1 then d.bytes else all_spoiled d
+
+-- Fewer calls were made than to the one of this number, counted from 0, or no store was attached by then.
+abbrev pub HasNoStore : ℕ → List DoneCall → Type 0
+HasNoStore number ds = (calls_made ds ≤ number) ⊎ ((right_after number ds).attached ≡ None)

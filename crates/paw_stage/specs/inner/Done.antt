@@ -1,7 +1,8 @@
 -- What a stage in memory was asked to do, and what stands after it.
-use Rattle.std.specs.Prelude.{ℕ, ◌+◌, List, [], length, fold, Option, Some, None, Bool, false, if◌then◌else◌}
+use Rattle.std.specs.Prelude.{ℕ, zero, suc, ◌+◌, List, [], ◌∷◌, length, fold, Option, Some, None, Bool, true, false}
+use Rattle.std.specs.Prelude.{if◌then◌else◌}
 use Rattle.std.specs.Option.{option_map}
-use Rattle.std.specs.List.{slice_get}
+use Rattle.std.specs.List.{slice_get, filter}
 use Rattle.std.specs.Str.{bytes_eq}
 use Rattle.paw_stage.specs.Disk.{stable}
 use Rattle.paw_stage.specs.Stage.{Standing, file_holding, bytes_or_none, with_shown, opened, with_written, settled}
@@ -95,3 +96,22 @@ step_done s d = stepped d.kind d.name d.bytes s
 -- What stands after these calls, one after the other.
 abbrev pub after : Standing → List DoneCall → Standing
 after s ds = fold step_done s ds
+
+-- Whether this is a call of the stage: it is, unless a file was put there beside them.
+abbrev pub is_call : CallKind → Bool
+is_call kind.Add = false
+is_call _ = true
+
+-- How many calls of the stage these are.
+abbrev pub calls_made : List DoneCall → ℕ
+calls_made ds = length (filter (λ d. is_call d.kind) ds)
+
+-- The first n calls of the stage, with the files that were put there before them; all where there are fewer.
+abbrev pub first_calls : ℕ → List DoneCall → List DoneCall
+first_calls zero ds = []
+first_calls (suc n) [] = []
+first_calls (suc n) (d ∷ ds) = d ∷ first_calls (if is_call d.kind then n else suc n) ds
+
+-- What stood right after the call of this number, counted from 0.
+abbrev pub right_after : ℕ → List DoneCall → Standing
+right_after number ds = after fresh (first_calls (suc number) ds)

@@ -1,7 +1,8 @@
 -- A record of calls, kept in rooms that were taken beforehand.
-use Rattle.std.specs.Prelude.{◌≡◌, ℕ, ◌-◌, ◌≤◌, nat_lt, nat_le, ◌&&◌, Bool, List, [], ◌∷◌, ◌++◌, map, slice_range}
+use Rattle.std.specs.Prelude.{◌≡◌, ℕ, suc, ◌-◌, ◌≤◌, ◌<◌, nat_lt, nat_le, ◌&&◌, Bool, List, [], ◌∷◌, ◌++◌, map, length, take}
+use Rattle.std.specs.Prelude.{slice_range, Option, Some, None}
 use Rattle.paw_stage.specs.Stage.{Standing}
-use Rattle.paw_stage.specs.inner.Done.{DoneCall, size_of, fresh, stepped, after}
+use Rattle.paw_stage.specs.inner.Done.{DoneCall, size_of, fresh, stepped, after, calls_made, first_calls}
 use Rattle.paw_stage.specs.declared.log.CallKind.{CallKind}
 use Rattle.paw_stage.specs.declared.log.Call.{Call}
 
@@ -47,3 +48,12 @@ KeepsText kind bytes old new =
 abbrev pub AreLaid : List Call → ℕ → ℕ → Type 0
 AreLaid [] start end = start ≤ end
 AreLaid (c ∷ cs) start end = (start ≤ c.from) × (c.from ≤ c.mid) × (c.mid ≤ c.to) × AreLaid cs c.to end
+
+-- The first n of these calls end with the call of the stage of this number, counted from 0; there is no such n where
+-- fewer were made. That doesn't depend on the room they lie in.
+abbrev pub IsEndOf : List Call → ℕ → Option ℕ → Type 0
+IsEndOf calls number None = (room : List ℕ) → calls_made (all_done room calls) ≤ number
+IsEndOf calls number (Some n) =
+    (n ≤ length calls)
+    × ((room : List ℕ) → (number < calls_made (all_done room calls))
+    × (first_calls (suc number) (all_done room calls) ≡ all_done room (take n calls)))

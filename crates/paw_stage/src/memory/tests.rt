@@ -126,3 +126,80 @@ fn the_store_fails_where_the_room_is_used_up(rt: HostRuntime) -> Result<(), Fail
     assert_eq!(rt; stage.written(), 2);
     Ok(())
 }
+
+// What crashes right after calls up to the one of this number leave by a pick, each with a line end, or a word in
+// capitals.
+fn crashes_after(stage: &MemoryStage, alloc: Global, last: u64, pick: u8) -> Result<Vec<u8>, Fail> {
+    let mut left = Vec::new(alloc);
+    for call in 0..=last {
+        match stage.crash_after(alloc, call, pick)? {
+            None => left.extend_from_slice(b"NONE")?,
+            Some(bytes) => left.extend_from_slice(bytes.as_slice())?,
+        }
+        left.push(b'\n')?;
+    }
+    Ok(left)
+}
+
+#[test]
+fn a_crash_comes_right_after_a_call(rt: HostRuntime) -> Result<(), Fail> {
+    let mut stage = with_file(rt.alloc(), 99, 99, "store", b"abcdef")?;
+    assert_eq!(rt; stage.calls(), 0);
+    assert!(rt; stage.load(rt.alloc(), "store", 9).is_ok());
+    assert!(rt; stage.load(rt.alloc(), "absent", 9).is_err());
+    assert_eq!(rt; stage.calls(), 2);
+    assert_eq!(rt; stage.attach("store").ok(), Some(6));
+    assert!(rt; stage.write_at(1, b"XY").is_ok());
+    assert!(rt; stage.sync().is_ok());
+    assert!(rt; stage.write_at(0, b"1").is_ok());
+    assert_eq!(rt; stage.calls(), 6);
+    stage.add_file("other", b"x")?;
+    assert_eq!(rt; stage.calls(), 6);
+    assert!(rt; stage.show(&[b'.'; 99]).is_err());
+    assert_eq!(rt; stage.calls(), 6);
+    assert!(rt; stage.show(b"Hall.").is_ok());
+    stage.add_file("store", b"new")?;
+    assert!(rt; stage.save("other", b"y").is_ok());
+    assert_eq!(rt; stage.calls(), 8);
+    for (pick, want) in [
+        (
+            0,
+            b"NONE\nNONE\nabcdef\nabcdef\naXYdef\naXYdef\naXYdef\nnew\nNONE\n".as_slice(),
+        ),
+        (
+            1,
+            b"NONE\nNONE\nabcdef\naXYdef\naXYdef\n1XYdef\n1XYdef\nnew\nNONE\n",
+        ),
+        (
+            2,
+            b"NONE\nNONE\nabcdef\na\xFF\xFFdef\naXYdef\n\xFFXYdef\n\xFFXYdef\nnew\nNONE\n",
+        ),
+    ] {
+        assert_eq!(rt;
+            crashes_after(&stage, rt.alloc(), 8, pick)?.as_slice(),
+            want,
+            "{pick}"
+        );
+    }
+    assert!(rt; stage.crash_after(rt.alloc(), u64::MAX, 0)?.is_none());
+    Ok(())
+}
+
+#[test]
+fn the_first_call_of_a_stage_has_number_0(rt: HostRuntime) -> Result<(), Fail> {
+    let mut stage = MemoryStage::new(rt.alloc(), 2, 9)?;
+    assert!(rt; stage.crash_after(rt.alloc(), 0, 1)?.is_none());
+    assert_eq!(rt; stage.attach("store").ok(), Some(0));
+    assert_eq!(rt;
+        crashes_after(&stage, rt.alloc(), 1, 1)?.as_slice(),
+        b"\nNONE\n".as_slice()
+    );
+    assert!(rt; stage.write_at(0, b"a").is_ok());
+    assert!(rt; stage.sync().is_err());
+    assert_eq!(rt; stage.calls(), 2);
+    assert_eq!(rt;
+        crashes_after(&stage, rt.alloc(), 2, 1)?.as_slice(),
+        b"\na\nNONE\n".as_slice()
+    );
+    Ok(())
+}

@@ -77,3 +77,19 @@ fn one_listed_call_fails_and_later_ones_pass(rt: HostRuntime) -> Result<(), Fail
     }
     Ok(())
 }
+
+#[test]
+fn a_call_that_is_made_to_fail_is_no_call_below(rt: HostRuntime) -> Result<(), Fail> {
+    let mut stage = StopStage::new(with_line(rt.alloc())?, 2);
+    assert_eq!(rt; calls_done(&mut stage), 2);
+    assert_eq!(rt; stage.inner().calls(), 2);
+    for (call, want) in [
+        (0, Some(b"".as_slice())),
+        (1, Some(b"abc".as_slice())),
+        (2, None),
+    ] {
+        let left = stage.inner().crash_after(rt.alloc(), call, 1)?;
+        assert_eq!(rt; left.as_ref().map(|bytes| bytes.as_slice()), want, "{call}");
+    }
+    Ok(())
+}
