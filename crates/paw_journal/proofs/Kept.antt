@@ -7,11 +7,11 @@ use Rattle.paw_journal.specs.declared.refusal.SessionPart.TheVariants as part
 use Rattle.paw_journal.specs.declared.drafting.SlotState.{SlotState}
 use Rattle.paw_journal.specs.declared.drafting.Draft.{Draft}
 use Rattle.paw_journal.specs.Session.{Damaged, Shown, stretch, two_byte_number, base, changes, changed, first_unsound, slot_changes, slot_state, is_second}
-use Rattle.paw_journal.specs.inner.Session.{has_state}
+use Rattle.paw_journal.specs.Session.{has_state, differing, slot_head}
 use Rattle.paw_journal.specs.Session.{shown_state, first_length, zeros, slot_piece, slot_shows, shown_unless, most_changes, piece_length, state_length}
 use Rattle.paw_journal.specs.inner.Room.{kept_slot}
-use Rattle.paw_journal.specs.inner.Written.{differing, most_written}
-use Rattle.paw_journal.specs.inner.Steps.{Turns, Drafts, slot_head}
+use Rattle.paw_journal.specs.inner.Written.{most_written}
+use Rattle.paw_journal.specs.inner.Steps.{Turns, Drafts}
 use Rattle.paw_journal.proofs.Puts.{stretch_long, put_long, stretch_past, stretch_before, stretch_written, stretch_behind}
 use Rattle.paw_journal.proofs.Turning.{changes-append, changed-append, sound-append}
 

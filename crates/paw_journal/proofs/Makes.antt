@@ -9,7 +9,7 @@ use Rattle.paw_stage.specs.Stage.{Standing, wrote, with_written}
 use Rattle.paw_stage.specs.Moments.{Moment, Passes, InWrite, InSync}
 use Rattle.paw_stage.proofs.Time.{Passes_map, Passes_on}
 use Rattle.paw_journal.specs.Session.{IsUnmade, recover, mark, zeros, made_mark, session_length}
-use Rattle.paw_journal.specs.inner.Session.{made_header}
+use Rattle.paw_journal.specs.Session.{made_header}
 use Rattle.paw_journal.specs.inner.Store.{IsBeside, InStore, Leaves, LeavesUnmade}
 use Rattle.paw_journal.specs.inner.Steps.{IsBlank, IsWithin}
 use Rattle.paw_journal.proofs.Parts.{put_below, put_end}

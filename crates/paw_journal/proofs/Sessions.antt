@@ -16,7 +16,7 @@ use Rattle.paw_journal.specs.inner.Journal.{IsAtRest, KeptIn}
 use Rattle.paw_journal.specs.inner.Room.{Room, kept_slot, with_slot_kept, KeepsSlots, slot_number}
 use Rattle.paw_journal.specs.Session.{Recovered, Shown, IsUnmade, recover, slot_shows, slot, stretch, base, chosen, kept_digest, piece_length, state_length}
 use Rattle.paw_journal.specs.Session.{session_length, slot_length, zeros, made_mark}
-use Rattle.paw_journal.specs.inner.Session.{made_header, made_slot, made_session}
+use Rattle.paw_journal.specs.Session.{made_header, made_slot, made_session}
 use Rattle.paw_journal.specs.inner.Store.{IsBeside, InStore, Leaves, IsEither}
 use Rattle.paw_journal.specs.inner.Steps.{Introduces}
 use Rattle.paw_journal.proofs.Recovers.{recover_is, recover_made}

@@ -11,7 +11,7 @@ use Rattle.paw_journal.specs.declared.drafting.SlotState.{SlotState}
 use Rattle.paw_journal.specs.declared.refusal.SessionPart.TheVariants as part
 use Rattle.paw_journal.specs.Session.{Change, Damaged, Shown, piece_length, state_length, first_length, is_second, slot_piece, stretch, two_byte_number, base}
 use Rattle.paw_journal.specs.Session.{changes, changed, first_unsound, slot_changes, slot_state, slot_shows, shown_unless, most_changes, slot}
-use Rattle.paw_journal.specs.inner.Session.{has_state}
+use Rattle.paw_journal.specs.Session.{has_state}
 use Rattle.paw_journal.specs.Session.{slot_length, header_length, session_length, zeros}
 use Rattle.paw_journal.specs.inner.Room.{Room, kept_slot, with_slot_kept}
 use Rattle.paw_journal.proofs.Kept.{has_state_is, state_has, kept_shows, sound_shows, kept_of_both, kept_of_first, kept_of_broken}

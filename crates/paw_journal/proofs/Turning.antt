@@ -8,7 +8,7 @@ use Rattle.std.proofs.lemmas.Iterator.Adapters.{position_from-zero}
 use Rattle.std.proofs.lemmas.List.{length-append, length-take-le, take_all, drop_all}
 use Rattle.std.proofs.Math.Seq.{take-suc, drop-cons, set-append_seam}
 use Rattle.paw_journal.specs.Session.{Change, changes, changed, is_sound, first_unsound}
-use Rattle.paw_journal.specs.inner.Written.{differing}
+use Rattle.paw_journal.specs.Session.{differing}
 use Rattle.paw_journal.specs.inner.Steps.{Turns}
 
 pub changes-append : (n : ℕ) (a b : List ℕ) → length a ≡ 4 * n → changes (a ++ b) ≡ changes a ++ changes b

@@ -1,9 +1,10 @@
 -- How a session lies in the bytes of a store, and what bytes of a store stand for.
-use Rattle.std.specs.Prelude.{◌==◌, ◌&&◌, ◌||◌, ℕ, ◌+◌, ◌*◌, ◌%◌, Bool, not, nat_lt, nat_le, List}
-use Rattle.std.specs.Prelude.{[]}
+use Rattle.std.specs.Prelude.{◌==◌, ◌&&◌, ◌||◌, ℕ, ◌+◌, ◌-◌, ◌*◌, ◌/◌, ◌%◌, Bool, not, nat_lt, nat_le, List}
+use Rattle.std.specs.Prelude.{[], suc}
 use Rattle.std.specs.Prelude.{◌∷◌, ◌++◌, length, take, drop, slice_index, slice_set, position, Option, Some}
-use Rattle.std.specs.Prelude.{None, if◌then◌else◌}
+use Rattle.std.specs.Prelude.{None, is_none, if◌then◌else◌}
 unfoldable pub use Rattle.paw_base.specs.Bytes.{zeros}
+use Rattle.paw_stage.specs.Disk.{put}
 use Rattle.paw_journal.specs.declared.refusal.SessionPart.{SessionPart}
 use Rattle.paw_journal.specs.declared.refusal.SessionPart.TheVariants as part
 
@@ -104,6 +105,10 @@ changed (c ∷ more) bytes = changed more (slice_set bytes c.at c.byte)
 abbrev pub slot_state : List ℕ → List ℕ
 slot_state bytes = changed (slot_changes bytes) (base bytes)
 
+-- A slot has a state where its change records aren't too many, and each is sound.
+abbrev pub has_state : List ℕ → Bool
+has_state bytes = nat_le (two_byte_number 0 bytes) most_changes && is_none (first_unsound (slot_changes bytes))
+
 -- The bytes of a state, and how many of them version 1 has. Bytes 1,369 and 1,370 tell the length of the piece; behind
 -- them stand the positions that are kept, which version 1 has not.
 abbrev pub state_length : ℕ
@@ -162,3 +167,72 @@ abbrev pub IsUnmade : Recovered → Type 0
 IsUnmade (Unmade n m) = Unit {0}
 IsUnmade (Damaged p at) = ⊥
 IsUnmade (Shown d s p) = ⊥
+
+-- ---- what is written ----
+
+-- A slot as it is made: no change records, version 2, this state as its base, and this piece.
+abbrev pub made_slot : List ℕ → List ℕ → List ℕ
+made_slot state piece = 0 ∷ 0 ∷ 2 ∷ zeros 61 ++ state ++ piece ++ zeros (81920 - length piece)
+
+-- A header as it is made, with this mark and the digest of the game: slot 0 is in use, and the version is 2.
+abbrev pub made_header : ℕ → List ℕ → List ℕ
+made_header mark digest = mark ∷ 0 ∷ 2 ∷ zeros 29 ++ digest ++ zeros 64
+
+-- A session as it is made: both slots have this state and this piece.
+abbrev pub made_session : List ℕ → List ℕ → List ℕ → List ℕ
+made_session digest state piece = made_header made_mark digest ++ made_slot state piece ++ made_slot state piece
+
+-- The number of places at which two states differ.
+unfoldable pub differing : List ℕ → List ℕ → ℕ
+differing (x ∷ old) (y ∷ new) = (if x == y then 0 else 1) + differing old new
+differing old new = 0
+
+-- A change record in its four bytes: from now on this byte stands at this place.
+abbrev pub change_bytes : ℕ → ℕ → List ℕ
+change_bytes at byte = (at % 256) ∷ (at / 256) ∷ byte ∷ 0 ∷ []
+
+-- The change records by which one state becomes another, as bytes: one for each place at which they differ, in rising
+-- order. These are the states from this place on.
+unfoldable pub differences_from : ℕ → List ℕ → List ℕ → List ℕ
+differences_from at (x ∷ old) (y ∷ new) =
+    (if x == y then [] else change_bytes at y) ++ differences_from (suc at) old new
+differences_from at old new = []
+
+-- The same of whole states.
+abbrev pub differences : List ℕ → List ℕ → List ℕ
+differences old new = differences_from 0 old new
+
+-- The first bytes of a slot of version 2 with so many change records.
+abbrev pub slot_head : ℕ → List ℕ
+slot_head records = (records % 256) ∷ (records / 256) ∷ 2 ∷ []
+
+-- A slot that is of version 2 from now on, with so many change records, this piece, and these bytes from a place on. All
+-- its other bytes are as they were.
+abbrev pub rewritten : ℕ → List ℕ → ℕ → List ℕ → List ℕ → List ℕ
+rewritten at new records piece bytes = put 0 (slot_head records) (put 4160 piece (put at new bytes))
+
+-- How many change records a slot would have, once those are added that give it this state.
+abbrev pub records_with : List ℕ → List ℕ → ℕ
+records_with state bytes = two_byte_number 0 bytes + differing (slot_state bytes) state
+
+-- A commit adds change records to a slot that is of version 2, has a state, and has room for them.
+abbrev pub takes_changes : List ℕ → List ℕ → Bool
+takes_changes state bytes = is_second bytes && has_state bytes && nat_le (records_with state bytes) most_changes
+
+-- A slot once a commit gave it this state and this piece: by change records behind those that it has, or by its base,
+-- written whole.
+unfoldable pub committed_slot : List ℕ → List ℕ → List ℕ → List ℕ
+committed_slot state piece bytes =
+    if takes_changes state bytes
+    then rewritten (69696 + 4 * two_byte_number 0 bytes) (differences (slot_state bytes) state)
+    (records_with state bytes) piece bytes
+    else rewritten 64 state 0 piece bytes
+
+-- The bytes of a session once this slot is written by a commit, and in use. All other bytes are as they were.
+unfoldable pub committed_in : ℕ → List ℕ → List ℕ → List ℕ → List ℕ
+committed_in k state piece bytes =
+    put 1 (k ∷ []) (put (header_length + slot_length * k) (committed_slot state piece (slot k bytes)) bytes)
+
+-- The bytes of a session once a commit gave it this state and this piece: in the slot that isn't in use.
+unfoldable pub committed : List ℕ → List ℕ → List ℕ → List ℕ
+committed state piece bytes = committed_in (1 - chosen bytes) state piece bytes

@@ -7,12 +7,12 @@ ghost use Rattle.paw_stage.specs.Stage.{Standing};
 ghost use Rattle.paw_stage.specs.inner.Stage.{WritesAtMost};
 ghost use Rattle.paw_stage.specs.Across.{Across, EachMoment, Serves};
 ghost use Rattle.paw_stage.specs.inner.Across.{Once, Throughout};
-ghost use Rattle.paw_journal.specs.Session.{chosen, session_length, slot_length};
+ghost use Rattle.paw_journal.specs.Session.{chosen, session_length, slot_length, slot_head};
 ghost use Rattle.paw_journal.specs.inner.Room.{slot_number};
 ghost use Rattle.paw_journal.specs.inner.Store.{IsBeside, LeavesSame, LeavesSlot};
 ghost use Rattle.paw_journal.specs.inner.Steps.{IsMade, IsFilling, KeepsFilling, Fills};
 ghost use Rattle.paw_journal.specs.inner.Steps.{SameSlots, SameDigest, ChoosesSlot};
-ghost use Rattle.paw_journal.specs.inner.Steps.{slot_head, written_slot};
+ghost use Rattle.paw_journal.specs.inner.Steps.{written_slot};
 ghost use Rattle.paw_journal.specs.Journal.{writing_calls};
 ghost use Rattle.paw_journal.specs.inner.Journal.{IsAtRest, failed_stage_call};
 

@@ -3,9 +3,8 @@
 ghost use Rattle.std.specs.Prelude.{◌≡◌, [], ◌∷◌, length, IsSome, OnOk};
 ghost use Rattle.paw_stage.specs.Across.{Across, Serves};
 ghost use Rattle.paw_stage.specs.inner.Across.{Once, Throughout};
-ghost use Rattle.paw_journal.specs.Session.{session_length, header_length, slot_length};
-ghost use Rattle.paw_journal.specs.inner.Session.{made_header, laid_session};
-ghost use Rattle.paw_journal.specs.inner.Session.{marked};
+ghost use Rattle.paw_journal.specs.Session.{session_length, header_length, slot_length, made_header};
+ghost use Rattle.paw_journal.specs.inner.Session.{laid_session, marked};
 ghost use Rattle.paw_journal.specs.inner.Store.{IsBeside, HoldsStable, LaysSlots, LeavesUnmade, LeavesMarked};
 ghost use Rattle.paw_journal.specs.inner.Steps.{IsBlank};
 ghost use Rattle.paw_journal.specs.Journal.{writing_calls};

@@ -1,8 +1,8 @@
 // The state of a slot that was read.
 
 ghost use Rattle.std.specs.Prelude.{◌≡◌, ◌++◌, ℕ, List, length, take, true, false, OnOk, OnErr, IfOk, IfErr};
-ghost use Rattle.paw_journal.specs.Session.{slot_length, is_second, first_length, zeros};
-ghost use Rattle.paw_journal.specs.inner.Session.{has_state, IsDamagedAt};
+ghost use Rattle.paw_journal.specs.Session.{slot_length, is_second, has_state, first_length, zeros};
+ghost use Rattle.paw_journal.specs.inner.Session.{IsDamagedAt};
 ghost use Rattle.paw_journal.specs.inner.Room.{kept_slot, state_in};
 
 use crate::changes::apply;

@@ -5,7 +5,7 @@ use Rattle.paw_journal.specs.declared.layout.Slot.TheVariants as which
 use Rattle.paw_journal.specs.declared.drafting.SlotState.{SlotState}
 use Rattle.paw_stage.specs.Stage.{Standing}
 use Rattle.paw_journal.specs.Session.{slot, is_second, two_byte_number, slot_state, slot_shows}
-use Rattle.paw_journal.specs.inner.Session.{has_state}
+use Rattle.paw_journal.specs.Session.{has_state}
 use Rattle.paw_journal.specs.Session.{stretch, piece_length}
 use Rattle.paw_journal.specs.inner.Session.{session_shown}
 

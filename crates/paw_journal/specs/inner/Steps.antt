@@ -1,5 +1,5 @@
 -- What the steps of a journal's calls leave.
-use Rattle.std.specs.Prelude.{◌≡◌, ◌⊎◌, ℕ, ◌+◌, ◌-◌, ◌*◌, ◌/◌, ◌%◌, ◌<◌, ◌≤◌, List, [], ◌∷◌, length, slice_index, true}
+use Rattle.std.specs.Prelude.{◌≡◌, ◌⊎◌, ℕ, ◌+◌, ◌-◌, ◌*◌, ◌<◌, ◌≤◌, List, length, slice_index, true}
 use Rattle.std.specs.Prelude.{false, Option, Some, None}
 use Rattle.paw_base.specs.declared.limits.TheConstants.{PIECE_LIMIT}
 use Rattle.paw_stage.specs.Disk.{Disk, is_dirty, put}
@@ -12,9 +12,9 @@ use Rattle.paw_journal.specs.Session.{session_length, header_length, slot_length
 use Rattle.paw_journal.specs.Session.{is_version}
 use Rattle.paw_journal.specs.Session.{kept_digest, changes, changed, first_unsound, slot, recover}
 use Rattle.paw_journal.specs.inner.Session.{session_shown}
-use Rattle.paw_journal.specs.inner.Session.{made_session}
+use Rattle.paw_journal.specs.Session.{made_session, differing, slot_head}
 use Rattle.paw_journal.specs.inner.Room.{slot_number, kept_slot}
-use Rattle.paw_journal.specs.inner.Written.{differing, most_written}
+use Rattle.paw_journal.specs.inner.Written.{most_written}
 use Rattle.paw_journal.specs.inner.Store.{IsBeside, shown_by}
 
 -- A session is made of these bytes.
@@ -96,10 +96,6 @@ pub record Turns (old new records : List ℕ) : Type 0 where
   pub many : length records ≡ 4 * differing old new
   pub sound : first_unsound (changes records) ≡ None
   pub turned : changed (changes records) old ≡ new
-
--- The first bytes of a slot of version 2 with so many change records.
-abbrev pub slot_head : ℕ → List ℕ
-slot_head records = (records % 256) ∷ (records / 256) ∷ 2 ∷ []
 
 -- The bytes of a slot once a commit has written it.
 abbrev pub written_slot : Draft → List ℕ → List ℕ → List ℕ → List ℕ

@@ -1,16 +1,11 @@
 -- What a commit writes, and how much at most.
-use Rattle.std.specs.Prelude.{◌==◌, ℕ, ◌+◌, ◌-◌, ◌*◌, nat_le, List, ◌∷◌, length, Option, Some, None, if◌then◌else◌}
+use Rattle.std.specs.Prelude.{ℕ, ◌+◌, ◌-◌, ◌*◌, nat_le, List, length, Option, Some, None, if◌then◌else◌}
 use Rattle.paw_stage.specs.Stage.{Standing}
 use Rattle.paw_stage.specs.inner.Stage.{WritesAtMost}
 use Rattle.paw_journal.specs.declared.drafting.SlotState.{SlotState}
 use Rattle.paw_journal.specs.declared.layout.Slot.{Slot}
-use Rattle.paw_journal.specs.Session.{most_changes, slot}
+use Rattle.paw_journal.specs.Session.{most_changes, slot, differing}
 use Rattle.paw_journal.specs.inner.Room.{slot_number, kept_slot}
-
--- The number of positions at which two states differ.
-unfoldable pub differing : List ℕ → List ℕ → ℕ
-differing (x ∷ old) (y ∷ new) = (if x == y then 0 else 1) + differing old new
-differing old new = 0
 
 -- The most bytes that a commit of a state and a piece writes over a slot, by what is kept of that slot. Where it has a
 -- state, and its change records and the new ones aren't too many, these are four bytes for each position that differs;

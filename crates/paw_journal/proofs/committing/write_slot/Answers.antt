@@ -4,9 +4,9 @@ use Rattle.paw_stage.specs.Disk.{put}
 use Rattle.paw_stage.specs.Stage.{Standing}
 use Rattle.paw_stage.proofs.Time.{Passes_map}
 use Rattle.paw_journal.specs.declared.layout.Slot.{Slot}
-use Rattle.paw_journal.specs.Session.{slot, chosen}
+use Rattle.paw_journal.specs.Session.{slot, chosen, slot_head}
 use Rattle.paw_journal.specs.inner.Journal.{IsAtRest}
-use Rattle.paw_journal.specs.inner.Steps.{IsMade, IsFilling, slot_head}
+use Rattle.paw_journal.specs.inner.Steps.{IsMade, IsFilling}
 use Rattle.paw_journal.specs.inner.Room.{slot_number}
 use Rattle.paw_journal.proofs.Moved.{beside_on}
 use Rattle.paw_journal.proofs.Chooses.{slot_small}

@@ -2,8 +2,8 @@ use Rattle.std.proofs.Common.{◌≡◌, ◌≤◌, ◌∙◌, ap, length}
 use Rattle.paw_stage.specs.Stage.{Standing}
 use Rattle.paw_stage.specs.Across.{EachMoment}
 use Rattle.paw_stage.proofs.Time.{Passes_map, Passes_on}
-use Rattle.paw_journal.specs.Session.{recover, kept_digest, slot_length}
-use Rattle.paw_journal.specs.inner.Session.{marked, made_slot, made_session, session_shown}
+use Rattle.paw_journal.specs.Session.{recover, kept_digest, slot_length, made_slot, made_session}
+use Rattle.paw_journal.specs.inner.Session.{marked, session_shown}
 use Rattle.paw_journal.specs.inner.Store.{LeavesMade}
 use Rattle.paw_journal.proofs.Moved.{beside_none}
 use Rattle.paw_journal.proofs.Sessions.{length_slot, laid_long, short_piece, marked_session, session_digest}
