@@ -1,15 +1,16 @@
 -- The selector of a session, and what a crash leaves while it is written.
-use Rattle.std.proofs.Common.{◌≡◌, ◌≢◌, ℕ, ◌-◌, ◌%◌, ◌≤◌, ◌<◌, List, [], ◌∷◌, length, ap, ◌∙◌, arith, get_or, ◌⊎◌, inl, inr}
+use Rattle.std.proofs.Common.{◌≡◌, ◌≢◌, ℕ, ◌+◌, ◌-◌, ◌*◌, ◌%◌, ◌≤◌, ◌<◌, List, [], ◌∷◌, length, ap, ◌∙◌, arith, get_or, ◌⊎◌, inl, inr}
 use Rattle.paw_stage.specs.Disk.{Disk, put, stable, IsStable, touched}
 use Rattle.paw_stage.specs.Stage.{Standing, wrote}
 use Rattle.paw_stage.specs.Moments.{Moment, InWrite, InSync}
 use Rattle.paw_journal.specs.declared.layout.Slot.{Slot}
 use Rattle.paw_journal.specs.declared.layout.Slot.TheVariants as which
-use Rattle.paw_journal.specs.Session.{recover, recover_by, chosen, kept_digest, slot, session_length, slot_length}
-use Rattle.paw_journal.specs.inner.Steps.{IsWithin}
+use Rattle.paw_journal.specs.Session.{recover, recover_by, chosen, kept_digest, slot, session_length, header_length, slot_length}
+use Rattle.paw_journal.specs.inner.Steps.{IsWithin, chosen_session}
 use Rattle.paw_journal.specs.inner.Store.{InStore, Leaves, IsEither}
 use Rattle.paw_journal.specs.inner.Room.{slot_number}
-use Rattle.paw_journal.proofs.Parts.{put_one, stretch_same}
+use Rattle.paw_journal.proofs.Parts.{put_one, put_below, put_above}
+use Rattle.paw_journal.proofs.Puts.{put_long, stretch_past}
 use Rattle.paw_journal.proofs.Recovers.{recover_is, recover_by_same}
 use Rattle.paw_journal.proofs.Disks.{within_long, within_same}
 use Rattle.paw_journal.proofs.Moved.{IsMoved, moved_none, moved_wrote, in_moved_write, in_moved_sync}
@@ -60,29 +61,27 @@ in_chosen k s t m low long h w = in_moved_sync 1 2 s t
     (λ d i. choosing k s.disk.bytes d low long i) w
 
 -- the selector is the slot's
-pub selector_is : (k : ℕ) (old : List ℕ) → k < 2 → length old ≡ session_length → chosen (put 1 (k ∷ []) old) ≡ k
+pub selector_is : (k : ℕ) (old : List ℕ) → k < 2 → length old ≡ session_length → chosen (chosen_session k old) ≡ k
 selector_is k old low long = let h : k % 2 ≡ k = grind arith in ap (λ b. b % 2) (put_one 1 k old (omega arith)) ∙ h
 
-pub chosen_shown : (k x n : ℕ) (s t u : Standing) → k < 2 → length s.disk.bytes ≡ session_length → IsStable s.disk →
-    x ≡ k → t ≡ wrote s (touched 1 1 (x ∷ []) s.disk) n → u ≡ record t { disk = stable t.disk.bytes } →
-    recover u.disk.bytes ≡ recover_by k s.disk.bytes
-chosen_shown k x n s t u low long h e w q =
-    let m : IsMoved 1 2 s t = chose x s t n long h w in
-    let b : t.disk.bytes ≡ put 1 (k ∷ []) s.disk.bytes = ap (λ y. y.disk.bytes) w ∙ ap (λ j. put 1 (j ∷ []) s.disk.bytes) e in
-    ap (λ y. recover y.disk.bytes) q
-    ∙ (recover_is k t.disk.bytes (ap chosen b ∙ selector_is k s.disk.bytes low long)
-    ∙ selector_hidden k t.disk.bytes s.disk.bytes low m.within.long long (λ i l o. m.within.same i o))
+-- and a crash leaves just that
+pub chose_all : (k x n : ℕ) (s t u : Standing) → x ≡ k → t ≡ wrote s (touched 1 1 (x ∷ []) s.disk) n →
+    u ≡ record t { disk = stable t.disk.bytes } → u.disk ≡ stable (chosen_session k s.disk.bytes)
+chose_all k x n s t u e w q =
+    ap (λ y. y.disk) q ∙ (ap (λ y. stable y.disk.bytes) w ∙ ap (λ j. stable (put 1 (j ∷ []) s.disk.bytes)) e)
 
-pub chosen_digest : (x n : ℕ) (s t u : Standing) → length s.disk.bytes ≡ session_length → IsStable s.disk →
-    t ≡ wrote s (touched 1 1 (x ∷ []) s.disk) n → u ≡ record t { disk = stable t.disk.bytes } →
-    kept_digest u.disk.bytes ≡ kept_digest s.disk.bytes
-chosen_digest x n s t u long h w q =
-    let m : IsMoved 1 2 s t = chose x s t n long h w in
-    ap (λ y. kept_digest y.disk.bytes) q ∙ stretch_same 32 32 t.disk.bytes s.disk.bytes m.within.long (λ i l u. m.within.same i (inr (omega arith)))
+-- all but the selector is as it was
+pub chosen_digest : (k : ℕ) (old : List ℕ) → length old ≡ session_length → kept_digest (chosen_session k old) ≡ kept_digest old
+chosen_digest k old long = stretch_past 32 32 1 (k ∷ []) old (omega arith) (omega arith)
 
-pub chosen_slot : (k x n : ℕ) (s t u : Standing) → k < 2 → length s.disk.bytes ≡ session_length → IsStable s.disk →
-    t ≡ wrote s (touched 1 1 (x ∷ []) s.disk) n → u ≡ record t { disk = stable t.disk.bytes } →
-    slot k u.disk.bytes ≡ slot k s.disk.bytes
-chosen_slot k x n s t u low long h w q =
-    let m : IsMoved 1 2 s t = chose x s t n long h w in
-    ap (λ y. slot k y.disk.bytes) q ∙ stretch_same _ slot_length t.disk.bytes s.disk.bytes m.within.long (λ i l u. m.within.same i (inr (omega arith)))
+pub chosen_slot : (k j : ℕ) (old : List ℕ) → length old ≡ session_length → slot j (chosen_session k old) ≡ slot j old
+chosen_slot k j old long = stretch_past (header_length + slot_length * j) slot_length 1 (k ∷ []) old (omega arith) (omega arith)
+
+-- and the session shows what the slot showed
+pub chosen_shown : (k : ℕ) (old : List ℕ) → k < 2 → length old ≡ session_length → recover (chosen_session k old) ≡ recover_by k old
+chosen_shown k old low long =
+    recover_is k (chosen_session k old) (selector_is k old low long)
+    ∙ selector_hidden k (chosen_session k old) old low (put_long 1 (k ∷ []) old (omega arith)) long (λ i l o. elim o [
+      | inl h ↦ put_below 1 (k ∷ []) old i (omega arith) h
+      | inr h ↦ put_above 1 (k ∷ []) old i (omega arith) h
+    ])

@@ -1,20 +1,27 @@
 -- What a commit leaves.
-use Rattle.std.proofs.Common.{◌≡◌, ℕ, ◌+◌, ◌-◌, ◌≤◌, ◌<◌, List, length, take, refl, sym, ap, ◌∙◌, subst, arith}
-use Rattle.std.specs.Prelude.{Option, Some}
+use Rattle.std.proofs.Common.{◌≡◌, ℕ, ◌+◌, ◌-◌, ◌*◌, ◌≤◌, ◌<◌, List, [], ◌∷◌, length, take, refl, sym, ap, ◌∙◌, subst, arith}
+use Rattle.std.specs.Prelude.{Option, Some, IsSome}
+use Rattle.paw_stage.specs.Disk.{put, stable, IsStable}
 use Rattle.paw_stage.specs.Stage.{Standing}
+use Rattle.paw_journal.specs.declared.journal.Journal.{Journal}
 use Rattle.paw_journal.specs.declared.layout.Slot.{Slot}
 use Rattle.paw_journal.specs.declared.layout.Slot.TheVariants as which
 use Rattle.paw_journal.specs.declared.drafting.SlotState.{SlotState}
 use Rattle.paw_journal.specs.declared.drafting.Draft.{Draft}
-use Rattle.paw_journal.specs.Session.{Shown, recover, recover_by, chosen, slot, slot_shows, stretch, kept_digest, piece_length, state_length}
+use Rattle.paw_journal.specs.Session.{Shown, recover, recover_by, chosen, slot, slot_length, session_length, slot_shows, stretch, kept_digest, piece_length, state_length}
+use Rattle.paw_journal.specs.Session.{committed, committed_in}
 use Rattle.paw_journal.specs.inner.Room.{Room, kept_slot, kept_of, with_slot_kept, KeepsSlots, slot_number}
 use Rattle.paw_journal.specs.inner.Written.{most_written}
-use Rattle.paw_journal.specs.inner.Steps.{IsFilling, Drafts, written_slot}
+use Rattle.paw_journal.specs.inner.Steps.{IsSpare, IsFilling, Drafts, start_of, written_slot, written_session, chosen_session}
+use Rattle.paw_journal.specs.inner.Store.{IsBeside}
 use Rattle.paw_journal.specs.inner.Journal.{IsAtRest, KeptIn}
-use Rattle.paw_journal.proofs.Recovers.{recover_made}
+use Rattle.paw_journal.proofs.Disks.{stable_is}
+use Rattle.paw_journal.proofs.Puts.{put_long, rewritten_long, stretch_written}
+use Rattle.paw_journal.proofs.Chooses.{slot_small}
+use Rattle.paw_journal.proofs.Recovers.{recover_made, shown_made}
 use Rattle.paw_journal.proofs.Kept.{IsKept, is_kept, kept_shows, written_piece}
 use Rattle.paw_journal.proofs.Slots.{state_stays, piece_stays}
-use Rattle.paw_journal.proofs.Fills.{filled_made, filled_digest, slot_long}
+use Rattle.paw_journal.proofs.Fills.{filled_made, filled_digest, filling_put, slot_long}
 
 -- what a room keeps of a slot
 pub keeps_of : (w : Slot) (room : Room) (bytes : List ℕ) → KeepsSlots room bytes → kept_of w room ≡ kept_slot (slot (slot_number w) bytes)
@@ -48,6 +55,70 @@ module _ (k : ℕ) (draft : Draft) (kept : Option SlotState) (state bytes piece 
         ∙ (ap (λ x. slot_shows x (slot k t.disk.bytes)) (filled_digest k s t f)
         ∙ (kept_shows (kept_digest s.disk.bytes) (slot k t.disk.bytes) draft.records state h
         ∙ ap (Shown (kept_digest s.disk.bytes) (take state_length state)) p))
+
+-- ---- the bytes that it leaves ----
+
+-- the slot that isn't in use is spare
+pub spare_of : (journal : Journal) (room : Room) (s : Standing) (w : Slot) → KeptIn journal room s →
+    slot_number w ≡ 1 - slot_number journal.slot → IsSpare (slot_number w) s.disk.bytes
+spare_of journal room s w h e = record {
+  made = shown_made _ _ _ _ h.shown;
+  other = omega (arith, h.chosen, e, slot_small journal.slot);
+}
+
+-- a store that was written and synced is at rest
+pub rests_on : (bytes : List ℕ) (s t : Standing) → IsAtRest s → IsBeside s t → t.disk ≡ stable bytes → IsAtRest t
+rests_on bytes s t h b e = record {
+  attached = subst (λ a. IsSome a) (sym b.attached) h.attached;
+  stable = subst (λ d. IsStable d) (sym e) (stable_is bytes);
+}
+
+module _ (w : Slot) (draft : Draft) (kept : Option SlotState) (state bytes piece : List ℕ) (s t : Standing)
+    (spare : IsSpare (slot_number w) s.disk.bytes) (d : Drafts kept state bytes draft) (short : length piece ≤ 65535)
+    (e : t.disk ≡ stable (written_session (slot_number w) draft bytes piece s.disk.bytes))
+  where
+    slot_as : length (written_slot draft bytes piece (slot (slot_number w) s.disk.bytes)) ≡ slot_length
+    slot_as = rewritten_long draft.at draft.records bytes piece (slot (slot_number w) s.disk.bytes) d.inside short
+        (slot_long (slot_number w) s.disk.bytes (slot_small w) spare.made.long)
+
+    pub written_filling : IsBeside s t → IsFilling (slot_number w) s t
+    written_filling b = filling_put (slot_number w) (written_slot draft bytes piece (slot (slot_number w) s.disk.bytes)) s t (slot_small w) spare b slot_as e
+
+    pub written_in : slot (slot_number w) t.disk.bytes ≡ written_slot draft bytes piece (slot (slot_number w) s.disk.bytes)
+    written_in =
+        let new : List ℕ = written_slot draft bytes piece (slot (slot_number w) s.disk.bytes) in
+        ap (λ y. slot (slot_number w) y.bytes) e
+        ∙ (ap (λ n. stretch (start_of (slot_number w)) n (put (start_of (slot_number w)) new s.disk.bytes)) (sym slot_as)
+        ∙ stretch_written (start_of (slot_number w)) new s.disk.bytes (low (slot_number w) (length s.disk.bytes) (slot_small w) spare.made.long))
+      where
+        low : (k n : ℕ) → k < 2 → n ≡ 172288 → 128 + 86080 * k ≤ n
+        low k n h long = omega arith
+
+    pub written_long : length t.disk.bytes ≡ session_length
+    written_long =
+        let new : List ℕ = written_slot draft bytes piece (slot (slot_number w) s.disk.bytes) in
+        ap (λ y. length y.bytes) e
+        ∙ (put_long (start_of (slot_number w)) new s.disk.bytes (fits (slot_number w) (length new) (length s.disk.bytes) (slot_small w) slot_as spare.made.long)
+        ∙ spare.made.long)
+      where
+        fits : (k m n : ℕ) → k < 2 → m ≡ 86080 → n ≡ 172288 → 128 + 86080 * k + m ≤ n
+        fits k m n h l long = omega arith
+
+-- once that slot is chosen, all is as a commit leaves it
+pub committed_exact : (w used : Slot) (draft : Draft) (kept : Option SlotState) (state bytes piece : List ℕ) (s t u : Standing) →
+    Drafts kept state bytes draft → kept ≡ kept_slot (slot (slot_number w) s.disk.bytes) →
+    slot_number w ≡ 1 - slot_number used → chosen s.disk.bytes ≡ slot_number used →
+    t.disk ≡ stable (written_session (slot_number w) draft bytes piece s.disk.bytes) →
+    u.disk ≡ stable (chosen_session (slot_number w) t.disk.bytes) → u.disk.bytes ≡ committed state piece s.disk.bytes
+unfolding committed committed_in
+committed_exact w used draft kept state bytes piece s t u d e o c p q =
+    let k : ℕ = slot_number w in
+    let old : List ℕ = s.disk.bytes in
+    let n : slot_number w ≡ 1 - chosen s.disk.bytes = o ∙ ap (λ i. 1 - i) (sym c) in
+    ap (λ y. y.bytes) q
+    ∙ (ap (λ y. put 1 (k ∷ []) y.bytes) p
+    ∙ (ap (λ x. put 1 (k ∷ []) (put (start_of k) x old)) (d.exact (slot k old) piece (sym e))
+    ∙ ap (λ i. committed_in i state piece old) n))
 
 -- the states of both slots afterwards
 pub committed_slots : (w : Slot) (x : Option SlotState) (old now : Room) (a b c : List ℕ) → KeepsSlots old a →

@@ -2,7 +2,7 @@
 use Rattle.std.proofs.Common.{◌≡◌, ℕ, ◌+◌, ◌≤◌, ◌<◌, false, List, ◌∷◌, length, refl, sym, ap, subst, ◌∙◌, arith, get_or, ◌⊎◌, inl, inr}
 use Rattle.std.proofs.lemmas.Bool.Decides.{nat_tests}
 use Rattle.std.proofs.lemmas.List.{ext_get_or}
-use Rattle.paw_stage.specs.Disk.{Range, Disk, is_dirty, MayLeave, touched, stable, IsStable, IsInWrite}
+use Rattle.paw_stage.specs.Disk.{Range, Disk, is_dirty, MayLeave, touched, stable, IsStable, IsInWrite, put}
 use Rattle.paw_journal.specs.inner.Steps.{IsWithin}
 use Rattle.paw_journal.proofs.Parts.{length_put, put_below, put_above}
 
@@ -61,3 +61,15 @@ pub stable_leaves : (d : Disk) (image : List ℕ) → IsStable d → MayLeave d 
 stable_leaves d image h m =
     let n : length image ≡ length d.bytes = omega (arith, ap length h.kept, h.longest, m.no_shorter, m.no_longer) in
     ext_get_or 0 image d.bytes n (λ i low. m.clean i (omega (arith, ap length h.kept)) (ap (λ r. is_dirty r i) h.dirty))
+
+-- a stretch that was written and synced
+pub put_within : (at n : ℕ) (new old : List ℕ) → length new ≡ n → at + length new ≤ length old → IsWithin at (at + n) old (stable (put at new old))
+put_within at n new old l fits =
+    let long : length (put at new old) ≡ length old = omega (arith, length_put at new old (omega arith)) in
+    record {
+      long = long;
+      synced = long;
+      longest = long;
+      same = λ i o. elim o [ inl h ↦ put_below at new old i (omega arith) h | inr h ↦ put_above at new old i (omega arith) (omega arith) ];
+      clean = λ i o. refl;
+    }

@@ -5,13 +5,13 @@ use Rattle.paw_stage.specs.Stage.{Standing, wrote}
 use Rattle.paw_stage.specs.Moments.{Moment, Passes, InWrite, InSync}
 use Rattle.paw_stage.proofs.Time.{Passes_on}
 use Rattle.paw_journal.specs.Session.{recover, recover_by, is_version, slot, chosen, kept_digest, session_length, header_length, slot_length}
-use Rattle.paw_journal.specs.inner.Store.{InStore, Leaves, LeavesSame}
-use Rattle.paw_journal.specs.inner.Steps.{IsMade, IsWithin, IsFilling, KeepsFilling}
+use Rattle.paw_journal.specs.inner.Store.{IsBeside, InStore, Leaves, LeavesSame}
+use Rattle.paw_journal.specs.inner.Steps.{IsMade, IsSpare, IsWithin, IsFilling, KeepsFilling, start_of}
 use Rattle.paw_journal.proofs.Parts.{stretch_same}
-use Rattle.paw_journal.proofs.Puts.{stretch_put, stretch_long, put_nothing}
+use Rattle.paw_journal.proofs.Puts.{stretch_put, stretch_long, put_nothing, put_between}
 use Rattle.paw_journal.proofs.Recovers.{recover_is, recover_by_same}
-use Rattle.paw_journal.proofs.Disks.{within_stable, within_long, within_same}
-use Rattle.paw_journal.proofs.Moved.{IsMoved, beside_none, beside_on, beside_sync, moved_wrote, in_moved_write, in_moved_sync}
+use Rattle.paw_journal.proofs.Disks.{within_stable, within_long, within_same, put_within}
+use Rattle.paw_journal.proofs.Moved.{IsMoved, beside_none, moved_wrote, in_moved_write, in_moved_sync}
 
 -- one slot hides behind the choice of the other
 pub slot_hidden : (k j : ℕ) (image old : List ℕ) → k < 2 → j ≡ 1 - k → length image ≡ length old →
@@ -44,9 +44,6 @@ filling_none k s low h made other = record { low = low; made = made; other = oth
 moved : (k : ℕ) (s t : Standing) → IsFilling k s t → IsMoved (header_length + slot_length * k) (header_length + slot_length * k + slot_length) s t
 moved k s t h = record { beside = h.beside; within = h.within }
 
-pub filling_same : (k : ℕ) (s t u : Standing) → IsFilling k s t → u ≡ t → IsFilling k s u
-filling_same k s t u h e = subst (λ x. IsFilling k s x) (sym e) h
-
 pub filling_wrote : (k at a : ℕ) (new : List ℕ) (s t u : Standing) → IsFilling k s t →
     at ≡ header_length + slot_length * k + a → a + length new ≤ slot_length →
     u ≡ wrote t (touched at (length new) new t.disk) (length new) → IsFilling k s u
@@ -55,15 +52,6 @@ filling_wrote k at a new s t u h e fits w =
     let b = h.made.long in
     let m = moved_wrote _ _ at (length new) (length new) new s t u (moved k s t h) (omega arith) (omega arith) (omega arith) (omega arith) w in
     record { low = h.low; made = h.made; other = h.other; beside = m.beside; within = m.within }
-
-pub filling_sync : (k : ℕ) (s t u : Standing) → IsFilling k s t → u ≡ record t { disk = stable t.disk.bytes } → IsFilling k s u
-filling_sync k s t u h e = subst (λ x. IsFilling k s x) (sym e) (record {
-  low = h.low;
-  made = h.made;
-  other = h.other;
-  beside = beside_on s t (record t { disk = stable t.disk.bytes }) h.beside (beside_sync t (record t { disk = stable t.disk.bytes }) refl);
-  within = record { long = h.within.long; synced = h.within.long; longest = h.within.long; same = h.within.same; clean = λ i o. refl };
-})
 
 pub in_filling_write : (k at a n : ℕ) (s t : Standing) (m : Moment) → IsFilling k s t →
     at ≡ header_length + slot_length * k + a → a + n ≤ slot_length → InWrite t at n m →
@@ -103,6 +91,38 @@ pub wrote_nothing : (k at : ℕ) (new bytes : List ℕ) → k < 2 → length byt
 wrote_nothing k at new bytes low long none fits = put_nothing at new (slot k bytes) none (omega (arith, slot_long k bytes low long))
 
 -- ---- what stands once it is written ----
+
+-- the slot alone was written
+pub filled_bytes : (k : ℕ) (new : List ℕ) (s t : Standing) → IsFilling k s t → length new ≡ slot_length →
+    slot k t.disk.bytes ≡ new → t.disk.bytes ≡ put (start_of k) new s.disk.bytes
+filled_bytes k new s t h l e =
+    put_between (start_of k) slot_length new s.disk.bytes t.disk.bytes l (fits k (length s.disk.bytes) h.low h.made.long)
+    h.within.long h.within.same e
+  where
+    fits : (k n : ℕ) → k < 2 → n ≡ session_length → header_length + slot_length * k + slot_length ≤ n
+    fits k n low long = omega arith
+
+pub filled_stable : (k : ℕ) (new : List ℕ) (s t u : Standing) → IsFilling k s t → length new ≡ slot_length →
+    slot k t.disk.bytes ≡ new → u ≡ record t { disk = stable t.disk.bytes } →
+    u.disk ≡ stable (put (start_of k) new s.disk.bytes)
+filled_stable k new s t u h l e q = ap (λ x. x.disk) q ∙ ap stable (filled_bytes k new s t h l e)
+
+-- and so the session is being filled, where nothing is unsynced
+pub filling_put : (k : ℕ) (new : List ℕ) (s t : Standing) → k < 2 → IsSpare k s.disk.bytes → IsBeside s t →
+    length new ≡ slot_length → t.disk ≡ stable (put (start_of k) new s.disk.bytes) → IsFilling k s t
+filling_put k new s t low spare beside l e =
+    let fits : start_of k + length new ≤ length s.disk.bytes = room k (length new) (length s.disk.bytes) low l spare.made.long in
+    record {
+      low = low;
+      made = spare.made;
+      other = spare.other;
+      beside = beside;
+      within = subst (λ d. IsWithin (start_of k) (start_of k + slot_length) s.disk.bytes d) (sym e)
+          (put_within (start_of k) slot_length new s.disk.bytes l fits);
+    }
+  where
+    room : (k m n : ℕ) → k < 2 → m ≡ slot_length → n ≡ session_length → header_length + slot_length * k + m ≤ n
+    room k m n low l long = omega arith
 
 pub filled_made : (k : ℕ) (s t : Standing) → IsFilling k s t → IsMade t.disk.bytes
 filled_made k s t h = record {

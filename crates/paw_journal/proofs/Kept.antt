@@ -7,7 +7,7 @@ use Rattle.paw_journal.specs.declared.refusal.SessionPart.TheVariants as part
 use Rattle.paw_journal.specs.declared.drafting.SlotState.{SlotState}
 use Rattle.paw_journal.specs.declared.drafting.Draft.{Draft}
 use Rattle.paw_journal.specs.Session.{Damaged, Shown, stretch, two_byte_number, base, changes, changed, first_unsound, slot_changes, slot_state, is_second}
-use Rattle.paw_journal.specs.Session.{has_state, differing, slot_head}
+use Rattle.paw_journal.specs.Session.{has_state, differing, differences, slot_head, rewritten, records_with, takes_changes, committed_slot}
 use Rattle.paw_journal.specs.Session.{shown_state, first_length, zeros, slot_piece, slot_shows, shown_unless, most_changes, piece_length, state_length}
 use Rattle.paw_journal.specs.inner.Room.{kept_slot}
 use Rattle.paw_journal.specs.inner.Written.{most_written}
@@ -190,12 +190,56 @@ behind_gives n c was state records piece old h t l few long short =
           ∙ (ap (changed (changes records)) h.told ∙ t.turned)));
     }
 
+-- ---- what a commit makes of a slot ----
+
+takes_none : (a b c : Bool) (x : SlotState) → (if a && b then Some x else None) ≡ None → (a && b && c) ≡ false
+takes_none true true c x e = absurd (cc e)
+takes_none true false c x e = refl
+takes_none false b c x e = refl
+
+-- it adds change records where there is room for them
+takes_as : (n : ℕ) (was state old : List ℕ) → kept_slot old ≡ Some (record { records = n; state = was }) →
+    takes_changes state old ≡ nat_le (n + differing was state) most_changes
+takes_as n was state old is =
+    let k = kept_some (is_second old) (has_state old) (record { records = two_byte_number 0 old; state = slot_state old }) n was is in
+    ap (λ b. b && has_state old && nat_le (records_with state old) most_changes) k.0
+    ∙ (ap (λ b. true && b && nat_le (records_with state old) most_changes) k.1
+    ∙ (ap (λ m. nat_le (m + differing (slot_state old) state) most_changes) k.2
+    ∙ ap (λ l. nat_le (n + differing l state) most_changes) k.3))
+
+exact_base : (state bytes piece old : List ℕ) → bytes ≡ state → takes_changes state old ≡ false →
+    rewritten 64 bytes 0 piece old ≡ committed_slot state piece old
+unfolding committed_slot
+exact_base state bytes piece old e t =
+    ap (λ b. rewritten 64 b 0 piece old) e
+    ∙ sym (ap (λ b. if b then rewritten (69696 + 4 * two_byte_number 0 old) (differences (slot_state old) state) (records_with state old) piece old
+    else rewritten 64 state 0 piece old) t)
+
+exact_behind : (n c : ℕ) (was state bytes piece old : List ℕ) → bytes ≡ differences was state → differing was state ≡ c →
+    n + c ≤ 4096 → kept_slot old ≡ Some (record { records = n; state = was }) →
+    rewritten (69696 + 4 * n) bytes (n + c) piece old ≡ committed_slot state piece old
+unfolding committed_slot
+exact_behind n c was state bytes piece old e d few is =
+    let k = kept_some (is_second old) (has_state old) (record { records = two_byte_number 0 old; state = slot_state old }) n was is in
+    let t = takes_as n was state old is ∙ low n c (differing was state) d few in
+    sym (ap (λ b. if b then rewritten (69696 + 4 * two_byte_number 0 old) (differences (slot_state old) state) (records_with state old) piece old
+    else rewritten 64 state 0 piece old) t
+    ∙ (ap (λ m. rewritten (69696 + 4 * m) (differences (slot_state old) state) (m + differing (slot_state old) state) piece old) k.2
+    ∙ (ap (λ l. rewritten (69696 + 4 * n) (differences l state) (n + differing l state) piece old) k.3
+    ∙ (ap (λ m. rewritten (69696 + 4 * n) (differences was state) (n + m) piece old) d
+    ∙ ap (λ b. rewritten (69696 + 4 * n) b (n + c) piece old) (sym e)))))
+  where
+    low : (n c d : ℕ) → d ≡ c → n + c ≤ 4096 → nat_le (n + d) most_changes ≡ true
+    low n c d e few = grind (arith, nat_tests)
+
 -- what a commit writes
 pub drafts_whole : (kept : Option SlotState) (state bytes : List ℕ) → bytes ≡ state → length state ≡ 4096 →
     ((piece : List ℕ) → 4224 + length piece ≤ most_written kept state piece) →
+    ((old : List ℕ) → kept_slot old ≡ kept → takes_changes state old ≡ false) →
     Drafts kept state bytes (record { at = 64; records = 0 })
-drafts_whole kept state bytes e n most = record {
+drafts_whole kept state bytes e n most takes = record {
   inside = omega (arith, ap length e);
+  exact = λ old piece is. exact_base state bytes piece old e (takes old is);
   gives = λ old piece long is short. kept_is (put 0 (slot_head 0) (put 4160 piece (put 64 bytes old))) 0 state
       (let h = whole_gives state piece old n long short in rw e h);
   few = λ piece. omega (arith, most piece, ap length e);
@@ -205,6 +249,7 @@ pub drafts_behind : (n c : ℕ) (was state bytes : List ℕ) → Turns was state
     Drafts (Some (record { records = n; state = was })) state bytes (record { at = 69696 + 4 * n; records = n + c })
 drafts_behind n c was state bytes t l few = record {
   inside = omega (arith, l);
+  exact = λ old piece is. exact_behind n c was state bytes piece old t.exact (omega (arith, l, t.many)) few is;
   gives = λ old piece long is short. kept_is
       (put 0 (slot_head (n + c)) (put 4160 piece (put (69696 + 4 * n) bytes old))) (n + c) state
       (behind_gives n c was state bytes piece old (is_kept old n was is) t l few long short);
@@ -217,6 +262,8 @@ drafts_behind n c was state bytes t l few = record {
 -- where there is no state, or there are too many changes, the base is written whole
 pub drafts_base : (state bytes : List ℕ) → bytes ≡ state → length state ≡ 4096 → Drafts None state bytes (record { at = 64; records = 0 })
 drafts_base state bytes e n = drafts_whole None state bytes e n (λ piece. omega arith)
+    (λ old is. takes_none (is_second old) (has_state old) (nat_le (records_with state old) most_changes)
+    (record { records = two_byte_number 0 old; state = slot_state old }) is)
 
 pub drafts_whole_as : (state bytes : List ℕ) (kept : Option SlotState) (draft : Draft) → bytes ≡ state →
     length state ≡ 4096 → kept ≡ None → draft ≡ record { at = 64; records = 0 } → Drafts kept state bytes draft
@@ -227,8 +274,12 @@ pub drafts_many : (kept : SlotState) (s m : ℕ) (state records bytes : List ℕ
     length state ≡ 4096 → draft ≡ record { at = 64; records = 0 } → Drafts (Some kept) state bytes draft
 drafts_many kept s m state records bytes draft t e f many b l at =
     let d : differing kept.state state ≡ m / 4 = omega (arith, t.many) in
-    rw at (drafts_whole (Some kept) state bytes b l (λ piece. most kept.records s (m / 4) (differing kept.state state) (length piece) d e many))
+    rw at (drafts_whole (Some kept) state bytes b l (λ piece. most kept.records s (m / 4) (differing kept.state state) (length piece) d e many)
+    (λ old is. takes_as kept.records kept.state state old is ∙ above kept.records s (m / 4) (differing kept.state state) d e many))
   where
+    above : (n s c d : ℕ) → d ≡ c → s ≡ n → 4096 < s + c → nat_le (n + d) most_changes ≡ false
+    above n s c d e f many = grind (arith, nat_tests)
+
     most : (n s c d p : ℕ) → d ≡ c → s ≡ n → 4096 < s + c → 4224 + p ≤ (if nat_le (n + d) most_changes then 128 + p + 4 * d else 4224 + p)
     most n s c d p e f many = let h : nat_le (n + d) most_changes ≡ false = grind (arith, nat_tests) in rw h (omega arith)
 

@@ -3,7 +3,7 @@ use Rattle.std.proofs.Common.{◌≡◌, ℕ, ◌+◌, ◌-◌, ◌≤◌, ◌<�
 use Rattle.std.proofs.lemmas.List.{get_or-drop, get_or_append_left, ext_get_or, take_at, drop-drop}
 use Rattle.std.proofs.Math.Seq.{take-add}
 use Rattle.paw_stage.specs.Disk.{put}
-use Rattle.paw_journal.specs.Session.{stretch}
+use Rattle.paw_journal.specs.Session.{stretch, slot_head, rewritten}
 use Rattle.paw_journal.proofs.Parts.{stretch_at, length_stretch, stretch_same, length_put, put_below, put_above, drop_put}
 
 pub stretch_long : (at n : ℕ) (bytes : List ℕ) → at + n ≤ length bytes → length (stretch at n bytes) ≡ n
@@ -38,7 +38,7 @@ stretch_behind s m at new old e long =
     ∙ ap (λ l. stretch s m old ++ l) (ap (take (length new)) (drop-drop m s (put at new old))
     ∙ (ap (λ k. take (length new) (drop k (put at new old))) (sym e) ∙ stretch_written at new old (omega arith))))
 
-put_inside : (at : ℕ) (new old : List ℕ) (j : ℕ) → at ≤ length old → j < length new → get_or (put at new old) (at + j) 0 ≡ get_or new j 0
+pub put_inside : (at : ℕ) (new old : List ℕ) (j : ℕ) → at ≤ length old → j < length new → get_or (put at new old) (at + j) 0 ≡ get_or new j 0
 put_inside at new old j low h =
     sym (get_or-drop at (put at new old) j 0)
     ∙ (ap (λ l. get_or l j 0) (drop_put at new old low) ∙ get_or_append_left new (drop (at + length new) old) 0 j h)
@@ -82,3 +82,30 @@ put_nothing at new old none low = ext_get_or 0 old (put at new old) (sym (put_lo
 
     each : (at : ℕ) (new old : List ℕ) (i : ℕ) → length new ≡ 0 → at ≤ length old → get_or (put at new old) i 0 ≡ get_or old i 0
     each at new old i none low = elim (order i at) [ inl h ↦ put_below at new old i low h | inr h ↦ put_above at new old i low (omega arith) ]
+
+-- a slot that was written is as long as it was
+pub rewritten_long : (at records : ℕ) (new piece bytes : List ℕ) → at + length new ≤ 86080 → length piece ≤ 65535 →
+    length bytes ≡ 86080 → length (rewritten at new records piece bytes) ≡ 86080
+rewritten_long at records new piece bytes fits short long =
+    let one : length (put at new bytes) ≡ 86080 = put_long at new bytes (omega arith) ∙ long in
+    let two : length (put 4160 piece (put at new bytes)) ≡ 86080 = put_long 4160 piece (put at new bytes) (omega (arith, one)) ∙ one in
+    put_long 0 (slot_head records) (put 4160 piece (put at new bytes)) (omega (arith, two)) ∙ two
+
+-- bytes of which only a stretch isn't as it was were written there
+pub put_between : (at n : ℕ) (new old now : List ℕ) → length new ≡ n → at + n ≤ length old → length now ≡ length old →
+    ((i : ℕ) → (i < at) ⊎ (at + n ≤ i) → get_or now i 0 ≡ get_or old i 0) → stretch at n now ≡ new → now ≡ put at new old
+put_between at n new old now l fits long same e =
+    ext_get_or 0 now (put at new old) (long ∙ sym (put_long at new old (omega arith))) (λ i low. each i (order i))
+  where
+    order : (i : ℕ) → (i < at) ⊎ ((at + n ≤ i) ⊎ ((at ≤ i) × (i < at + n)))
+    order i = grind arith
+
+    each : (i : ℕ) → (i < at) ⊎ ((at + n ≤ i) ⊎ ((at ≤ i) × (i < at + n))) → get_or now i 0 ≡ get_or (put at new old) i 0
+    each i (inl h) = same i (inl h) ∙ sym (put_below at new old i (omega arith) h)
+    each i (inr (inl h)) = same i (inr h) ∙ sym (put_above at new old i (omega arith) (omega arith))
+    each i (inr (inr h)) =
+        let f : at + (i - at) ≡ i = omega arith in
+        ap (λ k. get_or now k 0) (sym f)
+        ∙ (sym (stretch_at at n now (i - at) (omega arith))
+        ∙ (ap (λ b. get_or b (i - at) 0) e
+        ∙ (sym (put_inside at new old (i - at) (omega arith) (omega arith)) ∙ ap (λ k. get_or (put at new old) k 0) f)))

@@ -1,5 +1,5 @@
 -- Change records that make one state of another.
-use Rattle.std.proofs.Common.{◌≡◌, ◌≢◌, ℕ, zero, suc, ◌+◌, ◌*◌, ◌≤◌, ◌<◌, Bool, true, false, List, [], ◌∷◌, ◌++◌, length, take, drop, refl, sym, ap, subst, ◌∙◌}
+use Rattle.std.proofs.Common.{◌≡◌, ◌≢◌, ℕ, zero, suc, ◌+◌, ◌*◌, ◌/◌, ◌%◌, ◌≤◌, ◌<◌, Bool, true, false, List, [], ◌∷◌, ◌++◌, length, take, drop, refl, sym, ap, subst, ◌∙◌}
 use Rattle.std.proofs.Common.{arith, add-one, get_or, append_assoc, append-nil}
 use Rattle.std.specs.Prelude.{Option, Some, None, cond, not, ◌==◌, if◌then◌else◌, slice_set}
 use Rattle.std.specs.List.{position_from}
@@ -8,7 +8,7 @@ use Rattle.std.proofs.lemmas.Iterator.Adapters.{position_from-zero}
 use Rattle.std.proofs.lemmas.List.{length-append, length-take-le, take_all, drop_all}
 use Rattle.std.proofs.Math.Seq.{take-suc, drop-cons, set-append_seam}
 use Rattle.paw_journal.specs.Session.{Change, changes, changed, is_sound, first_unsound}
-use Rattle.paw_journal.specs.Session.{differing}
+use Rattle.paw_journal.specs.Session.{differing, change_bytes, differences_from, differences}
 use Rattle.paw_journal.specs.inner.Steps.{Turns}
 
 pub changes-append : (n : ℕ) (a b : List ℕ) → length a ≡ 4 * n → changes (a ++ b) ≡ changes a ++ changes b
@@ -63,8 +63,31 @@ differing-append [] (z ∷ b) x y e = absurd (omega arith)
 differing-append (w ∷ a) [] x y e = absurd (omega arith)
 differing-append (w ∷ a) (z ∷ b) x y e = omega (arith, differing-append a b x y (omega arith))
 
+-- the change records from one place on, where the bytes there are the same, and where they differ
+difference_same : (old new : List ℕ) (i : ℕ) → length old ≡ length new → i < length old →
+    (get_or old i 0 == get_or new i 0) ≡ true →
+    differences_from i (drop i old) (drop i new) ≡ differences_from (suc i) (drop (suc i) old) (drop (suc i) new)
+unfolding differences_from
+difference_same old new i n low t =
+    let l : i < length new = omega arith in
+    ap (λ a. differences_from i a (drop i new)) (drop-cons old i 0 low)
+    ∙ (ap (λ b. differences_from i (get_or old i 0 ∷ drop (suc i) old) b) (drop-cons new i 0 l)
+    ∙ ap (λ c. (if c then [] else change_bytes i (get_or new i 0)) ++ differences_from (suc i) (drop (suc i) old) (drop (suc i) new)) t)
+
+difference_other : (old new : List ℕ) (i : ℕ) → length old ≡ length new → i < length old →
+    (get_or old i 0 == get_or new i 0) ≡ false →
+    differences_from i (drop i old) (drop i new)
+    ≡ change_bytes i (get_or new i 0) ++ differences_from (suc i) (drop (suc i) old) (drop (suc i) new)
+unfolding differences_from
+difference_other old new i n low t =
+    let l : i < length new = omega arith in
+    ap (λ a. differences_from i a (drop i new)) (drop-cons old i 0 low)
+    ∙ (ap (λ b. differences_from i (get_or old i 0 ∷ drop (suc i) old) b) (drop-cons new i 0 l)
+    ∙ ap (λ c. (if c then [] else change_bytes i (get_or new i 0)) ++ differences_from (suc i) (drop (suc i) old) (drop (suc i) new)) t)
+
 -- Change records that make so many bytes of one state those of another.
 pub record TurnsTo (old new : List ℕ) (i : ℕ) (records : List ℕ) : Type 0 where
+  pub exact : records ++ differences_from i (drop i old) (drop i new) ≡ differences old new
   pub many : length records ≡ 4 * differing (take i old) (take i new)
   pub few : length records ≤ 4 * i
   pub sound : first_unsound (changes records) ≡ None
@@ -73,6 +96,7 @@ pub record TurnsTo (old new : List ℕ) (i : ℕ) (records : List ℕ) : Type 0 
 pub turns_none : (old new records : List ℕ) → records ≡ [] → TurnsTo old new 0 records
 unfolding differing
 turns_none old new records e = record {
+  exact = ap (λ r. r ++ differences_from 0 old new) e;
   many = ap length e;
   few = omega (arith, ap length e);
   sound =
@@ -97,6 +121,7 @@ turns_same old new records i h n low e =
     let t : (get_or old i 0 == get_or new i 0) ≡ true = grind (arith, nat_tests) in
     let d = more old new i n low ∙ ap (λ b. differing (take i old) (take i new) + (if b then 0 else 1)) t in
     record {
+      exact = ap (λ l. records ++ l) (sym (difference_same old new i n low t)) ∙ h.exact;
       many = omega (arith, h.many, d);
       few = omega (arith, h.few);
       sound = h.sound;
@@ -110,20 +135,27 @@ turns_same old new records i h n low e =
 one_change : (x y z i : ℕ) → x + 256 * y ≡ i → changes (x ∷ y ∷ z ∷ 0 ∷ []) ≡ record { at = i; byte = z; last = 0 } ∷ []
 one_change x y z i e = ap (λ k. record { at = k; byte = z; last = 0 } ∷ []) e
 
-pub turns_other : (old new records now : List ℕ) (i x y z : ℕ) → TurnsTo old new i records → length old ≡ length new →
-    i < length old → i < 4096 → get_or old i 0 ≢ get_or new i 0 → x + 256 * y ≡ i → z ≡ get_or new i 0 →
-    now ≡ records ++ x ∷ y ∷ z ∷ 0 ∷ [] → TurnsTo old new (suc i) now
-turns_other old new records now i x y z h n low short ne p q e =
+pub turns_other : (old new records now : List ℕ) (i z : ℕ) → TurnsTo old new i records → length old ≡ length new →
+    i < length old → i < 4096 → get_or old i 0 ≢ get_or new i 0 → z ≡ get_or new i 0 →
+    now ≡ records ++ change_bytes i z → TurnsTo old new (suc i) now
+turns_other old new records now i z h n low short ne q e =
+    let p : i % 256 + 256 * (i / 256) ≡ i = omega arith in
+    let rest : List ℕ = differences_from (suc i) (drop (suc i) old) (drop (suc i) new) in
     let l : i < length new = omega arith in
     let t : (get_or old i 0 == get_or new i 0) ≡ false = grind (arith, nat_tests) in
     let d = more old new i n low ∙ ap (λ b. differing (take i old) (take i new) + (if b then 0 else 1)) t in
     let c : Change = record { at = i; byte = z; last = 0 } in
     let all : changes now ≡ changes records ++ c ∷ [] =
-    ap changes e ∙ (changes-append (differing (take i old) (take i new)) records (x ∷ y ∷ z ∷ 0 ∷ []) h.many
-    ∙ ap (λ l. changes records ++ l) (one_change x y z i p)) in
-    let m : length now ≡ length records + 4 = ap length e ∙ length-append records (x ∷ y ∷ z ∷ 0 ∷ []) in
+    ap changes e ∙ (changes-append (differing (take i old) (take i new)) records (change_bytes i z) h.many
+    ∙ ap (λ l. changes records ++ l) (one_change (i % 256) (i / 256) z i p)) in
+    let m : length now ≡ length records + 4 = ap length e ∙ length-append records (change_bytes i z) in
     let at : i ≡ length (take i new) = sym (length-take-le i new (omega arith)) in
     record {
+      exact =
+          ap (λ l. l ++ rest) e
+          ∙ (append_assoc records (change_bytes i z) rest
+          ∙ (ap (λ b. records ++ (change_bytes i b ++ rest)) q
+          ∙ (ap (λ l. records ++ l) (sym (difference_other old new i n low t)) ∙ h.exact)));
       many = omega (arith, h.many, d, m);
       few = omega (arith, h.few, m);
       sound = ap first_unsound all ∙ sound-append (changes records) (c ∷ []) h.sound (sound_one c short refl);
@@ -139,7 +171,9 @@ turns_other old new records now i x y z h n low short ne p q e =
     }
 
 pub turns_all : (old new records : List ℕ) (n : ℕ) → TurnsTo old new n records → length old ≡ n → length new ≡ n → Turns old new records
+unfolding differences_from
 turns_all old new records n h e f = record {
+  exact = sym (append-nil records) ∙ (ap (λ a. records ++ differences_from n a (drop n new)) (sym (drop_all n old (omega arith))) ∙ h.exact);
   many = h.many ∙ ap (λ a. 4 * differing a (take n new)) (take_all n old (omega arith)) ∙ ap (λ b. 4 * differing old b) (take_all n new (omega arith));
   sound = h.sound;
   turned = h.turned ∙ ap (λ l. l ++ drop n old) (take_all n new (omega arith)) ∙ ap (λ l. new ++ l) (drop_all n old (omega arith)) ∙ append-nil new;

@@ -1,8 +1,8 @@
 // The change records of a slot.
 
-ghost use Rattle.std.specs.Prelude.{◌≡◌, ◌+◌, ◌*◌, ◌/◌, ◌%◌, ◌<◌, ◌≤◌, [], ◌∷◌, ◌++◌, length, None, IfSome};
+ghost use Rattle.std.specs.Prelude.{◌≡◌, ◌+◌, ◌*◌, ◌<◌, ◌≤◌, [], ◌++◌, length, None, IfSome};
 ghost use Rattle.std.specs.Prelude.{vec_capacity};
-ghost use Rattle.paw_journal.specs.Session.{changes, changed, first_unsound};
+ghost use Rattle.paw_journal.specs.Session.{changes, changed, first_unsound, change_bytes};
 ghost use Rattle.paw_journal.specs.inner.Steps.{Turns};
 
 use crate::layout::BASE_LENGTH;
@@ -46,7 +46,7 @@ pub(crate) fn add_changes(old: &[u8; 4096], new: &[u8; 4096], records: &mut Vec<
 fn add_change(at: usize, byte: u8, records: &mut Vec<u8>)
     requires place { at < 4096 }
     requires room { length records.old.items + 4 ≤ vec_capacity records.old }
-    ensures added { records.new.items ≡ records.old.items ++ (at % 256) ∷ (at / 256) ∷ byte ∷ 0 ∷ [] }
+    ensures added { records.new.items ≡ records.old.items ++ change_bytes at byte }
     ensures capacity { vec_capacity records.old ≤ vec_capacity records.new }
 {
     let change = [(at % 256) as u8, (at / 256) as u8, byte, 0];

@@ -7,12 +7,11 @@ ghost use Rattle.paw_stage.specs.Stage.{Standing};
 ghost use Rattle.paw_stage.specs.inner.Stage.{WritesAtMost};
 ghost use Rattle.paw_stage.specs.Across.{Across, EachMoment, Serves};
 ghost use Rattle.paw_stage.specs.inner.Across.{Once, Throughout};
-ghost use Rattle.paw_journal.specs.Session.{chosen, session_length, slot_length, slot_head};
+ghost use Rattle.paw_journal.specs.Session.{session_length, slot_length, slot_head};
 ghost use Rattle.paw_journal.specs.inner.Room.{slot_number};
-ghost use Rattle.paw_journal.specs.inner.Store.{IsBeside, LeavesSame, LeavesSlot};
-ghost use Rattle.paw_journal.specs.inner.Steps.{IsMade, IsFilling, KeepsFilling, Fills};
-ghost use Rattle.paw_journal.specs.inner.Steps.{SameSlots, SameDigest, ChoosesSlot};
-ghost use Rattle.paw_journal.specs.inner.Steps.{written_slot};
+ghost use Rattle.paw_journal.specs.inner.Store.{IsBeside, HoldsStable, LeavesSame, LeavesSlot};
+ghost use Rattle.paw_journal.specs.inner.Steps.{IsSpare, IsFilling, KeepsFilling, Fills};
+ghost use Rattle.paw_journal.specs.inner.Steps.{WritesSlot, Chooses};
 ghost use Rattle.paw_journal.specs.Journal.{writing_calls};
 ghost use Rattle.paw_journal.specs.inner.Journal.{IsAtRest, failed_stage_call};
 
@@ -31,15 +30,12 @@ pub(crate) fn write_slot<S: Stage>(
     piece: &[u8],
 ) -> Result<(), StageCall>
     requires rests { S.Tells stage.old → IsAtRest (S.standing stage.old) }
-    requires made { S.Tells stage.old → IsMade (S.standing stage.old).disk.bytes }
-    requires beside { S.Tells stage.old → chosen (S.standing stage.old).disk.bytes ≡ 1 - slot_number which }
+    requires spare { S.Tells stage.old → IsSpare (slot_number which) (S.standing stage.old).disk.bytes }
     requires inside { draft.at + length bytes.now ≤ slot_length }
     requires short { length piece.now ≤ PIECE_LIMIT }
     ensures serves { Serves S.Stage writing_calls (failed_stage_call result) stage.old stage.new }
     ensures few { Across S.Stage stage.old stage.new (WritesAtMost (length bytes.now + length piece.now + 3)) }
-    ensures rests { S.Tells stage.old → OnOk result (IsAtRest (S.standing stage.new)) }
-    ensures filled { Once S.Stage stage.old stage.new result (IsFilling (slot_number which)) }
-    ensures written { Once S.Stage stage.old stage.new result (Fills which (written_slot draft bytes.now piece.now)) }
+    ensures written { Once S.Stage stage.old stage.new result (WritesSlot which draft bytes.now piece.now) }
     ensures beside { Across S.Stage stage.old stage.new IsBeside }
     ensures any_moment { Throughout S.Stage stage.old stage.new LeavesSame }
 {
@@ -87,11 +83,7 @@ pub(crate) fn choose<S: Stage>(stage: &mut S, which: Slot) -> Result<(), StageCa
     requires long { S.Tells stage.old → length (S.standing stage.old).disk.bytes ≡ session_length }
     ensures serves { Serves S.Stage writing_calls (failed_stage_call result) stage.old stage.new }
     ensures few { Across S.Stage stage.old stage.new (WritesAtMost 1) }
-    ensures rests { S.Tells stage.old → OnOk result (IsAtRest (S.standing stage.new)) }
-    ensures slots { Once S.Stage stage.old stage.new result SameSlots }
-    ensures chosen { S.Tells stage.old → OnOk result (chosen (S.standing stage.new).disk.bytes ≡ slot_number which) }
-    ensures shown { Once S.Stage stage.old stage.new result (ChoosesSlot which) }
-    ensures digest { Once S.Stage stage.old stage.new result SameDigest }
+    ensures chosen { Once S.Stage stage.old stage.new result (Chooses which) }
     ensures beside { Across S.Stage stage.old stage.new IsBeside }
     ensures any_moment { Throughout S.Stage stage.old stage.new (LeavesSlot which) }
 {

@@ -8,7 +8,7 @@ ghost use Rattle.paw_stage.specs.inner.Across.{Once, Throughout};
 ghost use Rattle.paw_journal.specs.Session.{recover, kept_digest, piece_length};
 ghost use Rattle.paw_journal.specs.inner.Written.{WritesLittle};
 ghost use Rattle.paw_journal.specs.inner.Store.{IsBeside, LeavesMade, LeavesOldOr};
-ghost use Rattle.paw_journal.specs.inner.Steps.{HoldsMade, ShowsIn, ShowsNext, SameDigest};
+ghost use Rattle.paw_journal.specs.inner.Steps.{HoldsMade, HoldsCommitted, ShowsIn, ShowsNext, SameDigest};
 ghost use Rattle.paw_journal.specs.Journal.{writing_calls};
 ghost use Rattle.paw_journal.specs.inner.Journal.{IsAtRest, KeptIn, Finds, failed_stage_call, refused_call};
 
@@ -135,6 +135,7 @@ impl Journal {
         ensures few { Across S.Stage stage.old stage.new (WritesLittle self.slot state.now piece.now) }
         ensures state { OnOk result (room.new.state ≡ state.now) }
         ensures piece { OnOk result (room.new.piece ≡ piece.now) }
+        ensures exact { Once S.Stage stage.old stage.new result (HoldsCommitted state.now piece.now) }
         ensures shown { Once S.Stage stage.old stage.new result (ShowsNext state.now piece.now) }
         ensures kept { S.Tells stage.old → IfOk result (λ journal. KeptIn journal room.new (S.standing stage.new)) }
         ensures digest { Once S.Stage stage.old stage.new result SameDigest }

@@ -1,5 +1,5 @@
 -- What the steps of a journal's calls leave.
-use Rattle.std.specs.Prelude.{◌≡◌, ◌⊎◌, ℕ, ◌+◌, ◌-◌, ◌*◌, ◌<◌, ◌≤◌, List, length, slice_index, true}
+use Rattle.std.specs.Prelude.{◌≡◌, ◌⊎◌, ℕ, ◌+◌, ◌-◌, ◌*◌, ◌<◌, ◌≤◌, List, [], ◌∷◌, length, slice_index, true}
 use Rattle.std.specs.Prelude.{false, Option, Some, None}
 use Rattle.paw_base.specs.declared.limits.TheConstants.{PIECE_LIMIT}
 use Rattle.paw_stage.specs.Disk.{Disk, is_dirty, put}
@@ -12,10 +12,10 @@ use Rattle.paw_journal.specs.Session.{session_length, header_length, slot_length
 use Rattle.paw_journal.specs.Session.{is_version}
 use Rattle.paw_journal.specs.Session.{kept_digest, changes, changed, first_unsound, slot, recover}
 use Rattle.paw_journal.specs.inner.Session.{session_shown}
-use Rattle.paw_journal.specs.Session.{made_session, differing, slot_head}
+use Rattle.paw_journal.specs.Session.{made_session, differing, differences, rewritten, committed_slot, committed}
 use Rattle.paw_journal.specs.inner.Room.{slot_number, kept_slot}
 use Rattle.paw_journal.specs.inner.Written.{most_written}
-use Rattle.paw_journal.specs.inner.Store.{IsBeside, shown_by}
+use Rattle.paw_journal.specs.inner.Store.{IsBeside, HoldsStable}
 
 -- A session is made of these bytes.
 pub record IsMade (bytes : List ℕ) : Type 0 where
@@ -60,20 +60,18 @@ pub record IsFilling (k : ℕ) (old new : Standing) : Type 0 where
 abbrev pub KeepsFilling : ℕ → Standing → Standing → Type 0
 KeepsFilling k old new = (first : Standing) → IsFilling k first old → IsFilling k first new
 
+-- A session is made of the store's bytes, and this slot isn't in use.
+pub record IsSpare (k : ℕ) (bytes : List ℕ) : Type 0 where
+  pub made : IsMade bytes
+  pub other : chosen bytes ≡ 1 - k
+
 -- A slot is what this makes of it.
 abbrev pub Fills : Slot → (List ℕ → List ℕ) → Standing → Standing → Type 0
 Fills which filled old new = slot (slot_number which) new.disk.bytes ≡ filled (slot (slot_number which) old.disk.bytes)
 
--- Both slots are as they were, and the digest of the game is.
-abbrev pub SameSlots : Standing → Standing → Type 0
-SameSlots old new = (k : ℕ) → k < 2 → slot k new.disk.bytes ≡ slot k old.disk.bytes
-
+-- The digest of the game is as it was.
 abbrev pub SameDigest : Standing → Standing → Type 0
 SameDigest old new = kept_digest new.disk.bytes ≡ kept_digest old.disk.bytes
-
--- The session shows what this slot showed.
-abbrev pub ChoosesSlot : Slot → Standing → Standing → Type 0
-ChoosesSlot which old new = recover new.disk.bytes ≡ shown_by (slot_number which) old
 
 -- The session shows this state and this piece, of the game of this digest.
 abbrev pub ShowsIn : List ℕ → List ℕ → List ℕ → Standing → Type 0
@@ -82,6 +80,10 @@ ShowsIn digest state piece s = recover s.disk.bytes ≡ session_shown digest sta
 -- The session shows this state and this piece, of the game that it is of.
 abbrev pub ShowsNext : List ℕ → List ℕ → Standing → Standing → Type 0
 ShowsNext state piece old new = ShowsIn (kept_digest old.disk.bytes) state piece new
+
+-- The store holds the session as a commit of this state and this piece leaves it.
+abbrev pub HoldsCommitted : List ℕ → List ℕ → Standing → Standing → Type 0
+HoldsCommitted state piece old new = new.disk.bytes ≡ committed state piece old.disk.bytes
 
 -- The store holds the session as it is made.
 abbrev pub HoldsMade : List ℕ → List ℕ → List ℕ → Standing → Type 0
@@ -93,18 +95,35 @@ IsHeaderOf bytes header = Introduces (slot_number header.slot) header.digest byt
 
 -- Change records that make one state of another, one for each position that differs.
 pub record Turns (old new records : List ℕ) : Type 0 where
+  pub exact : records ≡ differences old new
   pub many : length records ≡ 4 * differing old new
   pub sound : first_unsound (changes records) ≡ None
   pub turned : changed (changes records) old ≡ new
 
 -- The bytes of a slot once a commit has written it.
 abbrev pub written_slot : Draft → List ℕ → List ℕ → List ℕ → List ℕ
-written_slot draft bytes piece old = put 0 (slot_head draft.records) (put 4160 piece (put draft.at bytes old))
+written_slot draft bytes piece old = rewritten draft.at bytes draft.records piece old
 
--- What a commit writes into a slot beside its head and the piece: so that the slot has this state, and no more bytes
--- than a commit may write.
+-- The bytes of a session once a commit has written this slot, and not chosen it yet; and once this slot is chosen.
+abbrev pub written_session : ℕ → Draft → List ℕ → List ℕ → List ℕ → List ℕ
+written_session k draft bytes piece old = put (start_of k) (written_slot draft bytes piece (slot k old)) old
+
+abbrev pub chosen_session : ℕ → List ℕ → List ℕ
+chosen_session k old = put 1 (k ∷ []) old
+
+-- The store holds such a session, and a crash leaves just its bytes.
+abbrev pub WritesSlot : Slot → Draft → List ℕ → List ℕ → Standing → Standing → Type 0
+WritesSlot which draft bytes piece old new =
+    HoldsStable (written_session (slot_number which) draft bytes piece old.disk.bytes) new
+
+abbrev pub Chooses : Slot → Standing → Standing → Type 0
+Chooses which old new = HoldsStable (chosen_session (slot_number which) old.disk.bytes) new
+
+-- What a commit writes into a slot beside its head and the piece: so that the slot is what a commit makes of it, has this
+-- state, and no more bytes are written than a commit may write.
 pub record Drafts (kept : Option SlotState) (state bytes : List ℕ) (draft : Draft) : Type 0 where
   pub inside : draft.at + length bytes ≤ slot_length
+  pub exact : (old piece : List ℕ) → kept_slot old ≡ kept → written_slot draft bytes piece old ≡ committed_slot state piece old
   pub gives : (old piece : List ℕ) → length old ≡ slot_length → kept_slot old ≡ kept → length piece ≤ PIECE_LIMIT →
       kept_slot (written_slot draft bytes piece old) ≡ Some (record { records = draft.records; state = state })
   pub few : (piece : List ℕ) → length bytes + length piece + 4 ≤ most_written kept state piece
