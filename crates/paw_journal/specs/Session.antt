@@ -206,8 +206,8 @@ differences old new = differences_from 0 old new
 abbrev pub slot_head : ℕ → List ℕ
 slot_head records = (records % 256) ∷ (records / 256) ∷ 2 ∷ []
 
--- A slot that is of version 2 from now on, with so many change records, this piece, and these bytes from a place on. All
--- its other bytes are as they were.
+-- A slot that is of version 2 from now on, with so many change records, this piece, and these bytes from a place on.
+-- All its other bytes are as they were.
 abbrev pub rewritten : ℕ → List ℕ → ℕ → List ℕ → List ℕ → List ℕ
 rewritten at new records piece bytes = put 0 (slot_head records) (put 4160 piece (put at new bytes))
 

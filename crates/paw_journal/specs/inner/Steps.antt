@@ -104,26 +104,29 @@ pub record Turns (old new records : List ℕ) : Type 0 where
 abbrev pub written_slot : Draft → List ℕ → List ℕ → List ℕ → List ℕ
 written_slot draft bytes piece old = rewritten draft.at bytes draft.records piece old
 
--- The bytes of a session once a commit has written this slot, and not chosen it yet; and once this slot is chosen.
+-- The bytes of a session once a commit has written this slot, and not chosen it yet.
 abbrev pub written_session : ℕ → Draft → List ℕ → List ℕ → List ℕ → List ℕ
 written_session k draft bytes piece old = put (start_of k) (written_slot draft bytes piece (slot k old)) old
 
+-- The bytes of a session once this slot is chosen.
 abbrev pub chosen_session : ℕ → List ℕ → List ℕ
 chosen_session k old = put 1 (k ∷ []) old
 
--- The store holds such a session, and a crash leaves just its bytes.
+-- A commit has written this slot, and not chosen it yet: a crash leaves just the bytes of such a session.
 abbrev pub WritesSlot : Slot → Draft → List ℕ → List ℕ → Standing → Standing → Type 0
 WritesSlot which draft bytes piece old new =
     HoldsStable (written_session (slot_number which) draft bytes piece old.disk.bytes) new
 
+-- This slot is chosen, and a crash leaves just that.
 abbrev pub Chooses : Slot → Standing → Standing → Type 0
 Chooses which old new = HoldsStable (chosen_session (slot_number which) old.disk.bytes) new
 
--- What a commit writes into a slot beside its head and the piece: so that the slot is what a commit makes of it, has this
--- state, and no more bytes are written than a commit may write.
+-- What a commit writes into a slot beside its head and the piece: so that the slot is what a commit makes of it, has
+-- this state, and no more bytes are written than a commit may write.
 pub record Drafts (kept : Option SlotState) (state bytes : List ℕ) (draft : Draft) : Type 0 where
   pub inside : draft.at + length bytes ≤ slot_length
-  pub exact : (old piece : List ℕ) → kept_slot old ≡ kept → written_slot draft bytes piece old ≡ committed_slot state piece old
+  pub exact : (old piece : List ℕ) → kept_slot old ≡ kept →
+      written_slot draft bytes piece old ≡ committed_slot state piece old
   pub gives : (old piece : List ℕ) → length old ≡ slot_length → kept_slot old ≡ kept → length piece ≤ PIECE_LIMIT →
       kept_slot (written_slot draft bytes piece old) ≡ Some (record { records = draft.records; state = state })
   pub few : (piece : List ℕ) → length bytes + length piece + 4 ≤ most_written kept state piece

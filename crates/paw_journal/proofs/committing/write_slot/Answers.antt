@@ -46,7 +46,8 @@ returns-clause-written g c tells =
     ∙ (ap (λ h. put 0 h (slot k (g.S.Stage.standing c.write_part-2.new.stage).disk.bytes)) c.head_of.ensures
     ∙ ap (put 0 (slot_head c.args.draft.records)) two) in
     on_ok_weaker c.sync.result (filled_stable k _ s (g.S.Stage.standing c.write_part-3.new.stage)
-    (g.S.Stage.standing c.sync.new.stage) full (rewritten_long c.args.draft.at c.args.draft.records c.args.bytes.now c.args.piece.now _ c.requires.inside c.requires.short
+    (g.S.Stage.standing c.sync.new.stage) full
+    (rewritten_long c.args.draft.at c.args.draft.records c.args.bytes.now c.args.piece.now _ c.requires.inside c.requires.short
     (slot_long k s.disk.bytes (slot_small c.args.which) (c.requires.spare tells).made.long)) three)
     (c.sync.ensures.synced (c.write_part-3.ensures.serves.tells.0 last))
 
