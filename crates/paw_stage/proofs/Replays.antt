@@ -63,6 +63,13 @@ take_push (suc t) [] d h = absurd (omega arith)
 take_push (suc t) (x ∷ ds) d h =
     let k : (take t (ds ++ d ∷ []) ≡ take t ds) × (drop t (ds ++ d ∷ []) ≡ drop t ds ++ d ∷ []) = take_push t ds d (omega arith) in (ap (λ l. x ∷ l) k.0, k.1)
 
+-- what stood inside the last call stood since each time up to it
+since_each : (ds : List DoneCall) (d : DoneCall) (m : Moment) → StandsInside (after fresh ds) d m → (u : ℕ) → u ≤ length ds → since_of (ds ++ d ∷ []) u m
+since_each ds d m h u early = inr (let q = take_push u ds d early in
+    subst (λ l. StoodInside (after fresh l) (drop u (ds ++ d ∷ [])) m) (sym q.0)
+    (subst (λ l. StoodInside (after fresh (take u ds)) l m) (sym q.1)
+    (last (after fresh (take u ds)) (drop u ds) d m (subst (λ s. StandsInside s d m) (sym (after_split fresh u ds)) h))))
+
 -- one call more
 pub passes : (ds : List DoneCall) (d : DoneCall) → Passes (length ds) (length (ds ++ d ∷ [])) (since_of ds) (since_of (ds ++ d ∷ []))
     (StandsInside (after fresh ds) d)
@@ -70,13 +77,15 @@ passes ds d =
     record {
       later = omega (arith, length-append ds (d ∷ []));
       nothing_else = λ t m low h. elim h [
-        | inl k ↦ inr (ends d.kind d.name d.bytes (after fresh ds) m (subst (λ s. m ≡ moment_of s) (after-push fresh ds d) k))
+        | inl k ↦
+            let j = ends d.kind d.name d.bytes (after fresh ds) m (subst (λ s. m ≡ moment_of s) (after-push fresh ds d) k) in
+            inr (since_each ds d m j, j)
         | inr k ↦ let q = take_push t ds d low in
             elim (split (after fresh (take t ds)) (drop t ds) d m
             (subst (λ l. StoodInside (after fresh (take t ds)) l m) q.1
             (subst (λ l. StoodInside (after fresh l) (drop t (ds ++ d ∷ [])) m) q.0 k))) [
               | inl j ↦ inl (inr j)
-              | inr j ↦ inr (subst (λ s. StandsInside s d m) (after_split fresh t ds) j)
+              | inr j ↦ let i = subst (λ s. StandsInside s d m) (after_split fresh t ds) j in inr (since_each ds d m i, i)
             ]
       ];
       keeps = λ t m low h. inr (let q = take_push t ds d low in

@@ -18,10 +18,11 @@ abbrev pub moment_of : Standing → Moment
 moment_of s = record { files = s.files; asked = s.asked; shown = s.shown; attached = s.attached; disk = s.disk }
 
 -- The time and the moments since a time, before a call and after it. The moments after it are those before and those
--- inside the call.
+-- inside the call, which are moments since each time up to the call.
 pub record Passes (before now : ℕ) (past since : ℕ → Moment → Type 0) (Inside : Moment → Type 0) : Type 0 where
   pub later : before ≤ now
-  pub nothing_else : (t : ℕ) (m : Moment) → t ≤ before → since t m → past t m ⊎ Inside m
+  pub nothing_else : (t : ℕ) (m : Moment) → t ≤ before → since t m →
+      past t m ⊎ (((u : ℕ) → u ≤ before → since u m) × Inside m)
   pub keeps : (t : ℕ) (m : Moment) → t ≤ before → past t m → since t m
 
 -- The moments of a call, or of several, are those before, and besides only such ones. `clock` and `since` tell the time
