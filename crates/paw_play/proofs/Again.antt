@@ -6,7 +6,7 @@ use Rattle.paw_effects.specs.Story.{Story}
 use Rattle.paw_game.specs.Valid.{Valid}
 use Rattle.paw_stage.specs.Disk.{MayLeave, stable}
 use Rattle.paw_stage.specs.Stage.{Standing}
-use Rattle.paw_stage.specs.Moments.{Moment, moment_of, InAttach, Still}
+use Rattle.paw_stage.specs.Moments.{Moment, moment_of, Still}
 use Rattle.paw_reading.specs.Turn.{text_of}
 use Rattle.paw_journal.specs.Session.{recover}
 use Rattle.paw_state.specs.State.{State}
@@ -20,11 +20,10 @@ use Rattle.paw_journal.specs.declared.refusal.JournalRefusal.TheVariants as refu
 use Rattle.paw_play.specs.Calls.{session_calls}
 use Rattle.paw_play.specs.inner.Calls.{IsNotForCall, call_of_end}
 use Rattle.paw_play.specs.Session.{IsKept}
-use Rattle.paw_play.specs.Play.{InPlay, InAgain, ShowsState, attached_to, store_bytes, going_on, kept_session, PlaysAgain, refused, unread}
+use Rattle.paw_play.specs.Play.{InPlay, ShowsState, attached_to, store_bytes, going_on, kept_session, PlaysAgain, refused, unread}
 use Rattle.paw_play.specs.inner.OnTheWay.{end_of}
-use Rattle.paw_stage.proofs.Attaches.{AttachParts, attach_parts}
 use Rattle.paw_journal.proofs.Disks.{stable_is, stable_leaves}
-use Rattle.paw_play.proofs.Attaching.{files_so, other_file, playing_from}
+use Rattle.paw_play.proofs.Attaching.{other_file, playing_from}
 use Rattle.paw_journal.proofs.Serving.{serves_among}
 use Rattle.paw_play.proofs.Showing.{state_kept}
 
@@ -53,28 +52,21 @@ module _ (g : Story) (digest name : List ℕ) (st : State) (piece : List ℕ) (o
     );
   }
 
-  -- inside the attach
-  pub in_again_attach : (new : Standing) (m : Moment) → new ≡ attached_to old name → InAttach old new name m →
-      InAgain (kept_session g st piece digest name) old m
-  in_again_attach new m is i =
-      let p : AttachParts old new name m = attach_parts old new name m is i in
-      elim p.store [
-        | inl before ↦ inl (record { asked = p.asked; shown = p.shown; files = p.files; store = inl before })
-        | inr after ↦ inr (at_attached m p.asked p.shown (after.0 ∙ ap (λ (q : Standing). q.attached) is)
-            (λ n ne. files_so old name m.files n ne p.files) (after.1 ∙ ap (λ (q : Standing). q.disk) is))
-      ]
-
   -- while the session is found
-  pub in_finding : (new : Standing) (m : Moment) → new ≡ attached_to old name → Still new m → InAgain (kept_session g st piece digest name) old m
+  pub in_finding : (new : Standing) (m : Moment) → new ≡ attached_to old name → Still new m → InPlay (kept_session g st piece digest name) old m
   in_finding new m is e =
       let k : m ≡ moment_of (attached_to old name) = e ∙ ap moment_of is in
-      inr (at_attached m (ap (λ (q : Moment). q.asked) k) (ap (λ (q : Moment). q.shown) k)
+      at_attached m (ap (λ (q : Moment). q.asked) k) (ap (λ (q : Moment). q.shown) k)
       (ap (λ (q : Moment). q.attached) k) (λ n ne. ap (λ (q : Moment). q.files n) k ∙ other_file old name n ne)
-      (ap (λ (q : Moment). q.disk) k))
+      (ap (λ (q : Moment). q.disk) k)
+
+  -- where the attach is done
+  pub at_again_attach : (new : Standing) → new ≡ attached_to old name → InPlay (kept_session g st piece digest name) old (moment_of new)
+  at_again_attach new is = in_finding new (moment_of new) is refl
 
   -- once it is found
-  pub in_taking_up : (m : Moment) → InPlay (kept_session g st piece digest name) (attached_to old name) m → InAgain (kept_session g st piece digest name) old m
-  in_taking_up m i = inr (playing_from _ _ st.events name old m i)
+  pub in_taking_up : (m : Moment) → InPlay (kept_session g st piece digest name) (attached_to old name) m → InPlay (kept_session g st piece digest name) old m
+  in_taking_up m i = playing_from _ _ st.events name old m i
 
 -- ---- where there is no session ----
 

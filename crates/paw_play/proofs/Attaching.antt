@@ -1,15 +1,14 @@
 -- The attach of a session's store.
-use Rattle.std.proofs.Common.{◌≡◌, ◌≢◌, ℕ, List, [], ◌∷◌, Option, Some, None, Ok, refl, sym, ap, ◌∙◌, subst, length, inl, inr, ◌⊎◌}
+use Rattle.std.proofs.Common.{◌≡◌, ◌≢◌, ℕ, List, [], ◌∷◌, Option, Some, None, Ok, refl, sym, ap, ◌∙◌, subst, length, inl}
 use Rattle.paw_effects.specs.Story.{Story}
 use Rattle.paw_stage.specs.Disk.{MayLeave, stable}
 use Rattle.paw_stage.specs.Stage.{Standing, Files, bytes_or_none, made_if_missing, AttachesTo}
-use Rattle.paw_stage.specs.Moments.{Moment, InAttach}
-use Rattle.paw_stage.proofs.Attaches.{AttachParts, attach_parts}
+use Rattle.paw_stage.specs.Moments.{Moment, moment_of}
 use Rattle.paw_stage.proofs.Names.{holds_same, holds_other}
 use Rattle.paw_journal.proofs.Disks.{stable_is, stable_leaves}
 use Rattle.paw_journal.specs.Session.{IsUnmade, recover, recover_by}
 use Rattle.paw_play.specs.Keeping.{InSession, InMakingOf}
-use Rattle.paw_play.specs.Play.{InGame, attached_to, store_bytes}
+use Rattle.paw_play.specs.Play.{InNewGame, attached_to, store_bytes}
 use Rattle.paw_play.specs.inner.OnTheWay.{IsStore}
 use Rattle.paw_play.proofs.Mapped.{in_session_as}
 
@@ -49,29 +48,18 @@ none_unmade image e = rw e tt
 
 -- ---- moments ----
 
-pub files_so : (old : Standing) (name : List ℕ) (files : Files) (n : List ℕ) → n ≢ name →
-    (files ≡ old.files) ⊎ (files ≡ made_if_missing name (old.files name) old.files) → files n ≡ old.files n
-files_so old name files n ne (inl e) = ap (λ (f : Files). f n) e
-files_so old name files n ne (inr e) = ap (λ (f : Files). f n) e ∙ other_file old name n ne
-
--- inside the attach of an empty store
-pub in_new_attach : (g : Story) (seed : ℕ) (name : List ℕ) (old new : Standing) (m : Moment) →
-    new ≡ attached_to old name → store_bytes old name ≡ [] → InAttach old new name m →
-    InGame g seed name old m
-in_new_attach g seed name old new m is empty i =
-    let p : AttachParts old new name m = attach_parts old new name m is i in
-    elim p.store [
-      | inl before ↦ inl (record { asked = p.asked; shown = p.shown; files = p.files; store = inl before })
-      | inr after ↦ inr (inl (record {
-        asked = p.asked;
-        shown = p.shown;
-        attached = after.0 ∙ ap (λ (q : Standing). q.attached) is;
-        files = λ n ne. files_so old name m.files n ne p.files;
-        leaves = λ image may. inl (none_unmade image
-            (stable_leaves (stable (store_bytes old name)) image (stable_is (store_bytes old name))
-            (subst (λ d. MayLeave d image) (after.1 ∙ ap (λ (q : Standing). q.disk) is) may) ∙ empty));
-      }))
-    ]
+-- an empty store was attached
+pub at_new_attach : (g : Story) (seed : ℕ) (name : List ℕ) (old new : Standing) → new ≡ attached_to old name → store_bytes old name ≡ [] →
+    InNewGame g seed name old (moment_of new)
+at_new_attach g seed name old new is empty = inl (record {
+  asked = ap (λ (q : Standing). q.asked) is;
+  shown = ap (λ (q : Standing). q.shown) is;
+  attached = ap (λ (q : Standing). q.attached) is;
+  files = λ n ne. ap (λ (q : Standing). q.files n) is ∙ other_file old name n ne;
+  leaves = λ image may. inl (none_unmade image
+      (stable_leaves (stable (store_bytes old name)) image (stable_is (store_bytes old name))
+      (subst (λ d. MayLeave d image) (ap (λ (q : Standing). q.disk) is) may) ∙ empty));
+})
 
 -- what holds from the attached store on holds from before the attach
 pub making_from : (Kept : ℕ → List ℕ → Type 0) (name : List ℕ) (old : Standing) (m : Moment) →

@@ -13,7 +13,7 @@ use Rattle.paw_play.specs.declared.PlayEnd.{PlayEnd}
 use Rattle.paw_play.specs.Session.{IsKept}
 use Rattle.paw_play.specs.Walk.{first_lines}
 use Rattle.paw_play.specs.Stands.{StandsWith, text_since}
-use Rattle.paw_play.specs.Play.{KeptBy, InPlay, InGame, PlaysIn, attached_to}
+use Rattle.paw_play.specs.Play.{KeptBy, InPlay, InNewGame, PlaysIn, attached_to}
 use Rattle.paw_play.specs.inner.OnTheWay.{InMaking, PlaysInStore, new_session}
 use Rattle.paw_play.proofs.Attaching.{making_from, playing_from}
 use Rattle.paw_play.proofs.Mapped.{in_session_by, making_by, plays_in_by}
@@ -46,13 +46,13 @@ module _ (g : Story) (seed : ℕ) (digest name : List ℕ) (is : digest ≡ sha2
   -- and its moments
   pub in_game : (m : Moment) → InMaking (new_session g seed digest name) (attached_to old name) m
       ⊎ InPlay (new_session g seed digest name) (attached_to old name) m →
-      InGame g seed name old m
+      InNewGame g seed name old m
   in_game m (inl i) =
-      inr (inl (making_by (KeptBy (new_session g seed digest name) old.lines) (StandsWith g seed [] old.lines) name old
+      inl (making_by (KeptBy (new_session g seed digest name) old.lines) (StandsWith g seed [] old.lines) name old
       (new_stands g seed digest name is old.lines) m
-      (making_from (KeptBy (new_session g seed digest name) old.lines) name old m i)))
+      (making_from (KeptBy (new_session g seed digest name) old.lines) name old m i))
   in_game m (inr i) =
-      inr (inr (in_session_by (KeptBy (new_session g seed digest name) old.lines) (StandsWith g seed [] old.lines) 0 name
+      inr (in_session_by (KeptBy (new_session g seed digest name) old.lines) (StandsWith g seed [] old.lines) 0 name
       old (new_stands g seed digest name is old.lines)
       (λ n. text_of (reading g seed (first_lines n old.lines))) (text_since g seed [] old.lines) (λ n. refl) m
-      (playing_from (KeptBy (new_session g seed digest name) old.lines) (λ n. text_of (reading g seed (first_lines n old.lines))) 0 name old m i)))
+      (playing_from (KeptBy (new_session g seed digest name) old.lines) (λ n. text_of (reading g seed (first_lines n old.lines))) 0 name old m i))

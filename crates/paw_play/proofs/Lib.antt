@@ -3,11 +3,13 @@ pub mod Walking
 mod States
 mod Kept
 mod Resting
+mod Written
 mod Following
 mod Lines
 mod Playing
 mod Beginning
 mod Begun
+mod Parts
 mod Attaching
 mod Mapped
 mod Games

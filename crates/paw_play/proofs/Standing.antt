@@ -30,7 +30,7 @@ use Rattle.paw_play.specs.Walk.{first_lines}
 use Rattle.paw_play.specs.Stands.{Stands, StandsWith, IsPlayedWith, text_since, reading_since}
 use Rattle.paw_play.specs.Keeping.{KeepsUpWith, InSession}
 use Rattle.paw_play.specs.Play.{PlaysWith, PlaysOn, KeptBy, ShowsState, Refuses, PlaysUp, no_state, plays_on, PlaysAgain, refused, wanting, plays_up}
-use Rattle.paw_play.specs.Play.{GoesOn, memory, unattached, unread, plays, InAgain, InGoingOn, going_on, kept_session, attached_to, store_bytes}
+use Rattle.paw_play.specs.Play.{GoesOn, memory, unattached, unread, plays, InPlay, InPlayedOn, going_on, kept_session, attached_to, store_bytes}
 use Rattle.paw_play.specs.Laws.{ShowsSome, StandingShows, StandingGoesOn, Round, AreKept, left_after, RoundsStand}
 use Rattle.paw_play.proofs.Games.{count_lines}
 use Rattle.paw_play.proofs.Going.{IsSettled, goes_on, text_since_is, whole_kept}
@@ -84,13 +84,12 @@ module _ (g : Story) (seed : ℕ) (es : List (List ℕ)) (bytes : List ℕ) (st 
   text_is : (lines : List (List ℕ)) (n : ℕ) → text_of (going_on g st piece (first_lines n lines)) ≡ text_since g seed es lines n
   text_is lines n = ap text_of (goes (first_lines n lines)) ∙ text_since_is (length es) (reading g seed (es ++ first_lines n lines))
 
-  pub in_going_on : (old : Standing) (m : Moment) → InAgain (kept_session g st piece (sha256 (image g.game)) name) old m → InGoingOn g seed es name old m
-  in_going_on old m (inl i) = inl i
-  in_going_on old m (inr i) =
-      inr (subst (λ past. InSession (StandsWith g seed es old.lines) (text_since g seed es old.lines) past name old m) counts
+  pub in_played_on : (old : Standing) (m : Moment) → InPlay (kept_session g st piece (sha256 (image g.game)) name) old m → InPlayedOn g seed es name old m
+  in_played_on old m i =
+      subst (λ past. InSession (StandsWith g seed es old.lines) (text_since g seed es old.lines) past name old m) counts
       (in_session_by (KeptBy (kept_session g st piece (sha256 (image g.game)) name) old.lines) (StandsWith g seed es old.lines) st.events name old
       (kept_stands old.lines)
-      (λ n. text_of (going_on g st piece (first_lines n old.lines))) (text_since g seed es old.lines) (text_is old.lines) m i))
+      (λ n. text_of (going_on g st piece (first_lines n old.lines))) (text_since g seed es old.lines) (text_is old.lines) m i)
 
   going_plays : (old new : Standing) (o : PlayEnd) → PlaysOn (kept_session g st piece (sha256 (image g.game)) name) (EVENT_LIMIT - st.events) old new o →
       PlaysWith (StandsWith g seed es old.lines) (reading_since g seed es) (length es) name (EVENT_LIMIT - length es) old new o

@@ -49,7 +49,7 @@ ShowsAs whole most old new o = Walks whole most (with_store new old) new o
 pub record PlaysWith (Kept : ℕ → List ℕ → Type 0) (whole : EndingOf) (past : ℕ) (name : List ℕ) (most : ℕ)
     (old new : Standing) (o : PlayEnd) : Type 0 where
   pub shows : ShowsAs whole most old new o
-  pub session : LeavesStore Kept past name old new o
+  pub session : LeavesStore Kept whole past name old new o
 
 -- ---- a store from its attach on ----
 
@@ -100,11 +100,15 @@ pub data PlaysFirst (Kept : ℕ → List ℕ → Type 0) (whole : EndingOf) (nam
 abbrev pub PlaysGame : Story → ℕ → List ℕ → Standing → Standing → PlayEnd → Type 0
 PlaysGame g seed name old new o = PlaysFirst (StandsWith g seed [] old.lines) (reading g seed) name old new o
 
--- a moment of it: its store isn't attached yet, or its session is being made, or it is played
+-- a moment of it once its store is attached: its session is being made, or it is played
+abbrev pub InNewGame : Story → ℕ → List ℕ → Standing → Moment → Type 0
+InNewGame g seed name old m =
+    InMakingOf (StandsWith g seed [] old.lines) name old m
+    ⊎ InSession (StandsWith g seed [] old.lines) (text_since g seed [] old.lines) 0 name old m
+
+-- a moment of it: its store isn't attached yet, or it is
 abbrev pub InGame : Story → ℕ → List ℕ → Standing → Moment → Type 0
-InGame g seed name old m =
-    NotYet name old m ⊎ (InMakingOf (StandsWith g seed [] old.lines) name old m
-    ⊎ InSession (StandsWith g seed [] old.lines) (text_since g seed [] old.lines) 0 name old m)
+InGame g seed name old m = NotYet name old m ⊎ InNewGame g seed name old m
 
 -- ---- a session that is taken up again, by the lines of its game ----
 
@@ -119,11 +123,14 @@ pub data GoesOn (g : Story) (seed : ℕ) (es : List (List ℕ)) (name : List ℕ
       (EVENT_LIMIT - length es) (attached_to old name) new o →
       GoesOn g seed es name old new o
 
--- a moment of it: its store isn't attached yet, or it is played
+-- a moment of it once its store is attached: it is played
+abbrev pub InPlayedOn : Story → ℕ → List (List ℕ) → List ℕ → Standing → Moment → Type 0
+InPlayedOn g seed es name old m =
+    InSession (StandsWith g seed es old.lines) (text_since g seed es old.lines) (length es) name old m
+
+-- a moment of it: its store isn't attached yet, or it is
 abbrev pub InGoingOn : Story → ℕ → List (List ℕ) → List ℕ → Standing → Moment → Type 0
-InGoingOn g seed es name old m =
-    NotYet name old m
-    ⊎ InSession (StandsWith g seed es old.lines) (text_since g seed es old.lines) (length es) name old m
+InGoingOn g seed es name old m = NotYet name old m ⊎ InPlayedOn g seed es name old m
 
 -- ---- a session that is taken up again, by the state that its store shows ----
 
@@ -205,7 +212,3 @@ pub data PlaysAgain (g : Story) (digest name : List ℕ) (old new : Standing) : 
   refused : (r : JournalRefusal) → Refuses digest (store_bytes old name) r → new ≡ attached_to old name →
       PlaysAgain g digest name old new (end.Refused r)
   plays_up : (o : PlayEnd) → PlaysUp g digest name (attached_to old name) new o → PlaysAgain g digest name old new o
-
--- a moment of a session that is taken up again: its store isn't attached yet, or it is played
-abbrev pub InAgain : PlayedSession → Standing → Moment → Type 0
-InAgain s old m = NotYet s.name old m ⊎ InPlay s old m

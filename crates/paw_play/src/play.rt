@@ -5,11 +5,11 @@ ghost use Rattle.sha2.specs.Sha256.{sha256};
 ghost use Rattle.paw_base.specs.declared.limits.TheConstants.{EVENT_LIMIT, READ_LIMIT};
 ghost use Rattle.paw_game.specs.Image.{image};
 ghost use Rattle.paw_stage.specs.Disk.{IsStable};
-ghost use Rattle.paw_stage.specs.Across.{Across, EachMoment, Serves};
+ghost use Rattle.paw_stage.specs.Across.{Across, EachMoment, InTwoParts, Serves};
 ghost use Rattle.paw_routines.specs.Routines.{HaveRows};
 ghost use Rattle.paw_turn.specs.inner.Player.{IsSeated, IsNew};
 ghost use Rattle.paw_journal.specs.inner.Journal.{IsAtRest, KeptIn};
-ghost use Rattle.paw_play.specs.Play.{InPlay, InGame, PlaysOn, PlaysGame, store_bytes};
+ghost use Rattle.paw_play.specs.Play.{InPlay, NotYet, InNewGame, PlaysOn, PlaysGame, store_bytes};
 ghost use Rattle.paw_play.specs.inner.OnTheWay.{EachStory, EachStarting, InNew, PlaysInStore};
 ghost use Rattle.paw_play.specs.inner.OnTheWay.{Begins, IsStore, new_session};
 ghost use Rattle.paw_play.specs.Calls.{play_calls, session_calls};
@@ -165,7 +165,7 @@ pub fn play_loop<S: Stage, T: Tables, F: Fn(u8, u8) -> u8>(
         EachStory F.Fn routines.now (T.game tables.now) (λ g. PlaysGame g seed name.now old new result)) }
     ensures any_moment { Across S.Stage stage.old stage.new (λ old new.
         EachStory F.Fn routines.now (T.game tables.now) (λ g. store_bytes old name.now ≡ [] →
-        EachMoment S.Stage stage.old stage.new (InGame g seed name.now old))) }
+        InTwoParts S.Stage stage.old stage.new (NotYet name.now old) (InNewGame g seed name.now old))) }
 {
     let at = match attach(stage, name) {
         Ok(at) => at,

@@ -4,14 +4,14 @@ ghost use Rattle.std.specs.Prelude.{◌≡◌, ℕ, List, IfSome};
 ghost use Rattle.sha2.specs.Sha256.{sha256};
 ghost use Rattle.paw_game.specs.Image.{image};
 ghost use Rattle.paw_stage.specs.Disk.{IsStable};
-ghost use Rattle.paw_stage.specs.Across.{Across, EachMoment, Serves};
+ghost use Rattle.paw_stage.specs.Across.{Across, EachMoment, InTwoParts, Serves};
 ghost use Rattle.paw_stage.specs.inner.Across.{Throughout};
 ghost use Rattle.paw_stage.specs.Moments.{InShow};
 ghost use Rattle.paw_routines.specs.Routines.{HaveRows};
 ghost use Rattle.paw_state.specs.State.{State};
 ghost use Rattle.paw_journal.specs.Session.{kept_digest};
 ghost use Rattle.paw_journal.specs.inner.Journal.{KeptIn};
-ghost use Rattle.paw_play.specs.Play.{InPlay, InAgain, PlaysUp, PlaysAgain, ShowsState, kept_session, store_bytes};
+ghost use Rattle.paw_play.specs.Play.{InPlay, NotYet, PlaysUp, PlaysAgain, ShowsState, kept_session, store_bytes};
 ghost use Rattle.paw_play.specs.inner.OnTheWay.{EachStory, IsStore, ShowsAgain, end_of};
 ghost use Rattle.paw_play.specs.Calls.{play_calls, session_calls};
 ghost use Rattle.paw_play.specs.inner.Calls.{IsNotForCall, call_of_end, failed_so_far};
@@ -123,7 +123,8 @@ pub fn resume_loop<S: Stage, T: Tables, F: Fn(u8, u8) -> u8>(
     ensures any_moment { Across S.Stage stage.old stage.new (λ old new.
         EachStory F.Fn routines.now (T.game tables.now) (λ g.
         (st : State) (piece : List ℕ) → ShowsState g.game game.now (store_bytes old name.now) st piece →
-        EachMoment S.Stage stage.old stage.new (InAgain (kept_session g st piece game.now name.now) old))) }
+        InTwoParts S.Stage stage.old stage.new (NotYet name.now old)
+        (InPlay (kept_session g st piece game.now name.now) old))) }
 {
     // Its clause says that the game is valid, which the proof wants. No call of it is left in the program.
     let _counts = tables.counts();

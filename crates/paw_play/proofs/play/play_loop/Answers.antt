@@ -1,9 +1,11 @@
-use Rattle.std.proofs.Common.{◌<◌, ◌⊎◌, [], ◌∷◌, None, refl, sym, subst, arith}
-use Rattle.paw_stage.proofs.Time.{Passes_map, Passes_on}
+use Rattle.std.proofs.Common.{◌<◌, ◌⊎◌, ◌∙◌, [], ◌∷◌, None, refl, sym, ap, subst, length, arith}
+use Rattle.paw_stage.proofs.Time.{Passes_map}
+use Rattle.paw_stage.specs.Across.{first_alone}
 use Rattle.paw_stage.specs.Stage.{Standing}
-use Rattle.paw_play.specs.Play.{PlayedSession, InGame, InPlay, unattached, occupied, plays_in}
+use Rattle.paw_play.specs.Play.{PlayedSession, NotYet, InNewGame, InPlay, unattached, occupied, plays_in}
 use Rattle.paw_play.specs.inner.OnTheWay.{InMaking, PlaysInStore, IsStore, new_session}
-use Rattle.paw_play.proofs.Attaching.{store_attached, store_empty, in_new_attach}
+use Rattle.paw_play.proofs.Attaching.{store_attached, store_empty, at_new_attach}
+use Rattle.paw_play.proofs.Parts.{two_parts, in_attach, in_failed_attach}
 use Rattle.paw_play.proofs.Games.{game_plays, in_game}
 use Rattle.paw_stage.specs.declared.StageCall.TheVariants as call
 use Rattle.paw_journal.proofs.Serving.{in_front, serves_among, serves_still, serves_then, the_only_one}
@@ -33,21 +35,37 @@ returns-clause-plays g c = λ tells X rows.
     subst (IsStore c.args.name.now) (sym a.1) (store_attached old c.args.name.now) in
     plays_in c.play_in.result (store_empty old _ c.args.name.now c.in-Ok.at.length a (omega (arith, c.if-at-ne0.false)))
     (game_plays (story_of game2 X) c.args.seed c.args.game.now c.args.name.now c.requires.game old after_play_in c.play_in.result
+    
     (subst (λ q. PlaysInStore s q after_play_in c.play_in.result) a.1 (c.play_in.ensures.plays (c.attach.ensures.serves.tells.0 tells) X rows c.args.name.now store)))
+
+pub returns-in-Err-clause-any_moment : goal.returns-in-Err-clause-any_moment
+returns-in-Err-clause-any_moment g c = λ tells X rows empty.
+    let old : Standing = g.S.Stage.standing c.args.stage.now in
+    first_alone (Passes_map _ _ _ _ _ (NotYet c.args.name.now old) (c.attach.ensures.time tells)
+    (λ m i. in_failed_attach old (g.S.Stage.standing c.attach.new.stage) c.args.name.now m (c.in-Err.ensures.left tells) i))
+
+pub returns-then-at-ne0-clause-any_moment : goal.returns-then-at-ne0-clause-any_moment
+returns-then-at-ne0-clause-any_moment g c = λ tells X rows empty.
+    let a = c.in-Ok.ensures.attached tells in
+    absurd (omega (arith, c.if-at-ne0.true, a.0 ∙ ap length empty))
 
 pub returns-clause-any_moment : goal.returns-clause-any_moment
 returns-clause-any_moment g c = λ tells X rows empty.
-    let game2 = g.T.Tables.game c.args.tables.now in
-    let after_attach = g.S.Stage.standing c.attach.new.stage in
-    let a = c.in-Ok.ensures.attached tells in
+    let story = story_of (g.T.Tables.game c.args.tables.now) X in
     let old : Standing = g.S.Stage.standing c.args.stage.now in
-    let s : PlayedSession = new_session (story_of game2 X) c.args.seed c.args.game.now c.args.name.now in
-    let store : IsStore c.args.name.now after_attach = subst (IsStore c.args.name.now) (sym a.1) (store_attached old c.args.name.now) in
-    Passes_on _ _ _ _ _ _ (InGame (story_of game2 X) c.args.seed c.args.name.now old) _
-    (Passes_map _ _ _ _ _ (InGame (story_of game2 X) c.args.seed c.args.name.now old) (c.in-Ok.ensures.time tells)
-    (λ m i. in_new_attach (story_of game2 X) c.args.seed c.args.name.now old after_attach m a.1 empty i))
-    (c.play_in.ensures.any_moment (c.attach.ensures.serves.tells.0 tells) X rows c.args.name.now store)
-    (λ m i. in_game (story_of game2 X) c.args.seed c.args.game.now c.args.name.now c.requires.game old m (subst (λ q. InMaking s q m ⊎ InPlay s q m) a.1 i))
+    let after_attach : Standing = g.S.Stage.standing c.attach.new.stage in
+    let name = c.args.name.now in
+    let a = c.in-Ok.ensures.attached tells in
+    let now = c.attach.ensures.serves.tells.0 tells in
+    let s : PlayedSession = new_session story c.args.seed c.args.game.now name in
+    let store : IsStore name after_attach = subst (IsStore name) (sym a.1) (store_attached old name) in
+    two_parts g.S.Stage c.args.stage.now c.attach.new.stage c.play_in.new.stage (NotYet name old) (InNewGame story c.args.seed name old)
+    (λ m is. g.met.S.Stage.only_now c.attach.new.stage m now is)
+    (g.met.S.Stage.counts_now c.attach.new.stage (g.S.Stage.clock c.attach.new.stage) now (omega arith))
+    (at_new_attach story c.args.seed name old after_attach a.1 empty)
+    (Passes_map _ _ _ _ _ _ (c.in-Ok.ensures.time tells) (in_attach old after_attach name))
+    (Passes_map _ _ _ _ _ _ (c.play_in.ensures.any_moment now X rows name store)
+    (λ m i. in_game story c.args.seed c.args.game.now name c.requires.game old m (subst (λ q. InMaking s q m ⊎ InPlay s q m) a.1 i)))
 
 pub returns-in-Err-clause-serves : goal.returns-in-Err-clause-serves
 returns-in-Err-clause-serves g c =

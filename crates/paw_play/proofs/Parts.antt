@@ -1,0 +1,64 @@
+-- The moments of a session in two parts: before its store is attached, and from then on.
+use Rattle.std.proofs.Common.{◌≡◌, ◌⊎◌, ℕ, List, refl, sym, ap, ◌∙◌, subst, arith, inl, inr}
+use Rattle.paw_stage.specs.Stage.{Standing, Unattached, made_if_missing}
+use Rattle.paw_stage.specs.Moments.{Moment, moment_of, InAttach}
+use Rattle.paw_stage.specs.Across.{EachMoment, InTwoParts, both}
+use Rattle.paw_stage.specs.declared.Stage.{Ghosts}
+use Rattle.paw_play.specs.Play.{NotYet}
+
+-- calls up to a turn, at which such a moment stands, and calls from there on
+pub two_parts : {S : Type 0} (g : Ghosts S) (old mid new : S) (Before After : Moment → Type 0) →
+    ((m : Moment) → g.since mid (g.clock mid) m → m ≡ moment_of (g.standing mid)) →
+    g.since mid (g.clock mid) (moment_of (g.standing mid)) → After (moment_of (g.standing mid)) →
+    EachMoment g old mid (λ m. Before m ⊎ (m ≡ moment_of (g.standing mid))) → EachMoment g mid new After →
+    InTwoParts g old new Before After
+two_parts g old mid new Before After only counts turned h k =
+    both (g.clock mid) h.later k.later
+    (λ m is. elim (k.nothing_else (g.clock mid) m (omega arith) is) [
+      | inl p ↦ subst After (sym (only m p)) turned
+      | inr q ↦ q.1
+    ])
+    (record {
+      later = omega (arith, h.later, k.later);
+      nothing_else = λ t m low is. elim (k.nothing_else t m (omega (arith, low, h.later)) is) [
+        | inl p ↦ elim (h.nothing_else t m low p) [
+          | inl q ↦ inl q
+          | inr q ↦ inr (
+            λ u early. k.keeps u m (omega (arith, early, h.later)) (q.0 u early),
+            elim q.1 [
+              | inl b ↦ inl b
+              | inr e ↦ inr (k.keeps (g.clock mid) m (omega arith) (subst (λ x. g.since mid (g.clock mid) x) (sym e) counts))
+            ],
+          )
+        ]
+        | inr q ↦ inr (λ u early. q.0 u (omega (arith, early, h.later)), inr (q.0 (g.clock mid) (omega arith)))
+      ];
+      keeps = λ t m low past. k.keeps t m (omega (arith, low, h.later)) (h.keeps t m low past);
+    })
+
+-- ---- before the store is attached ----
+
+pub not_yet : (name : List ℕ) (old : Standing) (m : Moment) → m ≡ moment_of old → NotYet name old m
+not_yet name old m e = subst (NotYet name old) (sym e) (record { asked = refl; shown = refl; files = inl refl; store = inl (refl, refl) })
+
+made_yet : (name : List ℕ) (old : Standing) (m : Moment) →
+    m ≡ record (moment_of old) { files = made_if_missing name (old.files name) old.files } → NotYet name old m
+made_yet name old m e = subst (NotYet name old) (sym e) (record { asked = refl; shown = refl; files = inr refl; store = inl (refl, refl) })
+
+-- inside the attach, or at its end
+pub in_attach : (old new : Standing) (name : List ℕ) (m : Moment) → InAttach old new name m → NotYet name old m ⊎ (m ≡ moment_of new)
+in_attach old new name m (inl e) = inl (not_yet name old m e)
+in_attach old new name m (inr (inl e)) = inl (made_yet name old m e)
+in_attach old new name m (inr (inr e)) = inr e
+
+unattached_yet : (old new : Standing) (name : List ℕ) (m : Moment) → Unattached old new → m ≡ moment_of new → NotYet name old m
+unattached_yet old new name m (inl is) e = not_yet name old m (e ∙ ap moment_of is)
+unattached_yet old new name m (inr is) e =
+    subst (NotYet name old) (sym (e ∙ ap moment_of is)) (record { asked = refl; shown = refl; files = inl refl; store = inr refl })
+
+-- inside an attach that failed
+pub in_failed_attach : (old new : Standing) (name : List ℕ) (m : Moment) → Unattached old new → InAttach old new name m → NotYet name old m
+in_failed_attach old new name m left i = elim (in_attach old new name m i) [
+  | inl n ↦ n
+  | inr e ↦ unattached_yet old new name m left e
+]
