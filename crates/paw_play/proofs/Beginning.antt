@@ -13,19 +13,22 @@ use Rattle.paw_turn.specs.inner.Player.{Seat, IsSeated, StandsClosed}
 use Rattle.paw_turn.specs.inner.Player.{PlaysTo as StepsTo}
 use Rattle.paw_turn.specs.declared.Step.{Step}
 use Rattle.paw_turn.specs.declared.Step.TheVariants as step
-use Rattle.paw_journal.specs.Session.{Shown, IsUnmade, recover, kept_digest}
+use Rattle.paw_journal.specs.Session.{Shown, IsUnmade, recover, kept_digest, made_session}
 use Rattle.paw_journal.specs.inner.Store.{IsBeside, InStore, Leaves}
 use Rattle.paw_stage.specs.Across.{IsOneOf}
 use Rattle.paw_journal.specs.Journal.{writing_calls}
 use Rattle.paw_play.specs.declared.PlayEnd.{PlayEnd}
 use Rattle.paw_play.specs.declared.PlayEnd.TheVariants as end
+use Rattle.paw_play.specs.Session.{IsKept}
 use Rattle.paw_play.specs.Walk.{Walks}
 use Rattle.paw_play.specs.Keeping.{StaysAttached}
 use Rattle.paw_play.specs.Play.{PlayedSession, KeepsLines, InPlay, with_store}
 use Rattle.paw_play.specs.inner.Calls.{unless_ended}
 use Rattle.paw_play.specs.inner.Telling.{Plain}
-use Rattle.paw_play.specs.inner.OnTheWay.{IsWalking, Told, ShowsPiece, refusal_of, seat_state, InMaking, Rests, IsStore, BegunAs, Begins, new_session}
+use Rattle.paw_play.specs.inner.OnTheWay.{IsWalking, Told, ShowsPiece, refusal_of, seat_state, seat_base, InMaking, Rests, IsStore}
+use Rattle.paw_play.specs.inner.OnTheWay.{BegunAs, Begins, new_session}
 use Rattle.paw_play.proofs.Kept.{step_kept}
+use Rattle.paw_play.proofs.Written.{made_bytes}
 use Rattle.paw_play.proofs.Resting.{rests_on}
 use Rattle.paw_play.proofs.Telling.{shows_piece}
 use Rattle.paw_play.proofs.Walking.{walk_begins, text_shown}
@@ -71,8 +74,11 @@ module _ {F : Type 0} {g : Story} {s : PlayedSession} {first kept : Standing} {n
   text_is : text_of (s.whole []) ≡ next.piece
   text_is = text_shown Plain g s.whole found next [] [] tt b.shows machine_stands b.plays
 
+  keeps_first : IsKept s.digest 0 (s.whole []) (Shown s.digest (seat_state 0 next) next.piece)
+  keeps_first = step_kept g s.digest 0 s.whole found next [] [] b.shows b.last machine_stands b.plays
+
   keeps_none : KeepsLines s first.lines 0 (Shown s.digest (seat_state 0 next) next.piece)
-  keeps_none = let new_one = b.new_one in rw new_one (step_kept g s.digest 0 s.whole found next [] [] b.shows b.last machine_stands b.plays)
+  keeps_none = let new_one = b.new_one in rw new_one keeps_first
 
   not_this : (f : List ℕ) → f ≢ s.name → first.attached ≢ Some f
   not_this f other e = let a : Some s.name ≡ Some f = sym b.store.attached ∙ e in other (cc)
@@ -106,7 +112,8 @@ module _ {F : Type 0} {g : Story} {s : PlayedSession} {first kept : Standing} {n
 
   -- once it is made in a store that was empty
   module _ (empty : length first.disk.bytes ≡ 0) (stable : IsStable kept.disk)
-      (is : recover kept.disk.bytes ≡ Shown s.digest (seat_state 0 next) next.piece) where
+      (is : recover kept.disk.bytes ≡ Shown s.digest (seat_state 0 next) next.piece) (digest : kept_digest kept.disk.bytes ≡ s.digest)
+      (made : kept.disk.bytes ≡ made_session s.digest (seat_base 0 next) next.piece) where
     rests : Rests s first kept 0
     rests = record {
       there = omega arith;
@@ -116,7 +123,7 @@ module _ {F : Type 0} {g : Story} {s : PlayedSession} {first kept : Standing} {n
       file = stays.file;
       others = stays.others;
       keeps = subst (KeepsLines s first.lines 0) (sym is) keeps_none;
-      same = λ none some. absurd (omega (arith, empty, some));
+      bytes = made_bytes s.whole s.digest (seat_state 0 next) next.piece first.disk.bytes kept.disk.bytes keeps_first empty made digest;
     }
 
     -- inside the show of the first piece
@@ -148,9 +155,9 @@ module _ {F : Type 0} {g : Story} {s : PlayedSession} {first kept : Standing} {n
     asked_is new text e = ap (λ (q : Standing). q.asked) e ∙ b.beside.asked ∙ omega arith
 
     -- the session is at its first prompt, or playing it has come to its end
-    pub begins_to : {A : Type 0} (a : A) (new : Standing) (o : Option PlayEnd) → kept_digest kept.disk.bytes ≡ s.digest →
-        Told kept new next.piece found o → Begins g s first new next (unless_ended o a)
-    begins_to a new None digest told = record {
+    pub begins_to : {A : Type 0} (a : A) (new : Standing) (o : Option PlayEnd) → Told kept new next.piece found o →
+        Begins g s first new next (unless_ended o a)
+    begins_to a new None told = record {
       walking = subst (λ (q : Standing). IsWalking Plain g s.whole q new next 0)
           (store_is new (kept.shown ++ next.piece) told.2)
           (walk_begins Plain g s.whole EVENT_LIMIT kept new next found None b.seated b.last b.plays told);
@@ -159,17 +166,17 @@ module _ {F : Type 0} {g : Story} {s : PlayedSession} {first kept : Standing} {n
       last = next.piece;
       grown = text_is;
     }
-    begins_to a new (Some end.Ended) digest told = record {
+    begins_to a new (Some end.Ended) told = record {
       shows = subst (λ (q : Standing). Walks s.whole EVENT_LIMIT q new end.Ended)
           (store_is new (kept.shown ++ next.piece) told.1)
           (walk_begins Plain g s.whole EVENT_LIMIT kept new next found (Some end.Ended) b.seated b.last b.plays told);
       session = (0, asked_is new (kept.shown ++ next.piece) told.1, rests_then new (kept.shown ++ next.piece) told.1);
     }
-    begins_to a new (Some (end.Outside call.Show)) digest told = record {
+    begins_to a new (Some (end.Outside call.Show)) told = record {
       shows = subst (λ (q : Standing). Walks s.whole EVENT_LIMIT q new (end.Outside call.Show)) (store_is new (kept.shown ++ take told.2 next.piece) told.3)
           (walk_begins Plain g s.whole EVENT_LIMIT kept new next found (Some (end.Outside call.Show)) b.seated b.last b.plays told);
       session = (0, asked_is new (kept.shown ++ take told.2 next.piece) told.3, rests_then new (kept.shown ++ take told.2 next.piece) told.3);
     }
-    begins_to a new (Some (end.Spent kind)) digest told = absurd (subst ShowsPiece told.0 b.shows)
-    begins_to a new (Some (end.TooDeep table)) digest told = absurd (subst ShowsPiece told.0 b.shows)
-    begins_to a new (Some _) digest told = absurd told
+    begins_to a new (Some (end.Spent kind)) told = absurd (subst ShowsPiece told.0 b.shows)
+    begins_to a new (Some (end.TooDeep table)) told = absurd (subst ShowsPiece told.0 b.shows)
+    begins_to a new (Some _) told = absurd told

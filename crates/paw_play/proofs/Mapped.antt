@@ -37,30 +37,30 @@ in_session_as Kept By told by past name first old same others m i said keeps = r
 
 module _ (Kept By : ℕ → List ℕ → Type 0) (past : ℕ) (name : List ℕ) (old : Standing)
     (so : (n : ℕ) (bytes : List ℕ) → n ≤ length old.lines → past + n ≤ EVENT_LIMIT → Kept n bytes → By n bytes) where
-  rests_by : (new : Standing) (n : ℕ) → RestsWith Kept past name old new n → RestsWith By past name old new n
-  rests_by new n r = rests_as Kept By past name old new new n new.lines new.asked new.shown refl (so n new.disk.bytes r.there r.few) r
+  module _ (whole : EndingOf) where
+    rests_by : (new : Standing) (n : ℕ) → RestsWith Kept whole past name old new n → RestsWith By whole past name old new n
+    rests_by new n r = rests_as Kept By whole past name old new new n new.lines new.asked new.shown refl (so n new.disk.bytes r.there r.few) r
 
-  all_by : (new : Standing) → KeepsAll Kept past name old new → KeepsAll By past name old new
-  all_by new k = (k.0, k.1, rests_by new k.0 k.2)
+    all_by : (new : Standing) → KeepsAll Kept whole past name old new → KeepsAll By whole past name old new
+    all_by new k = (k.0, k.1, rests_by new k.0 k.2)
 
-  but_last_by : (new : Standing) → KeepsAllButLast Kept past name old new → KeepsAllButLast By past name old new
-  but_last_by new k = (k.0, k.1, rests_by new k.0 k.2)
+    but_last_by : (new : Standing) → KeepsAllButLast Kept whole past name old new → KeepsAllButLast By whole past name old new
+    but_last_by new k = (k.0, k.1, rests_by new k.0 k.2)
 
-  leaves_by : (new : Standing) (o : PlayEnd) → LeavesStore Kept past name old new o → LeavesStore By past name old new o
-  leaves_by new end.Ended k = all_by new k
-  leaves_by new end.InputEnded k = all_by new k
-  leaves_by new (end.Long events) k = all_by new k
-  leaves_by new (end.Outside call.Ask) k = all_by new k
-  leaves_by new (end.Outside call.Show) k = all_by new k
-  leaves_by new (end.Spent kind) k = but_last_by new k
-  leaves_by new (end.TooDeep table) k = but_last_by new k
-  leaves_by new (end.Outside call.Write) k = k
-  leaves_by new (end.Outside call.Sync) k = k
-  leaves_by new _ k = tt
+    leaves_by : (new : Standing) (o : PlayEnd) → LeavesStore Kept whole past name old new o → LeavesStore By whole past name old new o
+    leaves_by new end.Ended k = all_by new k
+    leaves_by new end.InputEnded k = all_by new k
+    leaves_by new (end.Long events) k = all_by new k
+    leaves_by new (end.Outside call.Ask) k = all_by new k
+    leaves_by new (end.Outside call.Show) k = all_by new k
+    leaves_by new (end.Spent kind) k = but_last_by new k
+    leaves_by new (end.TooDeep table) k = but_last_by new k
+    leaves_by new (end.Outside call.Write) k = k
+    leaves_by new (end.Outside call.Sync) k = k
+    leaves_by new _ k = tt
 
-  pub plays_by : (whole : EndingOf) (most : ℕ) (new : Standing) (o : PlayEnd) →
-      PlaysWith Kept whole past name most old new o → PlaysWith By whole past name most old new o
-  plays_by whole most new o p = record { shows = p.shows; session = leaves_by new o p.session }
+    pub plays_by : (most : ℕ) (new : Standing) (o : PlayEnd) → PlaysWith Kept whole past name most old new o → PlaysWith By whole past name most old new o
+    plays_by most new o p = record { shows = p.shows; session = leaves_by new o p.session }
 
   -- ---- moments ----
 

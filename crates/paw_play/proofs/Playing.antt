@@ -18,7 +18,7 @@ use Rattle.paw_turn.specs.inner.Player.{Seat, run_at, IsSeated, StandsClosed}
 use Rattle.paw_turn.specs.inner.Player.{PlaysTo as StepsTo}
 use Rattle.paw_turn.specs.declared.Step.{Step}
 use Rattle.paw_turn.specs.declared.Step.TheVariants as step
-use Rattle.paw_journal.specs.Session.{Shown, recover, kept_digest}
+use Rattle.paw_journal.specs.Session.{Shown, recover, kept_digest, committed}
 use Rattle.paw_journal.specs.inner.Store.{IsBeside, InStore, Leaves, IsEither}
 use Rattle.paw_stage.specs.Across.{IsOneOf}
 use Rattle.paw_journal.specs.Journal.{writing_calls}
@@ -29,8 +29,10 @@ use Rattle.paw_play.specs.Keeping.{IsPart, AgreesWith, KeepsUpWith, StaysAttache
 use Rattle.paw_play.specs.Play.{PlayedSession, KeepsLines, KeptBy, InPlay, with_store, Uncommitted, PlaysOn}
 use Rattle.paw_play.specs.inner.Calls.{unless_ended}
 use Rattle.paw_play.specs.inner.Telling.{Plain}
-use Rattle.paw_play.specs.inner.OnTheWay.{IsWalking, WalksTo, Told, ShowsPiece, refusal_of, seat_state, Rests, IsPlaying, PlaysTo}
+use Rattle.paw_play.specs.inner.OnTheWay.{IsWalking, WalksTo, Told, ShowsPiece, refusal_of, seat_state, seat_base, Rests, IsPlaying, PlaysTo}
+use Rattle.paw_play.specs.Written.{bytes_before, bytes_after}
 use Rattle.paw_play.proofs.Kept.{step_kept}
+use Rattle.paw_play.proofs.Written.{more_bytes}
 use Rattle.paw_play.proofs.Resting.{rests_on}
 use Rattle.paw_play.proofs.Telling.{shows_piece}
 use Rattle.paw_play.proofs.Walking.{walks_on, long_walk, none_left, none_asked, text_so_far, text_shown, read_after, drop_more}
@@ -280,7 +282,19 @@ module _ {F : Type 0} {g : Story} {s : PlayedSession} {most n events : ℕ} {fir
     plays_not c (inr (inl e)) = rw e (record { shows = uncommitted; session = stays })
     plays_not c (inr (inr h)) = absurd h
 
-    module _ (stable : IsStable kept.disk) (is : recover kept.disk.bytes ≡ Shown (kept_digest mid.disk.bytes) (seat_state events next) next.piece) where
+    module _ (stable : IsStable kept.disk) (is : recover kept.disk.bytes ≡ Shown (kept_digest mid.disk.bytes) (seat_state events next) next.piece)
+        (digest : kept_digest kept.disk.bytes ≡ kept_digest mid.disk.bytes)
+        (wrote : kept.disk.bytes ≡ committed (seat_base events next) next.piece mid.disk.bytes) where
+      -- one commit was made of the bytes before
+      bytes_more : kept.disk.bytes
+          ≡ bytes_after s.whole s.before first.lines (suc n) (bytes_before s.whole (kept_digest kept.disk.bytes) first.disk.bytes)
+      bytes_more =
+          let same : kept_digest kept.disk.bytes ≡ kept_digest now.disk.bytes = digest ∙ ap (λ (q : Standing). kept_digest q.disk.bytes) t.took in
+          more_bytes s.whole s.before n first.lines s.digest (seat_state events next) next.piece
+          (bytes_before s.whole (kept_digest kept.disk.bytes) first.disk.bytes) mid.disk.bytes kept.disk.bytes keeps_more wrote
+          (ap (λ (q : Standing). q.disk.bytes) t.took ∙ w.rests.bytes
+          ∙ ap (λ d. bytes_after s.whole s.before first.lines n (bytes_before s.whole d first.disk.bytes)) (sym same))
+
       -- the store is at rest, and keeps all lines
       rests : Rests s first kept (suc n)
       rests = record {
@@ -291,7 +305,7 @@ module _ {F : Type 0} {g : Story} {s : PlayedSession} {most n events : ℕ} {fir
         file = stays.file;
         others = stays.others;
         keeps = subst (λ r. KeepsLines s first.lines (suc n) r) (sym (is ∙ ap (λ d. Shown d (seat_state events next) next.piece) digest_still)) keeps_more;
-        same = λ none some. absurd (omega (arith, none));
+        bytes = bytes_more;
       }
 
       -- inside the show of its piece
@@ -333,27 +347,27 @@ module _ {F : Type 0} {g : Story} {s : PlayedSession} {most n events : ℕ} {fir
       asked_then new text e = ap (λ (q : Standing). q.asked) e ∙ beside.asked ∙ asked_more
 
       -- the session is at the next prompt, or playing on has come to its end, with the piece shown or not
-      pub plays_to : {A : Type 0} (a : A) (new : Standing) (o : Option PlayEnd) → kept_digest kept.disk.bytes ≡ kept_digest mid.disk.bytes →
-          Told kept new next.piece found o → PlaysTo g s most first new next n (unless_ended o a)
-      plays_to a new None digest told = record {
+      pub plays_to : {A : Type 0} (a : A) (new : Standing) (o : Option PlayEnd) → Told kept new next.piece found o →
+          PlaysTo g s most first new next n (unless_ended o a)
+      plays_to a new None told = record {
         walking = subst (λ (q : Standing). IsWalking Plain g s.whole (with_store q first) new next (suc n)) (sym told.2) (walks_then new None told);
         rests = rests_then new (kept.shown ++ next.piece) told.2;
         digest = ap (λ (q : Standing). kept_digest q.disk.bytes) told.2 ∙ digest ∙ digest_still;
         last = next.piece;
         grown = text_more ∙ ap (λ x. x ++ next.piece) (sym (text_is g s first now seat n w t.seated));
       }
-      plays_to a new (Some end.Ended) digest told = record {
+      plays_to a new (Some end.Ended) told = record {
         shows = subst (λ (q : Standing). Walks s.whole most (with_store q first) new end.Ended) (sym told.1) (walks_then new (Some end.Ended) told);
         session = (suc n, asked_then new (kept.shown ++ next.piece) told.1, rests_then new (kept.shown ++ next.piece) told.1);
       }
-      plays_to a new (Some (end.Outside call.Show)) digest told = record {
+      plays_to a new (Some (end.Outside call.Show)) told = record {
         shows = subst (λ (q : Standing). Walks s.whole most (with_store q first) new (end.Outside call.Show)) (sym told.3)
             (walks_then new (Some (end.Outside call.Show)) told);
         session = (suc n, asked_then new (kept.shown ++ take told.2 next.piece) told.3, rests_then new (kept.shown ++ take told.2 next.piece) told.3);
       }
-      plays_to a new (Some (end.Spent kind)) digest told = absurd (subst ShowsPiece told.0 t.shows)
-      plays_to a new (Some (end.TooDeep table)) digest told = absurd (subst ShowsPiece told.0 t.shows)
-      plays_to a new (Some _) digest told = absurd told
+      plays_to a new (Some (end.Spent kind)) told = absurd (subst ShowsPiece told.0 t.shows)
+      plays_to a new (Some (end.TooDeep table)) told = absurd (subst ShowsPiece told.0 t.shows)
+      plays_to a new (Some _) told = absurd told
 
 -- all the lines that a session may have were taken
 pub long_play : {F : Type 0} (g : Story) (s : PlayedSession) (most n : ℕ) (first now : Standing) (seat : Seat F) →
@@ -385,7 +399,7 @@ module _ {F : Type 0} (g : Story) (s : PlayedSession) (most n : ℕ) (first now 
       (plays : StepsTo g (λ more. on g w.walking.prompt (reverse seat.machine.frames)
       (run_at seat w.walking.pieces w.walking.traces (given ∷ more))) found next w.walking.pieces w.walking.traces)
     where
-      refused_rests : KeepsAllButLast (KeptBy s first.lines) s.before s.name first mid
+      refused_rests : KeepsAllButLast (KeptBy s first.lines) s.whole s.before s.name first mid
       refused_rests = (
         n,
         let a = asked_is g s first now seat n w in let b = ap (λ (q : Standing). q.asked) took in omega (arith, a, b),

@@ -32,6 +32,7 @@ use Rattle.paw_play.specs.Walk.{advanced}
 use Rattle.paw_play.specs.Play.{PlayedSession, InPlay, with_store, PlaysOn, ShowsState, going_on, kept_session}
 use Rattle.paw_play.specs.inner.OnTheWay.{Rests, IsPlaying, IsStore, ShowsAgain}
 use Rattle.paw_play.proofs.Resting.{rests_on}
+use Rattle.paw_play.proofs.Written.{had_bytes}
 use Rattle.paw_play.proofs.Walking.{on_waits, first_stands}
 use Rattle.paw_effects.specs.Story.{Story}
 use Rattle.paw_routines.specs.declared.routines.Routines.{Routines}
@@ -136,7 +137,8 @@ module _ {F : Type 0} {g : Story} {name piece : List ℕ} {r : Restored} {first 
     file = u.store.file;
     others = λ f other. refl;
     keeps = keeps_now;
-    same = λ none some. refl;
+    bytes = had_bytes (going_on g (state_read r) piece) (kept_digest first.disk.bytes) (kept_digest first.disk.bytes) (kept_bytes (state_read r)) piece
+        first.disk.bytes u.state.shown;
   }
 
   rests_shown : (new : Standing) (text : List ℕ) → new ≡ record first { shown = text } → Rests (read_session g name piece r first) first new 0

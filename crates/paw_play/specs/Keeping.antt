@@ -2,16 +2,17 @@
 --
 -- Here `Kept n bytes` says that these bytes of the store keep the first n lines that are left when a call begins, and
 -- `told n` is the text for them. `past` is the number of lines that the session took before.
-use Rattle.std.specs.Prelude.{◌≡◌, ◌≢◌, ◌⊎◌, ℕ, zero, suc, ◌+◌, ◌<◌, ◌≤◌, List, ◌++◌, length, Some}
+use Rattle.std.specs.Prelude.{◌≡◌, ◌≢◌, ◌⊎◌, ℕ, zero, suc, ◌+◌, ◌≤◌, List, ◌++◌, length, Some}
 use Rattle.paw_base.specs.declared.limits.TheConstants.{EVENT_LIMIT}
 use Rattle.paw_stage.specs.Disk.{MayLeave, IsStable}
 use Rattle.paw_stage.specs.Stage.{Standing}
 use Rattle.paw_stage.specs.Moments.{Moment}
 use Rattle.paw_stage.specs.declared.StageCall.TheVariants as call
-use Rattle.paw_journal.specs.Session.{IsUnmade, recover}
+use Rattle.paw_journal.specs.Session.{IsUnmade, recover, kept_digest}
 use Rattle.paw_play.specs.declared.PlayEnd.{PlayEnd}
 use Rattle.paw_play.specs.declared.PlayEnd.TheVariants as end
-use Rattle.paw_play.specs.Walk.{told_before}
+use Rattle.paw_play.specs.Walk.{EndingOf, told_before}
+use Rattle.paw_play.specs.Written.{bytes_before, bytes_after}
 
 -- a text is a first part of another
 abbrev pub IsPart : List ℕ → List ℕ → Type 0
@@ -58,9 +59,10 @@ pub record StaysAttached (name : List ℕ) (old new : Standing) : Type 0 where
   pub file : new.files name ≡ Some new.disk.bytes
   pub others : (f : List ℕ) → f ≢ name → new.files f ≡ old.files f
 
--- The store is attached and at rest: a crash leaves just its bytes, which are those of its file. They keep n lines;
--- where that is none they are the bytes that it had, if it had any. No other file has changed.
-pub record RestsWith (Kept : ℕ → List ℕ → Type 0) (past : ℕ) (name : List ℕ) (old new : Standing) (n : ℕ) : Type 0 where
+-- The store is attached and at rest: a crash leaves just its bytes, which are those of its file. They keep n lines, and
+-- are those that as many commits make of the bytes before the first line. No other file has changed.
+pub record RestsWith (Kept : ℕ → List ℕ → Type 0) (whole : EndingOf) (past : ℕ) (name : List ℕ) (old new : Standing)
+    (n : ℕ) : Type 0 where
   pub there : n ≤ length old.lines
   pub few : past + n ≤ EVENT_LIMIT
   pub attached : new.attached ≡ Some name
@@ -68,26 +70,29 @@ pub record RestsWith (Kept : ℕ → List ℕ → Type 0) (past : ℕ) (name : L
   pub file : new.files name ≡ Some new.disk.bytes
   pub others : (f : List ℕ) → f ≢ name → new.files f ≡ old.files f
   pub keeps : Kept n new.disk.bytes
-  pub same : n ≡ 0 → 0 < length old.disk.bytes → new.disk.bytes ≡ old.disk.bytes
+  pub bytes : new.disk.bytes ≡
+      bytes_after whole past old.lines n (bytes_before whole (kept_digest new.disk.bytes) old.disk.bytes)
 
 -- the store keeps all lines that were taken
-abbrev pub KeepsAll : (ℕ → List ℕ → Type 0) → ℕ → List ℕ → Standing → Standing → Type 0
-KeepsAll Kept past name old new = (n : ℕ) × (new.asked ≡ old.asked + n) × RestsWith Kept past name old new n
+abbrev pub KeepsAll : (ℕ → List ℕ → Type 0) → EndingOf → ℕ → List ℕ → Standing → Standing → Type 0
+KeepsAll Kept whole past name old new =
+    (n : ℕ) × (new.asked ≡ old.asked + n) × RestsWith Kept whole past name old new n
 
 -- the store keeps all lines that were taken but the last
-abbrev pub KeepsAllButLast : (ℕ → List ℕ → Type 0) → ℕ → List ℕ → Standing → Standing → Type 0
-KeepsAllButLast Kept past name old new = (n : ℕ) × (new.asked ≡ old.asked + suc n) × RestsWith Kept past name old new n
+abbrev pub KeepsAllButLast : (ℕ → List ℕ → Type 0) → EndingOf → ℕ → List ℕ → Standing → Standing → Type 0
+KeepsAllButLast Kept whole past name old new =
+    (n : ℕ) × (new.asked ≡ old.asked + suc n) × RestsWith Kept whole past name old new n
 
 -- What the store keeps where playing on came to this. Where a commit failed its bytes aren't told here: the moments of
 -- the call tell what a crash leaves of them.
-abbrev pub LeavesStore : (ℕ → List ℕ → Type 0) → ℕ → List ℕ → Standing → Standing → PlayEnd → Type 0
-LeavesStore Kept past name old new end.Ended = KeepsAll Kept past name old new
-LeavesStore Kept past name old new end.InputEnded = KeepsAll Kept past name old new
-LeavesStore Kept past name old new (end.Long events) = KeepsAll Kept past name old new
-LeavesStore Kept past name old new (end.Outside call.Ask) = KeepsAll Kept past name old new
-LeavesStore Kept past name old new (end.Outside call.Show) = KeepsAll Kept past name old new
-LeavesStore Kept past name old new (end.Spent kind) = KeepsAllButLast Kept past name old new
-LeavesStore Kept past name old new (end.TooDeep table) = KeepsAllButLast Kept past name old new
-LeavesStore Kept past name old new (end.Outside call.Write) = StaysAttached name old new
-LeavesStore Kept past name old new (end.Outside call.Sync) = StaysAttached name old new
-LeavesStore Kept past name old new _ = Unit {0}
+abbrev pub LeavesStore : (ℕ → List ℕ → Type 0) → EndingOf → ℕ → List ℕ → Standing → Standing → PlayEnd → Type 0
+LeavesStore Kept whole past name old new end.Ended = KeepsAll Kept whole past name old new
+LeavesStore Kept whole past name old new end.InputEnded = KeepsAll Kept whole past name old new
+LeavesStore Kept whole past name old new (end.Long events) = KeepsAll Kept whole past name old new
+LeavesStore Kept whole past name old new (end.Outside call.Ask) = KeepsAll Kept whole past name old new
+LeavesStore Kept whole past name old new (end.Outside call.Show) = KeepsAll Kept whole past name old new
+LeavesStore Kept whole past name old new (end.Spent kind) = KeepsAllButLast Kept whole past name old new
+LeavesStore Kept whole past name old new (end.TooDeep table) = KeepsAllButLast Kept whole past name old new
+LeavesStore Kept whole past name old new (end.Outside call.Write) = StaysAttached name old new
+LeavesStore Kept whole past name old new (end.Outside call.Sync) = StaysAttached name old new
+LeavesStore Kept whole past name old new _ = Unit {0}

@@ -13,7 +13,8 @@ ghost use Rattle.paw_journal.specs.inner.Steps.{SameDigest};
 ghost use Rattle.paw_journal.specs.Journal.{writing_calls};
 ghost use Rattle.paw_journal.specs.inner.Journal.{KeptIn, failed_stage_call};
 ghost use Rattle.paw_play.specs.Play.{InPlay};
-ghost use Rattle.paw_play.specs.inner.OnTheWay.{EachStory, EachPlaying, Commits, InCommit, seat_state, PlaysTo};
+ghost use Rattle.paw_play.specs.inner.OnTheWay.{EachStory, EachPlaying, Commits, InCommit, Writes, PlaysTo};
+ghost use Rattle.paw_play.specs.inner.OnTheWay.{seat_state, seat_base};
 ghost use Rattle.paw_play.specs.Calls.{play_calls};
 ghost use Rattle.paw_play.specs.inner.Calls.{IsNotForCall, failed_or, unless_ended};
 
@@ -34,12 +35,13 @@ pub(crate) struct Session {
     pub events: u64,
 }
 
-/// Puts the bytes of the player's state, after so many lines.
+/// Puts the bytes of the player's state, after so many lines, and zeros behind them.
 pub(crate) fn put_state<T: Tables, F: Fn(u8, u8) -> u8>(
     player: &Player<'_, T, F>,
     events: u64,
     into: &mut [u8; STATE_ROOM],
 )
+    ensures base { into.new ≡ seat_base events player.now }
     ensures state { take state_length into.new ≡ seat_state events player.now }
     ensures piece { piece_length into.new ≡ length player.now.piece }
 {
@@ -67,6 +69,7 @@ fn commit<S: Stage, T: Tables, F: Fn(u8, u8) -> u8>(
     requires standing { IsStanding player.now.last }
     requires kept { S.Tells stage.old → KeptIn journal room.old (S.standing stage.old) }
     ensures serves { Serves S.Stage writing_calls (failed_stage_call result) stage.old stage.new }
+    ensures exact { Once S.Stage stage.old stage.new result (Writes events player.now) }
     ensures shown { Once S.Stage stage.old stage.new result (Commits events player.now) }
     ensures kept { S.Tells stage.old → IfOk result (λ kept. KeptIn kept room.new (S.standing stage.new)) }
     ensures digest { Once S.Stage stage.old stage.new result SameDigest }

@@ -1,6 +1,6 @@
 -- What stands on the way, inside a call.
 use Rattle.std.specs.Prelude.{◌≡◌, ◌≢◌, ◌⊎◌, ℕ, suc, ◌+◌, ◌<◌, ◌≤◌, List, [], ◌++◌, length, take}
-use Rattle.std.specs.Prelude.{reverse, Option, Some, None, Result, Ok, Err}
+use Rattle.std.specs.Prelude.{◌-◌, reverse, Option, Some, None, Result, Ok, Err}
 use Rattle.std.specs.List.{concat}
 use Rattle.std.specs.Fn.{Shared}
 use Rattle.paw_base.specs.declared.limits.TheConstants.{EVENT_LIMIT}
@@ -21,7 +21,8 @@ use Rattle.paw_turn.specs.inner.Player.{Seat, run_at}
 use Rattle.paw_turn.specs.inner.Parts.{prompt_at}
 use Rattle.paw_turn.specs.declared.Step.{Step}
 use Rattle.paw_turn.specs.declared.Step.TheVariants as step
-use Rattle.paw_journal.specs.Session.{Recovered, Shown, recover, kept_digest}
+use Rattle.paw_base.specs.Bytes.{zeros}
+use Rattle.paw_journal.specs.Session.{Recovered, Shown, recover, kept_digest, base_length, state_length, committed}
 use Rattle.paw_journal.specs.inner.Store.{InStore, Leaves, IsEither}
 use Rattle.paw_journal.specs.declared.refusal.JournalRefusal.{JournalRefusal}
 use Rattle.paw_journal.specs.declared.refusal.JournalRefusal.TheVariants as refusal
@@ -39,6 +40,10 @@ use Rattle.paw_play.specs.inner.Telling.{Telling, Plain, HaveSteps, told_pieces,
 -- the bytes of the state of a player, after so many lines of its session
 abbrev pub seat_state : {F : Type 0} → ℕ → Seat F → List ℕ
 seat_state events p = kept_bytes (state_of p.world p.machine p.pending (prompt_at p.last) events (length p.piece))
+
+-- the same as they are written: zeros stand behind them
+abbrev pub seat_base : {F : Type 0} → ℕ → Seat F → List ℕ
+seat_base events p = seat_state events p ++ zeros (base_length - state_length)
 
 -- the walk is at a prompt: n lines were taken, these pieces were shown as they are told, and whatever lines come, the
 -- reading of all goes on from the player
@@ -96,7 +101,7 @@ new_session g seed digest name = record { whole = reading g seed; before = 0; di
 
 -- the store is at rest, and keeps the first n lines
 abbrev pub Rests : PlayedSession → Standing → Standing → ℕ → Type 0
-Rests s old new n = RestsWith (KeptBy s old.lines) s.before s.name old new n
+Rests s old new n = RestsWith (KeptBy s old.lines) s.whole s.before s.name old new n
 
 -- a moment at which the session is made
 abbrev pub InMaking : PlayedSession → Standing → Moment → Type 0
@@ -181,13 +186,17 @@ abbrev pub InNew : PlayedSession → Standing → Moment → Type 0
 InNew s old m = InMaking s old m ⊎ InPlay s old m
 
 -- what the session of a store shows that a player was committed to, after so many lines
-abbrev pub committed : {F : Type 0} → ℕ → Seat F → Standing → Recovered
-committed events seat s = Shown (kept_digest s.disk.bytes) (seat_state events seat) seat.piece
+abbrev pub shown_then : {F : Type 0} → ℕ → Seat F → Standing → Recovered
+shown_then events seat s = Shown (kept_digest s.disk.bytes) (seat_state events seat) seat.piece
 
 -- the player was committed to the session
 abbrev pub Commits : {F : Type 0} → ℕ → Seat F → Standing → Standing → Type 0
-Commits events seat old new = recover new.disk.bytes ≡ committed events seat old
+Commits events seat old new = recover new.disk.bytes ≡ shown_then events seat old
+
+-- the store's bytes are those that the commit of the player makes of what they were
+abbrev pub Writes : {F : Type 0} → ℕ → Seat F → Standing → Standing → Type 0
+Writes events seat old new = new.disk.bytes ≡ committed (seat_base events seat) seat.piece old.disk.bytes
 
 -- a moment at which a crash leaves what the session showed before, or the player
 abbrev pub InCommit : {F : Type 0} → ℕ → Seat F → Standing → Moment → Type 0
-InCommit events seat old m = InStore old (Leaves (IsEither (recover old.disk.bytes) (committed events seat old))) m
+InCommit events seat old m = InStore old (Leaves (IsEither (recover old.disk.bytes) (shown_then events seat old))) m

@@ -2,9 +2,9 @@ use Rattle.std.proofs.Common.{◌≡◌, List, ap, ◌∙◌, subst}
 use Rattle.std.specs.Prelude.{OnOk, ℕ}
 use Rattle.paw_stage.specs.Stage.{Standing}
 use Rattle.paw_stage.specs.Moments.{Passes}
-use Rattle.paw_journal.specs.Session.{Recovered, Shown, recover, kept_digest}
+use Rattle.paw_journal.specs.Session.{Recovered, Shown, recover, kept_digest, committed}
 use Rattle.paw_journal.specs.inner.Store.{InStore, Leaves, IsEither}
-use Rattle.paw_play.specs.inner.OnTheWay.{seat_state}
+use Rattle.paw_play.specs.inner.OnTheWay.{seat_state, seat_base}
 use Rattle.paw_play.proofs.line.commit.Goals as goal
 
 -- what a player's session shows
@@ -20,6 +20,15 @@ returns-clause-shown g c = λ tells.
     subst (λ (x : Recovered). OnOk c.commit.result (recover (g.S.Stage.standing c.commit.new.stage).disk.bytes ≡ x))
     (same_shown kept _ c.piece.result.now (seat_state c.args.events c.args.player.now) c.args.player.now.piece c.put_state.ensures.state c.piece.ensures.value)
     (c.commit.ensures.shown tells)
+
+pub returns-clause-exact : goal.returns-clause-exact
+returns-clause-exact g c = λ tells.
+    let old : List ℕ = (g.S.Stage.standing c.args.stage.now).disk.bytes in
+    let new : List ℕ = (g.S.Stage.standing c.commit.new.stage).disk.bytes in
+    subst (λ x. OnOk c.commit.result (new ≡ x))
+    (ap (λ x. committed x c.piece.result.now old) c.put_state.ensures.base
+    ∙ ap (λ x. committed (seat_base c.args.events c.args.player.now) x old) c.piece.ensures.value)
+    (c.commit.ensures.exact tells)
 
 pub returns-clause-any_moment : goal.returns-clause-any_moment
 returns-clause-any_moment g c = λ tells.

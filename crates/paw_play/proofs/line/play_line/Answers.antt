@@ -109,8 +109,8 @@ returns-clause-meaning g c = λ tells X rows s most n first w events few.
     w.walking.waits w.walking.pieces w.walking.traces) c.in_default.ensures.value (omega (arith, events)) (omega (arith, c.requires.few)) in
     let now = c.ask.ensures.tells.0 tells in
     rw c.unless_ended.ensures.value (plays_to t (g.S.Stage.standing c.commit.new.stage) (c.commit.ensures.beside now)
-    (c.in-Ok.ensures.kept now).rests.stable (c.in-Ok.ensures.shown now) _ (g.S.Stage.standing c.told.new.stage) c.told.result
-    (c.in-Ok.ensures.digest now) (c.told.ensures.meaning (c.commit.ensures.serves.tells.0 now)))
+    (c.in-Ok.ensures.kept now).rests.stable (c.in-Ok.ensures.shown now) (c.in-Ok.ensures.digest now) (c.in-Ok.ensures.exact now)
+    _ (g.S.Stage.standing c.told.new.stage) c.told.result (c.told.ensures.meaning (c.commit.ensures.serves.tells.0 now)))
 
 pub returns-clause-any_moment : goal.returns-clause-any_moment
 returns-clause-any_moment g c = λ tells X rows s most n first w events few.
@@ -125,4 +125,5 @@ returns-clause-any_moment g c = λ tells X rows s most n first w events few.
     c.ask.new.into c.requires.seated (omega (arith, events, c.requires.few)) (c.in-Line.ensures.answer tells)))
     (c.commit.ensures.any_moment now) (in_commit t))
     (c.told.ensures.time (c.commit.ensures.serves.tells.0 now))
-    (in_show t (g.S.Stage.standing c.commit.new.stage) (c.commit.ensures.beside now) (c.in-Ok.ensures.kept now).rests.stable (c.in-Ok.ensures.shown now))
+    (in_show t (g.S.Stage.standing c.commit.new.stage) (c.commit.ensures.beside now) (c.in-Ok.ensures.kept now).rests.stable (c.in-Ok.ensures.shown now)
+    (c.in-Ok.ensures.digest now) (c.in-Ok.ensures.exact now))

@@ -1,4 +1,4 @@
-use Rattle.std.proofs.Common.{◌∙◌, ap, length}
+use Rattle.std.proofs.Common.{◌∙◌, ◌++◌, ap, length}
 use Rattle.paw_state.specs.Fields.{zeros, state_bytes}
 use Rattle.paw_state.specs.inner.State.{state_of}
 use Rattle.paw_play.specs.Session.{kept_bytes}
@@ -14,6 +14,14 @@ returns-clause-state g c =
     ∙ same_parts _ _ _ _ _ _ _ _ c.args.events _ _ c.parts-parts.ensures.world c.parts-parts.ensures.machine
     c.parts-parts.ensures.pending c.parts-parts.ensures.prompt
     (ap length c.piece.ensures.value)
+
+pub returns-clause-base : goal.returns-clause-base
+unfolding kept_bytes
+returns-clause-base g c =
+    c.write_state.ensures.value
+    ∙ ap (λ x. x ++ zeros 677)
+    (same_parts _ _ _ _ _ _ _ _ c.args.events _ _ c.parts-parts.ensures.world c.parts-parts.ensures.machine
+    c.parts-parts.ensures.pending c.parts-parts.ensures.prompt (ap length c.piece.ensures.value))
 
 pub returns-clause-piece : goal.returns-clause-piece
 returns-clause-piece g c = c.write_state.ensures.piece ∙ ap length c.piece.ensures.value

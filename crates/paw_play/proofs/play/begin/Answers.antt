@@ -5,6 +5,7 @@ use Rattle.paw_journal.specs.inner.Store.{InStore, Leaves}
 use Rattle.paw_play.specs.declared.line.Session.{Session}
 use Rattle.paw_play.specs.inner.OnTheWay.{InNew, new_session}
 use Rattle.paw_play.proofs.Beginning.{begin_refused, begun, not_begun, shown_as, in_making, in_first_show, begins_to}
+use Rattle.paw_play.proofs.Written.{made_same}
 use Rattle.paw_journal.proofs.Serving.{serves_among, serves_none, serves_then}
 use Rattle.paw_play.proofs.Following.{goes_on_unless, refused_unless, serves_unless, keeps_unless, writing_plays}
 use Rattle.paw_effects.specs.Story.{story_of}
@@ -63,8 +64,9 @@ returns-clause-meaning g c = λ tells X rows name store.
     let b = begun story c.args.player.now.world.seed c.args.game.now name _ _ c.start-step.new.self c.start-step.result store c.start-step.ensures.seated
     c.start-step.ensures.last (c.start-step.ensures.meaning X rows) c.in_default.ensures.value (c.create.ensures.beside tells) in
     rw c.unless_ended.ensures.value (begins_to b (sym (c.requires.attached tells) ∙ c.requires.empty) (c.in-Ok.ensures.kept tells).rests.stable
-    (c.in-Ok.ensures.shown tells ∙ shown_as _ c.put_state.ensures.state c.piece.ensures.value)
-    _ (g.S.Stage.standing c.told.new.stage) c.told.result (c.in-Ok.ensures.digest tells) (c.told.ensures.meaning (c.create.ensures.serves.tells.0 tells)))
+    (c.in-Ok.ensures.shown tells ∙ shown_as _ c.put_state.ensures.state c.piece.ensures.value) (c.in-Ok.ensures.digest tells)
+    (c.in-Ok.ensures.made tells ∙ made_same c.args.game.now _ _ _ _ c.put_state.ensures.base c.piece.ensures.value)
+    _ (g.S.Stage.standing c.told.new.stage) c.told.result (c.told.ensures.meaning (c.create.ensures.serves.tells.0 tells)))
 
 pub returns-clause-any_moment : goal.returns-clause-any_moment
 returns-clause-any_moment g c = λ tells X rows name store.
@@ -78,4 +80,5 @@ returns-clause-any_moment g c = λ tells X rows name store.
     (c.create.ensures.any_moment tells) (λ m i. inl (in_making b m (subst (λ x. InStore old (Leaves (λ r. IsUnmade r ⊎ (r ≡ x))) m) same i))))
     (c.told.ensures.time (c.create.ensures.serves.tells.0 tells))
     (λ m i. inr (in_first_show b (sym (c.requires.attached tells) ∙ c.requires.empty) (c.in-Ok.ensures.kept tells).rests.stable
-    (c.in-Ok.ensures.shown tells ∙ same) m i))
+    (c.in-Ok.ensures.shown tells ∙ same) (c.in-Ok.ensures.digest tells)
+    (c.in-Ok.ensures.made tells ∙ made_same c.args.game.now _ _ _ _ c.put_state.ensures.base c.piece.ensures.value) m i))
