@@ -9,7 +9,7 @@ mod Lines
 mod Playing
 mod Beginning
 mod Begun
-mod Parts
+pub mod Parts
 mod Attaching
 mod Mapped
 mod Games

@@ -2,8 +2,9 @@
 use Rattle.std.proofs.Common.{◌≡◌, ◌⊎◌, ℕ, List, refl, sym, ap, ◌∙◌, subst, arith, inl, inr}
 use Rattle.paw_stage.specs.Stage.{Standing, Unattached, made_if_missing}
 use Rattle.paw_stage.specs.Moments.{Moment, moment_of, InAttach}
-use Rattle.paw_stage.specs.Across.{EachMoment, InTwoParts, both}
+use Rattle.paw_stage.specs.Across.{EachMoment, InTwoParts, first_alone, both}
 use Rattle.paw_stage.specs.declared.Stage.{Ghosts}
+use Rattle.paw_stage.proofs.Time.{Passes_map, Passes_on}
 use Rattle.paw_play.specs.Play.{NotYet}
 
 -- calls up to a turn, at which such a moment stands, and calls from there on
@@ -35,6 +36,21 @@ two_parts g old mid new Before After only counts turned h k =
       ];
       keeps = λ t m low past. k.keeps t m (omega (arith, low, h.later)) (h.keeps t m low past);
     })
+
+-- calls that belong to the first part come before
+pub then_two_parts : {S : Type 0} (g : Ghosts S) (old mid new : S) (Before After : Moment → Type 0) → EachMoment g old mid Before →
+    InTwoParts g mid new Before After → InTwoParts g old new Before After
+then_two_parts g old mid new Before After h (first_alone k) = first_alone (Passes_on _ _ _ _ _ _ Before Before h k (λ m i. i))
+then_two_parts g old mid new Before After h (both turn low high all k) =
+    both turn (omega (arith, h.later, low)) high all
+    (Passes_on _ _ _ _ _ _ (λ m. Before m ⊎ g.since new turn m) (λ m. Before m ⊎ g.since new turn m)
+    (Passes_map _ _ _ _ Before (λ m. Before m ⊎ g.since new turn m) h (λ m i. inl i)) k (λ m i. i))
+
+-- a weaker word for the second part
+pub map_two_parts : {S : Type 0} (g : Ghosts S) (old new : S) (Before After Later : Moment → Type 0) → ((m : Moment) → After m → Later m) →
+    InTwoParts g old new Before After → InTwoParts g old new Before Later
+map_two_parts g old new Before After Later f (first_alone k) = first_alone k
+map_two_parts g old new Before After Later f (both turn low high all k) = both turn low high (λ m is. f m (all m is)) k
 
 -- ---- before the store is attached ----
 

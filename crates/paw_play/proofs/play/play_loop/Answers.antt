@@ -35,8 +35,8 @@ returns-clause-plays g c = λ tells X rows.
     subst (IsStore c.args.name.now) (sym a.1) (store_attached old c.args.name.now) in
     plays_in c.play_in.result (store_empty old _ c.args.name.now c.in-Ok.at.length a (omega (arith, c.if-at-ne0.false)))
     (game_plays (story_of game2 X) c.args.seed c.args.game.now c.args.name.now c.requires.game old after_play_in c.play_in.result
-    
-    (subst (λ q. PlaysInStore s q after_play_in c.play_in.result) a.1 (c.play_in.ensures.plays (c.attach.ensures.serves.tells.0 tells) X rows c.args.name.now store)))
+    (subst (λ q. PlaysInStore s q after_play_in c.play_in.result) a.1
+    (c.play_in.ensures.plays (c.attach.ensures.serves.tells.0 tells) X rows c.args.name.now store)))
 
 pub returns-in-Err-clause-any_moment : goal.returns-in-Err-clause-any_moment
 returns-in-Err-clause-any_moment g c = λ tells X rows empty.
