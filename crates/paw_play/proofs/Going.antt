@@ -69,7 +69,7 @@ module _ (n : ℕ) (ps : List (List ℕ)) (ts : List (List Step)) (all : length 
       ∙ ap (λ q. record r { pieces = last_piece ps ∷ r.pieces; traces = q }) (behind (suc n) ts r.traces each)
 
   -- an ending with closed pieces before it, from the last of those on
-  since_past : (e : Ending) → ending_since n (ending_with_past ps ts e) ≡ ending_with_past (last_piece ps ∷ []) [] e
+  pub since_past : (e : Ending) → ending_since n (ending_with_past ps ts e) ≡ ending_with_past (last_piece ps ∷ []) [] e
   since_past (WaitsAt p path r) = ap (WaitsAt p path) (run_since r)
   since_past (Halted halt r) = ap (Halted halt) (run_since r)
   since_past Unended = refl
@@ -125,13 +125,13 @@ traces_of Unended = []
 
 module _ (g : Story) (seed : ℕ) (es fs : List (List ℕ)) where
   -- a reading that ended so ends with more lines as going on from its state and last piece does
-  abbrev GoesOnFrom : Ending → State → List ℕ → Type 0
+  abbrev pub GoesOnFrom : Ending → State → List ℕ → Type 0
   GoesOnFrom e st piece =
       (length (pieces_of e) ≡ suc (length es)) × (length (traces_of e) ≡ suc (length es)) × (x : Ending)
       × (reading g seed (es ++ fs) ≡ ending_with_past (pieces_of e) (traces_of e) x)
       × (going_on g st piece fs ≡ ending_with_past (last_piece (pieces_of e) ∷ []) [] x)
 
-  waiting_goes : (p : Prompt) (path : List Frame) (r : Run) → reading g seed es ≡ WaitsAt p path r → Settles g.game (length es) p path r →
+  pub waiting_goes : (p : Prompt) (path : List Frame) (r : Run) → reading g seed es ≡ WaitsAt p path r → Settles g.game (length es) p path r →
       Counted (length es) (WaitsAt p path r) → GoesOnFrom (WaitsAt p path r) (state_at (length es) p path r) (last_piece r.pieces)
   waiting_goes p path r is k counted = (
     all_pieces (length es) r.pieces r.events counted.1 counted.0,

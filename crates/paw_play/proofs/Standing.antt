@@ -1,6 +1,6 @@
 -- What a store that stands for some lines shows, and what comes of taking it up again.
-use Rattle.std.proofs.Common.{◌≡◌, inl, inr, ℕ, zero, suc, ◌+◌, ◌<◌, ◌≤◌, List, [], ◌∷◌, ◌++◌, refl, sym, ap, ◌∙◌, subst}
-use Rattle.std.proofs.Common.{length, take, append_assoc, append-nil, arith}
+use Rattle.std.proofs.Common.{◌≡◌, ◌≢◌, inl, inr, ℕ, zero, suc, ◌+◌, ◌<◌, ◌≤◌, List, [], ◌∷◌, ◌++◌, refl, sym, ap, ◌∙◌, subst}
+use Rattle.std.proofs.Common.{length, take, drop, append_assoc, append-nil, arith}
 use Rattle.std.specs.Prelude.{◌-◌, All}
 use Rattle.std.proofs.Math.Path.{fun_ext}
 use Rattle.std.proofs.lemmas.List.{length-append, length-take}
@@ -12,9 +12,13 @@ use Rattle.paw_game.specs.Image.{image}
 use Rattle.paw_stage.specs.Stage.{Standing}
 use Rattle.paw_stage.specs.Moments.{Moment}
 use Rattle.paw_effects.specs.declared.act.Prompt.TheVariants as prompt
+use Rattle.paw_reading.specs.Run.{Step}
 use Rattle.paw_reading.specs.Reading.{IsOver}
-use Rattle.paw_reading.specs.Turn.{Ending, WaitsAt, Halted, reading, text_of}
+use Rattle.paw_reading.specs.Turn.{Ending, WaitsAt, Halted, Unended, reading, pieces_of, text_of}
+use Rattle.paw_reading.specs.inner.Longer.{ending_with_past}
+use Rattle.paw_reading.specs.inner.Pieces.{Counted}
 use Rattle.paw_reading.proofs.Counts.{pieces_of_lines}
+use Rattle.paw_reading.proofs.Ends.{going_on_ends}
 use Rattle.paw_effects.specs.Standing.{AreBytes}
 use Rattle.paw_reading.specs.Bounds.{IsLine}
 use Rattle.paw_state.specs.State.{State}
@@ -27,13 +31,13 @@ use Rattle.paw_play.specs.declared.PlayEnd.{PlayEnd}
 use Rattle.paw_state.specs.Record.{last_piece, state_at}
 use Rattle.paw_play.specs.Session.{kept_bytes, state_after, IsKept}
 use Rattle.paw_play.specs.Walk.{first_lines}
-use Rattle.paw_play.specs.Stands.{Stands, StandsWith, IsPlayedWith, text_since, reading_since}
+use Rattle.paw_play.specs.Stands.{Stands, StandsWith, IsPlayedWith, ending_since, text_since, reading_since}
 use Rattle.paw_play.specs.Keeping.{KeepsUpWith, InSession}
 use Rattle.paw_play.specs.Play.{PlaysWith, PlaysOn, KeptBy, ShowsState, Refuses, PlaysUp, no_state, plays_on, PlaysAgain, refused, wanting, plays_up}
-use Rattle.paw_play.specs.Play.{GoesOn, memory, unattached, unread, plays, InPlay, InPlayedOn, going_on, kept_session, attached_to, store_bytes}
-use Rattle.paw_play.specs.Laws.{ShowsSome, StandingShows, StandingGoesOn, Round, AreKept, left_after, RoundsStand}
+use Rattle.paw_play.specs.Play.{GoesOn, memory, unattached, unread, plays, InAgain, InGoingOn, going_on, kept_session, attached_to, store_bytes}
+use Rattle.paw_play.specs.Laws.{ShowsSome, StandingShows, StandingGoesOn, GoingOnIsTheReading, Round, AreKept, left_after, RoundsStand}
 use Rattle.paw_play.proofs.Games.{count_lines}
-use Rattle.paw_play.proofs.Going.{IsSettled, goes_on, text_since_is, whole_kept}
+use Rattle.paw_play.proofs.Going.{IsSettled, Settles, goes_on, since_past, text_since_is, waiting_goes, whole_kept}
 use Rattle.paw_play.proofs.Mapped.{plays_by, in_session_by}
 use Rattle.paw_play.proofs.Settling.{reading_settles}
 use Rattle.paw_effects.specs.Story.{Story}
@@ -54,6 +58,46 @@ standing_shows g seed es bytes played stands =
 pub standing_goes_on : StandingGoesOn
 standing_goes_on g seed es fs bytes st piece played stands shows =
     goes_on g seed es fs (reading_settles g seed es played stands.few) bytes st piece played.valid.game stands shows
+
+-- ---- going on from where a reading waits ----
+
+-- the pieces behind those that were closed before
+pieces_with_past : (ps : List (List ℕ)) (ts : List (List Step)) (last : List ℕ) (x : Ending) → ending_with_past (last ∷ []) [] x ≢ Unended →
+    pieces_of (ending_with_past ps ts x) ≡ ps ++ drop 1 (pieces_of (ending_with_past (last ∷ []) [] x))
+pieces_with_past ps ts last (WaitsAt p path r) ends = refl
+pieces_with_past ps ts last (Halted halt r) ends = refl
+pieces_with_past ps ts last Unended ends = absurd (ends refl)
+
+-- going on from a state ends
+goes_to_an_end : (g : Story) (st : State) (piece : List ℕ) (fs : List (List ℕ)) → going_on g st piece fs ≢ Unended
+goes_to_an_end g st piece fs = going_on_ends g st.prompt (take st.frames.count st.frames.rows) (record {
+  world = st.world;
+  pending = st.pending.bytes;
+  earlier = st.pending.earlier;
+  turning = st.frames.turning;
+  current = [];
+  read = [];
+  pieces = piece ∷ [];
+  traces = [];
+  events = fs;
+})
+
+pub going_on_is_the_reading : GoingOnIsTheReading
+going_on_is_the_reading g seed es fs p path r played few is =
+    let settled : Settles g.game (length es) p path r = subst (IsSettled g.game (length es)) is (reading_settles g seed es played few) in
+    let counted : Counted (length es) (WaitsAt p path r) = subst (Counted (length es)) is (pieces_of_lines g seed es) in
+    let goes = waiting_goes g seed es fs p path r is settled counted in
+    let st : State = state_at (length es) p path r in
+    let last : List ℕ = last_piece r.pieces in
+    let ended : ending_with_past (last ∷ []) [] goes.2 ≢ Unended = λ none. goes_to_an_end g st last fs (goes.4 ∙ none) in
+    record {
+      keeps = settled.keeps;
+      fits = settled.fits;
+      ends = goes.4 ∙ sym (ap (ending_since (length es)) goes.3 ∙ since_past (length es) r.pieces r.traces goes.0 goes.1 goes.2);
+      pieces = ap pieces_of goes.3 ∙ pieces_with_past r.pieces r.traces last goes.2 ended
+          ∙ ap (λ e. r.pieces ++ drop 1 (pieces_of e)) (sym goes.4)
+          ∙ ap (λ e. pieces_of e ++ drop 1 (pieces_of (going_on g st last fs))) (sym is);
+    }
 
 -- ---- taking it up again ----
 

@@ -1,14 +1,20 @@
 -- The laws of sessions.
-use Rattle.std.specs.Prelude.{◌≡◌, ◌⊎◌, ℕ, suc, ◌+◌, List, [], ◌∷◌, ◌++◌, length, All}
+use Rattle.std.specs.Prelude.{◌≡◌, ◌⊎◌, ℕ, suc, ◌+◌, List, [], ◌∷◌, ◌++◌, length, drop, All, ◌≤◌}
 use Rattle.sha2.specs.Sha256.{sha256}
 use Rattle.paw_game.specs.Game.{GameLists}
 use Rattle.paw_effects.specs.Story.{Story}
 use Rattle.paw_game.specs.Image.{image}
+use Rattle.paw_base.specs.declared.limits.TheConstants.{EVENT_LIMIT}
 use Rattle.paw_stage.specs.Disk.{MayLeave}
 use Rattle.paw_stage.specs.Stage.{Standing}
 use Rattle.paw_stage.specs.Moments.{Moment}
+use Rattle.paw_effects.specs.declared.act.Prompt.{Prompt}
 use Rattle.paw_effects.specs.Standing.{AreBytes}
-use Rattle.paw_state.specs.State.{State}
+use Rattle.paw_reading.specs.declared.places.Frame.{Frame}
+use Rattle.paw_reading.specs.Run.{Run}
+use Rattle.paw_reading.specs.Turn.{WaitsAt, reading, pieces_of}
+use Rattle.paw_state.specs.State.{State, Keeps, FitsFields}
+use Rattle.paw_state.specs.Record.{last_piece, state_at}
 use Rattle.paw_play.specs.Walk.{first_lines}
 use Rattle.paw_play.specs.Stands.{Stands, StandsWith, IsPlayedWith, text_since, reading_since}
 use Rattle.paw_play.specs.Keeping.{InSession}
@@ -31,6 +37,25 @@ StandingGoesOn =
     (g : Story) (seed : ℕ) (es fs : List (List ℕ)) (bytes : List ℕ) (st : State) (piece : List ℕ) →
     IsPlayedWith g seed es → Stands g seed es bytes → ShowsState g.game (sha256 (image g.game)) bytes st piece →
     (st.events ≡ length es) × (going_on g st piece fs ≡ reading_since g seed es fs)
+
+-- ---- going on ----
+
+-- Going on with more lines from a state of a reading, behind its last piece, is reading them all. The state keeps all
+-- rules of the game; going on ends as that reading does, at the same prompt and in the same world; and the pieces of
+-- that reading are those before, and then those that going on adds.
+pub record GoesOnAsRead (g : Story) (seed : ℕ) (es fs : List (List ℕ)) (st : State) (piece : List ℕ) : Type 0 where
+  pub keeps : Keeps g.game st
+  pub fits : FitsFields st
+  pub ends : going_on g st piece fs ≡ reading_since g seed es fs
+  pub pieces : pieces_of (reading g seed (es ++ fs)) ≡
+      pieces_of (reading g seed es) ++ drop 1 (pieces_of (going_on g st piece fs))
+
+-- it is so wherever the reading of some lines waits, for any lines that follow
+abbrev pub GoingOnIsTheReading : Type 0
+GoingOnIsTheReading =
+    (g : Story) (seed : ℕ) (es fs : List (List ℕ)) (p : Prompt) (path : List Frame) (r : Run) →
+    IsPlayedWith g seed es → length es ≤ EVENT_LIMIT → reading g seed es ≡ WaitsAt p path r →
+    GoesOnAsRead g seed es fs (state_at (length es) p path r) (last_piece r.pieces)
 
 -- ---- rounds ----
 

@@ -1,6 +1,6 @@
 // The laws of sessions.
 
-ghost use Rattle.paw_play.specs.Laws.{StandingShows, StandingGoesOn, RoundsStand};
+ghost use Rattle.paw_play.specs.Laws.{StandingShows, StandingGoesOn, GoingOnIsTheReading, RoundsStand};
 
 /// A store that stands for lines of a game shows a state that keeps all rules, so it is never refused.
 pub fn standing_shows()
@@ -11,6 +11,12 @@ pub fn standing_shows()
 /// follow, from the last piece of the former on.
 pub fn standing_goes_on()
     ensures goes_on { StandingGoesOn }
+{}
+
+/// Going on from the state in which the reading of some lines waits is the reading of those lines and the ones that
+/// follow: the same pieces, the same end. Each such state keeps all rules of the game.
+pub fn going_on_is_the_reading()
+    ensures goes_on { GoingOnIsTheReading }
 {}
 
 /// After any number of rounds, each over what the one before left, the store stands for the lines of all rounds, with
