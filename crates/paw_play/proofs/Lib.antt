@@ -19,3 +19,4 @@ mod Again
 pub mod Going
 pub mod Settling
 pub mod Standing
+mod Rounds

@@ -1,10 +1,9 @@
 -- What a store that stands for some lines shows, and what comes of taking it up again.
-use Rattle.std.proofs.Common.{◌≡◌, ◌≢◌, inl, inr, ℕ, zero, suc, ◌+◌, ◌<◌, ◌≤◌, List, [], ◌∷◌, ◌++◌, refl, sym, ap, ◌∙◌, subst}
-use Rattle.std.proofs.Common.{length, take, drop, append_assoc, append-nil, arith}
-use Rattle.std.specs.Prelude.{◌-◌, All}
+use Rattle.std.proofs.Common.{◌≡◌, ◌≢◌, inl, inr, ℕ, ◌+◌, ◌≤◌, List, [], ◌∷◌, ◌++◌, refl, sym, ap, ◌∙◌, subst}
+use Rattle.std.proofs.Common.{length, take, drop, arith}
+use Rattle.std.specs.Prelude.{◌-◌}
 use Rattle.std.proofs.Math.Path.{fun_ext}
-use Rattle.std.proofs.lemmas.List.{length-append, length-take}
-use Rattle.std.proofs.lemmas.List.Elements.{All-append, All-map, All-take}
+use Rattle.std.proofs.lemmas.List.{length-append}
 use Rattle.sha2.specs.Sha256.{sha256}
 use Rattle.paw_base.specs.declared.limits.TheConstants.{EVENT_LIMIT}
 use Rattle.paw_game.specs.Game.{GameLists}
@@ -19,8 +18,6 @@ use Rattle.paw_reading.specs.inner.Longer.{ending_with_past}
 use Rattle.paw_reading.specs.inner.Pieces.{Counted}
 use Rattle.paw_reading.proofs.Counts.{pieces_of_lines}
 use Rattle.paw_reading.proofs.Ends.{going_on_ends}
-use Rattle.paw_effects.specs.Standing.{AreBytes}
-use Rattle.paw_reading.specs.Bounds.{IsLine}
 use Rattle.paw_state.specs.State.{State}
 use Rattle.paw_state.specs.Fields.{state_bytes}
 use Rattle.paw_state.specs.Fit.{Fit}
@@ -32,10 +29,10 @@ use Rattle.paw_state.specs.Record.{last_piece, state_at}
 use Rattle.paw_play.specs.Session.{kept_bytes, state_after, IsKept}
 use Rattle.paw_play.specs.Walk.{first_lines}
 use Rattle.paw_play.specs.Stands.{Stands, StandsWith, IsPlayedWith, ending_since, text_since, reading_since}
-use Rattle.paw_play.specs.Keeping.{KeepsUpWith, InSession}
+use Rattle.paw_play.specs.Keeping.{InSession}
 use Rattle.paw_play.specs.Play.{PlaysWith, PlaysOn, KeptBy, ShowsState, Refuses, PlaysUp, no_state, plays_on, PlaysAgain, refused, wanting, plays_up}
 use Rattle.paw_play.specs.Play.{GoesOn, memory, unattached, unread, plays, InAgain, InGoingOn, going_on, kept_session, attached_to, store_bytes}
-use Rattle.paw_play.specs.Laws.{ShowsSome, StandingShows, StandingGoesOn, GoingOnIsTheReading, Round, AreKept, left_after, RoundsStand}
+use Rattle.paw_play.specs.Laws.{ShowsSome, StandingShows, StandingGoesOn, GoingOnIsTheReading}
 use Rattle.paw_play.proofs.Games.{count_lines}
 use Rattle.paw_play.proofs.Going.{IsSettled, Settles, goes_on, since_past, text_since_is, waiting_goes, whole_kept}
 use Rattle.paw_play.proofs.Mapped.{plays_by, in_session_by}
@@ -191,34 +188,3 @@ module _ (g : Story) (seed : ℕ) (es : List (List ℕ)) (name : List ℕ) (old 
   standing_again _ (refused r h e) =
       absurd (never_refused (sha256 (image g.game)) (store_bytes old name) (state_after (length es) (reading g seed es)) _ r stands.keeps.shown h)
   standing_again _ (plays_up o up) = goes_up o up
-
--- ---- rounds ----
-
-cut_is_line : (line : List ℕ) → AreBytes line → IsLine (take 255 line)
-cut_is_line line are = record { short = omega (arith, length-take 255 line); bytes = All-take (λ b. b < 256) 255 line are }
-
-first_are_lines : (n : ℕ) (lines : List (List ℕ)) → All AreBytes lines → All IsLine (first_lines n lines)
-first_are_lines n lines are = All-map IsLine (take 255) (take n lines) (λ k d low. cut_is_line _ (All-take AreBytes n lines are k d low))
-
--- so many lines of a round are kept
-round_keeps : (g : Story) (seed : ℕ) (es : List (List ℕ)) (r : Round) (n : ℕ) (text : List ℕ) → r.moment.asked ≡ r.old.asked + n →
-    KeepsUpWith (StandsWith g seed es r.old.lines) (text_since g seed es r.old.lines) n text r.left →
-    (k : ℕ) × AreKept r k × StandsWith g seed es r.old.lines k r.left
-round_keeps g seed es r zero text asked kept = (0, inl asked, kept.0)
-round_keeps g seed es r (suc n) text asked (inl kept) = (suc n, inl asked, kept.0)
-round_keeps g seed es r (suc n) text asked (inr kept) = (n, inr asked, kept.0)
-
-pub rounds_stand : RoundsStand
-rounds_stand g seed es bytes [] played stands rounds = ([], refl, subst (λ fs. Stands g seed fs bytes) (sym (append-nil es)) stands)
-rounds_stand g seed es bytes (r ∷ more) played stands rounds =
-    let is = rounds.0 in
-    let i = is.session es played (subst (Stands g seed es) (sym is.over) stands) in
-    let kept = round_keeps g seed es r i.taken i.text i.asked (i.leaves r.left is.leaves) in
-    let fs : List (List ℕ) = first_lines kept.0 r.old.lines in
-    let longer : IsPlayedWith g seed (es ++ fs) = record {
-      valid = played.valid;
-      fits = played.fits;
-      lines = All-append IsLine es fs played.lines (first_are_lines kept.0 r.old.lines is.lines);
-    } in
-    let rest = rounds_stand g seed (es ++ fs) r.left more longer kept.2 rounds.1 in
-    (fs ++ rest.0, (kept.0, rest.0, kept.1, refl, rest.1), subst (λ all. Stands g seed all (left_after r.left more)) (append_assoc es fs rest.0) rest.2)

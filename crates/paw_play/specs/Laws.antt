@@ -1,24 +1,28 @@
 -- The laws of sessions.
-use Rattle.std.specs.Prelude.{◌≡◌, ◌⊎◌, ℕ, suc, ◌+◌, List, [], ◌∷◌, ◌++◌, length, drop, All, ◌≤◌}
+use Rattle.std.specs.Prelude.{◌≡◌, ◌≢◌, ◌⊎◌, ℕ, suc, ◌+◌, ◌^◌, ◌<◌, ◌≤◌, List, [], ◌∷◌, ◌++◌, length, drop, All, Some}
 use Rattle.sha2.specs.Sha256.{sha256}
 use Rattle.paw_game.specs.Game.{GameLists}
 use Rattle.paw_effects.specs.Story.{Story}
 use Rattle.paw_game.specs.Image.{image}
 use Rattle.paw_base.specs.declared.limits.TheConstants.{EVENT_LIMIT}
 use Rattle.paw_stage.specs.Disk.{MayLeave}
-use Rattle.paw_stage.specs.Stage.{Standing}
-use Rattle.paw_stage.specs.Moments.{Moment}
+use Rattle.paw_stage.specs.Stage.{Standing, bytes_or_none}
+use Rattle.paw_stage.specs.Moments.{Moment, moment_of}
+use Rattle.paw_stage.specs.declared.StageCall.TheVariants as call
 use Rattle.paw_effects.specs.declared.act.Prompt.{Prompt}
 use Rattle.paw_effects.specs.Standing.{AreBytes}
 use Rattle.paw_reading.specs.declared.places.Frame.{Frame}
 use Rattle.paw_reading.specs.Run.{Run}
 use Rattle.paw_reading.specs.Turn.{WaitsAt, reading, pieces_of}
+use Rattle.paw_reading.specs.Bounds.{ValidStory}
+use Rattle.paw_journal.specs.Session.{IsUnmade, recover}
 use Rattle.paw_state.specs.State.{State, Keeps, FitsFields}
 use Rattle.paw_state.specs.Record.{last_piece, state_at}
+use Rattle.paw_play.specs.declared.PlayEnd.{PlayEnd}
+use Rattle.paw_play.specs.declared.PlayEnd.TheVariants as end
 use Rattle.paw_play.specs.Walk.{first_lines}
-use Rattle.paw_play.specs.Stands.{Stands, StandsWith, IsPlayedWith, text_since, reading_since}
-use Rattle.paw_play.specs.Keeping.{InSession}
-use Rattle.paw_play.specs.Play.{ShowsState, going_on, store_bytes}
+use Rattle.paw_play.specs.Stands.{Stands, IsPlayedWith, reading_since}
+use Rattle.paw_play.specs.Play.{ShowsState, going_on, store_bytes, InGame, PlaysGame, InGoingOn, GoesOn}
 
 -- the bytes show a state of the game that keeps all its rules, and a piece
 pub record ShowsSome (g : GameLists) (bytes : List ℕ) : Type 0 where
@@ -59,46 +63,87 @@ GoingOnIsTheReading =
 
 -- ---- rounds ----
 
--- A round: a session is taken up again, where this stood; and at this moment it comes to its end or a crash, and these
--- bytes are left of its store
+-- How a round of play stops: it is cut off at a moment, by a crash or right behind a call that failed; or it comes to
+-- this end, and then this stands
+pub data Stop : Type 0 where
+  cut_at : Moment → Stop
+  came_to : Standing → PlayEnd → Stop
+
+-- A round: a session is played in the file of this name, from what stood at first until it stops; these bytes are then
+-- left of the file
 pub record Round : Type 0 where
   pub name : List ℕ
   pub old : Standing
-  pub moment : Moment
+  pub stop : Stop
   pub left : List ℕ
 
--- a round over a store of some bytes is such that its moment is one of a session, for whatever lines the store stands
--- for
-pub record IsRound (g : Story) (seed : ℕ) (bytes : List ℕ) (r : Round) : Type 0 where
-  pub over : store_bytes r.old r.name ≡ bytes
-  pub lines : All AreBytes r.old.lines
-  pub session : (es : List (List ℕ)) → IsPlayedWith g seed es → Stands g seed es (store_bytes r.old r.name) →
-      InSession (StandsWith g seed es r.old.lines) (text_since g seed es r.old.lines) (length es) r.name r.old r.moment
-  pub leaves : MayLeave r.moment.disk r.left
+-- A crash at this moment may leave these bytes of a file: any that it may leave of the store where the file is the
+-- attached one, and otherwise those that the file has
+abbrev pub MayBeLeft : List ℕ → Moment → List ℕ → Type 0
+MayBeLeft name m bytes = ((m.attached ≡ Some name) × MayLeave m.disk bytes)
+    ⊎ ((m.attached ≢ Some name) × (bytes ≡ bytes_or_none (m.files name)))
 
--- rounds one after the other, each over what the one before left
+-- A round begins over these bytes: its file has them, and a crash before it would leave no others. Its lines are bytes
+pub record BeginsOver (bytes : List ℕ) (r : Round) : Type 0 where
+  pub has : store_bytes r.old r.name ≡ bytes
+  pub settled : (image : List ℕ) → MayBeLeft r.name (moment_of r.old) image → image ≡ bytes
+  pub lines : All AreBytes r.old.lines
+
+-- play came to this end with the store at rest: no write and no sync of it failed
+abbrev pub AtRest : PlayEnd → Type 0
+AtRest (end.Outside call.Write) = ⊥
+AtRest (end.Outside call.Sync) = ⊥
+AtRest o = Unit {0}
+
+-- It is cut off at one of these moments, and a crash there may leave these bytes of the file; or it comes to one of
+-- these ends with the store at rest, and these are the bytes of the file
+abbrev pub StopsWith : (Moment → Type 0) → (Standing → PlayEnd → Type 0) → List ℕ → List ℕ → Stop → Type 0
+StopsWith Inside Comes name left (cut_at m) = Inside m × MayBeLeft name m left
+StopsWith Inside Comes name left (came_to new o) = Comes new o × AtRest o × (left ≡ store_bytes new name)
+
+-- the first round: the game is played from its start, over a file that is missing or empty
+abbrev pub IsFirstRound : Story → ℕ → Round → Type 0
+IsFirstRound g seed r = BeginsOver [] r
+    × StopsWith (InGame g seed r.name r.old) (PlaysGame g seed r.name r.old) r.name r.left r.stop
+
+-- a later round: the session of these bytes is taken up again, and goes on from whatever lines they stand for
+abbrev pub IsLaterRound : Story → ℕ → List ℕ → Round → Type 0
+IsLaterRound g seed bytes r = BeginsOver bytes r
+    × ((es : List (List ℕ)) → IsPlayedWith g seed es → Stands g seed es bytes →
+    StopsWith (InGoingOn g seed es r.name r.old) (GoesOn g seed es r.name r.old) r.name r.left r.stop)
+
+-- later rounds one after the other, each over what the one before left
 abbrev pub AreRounds : Story → ℕ → List ℕ → List Round → Type 0
 AreRounds g seed bytes [] = Unit {0}
-AreRounds g seed bytes (r ∷ rounds) = IsRound g seed bytes r × AreRounds g seed r.left rounds
+AreRounds g seed bytes (r ∷ rounds) = IsLaterRound g seed bytes r × AreRounds g seed r.left rounds
 
 -- what the last of these rounds left
 abbrev pub left_after : List ℕ → List Round → List ℕ
 left_after bytes [] = bytes
 left_after bytes (r ∷ rounds) = left_after r.left rounds
 
--- so many lines of a round are kept: all that it took, or all but the last
-abbrev pub AreKept : Round → ℕ → Type 0
-AreKept r n = (r.moment.asked ≡ r.old.asked + n) ⊎ (r.moment.asked ≡ r.old.asked + suc n)
+-- how many of the lines that were taken are lost where play came to this end: the last one, where its piece ran out of
+-- a budget or a call was too deep; otherwise none
+abbrev pub lines_lost : PlayEnd → ℕ
+lines_lost (end.Spent kind) = 1
+lines_lost (end.TooDeep table) = 1
+lines_lost o = 0
+
+-- So many lines of a round are kept: where it was cut off all that were taken by then, or all but the last; where it
+-- came to an end all that were taken but those that are lost by it
+abbrev pub AreKept : Standing → Stop → ℕ → Type 0
+AreKept old (cut_at m) n = (m.asked ≡ old.asked + n) ⊎ (m.asked ≡ old.asked + suc n)
+AreKept old (came_to new o) n = new.asked ≡ old.asked + n + lines_lost o
 
 -- the lines that are kept of rounds, one round after the other
 abbrev pub AreKeptOf : List Round → List (List ℕ) → Type 0
 AreKeptOf [] lines = lines ≡ []
-AreKeptOf (r ∷ rounds) lines = (n : ℕ) × (more : List (List ℕ)) × AreKept r n
+AreKeptOf (r ∷ rounds) lines = (n : ℕ) × (more : List (List ℕ)) × AreKept r.old r.stop n
     × (lines ≡ first_lines n r.old.lines ++ more) × AreKeptOf rounds more
 
--- After any rounds the store stands for the lines before and those that are kept of each round, and for no other
+-- After any rounds, the first of which left a session, the store stands for the lines that are kept of all of them
 abbrev pub RoundsStand : Type 0
 RoundsStand =
-    (g : Story) (seed : ℕ) (es : List (List ℕ)) (bytes : List ℕ) (rounds : List Round) →
-    IsPlayedWith g seed es → Stands g seed es bytes → AreRounds g seed bytes rounds →
-    (kept : List (List ℕ)) × AreKeptOf rounds kept × Stands g seed (es ++ kept) (left_after bytes rounds)
+    (g : Story) (seed : ℕ) (first : Round) (rounds : List Round) → ValidStory g → seed < 2 ^ 64 →
+    IsFirstRound g seed first → ¬ IsUnmade (recover first.left) → AreRounds g seed first.left rounds →
+    (lines : List (List ℕ)) × AreKeptOf (first ∷ rounds) lines × Stands g seed lines (left_after first.left rounds)

@@ -19,8 +19,11 @@ pub fn going_on_is_the_reading()
     ensures goes_on { GoingOnIsTheReading }
 {}
 
-/// After any number of rounds, each over what the one before left, the store stands for the lines of all rounds, with
-/// the last line of each kept or left out.
+/// A session may be played in any number of rounds, from the first command on, each over what the one before left; each
+/// is cut off by a crash at any moment or by a call that failed, or comes to an end of its own. After them the store
+/// stands for the lines that are kept of each, one round after the other. A round that came to its end keeps all lines
+/// that it took, but a last one whose piece was spent or called too deep; one that was cut off keeps all, or all but
+/// the last.
 pub fn rounds_stand()
     ensures rounds { RoundsStand }
 {}

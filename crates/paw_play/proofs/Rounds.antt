@@ -1,0 +1,218 @@
+-- Rounds of a session, one after the other.
+use Rattle.std.proofs.Common.{◌≡◌, inl, inr, ℕ, zero, suc, ◌+◌, ◌<◌, List, [], ◌∷◌, ◌++◌, Some, None, refl, sym, ap, ◌∙◌, subst}
+use Rattle.std.proofs.Common.{length, take, append_assoc, append-nil, arith}
+use Rattle.std.specs.Prelude.{◌-◌, All}
+use Rattle.std.proofs.lemmas.List.{length-take}
+use Rattle.std.proofs.lemmas.List.Elements.{All-append, All-map, All-take}
+use Rattle.paw_base.specs.declared.limits.TheConstants.{EVENT_LIMIT}
+use Rattle.paw_stage.specs.Disk.{MayLeave}
+use Rattle.paw_stage.specs.Stage.{Standing, Files, Unattached, bytes_or_none}
+use Rattle.paw_stage.specs.Moments.{Moment}
+use Rattle.paw_stage.specs.declared.StageCall.{StageCall}
+use Rattle.paw_stage.specs.declared.StageCall.TheVariants as call
+use Rattle.paw_stage.specs.Across.{IsOneOf}
+use Rattle.paw_effects.specs.Standing.{AreBytes}
+use Rattle.paw_effects.specs.Story.{Story}
+use Rattle.paw_reading.specs.Turn.{reading}
+use Rattle.paw_reading.specs.Bounds.{IsLine}
+use Rattle.paw_journal.specs.Journal.{writing_calls}
+use Rattle.paw_journal.specs.Session.{IsUnmade, recover}
+use Rattle.paw_journal.proofs.Recovers.{unmade as no_session}
+use Rattle.paw_play.specs.declared.PlayEnd.{PlayEnd}
+use Rattle.paw_play.specs.declared.PlayEnd.TheVariants as end
+use Rattle.paw_play.specs.Walk.{EndingOf, first_lines}
+use Rattle.paw_play.specs.Stands.{Stands, StandsWith, IsPlayedWith, text_since, reading_since}
+use Rattle.paw_play.specs.Keeping.{KeepsUpWith, InSession}
+use Rattle.paw_play.specs.Play.{PlaysWith, PlaysIn, PlaysGame, GoesOn, NotYet, InGame, InGoingOn, attached_to, store_bytes}
+use Rattle.paw_play.specs.Play.{memory, spent, too_deep, unmade, plays, unattached, occupied, plays_in, unread}
+use Rattle.paw_play.specs.Laws.{Stop, cut_at, came_to, Round, MayBeLeft, BeginsOver, AtRest, StopsWith, AreRounds, left_after}
+use Rattle.paw_play.specs.Laws.{AreKept, AreKeptOf, RoundsStand}
+use Rattle.paw_play.proofs.Attaching.{store_attached}
+
+-- ---- the bytes of the file ----
+
+-- an attach leaves the bytes of its file
+attached_bytes : (old : Standing) (name : List ℕ) → store_bytes (attached_to old name) name ≡ store_bytes old name
+attached_bytes old name = ap bytes_or_none (store_attached old name).file
+
+bytes_of : (old new : Standing) (name : List ℕ) → new ≡ attached_to old name → store_bytes new name ≡ store_bytes old name
+bytes_of old new name e = ap (λ (q : Standing). store_bytes q name) e ∙ attached_bytes old name
+
+-- so does one that failed
+unattached_bytes : (old new : Standing) (name : List ℕ) → Unattached old new → store_bytes new name ≡ store_bytes old name
+unattached_bytes old new name (inl e) = ap (λ (q : Standing). store_bytes q name) e
+unattached_bytes old new name (inr e) = ap (λ (q : Standing). store_bytes q name) e
+
+-- and nothing is asked in either
+unattached_asked : (old new : Standing) → Unattached old new → new.asked ≡ old.asked + 0 + 0
+unattached_asked old new (inl e) = ap (λ (q : Standing). q.asked) e ∙ omega arith
+unattached_asked old new (inr e) = ap (λ (q : Standing). q.asked) e ∙ omega arith
+
+attached_asked : (old new : Standing) (name : List ℕ) → new ≡ attached_to old name → new.asked ≡ old.asked + 0 + 0
+attached_asked old new name e = ap (λ (q : Standing). q.asked) e ∙ omega arith
+
+-- before the attach a crash leaves what the file had
+files_left : (old : Standing) (name left : List ℕ) (m : Moment) → NotYet name old m → left ≡ bytes_or_none (m.files name) → left ≡ store_bytes old name
+files_left old name left m n e = elim n.files [
+  | inl same ↦ e ∙ ap (λ (f : Files). bytes_or_none (f name)) same
+  | inr made ↦ e ∙ ap (λ (f : Files). bytes_or_none (f name)) made ∙ attached_bytes old name
+]
+
+not_yet_left : (r : Round) (bytes : List ℕ) (m : Moment) → BeginsOver bytes r → NotYet r.name r.old m → MayBeLeft r.name m r.left → r.left ≡ bytes
+not_yet_left r bytes m begins n (inr apart) = files_left r.old r.name r.left m n apart.1 ∙ begins.has
+not_yet_left r bytes m begins n (inl is) = elim n.store [
+  | inl before ↦ begins.settled r.left (inl (sym before.0 ∙ is.0, subst (λ d. MayLeave d r.left) before.1 is.1))
+  | inr none ↦ absurd (let apart : Some r.name ≡ None = sym is.0 ∙ none in cc)
+]
+
+-- of the attached store a crash leaves what the disk may leave
+store_left : (name left : List ℕ) (m : Moment) → m.attached ≡ Some name → MayBeLeft name m left → MayLeave m.disk left
+store_left name left m is (inl may) = may.1
+store_left name left m is (inr apart) = absurd (apart.0 is)
+
+-- ---- the lines of a round ----
+
+-- n lines are kept of a round, and the bytes that it left keep them
+abbrev KeptOf : (ℕ → List ℕ → Type 0) → Standing → Stop → List ℕ → Type 0
+KeptOf Kept old stop left = (n : ℕ) × AreKept old stop n × Kept n left
+
+module _ (Kept : ℕ → List ℕ → Type 0) (past : ℕ) (name : List ℕ) (old : Standing) where
+  -- of one that a crash cut off all that were taken, or all but the last
+  kept_up : (told : ℕ → List ℕ) (m : Moment) (n : ℕ) (text left : List ℕ) → m.asked ≡ old.asked + n → KeepsUpWith Kept told n text left →
+      KeptOf Kept old (cut_at m) left
+  kept_up told m zero text left asked kept = (0, inl asked, kept.0)
+  kept_up told m (suc n) text left asked (inl kept) = (suc n, inl asked, kept.0)
+  kept_up told m (suc n) text left asked (inr kept) = (n, inr asked, kept.0)
+
+  cut_keeps : (told : ℕ → List ℕ) (m : Moment) (left : List ℕ) → InSession Kept told past name old m → MayBeLeft name m left → KeptOf Kept old (cut_at m) left
+  cut_keeps told m left i may = kept_up told m i.taken i.text left i.asked (i.leaves left (store_left name left m i.attached may))
+
+  -- of one that came to its end all but those that are lost by it
+  at_rest : (new : Standing) (n : ℕ) → new.files name ≡ Some new.disk.bytes → Kept n new.disk.bytes → Kept n (store_bytes new name)
+  at_rest new n file keeps = subst (Kept n) (sym (ap bytes_or_none file)) keeps
+
+  came_keeps : (whole : EndingOf) (most : ℕ) (new : Standing) (o : PlayEnd) → PlaysWith Kept whole past name most (attached_to old name) new o → AtRest o →
+      KeptOf Kept old (came_to new o) (store_bytes new name)
+  came_keeps whole most new end.Ended p rest =
+      (p.session.0, omega (arith, p.session.1), at_rest new p.session.0 p.session.2.file p.session.2.keeps)
+  came_keeps whole most new end.InputEnded p rest =
+      (p.session.0, omega (arith, p.session.1), at_rest new p.session.0 p.session.2.file p.session.2.keeps)
+  came_keeps whole most new (end.Long events) p rest =
+      (p.session.0, omega (arith, p.session.1), at_rest new p.session.0 p.session.2.file p.session.2.keeps)
+  came_keeps whole most new (end.Outside call.Ask) p rest =
+      (p.session.0, omega (arith, p.session.1), at_rest new p.session.0 p.session.2.file p.session.2.keeps)
+  came_keeps whole most new (end.Outside call.Show) p rest =
+      (p.session.0, omega (arith, p.session.1), at_rest new p.session.0 p.session.2.file p.session.2.keeps)
+  came_keeps whole most new (end.Spent kind) p rest =
+      (p.session.0, omega (arith, p.session.1), at_rest new p.session.0 p.session.2.file p.session.2.keeps)
+  came_keeps whole most new (end.TooDeep table) p rest =
+      (p.session.0, omega (arith, p.session.1), at_rest new p.session.0 p.session.2.file p.session.2.keeps)
+  came_keeps whole most new (end.Outside call.Write) p rest = absurd rest
+  came_keeps whole most new (end.Outside call.Sync) p rest = absurd rest
+  came_keeps whole most new _ p rest = absurd p.shows
+
+-- ---- the first round ----
+
+empty_unmade : (left : List ℕ) → left ≡ [] → IsUnmade (recover left)
+empty_unmade left e = no_session left (inl (λ q. omega (arith, q, ap length e)))
+
+no_writing : (c : StageCall) → IsOneOf writing_calls c → ¬ AtRest (end.Outside c)
+no_writing c (inl e) = rw e (λ rest. rest)
+no_writing c (inr (inl e)) = rw e (λ rest. rest)
+no_writing c (inr (inr h)) = absurd h
+
+module _ (g : Story) (seed : ℕ) (r : Round) (begins : BeginsOver [] r) (made : ¬ IsUnmade (recover r.left)) where
+  first_cut : (m : Moment) → InGame g seed r.name r.old m → MayBeLeft r.name m r.left → KeptOf (StandsWith g seed [] r.old.lines) r.old (cut_at m) r.left
+  first_cut m (inl n) may = absurd (made (empty_unmade r.left (not_yet_left r [] m begins n may)))
+  first_cut m (inr (inl i)) may = elim (i.leaves r.left (store_left r.name r.left m i.attached may)) [
+    | inl none ↦ absurd (made none)
+    | inr kept ↦ (0, inl (i.asked ∙ omega arith), kept)
+  ]
+  first_cut m (inr (inr i)) may =
+      cut_keeps (StandsWith g seed [] r.old.lines) 0 r.name r.old (text_since g seed [] r.old.lines) m r.left i may
+
+  still_empty : (new : Standing) → r.left ≡ store_bytes new r.name → store_bytes new r.name ≡ store_bytes r.old r.name → ⊥
+  still_empty new left same = made (empty_unmade r.left (left ∙ same ∙ begins.has))
+
+  first_in : (new : Standing) (o : PlayEnd) →
+      PlaysIn (StandsWith g seed [] r.old.lines) (reading g seed) r.name (attached_to r.old r.name) new o → AtRest o → r.left ≡ store_bytes new r.name →
+      KeptOf (StandsWith g seed [] r.old.lines) r.old (came_to new o) (store_bytes new r.name)
+  first_in new _ (memory e) rest left = absurd (still_empty new left (bytes_of r.old new r.name e))
+  first_in new _ (spent kind run is e) rest left = absurd (still_empty new left (bytes_of r.old new r.name e))
+  first_in new _ (too_deep table run is e) rest left = absurd (still_empty new left (bytes_of r.old new r.name e))
+  first_in new _ (unmade c is e stays) rest left = absurd (no_writing c is rest)
+  first_in new _ (plays o p) rest left = came_keeps (StandsWith g seed [] r.old.lines) 0 r.name r.old (reading g seed) EVENT_LIMIT new o p rest
+
+  first_came : (new : Standing) (o : PlayEnd) → PlaysGame g seed r.name r.old new o → AtRest o → r.left ≡ store_bytes new r.name →
+      KeptOf (StandsWith g seed [] r.old.lines) r.old (came_to new o) (store_bytes new r.name)
+  first_came new _ (unattached u) rest left = absurd (still_empty new left (unattached_bytes r.old new r.name u))
+  first_came new _ (occupied some e) rest left = absurd (omega (arith, some, ap length begins.has))
+  first_came new _ (plays_in o empty p) rest left = first_in new o p rest left
+
+  first_stops : (stop : Stop) → StopsWith (InGame g seed r.name r.old) (PlaysGame g seed r.name r.old) r.name r.left stop →
+      KeptOf (StandsWith g seed [] r.old.lines) r.old stop r.left
+  first_stops (cut_at m) s = first_cut m s.0 s.1
+  first_stops (came_to new o) s =
+      subst (KeptOf (StandsWith g seed [] r.old.lines) r.old (came_to new o)) (sym s.2) (first_came new o s.0 s.1 s.2)
+
+-- ---- a later round ----
+
+module _ (g : Story) (seed : ℕ) (es : List (List ℕ)) (bytes : List ℕ) (r : Round) (begins : BeginsOver bytes r) (stands : Stands g seed es bytes) where
+  -- with no line more it stands for those before
+  none_more : (left : List ℕ) → left ≡ bytes → StandsWith g seed es r.old.lines 0 left
+  none_more left e = subst (λ q. Stands g seed (es ++ []) q) (sym e) (subst (λ q. Stands g seed q bytes) (sym (append-nil es)) stands)
+
+  later_cut : (m : Moment) → InGoingOn g seed es r.name r.old m → MayBeLeft r.name m r.left → KeptOf (StandsWith g seed es r.old.lines) r.old (cut_at m) r.left
+  later_cut m (inl n) may = (0, inl (n.asked ∙ omega arith), none_more r.left (not_yet_left r bytes m begins n may))
+  later_cut m (inr i) may =
+      cut_keeps (StandsWith g seed es r.old.lines) (length es) r.name r.old (text_since g seed es r.old.lines) m r.left i may
+
+  later_came : (new : Standing) (o : PlayEnd) → GoesOn g seed es r.name r.old new o → AtRest o →
+      KeptOf (StandsWith g seed es r.old.lines) r.old (came_to new o) (store_bytes new r.name)
+  later_came new _ (unattached u) rest =
+      (0, unattached_asked r.old new u, none_more (store_bytes new r.name) (unattached_bytes r.old new r.name u ∙ begins.has))
+  later_came new _ (unread e) rest =
+      (0, attached_asked r.old new r.name e, none_more (store_bytes new r.name) (bytes_of r.old new r.name e ∙ begins.has))
+  later_came new _ (memory e) rest =
+      (0, attached_asked r.old new r.name e, none_more (store_bytes new r.name) (bytes_of r.old new r.name e ∙ begins.has))
+  later_came new _ (plays o p) rest =
+      came_keeps (StandsWith g seed es r.old.lines) (length es) r.name r.old (reading_since g seed es) (EVENT_LIMIT - length es) new o p rest
+
+  later_stops : (stop : Stop) → StopsWith (InGoingOn g seed es r.name r.old) (GoesOn g seed es r.name r.old) r.name r.left stop →
+      KeptOf (StandsWith g seed es r.old.lines) r.old stop r.left
+  later_stops (cut_at m) s = later_cut m s.0 s.1
+  later_stops (came_to new o) s =
+      subst (KeptOf (StandsWith g seed es r.old.lines) r.old (came_to new o)) (sym s.2) (later_came new o s.0 s.1)
+
+-- ---- all rounds ----
+
+cut_is_line : (line : List ℕ) → AreBytes line → IsLine (take 255 line)
+cut_is_line line are = record { short = omega (arith, length-take 255 line); bytes = All-take (λ b. b < 256) 255 line are }
+
+first_are_lines : (n : ℕ) (lines : List (List ℕ)) → All AreBytes lines → All IsLine (first_lines n lines)
+first_are_lines n lines are = All-map IsLine (take 255) (take n lines) (λ k d low. cut_is_line _ (All-take AreBytes n lines are k d low))
+
+-- rounds over bytes that stand
+later_rounds : (g : Story) (seed : ℕ) (es : List (List ℕ)) (bytes : List ℕ) (rounds : List Round) →
+    IsPlayedWith g seed es → Stands g seed es bytes → AreRounds g seed bytes rounds →
+    (kept : List (List ℕ)) × AreKeptOf rounds kept × Stands g seed (es ++ kept) (left_after bytes rounds)
+later_rounds g seed es bytes [] played stands rounds = ([], refl, subst (λ fs. Stands g seed fs bytes) (sym (append-nil es)) stands)
+later_rounds g seed es bytes (r ∷ more) played stands rounds =
+    let is = rounds.0 in
+    let kept = later_stops g seed es bytes r is.0 stands r.stop (is.1 es played stands) in
+    let fs : List (List ℕ) = first_lines kept.0 r.old.lines in
+    let longer : IsPlayedWith g seed (es ++ fs) = record {
+      valid = played.valid;
+      fits = played.fits;
+      lines = All-append IsLine es fs played.lines (first_are_lines kept.0 r.old.lines is.0.lines);
+    } in
+    let rest = later_rounds g seed (es ++ fs) r.left more longer kept.2 rounds.1 in
+    (fs ++ rest.0, (kept.0, rest.0, kept.1, refl, rest.1), subst (λ all. Stands g seed all (left_after r.left more)) (append_assoc es fs rest.0) rest.2)
+
+pub rounds_stand : RoundsStand
+rounds_stand g seed first rounds valid fits is made more =
+    let kept = first_stops g seed first is.0 made first.stop is.1 in
+    let fs : List (List ℕ) = first_lines kept.0 first.old.lines in
+    let played : IsPlayedWith g seed fs = record { valid = valid; fits = fits; lines = first_are_lines kept.0 first.old.lines is.0.lines } in
+    let rest = later_rounds g seed fs first.left rounds played kept.2 more in
+    (fs ++ rest.0, (kept.0, rest.0, kept.1, refl, rest.1), rest.2)
