@@ -16,7 +16,7 @@ mod Games
 mod Resuming
 mod Showing
 mod Again
+mod Rounds
 pub mod Going
 pub mod Settling
 pub mod Standing
-mod Rounds
