@@ -9,3 +9,4 @@ mod NextListed
 mod Facts
 pub mod Worlds
 pub mod Changes
+pub mod Saving
