@@ -17,3 +17,4 @@ pub mod Counts
 pub mod Held
 pub mod Sounding
 pub mod Rightly
+pub mod Saving

@@ -4,4 +4,5 @@ pub mod GoingOn
 pub mod Turn
 pub mod Bounds
 pub mod Places
+pub mod Saving
 pub mod inner

@@ -7,3 +7,4 @@ pub mod Longer
 pub mod Pieces
 pub mod Bounds
 pub mod Places
+pub mod Saving

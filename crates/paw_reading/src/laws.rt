@@ -6,6 +6,7 @@ ghost use Rattle.paw_reading.specs.inner.Pieces.{PiecesOfLines};
 ghost use Rattle.paw_reading.specs.inner.Places.{ReadingsStopRightly, GoingOnStopsRightly};
 ghost use Rattle.paw_reading.specs.inner.Places.{ReadingsAreBounded, GoingOnIsBounded};
 ghost use Rattle.paw_reading.specs.inner.Rules.{ReadingOn};
+ghost use Rattle.paw_reading.specs.inner.Saving.{ReadingsKeepNoPosition, GoingOnKeepsPositions};
 ghost use Rattle.paw_reading.specs.inner.Turn.{TurnsEnd, EndsOnce, GoingOnEnds, GoesOnOnce, WaitsOn, GoingOnIsReading};
 
 /// Every reading ends: the phases that a turn is granted are enough.
@@ -77,4 +78,12 @@ pub fn stops_rightly()
 pub fn stays_bounded()
     ensures readings { ReadingsAreBounded }
     ensures going_on { GoingOnIsBounded }
+{}
+
+/// A game that never saves keeps no position: whatever the seed and the lines, there is none where its reading waits or
+/// has ended. So it is with a game that has neither SAVE nor LOAD. LOAD may stand there: it takes a position back and
+/// keeps none.
+pub fn keeps_no_position()
+    ensures readings { ReadingsKeepNoPosition }
+    ensures going_on { GoingOnKeepsPositions }
 {}
