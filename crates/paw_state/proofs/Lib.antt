@@ -15,3 +15,4 @@ pub mod Sizes
 pub mod Lawful
 pub mod Told
 pub mod Recorded
+pub mod Unkept

@@ -1,0 +1,43 @@
+-- The bytes of a state that keeps no position end in zeros.
+use Rattle.std.proofs.Common.{◌≡◌, ℕ, List, [], ◌++◌, None, replicate, length, map, take, refl, sym, ap, ◌∙◌, arith, append_assoc, append-nil, length-append}
+use Rattle.std.specs.Prelude.{flat_map, Option}
+use Rattle.std.proofs.lemmas.List.{take_at}
+use Rattle.paw_world.specs.World.{Position}
+use Rattle.paw_state.specs.State.{State}
+use Rattle.paw_state.specs.declared.fields.Fields.{Fields}
+use Rattle.paw_state.specs.Fields.{zeros, world_bytes, number_bytes, table_bytes, pending_bytes, kept_position_bytes, held_bytes, held_of, fields_of, state_bytes}
+use Rattle.paw_state.proofs.Found.{length-zeros}
+use Rattle.paw_state.proofs.Told.{AreLong}
+
+-- four times nothing
+none_bytes : flat_map held_bytes (map held_of (replicate 4 None)) ≡ zeros 2048
+unfolding held_bytes zeros
+none_bytes = refl
+
+unkept_bytes : (s : State) → s.world.kept ≡ replicate 4 None → kept_position_bytes (fields_of s) ≡ zeros 2048
+unfolding kept_position_bytes
+unkept_bytes s none = ap (λ (ks : List (Option Position)). flat_map held_bytes (map held_of ks)) none ∙ none_bytes
+
+-- the bytes before the kept positions
+before_kept : Fields → List ℕ
+before_kept f = world_bytes f ++ (number_bytes f ++ (table_bytes f ++ pending_bytes f))
+
+joined : (a b c d e : List ℕ) → a ++ (b ++ (c ++ (d ++ (e ++ [])))) ≡ (a ++ (b ++ (c ++ d))) ++ e
+joined a b c d e = simp (append_assoc, append-nil)
+
+state_splits : (s : State) → state_bytes s ≡ before_kept (fields_of s) ++ kept_position_bytes (fields_of s)
+unfolding before_kept
+state_splits s =
+    let f = fields_of s in joined (world_bytes f) (number_bytes f) (table_bytes f) (pending_bytes f) (kept_position_bytes f)
+
+cut_back : (bytes front back : List ℕ) → bytes ≡ front ++ back → length bytes ≡ 3419 → back ≡ zeros 2048 → take 1371 bytes ++ zeros 2048 ≡ bytes
+cut_back bytes front back e n z =
+    let all : length (front ++ back) ≡ 3419 = ap length (sym e) ∙ n in
+    let behind : length back ≡ 2048 = ap length z ∙ length-zeros 2048 in
+    let m : length front ≡ 1371 = omega (arith, all, behind, length-append front back) in
+    ap (λ (l : List ℕ). l ++ zeros 2048) (ap (take 1371) e ∙ take_at front back 1371 m) ∙ (ap (λ (l : List ℕ). front ++ l) (sym z) ∙ sym e)
+
+-- so its first 1,371 bytes and 2,048 zeros are the state
+pub ends_in_zeros : (s : State) → AreLong s → s.world.kept ≡ replicate 4 None → take 1371 (state_bytes s) ++ zeros 2048 ≡ state_bytes s
+ends_in_zeros s long none =
+    cut_back (state_bytes s) (before_kept (fields_of s)) (kept_position_bytes (fields_of s)) (state_splits s) long.all (unkept_bytes s none)
