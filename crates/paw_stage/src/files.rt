@@ -6,7 +6,7 @@ ghost use Rattle.paw_stage.specs.inner.Files.{StandsAt, GivesAt, TakesAt, folder
 
 use crate::streams::{read_first, write_whole};
 use crate::{Failed, LoadRefusal};
-use std::alloc::Global;
+use std::alloc::{Alloc, Global};
 use std::fs::{self, File, OpenFile};
 use std::io::{self, ErrorKind, Read, Seek, SeekFrom, Write};
 use std::path::Path;
@@ -26,37 +26,79 @@ pub fn read_file<R: Files>(
     }
 }
 
-/// Makes a file hold these bytes, and syncs it before it is closed, so that a fault of the disk that comes late fails
-/// too. Where it fails the file may hold a first part of them.
-pub fn write_file<R: Files>(rt: &R, name: &str, bytes: &[u8]) -> Result<(), Failed> {
-    let mut file = fs::create(rt, name).map_err(|_| Failed)?;
-    write_whole(&mut file, bytes)?;
+/// Makes a file hold these bytes, and syncs it and its folder before it is closed, so that a fault of the disk that
+/// comes late fails too. Where there is no room for them a file that was there is left whole, and no other file is made.
+/// After any other fault the file may hold some of them.
+///
+/// What is no plain file, as a pipe or a device, takes the bytes as they come.
+pub fn write_file<R: Files + Alloc>(rt: &R, name: &str, bytes: &[u8]) -> Result<(), Failed> {
+    let mut options = File::options();
+    let opened = options.write(true).create(true).open(rt, name);
+    let mut file = opened.map_err(|_| Failed)?;
+    let before = file.metadata().map_err(|_| Failed)?;
+    if !before.is_file() {
+        write_whole(&mut file, bytes)?;
+        return file.sync_all().map_err(|_| Failed);
+    }
+    replace(&mut file, before.len(), bytes)?;
+    sync_folder(rt, name).map_err(|_| Failed)
+}
+
+// Makes a plain file of this length hold these bytes.
+//
+// The part of them that lies behind the file's end is written first, and synced, since some file systems take the room
+// only then. So no byte is replaced before there is room for all, and where there is none the file gets its length back.
+fn replace<F: OpenFile + Write + Seek>(
+    file: &mut F,
+    length: u64,
+    bytes: &[u8],
+) -> Result<(), Failed> {
+    let (first, behind) = bytes.split_at(length.min(bytes.len() as u64) as usize);
+    if !behind.is_empty() && append(file, length, behind).is_err() {
+        let _ = file.set_len(length);
+        return Err(Failed);
+    }
+    write_part(file, 0, first)?;
+    file.set_len(bytes.len() as u64).map_err(|_| Failed)?;
     file.sync_all().map_err(|_| Failed)
 }
 
-/// Opens a file to be read and written in parts, and gives its length in bytes. A missing file is made empty.
-///
-/// The file and its folder are synced, so that a crash leaves just what a read gives. The file's descriptor is none of
-/// those of the standard streams.
-pub fn open_store<R: Files>(rt: &R, name: &str) -> Result<(R::File, u64), Failed> {
-    let file = open_synced(rt, name).map_err(|_| Failed)?;
-    let length = file.metadata().map_err(|_| Failed)?.len();
-    Ok((file, length))
+// Writes bytes behind the end of a file of this length, and syncs them.
+fn append<F: OpenFile + Write + Seek>(
+    file: &mut F,
+    length: u64,
+    bytes: &[u8],
+) -> Result<(), Failed> {
+    write_part(file, length, bytes)?;
+    file.sync_all().map_err(|_| Failed)
 }
 
-// Opens a file, makes it where it is missing, and syncs it and its folder.
-//
-// A file that is opened takes the lowest free descriptor. Where the program was started with a standard stream closed,
-// that is the stream's, and what is shown would be written to the file. A copy has a descriptor above those three.
-fn open_synced<R: Files>(rt: &R, name: &str) -> io::Result<R::File> {
-    let file = File::options()
-        .read(true)
-        .write(true)
-        .create(true)
-        .open(rt, name)?;
-    file.sync_all()?;
-    fs::open(rt, folder_of(name))?.sync_all()?;
-    file.try_clone()
+/// Syncs the folder in which the file of a name lies, so that the file is there after a crash. Where the name is a link,
+/// that is the folder of the file that it leads to.
+///
+/// A folder whose file system has no such call passes: nothing more can be done for it there.
+pub fn sync_folder<R: Files + Alloc>(rt: &R, name: &str) -> io::Result<()> {
+    if fs::symlink_metadata(rt, name)?.is_symlink() {
+        let path = fs::canonicalize(rt, name)?;
+        return sync_open(rt, folder_of(path.as_str()));
+    }
+    sync_open(rt, folder_of(name))
+}
+
+// Opens a folder, and syncs it.
+fn sync_open<R: Files>(rt: &R, folder: Path<'_>) -> io::Result<()> {
+    match fs::open(rt, folder)?.sync_all() {
+        Err(e) if has_no_such_call(&e) => Ok(()),
+        synced => synced,
+    }
+}
+
+/// Whether an error says that the file system doesn't have the call, and not that the call failed.
+pub fn has_no_such_call(error: &io::Error) -> bool {
+    matches!(
+        error.kind(),
+        ErrorKind::InvalidInput | ErrorKind::Unsupported
+    )
 }
 
 // The folder that the file of a name lies in.

@@ -6,16 +6,19 @@ ghost use Rattle.paw_stage.specs.Stage.{Faulted, failed_in, failed_load, failed_
 ghost use Rattle.paw_stage.specs.inner.Faults.{count_of, no_faults, counted};
 ghost use Rattle.paw_stage.specs.inner.Done.{fresh};
 
-use crate::files::{open_store, read_file, read_part, sync_bytes, write_file, write_part};
+use crate::files::{read_file, read_part, sync_bytes, write_file, write_part};
 use crate::input::LineReader;
 use crate::streams::write_whole;
 use crate::{Asked, Failed, FaultCounts, LoadRefusal, Stage, StageCall};
+use opening::open_store;
 use paw_base::limits::LINE_LIMIT;
-use std::alloc::Global;
+use std::alloc::{Alloc, Global};
+use std::fs::File;
 use std::io;
 use std::marker::Model;
 use std::rt::Files;
 
+mod opening;
 #[cfg(test)]
 mod tests;
 
@@ -26,18 +29,22 @@ mod tests;
 /// each later one fails, so that no rest of a line is taken for a line.
 ///
 /// The attached store is a file that is kept open. Its descriptor is none of those of the standard streams, though one
-/// of them was closed when the program started. An attach syncs the file and its folder, so that what it answers is
-/// there after a crash too. Once a sync has failed the store is let go, since a system may drop what it failed to write
-/// and still answer that a later sync succeeded: every call to the store fails until one is attached again.
+/// of them was closed when the program started, and it is no file that a standard stream is too. While it is open it is
+/// locked, where its file system has locks, and an attach fails where another open of the file holds the lock: so one
+/// program at a time has it. An attach syncs the file and its folder, so that what it answers is there after a crash
+/// too; the store held before is let go first, so that the same file can be attached again.
+///
+/// Once a sync has failed the store is let go, since a system may drop what it failed to write and still answer that a
+/// later sync succeeded: every call to the store fails until one is attached again.
 #[derive(Drop)]
-pub struct RealStage<R: Files + Input + Print + Drop> {
+pub struct RealStage<R: Files<File = File> + Input + Print + Alloc + Drop> {
     rt: R,
     input: LineReader<R::Reader>,
-    store: Option<R::File>,
+    store: Option<File>,
     counts: FaultCounts,
 }
 
-impl<R: Files + Input + Print + Drop> Model for RealStage<R> {
+impl<R: Files<File = File> + Input + Print + Alloc + Drop> Model for RealStage<R> {
     ghost use Rattle.paw_stage.specs.declared.faults.FaultCounts.{FaultCounts};
 
     ghost Value = { FaultCounts };
@@ -45,7 +52,7 @@ impl<R: Files + Input + Print + Drop> Model for RealStage<R> {
     ghost view = { λ s. s.counts };
 }
 
-impl<R: Files + Input + Print + Drop> RealStage<R> {
+impl<R: Files<File = File> + Input + Print + Alloc + Drop> RealStage<R> {
     /// The files and standard streams of this runtime. No call has failed yet.
     pub fn new(rt: R) -> RealStage<R>
         ensures { result ≡ no_faults }
@@ -60,7 +67,7 @@ impl<R: Files + Input + Print + Drop> RealStage<R> {
     }
 }
 
-impl<R: Files + Input + Print + Drop> Stage for RealStage<R> {
+impl<R: Files<File = File> + Input + Print + Alloc + Drop> Stage for RealStage<R> {
     ghost Tells = { λ _. ⊥ };
 
     ghost standing = { λ _. fresh };
@@ -104,6 +111,7 @@ impl<R: Files + Input + Print + Drop> Stage for RealStage<R> {
         // A count rises exactly at a failure.
         ensures counted { self.new ≡ counted (failed_in call.Attach result) self.old }
     {
+        self.store = None;
         let opened = open_store(&self.rt, name);
         let (file, length) = self.counts.answered(StageCall::Attach, opened)?;
         self.store = Some(file);

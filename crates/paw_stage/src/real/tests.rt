@@ -1,8 +1,9 @@
 // A store that is a real file.
 
 use crate::{LoadRefusal, RealStage, Stage};
-use std::alloc::{AllocError, Global};
-use std::fs;
+use std::alloc::{Alloc, AllocError, Global};
+use std::fs::{self, File};
+use std::os::unix::fs::symlink;
 use std::rt::Files;
 use std::test::Fail;
 
@@ -17,7 +18,7 @@ enum Call<'a> {
 }
 
 // What a call answers: the bytes that it gives, the length of a store as one byte, or a word in capitals.
-fn said<R: Files + Input + Print + Drop>(
+fn said<R: Files<File = File> + Input + Print + Alloc + Drop>(
     stage: &mut RealStage<R>,
     alloc: Global,
     call: Call<'_>,
@@ -39,7 +40,7 @@ fn said<R: Files + Input + Print + Drop>(
     }
 }
 
-fn read<R: Files + Input + Print + Drop>(
+fn read<R: Files<File = File> + Input + Print + Alloc + Drop>(
     stage: &mut RealStage<R>,
     alloc: Global,
     at: u64,
@@ -59,7 +60,7 @@ fn word(alloc: Global, fine: bool) -> Result<Vec<u8>, AllocError> {
 #[test]
 fn a_real_file_is_a_store(rt: HostRuntime) -> Result<(), Fail> {
     let mut stage = RealStage::new(&rt);
-    let calls: [(Call<'_>, &[u8]); 31] = [
+    let calls: [(Call<'_>, &[u8]); 33] = [
         (Call::Read(0, 0), b"FAILED"),
         (Call::Write(0, b"x"), b"FAILED"),
         (Call::Sync, b"FAILED"),
@@ -83,6 +84,8 @@ fn a_real_file_is_a_store(rt: HostRuntime) -> Result<(), Fail> {
         (Call::Attach("paw_stage_no_folder/game"), b"FAILED"),
         (Call::Attach("."), b"FAILED"),
         (Call::Attach("/dev/null"), b"FAILED"),
+        (Call::Read(0, 1), b"FAILED"),
+        (Call::Attach("paw_stage_store"), &[7]),
         (Call::Read(0, 1), b"a"),
         (Call::Load("paw_stage_store"), b"abcdXYZ"),
         (Call::Save("paw_stage_store", b"new"), b"DONE"),
@@ -98,5 +101,89 @@ fn a_real_file_is_a_store(rt: HostRuntime) -> Result<(), Fail> {
     }
     fs::remove_file(&rt, "paw_stage_store")?;
     fs::remove_file(&rt, "paw_stage_other")?;
+    Ok(())
+}
+
+// The other stage stands for another program: an open of a file of its own is what a lock is held by.
+#[test]
+fn one_program_at_a_time_has_a_store(rt: HostRuntime) -> Result<(), Fail> {
+    let mut other = RealStage::new(&rt);
+    {
+        let mut first = RealStage::new(&rt);
+        for (name, of_first, of_other) in [
+            ("paw_stage_locked", true, false),
+            ("./paw_stage_locked", true, false),
+            ("paw_stage_locked_link", true, false),
+            ("paw_stage_unlocked", true, false),
+            ("paw_stage_locked", true, false),
+        ] {
+            if name == "paw_stage_locked_link" {
+                symlink(&rt, "paw_stage_locked", name)?;
+            }
+            assert_eq!(rt; first.attach(name).is_ok(), of_first, "{name}");
+            assert_eq!(rt; other.attach(name).is_ok(), of_other, "{name}");
+        }
+        assert!(rt; other.attach("paw_stage_unlocked").is_ok());
+        assert!(rt; other.attach("paw_stage_locked").is_err());
+        assert!(rt; first.write_at(0, b"bytes").is_ok());
+    }
+    assert_eq!(rt; other.attach("paw_stage_locked").ok(), Some(5));
+    for name in [
+        "paw_stage_locked_link",
+        "paw_stage_locked",
+        "paw_stage_unlocked",
+    ] {
+        fs::remove_file(&rt, name)?;
+    }
+    Ok(())
+}
+
+// A link that leads nowhere makes the file that it names, in the folder of that name.
+#[test]
+fn a_link_is_the_file_that_it_leads_to(rt: HostRuntime) -> Result<(), Fail> {
+    let mut stage = RealStage::new(&rt);
+    fs::create_dir(&rt, "paw_stage_folder")?;
+    symlink(&rt, "paw_stage_folder/store", "paw_stage_link")?;
+    symlink(&rt, "paw_stage_no_folder/store", "paw_stage_dead")?;
+    let calls: [(Call<'_>, &[u8]); 9] = [
+        (Call::Attach("paw_stage_link"), &[0]),
+        (Call::Write(0, b"abc"), b"DONE"),
+        (Call::Sync, b"DONE"),
+        (Call::Attach("paw_stage_folder/store"), &[3]),
+        (Call::Attach("paw_stage_link"), &[3]),
+        (Call::Save("paw_stage_link", b"longer"), b"DONE"),
+        (Call::Load("paw_stage_folder/store"), b"longer"),
+        (Call::Attach("paw_stage_dead"), b"FAILED"),
+        (Call::Save("paw_stage_dead", b"x"), b"FAILED"),
+    ];
+    for (at, (call, want)) in calls.into_iter().enumerate() {
+        let answer = said(&mut stage, rt.alloc(), call)?;
+        assert_eq!(rt; answer.as_slice(), want, "call {at}");
+    }
+    for name in ["paw_stage_link", "paw_stage_dead", "paw_stage_folder/store"] {
+        fs::remove_file(&rt, name)?;
+    }
+    fs::remove_dir(&rt, "paw_stage_folder")?;
+    Ok(())
+}
+
+// Over a shorter file, one of the same length, a longer one and an empty one.
+#[test]
+fn a_file_holds_what_was_saved_last(rt: HostRuntime) -> Result<(), Fail> {
+    let mut stage = RealStage::new(&rt);
+    let texts: [&[u8]; 7] = [b"ab", b"abcdef", b"ABCDEF", b"xyz", b"", b"", b"end"];
+    for text in texts {
+        let calls = [
+            (Call::Save("paw_stage_saved", text), b"DONE".as_slice()),
+            (Call::Load("paw_stage_saved"), text),
+        ];
+        for (call, want) in calls {
+            let answer = said(&mut stage, rt.alloc(), call)?;
+            assert_eq!(rt; answer.as_slice(), want, "{text:?}");
+        }
+    }
+    let answer = said(&mut stage, rt.alloc(), Call::Save("/dev/full", b"x"))?;
+    assert_eq!(rt; answer.as_slice(), b"FAILED".as_slice());
+    fs::remove_file(&rt, "paw_stage_saved")?;
     Ok(())
 }
