@@ -6,11 +6,15 @@ ghost use Rattle.paw_stage.specs.inner.Files.{StandsAt, GivesAt, TakesAt, folder
 
 use crate::streams::{read_first, write_whole};
 use crate::{Failed, LoadRefusal};
+use libc::types::rlimit;
 use std::alloc::{Alloc, Global};
 use std::fs::{self, File, OpenFile};
 use std::io::{self, ErrorKind, Read, Seek, SeekFrom, Write};
 use std::path::Path;
 use std::rt::Files;
+
+// Linux's number of the limit on a file's size.
+const FILE_SIZE: i32 = 1;
 
 /// The first `most + 1` bytes of a file.
 pub fn read_file<R: Files>(
@@ -120,11 +124,29 @@ pub fn read_part<F: Read + Seek>(file: &mut F, at: u64, into: &mut [u8]) -> Resu
 }
 
 /// Writes bytes from a place on. What lies between the end of the file and a place behind it becomes zeros.
+///
+/// It fails where they would reach past the greatest size that the system lets a file have: a write there would end the
+/// program by a signal, and nothing could be answered.
 pub fn write_part<F: Write + Seek>(file: &mut F, at: u64, bytes: &[u8]) -> Result<(), Failed>
     ensures written { OnOk result (TakesAt F.stream_position F.contents file.old file.new at bytes.now) }
 {
+    if at.saturating_add(bytes.len() as u64) > longest_file() {
+        return Err(Failed);
+    }
     seek_to(file, at)?;
     write_whole(file, bytes)
+}
+
+// The greatest size that the system lets a file of this program have, in bytes (`ulimit -f` of a shell).
+fn longest_file() -> u64 {
+    let mut limit = rlimit {
+        rlim_cur: u64::MAX,
+        rlim_max: u64::MAX,
+    };
+    if libc::getrlimit(FILE_SIZE, &mut limit) < 0 {
+        return u64::MAX;
+    }
+    limit.rlim_cur
 }
 
 // Goes to a place of a file.
