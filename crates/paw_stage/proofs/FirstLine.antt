@@ -1,9 +1,10 @@
 -- The first line of some bytes.
-use Rattle.std.proofs.Common.{◌≡◌, ◌≢◌, ℕ, ◌-◌, ◌<◌, zero, suc, ◌&&◌, Bool, true, false, List, [], ◌∷◌, ◌++◌, length, take, get_or, nat_lt, refl, ap, ◌∙◌}
+use Rattle.std.proofs.Common.{◌≡◌, ◌≢◌, ℕ, ◌+◌, ◌-◌, ◌<◌, ◌≤◌, zero, suc, ◌&&◌, Bool, true, false, List, [], ◌∷◌, ◌++◌, length, take, get_or, nat_lt, refl, ap, ◌∙◌, sym, subst}
 use Rattle.std.proofs.Common.{arith, length-append}
 use Rattle.std.specs.Prelude.{if◌then◌else◌, ◌==◌}
 use Rattle.std.specs.Io.BufRead.{take_through, drop_through, ends_with_byte, strip_last, first_line}
 use Rattle.std.proofs.Math.Seq.{take-append_seam}
+use Rattle.std.proofs.lemmas.List.{length-take, append-nil}
 use Rattle.paw_stage.specs.inner.Input.{HasNoEnd}
 
 not_same : (x y : ℕ) → x ≢ y → (x == y) ≡ false
@@ -90,3 +91,33 @@ first_line-end xs rest h = ap line_in (take_through-end xs rest h) ∙ line_in-e
 pub first_line-whole : (xs : List ℕ) → HasNoEnd xs → first_line xs ≡ xs
 unfolding line_in
 first_line-whole xs h = ap line_in (take_through-whole xs h) ∙ line_in-whole xs h
+
+-- no more than the last byte is left out
+strip_last-length : (b : ℕ) (xs : List ℕ) → length xs ≤ length (strip_last b xs) + 1
+strip_last-length b xs = by_test (ends_with_byte b xs)
+  where
+    by_test : (t : Bool) → length xs ≤ length (if t then take (length xs - 1) xs else xs) + 1
+    by_test true = omega (arith, length-take (length xs - 1) xs)
+    by_test false = omega arith
+
+take_through-more : (xs rest : List ℕ) → HasNoEnd xs → take_through 10 (xs ++ rest) ≡ xs ++ take_through 10 rest
+take_through-more [] rest h = refl
+take_through-more (x ∷ xs) rest h = rw (not_same x 10 h.0) (ap (λ ys. x ∷ ys) (take_through-more xs rest h.1))
+
+-- a line of bytes without an LF and more has all of them but a CR at their end
+line_in-long : (xs more : List ℕ) → HasNoEnd xs → length xs ≤ length (line_in (xs ++ more)) + 1
+unfolding line_in
+line_in-long xs [] h = rw (append-nil xs) (rw (line_in-whole xs h) (omega arith))
+line_in-long xs (y ∷ ys) h = by_test (ends_with_byte 10 (xs ++ y ∷ ys))
+  where
+    t : List ℕ
+    t = xs ++ y ∷ ys
+
+    by_test : (b : Bool) → length xs ≤ length (if b then strip_last 13 (strip_last 10 t) else strip_last 10 t) + 1
+    by_test true =
+        omega (arith, length-append xs (y ∷ ys), strip_last-length 10 t, strip_last-length 13 (strip_last 10 t))
+    by_test false = omega (arith, length-append xs (y ∷ ys), strip_last-length 10 t)
+
+pub first_line-long : (xs rest : List ℕ) → HasNoEnd xs → length xs ≤ length (first_line (xs ++ rest)) + 1
+unfolding line_in
+first_line-long xs rest h = subst (λ l. length xs ≤ length (line_in l) + 1) (sym (take_through-more xs rest h)) (line_in-long xs (take_through 10 rest) h)

@@ -6,9 +6,9 @@ use Rattle.std.specs.Io.KnownBytes.{Consumes, IsAtEnd}
 use Rattle.std.specs.Io.BufRead.{strip_last, first_line, drop_through}
 use Rattle.std.proofs.lemmas.List.{take_all, take-append-le, take-take, length-take, append-nil}
 use Rattle.std.proofs.Math.Seq.{take-suc-set}
-use Rattle.paw_stage.specs.inner.Input.{Gathers, GathersLine}
+use Rattle.paw_stage.specs.inner.Input.{Gathers, GathersLine, HasLine, longest_line}
 use Rattle.paw_stage.proofs.Consumed.{Consumes_on}
-use Rattle.paw_stage.proofs.FirstLine.{HasNoEnd-push, ends_with_byte-push, drop_through-end, drop_through-whole, first_line-end, first_line-whole}
+use Rattle.paw_stage.proofs.FirstLine.{HasNoEnd-push, ends_with_byte-push, drop_through-end, drop_through-whole, first_line-end, first_line-whole, first_line-long}
 
 below_or : (k : ℕ) → (k < 255) ⊎ (255 ≤ k)
 below_or k = grind arith
@@ -48,6 +48,18 @@ gathers_more first left now into into' len byte returned h k ne size e =
       last = sym (ends_with_byte-push 13 h.taken byte);
     }
 
+-- a line of known length, which may be too long
+line_of : (bytes : List ℕ) (left : Option (List ℕ)) (len : ℕ) (into : List ℕ) → HasLine bytes left len into → GathersLine bytes left (Some len) into
+line_of bytes left len into h = (λ low. h, λ high. omega (arith, h.1))
+
+-- more bytes than a line may have, and none is an LF
+pub gathered_long : (first left now : Option (List ℕ)) (into : List ℕ) (len : ℕ) (returned : Bool) →
+    Gathers first left into len returned → longest_line + 2 ≤ len → IfSome first (λ bytes. GathersLine bytes now (Some (longest_line + 1)) into)
+gathered_long None left now into len returned h many = tt
+gathered_long (Some xs) None now into len returned h many = absurd h.consumed
+gathered_long (Some xs) (Some ys) now into len returned h many =
+    (λ low. absurd (omega arith), λ high. omega (arith, h.count, ap (λ l. length (first_line l)) h.consumed, first_line-long h.taken ys h.plain))
+
 -- the end of the bytes, with a line that has no end of its own
 pub gathered_whole : (first left now : Option (List ℕ)) (into : List ℕ) (len : ℕ) (returned : Bool) →
     Gathers first left into len returned → Consumes left now [] → IsAtEnd now → 0 < len →
@@ -57,7 +69,7 @@ gathered_whole (Some xs) None now into len returned h k end some = absurd h.cons
 gathered_whole (Some xs) (Some ys) None into len returned h k end some = absurd k
 gathered_whole (Some xs) (Some ys) (Some zs) into len returned h k end some =
     let whole : xs ≡ h.taken = h.consumed ∙ (ap (λ l. h.taken ++ l) (k ∙ end) ∙ append-nil h.taken) in
-    let line : first_line xs ≡ h.taken = ap first_line whole ∙ first_line-whole h.taken h.plain in (
+    let line : first_line xs ≡ h.taken = ap first_line whole ∙ first_line-whole h.taken h.plain in line_of xs (Some zs) len into (
       omega (arith, h.count, ap length whole),
       omega (arith, h.count, ap length line),
       h.kept ∙ ap (take 255) (sym line),
@@ -96,7 +108,7 @@ gathered_end (Some xs) (Some ys) (Some zs) into len returned h k =
     let line : first_line xs ≡ strip_last 13 h.taken = ap first_line whole ∙ first_line-end h.taken zs h.plain in
     let cut = without_return returned into h.taken len h.count h.kept in
     let stripped : (if returned then take (length h.taken - 1) h.taken else h.taken) ≡ first_line xs =
-    ap (λ b. if b then take (length h.taken - 1) h.taken else h.taken) h.last ∙ sym line in (
+    ap (λ b. if b then take (length h.taken - 1) h.taken else h.taken) h.last ∙ sym line in line_of xs (Some zs) (if returned then len - 1 else len) into (
       omega (arith, ap length whole, length-append h.taken (10 ∷ zs)),
       cut.0 ∙ ap length stripped,
       cut.1 ∙ ap (take 255) stripped,

@@ -1,6 +1,6 @@
 // The lines of a reader.
 
-ghost use Rattle.std.specs.Prelude.{◌≡◌, ◌<◌, ◌-◌, ◌↔◌, nat_lt, if◌then◌else◌, slice_set, IsTrue, IsNone, IfOk};
+ghost use Rattle.std.specs.Prelude.{◌≡◌, ◌<◌, ◌-◌, ◌↔◌, nat_lt, if◌then◌else◌, slice_set, IsTrue, IsSome, IsNone, IfOk};
 ghost use Rattle.std.specs.Io.KnownBytes.{IsAtEnd};
 ghost use Rattle.paw_base.specs.declared.limits.TheConstants.{LINE_LIMIT};
 ghost use Rattle.paw_stage.specs.declared.Asked.TheVariants as asked;
@@ -13,6 +13,13 @@ use std::io::Read;
 /// The greatest length of a line that is taken, in bytes, without its line end.
 const LONGEST_LINE: u32 = 1_048_576;
 
+/// Why no more lines are taken: one was too long, or the reader failed.
+#[derive(Clone, Copy, Drop, PartialEq, Eq, Debug)]
+pub enum LineFault {
+    TooLong,
+    Reader,
+}
+
 /// The lines of a reader, which it reads through a buffer.
 ///
 /// A line ends with LF or CR LF, and a last line that has no end is a line where it isn't empty. Once an ask has failed
@@ -21,11 +28,13 @@ const LONGEST_LINE: u32 = 1_048_576;
 pub struct LineReader<R: Drop> {
     reader: R,
     ahead: Ahead,
-    broken: bool,
+    broken: Option<LineFault>,
 }
 
 impl<R: Read + Drop> LineReader<R> {
     ghost use Rattle.paw_stage.specs.inner.Input.{unread, AsksOf, GathersOf, TakesByteOf};
+    ghost use Rattle.paw_stage.specs.inner.Input.{IsLong};
+    ghost use Rattle.paw_stage.specs.declared.input.LineFault.TheVariants as fault;
 
     /// The lines of a reader, of which nothing was read yet.
     pub fn new(reader: R) -> LineReader<R>
@@ -34,7 +43,7 @@ impl<R: Read + Drop> LineReader<R> {
         LineReader {
             reader,
             ahead: Ahead::new(),
-            broken: false,
+            broken: None,
         }
     }
 
@@ -42,24 +51,32 @@ impl<R: Read + Drop> LineReader<R> {
     /// its end not counted, is Failed, and so is a fault of the reader.
     pub fn next_line(&mut self, into: &mut [u8; LINE_LIMIT]) -> Asked
         ensures line { AsksOf R.remaining self.old self.new result into.new }
-        ensures breaks { (result ≡ asked.Failed) ↔ IsTrue self.new.broken }
-        ensures stays { IsTrue self.old.broken → result ≡ asked.Failed }
+        ensures long { IsNone self.old.broken → self.new.broken ≡ Some fault.TooLong → IsLong (unread R.remaining self.old) }
+        ensures breaks { (result ≡ asked.Failed) ↔ IsSome self.new.broken }
+        ensures stays { IsSome self.old.broken → result ≡ asked.Failed }
     {
-        if self.broken {
+        if self.broken.is_some() {
             return Asked::Failed;
         }
         match self.gather(into) {
             Ok(None) => Asked::End,
             Ok(Some(len)) if len <= LONGEST_LINE => Asked::Line(len.min(LINE_LIMIT as u32) as u8),
-            _ => {
-                self.broken = true;
-                Asked::Failed
-            }
+            Ok(Some(_)) => self.fail(LineFault::TooLong),
+            Err(_) => self.fail(LineFault::Reader),
         }
     }
 
-    // Takes the next line, keeps its first 255 bytes, and gives its length, or nothing where no byte is
-    // left. It fails where the line and its CR are longer than the greatest length and one byte.
+    // Takes no more lines from now on.
+    fn fail(&mut self, why: LineFault) -> Asked
+        ensures failed { result ≡ asked.Failed }
+        ensures broken { self.new ≡ record self.old { broken = Some why } }
+    {
+        self.broken = Some(why);
+        Asked::Failed
+    }
+
+    // Takes the next line, keeps its first 255 bytes, and gives its length, or nothing where no byte is left. Of a line
+    // that is too long it may take a part alone, and gives any length that is too great.
     fn gather(&mut self, into: &mut [u8; LINE_LIMIT]) -> Result<Option<u32>, Failed>
         ensures line { GathersOf R.remaining self.old self.new result into.new }
         ensures rest { self.new.broken ≡ self.old.broken }
@@ -75,7 +92,7 @@ impl<R: Read + Drop> LineReader<R> {
                 }
             }
         }
-        Err(Failed)
+        Ok(Some(LONGEST_LINE + 1))
     }
 
     // Takes the next byte, if there is one.

@@ -14,22 +14,36 @@ use Rattle.paw_stage.specs.declared.input.LineReader.{LineReader}
 abbrev pub unread : {R : Type 0} → (R → Option (List ℕ)) → LineReader R → Option (List ℕ)
 unread remaining s = prepend_known s.ahead (remaining s.reader)
 
+-- The greatest length of a line that is taken, in bytes, without its end.
+abbrev pub longest_line : ℕ
+longest_line = 1048576
+
+-- Where these bytes are known, their first line is too long.
+abbrev pub IsLong : Option (List ℕ) → Type 0
+IsLong unread = IfSome unread (λ bytes. longest_line < length (first_line bytes))
+
 -- What an ask takes from these bytes, and what it leaves of them. It takes all bytes up to the first LF, or all of
 -- them where there is none, and gives the line without its LF or CR LF.
 abbrev pub TakesLine : List ℕ → Option (List ℕ) → Asked → List ℕ → Type 0
 TakesLine bytes left (asked.Line n) into =
-    (0 < length bytes) × (length (first_line bytes) ≤ 1048576) × IsCut (first_line bytes) into n
+    (0 < length bytes) × (length (first_line bytes) ≤ longest_line) × IsCut (first_line bytes) into n
     × (left ≡ Some (drop_through 10 bytes))
 TakesLine bytes left asked.End into = (bytes ≡ []) × (left ≡ Some [])
 TakesLine bytes left asked.Failed into = ⊤
 
--- What gathering a line from these bytes gives: its length, and its first 255 bytes in a buffer.
-abbrev pub GathersLine : List ℕ → Option (List ℕ) → Option ℕ → List ℕ → Type 0
-GathersLine bytes left None into = (bytes ≡ []) × (left ≡ Some [])
-GathersLine bytes left (Some len) into =
+-- Of these bytes the first line was taken, which has this length, and its first 255 bytes stand in a buffer.
+abbrev pub HasLine : List ℕ → Option (List ℕ) → ℕ → List ℕ → Type 0
+HasLine bytes left len into =
     (0 < length bytes) × (len ≡ length (first_line bytes))
     × (take (min len LINE_LIMIT) into ≡ take LINE_LIMIT (first_line bytes))
     × (left ≡ Some (drop_through 10 bytes))
+
+-- What gathering a line from these bytes gives: its length. A length that is too great says only that the line is too
+-- long, and not how long.
+abbrev pub GathersLine : List ℕ → Option (List ℕ) → Option ℕ → List ℕ → Type 0
+GathersLine bytes left None into = (bytes ≡ []) × (left ≡ Some [])
+GathersLine bytes left (Some len) into =
+    (len ≤ longest_line → HasLine bytes left len into) × (longest_line < len → IsLong (Some bytes))
 
 -- What an ask, the gathering of a line and the taking of a byte do to a reader, where its bytes are known.
 module _ {R : Type 0} (remaining : R → Option (List ℕ)) (old new : LineReader R) where

@@ -1,5 +1,5 @@
 use Rattle.std.proofs.Common.{refl, ◌∙◌, arith}
-use Rattle.paw_stage.proofs.Gathered.{gathers_more, gathered_whole, gathered_end}
+use Rattle.paw_stage.proofs.Gathered.{gathers_more, gathered_whole, gathered_end, gathered_long}
 use Rattle.paw_stage.proofs.input.LineReader.gather.Goals as goal
 
 pub returns-else-len-eq0-clause-line : goal.returns-else-len-eq0-clause-line
@@ -12,6 +12,10 @@ pub returns-in-Some-eq10-clause-line : goal.returns-in-Some-eq10-clause-line
 returns-in-Some-eq10-clause-line g c =
     let taken = rw (c.in-Some-eq10.is, c.in-Some-eq10.field-0-test) at c.in_ok-next_byte.ensures.taken in
     rw c.without_return.ensures (gathered_end _ _ _ c.loop-len.into c.loop-len.len c.loop-len.returned c.loop-len.invariant.gathered taken)
+
+pub returns-clause-line : goal.returns-clause-line
+returns-clause-line g c =
+    gathered_long _ _ _ c.loop-len.into c.loop-len.len c.loop-len.returned c.loop-len.invariant.gathered (omega (arith, c.loop-len-test.false))
 
 pub loop-len-preserved : goal.loop-len-preserved
 loop-len-preserved g c =
