@@ -31,7 +31,7 @@ pub fn read_file<R: Files>(
 }
 
 /// Makes a file hold these bytes, and syncs it and its folder before it is closed, so that a fault of the disk that
-/// comes late fails too. Where there is no room for them a file that was there is left whole, and no other file is made.
+/// comes late fails too. Where there is no room for them a file that was there is left whole. No other file is made.
 /// After any other fault the file may hold some of them.
 ///
 /// What is no plain file, as a pipe or a device, takes the bytes as they come.
@@ -51,7 +51,8 @@ pub fn write_file<R: Files + Alloc>(rt: &R, name: &str, bytes: &[u8]) -> Result<
 // Makes a plain file of this length hold these bytes.
 //
 // The part of them that lies behind the file's end is written first, and synced, since some file systems take the room
-// only then. So no byte is replaced before there is room for all, and where there is none the file gets its length back.
+// only then. So no byte is replaced before there is room for all; where there is none the file gets its length back. A
+// file system that takes new room for bytes that are written over may still be full then.
 fn replace<F: OpenFile + Write + Seek>(
     file: &mut F,
     length: u64,
@@ -77,8 +78,8 @@ fn append<F: OpenFile + Write + Seek>(
     file.sync_all().map_err(|_| Failed)
 }
 
-/// Syncs the folder in which the file of a name lies, so that the file is there after a crash. Where the name is a link,
-/// that is the folder of the file that it leads to.
+/// Syncs the folder in which the file of a name lies, so that the file is there after a crash. Where the name is a
+/// link, that is the folder of the file that it leads to.
 ///
 /// A folder whose file system has no such call passes: nothing more can be done for it there.
 pub fn sync_folder<R: Files + Alloc>(rt: &R, name: &str) -> io::Result<()> {

@@ -51,7 +51,8 @@ impl<R: Read + Drop> LineReader<R> {
     /// its end not counted, is Failed, and so is a fault of the reader.
     pub fn next_line(&mut self, into: &mut [u8; LINE_LIMIT]) -> Asked
         ensures line { AsksOf R.remaining self.old self.new result into.new }
-        ensures long { IsNone self.old.broken → self.new.broken ≡ Some fault.TooLong → IsLong (unread R.remaining self.old) }
+        ensures long { IsNone self.old.broken → self.new.broken ≡ Some fault.TooLong →
+            IsLong (unread R.remaining self.old) }
         ensures breaks { (result ≡ asked.Failed) ↔ IsSome self.new.broken }
         ensures stays { IsSome self.old.broken → result ≡ asked.Failed }
     {
