@@ -5,11 +5,12 @@ use Rattle.paw_game.specs.Game.{GameLists}
 use Rattle.paw_game.specs.Image.{image}
 use Rattle.paw_effects.specs.Story.{Story, story_of}
 use Rattle.paw_stage.specs.Stage.{Standing}
-use Rattle.paw_stage.specs.Moments.{Moment, Still}
+use Rattle.paw_stage.specs.Across.{InTwoParts}
+use Rattle.paw_stage.specs.declared.Stage.{Ghosts}
 use Rattle.paw_state.specs.State.{State}
 use Rattle.paw_play.specs.declared.PlayEnd.{PlayEnd}
 use Rattle.paw_play.specs.Stands.{Stands, IsPlayedWith}
-use Rattle.paw_play.specs.Play.{PlayedSession, NotYet, InGame, InAgain, InGoingOn, PlaysGame, PlaysAgain, ShowsState, kept_session, store_bytes}
+use Rattle.paw_play.specs.Play.{PlayedSession, NotYet, InNewGame, InPlay, PlaysGame, PlaysAgain, ShowsState, kept_session, store_bytes}
 use Rattle.paw_play.proofs.Standing.{standing_again}
 use Rattle.paw_top.specs.Commands.{Command, Walk, Trace, Play, Resume}
 use Rattle.paw_top.specs.Ends.{outcome_of}
@@ -17,19 +18,6 @@ use Rattle.paw_top.specs.Loads.{Holds}
 use Rattle.paw_top.specs.Sessions.{session_from, digest_of, GoesOnIn}
 use Rattle.paw_top.specs.Ends.{plays}
 use Rattle.paw_top.proofs.Completing.{same_game}
-
--- where nothing has changed, the store isn't attached yet
-not_yet : (name : List ℕ) (old : Standing) (m : Moment) → Still old m → NotYet name old m
-not_yet name old m e = subst (NotYet name old) (sym e) (record { asked = refl; shown = refl; files = inl refl; store = inl (refl, refl) })
-
-pub still_new : (g : Story) (seed : ℕ) (name : List ℕ) (old : Standing) (m : Moment) → Still old m → InGame g seed name old m
-still_new g seed name old m e = inl (not_yet name old m e)
-
-pub still_again : (s : PlayedSession) (old : Standing) (m : Moment) → Still old m → InAgain s old m
-still_again s old m e = inl (not_yet s.name old m e)
-
-pub still_on : (g : Story) (seed : ℕ) (es : List (List ℕ)) (name : List ℕ) (old : Standing) (m : Moment) → Still old m → InGoingOn g seed es name old m
-still_on g seed es name old m e = inl (not_yet name old m e)
 
 -- the story that is played is the one of the file
 pub same_story : (old : Standing) (name : List ℕ) (game : GameLists) (s : Story) → Holds old name game → Holds old name s.game → story_of game s.rows ≡ s
@@ -66,13 +54,18 @@ shows_same g k kept store old mid st piece still same is h =
     (subst (λ q. ShowsState q (sha256 (image q)) (store_bytes mid store) st piece) (sym same)
     (subst (λ q. ShowsState g (sha256 (image g)) (store_bytes q store) st piece) (sym still) h))
 
--- a new session at a stage where nothing has changed since
-pub game_moment : (g k : Story) (seed : ℕ) (store : List ℕ) (old mid : Standing) (m : Moment) → mid ≡ old → k ≡ g →
-    InGame k seed store mid m → InGame g seed store old m
-game_moment g k seed store old mid m still same i = subst (λ q. InGame g seed store q m) still (subst (λ q. InGame q seed store mid m) same i)
+-- the moments of a new session at a stage where nothing has changed since
+pub game_parts : {S : Type 0} (gs : Ghosts S) (before after : S) (g k : Story) (seed : ℕ) (store : List ℕ) (old mid : Standing) → mid ≡ old → k ≡ g →
+    InTwoParts gs before after (NotYet store mid) (InNewGame k seed store mid) → InTwoParts gs before after (NotYet store old) (InNewGame g seed store old)
+game_parts gs before after g k seed store old mid still same p =
+    subst (λ q. InTwoParts gs before after (NotYet store q) (InNewGame g seed store q)) still
+    (subst (λ q. InTwoParts gs before after (NotYet store mid) (InNewGame q seed store mid)) same p)
 
-pub again_moment : (s k : PlayedSession) (old mid : Standing) (m : Moment) → mid ≡ old → k ≡ s → InAgain k mid m → InAgain s old m
-again_moment s k old mid m still same i = subst (λ q. InAgain s q m) still (subst (λ q. InAgain q mid m) same i)
+pub again_parts : {S : Type 0} (gs : Ghosts S) (before after : S) (s k : PlayedSession) (store : List ℕ) (old mid : Standing) → mid ≡ old → k ≡ s →
+    InTwoParts gs before after (NotYet store mid) (InPlay k mid) → InTwoParts gs before after (NotYet store old) (InPlay s old)
+again_parts gs before after s k store old mid still same p =
+    subst (λ q. InTwoParts gs before after (NotYet store q) (InPlay s q)) still
+    (subst (λ q. InTwoParts gs before after (NotYet store mid) (InPlay q mid)) same p)
 
 -- words ask for one thing
 pub one_walk : (asked : Option Command) (i : List ℕ) (n : ℕ) (j : List ℕ) (k : ℕ) → asked ≡ Some (Walk i n) → asked ≡ Some (Walk j k) →

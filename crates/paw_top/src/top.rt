@@ -6,11 +6,11 @@ ghost use Rattle.paw_top.specs.Commands.{Trace as TraceOf, Play as PlayOf, Resum
 ghost use Rattle.paw_top.specs.Commands.{Trial as TrialOf, asked_for};
 ghost use Rattle.paw_routines.specs.Routines.{AreRowsOf, HaveRows};
 ghost use Rattle.paw_effects.specs.Story.{Story};
-ghost use Rattle.paw_stage.specs.Across.{Across, EachMoment, Serves, IsOneOf};
+ghost use Rattle.paw_stage.specs.Across.{Across, InTwoParts, Serves, IsOneOf};
 ghost use Rattle.paw_stage.specs.Disk.{IsStable};
 ghost use Rattle.paw_top.specs.Answers.{IfMemory, calls_of, memory_of, failed_call};
 ghost use Rattle.paw_state.specs.State.{State};
-ghost use Rattle.paw_play.specs.Play.{InGame, InAgain, InGoingOn, ShowsState, store_bytes};
+ghost use Rattle.paw_play.specs.Play.{NotYet, InNewGame, InPlay, InPlayedOn, ShowsState, store_bytes};
 ghost use Rattle.paw_play.specs.Stands.{Stands, IsPlayedWith};
 ghost use Rattle.paw_top.specs.Compile.{Compiles};
 ghost use Rattle.paw_top.specs.Decompile.{Decompiles};
@@ -51,10 +51,15 @@ use std::alloc::Global;
 /// The answer is Usage exactly where the words have no form, and then nothing at the stage is touched. Each other
 /// answer comes as `Compiles`, `Decompiles`, `WalksIn`, `TracesIn`, `PlaysNewIn`, `PlaysAgainIn` and `Tries` say.
 ///
-/// Whatever a crash leaves of the store at any moment of `play` stands for all lines that were taken, or for all but
-/// the last (`InGame`). Where the store stands for some lines, `resume` never refuses it and goes on as the reading of
-/// these lines and more (`GoesOnIn`), and whatever a crash leaves at any moment stands for them and all that were taken
-/// since, or for all but the last (`InGoingOn`).
+/// The moments of `play` and of `resume` come in two parts. Until the store is attached nothing was asked or shown, and
+/// no file has changed, but that the store's may be there, empty (`NotYet`). From then on the store is attached at each
+/// moment. In `play` whatever a crash leaves of it is no session yet, or stands for all lines that were taken, or for
+/// all but the last (`InNewGame`). Where the store stands for some lines, `resume` never refuses it and goes on as the
+/// reading of these lines and more (`GoesOnIn`), and whatever a crash leaves stands for them and all that were taken
+/// since, or for all but the last (`InPlayedOn`).
+///
+/// Where playing comes to an end with nothing failed in the store, its bytes are exactly those that one commit for each
+/// line that is kept makes of the bytes before: a line whose piece is spent changes nothing there.
 ///
 /// Where the answer is Outside the count of the call that it names rose, which is one that the command makes, and no
 /// other count did; where it isn't, no count of faults rose at all. Where the file to load is there and no call fails,
@@ -87,7 +92,7 @@ pub fn paw<S: Stage, F: Fn(u8, u8) -> u8>(
     ensures any_moment_of_play { Across S.Stage stage.old stage.new (λ old new. (image store : List ℕ) (seed : ℕ) →
         asked_for words.now ≡ Some (PlayOf image store seed) → (s : Story) → AreRowsOf F.Fn routines.now s.rows →
         Holds old image s.game → store_bytes old store ≡ [] →
-        EachMoment S.Stage stage.old stage.new (InGame s seed store old)) }
+        InTwoParts S.Stage stage.old stage.new (NotYet store old) (InNewGame s seed store old)) }
     ensures resumes { Across S.Stage stage.old stage.new (λ old new. (image store : List ℕ) →
         asked_for words.now ≡ Some (ResumeOf image store) → (X : List (List ℕ)) → AreRowsOf F.Fn routines.now X →
         PlaysAgainIn X image store old new result) }
@@ -95,7 +100,7 @@ pub fn paw<S: Stage, F: Fn(u8, u8) -> u8>(
         asked_for words.now ≡ Some (ResumeOf image store) → (s : Story) (st : State) (piece : List ℕ) →
         AreRowsOf F.Fn routines.now s.rows → Holds old image s.game →
         ShowsState s.game (digest_of s.game) (store_bytes old store) st piece →
-        EachMoment S.Stage stage.old stage.new (InAgain (session_from s store st piece) old)) }
+        InTwoParts S.Stage stage.old stage.new (NotYet store old) (InPlay (session_from s store st piece) old)) }
     ensures goes_on { Across S.Stage stage.old stage.new (λ old new. (image store : List ℕ) →
         asked_for words.now ≡ Some (ResumeOf image store) → (s : Story) (seed : ℕ) (es : List (List ℕ)) →
         AreRowsOf F.Fn routines.now s.rows → Holds old image s.game →
@@ -105,7 +110,7 @@ pub fn paw<S: Stage, F: Fn(u8, u8) -> u8>(
         asked_for words.now ≡ Some (ResumeOf image store) → (s : Story) (seed : ℕ) (es : List (List ℕ)) →
         AreRowsOf F.Fn routines.now s.rows → Holds old image s.game →
         IsPlayedWith s seed es → Stands s seed es (store_bytes old store) →
-        EachMoment S.Stage stage.old stage.new (InGoingOn s seed es store old)) }
+        InTwoParts S.Stage stage.old stage.new (NotYet store old) (InPlayedOn s seed es store old)) }
     ensures tries { Across S.Stage stage.old stage.new (λ old new. (n : ℕ) →
         asked_for words.now ≡ Some (TrialOf n) → Tries n old new result) }
     ensures completes { S.Tells stage.old → NoFault (S.faults stage.old) (S.faults stage.new) →

@@ -3,15 +3,17 @@ use Rattle.sha2.specs.Sha256.{sha256}
 use Rattle.paw_image.specs.inner.Views.{game_read}
 use Rattle.paw_effects.specs.Story.{story_of}
 use Rattle.paw_stage.specs.Stage.{Standing}
-use Rattle.paw_stage.proofs.Time.{Passes_map, Passes_on}
+use Rattle.paw_stage.proofs.Time.{Passes_map}
+use Rattle.paw_stage.specs.Across.{first_alone}
 use Rattle.paw_play.specs.Calls.{session_calls}
-use Rattle.paw_play.specs.Play.{InGame, store_bytes}
+use Rattle.paw_play.specs.Play.{NotYet, InNewGame, store_bytes}
+use Rattle.paw_play.proofs.Parts.{not_yet, then_two_parts}
 use Rattle.paw_top.specs.Ends.{plays}
 use Rattle.paw_top.specs.Answers.{load_calls}
 use Rattle.paw_top.proofs.Answering.{played_serves}
 use Rattle.paw_journal.proofs.Serving.{in_front, serves_among, serves_still}
 use Rattle.paw_top.proofs.Images.{holds_given}
-use Rattle.paw_top.proofs.OpenedSessions.{still_new, game_moment, plays_game, same_story}
+use Rattle.paw_top.proofs.OpenedSessions.{game_parts, plays_game, same_story}
 use Rattle.paw_top.proofs.Refusals.{unloaded, undecoded}
 use Rattle.paw_top.proofs.sessions.play.Goals as goal
 
@@ -23,8 +25,7 @@ returns-in-Err-clause-plays g c = λ tells X rows. unloaded c.args.image.now _ _
 
 pub returns-in-Err-clause-any_moment : goal.returns-in-Err-clause-any_moment
 returns-in-Err-clause-any_moment g c = λ tells s rows holds empty.
-    Passes_map _ _ _ _ _ (InGame s c.args.seed c.args.store.now (g.S.Stage.standing c.args.stage.now)) (c.load.ensures.time tells)
-    (still_new s c.args.seed c.args.store.now (g.S.Stage.standing c.args.stage.now))
+    first_alone (Passes_map _ _ _ _ _ _ (c.load.ensures.time tells) (not_yet c.args.store.now (g.S.Stage.standing c.args.stage.now)))
 
 pub returns-in-Err-view_in-clause-plays : goal.returns-in-Err-view_in-clause-plays
 returns-in-Err-view_in-clause-plays g c = λ tells X rows.
@@ -32,8 +33,7 @@ returns-in-Err-view_in-clause-plays g c = λ tells X rows.
 
 pub returns-in-Err-view_in-clause-any_moment : goal.returns-in-Err-view_in-clause-any_moment
 returns-in-Err-view_in-clause-any_moment g c = λ tells s rows holds empty.
-    Passes_map _ _ _ _ _ (InGame s c.args.seed c.args.store.now (g.S.Stage.standing c.args.stage.now)) (c.load.ensures.time tells)
-    (still_new s c.args.seed c.args.store.now (g.S.Stage.standing c.args.stage.now))
+    first_alone (Passes_map _ _ _ _ _ _ (c.load.ensures.time tells) (not_yet c.args.store.now (g.S.Stage.standing c.args.stage.now)))
 
 pub returns-clause-plays : goal.returns-clause-plays
 returns-clause-plays g c = λ tells X rows.
@@ -51,10 +51,12 @@ returns-clause-any_moment g c = λ tells s rows holds empty.
     let game = game_read c.in-Ok-view_in.given in
     let mine = holds_given c.args.image.now _ _ old _ game c.as_slice.ensures.value f c.in-Ok-view_in.ensures.found in
     let same = same_story old c.args.image.now game s mine holds in
-    Passes_on _ _ _ _ _ _ (InGame s c.args.seed c.args.store.now old) _
-    (Passes_map _ _ _ _ _ (InGame s c.args.seed c.args.store.now old) (c.load.ensures.time tells) (still_new s c.args.seed c.args.store.now old))
-    (c.play_loop.ensures.any_moment (c.load.ensures.serves.tells.0 tells) s.rows rows (subst (λ q. store_bytes q c.args.store.now ≡ []) (sym f.3) empty))
-    (λ m i. game_moment s (story_of game s.rows) c.args.seed c.args.store.now old (g.S.Stage.standing c.load.new.stage) m f.3 same i)
+    then_two_parts g.S.Stage c.args.stage.now c.load.new.stage c.play_loop.new.stage
+    (NotYet c.args.store.now old) (InNewGame s c.args.seed c.args.store.now old)
+    (Passes_map _ _ _ _ _ _ (c.load.ensures.time tells) (not_yet c.args.store.now old))
+    (game_parts g.S.Stage c.load.new.stage c.play_loop.new.stage s (story_of game s.rows) c.args.seed c.args.store.now old
+    (g.S.Stage.standing c.load.new.stage) f.3 same
+    (c.play_loop.ensures.any_moment (c.load.ensures.serves.tells.0 tells) s.rows rows (subst (λ q. store_bytes q c.args.store.now ≡ []) (sym f.3) empty)))
 
 pub returns-in-Err-clause-serves : goal.returns-in-Err-clause-serves
 returns-in-Err-clause-serves g c = serves_among _ _ _ _ _ _ (in_front load_calls session_calls) c.in-Err.ensures.serves

@@ -3,10 +3,12 @@ use Rattle.sha2.specs.Sha256.{sha256}
 use Rattle.paw_image.specs.inner.Views.{game_read}
 use Rattle.paw_effects.specs.Story.{story_of}
 use Rattle.paw_stage.specs.Stage.{Standing}
-use Rattle.paw_stage.proofs.Time.{Passes_map, Passes_on}
+use Rattle.paw_stage.proofs.Time.{Passes_map}
+use Rattle.paw_stage.specs.Across.{first_alone}
 use Rattle.paw_play.specs.Calls.{session_calls}
-use Rattle.paw_play.specs.Play.{PlayedSession, InAgain, InGoingOn, kept_session, store_bytes}
-use Rattle.paw_play.proofs.Standing.{standing_shows, in_going_on}
+use Rattle.paw_play.specs.Play.{PlayedSession, NotYet, InPlay, InPlayedOn, kept_session, store_bytes}
+use Rattle.paw_play.proofs.Parts.{not_yet, then_two_parts, map_two_parts}
+use Rattle.paw_play.proofs.Standing.{standing_shows, in_played_on}
 use Rattle.paw_top.specs.Ends.{plays}
 use Rattle.paw_top.specs.Sessions.{session_from, digest_of}
 use Rattle.paw_top.specs.Answers.{load_calls}
@@ -14,7 +16,7 @@ use Rattle.paw_top.proofs.Answering.{played_serves}
 use Rattle.paw_journal.proofs.Serving.{in_front, serves_among, serves_still}
 use Rattle.paw_top.proofs.Completing.{same_game}
 use Rattle.paw_top.proofs.Images.{holds_given}
-use Rattle.paw_top.proofs.OpenedSessions.{still_again, still_on, again_moment, plays_again, goes_on_in, shows_same, one_kept_session, same_story}
+use Rattle.paw_top.proofs.OpenedSessions.{again_parts, plays_again, goes_on_in, shows_same, one_kept_session, same_story}
 use Rattle.paw_top.proofs.Refusals.{unloaded, undecoded}
 use Rattle.paw_top.proofs.sessions.resume.Goals as goal
 
@@ -35,23 +37,19 @@ returns-in-Err-view_in-clause-goes_on g c = λ tells s seed es rows holds played
 
 pub returns-in-Err-clause-any_moment : goal.returns-in-Err-clause-any_moment
 returns-in-Err-clause-any_moment g c = λ tells s st piece rows holds shows.
-    Passes_map _ _ _ _ _ (InAgain (session_from s c.args.store.now st piece) (g.S.Stage.standing c.args.stage.now)) (c.load.ensures.time tells)
-    (still_again (session_from s c.args.store.now st piece) (g.S.Stage.standing c.args.stage.now))
+    first_alone (Passes_map _ _ _ _ _ _ (c.load.ensures.time tells) (not_yet c.args.store.now (g.S.Stage.standing c.args.stage.now)))
 
 pub returns-in-Err-view_in-clause-any_moment : goal.returns-in-Err-view_in-clause-any_moment
 returns-in-Err-view_in-clause-any_moment g c = λ tells s st piece rows holds shows.
-    Passes_map _ _ _ _ _ (InAgain (session_from s c.args.store.now st piece) (g.S.Stage.standing c.args.stage.now)) (c.load.ensures.time tells)
-    (still_again (session_from s c.args.store.now st piece) (g.S.Stage.standing c.args.stage.now))
+    first_alone (Passes_map _ _ _ _ _ _ (c.load.ensures.time tells) (not_yet c.args.store.now (g.S.Stage.standing c.args.stage.now)))
 
 pub returns-in-Err-clause-any_moment_on : goal.returns-in-Err-clause-any_moment_on
 returns-in-Err-clause-any_moment_on g c = λ tells s seed es rows holds played stands.
-    Passes_map _ _ _ _ _ (InGoingOn s seed es c.args.store.now (g.S.Stage.standing c.args.stage.now)) (c.load.ensures.time tells)
-    (still_on s seed es c.args.store.now (g.S.Stage.standing c.args.stage.now))
+    first_alone (Passes_map _ _ _ _ _ _ (c.load.ensures.time tells) (not_yet c.args.store.now (g.S.Stage.standing c.args.stage.now)))
 
 pub returns-in-Err-view_in-clause-any_moment_on : goal.returns-in-Err-view_in-clause-any_moment_on
 returns-in-Err-view_in-clause-any_moment_on g c = λ tells s seed es rows holds played stands.
-    Passes_map _ _ _ _ _ (InGoingOn s seed es c.args.store.now (g.S.Stage.standing c.args.stage.now)) (c.load.ensures.time tells)
-    (still_on s seed es c.args.store.now (g.S.Stage.standing c.args.stage.now))
+    first_alone (Passes_map _ _ _ _ _ _ (c.load.ensures.time tells) (not_yet c.args.store.now (g.S.Stage.standing c.args.stage.now)))
 
 pub returns-clause-plays : goal.returns-clause-plays
 returns-clause-plays g c = λ tells X rows.
@@ -76,11 +74,11 @@ returns-clause-any_moment g c = λ tells s st piece rows holds shows.
     let k : PlayedSession = kept_session (story_of game s.rows) st piece c.digest-kept.result c.args.store.now in
     let same = one_kept_session s (story_of game s.rows) st piece c.args.store.now c.digest-kept.result
     (same_story old c.args.image.now game s mine holds) kept in
-    Passes_on _ _ _ _ _ _ (InAgain p old) _
-    (Passes_map _ _ _ _ _ (InAgain p old) (c.load.ensures.time tells) (still_again p old))
+    then_two_parts g.S.Stage c.args.stage.now c.load.new.stage c.resume_loop.new.stage (NotYet c.args.store.now old) (InPlay p old)
+    (Passes_map _ _ _ _ _ _ (c.load.ensures.time tells) (not_yet c.args.store.now old))
+    (again_parts g.S.Stage c.load.new.stage c.resume_loop.new.stage p k c.args.store.now old mid f.3 same
     (c.resume_loop.ensures.any_moment (c.load.ensures.serves.tells.0 tells) s.rows rows st piece
-    (shows_same s.game game c.digest-kept.result c.args.store.now old mid st piece f.3 one kept shows))
-    (λ m i. again_moment p k old mid m f.3 same i)
+    (shows_same s.game game c.digest-kept.result c.args.store.now old mid st piece f.3 one kept shows)))
 
 pub returns-clause-goes_on : goal.returns-clause-goes_on
 returns-clause-goes_on g c = λ tells s seed es rows holds played stands.
@@ -102,8 +100,9 @@ pub returns-clause-any_moment_on : goal.returns-clause-any_moment_on
 returns-clause-any_moment_on g c = λ tells s seed es rows holds played stands.
     let old : Standing = g.S.Stage.standing c.args.stage.now in
     let shown = standing_shows s seed es (store_bytes old c.args.store.now) played stands in
-    Passes_map _ _ _ _ _ (InGoingOn s seed es c.args.store.now old) (returns-clause-any_moment g c tells s shown.state shown.piece rows holds shown.shows)
-    (λ m i. in_going_on s seed es (store_bytes old c.args.store.now) shown.state shown.piece c.args.store.now played stands shown.shows old m i)
+    map_two_parts g.S.Stage _ _ (NotYet c.args.store.now old) _ (InPlayedOn s seed es c.args.store.now old)
+    (in_played_on s seed es (store_bytes old c.args.store.now) shown.state shown.piece c.args.store.now played stands shown.shows old)
+    (returns-clause-any_moment g c tells s shown.state shown.piece rows holds shown.shows)
 
 pub returns-in-Err-clause-serves : goal.returns-in-Err-clause-serves
 returns-in-Err-clause-serves g c = serves_among _ _ _ _ _ _ (in_front load_calls session_calls) c.in-Err.ensures.serves
