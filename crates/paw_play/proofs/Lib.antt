@@ -20,3 +20,4 @@ mod Rounds
 pub mod Going
 pub mod Settling
 pub mod Standing
+mod Older

@@ -6,5 +6,6 @@ pub mod Stands
 pub mod Written
 pub mod Keeping
 pub mod Play
+pub mod Older
 pub mod Laws
 pub mod inner

@@ -1,6 +1,7 @@
 // The laws of sessions.
 
-ghost use Rattle.paw_play.specs.Laws.{StandingShows, StandingGoesOn, GoingOnIsTheReading, RoundsStand};
+ghost use Rattle.paw_play.specs.Laws.{StandingShows, StandingGoesOn, RoundsStand};
+ghost use Rattle.paw_play.specs.Older.{OlderSessionsStand};
 
 /// A store that stands for lines of a game shows a state that keeps all rules, so it is never refused.
 pub fn standing_shows()
@@ -26,4 +27,10 @@ pub fn going_on_is_the_reading()
 /// the last.
 pub fn rounds_stand()
     ensures rounds { RoundsStand }
+{}
+
+/// An older session, of version 1, of a game that never saves stands for its lines: where its slot in use has the first
+/// 1,371 bytes of the state after them, and the last piece, what is proved of a store that stands for lines holds of it.
+pub fn older_sessions_stand()
+    ensures stands { OlderSessionsStand }
 {}

@@ -5,7 +5,8 @@ use Rattle.std.proofs.lemmas.List.{take_at}
 use Rattle.paw_world.specs.World.{Position}
 use Rattle.paw_state.specs.State.{State}
 use Rattle.paw_state.specs.declared.fields.Fields.{Fields}
-use Rattle.paw_state.specs.Fields.{zeros, world_bytes, number_bytes, table_bytes, pending_bytes, kept_position_bytes, held_bytes, held_of, fields_of, state_bytes}
+use Rattle.paw_state.specs.Fields.{zeros, world_bytes, number_bytes, table_bytes, pending_bytes, kept_position_bytes, held_bytes}
+use Rattle.paw_state.specs.Fields.{held_of, fields_of, state_bytes}
 use Rattle.paw_state.proofs.Found.{length-zeros}
 use Rattle.paw_state.proofs.Told.{AreLong}
 
