@@ -29,8 +29,9 @@ pub fn rounds_stand()
     ensures rounds { RoundsStand }
 {}
 
-/// An older session, of version 1, of a game that never saves stands for its lines: where its slot in use has the first
-/// 1,371 bytes of the state after them, and the last piece, what is proved of a store that stands for lines holds of it.
+/// In a game that never saves, as one with neither SAVE nor LOAD, an older session, of version 1, stands for its lines:
+/// where its slot in use has the first 1,371 bytes of the state after them, and the last piece, no position is missing,
+/// and what is proved of a store that stands for lines holds of it.
 pub fn older_sessions_stand()
     ensures stands { OlderSessionsStand }
 {}
