@@ -22,6 +22,8 @@ mod show;
 #[cfg(test)]
 mod source_tests;
 #[cfg(test)]
+mod stop_tests;
+#[cfg(test)]
 mod tests;
 pub mod top;
 mod trial;
