@@ -7,11 +7,9 @@ case $1 in
     ;;
 esac
 top=$(CDPATH='' cd -- "$(dirname -- "$0")/.." && pwd) || exit
-program=${PAW:-$top/crates/paw/out/paw}
+program=${PAW:-$("$top/paw" --which)} || exit
 room=$(mktemp -d "${TMPDIR:-/tmp}/bench.XXXXXX") || exit
 trap 'rm -rf "$room"' EXIT
-# Builds the program where it has to.
-"$top/paw" walk "$top/games/rooms.img" 7 </dev/null >/dev/null || exit
 
 # One row of the table: what was measured, how much, and of what.
 figure() {

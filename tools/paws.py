@@ -4,14 +4,16 @@ import subprocess
 import sys
 
 TOP = os.path.dirname(os.path.dirname(os.path.abspath(__file__)))
-PROGRAM = os.path.join(TOP, "crates", "paw", "out", "paw")
 
 
 def program(named=None):
-    """The program to run: the one named, or that of the variable PAW, or the one that ./paw has built."""
-    found = named or os.environ.get("PAW") or PROGRAM
+    """The program to run: the one named, or that of the variable PAW, or the one that ./paw runs."""
+    found = named or os.environ.get("PAW")
+    if not found:
+        asked = subprocess.run([os.path.join(TOP, "paw"), "--which"], stdout=subprocess.PIPE)
+        found = asked.stdout.decode().strip() or sys.exit(asked.returncode)
     if not os.access(found, os.X_OK):
-        sys.exit("no program at %s: build it with ./paw, or name one with --paw" % found)
+        sys.exit("no program at %s" % found)
     return os.path.abspath(found)
 
 
