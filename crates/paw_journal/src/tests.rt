@@ -399,3 +399,280 @@ fn a_session_of_version_1_goes_on(rt: HostRuntime) -> Result<(), Fail> {
     }
     Ok(())
 }
+
+// Whether the session in the store is found, and committed to: these bytes of its state are changed, and it gets this
+// piece.
+fn changes<S: Stage>(stage: &mut S, room: &mut Room, changes: &[(usize, u8)], piece: &[u8]) -> bool
+    requires { S.Tells stage.old → IsStable (S.standing stage.old).disk }
+{
+    let Ok(at) = attach(stage, "S") else {
+        return false;
+    };
+    let Ok(journal) = Journal::find(stage, room, at, &GAME) else {
+        return false;
+    };
+    let mut state = *room.state();
+    for &(place, byte) in changes {
+        if place >= state.len() {
+            return false;
+        }
+        state[place] = byte;
+    }
+    if !tells(&state, piece) {
+        return false;
+    }
+    journal.commit(stage, room, &state, piece).is_ok()
+}
+
+// The bytes of this session once a commit changed these bytes of its state, and gave it this piece: of all its bytes
+// these ones are other ones.
+fn committed(
+    alloc: Global,
+    session: &[u8],
+    state: &[(usize, u8)],
+    piece: &[u8],
+    others: &[(usize, u8)],
+) -> Result<Vec<u8>, Fail> {
+    let mut room = Room::new(alloc)?;
+    let mut stage = memory(alloc, session)?;
+    if !changes(&mut stage, &mut room, state, piece) {
+        return Err(Fail::from("commit"));
+    }
+    let bytes = stage.crash(alloc, 0)?;
+    let expected = with_bytes(alloc, session, others)?;
+    if bytes.as_slice() != expected.as_slice() {
+        return Err(Fail::from("bytes"));
+    }
+    Ok(bytes)
+}
+
+// A session as it was made, with a state of which one byte isn't 0 beside the length of its piece.
+fn made(alloc: Global) -> Result<Vec<u8>, Fail> {
+    let mut room = Room::new(alloc)?;
+    let mut stage = memory(alloc, b"")?;
+    if !plays(&mut stage, &mut room, 0, 0) {
+        return Err(Fail::from("made"));
+    }
+    Ok(stage.crash(alloc, 0)?)
+}
+
+#[test]
+fn each_byte_of_a_session_that_is_made(rt: HostRuntime) -> Result<(), Fail> {
+    let bytes = made(rt.alloc())?;
+    assert_eq!(rt; bytes.len(), 172_288);
+    let mut zeros = Vec::new(rt.alloc());
+    zeros.resize(bytes.len(), 0)?;
+    let digest = with_digest(rt.alloc(), zeros.as_slice())?;
+    // The mark and the version; each slot's version, the length of its piece, and the piece.
+    let expected = with_bytes(
+        rt.alloc(),
+        digest.as_slice(),
+        &[
+            (0, 80),
+            (2, 2),
+            (130, 2),
+            (1_561, 5),
+            (4_288, b'H'),
+            (4_289, b'a'),
+            (4_290, b'l'),
+            (4_291, b'l'),
+            (4_292, b'.'),
+            (86_210, 2),
+            (87_641, 5),
+            (90_368, b'H'),
+            (90_369, b'a'),
+            (90_370, b'l'),
+            (90_371, b'l'),
+            (90_372, b'.'),
+        ],
+    )?;
+    assert!(rt; bytes.as_slice() == expected.as_slice());
+    Ok(())
+}
+
+// These bytes, with the digest of the game.
+fn with_digest(alloc: Global, whole: &[u8]) -> Result<Vec<u8>, Fail> {
+    let mut bytes = Vec::from_slice(alloc, whole)?;
+    if bytes.len() < 64 {
+        return Err(Fail::from("length"));
+    }
+    for place in 32..64 {
+        bytes[place] = 7;
+    }
+    Ok(bytes)
+}
+
+// A session of another hand: the selector's other bits are set, the version is 1, and so are the bytes of the header that
+// nothing reads.
+fn strange(alloc: Global) -> Result<Vec<u8>, Fail> {
+    let mut bytes = made(alloc)?;
+    if bytes.len() < 128 {
+        return Err(Fail::from("length"));
+    }
+    bytes[1] = 0xa6;
+    bytes[2] = 1;
+    for place in 3..32 {
+        bytes[place] = 100 + place as u8;
+    }
+    for place in 64..128 {
+        bytes[place] = 100 + place as u8;
+    }
+    Ok(bytes)
+}
+
+#[test]
+fn each_byte_that_commits_leave(rt: HostRuntime) -> Result<(), Fail> {
+    let session = strange(rt.alloc())?;
+    // Slot 1, from 86,208 on, gets four change records, in rising places: 0, 300, 1,369 and 4,095.
+    let session = committed(
+        rt.alloc(),
+        session.as_slice(),
+        &[(4_095, 1), (300, 4), (1_369, 2), (0, 9)],
+        b"OK",
+        &[
+            (1, 1),
+            (86_208, 4),
+            (90_368, b'O'),
+            (90_369, b'K'),
+            (155_906, 9),
+            (155_908, 44),
+            (155_909, 1),
+            (155_910, 4),
+            (155_912, 89),
+            (155_913, 5),
+            (155_914, 2),
+            (155_916, 255),
+            (155_917, 15),
+            (155_918, 1),
+        ],
+    )?;
+    // Slot 0, from 128 on, gets those that make the new state of the first one; no piece is written.
+    let session = committed(
+        rt.alloc(),
+        session.as_slice(),
+        &[(300, 5), (1_369, 0)],
+        b"",
+        &[
+            (1, 0),
+            (128, 4),
+            (69_826, 9),
+            (69_828, 44),
+            (69_829, 1),
+            (69_830, 5),
+            (69_832, 89),
+            (69_833, 5),
+            (69_836, 255),
+            (69_837, 15),
+            (69_838, 1),
+        ],
+    )?;
+    // Slot 1 again: four more, behind those that it has.
+    let session = committed(
+        rt.alloc(),
+        session.as_slice(),
+        &[(2, 200), (4_095, 0), (1_369, 4)],
+        b"Dark",
+        &[
+            (1, 1),
+            (86_208, 8),
+            (90_368, b'D'),
+            (90_369, b'a'),
+            (90_370, b'r'),
+            (90_371, b'k'),
+            (155_920, 2),
+            (155_922, 200),
+            (155_924, 44),
+            (155_925, 1),
+            (155_926, 5),
+            (155_928, 89),
+            (155_929, 5),
+            (155_930, 4),
+            (155_932, 255),
+            (155_933, 15),
+        ],
+    )?;
+    // Slot 0 gets three more, and has the state of slot 1 then; which has it already, and gets none.
+    let session = committed(
+        rt.alloc(),
+        session.as_slice(),
+        &[],
+        b"Dark",
+        &[
+            (1, 0),
+            (128, 7),
+            (4_288, b'D'),
+            (4_289, b'a'),
+            (4_290, b'r'),
+            (4_291, b'k'),
+            (69_840, 2),
+            (69_842, 200),
+            (69_844, 89),
+            (69_845, 5),
+            (69_846, 4),
+            (69_848, 255),
+            (69_849, 15),
+        ],
+    )?;
+    committed(rt.alloc(), session.as_slice(), &[], b"Dark", &[(1, 1)])?;
+    Ok(())
+}
+
+#[test]
+fn each_byte_where_the_base_is_written_whole(rt: HostRuntime) -> Result<(), Fail> {
+    let session = strange(rt.alloc())?;
+    // Slot 1, from 86,208 on, isn't chosen. It is of version 1; it has too many change records; one of them isn't sound;
+    // there is no room for three more. Each time one that stands where the records are stays there.
+    let base = [
+        (1, 1),
+        (86_208, 0),
+        (86_209, 0),
+        (86_210, 2),
+        (86_272, 3),
+        (86_280, 0),
+        (87_641, 1),
+        (90_367, 6),
+        (90_368, b'!'),
+    ];
+    for slot in [
+        [(86_208, 1), (86_209, 0), (86_210, 1), (155_904, 8)],
+        [(86_208, 1), (86_209, 16), (86_210, 2), (155_904, 8)],
+        [(86_208, 1), (86_209, 0), (86_210, 2), (155_907, 8)],
+        [(86_208, 0xfe), (86_209, 15), (86_210, 2), (155_904, 8)],
+    ] {
+        let session = with_bytes(rt.alloc(), session.as_slice(), &slot)?;
+        let session = with_bytes(rt.alloc(), session.as_slice(), &[(86_280, 1)])?;
+        committed(
+            rt.alloc(),
+            session.as_slice(),
+            &[(0, 3), (1_369, 1), (4_095, 6)],
+            b"!",
+            &base,
+        )?;
+    }
+    // With one record less there is room for three: the last of 4,096 ends the slot.
+    let session = with_bytes(
+        rt.alloc(),
+        session.as_slice(),
+        &[(86_208, 0xfd), (86_209, 15)],
+    )?;
+    committed(
+        rt.alloc(),
+        session.as_slice(),
+        &[(0, 3), (1_369, 1), (4_095, 6)],
+        b"!",
+        &[
+            (1, 1),
+            (86_208, 0),
+            (86_209, 16),
+            (90_368, b'!'),
+            (172_278, 3),
+            (172_280, 89),
+            (172_281, 5),
+            (172_282, 1),
+            (172_284, 255),
+            (172_285, 15),
+            (172_286, 6),
+        ],
+    )?;
+    Ok(())
+}
