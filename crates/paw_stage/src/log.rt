@@ -1,6 +1,7 @@
 // A record of calls, kept in rooms that were taken beforehand.
 
-ghost use Rattle.std.specs.Prelude.{◌≡◌, ◌↔◌, ◌≤◌, ◌<◌, ◌+◌, ◌++◌, ◌∷◌, [], IsTrue, IsFalse, IfOk, IfSome, IfNone, IsSome};
+ghost use Rattle.std.specs.Prelude.{◌≡◌, ◌↔◌, ◌≤◌, ◌<◌, ◌+◌, ◌++◌, ◌∷◌, [], IsTrue, IsFalse, IfOk, IfSome, IfNone};
+ghost use Rattle.std.specs.Prelude.{IsSome};
 ghost use Rattle.std.specs.Prelude.{None, OnOk, OnErr, length, take, drop, vec_len, vec_capacity, List, ℕ};
 ghost use Rattle.std.specs.Option.{option_map};
 ghost use Rattle.paw_stage.specs.Stage.{Standing, bytes_or_none};

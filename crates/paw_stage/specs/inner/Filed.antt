@@ -4,7 +4,8 @@ use Rattle.std.specs.Prelude.{Option, Some, None, if◌then◌else◌}
 use Rattle.std.specs.Str.{bytes_eq}
 use Rattle.paw_stage.specs.Disk.{Disk, put, stable}
 use Rattle.std.proofs.lemmas.Slice.Eq.{bytes_eq-Decides}
-use Rattle.paw_stage.specs.Stage.{Standing, Files, file_holding, store_holding, made_if_missing, bytes_or_none, file_bytes}
+use Rattle.paw_stage.specs.Stage.{Standing, Files, file_holding, store_holding, made_if_missing}
+use Rattle.paw_stage.specs.Stage.{bytes_or_none, file_bytes}
 use Rattle.paw_stage.specs.inner.Done.{DoneCall, fresh, step_done, stepped, after, is_attached}
 use Rattle.paw_stage.specs.inner.Seen.{IsFiled}
 use Rattle.paw_stage.specs.inner.Memory.{Memory, standing_of}
@@ -24,9 +25,11 @@ either_filed false o bytes d h = h
 saved_filed : (s : Standing) (name bytes : List ℕ) → IsFiled s → IsFiled (stepped kind.Save name bytes s)
 saved_filed s name bytes h n e =
     let k : is_attached s.attached name ≡ bytes_eq n name = ap (λ a. is_attached a name) e in
-    either_filed (bytes_eq n name) (s.files n) bytes s.disk (h n e) ∙ sym (ap (λ b. Some (if b then stable bytes else s.disk).bytes) k)
+    either_filed (bytes_eq n name) (s.files n) bytes s.disk (h n e)
+    ∙ sym (ap (λ b. Some (if b then stable bytes else s.disk).bytes) k)
 
-made_gives : (o : Option (List ℕ)) (files : Files) (name : List ℕ) → files name ≡ o → made_if_missing name o files name ≡ Some (bytes_or_none o)
+made_gives : (o : Option (List ℕ)) (files : Files) (name : List ℕ) → files name ≡ o →
+    made_if_missing name o files name ≡ Some (bytes_or_none o)
 made_gives None files name h = holds name (Some []) files
 made_gives (Some b) files name h = h
 
@@ -42,7 +45,8 @@ stepped_filed kind.Attach name bytes s h n e =
     (some_same name n e) (made_gives (s.files name) s.files name refl)
 stepped_filed kind.Read name bytes s h n e = h n e
 stepped_filed (kind.Write at) name bytes s h n e =
-    ap (λ a. store_holding a (put at bytes s.disk.bytes) s.files n) e ∙ holds n (Some (put at bytes s.disk.bytes)) s.files
+    ap (λ a. store_holding a (put at bytes s.disk.bytes) s.files n) e
+    ∙ holds n (Some (put at bytes s.disk.bytes)) s.files
 stepped_filed kind.Sync name bytes s h n e = h n e
 stepped_filed kind.Take name bytes s h n e = h n e
 stepped_filed kind.End name bytes s h n e = h n e

@@ -1,6 +1,6 @@
 -- A record of calls, kept in rooms that were taken beforehand.
-use Rattle.std.specs.Prelude.{◌≡◌, ℕ, suc, ◌-◌, ◌≤◌, ◌<◌, nat_lt, nat_le, ◌&&◌, Bool, List, [], ◌∷◌, ◌++◌, map, length, take}
-use Rattle.std.specs.Prelude.{slice_range, Option, Some, None}
+use Rattle.std.specs.Prelude.{◌≡◌, ℕ, suc, ◌-◌, ◌≤◌, ◌<◌, nat_lt, nat_le, ◌&&◌, Bool, List, [], ◌∷◌, ◌++◌}
+use Rattle.std.specs.Prelude.{map, length, take, slice_range, Option, Some, None}
 use Rattle.paw_stage.specs.Stage.{Standing}
 use Rattle.paw_stage.specs.inner.Done.{DoneCall, size_of, fresh, stepped, after, calls_made, first_calls}
 use Rattle.paw_stage.specs.declared.log.CallKind.{CallKind}
