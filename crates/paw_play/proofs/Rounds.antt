@@ -25,7 +25,7 @@ use Rattle.paw_play.specs.Stands.{Stands, StandsWith, IsPlayedWith, text_since, 
 use Rattle.paw_play.specs.Keeping.{KeepsUpWith, InSession}
 use Rattle.paw_play.specs.Play.{PlaysWith, PlaysIn, PlaysGame, GoesOn, NotYet, InGame, InGoingOn, attached_to, store_bytes}
 use Rattle.paw_play.specs.Play.{memory, spent, too_deep, unmade, plays, unattached, occupied, plays_in, unread}
-use Rattle.paw_play.specs.Laws.{Stop, cut_at, came_to, Round, MayBeLeft, BeginsOver, AtRest, StopsWith, AreRounds, left_after}
+use Rattle.paw_play.specs.Laws.{RoundStop, cut_at, came_to, Round, MayBeLeft, BeginsOver, AtRest, StopsWith, AreRounds, left_after}
 use Rattle.paw_play.specs.Laws.{AreKept, AreKeptOf, RoundsStand}
 use Rattle.paw_play.proofs.Attaching.{store_attached}
 
@@ -73,7 +73,7 @@ store_left name left m is (inr apart) = absurd (apart.0 is)
 -- ---- the lines of a round ----
 
 -- n lines are kept of a round, and the bytes that it left keep them
-abbrev KeptOf : (ℕ → List ℕ → Type 0) → Standing → Stop → List ℕ → Type 0
+abbrev KeptOf : (ℕ → List ℕ → Type 0) → Standing → RoundStop → List ℕ → Type 0
 KeptOf Kept old stop left = (n : ℕ) × AreKept old stop n × Kept n left
 
 module _ (Kept : ℕ → List ℕ → Type 0) (past : ℕ) (name : List ℕ) (old : Standing) where
@@ -149,7 +149,7 @@ module _ (g : Story) (seed : ℕ) (r : Round) (begins : BeginsOver [] r) (made :
   first_came new _ (occupied some e) rest left = absurd (omega (arith, some, ap length begins.has))
   first_came new _ (plays_in o empty p) rest left = first_in new o p rest left
 
-  first_stops : (stop : Stop) → StopsWith (InGame g seed r.name r.old) (PlaysGame g seed r.name r.old) r.name r.left stop →
+  first_stops : (stop : RoundStop) → StopsWith (InGame g seed r.name r.old) (PlaysGame g seed r.name r.old) r.name r.left stop →
       KeptOf (StandsWith g seed [] r.old.lines) r.old stop r.left
   first_stops (cut_at m) s = first_cut m s.0 s.1
   first_stops (came_to new o) s =
@@ -178,7 +178,7 @@ module _ (g : Story) (seed : ℕ) (es : List (List ℕ)) (bytes : List ℕ) (r :
   later_came new _ (plays o p) rest =
       came_keeps (StandsWith g seed es r.old.lines) (length es) r.name r.old (reading_since g seed es) (EVENT_LIMIT - length es) new o p rest
 
-  later_stops : (stop : Stop) → StopsWith (InGoingOn g seed es r.name r.old) (GoesOn g seed es r.name r.old) r.name r.left stop →
+  later_stops : (stop : RoundStop) → StopsWith (InGoingOn g seed es r.name r.old) (GoesOn g seed es r.name r.old) r.name r.left stop →
       KeptOf (StandsWith g seed es r.old.lines) r.old stop r.left
   later_stops (cut_at m) s = later_cut m s.0 s.1
   later_stops (came_to new o) s =

@@ -65,16 +65,16 @@ GoingOnIsTheReading =
 
 -- How a round of play stops: it is cut off at a moment, by a crash or right behind a call that failed; or it comes to
 -- this end, and then this stands
-pub data Stop : Type 0 where
-  cut_at : Moment → Stop
-  came_to : Standing → PlayEnd → Stop
+pub data RoundStop : Type 0 where
+  cut_at : Moment → RoundStop
+  came_to : Standing → PlayEnd → RoundStop
 
 -- A round: a session is played in the file of this name, from what stood at first until it stops; these bytes are then
 -- left of the file
 pub record Round : Type 0 where
   pub name : List ℕ
   pub old : Standing
-  pub stop : Stop
+  pub stop : RoundStop
   pub left : List ℕ
 
 -- A crash at this moment may leave these bytes of a file: any that it may leave of the store where the file is the
@@ -97,7 +97,7 @@ AtRest o = Unit {0}
 
 -- It is cut off at one of these moments, and a crash there may leave these bytes of the file; or it comes to one of
 -- these ends with the store at rest, and these are the bytes of the file
-abbrev pub StopsWith : (Moment → Type 0) → (Standing → PlayEnd → Type 0) → List ℕ → List ℕ → Stop → Type 0
+abbrev pub StopsWith : (Moment → Type 0) → (Standing → PlayEnd → Type 0) → List ℕ → List ℕ → RoundStop → Type 0
 StopsWith Inside Comes name left (cut_at m) = Inside m × MayBeLeft name m left
 StopsWith Inside Comes name left (came_to new o) = Comes new o × AtRest o × (left ≡ store_bytes new name)
 
@@ -131,7 +131,7 @@ lines_lost o = 0
 
 -- So many lines of a round are kept: where it was cut off all that were taken by then, or all but the last; where it
 -- came to an end all that were taken but those that are lost by it
-abbrev pub AreKept : Standing → Stop → ℕ → Type 0
+abbrev pub AreKept : Standing → RoundStop → ℕ → Type 0
 AreKept old (cut_at m) n = (m.asked ≡ old.asked + n) ⊎ (m.asked ≡ old.asked + suc n)
 AreKept old (came_to new o) n = new.asked ≡ old.asked + n + lines_lost o
 
