@@ -502,8 +502,8 @@ fn with_digest(alloc: Global, whole: &[u8]) -> Result<Vec<u8>, Fail> {
     Ok(bytes)
 }
 
-// A session of another hand: the selector's other bits are set, the version is 1, and so are the bytes of the
-// header that nothing reads.
+// A session of another hand: the selector's other bits are set, the version is 1, and the bytes of the header that
+// nothing reads aren't 0.
 fn strange(alloc: Global) -> Result<Vec<u8>, Fail> {
     let mut bytes = made(alloc)?;
     if bytes.len() < 128 {
