@@ -358,3 +358,48 @@ fn each_call_fails_alone(rt: HostRuntime) -> Result<(), Fail> {
     );
     Ok(())
 }
+
+// A crash right behind a call of a play, which is told once the play is over.
+fn crashes_behind(
+    rt: &impl Abort,
+    alloc: Global,
+    image: &[u8],
+    (stage, number, stop): (&MemoryStage, u64, Stop),
+) -> Result<(), Fail> {
+    for pick in 0..3u8 {
+        match stage.crash_after(alloc, number, pick)? {
+            // No store is attached yet.
+            None => assert_eq!(rt; stop.call, StageCall::Load),
+            Some(left) => {
+                let stands = standing(rt, alloc, image, left.as_slice())?;
+                assert!(rt;
+                    stop.least <= stands && stands <= stop.most,
+                    "{number} {pick}: {stands}"
+                );
+            }
+        }
+    }
+    Ok(())
+}
+
+#[test]
+fn a_crash_is_told_behind_each_call(rt: HostRuntime) -> Result<(), Fail> {
+    let alloc = rt.alloc();
+    let image = image_of_game(&rt, alloc)?;
+    let image = image.as_slice();
+    let stops = stops_of(&rt, alloc, image, play())?;
+    let mut stage = stage_of(alloc, image, b"", &LINES)?;
+    let outcome = settle_and_run(&rt, alloc, &mut stage, PLAY)?;
+    assert_eq!(rt; outcome, Outcome::InputEnded);
+    // The first call of all is the sync before the command; the load behind it attaches nothing either.
+    assert!(rt; stage.crash_after(alloc, 0, 1)?.is_none());
+    let mut number = 0u64;
+    for stop in stops.as_slice() {
+        number = number.saturating_add(1);
+        crashes_behind(&rt, alloc, image, (&stage, number, *stop))?;
+    }
+    number = number.saturating_add(1);
+    assert_eq!(rt; stage.calls(), number);
+    assert!(rt; stage.crash_after(alloc, number, 1)?.is_none());
+    Ok(())
+}
