@@ -6,15 +6,16 @@ ghost use Rattle.paw_stage.specs.inner.Files.{StandsAt, GivesAt, TakesAt, folder
 
 use crate::streams::{read_first, write_whole};
 use crate::{Failed, LoadRefusal};
-use libc::types::rlimit;
 use std::alloc::{Alloc, Global};
 use std::fs::{self, File, OpenFile};
 use std::io::{self, ErrorKind, Read, Seek, SeekFrom, Write};
 use std::path::Path;
 use std::rt::Files;
 
-// Linux's number of the limit on a file's size.
-const FILE_SIZE: i32 = 1;
+// What Linux tells of the limits of a program, and room for the first lines of that.
+const LIMITS: &str = "/proc/self/limits";
+
+const LIMITS_ROOM: usize = 1024;
 
 /// The first `most + 1` bytes of a file.
 pub fn read_file<R: Files>(
@@ -34,8 +35,14 @@ pub fn read_file<R: Files>(
 /// comes late fails too. Where there is no room for them a file that was there is left whole. No other file is made.
 /// After any other fault the file may hold some of them.
 ///
-/// What is no plain file, as a pipe or a device, takes the bytes as they come.
-pub fn write_file<R: Files + Alloc>(rt: &R, name: &str, bytes: &[u8]) -> Result<(), Failed> {
+/// A file of more than `longest` bytes isn't written. What is no plain file, as a pipe or a device, takes the bytes as
+/// they come.
+pub fn write_file<R: Files + Alloc>(
+    rt: &R,
+    name: &str,
+    bytes: &[u8],
+    longest: u64,
+) -> Result<(), Failed> {
     let mut options = File::options();
     let opened = options.write(true).create(true).open(rt, name);
     let mut file = opened.map_err(|_| Failed)?;
@@ -43,6 +50,9 @@ pub fn write_file<R: Files + Alloc>(rt: &R, name: &str, bytes: &[u8]) -> Result<
     if !before.is_file() {
         write_whole(&mut file, bytes)?;
         return file.sync_all().map_err(|_| Failed);
+    }
+    if bytes.len() as u64 > longest {
+        return Err(Failed);
     }
     replace(&mut file, before.len(), bytes)?;
     sync_folder(rt, name).map_err(|_| Failed)
@@ -125,29 +135,34 @@ pub fn read_part<F: Read + Seek>(file: &mut F, at: u64, into: &mut [u8]) -> Resu
 }
 
 /// Writes bytes from a place on. What lies between the end of the file and a place behind it becomes zeros.
-///
-/// It fails where they would reach past the greatest size that the system lets a file have: a write there would end the
-/// program by a signal, and nothing could be answered.
 pub fn write_part<F: Write + Seek>(file: &mut F, at: u64, bytes: &[u8]) -> Result<(), Failed>
     ensures written { OnOk result (TakesAt F.stream_position F.contents file.old file.new at bytes.now) }
 {
-    if at.saturating_add(bytes.len() as u64) > longest_file() {
-        return Err(Failed);
-    }
     seek_to(file, at)?;
     write_whole(file, bytes)
 }
 
-// The greatest size that the system lets a file of this program have, in bytes (`ulimit -f` of a shell).
-fn longest_file() -> u64 {
-    let mut limit = rlimit {
-        rlim_cur: u64::MAX,
-        rlim_max: u64::MAX,
-    };
-    if libc::getrlimit(FILE_SIZE, &mut limit) < 0 {
-        return u64::MAX;
+/// The greatest size that the system lets a file of this program have, in bytes (`ulimit -f` of a shell): a write past it
+/// would end the program by a signal, and nothing could be answered. Where there is no limit, or the system doesn't tell
+/// it, that is the greatest number.
+pub fn longest_file<R: Files>(rt: &R) -> u64 {
+    let mut told = [0; LIMITS_ROOM];
+    match fs::open(rt, LIMITS).and_then(|mut file| file.read(&mut told)) {
+        Ok(length) => file_size_in(&told[..length]).unwrap_or(u64::MAX),
+        Err(_) => u64::MAX,
     }
-    limit.rlim_cur
+}
+
+// The limit on a file's size, in a list of limits as Linux tells them: a line for each, with its name and two numbers,
+// of which the first holds.
+fn file_size_in(limits: &[u8]) -> Option<u64> {
+    let limits = str::from_utf8(limits).ok()?;
+    for line in limits.lines() {
+        if let Some(numbers) = line.strip_prefix("Max file size") {
+            return numbers.split_ascii_whitespace().next()?.parse().ok();
+        }
+    }
+    None
 }
 
 // Goes to a place of a file.

@@ -6,7 +6,7 @@ ghost use Rattle.paw_stage.specs.Stage.{Faulted, failed_in, failed_load, failed_
 ghost use Rattle.paw_stage.specs.inner.Faults.{count_of, no_faults, counted};
 ghost use Rattle.paw_stage.specs.inner.Done.{fresh};
 
-use crate::files::{read_file, read_part, sync_bytes, write_file, write_part};
+use crate::files::{longest_file, read_file, read_part, sync_bytes, write_file, write_part};
 use crate::input::LineReader;
 use crate::streams::write_whole;
 use crate::{Asked, Failed, FaultCounts, LoadRefusal, Stage, StageCall};
@@ -34,6 +34,8 @@ mod tests;
 /// program at a time has it. An attach syncs the file and its folder, so that what it answers is there after a crash
 /// too; the store held before is let go first, so that the same file can be attached again.
 ///
+/// No write and no save reaches past the greatest size that the system lets a file have: it fails.
+///
 /// Once a sync has failed the store is let go, since a system may drop what it failed to write and still answer that a
 /// later sync succeeded: every call to the store fails until one is attached again.
 #[derive(Drop)]
@@ -41,6 +43,7 @@ pub struct RealStage<R: Files<File = File> + Input + Print + Alloc + Drop> {
     rt: R,
     input: LineReader<R::Reader>,
     store: Option<File>,
+    longest: u64,
     counts: FaultCounts,
 }
 
@@ -58,10 +61,12 @@ impl<R: Files<File = File> + Input + Print + Alloc + Drop> RealStage<R> {
         ensures { result ≡ no_faults }
     {
         let input = LineReader::new(rt.reader());
+        let longest = longest_file(&rt);
         RealStage {
             rt,
             input,
             store: None,
+            longest,
             counts: FaultCounts::none(),
         }
     }
@@ -101,7 +106,7 @@ impl<R: Files<File = File> + Input + Print + Alloc + Drop> Stage for RealStage<R
         // A count rises exactly at a failure.
         ensures counted { self.new ≡ counted (failed_in call.Save result) self.old }
     {
-        let saved = write_file(&self.rt, name, bytes);
+        let saved = write_file(&self.rt, name, bytes, self.longest);
         self.counts.answered(StageCall::Save, saved)
     }
 
@@ -135,6 +140,9 @@ impl<R: Files<File = File> + Input + Print + Alloc + Drop> Stage for RealStage<R
         // A count rises exactly at a failure.
         ensures counted { self.new ≡ counted (failed_in call.Write result) self.old }
     {
+        if at.saturating_add(bytes.len() as u64) > self.longest {
+            return self.counts.answered(StageCall::Write, Err(Failed));
+        }
         let store = self.store.as_mut();
         let written = store.map_or(Err(Failed), |file| write_part(file, at, bytes));
         self.counts.answered(StageCall::Write, written)
