@@ -31,7 +31,7 @@ use Rattle.paw_play.specs.Walk.{first_lines}
 use Rattle.paw_play.specs.Stands.{Stands, StandsWith, IsPlayedWith, ending_since, text_since, reading_since}
 use Rattle.paw_play.specs.Keeping.{InSession}
 use Rattle.paw_play.specs.Play.{PlaysWith, PlaysOn, KeptBy, ShowsState, Refuses, PlaysUp, no_state, plays_on, PlaysAgain, refused, wanting, plays_up}
-use Rattle.paw_play.specs.Play.{GoesOn, memory, unattached, unread, plays, InAgain, InGoingOn, going_on, kept_session, attached_to, store_bytes}
+use Rattle.paw_play.specs.Play.{GoesOn, memory, unattached, unread, plays, InPlay, InPlayedOn, going_on, kept_session, attached_to, store_bytes}
 use Rattle.paw_play.specs.Laws.{ShowsSome, StandingShows, StandingGoesOn, GoingOnIsTheReading}
 use Rattle.paw_play.proofs.Games.{count_lines}
 use Rattle.paw_play.proofs.Going.{IsSettled, Settles, goes_on, since_past, text_since_is, waiting_goes, whole_kept}

@@ -1,6 +1,6 @@
 // The laws of sessions.
 
-ghost use Rattle.paw_play.specs.Laws.{StandingShows, StandingGoesOn, RoundsStand};
+ghost use Rattle.paw_play.specs.Laws.{StandingShows, StandingGoesOn, GoingOnIsTheReading, RoundsStand};
 ghost use Rattle.paw_play.specs.Older.{OlderSessionsStand};
 
 /// A store that stands for lines of a game shows a state that keeps all rules, so it is never refused.
