@@ -285,8 +285,10 @@ class Constants(dict):
 
 
 def parts_of(kind):
-    """How many parts a form has: three in `(a b : A) (c : C) → T`, two in `A → B → T`."""
+    """How many parts a form has: three in `(a b : A) (c : C) → T`, two in `A → (B → C) → T`."""
     named = re.findall(r"\(([\w' ]+) : ", kind)
+    while not named and "(" in kind:
+        kind = re.sub(r"\([^()]*\)", "", kind)
     return sum(len(names.split()) for names in named) if named else kind.count("→")
 
 
@@ -305,7 +307,8 @@ class Module:
         if kind == "use ":
             self.use(" ".join(item[item.index("use ") + 4:].split()))
         elif kind == "data ":
-            self.forms.update((form, parts_of(of)) for form, of in re.findall(r"^  (?:pub )?([\w']+) : (.*)$", item, re.M))
+            rows = re.findall(r"^  (?:pub )?([\w']+) : (.*)$", re.sub(r"\n {4,}", " ", item), re.M)
+            self.forms.update((form, parts_of(kind)) for form, kind in rows)
         elif not kind and name:
             self.equations.setdefault(name, []).extend([] if signed else [item])
 
