@@ -303,7 +303,8 @@ class Module:
             self.take(item)
 
     def take(self, item):
-        signed, kind, name = re.match(r"((?:(?:abbrev|unfoldable|foldable|pub) )*)(use |mod |record |data |)([\w'.]*)", item).groups()
+        head = re.match(r"((?:(?:abbrev|unfoldable|foldable|pub) )*)(use |mod |record |data |)([\w'.]*)", item)
+        signed, kind, name = head.groups()
         if kind == "use ":
             self.use(" ".join(item[item.index("use ") + 4:].split()))
         elif kind == "data ":
@@ -530,7 +531,8 @@ class Maker:
 
     def of_function(self, names, last, given, tree):
         own = [self.fresh() for _ in given]
-        return "Function(%d, lambda %s: %s)" % (len(own), ", ".join(own), self.value(tree, dict(names, **dict(zip(given, own))), True))
+        body = self.value(tree, dict(names, **dict(zip(given, own))), True)
+        return "Function(%d, lambda %s: %s)" % (len(own), ", ".join(own), body)
 
     def of_joined(self, names, last, sign, left, right):
         heads = [left]
