@@ -24,14 +24,15 @@ def run(words, lines=()):
     return done.returncode, done.stdout.decode("latin-1"), done.stderr.decode("latin-1")
 
 
-def pieces(paw, image, lines, seed="7"):
+def pieces(paw, image, lines, seed="7", command="walk"):
     """The text before the first line, and the text that answers each line that was taken.
 
     What is shown for some lines is the beginning of what is shown for more, so each piece is what one more line
     adds. Also gives the status and the words of the whole walk. Lines behind the end of the game answer nothing.
+    With the command "trace" they show what was read, too.
     """
-    status, whole, said = run([paw, "walk", image, seed], lines)
-    shown = [run([paw, "walk", image, seed], lines[:n])[1] for n in range(len(lines))] + [whole]
+    status, whole, said = run([paw, command, image, seed], lines)
+    shown = [run([paw, command, image, seed], lines[:n])[1] for n in range(len(lines))] + [whole]
     parts = [shown[0]]
     for before, after in zip(shown, shown[1:]):
         if not after.startswith(before):
