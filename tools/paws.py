@@ -1,5 +1,6 @@
 """What the scripts here share: the program, what it shows for lines typed, and the parts of a source."""
 import os
+import re
 import subprocess
 import sys
 
@@ -22,6 +23,31 @@ def run(words, lines=()):
     typed = "".join(line + "\n" for line in lines)
     done = subprocess.run(words, input=typed.encode("latin-1"), stdout=subprocess.PIPE, stderr=subprocess.PIPE)
     return done.returncode, done.stdout.decode("latin-1"), done.stderr.decode("latin-1")
+
+
+def script(main):
+    """Runs a script, and ends with its status: quietly where its reader goes away, with a line of words where a file fails."""
+    name = os.path.basename(sys.argv[0])
+    try:
+        try:
+            status = main()
+        except SystemExit as end:
+            status = end.code
+        sys.stdout.flush()
+    except BrokenPipeError:
+        os.dup2(os.open(os.devnull, os.O_WRONLY), sys.stdout.fileno())  # what is still held back goes nowhere
+        status = 141
+    except KeyboardInterrupt:
+        status = 130
+    except OSError as fault:
+        status = refusal("%s: %s: %s" % (name, fault.filename, fault.strerror))
+    sys.exit(status)
+
+
+def refusal(why):
+    """Tells why a script can't do its work; gives its status then."""
+    sys.stderr.write(why + "\n")
+    return 2
 
 
 def pieces(paw, image, lines, seed="7", command="walk"):
@@ -75,10 +101,10 @@ class Fault(Exception):
 
 
 class Item:
-    """A numbered text, with the line of its number."""
+    """A numbered text, with the line of its number and that of each of its rows."""
 
     def __init__(self, number, line):
-        self.number, self.line, self.rows = number, line, []
+        self.number, self.line, self.rows, self.lines = number, line, [], []
 
     @property
     def text(self):
@@ -86,8 +112,10 @@ class Item:
 
 
 class Word:
-    def __init__(self, letters, value, kind, line):
-        self.letters, self.value, self.kind, self.line = letters, value, kind, line
+    """A word: the letters that count, the value, the class, and as it is written."""
+
+    def __init__(self, written, value, kind, line):
+        self.letters, self.value, self.kind, self.line, self.written = written[:5], value, kind, line, written
 
 
 class Exit:
@@ -121,11 +149,12 @@ HEADERS = ["/VOC", "/STX", "/MTX", "/OTX", "/LTX", "/CON", "/OBJ"]
 
 
 class Source:
-    """The parts of a source, each with the line that it stands in."""
+    """The parts of a source, each with the line that it stands in, and the comments by their lines."""
 
     def __init__(self, path):
         self.path = path
         self.words, self.exits, self.things, self.tables = [], {}, [], []
+        self.comments, self.table_lines, self.first_header = {}, [], 0
         self.texts = {"/STX": [], "/MTX": [], "/OTX": [], "/LTX": []}
         self.codes = {name: (code, kinds) for code, (name, kinds) in enumerate(condact_rows())}
         self.section, self.place = None, None
@@ -134,7 +163,9 @@ class Source:
         lines = text.split("\n")
         for number, line in enumerate(lines[:-1] if lines and not lines[-1] else lines, 1):
             self.number = number
-            if not line.startswith(";"):
+            if line.startswith(";"):
+                self.comments[number] = line[1:]
+            else:
                 self.read(line)
 
     def fault(self, why):
@@ -144,14 +175,18 @@ class Source:
         texts = self.texts.get(self.section)
         if texts and not line.startswith("/"):
             texts[-1].rows.append(line)
+            texts[-1].lines.append(self.number)
             return
-        tokens = line.split(";")[0].upper().split()
+        line, mark, comment = line.partition(";")
+        if mark:
+            self.comments[self.number] = comment
+        tokens = line.upper().split()
         if not tokens:
             return
         if line.startswith("/"):
             self.header(tokens)
         elif self.section == "/VOC":
-            self.words.append(Word(tokens[0][:5], self.number_of(tokens[1]), tokens[2].lower(), self.number))
+            self.words.append(Word(tokens[0], self.number_of(tokens[1]), tokens[2].lower(), self.number))
         elif self.section == "/CON":
             row = Exit(self.value(tokens[0], "verb"), self.number_of(tokens[1]), self.number)
             self.exits.setdefault(self.place, []).append(row)
@@ -165,6 +200,7 @@ class Source:
             self.fault("a line outside the sections")
 
     def header(self, tokens):
+        self.first_header = self.first_header or self.number
         if tokens[0][1:].isdigit():
             number = int(tokens[0][1:])
             if self.section in self.texts:
@@ -173,6 +209,7 @@ class Source:
         elif tokens[0] == "/PRO":
             self.section = "/PRO"
             self.tables.append([])
+            self.table_lines.append(self.number)
         elif tokens[0] in HEADERS:
             self.section = tokens[0]
         else:
@@ -220,6 +257,29 @@ class Source:
                 return found[0]
         return {1: "*", 255: "_"}.get(value, str(value))
 
+    def phrase(self, text):
+        """What a player who types this means by the rules: the first noun, its adjective, the second noun; 255 for none."""
+        known = {word.letters: word for word in reversed(self.words)}
+        nouns, adjective = [], 255
+        for token in re.findall("[A-Z0-9]+|[.,;:!?\"]", text.upper()):
+            word = known.get(token[:5])
+            if not token[0].isalnum() or word and word.kind == "conjunction":
+                if nouns:
+                    break
+            elif word and word.kind == "noun":
+                nouns.append(word.value)
+            elif word and word.kind == "adjective" and not nouns and adjective == 255:
+                adjective = word.value
+        return (nouns + [255, 255])[0], adjective, (nouns + [255, 255])[1]
+
+    def header_of(self, line):
+        """The line of the number of the text that a line belongs to, or the line itself."""
+        for items in self.texts.values():
+            for item in items:
+                if line in item.lines:
+                    return item.line
+        return line
+
     def title(self, location):
         """The first line of the location's text."""
         texts = self.texts["/LTX"]
@@ -241,6 +301,6 @@ class Source:
         try:
             return Source(path)
         except Fault as fault:
-            sys.exit(str(fault))
+            sys.exit(refusal(str(fault)))
         except (ValueError, IndexError) as fault:
-            sys.exit("%s: not read: %s; ./paw compile names the fault" % (path, fault))
+            sys.exit(refusal("%s: not read: %s; ./paw compile names the fault" % (path, fault)))
