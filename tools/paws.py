@@ -1,4 +1,5 @@
 """What the scripts here share: the program, what it shows for lines typed, and the parts of a source."""
+import argparse
 import os
 import re
 import subprocess
@@ -8,8 +9,11 @@ TOP = os.path.dirname(os.path.dirname(os.path.abspath(__file__)))
 
 
 def program(named=None):
-    """The program to run: the one named, or that of the variable PAW, or the one that ./paw runs."""
+    """The program to run: the one named, or that of the variable PAW, or that of the package, or the one that ./paw runs."""
     found = named or os.environ.get("PAW")
+    installed = os.path.join(TOP, "..", "..", "lib", "paw", "paw")  # seen from share/paw of a package
+    if not found and os.path.exists(installed):
+        found = installed
     if not found:
         asked = subprocess.run([os.path.join(TOP, "paw"), "--which"], stdout=subprocess.PIPE)
         found = asked.stdout.decode().strip() or sys.exit(asked.returncode)
@@ -40,14 +44,29 @@ def script(main):
     except KeyboardInterrupt:
         status = 130
     except OSError as fault:
-        status = refusal("%s: %s: %s" % (name, fault.filename, fault.strerror))
+        status = refusal("%s: %s: %s" % (name, fault.filename or "the output", fault.strerror))
     sys.exit(status)
+
+
+def words(told):
+    """A reader of a script's words, from what the script tells of itself: what it does, its usage, and the rest for --help."""
+    does, usage, rest = told.split("\n\n", 2)
+    return argparse.ArgumentParser(usage=usage[len("usage: "):], description=does + "\n\n" + rest,
+                                   formatter_class=argparse.RawDescriptionHelpFormatter)
 
 
 def refusal(why):
     """Tells why a script can't do its work; gives its status then."""
     sys.stderr.write(why + "\n")
     return 2
+
+
+def typed_lines(path):
+    """The lines of a file, or those of standard input for -, as soon as each is typed. What is typed is shown again byte by byte."""
+    sys.stdout.reconfigure(encoding="latin-1", errors="replace")
+    if path != "-":
+        return lines_of(path)
+    return (line.decode("latin-1").rstrip("\r\n") for line in sys.stdin.buffer)
 
 
 def pieces(paw, image, lines, seed="7", command="walk"):
@@ -161,6 +180,7 @@ class Source:
         with open(path, encoding="latin-1", newline="") as file:
             text = file.read().split("\x1a")[0].replace("\r\n", "\n")
         lines = text.split("\n")
+        self.plain = text  # as it was read, for the compiler
         for number, line in enumerate(lines[:-1] if lines and not lines[-1] else lines, 1):
             self.number = number
             if line.startswith(";"):
