@@ -97,6 +97,17 @@ def lines_of(path):
         return file.read().replace("\r\n", "\n").splitlines()
 
 
+def text_of(path):
+    """The bytes of a source as text."""
+    with open(path, encoding="latin-1", newline="") as file:
+        return file.read()
+
+
+def printable(text):
+    """A text of a source for a terminal, column by column: no control byte, and nothing that isn't ASCII, reaches it."""
+    return "".join(" " if char == "\t" else char if " " <= char <= "~" else "?" for char in text)
+
+
 # --- The table of condacts, as docs/LANGUAGE.md has it -------------------------------------------------------------
 
 def condact_rows(path=None):
@@ -167,6 +178,23 @@ CLASSES = {"A": "adverb", "B": "noun", "J": "adjective", "R": "preposition"}
 HEADERS = ["/VOC", "/STX", "/MTX", "/OTX", "/LTX", "/CON", "/OBJ"]
 
 
+def plain_of(text):
+    """The source with numbers for names, line for line: as it is where it has none."""
+    import grammar
+    return grammar.Reading(text).plain()
+
+
+def plain_path(path, room):
+    """The path of the plain source: that of the source where it has no names, or else room, where it is written then."""
+    text = text_of(path)
+    plain = plain_of(text)
+    if plain == text:
+        return path
+    with open(room, "w", encoding="latin-1", newline="") as file:
+        file.write(plain)
+    return room
+
+
 class Source:
     """The parts of a source, each with the line that it stands in, and the comments by their lines."""
 
@@ -177,8 +205,7 @@ class Source:
         self.texts = {"/STX": [], "/MTX": [], "/OTX": [], "/LTX": []}
         self.codes = {name: (code, kinds) for code, (name, kinds) in enumerate(condact_rows())}
         self.section, self.place = None, None
-        with open(path, encoding="latin-1", newline="") as file:
-            text = file.read().split("\x1a")[0].replace("\r\n", "\n")
+        text = plain_of(text_of(path)).split("\x1a")[0].replace("\r\n", "\n")
         lines = text.split("\n")
         self.plain = text  # as it was read, for the compiler
         for number, line in enumerate(lines[:-1] if lines and not lines[-1] else lines, 1):

@@ -8,15 +8,17 @@ syntax sync fromstart
 syntax match pawsRemark /^;.*$/
 syntax match pawsRemark /;.*$/ contained
 syntax match pawsTextRemark /^;.*$/ contained
-syntax match pawsHeader /^\/\(VOC\|STX\|MTX\|OTX\|LTX\|CON\|OBJ\|PRO\s\+\d\+\)\ze\s*\(;.*\)\?$/ contained nextgroup=pawsRemark skipwhite
-syntax match pawsItem /^\/\d\+\ze\s*\(;.*\)\?$/ contained nextgroup=pawsRemark skipwhite
+syntax match pawsItem /^\/\w\+\(\s\+\h\w*\)\=\ze\s*\(;.*\)\?$/ contained nextgroup=pawsRemark skipwhite
+syntax match pawsHeader /^\/\(NAMES\|VOC\|STX\|MTX\|OTX\|LTX\|CON\|OBJ\|PRO\s\+\w\+\(\s\+\h\w*\)\=\)\ze\s*\(;.*\)\?$/ contained nextgroup=pawsRemark skipwhite
+syntax match pawsValue /'\w\+'/ contained
+syntax keyword pawsNamed flag number location object message sysmess table contained
 syntax match pawsNumber /\<\d\+\>/ contained
 syntax keyword pawsPlace NOTCREATED HERE WORN CARRIED contained
 syntax match pawsAny /\(^\|\s\)\@<=[_*]\ze\([ \t;]\|$\)/ contained
 syntax match pawsFault /\v<0*%(25[6-9]|2[6-9]\d|[3-9]\d\d|[1-9]\d{3,})>/ contained
 syntax match pawsTerm /^\s*\zs\w\+/ contained
 syntax match pawsNoValue /\v(^\s*\w+\s+)@<=0*%([01]|25[5-9]|2[6-9]\d|[3-9]\d\d|[1-9]\d{3,})>/ contained
-syntax match pawsNoWeight /\v(^\s*\d+\s+\w+\s+)@<=0*%(6[4-9]|[7-9]\d|[1-9]\d{2,})>/ contained
+syntax match pawsNoWeight /\v(^\s*\w+\s+\w+\s+)@<=0*%(6[4-9]|[7-9]\d|[1-9]\d{2,})>/ contained
 syntax match pawsNoText /[^\x20-\x7e]/ contained
 syntax match pawsSubject /_/ contained
 syntax keyword pawsClass verb adverb noun adjective preposition conjunction pronoun contained
@@ -47,18 +49,19 @@ syntax keyword pawsState contained
   \ TIME EXTERN
 syntax keyword pawsAsks contained nextgroup=pawsWord skipwhite
   \ ADJECT1 ADVERB PREP NOUN2 ADJECT2
-syntax match pawsBoth /\<\(WORN\|CARRIED\)\>\ze\s\+\d/ contained
-syntax match pawsAt /\<\(WORN\|CARRIED\)\>\(\s\+\d\)\@!/ contained
+syntax match pawsBoth /\<\(WORN\|CARRIED\)\>\ze\s\+\C[a-z0-9]/ contained
+syntax match pawsAt /\<\(WORN\|CARRIED\)\>\(\s\+\C[a-z0-9]\)\@!/ contained
 syntax keyword pawsAt NOTCREATED HERE contained
 
-syntax region pawsWords start=/^\/VOC\>/ end=/^\ze\/\a/ keepend contains=pawsHeader,pawsRemark,pawsNumber,pawsClass,pawsTerm,pawsNoValue
-syntax region pawsTexts start=/^\/\(STX\|MTX\|LTX\)\>/ end=/^\ze\/\a/ keepend contains=pawsHeader,pawsItem,pawsTextRemark,pawsNoText,pawsSubject
-syntax region pawsNames start=/^\/OTX\>/ end=/^\ze\/\a/ keepend contains=pawsHeader,pawsItem,pawsTextRemark,pawsNoText
-syntax region pawsExits start=/^\/CON\>/ end=/^\ze\/\a/ keepend contains=pawsHeader,pawsRemark,pawsTerm,pawsItem,pawsNumber,pawsFault
-syntax region pawsThings start=/^\/OBJ\>/ end=/^\ze\/\a/ keepend contains=pawsHeader,pawsRemark,pawsNumber,pawsKind,pawsPlace,pawsAny,pawsFault,pawsNoWeight
-syntax match pawsSteps /.*$/ contained contains=pawsCondition,pawsFlow,pawsTelling,pawsThing,pawsMark,pawsState,pawsAsks,pawsBoth,pawsAt,pawsNumber,pawsAny,pawsFault,pawsRemark
-syntax match pawsMore /^\s.*$/ contained contains=pawsCondition,pawsFlow,pawsTelling,pawsThing,pawsMark,pawsState,pawsAsks,pawsBoth,pawsAt,pawsNumber,pawsAny,pawsFault,pawsRemark
-syntax region pawsTable start=/^\/PRO\>/ end=/^\ze\/\a/ keepend contains=pawsHeader,pawsRemark,pawsEntry,pawsMore
+syntax region pawsList start=/^\/NAMES\>/ end=/^\ze\/\(NAMES\|VOC\|STX\|MTX\|OTX\|LTX\|CON\|OBJ\|PRO\)\>/ keepend contains=pawsRemark,pawsNumber,pawsNamed,pawsTerm,pawsFault,pawsHeader
+syntax region pawsWords start=/^\/VOC\>/ end=/^\ze\/\(NAMES\|VOC\|STX\|MTX\|OTX\|LTX\|CON\|OBJ\|PRO\)\>/ keepend contains=pawsRemark,pawsNumber,pawsClass,pawsTerm,pawsNoValue,pawsValue,pawsHeader
+syntax region pawsTexts start=/^\/\(STX\|MTX\|LTX\)\>/ end=/^\ze\/\(NAMES\|VOC\|STX\|MTX\|OTX\|LTX\|CON\|OBJ\|PRO\)\>/ keepend contains=pawsItem,pawsTextRemark,pawsNoText,pawsSubject,pawsHeader
+syntax region pawsNames start=/^\/OTX\>/ end=/^\ze\/\(NAMES\|VOC\|STX\|MTX\|OTX\|LTX\|CON\|OBJ\|PRO\)\>/ keepend contains=pawsItem,pawsTextRemark,pawsNoText,pawsHeader
+syntax region pawsExits start=/^\/CON\>/ end=/^\ze\/\(NAMES\|VOC\|STX\|MTX\|OTX\|LTX\|CON\|OBJ\|PRO\)\>/ keepend contains=pawsRemark,pawsTerm,pawsItem,pawsNumber,pawsFault,pawsHeader
+syntax region pawsThings start=/^\/OBJ\>/ end=/^\ze\/\(NAMES\|VOC\|STX\|MTX\|OTX\|LTX\|CON\|OBJ\|PRO\)\>/ keepend contains=pawsRemark,pawsNumber,pawsKind,pawsPlace,pawsAny,pawsFault,pawsNoWeight,pawsHeader
+syntax match pawsSteps /.*$/ contained contains=pawsCondition,pawsFlow,pawsTelling,pawsThing,pawsMark,pawsState,pawsAsks,pawsBoth,pawsAt,pawsNumber,pawsAny,pawsFault,pawsValue,pawsRemark
+syntax match pawsMore /^\s.*$/ contained contains=pawsCondition,pawsFlow,pawsTelling,pawsThing,pawsMark,pawsState,pawsAsks,pawsBoth,pawsAt,pawsNumber,pawsAny,pawsFault,pawsValue,pawsRemark
+syntax region pawsTable start=/^\/PRO\>/ end=/^\ze\/\(NAMES\|VOC\|STX\|MTX\|OTX\|LTX\|CON\|OBJ\|PRO\)\>/ keepend contains=pawsRemark,pawsEntry,pawsMore,pawsHeader
 
 highlight default link pawsRemark Comment
 highlight default link pawsTextRemark Comment
@@ -76,6 +79,8 @@ highlight default link pawsSubject Special
 highlight default link pawsClass Type
 highlight default link pawsKind Type
 highlight default link pawsTerm Identifier
+highlight default link pawsValue Constant
+highlight default link pawsNamed Type
 highlight default link pawsEntry Identifier
 highlight default link pawsWord Identifier
 highlight default link pawsNoun Identifier
