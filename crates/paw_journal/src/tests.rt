@@ -502,8 +502,8 @@ fn with_digest(alloc: Global, whole: &[u8]) -> Result<Vec<u8>, Fail> {
     Ok(bytes)
 }
 
-// A session of another hand: the selector's other bits are set, the version is 1, and so are the bytes of the header that
-// nothing reads.
+// A session of another hand: the selector's other bits are set, the version is 1, and the bytes of the header that
+// nothing reads aren't 0.
 fn strange(alloc: Global) -> Result<Vec<u8>, Fail> {
     let mut bytes = made(alloc)?;
     if bytes.len() < 128 {
@@ -620,8 +620,8 @@ fn each_byte_that_commits_leave(rt: HostRuntime) -> Result<(), Fail> {
 #[test]
 fn each_byte_where_the_base_is_written_whole(rt: HostRuntime) -> Result<(), Fail> {
     let session = strange(rt.alloc())?;
-    // Slot 1, from 86,208 on, isn't chosen. It is of version 1; it has too many change records; one of them isn't sound;
-    // there is no room for three more. Each time one that stands where the records are stays there.
+    // Slot 1, from 86,208 on, isn't chosen. It is of version 1; it has too many change records; one of them isn't
+    // sound; there is no room for three more. Each time one that stands where the records are stays there.
     let base = [
         (1, 1),
         (86_208, 0),
