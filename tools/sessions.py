@@ -1,0 +1,40 @@
+"""What the bytes of a session hold: docs/FORMATS.md has them."""
+import hashlib
+import sys
+
+import paws
+
+SLOTS, SLOT, BASE, TEXT, RECORDS = 128, 86080, 64, 4160, 69696
+
+
+def number_at(data, at, size):
+    return int.from_bytes(data[at:at + size], "little")
+
+
+class State:
+    """What a slot of a session shows; none where it has no state."""
+
+    def __init__(self, slot):
+        self.base = bytearray(slot[BASE:BASE + 4096])
+        for at in range(min(number_at(slot, 0, 2), 4096)):
+            record = slot[RECORDS + 4 * at:RECORDS + 4 * at + 4]
+            self.base[number_at(record, 0, 2) % 4096] = record[2]
+        self.flags, self.places = self.base[:256], self.base[256:511]
+        self.seed, self.lines, self.prompt = number_at(self.base, 1023, 8), number_at(self.base, 1039, 8), self.base[1047]
+        self.text = slot[TEXT:TEXT + number_at(self.base, 1369, 2)].decode("latin-1")
+
+
+def states(path, image):
+    """The state of a session, and the one before its last line where that is still there."""
+    with open(path, "rb") as file:
+        data = file.read()
+    with open(image, "rb") as file:
+        digest = hashlib.sha256(file.read()).digest()
+    if len(data) != SLOTS + 2 * SLOT or data[0] != 80:
+        sys.exit(paws.refusal("%s: no session" % path))
+    if data[32:64] != digest:
+        sys.exit(paws.refusal("%s: the session is of another game" % path))
+    used = data[1] % 2
+    slots = [data[SLOTS + SLOT * at:SLOTS + SLOT * (at + 1)] for at in (used, 1 - used)]
+    now, before = State(slots[0]), State(slots[1])
+    return now, before if before.lines + 1 == now.lines else None
