@@ -353,20 +353,24 @@ class Source:
             sys.exit(refusal("%s: not read: %s; ./paw compile names the fault" % (path, fault)))
 
 
+def is_image(path):
+    with open(path, "rb") as file:
+        return file.read(4) == b"PAWI"
+
+
 def source_and_image(paw, path, room):
     """A source and its image: the one that was given, and the other made of it."""
-    with open(path, "rb") as file:
-        is_image = file.read(4) == b"PAWI"
+    from_image = is_image(path)
     plain, image = os.path.join(room, "source"), os.path.join(room, "image")
-    if is_image:
+    if from_image:
         status, shown, said = run([paw, "decompile", path])
     else:
         source = Source.read_or_exit(path)
         status, shown, said = 0, source.plain, ""
     with open(plain, "w", encoding="latin-1", newline="") as file:
         file.write(shown)
-    if not is_image:
+    if not from_image:
         status, shown, said = run([paw, "compile", plain, image])
     if status:
         sys.exit(refusal("%s: %s" % (path, said.strip())))
-    return (Source.read_or_exit(plain), path) if is_image else (source, image)
+    return (Source.read_or_exit(plain), path) if from_image else (source, image)

@@ -24,6 +24,17 @@ class State:
         self.text = slot[TEXT:TEXT + number_at(self.base, 1369, 2)].decode("latin-1")
 
 
+def state_at(data, slot):
+    return State(data[SLOTS + SLOT * slot:SLOTS + SLOT * (slot + 1)])
+
+
+def now(path):
+    """The state of a session that the program has just written."""
+    with open(path, "rb") as file:
+        data = file.read()
+    return state_at(data, data[1] % 2)
+
+
 def states(path, image):
     """The state of a session, and the one before its last line where that is still there."""
     with open(path, "rb") as file:
@@ -35,6 +46,5 @@ def states(path, image):
     if data[32:64] != digest:
         sys.exit(paws.refusal("%s: the session is of another game" % path))
     used = data[1] % 2
-    slots = [data[SLOTS + SLOT * at:SLOTS + SLOT * (at + 1)] for at in (used, 1 - used)]
-    now, before = State(slots[0]), State(slots[1])
-    return now, before if before.lines + 1 == now.lines else None
+    last, before = state_at(data, used), state_at(data, 1 - used)
+    return last, before if before.lines + 1 == last.lines else None
