@@ -119,7 +119,7 @@ class Report:
     def exit(self, place, way):
         if (place, way.verb, way.to) in self.seen.exits:
             return None
-        there, then = (self.names.of("L", number) for number in (place, way.to))
+        there, then = (steps.cut(self.source.texts["/LTX"][number].text, 24) for number in (place, way.to))
         return way.line, "exit %s of %d (%s) to %d (%s)" % (self.names.of("verb", way.verb), place, there, way.to, then)
 
     def shown(self):
