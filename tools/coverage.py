@@ -2,6 +2,7 @@
 import os
 import re
 import shutil
+import sys
 import tempfile
 
 import paws
@@ -33,6 +34,8 @@ def seen(game, source, lines, seed, parts):
     shown, at = paws.run([game.paw, "trace", game.image, seed], lines)[1], 0
     for part in parts:
         read, more, at = steps.taken(shown, at)
+        if not shown.startswith(part, at):
+            sys.exit("the trace shows another text than the walk")
         at += len(part)
         found.left_out += more
         for *place, succeeded in read:
@@ -44,17 +47,26 @@ def seen(game, source, lines, seed, parts):
 
 def moves(game, source, lines, seed, session):
     """For each sentence the place before it, its verb, and the place behind it: from a session that is taken up for each."""
-    paws.run([game.paw, "play", game.image, session, seed])
+    if not goes_on([game.paw, "play", game.image, session, seed]):
+        return
     before = sessions.now(session)
     for line in lines:
         for sentences in beginnings(source, line):
             shutil.copyfile(session, session + ".next")
-            if paws.run([game.paw, "resume", game.image, session + ".next"], [sentences])[0]:
+            if not goes_on([game.paw, "resume", game.image, session + ".next"], [sentences]):
                 return
             after = sessions.now(session + ".next")
             yield before.flags[38], after.flags[33], after.flags[38]
             before = after
         os.replace(session + ".next", session)
+
+
+def goes_on(words, lines=()):
+    """Whether a session goes on behind these lines; a fault that the game comes to ends it."""
+    status, _, said = paws.run(words, lines)
+    if said.startswith("outside failed"):
+        sys.exit(paws.refusal("no session can be played: " + said.strip()))
+    return not status
 
 
 def beginnings(source, line):
