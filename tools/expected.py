@@ -157,6 +157,8 @@ class Reader:
             self.fault("text above the first test: a line that begins with # and a name begins one")
         elif mark == ">":
             self.tests[-1].answers.append(Answer(row[2:] if row[1:2] == " " else row[1:], self.number))
+        elif not row.isascii():
+            self.fault("a letter that isn't ASCII, which no game shows")
         elif mark == "!":
             self.refuse(rest)
         else:
