@@ -110,15 +110,20 @@ def printable(text):
 
 # --- The table of condacts, as docs/LANGUAGE.md has it -------------------------------------------------------------
 
-def condact_rows(path=None):
-    """For each condact in the order of codes: its name, and the letters of what its parameters name."""
+def condact_table(path=None):
+    """For each condact in the order of codes: its name, the letters of what its parameters name, and what it does."""
     rows = []
     with open(path or os.path.join(TOP, "docs", "LANGUAGE.md"), encoding="utf-8") as file:
         for line in file:
             cells = [cell.strip() for cell in line.split("|")]
             if len(cells) == 6 and cells[1].isdigit() and cells[2].isupper() and int(cells[1]) == len(rows):
-                rows.append((cells[2], cells[3].split()))
+                rows.append((cells[2], cells[3].split(), cells[4]))
     return rows
+
+
+def condact_rows(path=None):
+    """The same without what each does."""
+    return [(name, kinds) for name, kinds, _ in condact_table(path)]
 
 
 CONDITIONS = 29  # the codes below are conditions, the others act
