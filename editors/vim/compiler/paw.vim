@@ -7,7 +7,8 @@ if exists(':CompilerSet') != 2
   command -nargs=* CompilerSet setlocal <args>
 endif
 
-" The script that tells them: the one that g:paw_faults names, or that of the folder that this file is part of, or the installed one.
+" The script that tells them: the one that g:paw_faults names, or that of the folder that this file is part of, or the one that is
+" installed.
 let s:beside = fnamemodify(resolve(expand('<sfile>:p')), ':h:h:h:h') . '/tools/faults'
 let s:faults = get(g:, 'paw_faults', executable(s:beside) ? s:beside : 'paw-faults')
 execute 'CompilerSet makeprg=' . escape(shellescape(s:faults) . ' --short --warnings -- %:p:.:S', ' \|"')
