@@ -1,13 +1,13 @@
 -- The code of a name.
-use Rattle.std.proofs.Common.{◌≡◌, ℕ, ◌<◌, ◌==◌, Bool, true, false, not, ◌&&◌, List, [], ◌∷◌, map, refl, sym, ap, ◌∙◌}
-use Rattle.std.proofs.Common.{Option, Some, None, option_map, unwrap_or, subst, bytes_eq, arith}
+use Rattle.std.proofs.Common.{◌≡◌, ℕ, ◌<◌, ◌==◌, Bool, true, false, not, ◌&&◌, List, [], ◌∷◌, length, map, refl, sym, ap, ◌∙◌}
+use Rattle.std.proofs.Common.{Option, Some, None, option_map, unwrap_or, subst, bytes_eq}
 use Rattle.std.specs.List.{position, prefix_len, list_all}
 use Rattle.std.proofs.lemmas.Bool.Decides.{Decides-eqb}
 use Rattle.std.proofs.lemmas.Slice.Eq.{bytes_eq-Decides}
 use Rattle.std.proofs.lemmas.List.Quantifiers.{position-Some}
 use Rattle.std.proofs.Math.ListN.{length-map}
 use Rattle.paw_base.proofs.Filled.{has_space, has_space-plain, bytes_eq-filled_up, is_plain-capitals}
-use Rattle.paw_base.proofs.Table.{held, CONDACTS_are, length-condact_lines, below, each_code, is_plain-name_of, HasName-name_of}
+use Rattle.paw_base.proofs.Table.{held, CONDACTS_are, length-condact_lines, within_code, below, each_code, is_plain-name_of, HasName-name_of}
 use Rattle.paw_base.specs.declared.rows.TheConstants.{CONDACTS}
 use Rattle.paw_base.specs.Condacts.{CondactLine, no_line, condact_lines, line_of, name_of, capitals, code_named}
 use Rattle.paw_base.specs.inner.Condacts.{filled_up, HasName, IsCode, is_plain}
@@ -20,7 +20,7 @@ code_with name = position (λ line. bytes_eq line.name name) condact_lines
 is_own : ℕ → Bool
 is_own code = unwrap_or (option_map (λ found. found == code) (code_with (name_of code))) false
 
-own_names : below is_own 108 ≡ true
+own_names : below is_own (length CONDACTS) ≡ true
 unfolding condact_lines line_of below is_own
 own_names = refl
 
@@ -42,8 +42,7 @@ pub code_named_found : (name : List ℕ) (code : ℕ) → code_named name ≡ So
 unfolding line_of
 code_named_found name code e =
     let p = position-Some (λ line. bytes_eq line.name (capitals name)) condact_lines code no_line e in
-    let within : code < 108 = subst (λ (n : ℕ). code < n) length-condact_lines p.0 in
-    (omega arith, (bytes_eq-Decides (line_of code).name (capitals name)).0 p.1)
+    (within_code code (subst (λ (n : ℕ). code < n) length-condact_lines p.0), (bytes_eq-Decides (line_of code).name (capitals name)).0 p.1)
 
 -- ---- the search among the names that are filled up
 

@@ -1,141 +1,146 @@
 -- The condacts: their codes, their names, and what their parameters name.
-use Rattle.std.specs.Prelude.{ℕ, ◌+◌, List, [], ◌∷◌, map, Option, codes, bytes_eq}
+use Rattle.std.specs.Prelude.{ℕ, ◌+◌, Bool, true, false, List, [], ◌∷◌, length, map, Option, codes, bytes_eq, nat_lt}
 use Rattle.std.specs.List.{slice_index_or, position}
 use Rattle.std.specs.Char.{to_ascii_uppercase}
-use Rattle.paw_base.specs.declared.rows.Family.{Family}
-use Rattle.paw_base.specs.declared.rows.Family.TheVariants as family
 use Rattle.paw_base.specs.declared.rows.ParamKind.{ParamKind}
 use Rattle.paw_base.specs.declared.rows.ParamKind.TheVariants.{Absent, Location, Place, Object, Flag}
 use Rattle.paw_base.specs.declared.rows.ParamKind.TheVariants.{Number, Message, System, Table, Adverb}
 use Rattle.paw_base.specs.declared.rows.ParamKind.TheVariants.{Noun, Adjective, Preposition}
 
--- a line of the table: the name, what the first and the second parameter name, and the family whose rules it keeps
+-- a line of the table: the name, what the first and the second parameter name, and whether the condact acts or tests
 pub record CondactLine : Type 0 where
   pub name : List ℕ
   pub first : ParamKind
   pub second : ParamKind
-  pub family : Family
+  pub acts : Bool
 
--- a line of the table, by its parts
-abbrev pub named_line : List ℕ → ParamKind → ParamKind → Family → CondactLine
-named_line name first second family = record { name = name; first = first; second = second; family = family }
+-- a line of a condition, and that of an action
+abbrev pub condition : List ℕ → ParamKind → ParamKind → CondactLine
+condition name first second = record { name = name; first = first; second = second; acts = false }
 
--- the lines of the codes 0 to 107, in their order
+abbrev pub action : List ℕ → ParamKind → ParamKind → CondactLine
+action name first second = record { name = name; first = first; second = second; acts = true }
+
+-- the lines of the codes from 0 on, in their order
 unfoldable pub condact_lines : List CondactLine
 condact_lines =
-    named_line (codes "AT") Location Absent family.PlaceTest ∷  -- 0
-    named_line (codes "NOTAT") Location Absent family.PlaceTest ∷  -- 1
-    named_line (codes "ATGT") Number Absent family.PlaceTest ∷  -- 2
-    named_line (codes "ATLT") Number Absent family.PlaceTest ∷  -- 3
-    named_line (codes "PRESENT") Object Absent family.PlaceTest ∷  -- 4
-    named_line (codes "ABSENT") Object Absent family.PlaceTest ∷  -- 5
-    named_line (codes "WORN") Object Absent family.PlaceTest ∷  -- 6
-    named_line (codes "NOTWORN") Object Absent family.PlaceTest ∷  -- 7
-    named_line (codes "CARRIED") Object Absent family.PlaceTest ∷  -- 8
-    named_line (codes "NOTCARR") Object Absent family.PlaceTest ∷  -- 9
-    named_line (codes "CHANCE") Number Absent family.Chance ∷  -- 10
-    named_line (codes "ZERO") Flag Absent family.FlagTest ∷  -- 11
-    named_line (codes "NOTZERO") Flag Absent family.FlagTest ∷  -- 12
-    named_line (codes "EQ") Flag Number family.FlagTest ∷  -- 13
-    named_line (codes "NOTEQ") Flag Number family.FlagTest ∷  -- 14
-    named_line (codes "GT") Flag Number family.FlagTest ∷  -- 15
-    named_line (codes "LT") Flag Number family.FlagTest ∷  -- 16
-    named_line (codes "SAME") Flag Flag family.FlagTest ∷  -- 17
-    named_line (codes "NOTSAME") Flag Flag family.FlagTest ∷  -- 18
-    named_line (codes "ADJECT1") Adjective Absent family.FlagTest ∷  -- 19
-    named_line (codes "ADVERB") Adverb Absent family.FlagTest ∷  -- 20
-    named_line (codes "PREP") Preposition Absent family.FlagTest ∷  -- 21
-    named_line (codes "NOUN2") Noun Absent family.FlagTest ∷  -- 22
-    named_line (codes "ADJECT2") Adjective Absent family.FlagTest ∷  -- 23
-    named_line (codes "ISAT") Object Place family.PlaceTest ∷  -- 24
-    named_line (codes "ISNOTAT") Object Place family.PlaceTest ∷  -- 25
-    named_line (codes "TIMEOUT") Absent Absent family.FlagTest ∷  -- 26
-    named_line (codes "QUIT") Absent Absent family.Quit ∷  -- 27
-    named_line (codes "MOVE") Flag Absent family.Exit ∷  -- 28
-    named_line (codes "INVEN") Absent Absent family.Print ∷  -- 29
-    named_line (codes "DESC") Absent Absent family.Flow ∷  -- 30
-    named_line (codes "END") Absent Absent family.Flow ∷  -- 31
-    named_line (codes "DONE") Absent Absent family.Flow ∷  -- 32
-    named_line (codes "NOTDONE") Absent Absent family.Flow ∷  -- 33
-    named_line (codes "OK") Absent Absent family.Flow ∷  -- 34
-    named_line (codes "ANYKEY") Absent Absent family.Flow ∷  -- 35
-    named_line (codes "SAVE") Absent Absent family.Keeping ∷  -- 36
-    named_line (codes "LOAD") Absent Absent family.Keeping ∷  -- 37
-    named_line (codes "RAMSAVE") Absent Absent family.Change ∷  -- 38
-    named_line (codes "RAMLOAD") Number Absent family.Change ∷  -- 39
-    named_line (codes "TURNS") Absent Absent family.Print ∷  -- 40
-    named_line (codes "SCORE") Absent Absent family.Print ∷  -- 41
-    named_line (codes "DROPALL") Absent Absent family.Placing ∷  -- 42
-    named_line (codes "AUTOG") Absent Absent family.Handling ∷  -- 43
-    named_line (codes "AUTOD") Absent Absent family.Handling ∷  -- 44
-    named_line (codes "AUTOW") Absent Absent family.Handling ∷  -- 45
-    named_line (codes "AUTOR") Absent Absent family.Handling ∷  -- 46
-    named_line (codes "AUTOP") Location Absent family.Handling ∷  -- 47
-    named_line (codes "AUTOT") Location Absent family.Handling ∷  -- 48
-    named_line (codes "GOTO") Location Absent family.Change ∷  -- 49
-    named_line (codes "MES") Message Absent family.Print ∷  -- 50
-    named_line (codes "MESSAGE") Message Absent family.Print ∷  -- 51
-    named_line (codes "SYSMESS") System Absent family.Print ∷  -- 52
-    named_line (codes "NEWLINE") Absent Absent family.Print ∷  -- 53
-    named_line (codes "PRINT") Flag Absent family.Print ∷  -- 54
-    named_line (codes "GET") Object Absent family.Handling ∷  -- 55
-    named_line (codes "DROP") Object Absent family.Handling ∷  -- 56
-    named_line (codes "WEAR") Object Absent family.Handling ∷  -- 57
-    named_line (codes "REMOVE") Object Absent family.Handling ∷  -- 58
-    named_line (codes "PUTIN") Object Location family.Handling ∷  -- 59
-    named_line (codes "TAKEOUT") Object Location family.Handling ∷  -- 60
-    named_line (codes "CREATE") Object Absent family.Placing ∷  -- 61
-    named_line (codes "DESTROY") Object Absent family.Placing ∷  -- 62
-    named_line (codes "SWAP") Object Object family.Placing ∷  -- 63
-    named_line (codes "PLACE") Object Place family.Placing ∷  -- 64
-    named_line (codes "PUTO") Place Absent family.Placing ∷  -- 65
-    named_line (codes "SET") Flag Absent family.Change ∷  -- 66
-    named_line (codes "CLEAR") Flag Absent family.Change ∷  -- 67
-    named_line (codes "PLUS") Flag Number family.Change ∷  -- 68
-    named_line (codes "MINUS") Flag Number family.Change ∷  -- 69
-    named_line (codes "LET") Flag Number family.Change ∷  -- 70
-    named_line (codes "ADD") Flag Flag family.Change ∷  -- 71
-    named_line (codes "SUB") Flag Flag family.Change ∷  -- 72
-    named_line (codes "RANDOM") Flag Absent family.Change ∷  -- 73
-    named_line (codes "COPYOO") Object Object family.Placing ∷  -- 74
-    named_line (codes "COPYOF") Object Flag family.Placing ∷  -- 75
-    named_line (codes "COPYFO") Flag Object family.Placing ∷  -- 76
-    named_line (codes "COPYFF") Flag Flag family.Change ∷  -- 77
-    named_line (codes "LISTOBJ") Absent Absent family.Print ∷  -- 78
-    named_line (codes "LISTAT") Place Absent family.Print ∷  -- 79
-    named_line (codes "WHATO") Absent Absent family.Handling ∷  -- 80
-    named_line (codes "WEIGH") Object Flag family.Change ∷  -- 81
-    named_line (codes "WEIGHT") Flag Absent family.Change ∷  -- 82
-    named_line (codes "ABILITY") Number Number family.Change ∷  -- 83
-    named_line (codes "PARSE") Absent Absent family.Flow ∷  -- 84
-    named_line (codes "PROCESS") Table Absent family.Flow ∷  -- 85
-    named_line (codes "DOALL") Place Absent family.Flow ∷  -- 86
-    named_line (codes "PROMPT") Number Absent family.Change ∷  -- 87
-    named_line (codes "TIME") Number Number family.Change ∷  -- 88
-    named_line (codes "NEWTEXT") Absent Absent family.NewText ∷  -- 89
-    named_line (codes "RESET") Location Absent family.Reset ∷  -- 90
-    named_line (codes "EXTERN") Number Flag family.Extern ∷  -- 91
-    named_line (codes "PICTURE") Number Absent family.Print ∷  -- 92
-    named_line (codes "GRAPHIC") Number Absent family.Print ∷  -- 93
-    named_line (codes "BEEP") Number Number family.Print ∷  -- 94
-    named_line (codes "CLS") Absent Absent family.Print ∷  -- 95
-    named_line (codes "PAPER") Number Absent family.Print ∷  -- 96
-    named_line (codes "INK") Number Absent family.Print ∷  -- 97
-    named_line (codes "BORDER") Number Absent family.Print ∷  -- 98
-    named_line (codes "CHARSET") Number Absent family.Print ∷  -- 99
-    named_line (codes "PROTECT") Absent Absent family.Print ∷  -- 100
-    named_line (codes "SAVEAT") Absent Absent family.Print ∷  -- 101
-    named_line (codes "BACKAT") Absent Absent family.Print ∷  -- 102
-    named_line (codes "PRINTAT") Number Number family.Print ∷  -- 103
-    named_line (codes "PAUSE") Number Absent family.Print ∷  -- 104
-    named_line (codes "MODE") Number Number family.Print ∷  -- 105
-    named_line (codes "LINE") Number Absent family.Print ∷  -- 106
-    named_line (codes "INPUT") Number Absent family.Print ∷  -- 107
+    condition (codes "AT") Location Absent ∷  -- 0
+    condition (codes "NOTAT") Location Absent ∷  -- 1
+    condition (codes "ATGT") Number Absent ∷  -- 2
+    condition (codes "ATLT") Number Absent ∷  -- 3
+    condition (codes "PRESENT") Object Absent ∷  -- 4
+    condition (codes "ABSENT") Object Absent ∷  -- 5
+    condition (codes "WORN") Object Absent ∷  -- 6
+    condition (codes "NOTWORN") Object Absent ∷  -- 7
+    condition (codes "CARRIED") Object Absent ∷  -- 8
+    condition (codes "NOTCARR") Object Absent ∷  -- 9
+    condition (codes "CHANCE") Number Absent ∷  -- 10
+    condition (codes "ZERO") Flag Absent ∷  -- 11
+    condition (codes "NOTZERO") Flag Absent ∷  -- 12
+    condition (codes "EQ") Flag Number ∷  -- 13
+    condition (codes "NOTEQ") Flag Number ∷  -- 14
+    condition (codes "GT") Flag Number ∷  -- 15
+    condition (codes "LT") Flag Number ∷  -- 16
+    condition (codes "SAME") Flag Flag ∷  -- 17
+    condition (codes "NOTSAME") Flag Flag ∷  -- 18
+    condition (codes "ADJECT1") Adjective Absent ∷  -- 19
+    condition (codes "ADVERB") Adverb Absent ∷  -- 20
+    condition (codes "PREP") Preposition Absent ∷  -- 21
+    condition (codes "NOUN2") Noun Absent ∷  -- 22
+    condition (codes "ADJECT2") Adjective Absent ∷  -- 23
+    condition (codes "ISAT") Object Place ∷  -- 24
+    condition (codes "ISNOTAT") Object Place ∷  -- 25
+    condition (codes "TIMEOUT") Absent Absent ∷  -- 26
+    condition (codes "QUIT") Absent Absent ∷  -- 27
+    condition (codes "MOVE") Flag Absent ∷  -- 28
+    action (codes "INVEN") Absent Absent ∷  -- 29
+    action (codes "DESC") Absent Absent ∷  -- 30
+    action (codes "END") Absent Absent ∷  -- 31
+    action (codes "DONE") Absent Absent ∷  -- 32
+    action (codes "NOTDONE") Absent Absent ∷  -- 33
+    action (codes "OK") Absent Absent ∷  -- 34
+    action (codes "ANYKEY") Absent Absent ∷  -- 35
+    action (codes "SAVE") Absent Absent ∷  -- 36
+    action (codes "LOAD") Absent Absent ∷  -- 37
+    action (codes "RAMSAVE") Absent Absent ∷  -- 38
+    action (codes "RAMLOAD") Number Absent ∷  -- 39
+    action (codes "TURNS") Absent Absent ∷  -- 40
+    action (codes "SCORE") Absent Absent ∷  -- 41
+    action (codes "DROPALL") Absent Absent ∷  -- 42
+    action (codes "AUTOG") Absent Absent ∷  -- 43
+    action (codes "AUTOD") Absent Absent ∷  -- 44
+    action (codes "AUTOW") Absent Absent ∷  -- 45
+    action (codes "AUTOR") Absent Absent ∷  -- 46
+    action (codes "AUTOP") Location Absent ∷  -- 47
+    action (codes "AUTOT") Location Absent ∷  -- 48
+    action (codes "GOTO") Location Absent ∷  -- 49
+    action (codes "MES") Message Absent ∷  -- 50
+    action (codes "MESSAGE") Message Absent ∷  -- 51
+    action (codes "SYSMESS") System Absent ∷  -- 52
+    action (codes "NEWLINE") Absent Absent ∷  -- 53
+    action (codes "PRINT") Flag Absent ∷  -- 54
+    action (codes "GET") Object Absent ∷  -- 55
+    action (codes "DROP") Object Absent ∷  -- 56
+    action (codes "WEAR") Object Absent ∷  -- 57
+    action (codes "REMOVE") Object Absent ∷  -- 58
+    action (codes "PUTIN") Object Location ∷  -- 59
+    action (codes "TAKEOUT") Object Location ∷  -- 60
+    action (codes "CREATE") Object Absent ∷  -- 61
+    action (codes "DESTROY") Object Absent ∷  -- 62
+    action (codes "SWAP") Object Object ∷  -- 63
+    action (codes "PLACE") Object Place ∷  -- 64
+    action (codes "PUTO") Place Absent ∷  -- 65
+    action (codes "SET") Flag Absent ∷  -- 66
+    action (codes "CLEAR") Flag Absent ∷  -- 67
+    action (codes "PLUS") Flag Number ∷  -- 68
+    action (codes "MINUS") Flag Number ∷  -- 69
+    action (codes "LET") Flag Number ∷  -- 70
+    action (codes "ADD") Flag Flag ∷  -- 71
+    action (codes "SUB") Flag Flag ∷  -- 72
+    action (codes "RANDOM") Flag Absent ∷  -- 73
+    action (codes "COPYOO") Object Object ∷  -- 74
+    action (codes "COPYOF") Object Flag ∷  -- 75
+    action (codes "COPYFO") Flag Object ∷  -- 76
+    action (codes "COPYFF") Flag Flag ∷  -- 77
+    action (codes "LISTOBJ") Absent Absent ∷  -- 78
+    action (codes "LISTAT") Place Absent ∷  -- 79
+    action (codes "WHATO") Absent Absent ∷  -- 80
+    action (codes "WEIGH") Object Flag ∷  -- 81
+    action (codes "WEIGHT") Flag Absent ∷  -- 82
+    action (codes "ABILITY") Number Number ∷  -- 83
+    action (codes "PARSE") Absent Absent ∷  -- 84
+    action (codes "PROCESS") Table Absent ∷  -- 85
+    action (codes "DOALL") Place Absent ∷  -- 86
+    action (codes "PROMPT") Number Absent ∷  -- 87
+    action (codes "TIME") Number Number ∷  -- 88
+    action (codes "NEWTEXT") Absent Absent ∷  -- 89
+    action (codes "RESET") Location Absent ∷  -- 90
+    action (codes "EXTERN") Number Flag ∷  -- 91
+    action (codes "PICTURE") Number Absent ∷  -- 92
+    action (codes "GRAPHIC") Number Absent ∷  -- 93
+    action (codes "BEEP") Number Number ∷  -- 94
+    action (codes "CLS") Absent Absent ∷  -- 95
+    action (codes "PAPER") Number Absent ∷  -- 96
+    action (codes "INK") Number Absent ∷  -- 97
+    action (codes "BORDER") Number Absent ∷  -- 98
+    action (codes "CHARSET") Number Absent ∷  -- 99
+    action (codes "PROTECT") Absent Absent ∷  -- 100
+    action (codes "SAVEAT") Absent Absent ∷  -- 101
+    action (codes "BACKAT") Absent Absent ∷  -- 102
+    action (codes "PRINTAT") Number Number ∷  -- 103
+    action (codes "PAUSE") Number Absent ∷  -- 104
+    action (codes "MODE") Number Number ∷  -- 105
+    action (codes "LINE") Number Absent ∷  -- 106
+    action (codes "INPUT") Number Absent ∷  -- 107
     []
+
+-- the codes are the numbers of the lines
+unfoldable pub is_code : ℕ → Bool
+is_code code = nat_lt code (length condact_lines)
 
 -- a line with no name and no parameters
 abbrev pub no_line : CondactLine
-no_line = named_line [] Absent Absent family.Print
+no_line = action [] Absent Absent
 
 -- the line of a code; above the last one with no name
 unfoldable pub line_of : ℕ → CondactLine
@@ -152,10 +157,6 @@ first_kind code = (line_of code).first
 -- what the second parameter of a code names
 abbrev pub second_kind : ℕ → ParamKind
 second_kind code = (line_of code).second
-
--- the family of a code
-abbrev pub family_of : ℕ → Family
-family_of code = (line_of code).family
 
 -- a kind stands for one parameter, Absent for none
 abbrev pub param_count : ParamKind → ℕ

@@ -323,6 +323,3 @@ pub const LINE: u8 = 106;
 
 /// The code of the condact INPUT.
 pub const INPUT: u8 = 107;
-
-/// The last code of a condact.
-pub const LAST_CODE: u8 = INPUT;

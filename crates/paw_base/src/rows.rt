@@ -1,11 +1,10 @@
-// The table of condacts: the name, the parameters and the family of each code.
+// The table of condacts: the name and the parameters of each code.
 
 ghost use Rattle.std.specs.Prelude.{◌≡◌, ◌+◌, ℕ, SomeIff, IfSome, is_some, bytes_eq, ◌==◌};
 ghost use Rattle.std.specs.List.{position};
-ghost use Rattle.paw_base.specs.Condacts.{param_count, name_of, family_of, capitals, code_named};
-ghost use Rattle.paw_base.specs.inner.Condacts.{IsCode, HasName, is_plain, before_space, condact_row_of, filled_up};
+ghost use Rattle.paw_base.specs.Condacts.{param_count, name_of, capitals, code_named};
+ghost use Rattle.paw_base.specs.inner.Condacts.{IsCode, HasName, is_act, is_plain, before_space, condact_row_of, filled_up};
 
-use crate::codes::INVEN;
 use ParamKind::{
     Absent, Adjective, Adverb, Flag, Location, Message, Noun, Number, Object, Place, Preposition,
     System, Table,
@@ -29,47 +28,13 @@ pub enum ParamKind {
     Preposition,
 }
 
-/// Whose rules a condact keeps. The first five test, the others act.
-#[derive(Clone, Copy, Drop, PartialEq, Eq, Debug)]
-pub enum Family {
-    /// Tests where the player or an object is.
-    PlaceTest,
-    /// Tests a flag, or a word of the sentence.
-    FlagTest,
-    /// CHANCE, which draws.
-    Chance,
-    /// QUIT, which asks.
-    Quit,
-    /// MOVE, which takes an exit.
-    Exit,
-    /// Says where reading goes on.
-    Flow,
-    /// SAVE and LOAD.
-    Keeping,
-    /// Prints.
-    Print,
-    /// Does with an object what a player could do, and says so where it can't be done.
-    Handling,
-    /// Puts objects to places.
-    Placing,
-    /// Changes flags.
-    Change,
-    /// NEWTEXT, which drops the rest of the line.
-    NewText,
-    /// RESET, which puts all objects back.
-    Reset,
-    /// EXTERN, which asks a routine.
-    Extern,
-}
-
 /// What the table of condacts says of one code: its name in capitals, filled up with spaces, the kinds of its two
-/// parameters, its family, and whether it acts (true) or tests (false).
+/// parameters, and whether it acts (true) or tests (false).
 #[derive(Clone, Copy, Drop, PartialEq, Eq, Debug)]
 pub struct CondactRow {
     pub name: [u8; 8],
     pub first: ParamKind,
     pub second: ParamKind,
-    pub family: Family,
     pub acts: bool,
 }
 
@@ -106,139 +71,135 @@ fn first_space(name: &[u8]) -> Option<usize>
     name.iter().position(|byte| *byte == b' ')
 }
 
-/// The least code of a condact that acts.
-const FIRST_ACTION: u8 = INVEN;
-
-/// The name, the kinds of the two parameters, and the family, by code.
-static CONDACTS: [([u8; 8], ParamKind, ParamKind, Family); 108] = [
-    (*b"AT      ", Location, Absent, Family::PlaceTest),
-    (*b"NOTAT   ", Location, Absent, Family::PlaceTest),
-    (*b"ATGT    ", Number, Absent, Family::PlaceTest),
-    (*b"ATLT    ", Number, Absent, Family::PlaceTest),
-    (*b"PRESENT ", Object, Absent, Family::PlaceTest),
-    (*b"ABSENT  ", Object, Absent, Family::PlaceTest),
-    (*b"WORN    ", Object, Absent, Family::PlaceTest),
-    (*b"NOTWORN ", Object, Absent, Family::PlaceTest),
-    (*b"CARRIED ", Object, Absent, Family::PlaceTest),
-    (*b"NOTCARR ", Object, Absent, Family::PlaceTest),
-    (*b"CHANCE  ", Number, Absent, Family::Chance),
-    (*b"ZERO    ", Flag, Absent, Family::FlagTest),
-    (*b"NOTZERO ", Flag, Absent, Family::FlagTest),
-    (*b"EQ      ", Flag, Number, Family::FlagTest),
-    (*b"NOTEQ   ", Flag, Number, Family::FlagTest),
-    (*b"GT      ", Flag, Number, Family::FlagTest),
-    (*b"LT      ", Flag, Number, Family::FlagTest),
-    (*b"SAME    ", Flag, Flag, Family::FlagTest),
-    (*b"NOTSAME ", Flag, Flag, Family::FlagTest),
-    (*b"ADJECT1 ", Adjective, Absent, Family::FlagTest),
-    (*b"ADVERB  ", Adverb, Absent, Family::FlagTest),
-    (*b"PREP    ", Preposition, Absent, Family::FlagTest),
-    (*b"NOUN2   ", Noun, Absent, Family::FlagTest),
-    (*b"ADJECT2 ", Adjective, Absent, Family::FlagTest),
-    (*b"ISAT    ", Object, Place, Family::PlaceTest),
-    (*b"ISNOTAT ", Object, Place, Family::PlaceTest),
-    (*b"TIMEOUT ", Absent, Absent, Family::FlagTest),
-    (*b"QUIT    ", Absent, Absent, Family::Quit),
-    (*b"MOVE    ", Flag, Absent, Family::Exit),
-    (*b"INVEN   ", Absent, Absent, Family::Print),
-    (*b"DESC    ", Absent, Absent, Family::Flow),
-    (*b"END     ", Absent, Absent, Family::Flow),
-    (*b"DONE    ", Absent, Absent, Family::Flow),
-    (*b"NOTDONE ", Absent, Absent, Family::Flow),
-    (*b"OK      ", Absent, Absent, Family::Flow),
-    (*b"ANYKEY  ", Absent, Absent, Family::Flow),
-    (*b"SAVE    ", Absent, Absent, Family::Keeping),
-    (*b"LOAD    ", Absent, Absent, Family::Keeping),
-    (*b"RAMSAVE ", Absent, Absent, Family::Change),
-    (*b"RAMLOAD ", Number, Absent, Family::Change),
-    (*b"TURNS   ", Absent, Absent, Family::Print),
-    (*b"SCORE   ", Absent, Absent, Family::Print),
-    (*b"DROPALL ", Absent, Absent, Family::Placing),
-    (*b"AUTOG   ", Absent, Absent, Family::Handling),
-    (*b"AUTOD   ", Absent, Absent, Family::Handling),
-    (*b"AUTOW   ", Absent, Absent, Family::Handling),
-    (*b"AUTOR   ", Absent, Absent, Family::Handling),
-    (*b"AUTOP   ", Location, Absent, Family::Handling),
-    (*b"AUTOT   ", Location, Absent, Family::Handling),
-    (*b"GOTO    ", Location, Absent, Family::Change),
-    (*b"MES     ", Message, Absent, Family::Print),
-    (*b"MESSAGE ", Message, Absent, Family::Print),
-    (*b"SYSMESS ", System, Absent, Family::Print),
-    (*b"NEWLINE ", Absent, Absent, Family::Print),
-    (*b"PRINT   ", Flag, Absent, Family::Print),
-    (*b"GET     ", Object, Absent, Family::Handling),
-    (*b"DROP    ", Object, Absent, Family::Handling),
-    (*b"WEAR    ", Object, Absent, Family::Handling),
-    (*b"REMOVE  ", Object, Absent, Family::Handling),
-    (*b"PUTIN   ", Object, Location, Family::Handling),
-    (*b"TAKEOUT ", Object, Location, Family::Handling),
-    (*b"CREATE  ", Object, Absent, Family::Placing),
-    (*b"DESTROY ", Object, Absent, Family::Placing),
-    (*b"SWAP    ", Object, Object, Family::Placing),
-    (*b"PLACE   ", Object, Place, Family::Placing),
-    (*b"PUTO    ", Place, Absent, Family::Placing),
-    (*b"SET     ", Flag, Absent, Family::Change),
-    (*b"CLEAR   ", Flag, Absent, Family::Change),
-    (*b"PLUS    ", Flag, Number, Family::Change),
-    (*b"MINUS   ", Flag, Number, Family::Change),
-    (*b"LET     ", Flag, Number, Family::Change),
-    (*b"ADD     ", Flag, Flag, Family::Change),
-    (*b"SUB     ", Flag, Flag, Family::Change),
-    (*b"RANDOM  ", Flag, Absent, Family::Change),
-    (*b"COPYOO  ", Object, Object, Family::Placing),
-    (*b"COPYOF  ", Object, Flag, Family::Placing),
-    (*b"COPYFO  ", Flag, Object, Family::Placing),
-    (*b"COPYFF  ", Flag, Flag, Family::Change),
-    (*b"LISTOBJ ", Absent, Absent, Family::Print),
-    (*b"LISTAT  ", Place, Absent, Family::Print),
-    (*b"WHATO   ", Absent, Absent, Family::Handling),
-    (*b"WEIGH   ", Object, Flag, Family::Change),
-    (*b"WEIGHT  ", Flag, Absent, Family::Change),
-    (*b"ABILITY ", Number, Number, Family::Change),
-    (*b"PARSE   ", Absent, Absent, Family::Flow),
-    (*b"PROCESS ", Table, Absent, Family::Flow),
-    (*b"DOALL   ", Place, Absent, Family::Flow),
-    (*b"PROMPT  ", Number, Absent, Family::Change),
-    (*b"TIME    ", Number, Number, Family::Change),
-    (*b"NEWTEXT ", Absent, Absent, Family::NewText),
-    (*b"RESET   ", Location, Absent, Family::Reset),
-    (*b"EXTERN  ", Number, Flag, Family::Extern),
-    (*b"PICTURE ", Number, Absent, Family::Print),
-    (*b"GRAPHIC ", Number, Absent, Family::Print),
-    (*b"BEEP    ", Number, Number, Family::Print),
-    (*b"CLS     ", Absent, Absent, Family::Print),
-    (*b"PAPER   ", Number, Absent, Family::Print),
-    (*b"INK     ", Number, Absent, Family::Print),
-    (*b"BORDER  ", Number, Absent, Family::Print),
-    (*b"CHARSET ", Number, Absent, Family::Print),
-    (*b"PROTECT ", Absent, Absent, Family::Print),
-    (*b"SAVEAT  ", Absent, Absent, Family::Print),
-    (*b"BACKAT  ", Absent, Absent, Family::Print),
-    (*b"PRINTAT ", Number, Number, Family::Print),
-    (*b"PAUSE   ", Number, Absent, Family::Print),
-    (*b"MODE    ", Number, Number, Family::Print),
-    (*b"LINE    ", Number, Absent, Family::Print),
-    (*b"INPUT   ", Number, Absent, Family::Print),
+/// The name, the kinds of the two parameters, and whether it acts, by code.
+static CONDACTS: [([u8; 8], ParamKind, ParamKind, bool); 108] = [
+    (*b"AT      ", Location, Absent, false),
+    (*b"NOTAT   ", Location, Absent, false),
+    (*b"ATGT    ", Number, Absent, false),
+    (*b"ATLT    ", Number, Absent, false),
+    (*b"PRESENT ", Object, Absent, false),
+    (*b"ABSENT  ", Object, Absent, false),
+    (*b"WORN    ", Object, Absent, false),
+    (*b"NOTWORN ", Object, Absent, false),
+    (*b"CARRIED ", Object, Absent, false),
+    (*b"NOTCARR ", Object, Absent, false),
+    (*b"CHANCE  ", Number, Absent, false),
+    (*b"ZERO    ", Flag, Absent, false),
+    (*b"NOTZERO ", Flag, Absent, false),
+    (*b"EQ      ", Flag, Number, false),
+    (*b"NOTEQ   ", Flag, Number, false),
+    (*b"GT      ", Flag, Number, false),
+    (*b"LT      ", Flag, Number, false),
+    (*b"SAME    ", Flag, Flag, false),
+    (*b"NOTSAME ", Flag, Flag, false),
+    (*b"ADJECT1 ", Adjective, Absent, false),
+    (*b"ADVERB  ", Adverb, Absent, false),
+    (*b"PREP    ", Preposition, Absent, false),
+    (*b"NOUN2   ", Noun, Absent, false),
+    (*b"ADJECT2 ", Adjective, Absent, false),
+    (*b"ISAT    ", Object, Place, false),
+    (*b"ISNOTAT ", Object, Place, false),
+    (*b"TIMEOUT ", Absent, Absent, false),
+    (*b"QUIT    ", Absent, Absent, false),
+    (*b"MOVE    ", Flag, Absent, false),
+    (*b"INVEN   ", Absent, Absent, true),
+    (*b"DESC    ", Absent, Absent, true),
+    (*b"END     ", Absent, Absent, true),
+    (*b"DONE    ", Absent, Absent, true),
+    (*b"NOTDONE ", Absent, Absent, true),
+    (*b"OK      ", Absent, Absent, true),
+    (*b"ANYKEY  ", Absent, Absent, true),
+    (*b"SAVE    ", Absent, Absent, true),
+    (*b"LOAD    ", Absent, Absent, true),
+    (*b"RAMSAVE ", Absent, Absent, true),
+    (*b"RAMLOAD ", Number, Absent, true),
+    (*b"TURNS   ", Absent, Absent, true),
+    (*b"SCORE   ", Absent, Absent, true),
+    (*b"DROPALL ", Absent, Absent, true),
+    (*b"AUTOG   ", Absent, Absent, true),
+    (*b"AUTOD   ", Absent, Absent, true),
+    (*b"AUTOW   ", Absent, Absent, true),
+    (*b"AUTOR   ", Absent, Absent, true),
+    (*b"AUTOP   ", Location, Absent, true),
+    (*b"AUTOT   ", Location, Absent, true),
+    (*b"GOTO    ", Location, Absent, true),
+    (*b"MES     ", Message, Absent, true),
+    (*b"MESSAGE ", Message, Absent, true),
+    (*b"SYSMESS ", System, Absent, true),
+    (*b"NEWLINE ", Absent, Absent, true),
+    (*b"PRINT   ", Flag, Absent, true),
+    (*b"GET     ", Object, Absent, true),
+    (*b"DROP    ", Object, Absent, true),
+    (*b"WEAR    ", Object, Absent, true),
+    (*b"REMOVE  ", Object, Absent, true),
+    (*b"PUTIN   ", Object, Location, true),
+    (*b"TAKEOUT ", Object, Location, true),
+    (*b"CREATE  ", Object, Absent, true),
+    (*b"DESTROY ", Object, Absent, true),
+    (*b"SWAP    ", Object, Object, true),
+    (*b"PLACE   ", Object, Place, true),
+    (*b"PUTO    ", Place, Absent, true),
+    (*b"SET     ", Flag, Absent, true),
+    (*b"CLEAR   ", Flag, Absent, true),
+    (*b"PLUS    ", Flag, Number, true),
+    (*b"MINUS   ", Flag, Number, true),
+    (*b"LET     ", Flag, Number, true),
+    (*b"ADD     ", Flag, Flag, true),
+    (*b"SUB     ", Flag, Flag, true),
+    (*b"RANDOM  ", Flag, Absent, true),
+    (*b"COPYOO  ", Object, Object, true),
+    (*b"COPYOF  ", Object, Flag, true),
+    (*b"COPYFO  ", Flag, Object, true),
+    (*b"COPYFF  ", Flag, Flag, true),
+    (*b"LISTOBJ ", Absent, Absent, true),
+    (*b"LISTAT  ", Place, Absent, true),
+    (*b"WHATO   ", Absent, Absent, true),
+    (*b"WEIGH   ", Object, Flag, true),
+    (*b"WEIGHT  ", Flag, Absent, true),
+    (*b"ABILITY ", Number, Number, true),
+    (*b"PARSE   ", Absent, Absent, true),
+    (*b"PROCESS ", Table, Absent, true),
+    (*b"DOALL   ", Place, Absent, true),
+    (*b"PROMPT  ", Number, Absent, true),
+    (*b"TIME    ", Number, Number, true),
+    (*b"NEWTEXT ", Absent, Absent, true),
+    (*b"RESET   ", Location, Absent, true),
+    (*b"EXTERN  ", Number, Flag, true),
+    (*b"PICTURE ", Number, Absent, true),
+    (*b"GRAPHIC ", Number, Absent, true),
+    (*b"BEEP    ", Number, Number, true),
+    (*b"CLS     ", Absent, Absent, true),
+    (*b"PAPER   ", Number, Absent, true),
+    (*b"INK     ", Number, Absent, true),
+    (*b"BORDER  ", Number, Absent, true),
+    (*b"CHARSET ", Number, Absent, true),
+    (*b"PROTECT ", Absent, Absent, true),
+    (*b"SAVEAT  ", Absent, Absent, true),
+    (*b"BACKAT  ", Absent, Absent, true),
+    (*b"PRINTAT ", Number, Number, true),
+    (*b"PAUSE   ", Number, Absent, true),
+    (*b"MODE    ", Number, Number, true),
+    (*b"LINE    ", Number, Absent, true),
+    (*b"INPUT   ", Number, Absent, true),
 ];
 
-/// What the table says of a code; None for a code above 107.
+/// What the table says of a code; None where it is that of no condact.
 pub fn condact_row(code: u8) -> Option<CondactRow>
     ensures { SomeIff result (IsCode code) (condact_row_of code) }
 {
-    let (name, first, second, family) = *CONDACTS.get(code as usize)?;
+    let (name, first, second, acts) = *CONDACTS.get(code as usize)?;
     Some(CondactRow {
         name,
         first,
         second,
-        family,
-        acts: code >= FIRST_ACTION,
+        acts,
     })
 }
 
-/// The family of a code.
-pub fn family_of(code: u8) -> Family
+/// Whether the condact of a code acts; one that doesn't tests.
+pub fn acts(code: u8) -> bool
     requires code { IsCode code }
-    ensures value { result ≡ family_of code }
+    ensures value { result ≡ is_act code }
 {
     CONDACTS[code as usize].3
 }

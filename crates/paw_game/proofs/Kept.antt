@@ -7,7 +7,8 @@ use Rattle.std.specs.Option.{option_copied, option_map, unwrap_or}
 use Rattle.std.proofs.lemmas.Option.{none-some, same_Some, slice_get_within, slice_get_past}
 use Rattle.std.proofs.lemmas.Bool.{and_from, and_parts, cases_lt, leb-true, ltb-true}
 use Rattle.std.proofs.lemmas.Bool.Decides.{nat_tests}
-use Rattle.paw_base.specs.Condacts.{first_kind, second_kind}
+use Rattle.paw_base.specs.Condacts.{is_code, first_kind, second_kind}
+use Rattle.paw_base.specs.inner.Condacts.{IsCode}
 use Rattle.paw_base.specs.declared.parts.Condact.{Condact}
 use Rattle.paw_base.specs.declared.parts.ObjectFacts.{ObjectFacts}
 use Rattle.paw_base.specs.declared.rows.ParamKind.{ParamKind}
@@ -18,7 +19,7 @@ use Rattle.paw_game.specs.declared.parts.Entry.{Entry}
 use Rattle.paw_game.specs.declared.parts.GamePart.{GamePart}
 use Rattle.paw_game.specs.declared.parts.GamePart.TheVariants as part
 use Rattle.paw_game.specs.Game.{GameLists, counts_of}
-use Rattle.paw_game.specs.Valid.{Valid, begins_no_line, is_parameter, is_printed, is_text_byte, are_exits, are_facts, is_condact, is_entry}
+use Rattle.paw_game.specs.Valid.{Valid, begins_no_line, is_parameter, is_printed, is_text_byte, are_exits, are_facts, keeps_kinds, is_condact, is_entry}
 use Rattle.paw_game.specs.Valid.{is_exits, is_object, is_place, is_table, is_text, is_word_or_none, is_verb_value, is_within, is_any, has_word}
 use Rattle.paw_game.specs.Tables.{condact_at, condacts_of, entry_at, exit_at, exit_of, facts_at, head_at, table_at}
 use Rattle.paw_game.specs.inner.Tables.{text_at}
@@ -235,24 +236,20 @@ condact-none g t e k h =
 
 -- ---- the parts of a condact
 
--- a code of the table, and two parameters that keep a rule
-abbrev keeps_rule : (ParamKind → ℕ → Bool) → Condact → Bool
-keeps_rule rule c = nat_le c.code 107 && (rule (first_kind c.code) c.a && rule (second_kind c.code) c.b)
+pub code_kept : (rule : ParamKind → ℕ → Bool) (c : Condact) → IsTrue (keeps_kinds rule c) → IsCode c.code
+code_kept rule c h = first_of_and (is_code c.code) _ h
 
-pub code_kept : (rule : ParamKind → ℕ → Bool) (c : Condact) → IsTrue (keeps_rule rule c) → c.code ≤ 107
-code_kept rule c h = leb-true c.code 107 (first_of_and (nat_le c.code 107) _ h)
+pub first_kept : (rule : ParamKind → ℕ → Bool) (c : Condact) → IsTrue (keeps_kinds rule c) → IsTrue (rule (first_kind c.code) c.a)
+first_kept rule c h = first_of_and (rule (first_kind c.code) c.a) _ (second_of_and (is_code c.code) _ h)
 
-pub first_kept : (rule : ParamKind → ℕ → Bool) (c : Condact) → IsTrue (keeps_rule rule c) → IsTrue (rule (first_kind c.code) c.a)
-first_kept rule c h = first_of_and (rule (first_kind c.code) c.a) _ (second_of_and (nat_le c.code 107) _ h)
-
-pub second_kept : (rule : ParamKind → ℕ → Bool) (c : Condact) → IsTrue (keeps_rule rule c) → IsTrue (rule (second_kind c.code) c.b)
-second_kept rule c h = second_of_and (rule (first_kind c.code) c.a) _ (second_of_and (nat_le c.code 107) _ h)
+pub second_kept : (rule : ParamKind → ℕ → Bool) (c : Condact) → IsTrue (keeps_kinds rule c) → IsTrue (rule (second_kind c.code) c.b)
+second_kept rule c h = second_of_and (rule (first_kind c.code) c.a) _ (second_of_and (is_code c.code) _ h)
 
 -- a condact that keeps a rule keeps another that the first one gives
 pub keeps_other : (rule other : ParamKind → ℕ → Bool) (c : Condact) → ((k : ParamKind) (x : ℕ) → IsTrue (rule k x) → IsTrue (other k x))
-    → IsTrue (keeps_rule rule c) → IsTrue (keeps_rule other c)
+    → IsTrue (keeps_kinds rule c) → IsTrue (keeps_kinds other c)
 keeps_other rule other c gives h =
-    and_from (nat_le c.code 107) _ (first_of_and (nat_le c.code 107) _ h)
+    and_from (is_code c.code) _ (first_of_and (is_code c.code) _ h)
     (and_from (other (first_kind c.code) c.a) _ (gives (first_kind c.code) c.a (first_kept rule c h)) (gives (second_kind c.code) c.b (second_kept rule c h)))
 
 pub condact-first : (g : GameLists) (c : Condact) → IsTrue (is_condact g c) → IsTrue (is_parameter (counts_of g) g.words (first_kind c.code) c.a)

@@ -1,9 +1,10 @@
 -- Condacts that can be carried out.
-use Rattle.std.proofs.Common.{arith, ◌≤◌, ◌≡◌, ℕ, ◌<◌, ◌==◌, ◌&&◌, List, [], ◌∷◌, length, Some, IsTrue, nat_le, nat_lt, inl, inr}
+use Rattle.std.proofs.Common.{arith, ◌≡◌, ℕ, ◌<◌, ◌==◌, ◌&&◌, List, [], ◌∷◌, length, Some, IsTrue, nat_le, nat_lt, inl, inr}
 use Rattle.std.specs.List.{list_all}
 use Rattle.std.proofs.lemmas.Bool.{or_cases}
 use Rattle.std.proofs.lemmas.Bool.Decides.{nat_tests}
 use Rattle.paw_base.specs.Condacts.{first_kind, second_kind}
+use Rattle.paw_base.specs.inner.Condacts.{IsCode}
 use Rattle.paw_base.specs.declared.parts.Condact.{Condact}
 use Rattle.paw_base.specs.declared.rows.ParamKind.{ParamKind}
 use Rattle.paw_base.specs.declared.rows.ParamKind.TheVariants as kind
@@ -53,7 +54,7 @@ right_at g v t e k c h = right_condact g c v (condact_kept g v t e k c h)
 
 -- ---- the parts of a condact that can be carried out
 
-pub right-code : (g : GameLists) (c : Condact) → IsTrue (is_right g c) → c.code ≤ 107
+pub right-code : (g : GameLists) (c : Condact) → IsTrue (is_right g c) → IsCode c.code
 right-code g c h = code_kept (is_argument g) c h
 
 pub right-first : (g : GameLists) (c : Condact) → IsTrue (is_right g c) → IsTrue (is_argument g (first_kind c.code) c.a)

@@ -4,7 +4,6 @@ use Rattle.std.specs.Prelude.{◌∷◌, length, nat_lt, nat_le, IsTrue, if◌th
 use Rattle.std.specs.List.{list_all, list_any}
 use Rattle.std.specs.Ordering.{is_lt, nat_cmp}
 use Rattle.std.specs.Cmp.Lexicographic.{slice_cmp}
-use Rattle.paw_base.specs.declared.codes.TheConstants.{LAST_CODE}
 use Rattle.paw_base.specs.declared.places.TheConstants.{NOT_CREATED_PLACE, CARRIED_PLACE, HERE_PLACE}
 use Rattle.paw_base.specs.declared.words.TheConstants.{VERB_CLASS, ADVERB_CLASS, NOUN_CLASS, ADJECTIVE_CLASS}
 use Rattle.paw_base.specs.declared.words.TheConstants.{PREPOSITION_CLASS, PRONOUN_CLASS, ANY_WORD, NO_WORD, LEAST_WORD}
@@ -18,7 +17,7 @@ use Rattle.paw_base.specs.declared.parts.Counts.{Counts}
 use Rattle.paw_base.specs.declared.parts.ObjectFacts.{ObjectFacts}
 use Rattle.paw_base.specs.declared.rows.ParamKind.{ParamKind}
 use Rattle.paw_base.specs.declared.rows.ParamKind.TheVariants as kind
-use Rattle.paw_base.specs.Condacts.{first_kind, second_kind}
+use Rattle.paw_base.specs.Condacts.{is_code, first_kind, second_kind}
 use Rattle.paw_game.specs.declared.parts.Word.{Word}
 use Rattle.paw_game.specs.declared.parts.ObjectRow.{ObjectRow}
 use Rattle.paw_game.specs.declared.parts.Exit.{Exit}
@@ -138,11 +137,13 @@ is_parameter counts ws kind.Adjective x = is_word_or_none ws ADJECTIVE_CLASS x
 is_parameter counts ws kind.Preposition x = is_word_or_none ws PREPOSITION_CLASS x
 is_parameter counts ws _ x = nat_lt x 256
 
--- a condact: a code of the table, and the parameters that it has; one that it doesn't have is 0
+-- a code of a condact, with parameters that keep the rule of their kinds
+abbrev pub keeps_kinds : (ParamKind → ℕ → Bool) → Condact → Bool
+keeps_kinds rule c = is_code c.code && (rule (first_kind c.code) c.a && rule (second_kind c.code) c.b)
+
+-- a condact: its parameters name what the game has; one that it doesn't have is 0
 abbrev pub is_condact : GameLists → Condact → Bool
-is_condact g c =
-    nat_le c.code LAST_CODE && (is_parameter (counts_of g) g.words (first_kind c.code) c.a
-    && is_parameter (counts_of g) g.words (second_kind c.code) c.b)
+is_condact g c = keeps_kinds (is_parameter (counts_of g) g.words) c
 
 -- a word of an entry that matches any word
 abbrev pub is_any : ℕ → Bool

@@ -6,7 +6,7 @@ use Rattle.std.proofs.lemmas.Bool.{and_parts, leb-true, le-leb}
 use Rattle.paw_base.specs.declared.parts.ObjectFacts.{ObjectFacts}
 use Rattle.paw_base.specs.declared.rows.ParamKind.{ParamKind}
 use Rattle.paw_base.specs.declared.rows.ParamKind.TheVariants as kind
-use Rattle.paw_base.specs.Condacts.{first_kind, second_kind}
+use Rattle.paw_base.specs.Condacts.{is_code, first_kind, second_kind}
 use Rattle.paw_game.specs.declared.parts.Exit.{Exit}
 use Rattle.paw_game.specs.Image.{two_bytes, text_image, weight_byte, object_image, exit_image, exits_image}
 use Rattle.paw_game.specs.Image.{parameter_image, condact_image, entry_image, table_image}
@@ -99,7 +99,7 @@ parameter_passes d k x rest h = byte_passes (is_parameter d.counts d.words k) x 
 condact_passes : (d : Declared) → PassesRow (after_condact d) condact_image (keeps_condact d)
 unfolding after_condact
 condact_passes d c rest h =
-    let code = and_parts (leb c.code 107) _ h in
+    let code = and_parts (is_code c.code) _ h in
     let both = and_parts (is_parameter d.counts d.words (first_kind c.code) c.a) (is_parameter d.counts d.words (second_kind c.code) c.b) code.1 in
     let first = parameter_image (first_kind c.code) c.a in
     let second = parameter_image (second_kind c.code) c.b in

@@ -1,18 +1,18 @@
 -- The two laws of each row: what is read as a row stands there as its image, and the image of a row that fits is read as
 -- that row.
-use Rattle.std.proofs.Common.{◌≡◌, ℕ, zero, suc, ◌+◌, ◌*◌, ◌<◌, ◌≤◌, Bool, true, false, not, cond, leb, eqb, List}
+use Rattle.std.proofs.Common.{◌≡◌, ℕ, zero, suc, ◌+◌, ◌*◌, ◌<◌, Bool, true, false, not, cond, eqb, List}
 use Rattle.std.proofs.Common.{[], ◌∷◌, ◌++◌, length, Ok, refl, sym, ap, subst, ◌∙◌, append_assoc, arith}
 use Rattle.std.specs.Prelude.{bit_and}
 use Rattle.std.specs.Int.{bit_at}
 use Rattle.std.specs.List.{flat_map, AllByRecursion}
-use Rattle.std.proofs.lemmas.Bool.{le-leb}
 use Rattle.std.proofs.lemmas.Nat.{and_mask}
 use Rattle.std.proofs.lemmas.Nat.Bits.{and_pow}
 use Rattle.paw_base.specs.declared.parts.Condact.{Condact}
 use Rattle.paw_base.specs.declared.parts.ObjectFacts.{ObjectFacts}
 use Rattle.paw_base.specs.declared.rows.ParamKind.{ParamKind}
 use Rattle.paw_base.specs.declared.rows.ParamKind.TheVariants as kind
-use Rattle.paw_base.specs.Condacts.{first_kind, second_kind}
+use Rattle.paw_base.specs.Condacts.{is_code, first_kind, second_kind}
+use Rattle.paw_base.specs.inner.Condacts.{IsCode}
 use Rattle.paw_game.specs.declared.parts.ObjectRow.{ObjectRow}
 use Rattle.paw_game.specs.declared.parts.Exit.{Exit}
 use Rattle.paw_game.specs.declared.parts.Entry.{Entry}
@@ -163,10 +163,10 @@ parameter_again _ x rest fits = refl
 
 code_takes : (bytes : List ℕ) (x : ℕ × List ℕ) → IsBytes bytes → code_at bytes ≡ Ok x → Takes bytes (x.0 ∷ []) x.1
 code_takes [] x fits e = absurd cc
-code_takes (code ∷ bytes) x fits e = (byte_takes (code ∷ bytes) x fits (kept_ok (leb code 107) (Ok (code, bytes)) (suc (length bytes)) x e).1).0
+code_takes (code ∷ bytes) x fits e = (byte_takes (code ∷ bytes) x fits (kept_ok (is_code code) (Ok (code, bytes)) (suc (length bytes)) x e).1).0
 
-code_again : (code : ℕ) (rest : List ℕ) → code ≤ 107 → code_at (code ∷ rest) ≡ Ok (code, rest)
-code_again code rest le = rw (le-leb code 107 le) refl
+code_again : (code : ℕ) (rest : List ℕ) → IsCode code → code_at (code ∷ rest) ≡ Ok (code, rest)
+code_again code rest is = rw is refl
 
 pub condact_takes : TakesRow leading_condact condact_image
 unfolding leading_condact

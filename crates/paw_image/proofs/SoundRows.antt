@@ -9,14 +9,14 @@ use Rattle.std.proofs.lemmas.Nat.{and_mask}
 use Rattle.paw_base.specs.declared.parts.Condact.{Condact}
 use Rattle.paw_base.specs.declared.rows.ParamKind.{ParamKind}
 use Rattle.paw_base.specs.declared.rows.ParamKind.TheVariants as kind
-use Rattle.paw_base.specs.Condacts.{first_kind, second_kind}
+use Rattle.paw_base.specs.Condacts.{is_code, first_kind, second_kind}
 use Rattle.paw_game.specs.declared.parts.Exit.{Exit}
 use Rattle.paw_game.specs.declared.parts.Entry.{Entry}
 use Rattle.paw_game.specs.Game.{GameLists, counts_of, Declared}
 use Rattle.paw_game.specs.Image.{two_bytes, text_image, exit_image, parameter_image, condact_image, entry_image, table_image}
 use Rattle.paw_game.specs.Valid.{is_within, is_printed, is_text, is_word_or_none, is_place, are_facts}
 use Rattle.paw_game.specs.Valid.{is_object, is_verb_value, are_exits, is_exits, is_parameter}
-use Rattle.paw_game.specs.Valid.{is_any, has_word, is_table}
+use Rattle.paw_game.specs.Valid.{is_any, has_word, keeps_kinds, is_table}
 use Rattle.paw_faults.specs.Bind.{◌>>=◌}
 use Rattle.paw_image.specs.Reading.{byte_at, bytes_at, number_at}
 use Rattle.paw_image.specs.inner.Reading.{few_at, pair_at, leading_rows, text_at, facts_with, leading_facts, object_at, leading_exit, exits_at}
@@ -156,7 +156,7 @@ exits_sound d bytes rest fits e =
 
 -- the rules of condacts, entries and tables, by what the front declares
 abbrev pub keeps_condact : Declared → Condact → Bool
-keeps_condact d c = leb c.code 107 && (is_parameter d.counts d.words (first_kind c.code) c.a && is_parameter d.counts d.words (second_kind c.code) c.b)
+keeps_condact d c = keeps_kinds (is_parameter d.counts d.words) c
 
 abbrev pub keeps_entry : Declared → Entry → Bool
 keeps_entry d e =
@@ -176,14 +176,14 @@ parameter_sound d kind.Absent bytes rest fits e =
     record { value = 0; reads = at_ok (λ (r : List ℕ). parameter_at kind.Absent bytes ≡ Ok (0, r)) bytes rest e refl; keeps = refl }
 parameter_sound d k bytes rest fits e = byte_sound (is_parameter d.counts d.words k) bytes rest e
 
-code_is : (bytes : List ℕ) → code_at bytes ≡ field_kept (λ c. leb c 107) byte_at bytes
+code_is : (bytes : List ℕ) → code_at bytes ≡ field_kept is_code byte_at bytes
 code_is [] = refl
 code_is (code ∷ bytes) = refl
 
 pub condact_sound : (d : Declared) → SoundRow (after_condact d) leading_condact (keeps_condact d)
 unfolding after_condact leading_condact
 condact_sound d bytes rest fits e =
-    kept_then _ (λ c. leb c 107) byte_at bytes _ rest e (λ code code_ok code_kept e.
+    kept_then _ is_code byte_at bytes _ rest e (λ code code_ok code_kept e.
     bind_then _ (after_parameter d (first_kind code.0) code.1) _ rest e (λ after after_ok e.
     let first = first_kind code.0 in
     let second = second_kind code.0 in

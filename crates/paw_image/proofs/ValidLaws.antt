@@ -5,7 +5,7 @@ use Rattle.std.proofs.lemmas.Bool.{and_parts, leb-true, eqb-true}
 use Rattle.paw_base.specs.declared.parts.Condact.{Condact}
 use Rattle.paw_base.specs.declared.rows.ParamKind.{ParamKind}
 use Rattle.paw_base.specs.declared.rows.ParamKind.TheVariants as kind
-use Rattle.paw_base.specs.Condacts.{first_kind, second_kind}
+use Rattle.paw_base.specs.Condacts.{is_code, first_kind, second_kind}
 use Rattle.paw_game.specs.declared.parts.Word.{Word}
 use Rattle.paw_game.specs.declared.parts.ObjectRow.{ObjectRow}
 use Rattle.paw_game.specs.declared.parts.Exit.{Exit}
@@ -48,12 +48,12 @@ parameter_fits g _ x e = tt
 
 condact_fits : (g : GameLists) (c : Condact) → is_condact g c ≡ true → FitsCondact c
 condact_fits g c e =
-    let code = and_parts (leb c.code 107) _ e in
+    let code = and_parts (is_code c.code) _ e in
     let parameters =
     and_parts (is_parameter (counts_of g) g.words (first_kind c.code) c.a)
     (is_parameter (counts_of g) g.words (second_kind c.code) c.b) code.1 in
     record {
-      code = leb-true _ _ code.0;
+      code = code.0;
       a = parameter_fits g (first_kind c.code) c.a parameters.0;
       b = parameter_fits g (second_kind c.code) c.b parameters.1;
     }

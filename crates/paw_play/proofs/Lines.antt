@@ -1,13 +1,12 @@
 -- The lines of steps, and how long they are.
-use Rattle.std.proofs.Common.{◌≡◌, ℕ, zero, suc, ◌+◌, ◌≤◌, ◌<◌, Bool, true, false, List, [], ◌∷◌, ◌++◌, refl, ap, length, arith, length-append, nat_le}
+use Rattle.std.proofs.Common.{◌≡◌, ℕ, zero, suc, ◌+◌, ◌≤◌, ◌<◌, Bool, true, false, List, [], ◌∷◌, ◌++◌, refl, ap, inl, inr, length, arith, length-append, nat_le}
 use Rattle.std.specs.Prelude.{◌^◌, codes, decimal}
 use Rattle.std.specs.List.{slice_index_or, list_all}
-use Rattle.std.proofs.lemmas.Bool.{leb-true}
+use Rattle.std.proofs.lemmas.Bool.{leb-true, cases_lt, lt-ltb}
 use Rattle.std.proofs.lemmas.Fmt.{length-decimal-le}
 use Rattle.std.proofs.lemmas.List.{get_or_past}
-use Rattle.paw_base.specs.Condacts.{CondactLine, no_line, condact_lines, line_of, name_of}
+use Rattle.paw_base.specs.Condacts.{CondactLine, is_code, no_line, condact_lines, line_of, name_of}
 use Rattle.paw_base.specs.inner.Condacts.{IsCode}
-use Rattle.paw_base.proofs.Table.{length-condact_lines}
 use Rattle.paw_base.specs.inner.Piece.{Puts}
 use Rattle.paw_game.proofs.Kept.{first_of_and, second_of_and}
 use Rattle.paw_reading.specs.Run.{Step}
@@ -36,10 +35,11 @@ name_short code = short_at condact_lines code all_short
 
 -- above the last code there is no name
 pub no_name : (code : ℕ) → ¬ IsCode code → name_of code ≡ []
-unfolding line_of
-no_name code none =
-    let past : length condact_lines ≤ code = omega (arith, length-condact_lines, none) in
-    ap (λ (l : CondactLine). l.name) (get_or_past condact_lines code no_line past)
+unfolding line_of is_code
+no_name code none = elim (cases_lt code (length condact_lines)) [
+  | inl low ↦ absurd (none (lt-ltb code (length condact_lines) low))
+  | inr past ↦ ap (λ (l : CondactLine). l.name) (get_or_past condact_lines code no_line past)
+]
 
 -- ---- lines ----
 

@@ -1,7 +1,8 @@
 -- A valid game has known condacts alone.
 use Rattle.std.proofs.Common.{◌≡◌, Bool, true, leb, ◌||◌, List, [], ◌∷◌, length}
 use Rattle.std.specs.List.{list_all, AllByRecursion}
-use Rattle.std.proofs.lemmas.Bool.{and_parts, leb-true}
+use Rattle.std.proofs.lemmas.Bool.{and_parts}
+use Rattle.paw_base.specs.Condacts.{is_code}
 use Rattle.paw_base.specs.declared.parts.Condact.{Condact}
 use Rattle.paw_game.specs.declared.parts.Entry.{Entry}
 use Rattle.paw_game.specs.Game.{GameLists}
@@ -14,7 +15,7 @@ all_give p P gives [] e = tt
 all_give p P gives (x ∷ xs) e = let both = and_parts (p x) (list_all p xs) e in (gives x both.0, all_give p P gives xs both.1)
 
 condact_known : (g : GameLists) (c : Condact) → is_condact g c ≡ true → IsKnown c
-condact_known g c e = leb-true _ _ (and_parts (leb c.code 107) _ e).0
+condact_known g c e = (and_parts (is_code c.code) _ e).0
 
 entry_known : (g : GameLists) (en : Entry) → is_entry g en ≡ true → IsKnownEntry en
 entry_known g en e =

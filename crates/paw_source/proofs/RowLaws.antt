@@ -1,5 +1,5 @@
 -- Rows of exits, objects and condacts keep the rules of a game.
-use Rattle.std.proofs.Common.{◌≡◌, ℕ, zero, suc, ◌+◌, ◌-◌, ◌<◌, ◌≤◌, Bool, true, false, cond}
+use Rattle.std.proofs.Common.{◌≡◌, ℕ, zero, suc, ◌+◌, ◌-◌, ◌<◌, ◌≤◌, Bool, true, false, cond, subst}
 use Rattle.std.proofs.Common.{not, ◌&&◌, ◌||◌, eqb, ltb, List, [], ◌∷◌, ◌++◌, length, map}
 use Rattle.std.proofs.Common.{min, Option, Some, None, Ok, Err, refl, ap, ◌∙◌, arith}
 use Rattle.std.specs.Prelude.{nat_le, nat_lt, codes}
@@ -14,6 +14,7 @@ use Rattle.paw_base.specs.declared.fault.SourceKind.TheVariants as fault
 use Rattle.paw_base.specs.declared.parts.Condact.{Condact}
 use Rattle.paw_base.specs.declared.rows.ParamKind.{ParamKind}
 use Rattle.paw_base.specs.declared.rows.ParamKind.TheVariants as kind
+use Rattle.paw_base.specs.inner.Condacts.{IsCode}
 use Rattle.paw_base.specs.Condacts.{code_named, first_kind, second_kind, params_of}
 use Rattle.paw_base.proofs.Named.{code_named_found}
 use Rattle.paw_game.specs.declared.parts.Word.{Word}
@@ -235,14 +236,13 @@ parameter_ok bounds ws g kind.Noun ts x has h = rw has.words (word_or_none_ok ws
 parameter_ok bounds ws g kind.Adjective ts x has h = rw has.words (word_or_none_ok ws 3 ts x h)
 parameter_ok bounds ws g kind.Preposition ts x has h = rw has.words (word_or_none_ok ws 4 ts x h)
 
-code_low : (t : List ℕ) (code : ℕ) → ok_or (code_named t) fault.Condact ≡ Ok code → code ≤ 107
-code_low t code h =
-    elim (code_named t) as (λ o. code_named t ≡ o → ok_or o fault.Condact ≡ Ok code → code ≤ 107) [
+code_is : (t : List ℕ) (code : ℕ) → ok_or (code_named t) fault.Condact ≡ Ok code → IsCode code
+code_is t code h =
+    elim (code_named t) as (λ o. code_named t ≡ o → ok_or o fault.Condact ≡ Ok code → IsCode code) [
       | None ↦ λ e f. absurd cc
       | Some found ↦ λ e f.
           let same = ok_is found code f in
-          let low = (code_named_found t found e).0 in
-          omega (arith, same, low)
+          subst IsCode same (code_named_found t found e).0
     ] refl h
 
 condact_ok : (bounds : Bounds) (ws : List Word) (g : GameLists) (name : List ℕ) (ts : List (List ℕ))
@@ -254,11 +254,10 @@ condact_ok bounds ws g name ts x has h =
     bound_then _ (parameter bounds ws (second_kind c) a.1) _ x h (λ b b_ok h.
     let made : Condact = record { code = c; a = a.0; b = b.0 } in
     let same : made ≡ x.0 = ap (λ (z : Condact × List (List ℕ)). z.0) (ok_is (made, b.1) x h) in
-    let small = code_low name c c_ok in
-    let low : nat_le c 107 ≡ true = grind (arith, nat_tests, small) in
+    let is = code_is name c c_ok in
     let first = parameter_ok bounds ws g (first_kind c) ts a has a_ok in
     let second = parameter_ok bounds ws g (second_kind c) a.1 b has b_ok in
-    rw (← same, low, first, second) refl)))
+    rw (← same, is, first, second) refl)))
 
 condacts_ok : (bounds : Bounds) (ws : List Word) (g : GameLists) (skip : ℕ) (ts : List (List ℕ)) (cs : List Condact)
     → Has bounds ws g → condacts_in bounds ws skip ts ≡ Ok cs → list_all (is_condact g) cs ≡ true

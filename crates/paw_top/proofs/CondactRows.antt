@@ -10,7 +10,7 @@ use Rattle.paw_base.specs.declared.fault.SourceKind.{SourceKind}
 use Rattle.paw_base.specs.declared.parts.Condact.{Condact}
 use Rattle.paw_base.specs.declared.rows.ParamKind.{ParamKind}
 use Rattle.paw_base.specs.declared.rows.ParamKind.TheVariants as kind
-use Rattle.paw_base.specs.Condacts.{condact_lines, line_of, name_of, first_kind, second_kind, param_count, params_of}
+use Rattle.paw_base.specs.Condacts.{is_code, condact_lines, line_of, name_of, first_kind, second_kind, param_count, params_of}
 use Rattle.paw_base.specs.inner.Condacts.{IsCode}
 use Rattle.paw_base.proofs.Table.{below, each_code}
 use Rattle.paw_base.proofs.Named.{code_named-name_of}
@@ -30,11 +30,12 @@ use Rattle.paw_top.proofs.KnownWords.{Words, ReadsBack, word_or_none_back}
 
 -- ---- names ----
 
-plain_names : below (λ code. is_plain (name_of code)) 108 ≡ true
+plain_names : below (λ code. is_plain (name_of code)) (length condact_lines) ≡ true
 unfolding condact_lines line_of below
 plain_names = refl
 
 plain-name_of : (code : ℕ) → IsCode code → is_plain (name_of code) ≡ true
+unfolding condact_lines
 plain-name_of = each_code (λ code. is_plain (name_of code)) plain_names
 
 -- ---- parameters ----
@@ -156,8 +157,8 @@ condact_read p g c code a b = rw (condact-is p g c code a b, skipped_both p g c 
 
 pub condact_back : (p : ℕ) (g : GameLists) (c : Condact) → Small p g → is_condact g c ≡ true → CondactBack p g c
 condact_back p g c s h =
-    let both = and_parts (leb c.code 107) _ h in
-    let code : IsCode c.code = leb-true c.code 107 both.0 in
+    let both = and_parts (is_code c.code) _ h in
+    let code : IsCode c.code = both.0 in
     let parameters =
     and_parts (is_parameter (counts_of g) g.words (first_kind c.code) c.a)
     (is_parameter (counts_of g) g.words (second_kind c.code) c.b) both.1 in

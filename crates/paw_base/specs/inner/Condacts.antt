@@ -1,19 +1,13 @@
 -- The condacts: words that contracts between crates and proofs use beside those of specs/Condacts.antt.
-use Rattle.std.specs.Prelude.{ℕ, ◌≡◌, ◌≤◌, ◌-◌, ◌++◌, Bool, List, length}
+use Rattle.std.specs.Prelude.{ℕ, ◌≡◌, ◌-◌, ◌++◌, Bool, true, List, length}
 use Rattle.std.specs.Prelude.{replicate, nat_le, ◌==◌, ◌&&◌, not}
 use Rattle.std.specs.List.{list_any, before_first}
-use Rattle.paw_base.specs.declared.codes.TheConstants.{LAST_CODE}
-use Rattle.paw_base.specs.declared.codes.TheConstants.{INVEN}
 use Rattle.paw_base.specs.declared.rows.CondactRow.{CondactRow}
-use Rattle.paw_base.specs.Condacts.{name_of, first_kind, second_kind, family_of, capitals}
+use Rattle.paw_base.specs.Condacts.{is_code, line_of, name_of, first_kind, second_kind, capitals}
 
--- the codes of the condacts are those up to the last
+-- a code of a condact
 abbrev pub IsCode : ℕ → Type 0
-IsCode code = code ≤ LAST_CODE
-
--- the codes from INVEN on act; those below test
-abbrev pub is_act : ℕ → Bool
-is_act code = nat_le INVEN code
+IsCode code = is_code code ≡ true
 
 -- a name filled up with spaces to eight bytes
 abbrev pub filled_up : List ℕ → List ℕ
@@ -23,13 +17,16 @@ filled_up name = name ++ replicate (8 - length name) 32
 abbrev pub before_space : List ℕ → List ℕ
 before_space name = before_first (λ byte. byte == 32) name
 
+-- whether the condact of a code acts
+abbrev pub is_act : ℕ → Bool
+is_act code = (line_of code).acts
+
 -- what the table says of a code
 abbrev pub condact_row_of : ℕ → CondactRow
 condact_row_of code = record {
   name = filled_up (name_of code);
   first = first_kind code;
   second = second_kind code;
-  family = family_of code;
   acts = is_act code;
 }
 

@@ -1,13 +1,12 @@
 -- Reading an image from left to right: words that contracts between crates and proofs use beside those of
 -- specs/Reading.antt.
 use Rattle.std.specs.Prelude.{ℕ, zero, suc, not, List, [], ◌∷◌, length, Result}
-use Rattle.std.specs.Prelude.{Ok, Err, nat_le, ◌==◌, bit_and, if◌then◌else◌}
-use Rattle.paw_base.specs.declared.codes.TheConstants.{LAST_CODE}
+use Rattle.std.specs.Prelude.{Ok, Err, ◌==◌, bit_and, if◌then◌else◌}
 use Rattle.paw_base.specs.declared.parts.Condact.{Condact}
 use Rattle.paw_base.specs.declared.parts.ObjectFacts.{ObjectFacts}
 use Rattle.paw_base.specs.declared.rows.ParamKind.{ParamKind}
 use Rattle.paw_base.specs.declared.rows.ParamKind.TheVariants as kind
-use Rattle.paw_base.specs.Condacts.{first_kind, second_kind}
+use Rattle.paw_base.specs.Condacts.{is_code, first_kind, second_kind}
 use Rattle.paw_game.specs.declared.parts.Word.{Word}
 use Rattle.paw_game.specs.declared.parts.ObjectRow.{ObjectRow}
 use Rattle.paw_game.specs.declared.parts.Exit.{Exit}
@@ -97,7 +96,7 @@ exits_at bytes = few_at leading_exit bytes
 -- the code of a condact
 abbrev pub code_at : List ℕ → Reading ℕ
 code_at [] = Err 0
-code_at (code ∷ bytes) = if nat_le code LAST_CODE then Ok (code, bytes) else Err (suc (length bytes))
+code_at (code ∷ bytes) = if is_code code then Ok (code, bytes) else Err (suc (length bytes))
 
 -- a parameter of this kind; one that a code doesn't have is 0, and takes no byte
 abbrev pub parameter_at : ParamKind → List ℕ → Reading ℕ

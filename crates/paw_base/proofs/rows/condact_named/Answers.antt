@@ -1,4 +1,5 @@
-use Rattle.std.proofs.Common.{◌≤◌, ◌∙◌, sym, arith}
+use Rattle.std.proofs.Common.{◌∙◌, sym, arith}
+use Rattle.paw_base.proofs.Table.{code_within}
 use Rattle.paw_base.proofs.Named.{code_named_found, code_named_only}
 use Rattle.paw_base.proofs.rows.condact_named.Goals as goal
 
@@ -8,8 +9,8 @@ returns-in_err-code-clause-only c =
 
 pub overflow_cast-result : goal.overflow_cast-result
 overflow_cast-result c =
-    let within : c.in_ok-code.code ≤ 107 = (code_named_found c.args.name.now c.in_ok-code.code (sym c.in_ok-code.ensures)).0 in
-    omega arith
+    let within = code_within c.in_ok-code.code (code_named_found c.args.name.now c.in_ok-code.code (sym c.in_ok-code.ensures)).0 in
+    omega (arith, within)
 
 pub returns-clause-found : goal.returns-clause-found
 returns-clause-found c = code_named_found c.args.name.now c.in_ok-code.code (sym c.in_ok-code.ensures)
