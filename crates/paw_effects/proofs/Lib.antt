@@ -1,10 +1,12 @@
 mod Printing
 mod Parameters
+mod Meant
+mod Rows
+pub mod EachRow
 mod Moves
 mod Searching
 pub mod Asking
 pub mod Placed
-mod Families
 mod NextListed
 mod Facts
 pub mod Worlds

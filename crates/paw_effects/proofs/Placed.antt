@@ -1,53 +1,48 @@
 -- Each condact leaves the objects of a world at places of the game.
 use Rattle.std.proofs.Common.{◌≡◌, ℕ, ◌==◌, ◌||◌, Bool, true, false, List, [], ◌∷◌, Option, Some, None, refl, sym, ap, ◌∙◌, subst, map}
 use Rattle.std.proofs.Common.{length, slice_get, arith, inl, inr, nat_lt, IsTrue}
-use Rattle.std.specs.Prelude.{if◌then◌else◌, fold, slice_index}
+use Rattle.std.specs.Prelude.{if◌then◌else◌, fold, slice_index, All}
 use Rattle.std.specs.Option.{option_map, option_map_or}
-use Rattle.std.proofs.lemmas.Bool.{cases_lt, eqb-true, leb-true}
+use Rattle.std.proofs.lemmas.Bool.{cases_lt, leb-true}
 use Rattle.std.proofs.lemmas.Bool.Decides.{nat_tests}
 use Rattle.std.proofs.lemmas.List.{get_or_past}
 use Rattle.std.proofs.lemmas.List.Elements.{All-set, All-map, All-replicate}
 use Rattle.std.proofs.lemmas.Option.{slice_get-get_or}
+use Rattle.paw_base.specs.declared.codes.TheConstants.{AUTOP, PUTIN, PLACE, PUTO, DOALL}
 use Rattle.paw_base.specs.declared.parts.Condact.{Condact}
 use Rattle.paw_base.specs.declared.parts.ObjectFacts.{ObjectFacts}
-use Rattle.paw_base.specs.declared.rows.Family.{Family}
-use Rattle.paw_base.specs.declared.rows.Family.TheVariants as family
 use Rattle.paw_base.specs.declared.rows.ParamKind.{ParamKind}
 use Rattle.paw_base.specs.declared.rows.ParamKind.TheVariants as kind
-use Rattle.paw_base.specs.Condacts.{condact_lines, line_of, first_kind, second_kind, family_of}
-use Rattle.paw_base.proofs.Table.{below}
+use Rattle.paw_base.specs.Condacts.{condact_lines, line_of, first_kind, second_kind}
 use Rattle.paw_game.specs.Game.{GameLists}
 use Rattle.paw_game.specs.declared.parts.ObjectRow.{ObjectRow}
 use Rattle.paw_game.specs.Valid.{Valid, is_within, is_place, is_text, rows_kept}
 use Rattle.paw_game.specs.inner.Valid.{is_right, is_argument}
 use Rattle.paw_game.proofs.Kept.{first_of_and, facts-start}
-use Rattle.paw_game.proofs.Right.{right-code, right-first, right-second}
+use Rattle.paw_game.proofs.Right.{right-first, right-second}
 use Rattle.paw_world.specs.World.{World, Position, flag, with_flag, place, with_place, here, let_go, taken_up, moved, opening_places}
-use Rattle.paw_world.specs.World.{starting_world, restarted, with_objects_returned, at_position, position_of, kept_position}
+use Rattle.paw_world.specs.World.{starting_world, restarted, with_objects_returned, at_position, position_of, keeping, kept_position}
 use Rattle.paw_effects.specs.declared.object_actions.Action.{Action}
 use Rattle.paw_effects.specs.declared.object_actions.Action.TheVariants as action
 use Rattle.paw_effects.specs.declared.object_words.Words.{Words}
-use Rattle.paw_effects.specs.Worlds.{ArePlacesOf, StandsIn, StandAtPlaces}
-use Rattle.paw_effects.specs.Done.{Done}
+use Rattle.paw_effects.specs.Worlds.{ArePlacesOf, StandsIn}
 use Rattle.paw_effects.specs.Story.{Story}
 use Rattle.paw_routines.specs.Rows.{value_at}
-use Rattle.paw_effects.specs.FlowActions.{flow_of}
-use Rattle.paw_effects.specs.Positions.{keeping_of, loaded, position_number}
-use Rattle.paw_effects.specs.FlagActions.{change_of}
+use Rattle.paw_effects.specs.Positions.{loaded, position_number}
 use Rattle.paw_effects.specs.Presence.{named_place, held_objects}
-use Rattle.paw_effects.specs.MoveActions.{names_place, moved_if_place, move_of}
+use Rattle.paw_effects.specs.MoveActions.{names_place, moved_if_place}
 use Rattle.paw_effects.specs.Referring.{facts_written, referred, referred_to_none}
 use Rattle.paw_effects.specs.ObjectSearch.{first_fitting}
 use Rattle.paw_effects.specs.ObjectActions.{destination, first_that_holds, hindrances, tried}
-use Rattle.paw_effects.specs.AutoActions.{looks_at, action_of, acted_on_found, object_action_of}
-use Rattle.paw_effects.specs.inner.Parameters.{acts_on_given, acts_by_name}
-use Rattle.paw_effects.specs.Effects.{effect_in, effect_of}
-use Rattle.paw_effects.specs.Holds.{answers, tested_in, holds}
-use Rattle.paw_effects.proofs.Parameters.{AreOfKind, of_kind}
+use Rattle.paw_effects.specs.AutoActions.{looks_at, acted_on_found}
+use Rattle.paw_effects.specs.Meanings.{Meaning, Tests, Acts}
+use Rattle.paw_effects.specs.Effects.{done_by}
+use Rattle.paw_effects.specs.Holds.{answers, tested_by}
 
 -- the facts and the number of locations are the game's, and each object stands at a place of it
 abbrev pub IsPlaced : GameLists → World → Type 0
-IsPlaced g w = (w.facts ≡ map (λ o. o.facts) g.objects) × ((w.locations ≡ length g.locations) × StandAtPlaces g w)
+IsPlaced g w = (w.facts ≡ map (λ o. o.facts) g.objects) × ((w.locations ≡ length g.locations)
+    × (ArePlacesOf g w.places × (StandsIn g w.saved × All (StandsIn g) w.kept)))
 
 -- what holds in both cases
 pub one_placed : (g : GameLists) (b : Bool) (x y : World) → IsPlaced g x → IsPlaced g y → IsPlaced g (if b then x else y)
@@ -59,11 +54,6 @@ by_test : (g : GameLists) (b : Bool) (x y : World) → (b ≡ true → IsPlaced 
 by_test g true x y h k = h refl
 by_test g false x y h k = k refl
 
-done_placed : (g : GameLists) (b : Bool) (x y : Done) → (b ≡ true → IsPlaced g x.world) → (b ≡ false → IsPlaced g y.world) →
-    IsPlaced g (if b then x else y).world
-done_placed g true x y h k = h refl
-done_placed g false x y h k = k refl
-
 -- ---- places ----
 
 -- a game has a location
@@ -72,7 +62,7 @@ first_place g v =
     let some = leb-true 1 (length g.locations) (first_of_and _ (rows_kept 252 is_text g.locations) v.locations) in
     grind (arith, nat_tests)
 
-at_place : (g : GameLists) → Valid g → (places : List ℕ) (o : ℕ) → ArePlacesOf g places → is_place (length g.locations) (slice_index places o) ≡ true
+pub at_place : (g : GameLists) → Valid g → (places : List ℕ) (o : ℕ) → ArePlacesOf g places → is_place (length g.locations) (slice_index places o) ≡ true
 at_place g v places o all =
     elim (cases_lt o (length places)) [
       | inl low ↦ all o 0 low
@@ -126,99 +116,73 @@ opened_placed g seed v = (refl, (refl, (opening_at g v, (tt, All-replicate (Stan
 pub restarted_placed : (g : GameLists) (w : World) → Valid g → IsPlaced g w → IsPlaced g (restarted w)
 restarted_placed g w v k = (k.0, (k.1.0, (begins_placed g w.facts v k.0, k.1.1.1)))
 
-returned_placed : (g : GameLists) (w : World) → Valid g → IsPlaced g w → IsPlaced g (with_objects_returned w)
+pub returned_placed : (g : GameLists) (w : World) → Valid g → IsPlaced g w → IsPlaced g (with_objects_returned w)
 returned_placed g w v k = (k.0, (k.1.0, (begins_placed g w.facts v k.0, k.1.1.1)))
 
 -- ---- parameters ----
 
-is_bound : ParamKind → Bool
-is_bound kind.Absent = true
-is_bound kind.Location = true
-is_bound _ = false
-
 low_place : (locations x : ℕ) → nat_lt x locations ≡ true → is_place locations x ≡ true
 low_place locations x h = grind (arith, nat_tests)
 
--- a parameter that is absent is 0, and one that is a location is a place
-bound_place : (g : GameLists) (k : ParamKind) (x : ℕ) → Valid g → is_bound k ≡ true → IsTrue (is_argument g k x) → is_place (length g.locations) x ≡ true
-unfolding is_bound
-bound_place g kind.Absent x v h p = rw (eqb-true x 0 p) (first_place g v)
-bound_place g kind.Location x v h p = low_place (length g.locations) x p
-bound_place g _ x v h p = cc
+-- what the parameters of some codes name
+autop_takes : first_kind AUTOP ≡ kind.Location
+unfolding condact_lines line_of
+autop_takes = refl
 
-bounds : AreOfKind is_bound acts_on_given second_kind × AreOfKind is_bound acts_by_name first_kind
-unfolding condact_lines line_of below is_bound
-bounds = (refl, refl)
+putin_takes : second_kind PUTIN ≡ kind.Location
+unfolding condact_lines line_of
+putin_takes = refl
 
-given_place : (g : GameLists) (c : Condact) → Valid g → IsTrue (is_right g c) → acts_on_given c.code ≡ true → is_place (length g.locations) c.b ≡ true
-given_place g c v kept own =
-    bound_place g (second_kind c.code) c.b v
-    (of_kind is_bound acts_on_given second_kind bounds.0 c.code (right-code g c kept) own) (right-second g c kept)
-
-found_place : (g : GameLists) (c : Condact) → Valid g → IsTrue (is_right g c) → acts_by_name c.code ≡ true → is_place (length g.locations) c.a ≡ true
-found_place g c v kept own =
-    bound_place g (first_kind c.code) c.a v
-    (of_kind is_bound acts_by_name first_kind bounds.1 c.code (right-code g c kept) own) (right-first g c kept)
-
--- the first parameters of PUTO and DOALL, and the second of PLACE, are places
-puto_takes : first_kind 65 ≡ kind.Place
+pub puto_takes : first_kind PUTO ≡ kind.Place
 unfolding condact_lines line_of
 puto_takes = refl
 
-place_takes : second_kind 64 ≡ kind.Place
+pub place_takes : second_kind PLACE ≡ kind.Place
 unfolding condact_lines line_of
 place_takes = refl
 
-doall_takes : first_kind 86 ≡ kind.Place
+doall_takes : first_kind DOALL ≡ kind.Place
 unfolding condact_lines line_of
 doall_takes = refl
 
-first_named : (g : GameLists) (w : World) (c : Condact) (code : ℕ) → first_kind code ≡ kind.Place → w.locations ≡ length g.locations →
-    IsTrue (is_right g c) → c.code ≡ code
-    → is_place (length g.locations) (named_place w c.a) ≡ true
-first_named g w c code takes of kept is =
-    named_is_place g w c.a of (subst (λ k. IsTrue (is_argument g k c.a)) (ap first_kind is ∙ takes) (right-first g c kept))
+-- a parameter keeps the rule of the kind that its code says
+pub first_kept : (g : GameLists) (c : Condact) (code : ℕ) (k : ParamKind) → first_kind code ≡ k → c.code ≡ code → IsTrue (is_right g c) →
+    IsTrue (is_argument g k c.a)
+first_kept g c code k takes is kept = subst (λ x. IsTrue (is_argument g x c.a)) (ap first_kind is ∙ takes) (right-first g c kept)
 
-second_named : (g : GameLists) (w : World) (c : Condact) (code : ℕ) → second_kind code ≡ kind.Place → w.locations ≡ length g.locations →
-    IsTrue (is_right g c) → c.code ≡ code
-    → is_place (length g.locations) (named_place w c.b) ≡ true
-second_named g w c code takes of kept is =
-    named_is_place g w c.b of (subst (λ k. IsTrue (is_argument g k c.b)) (ap second_kind is ∙ takes) (right-second g c kept))
+pub second_kept : (g : GameLists) (c : Condact) (code : ℕ) (k : ParamKind) → second_kind code ≡ k → c.code ≡ code → IsTrue (is_right g c) →
+    IsTrue (is_argument g k c.b)
+second_kept g c code k takes is kept = subst (λ x. IsTrue (is_argument g x c.b)) (ap second_kind is ∙ takes) (right-second g c kept)
 
 -- a loop goes over the objects at a place
-pub doall_place : (g : GameLists) (w : World) (c : Condact) → w.locations ≡ length g.locations → IsTrue (is_right g c) → c.code ≡ 86 →
+pub doall_place : (g : GameLists) (w : World) (c : Condact) → w.locations ≡ length g.locations → IsTrue (is_right g c) → c.code ≡ DOALL →
     IsTrue (is_place (length g.locations) (named_place w c.a))
-doall_place g w c = first_named g w c 86 doall_takes
+doall_place g w c of kept is = named_is_place g w c.a of (first_kept g c DOALL kind.Place doall_takes is kept)
 
 -- ---- actions that move objects ----
 
-dropped : (g : GameLists) (p : ℕ) (os : List ℕ) (w : World) → is_place (length g.locations) p ≡ true → IsPlaced g w →
+pub dropped : (g : GameLists) (p : ℕ) (os : List ℕ) (w : World) → is_place (length g.locations) p ≡ true → IsPlaced g w →
     IsPlaced g (fold (λ v o. moved v o p) w os)
 dropped g p [] w at k = k
 dropped g p (o ∷ os) w at k = dropped g p os (moved w o p) at (moved_placed g w o p at k)
 
-if_place : (g : GameLists) (w : World) (o p : ℕ) → IsPlaced g w → IsPlaced g (moved_if_place w o p)
+pub if_place : (g : GameLists) (w : World) (o p : ℕ) → IsPlaced g w → IsPlaced g (moved_if_place w o p)
 if_place g w o p k =
     by_test g (names_place w p) (moved w o (named_place w p)) w
     (λ names. moved_placed g w o (named_place w p) (named_is_place g w p k.1.0 (subst (λ n. (nat_lt p n || is_within 252 255 p) ≡ true) k.1.0 names)) k)
     (λ none. k)
 
-move_placed : (g : GameLists) (w : World) (c : Condact) → Valid g → IsTrue (is_right g c) → IsPlaced g w → IsPlaced g (move_of w c)
-unfolding move_of
-move_placed g w c v kept k =
-    let at : (o : ℕ) → is_place (length g.locations) (place w o) ≡ true = λ o. at_place g v w.places o k.1.1.0 in
-    by_test g (c.code == 61) _ _ (λ own. moved_placed g w c.a (here w) (here_place g w k.1.0) k) (λ b.
-    by_test g (c.code == 62) _ _ (λ own. moved_placed g w c.a 252 (grind (arith, nat_tests)) k) (λ d.
-    by_test g (c.code == 63) _ _
-    (λ own. moved_placed g (moved w c.a (place w c.b)) c.b (place w c.a) (at c.a) (moved_placed g w c.a (place w c.b) (at c.b) k)) (λ e.
-    by_test g (c.code == 64) _ _
-    (λ own. moved_placed g w c.a (named_place w c.b) (second_named g w c 64 place_takes k.1.0 kept (eqb-true c.code 64 own)) k) (λ f.
-    by_test g (c.code == 65) _ _
-    (λ own. one_placed g (nat_lt (flag w 51) (length w.places)) (moved w (flag w 51) (named_place w c.a)) w
-    (moved_placed g w (flag w 51) (named_place w c.a) (first_named g w c 65 puto_takes k.1.0 kept (eqb-true c.code 65 own)) k) k) (λ h.
-    by_test g (c.code == 74) _ _ (λ own. moved_placed g w c.b (place w c.a) (at c.a) k) (λ i.
-    by_test g (c.code == 75) _ _ (λ own. k) (λ j.
-    by_test g (c.code == 76) _ _ (λ own. if_place g w c.b (flag w c.a) k) (λ l. dropped g (here w) (held_objects w) w (here_place g w k.1.0) k))))))))
+pub not_created : (g : GameLists) → is_place (length g.locations) 252 ≡ true
+not_created g = grind (arith, nat_tests)
+
+pub swapped_placed : (g : GameLists) → Valid g → (w : World) (o k : ℕ) → IsPlaced g w → IsPlaced g (moved (moved w o (place w k)) k (place w o))
+swapped_placed g v w o k h =
+    let at : (x : ℕ) → is_place (length g.locations) (place w x) ≡ true = λ x. at_place g v w.places x h.1.1.0 in
+    moved_placed g (moved w o (place w k)) k (place w o) (at o) (moved_placed g w o (place w k) (at k) h)
+
+pub to_placed : (g : GameLists) (w : World) (p : ℕ) → is_place (length g.locations) p ≡ true → IsPlaced g w →
+    IsPlaced g (if nat_lt (flag w 51) (length w.places) then moved w (flag w 51) p else w)
+to_placed g w p at k = one_placed g (nat_lt (flag w 51) (length w.places)) (moved w (flag w 51) p) w (moved_placed g w (flag w 51) p at k) k
 
 -- ---- actions on objects ----
 
@@ -230,7 +194,7 @@ pub referred_placed : (g : GameLists) (w : World) (o : ℕ) → IsPlaced g w →
 referred_placed g w o k = facts_placed g (with_flag (with_flag w 51 o) 54 (place w o)) o (slice_get w.facts o) k
 
 -- an action puts objects in at places alone
-abbrev GoesToPlace : GameLists → Action → Type 0
+abbrev pub GoesToPlace : GameLists → Action → Type 0
 GoesToPlace g action.Get = Unit {0}
 GoesToPlace g action.Drop = Unit {0}
 GoesToPlace g action.Wear = Unit {0}
@@ -247,155 +211,81 @@ destined g w action.Remove of h = grind (arith, nat_tests)
 destined g w (action.PutIn l) of h = h
 destined g w (action.TakeOut l) of h = grind (arith, nat_tests)
 
-record Goes (g : GameLists) (a : Action) : Type 0 where
-  to : GoesToPlace g a
+pub record Goes (g : GameLists) (a : Action) : Type 0 where
+  pub to : GoesToPlace g a
 
-one_goes : (g : GameLists) (b : Bool) (x y : Action) → Goes g x → Goes g y → Goes g (if b then x else y)
-one_goes g true x y h k = h
-one_goes g false x y h k = k
+-- the containers of AUTOP and PUTIN are places
+pub autop_goes : (g : GameLists) (c : Condact) → c.code ≡ AUTOP → IsTrue (is_right g c) → Goes g (action.PutIn c.a)
+autop_goes g c is r = record { to = low_place (length g.locations) c.a (first_kept g c AUTOP kind.Location autop_takes is r) }
 
-action_goes : (g : GameLists) (code l : ℕ) → is_place (length g.locations) l ≡ true → Goes g (action_of code l)
-action_goes g code l at =
-    let fine : Unit {0} = tt in
-    one_goes g ((code == 43) || (code == 55)) _ _ (record { to = fine }) (one_goes g ((code == 44) || (code == 56)) _ _ (record { to = fine })
-    (one_goes g ((code == 45) || (code == 57)) _ _ (record { to = fine }) (one_goes g ((code == 46) || (code == 58)) _ _ (record { to = fine })
-    (one_goes g ((code == 47) || (code == 59)) _ _ (record { to = at }) (record { to = fine })))))
+pub putin_goes : (g : GameLists) (c : Condact) → c.code ≡ PUTIN → IsTrue (is_right g c) → Goes g (action.PutIn c.b)
+putin_goes g c is r = record { to = low_place (length g.locations) c.b (second_kept g c PUTIN kind.Location putin_takes is r) }
 
 tried_placed : (g : GameLists) (w : World) (o : ℕ) (a : Action) (said : Option Words) → Goes g a → IsPlaced g w → IsPlaced g (tried g w o a said).world
 tried_placed g w o a (Some said) h k = k
 tried_placed g w o a None h k = moved_placed g w o (destination w a) (destined g w a k.1.0 h.to) k
 
-acted_placed : (g : GameLists) (w : World) (o : ℕ) (a : Action) → Goes g a → IsPlaced g w →
+pub acted_placed : (g : GameLists) (w : World) (o : ℕ) (a : Action) → Goes g a → IsPlaced g w →
     IsPlaced g (tried g (referred w o) o a (first_that_holds (hindrances (referred w o) o a))).world
 acted_placed g w o a h k = tried_placed g (referred w o) o a (first_that_holds (hindrances (referred w o) o a)) h (referred_placed g w o k)
 
-found_placed : (g : GameLists) (w : World) (a : Action) (found : Option ℕ) → Goes g a → IsPlaced g w → IsPlaced g (acted_on_found g w a found).world
+pub found_placed : (g : GameLists) (w : World) (a : Action) (found : Option ℕ) → Goes g a → IsPlaced g w → IsPlaced g (acted_on_found g w a found).world
 found_placed g w a (Some o) h k = acted_placed g w o a h k
 found_placed g w a None h k = k
 
-referred_found : (g : GameLists) (w : World) (found : Option ℕ) → IsPlaced g w
+pub referred_found : (g : GameLists) (w : World) (found : Option ℕ) → IsPlaced g w
     → IsPlaced g (option_map_or (referred w) found (referred_to_none w))
 referred_found g w (Some o) k = referred_placed g w o k
 referred_found g w None k = k
 
-object_placed : (g : GameLists) (w : World) (c : Condact) → Valid g → IsTrue (is_right g c) → IsPlaced g w → IsPlaced g (object_action_of g w c).world
-unfolding object_action_of
-object_placed g w c v kept k =
-    done_placed g (acts_on_given c.code) _ _
-    (λ own. acted_placed g w c.a (action_of c.code c.b) (action_goes g c.code c.b (given_place g c v kept own)) k) (λ other.
-    done_placed g (acts_by_name c.code) _ _
-    (λ own. found_placed g w (action_of c.code c.a) (first_fitting w (looks_at (action_of c.code c.a)))
-    (action_goes g c.code c.a (found_place g c v kept own)) k)
-    (λ none. referred_found g w _ k))
+-- ---- positions ----
 
--- ---- all actions ----
-
-flow_placed : (g : GameLists) (w : World) (c : Condact) → IsPlaced g w → IsPlaced g (flow_of g w c).world
-unfolding flow_of
-flow_placed g w c k =
-    done_placed g (c.code == 31) _ _ (λ own. k) (λ a. done_placed g (c.code == 32) _ _ (λ own. k) (λ b. done_placed g (c.code == 33) _ _ (λ own. k) (λ d.
-    done_placed g (c.code == 34) _ _ (λ own. k) (λ e. done_placed g (c.code == 35) _ _ (λ own. k) (λ f. done_placed g (c.code == 84) _ _ (λ own. k) (λ h.
-    done_placed g (c.code == 85) _ _ (λ own. k) (λ j.
-    done_placed g (c.code == 86) _ _ (λ own. k) (λ m. k))))))))
-
-loaded_placed : (g : GameLists) (w : World) (n : ℕ) (saved : Option Position) → w.saved ≡ saved → IsPlaced g w
+pub loaded_placed : (g : GameLists) (w : World) (n : ℕ) (saved : Option Position) → w.saved ≡ saved → IsPlaced g w
     → IsPlaced g (option_map_or (at_position w n) saved w)
 loaded_placed g w n None is k = k
 loaded_placed g w n (Some q) is k =
     (k.0, (k.1.0, (subst (λ s. StandsIn g s) is k.1.1.1.0, k.1.1.1)))
 
--- the same by name, which keeps long definitions closed
-record Placed (g : GameLists) (w : World) : Type 0 where
-  is : IsPlaced g w
-
-one_of : (g : GameLists) (b : Bool) (x y : World) → Placed g x → Placed g y → Placed g (if b then x else y)
-one_of g true x y h k = h
-one_of g false x y h k = k
-
-change_kept : (g : GameLists) (w : World) (c : Condact) → IsPlaced g w → Placed g (change_of w c)
-unfolding change_of
-change_kept g w c k =
-    one_of g (c.code == 38) _ _ (record { is = (k.0, (k.1.0, (k.1.1.0, (k.1.1.0, k.1.1.1.1)))) })
-    (one_of g (c.code == 39) _ _ (record { is = loaded_placed g w c.a w.saved refl k })
-    (one_of g (c.code == 49) _ _ (record { is = k }) (one_of g (c.code == 66) _ _ (record { is = k }) (one_of g (c.code == 67) _ _ (record { is = k })
-    (one_of g (c.code == 68) _ _ (record { is = k }) (one_of g (c.code == 69) _ _ (record { is = k }) (one_of g (c.code == 70) _ _ (record { is = k })
-    (one_of g (c.code == 71) _ _ (record { is = k }) (one_of g (c.code == 72) _ _ (record { is = k }) (one_of g (c.code == 73) _ _ (record { is = k })
-    (one_of g (c.code == 77) _ _ (record { is = k }) (one_of g (c.code == 81) _ _ (record { is = k }) (one_of g (c.code == 82) _ _ (record { is = k })
-    (one_of g (c.code == 83) _ _ (record { is = k }) (one_of g (c.code == 87) _ _ (record { is = k }) (record { is = k }))))))))))))))))
-
-change_placed : (g : GameLists) (w : World) (c : Condact) → IsPlaced g w → IsPlaced g (change_of w c)
-change_placed g w c k = (change_kept g w c k).is
-
 -- ---- positions that are kept ----
 
-taken_placed : (g : GameLists) (w : World) (kept : Option Position) → StandsIn g kept → IsPlaced g w → IsPlaced g (loaded g w kept).world
+pub taken_placed : (g : GameLists) (w : World) (kept : Option Position) → StandsIn g kept → IsPlaced g w → IsPlaced g (loaded g w kept).world
 taken_placed g w None at k = k
 taken_placed g w (Some q) at k = (k.0, (k.1.0, (at, k.1.1.1)))
 
 -- where the number is none of the four there is nothing to take
-kept_stands : (g : GameLists) (w : World) (n : ℕ) → IsPlaced g w → StandsIn g (kept_position w n)
+pub kept_stands : (g : GameLists) (w : World) (n : ℕ) → IsPlaced g w → StandsIn g (kept_position w n)
 kept_stands g w n k =
     elim (cases_lt n (length w.kept)) [
       | inl low ↦ k.1.1.1.1 n None low
       | inr past ↦ subst (λ q. StandsIn g q) (sym (get_or_past w.kept n None past)) tt
     ]
 
-keeping_placed : (g : GameLists) (w : World) (c : Condact) → IsPlaced g w → IsPlaced g (keeping_of g w c).world
-unfolding keeping_of
-keeping_placed g w c k =
-    done_placed g (c.code == 36) _ _
-    (λ own. (k.0, (k.1.0, (k.1.1.0, (k.1.1.1.0, All-set (StandsIn g) w.kept (position_number w) (Some (position_of w)) k.1.1.0 k.1.1.1.1)))))
-    (λ other. taken_placed g w (kept_position w (position_number w)) (kept_stands g w (position_number w) k) k)
+pub saved_placed : (g : GameLists) (w : World) → IsPlaced g w → IsPlaced g (keeping w (position_number w))
+saved_placed g w k =
+    (k.0, (k.1.0, (k.1.1.0, (k.1.1.1.0, All-set (StandsIn g) w.kept (position_number w) (Some (position_of w)) k.1.1.0 k.1.1.1.1))))
 
-answered_placed : (g : GameLists) (w : World) (f : ℕ) (answer : Option ℕ) → IsPlaced g w → IsPlaced g (option_map_or (with_flag w f) answer w)
+pub answered_placed : (g : GameLists) (w : World) (f : ℕ) (answer : Option ℕ) → IsPlaced g w → IsPlaced g (option_map_or (with_flag w f) answer w)
 answered_placed g w f None k = k
 answered_placed g w f (Some y) k = k
 
-placed_in : (f : Family) (s : Story) (w : World) (c : Condact) → Valid s.game → IsTrue (is_right s.game c) → IsPlaced s.game w
-    → IsPlaced s.game (effect_in f s w c).world
-placed_in family.Flow s w c v kept k = flow_placed s.game w c k
-placed_in family.Keeping s w c v kept k = keeping_placed s.game w c k
-placed_in family.Print s w c v kept k = k
-placed_in family.Handling s w c v kept k = object_placed s.game w c v kept k
-placed_in family.Placing s w c v kept k = move_placed s.game w c v kept k
-placed_in family.Change s w c v kept k = change_placed s.game w c k
-placed_in family.NewText s w c v kept k = k
-placed_in family.Reset s w c v kept k = returned_placed s.game w v k
-placed_in family.Extern s w c v kept k = answered_placed s.game w c.b (value_at s.rows c.a (flag w c.b)) k
-placed_in family.PlaceTest s w c v kept k = k
-placed_in family.FlagTest s w c v kept k = k
-placed_in family.Chance s w c v kept k = k
-placed_in family.Quit s w c v kept k = k
-placed_in family.Exit s w c v kept k = k
-
-pub effect_placed : (s : Story) (w : World) (c : Condact) → Valid s.game → IsTrue (is_right s.game c) → IsPlaced s.game w →
-    IsPlaced s.game (effect_of s w c).world
-unfolding effect_of
-effect_placed s w c = placed_in (family_of c.code) s w c
-
--- ---- conditions ----
-
-moves_placed : (g : GameLists) (w : World) (f : ℕ) (to : Option ℕ) → IsPlaced g w
+pub moves_placed : (g : GameLists) (w : World) (f : ℕ) (to : Option ℕ) → IsPlaced g w
     → IsPlaced g (option_map_or (λ x. answers (with_flag w f x) true) to (answers w false)).world
 moves_placed g w f None k = k
 moves_placed g w f (Some to) k = k
 
-tested_placed : (f : Family) (g : GameLists) (w : World) (c : Condact) → IsPlaced g w → IsPlaced g (tested_in f g w c).world
-tested_placed family.PlaceTest g w c k = k
-tested_placed family.FlagTest g w c k = k
-tested_placed family.Chance g w c k = k
-tested_placed family.Quit g w c k = k
-tested_placed family.Exit g w c k = moves_placed g w c.a _ k
-tested_placed family.Flow g w c k = k
-tested_placed family.Keeping g w c k = k
-tested_placed family.Print g w c k = k
-tested_placed family.Handling g w c k = k
-tested_placed family.Placing g w c k = k
-tested_placed family.Change g w c k = k
-tested_placed family.NewText g w c k = k
-tested_placed family.Reset g w c k = k
-tested_placed family.Extern g w c k = k
+-- ---- each row ----
 
-pub condition_placed : (g : GameLists) (w : World) (c : Condact) → IsPlaced g w → IsPlaced g (holds g w c).world
-unfolding holds
-condition_placed g w c = tested_placed (family_of c.code) g w c
+-- a condition, and an action of this code, leave the objects at places of the game
+abbrev pub PlacesBy : ℕ → Meaning → Type 0
+PlacesBy code (Tests tested) = (g : GameLists) (w : World) (c : Condact) → IsPlaced g w → IsPlaced g (tested g w c).world
+PlacesBy code (Acts done) = (s : Story) (w : World) (c : Condact) → c.code ≡ code → Valid s.game → IsTrue (is_right s.game c) → IsPlaced s.game w →
+    IsPlaced s.game (done s w c).world
+
+pub done_placed : (m : Meaning) (s : Story) (w : World) (c : Condact) → PlacesBy c.code m → Valid s.game → IsTrue (is_right s.game c) → IsPlaced s.game w →
+    IsPlaced s.game (done_by m s w c).world
+done_placed (Tests tested) s w c h v r k = k
+done_placed (Acts done) s w c h v r k = h s w c refl v r k
+
+pub tested_placed : (m : Meaning) (g : GameLists) (w : World) (c : Condact) → PlacesBy c.code m → IsPlaced g w → IsPlaced g (tested_by m g w c).world
+tested_placed (Tests tested) g w c h k = h g w c k
+tested_placed (Acts done) g w c h k = k

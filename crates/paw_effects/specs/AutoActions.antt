@@ -1,14 +1,10 @@
 -- The actions that find their object by the sentence.
-use Rattle.std.specs.Prelude.{ℕ, ◌==◌, ◌||◌, List, [], ◌∷◌, Option, Some, None, if◌then◌else◌}
+use Rattle.std.specs.Prelude.{ℕ, List, [], ◌∷◌, Option, Some, None, if◌then◌else◌}
 use Rattle.std.specs.Option.{option_map_or}
-use Rattle.paw_base.specs.declared.codes.TheConstants.{AUTOG, AUTOD, AUTOW, AUTOR, AUTOP, AUTOT, GET, DROP, WEAR}
-use Rattle.paw_base.specs.declared.codes.TheConstants.{REMOVE, PUTIN, TAKEOUT}
 use Rattle.paw_base.specs.declared.messages.TheConstants.{IMPOSSIBLE_MESSAGE, NOT_WORN_MESSAGE, NOT_HERE_MESSAGE}
 use Rattle.paw_base.specs.declared.messages.TheConstants.{NOT_CARRIED_MESSAGE, NOT_INSIDE_MESSAGE}
 use Rattle.paw_base.specs.declared.places.TheConstants.{WORN_PLACE, CARRIED_PLACE}
-use Rattle.paw_base.specs.declared.parts.Condact.{Condact}
 use Rattle.paw_game.specs.Game.{GameLists}
-use Rattle.paw_game.specs.Valid.{is_within}
 use Rattle.paw_world.specs.World.{World}
 use Rattle.paw_effects.specs.declared.object_actions.Action.{Action}
 use Rattle.paw_effects.specs.declared.object_actions.Action.TheVariants as action
@@ -16,7 +12,7 @@ use Rattle.paw_effects.specs.declared.object_search.Spot.{Spot}
 use Rattle.paw_effects.specs.declared.object_search.Spot.TheVariants.{Here, At}
 use Rattle.paw_effects.specs.declared.object_words.Words.{Words}
 use Rattle.paw_effects.specs.declared.object_words.Words.TheVariants.{Says, Names}
-use Rattle.paw_effects.specs.Done.{Done, makes}
+use Rattle.paw_effects.specs.Done.{Done}
 use Rattle.paw_effects.specs.Referring.{referred, referred_to_none}
 use Rattle.paw_effects.specs.ObjectSearch.{some_fits, first_fitting}
 use Rattle.paw_effects.specs.ObjectActions.{refuses, acted_on}
@@ -47,20 +43,3 @@ acted_by_name g w a = acted_on_found g w a (first_fitting w (looks_at a))
 -- referring to the object that the sentence means, looked for as DROP does, or to none
 abbrev pub referred_by_name : World → World
 referred_by_name w = option_map_or (referred w) (first_fitting w (looks_at action.Drop)) (referred_to_none w)
-
--- the action of each code; two of them know a place
-abbrev pub action_of : ℕ → ℕ → Action
-action_of code l =
-    if (code == AUTOG) || (code == GET) then action.Get else
-    if (code == AUTOD) || (code == DROP) then action.Drop else
-    if (code == AUTOW) || (code == WEAR) then action.Wear else
-    if (code == AUTOR) || (code == REMOVE) then action.Remove else
-    if (code == AUTOP) || (code == PUTIN) then action.PutIn l else
-    action.TakeOut l  -- AUTOT, TAKEOUT
-
--- GET to TAKEOUT are given their object, AUTOG to AUTOT and WHATO find it
-unfoldable pub object_action_of : GameLists → World → Condact → Done
-object_action_of g w c =
-    if is_within GET TAKEOUT c.code then acted_on g w c.a (action_of c.code c.b) else
-    if is_within AUTOG AUTOT c.code then acted_by_name g w (action_of c.code c.a) else
-    makes (referred_by_name w)  -- WHATO

@@ -1,9 +1,7 @@
 -- The actions that move objects, and the one that tells a place.
-use Rattle.std.specs.Prelude.{ℕ, ◌==◌, ◌||◌, Bool, nat_lt, length, fold, if◌then◌else◌}
-use Rattle.paw_base.specs.declared.codes.TheConstants.{CREATE, DESTROY, SWAP, PLACE, PUTO, COPYOO, COPYOF, COPYFO}
+use Rattle.std.specs.Prelude.{ℕ, ◌||◌, Bool, nat_lt, length, fold, if◌then◌else◌}
 use Rattle.paw_base.specs.declared.flags.TheConstants.{LOCATION_FLAG, REFERRED_FLAG}
 use Rattle.paw_base.specs.declared.places.TheConstants.{NOT_CREATED_PLACE, HERE_PLACE}
-use Rattle.paw_base.specs.declared.parts.Condact.{Condact}
 use Rattle.paw_game.specs.Valid.{is_within}
 use Rattle.paw_world.specs.World.{World, flag, with_flag, place, moved, here, with_objects_returned}
 use Rattle.paw_effects.specs.Presence.{named_place, held_objects}
@@ -27,19 +25,6 @@ names_place w p = nat_lt p w.locations || is_within NOT_CREATED_PLACE HERE_PLACE
 -- an object moves to the place that a number names; nothing where it names none
 abbrev pub moved_if_place : World → ℕ → ℕ → World
 moved_if_place w o p = if names_place w p then moved w o (named_place w p) else w
-
--- one line for each of them
-unfoldable pub move_of : World → Condact → World
-move_of w c =
-    if c.code == CREATE then moved w c.a (here w) else
-    if c.code == DESTROY then moved w c.a NOT_CREATED_PLACE else
-    if c.code == SWAP then swapped w c.a c.b else
-    if c.code == PLACE then moved w c.a (named_place w c.b) else
-    if c.code == PUTO then referred_moved w (named_place w c.a) else
-    if c.code == COPYOO then moved w c.b (place w c.a) else
-    if c.code == COPYOF then with_flag w c.b (place w c.a) else
-    if c.code == COPYFO then moved_if_place w c.b (flag w c.a) else
-    all_dropped w  -- DROPALL
 
 -- RESET puts all objects back to where they begin, with flag 1 the number of those that begin carried, and makes a
 -- location the current one

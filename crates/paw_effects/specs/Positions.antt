@@ -1,12 +1,10 @@
--- SAVE and LOAD: positions that are kept, and taken back.
-use Rattle.std.specs.Prelude.{ℕ, ◌==◌, ◌%◌, Option, None, Some, if◌then◌else◌}
-use Rattle.paw_base.specs.declared.codes.TheConstants.{SAVE}
+-- The kept positions, and taking one back.
+use Rattle.std.specs.Prelude.{ℕ, ◌%◌, Option, None, Some}
 use Rattle.paw_base.specs.declared.flags.TheConstants.{POSITION_FLAG}
 use Rattle.paw_base.specs.declared.messages.TheConstants.{IMPOSSIBLE_MESSAGE}
 use Rattle.paw_base.specs.declared.limits.TheConstants.{POSITION_COUNT}
-use Rattle.paw_base.specs.declared.parts.Condact.{Condact}
 use Rattle.paw_game.specs.Game.{GameLists}
-use Rattle.paw_world.specs.World.{World, Position, flag, keeping, kept_position}
+use Rattle.paw_world.specs.World.{World, Position, flag}
 use Rattle.paw_effects.specs.declared.act.Effect.TheVariants as effect
 use Rattle.paw_effects.specs.Done.{Done, tells, leads}
 use Rattle.paw_effects.specs.Texts.{say_text}
@@ -20,9 +18,3 @@ position_number w = flag w POSITION_FLAG % POSITION_COUNT
 abbrev pub loaded : GameLists → World → Option Position → Done
 loaded g w None = tells w (say_text g w IMPOSSIBLE_MESSAGE) effect.Redescribe
 loaded g w (Some q) = leads (record w { flags = q.flags; places = q.places }) effect.Redescribe
-
--- SAVE keeps flags and places, LOAD takes them back; both describe the location again
-unfoldable pub keeping_of : GameLists → World → Condact → Done
-keeping_of g w c =
-    if c.code == SAVE then leads (keeping w (position_number w)) effect.Redescribe else
-    loaded g w (kept_position w (position_number w))  -- LOAD

@@ -20,7 +20,3 @@ ArePlacesOf g places = All (λ p. IsTrue (is_place (length g.locations) p)) plac
 -- each object of a position, where there is one, stands at a place of the game
 abbrev pub StandsIn : GameLists → Option Position → Type 0
 StandsIn g saved = IfSome saved (λ q. ArePlacesOf g q.places)
-
--- each object stands at a place of the game, now, in the saved position and in the kept ones
-abbrev pub StandAtPlaces : GameLists → World → Type 0
-StandAtPlaces g w = ArePlacesOf g w.places × (StandsIn g w.saved × All (StandsIn g) w.kept)

@@ -4,4 +4,4 @@ pub mod Opening
 pub mod Standing
 pub mod Done
 pub mod Listing
-pub mod Families
+pub mod Meant

@@ -1,98 +1,74 @@
-// What the conditions test, and what the actions do.
+// What the actions do.
 
-ghost use Rattle.std.specs.Prelude.{◌≡◌, ◌+◌, ◌-◌, ◌<◌, ◌≤◌, ◌^◌, ℕ, List, true, false};
-ghost use Rattle.std.specs.Option.{option_map_or};
+ghost use Rattle.std.specs.Prelude.{◌≡◌, ◌+◌, ◌-◌, ◌<◌, ◌≤◌, ◌^◌, ℕ, List, true, false, if◌then◌else◌};
 ghost use Rattle.paw_game.specs.inner.Valid.{is_right};
 ghost use Rattle.paw_effects.specs.Worlds.{IsOf};
-ghost use Rattle.paw_effects.specs.Holds.{is_condition, holds, moves, truth_of};
+ghost use Rattle.paw_effects.specs.Holds.{is_condition};
+ghost use Rattle.paw_effects.specs.Done.{plainly, tells};
 ghost use Rattle.paw_effects.specs.Effects.{effect_of, Does};
+ghost use Rattle.paw_effects.specs.Meanings.{answered_by};
 ghost use Rattle.paw_effects.specs.Story.{story_of};
+ghost use Rattle.paw_effects.specs.Texts.{put_text};
+ghost use Rattle.paw_effects.specs.Chance.{rolled};
+ghost use Rattle.paw_effects.specs.declared.act.Effect.TheVariants as effect;
 ghost use Rattle.paw_game.specs.Game.{GameLists};
 ghost use Rattle.paw_routines.specs.Routines.{AreRowsOf, HaveRows};
-ghost use Rattle.paw_routines.specs.Rows.{value_at};
-ghost use Rattle.paw_world.specs.World.{flag, with_flag};
+ghost use Rattle.paw_world.specs.World.{with_flag, drawn_on};
 
-use crate::act::{Act, Effect, Truth, after, dropping, on};
-use crate::auto_actions::act_on_object;
+use crate::act::{Act, Effect, Prompt, after, dropping, on};
+use crate::auto_actions::{act_by_name, refer_by_name};
 use crate::chance::roll;
-use crate::flag_actions::change;
-use crate::flag_tests::flag_holds;
-use crate::flow_actions::flow;
-use crate::move_actions::{move_objects, reset};
-use crate::place_tests::place_holds;
-use crate::positions::keep_or_load;
+pub use crate::conditions::{is_condition, test};
+use crate::counts::{tell_score, tell_turns};
+use crate::lists::{print_here, print_inventory, print_place};
+use crate::marks::print_mark;
+use crate::move_actions::{drop_all, move_if_place, move_referred, reset, swap};
+use crate::object_actions::{Action, act_on};
+use crate::positions::{load, save};
+use crate::presence::{here, named_place};
 pub use crate::referring::refer;
-use crate::text::print_nothing;
-use crate::text_actions::print;
-use paw_base::flags::VERB_FLAG;
+use crate::text::{message, print_nothing, print_number, put, say};
+use paw_base::codes;
+use paw_base::flags::{
+    LOCATION_FLAG, MOST_CARRIED_FLAG, MOST_WEIGHT_FLAG, PROMPT_FLAG, TIMED_OUT_FLAG, TIMEOUT_FLAG,
+};
+use paw_base::messages::{AGAIN_MESSAGE, KEY_MESSAGE, OK_MESSAGE};
 use paw_base::parts::Condact;
 use paw_base::piece::Piece;
-use paw_base::rows::{Family, family_of};
+use paw_base::places::NOT_CREATED_PLACE;
 use paw_game::tables::Tables;
 use paw_routines::routines::Routines;
 use paw_world::world::World;
 
-// A condition's answer by whether it holds.
-fn truth(holds: bool) -> Truth
-    ensures { result ≡ truth_of holds }
+/// Puts a question, and waits for its answer.
+fn ask<T: Tables>(tables: &T, world: &World, piece: &mut Piece, question: u8, prompt: Prompt) -> Act
+    ensures does { Does (tells world.now (put_text (T.game tables.now) world.now question) (effect.Ask prompt))
+        piece.old piece.new world.now result }
 {
-    if holds { Truth::Yes } else { Truth::No }
+    after(put(tables, world, piece, question), Effect::Ask(prompt))
 }
 
-/// What a condition of this game answers in this world, which it may change.
-#[tactic(auto, using(crate::proofs::Parameters::object_stands), unfolding(crate::specs::Holds::holds))]
-pub fn test<T: Tables>(tables: &T, world: &mut World, c: Condact) -> Truth
-    requires kind { is_condition c ≡ true }
-    requires game { IsOf (T.game tables.now) world.old }
-    requires condact { is_right (T.game tables.now) c ≡ true }
+/// Gives a flag a number from 1 to 100, by the next random word.
+fn set_by_chance(world: &mut World, f: u8)
     requires draws { world.old.draws < 2 ^ 64 - 1 }
-    ensures answer { result ≡ (holds (T.game tables.now) world.old c).answer }
-    ensures world { world.new ≡ (holds (T.game tables.now) world.old c).world }
-    ensures game { IsOf (T.game tables.now) world.new }
-    ensures draws { world.new.draws ≤ world.old.draws + 1 }
+    ensures value { world.new ≡ with_flag (drawn_on world.old 1) f (rolled world.old) }
 {
-    match family_of(c.code) {
-        Family::PlaceTest => truth(place_holds(world, c)),
-        Family::FlagTest => truth(flag_holds(world, c)),
-        Family::Chance => truth(roll(world) <= c.a),
-        Family::Quit => Truth::Ask,
-        Family::Exit => truth(moves(tables, world, c.a)),
-        // Actions, which don't test.
-        Family::Flow
-        | Family::Keeping
-        | Family::Print
-        | Family::Handling
-        | Family::Placing
-        | Family::Change
-        | Family::NewText
-        | Family::Reset
-        | Family::Extern => Truth::No,
-    }
+    let x = roll(world);
+    world.set_flag(f, x);
 }
 
-/// MOVE takes the exit for the verb from the location that a flag names, to where it leads. False exactly where there
-/// is no such exit.
-fn moves<T: Tables>(tables: &T, world: &mut World, f: u8) -> bool
-    requires game { IsOf (T.game tables.now) world.old }
-    ensures answer { truth_of result ≡ (moves (T.game tables.now) world.old f).answer }
-    ensures world { world.new ≡ (moves (T.game tables.now) world.old f).world }
-    ensures game { IsOf (T.game tables.now) world.new }
-    ensures draws { world.new.draws ≡ world.old.draws }
+/// Gives two flags these values, one after the other.
+fn set_both(world: &mut World, first: (u8, u8), second: (u8, u8))
+    ensures value { world.new ≡ with_flag (with_flag world.old first.0 first.1) second.0 second.1 }
 {
-    match tables.exit(world.flag(f), world.flag(VERB_FLAG)) {
-        Some(to) => {
-            world.set_flag(f, to);
-            true
-        }
-        None => false,
-    }
+    world.set_flag(first.0, first.1);
+    world.set_flag(second.0, second.1);
 }
 
 /// EXTERN gives a flag the answer of a routine on the flag's value. Nothing changes where there is no such routine.
 fn answer_by_routine<F: Fn(u8, u8) -> u8>(world: &mut World, routines: &Routines<F>, n: u8, f: u8)
     requires rows { HaveRows F.Fn routines.now }
-    ensures value { (X : List (List ℕ)) → AreRowsOf F.Fn routines.now X →
-        world.new ≡ option_map_or (with_flag world.old f) (value_at X n (flag world.old f)) world.old }
+    ensures value { (X : List (List ℕ)) → AreRowsOf F.Fn routines.now X → world.new ≡ answered_by X world.old n f }
     ensures game { (g : GameLists) → IsOf g world.old → IsOf g world.new }
     ensures draws { world.new.draws ≡ world.old.draws }
 {
@@ -101,9 +77,23 @@ fn answer_by_routine<F: Fn(u8, u8) -> u8>(world: &mut World, routines: &Routines
     }
 }
 
+/// An action that printed its text, and goes on where it fits.
+fn printed(fits: bool) -> Act
+    ensures value { result ≡ plainly (if fits then effect.Go else effect.Spent) }
+{
+    after(fits, Effect::Go)
+}
+
+/// An action that is done, and goes on.
+fn done(_change: ()) -> Act
+    ensures value { result ≡ plainly effect.Go }
+{
+    on(Effect::Go)
+}
+
 /// Does an action of this game: changes the world, and prints into the piece. Spent exactly where the piece would pass
 /// its limit; what the piece and the world then hold is open.
-#[tactic(auto, using(crate::proofs::Parameters::object_stands), unfolding(crate::specs::Effects::effect_of))]
+#[tactic(auto, using(crate::proofs::Parameters::object_stands, crate::proofs::Parameters::second_object_stands), unfolding(crate::specs::Effects::effect_of, crate::specs::Meanings::meaning_of, crate::specs::Meanings::meanings, paw_base::specs::Condacts::line_of, paw_base::specs::Condacts::condact_lines))]
 pub fn act<T: Tables, F: Fn(u8, u8) -> u8>(
     tables: &T,
     world: &mut World,
@@ -121,32 +111,95 @@ pub fn act<T: Tables, F: Fn(u8, u8) -> u8>(
     ensures game { IsOf (T.game tables.now) world.new }
     ensures draws { world.new.draws ≤ world.old.draws + 1 }
 {
+    // Its clause says that the world is sound, which the proof wants. No call of it is left in the program.
+    let _objects = world.objects();
     print_nothing(piece);
-    match family_of(c.code) {
-        Family::Flow => flow(tables, world, piece, c),
-        Family::Keeping => keep_or_load(tables, world, piece, c),
-        Family::Print => after(print(tables, world, piece, c), Effect::Go),
-        Family::Handling => act_on_object(tables, world, piece, c),
-        Family::Placing => {
-            move_objects(world, c);
-            on(Effect::Go)
+    match c.code {
+        codes::INVEN => printed(print_inventory(tables, world, piece)),
+        codes::DESC => on(Effect::Redescribe),
+        codes::END => ask(tables, world, piece, AGAIN_MESSAGE, Prompt::Again),
+        codes::DONE => on(Effect::Exit(true)),
+        codes::NOTDONE => on(Effect::Exit(false)),
+        codes::OK => after(say(tables, world, piece, OK_MESSAGE), Effect::Exit(true)),
+        codes::ANYKEY => ask(tables, world, piece, KEY_MESSAGE, Prompt::Key),
+        codes::SAVE => {
+            save(world);
+            on(Effect::Redescribe)
         }
-        Family::Change => {
-            change(world, c);
-            on(Effect::Go)
-        }
-        Family::NewText => dropping(Effect::Go),
-        Family::Reset => {
+        codes::LOAD => load(tables, world, piece),
+        codes::RAMSAVE => done(world.ramsave()),
+        codes::RAMLOAD => done(world.ramload(c.a)),
+        codes::TURNS => printed(tell_turns(tables, world, piece)),
+        codes::SCORE => printed(tell_score(tables, world, piece)),
+        codes::DROPALL => done(drop_all(world)),
+        codes::AUTOG => act_by_name(tables, world, piece, Action::Get),
+        codes::AUTOD => act_by_name(tables, world, piece, Action::Drop),
+        codes::AUTOW => act_by_name(tables, world, piece, Action::Wear),
+        codes::AUTOR => act_by_name(tables, world, piece, Action::Remove),
+        codes::AUTOP => act_by_name(tables, world, piece, Action::PutIn(c.a)),
+        codes::AUTOT => act_by_name(tables, world, piece, Action::TakeOut(c.a)),
+        codes::GOTO => done(world.set_flag(LOCATION_FLAG, c.a)),
+        codes::MES => printed(message(tables, world, piece, c.a)),
+        codes::MESSAGE => printed(message(tables, world, piece, c.a) && piece.push(b"\n")),
+        codes::SYSMESS => printed(put(tables, world, piece, c.a)),
+        codes::NEWLINE => printed(piece.push(b"\n")),
+        codes::PRINT => printed(print_number(piece, u16::from(world.flag(c.a)))),
+        codes::GET => act_on(tables, world, piece, c.a, Action::Get),
+        codes::DROP => act_on(tables, world, piece, c.a, Action::Drop),
+        codes::WEAR => act_on(tables, world, piece, c.a, Action::Wear),
+        codes::REMOVE => act_on(tables, world, piece, c.a, Action::Remove),
+        codes::PUTIN => act_on(tables, world, piece, c.a, Action::PutIn(c.b)),
+        codes::TAKEOUT => act_on(tables, world, piece, c.a, Action::TakeOut(c.b)),
+        codes::CREATE => done(world.move_to(c.a, here(world))),
+        codes::DESTROY => done(world.move_to(c.a, NOT_CREATED_PLACE)),
+        codes::SWAP => done(swap(world, c.a, c.b)),
+        codes::PLACE => done(world.move_to(c.a, named_place(world, c.b))),
+        codes::PUTO => done(move_referred(world, named_place(world, c.a))),
+        codes::SET => done(world.set_flag(c.a, 255)),
+        codes::CLEAR => done(world.set_flag(c.a, 0)),
+        codes::PLUS => done(world.set_flag(c.a, world.flag(c.a).saturating_add(c.b))),
+        codes::MINUS => done(world.set_flag(c.a, world.flag(c.a).saturating_sub(c.b))),
+        codes::LET => done(world.set_flag(c.a, c.b)),
+        codes::ADD => done(world.set_flag(c.b, world.flag(c.b).saturating_add(world.flag(c.a)))),
+        codes::SUB => done(world.set_flag(c.b, world.flag(c.b).saturating_sub(world.flag(c.a)))),
+        codes::RANDOM => done(set_by_chance(world, c.a)),
+        codes::COPYOO => done(world.move_to(c.b, world.place(c.a))),
+        codes::COPYOF => done(world.set_flag(c.b, world.place(c.a))),
+        codes::COPYFO => done(move_if_place(world, c.b, world.flag(c.a))),
+        codes::COPYFF => done(world.set_flag(c.b, world.flag(c.a))),
+        codes::LISTOBJ => printed(print_here(tables, world, piece)),
+        codes::LISTAT => printed(print_place(tables, world, piece, named_place(world, c.a))),
+        codes::WHATO => done(refer_by_name(tables, world)),
+        codes::WEIGH => done(world.set_flag(c.b, world.weight(c.a))),
+        codes::WEIGHT => done(world.set_flag(c.a, world.carried_weight())),
+        codes::ABILITY => done(set_both(world, (MOST_CARRIED_FLAG, c.a), (MOST_WEIGHT_FLAG, c.b))),
+        codes::PARSE => on(Effect::Parse),
+        codes::PROCESS => on(Effect::Call(c.a)),
+        codes::DOALL => on(Effect::Loop(named_place(world, c.a))),
+        codes::PROMPT => done(world.set_flag(PROMPT_FLAG, c.a)),
+        codes::TIME => done(set_both(world, (TIMEOUT_FLAG, c.a), (TIMED_OUT_FLAG, c.b))),
+        codes::NEWTEXT => dropping(Effect::Go),
+        codes::RESET => {
             reset(world, c.a);
             on(Effect::Redescribe)
         }
-        Family::Extern => {
-            answer_by_routine(world, routines, c.a, c.b);
-            on(Effect::Go)
-        }
-        // Conditions, which don't act.
-        Family::PlaceTest | Family::FlagTest | Family::Chance | Family::Quit | Family::Exit => on(
-            Effect::Go,
-        ),
+        codes::EXTERN => done(answer_by_routine(world, routines, c.a, c.b)),
+        codes::PICTURE => printed(print_mark(piece, c)),
+        codes::GRAPHIC => printed(print_mark(piece, c)),
+        codes::BEEP => printed(print_mark(piece, c)),
+        codes::CLS => printed(print_mark(piece, c)),
+        codes::PAPER => printed(print_mark(piece, c)),
+        codes::INK => printed(print_mark(piece, c)),
+        codes::BORDER => printed(print_mark(piece, c)),
+        codes::CHARSET => printed(print_mark(piece, c)),
+        codes::PROTECT => printed(print_mark(piece, c)),
+        codes::SAVEAT => printed(print_mark(piece, c)),
+        codes::BACKAT => printed(print_mark(piece, c)),
+        codes::PRINTAT => printed(print_mark(piece, c)),
+        codes::PAUSE => printed(print_mark(piece, c)),
+        codes::MODE => printed(print_mark(piece, c)),
+        codes::LINE => printed(print_mark(piece, c)),
+        codes::INPUT => printed(print_mark(piece, c)),
+        _ => unreachable!(),
     }
 }

@@ -1,8 +1,13 @@
 // What holds of all condacts.
 
-ghost use Rattle.paw_effects.specs.inner.Families.{EachActsByFamily};
+ghost use Rattle.paw_effects.specs.inner.Meant.{EachActsAsItsRowSays, EachCodeHasAMeaning};
 
-/// A condact acts exactly where its family does, so none is done by a family that does nothing for it.
-pub fn each_acts_by_family()
-    ensures law { EachActsByFamily }
+/// The table of condacts says of a code that it acts exactly where it means an action.
+pub fn each_acts_as_its_row_says()
+    ensures law { EachActsAsItsRowSays }
+{}
+
+/// Each code has a meaning of its own, and each meaning has a code.
+pub fn each_code_has_a_meaning()
+    ensures law { EachCodeHasAMeaning }
 {}

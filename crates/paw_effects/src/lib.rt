@@ -4,11 +4,9 @@
 pub mod act;
 mod auto_actions;
 mod chance;
+mod conditions;
 pub mod counts;
 pub mod does;
-mod flag_actions;
-mod flag_tests;
-mod flow_actions;
 mod hindrances;
 pub mod laws;
 mod lists;
@@ -18,11 +16,9 @@ mod object_actions;
 mod object_search;
 mod object_words;
 pub mod opening;
-mod place_tests;
 mod positions;
 pub mod presence;
 mod referring;
 #[cfg(test)]
 mod tests;
 pub mod text;
-mod text_actions;

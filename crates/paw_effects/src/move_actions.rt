@@ -1,21 +1,18 @@
-// The actions that move objects, and the one that tells a place.
+// What the actions do that move objects.
 
-ghost use Rattle.std.specs.Prelude.{◌≡◌, ◌<◌, length, IsTrue};
+ghost use Rattle.std.specs.Prelude.{◌≡◌, ◌<◌, length};
 ghost use Rattle.paw_game.specs.Game.{GameLists};
 ghost use Rattle.paw_effects.specs.Worlds.{IsOf};
-ghost use Rattle.paw_effects.specs.inner.Parameters.{takes_object, takes_second_object};
-ghost use Rattle.paw_effects.specs.MoveActions.{all_dropped, move_of, referred_moved, moved_if_place, names_place};
+ghost use Rattle.paw_effects.specs.MoveActions.{all_dropped, referred_moved, moved_if_place, names_place};
 ghost use Rattle.paw_effects.specs.MoveActions.{reset, swapped};
 
 use crate::presence::{here, is_held, named_place};
-use paw_base::codes::{COPYFO, COPYOF, COPYOO, CREATE, DESTROY, PLACE, PUTO, SWAP};
 use paw_base::flags::{LOCATION_FLAG, REFERRED_FLAG};
-use paw_base::parts::Condact;
 use paw_base::places::NOT_CREATED_PLACE;
 use paw_world::world::World;
 
 /// Moves all that is worn or carried to the current location.
-fn drop_all(world: &mut World)
+pub(crate) fn drop_all(world: &mut World)
     ensures value { world.new ≡ all_dropped world.old }
 {
     let to = here(world);
@@ -27,7 +24,7 @@ fn drop_all(world: &mut World)
 }
 
 /// Moves each of two objects to where the other stands.
-fn swap(world: &mut World, o: u8, k: u8)
+pub(crate) fn swap(world: &mut World, o: u8, k: u8)
     requires first { o < length world.old.places }
     requires second { k < length world.old.places }
     ensures value { world.new ≡ swapped world.old o k }
@@ -39,7 +36,7 @@ fn swap(world: &mut World, o: u8, k: u8)
 }
 
 /// Moves the object last referred to, where there is such an object.
-fn move_referred(world: &mut World, p: u8)
+pub(crate) fn move_referred(world: &mut World, p: u8)
     ensures value { world.new ≡ referred_moved world.old p }
 {
     let o = world.flag(REFERRED_FLAG);
@@ -56,34 +53,12 @@ fn names_place(world: &World, p: u8) -> bool
 }
 
 /// Moves an object to the place that a number names, where it names one.
-fn move_if_place(world: &mut World, o: u8, p: u8)
+pub(crate) fn move_if_place(world: &mut World, o: u8, p: u8)
     requires object { o < length world.old.places }
     ensures value { world.new ≡ moved_if_place world.old o p }
 {
     if names_place(world, p) {
         world.move_to(o, named_place(world, p));
-    }
-}
-
-/// Does an action that moves objects, or the one that tells a place.
-#[tactic(auto, unfolding(crate::specs::MoveActions::move_of))]
-pub(crate) fn move_objects(world: &mut World, c: Condact)
-    requires object { IsTrue (takes_object c.code) → c.a < length world.old.places }
-    requires second_object { IsTrue (takes_second_object c.code) → c.b < length world.old.places }
-    ensures value { world.new ≡ move_of world.old c }
-    ensures game { (g : GameLists) → IsOf g world.old → IsOf g world.new }
-    ensures draws { world.new.draws ≡ world.old.draws }
-{
-    match c.code {
-        CREATE => world.move_to(c.a, here(world)),
-        DESTROY => world.move_to(c.a, NOT_CREATED_PLACE),
-        SWAP => swap(world, c.a, c.b),
-        PLACE => world.move_to(c.a, named_place(world, c.b)),
-        PUTO => move_referred(world, named_place(world, c.a)),
-        COPYOO => world.move_to(c.b, world.place(c.a)),
-        COPYOF => world.set_flag(c.b, world.place(c.a)),
-        COPYFO => move_if_place(world, c.b, world.flag(c.a)),
-        _ => drop_all(world), // DROPALL
     }
 }
 

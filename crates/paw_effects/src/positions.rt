@@ -5,16 +5,14 @@ ghost use Rattle.paw_base.specs.declared.limits.TheConstants.{POSITION_COUNT};
 ghost use Rattle.paw_game.specs.Game.{GameLists};
 ghost use Rattle.paw_effects.specs.Worlds.{IsOf};
 ghost use Rattle.paw_effects.specs.inner.Done.{Does};
-ghost use Rattle.paw_effects.specs.Positions.{keeping_of, loaded, position_number};
-ghost use Rattle.paw_world.specs.World.{kept_position};
+ghost use Rattle.paw_effects.specs.Positions.{loaded, position_number};
+ghost use Rattle.paw_world.specs.World.{keeping, kept_position};
 
 use crate::act::{Act, Effect, after, on};
 use crate::text::{print_nothing, say};
-use paw_base::codes::SAVE;
 use paw_base::flags::POSITION_FLAG;
 use paw_base::limits::POSITION_COUNT;
 use paw_base::messages::IMPOSSIBLE_MESSAGE;
-use paw_base::parts::Condact;
 use paw_base::piece::Piece;
 use paw_game::tables::Tables;
 use paw_world::world::World;
@@ -31,7 +29,7 @@ fn position_number(world: &World) -> u8
 }
 
 /// Takes a position back, or says that this can't be done where it wasn't kept.
-fn load<T: Tables>(tables: &T, world: &mut World, piece: &mut Piece, n: u8) -> Act
+fn load_position<T: Tables>(tables: &T, world: &mut World, piece: &mut Piece, n: u8) -> Act
     requires known { n < POSITION_COUNT }
     ensures does { Does (loaded (T.game tables.now) world.old (kept_position world.old n))
         piece.old piece.new world.new result }
@@ -51,23 +49,23 @@ fn load<T: Tables>(tables: &T, world: &mut World, piece: &mut Piece, n: u8) -> A
     }
 }
 
-/// Does SAVE or LOAD.
-#[tactic(auto, unfolding(crate::specs::Positions::keeping_of))]
-pub(crate) fn keep_or_load<T: Tables>(
-    tables: &T,
-    world: &mut World,
-    piece: &mut Piece,
-    c: Condact,
-) -> Act
-    ensures does { Does (keeping_of (T.game tables.now) world.old c) piece.old piece.new world.new result }
+/// Keeps flags and places as the position that is meant.
+pub(crate) fn save(world: &mut World)
+    ensures value { world.new ≡ keeping world.old (position_number world.old) }
     ensures game { (g : GameLists) → IsOf g world.old → IsOf g world.new }
     ensures draws { world.new.draws ≡ world.old.draws }
 {
     let n = position_number(world);
-    if c.code == SAVE {
-        print_nothing(piece);
-        world.keep(n);
-        return on(Effect::Redescribe);
-    }
-    load(tables, world, piece, n) // LOAD
+    world.keep(n);
+}
+
+/// Takes the position back that is meant, or says that this can't be done where it wasn't kept.
+pub(crate) fn load<T: Tables>(tables: &T, world: &mut World, piece: &mut Piece) -> Act
+    ensures does { Does (loaded (T.game tables.now) world.old (kept_position world.old (position_number world.old)))
+        piece.old piece.new world.new result }
+    ensures game { (g : GameLists) → IsOf g world.old → IsOf g world.new }
+    ensures draws { world.new.draws ≡ world.old.draws }
+{
+    let n = position_number(world);
+    load_position(tables, world, piece, n)
 }

@@ -32,13 +32,12 @@ use crate::machine::{MOST_FRAMES, Machine};
 use crate::objects::{next_taken, take};
 use crate::phrase::take_phrase;
 use crate::situation::Situation;
-use paw_base::codes::MOVE;
 use paw_base::fault::SpentKind;
 use paw_base::flags::{NOUN_FLAG, VERB_FLAG};
 use paw_base::messages::QUIT_MESSAGE;
 use paw_base::parts::Condact;
 use paw_effects::act::{Act, Effect, Prompt, Truth};
-use paw_effects::does::{act, test};
+use paw_effects::does::{act, is_condition, test};
 use paw_effects::text::put;
 use paw_game::tables::Tables;
 use paw_phrase::Pending;
@@ -377,7 +376,7 @@ impl<T: Tables, F: Fn(u8, u8) -> u8> Rulebook<'_, T, F> {
         if !machine.may_read() {
             return machine.stop(Turned::Spent(SpentKind::Condacts));
         }
-        if c.code <= MOVE {
+        if is_condition(c) {
             self.test(machine, situation, f, c)
         } else {
             self.act(machine, situation, f, c)

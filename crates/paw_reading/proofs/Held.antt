@@ -4,6 +4,7 @@ use Rattle.std.proofs.Common.{sym, ap, ◌∙◌, subst, length, drop, slice_get
 use Rattle.std.specs.Prelude.{if◌then◌else◌, nat_lt, IfSome}
 use Rattle.std.proofs.lemmas.Bool.Decides.{nat_tests}
 use Rattle.std.proofs.lemmas.Option.{same_Some}
+use Rattle.paw_base.specs.declared.codes.TheConstants.{PROCESS, DOALL}
 use Rattle.paw_base.specs.declared.parts.Condact.{Condact}
 use Rattle.paw_base.specs.declared.parts.ObjectFacts.{ObjectFacts}
 use Rattle.paw_base.specs.declared.fault.SpentKind.TheVariants as spent
@@ -23,8 +24,9 @@ use Rattle.paw_effects.specs.declared.act.Effect.{Effect}
 use Rattle.paw_effects.specs.declared.act.Effect.TheVariants as effect
 use Rattle.paw_effects.specs.Holds.{is_condition, holds}
 use Rattle.paw_effects.specs.Effects.{Done, effect_of}
-use Rattle.paw_effects.proofs.Asking.{AsksAt, Leads, effect_leads, condition_asks}
-use Rattle.paw_effects.proofs.Placed.{IsPlaced, doall_place, effect_placed, condition_placed, referred_placed, restarted_placed}
+use Rattle.paw_effects.proofs.Asking.{AsksAt, Leads}
+use Rattle.paw_effects.proofs.EachRow.{effect_leads, condition_asks, effect_placed, condition_placed}
+use Rattle.paw_effects.proofs.Placed.{IsPlaced, doall_place, referred_placed, restarted_placed}
 use Rattle.paw_reading.specs.declared.places.Frame.{Frame}
 use Rattle.paw_reading.specs.declared.places.OpenLoop.{OpenLoop}
 use Rattle.paw_reading.specs.Run.{Run, closed, fits, printed, with_world, anew, is_ignored, heard, reply, is_yes, is_no, taken_phrase}
@@ -130,8 +132,8 @@ abbrev LeadsIn : GameLists → Condact → Effect → Type 0
 LeadsIn g c effect.Go = Unit {0}
 LeadsIn g c (effect.Exit a) = Unit {0}
 LeadsIn g c effect.Redescribe = Unit {0}
-LeadsIn g c (effect.Call u) = (c.code ≡ 85) × (u ≡ c.a)
-LeadsIn g c (effect.Loop p) = (c.code ≡ 86) × IsTrue (is_place (length g.locations) p)
+LeadsIn g c (effect.Call u) = (c.code ≡ PROCESS) × (u ≡ c.a)
+LeadsIn g c (effect.Loop p) = (c.code ≡ DOALL) × IsTrue (is_place (length g.locations) p)
 LeadsIn g c (effect.Ask p) = AsksAt c.code p
 LeadsIn g c effect.Parse = Unit {0}
 LeadsIn g c effect.Spent = Unit {0}
@@ -190,7 +192,7 @@ module _ (g : Story) (v : Valid g.game) (ts : List ℕ) (lv : ℕ) (deep : lengt
   -- ---- calls, prompts, phrases ----
 
   -- the frame of a call before a path
-  call_leads : (f : Frame) (c : Condact) (t code : ℕ) (path : List Frame) → condact_at g.game f.table f.entry f.at ≡ Some c → c.code ≡ 85 → t ≡ c.a
+  call_leads : (f : Frame) (c : Condact) (t code : ℕ) (path : List Frame) → condact_at g.game f.table f.entry f.at ≡ Some c → c.code ≡ PROCESS → t ≡ c.a
       → first_table path ≡ t → LeadsTo g.game code path → LeadsTo g.game code (f ∷ path)
   call_leads f c t code [] at is called first leads = absurd leads
   call_leads f c t code (h ∷ path) at is called first leads =
@@ -202,7 +204,7 @@ module _ (g : Story) (v : Valid g.game) (ts : List ℕ) (lv : ℕ) (deep : lengt
       subst (λ s. Sound g.game s w o) (append_assoc ts (u ∷ []) (tables_of path) ∙ ap (λ t. ts ++ (t ∷ tables_of path)) (sym own)) k
 
   after_call_held : (left : List ℕ) (f : Frame) (go : Bool → Run → Out) (c : Condact) (t : ℕ) → f.table ≡ u →
-      condact_at g.game f.table f.entry f.at ≡ Some c → c.code ≡ 85 → t ≡ c.a
+      condact_at g.game f.table f.entry f.at ≡ Some c → c.code ≡ PROCESS → t ≡ c.a
       → GoesHeld left go → (x : Out) → Held g.game (ts ++ u ∷ []) (ts ++ u ∷ []) t x → Held g.game left ts u (after_call f go x)
   after_call_held left f go c t own at is called h (Left b r) k = h (f.acted || b) r k
   after_call_held left f go c t own at is called h (Waits p path r) k = record {
@@ -217,14 +219,12 @@ module _ (g : Story) (v : Valid g.game) (ts : List ℕ) (lv : ℕ) (deep : lengt
 
   answered_held : (p : Prompt) (f : Frame) (go : Bool → Run → Out) → GoesHeld (ts ++ u ∷ []) go → (line : List ℕ) (r : Run) → IsSound r
       → Inside (answered g p f go line r)
-  answered_held prompt.Main f go h line r k = h f.acted r k
   answered_held prompt.Quit f go h line r k = either Inside (is_yes line) _ (Left true r) (h f.acted r k) k
   answered_held prompt.Again f go h line r k =
       either Inside (is_no line) (over g r) (Stopped Restarts (anew r))
       (prints Inside (goodbye g r) game_over r (refl, (refl, k.of)) tt)
       (record { of = restarted_placed g.game r.world v k.of; loop = tt })
-  answered_held prompt.Key f go h line r k = h true r k
-  answered_held prompt.Over f go h line r k = h f.acted r k
+  answered_held _ f go h line r k = h true r k
 
   asked_held : (p : Prompt) (f : Frame) (code : ℕ) (go : Bool → Run → Out) → AsksAt code p → f.table ≡ u → IsAt g.game code f.table f.entry f.at →
       GoesHeld (ts ++ u ∷ []) go

@@ -17,7 +17,8 @@ use Rattle.paw_effects.specs.declared.act.Effect.{Effect}
 use Rattle.paw_effects.specs.declared.act.Effect.TheVariants as effect
 use Rattle.paw_effects.specs.Holds.{is_condition, holds}
 use Rattle.paw_effects.specs.Effects.{Done, effect_of}
-use Rattle.paw_effects.proofs.Saving.{AreKept, effect_kept, condition_kept, referred_kept}
+use Rattle.paw_effects.proofs.Saving.{AreKept, referred_kept}
+use Rattle.paw_effects.proofs.EachRow.{effect_kept, condition_kept}
 use Rattle.paw_reading.specs.declared.places.Frame.{Frame}
 use Rattle.paw_reading.specs.declared.places.OpenLoop.{OpenLoop}
 use Rattle.paw_reading.specs.Run.{Run, closed, fits, printed, with_world, line_dropped, anew, is_timeout, is_ignored, heard, reply, is_yes, is_no, taken_phrase}
@@ -88,12 +89,10 @@ module _ (g : Story) (never : NeverSaves g.game) (ks : List (Option Position)) w
   -- ---- prompts and phrases ----
 
   answered_keeps : (p : Prompt) (f : Frame) (go : Bool → Run → Out) → GoesKeeping go → (line : List ℕ) (r : Run) → Is r → Keeps (answered g p f go line r)
-  answered_keeps prompt.Main f go h line r k = h f.acted r k
   answered_keeps prompt.Quit f go h line r k = either Keeps (is_yes line) _ (Left true r) (h f.acted r k) k
   answered_keeps prompt.Again f go h line r k =
       either Keeps (is_no line) (over g r) (Stopped Restarts (anew r)) (prints Keeps (goodbye g r) game_over r k k) k
-  answered_keeps prompt.Key f go h line r k = h true r k
-  answered_keeps prompt.Over f go h line r k = h f.acted r k
+  answered_keeps _ f go h line r k = h true r k
 
   asked_keeps : (p : Prompt) (f : Frame) (go : Bool → Run → Out) → GoesKeeping go → (r : Run) (lines : List (List ℕ)) → Is r → Keeps (asked g p f go r lines)
   unfolding asked

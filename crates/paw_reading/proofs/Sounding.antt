@@ -46,7 +46,8 @@ use Rattle.paw_reading.proofs.EachCondact.{by_test}
 use Rattle.paw_reading.proofs.Keeps.{either, open_or_not}
 use Rattle.paw_reading.specs.Bounds.{IsLine, ValidStory}
 use Rattle.paw_effects.proofs.Worlds.{IsWorldAt, few_locations, few_objects, facts_small, later, flag_small, flagged, start_so, anew_so}
-use Rattle.paw_effects.proofs.Changes.{effect_so, condition_so, referred_so}
+use Rattle.paw_effects.proofs.Changes.{referred_so}
+use Rattle.paw_effects.proofs.EachRow.{effect_so, condition_so}
 
 -- each of these is a line
 abbrev pub AreLines : List (List ℕ) → Type 0
@@ -278,12 +279,10 @@ module _ (g : Story) (valid : ValidStory g) (seed base : ℕ) where
       (λ s j. closed_rests (without_loop (line_dropped s)) (no_loop (line_dropped s) (dropped s j) None)) r k
 
   answered_sounds : (p : Prompt) (f : Frame) (go : Bool → Run → Out) → GoesSound go → (line : List ℕ) (r : Run) → Is r → Sounds (answered g p f go line r)
-  answered_sounds prompt.Main f go h line r k = h f.acted r k
   answered_sounds prompt.Quit f go h line r k = either Sounds (is_yes line) _ (Left true r) (h f.acted r k) k
   answered_sounds prompt.Again f go h line r k =
       either Sounds (is_no line) (over g r) (Stopped Restarts (anew r)) (over_sounds r k) (anew_run r k)
-  answered_sounds prompt.Key f go h line r k = h true r k
-  answered_sounds prompt.Over f go h line r k = h f.acted r k
+  answered_sounds _ f go h line r k = h true r k
 
   asked_sounds : (p : Prompt) (f : Frame) (go : Bool → Run → Out) → GoesSound go → (r : Run) (lines : List (List ℕ)) → Rests r → AreLines lines →
       Sounds (asked g p f go r lines)

@@ -14,7 +14,8 @@ use Rattle.paw_effects.specs.declared.act.Effect.TheVariants as effect
 use Rattle.paw_effects.specs.Holds.{is_condition, holds}
 use Rattle.paw_effects.specs.Effects.{Done, effect_of}
 pub use Rattle.paw_effects.proofs.Asking.{IsInner}
-use Rattle.paw_effects.proofs.Asking.{AsksInner, effect_asks}
+use Rattle.paw_effects.proofs.Asking.{AsksInner}
+use Rattle.paw_effects.proofs.EachRow.{effect_asks}
 use Rattle.paw_reading.specs.declared.places.Frame.{Frame}
 use Rattle.paw_reading.specs.declared.places.OpenLoop.{OpenLoop}
 use Rattle.paw_reading.specs.Run.{Run, closed, fits, printed, with_world, anew, is_ignored, heard, reply, is_yes, is_no, taken_phrase}
@@ -80,13 +81,11 @@ module _ (t : ℕ) where
 
   answered_stays : (g : Story) (p : Prompt) (lv : ℕ) (f : Frame) (go : Bool → Run → Out) → GoesStaying lv go → (line : List ℕ) (r : Run) → IsLoopOf t r.turning
       → Stays t lv (answered g p f go line r)
-  answered_stays g prompt.Main lv f go h line r k = h f.acted r k
   answered_stays g prompt.Quit lv f go h line r k = either (Stays t lv) (is_yes line) _ (Left true r) (h f.acted r k) k
   answered_stays g prompt.Again lv f go h line r k =
       either (Stays t lv) (is_no line) (over g r) (Stopped Restarts (anew r))
       (prints (Stays t lv) (goodbye g r) game_over r tt tt) tt
-  answered_stays g prompt.Key lv f go h line r k = h true r k
-  answered_stays g prompt.Over lv f go h line r k = h f.acted r k
+  answered_stays g _ lv f go h line r k = h true r k
 
   asked_stays : (g : Story) (p : Prompt) (lv : ℕ) (f : Frame) (go : Bool → Run → Out) → IsInner p → IsOwn lv f.table → GoesStaying lv go
       → (r : Run) (lines : List (List ℕ)) → IsLoopOf t r.turning → Stays t lv (asked g p f go r lines)

@@ -5,7 +5,7 @@ use Rattle.paw_game.specs.Game.{GameLists}
 use Rattle.paw_world.specs.World.{World, Position, IsWorld}
 use Rattle.paw_phrase.specs.Pending.{PendingLine}
 use Rattle.paw_effects.specs.declared.act.Prompt.{Prompt}
-use Rattle.paw_effects.specs.Worlds.{IsOf, StandAtPlaces}
+use Rattle.paw_effects.specs.Worlds.{IsOf, ArePlacesOf, StandsIn}
 pub use Rattle.paw_effects.specs.Standing.{AreBytes}
 use Rattle.paw_process.specs.declared.machine.TheConstants.{MOST_FRAMES}
 use Rattle.paw_process.specs.Kept.{kept, waiting_code, frames_fault}
@@ -28,7 +28,7 @@ pub record State : Type 0 where
 pub record Keeps (g : GameLists) (s : State) : Type 0 where
   pub world : IsOf g s.world
   pub sound : IsWorld s.world
-  pub places : StandAtPlaces g s.world
+  pub places : ArePlacesOf g s.world.places × (StandsIn g s.world.saved × All (StandsIn g) s.world.kept)
   pub events : s.events ≤ EVENT_LIMIT
   pub draws : s.world.draws ≤ READ_LIMIT * (s.events + 1)
   pub rows : length s.frames.rows ≡ MOST_FRAMES

@@ -1,23 +1,18 @@
 -- What the parameters of the condacts name.
-use Rattle.std.specs.Prelude.{ℕ, ◌==◌, ◌||◌, Bool}
-use Rattle.paw_base.specs.declared.codes.TheConstants.{PRESENT, NOTCARR, ISAT, ISNOTAT, GET, SWAP, PLACE, COPYOO}
-use Rattle.paw_base.specs.declared.codes.TheConstants.{COPYOF, COPYFO, WEIGH, AUTOG, AUTOT, TAKEOUT}
-use Rattle.paw_game.specs.Valid.{is_within}
+use Rattle.std.specs.Prelude.{ℕ, Bool, true, false}
+use Rattle.paw_base.specs.Condacts.{first_kind, second_kind}
+use Rattle.paw_base.specs.declared.rows.ParamKind.{ParamKind}
+use Rattle.paw_base.specs.declared.rows.ParamKind.TheVariants as kind
+
+-- whether a parameter of this kind is an object
+abbrev pub names_object : ParamKind → Bool
+names_object kind.Object = true
+names_object _ = false
 
 -- the codes whose first parameter is an object
 abbrev pub takes_object : ℕ → Bool
-takes_object code =
-    is_within PRESENT NOTCARR code || is_within ISAT ISNOTAT code || is_within GET PLACE code
-    || is_within COPYOO COPYOF code || (code == WEIGH)
+takes_object code = names_object (first_kind code)
 
 -- the codes whose second parameter is an object
 abbrev pub takes_second_object : ℕ → Bool
-takes_second_object code = (code == SWAP) || (code == COPYOO) || (code == COPYFO)
-
--- the codes of actions on the object that is their parameter
-abbrev pub acts_on_given : ℕ → Bool
-acts_on_given code = is_within GET TAKEOUT code
-
--- the codes of actions that find their object
-abbrev pub acts_by_name : ℕ → Bool
-acts_by_name code = is_within AUTOG AUTOT code
+takes_second_object code = names_object (second_kind code)

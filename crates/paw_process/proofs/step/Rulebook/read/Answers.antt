@@ -12,18 +12,18 @@ returns-then-not-may_read-clause-meaning g c X rows =
     (having c.args.situation.now c.args.machine.now) c.stop.result (having c.args.situation.now c.stop.new.self) c.requires.found
     (grind (arith, nat_tests)) (moved_none _ _ _ _ _ c.stop.ensures.closed) c.stop.ensures.value
 
-pub returns-then-c-le-MOVE-clause-meaning : goal.returns-then-c-le-MOVE-clause-meaning
-returns-then-c-le-MOVE-clause-meaning g c X rows =
+pub returns-then-is_condition-clause-meaning : goal.returns-then-is_condition-clause-meaning
+returns-then-is_condition-clause-meaning g c X rows =
     reads_one (story_of (g.T.Tables.game c.args.self.now.tables.now) X) c.args.f c.args.c (having c.args.situation.now c.args.machine.now) c.test.result
     (having c.test.new.situation c.test.new.machine) c.requires.found (grind (arith, nat_tests)) (c.test.ensures.meaning X)
 
-pub returns-else-c-le-MOVE-clause-meaning : goal.returns-else-c-le-MOVE-clause-meaning
-returns-else-c-le-MOVE-clause-meaning g c X rows =
+pub returns-else-is_condition-clause-meaning : goal.returns-else-is_condition-clause-meaning
+returns-else-is_condition-clause-meaning g c X rows =
     reads_one (story_of (g.T.Tables.game c.args.self.now.tables.now) X) c.args.f c.args.c (having c.args.situation.now c.args.machine.now) c.act.result
     (having c.act.new.situation c.act.new.machine) c.requires.found (grind (arith, nat_tests)) (c.act.ensures.meaning X rows)
 
-pub returns-then-c-le-MOVE-clause-counts : goal.returns-then-c-le-MOVE-clause-counts
-returns-then-c-le-MOVE-clause-counts g c none = (c.test.ensures.meaning []).1.left
+pub returns-then-is_condition-clause-counts : goal.returns-then-is_condition-clause-counts
+returns-then-is_condition-clause-counts g c none = (c.test.ensures.meaning []).1.left
 
-pub returns-else-c-le-MOVE-clause-counts : goal.returns-else-c-le-MOVE-clause-counts
-returns-else-c-le-MOVE-clause-counts g c none = let (X, rows) = c.requires.may.rows in (c.act.ensures.meaning X rows).1.left
+pub returns-else-is_condition-clause-counts : goal.returns-else-is_condition-clause-counts
+returns-else-is_condition-clause-counts g c none = let (X, rows) = c.requires.may.rows in (c.act.ensures.meaning X rows).1.left
