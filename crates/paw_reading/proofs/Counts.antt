@@ -79,12 +79,10 @@ over_counts g v r k =
     prints (Counts v) (goodbye g r) game_over r (omega (arith, closed_counts last, k)) k
 
 answered_counts : (g : Story) (p : Prompt) (f : Frame) (go : Bool → Run → Out) → AreCounting go → (line : List ℕ) → IsCounting (answered g p f go line)
-answered_counts g prompt.Main f go h line v r k = h f.acted v r k
 answered_counts g prompt.Quit f go h line v r k = either (Counts v) (is_yes line) _ (Left true r) (h f.acted v r k) k
 answered_counts g prompt.Again f go h line v r k =
     either (Counts v) (is_no line) (over g r) (Stopped Restarts (anew r)) (over_counts g v r k) k
-answered_counts g prompt.Key f go h line v r k = h true v r k
-answered_counts g prompt.Over f go h line v r k = h f.acted v r k
+answered_counts g _ f go h line v r k = h true v r k
 
 asked_counts : (g : Story) (p : Prompt) (f : Frame) (go : Bool → Run → Out) → AreCounting go → (v : ℕ) (r : Run) (lines : List (List ℕ)) →
     length r.pieces + length lines ≡ suc v → Counts v (asked g p f go r lines)

@@ -103,12 +103,10 @@ module _ (g : Story) (ps : List (List ℕ)) (ts : List (List Step)) (lines : Lis
 
     settles_answered : (p : Prompt) (f : Frame) (go : Bool → Run → Out) → ((a : Bool) → IsSettling lv (go a)) → (line : List ℕ) →
         IsSettling lv (answered g p f go line)
-    settles_answered prompt.Main f go hg line r = hg f.acted r
     settles_answered prompt.Quit f go hg line r = settles_or (is_yes line) _ _ (go f.acted r) (Left true r) (hg f.acted r) refl
     settles_answered prompt.Again f go hg line r =
         settles_or (is_no line) _ _ (over g r) (Stopped Restarts (anew r)) (settles_over r) refl
-    settles_answered prompt.Key f go hg line r = hg true r
-    settles_answered prompt.Over f go hg line r = hg f.acted r
+    settles_answered _ f go hg line r = hg true r
 
     settles_asked : (p : Prompt) (f : Frame) → ((a : Bool) → IsSettling lv (past_of lv f a)) → (r : Run) (es : List (List ℕ)) →
         loops lv (asked g p f (past_of lv f) (around ps ts lines (record r { events = es })) (es ++ lines))

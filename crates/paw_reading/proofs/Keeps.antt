@@ -112,13 +112,11 @@ after_call_keeps f go h o (Stopped stop r) k = tt
 
 answered_keeps : (g : Story) (p : Prompt) (f : Frame) (go : Bool → Run → Out) → GoesKeeping go → (line : List ℕ) (r : Run) →
     Keeps r.turning (answered g p f go line r)
-answered_keeps g prompt.Main f go h line r = h f.acted r
 answered_keeps g prompt.Quit f go h line r = either (Keeps r.turning) (is_yes line) _ (Left true r) (h f.acted r) (inl refl)
 answered_keeps g prompt.Again f go h line r =
     let ends : Keeps r.turning (over g r) = prints (Keeps r.turning) (goodbye g r) game_over r tt tt in
     either (Keeps r.turning) (is_no line) (over g r) (Stopped Restarts (anew r)) ends tt
-answered_keeps g prompt.Key f go h line r = h true r
-answered_keeps g prompt.Over f go h line r = h f.acted r
+answered_keeps g _ f go h line r = h true r
 
 pub asked_keeps : (g : Story) (p : Prompt) (f : Frame) (go : Bool → Run → Out) → GoesKeeping go → (r : Run) (lines : List (List ℕ)) →
     Keeps r.turning (asked g p f go r lines)

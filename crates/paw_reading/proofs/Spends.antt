@@ -89,13 +89,11 @@ over_spends g v r = prints (Spends v) (goodbye g r) game_over r tt tt
 
 answered_spends : (g : Story) (p : Prompt) (f : Frame) (go : Bool → Run → Out) → AreSpending go → (line : List ℕ) (r : Run) (v : ℕ) →
     left_to_read r < v → brought r.events + 200000 < v → Spends v (answered g p f go line r)
-answered_spends g prompt.Main f go h line r v k n = Spends_up (left_to_read r) v (omega arith) _ (h f.acted r)
 answered_spends g prompt.Quit f go h line r v k n =
     either (Spends v) (is_yes line) _ (Left true r) (Spends_up (left_to_read r) v (omega arith) _ (h f.acted r)) (omega arith)
 answered_spends g prompt.Again f go h line r v k n =
     either (Spends v) (is_no line) (over g r) (Stopped Restarts (anew r)) (over_spends g v r) (omega arith)
-answered_spends g prompt.Key f go h line r v k n = Spends_up (left_to_read r) v (omega arith) _ (h true r)
-answered_spends g prompt.Over f go h line r v k n = Spends_up (left_to_read r) v (omega arith) _ (h f.acted r)
+answered_spends g _ f go h line r v k n = Spends_up (left_to_read r) v (omega arith) _ (h true r)
 
 pub asked_spends : (g : Story) (p : Prompt) (f : Frame) (go : Bool → Run → Out) → AreSpending go → (r : Run) (lines : List (List ℕ)) →
     Spends (length r.pending + brought lines) (asked g p f go r lines)

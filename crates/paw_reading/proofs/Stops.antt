@@ -65,12 +65,10 @@ after_call_stops f go h (Stopped stop r) k = k
 -- ---- prompts ----
 
 answered_stops : (g : Story) (p : Prompt) (f : Frame) (go : Bool → Run → Out) → AreStopping go → (line : List ℕ) (r : Run) → Stops (answered g p f go line r)
-answered_stops g prompt.Main f go h line r = h f.acted r
 answered_stops g prompt.Quit f go h line r = either Stops (is_yes line) _ (Left true r) (h f.acted r) tt
 answered_stops g prompt.Again f go h line r =
     either Stops (is_no line) (over g r) (Stopped Restarts (anew r)) (prints Stops (goodbye g r) game_over r tt tt) refl
-answered_stops g prompt.Key f go h line r = h true r
-answered_stops g prompt.Over f go h line r = h f.acted r
+answered_stops g _ f go h line r = h true r
 
 asked_stops : (g : Story) (p : Prompt) (f : Frame) (go : Bool → Run → Out) → AreStopping go → (r : Run) (lines : List (List ℕ)) → Stops (asked g p f go r lines)
 unfolding asked

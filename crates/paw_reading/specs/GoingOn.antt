@@ -7,10 +7,11 @@ use Rattle.paw_reading.specs.Run.{Run}
 use Rattle.paw_reading.specs.Reading.{Out, Left, after_call, again, asked, looped, plain, deeper, rest}
 
 -- going on along the path of a wait, from level lv on, the outermost frame first: the innermost takes the lines, and
--- each other goes on after its call. An empty path, which no wait in a table has, is a table that is left
+-- each other goes on after its call. The last row is never read, and stands because a list may be empty: the path of a
+-- wait in a table has at least the frame at its prompt
 abbrev pub on_path : Story → Prompt → ℕ → List Frame → Run → Out
-on_path g p lv [] r = Left true r
 on_path g p lv (f ∷ []) r =
     again lv (looped g (deeper g lv) lv) (asked g p f (plain g (deeper g lv) lv f.table f.entry (suc f.at)) r r.events)
 on_path g p lv (f ∷ h ∷ path) r =
     after_call f (rest g lv f.table f.entry (suc f.at)) (on_path g p (suc lv) (h ∷ path) r)
+on_path g p lv [] r = Left true r

@@ -151,13 +151,12 @@ abbrev pub over : Story → Run → Out
 over g r = printing (say_text g.game r.world GOODBYE_MESSAGE) game_over r
 
 -- the answer to a prompt in a table: QUIT goes on at yes, and at no leaves the table with an action carried out; END
--- ends the game at no and starts it anew otherwise; a key goes on, with an action carried out. No other prompt stands
--- in a table; one would go on as it is
+-- ends the game at no and starts it anew otherwise; a key, the only other prompt there, goes on with an action carried
+-- out
 abbrev pub answered : Story → Prompt → Frame → Onward → List ℕ → Run → Out
 answered g prompt.Quit f go line r = if is_yes line then go f.acted r else Left true r
 answered g prompt.Again f go line r = if is_no line then over g r else Stopped Restarts (anew r)
-answered g prompt.Key f go line r = go true r
-answered g _ f go line r = go f.acted r
+answered g _ f go line r = go true r  -- Key
 
 -- at a prompt in a table, the piece closed: with no line left the run waits; an ignored line closes an empty piece, and
 -- the run waits on; any other is heard and answers
@@ -193,7 +192,8 @@ coming_phrase g r =
     parsed g.game r.pending r.earlier (flag r.world PRONOUN_NOUN_FLAG) (flag r.world PRONOUN_ADJECTIVE_FLAG)
 
 -- how reading goes on after an action: go reads on at the next condact, next at the next entry, and sub a table one
--- level deeper
+-- level deeper. The last row is never read: Spent is what the program's actions answer where a text doesn't fit, and
+-- here play ends before such an action is carried out
 abbrev pub after_action : Story → Called → ℕ → Frame → Onward → Onward → Effect → Run → Out
 after_action g sub lv f next go effect.Go r = go true r
 after_action g sub lv f next go (effect.Exit a) r = Left a r
@@ -246,13 +246,11 @@ entries g sub lv t e (en ∷ es) acted r =
     if is_for_now r en then condacts g sub lv t e (entries g sub lv t (suc e) es) 0 en.condacts acted r
     else entries g sub lv t (suc e) es acted r
 
--- the entries of a table after entry e
-abbrev pub following : Story → Called → ℕ → ℕ → ℕ → Bool → Run → Out
-following g sub lv t e = entries g sub lv t (suc e) (drop (suc e) (table_at g.game t))
-
 -- from condact k of entry e on, past the test of the entry
 abbrev pub inside : Story → Called → ℕ → ℕ → ℕ → ℕ → Bool → Run → Out
-inside g sub lv t e k = condacts g sub lv t e (following g sub lv t e) k (drop k (condacts_of (entry_at g.game t e)))
+inside g sub lv t e k =
+    condacts g sub lv t e (entries g sub lv t (suc e) (drop (suc e) (table_at g.game t))) k
+    (drop k (condacts_of (entry_at g.game t e)))
 
 -- from a place on, to the end of the table; condact 0 is before the test of the entry
 abbrev pub plain : Story → Called → ℕ → ℕ → ℕ → ℕ → Bool → Run → Out
