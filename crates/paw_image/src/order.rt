@@ -162,7 +162,7 @@ fn first_with(run: &[Head], verb: u8, noun: u8, from: u16) -> Option<u16>
     }
 }
 
-/// The lower of two numbers, where there are two.
+/// The lower of two numbers; the one where the other is missing.
 fn lower(first: Option<u16>, second: Option<u16>) -> Option<u16>
     ensures value { result ≡ lower first second }
 {
@@ -179,6 +179,9 @@ fn first_for(order: &Order, verb: u8, noun: u8, from: u16) -> Option<u16>
     ensures least { IsLeast (IsMatch order.now.heads.items (λ h. (h.verb == verb) && is_for h.noun noun) from) result }
 {
     let run = run_of(order, verb);
+    if run.is_empty() {
+        return None;
+    }
     let any = first_with(run, verb, ANY_WORD, from);
     let none = first_with(run, verb, NO_WORD, from);
     let same = first_with(run, verb, noun, from);

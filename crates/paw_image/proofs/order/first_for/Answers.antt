@@ -1,4 +1,5 @@
-use Rattle.std.proofs.Common.{eqb, ◌||◌}
+use Rattle.std.proofs.Common.{eqb, ◌||◌, ◌∙◌, sym, length, None, arith}
+use Rattle.std.proofs.lemmas.Bool.Decides.{Decides-eqb}
 use Rattle.paw_image.proofs.OrderLaws.{either_least, least_in_run}
 use Rattle.paw_image.proofs.order.first_for.Goals as goal
 
@@ -12,4 +13,14 @@ returns c =
       least =
           rw (c.lower-2.ensures.value, c.lower.ensures.value)
           (least_in_run c.args.order.now.heads.items run c.args.verb c.args.noun from c.run_of-run.ensures.run _ three);
+    }
+
+pub returns-then-is_empty : goal.returns-then-is_empty
+returns-then-is_empty c =
+    let run = c.run_of-run.result.now in
+    let empty = (Decides-eqb (length run) 0).0 (sym c.is_empty.ensures ∙ c.if-is_empty.true) in
+    record {
+      least =
+          least_in_run c.args.order.now.heads.items run c.args.verb c.args.noun c.args.from c.run_of-run.ensures.run None
+          (λ e match. let (k, low, is) = match.is in omega (arith, low, empty));
     }
