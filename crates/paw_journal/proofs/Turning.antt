@@ -64,27 +64,17 @@ differing-append [] (z ∷ b) x y e = absurd (omega arith)
 differing-append (w ∷ a) [] x y e = absurd (omega arith)
 differing-append (w ∷ a) (z ∷ b) x y e = omega (arith, differing-append a b x y (omega arith))
 
--- the change records from one place on, where the bytes there are the same, and where they differ
-difference_same : (old new : List ℕ) (i : ℕ) → length old ≡ length new → i < length old →
-    (get_or old i 0 == get_or new i 0) ≡ true →
-    differences_from i (drop i old) (drop i new) ≡ differences_from (suc i) (drop (suc i) old) (drop (suc i) new)
-unfolding differences_from
-difference_same old new i n low t =
-    let l : i < length new = omega arith in
-    ap (λ a. differences_from i a (drop i new)) (drop-cons old i 0 low)
-    ∙ (ap (λ b. differences_from i (get_or old i 0 ∷ drop (suc i) old) b) (drop-cons new i 0 l)
-    ∙ ap (λ c. (if c then [] else change_bytes i (get_or new i 0)) ++ differences_from (suc i) (drop (suc i) old) (drop (suc i) new)) t)
-
-difference_other : (old new : List ℕ) (i : ℕ) → length old ≡ length new → i < length old →
-    (get_or old i 0 == get_or new i 0) ≡ false →
+-- the change records from one place on, where the bytes there are the same or differ
+difference_step : (old new : List ℕ) (i : ℕ) → length old ≡ length new → i < length old → (t : Bool) →
+    (get_or old i 0 == get_or new i 0) ≡ t →
     differences_from i (drop i old) (drop i new)
-    ≡ change_bytes i (get_or new i 0) ++ differences_from (suc i) (drop (suc i) old) (drop (suc i) new)
+    ≡ (if t then [] else change_bytes i (get_or new i 0)) ++ differences_from (suc i) (drop (suc i) old) (drop (suc i) new)
 unfolding differences_from
-difference_other old new i n low t =
+difference_step old new i n low t e =
     let l : i < length new = omega arith in
     ap (λ a. differences_from i a (drop i new)) (drop-cons old i 0 low)
     ∙ (ap (λ b. differences_from i (get_or old i 0 ∷ drop (suc i) old) b) (drop-cons new i 0 l)
-    ∙ ap (λ c. (if c then [] else change_bytes i (get_or new i 0)) ++ differences_from (suc i) (drop (suc i) old) (drop (suc i) new)) t)
+    ∙ ap (λ c. (if c then [] else change_bytes i (get_or new i 0)) ++ differences_from (suc i) (drop (suc i) old) (drop (suc i) new)) e)
 
 -- Change records that make so many bytes of one state those of another.
 pub record TurnsTo (old new : List ℕ) (i : ℕ) (records : List ℕ) : Type 0 where
@@ -122,7 +112,7 @@ turns_same old new records i h n low e =
     let t : (get_or old i 0 == get_or new i 0) ≡ true = grind (arith, nat_tests) in
     let d = more old new i n low ∙ ap (λ b. differing (take i old) (take i new) + (if b then 0 else 1)) t in
     record {
-      exact = ap (λ l. records ++ l) (sym (difference_same old new i n low t)) ∙ h.exact;
+      exact = ap (λ l. records ++ l) (sym (difference_step old new i n low true t)) ∙ h.exact;
       many = omega (arith, h.many, d);
       few = omega (arith, h.few);
       sound = h.sound;
@@ -156,7 +146,7 @@ turns_other old new records now i z h n low short ne q e =
           ap (λ l. l ++ rest) e
           ∙ (append_assoc records (change_bytes i z) rest
           ∙ (ap (λ b. records ++ (change_bytes i b ++ rest)) q
-          ∙ (ap (λ l. records ++ l) (sym (difference_other old new i n low t)) ∙ h.exact)));
+          ∙ (ap (λ l. records ++ l) (sym (difference_step old new i n low false t)) ∙ h.exact)));
       many = omega (arith, h.many, d, m);
       few = omega (arith, h.few, m);
       sound = ap first_unsound all ∙ sound-append (changes records) (c ∷ []) h.sound (sound_one c short refl);
