@@ -36,13 +36,9 @@ place_up_to last named locations ts =
 abbrev pub first_place : ℕ → List (List ℕ) → Result (ℕ × List (List ℕ)) SourceKind
 first_place locations ts = place_up_to CARRIED_PLACE (place_among place_names) locations ts
 
--- the places beside the locations that a parameter may be
-abbrev pub parameter_names : List (List ℕ)
-parameter_names = place_names ++ codes "HERE" ∷ []
-
 -- a place that is a parameter
 abbrev pub any_place : ℕ → List (List ℕ) → Result (ℕ × List (List ℕ)) SourceKind
-any_place locations ts = place_up_to HERE_PLACE (place_among parameter_names) locations ts
+any_place locations ts = place_up_to HERE_PLACE (place_among (place_names ++ codes "HERE" ∷ [])) locations ts
 
 -- ---- parameters ----
 

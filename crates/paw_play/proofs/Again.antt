@@ -1,29 +1,31 @@
 -- The attach of the store of a session that is taken up again.
-use Rattle.std.proofs.Common.{◌≡◌, ◌≢◌, ℕ, ◌+◌, List, [], ◌∷◌, Some, None, refl, sym, ap, ◌∙◌, subst, arith, inl, inr}
+use Rattle.std.proofs.Common.{◌≡◌, ◌≢◌, ℕ, ◌+◌, ◌≤◌, List, [], ◌∷◌, Some, None, refl, sym, ap, ◌∙◌, subst, arith, inl, inr}
 use Rattle.std.specs.Prelude.{IfSome}
 use Rattle.std.proofs.lemmas.List.{append-nil}
 use Rattle.paw_effects.specs.Story.{Story}
 use Rattle.paw_game.specs.Valid.{Valid}
 use Rattle.paw_stage.specs.Disk.{MayLeave, stable}
 use Rattle.paw_stage.specs.Stage.{Standing}
-use Rattle.paw_stage.specs.Moments.{Moment, moment_of, Still}
+use Rattle.paw_stage.specs.Moments.{Moment, moment_of, Still, InAttach}
+use Rattle.paw_stage.proofs.Time.{Passes_map}
 use Rattle.paw_reading.specs.Turn.{text_of}
 use Rattle.paw_journal.specs.Session.{recover}
 use Rattle.paw_state.specs.State.{State}
 use Rattle.paw_stage.specs.declared.StageCall.{StageCall}
 use Rattle.paw_stage.specs.declared.StageCall.TheVariants as call
 use Rattle.paw_stage.specs.declared.Stage.{Ghosts}
-use Rattle.paw_stage.specs.Across.{IsOneOf, Serves}
+use Rattle.paw_stage.specs.Across.{IsOneOf, Serves, EachMoment, InTwoParts}
 use Rattle.paw_journal.specs.inner.Journal.{IsSessionRefused, outside}
 use Rattle.paw_journal.specs.declared.refusal.JournalRefusal.{JournalRefusal}
 use Rattle.paw_journal.specs.declared.refusal.JournalRefusal.TheVariants as refusal
 use Rattle.paw_play.specs.Calls.{session_calls}
 use Rattle.paw_play.specs.inner.Calls.{IsNotForCall, call_of_end}
 use Rattle.paw_play.specs.Session.{IsKept}
-use Rattle.paw_play.specs.Play.{InPlay, ShowsState, attached_to, store_bytes, going_on, kept_session, PlaysAgain, refused, unread}
+use Rattle.paw_play.specs.Play.{NotYet, InPlay, ShowsState, attached_to, store_bytes, going_on, kept_session, PlaysAgain, refused, unread}
 use Rattle.paw_play.specs.inner.OnTheWay.{end_of}
 use Rattle.paw_journal.proofs.Disks.{stable_is, stable_leaves}
 use Rattle.paw_play.proofs.Attaching.{other_file, playing_from}
+use Rattle.paw_play.proofs.Parts.{then_attached}
 use Rattle.paw_journal.proofs.Serving.{serves_among}
 use Rattle.paw_play.proofs.Showing.{state_kept}
 
@@ -67,6 +69,29 @@ module _ (g : Story) (digest name : List ℕ) (st : State) (piece : List ℕ) (o
   -- once it is found
   pub in_taking_up : (m : Moment) → InPlay (kept_session g st piece digest name) (attached_to old name) m → InPlay (kept_session g st piece digest name) old m
   in_taking_up m i = playing_from _ _ st.events name old m i
+
+-- while the session is found, by what stages tell
+pub found_again : {S : Type 0} (s : Ghosts S) (first mid last : S) (g : Story) (digest name : List ℕ) (st : State) (piece : List ℕ) →
+    Valid g.game → ShowsState g.game digest (store_bytes (s.standing first) name) st piece →
+    s.standing mid ≡ attached_to (s.standing first) name → EachMoment s mid last (Still (s.standing mid)) →
+    EachMoment s mid last (InPlay (kept_session g st piece digest name) (s.standing first))
+found_again s first mid last g digest name st piece valid shows is h =
+    Passes_map _ _ _ _ _ (InPlay (kept_session g st piece digest name) (s.standing first)) h
+    (λ m e. in_finding g digest name st piece (s.standing first) valid shows (s.standing mid) m is e)
+
+-- the moments from the attach of its store on, with what a stage says of the moment at which it stands
+pub taken_up_again : {S : Type 0} (s : Ghosts S) →
+    ((x : S) (m : Moment) → s.Tells x → s.since x (s.clock x) m → m ≡ moment_of (s.standing x)) →
+    ((x : S) (t : ℕ) → s.Tells x → t ≤ s.clock x → s.since x t (moment_of (s.standing x))) →
+    (first mid last : S) (g : Story) (digest name : List ℕ) (st : State) (piece : List ℕ) →
+    Valid g.game → ShowsState g.game digest (store_bytes (s.standing first) name) st piece → s.Tells mid →
+    s.standing mid ≡ attached_to (s.standing first) name →
+    EachMoment s first mid (InAttach (s.standing first) (s.standing mid) name) →
+    EachMoment s mid last (InPlay (kept_session g st piece digest name) (s.standing first)) →
+    InTwoParts s first last (NotYet name (s.standing first)) (InPlay (kept_session g st piece digest name) (s.standing first))
+taken_up_again s only counts first mid last g digest name st piece valid shows now is h k =
+    then_attached s only counts first mid last name (InPlay (kept_session g st piece digest name) (s.standing first)) now
+    (at_again_attach g digest name st piece (s.standing first) valid shows (s.standing mid) is) h k
 
 -- ---- where there is no session ----
 

@@ -1,5 +1,5 @@
 -- The moments of a session in two parts: before its store is attached, and from then on.
-use Rattle.std.proofs.Common.{◌≡◌, ◌⊎◌, ℕ, List, refl, sym, ap, ◌∙◌, subst, arith, inl, inr}
+use Rattle.std.proofs.Common.{◌≡◌, ◌⊎◌, ℕ, ◌≤◌, List, refl, sym, ap, ◌∙◌, subst, arith, inl, inr}
 use Rattle.paw_stage.specs.Stage.{Standing, Unattached, made_if_missing}
 use Rattle.paw_stage.specs.Moments.{Moment, moment_of, InAttach}
 use Rattle.paw_stage.specs.Across.{EachMoment, InTwoParts, first_alone, both}
@@ -8,7 +8,7 @@ use Rattle.paw_stage.proofs.Time.{Passes_map, Passes_on}
 use Rattle.paw_play.specs.Play.{NotYet}
 
 -- calls up to a turn, at which such a moment stands, and calls from there on
-pub two_parts : {S : Type 0} (g : Ghosts S) (old mid new : S) (Before After : Moment → Type 0) →
+two_parts : {S : Type 0} (g : Ghosts S) (old mid new : S) (Before After : Moment → Type 0) →
     ((m : Moment) → g.since mid (g.clock mid) m → m ≡ moment_of (g.standing mid)) →
     g.since mid (g.clock mid) (moment_of (g.standing mid)) → After (moment_of (g.standing mid)) →
     EachMoment g old mid (λ m. Before m ⊎ (m ≡ moment_of (g.standing mid))) → EachMoment g mid new After →
@@ -62,7 +62,7 @@ made_yet : (name : List ℕ) (old : Standing) (m : Moment) →
 made_yet name old m e = subst (NotYet name old) (sym e) (record { asked = refl; shown = refl; files = inr refl; store = inl (refl, refl) })
 
 -- inside the attach, or at its end
-pub in_attach : (old new : Standing) (name : List ℕ) (m : Moment) → InAttach old new name m → NotYet name old m ⊎ (m ≡ moment_of new)
+in_attach : (old new : Standing) (name : List ℕ) (m : Moment) → InAttach old new name m → NotYet name old m ⊎ (m ≡ moment_of new)
 in_attach old new name m (inl e) = inl (not_yet name old m e)
 in_attach old new name m (inr (inl e)) = inl (made_yet name old m e)
 in_attach old new name m (inr (inr e)) = inr e
@@ -73,8 +73,29 @@ unattached_yet old new name m (inr is) e =
     subst (NotYet name old) (sym (e ∙ ap moment_of is)) (record { asked = refl; shown = refl; files = inl refl; store = inr refl })
 
 -- inside an attach that failed
-pub in_failed_attach : (old new : Standing) (name : List ℕ) (m : Moment) → Unattached old new → InAttach old new name m → NotYet name old m
+in_failed_attach : (old new : Standing) (name : List ℕ) (m : Moment) → Unattached old new → InAttach old new name m → NotYet name old m
 in_failed_attach old new name m left i = elim (in_attach old new name m i) [
   | inl n ↦ n
   | inr e ↦ unattached_yet old new name m left e
 ]
+
+-- ---- an attach, and what comes after it ----
+
+-- an attach that failed, and nothing more
+pub attach_failed : {S : Type 0} (g : Ghosts S) (old new : S) (name : List ℕ) (After : Moment → Type 0) →
+    Unattached (g.standing old) (g.standing new) →
+    EachMoment g old new (InAttach (g.standing old) (g.standing new) name) → InTwoParts g old new (NotYet name (g.standing old)) After
+attach_failed g old new name After left h =
+    first_alone (Passes_map _ _ _ _ _ (NotYet name (g.standing old)) h
+    (λ m i. in_failed_attach (g.standing old) (g.standing new) name m left i))
+
+-- an attach by which the second part begins, with what a stage says of the moment at which it stands
+pub then_attached : {S : Type 0} (g : Ghosts S) →
+    ((s : S) (m : Moment) → g.Tells s → g.since s (g.clock s) m → m ≡ moment_of (g.standing s)) →
+    ((s : S) (t : ℕ) → g.Tells s → t ≤ g.clock s → g.since s t (moment_of (g.standing s))) →
+    (old mid new : S) (name : List ℕ) (After : Moment → Type 0) → g.Tells mid → After (moment_of (g.standing mid)) →
+    EachMoment g old mid (InAttach (g.standing old) (g.standing mid) name) → EachMoment g mid new After →
+    InTwoParts g old new (NotYet name (g.standing old)) After
+then_attached g only counts old mid new name After now turned h k =
+    two_parts g old mid new (NotYet name (g.standing old)) After (λ m is. only mid m now is) (counts mid (g.clock mid) now (omega arith)) turned
+    (Passes_map _ _ _ _ _ _ h (in_attach (g.standing old) (g.standing mid) name)) k

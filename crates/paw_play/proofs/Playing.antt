@@ -25,7 +25,7 @@ use Rattle.paw_journal.specs.Journal.{writing_calls}
 use Rattle.paw_play.specs.declared.PlayEnd.{PlayEnd}
 use Rattle.paw_play.specs.declared.PlayEnd.TheVariants as end
 use Rattle.paw_play.specs.Walk.{first_lines, advanced, Walks}
-use Rattle.paw_play.specs.Keeping.{IsPart, AgreesWith, KeepsUpWith, StaysAttached, KeepsAllButLast}
+use Rattle.paw_play.specs.Keeping.{AgreesWith, KeepsUpWith, StaysAttached, KeepsAllButLast}
 use Rattle.paw_play.specs.Play.{PlayedSession, KeepsLines, KeptBy, InPlay, with_store, Uncommitted, PlaysOn}
 use Rattle.paw_play.specs.inner.Calls.{unless_ended}
 use Rattle.paw_play.specs.inner.Telling.{Plain}
@@ -51,7 +51,7 @@ keeps_all s lines zero text bytes h = h
 keeps_all s lines (suc n) text bytes h = inl h
 
 whole_text : (s : PlayedSession) (lines : List (List ℕ)) (n : ℕ) (text : List ℕ) → text_of (s.whole (first_lines n lines)) ≡ text →
-    IsPart text (text_of (s.whole (first_lines n lines)))
+    (rest : List ℕ) × (text ++ rest ≡ text_of (s.whole (first_lines n lines)))
 whole_text s lines n text e = ([], append-nil text ∙ sym e)
 
 -- the text so far

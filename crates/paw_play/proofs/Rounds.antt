@@ -1,5 +1,5 @@
 -- Rounds of a session, one after the other.
-use Rattle.std.proofs.Common.{◌≡◌, inl, inr, ℕ, zero, suc, ◌+◌, ◌<◌, List, [], ◌∷◌, ◌++◌, Some, None, refl, sym, ap, ◌∙◌, subst}
+use Rattle.std.proofs.Common.{◌⊎◌, ◌≡◌, inl, inr, ℕ, zero, suc, ◌+◌, ◌<◌, List, [], ◌∷◌, ◌++◌, Some, None, refl, sym, ap, ◌∙◌, subst}
 use Rattle.std.proofs.Common.{length, take, append_assoc, append-nil, arith}
 use Rattle.std.specs.Prelude.{◌-◌, All}
 use Rattle.std.proofs.lemmas.List.{length-take}
@@ -23,7 +23,7 @@ use Rattle.paw_play.specs.declared.PlayEnd.TheVariants as end
 use Rattle.paw_play.specs.Walk.{EndingOf, first_lines}
 use Rattle.paw_play.specs.Stands.{Stands, StandsWith, IsPlayedWith, text_since, reading_since}
 use Rattle.paw_play.specs.Keeping.{KeepsUpWith, InSession}
-use Rattle.paw_play.specs.Play.{PlaysWith, PlaysIn, PlaysGame, GoesOn, NotYet, InGame, InGoingOn, attached_to, store_bytes}
+use Rattle.paw_play.specs.Play.{PlaysWith, PlaysIn, PlaysGame, GoesOn, NotYet, InNewGame, InPlayedOn, attached_to, store_bytes}
 use Rattle.paw_play.specs.Play.{memory, spent, too_deep, unmade, plays, unattached, occupied, plays_in, unread}
 use Rattle.paw_play.specs.Laws.{RoundStop, cut_at, came_to, Round, MayBeLeft, BeginsOver, AtRest, StopsWith, AreRounds, left_after}
 use Rattle.paw_play.specs.Laws.{AreKept, AreKeptOf, RoundsStand}
@@ -122,7 +122,7 @@ no_writing c (inr (inl e)) = rw e (λ rest. rest)
 no_writing c (inr (inr h)) = absurd h
 
 module _ (g : Story) (seed : ℕ) (r : Round) (begins : BeginsOver [] r) (made : ¬ IsUnmade (recover r.left)) where
-  first_cut : (m : Moment) → InGame g seed r.name r.old m → MayBeLeft r.name m r.left → KeptOf (StandsWith g seed [] r.old.lines) r.old (cut_at m) r.left
+  first_cut : (m : Moment) → (NotYet r.name r.old m ⊎ InNewGame g seed r.name r.old m) → MayBeLeft r.name m r.left → KeptOf (StandsWith g seed [] r.old.lines) r.old (cut_at m) r.left
   first_cut m (inl n) may = absurd (made (empty_unmade r.left (not_yet_left r [] m begins n may)))
   first_cut m (inr (inl i)) may = elim (i.leaves r.left (store_left r.name r.left m i.attached may)) [
     | inl none ↦ absurd (made none)
@@ -149,7 +149,7 @@ module _ (g : Story) (seed : ℕ) (r : Round) (begins : BeginsOver [] r) (made :
   first_came new _ (occupied some e) rest left = absurd (omega (arith, some, ap length begins.has))
   first_came new _ (plays_in o empty p) rest left = first_in new o p rest left
 
-  first_stops : (stop : RoundStop) → StopsWith (InGame g seed r.name r.old) (PlaysGame g seed r.name r.old) r.name r.left stop →
+  first_stops : (stop : RoundStop) → StopsWith (λ m. NotYet r.name r.old m ⊎ InNewGame g seed r.name r.old m) (PlaysGame g seed r.name r.old) r.name r.left stop →
       KeptOf (StandsWith g seed [] r.old.lines) r.old stop r.left
   first_stops (cut_at m) s = first_cut m s.0 s.1
   first_stops (came_to new o) s =
@@ -162,7 +162,7 @@ module _ (g : Story) (seed : ℕ) (es : List (List ℕ)) (bytes : List ℕ) (r :
   none_more : (left : List ℕ) → left ≡ bytes → StandsWith g seed es r.old.lines 0 left
   none_more left e = subst (λ q. Stands g seed (es ++ []) q) (sym e) (subst (λ q. Stands g seed q bytes) (sym (append-nil es)) stands)
 
-  later_cut : (m : Moment) → InGoingOn g seed es r.name r.old m → MayBeLeft r.name m r.left → KeptOf (StandsWith g seed es r.old.lines) r.old (cut_at m) r.left
+  later_cut : (m : Moment) → (NotYet r.name r.old m ⊎ InPlayedOn g seed es r.name r.old m) → MayBeLeft r.name m r.left → KeptOf (StandsWith g seed es r.old.lines) r.old (cut_at m) r.left
   later_cut m (inl n) may = (0, inl (n.asked ∙ omega arith), none_more r.left (not_yet_left r bytes m begins n may))
   later_cut m (inr i) may =
       cut_keeps (StandsWith g seed es r.old.lines) (length es) r.name r.old (text_since g seed es r.old.lines) m r.left i may
@@ -178,7 +178,7 @@ module _ (g : Story) (seed : ℕ) (es : List (List ℕ)) (bytes : List ℕ) (r :
   later_came new _ (plays o p) rest =
       came_keeps (StandsWith g seed es r.old.lines) (length es) r.name r.old (reading_since g seed es) (EVENT_LIMIT - length es) new o p rest
 
-  later_stops : (stop : RoundStop) → StopsWith (InGoingOn g seed es r.name r.old) (GoesOn g seed es r.name r.old) r.name r.left stop →
+  later_stops : (stop : RoundStop) → StopsWith (λ m. NotYet r.name r.old m ⊎ InPlayedOn g seed es r.name r.old m) (GoesOn g seed es r.name r.old) r.name r.left stop →
       KeptOf (StandsWith g seed es r.old.lines) r.old stop r.left
   later_stops (cut_at m) s = later_cut m s.0 s.1
   later_stops (came_to new o) s =

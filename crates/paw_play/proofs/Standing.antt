@@ -32,6 +32,7 @@ use Rattle.paw_play.specs.Stands.{Stands, StandsWith, IsPlayedWith, ending_since
 use Rattle.paw_play.specs.Keeping.{InSession}
 use Rattle.paw_play.specs.Play.{PlaysWith, PlaysOn, KeptBy, ShowsState, Refuses, PlaysUp, no_state, plays_on, PlaysAgain, refused, wanting, plays_up}
 use Rattle.paw_play.specs.Play.{GoesOn, memory, unattached, unread, plays, InPlay, InPlayedOn, going_on, kept_session, attached_to, store_bytes}
+use Rattle.paw_play.specs.Play.{resumed_run}
 use Rattle.paw_play.specs.Laws.{ShowsSome, StandingShows, StandingGoesOn, GoingOnIsTheReading}
 use Rattle.paw_play.proofs.Games.{count_lines}
 use Rattle.paw_play.proofs.Going.{IsSettled, Settles, goes_on, since_past, text_since_is, waiting_goes, whole_kept}
@@ -67,17 +68,7 @@ pieces_with_past ps ts last Unended ends = absurd (ends refl)
 
 -- going on from a state ends
 goes_to_an_end : (g : Story) (st : State) (piece : List ℕ) (fs : List (List ℕ)) → going_on g st piece fs ≢ Unended
-goes_to_an_end g st piece fs = going_on_ends g st.prompt (take st.frames.count st.frames.rows) (record {
-  world = st.world;
-  pending = st.pending.bytes;
-  earlier = st.pending.earlier;
-  turning = st.frames.turning;
-  current = [];
-  read = [];
-  pieces = piece ∷ [];
-  traces = [];
-  events = fs;
-})
+goes_to_an_end g st piece fs = going_on_ends g st.prompt (take st.frames.count st.frames.rows) (resumed_run st piece fs)
 
 pub going_on_is_the_reading : GoingOnIsTheReading
 going_on_is_the_reading g seed es fs p path r played few is =

@@ -14,13 +14,9 @@ use Rattle.paw_play.specs.declared.PlayEnd.TheVariants as end
 use Rattle.paw_play.specs.Walk.{EndingOf, told_before}
 use Rattle.paw_play.specs.Written.{bytes_before, bytes_after}
 
--- a text is a first part of another
-abbrev pub IsPart : List ℕ → List ℕ → Type 0
-IsPart text whole = (rest : List ℕ) × (text ++ rest ≡ whole)
-
 -- the bytes keep n lines, and this text is a first part of theirs
 abbrev pub AgreesWith : (ℕ → List ℕ → Type 0) → (ℕ → List ℕ) → ℕ → List ℕ → List ℕ → Type 0
-AgreesWith Kept told n text bytes = Kept n bytes × IsPart text (told n)
+AgreesWith Kept told n text bytes = Kept n bytes × ((rest : List ℕ) × (text ++ rest ≡ told n))
 
 -- the bytes keep the n lines that were taken, or all but the last
 abbrev pub KeepsUpWith : (ℕ → List ℕ → Type 0) → (ℕ → List ℕ) → ℕ → List ℕ → List ℕ → Type 0

@@ -22,7 +22,7 @@ use Rattle.paw_play.specs.declared.PlayEnd.{PlayEnd}
 use Rattle.paw_play.specs.declared.PlayEnd.TheVariants as end
 use Rattle.paw_play.specs.Walk.{first_lines}
 use Rattle.paw_play.specs.Stands.{Stands, IsPlayedWith, reading_since}
-use Rattle.paw_play.specs.Play.{ShowsState, going_on, store_bytes, InGame, PlaysGame, InGoingOn, GoesOn}
+use Rattle.paw_play.specs.Play.{ShowsState, going_on, store_bytes, NotYet, InNewGame, PlaysGame, InPlayedOn, GoesOn}
 
 -- the bytes show a state of the game that keeps all its rules, and a piece
 pub record ShowsSome (g : GameLists) (bytes : List ℕ) : Type 0 where
@@ -104,13 +104,13 @@ StopsWith Inside Comes name left (came_to new o) = Comes new o × AtRest o × (l
 -- the first round: the game is played from its start, over a file that is missing or empty
 abbrev pub IsFirstRound : Story → ℕ → Round → Type 0
 IsFirstRound g seed r = BeginsOver [] r
-    × StopsWith (InGame g seed r.name r.old) (PlaysGame g seed r.name r.old) r.name r.left r.stop
+    × StopsWith (λ m. NotYet r.name r.old m ⊎ InNewGame g seed r.name r.old m) (PlaysGame g seed r.name r.old) r.name r.left r.stop
 
 -- a later round: the session of these bytes is taken up again, and goes on from whatever lines they stand for
 abbrev pub IsLaterRound : Story → ℕ → List ℕ → Round → Type 0
 IsLaterRound g seed bytes r = BeginsOver bytes r
     × ((es : List (List ℕ)) → IsPlayedWith g seed es → Stands g seed es bytes →
-    StopsWith (InGoingOn g seed es r.name r.old) (GoesOn g seed es r.name r.old) r.name r.left r.stop)
+    StopsWith (λ m. NotYet r.name r.old m ⊎ InPlayedOn g seed es r.name r.old m) (GoesOn g seed es r.name r.old) r.name r.left r.stop)
 
 -- later rounds one after the other, each over what the one before left
 abbrev pub AreRounds : Story → ℕ → List ℕ → List Round → Type 0

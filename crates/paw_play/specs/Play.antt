@@ -106,10 +106,6 @@ InNewGame g seed name old m =
     InMakingOf (StandsWith g seed [] old.lines) name old m
     ⊎ InSession (StandsWith g seed [] old.lines) (text_since g seed [] old.lines) 0 name old m
 
--- a moment of it: its store isn't attached yet, or it is
-abbrev pub InGame : Story → ℕ → List ℕ → Standing → Moment → Type 0
-InGame g seed name old m = NotYet name old m ⊎ InNewGame g seed name old m
-
 -- ---- a session that is taken up again, by the lines of its game ----
 
 -- What taking up a session again comes to where its store stands for these lines of its game. It is never refused: its
@@ -127,10 +123,6 @@ pub data GoesOn (g : Story) (seed : ℕ) (es : List (List ℕ)) (name : List ℕ
 abbrev pub InPlayedOn : Story → ℕ → List (List ℕ) → List ℕ → Standing → Moment → Type 0
 InPlayedOn g seed es name old m =
     InSession (StandsWith g seed es old.lines) (text_since g seed es old.lines) (length es) name old m
-
--- a moment of it: its store isn't attached yet, or it is
-abbrev pub InGoingOn : Story → ℕ → List (List ℕ) → List ℕ → Standing → Moment → Type 0
-InGoingOn g seed es name old m = NotYet name old m ⊎ InPlayedOn g seed es name old m
 
 -- ---- a session that is taken up again, by the state that its store shows ----
 
@@ -158,9 +150,9 @@ InPlay s old m = InSession (KeptBy s old.lines) (λ n. text_of (s.whole (first_l
 abbrev pub PlaysOn : PlayedSession → ℕ → Standing → Standing → PlayEnd → Type 0
 PlaysOn s most old new o = PlaysWith (KeptBy s old.lines) s.whole s.before s.name most old new o
 
--- going on from a state whose last piece was this
-abbrev pub going_on : Story → State → List ℕ → EndingOf
-going_on g st piece lines = on g st.prompt (take st.frames.count st.frames.rows) (record {
+-- the run that a state gives whose last piece was this, with these lines to come
+abbrev pub resumed_run : State → List ℕ → List (List ℕ) → Run
+resumed_run st piece lines = record {
   world = st.world;
   pending = st.pending.bytes;
   earlier = st.pending.earlier;
@@ -170,7 +162,11 @@ going_on g st piece lines = on g st.prompt (take st.frames.count st.frames.rows)
   pieces = piece ∷ [];
   traces = [];
   events = lines;
-})
+}
+
+-- going on from a state whose last piece was this
+abbrev pub going_on : Story → State → List ℕ → EndingOf
+going_on g st piece lines = on g st.prompt (take st.frames.count st.frames.rows) (resumed_run st piece lines)
 
 -- the session of a game that goes on from a state
 abbrev pub kept_session : Story → State → List ℕ → List ℕ → List ℕ → PlayedSession

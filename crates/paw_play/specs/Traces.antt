@@ -46,7 +46,3 @@ abbrev pub traced_ending : Ending → Ending
 traced_ending (WaitsAt p path r) = WaitsAt p path (traced_run r)
 traced_ending (Halted halt r) = Halted halt (traced_run r)
 traced_ending Unended = Unended
-
--- a reading whose pieces are told so
-abbrev pub traced : EndingOf → EndingOf
-traced whole lines = traced_ending (whole lines)

@@ -2,7 +2,7 @@
 use Rattle.std.proofs.Common.{◌≡◌, ℕ, zero, suc, ◌+◌, ◌-◌, ◌≤◌, ◌<◌, Bool, true, false, List, [], ◌∷◌, length, min, max, refl, sym, ap, ◌∙◌, arith, slice_index}
 use Rattle.std.specs.Prelude.{nat_le, nat_lt, ◌&&◌, ◌||◌, ◌==◌, if◌then◌else◌}
 use Rattle.std.proofs.lemmas.Bool.Decides.{nat_tests}
-use Rattle.paw_stage.specs.Disk.{Disk, Range, is_dirty, MayLeave, LeavesNoMore, put, touched, stable}
+use Rattle.paw_stage.specs.Disk.{Disk, Range, is_dirty, MayLeave, put, touched, stable}
 use Rattle.paw_stage.specs.Stage.{Standing, bytes_or_none}
 use Rattle.paw_stage.specs.inner.Done.{DoneCall, step_done, stepped, fresh, after, is_attached}
 use Rattle.paw_stage.specs.inner.Crash.{spoiled_if, spoiled, crashed}
@@ -68,7 +68,7 @@ pub after_disk : (ds : List DoneCall) → IsDisk (after fresh ds).disk
 after_disk ds = later_disk fresh ds (stable_is [])
 
 -- once the bytes are synced a crash leaves no more than before
-pub synced_leaves : (d : Disk) → IsDisk d → LeavesNoMore d (stable d.bytes)
+pub synced_leaves : (d : Disk) → IsDisk d → (image : List ℕ) → MayLeave (stable d.bytes) image → MayLeave d image
 synced_leaves d h image l =
     record {
       no_shorter = omega (arith, h.low, l.no_shorter);

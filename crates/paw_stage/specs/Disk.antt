@@ -26,10 +26,6 @@ pub record MayLeave (d : Disk) (image : List ℕ) : Type 0 where
   pub no_longer : length image ≤ d.longest
   pub clean : (i : ℕ) → i < length d.synced → is_dirty d.dirty i ≡ false → slice_index image i ≡ slice_index d.bytes i
 
--- A crash leaves no more of the one than of the other.
-abbrev pub LeavesNoMore : Disk → Disk → Type 0
-LeavesNoMore old new = (image : List ℕ) → MayLeave new image → MayLeave old image
-
 -- The bytes, with new ones at a place.
 abbrev pub put : ℕ → List ℕ → List ℕ → List ℕ
 put at new old = take at old ++ new ++ drop (at + length new) old

@@ -1,6 +1,6 @@
 -- What may stand at each moment inside the calls of a stage.
 use Rattle.std.specs.Prelude.{◌≡◌, ◌≢◌, ◌⊎◌, ℕ, ◌+◌, ◌≤◌, List, ◌++◌, take, Option, Some}
-use Rattle.paw_stage.specs.Disk.{Disk, LeavesNoMore, IsInWrite}
+use Rattle.paw_stage.specs.Disk.{Disk, MayLeave, IsInWrite}
 use Rattle.paw_stage.specs.Stage.{Files, Standing, file_holding, store_holding, made_if_missing}
 use Rattle.paw_stage.specs.declared.Asked.{Asked}
 use Rattle.paw_stage.specs.declared.Asked.TheVariants as asked
@@ -75,4 +75,4 @@ pub record InSync (old : Standing) (m : Moment) : Type 0 where
   pub shown : m.shown ≡ old.shown
   pub attached : m.attached ≡ old.attached
   pub files : m.files ≡ old.files
-  pub disk : LeavesNoMore old.disk m.disk
+  pub disk : (image : List ℕ) → MayLeave m.disk image → MayLeave old.disk image

@@ -1,11 +1,10 @@
 use Rattle.std.proofs.Common.{◌<◌, ◌⊎◌, ◌∙◌, [], ◌∷◌, None, refl, sym, ap, subst, length, arith}
 use Rattle.paw_stage.proofs.Time.{Passes_map}
-use Rattle.paw_stage.specs.Across.{first_alone}
 use Rattle.paw_stage.specs.Stage.{Standing}
-use Rattle.paw_play.specs.Play.{PlayedSession, NotYet, InNewGame, InPlay, unattached, occupied, plays_in}
+use Rattle.paw_play.specs.Play.{PlayedSession, InNewGame, InPlay, unattached, occupied, plays_in}
 use Rattle.paw_play.specs.inner.OnTheWay.{InMaking, PlaysInStore, IsStore, new_session}
 use Rattle.paw_play.proofs.Attaching.{store_attached, store_empty, at_new_attach}
-use Rattle.paw_play.proofs.Parts.{two_parts, in_attach, in_failed_attach}
+use Rattle.paw_play.proofs.Parts.{then_attached, attach_failed}
 use Rattle.paw_play.proofs.Games.{game_plays, in_game}
 use Rattle.paw_stage.specs.declared.StageCall.TheVariants as call
 use Rattle.paw_journal.proofs.Serving.{in_front, serves_among, serves_still, serves_then, the_only_one}
@@ -40,9 +39,7 @@ returns-clause-plays g c = λ tells X rows.
 
 pub returns-in-Err-clause-any_moment : goal.returns-in-Err-clause-any_moment
 returns-in-Err-clause-any_moment g c = λ tells X rows empty.
-    let old : Standing = g.S.Stage.standing c.args.stage.now in
-    first_alone (Passes_map _ _ _ _ _ (NotYet c.args.name.now old) (c.attach.ensures.time tells)
-    (λ m i. in_failed_attach old (g.S.Stage.standing c.attach.new.stage) c.args.name.now m (c.in-Err.ensures.left tells) i))
+    attach_failed g.S.Stage c.args.stage.now c.attach.new.stage c.args.name.now _ (c.in-Err.ensures.left tells) (c.attach.ensures.time tells)
 
 pub returns-then-at-ne0-clause-any_moment : goal.returns-then-at-ne0-clause-any_moment
 returns-then-at-ne0-clause-any_moment g c = λ tells X rows empty.
@@ -59,11 +56,8 @@ returns-clause-any_moment g c = λ tells X rows empty.
     let now = c.attach.ensures.serves.tells.0 tells in
     let s : PlayedSession = new_session story c.args.seed c.args.game.now name in
     let store : IsStore name after_attach = subst (IsStore name) (sym a.1) (store_attached old name) in
-    two_parts g.S.Stage c.args.stage.now c.attach.new.stage c.play_in.new.stage (NotYet name old) (InNewGame story c.args.seed name old)
-    (λ m is. g.met.S.Stage.only_now c.attach.new.stage m now is)
-    (g.met.S.Stage.counts_now c.attach.new.stage (g.S.Stage.clock c.attach.new.stage) now (omega arith))
-    (at_new_attach story c.args.seed name old after_attach a.1 empty)
-    (Passes_map _ _ _ _ _ _ (c.in-Ok.ensures.time tells) (in_attach old after_attach name))
+    then_attached g.S.Stage g.met.S.Stage.only_now g.met.S.Stage.counts_now c.args.stage.now c.attach.new.stage c.play_in.new.stage
+    name (InNewGame story c.args.seed name old) now (at_new_attach story c.args.seed name old after_attach a.1 empty) (c.in-Ok.ensures.time tells)
     (Passes_map _ _ _ _ _ _ (c.play_in.ensures.any_moment now X rows name store)
     (λ m i. in_game story c.args.seed c.args.game.now name c.requires.game old m (subst (λ q. InMaking s q m ⊎ InPlay s q m) a.1 i)))
 

@@ -1,16 +1,15 @@
-use Rattle.std.proofs.Common.{arith, None, [], ◌∷◌, ◌≡◌, refl, sym, ◌∙◌, subst}
+use Rattle.std.proofs.Common.{None, [], ◌∷◌, ◌≡◌, refl, sym, ◌∙◌, subst}
 use Rattle.paw_stage.specs.Stage.{Standing}
-use Rattle.paw_stage.proofs.Time.{Passes_map, Passes_on, Passes_none}
-use Rattle.paw_stage.specs.Across.{first_alone}
+use Rattle.paw_stage.proofs.Time.{Passes_on, Passes_none}
 use Rattle.paw_journal.specs.Session.{recover}
 use Rattle.paw_journal.specs.inner.Journal.{IsSessionRefused}
 use Rattle.paw_effects.specs.Story.{story_of}
 use Rattle.paw_play.specs.inner.Calls.{call_of_end}
-use Rattle.paw_play.specs.Play.{NotYet, InPlay, PlaysUp, ShowsState, unattached, wanting, plays_up, attached_to, kept_session}
+use Rattle.paw_play.specs.Play.{InPlay, PlaysUp, ShowsState, unattached, wanting, plays_up, attached_to, kept_session}
 use Rattle.paw_play.specs.inner.OnTheWay.{IsStore, end_of}
 use Rattle.paw_play.proofs.Attaching.{store_attached}
-use Rattle.paw_play.proofs.Parts.{two_parts, in_attach, in_failed_attach}
-use Rattle.paw_play.proofs.Again.{at_again_attach, in_finding, in_taking_up, refused_again, not_for_call, serves_refused}
+use Rattle.paw_play.proofs.Parts.{attach_failed}
+use Rattle.paw_play.proofs.Again.{taken_up_again, found_again, in_taking_up, refused_again, not_for_call, serves_refused}
 use Rattle.paw_stage.specs.declared.StageCall.TheVariants as call
 use Rattle.paw_journal.proofs.Serving.{in_front, serves_among, serves_still, serves_then, the_only_one}
 use Rattle.paw_play.specs.Calls.{play_calls}
@@ -29,25 +28,13 @@ returns-in_default-clause-plays g c = λ tells X rows. wanting (c.in-Ok.ensures.
 
 pub returns-in-Err-clause-any_moment : goal.returns-in-Err-clause-any_moment
 returns-in-Err-clause-any_moment g c = λ tells X rows st piece shows.
-    let old : Standing = g.S.Stage.standing c.args.stage.now in
-    first_alone (Passes_map _ _ _ _ _ (NotYet c.args.name.now old) (c.attach.ensures.time tells)
-    (λ m i. in_failed_attach old (g.S.Stage.standing c.attach.new.stage) c.args.name.now m (c.in-Err.ensures.left tells) i))
+    attach_failed g.S.Stage c.args.stage.now c.attach.new.stage c.args.name.now _ (c.in-Err.ensures.left tells) (c.attach.ensures.time tells)
 
 pub returns-in_default-clause-any_moment : goal.returns-in_default-clause-any_moment
 returns-in_default-clause-any_moment g c = λ tells X rows st piece shows.
-    let story = story_of (g.T.Tables.game c.args.tables.now) X in
-    let old : Standing = g.S.Stage.standing c.args.stage.now in
-    let after_attach : Standing = g.S.Stage.standing c.attach.new.stage in
-    let name = c.args.name.now in
-    let session = kept_session story st piece c.args.game.now name in
-    let a = c.in-Ok.ensures.attached tells in
-    let now = c.attach.ensures.serves.tells.0 tells in
-    two_parts g.S.Stage c.args.stage.now c.attach.new.stage c.attach.new.stage (NotYet name old) (InPlay session old)
-    (λ m is. g.met.S.Stage.only_now c.attach.new.stage m now is)
-    (g.met.S.Stage.counts_now c.attach.new.stage (g.S.Stage.clock c.attach.new.stage) now (omega arith))
-    (at_again_attach story c.args.game.now name st piece old c.counts-counts.ensures.valid shows after_attach a.1)
-    (Passes_map _ _ _ _ _ _ (c.in-Ok.ensures.time tells) (in_attach old after_attach name))
-    (Passes_none _ _ _)
+    taken_up_again g.S.Stage g.met.S.Stage.only_now g.met.S.Stage.counts_now c.args.stage.now c.attach.new.stage c.attach.new.stage
+    (story_of (g.T.Tables.game c.args.tables.now) X) c.args.game.now c.args.name.now st piece c.counts-counts.ensures.valid shows
+    (c.attach.ensures.serves.tells.0 tells) (c.in-Ok.ensures.attached tells).1 (c.in-Ok.ensures.time tells) (Passes_none _ _ _)
 
 pub returns-in-Err-find-clause-refused : goal.returns-in-Err-find-clause-refused
 returns-in-Err-find-clause-refused g c = rw c.not_found.ensures.value (not_for_call c.in-Err-find.refusal)
@@ -66,19 +53,12 @@ returns-in-Err-find-clause-plays g c = λ tells X rows.
 pub returns-in-Err-find-clause-any_moment : goal.returns-in-Err-find-clause-any_moment
 returns-in-Err-find-clause-any_moment g c = λ tells X rows st piece shows.
     let story = story_of (g.T.Tables.game c.args.tables.now) X in
-    let old : Standing = g.S.Stage.standing c.args.stage.now in
-    let after_attach : Standing = g.S.Stage.standing c.attach.new.stage in
-    let name = c.args.name.now in
-    let session = kept_session story st piece c.args.game.now name in
-    let a = c.in-Ok.ensures.attached tells in
     let now = c.attach.ensures.serves.tells.0 tells in
-    two_parts g.S.Stage c.args.stage.now c.attach.new.stage c.find.new.stage (NotYet name old) (InPlay session old)
-    (λ m is. g.met.S.Stage.only_now c.attach.new.stage m now is)
-    (g.met.S.Stage.counts_now c.attach.new.stage (g.S.Stage.clock c.attach.new.stage) now (omega arith))
-    (at_again_attach story c.args.game.now name st piece old c.counts-counts.ensures.valid shows after_attach a.1)
-    (Passes_map _ _ _ _ _ _ (c.in-Ok.ensures.time tells) (in_attach old after_attach name))
-    (Passes_map _ _ _ _ _ _ (c.find.ensures.time now)
-    (λ m i. in_finding story c.args.game.now name st piece old c.counts-counts.ensures.valid shows after_attach m a.1 i))
+    let there = (c.in-Ok.ensures.attached tells).1 in
+    taken_up_again g.S.Stage g.met.S.Stage.only_now g.met.S.Stage.counts_now c.args.stage.now c.attach.new.stage c.find.new.stage
+    story c.args.game.now c.args.name.now st piece c.counts-counts.ensures.valid shows now there (c.in-Ok.ensures.time tells)
+    (found_again g.S.Stage c.args.stage.now c.attach.new.stage c.find.new.stage
+    story c.args.game.now c.args.name.now st piece c.counts-counts.ensures.valid shows there (c.find.ensures.time now))
 
 pub returns-clause-plays : goal.returns-clause-plays
 returns-clause-plays g c = λ tells X rows.
@@ -97,31 +77,27 @@ returns-clause-plays g c = λ tells X rows.
 
 pub returns-clause-any_moment : goal.returns-clause-any_moment
 returns-clause-any_moment g c = λ tells X rows st piece shows.
-    let story = story_of (g.T.Tables.game c.args.tables.now) X in
-    let old : Standing = g.S.Stage.standing c.args.stage.now in
-    let after_attach : Standing = g.S.Stage.standing c.attach.new.stage in
-    let name = c.args.name.now in
-    let session = kept_session story st piece c.args.game.now name in
-    let a = c.in-Ok.ensures.attached tells in
-    let now = c.attach.ensures.serves.tells.0 tells in
     let game = g.T.Tables.game c.args.tables.now in
+    let old : Standing = g.S.Stage.standing c.args.stage.now in
+    let name = c.args.name.now in
+    let session = kept_session (story_of game X) st piece c.args.game.now name in
+    let valid = c.counts-counts.ensures.valid in
+    let now = c.attach.ensures.serves.tells.0 tells in
+    let attached = (c.in-Ok.ensures.attached tells).1 in
     let after_find : Standing = g.S.Stage.standing c.find.new.stage in
-    let is : after_find ≡ attached_to old name = c.find.ensures.still now ∙ a.1 in
+    let is : after_find ≡ attached_to old name = c.find.ensures.still now ∙ attached in
     let store : IsStore name after_find = subst (IsStore name) (sym is) (store_attached old name) in
     let there = subst (λ (q : Standing). ShowsState game c.args.game.now q.disk.bytes st piece) (sym is) shows in
     let own = subst (λ d. ShowsState game d after_find.disk.bytes st piece) (sym (c.in-Ok-find.ensures.digest now)) there in
     let up = c.take_up.ensures.any_moment (c.find.ensures.serves.tells.0 now) X rows name store st piece own in
-    two_parts g.S.Stage c.args.stage.now c.attach.new.stage c.take_up.new.stage (NotYet name old) (InPlay session old)
-    (λ m is. g.met.S.Stage.only_now c.attach.new.stage m now is)
-    (g.met.S.Stage.counts_now c.attach.new.stage (g.S.Stage.clock c.attach.new.stage) now (omega arith))
-    (at_again_attach story c.args.game.now name st piece old c.counts-counts.ensures.valid shows after_attach a.1)
-    (Passes_map _ _ _ _ _ _ (c.in-Ok.ensures.time tells) (in_attach old after_attach name))
+    taken_up_again g.S.Stage g.met.S.Stage.only_now g.met.S.Stage.counts_now c.args.stage.now c.attach.new.stage c.take_up.new.stage
+    (story_of game X) c.args.game.now name st piece valid shows now attached (c.in-Ok.ensures.time tells)
     (Passes_on _ _ _ _ _ _ (InPlay session old) _
-    (Passes_map _ _ _ _ _ (InPlay session old) (c.find.ensures.time now)
-    (λ m i. in_finding story c.args.game.now name st piece old c.counts-counts.ensures.valid shows after_attach m a.1 i))
+    (found_again g.S.Stage c.args.stage.now c.attach.new.stage c.find.new.stage
+    (story_of game X) c.args.game.now name st piece valid shows attached (c.find.ensures.time now))
     up
-    (λ m i. in_taking_up story c.args.game.now name st piece old c.counts-counts.ensures.valid shows m
-    (subst (λ q. InPlay session q m) is (subst (λ d. InPlay (kept_session story st piece d name) after_find m)
+    (λ m i. in_taking_up (story_of game X) c.args.game.now name st piece old valid shows m
+    (subst (λ q. InPlay session q m) is (subst (λ d. InPlay (kept_session (story_of game X) st piece d name) after_find m)
     (c.in-Ok-find.ensures.digest now) i))))
 
 pub returns-in-Err-clause-serves : goal.returns-in-Err-clause-serves
