@@ -10,6 +10,7 @@ use Rattle.paw_stage.specs.declared.StageCall.{StageCall}
 use Rattle.paw_stage.specs.declared.StageCall.TheVariants as call
 use Rattle.paw_journal.specs.declared.refusal.SessionPart.{SessionPart}
 use Rattle.paw_journal.specs.declared.refusal.SessionPart.TheVariants as part
+use Rattle.paw_top.specs.Commands.{usage}
 use Rattle.paw_top.specs.declared.outcome.Outcome.{Outcome}
 use Rattle.paw_top.specs.declared.outcome.Outcome.TheVariants as outcome
 use Rattle.paw_top.specs.declared.outcome.MemoryAt.{MemoryAt}
@@ -30,11 +31,6 @@ status_of (outcome.Outside c) = 7
 status_of (outcome.Memory at) = 8
 status_of (outcome.Long events) = 9
 status_of _ = 0
-
--- every command of the tool
-unfoldable pub usage : List ℕ
-usage =
-    codes "usage: paw compile S I | decompile I | walk I SEED | play I F SEED | resume I F | trace I SEED | trial N\n"
 
 -- the name of a kind of fault that a source may have
 abbrev pub kind_name : SourceKind → List ℕ

@@ -1,13 +1,18 @@
-// The words of a command.
+// The words of a command. What is read of them, and what usage shows, are both held to the rows of specs/Commands.antt.
 
 ghost use Rattle.std.specs.Prelude.{◌≡◌, ◌&&◌, length, map, nat_le, string_bytes};
 ghost use Rattle.std.specs.Prelude.{Option, Some, None, MatchOption};
 ghost use Rattle.std.specs.Char.{is_ascii_digit};
 ghost use Rattle.std.specs.List.{list_all};
-ghost use Rattle.paw_top.specs.Commands.{command_of, number_of, seed_of, a_name, a_number, ends};
+ghost use Rattle.paw_top.specs.Commands.{command_of, number_of, seed_of};
 ghost use Rattle.paw_top.specs.Commands.{Compile as CompileOf, Decompile as DecompileOf, Walk as WalkOf};
-ghost use Rattle.paw_top.specs.Commands.{Trace as TraceOf, Play as PlayOf, Resume as ResumeOf, Trial as TrialOf};
-ghost use Rattle.paw_top.specs.inner.Commands.{SpellsCommand, two_names, name_and_seed};
+ghost use Rattle.paw_top.specs.Commands.{Play as PlayOf, Resume as ResumeOf, Trace as TraceOf, Trial as TrialOf};
+ghost use Rattle.paw_top.specs.inner.Commands.{SpellsCommand, one_name, two_names, name_and_seed};
+ghost use Rattle.paw_top.specs.inner.Commands.{two_names_and_seed, one_number};
+
+/// What stands on standard error where the words have no form: every command of the tool.
+pub(crate) const USAGE: &str =
+    "usage: paw compile S I | decompile I | walk I SEED | play I F SEED | resume I F | trace I SEED | trial N\n";
 
 /// What is asked for.
 #[derive(Clone, Copy, Drop)]
@@ -23,10 +28,6 @@ pub(crate) enum Command<'a> {
         image: &'a str,
         seed: u64,
     },
-    Trace {
-        image: &'a str,
-        seed: u64,
-    },
     Play {
         image: &'a str,
         store: &'a str,
@@ -35,6 +36,10 @@ pub(crate) enum Command<'a> {
     Resume {
         image: &'a str,
         store: &'a str,
+    },
+    Trace {
+        image: &'a str,
+        seed: u64,
     },
     Trial {
         n: u16,
@@ -91,7 +96,7 @@ fn two_names<'a>(names: &'a [String]) -> Option<(&'a str, &'a str)>
 
 // IMAGE, behind `decompile`.
 fn decompile_of<'a>(names: &'a [String]) -> Option<Command<'a>>
-    ensures value { SpellsCommand result (a_name (λ image. ends (DecompileOf image)) (map string_bytes names.now)) }
+    ensures value { SpellsCommand result (one_name DecompileOf (map string_bytes names.now)) }
 {
     if names.len() != 1 || names[0].is_empty() {
         return None;
@@ -117,8 +122,7 @@ fn image_and_seed<'a>(names: &'a [String]) -> Option<(&'a str, u64)>
 
 // IMAGE STORE SEED, behind `play`.
 fn play_of<'a>(names: &'a [String]) -> Option<Command<'a>>
-    ensures value { SpellsCommand result
-        (a_name (λ image. name_and_seed (PlayOf image)) (map string_bytes names.now)) }
+    ensures value { SpellsCommand result (two_names_and_seed PlayOf (map string_bytes names.now)) }
 {
     if names.len() != 3 || names[0].is_empty() || names[1].is_empty() {
         return None;
@@ -133,7 +137,7 @@ fn play_of<'a>(names: &'a [String]) -> Option<Command<'a>>
 
 // N, behind `trial`.
 fn trial_of<'a>(names: &'a [String]) -> Option<Command<'a>>
-    ensures value { SpellsCommand result (a_number (number_of 4) TrialOf (map string_bytes names.now)) }
+    ensures value { SpellsCommand result (one_number TrialOf (map string_bytes names.now)) }
 {
     if names.len() != 1 {
         return None;
@@ -151,9 +155,9 @@ pub(crate) fn command_of<'a>(words: &'a [String]) -> Option<Command<'a>>
         "compile" => two_names(names).map(|(source, image)| Command::Compile { source, image }),
         "decompile" => decompile_of(names),
         "walk" => image_and_seed(names).map(|(image, seed)| Command::Walk { image, seed }),
-        "trace" => image_and_seed(names).map(|(image, seed)| Command::Trace { image, seed }),
         "play" => play_of(names),
         "resume" => two_names(names).map(|(image, store)| Command::Resume { image, store }),
+        "trace" => image_and_seed(names).map(|(image, seed)| Command::Trace { image, seed }),
         "trial" => trial_of(names),
         _ => None,
     }

@@ -6,6 +6,7 @@ ghost use Rattle.paw_top.specs.declared.outcome.Outcome.TheVariants as outcome;
 ghost use Rattle.paw_top.specs.Outcomes.{status_of, error_text, call_name, kind_name};
 ghost use Rattle.paw_top.specs.Outcomes.{memory_name, part_name, spent_name};
 
+use crate::commands::USAGE;
 use paw_base::fault::{NoRoom, SourceFault, SourceKind, SpentKind};
 use paw_journal::{JournalRefusal, SessionPart};
 use paw_play::PlayEnd;
@@ -89,10 +90,6 @@ pub(crate) fn outcome_of(end: PlayEnd) -> Outcome
 
 /// The exit status for want of memory.
 pub const NO_MEMORY: u8 = 8;
-
-/// What stands on standard error where the words have no form: every command of the tool.
-const USAGE: &str =
-    "usage: paw compile S I | decompile I | walk I SEED | play I F SEED | resume I F | trace I SEED | trial N\n";
 
 // The name of a call.
 fn call_name(call: StageCall) -> &'static str
@@ -201,7 +198,7 @@ impl Outcome {
     ///
     /// # Errors
     /// NoRoom only for want of memory.
-    #[tactic(auto, unfolding(crate::specs::Outcomes::usage))]
+    #[tactic(auto, unfolding(crate::specs::Commands::usage))]
     pub fn text(&self, alloc: Global) -> Result<String, NoRoom>
         ensures value { IfOk result (λ text. string_bytes text ≡ error_text self.now) }
     {
