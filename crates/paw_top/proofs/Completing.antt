@@ -1,6 +1,6 @@
 -- A command whose calls don't fail.
-use Rattle.std.proofs.Common.{◌≡◌, ℕ, List, Option, Some, None, refl, sym, ap, ◌∙◌, subst}
-use Rattle.std.specs.Prelude.{Result, Ok, Err}
+use Rattle.std.proofs.Common.{◌≡◌, ◌≢◌, ℕ, List, Option, Some, None, refl, sym, ap, ◌∙◌, subst}
+use Rattle.std.specs.Prelude.{Result, Ok, Err, IfSome}
 use Rattle.paw_base.specs.declared.fault.SourceFault.{SourceFault}
 use Rattle.paw_base.specs.declared.limits.TheConstants.{EVENT_LIMIT}
 use Rattle.paw_game.specs.Game.{GameLists}
@@ -12,9 +12,11 @@ use Rattle.paw_stage.specs.declared.StageCall.{StageCall}
 use Rattle.paw_stage.specs.declared.StageCall.TheVariants as call
 use Rattle.paw_top.specs.Answers.{failed_call}
 use Rattle.paw_top.specs.Compile as compile
-use Rattle.paw_top.specs.Completes.{NoFault, IsWalked, CompletesSource, CompletesCompile, CompletesImage, Comes}
+use Rattle.paw_top.specs.Completes.{NoFault, IsUnhindered}
+use Rattle.paw_top.specs.inner.Completes.{IsWalked, CompletesSource, CompletesCompile, CompletesImage, Comes}
 use Rattle.paw_top.specs.Decompile as decompile
-use Rattle.paw_top.specs.Loads.{Holds, HoldsNone, HoldsDamage}
+use Rattle.paw_top.specs.Loads.{Holds, HoldsDamage}
+use Rattle.paw_top.specs.inner.Loads.{HoldsNone}
 use Rattle.paw_top.specs.Walk.{WalksAs}
 use Rattle.paw_top.specs.Ends.{outcome_of, PlaysFile, plays, unopened}
 use Rattle.paw_top.specs.Opens.{Unopened, damaged, absent, failed, wanting}
@@ -25,6 +27,27 @@ use Rattle.paw_effects.specs.Story.{Story, story_of}
 use Rattle.paw_top.specs.declared.outcome.Outcome.{Outcome}
 use Rattle.paw_top.specs.declared.outcome.Outcome.TheVariants as outcome
 use Rattle.paw_top.specs.declared.outcome.MemoryAt.{MemoryAt}
+
+-- where no count of faults rose, but maybe that of loads that found no file, only such a load may have failed
+only_absent : (failed : Option StageCall) (first last : StageCall → ℕ) → Faulted failed first last → NoFault first last →
+    IfSome failed (λ c. c ≡ call.LoadAbsent)
+only_absent None first last out none = tt
+only_absent (Some call.LoadAbsent) first last out none = refl
+only_absent (Some call.Load) first last out none = absurd (none call.Load (λ q. cc) out.0)
+only_absent (Some call.Save) first last out none = absurd (none call.Save (λ q. cc) out.0)
+only_absent (Some call.Attach) first last out none = absurd (none call.Attach (λ q. cc) out.0)
+only_absent (Some call.Read) first last out none = absurd (none call.Read (λ q. cc) out.0)
+only_absent (Some call.Write) first last out none = absurd (none call.Write (λ q. cc) out.0)
+only_absent (Some call.Sync) first last out none = absurd (none call.Sync (λ q. cc) out.0)
+only_absent (Some call.Ask) first last out none = absurd (none call.Ask (λ q. cc) out.0)
+only_absent (Some call.Show) first last out none = absurd (none call.Show (λ q. cc) out.0)
+
+pub unhindered : (o : Outcome) (first last : StageCall → ℕ) → Faulted (failed_call o) first last → NoFault first last → IsUnhindered o
+unhindered o first last out none = only_absent (failed_call o) first last out none
+
+-- no call has failed but such a load
+pub hindered : (c : StageCall) → c ≢ call.LoadAbsent → IsUnhindered (outcome.Outside c) → ⊥
+hindered c another free = another free
 
 -- a file holds one list of bytes
 same_file : (file : Option (List ℕ)) (a b : List ℕ) → file ≡ Some a → file ≡ Some b → a ≡ b
@@ -43,16 +66,16 @@ reads_so : (file : Option (List ℕ)) (a b : List ℕ) (read : Result GameLists 
     CompletesSource read o → CompletesSource (spelled b) o
 reads_so file a b read o h s k done = subst (λ r. CompletesSource r o) (sym s ∙ ap spelled (same_file file a b h k)) done
 
-pub completes_compile : (source target : List ℕ) (old new : Standing) (first last : StageCall → ℕ) (o : Outcome) → compile.Compiles source target old new o →
-    Faulted (failed_call o) first last → NoFault first last → CompletesCompile source old o
-completes_compile source target old new first last _ (compile.done g s e) out none = λ bytes is. reads_so _ s.0 bytes (Ok g) outcome.Done s.1 s.2 is refl
-completes_compile source target old new first last _ (compile.refused fault s e) out none = λ bytes is.
+pub completes_compile : (source target : List ℕ) (old new : Standing) (o : Outcome) → compile.Compiles source target old new o →
+    IsUnhindered o → CompletesCompile source old o
+completes_compile source target old new _ (compile.done g s e) free = λ bytes is. reads_so _ s.0 bytes (Ok g) outcome.Done s.1 s.2 is refl
+completes_compile source target old new _ (compile.refused fault s e) free = λ bytes is.
     reads_so _ s.0 bytes (Err fault) (outcome.SourceRefused fault) s.1 s.2 is refl
-completes_compile source target old new first last _ (compile.absent s e) out none = λ bytes is. absurd (is_missing _ bytes s is)
-completes_compile source target old new first last _ (compile.unloaded e) out none = λ bytes is. absurd (none call.Load (λ q. cc) out.0)
-completes_compile source target old new first last _ (compile.unsaved g s e) out none = λ bytes is. absurd (none call.Save (λ q. cc) out.0)
-completes_compile source target old new first last _ (compile.unshown g n s e) out none = λ bytes is. absurd (none call.Show (λ q. cc) out.0)
-completes_compile source target old new first last _ (compile.memory at e) out none = λ bytes is. for_memory (spelled bytes) at
+completes_compile source target old new _ (compile.absent s e) free = λ bytes is. absurd (is_missing _ bytes s is)
+completes_compile source target old new _ (compile.unloaded e) free = λ bytes is. absurd (hindered call.Load (λ q. cc) free)
+completes_compile source target old new _ (compile.unsaved g s e) free = λ bytes is. absurd (hindered call.Save (λ q. cc) free)
+completes_compile source target old new _ (compile.unshown g n s e) free = λ bytes is. absurd (hindered call.Show (λ q. cc) free)
+completes_compile source target old new _ (compile.memory at e) free = λ bytes is. for_memory (spelled bytes) at
 
 -- a file that is an image isn't none
 is_some : (s : Standing) (name : List ℕ) (g : GameLists) → Holds s name g → HoldsNone s name → ⊥
@@ -76,56 +99,53 @@ completes_game name Such old g o s such = record {
 }
 
 -- the file gives no game
-completes_unopened : (name : List ℕ) (Such : GameLists → Outcome → Type 0) (old new : Standing) (first last : StageCall → ℕ) (o : Outcome) →
+completes_unopened : (name : List ℕ) (Such : GameLists → Outcome → Type 0) (old new : Standing) (o : Outcome) →
     ((g : GameLists) (at : MemoryAt) → Such g (outcome.Memory at)) → Unopened name old new o →
-    Faulted (failed_call o) first last → NoFault first last → CompletesImage name Such old o
-completes_unopened name Such old new first last _ memory (damaged at s e) out none =
+    IsUnhindered o → CompletesImage name Such old o
+completes_unopened name Such old new _ memory (damaged at s e) free =
     record { image = λ h k. absurd (not_both old name h at k s); other = λ k. s }
-completes_unopened name Such old new first last _ memory (absent s e) out none =
+completes_unopened name Such old new _ memory (absent s e) free =
     record { image = λ h k. absurd (is_missing _ k.0 s k.1); other = λ k. absurd (is_missing _ k.0 s k.1) }
-completes_unopened name Such old new first last _ memory (failed e) out none =
-    let fault : ⊥ = none call.Load (λ q. cc) out.0 in record { image = λ h k. absurd fault; other = λ k. absurd fault }
-completes_unopened name Such old new first last _ memory (wanting at e) out none =
+completes_unopened name Such old new _ memory (failed e) free =
+    let fault : ⊥ = hindered call.Load (λ q. cc) free in record { image = λ h k. absurd fault; other = λ k. absurd fault }
+completes_unopened name Such old new _ memory (wanting at e) free =
     record { image = λ h k. memory h at; other = λ k. tt }
 
 -- a game whose source is shown
-pub completes_decompile : (name : List ℕ) (old new : Standing) (first last : StageCall → ℕ) (o : Outcome) → decompile.Decompiles name old new o →
-    Faulted (failed_call o) first last → NoFault first last → CompletesImage name (λ g. Comes outcome.Done) old o
-completes_decompile name old new first last _ (decompile.done g s e) out none = completes_game name (λ g. Comes outcome.Done) old g outcome.Done s refl
-completes_decompile name old new first last _ (decompile.unopened o u) out none =
-    completes_unopened name (λ g. Comes outcome.Done) old new first last o (λ g at. tt) u out none
-completes_decompile name old new first last _ (decompile.unshown g s e) out none = absurd (none call.Show (λ q. cc) out.0)
-completes_decompile name old new first last _ (decompile.unprinted e) out none = record { image = λ h k. tt; other = λ k. tt }
+pub completes_decompile : (name : List ℕ) (old new : Standing) (o : Outcome) → decompile.Decompiles name old new o →
+    IsUnhindered o → CompletesImage name (λ g. Comes outcome.Done) old o
+completes_decompile name old new _ (decompile.done g s e) free = completes_game name (λ g. Comes outcome.Done) old g outcome.Done s refl
+completes_decompile name old new _ (decompile.unopened o u) free =
+    completes_unopened name (λ g. Comes outcome.Done) old new o (λ g at. tt) u free
+completes_decompile name old new _ (decompile.unshown g s e) free = absurd (hindered call.Show (λ q. cc) free)
+completes_decompile name old new _ (decompile.unprinted e) free = record { image = λ h k. tt; other = λ k. tt }
 
 -- a file whose game is played, where each end is such as it is to be
 pub completes_file : {Comes : GameLists → PlayEnd → Type 0} (name : List ℕ) (Such : GameLists → Outcome → Type 0) (old new : Standing)
-    (first last : StageCall → ℕ) (o : Outcome) → PlaysFile Comes name old new o →
-    ((g : GameLists) (end : PlayEnd) → Comes g end → Faulted (failed_call (outcome_of end)) first last → Such g (outcome_of end)) →
+    (o : Outcome) → PlaysFile Comes name old new o →
+    ((g : GameLists) (end : PlayEnd) → Comes g end → IsUnhindered (outcome_of end) → Such g (outcome_of end)) →
     ((g : GameLists) (at : MemoryAt) → Such g (outcome.Memory at)) →
-    Faulted (failed_call o) first last → NoFault first last → CompletesImage name Such old o
-completes_file name Such old new first last _ (plays g end s comes) such memory out none =
-    completes_game name Such old g (outcome_of end) s (such g end comes out)
-completes_file name Such old new first last _ (unopened o u) such memory out none =
-    completes_unopened name Such old new first last o memory u out none
+    IsUnhindered o → CompletesImage name Such old o
+completes_file name Such old new _ (plays g end s comes) such memory free =
+    completes_game name Such old g (outcome_of end) s (such g end comes free)
+completes_file name Such old new _ (unopened o u) such memory free =
+    completes_unopened name Such old new o memory u free
 
 -- a walk comes to its end
-pub is_walked : (whole : EndingOf) (most : ℕ) (old new : Standing) (first last : StageCall → ℕ)
-    (o : PlayEnd) → Walks whole most old new o →
-    Faulted (failed_call (outcome_of o)) first last → NoFault first last → IsWalked (outcome_of o)
-is_walked whole most old new first last end.Ended w out none = tt
-is_walked whole most old new first last end.InputEnded w out none = tt
-is_walked whole most old new first last (end.Spent kind) w out none = tt
-is_walked whole most old new first last (end.TooDeep table) w out none = tt
-is_walked whole most old new first last (end.Long events) w out none = tt
-is_walked whole most old new first last end.Memory w out none = tt
-is_walked whole most old new first last (end.Outside call.Ask) w out none = absurd (none call.Ask (λ q. cc) out.0)
-is_walked whole most old new first last (end.Outside call.Show) w out none = absurd (none call.Show (λ q. cc) out.0)
-is_walked whole most old new first last _ w out none = absurd w
+pub is_walked : (whole : EndingOf) (most : ℕ) (old new : Standing) (o : PlayEnd) → Walks whole most old new o →
+    IsUnhindered (outcome_of o) → IsWalked (outcome_of o)
+is_walked whole most old new end.Ended w free = tt
+is_walked whole most old new end.InputEnded w free = tt
+is_walked whole most old new (end.Spent kind) w free = tt
+is_walked whole most old new (end.TooDeep table) w free = tt
+is_walked whole most old new (end.Long events) w free = tt
+is_walked whole most old new end.Memory w free = tt
+is_walked whole most old new (end.Outside call.Ask) w free = absurd (hindered call.Ask (λ q. cc) free)
+is_walked whole most old new (end.Outside call.Show) w free = absurd (hindered call.Show (λ q. cc) free)
+is_walked whole most old new _ w free = absurd w
 
-pub completes_walk : (told : Story → ℕ → EndingOf) (rows : List (List ℕ)) (name : List ℕ) (seed : ℕ) (old new : Standing)
-    (first last : StageCall → ℕ) (o : Outcome) →
-    WalksAs told rows name seed old new o →
-    Faulted (failed_call o) first last → NoFault first last → CompletesImage name (λ g. IsWalked) old o
-completes_walk told rows name seed old new first last o w out none =
-    completes_file name (λ g. IsWalked) old new first last o w
-    (λ g end p rose. is_walked (told (story_of g rows) seed) EVENT_LIMIT old new first last end p rose none) (λ g at. tt) out none
+pub completes_walk : (told : Story → ℕ → EndingOf) (rows : List (List ℕ)) (name : List ℕ) (seed : ℕ) (old new : Standing) (o : Outcome) →
+    WalksAs told rows name seed old new o → IsUnhindered o → CompletesImage name (λ g. IsWalked) old o
+completes_walk told rows name seed old new o w free =
+    completes_file name (λ g. IsWalked) old new o w
+    (λ g end p free. is_walked (told (story_of g rows) seed) EVENT_LIMIT old new end p free) (λ g at. tt) free

@@ -4,7 +4,7 @@ use Rattle.paw_game.specs.Game.{GameLists}
 use Rattle.paw_effects.specs.Story.{Story, story_of}
 use Rattle.paw_state.specs.State.{State}
 use Rattle.paw_state.specs.Fit.{Fit}
-use Rattle.paw_stage.specs.Stage.{Standing, Faulted}
+use Rattle.paw_stage.specs.Stage.{Standing}
 use Rattle.paw_stage.specs.declared.StageCall.{StageCall}
 use Rattle.paw_stage.specs.declared.StageCall.TheVariants as call
 use Rattle.paw_journal.specs.Session.{Recovered, Unmade, Damaged, Shown, recover, state_length}
@@ -18,37 +18,37 @@ use Rattle.paw_play.specs.Play as session
 use Rattle.paw_play.specs.Play.{ShowsAs, PlaysIn, PlaysFirst, PlaysUp, PlaysAgain, ShowsState, Refuses, attached_to, store_bytes}
 use Rattle.paw_play.specs.declared.PlayEnd.{PlayEnd}
 use Rattle.paw_play.specs.declared.PlayEnd.TheVariants as end
-use Rattle.paw_top.specs.Answers.{failed_call}
-use Rattle.paw_top.specs.Completes.{NoFault, IsWalked, Comes, CompletesNew, CompletesAgain, CompletesImage}
+use Rattle.paw_top.specs.Completes.{IsUnhindered}
+use Rattle.paw_top.specs.inner.Completes.{IsWalked, Comes, CompletesNew, CompletesAgain, CompletesImage}
 use Rattle.paw_top.specs.Ends.{outcome_of, refused_as}
 use Rattle.paw_top.specs.Sessions.{digest_of, PlaysNewIn, PlaysAgainIn}
 use Rattle.paw_top.specs.declared.outcome.Outcome.{Outcome}
 use Rattle.paw_top.specs.declared.outcome.Outcome.TheVariants as outcome
 use Rattle.paw_top.specs.declared.outcome.MemoryAt.{MemoryAt}
 use Rattle.paw_top.specs.declared.outcome.MemoryAt.TheVariants as memory
-use Rattle.paw_top.proofs.Completing.{completes_file}
+use Rattle.paw_top.proofs.Completing.{hindered, completes_file}
 
 -- playing on comes to its end
-plays_on : (whole : EndingOf) (most : ℕ) (old new : Standing) (first last : StageCall → ℕ) (o : PlayEnd) → ShowsAs whole most old new o →
-    Faulted (failed_call (outcome_of o)) first last → NoFault first last → IsWalked (outcome_of o)
-plays_on whole most old new first last (end.Outside call.Write) s out none = absurd (none call.Write (λ q. cc) out.0)
-plays_on whole most old new first last (end.Outside call.Sync) s out none = absurd (none call.Sync (λ q. cc) out.0)
-plays_on whole most old new first last end.Ended s out none = tt
-plays_on whole most old new first last end.InputEnded s out none = tt
-plays_on whole most old new first last (end.Occupied n) s out none = absurd s
-plays_on whole most old new first last (end.Refused r) s out none = absurd s
-plays_on whole most old new first last (end.State at) s out none = absurd s
-plays_on whole most old new first last (end.Spent kind) s out none = tt
-plays_on whole most old new first last (end.TooDeep table) s out none = tt
-plays_on whole most old new first last (end.Long events) s out none = tt
-plays_on whole most old new first last end.Memory s out none = absurd s
-plays_on whole most old new first last (end.Outside call.Ask) s out none = absurd (none call.Ask (λ q. cc) out.0)
-plays_on whole most old new first last (end.Outside call.Show) s out none = absurd (none call.Show (λ q. cc) out.0)
-plays_on whole most old new first last (end.Outside call.Load) s out none = absurd s
-plays_on whole most old new first last (end.Outside call.LoadAbsent) s out none = absurd s
-plays_on whole most old new first last (end.Outside call.Save) s out none = absurd s
-plays_on whole most old new first last (end.Outside call.Attach) s out none = absurd s
-plays_on whole most old new first last (end.Outside call.Read) s out none = absurd s
+plays_on : (whole : EndingOf) (most : ℕ) (old new : Standing) (o : PlayEnd) → ShowsAs whole most old new o →
+    IsUnhindered (outcome_of o) → IsWalked (outcome_of o)
+plays_on whole most old new (end.Outside call.Write) s free = absurd (hindered call.Write (λ q. cc) free)
+plays_on whole most old new (end.Outside call.Sync) s free = absurd (hindered call.Sync (λ q. cc) free)
+plays_on whole most old new end.Ended s free = tt
+plays_on whole most old new end.InputEnded s free = tt
+plays_on whole most old new (end.Occupied n) s free = absurd s
+plays_on whole most old new (end.Refused r) s free = absurd s
+plays_on whole most old new (end.State at) s free = absurd s
+plays_on whole most old new (end.Spent kind) s free = tt
+plays_on whole most old new (end.TooDeep table) s free = tt
+plays_on whole most old new (end.Long events) s free = tt
+plays_on whole most old new end.Memory s free = absurd s
+plays_on whole most old new (end.Outside call.Ask) s free = absurd (hindered call.Ask (λ q. cc) free)
+plays_on whole most old new (end.Outside call.Show) s free = absurd (hindered call.Show (λ q. cc) free)
+plays_on whole most old new (end.Outside call.Load) s free = absurd s
+plays_on whole most old new (end.Outside call.LoadAbsent) s free = absurd s
+plays_on whole most old new (end.Outside call.Save) s free = absurd s
+plays_on whole most old new (end.Outside call.Attach) s free = absurd s
+plays_on whole most old new (end.Outside call.Read) s free = absurd s
 
 -- ---- a new session ----
 
@@ -58,14 +58,13 @@ no_writing c (inl h) = λ q. cc
 no_writing c (inr (inl h)) = λ q. cc
 no_writing c (inr (inr h)) = absurd h
 
-plays_in : (Kept : ℕ → List ℕ → Type 0) (whole : EndingOf) (name : List ℕ) (old new : Standing)
-    (first last : StageCall → ℕ) (o : PlayEnd) → PlaysIn Kept whole name old new o →
-    Faulted (failed_call (outcome_of o)) first last → NoFault first last → IsWalked (outcome_of o)
-plays_in Kept whole name old new first last _ (session.memory e) out none = tt
-plays_in Kept whole name old new first last _ (session.spent kind r is e) out none = tt
-plays_in Kept whole name old new first last _ (session.too_deep table r is e) out none = tt
-plays_in Kept whole name old new first last _ (session.unmade c w e stays) out none = absurd (none c (no_writing c w) out.0)
-plays_in Kept whole name old new first last _ (session.plays o p) out none = plays_on _ _ old new first last o p.shows out none
+plays_in : (Kept : ℕ → List ℕ → Type 0) (whole : EndingOf) (name : List ℕ) (old new : Standing) (o : PlayEnd) → PlaysIn Kept whole name old new o →
+    IsUnhindered (outcome_of o) → IsWalked (outcome_of o)
+plays_in Kept whole name old new _ (session.memory e) free = tt
+plays_in Kept whole name old new _ (session.spent kind r is e) free = tt
+plays_in Kept whole name old new _ (session.too_deep table r is e) free = tt
+plays_in Kept whole name old new _ (session.unmade c w e stays) free = absurd (hindered c (no_writing c w) free)
+plays_in Kept whole name old new _ (session.plays o p) free = plays_on _ _ old new o p.shows free
 
 -- a store with bytes is refused for their number
 occupied_so : (bytes : List ℕ) → 0 < length bytes → CompletesNew bytes (outcome.Occupied (length bytes))
@@ -73,23 +72,23 @@ occupied_so [] h = absurd (omega (arith, h))
 occupied_so (b ∷ bytes) h = refl
 
 plays_new : (Kept : ℕ → List ℕ → Type 0) (whole : EndingOf) (name : List ℕ) (old new : Standing)
-    (first last : StageCall → ℕ) (o : PlayEnd) → PlaysFirst Kept whole name old new o →
-    Faulted (failed_call (outcome_of o)) first last → NoFault first last → CompletesNew (store_bytes old name) (outcome_of o)
-plays_new Kept whole name old new first last _ (session.unattached u) out none = absurd (none call.Attach (λ q. cc) out.0)
-plays_new Kept whole name old new first last _ (session.occupied h e) out none = occupied_so (store_bytes old name) h
-plays_new Kept whole name old new first last _ (session.plays_in o e p) out none =
-    subst (λ bytes. CompletesNew bytes (outcome_of o)) (sym e) (plays_in _ _ _ _ new first last o p out none)
+    (o : PlayEnd) → PlaysFirst Kept whole name old new o →
+    IsUnhindered (outcome_of o) → CompletesNew (store_bytes old name) (outcome_of o)
+plays_new Kept whole name old new _ (session.unattached u) free = absurd (hindered call.Attach (λ q. cc) free)
+plays_new Kept whole name old new _ (session.occupied h e) free = occupied_so (store_bytes old name) h
+plays_new Kept whole name old new _ (session.plays_in o e p) free =
+    subst (λ bytes. CompletesNew bytes (outcome_of o)) (sym e) (plays_in _ _ _ _ new o p free)
 
 new_memory : (bytes : List ℕ) (at : MemoryAt) → CompletesNew bytes (outcome.Memory at)
 new_memory [] at = tt
 new_memory (b ∷ bytes) at = tt
 
 pub completes_play : (rows : List (List ℕ)) (name store : List ℕ) (seed : ℕ) (old new : Standing)
-    (first last : StageCall → ℕ) (o : Outcome) → PlaysNewIn rows name store seed old new o →
-    Faulted (failed_call o) first last → NoFault first last → CompletesImage name (λ g. CompletesNew (store_bytes old store)) old o
-completes_play rows name store seed old new first last o p out none =
-    completes_file name (λ g. CompletesNew (store_bytes old store)) old new first last o p
-    (λ g end q rose. plays_new _ _ store old new first last end q rose none) (λ g at. new_memory (store_bytes old store) at) out none
+    (o : Outcome) → PlaysNewIn rows name store seed old new o →
+    IsUnhindered o → CompletesImage name (λ g. CompletesNew (store_bytes old store)) old o
+completes_play rows name store seed old new o p free =
+    completes_file name (λ g. CompletesNew (store_bytes old store)) old new o p
+    (λ g end q free. plays_new _ _ store old new end q free) (λ g at. new_memory (store_bytes old store) at) free
 
 -- ---- a session that is taken up again ----
 
@@ -150,38 +149,37 @@ shows_other g digest bytes state p q st is h not = not st (subst (λ x. ShowsSta
     same_piece : (d c s t x y : List ℕ) → Shown d s x ≡ Shown c t y → x ≡ y
     same_piece d c s t x y e = cc
 
-plays_up : (g : Story) (digest name : List ℕ) (old new : Standing) (first last : StageCall → ℕ) (o : PlayEnd) → PlaysUp g digest name old new o →
-    Faulted (failed_call (outcome_of o)) first last → NoFault first last → CompletesAgain g.game digest old.disk.bytes (outcome_of o)
-plays_up g digest name old new first last _ (session.memory e) out none = again_memory g.game digest old.disk.bytes memory.Play
-plays_up g digest name old new first last _ (session.no_state at state piece is not fault e) out none = record {
+plays_up : (g : Story) (digest name : List ℕ) (old new : Standing) (o : PlayEnd) → PlaysUp g digest name old new o →
+    IsUnhindered (outcome_of o) → CompletesAgain g.game digest old.disk.bytes (outcome_of o)
+plays_up g digest name old new _ (session.memory e) free = again_memory g.game digest old.disk.bytes memory.Play
+plays_up g digest name old new _ (session.no_state at state piece is not fault e) free = record {
   shown = λ st p h. absurd (is_unfit g.game digest old.disk.bytes state piece is not st p h);
   refused = λ r h. absurd (not_shown digest old.disk.bytes (take state_length state) piece r h is);
   no_state = λ s p h k. (at, refl);
 }
-plays_up g digest name old new first last _ (session.plays_on o st piece h p) out none = record {
-  shown = λ s q k. plays_on _ _ old new first last o p.shows out none;
+plays_up g digest name old new _ (session.plays_on o st piece h p) free = record {
+  shown = λ s q k. plays_on _ _ old new o p.shows free;
   refused = λ r k. absurd (not_shown digest old.disk.bytes (kept_bytes st) piece r k h.shown);
   no_state = λ s q is k. absurd (shows_other g.game digest old.disk.bytes s piece q st is h k);
 }
 
-plays_again : (g : Story) (digest name : List ℕ) (old new : Standing) (first last : StageCall → ℕ) (o : PlayEnd) → PlaysAgain g digest name old new o →
-    Faulted (failed_call (outcome_of o)) first last → NoFault first last →
+plays_again : (g : Story) (digest name : List ℕ) (old new : Standing) (o : PlayEnd) → PlaysAgain g digest name old new o →
+    IsUnhindered (outcome_of o) →
     CompletesAgain g.game digest (store_bytes old name) (outcome_of o)
-plays_again g digest name old new first last _ (session.unattached u) out none = absurd (none call.Attach (λ q. cc) out.0)
-plays_again g digest name old new first last _ (session.unread e) out none = absurd (none call.Read (λ q. cc) out.0)
-plays_again g digest name old new first last _ (session.wanting e) out none = again_memory g.game digest (store_bytes old name) memory.Play
-plays_again g digest name old new first last _ (session.refused r h e) out none = record {
+plays_again g digest name old new _ (session.unattached u) free = absurd (hindered call.Attach (λ q. cc) free)
+plays_again g digest name old new _ (session.unread e) free = absurd (hindered call.Read (λ q. cc) free)
+plays_again g digest name old new _ (session.wanting e) free = again_memory g.game digest (store_bytes old name) memory.Play
+plays_again g digest name old new _ (session.refused r h e) free = record {
   shown = λ st piece k. absurd (not_shown digest (store_bytes old name) (kept_bytes st) piece r h k.shown);
   refused = λ q k. comes_so r q (one_refusal digest (store_bytes old name) r q h k);
   no_state = λ state piece is k. absurd (not_shown digest (store_bytes old name) state piece r h is);
 }
-plays_again g digest name old new first last _ (session.plays_up o p) out none = plays_up g digest name (attached_to old name) new first last o p out none
+plays_again g digest name old new _ (session.plays_up o p) free = plays_up g digest name (attached_to old name) new o p free
 
-pub completes_resume : (rows : List (List ℕ)) (name store : List ℕ) (old new : Standing) (first last : StageCall → ℕ)
-    (o : Outcome) → PlaysAgainIn rows name store old new o →
-    Faulted (failed_call o) first last → NoFault first last →
+pub completes_resume : (rows : List (List ℕ)) (name store : List ℕ) (old new : Standing) (o : Outcome) → PlaysAgainIn rows name store old new o →
+    IsUnhindered o →
     CompletesImage name (λ g. CompletesAgain g (digest_of g) (store_bytes old store)) old o
-completes_resume rows name store old new first last o p out none =
-    completes_file name (λ h. CompletesAgain h (digest_of h) (store_bytes old store)) old new first last o p
-    (λ g end q rose. plays_again (story_of g rows) (digest_of g) store old new first last end q rose none)
-    (λ h at. again_memory h (digest_of h) (store_bytes old store) at) out none
+completes_resume rows name store old new o p free =
+    completes_file name (λ h. CompletesAgain h (digest_of h) (store_bytes old store)) old new o p
+    (λ g end q free. plays_again (story_of g rows) (digest_of g) store old new end q free)
+    (λ h at. again_memory h (digest_of h) (store_bytes old store) at) free

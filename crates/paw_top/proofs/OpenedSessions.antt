@@ -1,5 +1,5 @@
 -- A session that is opened: what is loaded before changes nothing.
-use Rattle.std.proofs.Common.{◌≡◌, ℕ, List, Option, Some, refl, sym, ap, subst, inl}
+use Rattle.std.proofs.Common.{◌≡◌, ℕ, List, refl, sym, ap, subst, inl}
 use Rattle.sha2.specs.Sha256.{sha256}
 use Rattle.paw_game.specs.Game.{GameLists}
 use Rattle.paw_game.specs.Image.{image}
@@ -12,7 +12,6 @@ use Rattle.paw_play.specs.declared.PlayEnd.{PlayEnd}
 use Rattle.paw_play.specs.Stands.{Stands, IsPlayedWith}
 use Rattle.paw_play.specs.Play.{PlayedSession, NotYet, InNewGame, InPlay, PlaysGame, PlaysAgain, ShowsState, kept_session, store_bytes}
 use Rattle.paw_play.proofs.Standing.{standing_again}
-use Rattle.paw_top.specs.Commands.{Command, Walk, Trace, Play, Resume}
 use Rattle.paw_top.specs.Ends.{outcome_of}
 use Rattle.paw_top.specs.Loads.{Holds}
 use Rattle.paw_top.specs.Sessions.{session_from, digest_of, GoesOnIn}
@@ -66,19 +65,3 @@ pub again_parts : {S : Type 0} (gs : Ghosts S) (before after : S) (s k : PlayedS
 again_parts gs before after s k store old mid still same p =
     subst (λ q. InTwoParts gs before after (NotYet store q) (InPlay s q)) still
     (subst (λ q. InTwoParts gs before after (NotYet store mid) (InPlay q mid)) same p)
-
--- words ask for one thing
-pub one_walk : (asked : Option Command) (i : List ℕ) (n : ℕ) (j : List ℕ) (k : ℕ) → asked ≡ Some (Walk i n) → asked ≡ Some (Walk j k) →
-    (i ≡ j) × (n ≡ k)
-one_walk asked i n j k h q = (cc, cc)
-
-pub one_trace : (asked : Option Command) (i : List ℕ) (n : ℕ) (j : List ℕ) (k : ℕ) → asked ≡ Some (Trace i n) → asked ≡ Some (Trace j k) →
-    (i ≡ j) × (n ≡ k)
-one_trace asked i n j k h q = (cc, cc)
-
-pub one_resume : (asked : Option Command) (i s j t : List ℕ) → asked ≡ Some (Resume i s) → asked ≡ Some (Resume j t) → (i ≡ j) × (s ≡ t)
-one_resume asked i s j t h q = (cc, cc)
-
-pub one_play : (asked : Option Command) (i s : List ℕ) (n : ℕ) (j t : List ℕ) (k : ℕ) → asked ≡ Some (Play i s n) → asked ≡ Some (Play j t k) →
-    (i ≡ j) × (s ≡ t) × (n ≡ k)
-one_play asked i s n j t k h q = (cc, cc, cc)

@@ -1,7 +1,6 @@
 -- What a trial comes to.
 use Rattle.std.proofs.Common.{◌≡◌, ℕ, List, refl, sym, subst}
-use Rattle.paw_stage.specs.Stage.{Standing, Faulted}
-use Rattle.paw_stage.specs.declared.StageCall.{StageCall}
+use Rattle.paw_stage.specs.Stage.{Standing}
 use Rattle.paw_stage.specs.declared.StageCall.TheVariants as call
 use Rattle.paw_reading.specs.Reading.{IsOver, RunsOut, CallsTooDeep}
 use Rattle.paw_reading.specs.Turn.{Ending, WaitsAt, Halted}
@@ -12,10 +11,11 @@ use Rattle.paw_trial.specs.inner.Trial.{IsTextOf, StopsAs}
 use Rattle.paw_top.specs.declared.outcome.Outcome.{Outcome}
 use Rattle.paw_top.specs.declared.outcome.Outcome.TheVariants as outcome
 use Rattle.paw_top.specs.declared.outcome.MemoryAt.TheVariants as memory
-use Rattle.paw_top.specs.Answers.{failed_call}
 use Rattle.paw_top.specs.Shows.{Shows}
 use Rattle.paw_top.specs.Tries.{Tries, shows, ends, spent, too_deep, wanting}
-use Rattle.paw_top.specs.Completes.{NoFault, Comes, due}
+use Rattle.paw_top.specs.Completes.{IsUnhindered}
+use Rattle.paw_top.specs.inner.Completes.{Comes, due}
+use Rattle.paw_top.proofs.Completing.{hindered}
 
 -- the answer where a trial tells no line
 abbrev pub stopped : TrialEnd → Outcome
@@ -39,16 +39,14 @@ told n old new o text (WaitsAt p path r) is t s = shows o p path r is (subst (λ
 told n old new o text _ is t s = absurd t
 
 -- where no call fails the line is shown
-shown_comes : (text : List ℕ) (old new : Standing) (first last : StageCall → ℕ) (o : Outcome) → Shows text old new o →
-    Faulted (failed_call o) first last → NoFault first last → Comes outcome.Done o
-shown_comes text old new first last outcome.Done s out none = refl
-shown_comes text old new first last (outcome.Outside call.Show) s out none = absurd (none call.Show (λ q. cc) out.0)
-shown_comes text old new first last _ s out none = absurd s
+shown_comes : (text : List ℕ) (old new : Standing) (o : Outcome) → Shows text old new o → IsUnhindered o → Comes outcome.Done o
+shown_comes text old new outcome.Done s free = refl
+shown_comes text old new (outcome.Outside call.Show) s free = absurd (hindered call.Show (λ q. cc) free)
+shown_comes text old new _ s free = absurd s
 
-pub completes_trial : (n : ℕ) (old new : Standing) (first last : StageCall → ℕ) (o : Outcome) → Tries n old new o →
-    Faulted (failed_call o) first last → NoFault first last → Comes (due (trial_reading n)) o
-completes_trial n old new first last _ (shows o p path r is s) out none = subst (λ e. Comes (due e) o) (sym is) (shown_comes _ old new first last o s out none)
-completes_trial n old new first last _ (ends r is e) out none = subst (λ x. Comes (due x) outcome.Ended) (sym is) refl
-completes_trial n old new first last _ (spent kind r is e) out none = subst (λ x. Comes (due x) (outcome.Spent kind)) (sym is) refl
-completes_trial n old new first last _ (too_deep table r is e) out none = subst (λ x. Comes (due x) (outcome.TooDeep table)) (sym is) refl
-completes_trial n old new first last _ (wanting e) out none = tt
+pub completes_trial : (n : ℕ) (old new : Standing) (o : Outcome) → Tries n old new o → IsUnhindered o → Comes (due (trial_reading n)) o
+completes_trial n old new _ (shows o p path r is s) free = subst (λ e. Comes (due e) o) (sym is) (shown_comes _ old new o s free)
+completes_trial n old new _ (ends r is e) free = subst (λ x. Comes (due x) outcome.Ended) (sym is) refl
+completes_trial n old new _ (spent kind r is e) free = subst (λ x. Comes (due x) (outcome.Spent kind)) (sym is) refl
+completes_trial n old new _ (too_deep table r is e) free = subst (λ x. Comes (due x) (outcome.TooDeep table)) (sym is) refl
+completes_trial n old new _ (wanting e) free = tt

@@ -23,10 +23,6 @@ image_line size = codes "IMAGE " ++ (decimal size ++ codes " BYTES\n")
 abbrev pub Kept : Standing → Standing → List ℕ → List ℕ → List ℕ → Type 0
 Kept old new name bytes text = (mid : Standing) × Saves old mid name (Some bytes) × (new ≡ with_shown text mid)
 
--- a save failed: the file of this name alone may hold any bytes, or be gone
-abbrev pub Unsaved : Standing → Standing → List ℕ → Type 0
-Unsaved old new name = (new ≡ old) ⊎ ((left : Option (List ℕ)) × Saves old new name left)
-
 -- how a compiler leaves what stands, by its answer
 pub data Compiles (source target : List ℕ) (old new : Standing) : Outcome → Type 0 where
   -- the source spells a game, the target holds its image, and the line was shown
@@ -39,8 +35,9 @@ pub data Compiles (source target : List ℕ) (old new : Standing) : Outcome → 
   absent : old.files source ≡ None → new ≡ old → Compiles source target old new (outcome.Outside call.LoadAbsent)
   -- the source couldn't be loaded; nothing is changed
   unloaded : new ≡ old → Compiles source target old new (outcome.Outside call.Load)
-  -- the image of the game couldn't be saved; nothing was shown
-  unsaved : (g : GameLists) → HoldsSource old source (Ok g) → Unsaved old new target →
+  -- the image of the game couldn't be saved: the target alone may hold any bytes, or be gone; nothing was shown
+  unsaved : (g : GameLists) → HoldsSource old source (Ok g) →
+      (new ≡ old) ⊎ ((left : Option (List ℕ)) × Saves old new target left) →
       Compiles source target old new (outcome.Outside call.Save)
   -- the line couldn't be shown: the target holds the image, and a first part of the line was shown
   unshown : (g : GameLists) (n : ℕ) → HoldsSource old source (Ok g) →

@@ -10,7 +10,8 @@ pub mod Compile
 pub mod Decompile
 pub mod Walk
 pub mod Sessions
+pub mod Tries
+pub mod Meaning
 pub mod Completes
 pub mod Round
-pub mod Tries
 pub mod inner

@@ -9,10 +9,6 @@ use Rattle.paw_stage.specs.Stage.{Standing}
 abbrev pub Holds : Standing → List ℕ → GameLists → Type 0
 Holds s name g = (bytes : List ℕ) × (s.files name ≡ Some bytes) × IsImage bytes g
 
--- the file of this name holds no image of a valid game
-abbrev pub HoldsNone : Standing → List ℕ → Type 0
-HoldsNone s name = (bytes : List ℕ) × (s.files name ≡ Some bytes) × ((g : GameLists) → ¬ IsImage bytes g)
-
 -- the file of this name holds no image of a valid game: the first rule that its bytes break is broken at this place
 abbrev pub HoldsDamage : Standing → List ℕ → ℕ → Type 0
 HoldsDamage s name at = (bytes : List ℕ) × (s.files name ≡ Some bytes) × ((g : GameLists) → ¬ IsImage bytes g)

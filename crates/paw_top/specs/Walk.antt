@@ -4,7 +4,7 @@ use Rattle.paw_base.specs.declared.limits.TheConstants.{EVENT_LIMIT}
 use Rattle.paw_effects.specs.Story.{Story, story_of}
 use Rattle.paw_reading.specs.Turn.{reading}
 use Rattle.paw_stage.specs.Stage.{Standing}
-use Rattle.paw_play.specs.Traces.{traced}
+use Rattle.paw_play.specs.Traces.{traced_ending}
 use Rattle.paw_play.specs.Walk.{EndingOf, Walks}
 use Rattle.paw_top.specs.Ends.{PlaysFile}
 use Rattle.paw_top.specs.declared.outcome.Outcome.{Outcome}
@@ -14,14 +14,6 @@ abbrev pub WalksAs : (Story → ℕ → EndingOf) → List (List ℕ) → List �
 WalksAs told rows name seed old new o =
     PlaysFile (λ g end. Walks (told (story_of g rows) seed) EVENT_LIMIT old new end) name old new o
 
--- a walk shows the pieces of the reading
-abbrev pub WalksIn : List (List ℕ) → List ℕ → ℕ → Standing → Standing → Outcome → Type 0
-WalksIn rows name seed old new o = WalksAs reading rows name seed old new o
-
 -- a trace shows the steps of each piece before it
 abbrev pub reading_traced : Story → ℕ → EndingOf
-reading_traced s seed = traced (reading s seed)
-
--- a trace through the game that this file holds, or why there is none, with nothing changed
-abbrev pub TracesIn : List (List ℕ) → List ℕ → ℕ → Standing → Standing → Outcome → Type 0
-TracesIn rows name seed old new o = WalksAs reading_traced rows name seed old new o
+reading_traced s seed lines = traced_ending (reading s seed lines)

@@ -3,3 +3,4 @@ pub mod Commands
 pub mod Answers
 pub mod Loads
 pub mod Compile
+pub mod Completes

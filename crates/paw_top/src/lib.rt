@@ -7,6 +7,7 @@ mod commands;
 mod compile;
 #[cfg(test)]
 mod compile_tests;
+pub mod completeness;
 mod decompile;
 pub mod laws;
 mod load;

@@ -1,6 +1,6 @@
 -- What compiling a source comes to: words that contracts between crates and proofs use beside those of
 -- specs/Compile.antt.
-use Rattle.std.specs.Prelude.{◌≡◌, ℕ, List, Result, Err, Some}
+use Rattle.std.specs.Prelude.{◌≡◌, ◌⊎◌, ℕ, List, Result, Err, Option, Some}
 use Rattle.paw_base.specs.declared.fault.SourceFault.{SourceFault}
 use Rattle.paw_game.specs.Game.{GameLists}
 use Rattle.paw_stage.specs.Stage.{Standing, Saves}
@@ -8,7 +8,6 @@ use Rattle.paw_stage.specs.declared.StageCall.TheVariants as call
 use Rattle.paw_top.specs.Shows.{Shows}
 use Rattle.paw_top.specs.declared.outcome.Outcome.{Outcome}
 use Rattle.paw_top.specs.declared.outcome.Outcome.TheVariants as outcome
-use Rattle.paw_top.specs.Compile.{Unsaved}
 
 -- ---- on the way ----
 
@@ -20,5 +19,6 @@ IsRefusal read _ = ⊥
 
 -- how saving a file and then showing a line leave what stands, by the answer
 abbrev pub SavesSo : List ℕ → List ℕ → List ℕ → Standing → Standing → Outcome → Type 0
-SavesSo name bytes line old new (outcome.Outside call.Save) = Unsaved old new name
+SavesSo name bytes line old new (outcome.Outside call.Save) =
+    (new ≡ old) ⊎ ((left : Option (List ℕ)) × Saves old new name left)
 SavesSo name bytes line old new o = (mid : Standing) × Saves old mid name (Some bytes) × Shows line mid new o

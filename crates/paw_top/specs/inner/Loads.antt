@@ -8,6 +8,10 @@ use Rattle.paw_stage.specs.declared.StageCall.TheVariants as call
 use Rattle.paw_top.specs.declared.outcome.Outcome.{Outcome}
 use Rattle.paw_top.specs.declared.outcome.Outcome.TheVariants as outcome
 
+-- the file of this name holds no image of a valid game
+abbrev pub HoldsNone : Standing → List ℕ → Type 0
+HoldsNone s name = (bytes : List ℕ) × (s.files name ≡ Some bytes) × ((g : GameLists) → ¬ IsImage bytes g)
+
 -- a load that gave nothing, by its answer; nothing is changed
 abbrev pub LoadsNone : List ℕ → Standing → Standing → Outcome → Type 0
 LoadsNone name old new (outcome.Outside call.LoadAbsent) = (old.files name ≡ None) × (new ≡ old)

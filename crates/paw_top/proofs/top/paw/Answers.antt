@@ -1,106 +1,158 @@
-use Rattle.paw_reading.specs.Turn.{reading}
-use Rattle.paw_top.specs.Walk.{reading_traced}
-use Rattle.paw_top.proofs.Completing.{completes_compile, completes_decompile, completes_walk}
-use Rattle.paw_top.proofs.CompletingSessions.{completes_play, completes_resume}
-use Rattle.paw_top.proofs.OpenedSessions.{one_walk, one_trace, one_play, one_resume}
-use Rattle.paw_top.proofs.Trying.{completes_trial}
+use Rattle.paw_effects.specs.Story.{story_of}
+use Rattle.paw_top.proofs.Completing.{unhindered}
 use Rattle.paw_top.proofs.top.paw.Goals as goal
 
 pub returns-in-Some-Compile-clause-serves : goal.returns-in-Some-Compile-clause-serves
 returns-in-Some-Compile-clause-serves g c =
     let asked = rw c.in-Some-Compile.field-0-is at c.in-Some-Compile.ensures.value in rw asked c.compile.ensures.serves
 
+pub returns-in-Some-Compile-clause-memory : goal.returns-in-Some-Compile-clause-memory
+returns-in-Some-Compile-clause-memory g c =
+    let asked = rw c.in-Some-Compile.field-0-is at c.in-Some-Compile.ensures.value in rw asked c.compile.ensures.memory
+
+pub returns-in-Some-Compile-clause-comes : goal.returns-in-Some-Compile-clause-comes
+returns-in-Some-Compile-clause-comes g c = λ tells.
+    let asked = rw c.in-Some-Compile.field-0-is at c.in-Some-Compile.ensures.value in
+    rw asked (λ X rows. c.compile.ensures.compiles tells)
+
+pub returns-in-Some-Compile-clause-moments : goal.returns-in-Some-Compile-clause-moments
+returns-in-Some-Compile-clause-moments g c = λ tells.
+    let asked = rw c.in-Some-Compile.field-0-is at c.in-Some-Compile.ensures.value in rw asked (λ X rows. tt)
+
+pub returns-in-Some-Compile-clause-completes : goal.returns-in-Some-Compile-clause-completes
+returns-in-Some-Compile-clause-completes g c = λ none.
+    unhindered c.compile.result _ _ c.compile.ensures.serves.faulted none
+
 pub returns-in-Some-Decompile-clause-serves : goal.returns-in-Some-Decompile-clause-serves
 returns-in-Some-Decompile-clause-serves g c =
     let asked = rw c.in-Some-Decompile.field-0-is at c.in-Some-Decompile.ensures.value in rw asked c.decompile.ensures.serves
+
+pub returns-in-Some-Decompile-clause-memory : goal.returns-in-Some-Decompile-clause-memory
+returns-in-Some-Decompile-clause-memory g c =
+    let asked = rw c.in-Some-Decompile.field-0-is at c.in-Some-Decompile.ensures.value in rw asked c.decompile.ensures.memory
+
+pub returns-in-Some-Decompile-clause-comes : goal.returns-in-Some-Decompile-clause-comes
+returns-in-Some-Decompile-clause-comes g c = λ tells.
+    let asked = rw c.in-Some-Decompile.field-0-is at c.in-Some-Decompile.ensures.value in
+    rw asked (λ X rows. c.decompile.ensures.decompiles tells)
+
+pub returns-in-Some-Decompile-clause-moments : goal.returns-in-Some-Decompile-clause-moments
+returns-in-Some-Decompile-clause-moments g c = λ tells.
+    let asked = rw c.in-Some-Decompile.field-0-is at c.in-Some-Decompile.ensures.value in rw asked (λ X rows. tt)
+
+pub returns-in-Some-Decompile-clause-completes : goal.returns-in-Some-Decompile-clause-completes
+returns-in-Some-Decompile-clause-completes g c = λ none.
+    unhindered c.decompile.result _ _ c.decompile.ensures.serves.faulted none
 
 pub returns-in-Some-Walk-clause-serves : goal.returns-in-Some-Walk-clause-serves
 returns-in-Some-Walk-clause-serves g c =
     let asked = rw c.in-Some-Walk.field-0-is at c.in-Some-Walk.ensures.value in rw asked c.walk.ensures.serves
 
-pub returns-in-Some-Trace-clause-serves : goal.returns-in-Some-Trace-clause-serves
-returns-in-Some-Trace-clause-serves g c =
-    let asked = rw c.in-Some-Trace.field-0-is at c.in-Some-Trace.ensures.value in rw asked c.walk-in-Some-Trace.ensures.serves
+pub returns-in-Some-Walk-clause-memory : goal.returns-in-Some-Walk-clause-memory
+returns-in-Some-Walk-clause-memory g c =
+    let asked = rw c.in-Some-Walk.field-0-is at c.in-Some-Walk.ensures.value in rw asked c.walk.ensures.memory
+
+pub returns-in-Some-Walk-clause-comes : goal.returns-in-Some-Walk-clause-comes
+returns-in-Some-Walk-clause-comes g c = λ tells.
+    let asked = rw c.in-Some-Walk.field-0-is at c.in-Some-Walk.ensures.value in
+    rw asked (c.walk.ensures.walks tells)
+
+pub returns-in-Some-Walk-clause-moments : goal.returns-in-Some-Walk-clause-moments
+returns-in-Some-Walk-clause-moments g c = λ tells.
+    let asked = rw c.in-Some-Walk.field-0-is at c.in-Some-Walk.ensures.value in rw asked (λ X rows. tt)
+
+pub returns-in-Some-Walk-clause-completes : goal.returns-in-Some-Walk-clause-completes
+returns-in-Some-Walk-clause-completes g c = λ none.
+    unhindered c.walk.result _ _ c.walk.ensures.serves.faulted none
 
 pub returns-in-Some-Play-clause-serves : goal.returns-in-Some-Play-clause-serves
 returns-in-Some-Play-clause-serves g c =
     let asked = rw c.in-Some-Play.field-0-is at c.in-Some-Play.ensures.value in rw asked c.play.ensures.serves
 
+pub returns-in-Some-Play-clause-memory : goal.returns-in-Some-Play-clause-memory
+returns-in-Some-Play-clause-memory g c =
+    let asked = rw c.in-Some-Play.field-0-is at c.in-Some-Play.ensures.value in rw asked c.play.ensures.memory
+
+pub returns-in-Some-Play-clause-comes : goal.returns-in-Some-Play-clause-comes
+returns-in-Some-Play-clause-comes g c = λ tells.
+    let asked = rw c.in-Some-Play.field-0-is at c.in-Some-Play.ensures.value in
+    rw asked (c.play.ensures.plays tells)
+
+pub returns-in-Some-Play-clause-moments : goal.returns-in-Some-Play-clause-moments
+returns-in-Some-Play-clause-moments g c = λ tells.
+    let asked = rw c.in-Some-Play.field-0-is at c.in-Some-Play.ensures.value in
+    rw asked (λ X rows h holds empty. c.play.ensures.any_moment tells (story_of h X) rows holds empty)
+
+pub returns-in-Some-Play-clause-completes : goal.returns-in-Some-Play-clause-completes
+returns-in-Some-Play-clause-completes g c = λ none.
+    unhindered c.play.result _ _ c.play.ensures.serves.faulted none
+
 pub returns-in-Some-Resume-clause-serves : goal.returns-in-Some-Resume-clause-serves
 returns-in-Some-Resume-clause-serves g c =
     let asked = rw c.in-Some-Resume.field-0-is at c.in-Some-Resume.ensures.value in rw asked c.resume.ensures.serves
+
+pub returns-in-Some-Resume-clause-memory : goal.returns-in-Some-Resume-clause-memory
+returns-in-Some-Resume-clause-memory g c =
+    let asked = rw c.in-Some-Resume.field-0-is at c.in-Some-Resume.ensures.value in rw asked c.resume.ensures.memory
+
+pub returns-in-Some-Resume-clause-comes : goal.returns-in-Some-Resume-clause-comes
+returns-in-Some-Resume-clause-comes g c = λ tells.
+    let asked = rw c.in-Some-Resume.field-0-is at c.in-Some-Resume.ensures.value in
+    rw asked (λ X rows. record {
+      again = c.resume.ensures.plays tells X rows;
+      goes_on = λ h seed es holds played stands. c.resume.ensures.goes_on tells (story_of h X) seed es rows holds played stands;
+    })
+
+pub returns-in-Some-Resume-clause-moments : goal.returns-in-Some-Resume-clause-moments
+returns-in-Some-Resume-clause-moments g c = λ tells.
+    let asked = rw c.in-Some-Resume.field-0-is at c.in-Some-Resume.ensures.value in
+    rw asked (λ X rows. record {
+      from_a_state = λ h st piece holds shows. c.resume.ensures.any_moment tells (story_of h X) st piece rows holds shows;
+      from_lines = λ h seed es holds played stands. c.resume.ensures.any_moment_on tells (story_of h X) seed es rows holds played stands;
+    })
+
+pub returns-in-Some-Resume-clause-completes : goal.returns-in-Some-Resume-clause-completes
+returns-in-Some-Resume-clause-completes g c = λ none.
+    unhindered c.resume.result _ _ c.resume.ensures.serves.faulted none
+
+pub returns-in-Some-Trace-clause-serves : goal.returns-in-Some-Trace-clause-serves
+returns-in-Some-Trace-clause-serves g c =
+    let asked = rw c.in-Some-Trace.field-0-is at c.in-Some-Trace.ensures.value in rw asked c.walk-in-Some-Trace.ensures.serves
+
+pub returns-in-Some-Trace-clause-memory : goal.returns-in-Some-Trace-clause-memory
+returns-in-Some-Trace-clause-memory g c =
+    let asked = rw c.in-Some-Trace.field-0-is at c.in-Some-Trace.ensures.value in rw asked c.walk-in-Some-Trace.ensures.memory
+
+pub returns-in-Some-Trace-clause-comes : goal.returns-in-Some-Trace-clause-comes
+returns-in-Some-Trace-clause-comes g c = λ tells.
+    let asked = rw c.in-Some-Trace.field-0-is at c.in-Some-Trace.ensures.value in
+    rw asked (c.walk-in-Some-Trace.ensures.walks tells)
+
+pub returns-in-Some-Trace-clause-moments : goal.returns-in-Some-Trace-clause-moments
+returns-in-Some-Trace-clause-moments g c = λ tells.
+    let asked = rw c.in-Some-Trace.field-0-is at c.in-Some-Trace.ensures.value in rw asked (λ X rows. tt)
+
+pub returns-in-Some-Trace-clause-completes : goal.returns-in-Some-Trace-clause-completes
+returns-in-Some-Trace-clause-completes g c = λ none.
+    unhindered c.walk-in-Some-Trace.result _ _ c.walk-in-Some-Trace.ensures.serves.faulted none
 
 pub returns-in-Some-Trial-clause-serves : goal.returns-in-Some-Trial-clause-serves
 returns-in-Some-Trial-clause-serves g c =
     let asked = rw c.in-Some-Trial.field-0-is at c.in-Some-Trial.ensures.value in rw asked c.trial.ensures.serves
 
-pub returns-in-Some-Compile-clause-completes : goal.returns-in-Some-Compile-clause-completes
-returns-in-Some-Compile-clause-completes g c = λ tells none.
-    let asked = rw c.in-Some-Compile.field-0-is at c.in-Some-Compile.ensures.value in
-    rw asked (completes_compile c.in-Some-Compile.source.now c.in-Some-Compile.image.now _ _ _ _ c.compile.result
-    (c.compile.ensures.compiles tells) c.compile.ensures.serves.faulted none)
+pub returns-in-Some-Trial-clause-memory : goal.returns-in-Some-Trial-clause-memory
+returns-in-Some-Trial-clause-memory g c =
+    let asked = rw c.in-Some-Trial.field-0-is at c.in-Some-Trial.ensures.value in rw asked c.trial.ensures.memory
 
-pub returns-in-Some-Decompile-clause-completes : goal.returns-in-Some-Decompile-clause-completes
-returns-in-Some-Decompile-clause-completes g c = λ tells none.
-    let asked = rw c.in-Some-Decompile.field-0-is at c.in-Some-Decompile.ensures.value in
-    rw asked (completes_decompile c.in-Some-Decompile.image.now _ _ _ _ c.decompile.result
-    (c.decompile.ensures.decompiles tells) c.decompile.ensures.serves.faulted none)
+pub returns-in-Some-Trial-clause-comes : goal.returns-in-Some-Trial-clause-comes
+returns-in-Some-Trial-clause-comes g c = λ tells.
+    let asked = rw c.in-Some-Trial.field-0-is at c.in-Some-Trial.ensures.value in
+    rw asked (λ X rows. c.trial.ensures.tries tells)
 
-pub returns-in-Some-Walk-clause-completes : goal.returns-in-Some-Walk-clause-completes
-returns-in-Some-Walk-clause-completes g c = λ tells none.
-    let asked = rw c.in-Some-Walk.field-0-is at c.in-Some-Walk.ensures.value in
-    rw asked (completes_walk reading c.requires.rows.0 c.in-Some-Walk.image.now c.in-Some-Walk.seed _ _ _ _ c.walk.result
-    (c.walk.ensures.walks tells c.requires.rows.0 c.requires.rows.1) c.walk.ensures.serves.faulted none)
-
-pub returns-in-Some-Trace-clause-completes : goal.returns-in-Some-Trace-clause-completes
-returns-in-Some-Trace-clause-completes g c = λ tells none.
-    let asked = rw c.in-Some-Trace.field-0-is at c.in-Some-Trace.ensures.value in
-    rw asked (completes_walk reading_traced c.requires.rows.0 c.in-Some-Trace.image.now c.in-Some-Trace.seed _ _ _ _
-    c.walk-in-Some-Trace.result (c.walk-in-Some-Trace.ensures.walks tells c.requires.rows.0 c.requires.rows.1) c.walk-in-Some-Trace.ensures.serves.faulted none)
-
-pub returns-in-Some-Play-clause-completes : goal.returns-in-Some-Play-clause-completes
-returns-in-Some-Play-clause-completes g c = λ tells none.
-    let asked = rw c.in-Some-Play.field-0-is at c.in-Some-Play.ensures.value in
-    rw asked (completes_play c.requires.rows.0 c.in-Some-Play.image.now c.in-Some-Play.store.now c.in-Some-Play.seed _ _ _ _
-    c.play.result (c.play.ensures.plays tells c.requires.rows.0 c.requires.rows.1) c.play.ensures.serves.faulted none)
-
-pub returns-in-Some-Resume-clause-completes : goal.returns-in-Some-Resume-clause-completes
-returns-in-Some-Resume-clause-completes g c = λ tells none.
-    let asked = rw c.in-Some-Resume.field-0-is at c.in-Some-Resume.ensures.value in
-    rw asked (completes_resume c.requires.rows.0 c.in-Some-Resume.image.now c.in-Some-Resume.store.now _ _ _ _ c.resume.result
-    (c.resume.ensures.plays tells c.requires.rows.0 c.requires.rows.1) c.resume.ensures.serves.faulted none)
+pub returns-in-Some-Trial-clause-moments : goal.returns-in-Some-Trial-clause-moments
+returns-in-Some-Trial-clause-moments g c = λ tells.
+    let asked = rw c.in-Some-Trial.field-0-is at c.in-Some-Trial.ensures.value in rw asked (λ X rows. tt)
 
 pub returns-in-Some-Trial-clause-completes : goal.returns-in-Some-Trial-clause-completes
-returns-in-Some-Trial-clause-completes g c = λ tells none.
-    let asked = rw c.in-Some-Trial.field-0-is at c.in-Some-Trial.ensures.value in
-    rw asked (completes_trial c.in-Some-Trial.n _ _ _ _ c.trial.result (c.trial.ensures.tries tells) c.trial.ensures.serves.faulted none)
-
-pub returns-in-Some-Walk-clause-walks : goal.returns-in-Some-Walk-clause-walks
-returns-in-Some-Walk-clause-walks g c = λ tells image seed asked.
-    let same = one_walk _ image seed _ _ asked (rw c.in-Some-Walk.field-0-is at c.in-Some-Walk.ensures.value) in
-    rw (same.0, same.1) (c.walk.ensures.walks tells)
-
-pub returns-in-Some-Trace-clause-traces : goal.returns-in-Some-Trace-clause-traces
-returns-in-Some-Trace-clause-traces g c = λ tells image seed asked.
-    let same = one_trace _ image seed _ _ asked (rw c.in-Some-Trace.field-0-is at c.in-Some-Trace.ensures.value) in
-    rw (same.0, same.1) (c.walk-in-Some-Trace.ensures.walks tells)
-
-pub returns-in-Some-Play-clause-any_moment_of_play : goal.returns-in-Some-Play-clause-any_moment_of_play
-returns-in-Some-Play-clause-any_moment_of_play g c = λ tells image store seed asked.
-    let same = one_play _ image store seed _ _ _ asked (rw c.in-Some-Play.field-0-is at c.in-Some-Play.ensures.value) in
-    rw (same.0, same.1, same.2) (c.play.ensures.any_moment tells)
-
-pub returns-in-Some-Resume-clause-any_moment_from_a_state : goal.returns-in-Some-Resume-clause-any_moment_from_a_state
-returns-in-Some-Resume-clause-any_moment_from_a_state g c = λ tells image store asked.
-    let same = one_resume _ image store _ _ asked (rw c.in-Some-Resume.field-0-is at c.in-Some-Resume.ensures.value) in
-    rw (same.0, same.1) (c.resume.ensures.any_moment tells)
-
-pub returns-in-Some-Resume-clause-goes_on : goal.returns-in-Some-Resume-clause-goes_on
-returns-in-Some-Resume-clause-goes_on g c = λ tells image store asked.
-    let same = one_resume _ image store _ _ asked (rw c.in-Some-Resume.field-0-is at c.in-Some-Resume.ensures.value) in
-    rw (same.0, same.1) (c.resume.ensures.goes_on tells)
-
-pub returns-in-Some-Resume-clause-any_moment_of_resume : goal.returns-in-Some-Resume-clause-any_moment_of_resume
-returns-in-Some-Resume-clause-any_moment_of_resume g c = λ tells image store asked.
-    let same = one_resume _ image store _ _ asked (rw c.in-Some-Resume.field-0-is at c.in-Some-Resume.ensures.value) in
-    rw (same.0, same.1) (c.resume.ensures.any_moment_on tells)
+returns-in-Some-Trial-clause-completes g c = λ none.
+    unhindered c.trial.result _ _ c.trial.ensures.serves.faulted none

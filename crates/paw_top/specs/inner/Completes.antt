@@ -1,0 +1,102 @@
+-- What a command comes to where nothing outside fails: words of a law that follows from what each command comes to.
+use Rattle.std.specs.Prelude.{◌≡◌, ◌≢◌, ℕ, List, [], ◌∷◌, length, Result, Ok, Err, Some}
+use Rattle.paw_base.specs.declared.fault.SourceFault.{SourceFault}
+use Rattle.paw_game.specs.Game.{GameLists}
+use Rattle.paw_grammar.specs.Spells.{spelled}
+use Rattle.paw_stage.specs.Stage.{Standing}
+use Rattle.paw_state.specs.State.{State}
+use Rattle.paw_journal.specs.Session.{Shown, recover}
+use Rattle.paw_journal.specs.declared.refusal.SessionPart.TheVariants as part
+use Rattle.paw_journal.specs.declared.refusal.JournalRefusal.{JournalRefusal}
+use Rattle.paw_reading.specs.Reading.{IsOver, RunsOut, CallsTooDeep}
+use Rattle.paw_reading.specs.Turn.{Ending, WaitsAt, Halted, Unended, reading}
+use Rattle.paw_trial.specs.Trial.{trial_reading}
+use Rattle.paw_play.specs.Play.{ShowsState, Refuses, store_bytes}
+use Rattle.paw_top.specs.Compile.{Compiles}
+use Rattle.paw_top.specs.Completes.{IsUnhindered}
+use Rattle.paw_top.specs.Decompile.{Decompiles}
+use Rattle.paw_top.specs.Ends.{refused_as}
+use Rattle.paw_top.specs.Loads.{Holds, HoldsDamage}
+use Rattle.paw_top.specs.inner.Loads.{HoldsNone}
+use Rattle.paw_top.specs.Sessions.{PlaysNewIn, PlaysAgainIn, digest_of}
+use Rattle.paw_top.specs.Tries.{Tries}
+use Rattle.paw_top.specs.Walk.{WalksAs, reading_traced}
+use Rattle.paw_top.specs.declared.outcome.Outcome.{Outcome}
+use Rattle.paw_top.specs.declared.outcome.Outcome.TheVariants as outcome
+
+-- this is the answer that is due, or memory was wanting
+abbrev pub Comes : Outcome → Outcome → Type 0
+Comes due (outcome.Memory at) = Unit {0}
+Comes due o = o ≡ due
+
+-- the file was refused as no image, by the place of its first damage, or memory was wanting
+abbrev pub IsDamaged : Standing → List ℕ → Outcome → Type 0
+IsDamaged old name (outcome.ImageDamaged at) = HoldsDamage old name at
+IsDamaged old name (outcome.Memory at) = Unit {0}
+IsDamaged old name _ = ⊥
+
+-- a source that spells a game is compiled, and any other is refused for its fault
+abbrev pub CompletesSource : Result GameLists SourceFault → Outcome → Type 0
+CompletesSource (Ok g) o = Comes outcome.Done o
+CompletesSource (Err fault) o = Comes (outcome.SourceRefused fault) o
+
+-- where the source is there, it is compiled or refused
+abbrev pub CompletesCompile : List ℕ → Standing → Outcome → Type 0
+CompletesCompile source old o = (bytes : List ℕ) → old.files source ≡ Some bytes → CompletesSource (spelled bytes) o
+
+-- playing came to its end, or memory was wanting
+abbrev pub IsWalked : Outcome → Type 0
+IsWalked outcome.Ended = Unit {0}
+IsWalked outcome.InputEnded = Unit {0}
+IsWalked (outcome.Spent kind) = Unit {0}
+IsWalked (outcome.TooDeep table) = Unit {0}
+IsWalked (outcome.Long events) = Unit {0}
+IsWalked (outcome.Memory at) = Unit {0}
+IsWalked _ = ⊥
+
+-- a new session is played in an empty store, and a store with bytes is refused
+abbrev pub CompletesNew : List ℕ → Outcome → Type 0
+CompletesNew [] o = IsWalked o
+CompletesNew (b ∷ bytes) o = Comes (outcome.Occupied (length (b ∷ bytes))) o
+
+-- a session that shows a state of the game is played on, and any other store is refused
+pub record CompletesAgain (g : GameLists) (digest bytes : List ℕ) (o : Outcome) : Type 0 where
+  pub shown : (st : State) (piece : List ℕ) → ShowsState g digest bytes st piece → IsWalked o
+  pub refused : (r : JournalRefusal) → Refuses digest bytes r → Comes (refused_as r) o
+  pub no_state : (state piece : List ℕ) → recover bytes ≡ Shown digest state piece →
+      ((st : State) → ¬ ShowsState g digest bytes st piece) →
+      (at : ℕ) × Comes (outcome.SessionDamaged part.State at) o
+
+-- where the image is there, such an answer comes of its game; where the file is no image, it is refused
+pub record CompletesImage (name : List ℕ) (Such : GameLists → Outcome → Type 0) (old : Standing)
+    (o : Outcome) : Type 0 where
+  pub image : (g : GameLists) → Holds old name g → Such g o
+  pub other : HoldsNone old name → IsDamaged old name o
+
+-- the answer that a trial is due, by how the reading of its lines ends
+abbrev pub due : Ending → Outcome
+due (WaitsAt p path r) = outcome.Done
+due (Halted IsOver r) = outcome.Ended
+due (Halted (RunsOut kind) r) = outcome.Spent kind
+due (Halted (CallsTooDeep table) r) = outcome.TooDeep table
+due Unended = outcome.Done
+
+-- What a command comes to where nothing outside fails and the file that it loads is there: it does its work, or refuses
+-- the file or the store, or memory was wanting.
+pub record EachCompletes : Type 0 where
+  pub compile : (source target : List ℕ) (old new : Standing) (o : Outcome) → Compiles source target old new o →
+      IsUnhindered o → CompletesCompile source old o
+  pub decompile : (image : List ℕ) (old new : Standing) (o : Outcome) → Decompiles image old new o →
+      IsUnhindered o → CompletesImage image (λ g. Comes outcome.Done) old o
+  pub walk : (rows : List (List ℕ)) (image : List ℕ) (seed : ℕ) (old new : Standing) (o : Outcome) →
+      WalksAs reading rows image seed old new o → IsUnhindered o → CompletesImage image (λ g. IsWalked) old o
+  pub play : (rows : List (List ℕ)) (image store : List ℕ) (seed : ℕ) (old new : Standing) (o : Outcome) →
+      PlaysNewIn rows image store seed old new o →
+      IsUnhindered o → CompletesImage image (λ g. CompletesNew (store_bytes old store)) old o
+  pub resume : (rows : List (List ℕ)) (image store : List ℕ) (old new : Standing) (o : Outcome) →
+      PlaysAgainIn rows image store old new o →
+      IsUnhindered o → CompletesImage image (λ g. CompletesAgain g (digest_of g) (store_bytes old store)) old o
+  pub trace : (rows : List (List ℕ)) (image : List ℕ) (seed : ℕ) (old new : Standing) (o : Outcome) →
+      WalksAs reading_traced rows image seed old new o → IsUnhindered o → CompletesImage image (λ g. IsWalked) old o
+  pub trial : (n : ℕ) (old new : Standing) (o : Outcome) → Tries n old new o →
+      IsUnhindered o → Comes (due (trial_reading n)) o
