@@ -95,7 +95,7 @@ class Reading:
         self.faults, self.warnings, self.changes = [], [], {}
         self.broken = set()                                    # names whose declaration is faulty
         self.names, self.words, self.counts = {}, {}, dict.fromkeys(TEXTS, 0)
-        self.condacts = {name: kinds for name, kinds in paws.condact_rows()}
+        self.condacts = {row.name: row.kinds for row in paws.condact_rows()}
         self.section, self.due, self.begun = None, 0, {}       # the section, the next header, the lines of those that came
         self.item, self.items, self.length = None, {}, None    # the item, the lines of items, the length of its text
         self.exits, self.rows, self.row_due = {}, {}, 0        # exits of this location, rows of objects

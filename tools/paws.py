@@ -1,5 +1,6 @@
 """What the scripts here share: the program, what it shows for lines typed, and the parts of a source."""
 import argparse
+import collections
 import os
 import re
 import subprocess
@@ -110,23 +111,20 @@ def printable(text):
 
 # --- The table of condacts, as docs/LANGUAGE.md has it -------------------------------------------------------------
 
-def condact_table(path=None):
-    """For each condact in the order of codes: its name, the letters of what its parameters name, and what it does."""
-    rows = []
-    with open(path or os.path.join(TOP, "docs", "LANGUAGE.md"), encoding="utf-8") as file:
-        for line in file:
-            cells = [cell.strip() for cell in line.split("|")]
-            if len(cells) == 6 and cells[1].isdigit() and cells[2].isupper() and int(cells[1]) == len(rows):
-                rows.append((cells[2], cells[3].split(), cells[4]))
-    return rows
+CondactRow = collections.namedtuple("CondactRow", "code name kinds acts does")
 
 
 def condact_rows(path=None):
-    """The same without what each does."""
-    return [(name, kinds) for name, kinds, _ in condact_table(path)]
-
-
-CONDITIONS = 29  # the codes below are conditions, the others act
+    """The table of condacts, in the order of their codes: of each its name, the letters of what its parameters name, whether it acts
+    (or tests), and what it does."""
+    rows, acts = [], False
+    with open(path or os.path.join(TOP, "docs", "LANGUAGE.md"), encoding="utf-8") as file:
+        for line in file:
+            acts = acts or line == "### Actions\n"
+            cells = [cell.strip() for cell in line.split("|")]
+            if len(cells) == 6 and cells[1].isdigit() and cells[2].isupper() and int(cells[1]) == len(rows):
+                rows.append(CondactRow(len(rows), cells[2], cells[3].split(), acts, cells[4]))
+    return rows
 
 
 # --- Sources -------------------------------------------------------------------------------------------------------
@@ -208,7 +206,7 @@ class Source:
         self.words, self.exits, self.things, self.tables = [], {}, [], []
         self.comments, self.table_lines, self.first_header = {}, [], 0
         self.texts = {"/STX": [], "/MTX": [], "/OTX": [], "/LTX": []}
-        self.codes = {name: (code, kinds) for code, (name, kinds) in enumerate(condact_rows())}
+        self.condacts = {row.name: row for row in condact_rows()}
         self.section, self.place = None, None
         text = plain_of(text_of(path)).split("\x1a")[0].replace("\r\n", "\n")
         lines = text.split("\n")
@@ -274,14 +272,14 @@ class Source:
             tokens = tokens[2:]
         while tokens:
             name = tokens.pop(0)
-            if name not in self.codes:
+            if name not in self.condacts:
                 self.fault("no condact of the name " + name)
-            code, kinds = self.codes[name]
-            if len(tokens) < len(kinds):
+            condact = self.condacts[name]
+            if len(tokens) < len(condact.kinds):
                 self.fault(name + " wants more parameters")
             values = [self.value(tokens.pop(0), CLASSES[kind]) if kind in CLASSES else self.number_of(tokens.pop(0))
-                      for kind in kinds]
-            self.tables[-1][-1].steps.append(Step(name, values, code >= CONDITIONS, self.number))
+                      for kind in condact.kinds]
+            self.tables[-1][-1].steps.append(Step(name, values, condact.acts, self.number))
 
     def number_of(self, token):
         if token in PLACES:

@@ -18,7 +18,7 @@ def codes(text):
 
 def condact(source, step):
     first, second = (step.values + [0, 0])[:2]
-    return {"code": source.codes[step.name][0], "a": first, "b": second}
+    return {"code": source.condacts[step.name].code, "a": first, "b": second}
 
 
 def story_of(path):

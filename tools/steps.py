@@ -53,7 +53,7 @@ class Names:
 
     def step(self, step):
         """A condact with its parameters, and what they stand for in brackets."""
-        row, told, kinds = [step.name], [], self.source.codes[step.name][1]
+        row, told, kinds = [step.name], [], self.source.condacts[step.name].kinds
         for kind, value in zip(kinds, step.values):
             if kind in paws.CLASSES:
                 row.append("_" if value == 255 else self.of(kind, value))
