@@ -19,6 +19,7 @@ use crate::act::Effect;
 use crate::act::Prompt;
 use crate::act::Truth;
 use crate::does::act;
+use crate::does::is_condition;
 use crate::does::test;
 use paw_base::codes::ABILITY;
 use paw_base::codes::ABSENT;
@@ -379,7 +380,7 @@ fn read<F: Fn(u8, u8) -> u8>(
     let Some(c) = game.condact(0, entry, at) else {
         return Answer::Other;
     };
-    if c.code <= 28 {
+    if is_condition(c) {
         return Tests(test(game, world, c));
     }
     answer_of(act(game, world, routines, piece, c))
