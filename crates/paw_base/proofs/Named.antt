@@ -7,10 +7,10 @@ use Rattle.std.proofs.lemmas.Slice.Eq.{bytes_eq-Decides}
 use Rattle.std.proofs.lemmas.List.Quantifiers.{position-Some}
 use Rattle.std.proofs.Math.ListN.{length-map}
 use Rattle.paw_base.proofs.Filled.{has_space, has_space-plain, bytes_eq-filled_up, is_plain-capitals}
-use Rattle.paw_base.proofs.Table.{held, CONDACTS_are, length-condact_lines, within_code, below, each_code, is_plain-name_of, HasName-name_of}
+use Rattle.paw_base.proofs.Table.{held, CONDACTS_are, length-condact_lines, within_code, below, each_plain, plain_is, line_plain, is_plain-name_of, HasName-name_of}
 use Rattle.paw_base.specs.declared.rows.TheConstants.{CONDACTS}
-use Rattle.paw_base.specs.Condacts.{CondactLine, no_line, condact_lines, line_of, name_of, capitals, code_named}
-use Rattle.paw_base.specs.inner.Condacts.{filled_up, HasName, IsCode, is_plain}
+use Rattle.paw_base.specs.Condacts.{CondactLine, no_line, condact_lines, plain_line, line_of, name_of, capitals, code_named, is_indirect}
+use Rattle.paw_base.specs.inner.Condacts.{filled_up, HasName, IsPlainCode, is_plain}
 
 abbrev code_with : List ℕ → Option ℕ
 code_with name = position (λ line. bytes_eq line.name name) condact_lines
@@ -21,28 +21,29 @@ is_own : ℕ → Bool
 is_own code = unwrap_or (option_map (λ found. found == code) (code_with (name_of code))) false
 
 own_names : below is_own (length CONDACTS) ≡ true
-unfolding condact_lines line_of below is_own
+unfolding condact_lines plain_line line_of is_indirect below is_own
 own_names = refl
 
 own_from : (found : Option ℕ) (code : ℕ) → unwrap_or (option_map (λ n. n == code) found) false ≡ true → found ≡ Some code
 own_from None code h = cc
 own_from (Some n) code h = ap Some ((Decides-eqb n code).0 h)
 
-code_with-name_of : (code : ℕ) → IsCode code → code_with (name_of code) ≡ Some code
+code_with-name_of : (code : ℕ) → IsPlainCode code → code_with (name_of code) ≡ Some code
 unfolding is_own
-code_with-name_of code h = own_from (code_with (name_of code)) code (each_code is_own own_names code h)
+code_with-name_of code h = own_from (code_with (name_of code)) code (each_plain is_own own_names code h)
 
 pub code_named_only : (code : ℕ) (name : List ℕ) → HasName code name → code_named name ≡ Some code
 code_named_only code name h = ap code_with (sym h.1) ∙ code_with-name_of code h.0
 
-pub code_named-name_of : (code : ℕ) → IsCode code → code_named (name_of code) ≡ Some code
+pub code_named-name_of : (code : ℕ) → IsPlainCode code → code_named (name_of code) ≡ Some code
 code_named-name_of code h = code_named_only code (name_of code) (HasName-name_of code h)
 
 pub code_named_found : (name : List ℕ) (code : ℕ) → code_named name ≡ Some code → HasName code name
-unfolding line_of
+unfolding plain_line
 code_named_found name code e =
     let p = position-Some (λ line. bytes_eq line.name (capitals name)) condact_lines code no_line e in
-    (within_code code (subst (λ (n : ℕ). code < n) length-condact_lines p.0), (bytes_eq-Decides (line_of code).name (capitals name)).0 p.1)
+    let plain = within_code code (subst (λ (n : ℕ). code < n) length-condact_lines p.0) in
+    (plain, ap (λ (l : CondactLine). l.name) (line_plain code plain) ∙ (bytes_eq-Decides (plain_line code).name (capitals name)).0 p.1)
 
 -- ---- the search among the names that are filled up
 
@@ -78,7 +79,7 @@ none_unless (Some code) h = absurd (h code refl)
 has_no_code : (name : List ℕ) → is_plain name ≡ false → (code : ℕ) → code_named name ≡ Some code → ⊥
 has_no_code name h code e =
     let has = code_named_found name code e in
-    let plain : is_plain (capitals name) ≡ true = subst (λ (s : List ℕ). is_plain s ≡ true) has.1 (is_plain-name_of code has.0) in
+    let plain : is_plain (capitals name) ≡ true = subst (λ (s : List ℕ). is_plain s ≡ true) has.1 (is_plain-name_of code (plain_is code has.0)) in
     let capital = is_plain-capitals name in
     cc
 

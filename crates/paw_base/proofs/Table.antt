@@ -1,16 +1,19 @@
 -- The table of condacts: as the code holds it, and what is true of each code.
-use Rattle.std.proofs.Common.{◌≡◌, ℕ, zero, suc, ◌≤◌, ◌<◌, Bool, true, ◌&&◌, ◌||◌, List, length, map, refl, sym, ap, ◌∙◌, nat_le, nat_lt, bytes_eq}
+use Rattle.std.proofs.Common.{◌≡◌, ℕ, zero, suc, ◌-◌, ◌≤◌, ◌<◌, ◌==◌, Bool, true, false, not, ◌&&◌, ◌||◌, inl, inr, subst, arith, Option, Some, None, SomeIff, List, length, map, refl, sym, ap, ◌∙◌, nat_le, nat_lt, bytes_eq}
+use Rattle.std.specs.Prelude.{if◌then◌else◌}
 use Rattle.std.specs.List.{slice_index_or, list_all}
 use Rattle.std.specs.Char.{is_ascii_uppercase, is_ascii_digit}
 use Rattle.std.proofs.lemmas.Bool.Decides.{Decides-below_and}
-use Rattle.std.proofs.lemmas.Bool.{leb-true, ltb-true, lt-ltb}
+use Rattle.std.proofs.lemmas.Bool.{leb-true, ltb-true, lt-ltb, le-ltb, lt-leb, le-leb, cases_lt, or_cases, and_parts}
 use Rattle.std.proofs.lemmas.Slice.Eq.{bytes_eq-Decides}
-use Rattle.std.proofs.lemmas.List.{get_or-map}
+use Rattle.std.proofs.lemmas.List.{get_or-map, get_or_past}
 use Rattle.paw_base.proofs.Filled.{has_space-plain, before_space-filled_up}
+use Rattle.paw_base.specs.declared.rows.CondactRow.{CondactRow}
 use Rattle.paw_base.specs.declared.rows.ParamKind.{ParamKind}
 use Rattle.paw_base.specs.declared.rows.TheConstants.{CONDACTS}
-use Rattle.paw_base.specs.Condacts.{CondactLine, is_code, no_line, condact_lines, line_of, name_of, first_kind, second_kind, param_count, capitals}
-use Rattle.paw_base.specs.inner.Condacts.{filled_up, before_space, condact_row_of, HasName, IsCode, is_plain}
+use Rattle.paw_base.specs.declared.codes.TheConstants.{INDIRECT, PROCESS, DOALL}
+use Rattle.paw_base.specs.Condacts.{CondactLine, is_code, is_plain_code, is_indirect, may_be_indirect, plain_code, plain_line, indirect_line, no_line, condact_lines, line_of, name_of, first_kind, second_kind, param_count, capitals}
+use Rattle.paw_base.specs.inner.Condacts.{filled_up, before_space, condact_row_of, row_of_line, HasName, IsCode, IsPlainCode, is_plain}
 
 -- ---- the code's table is the definition's
 
@@ -28,38 +31,134 @@ pub length-condact_lines : length condact_lines ≡ length CONDACTS
 unfolding condact_lines
 length-condact_lines = refl
 
--- the codes are the places of the code's table
-pub code_within : (code : ℕ) → IsCode code → code < length CONDACTS
-unfolding is_code
+-- the plain codes are the places of the code's table
+pub code_within : (code : ℕ) → IsPlainCode code → code < length CONDACTS
+unfolding is_plain_code
 code_within code h = rw (sym length-condact_lines) (ltb-true code (length condact_lines) h)
 
-pub within_code : (code : ℕ) → code < length CONDACTS → IsCode code
-unfolding is_code
+pub within_code : (code : ℕ) → code < length CONDACTS → IsPlainCode code
+unfolding is_plain_code
 within_code code h = lt-ltb code (length condact_lines) (rw length-condact_lines h)
 
-pub held_at : (code : ℕ) (row : Held) → code < length CONDACTS → slice_index_or CONDACTS code row ≡ held (line_of code)
-unfolding line_of
+pub held_at : (code : ℕ) (row : Held) → code < length CONDACTS → slice_index_or CONDACTS code row ≡ held (plain_line code)
+unfolding plain_line
 held_at code row h =
     ap (λ rows. slice_index_or rows code row) CONDACTS_are
     ∙ get_or-map held condact_lines code no_line row (rw length-condact_lines h)
 
 pub row_is : (code : ℕ) (row : Held) → code < length CONDACTS → row ≡ slice_index_or CONDACTS code row →
-    record { name = row.0; first = row.1; second = row.2; acts = row.3 } ≡ condact_row_of code
+    record { name = row.0; first = row.1; second = row.2; acts = row.3 } ≡ row_of_line (plain_line code)
 row_is code row h e = rw (e ∙ held_at code row h) refl
 
--- ---- what a test over the whole table shows of each code
+-- ---- indirect codes
+
+-- what may be indirect has a line
+pub indirect_within : (code : ℕ) → may_be_indirect code ≡ true → code < length CONDACTS
+unfolding plain_line
+indirect_within code h = elim (cases_lt code (length condact_lines)) [
+  | inl low ↦ rw (sym length-condact_lines) low
+  | inr past ↦
+      let none = get_or_past condact_lines code no_line past in
+      let wrong : false ≡ true =
+      subst (λ (l : CondactLine). (nat_lt 0 (param_count l.first) && not ((code == PROCESS) || (code == DOALL))) ≡ true) none h in
+      absurd cc
+]
+
+-- below 128 a code is plain
+pub plain_below : (code : ℕ) → code < INDIRECT → is_indirect code ≡ false
+unfolding is_indirect
+plain_below code low = rw (lt-leb INDIRECT code low) refl
+
+-- and from 128 on none is
+pub none_from : (code : ℕ) → INDIRECT ≤ code → is_plain_code code ≡ false
+unfolding is_plain_code
+none_from code high = le-ltb code (length condact_lines) (omega (arith, high, length-condact_lines))
+
+pub indirect_from : (code : ℕ) → INDIRECT ≤ code → is_indirect code ≡ may_be_indirect (code - INDIRECT)
+unfolding is_indirect
+indirect_from code high = rw (le-leb INDIRECT code high) refl
+
+-- a code is a byte
+pub code_small : (code : ℕ) → IsCode code → code < 256
+unfolding is_indirect
+code_small code is = elim (or_cases (is_plain_code code) (is_indirect code) is) [
+  | inl plain ↦ let within = code_within code plain in omega (arith, within)
+  | inr indirect ↦ let within = indirect_within (code - INDIRECT) (and_parts (nat_le INDIRECT code) _ indirect).1 in omega (arith, within)
+]
+
+-- a plain code is a code
+pub plain_is : (code : ℕ) → IsPlainCode code → IsCode code
+plain_is code h = rw h refl
+
+-- a code below 128 is plain, and from 128 on that of a plain one
+pub plain_of_code : (code : ℕ) → IsCode code → code < INDIRECT → IsPlainCode code
+plain_of_code code is low = elim (or_cases (is_plain_code code) (is_indirect code) is) [
+  | inl plain ↦ plain
+  | inr indirect ↦ let not_so = plain_below code low in absurd cc
+]
+
+pub indirect_of_code : (code : ℕ) → IsCode code → INDIRECT ≤ code → is_indirect code ≡ true
+indirect_of_code code is high = elim (or_cases (is_plain_code code) (is_indirect code) is) [
+  | inl plain ↦ let not_so = none_from code high in absurd cc
+  | inr indirect ↦ indirect
+]
+
+pub plain_within : (code : ℕ) → IsCode code → INDIRECT ≤ code → IsPlainCode (code - INDIRECT)
+plain_within code is high =
+    within_code (code - INDIRECT) (indirect_within (code - INDIRECT) (sym (indirect_from code high) ∙ indirect_of_code code is high))
+
+-- the row of a code is that of a plain one, or of the indirect one that stands for it
+pub plain_side : (code : ℕ) → code < INDIRECT → (r : Option CondactRow) → SomeIff r (IsPlainCode code) (row_of_line (plain_line code))
+    → SomeIff r (IsCode code) (condact_row_of code)
+unfolding line_of
+plain_side code low None none = λ is. none (plain_of_code code is low)
+plain_side code low (Some row) (is, e) = (plain_is code is, rw (plain_below code low) e)
+
+pub indirect_side : (code : ℕ) → INDIRECT ≤ code → (r : Option CondactRow)
+    → SomeIff r (may_be_indirect (code - INDIRECT) ≡ true) (row_of_line (indirect_line (code - INDIRECT)))
+    → SomeIff r (IsCode code) (condact_row_of code)
+unfolding line_of
+indirect_side code high None none = λ is. none (sym (indirect_from code high) ∙ indirect_of_code code is high)
+indirect_side code high (Some row) (may, e) =
+    let indirect = indirect_from code high ∙ may in
+    (rw (none_from code high, indirect) refl, rw indirect e)
+
+pub line_plain : (code : ℕ) → IsPlainCode code → line_of code ≡ plain_line code
+unfolding line_of
+line_plain code h = let within = code_within code h in rw (plain_below code (omega (arith, within))) refl
+
+alike : (b : Bool) (code : ℕ) → (if b then indirect_line (code - INDIRECT) else plain_line code).acts ≡ (plain_line (if b then code - INDIRECT else code)).acts
+alike true code = refl
+alike false code = refl
+
+-- an indirect condact acts where the plain one does
+pub acts_alike : (code : ℕ) → (line_of code).acts ≡ (plain_line (plain_code code)).acts
+unfolding line_of
+acts_alike code = alike (is_indirect code) code
+
+-- ---- what a test over all codes shows of each
 
 unfoldable pub below : (ℕ → Bool) → ℕ → Bool
 below test zero = true
 below test (suc n) = test n && below test n
 
-pub each_code : (test : ℕ → Bool) → below test (length CONDACTS) ≡ true → (code : ℕ) → IsCode code → test code ≡ true
+pub each_plain : (test : ℕ → Bool) → below test (length CONDACTS) ≡ true → (code : ℕ) → IsPlainCode code → test code ≡ true
 unfolding below
-each_code test all code h =
+each_plain test all code h =
     (Decides-below_and test (λ k. test k ≡ true) (below test) (λ k. (λ e. e, λ e. e)) refl (λ _. refl) (length CONDACTS)).0 all code (code_within code h)
 
-plain_names : below (λ code. is_plain (name_of code)) (length CONDACTS) ≡ true
-unfolding condact_lines line_of below
+after : (code : ℕ) (test : ℕ → Bool) → (not (is_code code) || test code) ≡ true → IsCode code → test code ≡ true
+after code test h is = subst (λ b. (not b || test code) ≡ true) is h
+
+pub each_code : (test : ℕ → Bool) → below (λ code. not (is_code code) || test code) 256 ≡ true → (code : ℕ) → IsCode code → test code ≡ true
+unfolding below
+each_code test all code h =
+    after code test
+    ((Decides-below_and (λ k. not (is_code k) || test k) (λ k. (not (is_code k) || test k) ≡ true) (below (λ k. not (is_code k) || test k))
+    (λ k. (λ e. e, λ e. e)) refl (λ _. refl) 256).0 all code (code_small code h)) h
+
+plain_names : below (λ code. not (is_code code) || (is_plain (name_of code))) 256 ≡ true
+unfolding condact_lines plain_line line_of is_plain_code is_indirect below
 plain_names = refl
 
 -- a name has at most eight bytes, and no space
@@ -70,33 +169,33 @@ is_plain-name_of = each_code (λ code. is_plain (name_of code)) plain_names
 pub before_space-row_of : (code : ℕ) → IsCode code → before_space (condact_row_of code).name ≡ name_of code
 before_space-row_of code h = before_space-filled_up (name_of code) (has_space-plain (name_of code) (is_plain-name_of code h))
 
-some_name : below (λ code. nat_lt 0 (length (name_of code))) (length CONDACTS) ≡ true
-unfolding condact_lines line_of below
+some_name : below (λ code. not (is_code code) || (nat_lt 0 (length (name_of code)))) 256 ≡ true
+unfolding condact_lines plain_line line_of is_plain_code is_indirect below
 some_name = refl
 
 -- a name has a byte
 pub length-name_of : (code : ℕ) → IsCode code → 0 < length (name_of code)
 length-name_of code h = leb-true 1 (length (name_of code)) (each_code (λ k. nat_lt 0 (length (name_of k))) some_name code h)
 
-letter_names : below (λ code. list_all (λ byte. is_ascii_uppercase byte || is_ascii_digit byte) (name_of code)) (length CONDACTS) ≡ true
-unfolding condact_lines line_of below
+letter_names : below (λ code. not (is_code code) || (list_all (λ byte. is_ascii_uppercase byte || is_ascii_digit byte) (name_of code))) 256 ≡ true
+unfolding condact_lines plain_line line_of is_plain_code is_indirect below
 letter_names = refl
 
 -- a name has capitals and digits alone
 pub letters-name_of : (code : ℕ) → IsCode code → list_all (λ byte. is_ascii_uppercase byte || is_ascii_digit byte) (name_of code) ≡ true
 letters-name_of = each_code (λ code. list_all (λ byte. is_ascii_uppercase byte || is_ascii_digit byte) (name_of code)) letter_names
 
-capital_names : below (λ code. bytes_eq (name_of code) (capitals (name_of code))) (length CONDACTS) ≡ true
-unfolding condact_lines line_of below
+capital_names : below (λ code. not (is_code code) || (bytes_eq (name_of code) (capitals (name_of code)))) 256 ≡ true
+unfolding condact_lines plain_line line_of is_plain_code is_indirect below
 capital_names = refl
 
 -- a name is read as it stands
-pub HasName-name_of : (code : ℕ) → IsCode code → HasName code (name_of code)
+pub HasName-name_of : (code : ℕ) → IsPlainCode code → HasName code (name_of code)
 HasName-name_of code h =
-    (h, (bytes_eq-Decides (name_of code) (capitals (name_of code))).0 (each_code (λ k. bytes_eq (name_of k) (capitals (name_of k))) capital_names code h))
+    (h, (bytes_eq-Decides (name_of code) (capitals (name_of code))).0 (each_code (λ k. bytes_eq (name_of k) (capitals (name_of k))) capital_names code (plain_is code h)))
 
-firsts_stand : below (λ code. nat_le (param_count (second_kind code)) (param_count (first_kind code))) (length CONDACTS) ≡ true
-unfolding condact_lines line_of below
+firsts_stand : below (λ code. not (is_code code) || (nat_le (param_count (second_kind code)) (param_count (first_kind code)))) 256 ≡ true
+unfolding condact_lines plain_line line_of is_plain_code is_indirect below
 firsts_stand = refl
 
 -- a code with a second parameter has a first

@@ -1,7 +1,8 @@
 -- The condacts: their codes, their names, and what their parameters name.
-use Rattle.std.specs.Prelude.{ℕ, ◌+◌, Bool, true, false, List, [], ◌∷◌, length, map, Option, codes, bytes_eq, nat_lt}
+use Rattle.std.specs.Prelude.{ℕ, ◌+◌, ◌-◌, ◌==◌, ◌&&◌, ◌||◌, if◌then◌else◌, Bool, true, false, List, [], ◌∷◌, length, map, Option, codes, bytes_eq, nat_lt, nat_le, not}
 use Rattle.std.specs.List.{slice_index_or, position}
 use Rattle.std.specs.Char.{to_ascii_uppercase}
+use Rattle.paw_base.specs.declared.codes.TheConstants.{INDIRECT, PROCESS, DOALL}
 use Rattle.paw_base.specs.declared.rows.ParamKind.{ParamKind}
 use Rattle.paw_base.specs.declared.rows.ParamKind.TheVariants.{Absent, Location, Place, Object, Flag}
 use Rattle.paw_base.specs.declared.rows.ParamKind.TheVariants.{Number, Message, System, Table, Adverb}
@@ -134,17 +135,46 @@ condact_lines =
     action (codes "INPUT") Number Absent ∷  -- 107
     []
 
--- the codes are the numbers of the lines
-unfoldable pub is_code : ℕ → Bool
-is_code code = nat_lt code (length condact_lines)
+-- the plain codes are the numbers of the lines
+unfoldable pub is_plain_code : ℕ → Bool
+is_plain_code code = nat_lt code (length condact_lines)
 
 -- a line with no name and no parameters
 abbrev pub no_line : CondactLine
 no_line = action [] Absent Absent
 
--- the line of a code; above the last one with no name
+-- the line of a plain code; of any other number one with no name
+unfoldable pub plain_line : ℕ → CondactLine
+plain_line code = slice_index_or condact_lines code no_line
+
+-- a kind stands for one parameter, Absent for none
+abbrev pub param_count : ParamKind → ℕ
+param_count Absent = 0
+param_count _ = 1
+
+-- a condact with a first parameter may take it from a flag, but PROCESS and DOALL
+abbrev pub may_be_indirect : ℕ → Bool
+may_be_indirect code = nat_lt 0 (param_count (plain_line code).first) && not ((code == PROCESS) || (code == DOALL))
+
+-- the code of an indirect condact: that of the plain one, and 128
+unfoldable pub is_indirect : ℕ → Bool
+is_indirect code = nat_le INDIRECT code && may_be_indirect (code - INDIRECT)
+
+-- a code of a condact
+abbrev pub is_code : ℕ → Bool
+is_code code = is_plain_code code || is_indirect code
+
+-- the code of the plain condact
+abbrev pub plain_code : ℕ → ℕ
+plain_code code = if is_indirect code then code - INDIRECT else code
+
+-- the line of the indirect condact of a plain code: its first parameter is a flag
+abbrev pub indirect_line : ℕ → CondactLine
+indirect_line code = record (plain_line code) { first = Flag }
+
+-- the line of a code
 unfoldable pub line_of : ℕ → CondactLine
-line_of code = slice_index_or condact_lines code no_line
+line_of code = if is_indirect code then indirect_line (code - INDIRECT) else plain_line code
 
 -- the name of a code
 abbrev pub name_of : ℕ → List ℕ
@@ -157,11 +187,6 @@ first_kind code = (line_of code).first
 -- what the second parameter of a code names
 abbrev pub second_kind : ℕ → ParamKind
 second_kind code = (line_of code).second
-
--- a kind stands for one parameter, Absent for none
-abbrev pub param_count : ParamKind → ℕ
-param_count Absent = 0
-param_count _ = 1
 
 -- how many parameters a code has: 0 to 2
 abbrev pub params_of : ℕ → ℕ

@@ -1,10 +1,13 @@
 // The table of condacts: the name and the parameters of each code.
 
-ghost use Rattle.std.specs.Prelude.{◌≡◌, ◌+◌, ℕ, SomeIff, IfSome, is_some, bytes_eq, ◌==◌};
+ghost use Rattle.std.specs.Prelude.{◌≡◌, ◌+◌, ℕ, true, SomeIff, IfSome, is_some, bytes_eq, ◌==◌};
 ghost use Rattle.std.specs.List.{position};
-ghost use Rattle.paw_base.specs.Condacts.{param_count, name_of, capitals, code_named};
-ghost use Rattle.paw_base.specs.inner.Condacts.{IsCode, HasName, is_act, is_plain, before_space, condact_row_of, filled_up};
+ghost use Rattle.paw_base.specs.Condacts.{param_count, name_of, capitals, code_named, may_be_indirect, plain_code};
+ghost use Rattle.paw_base.specs.Condacts.{plain_line, indirect_line};
+ghost use Rattle.paw_base.specs.inner.Condacts.{IsCode, IsPlainCode, HasName, is_act, is_plain, before_space, condact_row_of, row_of_line};
+ghost use Rattle.paw_base.specs.inner.Condacts.{filled_up};
 
+use crate::codes::{DOALL, INDIRECT, PROCESS};
 use ParamKind::{
     Absent, Adjective, Adverb, Flag, Location, Message, Noun, Number, Object, Place, Preposition,
     System, Table,
@@ -187,6 +190,17 @@ static CONDACTS: [([u8; 8], ParamKind, ParamKind, bool); 108] = [
 pub fn condact_row(code: u8) -> Option<CondactRow>
     ensures { SomeIff result (IsCode code) (condact_row_of code) }
 {
+    if code < INDIRECT {
+        plain_row(code)
+    } else {
+        indirect_row(code - INDIRECT)
+    }
+}
+
+/// The row of a plain code.
+fn plain_row(code: u8) -> Option<CondactRow>
+    ensures { SomeIff result (IsPlainCode code) (row_of_line (plain_line code)) }
+{
     let (name, first, second, acts) = *CONDACTS.get(code as usize)?;
     Some(CondactRow {
         name,
@@ -196,12 +210,43 @@ pub fn condact_row(code: u8) -> Option<CondactRow>
     })
 }
 
+/// The row of the indirect condact of a plain code: its first parameter is a flag. None where it can't be indirect.
+fn indirect_row(code: u8) -> Option<CondactRow>
+    ensures { SomeIff result (may_be_indirect code ≡ true) (row_of_line (indirect_line code)) }
+{
+    let row = plain_row(code)?;
+    if row.first == Absent || code == PROCESS || code == DOALL {
+        return None;
+    }
+    Some(CondactRow { first: Flag, ..row })
+}
+
+/// Whether the condact of a plain code may take its first parameter from a flag.
+pub fn may_be_indirect(code: u8) -> bool
+    ensures value { result ≡ may_be_indirect code }
+{
+    indirect_row(code).is_some()
+}
+
+/// The code of the plain condact: for an indirect one that which it stands for.
+pub fn plain_code(code: u8) -> u8
+    requires code { IsCode code }
+    ensures value { result ≡ plain_code code }
+    ensures plain { IsPlainCode result }
+{
+    if code < INDIRECT {
+        code
+    } else {
+        code - INDIRECT
+    }
+}
+
 /// Whether the condact of a code acts; one that doesn't tests.
 pub fn acts(code: u8) -> bool
     requires code { IsCode code }
     ensures value { result ≡ is_act code }
 {
-    CONDACTS[code as usize].3
+    CONDACTS[plain_code(code) as usize].3
 }
 
 /// The code of the condact with this name, its letters a to z read as capitals; None where there is none.

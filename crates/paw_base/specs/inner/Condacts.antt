@@ -3,11 +3,15 @@ use Rattle.std.specs.Prelude.{ℕ, ◌≡◌, ◌-◌, ◌++◌, Bool, true, Lis
 use Rattle.std.specs.Prelude.{replicate, nat_le, ◌==◌, ◌&&◌, not}
 use Rattle.std.specs.List.{list_any, before_first}
 use Rattle.paw_base.specs.declared.rows.CondactRow.{CondactRow}
-use Rattle.paw_base.specs.Condacts.{is_code, line_of, name_of, first_kind, second_kind, capitals}
+use Rattle.paw_base.specs.Condacts.{CondactLine, is_code, is_plain_code, line_of, name_of, capitals}
 
 -- a code of a condact
 abbrev pub IsCode : ℕ → Type 0
 IsCode code = is_code code ≡ true
+
+-- a code of a condact that isn't indirect
+abbrev pub IsPlainCode : ℕ → Type 0
+IsPlainCode code = is_plain_code code ≡ true
 
 -- a name filled up with spaces to eight bytes
 abbrev pub filled_up : List ℕ → List ℕ
@@ -21,18 +25,17 @@ before_space name = before_first (λ byte. byte == 32) name
 abbrev pub is_act : ℕ → Bool
 is_act code = (line_of code).acts
 
+-- a line as a row of the table
+abbrev pub row_of_line : CondactLine → CondactRow
+row_of_line line = record { name = filled_up line.name; first = line.first; second = line.second; acts = line.acts }
+
 -- what the table says of a code
 abbrev pub condact_row_of : ℕ → CondactRow
-condact_row_of code = record {
-  name = filled_up (name_of code);
-  first = first_kind code;
-  second = second_kind code;
-  acts = is_act code;
-}
+condact_row_of code = row_of_line (line_of code)
 
--- the condact of this code has this name, its letters read as capitals
+-- the plain condact of this code has this name, its letters read as capitals
 abbrev pub HasName : ℕ → List ℕ → Type 0
-HasName code name = IsCode code × (name_of code ≡ capitals name)
+HasName code name = IsPlainCode code × (name_of code ≡ capitals name)
 
 -- at most eight bytes, and no space among them
 abbrev pub is_plain : List ℕ → Bool

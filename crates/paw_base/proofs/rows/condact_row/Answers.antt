@@ -1,20 +1,8 @@
-use Rattle.std.proofs.Common.{ℕ, ◌<◌, ◌≤◌, length, None, Some, arith}
-use Rattle.std.specs.Slice.{IsItemAt}
-use Rattle.paw_base.specs.declared.rows.TheConstants.{CONDACTS}
-use Rattle.paw_base.specs.inner.Condacts.{IsCode}
-use Rattle.paw_base.proofs.Table.{code_within, within_code, row_is}
+use Rattle.paw_base.proofs.Table.{plain_side, indirect_side}
 use Rattle.paw_base.proofs.rows.condact_row.Goals as goal
 
-no_row : (code : ℕ) → length CONDACTS ≤ code → ¬ IsCode code
-no_row code past is = let within = code_within code is in omega (arith, within, past)
+pub returns-then-code-lt-INDIRECT : goal.returns-then-code-lt-INDIRECT
+returns-then-code-lt-INDIRECT c = plain_side c.args.code c.if-code-lt-INDIRECT.true c.plain_row.result c.plain_row.ensures
 
-pub returns : goal.returns
-returns c =
-    let h : IsItemAt CONDACTS c.args.code (Some c.in_ok-name.field-0) = c.in_ok-name.ensures.lookup in
-    let within : c.args.code < length CONDACTS = h.3.0 in
-    (within_code c.args.code within, row_is c.args.code c.in_ok-name.field-0.now within h.1)
-
-pub returns-in_err-name : goal.returns-in_err-name
-returns-in_err-name c =
-    let h : IsItemAt CONDACTS c.args.code None = c.in_err-name.ensures.lookup in
-    rw c.from_residual.ensures (no_row c.args.code h.3)
+pub returns-else-code-lt-INDIRECT : goal.returns-else-code-lt-INDIRECT
+returns-else-code-lt-INDIRECT c = indirect_side c.args.code c.if-code-lt-INDIRECT.false c.indirect_row.result c.indirect_row.ensures
