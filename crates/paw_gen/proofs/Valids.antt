@@ -7,7 +7,7 @@ use Rattle.std.specs.Cmp.Lexicographic.{slice_cmp}
 use Rattle.std.proofs.lemmas.Bool.{and_parts}
 use Rattle.std.proofs.lemmas.List.Folds.{list_any-append, list_all-append}
 use Rattle.paw_base.specs.declared.codes.TheConstants.{DOALL}
-use Rattle.paw_base.specs.Condacts.{condact_lines, line_of, is_code}
+use Rattle.paw_base.specs.Condacts.{condact_lines, plain_line, line_of, is_plain_code, is_indirect}
 use Rattle.paw_game.specs.declared.parts.Word.{Word}
 use Rattle.paw_game.specs.Game.{GameLists}
 use Rattle.paw_game.specs.Valid.{Valid, is_within, is_word, is_text, words_rise, words_kept, has_word, is_word_or_none, is_verb_value, is_object}
@@ -108,7 +108,7 @@ exits_fine n =
 
 -- DOALL at HERE or CARRIED
 doall_fine : (g : GameLists) (p : ℕ) → is_within 252 255 p ≡ true → is_condact g (condact_with DOALL p) ≡ true
-unfolding condact_lines line_of is_code
+unfolding condact_lines plain_line line_of is_plain_code is_indirect
 doall_fine g p h = and_both (or_right (nat_lt p (length g.locations)) h) refl
 
 -- enough tables and not too many, each by its rule
@@ -116,7 +116,7 @@ abbrev tables_keep : GameLists → Bool
 tables_keep g = is_within 3 256 (length g.tables) && list_all (is_table g) g.tables
 
 tables_fine : (n : ℕ) → tables_keep (trial_game n) ≡ true
-unfolding condact_lines line_of is_code trial_game
+unfolding condact_lines plain_line line_of is_plain_code is_indirect trial_game
 tables_fine n =
     and_both (and_both (and_both (doall_fine (trial_game n) 255 refl) refl) (and_both (and_both (doall_fine (trial_game n) 254 refl) refl) refl)) refl
 

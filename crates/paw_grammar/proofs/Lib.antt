@@ -1,4 +1,5 @@
 pub mod Digits
 pub mod Entries
 pub mod Steps
+pub mod Indirect
 pub mod Skips

@@ -1,25 +1,28 @@
 -- The condacts of a line, one after another.
-use Rattle.std.proofs.Common.{◌≡◌, ℕ, ◌≤◌, ◌+◌, min, nat_lt, Bool, List, [], ◌∷◌, ◌++◌, length, Option}
+use Rattle.std.proofs.Common.{◌≡◌, ℕ, ◌≤◌, ◌+◌, min, nat_lt, Bool, true, false, drop, List, [], ◌∷◌, ◌++◌, length, Option}
 use Rattle.std.proofs.Common.{Result, Ok, Err, refl, sym, ap, subst, ◌∙◌, arith, append_assoc}
 use Rattle.std.proofs.lemmas.List.{append-nil}
 use Rattle.std.specs.Option.{ok_or}
+use Rattle.std.proofs.lemmas.Bool.{and_parts}
 use Rattle.paw_base.specs.declared.fault.SourceKind.{SourceKind}
 use Rattle.paw_base.specs.declared.fault.SourceKind.TheVariants as fault
 use Rattle.paw_base.specs.declared.parts.Condact.{Condact}
 use Rattle.paw_base.specs.declared.rows.ParamKind.{ParamKind}
 use Rattle.paw_base.specs.declared.rows.ParamKind.TheVariants as kind
-use Rattle.paw_base.specs.Condacts.{code_named, first_kind, second_kind, param_count, params_of}
+use Rattle.paw_base.specs.Condacts.{code_named, first_kind, second_kind, param_count, params_of, may_be_indirect}
 use Rattle.paw_game.specs.declared.parts.Word.{Word}
 use Rattle.paw_grammar.specs.declared.bounds.Bounds.{Bounds}
 use Rattle.paw_faults.specs.declared.unread.Unread.{Unread}
 use Rattle.paw_faults.specs.declared.unread.Unread.TheVariants as unread
 use Rattle.paw_faults.specs.inner.Gives.{Fails}
 use Rattle.paw_faults.specs.Bind.{◌>>=◌}
-use Rattle.paw_grammar.specs.Tokens.{read_by}
+use Rattle.paw_grammar.specs.Tokens.{read_by, at_is_next}
 use Rattle.paw_grammar.specs.Numbers.{number, in_range, number_below}
 use Rattle.paw_grammar.specs.Vocabulary.{known, in_class, or_none}
 use Rattle.paw_grammar.proofs.Steps.{Reads, bound, pair_parts, meant, ranged}
-use Rattle.paw_grammar.specs.Condacts.{table, parameter, condact, condacts_in, with_more_condacts}
+use Rattle.paw_grammar.proofs.Indirect.{named_plain, first_kind-indirect, second_kind-read}
+use Rattle.paw_grammar.specs.Condacts.{table, parameter, is_indirect_before, first_parameter, code_of}
+use Rattle.paw_grammar.specs.Condacts.{condact, condacts_in, with_more_condacts}
 
 -- ---- each parameter that is there takes one token
 
@@ -58,6 +61,15 @@ takes bounds ws kind.Noun ts rest x e = takes_meaning fault.Word (or_none (λ t.
 takes bounds ws kind.Adjective ts rest x e = takes_meaning fault.Word (or_none (λ t. in_class 3 (known ws t))) ts rest x e
 takes bounds ws kind.Preposition ts rest x e = takes_meaning fault.Word (or_none (λ t. in_class 4 (known ws t))) ts rest x e
 
+takes_first : (bounds : Bounds) (ws : List Word) (code : ℕ) (indirect : Bool) (ts rest : List (List ℕ)) (x : ℕ)
+    → (indirect ≡ true → may_be_indirect code ≡ true)
+    → first_parameter bounds ws indirect (first_kind code) ts ≡ Ok (x, rest)
+    → Takes (param_count (first_kind (code_of indirect code))) ts rest
+takes_first bounds ws code true ts rest x may e =
+    subst (λ (k : ParamKind). Takes (param_count k) ts rest) (sym (first_kind-indirect code (may refl)))
+    (takes_number (λ n. nat_lt n 256) fault.Number (λ t. number (drop 1 t)) ts rest x e)
+takes_first bounds ws code false ts rest x may e = takes bounds ws (first_kind code) ts rest x e
+
 -- ---- a condact takes as many tokens as it has parameters
 
 -- the tokens rest are left of ts after n parameters
@@ -72,28 +84,37 @@ skips_two bounds ws m n ts us rest (none a b) (one u c d) = record { same = rw (
 skips_two bounds ws m n ts us rest (one t a b) (none c d) = record { same = rw (a, c, b, d) refl; shorter = rw (b, d) (omega arith) }
 skips_two bounds ws m n ts us rest (one t a b) (one u c d) = record { same = rw (a, c, b, d) refl; shorter = rw (b, d) (omega arith) }
 
-abbrev with_second : Bounds → List Word → ℕ → ℕ × List (List ℕ) → Reads Condact
-with_second bounds ws code a = parameter bounds ws (second_kind code) a.1 >>= λ b. Ok (record { code = code; a = a.0; b = b.0 }, b.1)
+abbrev with_second : Bounds → List Word → Bool → ℕ → ℕ × List (List ℕ) → Reads Condact
+with_second bounds ws indirect code a =
+    parameter bounds ws (second_kind code) a.1 >>= λ b. Ok (record { code = code_of indirect code; a = a.0; b = b.0 }, b.1)
 
 abbrev with_first : Bounds → List Word → List (List ℕ) → ℕ → Reads Condact
-with_first bounds ws ts code = parameter bounds ws (first_kind code) ts >>= with_second bounds ws code
+with_first bounds ws ts code =
+    first_parameter bounds ws (is_indirect_before code ts) (first_kind code) ts >>= with_second bounds ws (is_indirect_before code ts) code
 
 pub skips : (bounds : Bounds) (ws : List Word) (name : List ℕ) (ts rest : List (List ℕ)) (c : Condact)
     → condact bounds ws name ts ≡ Ok (c, rest) → Left bounds ws (params_of c.code) ts rest
 unfolding condact
 skips bounds ws name ts rest c e =
-    let code = bound (ok_or (code_named name) fault.Condact) (with_first bounds ws ts) (c, rest) e in
-    let a = bound (parameter bounds ws (first_kind code.value) ts) (with_second bounds ws code.value) (c, rest) code.goes_on in
-    let b = bound (parameter bounds ws (second_kind code.value) a.value.1)
-    (λ b. Ok (record { code = code.value; a = a.value.0; b = b.0 }, b.1)) (c, rest) a.goes_on in
-    let made : Condact = record { code = code.value; a = a.value.0; b = b.value.0 } in
+    let found = bound (ok_or (code_named name) fault.Condact) (with_first bounds ws ts) (c, rest) e in
+    let plain : ℕ = found.value in
+    let indirect : Bool = is_indirect_before plain ts in
+    let code : ℕ = code_of indirect plain in
+    let a = bound (first_parameter bounds ws indirect (first_kind plain) ts) (with_second bounds ws indirect plain) (c, rest) found.goes_on in
+    let b = bound (parameter bounds ws (second_kind plain) a.value.1)
+    (λ b. Ok (record { code = code; a = a.value.0; b = b.0 }, b.1)) (c, rest) a.goes_on in
+    let made : Condact = record { code = code; a = a.value.0; b = b.value.0 } in
     let parts = pair_parts made c b.value.1 rest b.goes_on in
-    let first = takes bounds ws (first_kind code.value) ts a.value.1 a.value.0 a.is in
-    let second = takes bounds ws (second_kind code.value) a.value.1 b.value.1 b.value.0 b.is in
-    let two = skips_two bounds ws (param_count (first_kind code.value)) (param_count (second_kind code.value))
+    let may : indirect ≡ true → may_be_indirect plain ≡ true = λ h. (and_parts (may_be_indirect plain) (at_is_next ts) h).0 in
+    let same = second_kind-read plain indirect (named_plain name plain found.is) may in
+    let first = takes_first bounds ws plain indirect ts a.value.1 a.value.0 may a.is in
+    let second : Takes (param_count (second_kind code)) a.value.1 b.value.1 =
+    subst (λ (k : ParamKind). Takes (param_count k) a.value.1 b.value.1) (sym same)
+    (takes bounds ws (second_kind plain) a.value.1 b.value.1 b.value.0 b.is) in
+    let two = skips_two bounds ws (param_count (first_kind code)) (param_count (second_kind code))
     ts a.value.1 b.value.1 first second in
     subst (λ (d : Condact). Left bounds ws (params_of d.code) ts rest) parts.0
-    (subst (λ (us : List (List ℕ)). Left bounds ws (params_of code.value) ts us) parts.1 two)
+    (subst (λ (us : List (List ℕ)). Left bounds ws (params_of code) ts us) parts.1 two)
 
 -- ---- the loop over the condacts
 

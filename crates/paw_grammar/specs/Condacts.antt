@@ -1,7 +1,8 @@
 -- The condacts of a line.
-use Rattle.std.specs.Prelude.{ℕ, zero, suc, ◌+◌, ◌||◌, List, [], ◌∷◌, ◌++◌, min, nat_lt}
-use Rattle.std.specs.Prelude.{Option, Result, Ok, codes}
+use Rattle.std.specs.Prelude.{ℕ, zero, suc, ◌+◌, ◌&&◌, ◌||◌, Bool, List, [], ◌∷◌, ◌++◌, drop, min, nat_lt}
+use Rattle.std.specs.Prelude.{if◌then◌else◌, Option, Result, Ok, codes}
 use Rattle.std.specs.Option.{option_map, option_or, ok_or}
+use Rattle.paw_base.specs.declared.codes.TheConstants.{INDIRECT}
 use Rattle.paw_base.specs.declared.places.TheConstants.{NOT_CREATED_PLACE, CARRIED_PLACE, HERE_PLACE}
 use Rattle.paw_base.specs.declared.words.TheConstants.{ADVERB_CLASS, NOUN_CLASS, ADJECTIVE_CLASS, PREPOSITION_CLASS}
 use Rattle.paw_base.specs.declared.limits.TheConstants.{CONDACT_LIMIT, FLAG_COUNT}
@@ -10,12 +11,12 @@ use Rattle.paw_base.specs.declared.fault.SourceKind.{SourceKind}
 use Rattle.paw_base.specs.declared.fault.SourceKind.TheVariants as fault
 use Rattle.paw_base.specs.declared.rows.ParamKind.{ParamKind}
 use Rattle.paw_base.specs.declared.rows.ParamKind.TheVariants as kind
-use Rattle.paw_base.specs.Condacts.{code_named, first_kind, second_kind, params_of}
+use Rattle.paw_base.specs.Condacts.{code_named, first_kind, second_kind, params_of, may_be_indirect}
 use Rattle.paw_game.specs.declared.parts.Word.{Word}
 use Rattle.paw_game.specs.Valid.{is_within}
 use Rattle.paw_grammar.specs.declared.bounds.Bounds.{Bounds}
 use Rattle.paw_faults.specs.Bind.{◌>>=◌}
-use Rattle.paw_grammar.specs.Tokens.{read_by, at_most}
+use Rattle.paw_grammar.specs.Tokens.{read_by, at_most, at_is_next}
 use Rattle.paw_grammar.specs.Numbers.{number, in_range, number_below}
 use Rattle.paw_grammar.specs.Vocabulary.{place_among, word_or_none}
 
@@ -63,15 +64,35 @@ parameter bounds ws kind.Noun ts = word_or_none ws NOUN_CLASS ts
 parameter bounds ws kind.Adjective ts = word_or_none ws ADJECTIVE_CLASS ts
 parameter bounds ws kind.Preposition ts = word_or_none ws PREPOSITION_CLASS ts
 
+-- ---- indirect parameters ----
+
+-- the condact with this plain code is indirect: it may be, and `@` follows its name
+abbrev pub is_indirect_before : ℕ → List (List ℕ) → Bool
+is_indirect_before plain ts = may_be_indirect plain && at_is_next ts
+
+-- the number of a flag behind the first byte of a token, which is `@`
+abbrev pub flag_behind_at : List (List ℕ) → Result (ℕ × List (List ℕ)) SourceKind
+flag_behind_at ts = read_by fault.Number (λ t. number (drop 1 t)) ts >>= in_range (λ n. nat_lt n FLAG_COUNT)
+
+-- the first parameter: a flag behind `@` where the condact is indirect
+abbrev pub first_parameter : Bounds → List Word → Bool → ParamKind → List (List ℕ)
+    → Result (ℕ × List (List ℕ)) SourceKind
+first_parameter bounds ws indirect k ts = if indirect then flag_behind_at ts else parameter bounds ws k ts
+
+-- the code of a condact: where it is indirect, that of the plain one and 128
+abbrev pub code_of : Bool → ℕ → ℕ
+code_of indirect plain = if indirect then plain + INDIRECT else plain
+
 -- ---- condacts ----
 
--- a condact: its name, which is Condact where none has it, and its parameters, which the next tokens are
+-- A condact: its name, which is Condact where none has it, and its parameters, which the next tokens are. `@` and a
+-- number stand for the first one where that may come from a flag.
 unfoldable pub condact : Bounds → List Word → List ℕ → List (List ℕ) → Result (Condact × List (List ℕ)) SourceKind
 condact bounds ws name ts = do
-  code ← ok_or (code_named name) fault.Condact
-  a ← parameter bounds ws (first_kind code) ts
-  b ← parameter bounds ws (second_kind code) a.1
-  Ok (record { code = code; a = a.0; b = b.0 }, b.1)
+  plain ← ok_or (code_named name) fault.Condact
+  a ← first_parameter bounds ws (is_indirect_before plain ts) (first_kind plain) ts
+  b ← parameter bounds ws (second_kind plain) a.1
+  Ok (record { code = code_of (is_indirect_before plain ts) plain; a = a.0; b = b.0 }, b.1)
 
 -- the condacts from here to the end of the line, where the next skip tokens are parameters of the one before
 unfoldable pub condacts_in : Bounds → List Word → ℕ → List (List ℕ) → Result (List Condact) SourceKind

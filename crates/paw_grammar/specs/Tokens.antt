@@ -1,5 +1,6 @@
 -- The tokens of a line, taken from left to right. What is read of them is a value, or the kind of the first fault.
-use Rattle.std.specs.Prelude.{ℕ, Bool, List, [], ◌∷◌, length, nat_lt, if◌then◌else◌, Option, Result, Ok, Err}
+use Rattle.std.specs.Prelude.{ℕ, ◌==◌, Bool, false, List, [], ◌∷◌, length, nat_lt}
+use Rattle.std.specs.Prelude.{if◌then◌else◌, Option, Result, Ok, Err}
 use Rattle.std.specs.Option.{ok_or}
 use Rattle.std.specs.Str.{str_eq_ignore_ascii_case}
 use Rattle.paw_base.specs.declared.fault.SourceKind.{SourceKind}
@@ -24,6 +25,16 @@ read_by k meaning ts = token ts >>= λ t. ok_or (meaning t.0) k >>= λ x. Ok (x,
 -- a list of so many at most; TooBig where there are more
 abbrev pub at_most : {A : Type 0} → ℕ → List A → Result (List A) SourceKind
 at_most limit xs = if nat_lt limit (length xs) then Err kind.TooBig else Ok xs
+
+-- a token that begins with `@`
+abbrev pub begins_with_at : List ℕ → Bool
+begins_with_at [] = false
+begins_with_at (b ∷ bs) = b == 64
+
+-- the next token begins with `@`
+abbrev pub at_is_next : List (List ℕ) → Bool
+at_is_next [] = false
+at_is_next (t ∷ ts) = begins_with_at t
 
 -- the token is this name, in any case of letters
 abbrev pub is_named : List ℕ → List ℕ → Bool

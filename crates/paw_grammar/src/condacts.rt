@@ -1,22 +1,26 @@
 // The condacts of a line.
 
-ghost use Rattle.std.specs.Prelude.{min};
+ghost use Rattle.std.specs.Prelude.{◌≡◌, ◌+◌, ◌&&◌, min};
+ghost use Rattle.paw_base.specs.declared.codes.TheConstants.{INDIRECT};
+ghost use Rattle.paw_base.specs.Condacts.{may_be_indirect};
+ghost use Rattle.paw_base.specs.inner.Condacts.{IsPlainCode};
 ghost use Rattle.paw_faults.specs.inner.Gives.{Gives};
 ghost use Rattle.paw_grammar.specs.Numbers.{number_below};
 ghost use Rattle.paw_grammar.specs.Vocabulary.{word_or_none};
 ghost use Rattle.paw_grammar.specs.Condacts.{table, parameter, condact, condacts_in, with_more_condacts};
-ghost use Rattle.paw_grammar.specs.Condacts.{more_condacts};
+ghost use Rattle.paw_grammar.specs.Condacts.{more_condacts, flag_behind_at, first_parameter, code_of};
 
 use crate::bounds::Bounds;
-use crate::numbers::{byte_below, number_below};
+use crate::numbers::{byte_below, number, number_below};
 use crate::places::place;
 use crate::refusal::ReadError;
-use crate::tokens::Tokens;
+use crate::tokens::{Tokens, without_first};
 use crate::vocabulary::Vocabulary;
+use paw_base::codes::INDIRECT;
 use paw_base::fault::SourceKind;
 use paw_base::limits::CONDACT_LIMIT;
 use paw_base::parts::Condact;
-use paw_base::rows::{ParamKind, condact_named, condact_row};
+use paw_base::rows::{ParamKind, condact_named, condact_row, may_be_indirect};
 use paw_base::words::{ADJECTIVE_CLASS, ADVERB_CLASS, NOUN_CLASS, PREPOSITION_CLASS};
 use paw_faults::unread::Unread;
 use std::marker::Model;
@@ -30,6 +34,50 @@ fn table(tokens: &mut Tokens, tables: u32) -> Result<u8, ReadError>
 {
     let number = number_below(tokens, tables)?;
     Ok(number.min(u32::from(u8::MAX)) as u8)
+}
+
+/// Takes a token that begins with `@`: the flag whose number follows.
+fn flag_behind_at(tokens: &mut Tokens) -> Result<u8, ReadError>
+    ensures { Gives (λ n. (n, tokens.new)) result (flag_behind_at tokens.old) }
+{
+    let token = tokens.token()?;
+    match number(without_first(token)) {
+        None => Err(Unread::Fault(SourceKind::Number)),
+        Some(number) => {
+            if number < u32::from(BYTES) {
+                Ok(number as u8)
+            } else {
+                Err(Unread::Fault(SourceKind::Range))
+            }
+        }
+    }
+}
+
+/// Whether the condact of a plain code is indirect: it may be, and `@` follows its name.
+fn is_indirect(plain: u8, at_is_next: bool) -> bool
+    ensures { result ≡ (may_be_indirect plain && at_is_next) }
+{
+    may_be_indirect(plain) && at_is_next
+}
+
+/// The code of the indirect condact with a plain code.
+fn indirect_code(plain: u8) -> u8
+    requires plain { IsPlainCode plain }
+    ensures value { result ≡ plain + INDIRECT }
+{
+    plain + INDIRECT
+}
+
+/// The code of the condact with a plain code.
+fn code_of(indirect: bool, plain: u8) -> u8
+    requires plain { IsPlainCode plain }
+    ensures value { result ≡ code_of indirect plain }
+{
+    if indirect {
+        indirect_code(plain)
+    } else {
+        plain
+    }
 }
 
 /// What condacts may name: parts, by numbers below these bounds, and the words that were declared.
@@ -71,18 +119,37 @@ impl<'a> Scope<'a> {
         }
     }
 
+    /// Takes a first parameter of this kind, or, where the condact is indirect, `@` and a flag.
+    fn first_parameter(
+        &self,
+        indirect: bool,
+        kind: ParamKind,
+        tokens: &mut Tokens,
+    ) -> Result<u8, ReadError>
+        ensures { Gives (λ n. (n, tokens.new)) result
+            (first_parameter self.now.bounds self.now.words indirect kind tokens.old) }
+    {
+        if indirect {
+            flag_behind_at(tokens)
+        } else {
+            self.parameter(kind, tokens)
+        }
+    }
+
     /// Takes the parameters of the condact with this name.
     #[tactic(auto, unfolding(crate::specs::Condacts::condact))]
     fn condact(&self, name: &[u8], tokens: &mut Tokens) -> Result<Condact, ReadError>
         ensures { Gives (λ c. (c, tokens.new)) result (condact self.now.bounds self.now.words name.now tokens.old) }
     {
-        let Some(code) = condact_named(name) else {
+        let Some(plain) = condact_named(name) else {
             return Err(Unread::Fault(SourceKind::Condact));
         };
-        let Some(row) = condact_row(code) else {
+        let Some(row) = condact_row(plain) else {
             return Err(Unread::Fault(SourceKind::Condact));
         };
-        let a = self.parameter(row.first, tokens)?;
+        let indirect = is_indirect(plain, tokens.at_is_next());
+        let code = code_of(indirect, plain);
+        let a = self.first_parameter(indirect, row.first, tokens)?;
         let b = self.parameter(row.second, tokens)?;
         Ok(Condact { code, a, b })
     }
@@ -105,8 +172,9 @@ impl<'a> Scope<'a> {
     ///
     /// # Errors
     /// The line's first fault, token by token: Condact where a name is none of the 108, and of a parameter Missing, and
-    /// Word, Number or Range by its kind. TooBig where no token has a fault and the entry would have more than 255
-    /// condacts. Memory where there is none. What the entry then holds is open.
+    /// Word, Number or Range by its kind; of `@`, where it may stand, Number or Range by what follows. TooBig where no
+    /// token has a fault and the entry would have more than 255 condacts. Memory where there is none. What the entry
+    /// then holds is open.
     #[tactic(auto, unfolding(crate::specs::Condacts::more_condacts))]
     pub fn more_condacts(
         &self,

@@ -1,11 +1,11 @@
 // The tokens of a line, taken from left to right.
 
-ghost use Rattle.std.specs.Prelude.{◌≡◌, ◌∷◌, [], MatchOption};
+ghost use Rattle.std.specs.Prelude.{◌≡◌, ◌∷◌, [], MatchOption, drop};
 ghost use Rattle.paw_lex.specs.inner.Lines.{bytes_of, LiesIn};
 ghost use Rattle.paw_lex.specs.Tokens.{tokens_of};
 ghost use Rattle.paw_lex.specs.inner.Tokens.{tokens_from};
 ghost use Rattle.paw_faults.specs.inner.Gives.{Gives};
-ghost use Rattle.paw_grammar.specs.Tokens.{token, ended, is_named};
+ghost use Rattle.paw_grammar.specs.Tokens.{token, ended, is_named, at_is_next, begins_with_at};
 
 use crate::refusal::ReadError;
 use paw_base::fault::SourceKind;
@@ -64,6 +64,16 @@ impl<'a> Tokens<'a> {
         }
     }
 
+    /// Whether the next token begins with `@`. It is left.
+    pub(crate) fn at_is_next(&self) -> bool
+        ensures { result ≡ at_is_next self.now }
+    {
+        match next_token(self.source, &self.line, self.at) {
+            None => false,
+            Some(token) => begins_with_at(&self.source[token.from..token.to]),
+        }
+    }
+
     /// Takes the next token.
     ///
     /// # Errors
@@ -88,6 +98,22 @@ impl<'a> Tokens<'a> {
             None => Ok(()),
             Some(_) => Err(Unread::Fault(SourceKind::Extra)),
         }
+    }
+}
+
+fn begins_with_at(token: &[u8]) -> bool
+    ensures { result ≡ begins_with_at token.now }
+{
+    token.first() == Some(&b'@')
+}
+
+/// A token without its first byte.
+pub fn without_first(token: &[u8]) -> &[u8]
+    ensures { result.now ≡ drop 1 token.now }
+{
+    match token {
+        [_, rest @ ..] => rest,
+        [] => token,
     }
 }
 

@@ -10,7 +10,7 @@ use Rattle.paw_base.specs.declared.parts.Condact.{Condact}
 use Rattle.paw_base.specs.declared.parts.ObjectFacts.{ObjectFacts}
 use Rattle.paw_base.specs.declared.rows.ParamKind.{ParamKind}
 use Rattle.paw_base.specs.declared.rows.ParamKind.TheVariants as kind
-use Rattle.paw_base.specs.Condacts.{name_of, first_kind, second_kind}
+use Rattle.paw_base.specs.Condacts.{name_of, first_kind, second_kind, is_indirect}
 use Rattle.paw_game.specs.declared.parts.Word.{Word}
 
 -- tokens, each behind one space
@@ -92,8 +92,12 @@ parameter_tokens ws kind.Adjective x = value_token ws ADJECTIVE_CLASS x ∷ []
 parameter_tokens ws kind.Preposition x = value_token ws PREPOSITION_CLASS x ∷ []
 parameter_tokens ws _ x = decimal x ∷ []
 
+-- the first parameter: of an indirect condact `@` and the number of the flag
+abbrev pub first_tokens : List Word → Condact → List (List ℕ)
+first_tokens ws c =
+    if is_indirect c.code then (64 ∷ decimal c.a) ∷ [] else parameter_tokens ws (first_kind c.code) c.a
+
 -- a condact stands on a line of its own: its name and its parameters, each behind one space
 abbrev pub condact_line : List Word → Condact → List ℕ
 condact_line ws c =
-    behind_spaces (name_of c.code
-    ∷ (parameter_tokens ws (first_kind c.code) c.a ++ parameter_tokens ws (second_kind c.code) c.b))
+    behind_spaces (name_of c.code ∷ (first_tokens ws c ++ parameter_tokens ws (second_kind c.code) c.b))

@@ -3,13 +3,15 @@
 ghost use Rattle.std.specs.Prelude.{◌≡◌, ◌++◌, ◌∷◌, [], OnOk, codes, decimal, map};
 ghost use Rattle.std.specs.List.{AllByRecursion};
 ghost use Rattle.paw_base.specs.declared.words.TheConstants.{NOUN_CLASS};
+ghost use Rattle.paw_base.specs.Condacts.{first_kind, is_indirect};
 ghost use Rattle.paw_print.specs.Lines.{behind_spaces, condact_line, value_token, verb_token};
-ghost use Rattle.paw_print.specs.Lines.{parameter_tokens, spaced};
+ghost use Rattle.paw_print.specs.Lines.{first_tokens, parameter_tokens, spaced};
 ghost use Rattle.paw_print.specs.Canonical.{with_line_end, entry_lines, numbered, table_lines, written};
 ghost use Rattle.paw_print.specs.inner.Known.{IsKnown, IsKnownEntry, IsKnownTable};
 
-use crate::rows::{Written, end_line, write_number, write_token};
+use crate::rows::{Written, end_line, write_flag, write_number, write_token};
 use crate::vocabulary::Vocabulary;
+use paw_base::codes::INDIRECT;
 use paw_base::parts::Condact;
 use paw_base::rows::{ParamKind, condact_row};
 use paw_base::words::{ADJECTIVE_CLASS, ADVERB_CLASS, NOUN_CLASS, PREPOSITION_CLASS};
@@ -35,6 +37,33 @@ fn write_parameter(
     }
 }
 
+/// Whether a condact is indirect.
+fn is_indirect(condact: Condact) -> bool
+    requires known { IsKnown condact }
+    ensures { result ≡ is_indirect condact.code }
+{
+    INDIRECT <= condact.code
+}
+
+/// Writes the first parameter of a condact, which is of this kind where the condact isn't indirect.
+fn write_first(
+    vocabulary: &Vocabulary,
+    kind: ParamKind,
+    condact: Condact,
+    out: &mut Vec<u8>,
+) -> Written
+    requires known { IsKnown condact }
+    requires kind { kind ≡ first_kind condact.code }
+    ensures writes { OnOk result
+        (out.new.items ≡ out.old.items ++ behind_spaces (first_tokens vocabulary.now condact)) }
+{
+    if is_indirect(condact) {
+        write_flag(condact.a, out)
+    } else {
+        write_parameter(vocabulary, kind, condact.a, out)
+    }
+}
+
 /// Writes the line of a condact.
 fn write_condact(vocabulary: &Vocabulary, condact: Condact, out: &mut Vec<u8>) -> Written
     requires known { IsKnown condact }
@@ -43,7 +72,7 @@ fn write_condact(vocabulary: &Vocabulary, condact: Condact, out: &mut Vec<u8>) -
 {
     let row = condact_row(condact.code).unwrap();
     write_token(row.trimmed_name(), out)?;
-    write_parameter(vocabulary, row.first, condact.a, out)?;
+    write_first(vocabulary, row.first, condact, out)?;
     write_parameter(vocabulary, row.second, condact.b, out)?;
     end_line(out)
 }

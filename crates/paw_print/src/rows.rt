@@ -48,3 +48,11 @@ pub(crate) fn write_number(number: usize, out: &mut Vec<u8>) -> Written
     out.push(b' ')?;
     write_digits(number, out)
 }
+
+/// Writes `@` and the number of a flag behind one space.
+pub(crate) fn write_flag(flag: u8, out: &mut Vec<u8>) -> Written
+    ensures writes { OnOk result (out.new.items ≡ out.old.items ++ 32 ∷ 64 ∷ decimal flag) }
+{
+    out.extend_from_slice(b" @")?;
+    write_digits(flag as usize, out)
+}

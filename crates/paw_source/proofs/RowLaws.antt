@@ -1,11 +1,11 @@
 -- Rows of exits, objects and condacts keep the rules of a game.
-use Rattle.std.proofs.Common.{◌≡◌, ℕ, zero, suc, ◌+◌, ◌-◌, ◌<◌, ◌≤◌, Bool, true, false, cond, subst}
+use Rattle.std.proofs.Common.{◌≡◌, ℕ, zero, suc, ◌+◌, ◌-◌, ◌<◌, ◌≤◌, Bool, true, false, cond, drop, subst}
 use Rattle.std.proofs.Common.{not, ◌&&◌, ◌||◌, eqb, ltb, List, [], ◌∷◌, ◌++◌, length, map}
-use Rattle.std.proofs.Common.{min, Option, Some, None, Ok, Err, refl, ap, ◌∙◌, arith}
+use Rattle.std.proofs.Common.{min, Option, Ok, Err, refl, sym, ap, ◌∙◌, arith}
 use Rattle.std.specs.Prelude.{nat_le, nat_lt, codes}
 use Rattle.std.specs.List.{list_all, list_any, IsDistinct, AllByRecursion}
 use Rattle.std.specs.Option.{option_map, option_or, ok_or}
-use Rattle.std.proofs.lemmas.Bool.{and_parts, leb-true, ltb-true, eqb-true, eqb-false}
+use Rattle.std.proofs.lemmas.Bool.{and_parts, and_from, leb-true, ltb-true, eqb-true, eqb-false}
 use Rattle.std.proofs.lemmas.Bool.Decides.{nat_tests}
 use Rattle.std.proofs.lemmas.List.{length-map, length-append, length-set}
 use Rattle.std.proofs.lemmas.List.Folds.{list_all-append}
@@ -14,9 +14,7 @@ use Rattle.paw_base.specs.declared.fault.SourceKind.TheVariants as fault
 use Rattle.paw_base.specs.declared.parts.Condact.{Condact}
 use Rattle.paw_base.specs.declared.rows.ParamKind.{ParamKind}
 use Rattle.paw_base.specs.declared.rows.ParamKind.TheVariants as kind
-use Rattle.paw_base.specs.inner.Condacts.{IsCode}
-use Rattle.paw_base.specs.Condacts.{code_named, first_kind, second_kind, params_of}
-use Rattle.paw_base.proofs.Named.{code_named_found}
+use Rattle.paw_base.specs.Condacts.{code_named, is_code, first_kind, second_kind, params_of, may_be_indirect}
 use Rattle.paw_game.specs.declared.parts.Word.{Word}
 use Rattle.paw_game.specs.declared.parts.Exit.{Exit}
 use Rattle.paw_game.specs.declared.parts.Entry.{Entry}
@@ -26,13 +24,15 @@ use Rattle.paw_game.specs.Valid.{words_kept, has_word, is_verb_value, is_any, is
 use Rattle.paw_game.specs.Valid.{is_exits, are_facts, is_parameter, is_condact, is_entry, is_table, is_word}
 use Rattle.paw_grammar.specs.declared.bounds.Bounds.{Bounds}
 use Rattle.paw_faults.specs.Bind.{◌>>=◌}
-use Rattle.paw_grammar.specs.Tokens.{read_by, at_most}
+use Rattle.paw_grammar.specs.Tokens.{read_by, at_most, at_is_next}
 use Rattle.paw_grammar.specs.Numbers.{number, in_range, number_within, number_below, row_number}
 use Rattle.paw_grammar.specs.Vocabulary.{place_among, word, class, object_kind, declared, word_or_none, verb_word, entry_verb, entry_noun}
 use Rattle.paw_grammar.specs.Condacts.{first_place, any_place, place_names, place_up_to, table, parameter}
+use Rattle.paw_grammar.specs.Condacts.{is_indirect_before, flag_behind_at, first_parameter, code_of}
 use Rattle.paw_grammar.specs.Condacts.{condact, condacts_in, with_more_condacts, more_condacts}
 use Rattle.paw_grammar.specs.GrammarState.{last_or, with_last}
 use Rattle.paw_grammar.specs.GrammarRows.{voc_row, exit_row, object_row, entry_row, no_entry, more_row}
+use Rattle.paw_grammar.proofs.Indirect.{named_plain, read_code, first_kind-indirect, second_kind-read}
 use Rattle.paw_source.proofs.Faultless.{passes, holds, bound, bound_then, ok_is, at_end, in_range_ok, number_ok}
 use Rattle.paw_source.proofs.WordLaws.{word_ok, class_ok, declared_ok, verb_word_ok, word_or_none_ok, entry_verb_ok, entry_noun_ok}
 use Rattle.paw_source.proofs.TextLaws.{all_set, all_at, all_pushed, both}
@@ -236,28 +236,38 @@ parameter_ok bounds ws g kind.Noun ts x has h = rw has.words (word_or_none_ok ws
 parameter_ok bounds ws g kind.Adjective ts x has h = rw has.words (word_or_none_ok ws 3 ts x h)
 parameter_ok bounds ws g kind.Preposition ts x has h = rw has.words (word_or_none_ok ws 4 ts x h)
 
-code_is : (t : List ℕ) (code : ℕ) → ok_or (code_named t) fault.Condact ≡ Ok code → IsCode code
-code_is t code h =
-    elim (code_named t) as (λ o. code_named t ≡ o → ok_or o fault.Condact ≡ Ok code → IsCode code) [
-      | None ↦ λ e f. absurd cc
-      | Some found ↦ λ e f.
-          let same = ok_is found code f in
-          subst IsCode same (code_named_found t found e).0
-    ] refl h
+flag_ok : (ts : List (List ℕ)) (x : ℕ × List (List ℕ)) → flag_behind_at ts ≡ Ok x → nat_lt x.0 256 ≡ true
+flag_ok ts x h =
+    let b = bound (read_by fault.Number (λ t. number (drop 1 t)) ts) (in_range (λ n. nat_lt n 256)) x h in
+    in_range_ok (λ n. nat_lt n 256) b.0 x b.2
+
+first_ok : (bounds : Bounds) (ws : List Word) (g : GameLists) (code : ℕ) (indirect : Bool) (ts : List (List ℕ))
+    (x : ℕ × List (List ℕ)) → Has bounds ws g → (indirect ≡ true → may_be_indirect code ≡ true)
+    → first_parameter bounds ws indirect (first_kind code) ts ≡ Ok x
+    → is_parameter (counts_of g) g.words (first_kind (code_of indirect code)) x.0 ≡ true
+first_ok bounds ws g code true ts x has may h =
+    subst (λ (k : ParamKind). is_parameter (counts_of g) g.words k x.0 ≡ true) (sym (first_kind-indirect code (may refl))) (flag_ok ts x h)
+first_ok bounds ws g code false ts x has may h = parameter_ok bounds ws g (first_kind code) ts x has h
 
 condact_ok : (bounds : Bounds) (ws : List Word) (g : GameLists) (name : List ℕ) (ts : List (List ℕ))
     (x : Condact × List (List ℕ)) → Has bounds ws g → condact bounds ws name ts ≡ Ok x → is_condact g x.0 ≡ true
 unfolding condact
 condact_ok bounds ws g name ts x has h =
-    bound_then _ (ok_or (code_named name) fault.Condact) _ x h (λ c c_ok h.
-    bound_then _ (parameter bounds ws (first_kind c) ts) _ x h (λ a a_ok h.
-    bound_then _ (parameter bounds ws (second_kind c) a.1) _ x h (λ b b_ok h.
-    let made : Condact = record { code = c; a = a.0; b = b.0 } in
+    bound_then _ (ok_or (code_named name) fault.Condact) _ x h (λ plain plain_ok h.
+    bound_then _ (first_parameter bounds ws (is_indirect_before plain ts) (first_kind plain) ts) _ x h (λ a a_ok h.
+    bound_then _ (parameter bounds ws (second_kind plain) a.1) _ x h (λ b b_ok h.
+    let indirect : Bool = is_indirect_before plain ts in
+    let code : ℕ = code_of indirect plain in
+    let made : Condact = record { code = code; a = a.0; b = b.0 } in
     let same : made ≡ x.0 = ap (λ (z : Condact × List (List ℕ)). z.0) (ok_is (made, b.1) x h) in
-    let is = code_is name c c_ok in
-    let first = parameter_ok bounds ws g (first_kind c) ts a has a_ok in
-    let second = parameter_ok bounds ws g (second_kind c) a.1 b has b_ok in
-    rw (← same, is, first, second) refl)))
+    let named = named_plain name plain plain_ok in
+    let may : indirect ≡ true → may_be_indirect plain ≡ true = λ e. (and_parts (may_be_indirect plain) (at_is_next ts) e).0 in
+    let is : is_code code ≡ true = read_code plain indirect named may in
+    let first = first_ok bounds ws g plain indirect ts a has may a_ok in
+    let second : is_parameter (counts_of g) g.words (second_kind code) b.0 ≡ true =
+    ap (λ (k : ParamKind). is_parameter (counts_of g) g.words k b.0) (second_kind-read plain indirect named may)
+    ∙ parameter_ok bounds ws g (second_kind plain) a.1 b has b_ok in
+    rw (← same) (and_from (is_code code) _ is (and_from _ _ first second)))))
 
 condacts_ok : (bounds : Bounds) (ws : List Word) (g : GameLists) (skip : ℕ) (ts : List (List ℕ)) (cs : List Condact)
     → Has bounds ws g → condacts_in bounds ws skip ts ≡ Ok cs → list_all (is_condact g) cs ≡ true

@@ -1,6 +1,6 @@
-// Tests of the bytes of a line and of a token.
+// Tests of the bytes of a line.
 
-ghost use Rattle.std.specs.Prelude.{◌≡◌, drop};
+ghost use Rattle.std.specs.Prelude.{◌≡◌};
 ghost use Rattle.paw_lex.specs.Bytes.{has_forbidden_byte};
 ghost use Rattle.paw_lex.specs.inner.Lines.{bytes_of, LiesIn};
 ghost use Rattle.paw_grammar.specs.Spells.{begins_with_blank, begins_with_slash};
@@ -24,14 +24,4 @@ pub(crate) fn has_forbidden_byte(source: &[u8], line: &Line, text: bool) -> bool
     ensures { result ≡ has_forbidden_byte text (bytes_of source.now line.now) }
 {
     byte_fault(source, line, text).is_some()
-}
-
-/// A token without its first byte.
-pub(crate) fn without_first(token: &[u8]) -> &[u8]
-    ensures { result.now ≡ drop 1 token.now }
-{
-    match token {
-        [_, rest @ ..] => rest,
-        [] => token,
-    }
 }

@@ -4,13 +4,13 @@ ghost use Rattle.paw_lex.specs.inner.Lines.{bytes_of, LiesIn};
 ghost use Rattle.paw_faults.specs.inner.Gives.{Gives};
 ghost use Rattle.paw_grammar.specs.Spells.{step};
 
-use crate::bytes::{begins_with_blank, begins_with_slash, has_forbidden_byte, without_first};
+use crate::bytes::{begins_with_blank, begins_with_slash, has_forbidden_byte};
 use crate::draft::Draft;
 use paw_base::fault::SourceKind;
 use paw_faults::unread::Unread;
 use paw_grammar::numbers::number;
 use paw_grammar::refusal::ReadError;
-use paw_grammar::tokens::Tokens;
+use paw_grammar::tokens::{Tokens, without_first};
 use paw_lex::{Line, is_comment};
 use std::alloc::Global;
 

@@ -9,6 +9,7 @@ use Rattle.std.proofs.lemmas.Bool.{and_from, and_parts, le-leb, leb-true, lt-ltb
 use Rattle.std.proofs.lemmas.Fmt.{decimal_nonempty, digits_decimal, digits_value-decimal}
 use Rattle.std.proofs.lemmas.List.{append-nil}
 use Rattle.std.proofs.lemmas.Str.Parse.{IsNumeralModel, numerals_by_value}
+use Rattle.paw_grammar.specs.Tokens.{begins_with_at}
 use Rattle.paw_grammar.specs.Numbers.{number, number_with}
 use Rattle.paw_grammar.specs.Spells.{begins_with_slash, step}
 use Rattle.paw_grammar.specs.GrammarState.{Spelt}
@@ -56,6 +57,10 @@ plain-decimal n h = some_plain (decimal n) (decimal_nonempty n (omega arith)) (d
 pub plain-item : (n : ℕ) → n ≤ 65535 → is_plain (47 ∷ decimal n) ≡ true
 plain-item n h = decimal_clean n h
 
+-- and behind `@`
+pub plain-flag : (n : ℕ) → n ≤ 65535 → is_plain (64 ∷ decimal n) ≡ true
+plain-flag n h = decimal_clean n h
+
 -- an item is begun in the section that is read
 pub item_begins : (p : ℕ) (d : Spelt) (n : ℕ) → n ≤ 65535 → step p d (item_token n) ≡ item_in d.section d n
 item_begins p d n h =
@@ -77,3 +82,14 @@ slash_none (b ∷ bs) h =
 
 pub decimal-slash : (n : ℕ) → n ≤ 65535 → begins_with_slash (decimal n) ≡ false
 decimal-slash n h = slash_none (decimal n) (digits_decimal own n (omega arith))
+
+-- and none is `@`
+at_none : (ds : List ℕ) → list_all is_ascii_digit ds ≡ true → begins_with_at ds ≡ false
+at_none [] h = refl
+at_none (b ∷ bs) h =
+    let digit = and_parts (is_ascii_digit b) _ h in
+    let high : b ≤ 57 = leb-true b 57 (and_parts (leb 48 b) (leb b 57) digit.0).1 in
+    ne_eqb b 64 (λ same. omega arith)
+
+pub decimal-at : (n : ℕ) → n ≤ 65535 → begins_with_at (decimal n) ≡ false
+decimal-at n h = at_none (decimal n) (digits_decimal own n (omega arith))

@@ -15,6 +15,7 @@ use Rattle.paw_base.specs.declared.fault.SourceKind.{SourceKind}
 use Rattle.paw_game.specs.declared.parts.Word.{Word}
 use Rattle.paw_game.specs.Valid.{are_letters, is_within, is_word, words_rise, has_word, is_verb_value, is_word_or_none, is_any}
 use Rattle.paw_game.specs.Tables.{word_of}
+use Rattle.paw_grammar.specs.Tokens.{begins_with_at}
 use Rattle.paw_grammar.specs.Vocabulary.{known, in_class, as_verb, word_or_none, verb_word, entry_verb, entry_noun}
 use Rattle.paw_source.proofs.Faultless.{some_is}
 use Rattle.paw_print.specs.Lines.{spelled_letters, first_word, word_token, value_token, verb_token}
@@ -126,10 +127,11 @@ no_sign value w low high =
 
 -- ---- reading ----
 
--- a token is plain, has no stroke, and these readers read this value
+-- a token is plain, begins with no stroke and no `@`, and these readers read this value
 pub record ReadsBack (t : List ℕ) (read : List (List ℕ) → Result (ℕ × List (List ℕ)) SourceKind) (value : ℕ) : Type 0 where
   pub plain : is_plain t ≡ true
   pub slash : begins_with_slash t ≡ false
+  pub at : begins_with_at t ≡ false
   pub is : (ts : List (List ℕ)) → read (t ∷ ts) ≡ Ok (value, ts)
 
 in_class-is : (ws : List Word) (class value : ℕ) (w : Word) → First ws class value w → in_class class (known ws (spelled_letters w)) ≡ Some value
@@ -147,6 +149,7 @@ value_back ws class value words has =
     rw token (record {
       plain = f.spelled.plain;
       slash = f.spelled.slash;
+      at = f.spelled.at;
       is = λ ts. rw (f.spelled.none, in_class-is ws class value found.0 f) refl;
     })
 
@@ -155,7 +158,7 @@ pub word_or_none_back : (ws : List Word) (class value : ℕ) → Words ws → is
     ReadsBack (value_token ws class value) (word_or_none ws class) value
 word_or_none_back ws class value words h =
     elim (or_cases (eqb value 255) (has_word ws class value) h) [
-      | inl e ↦ rw (eqb-true value 255 e) (record { plain = refl; slash = refl; is = λ ts. refl })
+      | inl e ↦ rw (eqb-true value 255 e) (record { plain = refl; slash = refl; at = refl; is = λ ts. refl })
       | inr has ↦ value_back ws class value words has
     ]
 
@@ -165,8 +168,8 @@ pub entry_noun_back : (ws : List Word) (value : ℕ) → Words ws → (is_any va
 entry_noun_back ws value words h =
     elim (or_cases (is_any value) (has_word ws 2 value) h) [
       | inl any ↦ elim (or_cases (eqb value 1) (eqb value 255) any) [
-        | inl e ↦ rw (eqb-true value 1 e) (record { plain = refl; slash = refl; is = λ ts. refl })
-        | inr e ↦ rw (eqb-true value 255 e) (record { plain = refl; slash = refl; is = λ ts. refl })
+        | inl e ↦ rw (eqb-true value 1 e) (record { plain = refl; slash = refl; at = refl; is = λ ts. refl })
+        | inr e ↦ rw (eqb-true value 255 e) (record { plain = refl; slash = refl; at = refl; is = λ ts. refl })
       ]
       | inr has ↦
           let found = find_some (means 2 value) ws has in
@@ -175,6 +178,7 @@ entry_noun_back ws value words h =
           rw token (record {
             plain = f.spelled.plain;
             slash = f.spelled.slash;
+            at = f.spelled.at;
             is = λ ts. rw (f.spelled.any, f.spelled.none, in_class-is ws 2 value found.0 f) refl;
           })
     ]
@@ -241,6 +245,7 @@ verb_word_back ws value words h =
     rw (verb_token-is ws value v.0 v.1) (record {
       plain = v.1.spelled.plain;
       slash = v.1.spelled.slash;
+      at = v.1.spelled.at;
       is = λ ts. rw v.1.read refl;
     })
 
@@ -250,14 +255,15 @@ pub entry_verb_back : (ws : List Word) (value : ℕ) → Words ws → (is_any va
 entry_verb_back ws value words h =
     elim (or_cases (is_any value) (is_verb_value ws value) h) [
       | inl any ↦ elim (or_cases (eqb value 1) (eqb value 255) any) [
-        | inl e ↦ rw (eqb-true value 1 e) (record { plain = refl; slash = refl; is = λ ts. refl })
-        | inr e ↦ rw (eqb-true value 255 e) (record { plain = refl; slash = refl; is = λ ts. refl })
+        | inl e ↦ rw (eqb-true value 1 e) (record { plain = refl; slash = refl; at = refl; is = λ ts. refl })
+        | inr e ↦ rw (eqb-true value 255 e) (record { plain = refl; slash = refl; at = refl; is = λ ts. refl })
       ]
       | inr is ↦
           let v = some_verb ws value words is in
           rw (verb_token-is ws value v.0 v.1) (record {
             plain = v.1.spelled.plain;
             slash = v.1.spelled.slash;
+            at = v.1.spelled.at;
             is = λ ts. rw (v.1.spelled.any, v.1.spelled.none, v.1.read) refl;
           })
     ]

@@ -9,6 +9,7 @@ use Rattle.std.proofs.lemmas.List.{take_all}
 use Rattle.paw_lex.proofs.Slices.{before_first-cons}
 use Rattle.paw_base.specs.Condacts.{capitals}
 use Rattle.paw_game.specs.Valid.{is_letter, is_filled, are_letters}
+use Rattle.paw_grammar.specs.Tokens.{begins_with_at}
 use Rattle.paw_grammar.specs.Spells.{begins_with_slash}
 use Rattle.paw_grammar.specs.Vocabulary.{is_word_token, letters_of as read_letters}
 use Rattle.paw_top.proofs.Rows.{is_clean, is_plain}
@@ -20,13 +21,15 @@ record Letter (c : ℕ) : Type 0 where
   high : c ≤ 90
   clean : is_clean c ≡ true
   no_space : eqb c 32 ≡ false
+  no_at : eqb c 64 ≡ false
 
-letter_of : (c : ℕ) → 48 ≤ c → c ≤ 90 → eqb c 59 ≡ false → Letter c
-letter_of c low high semicolon = record {
+letter_of : (c : ℕ) → 48 ≤ c → c ≤ 90 → eqb c 59 ≡ false → eqb c 64 ≡ false → Letter c
+letter_of c low high semicolon at = record {
   low = low;
   high = high;
   clean = and_from _ _ (and_from _ _ (le-leb 33 c (omega arith)) (le-leb c 126 (omega arith))) (not_from_false _ semicolon);
   no_space = ne_eqb c 32 (λ e. omega arith);
+  no_at = at;
 }
 
 letter : (c : ℕ) → is_letter c ≡ true → Letter c
@@ -35,11 +38,11 @@ letter c h =
       | inl capital ↦
           let both = and_parts (leb 65 c) _ capital in
           let low : 65 ≤ c = leb-true 65 c both.0 in
-          letter_of c (omega arith) (leb-true c 90 both.1) (ne_eqb c 59 (λ e. omega arith))
+          letter_of c (omega arith) (leb-true c 90 both.1) (ne_eqb c 59 (λ e. omega arith)) (ne_eqb c 64 (λ e. omega arith))
       | inr digit ↦
           let both = and_parts (leb 48 c) _ digit in
           let high : c ≤ 57 = leb-true c 57 both.1 in
-          letter_of c (leb-true 48 c both.0) (omega arith) (ne_eqb c 59 (λ e. omega arith))
+          letter_of c (leb-true 48 c both.0) (omega arith) (ne_eqb c 59 (λ e. omega arith)) (ne_eqb c 64 (λ e. omega arith))
     ]
 
 capital-is : (c : ℕ) → is_letter c ≡ true → to_ascii_uppercase c ≡ c
@@ -116,6 +119,7 @@ trimmed (c ∷ cs) h =
 pub record Spelling (t letters : List ℕ) : Type 0 where
   pub plain : is_plain t ≡ true
   pub slash : begins_with_slash t ≡ false
+  pub at : begins_with_at t ≡ false
   pub any : bytes_eq t (codes "*") ≡ false
   pub none : bytes_eq t (codes "_") ≡ false
   pub word : is_word_token t ≡ true
@@ -131,6 +135,7 @@ spelling-letters c cs letters long t =
     record {
       plain = letters_clean (c ∷ cs) t.letters;
       slash = stroke;
+      at = first.no_at;
       any = rw star refl;
       none = rw under refl;
       word = and_from _ _ (lt-ltb 0 (length (c ∷ cs)) (omega arith)) (letters_alphanumeric (c ∷ cs) t.letters);
