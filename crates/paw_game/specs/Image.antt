@@ -1,10 +1,11 @@
 -- The image of a game: the bytes that stand for it in a file. Numbers of two bytes have the low one first.
 use Rattle.std.specs.Prelude.{ℕ, ◌+◌, Bool, List, [], ◌∷◌, ◌++◌, length, flat_map, if◌then◌else◌}
 use Rattle.std.specs.Int.{w16, to_le_bytes}
+use Rattle.std.specs.List.{list_any}
 use Rattle.paw_base.specs.declared.parts.Condact.{Condact}
 use Rattle.paw_base.specs.declared.rows.ParamKind.{ParamKind}
 use Rattle.paw_base.specs.declared.rows.ParamKind.TheVariants as kind
-use Rattle.paw_base.specs.Condacts.{first_kind, second_kind}
+use Rattle.paw_base.specs.Condacts.{first_kind, second_kind, is_indirect}
 use Rattle.paw_game.specs.declared.parts.Word.{Word}
 use Rattle.paw_game.specs.declared.parts.ObjectRow.{ObjectRow}
 use Rattle.paw_game.specs.declared.parts.Exit.{Exit}
@@ -15,11 +16,24 @@ use Rattle.paw_game.specs.Game.{GameLists}
 abbrev pub two_bytes : ℕ → List ℕ
 two_bytes n = to_le_bytes w16 n
 
--- the mark PAWI, version 1, and how many words, system messages, messages, objects, locations and tables follow
+-- one of the condacts takes its first parameter from a flag
+abbrev pub any_indirect : List Condact → Bool
+any_indirect cs = list_any (λ c. is_indirect c.code) cs
+
+-- an entry of one of the tables has such a condact
+unfoldable pub has_indirect : List (List Entry) → Bool
+has_indirect tables = list_any (λ es. list_any (λ e. any_indirect e.condacts) es) tables
+
+-- the version: 2 where a condact of the game is indirect, and 1 otherwise
+unfoldable pub version_of : GameLists → ℕ
+version_of g = if has_indirect g.tables then 2 else 1
+
+-- the mark PAWI, the version, and how many words, system messages, messages, objects, locations and tables follow
 abbrev pub head_image : GameLists → List ℕ
 head_image g =
-    80 ∷ 65 ∷ 87 ∷ 73 ∷ 1 ∷ (two_bytes (length g.words) ++ two_bytes (length g.system) ++ two_bytes (length g.messages)
-    ++ two_bytes (length g.objects) ++ two_bytes (length g.locations) ++ two_bytes (length g.tables))
+    80 ∷ 65 ∷ 87 ∷ 73 ∷ version_of g ∷ (two_bytes (length g.words) ++ two_bytes (length g.system)
+    ++ two_bytes (length g.messages) ++ two_bytes (length g.objects) ++ two_bytes (length g.locations)
+    ++ two_bytes (length g.tables))
 
 -- five letters, value, class
 abbrev pub word_image : Word → List ℕ
