@@ -6,7 +6,8 @@ use Rattle.paw_base.specs.declared.rows.ParamKind.{ParamKind}
 use Rattle.paw_base.specs.declared.rows.ParamKind.TheVariants as kind
 use Rattle.paw_base.specs.Condacts.{first_kind, second_kind}
 use Rattle.paw_game.specs.Game.{GameLists}
-use Rattle.paw_game.specs.inner.Valid.{is_right, is_argument}
+use Rattle.paw_game.specs.Valid.{is_argument}
+use Rattle.paw_game.specs.inner.Valid.{is_right}
 use Rattle.paw_game.proofs.Right.{right-first, right-second}
 use Rattle.paw_world.specs.World.{World}
 use Rattle.paw_effects.specs.Worlds.{IsOf}

@@ -16,8 +16,8 @@ use Rattle.paw_base.specs.declared.rows.ParamKind.TheVariants as kind
 use Rattle.paw_base.specs.Condacts.{condact_lines, line_of, first_kind, second_kind}
 use Rattle.paw_game.specs.Game.{GameLists}
 use Rattle.paw_game.specs.declared.parts.ObjectRow.{ObjectRow}
-use Rattle.paw_game.specs.Valid.{Valid, is_within, is_place, is_text, rows_kept}
-use Rattle.paw_game.specs.inner.Valid.{is_right, is_argument}
+use Rattle.paw_game.specs.Valid.{Valid, is_argument, is_within, is_place, is_text, rows_kept}
+use Rattle.paw_game.specs.inner.Valid.{is_right}
 use Rattle.paw_game.proofs.Kept.{first_of_and, facts-start}
 use Rattle.paw_game.proofs.Right.{right-first, right-second}
 use Rattle.paw_world.specs.World.{World, Position, flag, with_flag, place, with_place, here, let_go, taken_up, moved, opening_places}

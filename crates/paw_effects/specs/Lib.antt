@@ -17,6 +17,7 @@ pub mod Referring
 pub mod ObjectActions
 pub mod AutoActions
 pub mod Meanings
+pub mod Indirect
 pub mod Holds
 pub mod Effects
 pub mod inner

@@ -1,4 +1,4 @@
--- What each condact means, as the table of the manual has it: a row for each, in the order of the codes.
+-- What each plain condact means, as the table of the manual has it: a row for each, in the order of the codes.
 use Rattle.std.specs.Prelude.{ℕ, ◌+◌, ◌-◌, ◌==◌, Bool, true, false, not, nat_lt, nat_le, min, List, [], ◌∷◌, ◌++◌}
 use Rattle.std.specs.Prelude.{decimal}
 use Rattle.std.specs.List.{slice_index_or}
@@ -63,7 +63,7 @@ mark = printing (λ g w c. mark_text c)
 abbrev pub answered_by : List (List ℕ) → World → ℕ → ℕ → World
 answered_by rows w n f = option_map_or (with_flag w f) (value_at rows n (flag w f)) w
 
--- the meanings of the codes from 0 on, in their order
+-- the meanings of the plain codes from 0 on, in their order
 unfoldable pub meanings : List Meaning
 meanings =
     tests (λ w c. flag w LOCATION_FLAG == c.a) ∷  -- AT
@@ -164,7 +164,7 @@ meanings =
     mark ∷ mark ∷ mark ∷ mark ∷  -- PAUSE, MODE, LINE, INPUT
     []
 
--- what a code means; one above the last is an action that changes nothing
+-- what a plain code means; one above the last is an action that changes nothing
 unfoldable pub meaning_of : ℕ → Meaning
 meaning_of code = slice_index_or meanings code (changing (λ w c. w))
 

@@ -1,14 +1,15 @@
 // The conditions: each tests the world, and two of them change it.
 
 ghost use Rattle.std.specs.Prelude.{◌≡◌, ◌+◌, ◌-◌, ◌<◌, ◌≤◌, ◌^◌, true};
-ghost use Rattle.paw_base.specs.inner.Condacts.{IsCode};
+ghost use Rattle.paw_base.specs.inner.Condacts.{IsCode, IsPlainCode};
 ghost use Rattle.paw_game.specs.inner.Valid.{is_right};
 ghost use Rattle.paw_effects.specs.Worlds.{IsOf};
-ghost use Rattle.paw_effects.specs.Holds.{is_condition, holds};
+ghost use Rattle.paw_effects.specs.Holds.{is_condition, holds, plain_holds};
 ghost use Rattle.paw_effects.specs.Tested.{moves, truth_of};
 
 use crate::act::Truth;
 use crate::chance::roll;
+use crate::indirect::as_plain;
 use crate::presence::{is_present, named_place};
 use paw_base::codes::{
     ABSENT, ADJECT1, ADJECT2, ADVERB, AT, ATGT, ATLT, CARRIED, CHANCE, EQ, GT, ISAT, ISNOTAT, LT,
@@ -50,7 +51,7 @@ fn moves<T: Tables>(tables: &T, world: &mut World, f: u8) -> bool
     }
 }
 
-/// Whether a condact tests; one that doesn't acts.
+/// Whether a condact tests; one that doesn't acts. An indirect one is what the plain one is.
 pub fn is_condition(c: Condact) -> bool
     requires code { IsCode c.code }
     ensures value { result ≡ is_condition c }
@@ -58,8 +59,9 @@ pub fn is_condition(c: Condact) -> bool
     !acts(c.code)
 }
 
-/// What a condition of this game answers in this world, which it may change.
-#[tactic(auto, using(crate::proofs::Parameters::object_stands), unfolding(crate::specs::Holds::holds, crate::specs::Meanings::meaning_of, crate::specs::Meanings::meanings, paw_base::specs::Condacts::line_of, paw_base::specs::Condacts::condact_lines))]
+/// What a condition of this game answers in this world, which it may change. An indirect one takes the value of its
+/// flag; where that breaks the rule of its first parameter the condition fails.
+#[tactic(auto, unfolding(crate::specs::Holds::holds))]
 pub fn test<T: Tables>(tables: &T, world: &mut World, c: Condact) -> Truth
     requires kind { is_condition c ≡ true }
     requires game { IsOf (T.game tables.now) world.old }
@@ -67,6 +69,25 @@ pub fn test<T: Tables>(tables: &T, world: &mut World, c: Condact) -> Truth
     requires draws { world.old.draws < 2 ^ 64 - 1 }
     ensures answer { result ≡ (holds (T.game tables.now) world.old c).answer }
     ensures world { world.new ≡ (holds (T.game tables.now) world.old c).world }
+    ensures game { IsOf (T.game tables.now) world.new }
+    ensures draws { world.new.draws ≤ world.old.draws + 1 }
+{
+    match as_plain(tables, world, c) {
+        Some(plain) => test_plain(tables, world, plain),
+        None => Truth::No,
+    }
+}
+
+/// What a plain condition answers.
+#[tactic(auto, using(crate::proofs::Parameters::object_stands), unfolding(crate::specs::Holds::plain_holds, crate::specs::Meanings::meaning_of, crate::specs::Meanings::meanings, paw_base::specs::Condacts::line_of, paw_base::specs::Condacts::condact_lines))]
+fn test_plain<T: Tables>(tables: &T, world: &mut World, c: Condact) -> Truth
+    requires kind { is_condition c ≡ true }
+    requires code { IsPlainCode c.code }
+    requires game { IsOf (T.game tables.now) world.old }
+    requires condact { is_right (T.game tables.now) c ≡ true }
+    requires draws { world.old.draws < 2 ^ 64 - 1 }
+    ensures answer { result ≡ (plain_holds (T.game tables.now) world.old c).answer }
+    ensures world { world.new ≡ (plain_holds (T.game tables.now) world.old c).world }
     ensures game { IsOf (T.game tables.now) world.new }
     ensures draws { world.new.draws ≤ world.old.draws + 1 }
 {

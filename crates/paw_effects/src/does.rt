@@ -1,11 +1,12 @@
 // What the actions do.
 
 ghost use Rattle.std.specs.Prelude.{◌≡◌, ◌+◌, ◌-◌, ◌<◌, ◌≤◌, ◌^◌, ℕ, List, true, false, if◌then◌else◌};
+ghost use Rattle.paw_base.specs.inner.Condacts.{IsPlainCode};
 ghost use Rattle.paw_game.specs.inner.Valid.{is_right};
 ghost use Rattle.paw_effects.specs.Worlds.{IsOf};
 ghost use Rattle.paw_effects.specs.Holds.{is_condition};
 ghost use Rattle.paw_effects.specs.Done.{plainly, tells};
-ghost use Rattle.paw_effects.specs.Effects.{effect_of, Does};
+ghost use Rattle.paw_effects.specs.Effects.{effect_of, plain_effect, Does};
 ghost use Rattle.paw_effects.specs.Meanings.{answered_by};
 ghost use Rattle.paw_effects.specs.Story.{story_of};
 ghost use Rattle.paw_effects.specs.Texts.{put_text};
@@ -20,6 +21,7 @@ use crate::auto_actions::{act_by_name, refer_by_name};
 use crate::chance::roll;
 pub use crate::conditions::{is_condition, test};
 use crate::counts::{tell_score, tell_turns};
+use crate::indirect::as_plain;
 use crate::lists::{print_here, print_inventory, print_place};
 use crate::marks::print_mark;
 use crate::move_actions::{drop_all, move_if_place, move_referred, reset, swap};
@@ -92,8 +94,9 @@ fn done(_change: ()) -> Act
 }
 
 /// Does an action of this game: changes the world, and prints into the piece. Spent exactly where the piece would pass
-/// its limit; what the piece and the world then hold is open.
-#[tactic(auto, using(crate::proofs::Parameters::object_stands, crate::proofs::Parameters::second_object_stands), unfolding(crate::specs::Effects::effect_of, crate::specs::Meanings::meaning_of, crate::specs::Meanings::meanings, paw_base::specs::Condacts::line_of, paw_base::specs::Condacts::condact_lines))]
+/// its limit; what the piece and the world then hold is open. An indirect action takes the value of its flag; where that
+/// breaks the rule of its first parameter it is done, and changes nothing.
+#[tactic(auto, unfolding(crate::specs::Effects::effect_of))]
 pub fn act<T: Tables, F: Fn(u8, u8) -> u8>(
     tables: &T,
     world: &mut World,
@@ -108,6 +111,35 @@ pub fn act<T: Tables, F: Fn(u8, u8) -> u8>(
     requires draws { world.old.draws < 2 ^ 64 - 1 }
     ensures does { (X : List (List ℕ)) → AreRowsOf F.Fn routines.now X →
         Does (effect_of (story_of (T.game tables.now) X) world.old c) piece.old piece.new world.new result }
+    ensures game { IsOf (T.game tables.now) world.new }
+    ensures draws { world.new.draws ≤ world.old.draws + 1 }
+{
+    match as_plain(tables, world, c) {
+        Some(plain) => act_plain(tables, world, routines, piece, plain),
+        None => {
+            print_nothing(piece);
+            on(Effect::Go)
+        }
+    }
+}
+
+/// Does a plain action.
+#[tactic(auto, using(crate::proofs::Parameters::object_stands, crate::proofs::Parameters::second_object_stands), unfolding(crate::specs::Effects::plain_effect, crate::specs::Meanings::meaning_of, crate::specs::Meanings::meanings, paw_base::specs::Condacts::line_of, paw_base::specs::Condacts::condact_lines))]
+fn act_plain<T: Tables, F: Fn(u8, u8) -> u8>(
+    tables: &T,
+    world: &mut World,
+    routines: &Routines<F>,
+    piece: &mut Piece,
+    c: Condact,
+) -> Act
+    requires kind { is_condition c ≡ false }
+    requires code { IsPlainCode c.code }
+    requires game { IsOf (T.game tables.now) world.old }
+    requires condact { is_right (T.game tables.now) c ≡ true }
+    requires rows { HaveRows F.Fn routines.now }
+    requires draws { world.old.draws < 2 ^ 64 - 1 }
+    ensures does { (X : List (List ℕ)) → AreRowsOf F.Fn routines.now X →
+        Does (plain_effect (story_of (T.game tables.now) X) world.old c) piece.old piece.new world.new result }
     ensures game { IsOf (T.game tables.now) world.new }
     ensures draws { world.new.draws ≤ world.old.draws + 1 }
 {

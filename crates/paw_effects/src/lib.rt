@@ -8,6 +8,7 @@ mod conditions;
 pub mod counts;
 pub mod does;
 mod hindrances;
+mod indirect;
 pub mod laws;
 mod lists;
 mod marks;

@@ -11,8 +11,8 @@ use Rattle.paw_base.specs.declared.rows.ParamKind.TheVariants as kind
 use Rattle.paw_game.specs.declared.parts.Word.{Word}
 use Rattle.paw_game.specs.Game.{GameLists, counts_of}
 use Rattle.paw_game.specs.Tables.{condact_at}
-use Rattle.paw_game.specs.Valid.{Valid, are_letters, has_word, is_condact, is_parameter, is_within, is_word, is_word_or_none, words_kept}
-use Rattle.paw_game.specs.inner.Valid.{is_argument, is_right}
+use Rattle.paw_game.specs.Valid.{Valid, are_letters, has_word, is_argument, is_condact, is_parameter, is_within, is_word, is_word_or_none, words_kept}
+use Rattle.paw_game.specs.inner.Valid.{is_right}
 use Rattle.paw_game.proofs.Kept.{first_of_and, second_of_and, code_kept, first_kept, second_kept, keeps_other, condact_kept}
 
 small_value : (w : Word) (class value : ℕ) → IsTrue (is_word w) → IsTrue ((w.class == class) && (w.value == value)) → value < 256

@@ -137,6 +137,15 @@ is_parameter counts ws kind.Adjective x = is_word_or_none ws ADJECTIVE_CLASS x
 is_parameter counts ws kind.Preposition x = is_word_or_none ws PREPOSITION_CLASS x
 is_parameter counts ws _ x = nat_lt x 256
 
+-- the same for a value that comes while a game is played: a word may be any byte, since one that the game doesn't have
+-- is a word that no sentence has
+abbrev pub is_argument : GameLists → ParamKind → ℕ → Bool
+is_argument g kind.Adverb x = nat_lt x 256
+is_argument g kind.Noun x = nat_lt x 256
+is_argument g kind.Adjective x = nat_lt x 256
+is_argument g kind.Preposition x = nat_lt x 256
+is_argument g k x = is_parameter (counts_of g) g.words k x
+
 -- a code of a condact, with parameters that keep the rule of their kinds
 abbrev pub keeps_kinds : (ParamKind → ℕ → Bool) → Condact → Bool
 keeps_kinds rule c = is_code c.code && (rule (first_kind c.code) c.a && rule (second_kind c.code) c.b)

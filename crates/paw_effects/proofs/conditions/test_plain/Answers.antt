@@ -1,7 +1,7 @@
 use Rattle.std.proofs.Common.{arith}
 use Rattle.paw_game.proofs.Right.{right-code}
 use Rattle.paw_effects.proofs.Meant.{tests_low}
-use Rattle.paw_effects.proofs.conditions.test.Goals as goal
+use Rattle.paw_effects.proofs.conditions.test_plain.Goals as goal
 
 pub unreachable-requires : goal.unreachable-requires
 unreachable-requires g c =

@@ -3,7 +3,7 @@ use Rattle.paw_base.proofs.Table.{code_within}
 use Rattle.paw_game.proofs.Right.{right-code}
 use Rattle.paw_effects.proofs.Meant.{acts_high}
 use Rattle.paw_effects.proofs.Moves.{Alike-all_dropped, IsOf-alike}
-use Rattle.paw_effects.proofs.does.act.Goals as goal
+use Rattle.paw_effects.proofs.does.act_plain.Goals as goal
 
 pub unreachable-requires : goal.unreachable-requires
 unreachable-requires g c =
