@@ -1,8 +1,9 @@
 -- Which condacts ask, call tables and open loops.
-use Rattle.std.proofs.Common.{◌≡◌, ℕ, Bool, true, false, Option, Some, None, refl}
+use Rattle.std.proofs.Common.{◌≡◌, ℕ, Bool, true, false, Option, Some, None, refl, subst}
 use Rattle.std.specs.Prelude.{if◌then◌else◌}
 use Rattle.std.specs.Option.{option_map_or}
-use Rattle.paw_base.specs.declared.codes.TheConstants.{QUIT, END, ANYKEY, PROCESS, DOALL}
+use Rattle.paw_base.specs.declared.codes.TheConstants.{QUIT, END, ANYKEY, SAVE, PROCESS, DOALL}
+use Rattle.paw_base.specs.Condacts.{condact_lines, plain_line, may_be_indirect}
 use Rattle.paw_base.specs.declared.parts.Condact.{Condact}
 use Rattle.paw_game.specs.Game.{GameLists}
 use Rattle.paw_world.specs.World.{World, Position, with_flag, kept_position}
@@ -21,9 +22,11 @@ use Rattle.paw_effects.specs.ObjectSearch.{first_fitting}
 use Rattle.paw_effects.specs.ObjectActions.{first_that_holds, hindrances, tried, acted_on}
 use Rattle.paw_effects.specs.AutoActions.{looks_at, acted_on_found, acted_by_name}
 use Rattle.paw_effects.specs.Meanings.{Meaning, Tests, Acts}
+use Rattle.paw_effects.specs.Indirect.{as_plain}
 use Rattle.paw_effects.specs.Effects.{done_by}
 use Rattle.paw_effects.specs.Holds.{answers, tested_by}
 use Rattle.paw_effects.specs.Presence.{named_place}
+use Rattle.paw_effects.proofs.Indirect.{carried_itself}
 
 -- ---- what asks, calls and loops ----
 
@@ -45,6 +48,54 @@ Leads w c (effect.Loop p) = (c.code ≡ DOALL) × (p ≡ named_place w c.a)
 Leads w c (effect.Ask p) = AsksAt c.code p
 Leads w c effect.Parse = Unit {0}
 Leads w c effect.Spent = Unit {0}
+
+-- ---- an indirect condact leads on as the plain one ----
+
+-- what asks, calls a table, opens a loop or keeps a position can't be indirect
+pub quit_itself : may_be_indirect QUIT ≡ false
+unfolding condact_lines plain_line
+quit_itself = refl
+
+end_itself : may_be_indirect END ≡ false
+unfolding condact_lines plain_line
+end_itself = refl
+
+key_itself : may_be_indirect ANYKEY ≡ false
+unfolding condact_lines plain_line
+key_itself = refl
+
+pub save_itself : may_be_indirect SAVE ≡ false
+unfolding condact_lines plain_line
+save_itself = refl
+
+process_itself : may_be_indirect PROCESS ≡ false
+unfolding condact_lines plain_line
+process_itself = refl
+
+doall_itself : may_be_indirect DOALL ≡ false
+unfolding condact_lines plain_line
+doall_itself = refl
+
+module _ (g : GameLists) (w : World) (c d : Condact) (is : as_plain g w c ≡ Some d) where
+  pub same_code : (code : ℕ) → may_be_indirect code ≡ false → d.code ≡ code → c.code ≡ code
+  same_code code never at = subst (λ x. x.code ≡ code) (carried_itself g w c d is code never at) at
+
+  asks_as : (p : Prompt) → AsksAt d.code p → AsksAt c.code p
+  asks_as prompt.Main h = h
+  asks_as prompt.Quit h = same_code QUIT quit_itself h
+  asks_as prompt.Again h = same_code END end_itself h
+  asks_as prompt.Key h = same_code ANYKEY key_itself h
+  asks_as prompt.Over h = h
+
+  pub leads_as : (e : Effect) → Leads w d e → Leads w c e
+  leads_as effect.Go h = tt
+  leads_as (effect.Exit a) h = tt
+  leads_as effect.Redescribe h = tt
+  leads_as (effect.Call u) h = subst (λ x. Leads w x (effect.Call u)) (carried_itself g w c d is PROCESS process_itself h.0) h
+  leads_as (effect.Loop p) h = subst (λ x. Leads w x (effect.Loop p)) (carried_itself g w c d is DOALL doall_itself h.0) h
+  leads_as (effect.Ask p) h = asks_as p h
+  leads_as effect.Parse h = tt
+  leads_as effect.Spent h = tt
 
 -- ---- actions on objects, and positions ----
 

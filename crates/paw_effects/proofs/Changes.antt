@@ -13,12 +13,14 @@ use Rattle.paw_base.specs.declared.codes.TheConstants.{PLACE, PUTO, AUTOP, PUTIN
 use Rattle.paw_base.specs.declared.parts.Condact.{Condact}
 use Rattle.paw_base.specs.declared.parts.ObjectFacts.{ObjectFacts}
 use Rattle.paw_base.specs.declared.rows.ParamKind.TheVariants as kind
-use Rattle.paw_base.specs.Condacts.{condact_lines, line_of, first_kind, second_kind}
+use Rattle.paw_base.specs.Condacts.{condact_lines, line_of, plain_line, is_indirect, first_kind, second_kind}
 use Rattle.paw_game.specs.declared.parts.ObjectRow.{ObjectRow}
 use Rattle.paw_game.specs.Game.{GameLists, counts_of}
 use Rattle.paw_game.specs.Tables.{exit_at}
-use Rattle.paw_game.specs.Valid.{Valid, is_condact, is_parameter, is_within}
-use Rattle.paw_game.proofs.Kept.{condact-first, condact-second, exit-leads}
+use Rattle.paw_game.specs.Valid.{Valid, is_argument, is_parameter, is_within}
+use Rattle.paw_game.specs.inner.Valid.{is_right}
+use Rattle.paw_game.proofs.Kept.{exit-leads}
+use Rattle.paw_game.proofs.Right.{right-first, right-second}
 use Rattle.paw_world.specs.World.{World, Position, is_somewhere, flag, with_flag, place, here, moved, with_objects_returned, at_position}
 use Rattle.paw_world.specs.World.{drawn_on, position_of, keeping, kept_position}
 use Rattle.paw_world.specs.Draws.{random_word}
@@ -173,29 +175,29 @@ module _ (g : GameLists) (v : Valid g) (seed n : ℕ) where
   all_so p at (o ∷ objects) w k = all_so p at objects (moved w o p) (moved_so g v seed n w k o p at)
 
   -- what a parameter of this code may be
-  first_of : (c : Condact) (code : ℕ) → c.code ≡ code → is_condact g c ≡ true → IsTrue (is_parameter (counts_of g) g.words (first_kind code) c.a)
-  first_of c code is kept = subst (λ k. IsTrue (is_parameter (counts_of g) g.words (first_kind k) c.a)) is (condact-first g c kept)
+  first_of : (c : Condact) (code : ℕ) → c.code ≡ code → is_right g c ≡ true → IsTrue (is_argument g (first_kind code) c.a)
+  first_of c code is kept = subst (λ k. IsTrue (is_argument g (first_kind k) c.a)) is (right-first g c kept)
 
-  second_of : (c : Condact) (code : ℕ) → c.code ≡ code → is_condact g c ≡ true → IsTrue (is_parameter (counts_of g) g.words (second_kind code) c.b)
-  second_of c code is kept = subst (λ k. IsTrue (is_parameter (counts_of g) g.words (second_kind k) c.b)) is (condact-second g c kept)
+  second_of : (c : Condact) (code : ℕ) → c.code ≡ code → is_right g c ≡ true → IsTrue (is_argument g (second_kind code) c.b)
+  second_of c code is kept = subst (λ k. IsTrue (is_argument g (second_kind k) c.b)) is (right-second g c kept)
 
-  pub place_is : (c : Condact) → c.code ≡ PLACE → is_condact g c ≡ true → IsTrue (is_parameter (counts_of g) g.words kind.Place c.b)
-  unfolding condact_lines line_of
+  pub place_is : (c : Condact) → c.code ≡ PLACE → is_right g c ≡ true → IsTrue (is_parameter (counts_of g) g.words kind.Place c.b)
+  unfolding condact_lines line_of plain_line is_indirect
   place_is c is kept = second_of c PLACE is kept
 
-  pub puto_is : (c : Condact) → c.code ≡ PUTO → is_condact g c ≡ true → IsTrue (is_parameter (counts_of g) g.words kind.Place c.a)
-  unfolding condact_lines line_of
+  pub puto_is : (c : Condact) → c.code ≡ PUTO → is_right g c ≡ true → IsTrue (is_parameter (counts_of g) g.words kind.Place c.a)
+  unfolding condact_lines line_of plain_line is_indirect
   puto_is c is kept = first_of c PUTO is kept
 
   location_place : (x : ℕ) → IsTrue (is_parameter (counts_of g) g.words kind.Location x) → IsPlace g v seed x
   location_place x h = let low : x < length g.locations = ltb-true x (length g.locations) h in grind (arith, nat_tests)
 
-  pub autop_is : (c : Condact) → c.code ≡ AUTOP → is_condact g c ≡ true → IsPlace g v seed c.a
-  unfolding condact_lines line_of
+  pub autop_is : (c : Condact) → c.code ≡ AUTOP → is_right g c ≡ true → IsPlace g v seed c.a
+  unfolding condact_lines line_of plain_line is_indirect
   autop_is c is kept = location_place c.a (first_of c AUTOP is kept)
 
-  pub putin_is : (c : Condact) → c.code ≡ PUTIN → is_condact g c ≡ true → IsPlace g v seed c.b
-  unfolding condact_lines line_of
+  pub putin_is : (c : Condact) → c.code ≡ PUTIN → is_right g c ≡ true → IsPlace g v seed c.b
+  unfolding condact_lines line_of plain_line is_indirect
   putin_is c is kept = location_place c.b (second_of c PUTIN is kept)
 
   pub not_created : IsPlace g v seed 252
@@ -347,10 +349,10 @@ module _ (g : GameLists) (v : Valid g) (seed n : ℕ) where
   -- a condition, and an action of this code, leave a world of the game; they may make a draw
   abbrev pub SoBy : ℕ → Meaning → Type 0
   SoBy code (Tests tested) = (w : World) (c : Condact) → Is w → IsNext (tested g w c).world
-  SoBy code (Acts done) = (X : List (List ℕ)) (w : World) (c : Condact) → c.code ≡ code → All AreBytes X → Is w → is_condact g c ≡ true →
+  SoBy code (Acts done) = (X : List (List ℕ)) (w : World) (c : Condact) → c.code ≡ code → All AreBytes X → Is w → is_right g c ≡ true →
       c.a < 256 → c.b < 256 → IsNext (done (story_of g X) w c).world
 
-  pub done_so : (m : Meaning) (X : List (List ℕ)) (w : World) (c : Condact) → SoBy c.code m → All AreBytes X → Is w → is_condact g c ≡ true →
+  pub done_so : (m : Meaning) (X : List (List ℕ)) (w : World) (c : Condact) → SoBy c.code m → All AreBytes X → Is w → is_right g c ≡ true →
       c.a < 256 → c.b < 256 → IsNext (done_by m (story_of g X) w c).world
   done_so (Tests tested) X w c h bytes k kept a b = next w k
   done_so (Acts done) X w c h bytes k kept a b = h X w c refl bytes k kept a b

@@ -1,5 +1,5 @@
 -- What is true of each condact: how reading goes on behind it, and what it leaves of a world.
-use Rattle.std.proofs.Common.{◌≡◌, ◌≢◌, ℕ, suc, ◌+◌, ◌<◌, Bool, true, List, [], Option, refl, slice_get, length, All, IsTrue, arith}
+use Rattle.std.proofs.Common.{◌≡◌, ◌≢◌, ℕ, suc, ◌+◌, ◌<◌, Bool, true, false, List, [], Option, refl, slice_get, length, All, IsTrue, arith}
 use Rattle.std.proofs.Math.Nat.{min-le_left}
 use Rattle.std.specs.Prelude.{not}
 use Rattle.paw_base.specs.declared.codes.TheConstants.{QUIT, SAVE, PLACE, PUTO}
@@ -11,7 +11,7 @@ use Rattle.paw_game.specs.Game.{GameLists}
 use Rattle.paw_game.specs.Tables.{exit_at}
 use Rattle.paw_game.specs.Valid.{Valid, is_condact, is_place}
 use Rattle.paw_game.specs.inner.Valid.{is_right}
-use Rattle.paw_game.proofs.Kept.{condact-first, condact-second}
+use Rattle.paw_game.proofs.Right.{right-first, right-second, right_condact}
 use Rattle.paw_routines.specs.Rows.{value_at}
 use Rattle.paw_world.specs.World.{World, Position, flag, with_flag, place, here, moved, drawn_on, kept_position, with_objects_returned}
 use Rattle.paw_world.specs.Weight.{carried_weight}
@@ -29,16 +29,18 @@ use Rattle.paw_effects.specs.ObjectActions.{acted_on}
 use Rattle.paw_effects.specs.AutoActions.{looks_at, acted_by_name}
 use Rattle.paw_effects.specs.Standing.{AreBytes}
 use Rattle.paw_effects.specs.Meanings.{Meaning, Tests, Acts, tests, doing, printing, changing, meanings, meaning_of}
-use Rattle.paw_effects.specs.Effects.{effect_of}
-use Rattle.paw_effects.specs.Holds.{answers, holds}
+use Rattle.paw_effects.specs.Indirect.{as_plain}
+use Rattle.paw_effects.specs.Effects.{Done, makes, effect_of, plain_effect}
+use Rattle.paw_effects.specs.Holds.{Tested, answers, holds, plain_holds}
 use Rattle.paw_effects.proofs.Rows.{Each, ◌&◌, each_meaning}
+use Rattle.paw_effects.proofs.Indirect.{of_carried, carried_right}
 use Rattle.paw_effects.proofs.Asking.{Leads, LeadsOn, AsksInner, truth_told, move_told, acted_leads, named_leads, loaded_leads}
-use Rattle.paw_effects.proofs.Asking.{leads_by, asks_by, leads_inner}
+use Rattle.paw_effects.proofs.Asking.{leads_by, asks_by, leads_inner, leads_as, same_code, quit_itself, save_itself}
 use Rattle.paw_effects.proofs.Placed.{IsPlaced, PlacesBy, Goes, at_place, here_place, named_is_place, moved_placed, returned_placed, dropped, if_place}
 use Rattle.paw_effects.proofs.Placed.{place_takes, puto_takes, first_kept, second_kept, not_created, swapped_placed, to_placed, autop_goes, putin_goes}
 use Rattle.paw_effects.proofs.Placed.{acted_placed, found_placed, referred_found, loaded_placed, taken_placed, kept_stands, saved_placed}
 use Rattle.paw_effects.proofs.Placed.{answered_placed, moves_placed, done_placed, tested_placed}
-use Rattle.paw_effects.proofs.Worlds.{IsPlace, parameter_small, world_of, flag_small, flagged, place_of, place_is_small, here_place as here_so}
+use Rattle.paw_effects.proofs.Worlds.{IsPlace, argument_small, world_of, flag_small, flagged, place_of, place_is_small, here_place as here_so}
 use Rattle.paw_effects.proofs.Worlds.{named, moved_so, weight_small, returned_so}
 use Rattle.paw_effects.proofs.Changes.{Is, IsNext, SoBy, Puts, next, loaded_so, saved_so, drawn_so, kept_at, keeping_so, back_so, rolled_small}
 use Rattle.paw_effects.proofs.Changes.{flag_so, flags_so, carried_small, all_so, place_is, puto_is, autop_is, putin_is, not_created as not_created_so}
@@ -113,7 +115,7 @@ set_two code f h = record {
 moving : (code : ℕ) (o p : World → Condact → ℕ)
     → ((g : GameLists) (w : World) (c : Condact) → c.code ≡ code → Valid g → IsTrue (is_right g c) → IsPlaced g w
     → is_place (length g.locations) (p w c) ≡ true)
-    → ((g : GameLists) (v : Valid g) (seed n : ℕ) (w : World) (c : Condact) → c.code ≡ code → Is g v seed n w → is_condact g c ≡ true
+    → ((g : GameLists) (v : Valid g) (seed n : ℕ) (w : World) (c : Condact) → c.code ≡ code → Is g v seed n w → is_right g c ≡ true
     → IsPlace g v seed (p w c))
     → Facts code (changing (λ w c. moved w (o w c) (p w c)))
 moving code o p at stands = record {
@@ -125,7 +127,7 @@ moving code o p at stands = record {
 
 -- one on the object that it names
 on_object : (code : ℕ) (a : Condact → Action) → ((g : GameLists) (c : Condact) → c.code ≡ code → IsTrue (is_right g c) → Goes g (a c))
-    → ((g : GameLists) (v : Valid g) (seed n : ℕ) (c : Condact) → c.code ≡ code → is_condact g c ≡ true → Puts g v seed n (a c))
+    → ((g : GameLists) (v : Valid g) (seed n : ℕ) (c : Condact) → c.code ≡ code → is_right g c ≡ true → Puts g v seed n (a c))
     → Facts code (doing (λ g w c. acted_on g w c.a (a c)))
 on_object code a goes puts = record {
   leads = λ s w c is. acted_leads s.game w c c.a (a c);
@@ -136,7 +138,7 @@ on_object code a goes puts = record {
 
 -- one on the object that the sentence names
 by_name : (code : ℕ) (a : Condact → Action) → ((g : GameLists) (c : Condact) → c.code ≡ code → IsTrue (is_right g c) → Goes g (a c))
-    → ((g : GameLists) (v : Valid g) (seed n : ℕ) (c : Condact) → c.code ≡ code → is_condact g c ≡ true → Puts g v seed n (a c))
+    → ((g : GameLists) (v : Valid g) (seed n : ℕ) (c : Condact) → c.code ≡ code → is_right g c ≡ true → Puts g v seed n (a c))
     → Facts code (doing (λ g w c. acted_by_name g w (a c)))
 by_name code a goes puts = record {
   leads = λ s w c is. named_leads s.game w c (a c);
@@ -342,11 +344,52 @@ each_row =
 facts : (code : ℕ) → Facts code (meaning_of code)
 facts = each_meaning Facts each_row (λ code. still code _ _ (λ s w c is. tt))
 
+-- ---- each plain condact ----
+
+module _ (w : World) (c : Condact) where
+  plain_leads : (s : Story) → Leads w c (plain_effect s w c).act.effect
+  unfolding plain_effect
+  plain_leads s = leads_by (meaning_of c.code) s w c (facts c.code).leads
+
+  plain_asks : (g : GameLists) → (plain_holds g w c).answer ≡ truth.Ask → c.code ≡ QUIT
+  unfolding plain_holds
+  plain_asks g = asks_by (meaning_of c.code) g w c (facts c.code).leads
+
+  plain_placed : (s : Story) → Valid s.game → is_right s.game c ≡ true → IsPlaced s.game w → IsPlaced s.game (plain_effect s w c).world
+  unfolding plain_effect
+  plain_placed s = done_placed (meaning_of c.code) s w c (facts c.code).places
+
+  plain_test_placed : (g : GameLists) → IsPlaced g w → IsPlaced g (plain_holds g w c).world
+  unfolding plain_holds
+  plain_test_placed g = tested_placed (meaning_of c.code) g w c (facts c.code).places
+
+  plain_kept : (ks : List (Option Position)) (s : Story) → c.code ≢ SAVE → AreKept ks w → AreKept ks (plain_effect s w c).world
+  unfolding plain_effect
+  plain_kept ks s = done_kept ks (meaning_of c.code) s w c ((facts c.code).keeps ks)
+
+  plain_test_kept : (ks : List (Option Position)) (g : GameLists) → AreKept ks w → AreKept ks (plain_holds g w c).world
+  unfolding plain_holds
+  plain_test_kept ks g = tested_kept ks (meaning_of c.code) g w c ((facts c.code).keeps ks)
+
+  module _ (g : GameLists) (v : Valid g) (seed n : ℕ) (k : Is g v seed n w) where
+    plain_so : (X : List (List ℕ)) → All AreBytes X → is_right g c ≡ true → IsNext g v seed n (plain_effect (story_of g X) w c).world
+    unfolding plain_effect
+    plain_so X bytes kept =
+        done_so g v seed n (meaning_of c.code) X w c ((facts c.code).stays g v seed n) bytes k kept
+        (argument_small g v (first_kind c.code) c.a (right-first g c kept))
+        (argument_small g v (second_kind c.code) c.b (right-second g c kept))
+
+    plain_test_so : IsNext g v seed n (plain_holds g w c).world
+    unfolding plain_holds
+    plain_test_so = tested_so g v seed n (meaning_of c.code) w c ((facts c.code).stays g v seed n) k
+
 -- ---- each condact ----
 
 pub effect_leads : (s : Story) (w : World) (c : Condact) → Leads w c (effect_of s w c).act.effect
 unfolding effect_of
-effect_leads s w c = leads_by (meaning_of c.code) s w c (facts c.code).leads
+effect_leads s w c =
+    of_carried (λ (d : Done). Leads w c d.act.effect) (plain_effect s w) (as_plain s.game w c) (makes w)
+    (λ d is. leads_as s.game w c d is (plain_effect s w d).act.effect (plain_leads w d s)) tt
 
 -- an action asks at prompts in tables alone
 pub effect_asks : (s : Story) (w : World) (c : Condact) → AsksInner (effect_of s w c).act.effect
@@ -355,27 +398,37 @@ effect_asks s w c = leads_inner w c (effect_of s w c).act.effect (effect_leads s
 -- of the conditions QUIT alone asks
 pub condition_asks : (g : GameLists) (w : World) (c : Condact) → (holds g w c).answer ≡ truth.Ask → c.code ≡ QUIT
 unfolding holds
-condition_asks g w c = asks_by (meaning_of c.code) g w c (facts c.code).leads
+condition_asks g w c =
+    of_carried (λ (t : Tested). t.answer ≡ truth.Ask → c.code ≡ QUIT) (plain_holds g w) (as_plain g w c) (answers w false)
+    (λ d is asks. same_code g w c d is QUIT quit_itself (plain_asks w d g asks)) (λ asks. absurd (truth_told false asks))
 
 -- objects stand at places of the game
 pub effect_placed : (s : Story) (w : World) (c : Condact) → Valid s.game → IsTrue (is_right s.game c) → IsPlaced s.game w
     → IsPlaced s.game (effect_of s w c).world
 unfolding effect_of
-effect_placed s w c = done_placed (meaning_of c.code) s w c (facts c.code).places
+effect_placed s w c v right k =
+    of_carried (λ (d : Done). IsPlaced s.game d.world) (plain_effect s w) (as_plain s.game w c) (makes w)
+    (λ d is. plain_placed w d s v (carried_right s.game w c d is right) k) k
 
 pub condition_placed : (g : GameLists) (w : World) (c : Condact) → IsPlaced g w → IsPlaced g (holds g w c).world
 unfolding holds
-condition_placed g w c = tested_placed (meaning_of c.code) g w c (facts c.code).places
+condition_placed g w c k =
+    of_carried (λ (t : Tested). IsPlaced g t.world) (plain_holds g w) (as_plain g w c) (answers w false)
+    (λ d is. plain_test_placed w d g k) k
 
 -- the positions that are kept stay as they are
 pub effect_kept : (ks : List (Option Position)) (s : Story) (w : World) (c : Condact) → c.code ≢ SAVE → AreKept ks w
     → AreKept ks (effect_of s w c).world
 unfolding effect_of
-effect_kept ks s w c = done_kept ks (meaning_of c.code) s w c ((facts c.code).keeps ks)
+effect_kept ks s w c other k =
+    of_carried (λ (d : Done). AreKept ks d.world) (plain_effect s w) (as_plain s.game w c) (makes w)
+    (λ d is. plain_kept w d ks s (λ saves. other (same_code s.game w c d is SAVE save_itself saves)) k) k
 
 pub condition_kept : (ks : List (Option Position)) (g : GameLists) (w : World) (c : Condact) → AreKept ks w → AreKept ks (holds g w c).world
 unfolding holds
-condition_kept ks g w c = tested_kept ks (meaning_of c.code) g w c ((facts c.code).keeps ks)
+condition_kept ks g w c k =
+    of_carried (λ (t : Tested). AreKept ks t.world) (plain_holds g w) (as_plain g w c) (answers w false)
+    (λ d is. plain_test_kept w d ks g k) k
 
 -- the world stays one of the game that is played
 module _ (g : GameLists) (v : Valid g) (seed n : ℕ) where
@@ -383,10 +436,11 @@ module _ (g : GameLists) (v : Valid g) (seed n : ℕ) where
       → IsNext g v seed n (effect_of (story_of g X) w c).world
   unfolding effect_of
   effect_so X w c bytes k kept =
-      done_so g v seed n (meaning_of c.code) X w c ((facts c.code).stays g v seed n) bytes k kept
-      (parameter_small g v (first_kind c.code) c.a (condact-first g c kept))
-      (parameter_small g v (second_kind c.code) c.b (condact-second g c kept))
+      of_carried (λ (d : Done). IsNext g v seed n d.world) (plain_effect (story_of g X) w) (as_plain g w c) (makes w)
+      (λ d is. plain_so w d g v seed n k X bytes (carried_right g w c d is (right_condact g c v kept))) (next g v seed n w k)
 
   pub condition_so : (w : World) (c : Condact) → Is g v seed n w → IsNext g v seed n (holds g w c).world
   unfolding holds
-  condition_so w c = tested_so g v seed n (meaning_of c.code) w c ((facts c.code).stays g v seed n)
+  condition_so w c k =
+      of_carried (λ (t : Tested). IsNext g v seed n t.world) (plain_holds g w) (as_plain g w c) (answers w false)
+      (λ d is. plain_test_so w d g v seed n k) (next g v seed n w k)

@@ -2,6 +2,7 @@ mod Printing
 mod Parameters
 mod Meant
 mod Rows
+mod Indirect
 pub mod EachRow
 mod Moves
 mod Searching

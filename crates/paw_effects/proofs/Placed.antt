@@ -13,7 +13,7 @@ use Rattle.paw_base.specs.declared.parts.Condact.{Condact}
 use Rattle.paw_base.specs.declared.parts.ObjectFacts.{ObjectFacts}
 use Rattle.paw_base.specs.declared.rows.ParamKind.{ParamKind}
 use Rattle.paw_base.specs.declared.rows.ParamKind.TheVariants as kind
-use Rattle.paw_base.specs.Condacts.{condact_lines, line_of, first_kind, second_kind}
+use Rattle.paw_base.specs.Condacts.{condact_lines, line_of, plain_line, is_indirect, first_kind, second_kind}
 use Rattle.paw_game.specs.Game.{GameLists}
 use Rattle.paw_game.specs.declared.parts.ObjectRow.{ObjectRow}
 use Rattle.paw_game.specs.Valid.{Valid, is_argument, is_within, is_place, is_text, rows_kept}
@@ -126,23 +126,23 @@ low_place locations x h = grind (arith, nat_tests)
 
 -- what the parameters of some codes name
 autop_takes : first_kind AUTOP ≡ kind.Location
-unfolding condact_lines line_of
+unfolding condact_lines line_of plain_line is_indirect
 autop_takes = refl
 
 putin_takes : second_kind PUTIN ≡ kind.Location
-unfolding condact_lines line_of
+unfolding condact_lines line_of plain_line is_indirect
 putin_takes = refl
 
 pub puto_takes : first_kind PUTO ≡ kind.Place
-unfolding condact_lines line_of
+unfolding condact_lines line_of plain_line is_indirect
 puto_takes = refl
 
 pub place_takes : second_kind PLACE ≡ kind.Place
-unfolding condact_lines line_of
+unfolding condact_lines line_of plain_line is_indirect
 place_takes = refl
 
 doall_takes : first_kind DOALL ≡ kind.Place
-unfolding condact_lines line_of
+unfolding condact_lines line_of plain_line is_indirect
 doall_takes = refl
 
 -- a parameter keeps the rule of the kind that its code says

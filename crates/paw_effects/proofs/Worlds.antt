@@ -18,7 +18,7 @@ use Rattle.paw_game.specs.declared.parts.Word.{Word}
 use Rattle.paw_game.specs.declared.parts.ObjectRow.{ObjectRow}
 use Rattle.paw_game.specs.Game.{GameLists, counts_of}
 use Rattle.paw_game.specs.Tables.{facts_at}
-use Rattle.paw_game.specs.Valid.{Valid, is_place, is_parameter, is_within, is_word, words_rise, are_letters, has_word, is_word_or_none, is_object, is_text}
+use Rattle.paw_game.specs.Valid.{Valid, is_argument, is_place, is_parameter, is_within, is_word, words_rise, are_letters, has_word, is_word_or_none, is_object, is_text}
 use Rattle.paw_game.proofs.Kept.{first_of_and, second_of_and, facts_kept, facts-weight}
 use Rattle.paw_world.specs.World.{World, flag, with_flag, place, with_place, here, let_go, taken_up, moved, first_carried, flags_with}
 use Rattle.paw_world.specs.World.{opening_places, starting_world, restarted, with_objects_returned}
@@ -121,6 +121,14 @@ parameter_small g v kind.Adverb x h = word_or_none_small g v 1 x h
 parameter_small g v kind.Noun x h = word_or_none_small g v 2 x h
 parameter_small g v kind.Adjective x h = word_or_none_small g v 3 x h
 parameter_small g v kind.Preposition x h = word_or_none_small g v 4 x h
+
+-- and so is one that comes while the game is played
+pub argument_small : (g : GameLists) → Valid g → (k : ParamKind) (x : ℕ) → IsTrue (is_argument g k x) → x < 256
+argument_small g v kind.Adverb x h = ltb-true x 256 h
+argument_small g v kind.Noun x h = ltb-true x 256 h
+argument_small g v kind.Adjective x h = ltb-true x 256 h
+argument_small g v kind.Preposition x h = ltb-true x 256 h
+argument_small g v k x h = parameter_small g v k x h
 
 -- the words of an object's facts
 pub record AreSmall (f : ObjectFacts) : Type 0 where

@@ -11,6 +11,7 @@ macro_rules! scenes {
     };
 }
 
+mod indirect;
 mod object_actions;
 mod prints;
 

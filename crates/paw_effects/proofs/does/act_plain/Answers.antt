@@ -1,15 +1,16 @@
-use Rattle.std.proofs.Common.{arith}
+use Rattle.std.proofs.Common.{◌≡◌, false, subst, arith}
+use Rattle.paw_effects.specs.Meanings.{meaning_of, is_test}
 use Rattle.paw_base.proofs.Table.{code_within}
-use Rattle.paw_game.proofs.Right.{right-code}
+use Rattle.paw_effects.proofs.Indirect.{plain_itself}
 use Rattle.paw_effects.proofs.Meant.{acts_high}
 use Rattle.paw_effects.proofs.Moves.{Alike-all_dropped, IsOf-alike}
 use Rattle.paw_effects.proofs.does.act_plain.Goals as goal
 
 pub unreachable-requires : goal.unreachable-requires
 unreachable-requires g c =
-    let code = right-code (g.T.Tables.game c.args.tables.now) c.args.c c.requires.condact in
-    let high = acts_high c.args.c.code code c.requires.kind in
-    let within = code_within c.args.c.code code in
+    let kind = subst (λ k. is_test (meaning_of k) ≡ false) (plain_itself c.args.c.code c.requires.code) c.requires.kind in
+    let high = acts_high c.args.c.code c.requires.code kind in
+    let within = code_within c.args.c.code c.requires.code in
     omega (arith, high, within)
 
 pub returns-in-42-clause-game : goal.returns-in-42-clause-game
