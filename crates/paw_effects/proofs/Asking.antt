@@ -26,7 +26,7 @@ use Rattle.paw_effects.specs.Indirect.{as_plain}
 use Rattle.paw_effects.specs.Effects.{done_by}
 use Rattle.paw_effects.specs.Holds.{answers, tested_by}
 use Rattle.paw_effects.specs.Presence.{named_place}
-use Rattle.paw_effects.proofs.Indirect.{carried_itself}
+use Rattle.paw_effects.proofs.Carried.{carried_itself}
 
 -- ---- what asks, calls and loops ----
 

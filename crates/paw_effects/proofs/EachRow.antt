@@ -33,7 +33,7 @@ use Rattle.paw_effects.specs.Indirect.{as_plain}
 use Rattle.paw_effects.specs.Effects.{Done, makes, effect_of, plain_effect}
 use Rattle.paw_effects.specs.Holds.{Tested, answers, holds, plain_holds}
 use Rattle.paw_effects.proofs.Rows.{Each, ◌&◌, each_meaning}
-use Rattle.paw_effects.proofs.Indirect.{of_carried, carried_right}
+use Rattle.paw_effects.proofs.Carried.{of_carried, carried_right}
 use Rattle.paw_effects.proofs.Asking.{Leads, LeadsOn, AsksInner, truth_told, move_told, acted_leads, named_leads, loaded_leads}
 use Rattle.paw_effects.proofs.Asking.{leads_by, asks_by, leads_inner, leads_as, same_code, quit_itself, save_itself}
 use Rattle.paw_effects.proofs.Placed.{IsPlaced, PlacesBy, Goes, at_place, here_place, named_is_place, moved_placed, returned_placed, dropped, if_place}

@@ -2,7 +2,7 @@ mod Printing
 mod Parameters
 mod Meant
 mod Rows
-mod Indirect
+mod Carried
 pub mod EachRow
 mod Moves
 mod Searching

@@ -7,7 +7,7 @@ use Rattle.paw_base.specs.Condacts.{condact_lines, plain_line, plain_code}
 use Rattle.paw_base.proofs.Table.{below, each_plain, acts_alike}
 use Rattle.paw_effects.specs.Meanings.{meanings, meaning_of, is_test}
 use Rattle.paw_effects.specs.inner.Meant.{EachActsAsItsRowSays, EachCodeHasAMeaning}
-use Rattle.paw_effects.proofs.Indirect.{plain_code_plain}
+use Rattle.paw_effects.proofs.Carried.{plain_code_plain}
 
 same : Bool → Bool → Bool
 same true b = b

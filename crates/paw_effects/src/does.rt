@@ -116,10 +116,7 @@ pub fn act<T: Tables, F: Fn(u8, u8) -> u8>(
 {
     match as_plain(tables, world, c) {
         Some(plain) => act_plain(tables, world, routines, piece, plain),
-        None => {
-            print_nothing(piece);
-            on(Effect::Go)
-        }
+        None => done(print_nothing(piece)),
     }
 }
 

@@ -1,13 +1,15 @@
 -- The lines of steps, and how long they are.
-use Rattle.std.proofs.Common.{◌≡◌, ℕ, zero, suc, ◌+◌, ◌≤◌, ◌<◌, Bool, true, false, List, [], ◌∷◌, ◌++◌, refl, ap, inl, inr, length, arith, length-append, nat_le}
-use Rattle.std.specs.Prelude.{◌^◌, codes, decimal}
+use Rattle.std.proofs.Common.{◌≡◌, ℕ, zero, suc, ◌+◌, ◌-◌, ◌||◌, ◌≤◌, ◌<◌, Bool, true, false, List, [], ◌∷◌, ◌++◌, refl, ap, inl, inr, length, arith, length-append, nat_le}
+use Rattle.std.specs.Prelude.{◌^◌, codes, decimal, if◌then◌else◌}
 use Rattle.std.specs.List.{slice_index_or, list_all}
 use Rattle.std.proofs.lemmas.Bool.{leb-true, cases_lt, lt-ltb}
 use Rattle.std.proofs.lemmas.Fmt.{length-decimal-le}
 use Rattle.std.proofs.lemmas.List.{get_or_past}
-use Rattle.paw_base.specs.Condacts.{CondactLine, is_code, no_line, condact_lines, line_of, name_of}
+use Rattle.paw_base.specs.declared.codes.TheConstants.{INDIRECT}
+use Rattle.paw_base.specs.Condacts.{CondactLine, is_plain_code, is_indirect, no_line, condact_lines, plain_line, indirect_line, line_of, name_of}
 use Rattle.paw_base.specs.inner.Condacts.{IsCode}
 use Rattle.paw_base.specs.inner.Piece.{Puts}
+use Rattle.paw_base.proofs.Table.{plain_is}
 use Rattle.paw_game.proofs.Kept.{first_of_and, second_of_and}
 use Rattle.paw_reading.specs.Run.{Step}
 use Rattle.paw_play.specs.Traces.{place_text, answer_text, step_line, more_line}
@@ -29,17 +31,41 @@ short_at [] n h = omega arith
 short_at (l ∷ lines) zero h = leb-true (length l.name) 8 (first_of_and (nat_le (length l.name) 8) _ h)
 short_at (l ∷ lines) (suc n) h = short_at lines n (second_of_and (nat_le (length l.name) 8) _ h)
 
+plain_short : (code : ℕ) → length (plain_line code).name ≤ 8
+unfolding plain_line
+plain_short code = short_at condact_lines code all_short
+
 name_short : (code : ℕ) → length (name_of code) ≤ 8
 unfolding line_of
-name_short code = short_at condact_lines code all_short
+name_short code = go (is_indirect code)
+  where
+    go : (b : Bool) → length (if b then indirect_line (code - INDIRECT) else plain_line code).name ≤ 8
+    go true = plain_short (code - INDIRECT)
+    go false = plain_short code
 
--- above the last code there is no name
-pub no_name : (code : ℕ) → ¬ IsCode code → name_of code ≡ []
-unfolding line_of is_code
-no_name code none = elim (cases_lt code (length condact_lines)) [
-  | inl low ↦ absurd (none (lt-ltb code (length condact_lines) low))
+or_true : (b : Bool) → (b || true) ≡ true
+or_true true = refl
+or_true false = refl
+
+indirect_is : (code : ℕ) → is_indirect code ≡ true → IsCode code
+indirect_is code e = rw e (or_true (is_plain_code code))
+
+no_plain_name : (code : ℕ) → ¬ IsCode code → (plain_line code).name ≡ []
+unfolding plain_line is_plain_code
+no_plain_name code none = elim (cases_lt code (length condact_lines)) [
+  | inl low ↦ absurd (none (plain_is code (lt-ltb code (length condact_lines) low)))
   | inr past ↦ ap (λ (l : CondactLine). l.name) (get_or_past condact_lines code no_line past)
 ]
+
+-- what is no code has no name
+pub no_name : (code : ℕ) → ¬ IsCode code → name_of code ≡ []
+unfolding line_of
+no_name code none = go (is_indirect code) refl
+  where
+    go : (b : Bool) → is_indirect code ≡ b → (if b then indirect_line (code - INDIRECT) else plain_line code).name ≡ []
+    go true e = absurd (none (indirect_is code e))
+    go false e = no_plain_name code none
+
 
 -- ---- lines ----
 

@@ -1,6 +1,6 @@
 use Rattle.std.proofs.Common.{◌≡◌, true, subst, arith}
 use Rattle.paw_effects.specs.Meanings.{meaning_of, is_test}
-use Rattle.paw_effects.proofs.Indirect.{plain_itself}
+use Rattle.paw_effects.proofs.Carried.{plain_itself}
 use Rattle.paw_effects.proofs.Meant.{tests_low}
 use Rattle.paw_effects.proofs.conditions.test_plain.Goals as goal
 

@@ -1,7 +1,7 @@
 use Rattle.std.proofs.Common.{◌≡◌, false, subst, arith}
 use Rattle.paw_effects.specs.Meanings.{meaning_of, is_test}
 use Rattle.paw_base.proofs.Table.{code_within}
-use Rattle.paw_effects.proofs.Indirect.{plain_itself}
+use Rattle.paw_effects.proofs.Carried.{plain_itself}
 use Rattle.paw_effects.proofs.Meant.{acts_high}
 use Rattle.paw_effects.proofs.Moves.{Alike-all_dropped, IsOf-alike}
 use Rattle.paw_effects.proofs.does.act_plain.Goals as goal
