@@ -1,2 +1,3 @@
 pub mod FunctionRows
+pub mod Measures
 pub mod ThreeRoutines

@@ -1,8 +1,11 @@
 // Routines: code from outside that gives a value for a value.
 
-ghost use Rattle.std.specs.Prelude.{◌≡◌, ℕ, List, nat_lt, is_some};
+ghost use Rattle.std.specs.Prelude.{◌≡◌, ◌<◌, ℕ, List, Some, nat_lt, is_some, slice_get};
 ghost use Rattle.paw_routines.specs.Rows.{StandFor, value_at};
 ghost use Rattle.paw_routines.specs.Routines.{AreRowsOf, HaveRows};
+ghost use Rattle.paw_routines.specs.Measure.{measure};
+
+use sha2::{Digest, Sha256};
 
 /// So many routines, numbered from 0, each of which gives a value for a value.
 #[derive(Drop)]
@@ -32,5 +35,32 @@ impl<F: Fn(u8, u8) -> u8> Routines<F> {
         } else {
             None
         }
+    }
+
+    /// What routine n gives for each value from 0 to 255.
+    fn row(&self, n: u8) -> [u8; 256]
+        requires rows { HaveRows F.Fn self.now }
+        requires is_routine { n < self.now.count }
+        ensures value { (X : List (List ℕ)) → AreRowsOf F.Fn self.now X → slice_get X n ≡ Some result }
+    {
+        let mut row = [0; 256];
+        for x in 0..=u8::MAX {
+            row[x as usize] = (self.f)(n, x);
+        }
+        row
+    }
+
+    /// The measure of these routines: a digest of their number and of all the values that they give. Which routines a
+    /// session was played with can be told by it.
+    pub fn measure(&self) -> [u8; 32]
+        requires rows { HaveRows F.Fn self.now }
+        ensures value { (X : List (List ℕ)) → AreRowsOf F.Fn self.now X → result ≡ measure X }
+    {
+        let mut hasher = Sha256::new();
+        hasher.update([self.count]);
+        for n in 0..self.count {
+            hasher.update(self.row(n));
+        }
+        hasher.finalize()
     }
 }
