@@ -3,7 +3,7 @@ use Rattle.std.proofs.Common.{◌≡◌, ℕ, ◌+◌, ◌*◌, ◌≤◌, ◌<�
 use Rattle.std.specs.Prelude.{◌==◌, ◌&&◌, nat_le}
 use Rattle.std.specs.List.{list_all, flat_map}
 use Rattle.std.proofs.lemmas.Bool.{and_parts}
-use Rattle.paw_base.specs.Condacts.{condact_lines, line_of}
+use Rattle.paw_base.specs.Condacts.{condact_lines, plain_line, line_of, is_indirect}
 use Rattle.paw_game.specs.declared.parts.Word.{Word}
 use Rattle.paw_game.specs.declared.parts.ObjectRow.{ObjectRow}
 use Rattle.paw_game.specs.Game.{GameLists}
@@ -55,7 +55,7 @@ head_size : (g : GameLists) → length (head_image g) ≡ 17
 head_size g = refl
 
 tables_size : length (flat_map table_image (answer_entries ∷ listing ∷ [] ∷ [])) ≡ 39
-unfolding condact_lines line_of
+unfolding condact_lines plain_line line_of is_indirect
 tables_size = refl
 
 total : (a b c d e f g h : List ℕ)
