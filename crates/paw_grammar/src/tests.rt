@@ -8,6 +8,7 @@ use crate::refusal::ReadError;
 use crate::tokens::Tokens;
 use crate::vocabulary::Vocabulary;
 use crate::words::{class, object_kind, word};
+use paw_base::codes::{AUTOP, DOALL, EQ, INDIRECT, LET, MES, NOUN2, OK};
 use paw_base::fault::SourceKind;
 use paw_base::parts::Condact;
 use paw_base::words::{ADJECTIVE_CLASS, NOUN_CLASS, VERB_CLASS};
@@ -120,14 +121,20 @@ fn tokens_of_rows_are_read(rt: HostRuntime) -> Result<(), Fail> {
 fn condacts_are_read(rt: HostRuntime) -> Result<(), Fail> {
     let words = declared(rt.alloc()).ok().ok_or(NO_ROOM)?;
     let mut rows = Vec::new(rt.alloc());
-    let mut line = tokens(b"noun2 bag AUTOP 002 LET 60 9 DOALL here OK ; more");
+    let mut line = tokens(
+        b"noun2 bag AUTOP 002 LET 60 9 DOALL here OK MES @100 mes @007 NOUN2 @4 EQ @7 3 ; more",
+    );
     assert_eq!(rt; scope(&words).more_condacts(&mut line, &mut rows), Ok(()));
     let wanted = [
-        (22, 52, 0),
-        (47, 2, 0),
-        (70, 60, 9),
-        (86, 255, 0),
-        (34, 0, 0),
+        (NOUN2, 52, 0),
+        (AUTOP, 2, 0),
+        (LET, 60, 9),
+        (DOALL, 255, 0),
+        (OK, 0, 0),
+        (MES + INDIRECT, 100, 0),
+        (MES + INDIRECT, 7, 0),
+        (NOUN2 + INDIRECT, 4, 0),
+        (EQ + INDIRECT, 7, 3),
     ];
     assert_eq!(rt; rows.len(), wanted.len());
     for (found, (code, a, b)) in rows.iter().zip(wanted) {
@@ -139,7 +146,7 @@ fn condacts_are_read(rt: HostRuntime) -> Result<(), Fail> {
 #[test]
 fn the_first_fault_of_condacts_is_named(rt: HostRuntime) -> Result<(), Fail> {
     let words = declared(rt.alloc()).ok().ok_or(NO_ROOM)?;
-    let lines: [(&[u8], SourceKind); 9] = [
+    let lines: [(&[u8], SourceKind); 17] = [
         (b"OK LOOK", SourceKind::Condact),
         (b"MESSAGE", SourceKind::Missing),
         (b"MESSAGE 2 x", SourceKind::Range),
@@ -149,6 +156,14 @@ fn the_first_fault_of_condacts_is_named(rt: HostRuntime) -> Result<(), Fail> {
         (b"NOUN2 *", SourceKind::Word),
         (b"PROCESS 6", SourceKind::Range),
         (b"DONE 5", SourceKind::Condact),
+        (b"MES @", SourceKind::Number),
+        (b"NOUN2 @x", SourceKind::Number),
+        (b"MES @256", SourceKind::Range),
+        (b"MES @99999999999999999999", SourceKind::Range),
+        (b"PROCESS @1", SourceKind::Number),
+        (b"LET 1 @2", SourceKind::Number),
+        (b"PLACE 1 @2", SourceKind::Number),
+        (b"DONE @1", SourceKind::Condact),
     ];
     for (line, kind) in lines {
         let mut rows = Vec::new(rt.alloc());

@@ -92,10 +92,14 @@ parameter_tokens ws kind.Adjective x = value_token ws ADJECTIVE_CLASS x ∷ []
 parameter_tokens ws kind.Preposition x = value_token ws PREPOSITION_CLASS x ∷ []
 parameter_tokens ws _ x = decimal x ∷ []
 
--- the first parameter: of an indirect condact `@` and the number of the flag
+-- the number of a flag behind `@`
+abbrev pub flag_token : ℕ → List ℕ
+flag_token flag = codes "@" ++ decimal flag
+
+-- the first parameter: a flag where the condact is indirect
 abbrev pub first_tokens : List Word → Condact → List (List ℕ)
 first_tokens ws c =
-    if is_indirect c.code then (64 ∷ decimal c.a) ∷ [] else parameter_tokens ws (first_kind c.code) c.a
+    if is_indirect c.code then flag_token c.a ∷ [] else parameter_tokens ws (first_kind c.code) c.a
 
 -- a condact stands on a line of its own: its name and its parameters, each behind one space
 abbrev pub condact_line : List Word → Condact → List ℕ

@@ -1,6 +1,7 @@
 // The parts of a line.
 
 ghost use Rattle.std.specs.Prelude.{◌≡◌, ◌++◌, ◌∷◌, [], OnOk, decimal};
+ghost use Rattle.paw_print.specs.Lines.{flag_token};
 ghost use Rattle.paw_print.specs.Canonical.{with_line_end};
 
 use itoa::Buffer;
@@ -51,7 +52,7 @@ pub(crate) fn write_number(number: usize, out: &mut Vec<u8>) -> Written
 
 /// Writes `@` and the number of a flag behind one space.
 pub(crate) fn write_flag(flag: u8, out: &mut Vec<u8>) -> Written
-    ensures writes { OnOk result (out.new.items ≡ out.old.items ++ 32 ∷ 64 ∷ decimal flag) }
+    ensures writes { OnOk result (out.new.items ≡ out.old.items ++ 32 ∷ flag_token flag) }
 {
     out.extend_from_slice(b" @")?;
     write_digits(flag as usize, out)

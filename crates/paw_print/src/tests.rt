@@ -1,7 +1,7 @@
 // Small games, printed.
 
 use crate::canonical;
-use paw_base::codes::{DONE, MES, MESSAGE, NOTAT};
+use paw_base::codes::{DONE, EQ, INDIRECT, MES, MESSAGE, NOTAT};
 use paw_base::parts::ObjectFacts;
 use paw_base::words::{ANY_WORD, NO_WORD, NOUN_CLASS, VERB_CLASS};
 use paw_game::game::Game;
@@ -20,11 +20,11 @@ const LANTERN: &str = concat!(
     "/OBJ\n0 0 1 - LAMP _\n/PRO 0\nGET LAMP\n MESSAGE 0\n DONE\n/PRO 1\n/PRO 2\n",
 );
 
-/// The text that ends with a line end keeps an empty last line.
+/// The text that ends with a line end keeps an empty last line, and flags stand behind `@`.
 const TWO_ROOMS: &str = concat!(
     "/VOC\nN 2 noun\nS 3 noun\nSING 31 verb\n/STX\n/MTX\n/0\nLa la.\n\n/OTX\n",
     "/LTX\n/0\nHall.\n/1\nYard.\n/CON\n/0\nN 1\n/1\nS 0\n/OBJ\n",
-    "/PRO 0\nSING _\n NOTAT 1\n MES 0\n DONE\n* N\n/PRO 1\n/PRO 2\n",
+    "/PRO 0\nSING _\n NOTAT 1\n MES 0\n EQ @7 3\n MES @100\n DONE\n* N\n/PRO 1\n/PRO 2\n",
 );
 
 /// One location with an empty text, and three empty tables.
@@ -92,7 +92,8 @@ fn lantern(alloc: Global) -> Result<GameParts, AllocError> {
     Ok(parts)
 }
 
-/// Two locations with an exit each, a message that ends with a line end, and an entry of three condacts.
+/// Two locations with an exit each, a message that ends with a line end, and an entry of five condacts, two of them
+/// indirect.
 fn two_rooms(alloc: Global) -> Result<GameParts, AllocError> {
     let mut parts = smallest(alloc)?;
     parts.words = vec![in alloc;
@@ -107,7 +108,13 @@ fn two_rooms(alloc: Global) -> Result<GameParts, AllocError> {
     let north = Exits::from_slice(alloc, &[Exit { verb: 2, to: 1 }])?;
     let south = Exits::from_slice(alloc, &[Exit { verb: 3, to: 0 }])?;
     parts.exits = vec![in alloc; north, south]?;
-    let codes = [(NOTAT, 1, 0), (MES, 0, 0), (DONE, 0, 0)];
+    let codes = [
+        (NOTAT, 1, 0),
+        (MES, 0, 0),
+        (EQ + INDIRECT, 7, 3),
+        (MES + INDIRECT, 100, 0),
+        (DONE, 0, 0),
+    ];
     let sing = Entry::from_codes(alloc, 31, NO_WORD, &codes)?;
     let any = Entry::from_codes(alloc, ANY_WORD, 2, &[])?;
     parts.tables = tables(alloc, vec![in alloc; sing, any]?)?;
