@@ -54,6 +54,12 @@ second_alike code is = go (is_indirect code) refl
 
 -- ---- what is carried out ----
 
+-- an indirect condact takes the value of its flag
+pub taken : (g : GameLists) (w : World) (c : Condact) (value : ℕ) (found : Option Condact) → is_indirect c.code ≡ true → value ≡ flag w c.a
+    → found ≡ plain_with g c value → found ≡ as_plain g w c
+unfolding as_plain
+taken g w c value found e same is = is ∙ rw e (ap (λ x. plain_with g c x) same)
+
 module _ (g : GameLists) (w : World) (c d : Condact) (is : as_plain g w c ≡ Some d) where
   -- it is the condact itself, or the plain one with the value of the flag
   carried : (P : Condact → Type 0) → (is_indirect c.code ≡ false → P c)
