@@ -10,6 +10,7 @@ use Rattle.paw_phrase.specs.declared.Sentence.{Sentence}
 use Rattle.paw_phrase.specs.Phrase.{is_separator, Mark, token_mark, separator_mark, marks_from, marks, is_parting, from_phrase}
 use Rattle.paw_phrase.specs.Phrase.{bytes_after}
 use Rattle.paw_phrase.specs.Sentence.{Parsed, IsSentence, IsUnknown, IsNoPhrase, parsed_marks, parsed}
+pub use Rattle.paw_phrase.specs.inner.Leaving.{Leaves}
 
 -- the bytes that stay pending: those behind the first few
 pub record IsRest (pending rest : List ℕ) : Type 0 where
@@ -25,12 +26,6 @@ rest-shorter pending rest h =
 
 pub rest-all : (P : ℕ → Type 0) (pending rest : List ℕ) → IsRest pending rest → All P pending → All P rest
 rest-all P pending rest h all = subst (All P) (sym h.is) (All-drop P h.from pending all)
-
--- a fact of the bytes that a phrase leaves
-abbrev pub Leaves : (List ℕ → Type 0) → Parsed → Type 0
-Leaves P (IsSentence s rest) = P rest
-Leaves P (IsUnknown rest) = P rest
-Leaves P IsNoPhrase = Unit {0}
 
 -- bytes behind a token or a separator, where a token's n bytes stand before s
 record IsBehind (n : ℕ) (s after : List ℕ) : Type 0 where
@@ -102,7 +97,7 @@ bytes_after-each P g [] none h = none
 bytes_after-each P g (m ∷ ms) none h =
     elim (is_parting g m.token) as (λ v. P (cond v m.after (bytes_after g ms))) [ true ↦ h.0 | false ↦ bytes_after-each P g ms none h.1 ]
 
-leaves : (P : List ℕ → Type 0) (b : Bool) (s : Sentence) (rest : List ℕ) → P rest → Leaves P (cond b (IsSentence s rest) (IsUnknown rest))
+pub leaves : (P : List ℕ → Type 0) (b : Bool) (s : Sentence) (rest : List ℕ) → P rest → Leaves P (cond b (IsSentence s rest) (IsUnknown rest))
 leaves P true s rest h = h
 leaves P false s rest h = h
 

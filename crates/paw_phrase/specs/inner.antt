@@ -1,3 +1,4 @@
 -- Words of contracts between crates, and of proofs. What a reader must believe doesn't reach them.
 pub mod Draft
 pub mod Taking
+pub mod Leaving

@@ -10,6 +10,7 @@ use paw_base::words::{
     PREPOSITION_CLASS, PRONOUN_CLASS, VERB_CLASS,
 };
 
+pub mod laws;
 mod line;
 mod next;
 #[cfg(test)]
