@@ -54,7 +54,7 @@ record Indirect (code : ℕ) : Type 0 where
 
 indirect_first : (code : ℕ) → is_indirect code ≡ true → first_kind code ≡ kind.Flag
 unfolding line_of
-indirect_first code h = rw h refl
+indirect_first code h = rw (h, first_kind) refl
 
 indirect : (code : ℕ) → is_indirect code ≡ true → Indirect code
 unfolding is_indirect
