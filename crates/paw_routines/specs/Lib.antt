@@ -1,3 +1,3 @@
 pub mod Rows
 pub mod Routines
-pub mod Measure
+pub mod inner

@@ -1,0 +1,2 @@
+-- Words of contracts between crates, and of proofs. What a reader must believe doesn't reach them.
+pub mod Measure
