@@ -58,7 +58,8 @@ second_alike code is = go (is_indirect code) refl
 pub taken : (g : GameLists) (w : World) (c : Condact) (value : ℕ) (found : Option Condact) → is_indirect c.code ≡ true → value ≡ flag w c.a
     → found ≡ plain_with g c value → found ≡ as_plain g w c
 unfolding as_plain
-taken g w c value found e same is = is ∙ rw e (ap (λ x. plain_with g c x) same)
+taken g w c value found e same is =
+    is ∙ (ap (λ x. plain_with g c x) same ∙ sym (ap (λ (b : Bool). if b then plain_with g c (flag w c.a) else Some c) e))
 
 module _ (g : GameLists) (w : World) (c d : Condact) (is : as_plain g w c ≡ Some d) where
   -- it is the condact itself, or the plain one with the value of the flag
@@ -84,7 +85,7 @@ module _ (g : GameLists) (w : World) (c d : Condact) (is : as_plain g w c ≡ So
   carried_right kept = carried (λ x. is_right g x ≡ true) (λ e. kept) (λ e k.
       let code : IsCode (plain_code c.code) = plain_is (plain_code c.code) (plain_code_plain c.code (right-code g c kept)) in
       let second : is_argument g (second_kind (plain_code c.code)) c.b ≡ true =
-          subst (λ kind. IsTrue (is_argument g kind c.b)) (second_alike c.code (right-code g c kept)) (right-second g c kept) in
+      subst (λ kind. IsTrue (is_argument g kind c.b)) (second_alike c.code (right-code g c kept)) (right-second g c kept) in
       rw (code, k, second) refl)
 
   pub carried_kind : IsCode c.code → is_condition d ≡ is_condition c

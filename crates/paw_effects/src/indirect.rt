@@ -31,10 +31,7 @@ fn is_argument<T: Tables>(tables: &T, kind: ParamKind, value: u8) -> bool
         ParamKind::System => number < counts.system,
         ParamKind::Table => number < counts.tables,
         ParamKind::Flag | ParamKind::Number => true,
-        ParamKind::Adverb
-        | ParamKind::Noun
-        | ParamKind::Adjective
-        | ParamKind::Preposition => true,
+        ParamKind::Adverb | ParamKind::Noun | ParamKind::Adjective | ParamKind::Preposition => true,
     }
 }
 

@@ -66,7 +66,6 @@ no_name code none = go (is_indirect code) refl
     go true e = absurd (none (indirect_is code e))
     go false e = no_plain_name code none
 
-
 -- ---- lines ----
 
 answer_short : (yes : Bool) → length (answer_text yes) ≤ 5

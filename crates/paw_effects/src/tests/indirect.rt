@@ -2,7 +2,8 @@
 
 use super::{GO, NO, REDESCRIBE, Scene, YES, double, parts, run_with};
 use paw_base::codes::{
-    AT, CREATE, EQ, EXTERN, GET, GOTO, INDIRECT, ISAT, LET, MES, NOTAT, NOUN2, PAUSE, RESET, SYSMESS,
+    AT, CREATE, EQ, EXTERN, GET, GOTO, INDIRECT, ISAT, LET, MES, NOTAT, NOUN2, PAUSE, RESET,
+    SYSMESS,
 };
 use paw_game::game::Game;
 use paw_routines::routines::Routines;

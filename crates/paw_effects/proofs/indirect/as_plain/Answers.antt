@@ -10,8 +10,10 @@ use Rattle.paw_effects.proofs.Carried.{taken, carried_plain, carried_right, carr
 use Rattle.paw_effects.proofs.indirect.as_plain.Goals as goal
 
 pub plain_with-requires : goal.plain_with-requires
-plain_with-requires g c =
-    indirect_of_code c.args.c.code (right-code (g.T.Tables.game c.args.tables.now) c.args.c c.requires.condact) c.if-c-lt-INDIRECT.false
+plain_with-requires g c = record {
+  indirect =
+      indirect_of_code c.args.c.code (right-code (g.T.Tables.game c.args.tables.now) c.args.c c.requires.condact) c.if-c-lt-INDIRECT.false;
+}
 
 pub returns-then-c-lt-INDIRECT-clause-value : goal.returns-then-c-lt-INDIRECT-clause-value
 unfolding as_plain
@@ -23,8 +25,9 @@ returns-then-c-lt-INDIRECT-clause-plain g c =
 
 pub returns-else-c-lt-INDIRECT-clause-value : goal.returns-else-c-lt-INDIRECT-clause-value
 returns-else-c-lt-INDIRECT-clause-value g c =
-    taken (g.T.Tables.game c.args.tables.now) c.args.world.now c.args.c c.flag.result c.plain_with.result (plain_with-requires g c)
-    c.flag.ensures.value c.plain_with.ensures.value
+    let game = g.T.Tables.game c.args.tables.now in
+    let indirect = indirect_of_code c.args.c.code (right-code game c.args.c c.requires.condact) c.if-c-lt-INDIRECT.false in
+    taken game c.args.world.now c.args.c c.flag.result c.plain_with.result indirect c.flag.ensures.value c.plain_with.ensures.value
 
 pub returns-else-c-lt-INDIRECT-clause-plain : goal.returns-else-c-lt-INDIRECT-clause-plain
 returns-else-c-lt-INDIRECT-clause-plain g c =
