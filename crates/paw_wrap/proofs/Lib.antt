@@ -1,0 +1,5 @@
+pub mod Breaking
+pub mod Fewest
+pub mod LineWidths
+pub mod Scanning
+pub mod Undoing
