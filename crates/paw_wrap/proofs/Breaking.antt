@@ -1,8 +1,7 @@
 -- What first fit does at each byte, and over a word.
 use Rattle.std.proofs.Common.{◌≡◌, ℕ, zero, suc, ◌<◌, ◌≤◌, ◌+◌, Bool, true, false, eqb, ltb, not, cond, ◌||◌, ◌⊎◌, inl, inr, one-add, List, [], ◌∷◌, map, drop, refl, ap, arith}
 use Rattle.std.proofs.lemmas.Bool.{ltb-true, ltb-false}
-use Rattle.paw_wrap.specs.FirstFit.{word_length, breaks_from}
-use Rattle.paw_wrap.specs.declared.columns.TheConstants.{SPACE, LINE_FEED}
+use Rattle.paw_wrap.specs.FirstFit.{space, line_feed, word_length, breaks_from}
 
 pub left_true : (x y : Bool) → y ≡ false → x || y ≡ true → x ≡ true
 left_true true y e h = refl
@@ -14,19 +13,19 @@ breaks_from-empty w at before = refl
 
 -- A byte ends its line, or a space is broken at, or the line goes on behind it.
 pub data Step (w at before b : ℕ) (bs : List ℕ) : Type 0 where
-  ends_line : eqb b LINE_FEED ≡ true → breaks_from w at before (b ∷ bs) ≡ breaks_from w (suc at) 0 bs
+  ends_line : eqb b line_feed ≡ true → breaks_from w at before (b ∷ bs) ≡ breaks_from w (suc at) 0 bs
       → Step w at before b bs
-  breaks : eqb b LINE_FEED ≡ false → eqb b SPACE ≡ true → w < before + 1 + word_length bs
+  breaks : eqb b line_feed ≡ false → eqb b space ≡ true → w < before + 1 + word_length bs
       → breaks_from w at before (b ∷ bs) ≡ at ∷ breaks_from w (suc at) 0 bs → Step w at before b bs
-  goes_on : eqb b LINE_FEED ≡ false → (eqb b SPACE ≡ true → before + 1 + word_length bs ≤ w)
+  goes_on : eqb b line_feed ≡ false → (eqb b space ≡ true → before + 1 + word_length bs ≤ w)
       → breaks_from w at before (b ∷ bs) ≡ breaks_from w (suc at) (suc before) bs → Step w at before b bs
 
 pub step : (w at before b : ℕ) (bs : List ℕ) → Step w at before b bs
 unfolding breaks_from
 step w at before b bs =
-    elim (eqb b LINE_FEED) as (λ v. eqb b LINE_FEED ≡ v → Step w at before b bs) [
+    elim (eqb b line_feed) as (λ v. eqb b line_feed ≡ v → Step w at before b bs) [
       | true ↦ λ e. ends_line e (rw e refl)
-      | false ↦ λ e. elim (eqb b SPACE) as (λ v. eqb b SPACE ≡ v → Step w at before b bs) [
+      | false ↦ λ e. elim (eqb b space) as (λ v. eqb b space ≡ v → Step w at before b bs) [
         | true ↦ λ f. elim (ltb w (before + 1 + word_length bs)) as (λ v. ltb w (before + 1 + word_length bs) ≡ v → Step w at before b bs) [
           | true ↦ λ g. breaks e f (ltb-true _ _ g) (rw (e, f, g) refl)
           | false ↦ λ g. goes_on e (λ _. ltb-false _ _ g) (rw (e, f, g) refl)
@@ -40,9 +39,9 @@ pub breaks_from-suc : (w at before : ℕ) (text : List ℕ) → breaks_from w (s
 unfolding breaks_from
 breaks_from-suc w at before [] = refl
 breaks_from-suc w at before (b ∷ bs) =
-    elim (eqb b LINE_FEED) as (λ v. eqb b LINE_FEED ≡ v → breaks_from w (suc at) before (b ∷ bs) ≡ map suc (breaks_from w at before (b ∷ bs))) [
+    elim (eqb b line_feed) as (λ v. eqb b line_feed ≡ v → breaks_from w (suc at) before (b ∷ bs) ≡ map suc (breaks_from w at before (b ∷ bs))) [
       | true ↦ λ e. rw e (breaks_from-suc w (suc at) 0 bs)
-      | false ↦ λ e. elim (eqb b SPACE) as (λ v. eqb b SPACE ≡ v → breaks_from w (suc at) before (b ∷ bs) ≡ map suc (breaks_from w at before (b ∷ bs))) [
+      | false ↦ λ e. elim (eqb b space) as (λ v. eqb b space ≡ v → breaks_from w (suc at) before (b ∷ bs) ≡ map suc (breaks_from w at before (b ∷ bs))) [
         | true ↦ λ f. elim (ltb w (before + 1 + word_length bs)) as (λ v. ltb w (before + 1 + word_length bs) ≡ v → breaks_from w (suc at) before (b ∷ bs) ≡ map suc (breaks_from w at before (b ∷ bs))) [
           | true ↦ λ g. rw (e, f, g) (ap (λ (ps : List ℕ). suc at ∷ ps) (breaks_from-suc w (suc at) 0 bs))
           | false ↦ λ g. rw (e, f, g) (breaks_from-suc w (suc at) (suc before) bs)
@@ -53,12 +52,12 @@ breaks_from-suc w at before (b ∷ bs) =
 
 -- a byte that ends a word, or one more byte of it
 pub word_length-cons : (b : ℕ) (bs : List ℕ) → (word_length (b ∷ bs) ≡ 0)
-    ⊎ ((eqb b SPACE ≡ false) × (eqb b LINE_FEED ≡ false) × (word_length (b ∷ bs) ≡ suc (word_length bs)))
+    ⊎ ((eqb b space ≡ false) × (eqb b line_feed ≡ false) × (word_length (b ∷ bs) ≡ suc (word_length bs)))
 word_length-cons b bs =
-    elim (eqb b SPACE) as (λ v. eqb b SPACE ≡ v → (cond (not (v || eqb b LINE_FEED)) (1 + word_length bs) 0 ≡ 0)
-    ⊎ ((v ≡ false) × (eqb b LINE_FEED ≡ false) × (cond (not (v || eqb b LINE_FEED)) (1 + word_length bs) 0 ≡ suc (word_length bs)))) [
+    elim (eqb b space) as (λ v. eqb b space ≡ v → (cond (not (v || eqb b line_feed)) (1 + word_length bs) 0 ≡ 0)
+    ⊎ ((v ≡ false) × (eqb b line_feed ≡ false) × (cond (not (v || eqb b line_feed)) (1 + word_length bs) 0 ≡ suc (word_length bs)))) [
       | true ↦ λ e. inl refl
-      | false ↦ λ e. elim (eqb b LINE_FEED) as (λ v. (cond (not v) (1 + word_length bs) 0 ≡ 0)
+      | false ↦ λ e. elim (eqb b line_feed) as (λ v. (cond (not v) (1 + word_length bs) 0 ≡ 0)
           ⊎ ((false ≡ false) × (v ≡ false) × (cond (not v) (1 + word_length bs) 0 ≡ suc (word_length bs)))) [
             | true ↦ inl refl
             | false ↦ inr (refl, refl, one-add _)

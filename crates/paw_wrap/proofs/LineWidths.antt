@@ -1,16 +1,15 @@
 -- How long the lines of a wrapped text are.
 use Rattle.std.proofs.Common.{◌≡◌, ℕ, suc, ◌≤◌, ◌+◌, Bool, true, false, eqb, ◌||◌, List, [], ◌∷◌, length, drop, get_or, refl, sym, ap, ◌∙◌, inl, inr, arith}
 use Rattle.std.specs.List.{AllByRecursion, list_any, slice_split, onto_first}
-use Rattle.paw_wrap.specs.FirstFit.{word_length, breaks_from, FitsLine}
-use Rattle.paw_wrap.specs.declared.columns.TheConstants.{SPACE, LINE_FEED}
+use Rattle.paw_wrap.specs.FirstFit.{space, line_feed, word_length, breaks_from, FitsLine}
 use Rattle.paw_wrap.proofs.Breaking.{Step, step, left_true}
 use Rattle.paw_wrap.proofs.Undoing.{wrapped, wrapped-kept, wrapped-broken}
 
 abbrev pub lines : List ℕ → List (List ℕ)
-lines bytes = slice_split (λ b. eqb b LINE_FEED) bytes
+lines bytes = slice_split (λ b. eqb b line_feed) bytes
 
 abbrev pub has_space : List ℕ → Bool
-has_space line = list_any (λ b. eqb b SPACE) line
+has_space line = list_any (λ b. eqb b space) line
 
 abbrev pub first_line : List (List ℕ) → List ℕ
 first_line ls = get_or ls 0 []
@@ -19,10 +18,10 @@ both_false : (x y : Bool) → x || y ≡ false → (x ≡ false) × (y ≡ false
 both_false true y h = absurd (cc)
 both_false false y h = (refl, h)
 
-pub lines-line_feed : (b : ℕ) (bs : List ℕ) → eqb b LINE_FEED ≡ true → lines (b ∷ bs) ≡ [] ∷ lines bs
+pub lines-line_feed : (b : ℕ) (bs : List ℕ) → eqb b line_feed ≡ true → lines (b ∷ bs) ≡ [] ∷ lines bs
 lines-line_feed b bs e = rw e refl
 
-pub lines-other : (b : ℕ) (bs : List ℕ) → eqb b LINE_FEED ≡ false → lines (b ∷ bs) ≡ onto_first b (lines bs)
+pub lines-other : (b : ℕ) (bs : List ℕ) → eqb b line_feed ≡ false → lines (b ∷ bs) ≡ onto_first b (lines bs)
 lines-other b bs e = rw e refl
 
 pub first_line-onto : (b : ℕ) (ls : List (List ℕ)) → first_line (onto_first b ls) ≡ b ∷ first_line ls
@@ -54,20 +53,20 @@ fits_behind w (l ∷ ls) (inl h, more) = record { first = λ _. omega (arith, h)
 fits_behind w (l ∷ ls) (inr none, more) = record { first = λ some. absurd (cc); rest = more }
 
 -- behind an LF a line begins
-pub behind_line_feed : (w before b : ℕ) (bs : List ℕ) → eqb b LINE_FEED ≡ true → FitsBehind w 0 (lines bs) → FitsBehind w before (lines (b ∷ bs))
+pub behind_line_feed : (w before b : ℕ) (bs : List ℕ) → eqb b line_feed ≡ true → FitsBehind w 0 (lines bs) → FitsBehind w before (lines (b ∷ bs))
 behind_line_feed w before b bs e f = rw (lines-line_feed b bs e) (record { first = λ never. absurd (cc); rest = fits_all w (lines bs) f })
 
 -- one more byte of a line
-pub behind_other : (w before b n : ℕ) (bs : List ℕ) → eqb b LINE_FEED ≡ false → FitsBehind w (suc before) (lines bs)
-    → (eqb b SPACE ≡ true → before + 1 + n ≤ w) → (has_space (first_line (lines bs)) ≡ false → length (first_line (lines bs)) ≤ n)
+pub behind_other : (w before b n : ℕ) (bs : List ℕ) → eqb b line_feed ≡ false → FitsBehind w (suc before) (lines bs)
+    → (eqb b space ≡ true → before + 1 + n ≤ w) → (has_space (first_line (lines bs)) ≡ false → length (first_line (lines bs)) ≤ n)
     → FitsBehind w before (lines (b ∷ bs))
-behind_other w before b n bs e f space word =
+behind_other w before b n bs e f short word =
     rw (lines-other b bs e) (record {
       first = rw (first_line-onto b (lines bs)) (
           elim (has_space (first_line (lines bs))) as (λ v. has_space (first_line (lines bs)) ≡ v
-          → eqb b SPACE || v ≡ true → before + suc (length (first_line (lines bs))) ≤ w) [
+          → eqb b space || v ≡ true → before + suc (length (first_line (lines bs))) ≤ w) [
             | true ↦ λ h some. omega (arith, f.first h)
-            | false ↦ λ h some. omega (arith, space (left_true (eqb b SPACE) false refl some), word h)
+            | false ↦ λ h some. omega (arith, short (left_true (eqb b space) false refl some), word h)
           ] refl);
       rest = rw (drop-onto b (lines bs)) f.rest;
     })
@@ -85,7 +84,7 @@ first_word w before (b ∷ bs) h =
           let more : first_line (lines (wrapped w before (b ∷ bs))) ≡ b ∷ first_line (lines (wrapped w (suc before) bs)) =
           ap (λ bytes. first_line (lines bytes)) (wrapped-kept w before (suc before) b bs r)
           ∙ ap first_line (lines-other b (wrapped w (suc before) bs) e) ∙ first_line-onto b (lines (wrapped w (suc before) bs)) in
-          let no_space = both_false (eqb b SPACE) _ (sym (ap has_space more) ∙ h) in
+          let no_space = both_false (eqb b space) _ (sym (ap has_space more) ∙ h) in
           rw (more, no_space.0, e) (omega (arith, first_word w (suc before) bs no_space.1))
     ]
 
@@ -96,7 +95,7 @@ wrapped_fits w before [] = record { first = λ never. absurd (cc); rest = tt }
 wrapped_fits w before (b ∷ bs) =
     elim (step w 0 before b bs) as (λ _. FitsBehind w before (lines (wrapped w before (b ∷ bs)))) [
       | Step.ends_line e r ↦ rw (wrapped-kept w before 0 b bs r) (behind_line_feed w before b (wrapped w 0 bs) e (wrapped_fits w 0 bs))
-      | Step.breaks e f g r ↦ rw (wrapped-broken w before b bs r) (behind_line_feed w before LINE_FEED (wrapped w 0 bs) refl (wrapped_fits w 0 bs))
+      | Step.breaks e f g r ↦ rw (wrapped-broken w before b bs r) (behind_line_feed w before line_feed (wrapped w 0 bs) refl (wrapped_fits w 0 bs))
       | Step.goes_on e f r ↦ rw (wrapped-kept w before (suc before) b bs r)
           (behind_other w before b (word_length bs) (wrapped w (suc before) bs) e (wrapped_fits w (suc before) bs) f (first_word w (suc before) bs))
     ]

@@ -4,20 +4,19 @@ use Rattle.std.proofs.Common.{add-one, zero-add, drop-cons, append-nil, append_a
 use Rattle.std.proofs.lemmas.Bool.{eqb-true, lt-ltb, le-ltb, ne_eqb}
 use Rattle.std.proofs.lemmas.List.{get_or-drop, drop-drop, take_all, drop_all}
 use Rattle.std.proofs.lemmas.List.Sums.{passes_at_first}
-use Rattle.paw_wrap.specs.FirstFit.{ends_word, word_length, breaks_from}
-use Rattle.paw_wrap.specs.declared.columns.TheConstants.{SPACE, LINE_FEED}
+use Rattle.paw_wrap.specs.FirstFit.{space, line_feed, ends_word, word_length, breaks_from}
 use Rattle.paw_wrap.proofs.Breaking.{Step, step, left_true, breaks_from-empty, breaks_from-word}
 
-after_line_feed : (w at before b : ℕ) (bs : List ℕ) → b ≡ LINE_FEED → breaks_from w at before (b ∷ bs) ≡ breaks_from w (suc at) 0 bs
+after_line_feed : (w at before b : ℕ) (bs : List ℕ) → b ≡ line_feed → breaks_from w at before (b ∷ bs) ≡ breaks_from w (suc at) 0 bs
 unfolding breaks_from
 after_line_feed w at before b bs e = rw e refl
 
-after_break : (w at before b : ℕ) (bs : List ℕ) → b ≡ SPACE → w < before + 1 + word_length bs
+after_break : (w at before b : ℕ) (bs : List ℕ) → b ≡ space → w < before + 1 + word_length bs
     → breaks_from w at before (b ∷ bs) ≡ at ∷ breaks_from w (suc at) 0 bs
 unfolding breaks_from
 after_break w at before b bs e h = rw (e, lt-ltb _ _ h) refl
 
-after_space : (w at before b : ℕ) (bs : List ℕ) → b ≡ SPACE → before + 1 + word_length bs ≤ w
+after_space : (w at before b : ℕ) (bs : List ℕ) → b ≡ space → before + 1 + word_length bs ≤ w
     → breaks_from w at before (b ∷ bs) ≡ breaks_from w (suc at) (suc before) bs
 unfolding breaks_from
 after_space w at before b bs e h = rw (e, le-ltb _ _ h) refl
@@ -81,25 +80,25 @@ begins w n text e h = record {
 }
 
 pub past_line_feed : (w line at n : ℕ) (text breaks : List ℕ) → Reached w text breaks line at → at < length text → Word text at n
-    → get_or text at 0 ≡ LINE_FEED → Reached w text breaks (at + 1) (at + 1 + n)
+    → get_or text at 0 ≡ line_feed → Reached w text breaks (at + 1) (at + 1 + n)
 past_line_feed w line at n text breaks r h word e =
     let none : at + 1 - (at + 1) ≡ 0 = omega arith in
     rw (append-nil breaks) at (passed w line (at + 1) at n text breaks [] r h word (omega arith)
     (rw none (after_line_feed w at (at - line) (get_or text at 0) (drop (suc at) text) e)))
 
 -- the byte at which a word ends is a space, where it is no LF
-space_at : (b : ℕ) → ends_word b ≡ true → b ≢ LINE_FEED → b ≡ SPACE
-space_at b e other = eqb-true b SPACE (left_true (eqb b SPACE) (eqb b LINE_FEED) (ne_eqb b LINE_FEED other) e)
+space_at : (b : ℕ) → ends_word b ≡ true → b ≢ line_feed → b ≡ space
+space_at b e other = eqb-true b space (left_true (eqb b space) (eqb b line_feed) (ne_eqb b line_feed other) e)
 
 pub past_break : (w line at n : ℕ) (text breaks : List ℕ) → Reached w text breaks line at → at < length text → Word text at n
-    → get_or text at 0 ≢ LINE_FEED → w < at + 1 + n - line → Reached w text (breaks ++ at ∷ []) (at + 1) (at + 1 + n)
+    → get_or text at 0 ≢ line_feed → w < at + 1 + n - line → Reached w text (breaks ++ at ∷ []) (at + 1) (at + 1 + n)
 past_break w line at n text breaks r h word other long =
     let none : at + 1 - (at + 1) ≡ 0 = omega arith in
     passed w line (at + 1) at n text breaks (at ∷ []) r h word (omega arith)
     (rw none (after_break w at (at - line) (get_or text at 0) (drop (suc at) text) (space_at _ (r.word_end h) other) (omega (arith, word.size, r.begun))))
 
 pub past_space : (w line at n : ℕ) (text breaks : List ℕ) → Reached w text breaks line at → at < length text → Word text at n
-    → get_or text at 0 ≢ LINE_FEED → at + 1 + n - line ≤ w → Reached w text breaks line (at + 1 + n)
+    → get_or text at 0 ≢ line_feed → at + 1 + n - line ≤ w → Reached w text breaks line (at + 1 + n)
 past_space w line at n text breaks r h word other short =
     let more : at + 1 - line ≡ suc (at - line) = omega (arith, r.begun) in
     rw (append-nil breaks) at (passed w line line at n text breaks [] r h word (omega (arith, r.begun))

@@ -1,8 +1,7 @@
 -- The bytes of a wrapped text, one after another, and the text that they give back.
 use Rattle.std.proofs.Common.{◌≡◌, ℕ, suc, true, eqb, List, [], ◌∷◌, map, set, refl, sym, ap, ◌∙◌}
 use Rattle.std.proofs.lemmas.Bool.{eqb-true}
-use Rattle.paw_wrap.specs.FirstFit.{breaks_from, with_byte}
-use Rattle.paw_wrap.specs.declared.columns.TheConstants.{SPACE, LINE_FEED}
+use Rattle.paw_wrap.specs.FirstFit.{space, line_feed, breaks_from, with_byte}
 use Rattle.paw_wrap.proofs.Breaking.{Step, step, breaks_from-suc}
 
 with_byte-suc : (c x : ℕ) (places bytes : List ℕ) → with_byte c (map suc places) (x ∷ bytes) ≡ x ∷ with_byte c places bytes
@@ -11,7 +10,7 @@ with_byte-suc c x (at ∷ places) bytes = with_byte-suc c x places (set bytes at
 
 -- the text wrapped, with so many bytes before it in its line
 abbrev pub wrapped : ℕ → ℕ → List ℕ → List ℕ
-wrapped w before text = with_byte LINE_FEED (breaks_from w 0 before text) text
+wrapped w before text = with_byte line_feed (breaks_from w 0 before text) text
 
 -- the places of the breaks behind the first byte
 moved : (w before after b : ℕ) (bs : List ℕ) → breaks_from w 0 before (b ∷ bs) ≡ breaks_from w 1 after bs
@@ -25,36 +24,36 @@ broken w before b bs r = r ∙ ap (λ (places : List ℕ). 0 ∷ places) (breaks
 pub wrapped-kept : (w before after b : ℕ) (bs : List ℕ) → breaks_from w 0 before (b ∷ bs) ≡ breaks_from w 1 after bs
     → wrapped w before (b ∷ bs) ≡ b ∷ wrapped w after bs
 wrapped-kept w before after b bs r =
-    ap (λ places. with_byte LINE_FEED places (b ∷ bs)) (moved w before after b bs r)
-    ∙ with_byte-suc LINE_FEED b (breaks_from w 0 after bs) bs
+    ap (λ places. with_byte line_feed places (b ∷ bs)) (moved w before after b bs r)
+    ∙ with_byte-suc line_feed b (breaks_from w 0 after bs) bs
 
 pub wrapped-broken : (w before b : ℕ) (bs : List ℕ) → breaks_from w 0 before (b ∷ bs) ≡ 0 ∷ breaks_from w 1 0 bs
-    → wrapped w before (b ∷ bs) ≡ LINE_FEED ∷ wrapped w 0 bs
+    → wrapped w before (b ∷ bs) ≡ line_feed ∷ wrapped w 0 bs
 wrapped-broken w before b bs r =
-    ap (λ places. with_byte LINE_FEED places (b ∷ bs)) (broken w before b bs r)
-    ∙ with_byte-suc LINE_FEED LINE_FEED (breaks_from w 0 0 bs) bs
+    ap (λ places. with_byte line_feed places (b ∷ bs)) (broken w before b bs r)
+    ∙ with_byte-suc line_feed line_feed (breaks_from w 0 0 bs) bs
 
 undone-kept : (w before after b : ℕ) (bs : List ℕ) → breaks_from w 0 before (b ∷ bs) ≡ breaks_from w 1 after bs
-    → with_byte SPACE (breaks_from w 0 after bs) (wrapped w after bs) ≡ bs
-    → with_byte SPACE (breaks_from w 0 before (b ∷ bs)) (wrapped w before (b ∷ bs)) ≡ b ∷ bs
+    → with_byte space (breaks_from w 0 after bs) (wrapped w after bs) ≡ bs
+    → with_byte space (breaks_from w 0 before (b ∷ bs)) (wrapped w before (b ∷ bs)) ≡ b ∷ bs
 undone-kept w before after b bs r again =
     rw (wrapped-kept w before after b bs r, moved w before after b bs r)
-    (with_byte-suc SPACE b (breaks_from w 0 after bs) (wrapped w after bs) ∙ ap (λ (rest : List ℕ). b ∷ rest) again)
+    (with_byte-suc space b (breaks_from w 0 after bs) (wrapped w after bs) ∙ ap (λ (rest : List ℕ). b ∷ rest) again)
 
-undone-broken : (w before b : ℕ) (bs : List ℕ) → eqb b SPACE ≡ true → breaks_from w 0 before (b ∷ bs) ≡ 0 ∷ breaks_from w 1 0 bs
-    → with_byte SPACE (breaks_from w 0 0 bs) (wrapped w 0 bs) ≡ bs
-    → with_byte SPACE (breaks_from w 0 before (b ∷ bs)) (wrapped w before (b ∷ bs)) ≡ b ∷ bs
+undone-broken : (w before b : ℕ) (bs : List ℕ) → eqb b space ≡ true → breaks_from w 0 before (b ∷ bs) ≡ 0 ∷ breaks_from w 1 0 bs
+    → with_byte space (breaks_from w 0 0 bs) (wrapped w 0 bs) ≡ bs
+    → with_byte space (breaks_from w 0 before (b ∷ bs)) (wrapped w before (b ∷ bs)) ≡ b ∷ bs
 undone-broken w before b bs e r again =
     rw (wrapped-broken w before b bs r, broken w before b bs r)
-    (with_byte-suc SPACE SPACE (breaks_from w 0 0 bs) (wrapped w 0 bs)
-    ∙ ap (λ (rest : List ℕ). SPACE ∷ rest) again ∙ ap (λ c. c ∷ bs) (sym (eqb-true b SPACE e)))
+    (with_byte-suc space space (breaks_from w 0 0 bs) (wrapped w 0 bs)
+    ∙ ap (λ (rest : List ℕ). space ∷ rest) again ∙ ap (λ c. c ∷ bs) (sym (eqb-true b space e)))
 
 -- spaces at the breaks give the text back
-pub undone : (w before : ℕ) (text : List ℕ) → with_byte SPACE (breaks_from w 0 before text) (wrapped w before text) ≡ text
+pub undone : (w before : ℕ) (text : List ℕ) → with_byte space (breaks_from w 0 before text) (wrapped w before text) ≡ text
 unfolding breaks_from
 undone w before [] = refl
 undone w before (b ∷ bs) =
-    elim (step w 0 before b bs) as (λ _. with_byte SPACE (breaks_from w 0 before (b ∷ bs)) (wrapped w before (b ∷ bs)) ≡ b ∷ bs) [
+    elim (step w 0 before b bs) as (λ _. with_byte space (breaks_from w 0 before (b ∷ bs)) (wrapped w before (b ∷ bs)) ≡ b ∷ bs) [
       | Step.ends_line e r ↦ undone-kept w before 0 b bs r (undone w 0 bs)
       | Step.breaks e f g r ↦ undone-broken w before b bs f r (undone w 0 bs)
       | Step.goes_on e f r ↦ undone-kept w before (suc before) b bs r (undone w (suc before) bs)

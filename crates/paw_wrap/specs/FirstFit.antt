@@ -2,15 +2,20 @@
 use Rattle.std.specs.Prelude.{◌≡◌, ◌⊎◌, ◌≤◌, ◌+◌, ◌==◌, ◌&&◌, ◌||◌, ℕ, suc, Bool, false, nat_lt, if◌then◌else◌}
 use Rattle.std.specs.Prelude.{List, [], ◌∷◌, length, slice_get, slice_set, Some}
 use Rattle.std.specs.List.{AllByRecursion, list_any, position_or_len, slice_split}
-use Rattle.paw_wrap.specs.declared.columns.TheConstants.{SPACE, LINE_FEED}
 
 -- A text that was wrapped: its bytes, and the places of its breaks.
 pub record WrappedText : Type 0 where
   pub bytes : List ℕ
   pub breaks : List ℕ
 
+abbrev pub space : ℕ
+space = 0x20
+
+abbrev pub line_feed : ℕ
+line_feed = 0x0A
+
 abbrev pub ends_word : ℕ → Bool
-ends_word b = b == SPACE || b == LINE_FEED
+ends_word b = b == space || b == line_feed
 
 -- how many bytes stand before the first space or LF, or the end
 abbrev pub word_length : List ℕ → ℕ
@@ -22,8 +27,8 @@ word_length text = position_or_len ends_word text
 unfoldable pub breaks_from : ℕ → ℕ → ℕ → List ℕ → List ℕ
 breaks_from width at before [] = []
 breaks_from width at before (b ∷ bs) =
-    if b == LINE_FEED then breaks_from width (suc at) 0 bs
-    else if b == SPACE && nat_lt width (before + 1 + word_length bs) then at ∷ breaks_from width (suc at) 0 bs
+    if b == line_feed then breaks_from width (suc at) 0 bs
+    else if b == space && nat_lt width (before + 1 + word_length bs) then at ∷ breaks_from width (suc at) 0 bs
     else breaks_from width (suc at) (suc before) bs
 
 -- the bytes, with this byte put at each of the places
@@ -35,21 +40,21 @@ with_byte b (at ∷ places) bytes = with_byte b places (slice_set bytes at b)
 abbrev pub first_fit : ℕ → List ℕ → WrappedText
 first_fit width text =
     let breaks = breaks_from width 0 0 text in
-    record { bytes = with_byte LINE_FEED breaks text; breaks = breaks }
+    record { bytes = with_byte line_feed breaks text; breaks = breaks }
 
 -- The line has at most so many bytes, or no space.
 abbrev pub FitsLine : ℕ → List ℕ → Type 0
-FitsLine width line = (length line ≤ width) ⊎ (list_any (λ b. b == SPACE) line ≡ false)
+FitsLine width line = (length line ≤ width) ⊎ (list_any (λ b. b == space) line ≡ false)
 
 -- each line of the bytes fits
 abbrev pub FitsLines : ℕ → List ℕ → Type 0
-FitsLines width bytes = AllByRecursion (FitsLine width) (slice_split (λ b. b == LINE_FEED) bytes)
+FitsLines width bytes = AllByRecursion (FitsLine width) (slice_split (λ b. b == line_feed) bytes)
 
 -- the text has a space at each of the places
 abbrev pub AreSpaces : List ℕ → List ℕ → Type 0
-AreSpaces text places = AllByRecursion (λ at. slice_get text at ≡ Some SPACE) places
+AreSpaces text places = AllByRecursion (λ at. slice_get text at ≡ Some space) places
 
 -- Whatever spaces of the text are chosen to break at, if each line then fits, they are as many at least.
 abbrev pub AreFewest : ℕ → List ℕ → List ℕ → Type 0
 AreFewest width text breaks = (choice : List ℕ) → AreSpaces text choice
-    → FitsLines width (with_byte LINE_FEED choice text) → length breaks ≤ length choice
+    → FitsLines width (with_byte line_feed choice text) → length breaks ≤ length choice

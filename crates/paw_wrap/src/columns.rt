@@ -1,7 +1,7 @@
 // Breaking lines at spaces by first fit.
 
 ghost use Rattle.std.specs.Prelude.{◌≡◌, ◌<◌, ◌≤◌, length, IfOk};
-ghost use Rattle.paw_wrap.specs.FirstFit.{word_length, breaks_from, with_byte, first_fit, FitsLines, AreFewest};
+ghost use Rattle.paw_wrap.specs.FirstFit.{space, word_length, breaks_from, with_byte, first_fit, FitsLines, AreFewest};
 
 use paw_base::fault::NoRoom;
 use std::alloc::Global;
@@ -72,7 +72,7 @@ pub fn wrap(alloc: Global, width: u8, text: &[u8]) -> Result<Wrapped, NoRoom>
     requires wide { 0 < width }
     requires fits { length text.now ≤ WRAP_LIMIT }
     ensures value { IfOk result (λ wrapped. wrapped ≡ first_fit width text.now) }
-    ensures undone { IfOk result (λ wrapped. with_byte SPACE wrapped.breaks wrapped.bytes ≡ text.now) }
+    ensures undone { IfOk result (λ wrapped. with_byte space wrapped.breaks wrapped.bytes ≡ text.now) }
     ensures lines_fit { IfOk result (λ wrapped. FitsLines width wrapped.bytes) }
     ensures fewest { IfOk result (λ wrapped. AreFewest width text.now wrapped.breaks) }
 {
