@@ -28,11 +28,15 @@ def state_at(data, slot):
     return State(data[SLOTS + SLOT * slot:SLOTS + SLOT * (slot + 1)])
 
 
+def state_of(data):
+    """The state that a session of these bytes shows."""
+    return state_at(data, data[1] % 2)
+
+
 def now(path):
     """The state of a session that the program has just written."""
     with open(path, "rb") as file:
-        data = file.read()
-    return state_at(data, data[1] % 2)
+        return state_of(file.read())
 
 
 def states(path, image):
