@@ -89,8 +89,8 @@ class Report:
         for number, table in enumerate(source.tables):
             self.take("table %d%s" % (number, self.name_at(source.table_lines[number])),
                       [self.entry(number, at, entry) for at, entry in enumerate(table) if entry.steps])
-        self.take("messages", self.texts("message", "/MTX", self.printed(("MES", "MESSAGE"))))
-        self.take("system messages", self.texts("system message", "/STX", self.printed(("SYSMESS",)) | self.said()))
+        self.take("messages", self.texts("message", "/MTX", self.printed(("MES", "MESSAGE"), "/MTX")))
+        self.take("system messages", self.texts("system message", "/STX", self.printed(("SYSMESS",), "/STX") | self.said()))
         self.take("exits", [self.exit(place, way) for place, ways in source.exits.items() for way in ways])
 
     def take(self, kind, rows):
@@ -112,16 +112,24 @@ class Report:
         why = "comes no further than %s" % self.names.step(failed[-1]) if failed else "never read"
         return entry.line, "entry %s of table %d: %s" % (entry.written, table, why)
 
-    def printed(self, condacts):
-        """The numbers of messages that these condacts have printed."""
-        return {step.values[0] for number, table in enumerate(self.source.tables) for at, entry in enumerate(table)
-                for place, step in enumerate(entry.steps) if step.name in condacts and (number, at, place) in self.seen.done}
+    def printed(self, condacts, section):
+        """The numbers of messages that these condacts have printed. Where a flag told which, those whose text was shown."""
+        done = [step for number, table in enumerate(self.source.tables) for at, entry in enumerate(table)
+                for place, step in enumerate(entry.steps) if step.name in condacts and (number, at, place) in self.seen.done]
+        found = {step.values[0] for step in done if step.flag is None}
+        if any(step.flag is not None for step in done):
+            found |= {item.number for item in self.source.texts[section] if self.was_shown(item)}
+        return found
+
+    def was_shown(self, item):
+        """Whether a text was shown."""
+        return any(re.search(re.escape(item.text).replace("_", ".*"), text) for text in self.seen.texts)
 
     def said(self):
         """The numbers of system messages that the program says itself, and whose text was shown."""
         prompts = {step.values[0] for _, _, step in self.source.steps() if step.name == "PROMPT"}
-        return {number for number, item in enumerate(self.source.texts["/STX"]) if number < SAID or number in prompts
-                if any(re.search(re.escape(item.text).replace("_", ".*"), text) for text in self.seen.texts)}
+        return {number for number, item in enumerate(self.source.texts["/STX"])
+                if (number < SAID or number in prompts or None in prompts) and self.was_shown(item)}
 
     def texts(self, kind, section, reached):
         return [None if number in reached else

@@ -275,12 +275,15 @@ class Reading:
         if kind in SECTION_OF:
             most = None if kind in self.unsure else self.counts[SECTION_OF[kind]] - 1
         if letter == "P":
-            wanted = "a place (%s, NOTCREATED, WORN, CARRIED or HERE)" % wanted.rstrip(",")
+            wanted = self.wants_place()
             if token.is_number and 252 <= token.number <= 255:
                 return
             if token.letters in paws.PLACES:
                 return
         self.number_of(token, [kind], wanted, 0, most)
+
+    def wants_place(self):
+        return "a place (%s, NOTCREATED, WORN, CARRIED or HERE)" % self.wants("location").rstrip(",")
 
     def near_word(self, letters, kind=None):
         """The word most like these letters, where there is one."""
@@ -771,9 +774,32 @@ class Reading:
                 if not rest:
                     self.stop("Missing", None, "%s is missing: the line ends here, and a condact stands on one line with its parameters."
                               % wanted)
-                self.parameter(rest.pop(0), letter)
+                if rest[0].text.startswith("@"):
+                    self.indirect(token, kinds, at, rest)
+                else:
+                    self.parameter(rest.pop(0), letter)
             self.steps += 1
             last = token
+
+    def indirect(self, condact, kinds, at, rest):
+        """A parameter that begins with @: behind that stands the number or the name of a flag, where it is a first one."""
+        token = rest.pop(0)
+        if at or not paws.may_be_indirect(condact.letters, kinds):
+            why = "%s takes no @" % condact.letters if not at else "@ stands before the first parameter of a condact alone"
+            if kinds[at] in CLASS_OF:
+                self.fault("Word", token, "%s is wanted here; %s." % (self.wanted(kinds[at]).rstrip(","), why))
+            else:
+                wanted = self.wants_place() if kinds[at] == "P" else self.wanted(kinds[at])
+                self.fault("Number", token, "%s is wanted here; %s." % (wanted, why))
+            return
+        wanted = "behind @ a flag, 0 to 255,"
+        if token.text != "@":
+            self.number_of(Token(token.text[1:], token.start + 1), ["flag"], wanted, 0, 255)
+            return
+        apart = bool(rest) and (rest[0].is_number or bool(self.named(rest[0].letters, ["flag"])))
+        self.fault("Number", token, "%s is wanted here%s." % (wanted, ", without a space" if apart else ""))
+        if apart:
+            rest.pop(0)
 
     def begins_condact(self, rest, letter):
         """Whether a condact stands where a number is wanted. WORN and CARRIED are places as well: there it depends on what follows."""
@@ -789,7 +815,7 @@ class Reading:
     def no_condact(self, token, last, rest):
         near = self.nearest(token.letters, self.condacts)
         shown = paws.printable(token.text)
-        if last and (token.is_number or self.named(token.letters, KINDS) or token.text in "_*"):
+        if last and (token.is_number or self.named(token.letters, KINDS) or token.text in "_*" or token.text[0] == "@"):
             count = len(self.condacts[last.letters])
             self.stop("Condact", token, "a condact is wanted here: %s takes %s, and this is one too many." % (
                 last.letters, "no parameter" if not count else "one parameter" if count == 1 else "%d parameters" % count))

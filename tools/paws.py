@@ -112,6 +112,13 @@ def printable(text):
 # --- The table of condacts, as docs/LANGUAGE.md has it -------------------------------------------------------------
 
 CondactRow = collections.namedtuple("CondactRow", "code name kinds acts does")
+INDIRECT = 128                      # in an image, what is added to the code of a condact that takes its first parameter from a flag
+NEVER_INDIRECT = ("PROCESS", "DOALL")
+
+
+def may_be_indirect(name, kinds):
+    """Whether the first parameter of a condact may come from a flag: @ and the number of the flag."""
+    return bool(kinds) and name not in NEVER_INDIRECT
 
 
 def condact_rows(path=None):
@@ -165,15 +172,39 @@ class Thing:
 
 
 class Step:
-    """One condact: its name, its parameters as numbers, whether it acts, and its line."""
+    """One condact: its name, its parameters as numbers, whether it acts, and its line. Where the first parameter comes from a flag
+    (@), that is the flag, and the first of the values is None; otherwise the flag is None."""
 
-    def __init__(self, name, values, acts, line):
-        self.name, self.values, self.acts, self.line = name, values, acts, line
+    def __init__(self, name, values, acts, line, flag=None):
+        self.name, self.values, self.acts, self.line, self.flag = name, values, acts, line, flag
+
+    def with_first(self, value):
+        """The plain condact with this value of its flag."""
+        return Step(self.name, [value] + self.values[1:], self.acts, self.line)
 
 
 class Entry:
     def __init__(self, verb, noun, written, line):
         self.verb, self.noun, self.written, self.line, self.steps = verb, noun, written, line, []
+
+
+# What a condact does with the flags of its parameters: r looks at it, w sets it, b both.
+FLAGS = {"ZERO": "r", "NOTZERO": "r", "EQ": "r", "NOTEQ": "r", "GT": "r", "LT": "r", "SAME": "rr", "NOTSAME": "rr",
+         "MOVE": "b", "PRINT": "r", "SET": "w", "CLEAR": "w", "PLUS": "b", "MINUS": "b", "LET": "w", "ADD": "rb",
+         "SUB": "rb", "RANDOM": "w", "COPYOF": " w", "COPYFO": "r ", "COPYFF": "rw", "WEIGH": " w", "WEIGHT": "w",
+         "EXTERN": " b"}
+# The flags that the program leaves alone.
+OWN_FLAGS = [*range(11, 30), 39, 40, 41, *range(59, 256)]
+
+
+def flags_of(step):
+    """The flags that a condact names, each with whether it is looked at and whether it is set. The one behind @ is looked at; that
+    whose number it holds is None, and may be any."""
+    if step.flag is not None:
+        yield step.flag, True, False
+    for letter, value in zip(FLAGS.get(step.name, ""), step.values):
+        if letter != " ":
+            yield value, letter in "rb", letter in "wb"
 
 
 PLACES = {"NOTCREATED": 252, "WORN": 253, "CARRIED": 254, "HERE": 255}
@@ -277,9 +308,19 @@ class Source:
             condact = self.condacts[name]
             if len(tokens) < len(condact.kinds):
                 self.fault(name + " wants more parameters")
-            values = [self.value(tokens.pop(0), CLASSES[kind]) if kind in CLASSES else self.number_of(tokens.pop(0))
-                      for kind in condact.kinds]
-            self.tables[-1][-1].steps.append(Step(name, values, condact.acts, self.number))
+            flag = None
+            if tokens and tokens[0].startswith("@") and may_be_indirect(name, condact.kinds):
+                flag = self.number_of(tokens[0][1:])
+            values = [self.parameter(token, kind, flag if at == 0 else None)
+                      for at, (token, kind) in enumerate(zip(tokens, condact.kinds))]
+            del tokens[:len(values)]
+            self.tables[-1][-1].steps.append(Step(name, values, condact.acts, self.number, flag))
+
+    def parameter(self, token, kind, flag):
+        """The value of a parameter, or None where it comes from a flag."""
+        if flag is not None:
+            return None
+        return self.value(token, CLASSES[kind]) if kind in CLASSES else self.number_of(token)
 
     def number_of(self, token):
         if token in PLACES:
@@ -346,6 +387,33 @@ class Source:
             for entry in table:
                 for step in entry.steps:
                     yield number, entry, step
+
+    def values_of(self, flag):
+        """The values that a flag can have, as far as the source alone tells: 0 from the start on, and what LET, SET and CLEAR give it.
+        None where another condact, or the program, changes it too."""
+        if flag not in OWN_FLAGS:
+            return None
+        found = {0}
+        for _, _, step in self.steps():
+            for other, _, sets in flags_of(step):
+                if sets and other in (flag, None):
+                    if step.flag is not None or step.name not in ("LET", "SET", "CLEAR"):
+                        return None
+                    found.add({"SET": 255, "CLEAR": 0}.get(step.name, step.values[-1]))
+        return found
+
+    def plain_steps(self, step):
+        """The plain condacts that a condact can be: itself, or one for each value of its flag that names something. None where the
+        values aren't known."""
+        if step.flag is None:
+            return [step]
+        values, kind = self.values_of(step.flag), self.condacts[step.name].kinds[0]
+        return None if values is None else [step.with_first(value) for value in sorted(values) if self.is_there(kind, value)]
+
+    def is_there(self, kind, value):
+        """Whether the value names something of the kind: where it doesn't, a condact that takes it from a flag fails or does nothing."""
+        section = {"M": "/MTX", "S": "/STX", "O": "/OTX", "L": "/LTX", "P": "/LTX"}.get(kind)
+        return section is None or value < len(self.texts[section]) or kind == "P" and value in PLACES.values()
 
     def read_or_exit(path):
         try:

@@ -17,8 +17,10 @@ def codes(text):
 
 
 def condact(source, step):
-    first, second = (step.values + [0, 0])[:2]
-    return {"code": source.condacts[step.name].code, "a": first, "b": second}
+    code, (first, second) = source.condacts[step.name].code, (step.values + [0, 0])[:2]
+    if step.flag is not None:
+        code, first = code + paws.INDIRECT, step.flag
+    return {"code": code, "a": first, "b": second}
 
 
 def story_of(path):

@@ -55,6 +55,10 @@ class Names:
         """A condact with its parameters, and what they stand for in brackets."""
         row, told, kinds = [step.name], [], self.source.condacts[step.name].kinds
         for kind, value in zip(kinds, step.values):
+            if value is None:
+                row.append("@%d" % step.flag)
+                told.append(FLAGS.get(step.flag, ""))
+                continue
             if kind in paws.CLASSES:
                 row.append("_" if value == 255 else self.of(kind, value))
                 continue

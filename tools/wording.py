@@ -62,6 +62,8 @@ def allows(entry, location):
     """Whether the conditions of an entry let it be read at a location; what else it asks isn't looked at."""
     for step in entry.steps:
         values = step.values
+        if step.flag is not None:
+            continue
         if (step.name == "AT" and values[0] != location or step.name == "NOTAT" and values[0] == location or
                 step.name == "ATGT" and location <= values[0] or step.name == "ATLT" and location >= values[0] or
                 step.name == "EQ" and values[0] == 38 and values[1] != location):
@@ -147,7 +149,8 @@ class Wording:
         nouns = {thing.noun: thing for thing in reversed(self.source.things) if thing.noun != 255}
         for number, entry in self.entries:
             thing = nouns.get(entry.noun)
-            asks = any(step.name in OF_THINGS and nouns_of(self.source, step.values[0]) == entry.noun for step in entry.steps)
+            asks = any(step.name in OF_THINGS and (step.flag is not None or nouns_of(self.source, step.values[0]) == entry.noun)
+                       for step in entry.steps)
             placed = any(step.name in ("AT", "NOTAT", "ATGT", "ATLT") for step in entry.steps)
             sets = any(step.name in ("SET", "LET", "PLUS") and step.values[0] not in range(30, 59) for step in entry.steps)
             if entry.verb in (1, 255) and thing and placed and sets and not asks and self.is_called_first(number, entry.noun):
@@ -199,12 +202,13 @@ class Wording:
 
     def has_things(self, entry, location):
         """Whether the things that an entry wants to be here or carried come to the location."""
-        wanted = [step.values[0] for step in entry.steps if step.name in ("PRESENT", "CARRIED", "WORN")]
+        wanted = [step.values[0] for step in entry.steps if step.name in ("PRESENT", "CARRIED", "WORN") and step.flag is None]
         return all(self.comes(self.source.things[number], location) for number in wanted if number < len(self.source.things))
 
     def comes(self, thing, location):
         """Whether a thing begins at a location or with the player, or an entry brings it there."""
         return thing.place in (location, paws.PLACES["WORN"], paws.PLACES["CARRIED"]) or any(
+            step.flag is not None and step.name in ("PLACE", "CREATE", "SWAP", "COPYOO") or
             step.name == "PLACE" and step.values == [thing.number, location] or
             step.name in ("CREATE", "SWAP") and thing.number in step.values and allows(entry, location) and
             any(other.name == "AT" for other in entry.steps)
@@ -233,7 +237,7 @@ class Wording:
             column = 0
             for step in entry.steps:
                 texts = self.source.texts["/STX" if step.name == "SYSMESS" else "/MTX"]
-                if step.name in ("MES", "MESSAGE", "SYSMESS") and step.values[0] < len(texts):
+                if step.name in ("MES", "MESSAGE", "SYSMESS") and step.flag is None and step.values[0] < len(texts):
                     rows = texts[step.values[0]].text.split("\n")
                     if column and column + len(rows[0]) > WIDTH:
                         self.warn(step.line, "too wide", "the line that %s %d ends here has %d columns"
@@ -249,7 +253,7 @@ class Wording:
     def behind(self):
         for _, entry in self.entries:
             names = [step.name for step in entry.steps]
-            leaving = [at for at, name in enumerate(names[:-1]) if name in LEAVES]
+            leaving = [at for at, step in enumerate(entry.steps[:-1]) if step.name in LEAVES and step.flag is None]
             if leaving:
                 step = entry.steps[leaving[0] + 1]
                 self.warn(step.line, "behind", "%s in the entry %s is never read: %s leaves the table"

@@ -26,6 +26,9 @@ syntax match pawsKind /\(\d\s\+\)\@<=\(-\|CW\=\|W\)\ze\s/ contained nextgroup=pa
 syntax match pawsNoun /[^; \t]\+\(\s\+[^; \t]\+\)\=/ contained contains=pawsAny
 syntax match pawsEntry /^[^;\/ \t][^; \t]*\s\+[^; \t]\+/ contained contains=pawsAny nextgroup=pawsSteps
 syntax match pawsWord /[^; \t]\+/ contained contains=pawsAny
+syntax match pawsFlag /@\w\+\>/ contained contains=pawsFault
+syntax match pawsNoFlag /@\ze\([ \t;]\|$\)/ contained
+syntax match pawsNoFlag /\(\<\(PROCESS\|DOALL\)\s\+\)\@<=@[^; \t]*/ contained
 syntax keyword pawsCondition contained
   \ AT NOTAT ATGT ATLT PRESENT ABSENT NOTWORN NOTCARR
   \ CHANCE ZERO NOTZERO EQ NOTEQ GT LT SAME
@@ -47,7 +50,7 @@ syntax keyword pawsState contained
   \ RAMSAVE RAMLOAD GOTO SET CLEAR PLUS MINUS LET
   \ ADD SUB RANDOM COPYFF WEIGH WEIGHT ABILITY PROMPT
   \ TIME EXTERN
-syntax keyword pawsAsks contained nextgroup=pawsWord skipwhite
+syntax keyword pawsAsks contained nextgroup=pawsWord,pawsFlag skipwhite
   \ ADJECT1 ADVERB PREP NOUN2 ADJECT2
 syntax match pawsBoth /\<\(WORN\|CARRIED\)\>\ze\s\+\C[a-z0-9]/ contained
 syntax match pawsAt /\<\(WORN\|CARRIED\)\>\(\s\+\C[a-z0-9]\)\@!/ contained
@@ -59,8 +62,8 @@ syntax region pawsTexts start=/^\/\(STX\|MTX\|LTX\)\>/ end=/^\ze\/\(NAMES\|VOC\|
 syntax region pawsNames start=/^\/OTX\>/ end=/^\ze\/\(NAMES\|VOC\|STX\|MTX\|OTX\|LTX\|CON\|OBJ\|PRO\)\>/ keepend contains=pawsItem,pawsTextRemark,pawsNoText,pawsHeader
 syntax region pawsExits start=/^\/CON\>/ end=/^\ze\/\(NAMES\|VOC\|STX\|MTX\|OTX\|LTX\|CON\|OBJ\|PRO\)\>/ keepend contains=pawsRemark,pawsTerm,pawsItem,pawsNumber,pawsFault,pawsHeader
 syntax region pawsThings start=/^\/OBJ\>/ end=/^\ze\/\(NAMES\|VOC\|STX\|MTX\|OTX\|LTX\|CON\|OBJ\|PRO\)\>/ keepend contains=pawsRemark,pawsNumber,pawsKind,pawsPlace,pawsAny,pawsFault,pawsNoWeight,pawsHeader
-syntax match pawsSteps /.*$/ contained contains=pawsCondition,pawsFlow,pawsTelling,pawsThing,pawsMark,pawsState,pawsAsks,pawsBoth,pawsAt,pawsNumber,pawsAny,pawsFault,pawsValue,pawsRemark
-syntax match pawsMore /^\s.*$/ contained contains=pawsCondition,pawsFlow,pawsTelling,pawsThing,pawsMark,pawsState,pawsAsks,pawsBoth,pawsAt,pawsNumber,pawsAny,pawsFault,pawsValue,pawsRemark
+syntax match pawsSteps /.*$/ contained contains=pawsCondition,pawsFlow,pawsTelling,pawsThing,pawsMark,pawsState,pawsAsks,pawsBoth,pawsAt,pawsNumber,pawsAny,pawsFault,pawsValue,pawsFlag,pawsNoFlag,pawsRemark
+syntax match pawsMore /^\s.*$/ contained contains=pawsCondition,pawsFlow,pawsTelling,pawsThing,pawsMark,pawsState,pawsAsks,pawsBoth,pawsAt,pawsNumber,pawsAny,pawsFault,pawsValue,pawsFlag,pawsNoFlag,pawsRemark
 syntax region pawsTable start=/^\/PRO\>/ end=/^\ze\/\(NAMES\|VOC\|STX\|MTX\|OTX\|LTX\|CON\|OBJ\|PRO\)\>/ keepend contains=pawsRemark,pawsEntry,pawsMore,pawsHeader
 
 highlight default link pawsRemark Comment
@@ -75,6 +78,8 @@ highlight default link pawsFault Error
 highlight default link pawsNoValue Error
 highlight default link pawsNoWeight Error
 highlight default link pawsNoText Error
+highlight default link pawsFlag Special
+highlight default link pawsNoFlag Error
 highlight default link pawsSubject Special
 highlight default link pawsClass Type
 highlight default link pawsKind Type
