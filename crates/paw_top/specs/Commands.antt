@@ -1,10 +1,24 @@
--- The words of a command.
-use Rattle.std.specs.Prelude.{ℕ, ◌^◌, List, [], ◌∷◌, ◌++◌, length, Option, Some, None}
+-- The commands: their words, what usage shows of them, and what each of them means.
+use Rattle.std.specs.Prelude.{ℕ, ◌^◌, List, [], ◌∷◌, ◌++◌, length, Bool, true, false, Option, Some, None}
 use Rattle.std.specs.Prelude.{nat_lt, nat_le, codes, map, string_bytes, if◌then◌else◌}
 use Rattle.std.specs.declared.string.String.{String}
 use Rattle.std.specs.Option.{option_map, option_and_then}
 use Rattle.std.specs.Str.{bytes_eq}
 use Rattle.paw_grammar.specs.Numbers.{number}
+use Rattle.paw_reading.specs.Turn.{reading}
+use Rattle.paw_stage.specs.Stage.{Standing}
+use Rattle.paw_stage.specs.declared.StageCall.{StageCall}
+use Rattle.paw_stage.specs.declared.StageCall.TheVariants as call
+use Rattle.paw_play.specs.Calls.{walk_calls, session_calls}
+use Rattle.paw_top.specs.Answers.{load_calls, load_memory}
+use Rattle.paw_top.specs.Compile.{Compiles}
+use Rattle.paw_top.specs.Decompile.{Decompiles}
+use Rattle.paw_top.specs.Walk.{WalksAs, reading_traced}
+use Rattle.paw_top.specs.Sessions.{PlaysNewIn, ResumesIn, TwoParts, NewAtEachMoment, AgainAtEachMoment}
+use Rattle.paw_top.specs.Tries.{Tries}
+use Rattle.paw_top.specs.declared.outcome.Outcome.{Outcome}
+use Rattle.paw_top.specs.declared.outcome.MemoryAt.{MemoryAt}
+use Rattle.paw_top.specs.declared.outcome.MemoryAt.TheVariants as place
 
 -- what is asked for: to compile a source to an image; to show the source of an image; to walk through the game of an
 -- image, with a seed; to play it, with a new session in a store; to go on with the session in a store; to trace a walk;
@@ -18,42 +32,26 @@ pub data Command : Type 0 where
   Trace : (image : List ℕ) (seed : ℕ) → Command
   Trial : (n : ℕ) → Command
 
--- ---- forms ----
+-- ---- words ----
 
--- which words come behind the name of a command: no word more; a seed, as the last one; the number of a trial, as the
--- last one; or the name of a file, which usage shows so, and then others
+-- which words come behind the name of a command: no word more; or the name of a file, or a number that is read so, which
+-- usage shows by these letters, and then others
 pub data Form : Type 0 where
   End : Form
-  Seed : Form
-  Number : Form
   File : (shown : List ℕ) (others : Form) → Form
+  Number : (shown : List ℕ) (read : List ℕ → Option ℕ) (others : Form) → Form
 
 -- what a command is made of, by its form
 abbrev pub Makes : Form → Type 0
 Makes End = Command
-Makes Seed = ℕ → Command
-Makes Number = ℕ → Command
 Makes (File shown others) = List ℕ → Makes others
+Makes (Number shown read others) = ℕ → Makes others
 
 -- a command: its name, the form of the words behind that, and what these make
 pub record CommandRow : Type 0 where
   pub name : List ℕ
   pub form : Form
   pub makes : Makes form
-
--- all commands
-abbrev pub commands : List CommandRow
-commands =
-    record { name = codes "compile"; form = File (codes "S") (File (codes "I") End); makes = Compile }
-    ∷ record { name = codes "decompile"; form = File (codes "I") End; makes = Decompile }
-    ∷ record { name = codes "walk"; form = File (codes "I") Seed; makes = Walk }
-    ∷ record { name = codes "play"; form = File (codes "I") (File (codes "F") Seed); makes = Play }
-    ∷ record { name = codes "resume"; form = File (codes "I") (File (codes "F") End); makes = Resume }
-    ∷ record { name = codes "trace"; form = File (codes "I") Seed; makes = Trace }
-    ∷ record { name = codes "trial"; form = Number; makes = Trial }
-    ∷ []
-
--- ---- from words to a command ----
 
 -- the number that a word of at most so many decimal digits spells
 abbrev pub number_of : ℕ → List ℕ → Option ℕ
@@ -63,15 +61,94 @@ number_of most word = if nat_le (length word) most then number word else None
 abbrev pub seed_of : List ℕ → Option ℕ
 seed_of word = option_and_then (λ n. if nat_lt n (2 ^ 64) then Some n else None) (number_of 20 word)
 
--- the command that these words make in this form; the name of a file has at least one byte, the number of a trial at
--- most four digits
+-- the number of a trial has 1 to 4 decimal digits
+abbrev pub trial_of : List ℕ → Option ℕ
+trial_of word = number_of 4 word
+
+-- all commands
+abbrev pub commands : List CommandRow
+commands =
+    record { name = codes "compile"; form = File (codes "S") (File (codes "I") End); makes = Compile }
+    ∷ record { name = codes "decompile"; form = File (codes "I") End; makes = Decompile }
+    ∷ record { name = codes "walk"; form = File (codes "I") (Number (codes "SEED") seed_of End); makes = Walk }
+    ∷ record {
+      name = codes "play";
+      form = File (codes "I") (File (codes "F") (Number (codes "SEED") seed_of End));
+      makes = Play;
+    }
+    ∷ record { name = codes "resume"; form = File (codes "I") (File (codes "F") End); makes = Resume }
+    ∷ record { name = codes "trace"; form = File (codes "I") (Number (codes "SEED") seed_of End); makes = Trace }
+    ∷ record { name = codes "trial"; form = Number (codes "N") trial_of End; makes = Trial }
+    ∷ []
+
+-- ---- what they mean ----
+
+-- What a command means: the calls of the stage that it makes; where memory may be wanting for it; what it comes to with
+-- these rows of routines, that is how it leaves what stands, by its answer; and what stands at each moment.
+pub record CommandMeaning : Type 1 where
+  pub calls : List StageCall
+  pub memory : List MemoryAt
+  pub comes : List (List ℕ) → Standing → Standing → Outcome → Type 0
+  pub moments : TwoParts → List (List ℕ) → Standing → Type 0
+
+-- a command that attaches no store: of it only what stands afterwards is said
+abbrev pub storeless : List StageCall → List MemoryAt → (List (List ℕ) → Standing → Standing → Outcome → Type 0) → CommandMeaning
+storeless calls memory comes = record {
+  calls = calls;
+  memory = memory;
+  comes = comes;
+  moments = λ Come rows old. Unit {0};
+}
+
+-- one that plays with a session
+abbrev pub with_session : (List (List ℕ) → Standing → Standing → Outcome → Type 0)
+    → (TwoParts → List (List ℕ) → Standing → Type 0) → CommandMeaning
+with_session comes moments = record {
+  calls = load_calls ++ session_calls;
+  memory = place.Play ∷ load_memory;
+  comes = comes;
+  moments = moments;
+}
+
+-- what each command means
+abbrev pub meaning : Command → CommandMeaning
+meaning (Compile source image) =
+    storeless (call.Save ∷ call.Show ∷ load_calls) (place.Source ∷ load_memory) (λ rows. Compiles source image)
+meaning (Decompile image) = storeless (call.Show ∷ load_calls) (place.Print ∷ load_memory) (λ rows. Decompiles image)
+meaning (Walk image seed) =
+    storeless (load_calls ++ walk_calls) (place.Play ∷ load_memory) (λ rows. WalksAs reading rows image seed)
+meaning (Play image store seed) =
+    with_session (λ rows. PlaysNewIn rows image store seed) (λ Come rows. NewAtEachMoment Come rows image store seed)
+meaning (Resume image store) =
+    with_session (λ rows. ResumesIn rows image store) (λ Come rows. AgainAtEachMoment Come rows image store)
+meaning (Trace image seed) =
+    storeless (load_calls ++ walk_calls) (place.Play ∷ load_memory) (λ rows. WalksAs reading_traced rows image seed)
+meaning (Trial n) = storeless (call.Show ∷ []) (place.Trial ∷ []) (λ rows. Tries n)
+
+-- ---- from words to a command ----
+
+-- no word more comes
+abbrev pub no_more : List (List ℕ) → Bool
+no_more [] = true
+no_more (word ∷ words) = false
+
+-- the name of a file comes next, which has at least one byte, and then other words
+abbrev pub next_file : List (List ℕ) → Option (List ℕ × List (List ℕ))
+next_file [] = None
+next_file (name ∷ words) = if nat_lt 0 (length name) then Some (name, words) else None
+
+-- a number comes next, which is read so, and then other words
+abbrev pub next_number : (List ℕ → Option ℕ) → List (List ℕ) → Option (ℕ × List (List ℕ))
+next_number read [] = None
+next_number read (word ∷ words) = option_map (λ n. (n, words)) (read word)
+
+-- the command that these words make in this form
 abbrev pub made_in : (form : Form) → Makes form → List (List ℕ) → Option Command
-made_in End command [] = Some command
-made_in Seed command (word ∷ []) = option_map command (seed_of word)
-made_in Number command (word ∷ []) = option_map command (number_of 4 word)
-made_in (File shown others) makes (name ∷ words) =
-    if nat_lt 0 (length name) then made_in others (makes name) words else None
-made_in form makes words = None
+made_in End command words = if no_more words then Some command else None
+made_in (File shown others) makes words =
+    option_and_then (λ next. made_in others (makes next.0) next.1) (next_file words)
+made_in (Number shown read others) makes words =
+    option_and_then (λ next. made_in others (makes next.0) next.1) (next_number read words)
 
 -- the command with this name that the words behind it make
 abbrev pub command_named : List CommandRow → List ℕ → List (List ℕ) → Option Command
@@ -93,9 +170,8 @@ asked_for words = command_of (map string_bytes words)
 -- the words behind the name of a command, as usage shows them
 abbrev pub form_shown : Form → List ℕ
 form_shown End = []
-form_shown Seed = codes " SEED"
-form_shown Number = codes " N"
 form_shown (File shown others) = codes " " ++ (shown ++ form_shown others)
+form_shown (Number shown read others) = codes " " ++ (shown ++ form_shown others)
 
 -- the commands, each as usage shows it: this stands before the first, and a bar before each other
 abbrev pub rows_shown : List ℕ → List CommandRow → List ℕ

@@ -1,7 +1,5 @@
-pub mod Commands
 pub mod Given
 pub mod Ends
-pub mod Outcomes
 pub mod Answers
 pub mod Loads
 pub mod Opens
@@ -11,7 +9,8 @@ pub mod Decompile
 pub mod Walk
 pub mod Sessions
 pub mod Tries
-pub mod Meaning
+pub mod Commands
+pub mod Outcomes
 pub mod Completes
 pub mod Round
 pub mod inner

@@ -1,50 +1,77 @@
-// The words of a command. What is read of them, and what usage shows, are both held to the rows of specs/Commands.antt.
+// The commands: how their words are read, and what does each. Words and usage are held to the rows of
+// specs/Commands.antt, and what is done to what these mean.
 
-ghost use Rattle.std.specs.Prelude.{◌≡◌, ◌&&◌, length, map, nat_le, string_bytes};
-ghost use Rattle.std.specs.Prelude.{Option, Some, None, MatchOption};
+ghost use Rattle.std.specs.Prelude.{◌≡◌, ◌≢◌, ◌&&◌, ℕ, List, length, map, nat_le, string_bytes};
+ghost use Rattle.std.specs.Prelude.{Some, None, true, false, MatchOption};
 ghost use Rattle.std.specs.Char.{is_ascii_digit};
 ghost use Rattle.std.specs.List.{list_all};
-ghost use Rattle.paw_top.specs.Commands.{command_of, number_of, seed_of};
-ghost use Rattle.paw_top.specs.Commands.{Compile as CompileOf, Decompile as DecompileOf, Walk as WalkOf};
-ghost use Rattle.paw_top.specs.Commands.{Play as PlayOf, Resume as ResumeOf, Trace as TraceOf, Trial as TrialOf};
-ghost use Rattle.paw_top.specs.inner.Commands.{SpellsCommand, one_name, two_names, name_and_seed};
-ghost use Rattle.paw_top.specs.inner.Commands.{two_names_and_seed, one_number};
+ghost use Rattle.paw_routines.specs.Routines.{AreRowsOf, HaveRows};
+ghost use Rattle.paw_stage.specs.Across.{Across, InTwoParts, Serves, IsOneOf};
+ghost use Rattle.paw_stage.specs.Disk.{IsStable};
+ghost use Rattle.paw_top.specs.Answers.{IfMemory, failed_call};
+ghost use Rattle.paw_top.specs.Commands.{command_of, meaning, seed_of, trial_of, no_more, next_file, next_number};
+ghost use Rattle.paw_top.specs.inner.Commands.{SpellsCommand, meant};
+ghost use Rattle.paw_top.specs.declared.outcome.Outcome.TheVariants as outcome;
+
+use crate::compile::compile;
+use crate::decompile::decompile;
+use crate::outcome::Outcome;
+use crate::sessions::{play, resume, walk};
+use crate::trial::trial;
+use paw_play::preface::Nothing;
+use paw_play::trace::StepLines;
+use paw_routines::routines::Routines;
+use paw_stage::Stage;
+use std::alloc::Global;
 
 /// What stands on standard error where the words have no form: every command of the tool.
 pub(crate) const USAGE: &str =
-    "usage: paw compile S I | decompile I | walk I SEED | play I F SEED | resume I F | trace I SEED | trial N\n";
+    "usage: paw compile S I | decompile I | walk I SEED | play I F SEED | resume I F | \
+     trace I SEED | trial N\n";
 
 /// What is asked for.
 #[derive(Clone, Copy, Drop)]
 pub(crate) enum Command<'a> {
+    /// Loads the source, saves the image of the game that it spells, and shows how many bytes that has.
     Compile {
         source: &'a str,
         image: &'a str,
     },
+    /// Loads the image, and shows the canonical source of its game.
     Decompile {
         image: &'a str,
     },
+    /// Loads the image, shows the piece before the first line, and then takes lines and shows the piece that each
+    /// brings, until the game is over or no line is left; nothing is kept.
     Walk {
         image: &'a str,
         seed: u64,
     },
+    /// Walks with a new session in the store, a file that is missing or empty: each piece is committed there before it
+    /// is shown.
     Play {
         image: &'a str,
         store: &'a str,
         seed: u64,
     },
+    /// Shows the last piece of the session in the store again, and goes on from its prompt.
     Resume {
         image: &'a str,
         store: &'a str,
     },
+    /// Walks, and shows the condacts that were read for a piece before it.
     Trace {
         image: &'a str,
         seed: u64,
     },
+    /// Makes a large game and its lines from a number, plays half of them over a stage in memory, resumes for the rest,
+    /// and shows a line that tells what the reading of all lines comes to.
     Trial {
         n: u16,
     },
 }
+
+// ---- words ----
 
 fn are_digits(word: &[u8]) -> bool
     ensures { result ≡ list_all is_ascii_digit word.now }
@@ -71,8 +98,8 @@ fn seed_of(word: &str) -> Option<u64>
 }
 
 // The number of a trial, in 1 to 4 decimal digits.
-fn trial_number(word: &str) -> Option<u16>
-    ensures value { result ≡ number_of 4 word.now }
+fn trial_of(word: &str) -> Option<u16>
+    ensures value { result ≡ trial_of word.now }
 {
     if has_digits(word, 4) {
         word.parse().ok()
@@ -81,84 +108,130 @@ fn trial_number(word: &str) -> Option<u16>
     }
 }
 
-// SOURCE IMAGE, behind `compile`; IMAGE STORE, behind `resume`.
-fn two_names<'a>(names: &'a [String]) -> Option<(&'a str, &'a str)>
-    ensures compiles { let asked = two_names CompileOf (map string_bytes names.now) in
-        MatchOption result (asked ≡ None) (λ two. asked ≡ Some (CompileOf two.0.now two.1.now)) }
-    ensures resumes { let asked = two_names ResumeOf (map string_bytes names.now) in
-        MatchOption result (asked ≡ None) (λ two. asked ≡ Some (ResumeOf two.0.now two.1.now)) }
+// The name of a file, which comes next, and the words behind it.
+fn file<'a>(words: &'a [String]) -> Option<(&'a str, &'a [String])>
+    ensures value { let next = next_file (map string_bytes words.now) in
+        MatchOption result (next ≡ None) (λ r. next ≡ Some (r.0.now, map string_bytes r.1.now)) }
 {
-    if names.len() != 2 || names[0].is_empty() || names[1].is_empty() {
+    let (name, words) = words.split_first()?;
+    if name.is_empty() {
         return None;
     }
-    Some((names[0].as_str(), names[1].as_str()))
+    Some((name.as_str(), words))
 }
 
-// IMAGE, behind `decompile`.
-fn decompile_of<'a>(names: &'a [String]) -> Option<Command<'a>>
-    ensures value { SpellsCommand result (one_name DecompileOf (map string_bytes names.now)) }
+// A seed, which comes next, and the words behind it.
+fn seed<'a>(words: &'a [String]) -> Option<(u64, &'a [String])>
+    ensures value { let next = next_number seed_of (map string_bytes words.now) in
+        MatchOption result (next ≡ None) (λ r. next ≡ Some (r.0, map string_bytes r.1.now)) }
 {
-    if names.len() != 1 || names[0].is_empty() {
-        return None;
-    }
-    Some(Command::Decompile {
-        image: names[0].as_str(),
-    })
+    let (word, words) = words.split_first()?;
+    Some((seed_of(word.as_str())?, words))
 }
 
-// IMAGE SEED, behind `walk` and `trace`.
-fn image_and_seed<'a>(names: &'a [String]) -> Option<(&'a str, u64)>
-    ensures walks { let asked = name_and_seed WalkOf (map string_bytes names.now) in
-        MatchOption result (asked ≡ None) (λ given. asked ≡ Some (WalkOf given.0.now given.1)) }
-    ensures traces { let asked = name_and_seed TraceOf (map string_bytes names.now) in
-        MatchOption result (asked ≡ None) (λ given. asked ≡ Some (TraceOf given.0.now given.1)) }
+// The number of a trial, which comes next, and the words behind it.
+fn trial_number<'a>(words: &'a [String]) -> Option<(u16, &'a [String])>
+    ensures value { let next = next_number trial_of (map string_bytes words.now) in
+        MatchOption result (next ≡ None) (λ r. next ≡ Some (r.0, map string_bytes r.1.now)) }
 {
-    if names.len() != 2 || names[0].is_empty() {
-        return None;
-    }
-    let seed = seed_of(names[1].as_str())?;
-    Some((names[0].as_str(), seed))
+    let (word, words) = words.split_first()?;
+    Some((trial_of(word.as_str())?, words))
 }
 
-// IMAGE STORE SEED, behind `play`.
-fn play_of<'a>(names: &'a [String]) -> Option<Command<'a>>
-    ensures value { SpellsCommand result (two_names_and_seed PlayOf (map string_bytes names.now)) }
+// Nothing, where no word more comes.
+fn end(words: &[String]) -> Option<()>
+    ensures value { let none = no_more (map string_bytes words.now) in
+        MatchOption result (none ≡ false) (λ _. none ≡ true) }
 {
-    if names.len() != 3 || names[0].is_empty() || names[1].is_empty() {
-        return None;
-    }
-    let seed = seed_of(names[2].as_str())?;
-    Some(Command::Play {
-        image: names[0].as_str(),
-        store: names[1].as_str(),
-        seed,
-    })
-}
-
-// N, behind `trial`.
-fn trial_of<'a>(names: &'a [String]) -> Option<Command<'a>>
-    ensures value { SpellsCommand result (one_number TrialOf (map string_bytes names.now)) }
-{
-    if names.len() != 1 {
-        return None;
-    }
-    let n = trial_number(names[0].as_str())?;
-    Some(Command::Trial { n })
+    if words.is_empty() { Some(()) } else { None }
 }
 
 /// What these words ask for; None where they have no form.
 pub(crate) fn command_of<'a>(words: &'a [String]) -> Option<Command<'a>>
     ensures value { SpellsCommand result (command_of (map string_bytes words.now)) }
 {
-    let (verb, names) = words.split_first()?;
-    match verb.as_str() {
-        "compile" => two_names(names).map(|(source, image)| Command::Compile { source, image }),
-        "decompile" => decompile_of(names),
-        "walk" => image_and_seed(names).map(|(image, seed)| Command::Walk { image, seed }),
-        "play" => play_of(names),
-        "resume" => two_names(names).map(|(image, store)| Command::Resume { image, store }),
-        "trace" => image_and_seed(names).map(|(image, seed)| Command::Trace { image, seed }),
-        "trial" => trial_of(names),
+    let (name, words) = words.split_first()?;
+    match name.as_str() {
+        "compile" => {
+            let (source, words) = file(words)?;
+            let (image, words) = file(words)?;
+            end(words)?;
+            Some(Command::Compile { source, image })
+        }
+        "decompile" => {
+            let (image, words) = file(words)?;
+            end(words)?;
+            Some(Command::Decompile { image })
+        }
+        "walk" => {
+            let (image, words) = file(words)?;
+            let (seed, words) = seed(words)?;
+            end(words)?;
+            Some(Command::Walk { image, seed })
+        }
+        "play" => {
+            let (image, words) = file(words)?;
+            let (store, words) = file(words)?;
+            let (seed, words) = seed(words)?;
+            end(words)?;
+            Some(Command::Play { image, store, seed })
+        }
+        "resume" => {
+            let (image, words) = file(words)?;
+            let (store, words) = file(words)?;
+            end(words)?;
+            Some(Command::Resume { image, store })
+        }
+        "trace" => {
+            let (image, words) = file(words)?;
+            let (seed, words) = seed(words)?;
+            end(words)?;
+            Some(Command::Trace { image, seed })
+        }
+        "trial" => {
+            let (n, words) = trial_number(words)?;
+            end(words)?;
+            Some(Command::Trial { n })
+        }
         _ => None,
+    }
+}
+
+// ---- what does each ----
+
+impl<'a> Command<'a> {
+    /// Does what is asked for, over a stage at which nothing is unsynced.
+    pub(crate) fn run<S: Stage, F: Fn(u8, u8) -> u8>(
+        &self,
+        alloc: Global,
+        stage: &mut S,
+        routines: &Routines<F>,
+    ) -> Outcome
+        requires rows { HaveRows F.Fn routines.now }
+        requires synced { S.Tells stage.old → IsStable (S.standing stage.old).disk }
+        ensures form { result ≢ outcome.Usage }
+        ensures serves { Serves S.Stage (meaning (meant self.now)).calls (failed_call result) stage.old stage.new }
+        ensures memory { IfMemory result (IsOneOf (meaning (meant self.now)).memory) }
+        ensures comes { Across S.Stage stage.old stage.new (λ old new. (X : List (List ℕ)) →
+            AreRowsOf F.Fn routines.now X → (meaning (meant self.now)).comes X old new result) }
+        ensures moments { Across S.Stage stage.old stage.new (λ old new. (X : List (List ℕ)) →
+            AreRowsOf F.Fn routines.now X →
+            (meaning (meant self.now)).moments (InTwoParts S.Stage stage.old stage.new) X old) }
+    {
+        match *self {
+            Command::Compile { source, image } => compile(alloc, stage, source, image),
+            Command::Decompile { image } => decompile(alloc, stage, image),
+            Command::Walk { image, seed } => {
+                walk::<Nothing, _, _>(alloc, stage, routines, image, seed)
+            }
+            Command::Play { image, store, seed } => {
+                play(alloc, stage, routines, image, store, seed)
+            }
+            Command::Resume { image, store } => resume(alloc, stage, routines, image, store),
+            Command::Trace { image, seed } => {
+                walk::<StepLines, _, _>(alloc, stage, routines, image, seed)
+            }
+            Command::Trial { n } => trial(alloc, stage, n),
+        }
     }
 }

@@ -3,6 +3,8 @@
 
 #[cfg(test)]
 mod call_tests;
+#[cfg(test)]
+mod command_tests;
 mod commands;
 mod compile;
 #[cfg(test)]

@@ -1,5 +1,6 @@
 // Walks over stages in memory, and each way in which a walk is refused.
 
+use crate::commands::USAGE;
 use crate::outcome::{MemoryAt, Outcome};
 use crate::settled::{run, settle, settle_and_run};
 use paw_base::fault::SpentKind;
@@ -335,56 +336,8 @@ fn a_trace_shows_the_steps_of_each_piece(rt: HostRuntime) -> Result<(), Fail> {
 }
 
 #[test]
-fn words_have_their_forms(rt: HostRuntime) -> Result<(), Fail> {
+fn a_seed_counts_by_its_value(rt: HostRuntime) -> Result<(), Fail> {
     let alloc = rt.alloc();
-    for words in [
-        "",
-        "walk",
-        "walk\ngame",
-        "walk\n\n7",
-        "walk\ngame\n\n",
-        "walk\ngame\n7\n8",
-        "walk\ngame\n18446744073709551616",
-        "walk\ngame\n000000000000000000007",
-        "walk\ngame\n+7",
-        "walk\ngame\n-7",
-        "walk\ngame\n 7",
-        "walk\ngame\n7a",
-        "walk\ngame\nseven",
-        "Walk\ngame\n7",
-        "game\nwalk\n7",
-        "trace",
-        "trace\ngame",
-        "trace\n\n7",
-        "trace\ngame\n\n",
-        "trace\ngame\n7\n8",
-        "trace\ngame\n18446744073709551616",
-        "trace\ngame\nseven",
-        "play\ngame\nf\nx",
-        "trial",
-        "trial\n\n",
-        "trial\n10000",
-        "trial\n00000",
-        "trial\n-1",
-        "trial\n7a",
-        "trial\n7\n7",
-        "compile",
-        "compile\nsource",
-        "compile\n\nimage",
-        "compile\nsource\n\n",
-        "compile\nsource\nimage\nimage",
-        "Compile\nsource\nimage",
-        "decompile",
-        "decompile\n\n",
-        "decompile\nimage\nsource",
-        "dance",
-    ] {
-        let case = Case {
-            words,
-            ..refusal(words, &TWO_ROOMS, Outcome::Usage)
-        };
-        comes_so(&rt, alloc, &case)?;
-    }
     for words in [
         "walk\ngame\n0",
         "walk\ngame\n00000000000000000007",
@@ -458,12 +411,7 @@ fn outcomes_have_their_status_and_text(rt: HostRuntime) -> Result<(), Fail> {
     for (outcome, status, text) in [
         (Outcome::Ended, 0, ""),
         (Outcome::InputEnded, 0, ""),
-        (
-            Outcome::Usage,
-            1,
-            "usage: paw compile S I | decompile I | walk I SEED | play I F SEED | \
-            resume I F | trace I SEED | trial N\n",
-        ),
+        (Outcome::Usage, 1, USAGE),
         (Outcome::ImageDamaged { at: 0 }, 3, "image damaged at 0\n"),
         (
             Outcome::ImageDamaged { at: u64::MAX },

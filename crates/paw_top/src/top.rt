@@ -5,34 +5,18 @@ ghost use Rattle.paw_routines.specs.Routines.{AreRowsOf, HaveRows};
 ghost use Rattle.paw_stage.specs.Across.{Across, InTwoParts, Serves, IsOneOf};
 ghost use Rattle.paw_stage.specs.Disk.{IsStable};
 ghost use Rattle.paw_top.specs.Answers.{IfMemory, failed_call};
-ghost use Rattle.paw_top.specs.Commands.{asked_for};
+ghost use Rattle.paw_top.specs.Commands.{asked_for, meaning};
 ghost use Rattle.paw_top.specs.Completes.{NoFault, IsUnhindered};
-ghost use Rattle.paw_top.specs.Meaning.{meaning};
 ghost use Rattle.paw_top.specs.declared.outcome.Outcome.TheVariants as outcome;
 
-use crate::commands::{Command, command_of};
-use crate::compile::compile;
-use crate::decompile::decompile;
+use crate::commands::command_of;
 use crate::outcome::Outcome;
-use crate::sessions::{play, resume, walk};
-use crate::trial::trial;
-use paw_play::preface::Nothing;
-use paw_play::trace::StepLines;
 use paw_routines::routines::Routines;
 use paw_stage::Stage;
 use std::alloc::Global;
 
-/// Does what the words ask for, over a stage at which nothing is unsynced.
-///
-/// `compile SOURCE IMAGE` loads the source, saves the image of the game that it spells, and shows how many bytes that
-/// has. `decompile IMAGE` loads the image and shows the canonical source of its game. `walk IMAGE SEED` loads the
-/// image, shows the piece before the first line, and then takes lines and shows the piece that each brings, until the
-/// game is over or no line is left; nothing is kept. `trace IMAGE SEED` does the same, and shows the condacts that were
-/// read for a piece before it. `play IMAGE STORE SEED` walks with a new session in the store, a file that is missing or
-/// empty: each piece is committed there before it is shown. `resume IMAGE STORE` shows the last piece of the session in
-/// the store again, and goes on from its prompt. `trial N` makes a large game and its lines from a number, plays half
-/// of them over a stage in memory, resumes for the rest, and shows a line that tells what the reading of all lines
-/// comes to.
+/// Does what the words ask for, over a stage at which nothing is unsynced. The words are the name of a command and those
+/// behind it, as usage shows them; what each command does is told at its variant of `Command`.
 ///
 /// What each command means stands in `meaning`: the calls that it makes (`serves`), where memory may be wanting for it
 /// (`memory`), how it leaves what stands, by its answer (`comes`), and what stands at each moment (`moments`). A game's
@@ -75,19 +59,7 @@ pub fn paw<S: Stage, F: Fn(u8, u8) -> u8>(
     ensures completes { NoFault (S.faults stage.old) (S.faults stage.new) → IsUnhindered result }
 {
     match command_of(words) {
-        Some(Command::Compile { source, image }) => compile(alloc, stage, source, image),
-        Some(Command::Decompile { image }) => decompile(alloc, stage, image),
-        Some(Command::Walk { image, seed }) => {
-            walk::<Nothing, _, _>(alloc, stage, routines, image, seed)
-        }
-        Some(Command::Play { image, store, seed }) => play(
-            alloc, stage, routines, image, store, seed,
-        ),
-        Some(Command::Resume { image, store }) => resume(alloc, stage, routines, image, store),
-        Some(Command::Trace { image, seed }) => {
-            walk::<StepLines, _, _>(alloc, stage, routines, image, seed)
-        }
-        Some(Command::Trial { n }) => trial(alloc, stage, n),
+        Some(command) => command.run(alloc, stage, routines),
         None => Outcome::Usage,
     }
 }
