@@ -2,6 +2,17 @@
 
 _paw() {
     local word=${COMP_WORDS[COMP_CWORD]} last=${COMP_WORDS[COMP_CWORD - 1]} ends
+    # What each command takes; packaging/make writes these lines.
+    local names='compile decompile walk trace play resume trial' takes
+    case ${COMP_WORDS[1]} in
+    compile) takes='SOURCE IMAGE' ;;
+    decompile) takes='IMAGE' ;;
+    walk) takes='IMAGE SEED' ;;
+    trace) takes='IMAGE SEED' ;;
+    play) takes='IMAGE SESSION SEED' ;;
+    resume) takes='IMAGE SESSION' ;;
+    trial) takes='N' ;;
+    esac
     COMPREPLY=()
     case $COMP_CWORD:${COMP_WORDS[1]} in
     *:-*)
@@ -16,13 +27,18 @@ _paw() {
         esac
         ;;
     1:*)
-        COMPREPLY=($(compgen -W 'compile decompile walk trace play resume trial' -- "$word"))
+        COMPREPLY=($(compgen -W "$names" -- "$word"))
         ends='*.img'
         ;;
-    2:compile) ends='*.paws' ;;
-    3:compile | 2:decompile | 2:walk | 2:trace | 2:play | 2:resume) ends='*.img' ;;
-    3:play | 3:resume) ends='*' ;;
-    *) return ;;
+    *)
+        read -ra takes <<<"$takes"
+        case ${takes[COMP_CWORD - 2]} in
+        SOURCE) ends='*.paws' ;;
+        IMAGE) ends='*.img' ;;
+        SEED | N | '') return ;;
+        *) ends='*' ;;
+        esac
+        ;;
     esac
     compopt -o filenames
     mapfile -t -O ${#COMPREPLY[@]} COMPREPLY < <(compgen -f -X "!$ends" -- "$word"; compgen -d -- "$word" | grep -vxFf <(compgen -f -X "!$ends" -- "$word"))

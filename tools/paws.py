@@ -23,6 +23,13 @@ def program(named=None):
     return os.path.abspath(found)
 
 
+def commands():
+    """The commands, as the table in README has them: of each its name, the names of its words, and what it does."""
+    with open(os.path.join(TOP, "README.md"), encoding="utf-8") as file:
+        rows = re.findall(r"^\| `paw (\w+)((?: [A-Z]+)*)` \| (.*) \|$", file.read(), re.M)
+    return [(name, words.split(), does) for name, words, does in rows]
+
+
 def run(words, lines=()):
     """Runs the program with the words and the lines typed; gives its status, what it shows, and what it says."""
     typed = "".join(line + "\n" for line in lines)
