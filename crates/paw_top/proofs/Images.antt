@@ -10,7 +10,7 @@ use Rattle.paw_top.specs.Loads.{Holds, HoldsDamage}
 use Rattle.paw_top.specs.inner.Loads.{LoadsSome}
 
 -- bytes of which at most the limit and one more were taken, and of these no more than the limit
-short_enough : (bytes : List ℕ) → length (take 4194305 bytes) ≤ 4194304 → (length bytes ≤ 4194304) ⊎ (4194305 ≤ length bytes) → length bytes ≤ 4194304
+pub short_enough : (bytes : List ℕ) → length (take 4194305 bytes) ≤ 4194304 → (length bytes ≤ 4194304) ⊎ (4194305 ≤ length bytes) → length bytes ≤ 4194304
 short_enough bytes h (inl k) = k
 short_enough bytes h (inr k) = absurd (omega (arith, h, length-take-le 4194305 bytes k))
 

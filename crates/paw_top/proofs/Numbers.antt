@@ -9,7 +9,7 @@ use Rattle.std.specs.Str.Parse.{digits_value, ParsesUnsigned}
 use Rattle.std.proofs.lemmas.Bool.{and_parts, leb-true, lt-ltb, ltb-true}
 use Rattle.std.proofs.Math.Bool.{and-true}
 use Rattle.std.proofs.lemmas.Str.Parse.{digits_value_short, parse_digits}
-use Rattle.paw_top.specs.Commands.{number_of, seed_of}
+use Rattle.paw_top.specs.Commands.{number_of, seed_of, byte_of}
 use Rattle.paw_top.proofs.Digits.{own}
 
 -- what a parse of so many digits gives, where a number below the limit is kept
@@ -50,3 +50,10 @@ trial_is word r t h =
     let small = digits_value_short own word 4 both.1 (leb-true (length word) 4 both.0) in
     rw (both.0, both.1, and-true (ltb 0 (length word)))
     (kept (2 ^ 16) (digits_value 10 word) (length word) r (omega (arith, small)) (parse_digits own 16 word r h both.1))
+
+pub byte_is : {E : Type 0} (word : List ℕ) (r : Result ℕ E) → (leb (length word) 3 && list_all is_ascii_digit word) ≡ true
+    → ParsesUnsigned 8 10 word r → result_ok r ≡ byte_of word
+byte_is word r t h =
+    let both = and_parts (leb (length word) 3) _ t in
+    rw (both.0, both.1, and-true (ltb 0 (length word)))
+    (kept_below (2 ^ 8) (digits_value 10 word) (length word) r (parse_digits own 8 word r h both.1))

@@ -13,6 +13,7 @@ use Rattle.paw_play.specs.Calls.{walk_calls, session_calls}
 use Rattle.paw_top.specs.Answers.{load_calls, load_memory}
 use Rattle.paw_top.specs.Compile.{Compiles}
 use Rattle.paw_top.specs.Decompile.{Decompiles}
+use Rattle.paw_top.specs.Shows.{Wraps}
 use Rattle.paw_top.specs.Walk.{WalksAs, reading_traced}
 use Rattle.paw_top.specs.Sessions.{PlaysNewIn, ResumesIn, TwoParts, NewAtEachMoment, AgainAtEachMoment}
 use Rattle.paw_top.specs.Tries.{Tries}
@@ -22,7 +23,7 @@ use Rattle.paw_top.specs.declared.outcome.MemoryAt.TheVariants as place
 
 -- what is asked for: to compile a source to an image; to show the source of an image; to walk through the game of an
 -- image, with a seed; to play it, with a new session in a store; to go on with the session in a store; to trace a walk;
--- to play the trial of a number
+-- to play the trial of a number; to show a text in columns of a width
 pub data Command : Type 0 where
   Compile : (source image : List ℕ) → Command
   Decompile : (image : List ℕ) → Command
@@ -31,6 +32,7 @@ pub data Command : Type 0 where
   Resume : (image store : List ℕ) → Command
   Trace : (image : List ℕ) (seed : ℕ) → Command
   Trial : (n : ℕ) → Command
+  Wrap : (width : ℕ) (text : List ℕ) → Command
 
 -- ---- words ----
 
@@ -65,6 +67,14 @@ seed_of word = option_and_then (λ n. if nat_lt n (2 ^ 64) then Some n else None
 abbrev pub trial_of : List ℕ → Option ℕ
 trial_of word = number_of 4 word
 
+-- a byte has 1 to 3 decimal digits, and a value below 256
+abbrev pub byte_of : List ℕ → Option ℕ
+byte_of word = option_and_then (λ n. if nat_lt n 256 then Some n else None) (number_of 3 word)
+
+-- a width is spelt as a byte, and isn't 0
+abbrev pub width_of : List ℕ → Option ℕ
+width_of word = option_and_then (λ n. if nat_lt 0 n then Some n else None) (byte_of word)
+
 -- all commands
 abbrev pub commands : List CommandRow
 commands =
@@ -79,6 +89,7 @@ commands =
     ∷ record { name = codes "resume"; form = File (codes "I") (File (codes "F") End); makes = Resume }
     ∷ record { name = codes "trace"; form = File (codes "I") (Number (codes "SEED") seed_of End); makes = Trace }
     ∷ record { name = codes "trial"; form = Number (codes "N") trial_of End; makes = Trial }
+    ∷ record { name = codes "wrap"; form = Number (codes "N") width_of (File (codes "T") End); makes = Wrap }
     ∷ []
 
 -- ---- what they mean ----
@@ -124,6 +135,7 @@ meaning (Resume image store) =
 meaning (Trace image seed) =
     storeless (load_calls ++ walk_calls) (place.Play ∷ load_memory) (λ rows. WalksAs reading_traced rows image seed)
 meaning (Trial n) = storeless (call.Show ∷ []) (place.Trial ∷ []) (λ rows. Tries n)
+meaning (Wrap width text) = storeless (call.Show ∷ load_calls) (place.Wrap ∷ load_memory) (λ rows. Wraps width text)
 
 -- ---- from words to a command ----
 

@@ -20,6 +20,7 @@ use Rattle.paw_top.specs.declared.outcome.MemoryAt.TheVariants as memory
 abbrev pub status_of : Outcome → ℕ
 status_of outcome.Usage = 1
 status_of (outcome.SourceRefused fault) = 2
+status_of outcome.TextTooLong = 2
 status_of (outcome.ImageDamaged at) = 3
 status_of (outcome.Occupied n) = 4
 status_of (outcome.Unmade n mark) = 4
@@ -76,12 +77,14 @@ memory_name memory.Print = codes "Print"
 memory_name memory.Image = codes "Image"
 memory_name memory.Play = codes "Play"
 memory_name memory.Trial = codes "Trial"
+memory_name memory.Wrap = codes "Wrap"
 
 -- what is written to standard error; nothing for Done, Ended and InputEnded
 abbrev pub error_text : Outcome → List ℕ
 error_text outcome.Usage = usage
 error_text (outcome.SourceRefused fault) = codes "source line "
     ++ (decimal fault.line ++ (codes ": " ++ (kind_name fault.kind ++ codes "\n")))
+error_text outcome.TextTooLong = codes "text is too long\n"
 error_text (outcome.ImageDamaged at) = codes "image damaged at " ++ (decimal at ++ codes "\n")
 error_text (outcome.Occupied n) = codes "session has " ++ (decimal n ++ codes " bytes already\n")
 error_text (outcome.Unmade n mark) = codes "no session: length "

@@ -9,7 +9,8 @@ ghost use Rattle.paw_routines.specs.Routines.{AreRowsOf, HaveRows};
 ghost use Rattle.paw_stage.specs.Across.{Across, InTwoParts, Serves, IsOneOf};
 ghost use Rattle.paw_stage.specs.Disk.{IsStable};
 ghost use Rattle.paw_top.specs.Answers.{IfMemory, failed_call};
-ghost use Rattle.paw_top.specs.Commands.{command_of, meaning, seed_of, trial_of, no_more, next_file, next_number};
+ghost use Rattle.paw_top.specs.Commands.{command_of, meaning, no_more, next_file, next_number};
+ghost use Rattle.paw_top.specs.Commands.{seed_of, trial_of, byte_of, width_of};
 ghost use Rattle.paw_top.specs.inner.Commands.{SpellsCommand, meant};
 ghost use Rattle.paw_top.specs.declared.outcome.Outcome.TheVariants as outcome;
 
@@ -17,6 +18,7 @@ use crate::compile::compile;
 use crate::decompile::decompile;
 use crate::outcome::Outcome;
 use crate::sessions::{play, resume, walk};
+use crate::show::{Width, wrap};
 use crate::trial::trial;
 use paw_play::preface::Nothing;
 use paw_play::trace::StepLines;
@@ -27,7 +29,7 @@ use std::alloc::Global;
 /// What stands on standard error where the words have no form: every command of the tool.
 pub(crate) const USAGE: &str =
     "usage: paw compile S I | decompile I | walk I SEED | play I F SEED | resume I F | \
-     trace I SEED | trial N\n";
+     trace I SEED | trial N | wrap N T\n";
 
 /// What is asked for.
 #[derive(Clone, Copy, Drop)]
@@ -69,6 +71,11 @@ pub(crate) enum Command<'a> {
     Trial {
         n: u16,
     },
+    /// Loads the text, and shows it with its lines broken at spaces, each as late as the width allows.
+    Wrap {
+        width: Width,
+        text: &'a str,
+    },
 }
 
 // ---- words ----
@@ -108,6 +115,29 @@ fn trial_of(word: &str) -> Option<u16>
     }
 }
 
+// A number below 256, in 1 to 3 decimal digits.
+fn byte_of(word: &str) -> Option<u8>
+    ensures value { result ≡ byte_of word.now }
+{
+    if has_digits(word, 3) {
+        word.parse().ok()
+    } else {
+        None
+    }
+}
+
+// A width from 1 to 255, in 1 to 3 decimal digits.
+fn width_of(word: &str) -> Option<Width>
+    ensures value { let width = width_of word.now in
+        MatchOption result (width ≡ None) (λ w. width ≡ Some w.columns) }
+{
+    let columns = byte_of(word)?;
+    if columns == 0 {
+        return None;
+    }
+    Some(Width { columns })
+}
+
 // The name of a file, which comes next, and the words behind it.
 fn file<'a>(words: &'a [String]) -> Option<(&'a str, &'a [String])>
     ensures value { let next = next_file (map string_bytes words.now) in
@@ -136,6 +166,15 @@ fn trial_number<'a>(words: &'a [String]) -> Option<(u16, &'a [String])>
 {
     let (word, words) = words.split_first()?;
     Some((trial_of(word.as_str())?, words))
+}
+
+// A width, which comes next, and the words behind it.
+fn width<'a>(words: &'a [String]) -> Option<(Width, &'a [String])>
+    ensures value { let next = next_number width_of (map string_bytes words.now) in
+        MatchOption result (next ≡ None) (λ r. next ≡ Some (r.0.columns, map string_bytes r.1.now)) }
+{
+    let (word, words) = words.split_first()?;
+    Some((width_of(word.as_str())?, words))
 }
 
 // Nothing, where no word more comes.
@@ -193,6 +232,12 @@ pub(crate) fn command_of<'a>(words: &'a [String]) -> Option<Command<'a>>
             end(words)?;
             Some(Command::Trial { n })
         }
+        "wrap" => {
+            let (width, words) = width(words)?;
+            let (text, words) = file(words)?;
+            end(words)?;
+            Some(Command::Wrap { width, text })
+        }
         _ => None,
     }
 }
@@ -232,6 +277,7 @@ impl<'a> Command<'a> {
                 walk::<StepLines, _, _>(alloc, stage, routines, image, seed)
             }
             Command::Trial { n } => trial(alloc, stage, n),
+            Command::Wrap { width, text } => wrap(alloc, stage, width, text),
         }
     }
 }

@@ -14,7 +14,7 @@ use paw_stage::StageCall;
 use std::alloc::Global;
 
 /// Where memory was wanting: in a load, in reading a source, in printing one, in decoding or encoding an image, in
-/// making what a game is played with, or in a trial, which has a stage in memory of its own.
+/// making what a game is played with, in a trial, which has a stage in memory of its own, or in wrapping a text.
 #[derive(Clone, Copy, Drop, PartialEq, Eq, Debug)]
 pub enum MemoryAt {
     Load,
@@ -23,11 +23,13 @@ pub enum MemoryAt {
     Image,
     Play,
     Trial,
+    Wrap,
 }
 
 /// What a command comes to. Done: the command did what it is for. Ended: the game is over. InputEnded: no line is left
-/// at a prompt. Usage: the words have no form. SourceRefused: the source has a fault; its first is named. ImageDamaged:
-/// the file is no image of a valid game; the place of the first field that breaks its rule.
+/// at a prompt. Usage: the words have no form. SourceRefused: the source has a fault; its first is named. TextTooLong:
+/// the file is longer than a text that is wrapped may be. ImageDamaged: the file is no image of a valid game; the place
+/// of the first field that breaks its rule.
 ///
 /// Of a store. Occupied: a new session was asked for, and the store has so many bytes already. Unmade: it has no
 /// session; its length in bytes, and its first byte (0 where there is none). SessionDamaged: a rule of the session is
@@ -43,6 +45,7 @@ pub enum Outcome {
     InputEnded,
     Usage,
     SourceRefused(SourceFault),
+    TextTooLong,
     ImageDamaged { at: u64 },
     Occupied { length: u64 },
     Unmade { length: u64, mark: u8 },
@@ -137,6 +140,7 @@ fn memory_name(at: MemoryAt) -> &'static str
         MemoryAt::Image => "Image",
         MemoryAt::Play => "Play",
         MemoryAt::Trial => "Trial",
+        MemoryAt::Wrap => "Wrap",
     }
 }
 
@@ -180,7 +184,7 @@ impl Outcome {
         match self {
             Outcome::Done | Outcome::Ended | Outcome::InputEnded => 0,
             Outcome::Usage => 1,
-            Outcome::SourceRefused(_) => 2,
+            Outcome::SourceRefused(_) | Outcome::TextTooLong => 2,
             Outcome::ImageDamaged { .. } => 3,
             Outcome::Occupied { .. }
             | Outcome::Unmade { .. }
@@ -210,6 +214,7 @@ impl Outcome {
                 let kind = kind_name(fault.kind);
                 Ok(format!(in alloc; "source line {line}: {kind}\n")?)
             }
+            Outcome::TextTooLong => Ok(String::from_str(alloc, "text is too long\n")?),
             Outcome::ImageDamaged { at } => Ok(format!(in alloc; "image damaged at {at}\n")?),
             Outcome::Occupied { length } => Ok(format!(in alloc;
                 "session has {length} bytes already\n"

@@ -34,3 +34,6 @@ returns-in-Trace-clause-comes g c = λ tells X rows. rw c.in-Trace.is (c.walk-in
 
 pub returns-in-Trial-clause-comes : goal.returns-in-Trial-clause-comes
 returns-in-Trial-clause-comes g c = λ tells X rows. rw c.in-Trial.is (c.trial.ensures.tries tells)
+
+pub returns-in-Wrap-clause-comes : goal.returns-in-Wrap-clause-comes
+returns-in-Wrap-clause-comes g c = λ tells X rows. rw c.in-Wrap.is (c.wrap.ensures.wraps tells)
