@@ -12,8 +12,7 @@ use Rattle.paw_base.specs.declared.rows.ParamKind.TheVariants as kind
 use Rattle.paw_base.specs.Condacts.{first_kind, second_kind}
 use Rattle.paw_game.specs.Image.{parameter_image, condact_image}
 use Rattle.paw_image.specs.inner.CondactMarks.{IsEnd, GoesOnAt, AreMarks, KeepsPlaces, MarkEntry, MarkEntries}
-use Rattle.paw_game.specs.Game.{Declared}
-use Rattle.paw_image.specs.Damage.{Passing, each, after_condact}
+use Rattle.paw_image.specs.Damage.{Preface, Passing, each, after_condact}
 use Rattle.paw_faults.specs.Bind.{◌>>=◌}
 use Rattle.paw_image.specs.Reading.{byte_at}
 use Rattle.paw_faults.specs.inner.Gives.{Fails}
@@ -78,7 +77,7 @@ pub record Walked (n : ℕ) (bytes rest : List ℕ) : Type 0 where
   pub end : IsEnd bytes rest
   pub short : length bytes ≤ length rest + n * 3
 
-pub condacts_walked : (d : Declared) (n : ℕ) (bytes rest : List ℕ) → IsBytes bytes → each (after_condact d) n bytes ≡ Ok rest
+pub condacts_walked : (d : Preface) (n : ℕ) (bytes rest : List ℕ) → IsBytes bytes → each (after_condact d) n bytes ≡ Ok rest
     → Walked n bytes rest
 unfolding each
 condacts_walked d zero bytes rest fits e =
@@ -142,7 +141,7 @@ all_marked marks condacts start count so_far k lt =
     (m.0, get_drop start marks k ∙ m.1, m.2)
 
 -- the mark behind the condacts that were gone over
-pub mark_is : (d : Declared) (n : ℕ) (bytes rest : List ℕ) → IsBytes bytes → each (after_condact d) n bytes ≡ Ok rest
+pub mark_is : (d : Preface) (n : ℕ) (bytes rest : List ℕ) → IsBytes bytes → each (after_condact d) n bytes ≡ Ok rest
     → GoesOnAt n bytes (length bytes - length rest)
 mark_is d n bytes rest fits e =
     let walked = condacts_walked d n bytes rest fits e in
@@ -209,7 +208,7 @@ eights_fail pass i count bytes rest e le so_far h =
     let all = each_more pass (i * 8) (8 + n) count bytes rest (omega (arith, le)) so_far ∙ each_add pass 8 n rest in
     subst (λ (p : Passing). Fails e p) (sym all) (fails_next e (each pass 8 rest) (each pass n) h)
 
-pub mark_small : (d : Declared) (n : ℕ) (bytes rest : List ℕ) → IsBytes bytes → each (after_condact d) n bytes ≡ Ok rest → n ≤ 255
+pub mark_small : (d : Preface) (n : ℕ) (bytes rest : List ℕ) → IsBytes bytes → each (after_condact d) n bytes ≡ Ok rest → n ≤ 255
     → length bytes - length rest < 2 ^ 16
 mark_small d n bytes rest fits e le = omega (arith, (condacts_walked d n bytes rest fits e).short, le)
 

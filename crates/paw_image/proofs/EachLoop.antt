@@ -6,8 +6,7 @@ use Rattle.std.proofs.lemmas.List.{append-nil, map-append}
 use Rattle.paw_faults.specs.declared.unread.Unread.{Unread}
 use Rattle.paw_faults.specs.declared.unread.Unread.TheVariants as fault
 use Rattle.paw_faults.specs.inner.Gives.{Fails}
-use Rattle.paw_game.specs.Game.{Declared}
-use Rattle.paw_image.specs.Damage.{Passing, each, exit_kept, after_exits_of, after_table}
+use Rattle.paw_image.specs.Damage.{Preface, Passing, each, exit_kept, after_exits_of, after_table}
 use Rattle.paw_image.specs.inner.Offsets.{begins, entries_begin, entries_of, tables_begin}
 use Rattle.paw_image.specs.declared.offsets.TableIndex.{TableIndex}
 
@@ -38,7 +37,7 @@ module _ (pass : List ℕ → Passing) (count i : ℕ) (bytes : List ℕ) (total
 
 -- ---- exits ----
 
-module _ (d : Declared) (verbs : List ℕ) (count i : ℕ) (bytes : List ℕ) (total : Passing) where
+module _ (d : Preface) (verbs : List ℕ) (count i : ℕ) (bytes : List ℕ) (total : Passing) where
   pub exits_go_on : (verb : ℕ) (after : List ℕ) → i < count → exit_kept d verbs bytes ≡ Ok (verb, after) → after_exits_of d verbs (count - i) bytes ≡ total
       → after_exits_of d (verb ∷ verbs) (count - (i + 1)) after ≡ total
   unfolding after_exits_of
@@ -80,7 +79,7 @@ module _ (pass : List ℕ → Passing) (total : ℕ) (front : List ℕ) (count i
       let one : front ++ begins pass total (count - i) bytes ≡ front = rw k (append-nil front) in
       sym one ∙ so_far
 
-module _ (d : Declared) (total : ℕ) (front : List TableIndex) (count i : ℕ) (bytes : List ℕ) (whole : List (List ℕ)) where
+module _ (d : Preface) (total : ℕ) (front : List TableIndex) (count i : ℕ) (bytes : List ℕ) (whole : List (List ℕ)) where
   pub tables_go_on : (t : TableIndex) (after : List ℕ) → i < count → after_table d bytes ≡ Ok after → t.entries.items ≡ entries_begin d total bytes
       → entries_of front ++ tables_begin d total (count - i) bytes ≡ whole
       → entries_of (front ++ t ∷ []) ++ tables_begin d total (count - (i + 1)) after ≡ whole

@@ -5,8 +5,7 @@ use Rattle.std.proofs.lemmas.List.{drop_at, drop-drop, length-drop, get_or-drop}
 use Rattle.paw_game.specs.Image.{two_bytes, text_image, object_image, exits_image, entry_image, table_image}
 use Rattle.paw_game.specs.Valid.{is_within, is_text, is_object, is_exits}
 use Rattle.paw_image.specs.inner.CondactMarks.{IsEnd}
-use Rattle.paw_game.specs.Game.{Declared}
-use Rattle.paw_image.specs.Damage.{Passing, each, number_kept, after_text, after_object, after_exits, after_entry, after_table}
+use Rattle.paw_image.specs.Damage.{Preface, Passing, each, number_kept, after_text, after_object, after_exits, after_entry, after_table}
 use Rattle.paw_image.specs.Reading.{Reading, number_at}
 use Rattle.paw_image.specs.inner.Reading.{text_at, object_at, exits_at}
 use Rattle.paw_image.proofs.FieldLaws.{IsBytes, Takes, at_ok, bind_then, kept_ok, number_takes}
@@ -52,21 +51,21 @@ module _ (all bytes rest : List ℕ) (fits : IsBytes all) (end : IsEnd all bytes
   pub texts_end : (n : ℕ) → each after_text n bytes ≡ Ok rest → IsEnd all rest
   texts_end n e = rows_end after_text text_at text_image is_text text_takes text_sound n e
 
-  pub objects_end : (d : Declared) (n : ℕ) → each (after_object d) n bytes ≡ Ok rest → IsEnd all rest
+  pub objects_end : (d : Preface) (n : ℕ) → each (after_object d) n bytes ≡ Ok rest → IsEnd all rest
   objects_end d n e =
       rows_end (after_object d) object_at object_image (is_object d.words d.counts.locations) object_takes (object_sound d) n e
 
-  pub exits_end : (d : Declared) (n : ℕ) → each (after_exits d) n bytes ≡ Ok rest → IsEnd all rest
+  pub exits_end : (d : Preface) (n : ℕ) → each (after_exits d) n bytes ≡ Ok rest → IsEnd all rest
   exits_end d n e =
       rows_end (after_exits d) exits_at exits_image (is_exits d.words d.counts.locations) exits_take (exits_sound d) n e
 
-  pub entry_end : (d : Declared) → after_entry d bytes ≡ Ok rest → IsEnd all rest
+  pub entry_end : (d : Preface) → after_entry d bytes ≡ Ok rest → IsEnd all rest
   entry_end d e =
       let here = end_fits all bytes fits end in
       let entry = entry_sound d bytes rest here e in
       end_of_end all bytes rest end (end_taken bytes (entry_image entry.value) rest (entry_takes bytes (entry.value, rest) here entry.reads))
 
-  pub table_end : (d : Declared) → after_table d bytes ≡ Ok rest → IsEnd all rest
+  pub table_end : (d : Preface) → after_table d bytes ≡ Ok rest → IsEnd all rest
   table_end d e =
       let here = end_fits all bytes fits end in
       let table = table_placed d bytes rest here e in

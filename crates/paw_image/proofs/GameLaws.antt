@@ -1,23 +1,26 @@
 -- The two laws of the whole image: what is read has the bytes as its image, and the image of a valid game is read as
 -- that game.
-use Rattle.std.proofs.Common.{◌≡◌, ℕ, eqb, List, [], ◌++◌, length, Ok, refl, sym, ap, ◌∙◌, append_assoc}
+use Rattle.std.proofs.Common.{◌≡◌, ℕ, ◌&&◌, eqb, List, [], ◌++◌, length, Ok, Err, Bool, true, refl, sym, ap, ◌∙◌, append_assoc}
+use Rattle.std.specs.Prelude.{if◌then◌else◌}
 use Rattle.std.specs.List.{flat_map}
-use Rattle.std.proofs.lemmas.Bool.{eqb-true}
+use Rattle.std.proofs.lemmas.Bool.{and_parts, eqb-true, eq-eqb}
 use Rattle.std.proofs.lemmas.List.{append-nil, nil_from_length}
-use Rattle.paw_game.specs.Game.{GameLists, Declared}
+use Rattle.paw_game.specs.Game.{GameLists, counts_of}
 use Rattle.paw_game.specs.Valid.{Valid}
-use Rattle.paw_game.specs.Image.{text_image, object_image, exits_image, table_image, image}
-use Rattle.paw_image.specs.Damage.{front}
+use Rattle.paw_game.specs.Image.{text_image, object_image, exits_image, table_image, image, version_of}
+use Rattle.paw_image.specs.Damage.{Preface, front}
 use Rattle.paw_image.specs.inner.Reading.{leading_rows, text_at, object_at, exits_at, leading_table}
-use Rattle.paw_image.specs.inner.Reading.{game_with, lists_at, all_of}
+use Rattle.paw_image.specs.declared.version.Version.{Version}
+use Rattle.paw_image.specs.inner.Reading.{game_with, lists_at, all_of, byte_of}
 use Rattle.paw_image.specs.inner.Sizes.{FitsText, FitsObject, FitsExits, FitsTable, FitsGame}
-use Rattle.paw_image.proofs.FieldLaws.{IsBytes, bind_then, kept_ok, at_ok}
-use Rattle.paw_image.proofs.HeadLaws.{front_image, front_takes, front_passes}
+use Rattle.paw_image.proofs.FieldLaws.{IsBytes, bind_then, kept_ok, at_ok, read_ok}
+use Rattle.paw_image.proofs.HeadLaws.{front_with, front_image, front_takes, front_passes}
 use Rattle.paw_image.proofs.ListLaws.{rows_take, rows_again}
 use Rattle.paw_image.proofs.RowLaws.{text_takes, text_again, object_takes, object_again, exits_take, exits_again}
 use Rattle.paw_image.proofs.RowLaws.{table_takes, table_again}
-use Rattle.paw_image.proofs.SoundRows.{declared_by}
+use Rattle.paw_image.proofs.SoundRows.{declared_as}
 use Rattle.paw_image.proofs.ValidLaws.{parts_of, valid_fits}
+use Rattle.paw_image.proofs.VersionLaws.{needed_by, needed_byte}
 
 -- the lists after the words one after another, from each on, and what follows them
 abbrev pub from_tables : GameLists → List ℕ → List ℕ
@@ -39,18 +42,18 @@ abbrev pub lists_image : GameLists → List ℕ → List ℕ
 lists_image g rest = flat_map text_image g.system ++ from_messages g rest
 
 -- what declares as many rows as there are is what the game declares
-declared_is : (d : Declared) (g : GameLists) → g.words ≡ d.words → length d.words ≡ d.counts.words
+declared_is : (d : Preface) (g : GameLists) → g.words ≡ d.words → length d.words ≡ d.counts.words
     → length g.system ≡ d.counts.system → length g.messages ≡ d.counts.messages
     → length g.objects ≡ d.counts.objects → length g.locations ≡ d.counts.locations
-    → length g.tables ≡ d.counts.tables → d ≡ declared_by g
+    → length g.tables ≡ d.counts.tables → d ≡ declared_as d.version g
 declared_is d g words a b c e f h = rw (words, a, b, c, e, f, h) refl
 
 -- lists that were read
-pub record AreTaken (d : Declared) (bytes : List ℕ) (x : GameLists × List ℕ) : Type 0 where
+pub record AreTaken (d : Preface) (bytes : List ℕ) (x : GameLists × List ℕ) : Type 0 where
   pub parts : bytes ≡ lists_image x.0 x.1
-  pub declared : length d.words ≡ d.counts.words → d ≡ declared_by x.0
+  pub declared : length d.words ≡ d.counts.words → d ≡ declared_as d.version x.0
 
-pub lists_take : (d : Declared) (bytes : List ℕ) (x : GameLists × List ℕ) → IsBytes bytes → lists_at d bytes ≡ Ok x
+pub lists_take : (d : Preface) (bytes : List ℕ) (x : GameLists × List ℕ) → IsBytes bytes → lists_at d bytes ≡ Ok x
     → AreTaken d bytes x
 unfolding lists_at
 lists_take d bytes x fits e =
@@ -83,9 +86,10 @@ lists_take d bytes x fits e =
           locations_taken.1 tables_taken.1;
     })))))))
 
-lists_again : (g : GameLists) (rest : List ℕ) → FitsGame g → lists_at (declared_by g) (lists_image g rest) ≡ Ok (g, rest)
+lists_again : (v : Version) (g : GameLists) (rest : List ℕ) → FitsGame g
+    → lists_at (declared_as v g) (lists_image g rest) ≡ Ok (g, rest)
 unfolding lists_at
-lists_again g rest fits =
+lists_again v g rest fits =
     let texts = rows_again text_at text_image FitsText text_again in
     let all_exits = rows_again exits_at exits_image FitsExits exits_again g.exits (from_tables g rest) fits.exits in
     let exits : leading_rows exits_at (length g.locations) (from_exits g rest) ≡ Ok (g.exits, from_tables g rest) =
@@ -99,25 +103,36 @@ lists_again g rest fits =
       rows_again leading_table table_image FitsTable table_again g.tables rest fits.tables,
     ) refl
 
-pub image_is : (g : GameLists) → image g ≡ front_image (declared_by g) ++ lists_image g []
-image_is g = simp (append_assoc, append-nil)
+pub image_is : (v : Version) (g : GameLists) → byte_of v ≡ version_of g
+    → image g ≡ front_image (declared_as v g) ++ lists_image g []
+image_is v g is =
+    let spelled : image g ≡ front_with (version_of g) (counts_of g) g.words ++ lists_image g [] = simp (append_assoc, append-nil) in
+    spelled ∙ ap (λ (byte : ℕ). front_with byte (counts_of g) g.words ++ lists_image g []) (sym is)
+
+-- what is read is the game, where nothing is left and the version is right
+pub ended : (g : GameLists) (right : Bool) → right ≡ true → (if eqb (length {A = ℕ} []) 0 && right then read_ok g else Err 0) ≡ Ok g
+ended g right h = rw h refl
 
 pub all_takes : (bytes : List ℕ) (g : GameLists) → IsBytes bytes → all_of bytes ≡ Ok g → bytes ≡ image g
 unfolding all_of
 all_takes bytes g fits e =
     bind_then _ (front bytes) _ g e (λ d d_ok e.
     bind_then _ (lists_at d.0 d.1) _ g e (λ lists lists_ok e.
-    let is_end = kept_ok (eqb (length lists.1) 0) _ _ g e in
+    let kept = kept_ok (eqb (length lists.1) 0 && eqb (byte_of d.0.version) (version_of lists.0)) _ _ g e in
+    let tests = and_parts (eqb (length lists.1) 0) _ kept.0 in
+    let version = eqb-true (byte_of d.0.version) (version_of lists.0) tests.1 in
     let fronted = front_takes bytes d fits d_ok in
     let taken = lists_take d.0 d.1 lists fronted.taken.rest_fits lists_ok in
     let lists_are =
-    taken.parts ∙ ap (λ t. lists_image lists.0 t) (nil_from_length lists.1 (eqb-true _ _ is_end.0)) in
-    let front_is = ap (λ (f : Declared). front_image f ++ lists_image lists.0 []) (taken.declared fronted.many) in
-    at_ok (λ (y : GameLists). bytes ≡ image y) lists.0 g is_end.1
-    (fronted.taken.parts ∙ ap (λ t. front_image d.0 ++ t) lists_are ∙ front_is ∙ sym (image_is lists.0))))
+    taken.parts ∙ ap (λ t. lists_image lists.0 t) (nil_from_length lists.1 (eqb-true _ _ tests.0)) in
+    let front_is = ap (λ (f : Preface). front_image f ++ lists_image lists.0 []) (taken.declared fronted.many) in
+    at_ok (λ (y : GameLists). bytes ≡ image y) lists.0 g kept.1
+    (fronted.taken.parts ∙ ap (λ t. front_image d.0 ++ t) lists_are ∙ front_is ∙ sym (image_is d.0.version lists.0 version))))
 
 pub all_again : (g : GameLists) → Valid g → all_of (image g) ≡ Ok g
 unfolding all_of
 all_again g v =
-    ap all_of (image_is g)
-    ∙ rw (front_passes g (lists_image g []) (parts_of g v), lists_again g [] (valid_fits g v)) refl
+    let needs = needed_by g in
+    ap all_of (image_is needs g (needed_byte g))
+    ∙ rw (front_passes needs g (lists_image g []) (parts_of g v), lists_again needs g [] (valid_fits g v))
+    (ended g (eqb (byte_of needs) (version_of g)) (eq-eqb (byte_of needs) (version_of g) (needed_byte g)))

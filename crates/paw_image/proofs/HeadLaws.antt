@@ -1,50 +1,63 @@
 -- The front of an image: what is read of it stands there as its image, and keeps its rules; and the front of the image
 -- of a valid game is read as what the game declares.
-use Rattle.std.proofs.Common.{◌≡◌, ℕ, zero, suc, ◌+◌, ◌&&◌, true, leb, eqb, List, [], ◌∷◌, ◌++◌, length, Result, Ok}
+use Rattle.std.proofs.Common.{◌≡◌, ℕ, zero, suc, ◌+◌, ◌&&◌, true, leb, List, [], ◌∷◌, ◌++◌, length, Result, Ok}
 use Rattle.std.proofs.Common.{refl, ap, subst, ◌∙◌, append_assoc, arith, lit<}
 use Rattle.std.specs.Prelude.{codes}
 use Rattle.std.specs.List.{flat_map, list_all}
 use Rattle.std.specs.Str.{bytes_eq}
 use Rattle.std.specs.Ordering.{is_lt, nat_cmp}
 use Rattle.std.specs.Cmp.Lexicographic.{slice_cmp}
-use Rattle.std.proofs.lemmas.Bool.{and_parts, eqb-true, le-leb}
+use Rattle.std.proofs.lemmas.Bool.{and_parts, leb-true, le-leb}
 use Rattle.std.proofs.lemmas.List.{length-append}
 use Rattle.std.proofs.lemmas.Slice.Eq.{bytes_eq-Decides}
 use Rattle.paw_base.specs.declared.parts.Counts.{Counts}
 use Rattle.paw_game.specs.declared.parts.Word.{Word}
-use Rattle.paw_game.specs.Game.{GameLists, counts_of, Declared}
+use Rattle.paw_game.specs.Game.{GameLists, counts_of}
 use Rattle.paw_game.specs.Valid.{is_within, are_letters, is_word}
 use Rattle.paw_game.specs.Image.{two_bytes, word_image}
 use Rattle.paw_game.proofs.Faults.{rise_after}
 use Rattle.paw_faults.specs.Bind.{◌>>=◌}
+use Rattle.paw_image.specs.declared.version.Version.{Version}
+use Rattle.paw_image.specs.declared.version.Version.TheVariants.{One, Two}
 use Rattle.paw_image.specs.Reading.{byte_at, bytes_at, number_at}
-use Rattle.paw_image.specs.Damage.{number_kept, after_version, counts_kept, word_kept, words_above, front}
+use Rattle.paw_image.specs.inner.Reading.{byte_of}
+use Rattle.paw_image.specs.Damage.{Preface, number_kept, version_told, version_kept, counts_kept, word_kept, words_above, front}
 use Rattle.paw_image.proofs.FieldLaws.{IsBytes, Takes, Takes-then, at_ok, bind_then, byte_takes, bytes_take, bytes_again}
 use Rattle.paw_image.proofs.FieldLaws.{number_takes}
 use Rattle.paw_image.proofs.PassRows.{within_passes}
-use Rattle.paw_image.proofs.SoundRows.{declared_by}
+use Rattle.paw_image.proofs.SoundRows.{declared_as}
 use Rattle.paw_image.proofs.Stands.{and_true, kept_then}
 use Rattle.paw_image.proofs.ValidLaws.{letters_fit, ValidParts}
 
 -- ---- mark and version ----
 
-version_takes : (bytes rest : List ℕ) → IsBytes bytes → after_version bytes ≡ Ok rest
-    → Takes bytes (codes "PAWI" ++ 1 ∷ []) rest
-unfolding after_version
-version_takes bytes rest fits e =
-    kept_then _ (λ m. bytes_eq m (codes "PAWI")) (bytes_at 4) bytes _ rest e (λ mark mark_ok mark_kept e.
-    kept_then _ (λ v. eqb v 1) byte_at mark.1 _ rest e (λ version version_ok version_kept e.
-    let mark_taken = (bytes_take 4 bytes mark fits mark_ok).0 in
-    let version_taken = (byte_takes mark.1 version mark_taken.rest_fits version_ok).0 in
-    let is_mark = (bytes_eq-Decides mark.0 (codes "PAWI")).0 mark_kept in
-    let is_one = eqb-true version.0 1 version_kept in
-    at_ok (λ (r : List ℕ). Takes bytes (codes "PAWI" ++ 1 ∷ []) r) version.1 rest e
-    (Takes-then (codes "PAWI") (1 ∷ []) (subst (λ (m : List ℕ). Takes bytes m mark.1) is_mark mark_taken)
-    (subst (λ (v : ℕ). Takes mark.1 (v ∷ []) version.1) is_one version_taken))))
+-- a byte that tells a version is the one that it is told by
+told : (byte : ℕ) → is_within 1 2 byte ≡ true → byte ≡ byte_of (version_told byte)
+told zero h = absurd cc
+told (suc zero) h = refl
+told (suc (suc zero)) h = refl
+told (suc (suc (suc byte))) h =
+    let high = leb-true (suc (suc (suc byte))) 2 (and_parts (leb 1 (suc (suc (suc byte)))) _ h).1 in
+    absurd (omega (arith, high))
 
-version_passes : (rest : List ℕ) → after_version (codes "PAWI" ++ (1 ∷ rest)) ≡ Ok rest
-unfolding after_version
-version_passes rest = rw (bytes_again 4 (codes "PAWI") (1 ∷ rest) refl) refl
+version_takes : (bytes : List ℕ) (x : Version × List ℕ) → IsBytes bytes → version_kept bytes ≡ Ok x
+    → Takes bytes (codes "PAWI" ++ byte_of x.0 ∷ []) x.1
+unfolding version_kept
+version_takes bytes x fits e =
+    kept_then _ (λ m. bytes_eq m (codes "PAWI")) (bytes_at 4) bytes _ x e (λ mark mark_ok mark_kept e.
+    kept_then _ (is_within 1 2) byte_at mark.1 _ x e (λ byte byte_ok byte_kept e.
+    let mark_taken = (bytes_take 4 bytes mark fits mark_ok).0 in
+    let byte_taken = (byte_takes mark.1 byte mark_taken.rest_fits byte_ok).0 in
+    let is_mark = (bytes_eq-Decides mark.0 (codes "PAWI")).0 mark_kept in
+    at_ok (λ (y : Version × List ℕ). Takes bytes (codes "PAWI" ++ byte_of y.0 ∷ []) y.1) _ x e
+    (Takes-then (codes "PAWI") (byte_of (version_told byte.0) ∷ [])
+    (subst (λ (m : List ℕ). Takes bytes m mark.1) is_mark mark_taken)
+    (subst (λ (b : ℕ). Takes mark.1 (b ∷ []) byte.1) (told byte.0 byte_kept) byte_taken))))
+
+version_passes : (v : Version) (rest : List ℕ) → version_kept (codes "PAWI" ++ (byte_of v ∷ rest)) ≡ Ok (v, rest)
+unfolding version_kept
+version_passes One rest = rw (bytes_again 4 (codes "PAWI") (1 ∷ rest) refl) refl
+version_passes Two rest = rw (bytes_again 4 (codes "PAWI") (2 ∷ rest) refl) refl
 
 -- ---- counts ----
 
@@ -190,45 +203,48 @@ words_pass before (w ∷ ws) rest h rise =
 
 -- ---- the front ----
 
--- mark, version, counts and words
-abbrev pub front_image : Declared → List ℕ
-front_image d = codes "PAWI" ++ (1 ∷ (counts_image d.counts ++ flat_map word_image d.words))
+-- mark, a byte for the version, counts and words
+abbrev pub front_with : ℕ → Counts → List Word → List ℕ
+front_with byte counts words = codes "PAWI" ++ (byte ∷ (counts_image counts ++ flat_map word_image words))
 
-pub front_length : (d : Declared) → length (front_image d) ≡ 17 + length (flat_map word_image d.words)
+abbrev pub front_image : Preface → List ℕ
+front_image d = front_with (byte_of d.version) d.counts d.words
+
+pub front_length : (d : Preface) → length (front_image d) ≡ 17 + length (flat_map word_image d.words)
 front_length d = omega (arith, length-append (counts_image d.counts) (flat_map word_image d.words))
 
-pub record Fronted (bytes : List ℕ) (x : Declared × List ℕ) : Type 0 where
+pub record Fronted (bytes : List ℕ) (x : Preface × List ℕ) : Type 0 where
   pub taken : Takes bytes (front_image x.0) x.1
   pub few : AreFew x.0.counts
   pub many : length x.0.words ≡ x.0.counts.words
   pub keep : list_all is_word x.0.words ≡ true
   pub rise : rise_after [] x.0.words ≡ true
 
-pub front_takes : (bytes : List ℕ) (x : Declared × List ℕ) → IsBytes bytes → front bytes ≡ Ok x → Fronted bytes x
+pub front_takes : (bytes : List ℕ) (x : Preface × List ℕ) → IsBytes bytes → front bytes ≡ Ok x → Fronted bytes x
 unfolding front
 front_takes bytes x fits e =
-    bind_then _ (after_version bytes) _ x e (λ head head_ok e.
-    bind_then _ (counts_kept head) _ x e (λ counts counts_ok e.
+    bind_then _ (version_kept bytes) _ x e (λ version version_ok e.
+    bind_then _ (counts_kept version.1) _ x e (λ counts counts_ok e.
     bind_then _ (words_above [] counts.0.words counts.1) _ x e (λ words words_ok e.
-    let version = version_takes bytes head fits head_ok in
-    let six = counts_take head counts version.rest_fits counts_ok in
+    let first = version_takes bytes version fits version_ok in
+    let six = counts_take version.1 counts first.rest_fits counts_ok in
     let ws = words_take [] counts.0.words counts.1 words six.0.rest_fits words_ok in
-    let after_version_ = Takes-then (counts_image counts.0) (flat_map word_image words.0) six.0 ws.taken in
-    at_ok (λ (y : Declared × List ℕ). Fronted bytes y) _ x e (record {
-      taken = Takes-then (codes "PAWI" ++ 1 ∷ []) _ version after_version_;
+    let after_version = Takes-then (counts_image counts.0) (flat_map word_image words.0) six.0 ws.taken in
+    at_ok (λ (y : Preface × List ℕ). Fronted bytes y) _ x e (record {
+      taken = Takes-then (codes "PAWI" ++ byte_of version.0 ∷ []) _ first after_version;
       few = six.1;
       many = ws.many;
       keep = ws.keep;
       rise = ws.rise;
     }))))
 
-pub front_passes : (g : GameLists) (rest : List ℕ) → ValidParts g
-    → front (front_image (declared_by g) ++ rest) ≡ Ok (declared_by g, rest)
+pub front_passes : (version : Version) (g : GameLists) (rest : List ℕ) → ValidParts g
+    → front (front_image (declared_as version g) ++ rest) ≡ Ok (declared_as version g, rest)
 unfolding front
-front_passes g rest v =
+front_passes version g rest v =
     let after_counts = flat_map word_image g.words ++ rest in
     rw (
-      version_passes (counts_image (counts_of g) ++ after_counts),
+      version_passes version (counts_image (counts_of g) ++ after_counts),
       counts_pass g after_counts (few_counts g v),
       words_pass [] g.words rest v.words_keep v.words_rise,
     ) refl

@@ -19,5 +19,6 @@ pub mod RowLaws
 pub mod SoundRows
 pub mod Stands
 pub mod ValidLaws
+pub mod VersionLaws
 pub mod ViewLaws
 pub mod WholeLaws

@@ -6,7 +6,7 @@ use Rattle.std.proofs.lemmas.Bool.{and_parts, leb-true, le-leb}
 use Rattle.paw_base.specs.declared.parts.ObjectFacts.{ObjectFacts}
 use Rattle.paw_base.specs.declared.rows.ParamKind.{ParamKind}
 use Rattle.paw_base.specs.declared.rows.ParamKind.TheVariants as kind
-use Rattle.paw_base.specs.Condacts.{is_code, first_kind, second_kind}
+use Rattle.paw_base.specs.Condacts.{first_kind, second_kind}
 use Rattle.paw_game.specs.declared.parts.Exit.{Exit}
 use Rattle.paw_game.specs.Image.{two_bytes, text_image, weight_byte, object_image, exit_image, exits_image}
 use Rattle.paw_game.specs.Image.{parameter_image, condact_image, entry_image, table_image}
@@ -14,8 +14,7 @@ use Rattle.paw_game.specs.Valid.{is_within, is_printed, is_text, is_word_or_none
 use Rattle.paw_game.specs.Valid.{is_object, is_verb_value, are_exits, is_exits, is_any, is_parameter, has_word}
 use Rattle.paw_faults.specs.Bind.{◌>>=◌}
 use Rattle.paw_image.specs.Reading.{byte_at}
-use Rattle.paw_game.specs.Game.{Declared}
-use Rattle.paw_image.specs.Damage.{field_kept, number_kept, after_text, after_facts, after_object}
+use Rattle.paw_image.specs.Damage.{Preface, may_stand, field_kept, number_kept, after_text, after_facts, after_object}
 use Rattle.paw_image.specs.Damage.{exit_kept, after_exits_of, after_exits, after_parameter}
 use Rattle.paw_image.specs.Damage.{after_condact, after_entry, after_table}
 use Rattle.paw_image.proofs.FieldLaws.{bytes_again, number_again}
@@ -30,7 +29,7 @@ within_passes least most n rest small h =
     let le : n ≤ most = leb-true _ _ (and_parts (leb least n) (leb n most) h).1 in
     rw (number_again n rest (omega arith), h) refl
 
-up_to : (most n : ℕ) → leb n most ≡ true → is_within 0 most n ≡ true
+pub up_to : (most n : ℕ) → leb n most ≡ true → is_within 0 most n ≡ true
 up_to most n h = and_true (leb 0 n) (leb n most) (le-leb 0 n (omega arith)) h
 
 -- ---- texts ----
@@ -48,7 +47,7 @@ text_passes text rest h =
 
 -- ---- objects ----
 
-facts_pass : (d : Declared) (f : ObjectFacts) (weight : ℕ) (rest : List ℕ)
+facts_pass : (d : Preface) (f : ObjectFacts) (weight : ℕ) (rest : List ℕ)
     → are_facts d.words d.counts.locations f ≡ true → after_facts d (f.noun ∷ f.adjective ∷ f.start ∷ weight ∷ rest)
     ≡ Ok rest
 unfolding after_facts
@@ -58,7 +57,7 @@ facts_pass d f weight rest h =
     let start = and_parts (is_place d.counts.locations f.start) _ adjective.1 in
     rw (noun.0, adjective.0, start.0) refl
 
-pub object_passes : (d : Declared) → PassesRow (after_object d) object_image (is_object d.words d.counts.locations)
+pub object_passes : (d : Preface) → PassesRow (after_object d) object_image (is_object d.words d.counts.locations)
 object_passes d o rest h =
     let both = and_parts (is_text o.text) (are_facts d.words d.counts.locations o.facts) h in
     let weight = weight_byte o.facts.weight o.facts.container o.facts.wearable in
@@ -69,7 +68,7 @@ object_passes d o rest h =
 
 -- ---- exits ----
 
-exits_pass_of : (d : Declared) (verbs : List ℕ) (xs : List Exit) (rest : List ℕ) → none_of verbs xs ≡ true → are_exits d.words d.counts.locations xs ≡ true
+exits_pass_of : (d : Preface) (verbs : List ℕ) (xs : List Exit) (rest : List ℕ) → none_of verbs xs ≡ true → are_exits d.words d.counts.locations xs ≡ true
     → after_exits_of d verbs (length xs) (flat_map exit_image xs ++ rest) ≡ Ok rest
 unfolding after_exits_of exit_kept
 exits_pass_of d verbs [] rest none h = refl
@@ -83,7 +82,7 @@ exits_pass_of d verbs (x ∷ xs) rest none h =
     let others : none_of (x.verb ∷ verbs) xs ≡ true = none_of-one_more x.verb verbs xs ∙ rw (to.1, first_none.1) refl in
     rw (verb.0, first_none.0, to.0) (exits_pass_of d (x.verb ∷ verbs) xs rest others split.1)
 
-pub exits_pass : (d : Declared) → PassesRow (after_exits d) exits_image (is_exits d.words d.counts.locations)
+pub exits_pass : (d : Preface) → PassesRow (after_exits d) exits_image (is_exits d.words d.counts.locations)
 unfolding after_exits
 exits_pass d xs rest h = exits_pass_of d [] xs rest (none_of-none xs) (and_parts (leb (length xs) 255) _ h).1
 
@@ -92,14 +91,14 @@ exits_pass d xs rest h = exits_pass_of d [] xs rest (none_of-none xs) (and_parts
 byte_passes : (rule : ℕ → Bool) (x : ℕ) (rest : List ℕ) → rule x ≡ true → (field_kept rule byte_at (x ∷ rest) >>= λ y. Ok y.1) ≡ Ok rest
 byte_passes rule x rest h = rw h refl
 
-parameter_passes : (d : Declared) (k : ParamKind) → PassesRow (after_parameter d k) (parameter_image k) (is_parameter d.counts d.words k)
+parameter_passes : (d : Preface) (k : ParamKind) → PassesRow (after_parameter d k) (parameter_image k) (is_parameter d.counts d.words k)
 parameter_passes d kind.Absent x rest h = refl
 parameter_passes d k x rest h = byte_passes (is_parameter d.counts d.words k) x rest h
 
-condact_passes : (d : Declared) → PassesRow (after_condact d) condact_image (keeps_condact d)
+pub condact_passes : (d : Preface) → PassesRow (after_condact d) condact_image (keeps_condact d)
 unfolding after_condact
 condact_passes d c rest h =
-    let code = and_parts (is_code c.code) _ h in
+    let code = and_parts (may_stand d.version c.code) _ h in
     let both = and_parts (is_parameter d.counts d.words (first_kind c.code) c.a) (is_parameter d.counts d.words (second_kind c.code) c.b) code.1 in
     let first = parameter_image (first_kind c.code) c.a in
     let second = parameter_image (second_kind c.code) c.b in
@@ -107,7 +106,7 @@ condact_passes d c rest h =
     ap (after_condact d) regrouped
     ∙ rw (code.0, parameter_passes d (first_kind c.code) c.a (second ++ rest) both.0, parameter_passes d (second_kind c.code) c.b rest both.1) refl
 
-entry_passes : (d : Declared) → PassesRow (after_entry d) entry_image (keeps_entry d)
+pub entry_passes : (d : Preface) → PassesRow (after_entry d) entry_image (keeps_entry d)
 unfolding after_entry
 entry_passes d e rest h =
     let verb = and_parts (is_any e.verb || is_verb_value d.words e.verb) _ h in
@@ -115,7 +114,7 @@ entry_passes d e rest h =
     let condacts = and_parts (leb (length e.condacts) 255) _ noun.1 in
     rw (verb.0, noun.0) (each_passes (after_condact d) condact_image (keeps_condact d) (condact_passes d) e.condacts rest condacts.1)
 
-pub table_passes : (d : Declared) → PassesRow (after_table d) table_image (keeps_table d)
+pub table_passes : (d : Preface) → PassesRow (after_table d) table_image (keeps_table d)
 unfolding after_table
 table_passes d es rest h =
     let both = and_parts (leb (length es) 4000) (list_all (keeps_entry d) es) h in

@@ -30,7 +30,8 @@ use Rattle.paw_image.proofs.GameLaws.{from_messages, from_objects, from_location
 use Rattle.paw_image.proofs.GameLaws.{image_is, lists_image}
 use Rattle.paw_image.proofs.HeadLaws.{front_image, front_length}
 use Rattle.paw_image.proofs.RowLaws.{facts_image, facts_again, text_again, condact_again}
-use Rattle.paw_image.proofs.SoundRows.{declared_by}
+use Rattle.paw_image.proofs.SoundRows.{declared_as}
+use Rattle.paw_image.proofs.VersionLaws.{needed_by, needed_byte}
 
 -- ---- rows ----
 
@@ -83,8 +84,9 @@ pub record ListsAt (bytes : List ℕ) (g : GameLists) : Type 0 where
 
 pub lists_lie : (bytes : List ℕ) (g : GameLists) → bytes ≡ image g → ListsAt bytes g
 lists_lie bytes g e =
-    let start : 0 + length (front_image (declared_by g)) ≡ system_begins g = omega (arith, front_length (declared_by g)) in
-    let whole = next_at bytes (front_image (declared_by g)) (lists_image g []) 0 (e ∙ image_is g) in
+    let d = declared_as (needed_by g) g in
+    let start : 0 + length (front_image d) ≡ system_begins g = omega (arith, front_length d) in
+    let whole = next_at bytes (front_image d) (lists_image g []) 0 (e ∙ image_is (needed_by g) g (needed_byte g)) in
     let system = subst (λ (n : ℕ). drop n bytes ≡ lists_image g []) start whole in
     let messages = next_at bytes (flat_map text_image g.system) (from_messages g []) (system_begins g) system in
     let objects = next_at bytes (flat_map text_image g.messages) (from_objects g []) (messages_begin g) messages in

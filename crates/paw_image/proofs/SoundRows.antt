@@ -12,27 +12,29 @@ use Rattle.paw_base.specs.declared.rows.ParamKind.TheVariants as kind
 use Rattle.paw_base.specs.Condacts.{is_code, first_kind, second_kind}
 use Rattle.paw_game.specs.declared.parts.Exit.{Exit}
 use Rattle.paw_game.specs.declared.parts.Entry.{Entry}
-use Rattle.paw_game.specs.Game.{GameLists, counts_of, Declared}
+use Rattle.paw_game.specs.Game.{GameLists, counts_of}
 use Rattle.paw_game.specs.Image.{two_bytes, text_image, exit_image, parameter_image, condact_image, entry_image, table_image}
 use Rattle.paw_game.specs.Valid.{is_within, is_printed, is_text, is_word_or_none, is_place, are_facts}
 use Rattle.paw_game.specs.Valid.{is_object, is_verb_value, are_exits, is_exits, is_parameter}
-use Rattle.paw_game.specs.Valid.{is_any, has_word, keeps_kinds, is_table}
+use Rattle.paw_game.specs.Valid.{is_any, has_word}
 use Rattle.paw_faults.specs.Bind.{◌>>=◌}
 use Rattle.paw_image.specs.Reading.{byte_at, bytes_at, number_at}
 use Rattle.paw_image.specs.inner.Reading.{few_at, pair_at, leading_rows, text_at, facts_with, leading_facts, object_at, leading_exit, exits_at}
 use Rattle.paw_image.specs.inner.Reading.{code_at, parameter_at, leading_condact, leading_entry, leading_table}
-use Rattle.paw_image.specs.Damage.{field_kept, each, after_text, after_facts, after_object}
+use Rattle.paw_image.specs.Damage.{Preface, may_stand, field_kept, each, after_text, after_facts, after_object}
 use Rattle.paw_image.specs.Damage.{exit_kept, after_exits_of, after_exits, after_parameter}
 use Rattle.paw_image.specs.Damage.{after_condact, after_entry, after_table}
+use Rattle.paw_image.specs.declared.version.Version.{Version}
+use Rattle.paw_image.specs.declared.version.Version.TheVariants.{One, Two}
 use Rattle.paw_image.specs.inner.Offsets.{offsets, entry_offsets, entries_begin, tables_begin}
 use Rattle.paw_image.proofs.FieldLaws.{IsBytes, at_ok, bind_then, byte_takes, number_takes}
 use Rattle.paw_image.proofs.ListLaws.{rows_take}
 use Rattle.paw_image.proofs.RowLaws.{text_takes, exit_takes, condact_takes, entry_takes, parameter_takes, table_takes}
 use Rattle.paw_image.proofs.Stands.{and_true, kept_then, bytes_length, Stands, SoundRow, rest_fits, each_sound, taken_length}
 
--- what the lists of a game say at their front
-abbrev pub declared_by : GameLists → Declared
-declared_by g = record { counts = counts_of g; words = g.words }
+-- what the lists of a game say at their front, in an image of a version
+abbrev pub declared_as : Version → GameLists → Preface
+declared_as v g = record { version = v; counts = counts_of g; words = g.words }
 
 -- ---- texts ----
 
@@ -54,7 +56,7 @@ text_sound bytes rest fits e =
 light : (w : ℕ) → leb (bit_and w 63) 63 ≡ true
 light w = le-leb (bit_and w 63) 63 (rw (and_mask w 6) (omega arith))
 
-facts_sound : (d : Declared) → SoundRow (after_facts d) leading_facts (are_facts d.words d.counts.locations)
+facts_sound : (d : Preface) → SoundRow (after_facts d) leading_facts (are_facts d.words d.counts.locations)
 unfolding after_facts leading_facts
 facts_sound d bytes rest fits e =
     kept_then _ (is_word_or_none d.words 2) byte_at bytes _ rest e (λ noun noun_ok noun_kept e.
@@ -68,7 +70,7 @@ facts_sound d bytes rest fits e =
       keeps = rw (noun_kept, adjective_kept, start_kept, light weight.0) refl;
     }))))
 
-pub object_sound : (d : Declared) → SoundRow (after_object d) object_at (is_object d.words d.counts.locations)
+pub object_sound : (d : Preface) → SoundRow (after_object d) object_at (is_object d.words d.counts.locations)
 unfolding object_at
 object_sound d bytes rest fits e =
     bind_then _ (after_text bytes) _ rest e (λ after after_ok e.
@@ -109,10 +111,10 @@ none_of-none [] = refl
 none_of-none (x ∷ xs) = none_of-none xs
 
 -- what the exits after those with these verbs keep
-abbrev keeps_after : Declared → List ℕ → List Exit → Bool
+abbrev keeps_after : Preface → List ℕ → List Exit → Bool
 keeps_after d verbs xs = none_of verbs xs && are_exits d.words d.counts.locations xs
 
-exits_sound_of : (d : Declared) (verbs : List ℕ) (n : ℕ) (bytes rest : List ℕ)
+exits_sound_of : (d : Preface) (verbs : List ℕ) (n : ℕ) (bytes rest : List ℕ)
     → after_exits_of d verbs n bytes ≡ Ok rest → Stands (leading_rows leading_exit n bytes) (keeps_after d verbs) rest
 unfolding after_exits_of exit_kept leading_rows leading_exit pair_at
 exits_sound_of d verbs zero bytes rest e =
@@ -137,7 +139,7 @@ exits_sound_of d verbs (suc n) bytes rest e =
 few : (n : ℕ) → n < 256 → leb n 255 ≡ true
 few n lt = le-leb n 255 (omega arith)
 
-pub exits_sound : (d : Declared) → SoundRow (after_exits d) exits_at (is_exits d.words d.counts.locations)
+pub exits_sound : (d : Preface) → SoundRow (after_exits d) exits_at (is_exits d.words d.counts.locations)
 unfolding after_exits few_at
 exits_sound d bytes rest fits e =
     bind_then _ (byte_at bytes) _ rest e (λ count count_ok e.
@@ -155,15 +157,16 @@ exits_sound d bytes rest fits e =
 -- ---- tables ----
 
 -- the rules of condacts, entries and tables, by what the front declares
-abbrev pub keeps_condact : Declared → Condact → Bool
-keeps_condact d c = keeps_kinds (is_parameter d.counts d.words) c
+abbrev pub keeps_condact : Preface → Condact → Bool
+keeps_condact d c =
+    may_stand d.version c.code && (is_parameter d.counts d.words (first_kind c.code) c.a && is_parameter d.counts d.words (second_kind c.code) c.b)
 
-abbrev pub keeps_entry : Declared → Entry → Bool
+abbrev pub keeps_entry : Preface → Entry → Bool
 keeps_entry d e =
     (is_any e.verb || is_verb_value d.words e.verb) && ((is_any e.noun || has_word d.words 2 e.noun)
     && (leb (length e.condacts) 255 && list_all (keeps_condact d) e.condacts))
 
-abbrev pub keeps_table : Declared → List Entry → Bool
+abbrev pub keeps_table : Preface → List Entry → Bool
 keeps_table d es = leb (length es) 4000 && list_all (keeps_entry d) es
 
 byte_sound : (rule : ℕ → Bool) (bytes rest : List ℕ) → (field_kept rule byte_at bytes >>= λ x. Ok x.1) ≡ Ok rest → Stands (byte_at bytes) rule rest
@@ -171,7 +174,7 @@ byte_sound rule bytes rest e =
     kept_then _ rule byte_at bytes _ rest e (λ x x_ok x_kept e.
     record { value = x.0; reads = at_ok (λ (r : List ℕ). byte_at bytes ≡ Ok (x.0, r)) x.1 rest e x_ok; keeps = x_kept })
 
-parameter_sound : (d : Declared) (k : ParamKind) → SoundRow (after_parameter d k) (parameter_at k) (is_parameter d.counts d.words k)
+parameter_sound : (d : Preface) (k : ParamKind) → SoundRow (after_parameter d k) (parameter_at k) (is_parameter d.counts d.words k)
 parameter_sound d kind.Absent bytes rest fits e =
     record { value = 0; reads = at_ok (λ (r : List ℕ). parameter_at kind.Absent bytes ≡ Ok (0, r)) bytes rest e refl; keeps = refl }
 parameter_sound d k bytes rest fits e = byte_sound (is_parameter d.counts d.words k) bytes rest e
@@ -180,10 +183,15 @@ code_is : (bytes : List ℕ) → code_at bytes ≡ field_kept is_code byte_at by
 code_is [] = refl
 code_is (code ∷ bytes) = refl
 
-pub condact_sound : (d : Declared) → SoundRow (after_condact d) leading_condact (keeps_condact d)
+-- what may stand is a code
+stands_code : (v : Version) (code : ℕ) → may_stand v code ≡ true → is_code code ≡ true
+stands_code One code h = rw h refl
+stands_code Two code h = h
+
+pub condact_sound : (d : Preface) → SoundRow (after_condact d) leading_condact (keeps_condact d)
 unfolding after_condact leading_condact
 condact_sound d bytes rest fits e =
-    kept_then _ is_code byte_at bytes _ rest e (λ code code_ok code_kept e.
+    kept_then _ (may_stand d.version) byte_at bytes _ rest e (λ code code_ok code_kept e.
     bind_then _ (after_parameter d (first_kind code.0) code.1) _ rest e (λ after after_ok e.
     let first = first_kind code.0 in
     let second = second_kind code.0 in
@@ -192,14 +200,14 @@ condact_sound d bytes rest fits e =
     let b = parameter_sound d second after rest
     (rest_fits (parameter_at first) (parameter_image first) (is_parameter d.counts d.words first) (parameter_takes first) code.1
     after code_fits a) e in
-    let code_read : code_at bytes ≡ Ok code = code_is bytes ∙ rw (code_ok, code_kept) refl in
+    let code_read : code_at bytes ≡ Ok code = code_is bytes ∙ rw (code_ok, stands_code d.version code.0 code_kept) refl in
     record {
       value = record { code = code.0; a = a.value; b = b.value };
       reads = rw (code_read, a.reads, b.reads) refl;
       keeps = rw (code_kept, a.keeps, b.keeps) refl;
     }))
 
-pub entry_sound : (d : Declared) → SoundRow (after_entry d) leading_entry (keeps_entry d)
+pub entry_sound : (d : Preface) → SoundRow (after_entry d) leading_entry (keeps_entry d)
 unfolding after_entry leading_entry pair_at few_at
 entry_sound d bytes rest fits e =
     kept_then _ (λ v. is_any v || is_verb_value d.words v) byte_at bytes _ rest e (λ verb verb_ok verb_kept e.
@@ -218,13 +226,13 @@ entry_sound d bytes rest fits e =
     })))
 
 -- a table, with where its entries begin
-pub record TablePlaced (d : Declared) (bytes rest : List ℕ) : Type 0 where
+pub record TablePlaced (d : Preface) (bytes rest : List ℕ) : Type 0 where
   pub value : List Entry
   pub reads : leading_table bytes ≡ Ok (value, rest)
   pub keeps : keeps_table d value ≡ true
   pub begin : (total start : ℕ) → start + length bytes ≡ total → entries_begin d total bytes ≡ offsets entry_image (start + 2) value
 
-pub table_placed : (d : Declared) (bytes rest : List ℕ) → IsBytes bytes → after_table d bytes ≡ Ok rest → TablePlaced d bytes rest
+pub table_placed : (d : Preface) (bytes rest : List ℕ) → IsBytes bytes → after_table d bytes ≡ Ok rest → TablePlaced d bytes rest
 unfolding after_table leading_table entries_begin
 table_placed d bytes rest fits e =
     kept_then _ (is_within 0 4000) number_at bytes _ rest e (λ count count_ok count_kept e.
@@ -242,13 +250,13 @@ table_placed d bytes rest fits e =
     })
 
 -- tables, with where their entries begin
-pub record TablesPlaced (d : Declared) (n : ℕ) (bytes rest : List ℕ) : Type 0 where
+pub record TablesPlaced (d : Preface) (n : ℕ) (bytes rest : List ℕ) : Type 0 where
   pub value : List (List Entry)
   pub reads : leading_rows leading_table n bytes ≡ Ok (value, rest)
   pub keeps : list_all (keeps_table d) value ≡ true
   pub begin : (total start : ℕ) → start + length bytes ≡ total → tables_begin d total n bytes ≡ entry_offsets start value
 
-pub tables_placed : (d : Declared) (n : ℕ) (bytes rest : List ℕ) → IsBytes bytes → each (after_table d) n bytes ≡ Ok rest → TablesPlaced d n bytes rest
+pub tables_placed : (d : Preface) (n : ℕ) (bytes rest : List ℕ) → IsBytes bytes → each (after_table d) n bytes ≡ Ok rest → TablesPlaced d n bytes rest
 unfolding each leading_rows tables_begin
 tables_placed d zero bytes rest fits e =
     record {
@@ -271,8 +279,3 @@ tables_placed d (suc n) bytes rest fits e =
           (omega (arith, h, taken_length bytes (table_image first.value) after taken)) in
           rw (first.begin total start h, after_ok) (ap (λ (l : List (List ℕ)). offsets entry_image (start + 2) first.value ∷ l) later);
     })
-
--- ---- the same rules as a game has them ----
-
-pub tables_are : (g : GameLists) (ts : List (List Entry)) → list_all (keeps_table (declared_by g)) ts ≡ list_all (is_table g) ts
-tables_are g ts = refl

@@ -9,22 +9,23 @@ use Rattle.paw_base.specs.declared.parts.Counts.{Counts}
 use Rattle.paw_game.specs.declared.parts.Word.{Word}
 use Rattle.paw_game.specs.declared.parts.Entry.{Entry}
 use Rattle.paw_game.specs.declared.parts.GamePart.{GamePart}
-use Rattle.paw_game.specs.Game.{GameLists, Declared}
+use Rattle.paw_game.specs.Game.{GameLists}
 use Rattle.paw_game.specs.Image.{entry_image}
 use Rattle.paw_game.specs.Tables.{head_at, condact_at, entry_at}
 use Rattle.paw_game.specs.inner.Tables.{text_at, match_at}
-use Rattle.paw_image.specs.Damage.{after_all, bad}
+use Rattle.paw_image.specs.Damage.{Preface, after_all, is_needless, bad}
 use Rattle.paw_image.specs.inner.CondactMarks.{IsMarked, MarkEntry}
 use Rattle.paw_image.specs.Images.{IsImage}
 use Rattle.paw_image.specs.inner.Images.{AtDamage}
 use Rattle.paw_image.specs.inner.Orders.{is_match, IsOrder, IsLeast, IsMatch}
-use Rattle.paw_image.specs.inner.Offsets.{entry_offsets, entries_of, IsPassed}
+use Rattle.paw_image.specs.inner.Offsets.{entry_offsets, entries_of, preface_of, IsPassed}
 use Rattle.paw_image.specs.inner.Reading as inner_reading
 use Rattle.paw_image.specs.inner.Reading.{all_of}
 use Rattle.paw_image.specs.inner.Rows.{value_of, head_here, nth_condact, entry_here}
 use Rattle.paw_image.specs.inner.Sizes.{FitsGame, FitsCondact, FitsEntry, FitsTable}
 use Rattle.paw_image.specs.inner.Views.{game_read, rows_begin, tables_begin_at, span_at, IsIndex}
 use Rattle.paw_base.specs.declared.limits.TheConstants.{IMAGE_LIMIT}
+use Rattle.paw_image.specs.declared.head.Front.{Front}
 use Rattle.paw_image.specs.declared.offsets.Offsets.{Offsets}
 use Rattle.paw_image.specs.declared.offsets.TableIndex.{TableIndex}
 use Rattle.paw_image.specs.declared.refusal.ImageRefusal.{ImageRefusal}
@@ -35,7 +36,7 @@ use Rattle.paw_image.proofs.MatchLaws.{next_match_is}
 use Rattle.paw_image.proofs.PlaceLaws.{all_at, ListsAt, lists_lie, RowAt, table_lies, no_table, entry_lies, no_entry}
 use Rattle.paw_image.proofs.PlaceLaws.{text_of_part, head_there, condact_there, entry_bytes_there}
 use Rattle.paw_image.proofs.ValidLaws.{valid_fits}
-use Rattle.paw_image.proofs.WholeLaws.{all_sound, nothing_left, image_is_whole}
+use Rattle.paw_image.proofs.WholeLaws.{all_sound, both_none, nothing_left, image_is_whole}
 
 -- ---- the index ----
 
@@ -44,19 +45,21 @@ unfolding game_read
 game_is bytes g e = rw e refl
 
 -- the offsets that come of bytes in which no rule is broken are those of the game
-pub index_from : (bytes : List ℕ) (counts : Counts) (words : List Word) (p : Offsets) → IsBytes bytes
-    → length bytes ≤ IMAGE_LIMIT → bad bytes ≡ None → IsPassed bytes counts words p → IsIndex bytes counts words p
+pub index_from : (bytes : List ℕ) (front : Front) (rest : List ℕ) (p : Offsets) → IsBytes bytes
+    → length bytes ≤ IMAGE_LIMIT → bad bytes ≡ None → IsPassed bytes front rest p
+    → IsIndex bytes front.counts front.words.items p
 unfolding bad
-index_from bytes counts words p fits short whole passed =
-    let read = all_sound bytes fits (nothing_left (length bytes) (after_all bytes) (rw (le-ltb IMAGE_LIMIT (length bytes) short) at whole)) in
-    let d : Declared × List ℕ = (record { counts = counts; words = words }, passed.rest) in
+index_from bytes front rest p fits short whole passed =
+    let none = both_none _ (is_needless bytes) 4 (rw (le-ltb IMAGE_LIMIT (length bytes) short) at whole) in
+    let read = all_sound bytes fits (nothing_left (length bytes) (after_all bytes) none.0) none.1 in
+    let d : Preface × List ℕ = (preface_of front, rest) in
     let is = game_is bytes read.game read.reads in
     let declared = read.declared d passed.declared in
     let stand = read.begin d p passed.declared passed.over in
     record {
       image = rw is (record { spelled = all_takes bytes read.game fits read.reads; valid = read.valid; short = short });
-      counted = rw is (ap (λ (x : Declared). x.counts) declared);
-      spelled = rw is (ap (λ (x : Declared). x.words) declared);
+      counted = rw is (ap (λ (x : Preface). x.counts) declared);
+      spelled = rw is (ap (λ (x : Preface). x.words) declared);
       system = rw is stand.system;
       messages = rw is stand.messages;
       objects = rw is stand.objects;

@@ -1,19 +1,24 @@
 -- The bytes in which no rule is broken are the images of the valid games.
-use Rattle.std.proofs.Common.{◌≡◌, ℕ, ◌+◌, ◌<◌, ◌&&◌, true, leb, eqb, List, [], ◌∷◌, length, Some, None, Ok, Err}
+use Rattle.std.proofs.Common.{◌≡◌, ℕ, ◌+◌, ◌<◌, ◌&&◌, Bool, true, false, leb, eqb, List, [], ◌∷◌, length, Some, None, Ok, Err}
 use Rattle.std.proofs.Common.{refl, sym, ap, subst, ◌∙◌, inl, inr, arith}
 use Rattle.std.specs.List.{flat_map, list_all}
 use Rattle.std.proofs.lemmas.Bool.{and_parts, cases_lt, lt-ltb, le-ltb, eq-eqb}
+use Rattle.std.specs.Prelude.{Option, if◌then◌else◌}
+use Rattle.std.specs.Option.{option_or}
 use Rattle.std.proofs.lemmas.Option.{none-some}
-use Rattle.paw_game.specs.Game.{GameLists, Declared}
+use Rattle.paw_game.specs.Game.{GameLists}
 use Rattle.paw_game.specs.Valid.{Valid, is_within, is_word, words_rise, is_text, is_object, is_exits}
-use Rattle.paw_game.specs.Image.{word_image, text_image, object_image, exits_image, table_image, image}
+use Rattle.paw_game.specs.Image.{word_image, text_image, object_image, exits_image, table_image, image, has_indirect, version_of}
 use Rattle.paw_game.proofs.Faults.{rise_after, rise_after-none}
 use Rattle.paw_base.specs.declared.limits.TheConstants.{IMAGE_LIMIT}
 use Rattle.paw_image.specs.inner.CondactMarks.{IsEnd}
 use Rattle.paw_image.specs.Images.{IsImage}
-use Rattle.paw_image.specs.inner.Reading.{text_at, object_at, exits_at, lists_at, all_of}
-use Rattle.paw_image.specs.Damage.{Passing, each, after_text, after_object, after_exits, after_table}
-use Rattle.paw_image.specs.Damage.{after_lists, front, after_all, place_in, bad}
+use Rattle.paw_image.specs.declared.version.Version.{Version}
+use Rattle.paw_image.specs.declared.version.Version.TheVariants.{One}
+use Rattle.paw_image.specs.Reading.{Reading}
+use Rattle.paw_image.specs.inner.Reading.{IsFault, text_at, object_at, exits_at, lists_at, all_of, byte_of}
+use Rattle.paw_image.specs.Damage.{Preface, Passing, each, after_text, after_object, after_exits, after_table}
+use Rattle.paw_image.specs.Damage.{after_lists, front, after_all, as_version_1, is_needless_after, is_needless, place_in, bad}
 use Rattle.paw_image.specs.inner.Offsets.{offsets, entry_offsets, entries_of, AreGoneOver}
 use Rattle.paw_image.specs.inner.Views.{system_begins}
 use Rattle.paw_image.specs.declared.offsets.Offsets.{Offsets}
@@ -21,11 +26,11 @@ use Rattle.paw_image.proofs.EndLaws.{end_taken}
 use Rattle.paw_image.proofs.FieldLaws.{IsBytes, at_ok, bind_then}
 use Rattle.paw_image.proofs.RowLaws.{text_takes, object_takes, exits_take}
 use Rattle.paw_image.proofs.GameLaws.{from_messages, from_objects, from_locations, from_exits, from_tables}
-use Rattle.paw_image.proofs.GameLaws.{lists_image, lists_take, image_is, all_takes}
+use Rattle.paw_image.proofs.GameLaws.{lists_image, lists_take, image_is, ended, all_takes}
 use Rattle.paw_image.proofs.HeadLaws.{AreFew, front_image, front_length, Fronted, front_takes, front_passes}
 use Rattle.paw_image.proofs.Stands.{and_true, each_sound, each_passes, taken_length, taken_ends}
-use Rattle.paw_image.proofs.SoundRows.{declared_by, text_sound, object_sound, exits_sound, tables_placed, keeps_table}
-use Rattle.paw_image.proofs.SoundRows.{tables_are}
+use Rattle.paw_image.proofs.SoundRows.{declared_as, text_sound, object_sound, exits_sound, tables_placed, keeps_table}
+use Rattle.paw_image.proofs.VersionLaws.{tables_valid, tables_stop, needed_by, needed_byte, needed_keeps, is_needed, right_version}
 use Rattle.paw_image.proofs.PassRows.{text_passes, object_passes, exits_pass, table_passes}
 use Rattle.paw_image.proofs.ValidLaws.{parts_of}
 
@@ -48,7 +53,7 @@ pub record StandAt (start : ℕ) (g : GameLists) (p : Offsets) : Type 0 where
       + length (flat_map text_image g.locations) + length (flat_map exits_image g.exits)) g.tables
 
 -- the lists after the words, as they are read by their rules
-record AreRead (d : Declared) (bytes rest : List ℕ) : Type 0 where
+record AreRead (d : Preface) (bytes rest : List ℕ) : Type 0 where
   game : GameLists
   reads : lists_at d bytes ≡ Ok (game, rest)
   system : list_all is_text game.system ≡ true
@@ -61,7 +66,7 @@ record AreRead (d : Declared) (bytes rest : List ℕ) : Type 0 where
   begin : (total start : ℕ) (p : Offsets) → start + length bytes ≡ total → AreGoneOver d total bytes p
       → StandAt start game p
 
-lists_sound : (d : Declared) (bytes rest : List ℕ) → IsBytes bytes → after_lists d bytes ≡ Ok rest
+lists_sound : (d : Preface) (bytes rest : List ℕ) → IsBytes bytes → after_lists d bytes ≡ Ok rest
     → AreRead d bytes rest
 unfolding after_lists lists_at
 lists_sound d bytes rest fits e =
@@ -118,19 +123,19 @@ lists_sound d bytes rest fits e =
     })))))
 
 -- what the front declares, and the lists that keep its rules, make a valid game
-valid_from : (bytes : List ℕ) (x : Declared × List ℕ) (rest : List ℕ) → Fronted bytes x
-    → (r : AreRead x.0 x.1 rest) → x.0 ≡ declared_by r.game → Valid r.game
+valid_from : (bytes : List ℕ) (x : Preface × List ℕ) (rest : List ℕ) → Fronted bytes x
+    → (r : AreRead x.0 x.1 rest) → x.0 ≡ declared_as x.0.version r.game → Valid r.game
 valid_from bytes x rest f r is =
     let g = r.game in
-    let few = subst (λ (d : Declared). AreFew d.counts) is f.few in
-    let keep = subst (λ (d : Declared). list_all is_word d.words ≡ true) is f.keep in
-    let rise = subst (λ (d : Declared). rise_after [] d.words ≡ true) is f.rise in
+    let few = subst (λ (d : Preface). AreFew d.counts) is f.few in
+    let keep = subst (λ (d : Preface). list_all is_word d.words ≡ true) is f.keep in
+    let rise = subst (λ (d : Preface). rise_after [] d.words ≡ true) is f.rise in
     let kept_words : (list_all is_word g.words && words_rise g.words) ≡ true =
     sym (rise_after-none g.words) ∙ rw (keep, rise) refl in
-    let kept_objects = subst (λ (d : Declared). list_all (is_object d.words d.counts.locations) g.objects ≡ true) is r.objects in
-    let kept_exits = subst (λ (d : Declared). list_all (is_exits d.words d.counts.locations) g.exits ≡ true) is r.exits in
-    let as_many = subst (λ (d : Declared). length g.exits ≡ d.counts.locations) is r.as_many in
-    let kept_tables = subst (λ (d : Declared). list_all (keeps_table d) g.tables ≡ true) is r.tables in
+    let kept_objects = subst (λ (d : Preface). list_all (is_object d.words d.counts.locations) g.objects ≡ true) is r.objects in
+    let kept_exits = subst (λ (d : Preface). list_all (is_exits d.words d.counts.locations) g.exits ≡ true) is r.exits in
+    let as_many = subst (λ (d : Preface). length g.exits ≡ d.counts.locations) is r.as_many in
+    let kept_tables = subst (λ (d : Preface). list_all (keeps_table d) g.tables ≡ true) is r.tables in
     let locations = and_parts (leb 1 (length g.locations)) (leb (length g.locations) 252) few.locations in
     record {
       words = and_true (leb (length g.words) 2000) _ (and_parts (leb 0 (length g.words)) _ few.words).1 kept_words;
@@ -143,51 +148,16 @@ valid_from bytes x rest f r is =
           (and_true (leb (length g.locations) 252) _ locations.1 r.locations);
       exits = and_true (eqb (length g.exits) (length g.locations)) _
           (eq-eqb (length g.exits) (length g.locations) as_many) kept_exits;
-      tables = and_true (is_within 3 256 (length g.tables)) _ few.tables (sym (tables_are g g.tables) ∙ kept_tables);
+      tables = and_true (is_within 3 256 (length g.tables)) _ few.tables (tables_valid g x.0.version g.tables kept_tables);
     }
 
--- ---- all of the bytes ----
-
--- bytes that are read by their rules to the end
-pub record IsWhole (bytes : List ℕ) : Type 0 where
-  pub game : GameLists
-  pub reads : all_of bytes ≡ Ok game
-  pub valid : Valid game
-  pub declared : (d : Declared × List ℕ) → front bytes ≡ Ok d → d.0 ≡ declared_by game
-  pub end : (d : Declared × List ℕ) → front bytes ≡ Ok d → IsEnd bytes d.1
-  pub begin : (d : Declared × List ℕ) (p : Offsets) → front bytes ≡ Ok d → AreGoneOver d.0 (length bytes) d.1 p
-      → StandAt (system_begins game) game p
-
-pub all_sound : (bytes : List ℕ) → IsBytes bytes → after_all bytes ≡ Ok [] → IsWhole bytes
-unfolding after_all all_of
-all_sound bytes fits e =
-    bind_then _ (front bytes) _ [] e (λ d d_ok e.
-    let fronted = front_takes bytes d fits d_ok in
-    let lists = lists_sound d.0 d.1 [] fronted.taken.rest_fits e in
-    let taken = lists_take d.0 d.1 (lists.game, []) fronted.taken.rest_fits lists.reads in
-    let is = taken.declared fronted.many in
-    let start = 17 + length (flat_map word_image d.0.words) in
-    let ends : start + length d.1 ≡ length bytes =
-    omega (arith, front_length d.0, taken_length bytes (front_image d.0) d.1 fronted.taken) in
-    record {
-      game = lists.game;
-      reads = rw (d_ok, lists.reads) refl;
-      valid = valid_from bytes d [] fronted lists is;
-      declared = λ d2 d2_ok. at_ok (λ (y : Declared × List ℕ). y.0 ≡ declared_by lists.game) d d2 (sym d_ok ∙ d2_ok) is;
-      end = λ d2 d2_ok.
-          at_ok (λ (y : Declared × List ℕ). IsEnd bytes y.1) d d2 (sym d_ok ∙ d2_ok)
-          (end_taken bytes (front_image d.0) d.1 fronted.taken);
-      begin = λ d2 p d2_ok over.
-          let over_here =
-          at_ok (λ (y : Declared × List ℕ). AreGoneOver y.0 (length bytes) y.1 p) d2 d (sym d2_ok ∙ d_ok) over in
-          subst (λ (f : Declared). StandAt (17 + length (flat_map word_image f.words)) lists.game p) is
-          (lists.begin (length bytes) start p ends over_here);
-    })
-
-lists_pass : (g : GameLists) (rest : List ℕ) → Valid g → after_lists (declared_by g) (lists_image g rest) ≡ Ok rest
+-- the lists of a valid game pass up to its tables
+tables_reached : (version : Version) (g : GameLists) (rest : List ℕ) → Valid g
+    → after_lists (declared_as version g) (lists_image g rest)
+    ≡ each (after_table (declared_as version g)) (length g.tables) (from_tables g rest)
 unfolding after_lists
-lists_pass g rest valid =
-    let d = declared_by g in
+tables_reached version g rest valid =
+    let d = declared_as version g in
     let v = parts_of g valid in
     let texts = each_passes after_text text_image is_text text_passes in
     let objects = each_passes (after_object d) object_image (is_object g.words (length g.locations)) (object_passes d) in
@@ -200,14 +170,77 @@ lists_pass g rest valid =
       objects g.objects (from_locations g rest) v.objects_keep,
       texts g.locations (from_exits g rest) v.locations_keep,
       exits,
-    )
-    (each_passes (after_table d) table_image (keeps_table d) (table_passes d) g.tables rest
-    (tables_are g g.tables ∙ v.tables_keep))
+    ) refl
+
+lists_pass : (version : Version) (g : GameLists) (rest : List ℕ) → Valid g
+    → list_all (keeps_table (declared_as version g)) g.tables ≡ true
+    → after_lists (declared_as version g) (lists_image g rest) ≡ Ok rest
+lists_pass version g rest valid keep =
+    let d = declared_as version g in
+    tables_reached version g rest valid
+    ∙ each_passes (after_table d) table_image (keeps_table d) (table_passes d) g.tables rest keep
+
+-- ---- all of the bytes ----
+
+-- bytes that are read by their rules to the end
+pub record IsWhole (bytes : List ℕ) : Type 0 where
+  pub game : GameLists
+  pub reads : all_of bytes ≡ Ok game
+  pub valid : Valid game
+  pub declared : (d : Preface × List ℕ) → front bytes ≡ Ok d → d.0 ≡ declared_as d.0.version game
+  pub end : (d : Preface × List ℕ) → front bytes ≡ Ok d → IsEnd bytes d.1
+  pub begin : (d : Preface × List ℕ) (p : Offsets) → front bytes ≡ Ok d → AreGoneOver d.0 (length bytes) d.1 p
+      → StandAt (system_begins game) game p
+
+pub all_sound : (bytes : List ℕ) → IsBytes bytes → after_all bytes ≡ Ok [] → is_needless bytes ≡ false → IsWhole bytes
+unfolding after_all all_of is_needless
+all_sound bytes fits e needed =
+    bind_then _ (front bytes) _ [] e (λ d d_ok e.
+    let fronted = front_takes bytes d fits d_ok in
+    let lists = lists_sound d.0 d.1 [] fronted.taken.rest_fits e in
+    let taken = lists_take d.0 d.1 (lists.game, []) fronted.taken.rest_fits lists.reads in
+    let is = taken.declared fronted.many in
+    let g = lists.game in
+    let keep = subst (λ (f : Preface). list_all (keeps_table f) g.tables ≡ true) is lists.tables in
+    let valid = valid_from bytes d [] fronted lists is in
+    let passes : list_all (keeps_table (declared_as One g)) g.tables ≡ true → after_lists (as_version_1 d.0) d.1 ≡ Ok [] =
+    λ plain. ap (λ (f : Preface). after_lists (as_version_1 f) d.1) is ∙ ap (after_lists (declared_as One g)) taken.parts
+    ∙ lists_pass One g [] valid plain in
+    let version = right_version d.0.version g (after_lists (as_version_1 d.0) d.1) keep
+    (subst (λ (r : Reading Preface). is_needless_after r ≡ false) d_ok needed) passes in
+    let start = 17 + length (flat_map word_image d.0.words) in
+    let ends : start + length d.1 ≡ length bytes =
+    omega (arith, front_length d.0, taken_length bytes (front_image d.0) d.1 fronted.taken) in
+    record {
+      game = lists.game;
+      reads = rw (d_ok, lists.reads) (ended g (eqb (byte_of d.0.version) (version_of g)) (eq-eqb (byte_of d.0.version) (version_of g) version));
+      valid = valid;
+      declared = λ d2 d2_ok. at_ok (λ (y : Preface × List ℕ). y.0 ≡ declared_as y.0.version lists.game) d d2 (sym d_ok ∙ d2_ok) is;
+      end = λ d2 d2_ok.
+          at_ok (λ (y : Preface × List ℕ). IsEnd bytes y.1) d d2 (sym d_ok ∙ d2_ok)
+          (end_taken bytes (front_image d.0) d.1 fronted.taken);
+      begin = λ d2 p d2_ok over.
+          let over_here =
+          at_ok (λ (y : Preface × List ℕ). AreGoneOver y.0 (length bytes) y.1 p) d2 d (sym d2_ok ∙ d_ok) over in
+          subst (λ (f : Preface). StandAt (17 + length (flat_map word_image f.words)) lists.game p) is
+          (lists.begin (length bytes) start p ends over_here);
+    })
 
 pub all_passes : (g : GameLists) → Valid g → after_all (image g) ≡ Ok []
 unfolding after_all
 all_passes g v =
-    ap after_all (image_is g) ∙ rw (front_passes g (lists_image g []) (parts_of g v)) (lists_pass g [] v)
+    let needs = needed_by g in
+    ap after_all (image_is needs g (needed_byte g))
+    ∙ rw (front_passes needs g (lists_image g []) (parts_of g v)) (lists_pass needs g [] v (needed_keeps g (parts_of g v).tables_keep))
+
+pub all_needed : (g : GameLists) → Valid g → is_needless (image g) ≡ false
+unfolding is_needless
+all_needed g v =
+    let needs = needed_by g in
+    let stops : has_indirect g.tables ≡ true → IsFault (after_lists (declared_as One g) (lists_image g [])) =
+    λ indirect. rw (tables_reached One g [] v) (tables_stop g g.tables [] (parts_of g v).tables_keep indirect) in
+    ap is_needless (image_is needs g (needed_byte g))
+    ∙ rw (front_passes needs g (lists_image g []) (parts_of g v)) (is_needed g _ stops)
 
 -- ---- the place of the first broken rule ----
 
@@ -216,14 +249,21 @@ nothing_left total (Err left) e = absurd cc
 nothing_left total (Ok []) e = refl
 nothing_left total (Ok (b ∷ bytes)) e = absurd cc
 
+-- where no place is named, the first one isn't, nor is the other asked for
+pub both_none : (first : Option ℕ) (asked : Bool) (n : ℕ) → option_or first (if asked then Some n else None) ≡ None
+    → (first ≡ None) × (asked ≡ false)
+both_none None false n e = (refl, refl)
+both_none None true n e = absurd (none-some n (sym e))
+both_none (Some x) asked n e = absurd (none-some x (sym e))
+
 pub whole_is_image : (bytes : List ℕ) → IsBytes bytes → bad bytes ≡ None → (g : GameLists) × IsImage bytes g
 unfolding bad
 whole_is_image bytes fits e =
     elim (cases_lt IMAGE_LIMIT (length bytes)) [
       | inl over ↦ absurd (none-some IMAGE_LIMIT (sym e ∙ rw (lt-ltb IMAGE_LIMIT (length bytes) over) refl))
       | inr le ↦
-          let passed = nothing_left (length bytes) (after_all bytes) (rw (le-ltb IMAGE_LIMIT (length bytes) le) at e) in
-          let read = all_sound bytes fits passed in
+          let none = both_none _ (is_needless bytes) 4 (rw (le-ltb IMAGE_LIMIT (length bytes) le) at e) in
+          let read = all_sound bytes fits (nothing_left (length bytes) (after_all bytes) none.0) none.1 in
           (read.game, record { spelled = all_takes bytes read.game fits read.reads; valid = read.valid; short = le })
     ]
 
@@ -231,7 +271,8 @@ pub image_is_whole : (bytes : List ℕ) (g : GameLists) → IsImage bytes g → 
 unfolding bad
 image_is_whole bytes g is =
     let passed : after_all bytes ≡ Ok [] = ap after_all is.spelled ∙ all_passes g is.valid in
-    rw (le-ltb IMAGE_LIMIT (length bytes) is.short, passed) refl
+    let needed : is_needless bytes ≡ false = ap is_needless is.spelled ∙ all_needed g is.valid in
+    rw (le-ltb IMAGE_LIMIT (length bytes) is.short, passed, needed) refl
 
 pub over_is_bad : (bytes : List ℕ) → IMAGE_LIMIT < length bytes → bad bytes ≡ Some IMAGE_LIMIT
 unfolding bad

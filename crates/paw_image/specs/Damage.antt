@@ -1,9 +1,10 @@
 -- The first rule of an image that bytes break. The bytes are read once, in order, and each field is written with its
 -- rule over itself and what was read before it. A fault tells how many bytes are left at the first byte of the first
 -- field that breaks its rule or isn't all there.
-use Rattle.std.specs.Prelude.{ℕ, zero, suc, ◌-◌, ◌==◌, ◌&&◌, ◌||◌, Bool, true, not, List, [], ◌∷◌, length}
+use Rattle.std.specs.Prelude.{ℕ, zero, suc, ◌-◌, ◌==◌, ◌&&◌, ◌||◌, Bool, true, false, not, List, [], ◌∷◌, length}
 use Rattle.std.specs.Prelude.{Option, Some, None, Result, Ok, Err, nat_lt, nat_le, codes, if◌then◌else◌}
 use Rattle.std.specs.List.{list_any}
+use Rattle.std.specs.Option.{option_or}
 use Rattle.std.specs.Str.{bytes_eq}
 use Rattle.std.specs.Ordering.{is_lt, nat_cmp}
 use Rattle.std.specs.Cmp.Lexicographic.{slice_cmp}
@@ -16,12 +17,14 @@ use Rattle.paw_base.specs.declared.words.TheConstants.{NOUN_CLASS, ADJECTIVE_CLA
 use Rattle.paw_base.specs.declared.words.TheConstants.{LEAST_WORD, GREATEST_WORD}
 use Rattle.paw_base.specs.declared.rows.ParamKind.{ParamKind}
 use Rattle.paw_base.specs.declared.rows.ParamKind.TheVariants as kind
-use Rattle.paw_base.specs.Condacts.{is_code, first_kind, second_kind}
+use Rattle.paw_base.specs.Condacts.{is_code, is_plain_code, first_kind, second_kind}
 use Rattle.paw_game.specs.declared.parts.Word.{Word}
-use Rattle.paw_game.specs.Game.{Declared, counts_with}
+use Rattle.paw_game.specs.Game.{counts_with}
 use Rattle.paw_game.specs.Valid.{is_within, are_letters, has_word, is_verb_value}
 use Rattle.paw_game.specs.Valid.{is_word_or_none, is_printed, is_place, is_any, is_parameter}
 use Rattle.paw_faults.specs.Bind.{◌>>=◌}
+use Rattle.paw_image.specs.declared.version.Version.{Version}
+use Rattle.paw_image.specs.declared.version.Version.TheVariants.{One, Two}
 use Rattle.paw_image.specs.Reading.{Reading, byte_at, bytes_at, number_at}
 
 -- a field that keeps a rule, or a fault at its first byte
@@ -37,14 +40,24 @@ unfoldable pub each : (List ℕ → Passing) → ℕ → List ℕ → Passing
 each row zero bytes = Ok bytes
 each row (suc n) bytes = row bytes >>= each row n
 
+-- what stands before the other lists: the version, how many rows each list has, and the words
+pub record Preface : Type 0 where
+  pub version : Version
+  pub counts : Counts
+  pub words : List Word
+
 -- ---- the head ----
 
--- the mark PAWI, and version 1
-unfoldable pub after_version : List ℕ → Passing
-after_version bytes = do
+-- the version that a byte tells
+abbrev pub version_told : ℕ → Version
+version_told byte = if byte == 1 then One else Two
+
+-- the mark PAWI, and version 1 or 2
+unfoldable pub version_kept : List ℕ → Reading Version
+version_kept bytes = do
   mark ← field_kept (λ m. bytes_eq m (codes "PAWI")) (bytes_at 4) bytes
-  version ← field_kept (λ v. v == 1) byte_at mark.1
-  Ok version.1
+  byte ← field_kept (is_within 1 2) byte_at mark.1
+  Ok (version_told byte.0, byte.1)
 
 -- a number of two bytes, from one to another, both included
 abbrev pub number_kept : ℕ → ℕ → List ℕ → Reading ℕ
@@ -89,7 +102,7 @@ after_text bytes = do
   Ok text.1
 
 -- noun, adjective, first place, and any byte for the weight
-unfoldable pub after_facts : Declared → List ℕ → Passing
+unfoldable pub after_facts : Preface → List ℕ → Passing
 after_facts d bytes = do
   noun ← field_kept (is_word_or_none d.words NOUN_CLASS) byte_at bytes
   adjective ← field_kept (is_word_or_none d.words ADJECTIVE_CLASS) byte_at noun.1
@@ -98,41 +111,46 @@ after_facts d bytes = do
   Ok weight.1
 
 -- a text, and what is said of the object
-abbrev pub after_object : Declared → List ℕ → Passing
+abbrev pub after_object : Preface → List ℕ → Passing
 after_object d bytes = after_text bytes >>= after_facts d
 
 -- an exit after exits with these verbs: a verb value that is none of them, and a location; the verb is told
-unfoldable pub exit_kept : Declared → List ℕ → List ℕ → Reading ℕ
+unfoldable pub exit_kept : Preface → List ℕ → List ℕ → Reading ℕ
 exit_kept d verbs bytes = do
   verb ← field_kept (λ v. is_verb_value d.words v && not (list_any (λ earlier. earlier == v) verbs)) byte_at bytes
   to ← field_kept (λ l. nat_lt l d.counts.locations) byte_at verb.1
   Ok (verb.0, to.1)
 
 -- so many exits, after exits with these verbs
-unfoldable pub after_exits_of : Declared → List ℕ → ℕ → List ℕ → Passing
+unfoldable pub after_exits_of : Preface → List ℕ → ℕ → List ℕ → Passing
 after_exits_of d verbs zero bytes = Ok bytes
 after_exits_of d verbs (suc n) bytes = exit_kept d verbs bytes >>= λ x. after_exits_of d (x.0 ∷ verbs) n x.1
 
 -- how many exits, and each
-unfoldable pub after_exits : Declared → List ℕ → Passing
+unfoldable pub after_exits : Preface → List ℕ → Passing
 after_exits d bytes = byte_at bytes >>= λ count. after_exits_of d [] count.0 count.1
 
 -- ---- tables ----
 
 -- a parameter of this kind; one that a code doesn't have takes no byte
-abbrev pub after_parameter : Declared → ParamKind → List ℕ → Passing
+abbrev pub after_parameter : Preface → ParamKind → List ℕ → Passing
 after_parameter d kind.Absent bytes = Ok bytes
 after_parameter d k bytes = field_kept (is_parameter d.counts d.words k) byte_at bytes >>= λ x. Ok x.1
 
--- a code of the table, and the parameters that it has
-unfoldable pub after_condact : Declared → List ℕ → Passing
+-- the codes that may stand in an image: in version 1 the plain ones, in version 2 those of indirect condacts too
+abbrev pub may_stand : Version → ℕ → Bool
+may_stand One code = is_plain_code code
+may_stand Two code = is_code code
+
+-- a code that may stand, and the parameters that it has
+unfoldable pub after_condact : Preface → List ℕ → Passing
 after_condact d bytes = do
-  code ← field_kept is_code byte_at bytes
+  code ← field_kept (may_stand d.version) byte_at bytes
   a ← after_parameter d (first_kind code.0) code.1
   after_parameter d (second_kind code.0) a
 
 -- verb, noun, how many condacts, and each
-unfoldable pub after_entry : Declared → List ℕ → Passing
+unfoldable pub after_entry : Preface → List ℕ → Passing
 after_entry d bytes = do
   verb ← field_kept (λ v. is_any v || is_verb_value d.words v) byte_at bytes
   noun ← field_kept (λ n. is_any n || has_word d.words NOUN_CLASS n) byte_at verb.1
@@ -140,13 +158,13 @@ after_entry d bytes = do
   each (after_condact d) count.0 count.1
 
 -- how many entries, at most 4,000, and each
-unfoldable pub after_table : Declared → List ℕ → Passing
+unfoldable pub after_table : Preface → List ℕ → Passing
 after_table d bytes = number_kept 0 ENTRY_LIMIT bytes >>= λ count. each (after_entry d) count.0 count.1
 
 -- ---- the whole image ----
 
 -- the lists after the words; each location has its exits
-unfoldable pub after_lists : Declared → List ℕ → Passing
+unfoldable pub after_lists : Preface → List ℕ → Passing
 after_lists d bytes = do
   system ← each after_text d.counts.system bytes
   messages ← each after_text d.counts.messages system
@@ -156,16 +174,38 @@ after_lists d bytes = do
   each (after_table d) d.counts.tables exits
 
 -- mark, version, counts and words
-unfoldable pub front : List ℕ → Reading Declared
+unfoldable pub front : List ℕ → Reading Preface
 front bytes = do
-  head ← after_version bytes
-  counts ← counts_kept head
+  version ← version_kept bytes
+  counts ← counts_kept version.1
   words ← words_above [] counts.0.words counts.1
-  Ok (record { counts = counts.0; words = words.0 }, words.1)
+  Ok (record { version = version.0; counts = counts.0; words = words.0 }, words.1)
 
 -- the bytes after the last field
 unfoldable pub after_all : List ℕ → Passing
 after_all bytes = front bytes >>= λ d. after_lists d.0 d.1
+
+-- the same front with version 1
+abbrev pub as_version_1 : Preface → Preface
+as_version_1 d = record d { version = One }
+
+-- nothing is left after the last field
+abbrev pub is_end : Passing → Bool
+is_end (Ok []) = true
+is_end _ = false
+
+-- version 2 without need: the fields after the words pass with the codes of version 1 too
+abbrev pub needs_no_2 : Version → Passing → Bool
+needs_no_2 One with_plain_codes = false
+needs_no_2 Two with_plain_codes = is_end with_plain_codes
+
+abbrev pub is_needless_after : Reading Preface → Bool
+is_needless_after (Ok d) = needs_no_2 d.0.version (after_lists (as_version_1 d.0) d.1)
+is_needless_after (Err left) = false
+
+-- the version is 2, and no code needs it
+unfoldable pub is_needless : List ℕ → Bool
+is_needless bytes = is_needless_after (front bytes)
 
 -- of so many bytes, the place of a fault, or of the first byte after the last field
 abbrev pub place_in : ℕ → Passing → Option ℕ
@@ -173,6 +213,9 @@ place_in total (Err left) = Some (total - left)
 place_in total (Ok []) = None
 place_in total (Ok (b ∷ bytes)) = Some (total - length (b ∷ bytes))
 
--- the place of the first broken rule; bytes that are too many break the first of all
+-- the place of the first broken rule; bytes that are too many break the first of all, and a version that isn't needed,
+-- which is byte 4, the last
 unfoldable pub bad : List ℕ → Option ℕ
-bad bytes = if nat_lt IMAGE_LIMIT (length bytes) then Some IMAGE_LIMIT else place_in (length bytes) (after_all bytes)
+bad bytes =
+    if nat_lt IMAGE_LIMIT (length bytes) then Some IMAGE_LIMIT
+    else option_or (place_in (length bytes) (after_all bytes)) (if is_needless bytes then Some 4 else None)

@@ -1,60 +1,95 @@
 // The first rule of an image that bytes break.
 
-ghost use Rattle.std.specs.Prelude.{◌≡◌, ◌≤◌, ◌<◌, ◌^◌, length, IfOk, OnOk, Some, None};
+ghost use Rattle.std.specs.Prelude.{◌≡◌, ◌≤◌, ◌<◌, ◌^◌, length, IfOk, OnOk, Some, None, Ok};
 ghost use Rattle.paw_game.specs.Game.{GameLists};
-ghost use Rattle.paw_image.specs.Damage.{after_all, bad};
+ghost use Rattle.paw_image.specs.Damage.{after_all, after_lists, as_version_1, bad, front, is_end, is_needless};
 ghost use Rattle.paw_image.specs.Images.{IsImage};
 ghost use Rattle.paw_image.specs.inner.Images.{AtDamage, IfDamaged};
-ghost use Rattle.paw_image.specs.inner.Offsets.{IsPassed};
+ghost use Rattle.paw_image.specs.inner.Offsets.{IsPassed, preface_of};
 ghost use Rattle.paw_faults.specs.inner.Gives.{Gives};
 ghost use Rattle.paw_base.specs.declared.limits.TheConstants.{IMAGE_LIMIT};
 
 use crate::fault::ReadFault;
-use crate::head::read_front;
+use crate::field_rules::FieldRules;
+use crate::head::{Front, read_front};
 use crate::offsets::{Offsets, pass_lists};
 use crate::refusal::ImageRefusal;
-use paw_base::parts::Counts;
+use crate::version::Version;
 use paw_faults::unread::Unread;
-use paw_game::parts::Word;
-use paw_game::rules::{Lengths, Rules};
-use std::alloc::Global;
+use std::alloc::{AllocError, Global};
 
-/// The counts and the words of an image, and where its other rows begin.
+/// Where the version stands.
+const VERSION_PLACE: u64 = 4;
+
+/// The front of an image, the bytes after it, and where its other rows begin.
 #[derive(Drop)]
-pub struct Passed {
-    pub counts: Counts,
-    pub words: Vec<Word>,
+pub struct Passed<'a> {
+    pub front: Front,
+    pub lists: &'a [u8],
     pub offsets: Offsets,
 }
 
-/// Goes over all fields of an image: counts, words and offsets, and the bytes after the last.
+/// Goes over all fields of an image: front and offsets, and the bytes after the last.
 #[tactic(auto, unfolding(crate::specs::Damage::after_all))]
-fn pass_all(alloc: Global, bytes: &[u8]) -> Result<(Passed, &[u8]), ReadFault>
+fn pass_all<'a>(alloc: Global, bytes: &'a [u8]) -> Result<(Passed<'a>, &'a [u8]), ReadFault>
     requires small { length bytes.now < 2 ^ 32 }
     ensures gives { Gives (λ x. x.1.now) result (after_all bytes.now) }
-    ensures passed { IfOk result (λ x. IsPassed bytes.now x.0.counts x.0.words.items x.0.offsets) }
+    ensures passed { IfOk result (λ x. IsPassed bytes.now x.0.front x.0.lists.now x.0.offsets) }
 {
-    let ((counts, words), rest) = read_front(alloc, bytes)?;
-    let rules = Rules::new(Lengths::from_counts(counts), &words);
-    let (offsets, rest) = pass_lists(alloc, &rules, bytes, rest)?;
+    let (front, lists) = read_front(alloc, bytes)?;
+    let rules = FieldRules::new(&front);
+    let (offsets, rest) = pass_lists(alloc, &rules, bytes, lists)?;
     let passed = Passed {
-        counts,
-        words,
+        front,
+        lists,
         offsets,
     };
     Ok((passed, rest))
 }
 
-/// Goes over bytes that are to be an image: counts, words and offsets, or the place of the first broken rule.
+/// Whether the lists pass with the codes of version 1 too.
+fn pass_as_version_1(alloc: Global, bytes: &[u8], passed: &Passed) -> Result<bool, AllocError>
+    requires small { length bytes.now < 2 ^ 32 }
+    ensures value { IfOk result (λ passes. passes
+        ≡ is_end (after_lists (as_version_1 (preface_of passed.now.front)) passed.now.lists.now)) }
+{
+    let rules = FieldRules::new(&passed.front).as_version_1();
+    match pass_lists(alloc, &rules, bytes, passed.lists) {
+        Ok((_, rest)) => Ok(rest.is_empty()),
+        Err(Unread::Fault(_)) => Ok(false),
+        Err(Unread::Memory) => Err(AllocError),
+    }
+}
+
+/// Whether the version is 2, and no code needs it. The lists are gone over a second time in version 2 alone, and there
+/// up to the first indirect condact.
+#[tactic(auto, unfolding(crate::specs::Damage::is_needless))]
+fn is_needless(alloc: Global, bytes: &[u8], passed: &Passed) -> Result<bool, AllocError>
+    requires small { length bytes.now < 2 ^ 32 }
+    requires front { front bytes.now ≡ Ok (preface_of passed.now.front, passed.now.lists.now) }
+    ensures value { IfOk result (λ needless. needless ≡ is_needless bytes.now) }
+{
+    match passed.front.version {
+        Version::One => Ok(false),
+        Version::Two => pass_as_version_1(alloc, bytes, passed),
+    }
+}
+
+/// Goes over bytes that are to be an image: front and offsets, or the place of the first broken rule.
 #[tactic(auto, unfolding(crate::specs::Damage::bad))]
-pub fn pass_whole(alloc: Global, bytes: &[u8]) -> Result<Passed, ImageRefusal>
+pub fn pass_whole<'a>(alloc: Global, bytes: &'a [u8]) -> Result<Passed<'a>, ImageRefusal>
     requires short { length bytes.now ≤ IMAGE_LIMIT }
     ensures whole { OnOk result (bad bytes.now ≡ None) }
-    ensures passed { IfOk result (λ p. IsPassed bytes.now p.counts p.words.items p.offsets) }
+    ensures passed { IfOk result (λ p. IsPassed bytes.now p.front p.lists.now p.offsets) }
     ensures at { IfDamaged result (λ at. bad bytes.now ≡ Some at) }
 {
     let left = match pass_all(alloc, bytes) {
-        Ok((passed, [])) => return Ok(passed),
+        Ok((passed, [])) => {
+            if is_needless(alloc, bytes, &passed)? {
+                return Err(ImageRefusal::Damaged { at: VERSION_PLACE });
+            }
+            return Ok(passed);
+        }
         Ok((_, rest)) => rest.len(),
         Err(Unread::Fault(left)) => left,
         Err(Unread::Memory) => return Err(ImageRefusal::Memory),

@@ -9,11 +9,11 @@ ghost use Rattle.paw_image.specs.inner.Reading.{leading_exit, exits_at};
 ghost use Rattle.paw_image.specs.inner.Sizes.{FitsExit, FitsExits};
 
 use crate::fault::ReadFault;
+use crate::field_rules::FieldRules;
 use crate::fields::{fault_at, read_byte, read_pair};
 use crate::in_place::InPlace;
 use crate::rows::{ReadRow, Row, length_of_few, read_few, write_few};
 use paw_game::parts::{Exit, Exits};
-use paw_game::rules::Rules;
 use std::alloc::{AllocError, Global};
 
 impl ReadRow for Exit {
@@ -66,7 +66,7 @@ impl Row for Exits {
 /// The verb of the exit at the front, which none of the marked verbs is, and the bytes after the exit.
 #[tactic(auto, unfolding(crate::specs::Damage::exit_kept))]
 fn read_exit<'a>(
-    rules: &Rules,
+    rules: &FieldRules,
     marks: &[bool; 256],
     bytes: &'a [u8],
 ) -> Result<(u8, &'a [u8]), ReadFault>
@@ -74,18 +74,18 @@ fn read_exit<'a>(
         Gives (λ x. (x.0, x.1.now)) result (exit_kept rules.now verbs bytes.now) }
 {
     let (verb, places) = read_byte(bytes)?;
-    if !rules.is_verb_value(verb) || marks[verb as usize] {
+    if !rules.game.is_verb_value(verb) || marks[verb as usize] {
         return Err(fault_at(bytes));
     }
     let (to, rest) = read_byte(places)?;
-    if !rules.is_location(to) {
+    if !rules.game.is_location(to) {
         return Err(fault_at(places));
     }
     Ok((verb, rest))
 }
 
 /// The bytes after so many exits of one location.
-fn pass_exits<'a>(rules: &Rules, count: u8, bytes: &'a [u8]) -> Result<&'a [u8], ReadFault>
+fn pass_exits<'a>(rules: &FieldRules, count: u8, bytes: &'a [u8]) -> Result<&'a [u8], ReadFault>
     ensures gives { Gives (λ x. x.now) result (after_exits_of rules.now [] count bytes.now) }
 {
     let mut marks = [false; 256];
@@ -102,7 +102,7 @@ impl InPlace for Exits {
     ghost passing = { after_exits };
 
     #[tactic(auto, unfolding(crate::specs::Damage::after_exits))]
-    fn pass<'a>(rules: &Rules, bytes: &'a [u8]) -> Result<&'a [u8], ReadFault> {
+    fn pass<'a>(rules: &FieldRules, bytes: &'a [u8]) -> Result<&'a [u8], ReadFault> {
         let (count, rest) = read_byte(bytes)?;
         pass_exits(rules, count, rest)
     }

@@ -1,10 +1,12 @@
 // The fields at the front of an image, up to its words, each tested by its rule.
 
-ghost use Rattle.paw_image.specs.Damage.{after_version, counts_kept, front};
+ghost use Rattle.paw_image.specs.Damage.{version_kept, counts_kept, front};
+ghost use Rattle.paw_image.specs.inner.Offsets.{preface_of};
 ghost use Rattle.paw_faults.specs.inner.Gives.{Gives};
 
 use crate::fault::ReadFault;
 use crate::fields::{fault_at, read_array, read_byte, read_within};
+use crate::version::Version;
 use crate::words::read_words;
 use paw_base::limits::{
     LOCATION_LEAST, LOCATION_LIMIT, MESSAGE_LIMIT, OBJECT_LIMIT, SYSTEM_LIMIT, TABLE_LEAST,
@@ -17,23 +19,29 @@ use std::alloc::Global;
 /// The first bytes of every image.
 pub const MARK: [u8; 4] = *b"PAWI";
 
-/// The version of an image.
-pub const VERSION: u8 = 1;
+/// The front of an image: its version, how many rows each list has, and the words.
+#[derive(Drop)]
+pub struct Front {
+    pub version: Version,
+    pub counts: Counts,
+    pub words: Vec<Word>,
+}
 
-/// The bytes after the mark and the version.
-#[tactic(auto, unfolding(crate::specs::Damage::after_version))]
-fn pass_version(bytes: &[u8]) -> Result<&[u8], ReadFault>
-    ensures gives { Gives (λ x. x.now) result (after_version bytes.now) }
+/// The version behind the mark.
+#[tactic(auto, unfolding(crate::specs::Damage::version_kept))]
+fn read_version(bytes: &[u8]) -> Result<(Version, &[u8]), ReadFault>
+    ensures gives { Gives (λ x. (x.0, x.1.now)) result (version_kept bytes.now) }
 {
     let (mark, versions) = read_array(bytes)?;
     if mark != MARK {
         return Err(fault_at(bytes));
     }
-    let (version, rest) = read_byte(versions)?;
-    if version != VERSION {
-        return Err(fault_at(versions));
+    let (byte, rest) = read_byte(versions)?;
+    match byte {
+        1 => Ok((Version::One, rest)),
+        2 => Ok((Version::Two, rest)),
+        _ => Err(fault_at(versions)),
     }
-    Ok(rest)
 }
 
 /// How many rows each list has.
@@ -58,13 +66,18 @@ fn read_counts(bytes: &[u8]) -> Result<(Counts, &[u8]), ReadFault>
     Ok((counts, rest))
 }
 
-/// The counts and the words.
+/// The version, the counts and the words.
 #[tactic(auto, unfolding(crate::specs::Damage::front))]
-pub fn read_front(alloc: Global, bytes: &[u8]) -> Result<((Counts, Vec<Word>), &[u8]), ReadFault>
-    ensures gives { Gives (λ x. (record { counts = x.0.0; words = x.0.1.items }, x.1.now)) result (front bytes.now) }
+pub fn read_front(alloc: Global, bytes: &[u8]) -> Result<(Front, &[u8]), ReadFault>
+    ensures gives { Gives (λ x. (preface_of x.0, x.1.now)) result (front bytes.now) }
 {
-    let rest = pass_version(bytes)?;
+    let (version, rest) = read_version(bytes)?;
     let (counts, rest) = read_counts(rest)?;
     let (words, rest) = read_words(alloc, counts.words as usize, rest)?;
-    Ok(((counts, words), rest))
+    let front = Front {
+        version,
+        counts,
+        words,
+    };
+    Ok((front, rest))
 }

@@ -6,28 +6,27 @@ ghost use Rattle.paw_image.specs.inner.Offsets.{begins};
 ghost use Rattle.paw_faults.specs.inner.Gives.{Gives};
 
 use crate::fault::ReadFault;
-use paw_game::rules::Rules;
+use crate::field_rules::FieldRules;
 use std::alloc::Global;
 
 /// What an image has a list of, gone over in place.
 pub trait InPlace {
     ghost use Rattle.std.specs.Prelude.{List, ℕ};
-    ghost use Rattle.paw_game.specs.Game.{Declared};
-    ghost use Rattle.paw_image.specs.Damage.{Passing};
+    ghost use Rattle.paw_image.specs.Damage.{Passing, Preface};
     ghost use Rattle.paw_faults.specs.inner.Gives.{Gives};
 
     /// The bytes after the row at the front, or its first fault.
-    ghost passing: { Declared → List ℕ → Passing };
+    ghost passing: { Preface → List ℕ → Passing };
 
     /// The bytes after the row at the front, where each of its fields keeps its rule.
-    fn pass<'a>(rules: &Rules, bytes: &'a [u8]) -> Result<&'a [u8], ReadFault>
+    fn pass<'a>(rules: &FieldRules, bytes: &'a [u8]) -> Result<&'a [u8], ReadFault>
         ensures gives { Gives (λ x. x.now) result (passing rules.now bytes.now) };
 }
 
 /// The bytes after so many rows.
 #[tactic(auto, unfolding(crate::specs::Damage::each))]
 pub fn pass_each<'a, R: InPlace>(
-    rules: &Rules,
+    rules: &FieldRules,
     count: usize,
     bytes: &'a [u8],
 ) -> Result<&'a [u8], ReadFault>
@@ -43,7 +42,7 @@ pub fn pass_each<'a, R: InPlace>(
 /// Goes over so many rows at the front of the last of so many bytes: where each begins, and the bytes after them.
 pub fn pass_rows<'a, R: InPlace>(
     alloc: Global,
-    rules: &Rules,
+    rules: &FieldRules,
     count: usize,
     total: usize,
     bytes: &'a [u8],

@@ -7,6 +7,7 @@ pub mod decoder;
 pub mod encoder;
 mod exits;
 mod fault;
+mod field_rules;
 mod fields;
 mod head;
 mod in_place;
@@ -22,5 +23,6 @@ mod tables;
 #[cfg(test)]
 mod tests;
 mod texts;
+mod version;
 pub mod view;
 mod words;

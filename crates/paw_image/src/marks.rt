@@ -7,11 +7,11 @@ ghost use Rattle.paw_image.specs.inner.Offsets.{begins};
 ghost use Rattle.paw_faults.specs.inner.Gives.{Gives};
 
 use crate::fault::ReadFault;
+use crate::field_rules::FieldRules;
 use crate::fields::{fault_at, read_byte};
 use crate::in_place::pass_each;
 use paw_base::limits::ENTRY_LIMIT;
 use paw_base::parts::Condact;
-use paw_game::rules::Rules;
 use paw_game::values::is_any;
 use std::alloc::Global;
 
@@ -42,7 +42,7 @@ impl CondactMarks {
 
 /// The bytes after so many condacts; a mark is kept behind each eight that another follows.
 fn pass_condacts<'a>(
-    rules: &Rules,
+    rules: &FieldRules,
     count: u8,
     bytes: &'a [u8],
     marks: &mut Vec<u16>,
@@ -64,7 +64,7 @@ fn pass_condacts<'a>(
 /// The bytes after the entry at the front, whose marks are kept.
 #[tactic(auto, unfolding(crate::specs::Damage::after_entry))]
 fn pass_entry<'a>(
-    rules: &Rules,
+    rules: &FieldRules,
     bytes: &'a [u8],
     marks: &mut Vec<u16>,
 ) -> Result<&'a [u8], ReadFault>
@@ -74,11 +74,11 @@ fn pass_entry<'a>(
     ensures few { OnOk result (length marks.new.items ≤ length marks.old.items + 31) }
 {
     let (verb, nouns) = read_byte(bytes)?;
-    if !is_any(verb) && !rules.is_verb_value(verb) {
+    if !is_any(verb) && !rules.game.is_verb_value(verb) {
         return Err(fault_at(bytes));
     }
     let (noun, counts) = read_byte(nouns)?;
-    if !is_any(noun) && !rules.is_noun(noun) {
+    if !is_any(noun) && !rules.game.is_noun(noun) {
         return Err(fault_at(nouns));
     }
     let (count, rest) = read_byte(counts)?;
@@ -89,7 +89,7 @@ fn pass_entry<'a>(
 /// them.
 pub fn pass_entries<'a>(
     alloc: Global,
-    rules: &Rules,
+    rules: &FieldRules,
     count: usize,
     all: &[u8],
     bytes: &'a [u8],

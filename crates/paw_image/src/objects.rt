@@ -9,13 +9,13 @@ ghost use Rattle.paw_image.specs.inner.Rows.{after_text_facts};
 ghost use Rattle.paw_image.specs.inner.Sizes.{FitsObject};
 
 use crate::fault::ReadFault;
+use crate::field_rules::FieldRules;
 use crate::fields::{fault_at, read_byte};
 use crate::in_place::InPlace;
 use crate::rows::{ReadRow, Row};
 use crate::texts::read_text;
 use paw_base::parts::ObjectFacts;
 use paw_game::parts::{ObjectRow, Text};
-use paw_game::rules::Rules;
 use std::alloc::{AllocError, Global};
 
 /// The bits of an object's last byte that are its weight.
@@ -97,19 +97,19 @@ impl ReadRow for ObjectRow {
 
 /// The bytes after what is said of an object beside its text.
 #[tactic(auto, unfolding(crate::specs::Damage::after_facts))]
-fn pass_facts<'a>(rules: &Rules, bytes: &'a [u8]) -> Result<&'a [u8], ReadFault>
+fn pass_facts<'a>(rules: &FieldRules, bytes: &'a [u8]) -> Result<&'a [u8], ReadFault>
     ensures gives { Gives (λ x. x.now) result (after_facts rules.now bytes.now) }
 {
     let (noun, adjectives) = read_byte(bytes)?;
-    if !rules.is_noun_or_none(noun) {
+    if !rules.game.is_noun_or_none(noun) {
         return Err(fault_at(bytes));
     }
     let (adjective, starts) = read_byte(adjectives)?;
-    if !rules.is_adjective_or_none(adjective) {
+    if !rules.game.is_adjective_or_none(adjective) {
         return Err(fault_at(adjectives));
     }
     let (start, weights) = read_byte(starts)?;
-    if !rules.is_place(start) {
+    if !rules.game.is_place(start) {
         return Err(fault_at(starts));
     }
     let (_, rest) = read_byte(weights)?;
@@ -119,7 +119,7 @@ fn pass_facts<'a>(rules: &Rules, bytes: &'a [u8]) -> Result<&'a [u8], ReadFault>
 impl InPlace for ObjectRow {
     ghost passing = { after_object };
 
-    fn pass<'a>(rules: &Rules, bytes: &'a [u8]) -> Result<&'a [u8], ReadFault> {
+    fn pass<'a>(rules: &FieldRules, bytes: &'a [u8]) -> Result<&'a [u8], ReadFault> {
         let facts = Text::pass(rules, bytes)?;
         pass_facts(rules, facts)
     }

@@ -10,13 +10,13 @@ ghost use Rattle.paw_faults.specs.inner.Gives.{Gives};
 ghost use Rattle.paw_image.specs.inner.Views.{AreMarked, AreOrdered};
 
 use crate::fault::ReadFault;
+use crate::field_rules::FieldRules;
 use crate::fields::read_within;
 use crate::in_place::pass_rows;
 use crate::marks::{CondactMarks, pass_entries};
 use crate::order::{Order, order_of};
 use paw_base::limits::ENTRY_LIMIT;
 use paw_game::parts::{Exits, ObjectRow, Text};
-use paw_game::rules::Rules;
 use std::alloc::Global;
 
 /// Where the rows of each list begin.
@@ -42,7 +42,7 @@ pub struct TableIndex {
 #[tactic(auto, unfolding(crate::specs::Damage::after_table, crate::specs::inner::Offsets::entries_begin))]
 fn pass_table<'a>(
     alloc: Global,
-    rules: &Rules,
+    rules: &FieldRules,
     all: &[u8],
     bytes: &'a [u8],
 ) -> Result<(TableIndex, &'a [u8]), ReadFault>
@@ -66,7 +66,7 @@ fn pass_table<'a>(
 /// Goes over so many tables: the index of each, and the bytes after them.
 fn pass_tables<'a>(
     alloc: Global,
-    rules: &Rules,
+    rules: &FieldRules,
     count: usize,
     all: &[u8],
     bytes: &'a [u8],
@@ -91,7 +91,7 @@ fn pass_tables<'a>(
 #[tactic(auto, unfolding(crate::specs::Damage::after_lists))]
 pub fn pass_lists<'a>(
     alloc: Global,
-    rules: &Rules,
+    rules: &FieldRules,
     all: &[u8],
     bytes: &'a [u8],
 ) -> Result<(Offsets, &'a [u8]), ReadFault>
@@ -101,7 +101,7 @@ pub fn pass_lists<'a>(
     ensures order { IfOk result (λ x. AreOrdered all.now x.0) }
     ensures marked { IsEnd all.now bytes.now → IfOk result (λ x. AreMarked all.now x.0) }
 {
-    let lengths = rules.lengths();
+    let lengths = rules.game.lengths();
     let total = all.len();
     let (system, rest) = pass_rows::<Text>(alloc, rules, lengths.system, total, bytes)?;
     let (messages, rest) = pass_rows::<Text>(alloc, rules, lengths.messages, total, rest)?;

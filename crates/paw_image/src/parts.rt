@@ -3,32 +3,27 @@
 ghost use Rattle.std.specs.Prelude.{◌≡◌, ◌<◌, ◌^◌, ◌++◌, length, OnOk};
 ghost use Rattle.paw_game.specs.Image.{head_image, image};
 ghost use Rattle.paw_image.specs.inner.Sizes.{FitsCounts, FitsGame};
-ghost use Rattle.paw_game.specs.Game.{Declared};
+ghost use Rattle.paw_image.specs.inner.Offsets.{preface_of};
 ghost use Rattle.paw_faults.specs.inner.Gives.{Gives};
 ghost use Rattle.paw_image.specs.inner.Reading.{lists_at, all_of};
 
 use crate::fault::ReadFault;
 use crate::fields::{fault_at, write_number};
-use crate::head::{MARK, VERSION, read_front};
+use crate::head::{Front, MARK, read_front};
 use crate::rows::{length_of_rows, read_rows, write_rows};
-use paw_base::parts::Counts;
-use paw_game::parts::{GameParts, Word};
+use crate::version::version_of;
+use paw_game::parts::GameParts;
 use std::alloc::{AllocError, Global};
 
 /// The bytes of the mark, the version and the six counts.
 const HEAD_LENGTH: usize = 17;
 
-/// The lists after these words, with so many rows.
+/// The lists after this front.
 #[tactic(auto, unfolding(crate::specs::inner::Reading::lists_at))]
-fn read_lists(
-    alloc: Global,
-    counts: Counts,
-    words: Vec<Word>,
-    bytes: &[u8],
-) -> Result<(GameParts, &[u8]), ReadFault>
-    ensures gives { let front : Declared = record { counts = counts; words = words.items } in
-        Gives (λ x. (x.0, x.1.now)) result (lists_at front bytes.now) }
+fn read_lists(alloc: Global, front: Front, bytes: &[u8]) -> Result<(GameParts, &[u8]), ReadFault>
+    ensures gives { Gives (λ x. (x.0, x.1.now)) result (lists_at (preface_of front) bytes.now) }
 {
+    let counts = front.counts;
     let (system, rest) = read_rows(alloc, counts.system as usize, bytes)?;
     let (messages, rest) = read_rows(alloc, counts.messages as usize, rest)?;
     let (objects, rest) = read_rows(alloc, counts.objects as usize, rest)?;
@@ -36,7 +31,7 @@ fn read_lists(
     let (exits, rest) = read_rows(alloc, counts.locations as usize, rest)?;
     let (tables, rest) = read_rows(alloc, counts.tables as usize, rest)?;
     let parts = GameParts {
-        words,
+        words: front.words,
         system,
         messages,
         objects,
@@ -52,9 +47,10 @@ fn read_lists(
 pub fn read_parts(alloc: Global, bytes: &[u8]) -> Result<GameParts, ReadFault>
     ensures gives { Gives (λ x. x) result (all_of bytes.now) }
 {
-    let ((counts, words), rest) = read_front(alloc, bytes)?;
-    let (parts, rest) = read_lists(alloc, counts, words, rest)?;
-    if !rest.is_empty() {
+    let (front, rest) = read_front(alloc, bytes)?;
+    let version = front.version;
+    let (parts, rest) = read_lists(alloc, front, rest)?;
+    if !rest.is_empty() || version.byte() != version_of(&parts).byte() {
         return Err(fault_at(rest));
     }
     Ok(parts)
@@ -82,7 +78,7 @@ fn write_head(parts: &GameParts, out: &mut Vec<u8>) -> Result<(), AllocError>
     ensures writes { OnOk result (out.new.items ≡ out.old.items ++ head_image parts.now) }
 {
     out.extend_from_slice(&MARK)?;
-    out.push(VERSION)?;
+    out.push(version_of(parts).byte())?;
     write_number(parts.words.len(), out)?;
     write_number(parts.system.len(), out)?;
     write_number(parts.messages.len(), out)?;

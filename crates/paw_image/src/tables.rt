@@ -10,6 +10,7 @@ ghost use Rattle.paw_image.specs.inner.Reading.{leading_condact, leading_entry, 
 ghost use Rattle.paw_base.specs.inner.Condacts.{condact_row_of};
 
 use crate::fault::ReadFault;
+use crate::field_rules::FieldRules;
 use crate::fields::{fault_at, read_byte, read_number, read_pair, write_number};
 use crate::in_place::InPlace;
 use crate::rows::{
@@ -19,7 +20,6 @@ use paw_base::parts::Condact;
 use paw_base::rows::{CondactRow, ParamKind, condact_row};
 use paw_faults::unread::Unread;
 use paw_game::parts::{Condacts, Entry, Table};
-use paw_game::rules::Rules;
 use std::alloc::{AllocError, Global};
 
 /// A code of a condact, and what the table of condacts says of it.
@@ -155,7 +155,7 @@ impl Row for Table {
 
 /// The bytes after a parameter of this kind.
 fn pass_parameter<'a>(
-    rules: &Rules,
+    rules: &FieldRules,
     kind: ParamKind,
     bytes: &'a [u8],
 ) -> Result<&'a [u8], ReadFault>
@@ -165,7 +165,7 @@ fn pass_parameter<'a>(
         return Ok(bytes);
     }
     let (value, rest) = read_byte(bytes)?;
-    if !rules.is_parameter(kind, value) {
+    if !rules.game.is_parameter(kind, value) {
         return Err(fault_at(bytes));
     }
     Ok(rest)
@@ -173,11 +173,11 @@ fn pass_parameter<'a>(
 
 /// The bytes after the condact at the front.
 #[tactic(auto, unfolding(crate::specs::Damage::after_condact))]
-fn pass_condact<'a>(rules: &Rules, bytes: &'a [u8]) -> Result<&'a [u8], ReadFault>
+fn pass_condact<'a>(rules: &FieldRules, bytes: &'a [u8]) -> Result<&'a [u8], ReadFault>
     ensures gives { Gives (λ x. x.now) result (after_condact rules.now bytes.now) }
 {
     let (code, rest) = read_byte(bytes)?;
-    let Some(row) = condact_row(code) else {
+    let Some(row) = rules.version.row_of(code) else {
         return Err(fault_at(bytes));
     };
     let rest = pass_parameter(rules, row.first, rest)?;
@@ -187,7 +187,7 @@ fn pass_condact<'a>(rules: &Rules, bytes: &'a [u8]) -> Result<&'a [u8], ReadFaul
 impl InPlace for Condact {
     ghost passing = { after_condact };
 
-    fn pass<'a>(rules: &Rules, bytes: &'a [u8]) -> Result<&'a [u8], ReadFault> {
+    fn pass<'a>(rules: &FieldRules, bytes: &'a [u8]) -> Result<&'a [u8], ReadFault> {
         pass_condact(rules, bytes)
     }
 }

@@ -31,6 +31,12 @@ const LANTERN: [u8; 87] = [
     1, 0, 30, 50, 2, 51, 0, 32, 0, 0, 0, 0,
 ];
 
+/// Two messages, a location, and an entry that twice sets flag 100 and prints the message that the flag names.
+const FLAGGED: [u8; 45] = [
+    80, 65, 87, 73, 2, 0, 0, 0, 0, 2, 0, 0, 0, 1, 0, 3, 0, 1, 0, 97, 1, 0, 98, 0, 0, 0, 0, 0, 1, 0,
+    255, 255, 4, 70, 100, 1, 178, 100, 70, 100, 9, 178, 100, 0, 0,
+];
+
 /// The condacts of the entry of the lantern game.
 const MESSAGE: Condact = Condact {
     code: 51,
@@ -50,6 +56,7 @@ fn images_are_read_and_written_again(rt: HostRuntime) -> Result<(), Fail> {
         TWO_ROOMS.as_slice(),
         SMALLEST.as_slice(),
         LANTERN.as_slice(),
+        FLAGGED.as_slice(),
     ] {
         let game = decode(rt.alloc(), image)?;
         let again = encode(rt.alloc(), &game)?;
@@ -107,6 +114,18 @@ fn damaged_at(alloc: Global, bytes: &[u8]) -> Option<u64> {
     }
 }
 
+/// The image with these bytes from a place on.
+fn changed(alloc: Global, image: &[u8], place: usize, bytes: &[u8]) -> Result<Vec<u8>, AllocError> {
+    let mut changed = image.to_vec(alloc)?;
+    for (step, byte) in bytes.iter().enumerate() {
+        let here = place.saturating_add(step);
+        if here < changed.len() {
+            changed[here] = *byte;
+        }
+    }
+    Ok(changed)
+}
+
 #[test]
 fn every_damaged_byte_is_named(rt: HostRuntime) -> Result<(), Fail> {
     // The first changed place, what stands there, and the place of the fault.
@@ -127,19 +146,67 @@ fn every_damaged_byte_is_named(rt: HostRuntime) -> Result<(), Fail> {
         (85, &[161, 15], 85),
     ];
     for (place, bytes, at) in changes {
-        let mut image = LANTERN;
-        for (step, byte) in bytes.iter().enumerate() {
-            let here = place.saturating_add(step);
-            if here < image.len() {
-                image[here] = *byte;
-            }
-        }
+        let image = changed(rt.alloc(), &LANTERN, place, bytes)?;
         assert_eq!(rt;
             damaged_at(rt.alloc(), &image),
             Some(at),
             "changed at {place}"
         );
     }
+    Ok(())
+}
+
+#[test]
+fn damage_of_version_2_is_named(rt: HostRuntime) -> Result<(), Fail> {
+    // The first changed place, what stands there, and the place of the fault.
+    let changes: [(usize, &[u8], u64); 12] = [
+        (4, &[0], 4),
+        (4, &[1], 36),
+        (4, &[3], 4),
+        (36, &[108], 36),
+        (36, &[127], 36),
+        // INVEN has no parameter, and PROCESS, DOALL and a code of no condact can't be indirect.
+        (36, &[157], 36),
+        (36, &[213], 36),
+        (36, &[214], 36),
+        (36, &[236], 36),
+        // No condact is indirect: the version is named where nothing else is wrong.
+        (36, &[50, 1, 70, 100, 9, 50, 0], 4),
+        (36, &[50, 1, 70, 100, 9, 50, 2], 42),
+        (36, &[50, 1, 70, 100, 9, 50, 0, 161, 15], 43),
+    ];
+    for (place, bytes, at) in changes {
+        let image = changed(rt.alloc(), &FLAGGED, place, bytes)?;
+        assert_eq!(rt;
+            damaged_at(rt.alloc(), &image),
+            Some(at),
+            "changed at {place}"
+        );
+    }
+    Ok(())
+}
+
+#[test]
+fn bytes_too_many_come_before_the_version(rt: HostRuntime) -> Result<(), Fail> {
+    let alloc = rt.alloc();
+    let mut longer = changed(alloc, &FLAGGED, 36, &[50, 1, 70, 100, 9, 50, 0])?;
+    longer.push(0)?;
+    assert_eq!(rt; damaged_at(alloc, &longer), Some(45));
+    assert_eq!(rt; damaged_at(alloc, &FLAGGED[..37]), Some(37));
+    Ok(())
+}
+
+#[test]
+fn both_tell_an_indirect_condact(rt: HostRuntime) -> Result<(), Fail> {
+    let prints = Condact {
+        code: 178,
+        a: 100,
+        b: 0,
+    };
+    let game = decode(rt.alloc(), &FLAGGED)?;
+    let view = View::new(rt.alloc(), &FLAGGED)?;
+    assert_eq!(rt; game.condact(1, 0, 3), Some(prints));
+    assert_eq!(rt; view.condact(1, 0, 3), Some(prints));
     Ok(())
 }
 

@@ -8,12 +8,12 @@ ghost use Rattle.paw_image.specs.inner.Reading.{IsFault, text_at};
 ghost use Rattle.paw_image.specs.inner.Sizes.{FitsText};
 
 use crate::fault::ReadFault;
+use crate::field_rules::FieldRules;
 use crate::fields::{fault_at, read_bytes, read_number, read_within, write_number};
 use crate::in_place::InPlace;
 use crate::rows::{ReadRow, Row};
 use paw_base::limits::TEXT_LIMIT;
 use paw_game::parts::Text;
-use paw_game::rules::Rules;
 use paw_game::texts::is_printed;
 use std::alloc::{AllocError, Global};
 
@@ -56,7 +56,7 @@ impl InPlace for Text {
     ghost passing = { λ _. after_text };
 
     #[tactic(auto, unfolding(crate::specs::Damage::after_text))]
-    fn pass<'a>(_: &Rules, bytes: &'a [u8]) -> Result<&'a [u8], ReadFault> {
+    fn pass<'a>(_: &FieldRules, bytes: &'a [u8]) -> Result<&'a [u8], ReadFault> {
         let (length, rest) = read_within(0, TEXT_LIMIT, bytes)?;
         let (text, after) = read_bytes(length as usize, rest)?;
         if !is_printed(text) {

@@ -87,8 +87,8 @@ impl<'a> View<'a> {
         match pass_whole(alloc, bytes) {
             Ok(passed) => Ok(View {
                 bytes,
-                counts: passed.counts,
-                words: passed.words,
+                counts: passed.front.counts,
+                words: passed.front.words,
                 offsets: passed.offsets,
             }),
             Err(refusal) => Err(refusal),

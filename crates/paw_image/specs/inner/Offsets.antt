@@ -2,15 +2,13 @@
 use Rattle.std.specs.Prelude.{◌≡◌, ℕ, zero, suc, ◌+◌, ◌-◌, List, [], ◌∷◌, length, map, Result, Ok, Err}
 use Rattle.std.specs.List.{AllByRecursion}
 use Rattle.paw_base.specs.declared.limits.TheConstants.{ENTRY_LIMIT}
-use Rattle.paw_base.specs.declared.parts.Counts.{Counts}
-use Rattle.paw_game.specs.declared.parts.Word.{Word}
 use Rattle.paw_game.specs.declared.parts.Entry.{Entry}
 use Rattle.paw_game.specs.Image.{entry_image, table_image}
+use Rattle.paw_image.specs.declared.head.Front.{Front}
 use Rattle.paw_image.specs.declared.offsets.Offsets.{Offsets}
 use Rattle.paw_image.specs.declared.offsets.TableIndex.{TableIndex}
 use Rattle.paw_image.specs.inner.CondactMarks.{IsEnd, IsMarked}
-use Rattle.paw_game.specs.Game.{Declared}
-use Rattle.paw_image.specs.Damage.{Passing, front, each, number_kept, after_text}
+use Rattle.paw_image.specs.Damage.{Preface, Passing, front, each, number_kept, after_text}
 use Rattle.paw_image.specs.Damage.{after_object, after_exits, after_entry, after_table}
 use Rattle.paw_image.specs.inner.Orders.{IsOrder}
 use Rattle.paw_faults.specs.Bind.{◌>>=◌}
@@ -37,34 +35,34 @@ unfoldable pub begins : (List ℕ → Passing) → ℕ → ℕ → List ℕ → 
 begins row total zero bytes = []
 begins row total (suc n) bytes = (total - length bytes) ∷ on_rest (begins row total n) (row bytes)
 
-abbrev pub entries_after : Declared → ℕ → Result (ℕ × List ℕ) ℕ → List ℕ
+abbrev pub entries_after : Preface → ℕ → Result (ℕ × List ℕ) ℕ → List ℕ
 entries_after d total (Ok count) = begins (after_entry d) total count.0 count.1
 entries_after d total (Err left) = []
 
 -- where the entries of the table at the front begin
-unfoldable pub entries_begin : Declared → ℕ → List ℕ → List ℕ
+unfoldable pub entries_begin : Preface → ℕ → List ℕ → List ℕ
 entries_begin d total bytes = entries_after d total (number_kept 0 ENTRY_LIMIT bytes)
 
 -- the same of so many tables
-unfoldable pub tables_begin : Declared → ℕ → ℕ → List ℕ → List (List ℕ)
+unfoldable pub tables_begin : Preface → ℕ → ℕ → List ℕ → List (List ℕ)
 tables_begin d total zero bytes = []
 tables_begin d total (suc n) bytes =
     entries_begin d total bytes ∷ on_rest (tables_begin d total n) (after_table d bytes)
 
 -- the bytes after the system messages, then after the lists up to each further one
-abbrev pub to_messages : Declared → List ℕ → Passing
+abbrev pub to_messages : Preface → List ℕ → Passing
 to_messages d bytes = each after_text d.counts.system bytes
 
-abbrev pub to_objects : Declared → List ℕ → Passing
+abbrev pub to_objects : Preface → List ℕ → Passing
 to_objects d bytes = to_messages d bytes >>= each after_text d.counts.messages
 
-abbrev pub to_locations : Declared → List ℕ → Passing
+abbrev pub to_locations : Preface → List ℕ → Passing
 to_locations d bytes = to_objects d bytes >>= each (after_object d) d.counts.objects
 
-abbrev pub to_exits : Declared → List ℕ → Passing
+abbrev pub to_exits : Preface → List ℕ → Passing
 to_exits d bytes = to_locations d bytes >>= each after_text d.counts.locations
 
-abbrev pub to_tables : Declared → List ℕ → Passing
+abbrev pub to_tables : Preface → List ℕ → Passing
 to_tables d bytes = to_exits d bytes >>= each (after_exits d) d.counts.locations
 
 -- where the entries of each table begin, as it is kept
@@ -72,7 +70,7 @@ abbrev pub entries_of : List TableIndex → List (List ℕ)
 entries_of ts = map (λ t. t.entries.items) ts
 
 -- where the rows of each list begin, as the lists after the words are gone over
-pub record AreGoneOver (d : Declared) (total : ℕ) (bytes : List ℕ) (p : Offsets) : Type 0 where
+pub record AreGoneOver (d : Preface) (total : ℕ) (bytes : List ℕ) (p : Offsets) : Type 0 where
   pub system : p.system.items ≡ begins after_text total d.counts.system bytes
   pub messages : p.messages.items ≡ on_rest (begins after_text total d.counts.messages) (to_messages d bytes)
   pub objects : p.objects.items ≡ on_rest (begins (after_object d) total d.counts.objects) (to_objects d bytes)
@@ -80,10 +78,13 @@ pub record AreGoneOver (d : Declared) (total : ℕ) (bytes : List ℕ) (p : Offs
   pub exits : p.exits.items ≡ on_rest (begins (after_exits d) total d.counts.locations) (to_exits d bytes)
   pub tables : entries_of p.tables.items ≡ on_rest (tables_begin d total d.counts.tables) (to_tables d bytes)
 
--- the counts, the words and the offsets that come of the bytes as they are gone over
-pub record IsPassed (bytes : List ℕ) (counts : Counts) (words : List Word) (p : Offsets) : Type 0 where
-  pub rest : List ℕ
-  pub declared : front bytes ≡ Ok (record { counts = counts; words = words }, rest)
-  pub over : AreGoneOver (record { counts = counts; words = words }) (length bytes) rest p
+-- the front as the code has it
+abbrev pub preface_of : Front → Preface
+preface_of f = record { version = f.version; counts = f.counts; words = f.words.items }
+
+-- the front, the bytes after it and the offsets that come of the bytes as they are gone over
+pub record IsPassed (bytes : List ℕ) (front_read : Front) (rest : List ℕ) (p : Offsets) : Type 0 where
+  pub declared : front bytes ≡ Ok (preface_of front_read, rest)
+  pub over : AreGoneOver (preface_of front_read) (length bytes) rest p
   pub order : AllByRecursion (λ t. IsOrder bytes t.entries.items t.order) p.tables.items
   pub marked : IsEnd bytes rest → AllByRecursion (IsMarked bytes) p.tables.items

@@ -1,7 +1,7 @@
 -- Reading an image from left to right: words that contracts between crates and proofs use beside those of
 -- specs/Reading.antt.
 use Rattle.std.specs.Prelude.{ℕ, zero, suc, not, List, [], ◌∷◌, length, Result}
-use Rattle.std.specs.Prelude.{Ok, Err, ◌==◌, bit_and, if◌then◌else◌}
+use Rattle.std.specs.Prelude.{Ok, Err, ◌==◌, ◌&&◌, bit_and, if◌then◌else◌}
 use Rattle.paw_base.specs.declared.parts.Condact.{Condact}
 use Rattle.paw_base.specs.declared.parts.ObjectFacts.{ObjectFacts}
 use Rattle.paw_base.specs.declared.rows.ParamKind.{ParamKind}
@@ -11,8 +11,11 @@ use Rattle.paw_game.specs.declared.parts.Word.{Word}
 use Rattle.paw_game.specs.declared.parts.ObjectRow.{ObjectRow}
 use Rattle.paw_game.specs.declared.parts.Exit.{Exit}
 use Rattle.paw_game.specs.declared.parts.Entry.{Entry}
-use Rattle.paw_game.specs.Game.{GameLists, Declared}
-use Rattle.paw_image.specs.Damage.{front}
+use Rattle.paw_game.specs.Game.{GameLists}
+use Rattle.paw_game.specs.Image.{version_of}
+use Rattle.paw_image.specs.declared.version.Version.{Version}
+use Rattle.paw_image.specs.declared.version.Version.TheVariants.{One, Two}
+use Rattle.paw_image.specs.Damage.{Preface, front}
 use Rattle.paw_faults.specs.Bind.{◌>>=◌}
 use Rattle.paw_image.specs.Reading.{Reading, byte_at, bytes_at, number_at}
 
@@ -139,7 +142,7 @@ game_with words system messages objects locations exits tables = record {
 }
 
 -- the lists after the words, with so many rows; each location has its exits
-unfoldable pub lists_at : Declared → List ℕ → Reading GameLists
+unfoldable pub lists_at : Preface → List ℕ → Reading GameLists
 lists_at d bytes = do
   system ← leading_rows text_at d.counts.system bytes
   messages ← leading_rows text_at d.counts.messages system.1
@@ -149,9 +152,14 @@ lists_at d bytes = do
   tables ← leading_rows leading_table d.counts.tables exits.1
   Ok (game_with d.words system.0 messages.0 objects.0 locations.0 exits.0 tables.0, tables.1)
 
--- all of the bytes, with none after the lists
+-- the byte that a version is told by
+abbrev pub byte_of : Version → ℕ
+byte_of One = 1
+byte_of Two = 2
+
+-- all of the bytes, with none after the lists, whose version is the one that they need
 unfoldable pub all_of : List ℕ → Result GameLists ℕ
 all_of bytes = do
   d ← front bytes
   lists ← lists_at d.0 d.1
-  if length lists.1 == 0 then Ok lists.0 else Err (length lists.1)
+  if (length lists.1 == 0) && (byte_of d.0.version == version_of lists.0) then Ok lists.0 else Err (length lists.1)

@@ -1,6 +1,6 @@
 use Rattle.std.proofs.Common.{◌≡◌, [], ◌∷◌, length, refl, ap, ◌∙◌}
 use Rattle.std.specs.Prelude.{codes}
-use Rattle.paw_game.specs.Image.{two_bytes}
+use Rattle.paw_game.specs.Image.{two_bytes, version_of}
 use Rattle.paw_image.proofs.ListLaws.{grows, grows_last}
 use Rattle.paw_image.proofs.parts.write_head.Goals as goal
 
@@ -18,9 +18,10 @@ returns c =
     let locations : c.len-5.result ≡ length g.locations =
     c.len-5.ensures ∙ inside.locations.ok.0 ∙ ap (λ l. length l.locations) is in
     let tables : c.len-6.result ≡ length g.tables = c.len-6.ensures ∙ inside.tables.ok.0 ∙ ap (λ l. length l.tables) is in
+    let version : c.byte.result ≡ version_of g = c.byte.ensures.value ∙ c.version_of.ensures.value in
     let before = c.args.out.now.items in
-    let to_version = grows before (codes "PAWI") (1 ∷ []) c.in_ok-extend_from_slice.ensures.items
-    c.in_ok-push.ensures.items refl in
+    let to_version = grows before (codes "PAWI") (version_of g ∷ []) c.in_ok-extend_from_slice.ensures.items
+    c.in_ok-push.ensures.items (ap (λ b. b ∷ []) version) in
     let to_words = grows before _ _ to_version c.in_ok-write_number.ensures.writes (ap two_bytes words) in
     let to_system = grows before _ _ to_words c.in_ok-write_number-2.ensures.writes (ap two_bytes system) in
     let to_messages = grows before _ _ to_system c.in_ok-write_number-3.ensures.writes (ap two_bytes messages) in

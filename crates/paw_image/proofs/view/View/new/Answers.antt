@@ -8,13 +8,13 @@ returns-then-bytes-gt-IMAGE_LIMIT-clause-at c = over_is_bad c.args.bytes.now c.i
 
 pub invariant_of-result : goal.invariant_of-result
 invariant_of-result c =
-    index_from c.args.bytes.now c.in-Ok.passed.counts c.in-Ok.passed.words.items c.in-Ok.passed.offsets
+    index_from c.args.bytes.now c.in-Ok.passed.front c.in-Ok.passed.lists.now c.in-Ok.passed.offsets
     (λ i. omega (arith, c.type_inv.bytes i)) c.if-bytes-gt-IMAGE_LIMIT.false c.in-Ok.ensures.whole
     c.in-Ok.ensures.passed
 
 pub returns-in-Ok-clause-found : goal.returns-in-Ok-clause-found
 returns-in-Ok-clause-found c =
-    (index_from c.args.bytes.now c.in-Ok.passed.counts c.in-Ok.passed.words.items c.in-Ok.passed.offsets
+    (index_from c.args.bytes.now c.in-Ok.passed.front c.in-Ok.passed.lists.now c.in-Ok.passed.offsets
     (λ i. omega (arith, c.type_inv.bytes i)) c.if-bytes-gt-IMAGE_LIMIT.false c.in-Ok.ensures.whole
     c.in-Ok.ensures.passed).image
 
