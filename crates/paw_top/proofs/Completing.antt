@@ -1,6 +1,7 @@
 -- A command whose calls don't fail.
-use Rattle.std.proofs.Common.{◌≡◌, ◌≢◌, ℕ, List, Option, Some, None, refl, sym, ap, ◌∙◌, subst}
-use Rattle.std.specs.Prelude.{Result, Ok, Err, IfSome}
+use Rattle.std.proofs.Common.{◌≡◌, ◌≢◌, ◌≤◌, ◌<◌, ℕ, true, false, List, length, Option, Some, None, refl, sym, ap, ◌∙◌, subst, arith}
+use Rattle.std.specs.Prelude.{Result, Ok, Err, IfSome, nat_le, if◌then◌else◌}
+use Rattle.std.proofs.lemmas.Bool.Decides.{nat_tests}
 use Rattle.paw_base.specs.declared.fault.SourceFault.{SourceFault}
 use Rattle.paw_base.specs.declared.limits.TheConstants.{EVENT_LIMIT}
 use Rattle.paw_game.specs.Game.{GameLists}
@@ -13,9 +14,10 @@ use Rattle.paw_stage.specs.declared.StageCall.TheVariants as call
 use Rattle.paw_top.specs.Answers.{failed_call}
 use Rattle.paw_top.specs.Compile as compile
 use Rattle.paw_top.specs.Completes.{NoFault, IsUnhindered}
-use Rattle.paw_top.specs.inner.Completes.{IsWalked, CompletesSource, CompletesCompile, CompletesImage, Comes}
+use Rattle.paw_top.specs.inner.Completes.{IsWalked, CompletesSource, CompletesCompile, CompletesImage, CompletesWrap, Comes}
 use Rattle.paw_top.specs.Decompile as decompile
 use Rattle.paw_top.specs.Loads.{Holds, HoldsDamage}
+use Rattle.paw_top.specs.Shows as shows
 use Rattle.paw_top.specs.inner.Loads.{HoldsNone}
 use Rattle.paw_top.specs.Walk.{WalksAs}
 use Rattle.paw_top.specs.Ends.{outcome_of, PlaysFile, plays, unopened}
@@ -119,6 +121,28 @@ completes_decompile name old new _ (decompile.unopened o u) free =
     completes_unopened name (λ g. Comes outcome.Done) old new o (λ g at. tt) u free
 completes_decompile name old new _ (decompile.unshown g s e) free = absurd (hindered call.Show (λ q. cc) free)
 completes_decompile name old new _ (decompile.unprinted e) free = record { image = λ h k. tt; other = λ k. tt }
+
+-- a text of so many bytes at most is wrapped, and a longer one is too long
+within : (bytes : List ℕ) → length bytes ≤ 4194304 →
+    outcome.Done ≡ (if nat_le (length bytes) 4194304 then outcome.Done else outcome.TextTooLong)
+within bytes h = let t : nat_le (length bytes) 4194304 ≡ true = grind (arith, nat_tests) in rw t refl
+
+beyond : (bytes : List ℕ) → 4194304 < length bytes →
+    outcome.TextTooLong ≡ (if nat_le (length bytes) 4194304 then outcome.Done else outcome.TextTooLong)
+beyond bytes h = let t : nat_le (length bytes) 4194304 ≡ false = grind (arith, nat_tests) in rw t refl
+
+-- a text that is shown in columns
+pub completes_wrap : (width : ℕ) (name : List ℕ) (old new : Standing) (o : Outcome) → shows.Wraps width name old new o →
+    IsUnhindered o → CompletesWrap name old o
+completes_wrap width name old new _ (shows.done text h e) free = λ bytes is.
+    within bytes (subst (λ b. length b ≤ 4194304) (same_file _ text bytes h.0 is) h.1)
+completes_wrap width name old new _ (shows.too_long text h long e) free = λ bytes is.
+    beyond bytes (subst (λ b. 4194304 < length b) (same_file _ text bytes h is) long)
+completes_wrap width name old new _ (shows.absent h e) free = λ bytes is. absurd (is_missing _ bytes h is)
+completes_wrap width name old new _ (shows.unloaded e) free = λ bytes is. absurd (hindered call.Load (λ q. cc) free)
+completes_wrap width name old new _ (shows.unshown text h e) free = λ bytes is. absurd (hindered call.Show (λ q. cc) free)
+completes_wrap width name old new _ (shows.wanting at one e) free = λ bytes is. tt
+completes_wrap width name old new _ (shows.unwrapped text h e) free = λ bytes is. tt
 
 -- a file whose game is played, where each end is such as it is to be
 pub completes_file : {Comes : GameLists → PlayEnd → Type 0} (name : List ℕ) (Such : GameLists → Outcome → Type 0) (old new : Standing)

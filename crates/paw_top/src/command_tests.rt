@@ -1,9 +1,10 @@
 // What each command has in rows: words that form none, and the calls that it makes.
 
-use crate::outcome::Outcome;
+use crate::outcome::{MemoryAt, Outcome};
 use crate::session_tests::{PLAY, RESUME, earlier_form, stage_of};
-use crate::settled::{run, settle};
+use crate::settled::{run, settle, settle_and_run};
 use paw_stage::{CallKind, MemoryStage};
+use paw_wrap::WRAP_LIMIT;
 use std::alloc::Global;
 use std::process::Abort;
 use std::test::Fail;
@@ -109,6 +110,9 @@ fn nothing_is_loaded_twice_nor_asked_for_behind_the_end(rt: HostRuntime) -> Resu
         ),
         // A trial has a stage of its own for its files and lines.
         ("trial\n0", "WAIT", "show"),
+        ("wrap\n10\nhall source", "WAIT", "load(hall source) show"),
+        // An empty text takes no call.
+        ("wrap\n10\nstore", "WAIT", "load(store)"),
     ] {
         makes(&rt, alloc, b"", row)?;
     }
@@ -162,6 +166,16 @@ fn words_that_have_no_form_are_usage(rt: HostRuntime) -> Result<(), Fail> {
         "decompile",
         "decompile\n\n",
         "decompile\nimage\nsource",
+        "wrap",
+        "wrap\n10",
+        "wrap\n10\n\n",
+        "wrap\n0\nstore",
+        "wrap\n000\nstore",
+        "wrap\n256\nstore",
+        "wrap\n0010\nstore",
+        "wrap\n+1\nstore",
+        "wrap\nstore\n10",
+        "wrap\n10\nstore\nstore",
         "dance",
     ] {
         settle(&rt, &mut stage);
@@ -169,6 +183,59 @@ fn words_that_have_no_form_are_usage(rt: HostRuntime) -> Result<(), Fail> {
         let outcome = run(alloc, &mut stage, words)?;
         assert_eq!(rt; outcome, Outcome::Usage, "{words:?}");
         assert_eq!(rt; recorded(&stage), before, "{words:?}");
+    }
+    Ok(())
+}
+
+#[test]
+fn a_text_is_shown_in_columns(rt: HostRuntime) -> Result<(), Fail> {
+    let alloc = rt.alloc();
+    for (words, text, shown) in [
+        (
+            "wrap\n10\ntext",
+            "The quick brown fox",
+            "The quick\nbrown fox",
+        ),
+        (
+            "wrap\n010\ntext",
+            "The quick brown fox",
+            "The quick\nbrown fox",
+        ),
+        ("wrap\n3\ntext", "a  bb cccc d", "a \nbb\ncccc\nd"),
+        ("wrap\n1\ntext", "a b\nc", "a\nb\nc"),
+        (
+            "wrap\n255\ntext",
+            "The quick brown fox",
+            "The quick brown fox",
+        ),
+        ("wrap\n255\ntext", "", ""),
+    ] {
+        let mut stage = MemoryStage::new(alloc, 10, 1_000)?;
+        stage.add_file("text", text.as_bytes())?;
+        let outcome = settle_and_run(&rt, alloc, &mut stage, words)?;
+        assert_eq!(rt; outcome, Outcome::Done, "{words:?} {text:?}");
+        assert_eq!(rt; stage.shown(), shown.as_bytes(), "{words:?} {text:?}");
+    }
+    Ok(())
+}
+
+#[test]
+fn a_text_may_be_too_long(rt: HostRuntime) -> Result<(), Fail> {
+    let alloc = rt.alloc();
+    let mut text = Vec::new(alloc);
+    text.resize(WRAP_LIMIT + 1, b'a')?;
+    let mut stage = MemoryStage::new(alloc, 10, 5_000_000)?;
+    stage.add_file("text", text.as_slice())?;
+    let outcome = settle_and_run(&rt, alloc, &mut stage, "wrap\n10\ntext")?;
+    assert_eq!(rt; outcome, Outcome::TextTooLong);
+    assert_eq!(rt; stage.shown(), b"".as_slice());
+    for (outcome, status, said) in [
+        (Outcome::TextTooLong, 2, "text is too long\n"),
+        (Outcome::Memory(MemoryAt::Wrap), 8, "no memory: Wrap\n"),
+    ] {
+        assert_eq!(rt; outcome.status(), status, "{outcome:?}");
+        let written = outcome.text(alloc)?;
+        assert_eq!(rt; written.as_str(), said);
     }
     Ok(())
 }

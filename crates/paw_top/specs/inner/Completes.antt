@@ -1,5 +1,5 @@
 -- What a command comes to where nothing outside fails: words of a law that follows from what each command comes to.
-use Rattle.std.specs.Prelude.{◌≡◌, ◌≢◌, ℕ, List, [], ◌∷◌, length, Result, Ok, Err, Some}
+use Rattle.std.specs.Prelude.{◌≡◌, ◌≢◌, ℕ, List, [], ◌∷◌, length, Result, Ok, Err, Some, nat_le, if◌then◌else◌}
 use Rattle.paw_base.specs.declared.fault.SourceFault.{SourceFault}
 use Rattle.paw_game.specs.Game.{GameLists}
 use Rattle.paw_grammar.specs.Spells.{spelled}
@@ -11,6 +11,7 @@ use Rattle.paw_journal.specs.declared.refusal.JournalRefusal.{JournalRefusal}
 use Rattle.paw_reading.specs.Reading.{IsOver, RunsOut, CallsTooDeep}
 use Rattle.paw_reading.specs.Turn.{Ending, WaitsAt, Halted, Unended, reading}
 use Rattle.paw_trial.specs.Trial.{trial_reading}
+use Rattle.paw_wrap.specs.declared.columns.TheConstants.{WRAP_LIMIT}
 use Rattle.paw_play.specs.Play.{ShowsState, Refuses, store_bytes}
 use Rattle.paw_top.specs.Compile.{Compiles}
 use Rattle.paw_top.specs.Completes.{IsUnhindered}
@@ -18,6 +19,7 @@ use Rattle.paw_top.specs.Decompile.{Decompiles}
 use Rattle.paw_top.specs.Ends.{refused_as}
 use Rattle.paw_top.specs.Loads.{Holds, HoldsDamage}
 use Rattle.paw_top.specs.inner.Loads.{HoldsNone}
+use Rattle.paw_top.specs.Shows.{Wraps}
 use Rattle.paw_top.specs.Sessions.{PlaysNewIn, PlaysAgainIn, digest_of}
 use Rattle.paw_top.specs.Tries.{Tries}
 use Rattle.paw_top.specs.Walk.{WalksAs, reading_traced}
@@ -81,6 +83,11 @@ due (Halted (RunsOut kind) r) = outcome.Spent kind
 due (Halted (CallsTooDeep table) r) = outcome.TooDeep table
 due Unended = outcome.Done
 
+-- where the text is there, it is shown, or refused where it is too long
+abbrev pub CompletesWrap : List ℕ → Standing → Outcome → Type 0
+CompletesWrap name old o = (bytes : List ℕ) → old.files name ≡ Some bytes →
+    Comes (if nat_le (length bytes) WRAP_LIMIT then outcome.Done else outcome.TextTooLong) o
+
 -- What a command comes to where nothing outside fails and the file that it loads is there: it does its work, or refuses
 -- the file or the store, or memory was wanting.
 pub record EachCompletes : Type 0 where
@@ -100,3 +107,5 @@ pub record EachCompletes : Type 0 where
       WalksAs reading_traced rows image seed old new o → IsUnhindered o → CompletesImage image (λ g. IsWalked) old o
   pub trial : (n : ℕ) (old new : Standing) (o : Outcome) → Tries n old new o →
       IsUnhindered o → Comes (due (trial_reading n)) o
+  pub wrap : (width : ℕ) (text : List ℕ) (old new : Standing) (o : Outcome) → Wraps width text old new o →
+      IsUnhindered o → CompletesWrap text old o

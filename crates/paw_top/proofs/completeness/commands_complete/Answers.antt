@@ -1,6 +1,6 @@
 use Rattle.paw_reading.specs.Turn.{reading}
 use Rattle.paw_top.specs.Walk.{reading_traced}
-use Rattle.paw_top.proofs.Completing.{completes_compile, completes_decompile, completes_walk}
+use Rattle.paw_top.proofs.Completing.{completes_compile, completes_decompile, completes_walk, completes_wrap}
 use Rattle.paw_top.proofs.CompletingSessions.{completes_play, completes_resume}
 use Rattle.paw_top.proofs.Trying.{completes_trial}
 use Rattle.paw_top.proofs.completeness.commands_complete.Goals as goal
@@ -14,4 +14,5 @@ returns c = record {
   resume = λ rows image store old new o h free. completes_resume rows image store old new o h free;
   trace = λ rows image seed old new o h free. completes_walk reading_traced rows image seed old new o h free;
   trial = λ n old new o h free. completes_trial n old new o h free;
+  wrap = λ width text old new o h free. completes_wrap width text old new o h free;
 }
