@@ -2,8 +2,8 @@
 
 _paw() {
     local word=${COMP_WORDS[COMP_CWORD]} last=${COMP_WORDS[COMP_CWORD - 1]} ends
-    # What each command takes; packaging/make writes these lines.
-    local names='compile decompile walk trace play resume trial' takes
+    # What README.md tells of commands and their words; packaging/make writes it.
+    local names='compile decompile walk trace play resume trial wrap' takes
     case ${COMP_WORDS[1]} in
     compile) takes='SOURCE IMAGE' ;;
     decompile) takes='IMAGE' ;;
@@ -12,7 +12,9 @@ _paw() {
     play) takes='IMAGE SESSION SEED' ;;
     resume) takes='IMAGE SESSION' ;;
     trial) takes='N' ;;
+    wrap) takes='N TEXT' ;;
     esac
+    # So far packaging/make.
     COMPREPLY=()
     case $COMP_CWORD:${COMP_WORDS[1]} in
     *:-*)
