@@ -2,18 +2,17 @@
 -- don't.
 use Rattle.std.proofs.Common.{◌≡◌, ℕ, ◌&&◌, ◌||◌, Bool, true, false, not, leb, List, [], ◌∷◌, ◌++◌, length, refl, sym, ap, ◌∙◌}
 use Rattle.std.proofs.Common.{append_assoc, inl, inr, ◌⊎◌, ◌<◌, ◌≤◌, Option, Some, None, SomeIff, Result, Ok, Err, arith, lit<}
-use Rattle.std.specs.Prelude.{if◌then◌else◌}
 use Rattle.std.specs.List.{flat_map, list_all, list_any}
 use Rattle.std.proofs.lemmas.Bool.{and_parts, leb-true}
-use Rattle.paw_base.specs.Condacts.{is_code, is_plain_code, is_indirect, first_kind, second_kind}
+use Rattle.paw_base.specs.Condacts.{is_plain_code, is_indirect}
 use Rattle.paw_base.specs.declared.codes.TheConstants.{INDIRECT}
 use Rattle.paw_base.specs.declared.parts.Condact.{Condact}
 use Rattle.paw_base.specs.declared.rows.CondactRow.{CondactRow}
 use Rattle.paw_base.specs.inner.Condacts.{IsCode, IsPlainCode, condact_row_of}
 use Rattle.paw_base.proofs.Table.{code_within, none_from, plain_below, plain_is, plain_of_code}
 use Rattle.paw_game.specs.declared.parts.Entry.{Entry}
-use Rattle.paw_game.specs.Game.{GameLists, counts_of}
-use Rattle.paw_game.specs.Valid.{is_any, is_condact, is_entry, is_table, is_parameter, is_verb_value, has_word}
+use Rattle.paw_game.specs.Game.{GameLists}
+use Rattle.paw_game.specs.Valid.{is_any, is_condact, is_entry, is_table, is_verb_value, has_word}
 use Rattle.paw_game.specs.Image.{any_indirect, has_indirect, version_of, two_bytes, condact_image, entry_image, table_image}
 use Rattle.paw_faults.specs.Bind.{◌>>=◌}
 use Rattle.paw_image.specs.declared.version.Version.{Version}

@@ -1,4 +1,4 @@
-use Rattle.std.proofs.Common.{◌≡◌, [], ◌∷◌, length, refl, ap, ◌∙◌}
+use Rattle.std.proofs.Common.{◌≡◌, [], ◌∷◌, length, ap, ◌∙◌}
 use Rattle.std.specs.Prelude.{codes}
 use Rattle.paw_game.specs.Image.{two_bytes, version_of}
 use Rattle.paw_image.proofs.ListLaws.{grows, grows_last}
