@@ -8,12 +8,15 @@ pub record WrappedText : Type 0 where
   pub bytes : List ℕ
   pub breaks : List ℕ
 
+-- the byte of a space
 abbrev pub space : ℕ
 space = 0x20
 
+-- the byte that ends a line
 abbrev pub line_feed : ℕ
 line_feed = 0x0A
 
+-- a space or an LF
 abbrev pub ends_word : ℕ → Bool
 ends_word b = b == space || b == line_feed
 
