@@ -54,18 +54,21 @@ returns-in-Err-clause-wraps g c = λ tells.
 pub returns-then-len-gt-WRAP_LIMIT-clause-wraps : goal.returns-then-len-gt-WRAP_LIMIT-clause-wraps
 returns-then-len-gt-WRAP_LIMIT-clause-wraps g c = λ tells.
     let f = c.in-Ok.ensures.some tells in
-    too_long f.0 f.1 (is_long c.in-Ok.given.items f.0 f.2 c.if-len-gt-WRAP_LIMIT.true (in_order (length f.0) 4194304)) f.3
+    let long = subst (λ n. 4194304 < n) (c.len.ensures ∙ c.in-Ok.given.ok.0) c.if-len-gt-WRAP_LIMIT.true in
+    too_long f.0 f.1 (is_long c.in-Ok.given.items f.0 f.2 long (in_order (length f.0) 4194304)) f.3
 
 pub returns-in_default-clause-wraps : goal.returns-in_default-clause-wraps
 returns-in_default-clause-wraps g c = λ tells.
     let f = c.in-Ok.ensures.some tells in
-    unwrapped c.in-Ok.given.items (holds_text c.args.text.now c.in-Ok.given.items _ _ f c.if-len-gt-WRAP_LIMIT.false) f.3
+    let short = subst (λ n. n ≤ 4194304) (c.len.ensures ∙ c.in-Ok.given.ok.0) c.if-len-gt-WRAP_LIMIT.false in
+    unwrapped c.in-Ok.given.items (holds_text c.args.text.now c.in-Ok.given.items _ _ f short) f.3
 
 pub returns-clause-wraps : goal.returns-clause-wraps
 returns-clause-wraps g c = λ tells.
     let f = c.in-Ok.ensures.some tells in
+    let short = subst (λ n. n ≤ 4194304) (c.len.ensures ∙ c.in-Ok.given.ok.0) c.if-len-gt-WRAP_LIMIT.false in
     shows_text c.args.width.columns c.args.text.now c.in-Ok.given.items c.as_slice-2.result.now _ _ _ c.tell.result
-    (holds_text c.args.text.now c.in-Ok.given.items _ _ f c.if-len-gt-WRAP_LIMIT.false) f.3
+    (holds_text c.args.text.now c.in-Ok.given.items _ _ f short) f.3
     (c.as_slice-2.ensures.value ∙ ap (λ (w : WrappedText). w.bytes) c.in-Ok-wrap.ensures.value
     ∙ ap (λ t. (first_fit c.args.width.columns t).bytes) c.as_slice.ensures.value)
     (c.tell.ensures.shows (c.load.ensures.serves.tells.0 tells))
