@@ -93,7 +93,17 @@ class Copies:
     """The copies of one session."""
 
     def __init__(self, session):
-        self.session, self.folder = session, session + ".kept"
+        self.session, self.folder, self.seat = session, session + ".kept", None
+
+    def sit_down(self):
+        """Keeps other front ends from this session as long as this one runs, however it ends."""
+        with contextlib.suppress(OSError):
+            os.makedirs(self.folder, mode=0o700, exist_ok=True)
+            self.seat = open(self.path("seat"), "wb")
+            try:
+                fcntl.flock(self.seat, fcntl.LOCK_EX | fcntl.LOCK_NB)
+            except BlockingIOError as fault:
+                raise Refused("%s is played in another window right now" % self.session) from fault
 
     def data(self):
         return content(self.session)
