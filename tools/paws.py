@@ -418,7 +418,7 @@ class Source:
         return None if values is None else [step.with_first(value) for value in sorted(values) if self.is_there(kind, value)]
 
     def is_there(self, kind, value):
-        """Whether the value names something of the kind: where it doesn't, a condact that takes it from a flag fails or does nothing."""
+        """Whether the value names something of the kind. Where it doesn't, a condact with it from a flag fails or does nothing."""
         section = {"M": "/MTX", "S": "/STX", "O": "/OTX", "L": "/LTX", "P": "/LTX"}.get(kind)
         return section is None or value < len(self.texts[section]) or kind == "P" and value in PLACES.values()
 
