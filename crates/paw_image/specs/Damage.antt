@@ -1,6 +1,6 @@
--- The first rule of an image that bytes break. The bytes are read once, in order, and each field is written with its
--- rule over itself and what was read before it. A fault tells how many bytes are left at the first byte of the first
--- field that breaks its rule or isn't all there.
+-- The first rule of an image that bytes break. The bytes are read in order, and each field is written with its rule over
+-- itself and what was read before it. A fault tells how many bytes are left at the first byte of the first field that
+-- breaks its rule or isn't all there. One rule comes behind all of these: version 2 stands only where a code needs it.
 use Rattle.std.specs.Prelude.{ℕ, zero, suc, ◌-◌, ◌==◌, ◌&&◌, ◌||◌, Bool, true, false, not, List, [], ◌∷◌, length}
 use Rattle.std.specs.Prelude.{Option, Some, None, Result, Ok, Err, nat_lt, nat_le, codes, if◌then◌else◌}
 use Rattle.std.specs.List.{list_any}
@@ -194,7 +194,7 @@ abbrev pub is_end : Passing → Bool
 is_end (Ok []) = true
 is_end _ = false
 
--- version 2 without need: the fields after the words pass with the codes of version 1 too
+-- version 2 without need, by how the fields after the words pass with the codes of version 1
 abbrev pub needs_no_2 : Version → Passing → Bool
 needs_no_2 One with_plain_codes = false
 needs_no_2 Two with_plain_codes = is_end with_plain_codes

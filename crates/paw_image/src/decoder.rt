@@ -36,7 +36,8 @@ fn read_game(alloc: Global, bytes: &[u8]) -> Result<Option<Game>, ImageRefusal>
 ///
 /// # Errors
 /// Damaged exactly where the bytes aren't the image of a valid game, or more than 4,194,304; the place is that of the
-/// first field, in order, that breaks its rule or isn't all there. Memory only for want of memory.
+/// first field, in order, that breaks its rule or isn't all there, and 4 where no field does, but the version is 2 and
+/// no condact is indirect. Memory only for want of memory.
 pub fn decode(alloc: Global, bytes: &[u8]) -> Result<Game, ImageRefusal>
     ensures found { IfOk result (IsImage bytes.now) }
     ensures only { (g : GameLists) → IsImage bytes.now g → IfOk result (λ game. game ≡ g) }

@@ -73,7 +73,8 @@ impl<'a> View<'a> {
     ///
     /// # Errors
     /// As `decode`: Damaged exactly where the bytes aren't the image of a valid game, or more than 4,194,304; the place
-    /// is that of the first field, in order, that breaks its rule or isn't all there. Memory only for want of memory.
+    /// is that of the first field, in order, that breaks its rule or isn't all there, and 4 where no field does, but the
+    /// version is 2 and no condact is indirect. Memory only for want of memory.
     pub fn new(alloc: Global, bytes: &'a [u8]) -> Result<View<'a>, ImageRefusal>
         ensures bytes { IfOk result (λ view. view ≡ bytes.now) }
         ensures found { OnOk result (IsImage bytes.now (game_read bytes.now)) }
