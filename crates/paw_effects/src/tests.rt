@@ -473,11 +473,16 @@ fn double(n: u8, x: u8) -> u8
     x.wrapping_mul(2).wrapping_add(n)
 }
 
+/// Reads these scenes with the five routines.
+fn run_with_five(rt: &impl Abort, alloc: Global, scenes: &[Scene]) -> Result<(), Fail> {
+    let game = Game::new(parts(alloc, scenes)?)?;
+    let routines = Routines::new(5, double);
+    run_with(rt, alloc, &game, &routines, scenes)
+}
+
 #[test]
 fn five_routines(rt: HostRuntime) -> Result<(), Fail> {
-    let game = Game::new(parts(rt.alloc(), ROUTINES)?)?;
-    let routines = Routines::new(5, double);
-    run_with(&rt, rt.alloc(), &game, &routines, ROUTINES)
+    run_with_five(&rt, rt.alloc(), ROUTINES)
 }
 
 #[test]

@@ -1,12 +1,10 @@
 // Condacts that take their first parameter from a flag.
 
-use super::{GO, NO, REDESCRIBE, Scene, YES, double, parts, run_with};
+use super::{GO, NO, REDESCRIBE, Scene, YES, run_with_five};
 use paw_base::codes::{
     AT, CREATE, EQ, EXTERN, GET, GOTO, INDIRECT, ISAT, LET, MES, NOTAT, NOUN2, PAUSE, RESET,
     SYSMESS,
 };
-use paw_game::game::Game;
-use paw_routines::routines::Routines;
 use std::test::Fail;
 
 const AT_FROM: u8 = INDIRECT + AT;
@@ -53,7 +51,5 @@ const FROM_FLAGS: &[Scene] = scenes! {
 
 #[test]
 fn parameters_from_flags(rt: HostRuntime) -> Result<(), Fail> {
-    let game = Game::new(parts(rt.alloc(), FROM_FLAGS)?)?;
-    let routines = Routines::new(5, double);
-    run_with(&rt, rt.alloc(), &game, &routines, FROM_FLAGS)
+    run_with_five(&rt, rt.alloc(), FROM_FLAGS)
 }

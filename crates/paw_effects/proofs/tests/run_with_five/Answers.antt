@@ -1,6 +1,6 @@
 use Rattle.std.proofs.Common.{arith, ◌<◌, ◌+◌, ◌*◌, ◌%◌, rules, ℕ}
 use Rattle.paw_routines.proofs.FunctionRows.{rows_of, stand_for}
-use Rattle.paw_effects.proofs.tests.five_routines.Goals as goal
+use Rattle.paw_effects.proofs.tests.run_with_five.Goals as goal
 
 -- what each routine gives
 given : ℕ → ℕ → ℕ
