@@ -69,7 +69,7 @@ returns-clause-wraps g c = λ tells.
     let short = subst (λ n. n ≤ 4194304) (c.len.ensures ∙ c.in-Ok.given.ok.0) c.if-len-gt-WRAP_LIMIT.false in
     shows_text c.args.width.columns c.args.text.now c.in-Ok.given.items c.as_slice-2.result.now _ _ _ c.tell.result
     (holds_text c.args.text.now c.in-Ok.given.items _ _ f short) f.3
-    (c.as_slice-2.ensures.value ∙ ap (λ (w : WrappedText). w.bytes) c.in-Ok-wrap.ensures.value
+    (c.as_slice-2.ensures.value ∙ ap (λ (w : WrappedText). w.bytes) (c.wrapped.view_is ∙ c.in-Ok-wrap.ensures.value)
     ∙ ap (λ t. (first_fit c.args.width.columns t).bytes) c.as_slice.ensures.value)
     (c.tell.ensures.shows (c.load.ensures.serves.tells.0 tells))
 
