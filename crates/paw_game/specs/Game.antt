@@ -25,8 +25,3 @@ abbrev pub counts_of : GameLists → Counts
 counts_of g =
     counts_with (length g.words) (length g.system) (length g.messages) (length g.objects) (length g.locations)
     (length g.tables)
-
--- what the rules of rows name: how many rows each part has, and the words
-pub record Declared : Type 0 where
-  pub counts : Counts
-  pub words : List Word

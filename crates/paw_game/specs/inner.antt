@@ -4,3 +4,4 @@ pub mod Fault
 pub mod Parts
 pub mod Tables
 pub mod Values
+pub mod Rules

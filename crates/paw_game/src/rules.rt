@@ -72,7 +72,7 @@ pub struct Rules<'a> {
 impl<'a> Model for Rules<'a> {
     ghost use Rattle.paw_base.specs.declared.words.TheConstants.{VERB_CLASS, ADVERB_CLASS, NOUN_CLASS};
     ghost use Rattle.paw_base.specs.declared.words.TheConstants.{ADJECTIVE_CLASS, PREPOSITION_CLASS};
-    ghost use Rattle.paw_game.specs.Game.{Declared};
+    ghost use Rattle.paw_game.specs.inner.Rules.{Declared};
     ghost use Rattle.paw_game.specs.inner.Values.{Tells, counts_in};
 
     ghost Value = { Declared };
