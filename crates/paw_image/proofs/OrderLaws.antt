@@ -231,6 +231,18 @@ module _ (heads : List Head) (verb noun from at : ℕ) (r : Rises heads) (verbs 
       ) in
       other same
 
+-- the first head has the least noun
+pub all_above : (heads : List Head) (verb noun from : ℕ) (h : Head) → Rises heads → All (λ x. x.verb ≡ verb) heads
+    → 0 < length heads → h ≡ get_or heads 0 h → noun < h.noun → IsLeast (IsMatch heads (λ x. eqb x.noun noun) from) None
+all_above heads verb noun from h r verbs some is above = λ e m.
+    let up = r.rises 0 m.is.0 m.head (omega arith) m.is.1 in
+    let first : rank h ≡ rank (get_or heads 0 m.head) = ap rank (is ∙ get_or_default heads 0 h m.head some) in
+    let there : rank (get_or heads m.is.0 m.head) ≡ rank m.head = ap rank m.is.2 in
+    let verb_of_first = All-contains (λ (x : Head). x.verb ≡ verb) heads h verbs (0, some, sym is) in
+    let verb_of_match = All-contains (λ (x : Head). x.verb ≡ verb) heads m.head verbs m.is in
+    let small = All-contains IsSmall heads m.head r.small m.is in
+    omega (arith, up, first, there, verb_of_first, verb_of_match, small.1, eqb-true m.head.noun noun m.matching, above)
+
 -- ---- in the whole order ----
 
 pub least_in_run : (heads run : List Head) (verb noun from : ℕ) → IsRun heads verb run → (r : Option ℕ) → IsLeast (IsMatch run (λ h. is_for h.noun noun) from) r

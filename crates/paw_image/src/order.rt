@@ -148,8 +148,8 @@ fn place_of(run: &[Head], least: u32) -> usize
     )
 }
 
-/// Of heads with one verb, the least entry not below `from` that has this noun itself.
-fn first_with(run: &[Head], verb: u8, noun: u8, from: u16) -> Option<u16>
+/// Of heads with one verb, the least entry not below `from` that has this noun itself, by a search.
+fn search_with(run: &[Head], verb: u8, noun: u8, from: u16) -> Option<u16>
     requires rises { Rises run.now }
     requires verb { All (λ h. h.verb ≡ verb) run.now }
     ensures least { IsLeast (IsMatch run.now (λ h. h.noun == noun) from) result }
@@ -160,6 +160,20 @@ fn first_with(run: &[Head], verb: u8, noun: u8, from: u16) -> Option<u16>
         Some(head) if head.noun == noun => Some(head.entry),
         _ => None,
     }
+}
+
+/// Of heads with one verb, the least entry not below `from` that has this noun itself. Where the nouns begin above it no
+/// search is needed: so it is with `ANY_WORD`, the least of all, in nearly every run.
+fn first_with(run: &[Head], verb: u8, noun: u8, from: u16) -> Option<u16>
+    requires rises { Rises run.now }
+    requires verb { All (λ h. h.verb ≡ verb) run.now }
+    ensures least { IsLeast (IsMatch run.now (λ h. h.noun == noun) from) result }
+{
+    let first = run.first()?;
+    if noun < first.noun {
+        return None;
+    }
+    search_with(run, verb, noun, from)
 }
 
 /// The lower of two numbers; the one where the other is missing.

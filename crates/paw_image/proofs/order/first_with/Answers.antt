@@ -1,31 +1,10 @@
-use Rattle.std.proofs.Common.{sym}
-use Rattle.std.proofs.lemmas.Bool.{ltb-false}
-use Rattle.paw_image.proofs.OrderLaws.{first_is, other_is, none_past}
+use Rattle.paw_image.proofs.OrderLaws.{all_above}
 use Rattle.paw_image.proofs.order.first_with.Goals as goal
 
-pub returns-in-Some : goal.returns-in-Some
-returns-in-Some c =
-    let parts = rw c.ranked-least.ensures.value at c.place_of-at.ensures.parts in
-    let there = c.in-Some.ensures.lookup in
+pub returns-then-noun-first : goal.returns-then-noun-first
+returns-then-noun-first c =
+    let there = c.in_ok-first.ensures.item in
     record {
-      least = first_is c.args.run.now c.args.verb c.args.noun c.args.from c.place_of-at.result c.requires.rises
-          c.requires.verb parts c.in-Some.head.now there.3.0 there.1 c.if-head-noun.true;
-    }
-
-pub returns-in_default : goal.returns-in_default
-returns-in_default c =
-    let parts = rw c.ranked-least.ensures.value at c.place_of-at.ensures.parts in
-    let there = c.in-Some.ensures.lookup in
-    record {
-      least = other_is c.args.run.now c.args.verb c.args.noun c.args.from c.place_of-at.result c.requires.rises
-          c.requires.verb parts c.in-Some.head.now there.3.0 there.1 c.if-head-noun.false;
-    }
-
-pub returns-in_default-2 : goal.returns-in_default-2
-returns-in_default-2 c =
-    let parts = rw c.ranked-least.ensures.value at c.place_of-at.ensures.parts in
-    let past = ltb-false _ _ (sym (rw c.in_default.is at c.get.ensures.lookup.0)) in
-    record {
-      least = none_past c.args.run.now c.args.verb c.args.noun c.args.from c.place_of-at.result c.requires.rises
-          c.requires.verb parts past;
+      least = all_above c.args.run.now c.args.verb c.args.noun c.args.from c.in_ok-first.first.now c.requires.rises c.requires.verb
+          there.3.0 there.1 c.if-noun-first.true;
     }
