@@ -1,3 +1,4 @@
+mod Names
 mod Completing
 mod CompletingSessions
 mod OpenedSessions

@@ -186,6 +186,7 @@ fn end(words: &[String]) -> Option<()>
 }
 
 /// What these words ask for; None where they have no form.
+#[tactic(auto, using(crate::proofs::Names::other))]
 pub(crate) fn command_of<'a>(words: &'a [String]) -> Option<Command<'a>>
     ensures value { SpellsCommand result (command_of (map string_bytes words.now)) }
 {

@@ -1,0 +1,10 @@
+-- Names that are told apart.
+use Rattle.std.proofs.Common.{◌≡◌, ◌≢◌, ℕ, Bool, true, false, List, refl, bytes_eq}
+use Rattle.std.proofs.lemmas.Slice.Eq.{bytes_eq-Decides}
+
+is_false : (b : Bool) → b ≢ true → b ≡ false
+is_false true never = absurd (never refl)
+is_false false never = refl
+
+pub other : (name word : List ℕ) → name ≢ word → bytes_eq name word ≡ false
+other name word differ = is_false (bytes_eq name word) (λ e. differ ((bytes_eq-Decides name word).0 e))
