@@ -1,3 +1,3 @@
 pub mod Rows
 pub mod Routines
-pub mod inner
+pub mod Measure

@@ -3,7 +3,7 @@
 ghost use Rattle.std.specs.Prelude.{◌≡◌, ◌<◌, ℕ, List, Some, nat_lt, is_some, slice_get};
 ghost use Rattle.paw_routines.specs.Rows.{StandFor, value_at};
 ghost use Rattle.paw_routines.specs.Routines.{AreRowsOf, HaveRows};
-ghost use Rattle.paw_routines.specs.inner.Measure.{measure};
+ghost use Rattle.paw_routines.specs.Measure.{measure};
 
 use sha2::{Digest, Sha256};
 

@@ -1,2 +1,0 @@
--- Words of contracts between crates, and of proofs. What a reader must believe doesn't reach them.
-pub mod Measure
