@@ -5,13 +5,13 @@ use Rattle.paw_stage.specs.Stage.{Standing, wrote}
 use Rattle.paw_stage.specs.Moments.{Moment, InWrite, InSync}
 use Rattle.paw_journal.specs.declared.layout.Slot.{Slot}
 use Rattle.paw_journal.specs.declared.layout.Slot.TheVariants as which
-use Rattle.paw_journal.specs.Session.{recover, recover_by, chosen, kept_digest, slot, session_length, header_length, slot_length}
+use Rattle.paw_journal.specs.Session.{recover, recover_by, chosen, kept_digests, slot, session_length, header_length, slot_length}
 use Rattle.paw_journal.specs.inner.Steps.{IsWithin, chosen_session}
 use Rattle.paw_journal.specs.inner.Store.{InStore, Leaves, IsEither}
 use Rattle.paw_journal.specs.inner.Room.{slot_number}
 use Rattle.paw_journal.proofs.Parts.{put_one, put_below, put_above}
 use Rattle.paw_journal.proofs.Puts.{put_long, stretch_past}
-use Rattle.paw_journal.proofs.Recovers.{recover_is, recover_by_same}
+use Rattle.paw_journal.proofs.Recovers.{recover_is, recover_by_same, both_digests}
 use Rattle.paw_journal.proofs.Disks.{within_long, within_same}
 use Rattle.paw_journal.proofs.Moved.{IsMoved, moved_none, moved_wrote, in_moved_write, in_moved_sync}
 
@@ -71,8 +71,9 @@ chose_all k x n s t u e w q =
     ap (λ y. y.disk) q ∙ (ap (λ y. stable y.disk.bytes) w ∙ ap (λ j. stable (put 1 (j ∷ []) s.disk.bytes)) e)
 
 -- all but the selector is as it was
-pub chosen_digest : (k : ℕ) (old : List ℕ) → length old ≡ session_length → kept_digest (chosen_session k old) ≡ kept_digest old
-chosen_digest k old long = stretch_past 32 32 1 (k ∷ []) old (omega arith) (omega arith)
+pub chosen_digests : (k : ℕ) (old : List ℕ) → length old ≡ session_length → kept_digests (chosen_session k old) ≡ kept_digests old
+chosen_digests k old long = both_digests _ _ _ _ (stretch_past 32 32 1 (k ∷ []) old (omega arith) (omega arith))
+    (stretch_past 64 32 1 (k ∷ []) old (omega arith) (omega arith))
 
 pub chosen_slot : (k j : ℕ) (old : List ℕ) → length old ≡ session_length → slot j (chosen_session k old) ≡ slot j old
 chosen_slot k j old long = stretch_past (header_length + slot_length * j) slot_length 1 (k ∷ []) old (omega arith) (omega arith)

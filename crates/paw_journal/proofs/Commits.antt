@@ -9,7 +9,7 @@ use Rattle.paw_journal.specs.declared.layout.Slot.TheVariants as which
 use Rattle.paw_journal.specs.declared.drafting.SlotState.{SlotState}
 use Rattle.paw_journal.specs.declared.drafting.Draft.{Draft}
 use Rattle.paw_journal.specs.Session.{Shown, recover, recover_by, chosen, slot, slot_length, session_length}
-use Rattle.paw_journal.specs.Session.{slot_shows, stretch, kept_digest, piece_length, state_length, committed, committed_in}
+use Rattle.paw_journal.specs.Session.{slot_shows, stretch, kept_digests, piece_length, state_length, committed, committed_in}
 use Rattle.paw_journal.specs.inner.Room.{Room, kept_slot, kept_of, with_slot_kept, KeepsSlots, slot_number}
 use Rattle.paw_journal.specs.inner.Written.{most_written}
 use Rattle.paw_journal.specs.inner.Steps.{IsSpare, IsFilling, Drafts, start_of, written_slot, written_session, chosen_session}
@@ -21,7 +21,7 @@ use Rattle.paw_journal.proofs.Chooses.{slot_small}
 use Rattle.paw_journal.proofs.Recovers.{recover_made, shown_made}
 use Rattle.paw_journal.proofs.Kept.{IsKept, is_kept, kept_shows, written_piece}
 use Rattle.paw_journal.proofs.Slots.{state_stays, piece_stays}
-use Rattle.paw_journal.proofs.Fills.{filled_made, filled_digest, filling_put, slot_long}
+use Rattle.paw_journal.proofs.Fills.{filled_made, filled_digests, filling_put, slot_long}
 
 -- what a room keeps of a slot
 pub keeps_of : (w : Slot) (room : Room) (bytes : List ℕ) → KeepsSlots room bytes → kept_of w room ≡ kept_slot (slot (slot_number w) bytes)
@@ -45,16 +45,16 @@ module _ (k : ℕ) (draft : Draft) (kept : Option SlotState) (state bytes piece 
     committed_kept = ap kept_slot w ∙ d.gives (slot k s.disk.bytes) piece long (sym e) short
 
     -- and shows it with the new piece
-    pub committed_shows : piece_length state ≡ length piece → recover_by k t.disk.bytes ≡ Shown (kept_digest s.disk.bytes) (take state_length state) piece
+    pub committed_shows : piece_length state ≡ length piece → recover_by k t.disk.bytes ≡ Shown (kept_digests s.disk.bytes) (take state_length state) piece
     committed_shows names =
         let h : IsKept (slot k t.disk.bytes) draft.records state = is_kept (slot k t.disk.bytes) draft.records state committed_kept in
         let p : stretch 4160 (piece_length state) (slot k t.disk.bytes) ≡ piece =
         ap (λ n. stretch 4160 n (slot k t.disk.bytes)) names
         ∙ (ap (stretch 4160 (length piece)) w ∙ written_piece draft.records draft.at bytes piece (slot k s.disk.bytes) long d.inside short h.few) in
         recover_made k t.disk.bytes (filled_made k s t f)
-        ∙ (ap (λ x. slot_shows x (slot k t.disk.bytes)) (filled_digest k s t f)
-        ∙ (kept_shows (kept_digest s.disk.bytes) (slot k t.disk.bytes) draft.records state h
-        ∙ ap (Shown (kept_digest s.disk.bytes) (take state_length state)) p))
+        ∙ (ap (λ x. slot_shows x (slot k t.disk.bytes)) (filled_digests k s t f)
+        ∙ (kept_shows (kept_digests s.disk.bytes) (slot k t.disk.bytes) draft.records state h
+        ∙ ap (Shown (kept_digests s.disk.bytes) (take state_length state)) p))
 
 -- ---- the bytes that it leaves ----
 
@@ -161,12 +161,12 @@ pub committed_keeps : (w : Slot) (x : SlotState) (old drafted held now : Room) (
     (s t u : Standing) → KeepsSlots old s.disk.bytes → drafted ≡ record old { slot = drafted.slot } →
     held ≡ record drafted { state = state; piece = piece } → now ≡ with_slot_kept w (Some x) held → IsAtRest u →
     chosen u.disk.bytes ≡ slot_number w →
-    recover u.disk.bytes ≡ Shown (kept_digest s.disk.bytes) (take state_length state) piece →
-    kept_digest u.disk.bytes ≡ kept_digest s.disk.bytes →
+    recover u.disk.bytes ≡ Shown (kept_digests s.disk.bytes) (take state_length state) piece →
+    kept_digests u.disk.bytes ≡ kept_digests s.disk.bytes →
     slot (1 - slot_number w) t.disk.bytes ≡ slot (1 - slot_number w) s.disk.bytes →
     kept_slot (slot (slot_number w) t.disk.bytes) ≡ Some x →
     ((k : ℕ) → k < 2 → slot k u.disk.bytes ≡ slot k t.disk.bytes) → KeptIn (record { slot = w }) now u
-committed_keeps w x old drafted held now state piece s t u h d e f rests chooses shows digest other new same =
+committed_keeps w x old drafted held now state piece s t u h d e f rests chooses shows digests other new same =
     let a : now.state ≡ state = ap (λ r. r.state) f ∙ (state_stays w (Some x) held ∙ ap (λ r. r.state) e) in
     let b : now.piece ≡ piece = ap (λ r. r.piece) f ∙ (piece_stays w (Some x) held ∙ ap (λ r. r.piece) e) in
     let one : held.first ≡ old.first = ap (λ r. r.first) e ∙ ap (λ r. r.first) d in
@@ -174,9 +174,9 @@ committed_keeps w x old drafted held now state piece s t u h d e f rests chooses
     record {
       rests = rests;
       chosen = chooses;
-      shown = shows ∙ (ap (λ y. Shown y (take state_length state) piece) (sym digest)
-          ∙ (ap (λ l. Shown (kept_digest u.disk.bytes) (take state_length l) piece) (sym a)
-          ∙ ap (Shown (kept_digest u.disk.bytes) (take state_length now.state)) (sym b)));
+      shown = shows ∙ (ap (λ y. Shown y (take state_length state) piece) (sym digests)
+          ∙ (ap (λ l. Shown (kept_digests u.disk.bytes) (take state_length l) piece) (sym a)
+          ∙ ap (Shown (kept_digests u.disk.bytes) (take state_length now.state)) (sym b)));
       slots = committed_slots w (Some x) old now s.disk.bytes t.disk.bytes u.disk.bytes h
           (ap (λ r. r.first) f ∙ same_first w (Some x) held old one)
           (ap (λ r. r.second) f ∙ same_second w (Some x) held old two) other new same;

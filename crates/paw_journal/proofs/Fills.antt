@@ -4,12 +4,12 @@ use Rattle.paw_stage.specs.Disk.{Disk, put, stable, IsStable, touched}
 use Rattle.paw_stage.specs.Stage.{Standing, wrote}
 use Rattle.paw_stage.specs.Moments.{Moment, Passes, InWrite, InSync}
 use Rattle.paw_stage.proofs.Time.{Passes_on}
-use Rattle.paw_journal.specs.Session.{recover, recover_by, is_version, slot, chosen, kept_digest, session_length, header_length, slot_length}
+use Rattle.paw_journal.specs.Session.{recover, recover_by, is_version, slot, chosen, kept_digests, session_length, header_length, slot_length}
 use Rattle.paw_journal.specs.inner.Store.{IsBeside, InStore, Leaves, LeavesSame}
 use Rattle.paw_journal.specs.inner.Steps.{IsMade, IsSpare, IsWithin, IsFilling, KeepsFilling, start_of}
 use Rattle.paw_journal.proofs.Parts.{stretch_same}
 use Rattle.paw_journal.proofs.Puts.{stretch_put, stretch_long, put_nothing, put_between}
-use Rattle.paw_journal.proofs.Recovers.{recover_is, recover_by_same}
+use Rattle.paw_journal.proofs.Recovers.{recover_is, recover_by_same, same_digests}
 use Rattle.paw_journal.proofs.Disks.{within_stable, within_long, within_same, put_within}
 use Rattle.paw_journal.proofs.Moved.{IsMoved, beside_none, moved_wrote, in_moved_write, in_moved_sync}
 
@@ -131,8 +131,8 @@ filled_made k s t h = record {
   versioned = ap is_version (h.within.same 2 (inl (omega arith))) ∙ h.made.versioned;
 }
 
-pub filled_digest : (k : ℕ) (s t : Standing) → IsFilling k s t → kept_digest t.disk.bytes ≡ kept_digest s.disk.bytes
-filled_digest k s t h = stretch_same 32 32 t.disk.bytes s.disk.bytes h.within.long (λ i l u. h.within.same i (inl (omega arith)))
+pub filled_digests : (k : ℕ) (s t : Standing) → IsFilling k s t → kept_digests t.disk.bytes ≡ kept_digests s.disk.bytes
+filled_digests k s t h = same_digests t.disk.bytes s.disk.bytes h.within.long (λ i l u. h.within.same i (inl (omega arith)))
 
 pub filled_before : (k : ℕ) (s t : Standing) → IsFilling k s t → recover_by (1 - k) t.disk.bytes ≡ recover s.disk.bytes
 filled_before k s t h =

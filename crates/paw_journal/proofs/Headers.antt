@@ -3,9 +3,10 @@ use Rattle.std.proofs.Common.{◌≡◌, ◌≢◌, ℕ, ◌%◌, ◌<◌, true,
 use Rattle.std.proofs.lemmas.List.{get_or-take, nil_from_length}
 use Rattle.paw_journal.specs.declared.refusal.SessionPart.TheVariants as part
 use Rattle.paw_journal.specs.Session.{Unmade, Damaged, recover, recover_by, slot, mark, version, is_version, stretch, header_length, session_length, made_mark}
+use Rattle.paw_journal.specs.inner.Session.{digests_of}
 use Rattle.paw_journal.specs.inner.Steps.{Introduces}
 use Rattle.paw_journal.proofs.Parts.{stretch_stretch}
-use Rattle.paw_journal.proofs.Recovers.{unmade_is}
+use Rattle.paw_journal.proofs.Recovers.{unmade_is, both_digests}
 
 first_byte : (n i : ℕ) (bytes whole : List ℕ) → i < n → bytes ≡ take n whole → get_or bytes i 0 ≡ get_or whole i 0
 first_byte n i bytes whole low e = ap (λ l. get_or l i 0) e ∙ get_or-take n whole i 0 low
@@ -34,10 +35,11 @@ other_version bytes whole n b m ne =
     let v : is_version (version whole) ≡ false = ap is_version (sym (first_byte 128 2 bytes whole (omega arith) b)) ∙ ne in
     rw (n, k, v) refl
 
-pub introduces : (slot : ℕ) (digest bytes whole : List ℕ) → length whole ≡ session_length →
+pub introduces : (slot : ℕ) (game routines bytes whole : List ℕ) → length whole ≡ session_length →
     bytes ≡ take header_length whole → get_or bytes 0 0 ≡ made_mark → is_version (get_or bytes 2 0) ≡ true →
-    slot ≡ get_or bytes 1 0 % 2 → digest ≡ stretch 32 32 bytes → Introduces slot digest whole
-introduces slot digest bytes whole n b m v s d = record {
+    slot ≡ get_or bytes 1 0 % 2 → game ≡ stretch 32 32 bytes → routines ≡ stretch 64 32 bytes →
+    Introduces slot (digests_of game routines) whole
+introduces slot game routines bytes whole n b m v s d e = record {
   made = record {
     long = n;
     marked = sym (first_byte 128 0 bytes whole (omega arith) b) ∙ m;
@@ -45,5 +47,6 @@ introduces slot digest bytes whole n b m v s d = record {
         ap is_version (sym (first_byte 128 2 bytes whole (omega arith) b)) ∙ v;
   };
   slot = s ∙ ap (λ x. x % 2) (first_byte 128 1 bytes whole (omega arith) b);
-  digest = d ∙ (ap (stretch 32 32) b ∙ stretch_stretch 32 32 0 128 whole (omega arith));
+  digests = both_digests _ _ _ _ (d ∙ (ap (stretch 32 32) b ∙ stretch_stretch 32 32 0 128 whole (omega arith)))
+      (e ∙ (ap (stretch 64 32) b ∙ stretch_stretch 64 32 0 128 whole (omega arith)));
 }

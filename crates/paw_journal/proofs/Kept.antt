@@ -6,7 +6,7 @@ use Rattle.paw_stage.specs.Disk.{put}
 use Rattle.paw_journal.specs.declared.refusal.SessionPart.TheVariants as part
 use Rattle.paw_journal.specs.declared.drafting.SlotState.{SlotState}
 use Rattle.paw_journal.specs.declared.drafting.Draft.{Draft}
-use Rattle.paw_journal.specs.Session.{Damaged, Shown, stretch, two_byte_number, base, changes, changed, first_unsound, slot_changes, slot_state, is_second}
+use Rattle.paw_journal.specs.Session.{Digests, Damaged, Shown, stretch, two_byte_number, base, changes, changed, first_unsound, slot_changes, slot_state, is_second}
 use Rattle.paw_journal.specs.Session.{has_state, differing, differences, slot_head, rewritten, records_with, takes_changes, committed_slot}
 use Rattle.paw_journal.specs.Session.{shown_state, first_length, zeros, slot_piece, slot_shows, shown_unless, most_changes, piece_length, state_length}
 use Rattle.paw_journal.specs.inner.Room.{kept_slot}
@@ -90,26 +90,26 @@ is_kept bytes records state e =
     }
 
 -- a slot that has a state shows it, in the form of its version
-pub sound_shows : (digest bytes : List ℕ) → has_state bytes ≡ true → slot_shows digest bytes ≡ Shown digest (shown_state bytes) (slot_piece bytes)
+pub sound_shows : (digests : Digests) (bytes : List ℕ) → has_state bytes ≡ true → slot_shows digests bytes ≡ Shown digests (shown_state bytes) (slot_piece bytes)
 unfolding slot_shows
-sound_shows digest bytes e =
+sound_shows digests bytes e =
     let t = tests (two_byte_number 0 bytes) (first_unsound (slot_changes bytes)) e in
-    ap (λ b. if b then shown_unless digest bytes (first_unsound (slot_changes bytes)) else Damaged part.Slot 0) (low (two_byte_number 0 bytes) t.0)
-    ∙ ap (shown_unless digest bytes) t.1
+    ap (λ b. if b then shown_unless digests bytes (first_unsound (slot_changes bytes)) else Damaged part.Slot 0) (low (two_byte_number 0 bytes) t.0)
+    ∙ ap (shown_unless digests bytes) t.1
   where
     low : (n : ℕ) → n ≤ 4096 → nat_le n most_changes ≡ true
     low n h = grind (arith, nat_tests)
 
-pub kept_shows : (digest bytes : List ℕ) (records : ℕ) (state : List ℕ) → IsKept bytes records state →
-    slot_shows digest bytes ≡ Shown digest (take state_length state) (stretch 4160 (piece_length state) bytes)
-kept_shows digest bytes records state h =
+pub kept_shows : (digests : Digests) (bytes : List ℕ) (records : ℕ) (state : List ℕ) → IsKept bytes records state →
+    slot_shows digests bytes ≡ Shown digests (take state_length state) (stretch 4160 (piece_length state) bytes)
+kept_shows digests bytes records state h =
     let r : stretch 69696 (4 * two_byte_number 0 bytes) bytes ≡ stretch 69696 (4 * records) bytes = ap (λ n. stretch 69696 (4 * n) bytes) h.number in
     let t : has_state bytes ≡ true = has_state_is bytes (omega (arith, h.number, h.few)) (ap (λ l. first_unsound (changes l)) r ∙ h.sound) in
     let s : slot_state bytes ≡ state = ap (λ l. changed (changes l) (base bytes)) r ∙ h.told in
-    sound_shows digest bytes t
-    ∙ (ap (λ b. Shown digest (if b then take state_length (slot_state bytes) else take first_length (slot_state bytes)
+    sound_shows digests bytes t
+    ∙ (ap (λ b. Shown digests (if b then take state_length (slot_state bytes) else take first_length (slot_state bytes)
     ++ zeros 2048) (slot_piece bytes)) h.second
-    ∙ ap (λ l. Shown digest (take state_length l) (stretch 4160 (piece_length l) bytes)) s)
+    ∙ ap (λ l. Shown digests (take state_length l) (stretch 4160 (piece_length l) bytes)) s)
 
 -- ---- a slot that was written ----
 

@@ -1,15 +1,17 @@
 -- A session that is being made, and what a crash leaves of it.
 use Rattle.std.proofs.Common.{◌≡◌, ℕ, suc, ◌+◌, ◌≤◌, ◌<◌, max, false, List, [], ◌∷◌, ◌++◌, length, take, drop, refl, sym, ap, subst, ◌∙◌, arith, get_or, inl}
-use Rattle.std.proofs.Common.{inr, ◌⊎◌}
+use Rattle.std.proofs.Common.{inr, ◌⊎◌, append_assoc}
+use Rattle.std.specs.Prelude.{replicate}
 use Rattle.std.proofs.lemmas.Bool.{cases_eq}
 use Rattle.std.proofs.lemmas.Bool.Decides.{nat_tests}
-use Rattle.std.proofs.lemmas.List.{length-append, length-drop, length-replicate, take_all, ext_get_or}
+use Rattle.std.proofs.lemmas.List.{length-append, length-drop, length-replicate, take_all, take_at, drop_at, ext_get_or}
 use Rattle.paw_stage.specs.Disk.{Range, Disk, is_dirty, IsInWrite, put, IsStable, touched}
 use Rattle.paw_stage.specs.Stage.{Standing, wrote, with_written}
 use Rattle.paw_stage.specs.Moments.{Moment, Passes, InWrite, InSync}
 use Rattle.paw_stage.proofs.Time.{Passes_map, Passes_on}
-use Rattle.paw_journal.specs.Session.{IsUnmade, recover, mark, zeros, made_mark, session_length}
+use Rattle.paw_journal.specs.Session.{Digests, IsUnmade, recover, mark, zeros, made_mark, session_length}
 use Rattle.paw_journal.specs.Session.{made_header}
+use Rattle.paw_journal.specs.inner.Session.{digests_of}
 use Rattle.paw_journal.specs.inner.Store.{IsBeside, InStore, Leaves, LeavesUnmade}
 use Rattle.paw_journal.specs.inner.Steps.{IsBlank, IsWithin}
 use Rattle.paw_journal.proofs.Parts.{put_below, put_end}
@@ -78,26 +80,53 @@ pub length_zeros : (n : ℕ) → length (zeros n) ≡ n
 unfolding zeros
 length_zeros n = length-replicate n 0
 
-pub length_header : (first : ℕ) (game : List ℕ) → length game ≡ 32 → length (made_header first game) ≡ 128
-length_header first game n =
-    omega (
+-- both digests have 32 bytes
+abbrev pub AreLong : Digests → Type 0
+AreLong digests = (length digests.game ≡ 32) × (length digests.routines ≡ 32)
+
+pub length_header : (first : ℕ) (digests : Digests) → AreLong digests → length (made_header first digests) ≡ 128
+length_header first digests n = header (first ∷ 0 ∷ 2 ∷ zeros 29) digests.game digests.routines (zeros 32)
+    (omega (arith, length_zeros 29)) n.0 n.1 (length_zeros 32)
+  where
+    header : (head game routines behind : List ℕ) → length head ≡ 32 → length game ≡ 32 → length routines ≡ 32 →
+        length behind ≡ 32 → length (head ++ game ++ routines ++ behind) ≡ 128
+    header head game routines behind h n m b = omega (
       arith,
-      length-append ((first ∷ 0 ∷ 2 ∷ zeros 29) ++ game) (zeros 64),
-      length-append
-          (first ∷ 0 ∷ 2 ∷ zeros 29) game,
-      length_zeros 29,
-      length_zeros 64,
+      length-append (head ++ game ++ routines) behind,
+      length-append (head ++ game) routines,
+      length-append head game,
     )
 
+-- bytes written over as many others
+put_over : (at : ℕ) (a b c new : List ℕ) → length a ≡ at → length new ≡ length b → put at new (a ++ b ++ c) ≡ a ++ new ++ c
+put_over at a b c new n m =
+    ap (λ x. x ++ new ++ drop (at + length new) (a ++ b ++ c)) (ap (take at) (append_assoc a b c) ∙ take_at a (b ++ c) at n)
+    ∙ ap (λ x. a ++ new ++ x) (drop_at (a ++ b) c (at + length new) (omega (arith, length-append a b)))
+
+-- the digests written into a header that has none
+pub header_is : (game routines : List ℕ) → length game ≡ 32 → length routines ≡ 32 →
+    put 64 routines (put 32 game (0 ∷ 0 ∷ 2 ∷ replicate 125 0)) ≡ made_header 0 (digests_of game routines)
+unfolding zeros
+header_is game routines n m = over (0 ∷ 0 ∷ 2 ∷ replicate 29 0) (replicate 32 0) (replicate 32 0) (replicate 32 0) refl refl n m
+  where
+    over : (head one two behind : List ℕ) → length head ≡ 32 → length one ≡ 32 → length game ≡ 32 → length routines ≡ length two →
+        put 64 routines (put 32 game (head ++ one ++ two ++ behind)) ≡ head ++ game ++ routines ++ behind
+    over head one two behind h o n m =
+        ap (λ x. put 64 routines (put 32 game x)) (append_assoc (head ++ one) two behind)
+        ∙ (ap (put 64 routines) (put_over 32 head one (two ++ behind) game h (n ∙ sym o))
+        ∙ (ap (put 64 routines) (sym (append_assoc (head ++ game) two behind))
+        ∙ put_over 64 (head ++ game) two behind routines (omega (arith, length-append head game)) m))
+
 -- the header without its first byte, behind that byte
-pub header_written : (game header old : List ℕ) → length game ≡ 32 → header ≡ made_header 0 game → old ≡ 0 ∷ [] →
-    put 1 (take 127 (drop 1 header)) old ≡ made_header 0 game
-header_written game header old n e o =
-    let l : length (drop 1 (made_header 0 game)) ≤ 127 = omega (arith, length-drop 1 (made_header 0 game), length_header 0 game n) in
+pub header_written : (digests : Digests) (header old : List ℕ) → AreLong digests → header ≡ made_header 0 digests →
+    old ≡ 0 ∷ [] → put 1 (take 127 (drop 1 header)) old ≡ made_header 0 digests
+header_written digests header old n e o =
+    let l : length (drop 1 (made_header 0 digests)) ≤ 127 =
+    omega (arith, length-drop 1 (made_header 0 digests), length_header 0 digests n) in
     ap (λ x. put 1 (take 127 (drop 1 header)) x) o
     ∙ (put_end 1 (take 127 (drop 1 header)) (0 ∷ []) refl
     ∙ (ap (λ h. 0 ∷ take 127 (drop 1 h)) e
-    ∙ ap (λ x. 0 ∷ x) (take_all 127 (drop 1 (made_header 0 game)) l)))
+    ∙ ap (λ x. 0 ∷ x) (take_all 127 (drop 1 (made_header 0 digests)) l)))
 
 -- while the mark is written a crash leaves no session, or the one that is marked
 pub marking : (old : List ℕ) (d : Disk) → length old ≡ session_length → IsWithin 0 1 old d → Leaves (λ r. IsUnmade r ⊎ (r ≡ recover (made_mark ∷ drop 1 old))) d

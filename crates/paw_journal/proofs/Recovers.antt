@@ -1,10 +1,11 @@
 -- What bytes stand for, by the parts that tell it.
-use Rattle.std.proofs.Common.{◌≡◌, ◌≢◌, ℕ, ◌+◌, ◌*◌, ◌≤◌, ◌<◌, Bool, true, false, List, length, refl, ap, arith, get_or, ◌⊎◌, inl, inr}
+use Rattle.std.proofs.Common.{◌≡◌, ◌≢◌, ℕ, ◌+◌, ◌*◌, ◌≤◌, ◌<◌, Bool, true, false, List, length, refl, ap, ◌∙◌, arith, get_or, ◌⊎◌, inl, inr}
 use Rattle.std.specs.Prelude.{if◌then◌else◌, ◌==◌, ◌&&◌}
 use Rattle.std.proofs.lemmas.Bool.Decides.{nat_tests}
 use Rattle.paw_journal.specs.declared.refusal.SessionPart.TheVariants as part
 use Rattle.paw_journal.specs.Session.{Recovered, Unmade, Damaged, Shown, IsUnmade, recover, recover_by, slot_shows, slot, chosen, mark, version, is_version}
-use Rattle.paw_journal.specs.Session.{kept_digest, session_length, slot_length, header_length, made_mark}
+use Rattle.paw_journal.specs.Session.{Digests, kept_digests, stretch, session_length, slot_length, header_length, made_mark}
+use Rattle.paw_journal.specs.inner.Session.{digests_of}
 use Rattle.paw_journal.specs.inner.Steps.{IsMade}
 use Rattle.paw_journal.proofs.Parts.{stretch_same}
 
@@ -12,9 +13,20 @@ pub recover_is : (k : ℕ) (a : List ℕ) → chosen a ≡ k → recover a ≡ r
 unfolding recover
 recover_is k a e = ap (λ j. recover_by j a) e
 
+-- digests are the same where both are
+pub both_digests : (g h r s : List ℕ) → g ≡ h → r ≡ s → digests_of g r ≡ digests_of h s
+both_digests g h r s e f = ap (λ x. digests_of x r) e ∙ ap (digests_of h) f
+
+-- so bytes 32 to 95 alone tell whose session it is
+pub same_digests : (a b : List ℕ) → length a ≡ length b →
+    ((i : ℕ) → 32 ≤ i → i < 96 → get_or a i 0 ≡ get_or b i 0) → kept_digests a ≡ kept_digests b
+same_digests a b n same = both_digests (stretch 32 32 a) (stretch 32 32 b) (stretch 64 32 a) (stretch 64 32 b)
+    (stretch_same 32 32 a b n (λ i low high. same i low (omega arith)))
+    (stretch_same 64 32 a b n (λ i low high. same i (omega arith) high))
+
 -- the parts alone tell what bytes stand for
 pub recover_by_parts : (k : ℕ) (a b : List ℕ) → length a ≡ length b → mark a ≡ mark b → version a ≡ version b →
-    kept_digest a ≡ kept_digest b → slot k a ≡ slot k b → recover_by k a ≡ recover_by k b
+    kept_digests a ≡ kept_digests b → slot k a ≡ slot k b → recover_by k a ≡ recover_by k b
 unfolding recover_by
 recover_by_parts k a b n m v d s = cc
 
@@ -25,11 +37,11 @@ pub recover_by_same : (k : ℕ) (a b : List ℕ) → length a ≡ length b →
     get_or a i 0 ≡ get_or b i 0) → recover_by k a ≡ recover_by k b
 recover_by_same k a b n header slots =
     recover_by_parts k a b n (header 0 (omega arith) (λ e. omega arith)) (header 2 (omega arith) (λ e. omega arith))
-    (stretch_same 32 32 a b n (λ i low high. header i (omega arith) (λ e. omega arith)))
+    (same_digests a b n (λ i low high. header i (omega arith) (λ e. omega arith)))
     (stretch_same _ _ a b n slots)
 
 -- a session that is made stands for what its slot shows
-pub recover_made : (k : ℕ) (a : List ℕ) → IsMade a → recover_by k a ≡ slot_shows (kept_digest a) (slot k a)
+pub recover_made : (k : ℕ) (a : List ℕ) → IsMade a → recover_by k a ≡ slot_shows (kept_digests a) (slot k a)
 unfolding recover_by
 recover_made k a h = rw (h.long, h.marked, h.versioned) refl
 
@@ -49,19 +61,19 @@ pub unmade : (a : List ℕ) → (length a ≢ session_length) ⊎ (mark a ≢ ma
 unmade a h = let e = unmade_is a h in rw e tt
 
 -- bytes that show a state and a piece are those of a session that is made
-pub shown_made : (bytes digest state piece : List ℕ) → recover bytes ≡ Shown digest state piece → IsMade bytes
+pub shown_made : (bytes : List ℕ) (digests : Digests) (state piece : List ℕ) → recover bytes ≡ Shown digests state piece → IsMade bytes
 unfolding recover recover_by
-shown_made bytes digest state piece e =
+shown_made bytes digests state piece e =
     let t = tests (length bytes == session_length) (mark bytes == made_mark) (is_version (version bytes)) _ _ _ _ _ _ e in
     record { long = is_true _ _ t.0; marked = is_true _ _ t.1; versioned = t.2 }
   where
-    tests : (a b c : Bool) (x : Recovered) (n m : ℕ) (digest state piece : List ℕ) →
-        (if a && b then (if c then x else Damaged part.Header 2) else Unmade n m) ≡ Shown digest state piece →
+    tests : (a b c : Bool) (x : Recovered) (n m : ℕ) (digests : Digests) (state piece : List ℕ) →
+        (if a && b then (if c then x else Damaged part.Header 2) else Unmade n m) ≡ Shown digests state piece →
         (a ≡ true) × (b ≡ true) × (c ≡ true)
-    tests true true true x n m digest state piece e = (refl, refl, refl)
-    tests true true false x n m digest state piece e = cc
-    tests true false c x n m digest state piece e = cc
-    tests false b c x n m digest state piece e = cc
+    tests true true true x n m digests state piece e = (refl, refl, refl)
+    tests true true false x n m digests state piece e = cc
+    tests true false c x n m digests state piece e = cc
+    tests false b c x n m digests state piece e = cc
 
     is_true : (x y : ℕ) → (x == y) ≡ true → x ≡ y
     is_true x y e = grind (arith, nat_tests)

@@ -1,7 +1,7 @@
 -- A session as it is made, and what the calls of a journal leave.
 use Rattle.std.proofs.Common.{◌≡◌, ◌≢◌, ℕ, ◌+◌, ◌-◌, ◌*◌, ◌≤◌, ◌<◌, List, ◌∷◌, ◌++◌, length, take, drop, refl, sym, ap, subst, ◌∙◌, arith, get_or, append_assoc}
 use Rattle.std.proofs.Common.{inl, inr, ◌⊎◌}
-use Rattle.std.specs.Prelude.{Bool, true, false, not, Option, Some, IsSome}
+use Rattle.std.specs.Prelude.{Bool, true, false, not, replicate, Option, Some, IsSome}
 use Rattle.std.specs.Str.{bytes_eq}
 use Rattle.std.proofs.lemmas.List.{length-append, take_at, take_all, drop_at}
 use Rattle.std.proofs.lemmas.Slice.Eq.{bytes_eq-Decides}
@@ -14,13 +14,13 @@ use Rattle.paw_journal.specs.declared.layout.Slot.{Slot}
 use Rattle.paw_journal.specs.declared.layout.Slot.TheVariants as which
 use Rattle.paw_journal.specs.inner.Journal.{IsAtRest, KeptIn}
 use Rattle.paw_journal.specs.inner.Room.{Room, kept_slot, with_slot_kept, KeepsSlots, slot_number}
-use Rattle.paw_journal.specs.Session.{Recovered, Shown, IsUnmade, recover, slot_shows, slot, stretch, base, chosen, kept_digest, piece_length, state_length}
+use Rattle.paw_journal.specs.Session.{Digests, Recovered, Shown, IsUnmade, recover, slot_shows, slot, stretch, base, chosen, kept_digests, piece_length, state_length}
 use Rattle.paw_journal.specs.Session.{session_length, slot_length, zeros, made_mark}
 use Rattle.paw_journal.specs.Session.{made_header, made_slot, made_session}
 use Rattle.paw_journal.specs.inner.Store.{IsBeside, InStore, Leaves, IsEither}
 use Rattle.paw_journal.specs.inner.Steps.{Introduces}
-use Rattle.paw_journal.proofs.Recovers.{recover_is, recover_made}
-use Rattle.paw_journal.proofs.Makes.{length_zeros, length_header}
+use Rattle.paw_journal.proofs.Recovers.{recover_is, recover_made, both_digests}
+use Rattle.paw_journal.proofs.Makes.{AreLong, length_zeros, length_header}
 use Rattle.paw_journal.proofs.Kept.{IsKept, kept_is, kept_shows}
 use Rattle.paw_journal.proofs.Slots.{state_stays, piece_stays}
 use Rattle.paw_journal.proofs.Disks.{stable_is}
@@ -68,76 +68,89 @@ made_piece state piece n =
 made_slot_kept : (state piece : List ℕ) → length state ≡ 4096 → IsKept (made_slot state piece) 0 state
 made_slot_kept state piece n = record { second = refl; number = no_changes state piece; few = omega arith; sound = refl; told = made_base state piece n }
 
-made_slot_shows : (digest state piece : List ℕ) → length state ≡ 4096 → piece_length state ≡ length piece →
-    slot_shows digest (made_slot state piece) ≡ Shown digest (take state_length state) piece
-made_slot_shows digest state piece n names =
-    kept_shows digest (made_slot state piece) 0 state (made_slot_kept state piece n)
-    ∙ ap (Shown digest (take state_length state)) (ap (λ k. stretch 4160 k (made_slot state piece)) names ∙ made_piece state piece n)
+made_slot_shows : (digests : Digests) (state piece : List ℕ) → length state ≡ 4096 → piece_length state ≡ length piece →
+    slot_shows digests (made_slot state piece) ≡ Shown digests (take state_length state) piece
+made_slot_shows digests state piece n names =
+    kept_shows digests (made_slot state piece) 0 state (made_slot_kept state piece n)
+    ∙ ap (Shown digests (take state_length state)) (ap (λ k. stretch 4160 k (made_slot state piece)) names ∙ made_piece state piece n)
 
-made_slot_zero : (digest slots behind : List ℕ) → length digest ≡ 32 → length slots ≡ slot_length →
-    slot 0 (made_header made_mark digest ++ slots ++ behind) ≡ slots
-made_slot_zero digest slots behind n l =
-    ap (λ x. take slot_length (drop 128 x)) (append_assoc (made_header made_mark digest) slots behind)
-    ∙ (ap (take slot_length) (drop_at (made_header made_mark digest) (slots ++ behind) 128
-    (length_header made_mark digest n)) ∙ take_at slots behind slot_length l)
+made_slot_zero : (digests : Digests) (slots behind : List ℕ) → AreLong digests → length slots ≡ slot_length →
+    slot 0 (made_header made_mark digests ++ slots ++ behind) ≡ slots
+made_slot_zero digests slots behind n l =
+    ap (λ x. take slot_length (drop 128 x)) (append_assoc (made_header made_mark digests) slots behind)
+    ∙ (ap (take slot_length) (drop_at (made_header made_mark digests) (slots ++ behind) 128
+    (length_header made_mark digests n)) ∙ take_at slots behind slot_length l)
 
-made_slot_one : (digest first slots : List ℕ) → length digest ≡ 32 → length first ≡ slot_length →
-    length slots ≡ slot_length → slot 1 (made_header made_mark digest ++ first ++ slots) ≡ slots
-made_slot_one digest first slots n l m =
-    ap (take slot_length) (drop_at (made_header made_mark digest ++ first) slots 86208
-    (omega (arith, length-append (made_header made_mark digest) first, length_header made_mark digest n)))
+made_slot_one : (digests : Digests) (first slots : List ℕ) → AreLong digests → length first ≡ slot_length →
+    length slots ≡ slot_length → slot 1 (made_header made_mark digests ++ first ++ slots) ≡ slots
+made_slot_one digests first slots n l m =
+    ap (take slot_length) (drop_at (made_header made_mark digests ++ first) slots 86208
+    (omega (arith, length-append (made_header made_mark digests) first, length_header made_mark digests n)))
     ∙ take_all slot_length slots (omega arith)
 
-made_digest : (digest slots behind : List ℕ) → length digest ≡ 32 → kept_digest (made_header made_mark digest ++ slots ++ behind) ≡ digest
-made_digest digest slots behind n =
-    ap (λ x. take 32 (drop 32 x)) (regroup (made_mark ∷ 0 ∷ 2 ∷ zeros 29) digest (zeros 64) slots behind)
-    ∙ (ap (take 32) (drop_at (made_mark ∷ 0 ∷ 2 ∷ zeros 29) _ 32 (head (length_zeros 29))) ∙ take_at digest _ 32 n)
+made_digests : (digests : Digests) (slots behind : List ℕ) → AreLong digests → kept_digests (made_header made_mark digests ++ slots ++ behind) ≡ digests
+made_digests digests slots behind n =
+    both_digests _ _ _ _
+    (of_game (made_mark ∷ 0 ∷ 2 ∷ zeros 29) digests.game digests.routines (zeros 32) slots behind head n.0)
+    (of_routines (made_mark ∷ 0 ∷ 2 ∷ zeros 29) digests.game digests.routines (zeros 32) slots behind head n.0 n.1)
   where
+    head : length (made_mark ∷ 0 ∷ 2 ∷ zeros 29) ≡ 32
+    head = omega (arith, length_zeros 29)
+
     regroup : (a b c d e : List ℕ) → a ++ b ++ c ++ d ++ e ≡ a ++ (b ++ (c ++ (d ++ e)))
     regroup a b c d e = simp append_assoc
 
-    head : length (zeros 29) ≡ 29 → length (made_mark ∷ 0 ∷ 2 ∷ zeros 29) ≡ 32
-    head e = omega (arith, e)
+    of_game : (h g r z s t : List ℕ) → length h ≡ 32 → length g ≡ 32 → stretch 32 32 (h ++ g ++ r ++ z ++ s ++ t) ≡ g
+    of_game h g r z s t k l =
+        ap (λ x. take 32 (drop 32 (x ++ t))) (regroup h g r z s)
+        ∙ (ap (λ x. take 32 (drop 32 x)) (append_assoc h (g ++ (r ++ (z ++ s))) t)
+        ∙ (ap (take 32) (drop_at h _ 32 k) ∙ (ap (take 32) (append_assoc g (r ++ (z ++ s)) t) ∙ take_at g _ 32 l)))
 
-made_long : (digest slots : List ℕ) → length digest ≡ 32 → length slots ≡ slot_length → length (made_header made_mark digest ++ slots ++ slots) ≡ session_length
-made_long digest slots n l = omega (
+    of_routines : (h g r z s t : List ℕ) → length h ≡ 32 → length g ≡ 32 → length r ≡ 32 →
+        stretch 64 32 (h ++ g ++ r ++ z ++ s ++ t) ≡ r
+    of_routines h g r z s t k l m =
+        ap (λ x. take 32 (drop 64 x)) (regroup (h ++ g) r z s t)
+        ∙ (ap (take 32) (drop_at (h ++ g) _ 64 (omega (arith, length-append h g))) ∙ take_at r _ 32 m)
+
+made_long : (digests : Digests) (slots : List ℕ) → AreLong digests → length slots ≡ slot_length → length (made_header made_mark digests ++ slots ++ slots) ≡ session_length
+made_long digests slots n l = omega (
   arith,
-  length-append (made_header made_mark digest ++ slots) slots,
+  length-append (made_header made_mark digests ++ slots) slots,
   length-append
-      (made_header made_mark digest) slots,
-  length_header made_mark digest n,
+      (made_header made_mark digests) slots,
+  length_header made_mark digests n,
 )
 
-pub laid_long : (digest slots : List ℕ) → length digest ≡ 32 → length slots ≡ slot_length → length (made_header 0 digest ++ slots ++ slots) ≡ session_length
-laid_long digest slots n l = omega (
+pub laid_long : (digests : Digests) (slots : List ℕ) → AreLong digests → length slots ≡ slot_length → length (made_header 0 digests ++ slots ++ slots) ≡ session_length
+laid_long digests slots n l = omega (
   arith,
-  length-append (made_header 0 digest ++ slots) slots,
+  length-append (made_header 0 digests ++ slots) slots,
   length-append
-      (made_header 0 digest) slots,
-  length_header 0 digest n,
+      (made_header 0 digests) slots,
+  length_header 0 digests n,
 )
 
-pub session_digest : (digest state piece : List ℕ) → length digest ≡ 32 → kept_digest (made_session digest state piece) ≡ digest
-session_digest digest state piece n = made_digest digest (made_slot state piece) (made_slot state piece) n
+pub session_digests : (digests : Digests) (state piece : List ℕ) → AreLong digests → kept_digests (made_session digests state piece) ≡ digests
+session_digests digests state piece n = made_digests digests (made_slot state piece) (made_slot state piece) n
 
-pub session_shows : (digest state piece : List ℕ) → length digest ≡ 32 → length state ≡ 4096 → length piece ≤ 65535 →
-    piece_length state ≡ length piece → recover (made_session digest state piece)
-    ≡ Shown digest (take state_length state) piece
-session_shows digest state piece n m few names =
+pub session_shows : (digests : Digests) (state piece : List ℕ) → AreLong digests → length state ≡ 4096 → length piece ≤ 65535 →
+    piece_length state ≡ length piece → recover (made_session digests state piece)
+    ≡ Shown digests (take state_length state) piece
+session_shows digests state piece n m few names =
     let s = made_slot state piece in
-    let whole = made_session digest state piece in
+    let whole = made_session digests state piece in
     let l : length s ≡ slot_length = length_slot state piece m few in
     recover_is 0 whole refl
-    ∙ (recover_made 0 whole (record { long = made_long digest s n l; marked = refl; versioned = refl })
-    ∙ (ap (λ d. slot_shows d (slot 0 whole)) (session_digest digest state piece n)
-    ∙ (ap (slot_shows digest) (made_slot_zero digest s s n l) ∙ made_slot_shows digest state piece m names)))
+    ∙ (recover_made 0 whole (record { long = made_long digests s n l; marked = refl; versioned = refl })
+    ∙ (ap (λ d. slot_shows d (slot 0 whole)) (session_digests digests state piece n)
+    ∙ (ap (slot_shows digests) (made_slot_zero digests s s n l) ∙ made_slot_shows digests state piece m names)))
 
 -- what a header and the slot that it chooses tell of the whole
-pub introduced_shows : (k : ℕ) (digest held bytes : List ℕ) → Introduces k digest bytes → held ≡ slot k bytes → recover bytes ≡ slot_shows digest held
-introduced_shows k digest held bytes h e =
+pub introduced_shows : (k : ℕ) (digests : Digests) (held bytes : List ℕ) → Introduces k digests bytes → held ≡ slot k bytes → recover bytes ≡ slot_shows digests held
+introduced_shows k digests held bytes h e =
     recover_is k bytes (sym h.slot)
     ∙ (recover_made k bytes h.made
-    ∙ (ap (λ d. slot_shows d (slot k bytes)) (sym h.digest) ∙ ap (slot_shows digest) (sym e)))
+    ∙ (ap (λ d. slot_shows d (slot k bytes)) (sym h.digests) ∙ ap (slot_shows digests) (sym e)))
 
 -- two calls that change nothing
 pub still_on : (b n n' : ℕ) (past since since' : ℕ → Moment → Type 0) (s t : Standing) → t ≡ s →
@@ -161,30 +174,39 @@ pub in_unmade_or : (s t : Standing) (a b : Recovered) (m : Moment) → IsBeside 
 in_unmade_or s t a b m h e i = in_later s t (Leaves (λ r. IsUnmade r ⊎ (r ≡ a))) (Leaves (λ r. IsUnmade r ⊎ (r ≡ b))) m
     h (λ d p image l. elim (p image l) [ inl q ↦ inl q | inr q ↦ inr (q ∙ e) ]) i
 
--- the digest that was found is another one, or the one that was looked for
-pub other_game : (kept game : List ℕ) (ne : Bool) → ne ≡ true → ne ≡ not (bytes_eq kept game) → kept ≢ game
-other_game kept game ne t e q = differs ne _ t e ((bytes_eq-Decides kept game).1 q)
+-- a digest that was found is another one, or the one that was looked for
+pub other_digest : (kept found : List ℕ) (ne : Bool) → ne ≡ true → ne ≡ not (bytes_eq kept found) → kept ≢ found
+other_digest kept found ne t e q = differs ne _ t e ((bytes_eq-Decides kept found).1 q)
   where
     differs : (ne b : Bool) → ne ≡ true → ne ≡ not b → b ≡ true → ⊥
     differs ne true t e q = absurd (cc (t, e))
     differs ne false t e q = absurd (cc q)
 
-pub same_game : (kept game : List ℕ) (ne : Bool) → ne ≡ false → ne ≡ not (bytes_eq kept game) → kept ≡ game
-same_game kept game ne f e = (bytes_eq-Decides kept game).0 (same ne _ f e)
+pub same_digest : (kept found : List ℕ) (ne : Bool) → ne ≡ false → ne ≡ not (bytes_eq kept found) → kept ≡ found
+same_digest kept found ne f e = (bytes_eq-Decides kept found).0 (same ne _ f e)
   where
     same : (ne b : Bool) → ne ≡ false → ne ≡ not b → b ≡ true
     same ne true f e = refl
     same ne false f e = absurd (cc (f, e))
 
+-- so is one that stands for routines that were measured, or for none
+pub measured : (kept : List ℕ) (ne : Bool) → ne ≡ true → ne ≡ not (bytes_eq kept (replicate 32 0)) → kept ≢ zeros 32
+unfolding zeros
+measured kept ne t e = other_digest kept (replicate 32 0) ne t e
+
+pub unmeasured : (kept : List ℕ) (ne : Bool) → ne ≡ false → ne ≡ not (bytes_eq kept (replicate 32 0)) → kept ≡ zeros 32
+unfolding zeros
+unmeasured kept ne f e = same_digest kept (replicate 32 0) ne f e
+
 -- the session is kept where it was found
-pub found_keeps : (w : Slot) (digest : List ℕ) (room : Room) (s t : Standing) → IsAtRest s → t ≡ s →
-    Introduces (slot_number w) digest s.disk.bytes →
-    recover s.disk.bytes ≡ Shown digest (take state_length room.state) room.piece → KeepsSlots room s.disk.bytes →
+pub found_keeps : (w : Slot) (digests : Digests) (room : Room) (s t : Standing) → IsAtRest s → t ≡ s →
+    Introduces (slot_number w) digests s.disk.bytes →
+    recover s.disk.bytes ≡ Shown digests (take state_length room.state) room.piece → KeepsSlots room s.disk.bytes →
     KeptIn (record { slot = w }) room t
-found_keeps w digest room s t r e h f slots = subst (λ u. KeptIn (record { slot = w }) room u) (sym e) (record {
+found_keeps w digests room s t r e h f slots = subst (λ u. KeptIn (record { slot = w }) room u) (sym e) (record {
   rests = r;
   chosen = sym h.slot;
-  shown = f ∙ ap (λ d. Shown d (take state_length room.state) room.piece) h.digest;
+  shown = f ∙ ap (λ d. Shown d (take state_length room.state) room.piece) h.digests;
   slots = slots;
 })
 
@@ -205,51 +227,51 @@ found_slots which.First which.First bytes a b one two three four state piece n e
 found_slots which.Second which.Second bytes a b one two three four state piece n e f g h k = absurd (omega arith)
 
 -- what the room shows is what it showed before the other slot was read
-pub shown_stays : (digest : List ℕ) (r : Recovered) (o : Slot) (kept : Option SlotState) (two three four : Room) →
-    r ≡ Shown digest (take state_length two.state) two.piece → three ≡ record two { slot = three.slot } →
-    four ≡ with_slot_kept o kept three → r ≡ Shown digest (take state_length four.state) four.piece
-shown_stays digest r o kept two three four s e f =
+pub shown_stays : (digests : Digests) (r : Recovered) (o : Slot) (kept : Option SlotState) (two three four : Room) →
+    r ≡ Shown digests (take state_length two.state) two.piece → three ≡ record two { slot = three.slot } →
+    four ≡ with_slot_kept o kept three → r ≡ Shown digests (take state_length four.state) four.piece
+shown_stays digests r o kept two three four s e f =
     let st : four.state ≡ two.state = ap (λ x. x.state) f ∙ (state_stays o kept three ∙ ap (λ x. x.state) e) in
     let p : four.piece ≡ two.piece = ap (λ x. x.piece) f ∙ (piece_stays o kept three ∙ ap (λ x. x.piece) e) in
-    s ∙ (ap (λ l. Shown digest (take state_length l) two.piece) (sym st) ∙ ap (Shown digest (take state_length four.state)) (sym p))
+    s ∙ (ap (λ l. Shown digests (take state_length l) two.piece) (sym st) ∙ ap (Shown digests (take state_length four.state)) (sym p))
 
 -- a piece whose length a state tells is short
 pub short_piece : (state piece : List ℕ) → ((i : ℕ) → get_or state i 0 < 256) → piece_length state ≡ length piece → length piece ≤ 65535
 short_piece state piece bytes e = omega (arith, bytes 1369, bytes 1370)
 
 -- what is laid out, once it is marked, is the session
-pub marked_session : (digest slots state piece : List ℕ) (d : Disk) →
-    d ≡ stable (made_header 0 digest ++ slots ++ slots) → slots ≡ made_slot state piece →
-    made_mark ∷ drop 1 d.bytes ≡ made_session digest state piece
-marked_session digest slots state piece d e f = ap (λ x. made_mark ∷ drop 1 x.bytes) e ∙ ap (λ x. made_mark ∷ drop 1 (made_header 0 digest ++ x ++ x)) f
+pub marked_session : (digests : Digests) (slots state piece : List ℕ) (d : Disk) →
+    d ≡ stable (made_header 0 digests ++ slots ++ slots) → slots ≡ made_slot state piece →
+    made_mark ∷ drop 1 d.bytes ≡ made_session digests state piece
+marked_session digests slots state piece d e f = ap (λ x. made_mark ∷ drop 1 x.bytes) e ∙ ap (λ x. made_mark ∷ drop 1 (made_header 0 digests ++ x ++ x)) f
 
-made_slots : (digest state piece : List ℕ) (room : Room) → room.first ≡ Some (record { records = 0; state = state }) →
-    room.second ≡ Some (record { records = 0; state = state }) → length digest ≡ 32 → length state ≡ 4096 →
-    length piece ≤ 65535 → KeepsSlots room (made_session digest state piece)
-made_slots digest state piece room f g n m few =
+made_slots : (digests : Digests) (state piece : List ℕ) (room : Room) → room.first ≡ Some (record { records = 0; state = state }) →
+    room.second ≡ Some (record { records = 0; state = state }) → AreLong digests → length state ≡ 4096 →
+    length piece ≤ 65535 → KeepsSlots room (made_session digests state piece)
+made_slots digests state piece room f g n m few =
     let l : length (made_slot state piece) ≡ slot_length = length_slot state piece m few in
     let k : kept_slot (made_slot state piece) ≡ Some (record { records = 0; state = state }) =
     kept_is (made_slot state piece) 0 state (made_slot_kept state piece m) in
     record {
-      first = f ∙ (sym k ∙ ap kept_slot (sym (made_slot_zero digest (made_slot state piece) (made_slot state piece) n l)));
-      second = g ∙ (sym k ∙ ap kept_slot (sym (made_slot_one digest (made_slot state piece) (made_slot state piece) n l l)));
+      first = f ∙ (sym k ∙ ap kept_slot (sym (made_slot_zero digests (made_slot state piece) (made_slot state piece) n l)));
+      second = g ∙ (sym k ∙ ap kept_slot (sym (made_slot_one digests (made_slot state piece) (made_slot state piece) n l l)));
     }
 
 -- and it is kept
-pub made_keeps : (digest state piece bytes : List ℕ) (room : Room) (s t : Standing) → IsAtRest s →
-    t.attached ≡ s.attached → t.disk ≡ stable bytes → bytes ≡ made_session digest state piece → room.state ≡ state →
+pub made_keeps : (digests : Digests) (state piece bytes : List ℕ) (room : Room) (s t : Standing) → IsAtRest s →
+    t.attached ≡ s.attached → t.disk ≡ stable bytes → bytes ≡ made_session digests state piece → room.state ≡ state →
     room.piece ≡ piece → room.first ≡ Some (record { records = 0; state = state }) →
-    room.second ≡ Some (record { records = 0; state = state }) → length digest ≡ 32 → length state ≡ 4096 →
+    room.second ≡ Some (record { records = 0; state = state }) → AreLong digests → length state ≡ 4096 →
     length piece ≤ 65535 → piece_length state ≡ length piece → KeptIn (record { slot = which.First }) room t
-made_keeps digest state piece bytes room s t r a d b e f one two n m few names =
-    let h : t.disk.bytes ≡ made_session digest state piece = ap (λ x. x.bytes) d ∙ b in
-    let k : kept_digest t.disk.bytes ≡ digest = ap kept_digest h ∙ session_digest digest state piece n in
+made_keeps digests state piece bytes room s t r a d b e f one two n m few names =
+    let h : t.disk.bytes ≡ made_session digests state piece = ap (λ x. x.bytes) d ∙ b in
+    let k : kept_digests t.disk.bytes ≡ digests = ap kept_digests h ∙ session_digests digests state piece n in
     record {
       rests = record { attached = subst (λ x. IsSome x) (sym a) r.attached; stable = subst (λ x. IsStable x) (sym d) (stable_is bytes) };
       chosen = ap chosen h;
-      shown = ap recover h ∙ (session_shows digest state piece n m few names
+      shown = ap recover h ∙ (session_shows digests state piece n m few names
           ∙ (ap (λ x. Shown x (take state_length state) piece) (sym k)
-          ∙ (ap (λ x. Shown (kept_digest t.disk.bytes) (take state_length x) piece) (sym e)
-          ∙ ap (Shown (kept_digest t.disk.bytes) (take state_length room.state)) (sym f))));
-      slots = subst (KeepsSlots room) (sym h) (made_slots digest state piece room one two n m few);
+          ∙ (ap (λ x. Shown (kept_digests t.disk.bytes) (take state_length x) piece) (sym e)
+          ∙ ap (Shown (kept_digests t.disk.bytes) (take state_length room.state)) (sym f))));
+      slots = subst (KeepsSlots room) (sym h) (made_slots digests state piece room one two n m few);
     }

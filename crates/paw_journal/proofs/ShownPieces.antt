@@ -1,9 +1,9 @@
--- How long a state and a piece are that bytes show.
+-- How long a state and a piece are that bytes show, and whose session they are of.
 use Rattle.std.proofs.Common.{◌≡◌, ℕ, ◌-◌, ◌≤◌, Bool, true, false, List, ◌++◌, Option, Some, None, length, take, drop, refl, sym, ap, ◌∙◌, arith, get_or}
 use Rattle.std.specs.Prelude.{if◌then◌else◌, nat_le}
 use Rattle.std.proofs.lemmas.List.{length-append, length-take-le, length-drop, get_or-take}
 use Rattle.paw_journal.specs.declared.refusal.SessionPart.TheVariants as part
-use Rattle.paw_journal.specs.Session.{Damaged, Shown, recover, chosen, kept_digest, slot, slot_shows, shown_unless, first_unsound, slot_changes, slot_state}
+use Rattle.paw_journal.specs.Session.{Digests, Damaged, Shown, recover, chosen, kept_digests, slot, slot_shows, shown_unless, first_unsound, slot_changes, slot_state}
 use Rattle.paw_journal.specs.Session.{slot_piece, shown_state, is_second, two_byte_number, piece_length, most_changes, state_length, first_length, zeros}
 use Rattle.paw_journal.proofs.Makes.{length_zeros}
 use Rattle.paw_journal.proofs.Recovers.{shown_made, recover_is, recover_made}
@@ -23,46 +23,52 @@ form_long : (b : Bool) (state : List ℕ) → length state ≡ 4096 → length (
 form_long true state n = length-take-le 3419 state (omega arith)
 form_long false state n = omega (arith, length-append (take first_length state) (zeros 2048), length-take-le 1371 state (omega arith), length_zeros 2048)
 
-same_shown : (d a p e b q : List ℕ) → Shown d a p ≡ Shown e b q → (a ≡ b) × (p ≡ q)
-same_shown d a p e b q h = (cc, cc)
+same_shown : (d : Digests) (a p : List ℕ) (e : Digests) (b q : List ℕ) → Shown d a p ≡ Shown e b q → (d ≡ e) × (a ≡ b) × (p ≡ q)
+same_shown d a p e b q h = (cc, cc, cc)
 
-by_changes : (digest s d st p : List ℕ) (o : Option ℕ) → shown_unless digest s o ≡ Shown d st p → (shown_state s ≡ st) × (slot_piece s ≡ p)
-by_changes digest s d st p None e = same_shown digest (shown_state s) (slot_piece s) d st p e
-by_changes digest s d st p (Some n) e = absurd (cc e)
+by_changes : (digests : Digests) (s : List ℕ) (d : Digests) (st p : List ℕ) (o : Option ℕ) → shown_unless digests s o ≡ Shown d st p →
+    (digests ≡ d) × (shown_state s ≡ st) × (slot_piece s ≡ p)
+by_changes digests s d st p None e = same_shown digests (shown_state s) (slot_piece s) d st p e
+by_changes digests s d st p (Some n) e = absurd (cc e)
 
-by_count : (digest s d st p : List ℕ) (b : Bool) →
-    (if b then shown_unless digest s (first_unsound (slot_changes s)) else Damaged part.Slot 0) ≡ Shown d st p →
-    (shown_state s ≡ st) × (slot_piece s ≡ p)
-by_count digest s d st p true e = by_changes digest s d st p (first_unsound (slot_changes s)) e
-by_count digest s d st p false e = absurd (cc e)
+by_count : (digests : Digests) (s : List ℕ) (d : Digests) (st p : List ℕ) (b : Bool) →
+    (if b then shown_unless digests s (first_unsound (slot_changes s)) else Damaged part.Slot 0) ≡ Shown d st p →
+    (digests ≡ d) × (shown_state s ≡ st) × (slot_piece s ≡ p)
+by_count digests s d st p true e = by_changes digests s d st p (first_unsound (slot_changes s)) e
+by_count digests s d st p false e = absurd (cc e)
 
-by_slot : (digest s d st p : List ℕ) → slot_shows digest s ≡ Shown d st p → (shown_state s ≡ st) × (slot_piece s ≡ p)
+by_slot : (digests : Digests) (s : List ℕ) (d : Digests) (st p : List ℕ) → slot_shows digests s ≡ Shown d st p →
+    (digests ≡ d) × (shown_state s ≡ st) × (slot_piece s ≡ p)
 unfolding slot_shows
-by_slot digest s d st p e = by_count digest s d st p (nat_le (two_byte_number 0 s) most_changes) e
+by_slot digests s d st p e = by_count digests s d st p (nat_le (two_byte_number 0 s) most_changes) e
 
-of_chosen : (bytes digest state piece : List ℕ) → recover bytes ≡ Shown digest state piece →
-    (shown_state (slot (chosen bytes) bytes) ≡ state) × (slot_piece (slot (chosen bytes) bytes) ≡ piece)
+of_chosen : (bytes : List ℕ) (digests : Digests) (state piece : List ℕ) → recover bytes ≡ Shown digests state piece →
+    (kept_digests bytes ≡ digests) × (shown_state (slot (chosen bytes) bytes) ≡ state) × (slot_piece (slot (chosen bytes) bytes) ≡ piece)
     × (length (slot (chosen bytes) bytes) ≡ 86080)
-of_chosen bytes digest state piece e =
-    let made = shown_made bytes digest state piece e in
-    let p = by_slot (kept_digest bytes) (slot (chosen bytes) bytes) digest state piece
+of_chosen bytes digests state piece e =
+    let made = shown_made bytes digests state piece e in
+    let p = by_slot (kept_digests bytes) (slot (chosen bytes) bytes) digests state piece
     (sym (recover_is (chosen bytes) bytes refl ∙ recover_made (chosen bytes) bytes made) ∙ e) in
-    (p.0, p.1, slot_long (chosen bytes) bytes (omega arith) made.long)
+    (p.0, p.1, p.2, slot_long (chosen bytes) bytes (omega arith) made.long)
+
+-- the digests that are shown are those that the header keeps
+pub shown_digests : (bytes : List ℕ) (digests : Digests) (state piece : List ℕ) → recover bytes ≡ Shown digests state piece → kept_digests bytes ≡ digests
+shown_digests bytes digests state piece e = (of_chosen bytes digests state piece e).0
 
 -- a state that is shown has 3,419 bytes
-pub shown_whole : (bytes digest state piece : List ℕ) → recover bytes ≡ Shown digest state piece → length state ≡ 3419
-shown_whole bytes digest state piece e =
-    let h = of_chosen bytes digest state piece e in
+pub shown_whole : (bytes : List ℕ) (digests : Digests) (state piece : List ℕ) → recover bytes ≡ Shown digests state piece → length state ≡ 3419
+shown_whole bytes digests state piece e =
+    let h = of_chosen bytes digests state piece e in
     let s = slot (chosen bytes) bytes in
-    ap length (sym h.0) ∙ form_long (is_second s) (slot_state s) (state_long s h.2)
+    ap length (sym h.1) ∙ form_long (is_second s) (slot_state s) (state_long s h.3)
 
 -- and the piece is as long as the state says
-pub shown_long : (bytes digest state piece : List ℕ) → recover bytes ≡ Shown digest state piece → piece_length state ≤ 81920 → length piece ≡ piece_length state
-shown_long bytes digest state piece e few =
-    let h = of_chosen bytes digest state piece e in
+pub shown_long : (bytes : List ℕ) (digests : Digests) (state piece : List ℕ) → recover bytes ≡ Shown digests state piece → piece_length state ≤ 81920 → length piece ≡ piece_length state
+shown_long bytes digests state piece e few =
+    let h = of_chosen bytes digests state piece e in
     let s = slot (chosen bytes) bytes in
-    let n : piece_length state ≡ piece_length (slot_state s) = ap piece_length (sym h.0) ∙ form_names (is_second s) (slot_state s) (state_long s h.2) in
-    ap length (sym h.1) ∙ (length-take-le (piece_length (slot_state s)) (drop 4160 s) (there _ _ _ _ (length-drop 4160 s) h.2 n few) ∙ sym n)
+    let n : piece_length state ≡ piece_length (slot_state s) = ap piece_length (sym h.1) ∙ form_names (is_second s) (slot_state s) (state_long s h.3) in
+    ap length (sym h.2) ∙ (length-take-le (piece_length (slot_state s)) (drop 4160 s) (there _ _ _ _ (length-drop 4160 s) h.3 n few) ∙ sym n)
   where
     there : (k d l m : ℕ) → d ≡ l - 4160 → l ≡ 86080 → m ≡ k → m ≤ 81920 → k ≤ d
     there k d l m e f n few = omega arith

@@ -9,7 +9,7 @@ use Rattle.paw_journal.specs.declared.layout.Slot.{Slot}
 use Rattle.paw_journal.specs.declared.layout.Slot.TheVariants as which
 use Rattle.paw_journal.specs.declared.drafting.SlotState.{SlotState}
 use Rattle.paw_journal.specs.declared.refusal.SessionPart.TheVariants as part
-use Rattle.paw_journal.specs.Session.{Change, Damaged, Shown, piece_length, state_length, first_length, is_second, slot_piece, stretch, two_byte_number, base}
+use Rattle.paw_journal.specs.Session.{Change, Digests, Damaged, Shown, piece_length, state_length, first_length, is_second, slot_piece, stretch, two_byte_number, base}
 use Rattle.paw_journal.specs.Session.{changes, changed, first_unsound, slot_changes, slot_state, slot_shows, shown_unless, most_changes, slot}
 use Rattle.paw_journal.specs.Session.{has_state}
 use Rattle.paw_journal.specs.Session.{slot_length, header_length, session_length, zeros}
@@ -43,23 +43,23 @@ read_slot k at n m into rest whole low e p q long r =
     slot_is_whole l k n size low p long e = omega arith
 
 -- what a slot shows, by its change records
-pub too_many : (digest bytes : List ℕ) (count : ℕ) → count ≡ two_byte_number 0 bytes → most_changes < count → slot_shows digest bytes ≡ Damaged part.Slot 0
+pub too_many : (digests : Digests) (bytes : List ℕ) (count : ℕ) → count ≡ two_byte_number 0 bytes → most_changes < count → slot_shows digests bytes ≡ Damaged part.Slot 0
 unfolding slot_shows
-too_many digest bytes count e h =
+too_many digests bytes count e h =
     let f : nat_le (two_byte_number 0 bytes) most_changes ≡ false = above (two_byte_number 0 bytes) count e h in
-    ap (λ b. if b then shown_unless digest bytes (first_unsound (slot_changes bytes)) else Damaged part.Slot 0) f
+    ap (λ b. if b then shown_unless digests bytes (first_unsound (slot_changes bytes)) else Damaged part.Slot 0) f
   where
     above : (n count : ℕ) → count ≡ n → most_changes < count → nat_le n most_changes ≡ false
     above n count e h = grind (arith, nat_tests)
 
-pub few_changes : (digest bytes records : List ℕ) (count : ℕ) (first : Option ℕ) → count ≡ two_byte_number 0 bytes →
+pub few_changes : (digests : Digests) (bytes records : List ℕ) (count : ℕ) (first : Option ℕ) → count ≡ two_byte_number 0 bytes →
     count ≤ most_changes → records ≡ stretch 69696 (4 * count) bytes → first ≡ first_unsound (changes records) →
-    slot_shows digest bytes ≡ shown_unless digest bytes first
+    slot_shows digests bytes ≡ shown_unless digests bytes first
 unfolding slot_shows
-few_changes digest bytes records count first e h r u =
+few_changes digests bytes records count first e h r u =
     let f : nat_le (two_byte_number 0 bytes) most_changes ≡ true = below (two_byte_number 0 bytes) count e h in
-    ap (λ b. if b then shown_unless digest bytes (first_unsound (slot_changes bytes)) else Damaged part.Slot 0) f
-    ∙ ap (shown_unless digest bytes) (sym (u ∙ (ap (λ l. first_unsound (changes l)) r ∙ ap (λ n. first_unsound (changes (stretch 69696 (4 * n) bytes))) e)))
+    ap (λ b. if b then shown_unless digests bytes (first_unsound (slot_changes bytes)) else Damaged part.Slot 0) f
+    ∙ ap (shown_unless digests bytes) (sym (u ∙ (ap (λ l. first_unsound (changes l)) r ∙ ap (λ n. first_unsound (changes (stretch 69696 (4 * n) bytes))) e)))
   where
     below : (n count : ℕ) → count ≡ n → count ≤ most_changes → nat_le n most_changes ≡ true
     below n count e h = grind (arith, nat_tests)
@@ -187,18 +187,18 @@ module _ (w : Slot) (kept : SlotState) (old shown now : Room) (n : length old.sl
     told = ap (λ x. x.state) k
 
     -- of version 2
-    pub taken_shows : (digest : List ℕ) → is_second old.slot ≡ true →
+    pub taken_shows : (digests : Digests) → is_second old.slot ≡ true →
         shown ≡ record old { state = kept.state; piece = stretch 4160 (piece_length kept.state) old.slot } →
         now ≡ with_slot_kept w (Some kept) shown →
-        slot_shows digest old.slot ≡ Shown digest (take state_length now.state) now.piece
-    taken_shows digest e s f =
+        slot_shows digests old.slot ≡ Shown digests (take state_length now.state) now.piece
+    taken_shows digests e s f =
         let a : now.state ≡ slot_state old.slot = ap (λ r. r.state) f ∙ (state_stays w (Some kept) shown ∙ (ap (λ r. r.state) s ∙ told)) in
         let b : now.piece ≡ stretch 4160 (piece_length (slot_state old.slot)) old.slot =
         ap (λ r. r.piece) f ∙ (piece_stays w (Some kept) shown
         ∙ (ap (λ r. r.piece) s ∙ ap (λ l. stretch 4160 (piece_length l) old.slot) told)) in
-        kept_shows digest old.slot (two_byte_number 0 old.slot) (slot_state old.slot) (state_has old.slot e t)
-        ∙ (ap (λ l. Shown digest (take state_length l) (stretch 4160 (piece_length (slot_state old.slot)) old.slot))
-        (sym a) ∙ ap (Shown digest (take state_length now.state)) (sym b))
+        kept_shows digests old.slot (two_byte_number 0 old.slot) (slot_state old.slot) (state_has old.slot e t)
+        ∙ (ap (λ l. Shown digests (take state_length l) (stretch 4160 (piece_length (slot_state old.slot)) old.slot))
+        (sym a) ∙ ap (Shown digests (take state_length now.state)) (sym b))
 
     pub taken_kept : is_second old.slot ≡ true →
         shown ≡ record old { state = kept.state; piece = stretch 4160 (piece_length kept.state) old.slot } →
@@ -214,11 +214,11 @@ module _ (w : Slot) (kept : SlotState) (old shown now : Room) (n : length old.sl
         f ∙ (ap (λ x. with_slot_kept w x shown) q ∙ ap (with_slot_kept w (kept_slot old.slot)) r)
 
     -- of version 1
-    pub brought_shows : (digest state : List ℕ) → is_second old.slot ≡ false →
+    pub brought_shows : (digests : Digests) (state : List ℕ) → is_second old.slot ≡ false →
         state ≡ take first_length kept.state ++ zeros 2725 →
         shown ≡ record old { state = state; piece = stretch 4160 (piece_length state) old.slot } →
-        now ≡ with_slot_kept w None shown → slot_shows digest old.slot ≡ Shown digest (take state_length now.state) now.piece
-    brought_shows digest state e i s f =
+        now ≡ with_slot_kept w None shown → slot_shows digests old.slot ≡ Shown digests (take state_length now.state) now.piece
+    brought_shows digests state e i s f =
         let long : length (slot_state old.slot) ≡ 4096 = state_long old.slot n in
         let st : state ≡ take first_length (slot_state old.slot) ++ zeros 2725 = i ∙ ap (λ l. take first_length l ++ zeros 2725) told in
         let a : now.state ≡ state = ap (λ r. r.state) f ∙ (state_stays w None shown ∙ ap (λ r. r.state) s) in
@@ -226,10 +226,10 @@ module _ (w : Slot) (kept : SlotState) (old shown now : Room) (n : length old.sl
         let c : take state_length now.state ≡ take first_length (slot_state old.slot) ++ zeros 2048 =
         ap (take state_length) (a ∙ st) ∙ brought_shown (slot_state old.slot) long in
         let p : now.piece ≡ slot_piece old.slot = b ∙ ap (λ m. stretch 4160 m old.slot) (ap piece_length st ∙ first_names 2725 (slot_state old.slot) long) in
-        sound_shows digest old.slot t
-        ∙ (ap (λ x. Shown digest (if x then take state_length (slot_state old.slot) else take first_length
+        sound_shows digests old.slot t
+        ∙ (ap (λ x. Shown digests (if x then take state_length (slot_state old.slot) else take first_length
         (slot_state old.slot) ++ zeros 2048) (slot_piece old.slot)) e
-        ∙ (ap (λ l. Shown digest l (slot_piece old.slot)) (sym c) ∙ ap (Shown digest (take state_length now.state)) (sym p)))
+        ∙ (ap (λ l. Shown digests l (slot_piece old.slot)) (sym c) ∙ ap (Shown digests (take state_length now.state)) (sym p)))
 
     pub brought_kept : (state : List ℕ) → is_second old.slot ≡ false →
         shown ≡ record old { state = state; piece = stretch 4160 (piece_length state) old.slot } →

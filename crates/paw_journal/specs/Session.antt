@@ -1,5 +1,5 @@
 -- How a session lies in the bytes of a store, and what bytes of a store stand for.
-use Rattle.std.specs.Prelude.{◌==◌, ◌&&◌, ◌||◌, ℕ, ◌+◌, ◌-◌, ◌*◌, ◌/◌, ◌%◌, Bool, not, nat_lt, nat_le, List}
+use Rattle.std.specs.Prelude.{◌≡◌, ◌⊎◌, ◌==◌, ◌&&◌, ◌||◌, ℕ, ◌+◌, ◌-◌, ◌*◌, ◌/◌, ◌%◌, Bool, not, nat_lt, nat_le, List}
 use Rattle.std.specs.Prelude.{[], suc}
 use Rattle.std.specs.Prelude.{◌∷◌, ◌++◌, length, take, drop, slice_index, slice_set, position, Option, Some}
 use Rattle.std.specs.Prelude.{None, is_none, if◌then◌else◌}
@@ -48,9 +48,20 @@ version bytes = slice_index bytes 2
 abbrev pub is_version : ℕ → Bool
 is_version n = (n == 1) || (n == 2)
 
--- The digest of the game that it is a session of.
-abbrev pub kept_digest : List ℕ → List ℕ
-kept_digest bytes = stretch 32 32 bytes
+-- Whose session it is: the digests of its game, and of the routines that it is played with.
+pub record Digests : Type 0 where
+  pub game : List ℕ
+  pub routines : List ℕ
+
+-- The digests that the header keeps.
+abbrev pub kept_digests : List ℕ → Digests
+kept_digests bytes = record { game = stretch 32 32 bytes; routines = stretch 64 32 bytes }
+
+-- A session belongs to a game and to routines, which have these digests. One that keeps 32 zeros in place of a digest
+-- of its routines isn't measured: it belongs to all routines.
+pub record BelongsTo (game routines : List ℕ) (kept : Digests) : Type 0 where
+  pub of_game : kept.game ≡ game
+  pub of_routines : (kept.routines ≡ zeros 32) ⊎ (kept.routines ≡ routines)
 
 -- The bytes of a slot: the number of its change records (at 0), its version (at 2), its base (at 64), a piece (at
 -- 4,160) and the change records (at 69,696).
@@ -132,30 +143,30 @@ abbrev pub slot_piece : List ℕ → List ℕ
 slot_piece bytes = stretch 4160 (piece_length (slot_state bytes)) bytes
 
 -- What the bytes of a store stand for: no session, with their length and mark; one that is damaged, with the place of
--- the first broken rule; or one that shows a state and a piece of the game with this digest.
+-- the first broken rule; or one that shows a state and a piece, with the digests of whose session it is.
 pub data Recovered : Type 0 where
   Unmade : (length mark : ℕ) → Recovered
   Damaged : (part : SessionPart) (at : ℕ) → Recovered
-  Shown : (digest state piece : List ℕ) → Recovered
+  Shown : (digests : Digests) (state piece : List ℕ) → Recovered
 
 -- What a slot shows where this is its first change that isn't sound: it is damaged there. With none it shows its state
 -- and its piece.
-abbrev pub shown_unless : List ℕ → List ℕ → Option ℕ → Recovered
-shown_unless digest bytes (Some n) = Damaged part.Slot (69696 + 4 * n)
-shown_unless digest bytes None = Shown digest (shown_state bytes) (slot_piece bytes)
+abbrev pub shown_unless : Digests → List ℕ → Option ℕ → Recovered
+shown_unless digests bytes (Some n) = Damaged part.Slot (69696 + 4 * n)
+shown_unless digests bytes None = Shown digests (shown_state bytes) (slot_piece bytes)
 
 -- What a slot shows. One with too many change records is damaged at its first byte.
-unfoldable pub slot_shows : List ℕ → List ℕ → Recovered
-slot_shows digest bytes =
+unfoldable pub slot_shows : Digests → List ℕ → Recovered
+slot_shows digests bytes =
     if nat_le (two_byte_number 0 bytes) most_changes
-    then shown_unless digest bytes (first_unsound (slot_changes bytes))
+    then shown_unless digests bytes (first_unsound (slot_changes bytes))
     else Damaged part.Slot 0
 
 -- What the bytes stand for if they choose this slot.
 unfoldable pub recover_by : ℕ → List ℕ → Recovered
 recover_by k bytes =
     if (length bytes == session_length) && (mark bytes == made_mark)
-    then (if is_version (version bytes) then slot_shows (kept_digest bytes) (slot k bytes) else Damaged part.Header 2)
+    then (if is_version (version bytes) then slot_shows (kept_digests bytes) (slot k bytes) else Damaged part.Header 2)
     else Unmade (length bytes) (mark bytes)
 
 -- What the bytes stand for, by the slot that they choose.
@@ -174,13 +185,13 @@ IsUnmade (Shown d s p) = ⊥
 abbrev pub made_slot : List ℕ → List ℕ → List ℕ
 made_slot state piece = 0 ∷ 0 ∷ 2 ∷ zeros 61 ++ state ++ piece ++ zeros (81920 - length piece)
 
--- A header as it is made, with this mark and the digest of the game: slot 0 is in use, and the version is 2.
-abbrev pub made_header : ℕ → List ℕ → List ℕ
-made_header mark digest = mark ∷ 0 ∷ 2 ∷ zeros 29 ++ digest ++ zeros 64
+-- A header as it is made, with this mark and these digests: slot 0 is in use, and the version is 2.
+abbrev pub made_header : ℕ → Digests → List ℕ
+made_header mark digests = mark ∷ 0 ∷ 2 ∷ zeros 29 ++ digests.game ++ digests.routines ++ zeros 32
 
 -- A session as it is made: both slots have this state and this piece.
-abbrev pub made_session : List ℕ → List ℕ → List ℕ → List ℕ
-made_session digest state piece = made_header made_mark digest ++ made_slot state piece ++ made_slot state piece
+abbrev pub made_session : Digests → List ℕ → List ℕ → List ℕ
+made_session digests state piece = made_header made_mark digests ++ made_slot state piece ++ made_slot state piece
 
 -- The number of places at which two states differ.
 unfoldable pub differing : List ℕ → List ℕ → ℕ

@@ -1,27 +1,60 @@
 // What the header of a session tells.
 
-ghost use Rattle.std.specs.Prelude.{◌≡◌, ◌≢◌, ℕ, None, List, [], ◌∷◌, length, take, IfOk, IfErr, IsSome};
+ghost use Rattle.std.specs.Prelude.{◌≡◌, ◌≢◌, ℕ, ◌+◌, ◌≤◌, None, List, [], ◌∷◌, length, take, OnOk, IfOk, IfErr, IsSome};
 ghost use Rattle.paw_stage.specs.declared.StageCall.TheVariants as call;
 ghost use Rattle.paw_stage.specs.Moments.{Still};
 ghost use Rattle.paw_stage.specs.Across.{Serves};
 ghost use Rattle.paw_stage.specs.inner.Across.{Throughout};
-ghost use Rattle.paw_journal.specs.Session.{recover, is_version, header_length, session_length};
-ghost use Rattle.paw_journal.specs.inner.Steps.{IsHeaderOf};
+ghost use Rattle.paw_journal.specs.Session.{Recovered, Shown, BelongsTo, recover, is_version, stretch, header_length};
+ghost use Rattle.paw_journal.specs.Session.{session_length};
+ghost use Rattle.paw_journal.specs.inner.Steps.{IsHeaderOf, header_digests};
 ghost use Rattle.paw_journal.specs.inner.Journal.{IsSessionRefused, refused_call, outside};
 
 use crate::layout::{
-    DIGEST_AT, DIGEST_LENGTH, FIRST_VERSION, HEADER_LENGTH, MADE, MARK_AT, SELECTOR_AT,
+    DIGEST_LENGTH, FIRST_VERSION, GAME_AT, HEADER_LENGTH, MADE, MARK_AT, ROUTINES_AT, SELECTOR_AT,
     SESSION_LENGTH, Slot, VERSION, VERSION_AT,
 };
 use crate::refusal::{JournalRefusal, SessionPart};
 use crate::store::read;
 use paw_stage::Stage;
 
-/// What the header of a session tells: the slot in use, and the digest of the game.
+// What stands for the digest of routines where a session isn't measured.
+const UNMEASURED: [u8; DIGEST_LENGTH] = [0; DIGEST_LENGTH];
+
+/// What the header of a session tells: the slot in use, and the digests of the game and of the routines.
 #[derive(Drop)]
 pub(crate) struct Header {
     pub(crate) slot: Slot,
-    pub(crate) digest: [u8; 32],
+    pub(crate) game: [u8; 32],
+    pub(crate) routines: [u8; 32],
+}
+
+impl Header {
+    /// Whether the session belongs to the game and the routines with these digests.
+    ///
+    /// # Errors
+    /// WrongGame where it is of another game, WrongRoutines where it is of this one, is measured, and was played with
+    /// other routines.
+    pub(crate) fn belongs_to(&self, game: &[u8; 32], rules: &[u8; 32]) -> Result<(), JournalRefusal>
+        ensures belongs { OnOk result (BelongsTo game.now rules.now (header_digests self.now)) }
+        ensures refused { (r : Recovered) (state piece : List ℕ) → r ≡ Shown (header_digests self.now) state piece →
+            IfErr result (IsSessionRefused r game.now rules.now) }
+        ensures inside { refused_call result ≡ None }
+    {
+        if self.game != *game {
+            return Err(JournalRefusal::WrongGame {
+                kept: self.game,
+                found: *game,
+            });
+        }
+        if self.routines != UNMEASURED && self.routines != *rules {
+            return Err(JournalRefusal::WrongRoutines {
+                kept: self.routines,
+                found: *rules,
+            });
+        }
+        Ok(())
+    }
 }
 
 /// Reads the header of the attached store, which has so many bytes.
@@ -34,8 +67,8 @@ pub(crate) fn read_header<S: Stage>(stage: &mut S, size: u64) -> Result<Header, 
     ensures serves { Serves S.Stage (call.Read ∷ []) (refused_call result) stage.old stage.new }
     ensures still { S.Tells stage.old → S.standing stage.new ≡ S.standing stage.old }
     ensures introduced { S.Tells stage.old → IfOk result (IsHeaderOf (S.standing stage.old).disk.bytes) }
-    ensures refused { S.Tells stage.old → (game : List ℕ) →
-        IfErr result (IsSessionRefused (recover (S.standing stage.old).disk.bytes) game) }
+    ensures refused { S.Tells stage.old → (game rules : List ℕ) →
+        IfErr result (IsSessionRefused (recover (S.standing stage.old).disk.bytes) game rules) }
     ensures time { Throughout S.Stage stage.old stage.new Still }
 {
     if size != SESSION_LENGTH {
@@ -55,8 +88,8 @@ fn unmade<S: Stage>(stage: &mut S, size: u64) -> JournalRefusal
     requires other { size ≢ session_length }
     ensures serves { Serves S.Stage (call.Read ∷ []) (outside result) stage.old stage.new }
     ensures still { S.Tells stage.old → S.standing stage.new ≡ S.standing stage.old }
-    ensures refused { S.Tells stage.old → (game : List ℕ) →
-        IsSessionRefused (recover (S.standing stage.old).disk.bytes) game result }
+    ensures refused { S.Tells stage.old → (game rules : List ℕ) →
+        IsSessionRefused (recover (S.standing stage.old).disk.bytes) game rules result }
     ensures time { Throughout S.Stage stage.old stage.new Still }
 {
     let mut first = [0];
@@ -76,8 +109,8 @@ fn unmade<S: Stage>(stage: &mut S, size: u64) -> JournalRefusal
 fn header_in(bytes: &[u8; HEADER_LENGTH]) -> Result<Header, JournalRefusal>
     ensures introduced { (whole : List ℕ) → length whole ≡ session_length → bytes.now ≡ take header_length whole →
         IfOk result (IsHeaderOf whole) }
-    ensures refused { (whole game : List ℕ) → length whole ≡ session_length → bytes.now ≡ take header_length whole →
-        IfErr result (IsSessionRefused (recover whole) game) }
+    ensures refused { (whole game rules : List ℕ) → length whole ≡ session_length →
+        bytes.now ≡ take header_length whole → IfErr result (IsSessionRefused (recover whole) game rules) }
     ensures inside { refused_call result ≡ None }
 {
     let mark = bytes[MARK_AT as usize];
@@ -93,12 +126,21 @@ fn header_in(bytes: &[u8; HEADER_LENGTH]) -> Result<Header, JournalRefusal>
             at: VERSION_AT,
         });
     }
-    let mut digest = [0; DIGEST_LENGTH];
-    digest.copy_from_slice(&bytes[DIGEST_AT..DIGEST_AT + DIGEST_LENGTH]);
     Ok(Header {
         slot: Slot::chosen_by(bytes[SELECTOR_AT as usize]),
-        digest,
+        game: digest_at(bytes, GAME_AT),
+        routines: digest_at(bytes, ROUTINES_AT),
     })
+}
+
+// The digest that stands in a header at this place.
+fn digest_at(bytes: &[u8; HEADER_LENGTH], at: usize) -> [u8; DIGEST_LENGTH]
+    requires inside { at + 32 ≤ header_length }
+    ensures value { result ≡ stretch at 32 bytes.now }
+{
+    let mut digest = [0; DIGEST_LENGTH];
+    digest.copy_from_slice(&bytes[at..at + DIGEST_LENGTH]);
+    digest
 }
 
 // Whether a session may have this version.

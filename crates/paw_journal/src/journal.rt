@@ -1,16 +1,17 @@
 // A session: making one, finding one, and committing to it.
 
-ghost use Rattle.std.specs.Prelude.{◌≡◌, [], ◌∷◌, length, OnOk, IfOk};
+ghost use Rattle.std.specs.Prelude.{◌≡◌, [], ◌∷◌, length, OnOk, IfOk, IfErr};
 ghost use Rattle.paw_stage.specs.declared.StageCall.TheVariants as call;
 ghost use Rattle.paw_stage.specs.Moments.{Still};
 ghost use Rattle.paw_stage.specs.Across.{Across, Serves};
 ghost use Rattle.paw_stage.specs.inner.Across.{Once, Throughout};
-ghost use Rattle.paw_journal.specs.Session.{recover, kept_digest, piece_length};
+ghost use Rattle.paw_journal.specs.Session.{BelongsTo, recover, kept_digests, piece_length};
+ghost use Rattle.paw_journal.specs.inner.Session.{digests_of};
 ghost use Rattle.paw_journal.specs.inner.Written.{WritesLittle};
 ghost use Rattle.paw_journal.specs.inner.Store.{IsBeside, LeavesMade, LeavesOldOr};
-ghost use Rattle.paw_journal.specs.inner.Steps.{HoldsMade, HoldsCommitted, ShowsIn, ShowsNext, SameDigest};
+ghost use Rattle.paw_journal.specs.inner.Steps.{HoldsMade, HoldsCommitted, ShowsIn, ShowsNext, SameDigests};
 ghost use Rattle.paw_journal.specs.Journal.{writing_calls};
-ghost use Rattle.paw_journal.specs.inner.Journal.{IsAtRest, KeptIn, Finds, failed_stage_call, refused_call};
+ghost use Rattle.paw_journal.specs.inner.Journal.{IsAtRest, KeptIn, IsSessionRefused, failed_stage_call, refused_call};
 
 use crate::committing::{choose, write_slot};
 use crate::drafting::SlotState;
@@ -31,8 +32,8 @@ pub struct Journal {
 }
 
 impl Journal {
-    /// Makes a session of the game with this digest in the attached store, which is empty. It shows this state, whose
-    /// bytes 1,369 and 1,370 tell the piece's length, and this piece.
+    /// Makes a session of the game and the routines with these digests in the attached store, which is empty. It shows
+    /// this state, whose bytes 1,369 and 1,370 tell the piece's length, and this piece.
     ///
     /// # Errors
     /// Write or Sync where that call of the stage failed. The store then stands for no session, or for that one.
@@ -41,6 +42,7 @@ impl Journal {
         room: &mut Room,
         at: Attached,
         game: &[u8; 32],
+        rules: &[u8; 32],
         state: &[u8; 4096],
         piece: &[u8],
     ) -> Result<Journal, StageCall>
@@ -51,40 +53,48 @@ impl Journal {
         ensures serves { Serves S.Stage writing_calls (failed_stage_call result) stage.old stage.new }
         ensures state { OnOk result (room.new.state ≡ state.now) }
         ensures piece { OnOk result (room.new.piece ≡ piece.now) }
-        ensures made { S.Tells stage.old → OnOk result (HoldsMade game.now state.now piece.now (S.standing stage.new)) }
-        ensures shown { S.Tells stage.old → OnOk result (ShowsIn game.now state.now piece.now (S.standing stage.new)) }
+        ensures made { S.Tells stage.old →
+            OnOk result (HoldsMade (digests_of game.now rules.now) state.now piece.now (S.standing stage.new)) }
+        ensures shown { S.Tells stage.old →
+            OnOk result (ShowsIn (digests_of game.now rules.now) state.now piece.now (S.standing stage.new)) }
         ensures kept { S.Tells stage.old → IfOk result (λ journal. KeptIn journal room.new (S.standing stage.new)) }
-        ensures digest { S.Tells stage.old → OnOk result (kept_digest (S.standing stage.new).disk.bytes ≡ game.now) }
+        ensures digests { S.Tells stage.old →
+            OnOk result (kept_digests (S.standing stage.new).disk.bytes ≡ digests_of game.now rules.now) }
         ensures beside { Across S.Stage stage.old stage.new IsBeside }
-        ensures any_moment { Throughout S.Stage stage.old stage.new (LeavesMade game.now state.now piece.now) }
+        ensures any_moment { Throughout S.Stage stage.old stage.new
+            (LeavesMade (digests_of game.now rules.now) state.now piece.now) }
     {
         room.hold(state, piece);
         room.lay_slot();
-        lay_out(stage, game, room.slot())?;
+        lay_out(stage, game, rules, room.slot())?;
         mark(stage)?;
         room.keep_made(state);
         Ok(Journal { slot: Slot::First })
     }
 
     /// Finds the session of the game with this digest in the attached store, and writes nothing. Its state and its
-    /// piece then stand in the room.
+    /// piece then stand in the room. It goes on with the routines with this digest, or isn't measured.
     ///
     /// # Errors
-    /// Unmade where there is no session, Damaged at its first broken rule, WrongGame where its digest is another one.
-    /// These come in this order. Outside(Read) where a read failed.
+    /// Unmade where there is no session, Damaged at its first broken rule, WrongGame where it is of another game,
+    /// WrongRoutines where it was played with other routines. These come in this order. Outside(Read) where a read
+    /// failed.
     pub fn find<S: Stage>(
         stage: &mut S,
         room: &mut Room,
         at: Attached,
         game: &[u8; 32],
+        rules: &[u8; 32],
     ) -> Result<Journal, JournalRefusal>
         requires rests { S.Tells stage.old → IsAtRest (S.standing stage.old) }
         requires attached { S.Tells stage.old → at.length ≡ length (S.standing stage.old).disk.bytes }
         ensures serves { Serves S.Stage (call.Read ∷ []) (refused_call result) stage.old stage.new }
         ensures still { S.Tells stage.old → S.standing stage.new ≡ S.standing stage.old }
-        ensures found { S.Tells stage.old → Finds (recover (S.standing stage.old).disk.bytes) game.now room.new result }
+        ensures refused { S.Tells stage.old →
+            IfErr result (IsSessionRefused (recover (S.standing stage.old).disk.bytes) game.now rules.now) }
         ensures kept { S.Tells stage.old → IfOk result (λ journal. KeptIn journal room.new (S.standing stage.new)) }
-        ensures digest { S.Tells stage.old → OnOk result (kept_digest (S.standing stage.new).disk.bytes ≡ game.now) }
+        ensures belongs { S.Tells stage.old →
+            OnOk result (BelongsTo game.now rules.now (kept_digests (S.standing stage.new).disk.bytes)) }
         ensures time { Throughout S.Stage stage.old stage.new Still }
     {
         let header = read_header(stage, at.length)?;
@@ -101,12 +111,7 @@ impl Journal {
                 });
             }
         }
-        if header.digest != *game {
-            return Err(JournalRefusal::WrongGame {
-                kept: header.digest,
-                found: *game,
-            });
-        }
+        header.belongs_to(game, rules)?;
         let other = header.slot.other();
         match room.read_slot(stage, other) {
             Ok(_) => {}
@@ -138,7 +143,7 @@ impl Journal {
         ensures exact { Once S.Stage stage.old stage.new result (HoldsCommitted state.now piece.now) }
         ensures shown { Once S.Stage stage.old stage.new result (ShowsNext state.now piece.now) }
         ensures kept { S.Tells stage.old → IfOk result (λ journal. KeptIn journal room.new (S.standing stage.new)) }
-        ensures digest { Once S.Stage stage.old stage.new result SameDigest }
+        ensures digests { Once S.Stage stage.old stage.new result SameDigests }
         ensures beside { Across S.Stage stage.old stage.new IsBeside }
         ensures any_moment { Throughout S.Stage stage.old stage.new (LeavesOldOr state.now piece.now) }
     {

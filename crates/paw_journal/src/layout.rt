@@ -11,14 +11,17 @@ pub(crate) const HEADER_LENGTH: usize = 128;
 
 pub(crate) const SLOT_LENGTH: usize = 86_080;
 
-/// The header's bytes: the mark of a session that is made, the selector, the version, and the digest of the game.
+/// The header's bytes: the mark of a session that is made, the selector, the version, and the digests of the game and
+/// of the routines.
 pub(crate) const MARK_AT: u64 = 0;
 
 pub(crate) const SELECTOR_AT: u64 = 1;
 
 pub(crate) const VERSION_AT: u64 = 2;
 
-pub(crate) const DIGEST_AT: usize = 32;
+pub(crate) const GAME_AT: usize = 32;
+
+pub(crate) const ROUTINES_AT: usize = 64;
 
 pub(crate) const DIGEST_LENGTH: usize = 32;
 

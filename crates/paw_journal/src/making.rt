@@ -1,17 +1,19 @@
 // The steps of making a session: a store with byte 0 as 0, the rest of it, and then its mark.
 
-ghost use Rattle.std.specs.Prelude.{◌≡◌, [], ◌∷◌, length, IsSome, OnOk};
+ghost use Rattle.std.specs.Prelude.{◌≡◌, ◌+◌, ◌≤◌, [], ◌∷◌, length, IsSome, OnOk};
+ghost use Rattle.paw_stage.specs.Disk.{put};
 ghost use Rattle.paw_stage.specs.Across.{Across, Serves};
 ghost use Rattle.paw_stage.specs.inner.Across.{Once, Throughout};
 ghost use Rattle.paw_journal.specs.Session.{session_length, header_length, slot_length, made_header};
-ghost use Rattle.paw_journal.specs.inner.Session.{laid_session, marked};
+ghost use Rattle.paw_journal.specs.inner.Session.{digests_of, laid_session, marked};
 ghost use Rattle.paw_journal.specs.inner.Store.{IsBeside, HoldsStable, LaysSlots, LeavesUnmade, LeavesMarked};
 ghost use Rattle.paw_journal.specs.inner.Steps.{IsBlank};
 ghost use Rattle.paw_journal.specs.Journal.{writing_calls};
 ghost use Rattle.paw_journal.specs.inner.Journal.{IsAtRest, failed_stage_call};
 
 use crate::layout::{
-    DIGEST_AT, DIGEST_LENGTH, HEADER_LENGTH, MADE, MARK_AT, SELECTOR_AT, Slot, VERSION, VERSION_AT,
+    DIGEST_LENGTH, GAME_AT, HEADER_LENGTH, MADE, MARK_AT, ROUTINES_AT, SELECTOR_AT, Slot, VERSION,
+    VERSION_AT,
 };
 use crate::store::{sync, write};
 use paw_stage::{Stage, StageCall};
@@ -29,28 +31,38 @@ fn begin<S: Stage>(stage: &mut S) -> Result<(), StageCall>
     sync(stage)
 }
 
-// Writes the header's other bytes behind the first one: the digest of the game, and a selector that chooses slot 0.
-fn write_header<S: Stage>(stage: &mut S, game: &[u8; 32]) -> Result<(), StageCall>
+// Writes the header's other bytes behind the first one: the digests of game and routines, and a selector that chooses
+// slot 0.
+fn write_header<S: Stage>(stage: &mut S, game: &[u8; 32], rules: &[u8; 32]) -> Result<(), StageCall>
     requires attached { S.Tells stage.old → IsSome (S.standing stage.old).attached }
     requires blank { S.Tells stage.old → IsBlank (0 ∷ []) (S.standing stage.old).disk }
     ensures serves { Serves S.Stage writing_calls (failed_stage_call result) stage.old stage.new }
-    ensures blank { S.Tells stage.old → OnOk result (IsBlank (made_header 0 game.now) (S.standing stage.new).disk) }
+    ensures blank { S.Tells stage.old →
+        OnOk result (IsBlank (made_header 0 (digests_of game.now rules.now)) (S.standing stage.new).disk) }
     ensures beside { Across S.Stage stage.old stage.new IsBeside }
     ensures any_moment { Throughout S.Stage stage.old stage.new LeavesUnmade }
 {
-    let header = header_of(game);
+    let header = header_of(game, rules);
     write(stage, SELECTOR_AT, &header[1..])
 }
 
-// The header of a session of this game, with byte 0 as 0.
-#[tactic(auto, unfolding(paw_base::specs::Bytes::zeros))]
-fn header_of(game: &[u8; 32]) -> [u8; HEADER_LENGTH]
-    ensures value { result ≡ made_header 0 game.now }
+// The header of a session of this game and these routines, with byte 0 as 0.
+fn header_of(game: &[u8; 32], rules: &[u8; 32]) -> [u8; HEADER_LENGTH]
+    ensures value { result ≡ made_header 0 (digests_of game.now rules.now) }
 {
     let mut header = [0; HEADER_LENGTH];
     header[VERSION_AT as usize] = VERSION;
-    header[DIGEST_AT..DIGEST_AT + DIGEST_LENGTH].copy_from_slice(game);
+    put_digest(&mut header, GAME_AT, game);
+    put_digest(&mut header, ROUTINES_AT, rules);
     header
+}
+
+// Writes a digest into a header, at this place.
+fn put_digest(header: &mut [u8; HEADER_LENGTH], at: usize, digest: &[u8; DIGEST_LENGTH])
+    requires inside { at + 32 ≤ header_length }
+    ensures value { header.new ≡ put at digest.now header.old }
+{
+    header[at..at + DIGEST_LENGTH].copy_from_slice(digest);
 }
 
 // Writes these bytes into both slots, behind the header, and makes the store stable.
@@ -69,23 +81,24 @@ fn write_slots<S: Stage>(stage: &mut S, bytes: &[u8]) -> Result<(), StageCall>
     sync(stage)
 }
 
-/// Lays out a session of this game in the attached store, which is empty: all but its mark, with these bytes in both
-/// slots.
+/// Lays out a session of this game and these routines in the attached store, which is empty: all but its mark, with
+/// these bytes in both slots.
 pub(crate) fn lay_out<S: Stage>(
     stage: &mut S,
     game: &[u8; 32],
+    rules: &[u8; 32],
     bytes: &[u8],
 ) -> Result<(), StageCall>
     requires rests { S.Tells stage.old → IsAtRest (S.standing stage.old) }
     requires empty { S.Tells stage.old → length (S.standing stage.old).disk.bytes ≡ 0 }
     requires slot { length bytes.now ≡ slot_length }
     ensures serves { Serves S.Stage writing_calls (failed_stage_call result) stage.old stage.new }
-    ensures laid { Once S.Stage stage.old stage.new result (λ old. HoldsStable (laid_session game.now bytes.now)) }
+    ensures laid { Once S.Stage stage.old stage.new result (λ old. HoldsStable (laid_session (digests_of game.now rules.now) bytes.now)) }
     ensures beside { Across S.Stage stage.old stage.new IsBeside }
     ensures any_moment { Throughout S.Stage stage.old stage.new LeavesUnmade }
 {
     begin(stage)?;
-    write_header(stage, game)?;
+    write_header(stage, game, rules)?;
     write_slots(stage, bytes)
 }
 

@@ -1,7 +1,7 @@
 // The state of a slot that was read.
 
-ghost use Rattle.std.specs.Prelude.{◌≡◌, ◌++◌, ℕ, List, length, take, true, false, OnOk, OnErr, IfOk, IfErr};
-ghost use Rattle.paw_journal.specs.Session.{slot_length, is_second, has_state, first_length, zeros};
+ghost use Rattle.std.specs.Prelude.{◌≡◌, ◌++◌, length, take, true, false, OnOk, OnErr, IfOk, IfErr};
+ghost use Rattle.paw_journal.specs.Session.{Digests, slot_length, is_second, has_state, first_length, zeros};
 ghost use Rattle.paw_journal.specs.inner.Session.{IsDamagedAt};
 ghost use Rattle.paw_journal.specs.inner.Room.{kept_slot, state_in};
 
@@ -21,7 +21,7 @@ pub(crate) fn state_in(slot: &[u8]) -> Result<SlotState, u64>
     ensures whole { OnOk result (has_state slot.now ≡ true) }
     ensures broken { OnErr result (has_state slot.now ≡ false) }
     ensures value { IfOk result (λ kept. kept ≡ state_in slot.now) }
-    ensures damaged { (digest : List ℕ) → IfErr result (IsDamagedAt digest slot.now) }
+    ensures damaged { (digests : Digests) → IfErr result (IsDamagedAt digests slot.now) }
 {
     let count = number_at(slot, 0);
     if count > MOST_CHANGES {

@@ -11,7 +11,7 @@ pub enum SessionPart {
     State,
 }
 
-/// Why a store gives no session of a game.
+/// Why a store gives no session of a game to go on with by some routines.
 #[derive(Clone, Copy, Drop, PartialEq, Eq, Debug, Error)]
 pub enum JournalRefusal {
     /// No session is made: the length of the store in bytes, and its first byte (0 where there is none).
@@ -23,6 +23,9 @@ pub enum JournalRefusal {
     /// The session belongs to a game with another digest: that which is kept, and that which was asked for.
     #[error("session is of another game")]
     WrongGame { kept: [u8; 32], found: [u8; 32] },
+    /// The session is played with routines that have another digest: that which is kept, and that which was asked for.
+    #[error("session has other routines")]
+    WrongRoutines { kept: [u8; 32], found: [u8; 32] },
     /// A call of the stage failed.
     #[error("a call of the stage failed: {0:?}")]
     Outside(StageCall),

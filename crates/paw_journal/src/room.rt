@@ -1,12 +1,12 @@
 // The buffers of a journal.
 
-ghost use Rattle.std.specs.Prelude.{true, ◌≡◌, ◌+◌, ◌≤◌, [], ◌∷◌, ◌++◌, ℕ, List, length, IsSome, OnOk, IfErr};
+ghost use Rattle.std.specs.Prelude.{true, ◌≡◌, ◌+◌, ◌≤◌, [], ◌∷◌, ◌++◌, length, IsSome, OnOk, IfErr};
 ghost use Rattle.paw_base.specs.declared.limits.TheConstants.{PIECE_LIMIT};
 ghost use Rattle.paw_stage.specs.declared.StageCall.TheVariants as call;
 ghost use Rattle.paw_stage.specs.Moments.{Still};
 ghost use Rattle.paw_stage.specs.Across.{Serves};
 ghost use Rattle.paw_stage.specs.inner.Across.{Throughout};
-ghost use Rattle.paw_journal.specs.Session.{slot_length, session_length, zeros, has_state, made_slot};
+ghost use Rattle.paw_journal.specs.Session.{Digests, slot_length, session_length, zeros, has_state, made_slot};
 ghost use Rattle.paw_journal.specs.inner.Session.{IsDamagedAt};
 ghost use Rattle.paw_journal.specs.inner.Room.{kept_slot, kept_of, with_slot_kept, with_made, with_state, state_in};
 ghost use Rattle.paw_journal.specs.inner.Room.{HasRead, ShowsSlot, KeepsRead};
@@ -217,9 +217,9 @@ impl Room {
     /// The place in the slot of its first broken rule.
     pub(crate) fn unpack(&mut self, which: Slot) -> Result<(), u64>
         requires whole { length self.old.slot ≡ slot_length }
-        ensures shown { (digest : List ℕ) → OnOk result (ShowsSlot digest self.old self.new) }
+        ensures shown { (digests : Digests) → OnOk result (ShowsSlot digests self.old self.new) }
         ensures kept { OnOk result (KeepsRead which self.old self.new) }
-        ensures damaged { (digest : List ℕ) → IfErr result (IsDamagedAt digest self.old.slot) }
+        ensures damaged { (digests : Digests) → IfErr result (IsDamagedAt digests self.old.slot) }
     {
         let kept = state_in(self.slot())?;
         self.take_slot(which, kept);
@@ -231,7 +231,7 @@ impl Room {
         requires whole { length self.old.slot ≡ slot_length }
         requires sound { has_state self.old.slot ≡ true }
         requires taken { kept ≡ state_in self.old.slot }
-        ensures shown { (digest : List ℕ) → ShowsSlot digest self.old self.new }
+        ensures shown { (digests : Digests) → ShowsSlot digests self.old self.new }
         ensures kept { KeepsRead which self.old self.new }
     {
         if is_current(self.slot()) {

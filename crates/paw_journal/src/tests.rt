@@ -15,6 +15,8 @@ use std::test::Fail;
 
 const GAME: [u8; 32] = [7; 32];
 
+const RULES: [u8; 32] = [9; 32];
+
 #[test]
 fn the_digest_is_that_of_the_standard(rt: HostRuntime) {
     let expected = [
@@ -70,7 +72,7 @@ fn sessions<S: Stage>(stage: &mut S, room: &mut Room) -> u8
     if at.length != 0 {
         return 0;
     }
-    let Ok(journal) = Journal::create(stage, room, at, &GAME, &first, b"Hall.") else {
+    let Ok(journal) = Journal::create(stage, room, at, &GAME, &RULES, &first, b"Hall.") else {
         return 0;
     };
     let Ok(journal) = journal.commit(stage, room, &second, b"") else {
@@ -103,18 +105,30 @@ fn with_bytes(alloc: Global, whole: &[u8], changes: &[(usize, u8)]) -> Result<Ve
     Ok(bytes)
 }
 
-// Finds the session in a store that has these bytes: the first byte of its state, and the length of its piece.
+// Finds the session of the game in a store that has these bytes: the first byte of its state, and the length of its
+// piece.
 fn found(
     alloc: Global,
     bytes: &[u8],
     room: &mut Room,
     game: &[u8; 32],
 ) -> Result<Result<(u8, usize), JournalRefusal>, NoRoom> {
+    found_by(alloc, bytes, room, game, &RULES)
+}
+
+// The same, with the digest of the routines.
+fn found_by(
+    alloc: Global,
+    bytes: &[u8],
+    room: &mut Room,
+    game: &[u8; 32],
+    rules: &[u8; 32],
+) -> Result<Result<(u8, usize), JournalRefusal>, NoRoom> {
     let mut stage = memory(alloc, bytes)?;
     let Ok(at) = attach(&mut stage, "S") else {
         return Ok(Err(JournalRefusal::Outside(StageCall::Attach)));
     };
-    Ok(match Journal::find(&mut stage, room, at, game) {
+    Ok(match Journal::find(&mut stage, room, at, game, rules) {
         Ok(_) => Ok((room.state()[0], room.piece().len())),
         Err(refusal) => Err(refusal),
     })
@@ -225,6 +239,58 @@ fn other_stores_hold_no_session_of_the_game(rt: HostRuntime) -> Result<(), Fail>
     Ok(())
 }
 
+#[test]
+fn a_session_of_other_routines_is_refused(rt: HostRuntime) -> Result<(), Fail> {
+    let mut room = Room::new(rt.alloc())?;
+    let whole = whole_session(rt.alloc(), &mut room)?;
+    // The session isn't measured, is so but for one byte, and has a slot that is damaged.
+    let none = with_routines(rt.alloc(), whole.as_slice(), 0)?;
+    let part = with_bytes(rt.alloc(), none.as_slice(), &[(95, 1)])?;
+    let broken = with_bytes(rt.alloc(), whole.as_slice(), &[(129, 255)])?;
+    let (nothing, other) = ([0; 32], [8; 32]);
+    let mut last = nothing;
+    last[31] = 1;
+    let routines = |kept, found| Err(JournalRefusal::WrongRoutines { kept, found });
+    let game = Err(JournalRefusal::WrongGame {
+        kept: GAME,
+        found: other,
+    });
+    let damaged = Err(JournalRefusal::Damaged {
+        part: SessionPart::Slot,
+        at: 0,
+    });
+    // The bytes, the digests of game and routines, and what is found.
+    for (bytes, of, by, expected) in [
+        (&whole, GAME, RULES, Ok((2, 8))),
+        (&whole, GAME, other, routines(RULES, other)),
+        (&whole, GAME, nothing, routines(RULES, nothing)),
+        (&whole, other, other, game),
+        (&none, GAME, RULES, Ok((2, 8))),
+        (&none, GAME, other, Ok((2, 8))),
+        (&none, other, other, game),
+        (&part, GAME, last, Ok((2, 8))),
+        (&part, GAME, RULES, routines(last, RULES)),
+        (&broken, other, other, damaged),
+        (&broken, GAME, other, damaged),
+    ] {
+        let seen = found_by(rt.alloc(), bytes.as_slice(), &mut room, &of, &by)?;
+        assert_eq!(rt; seen, expected);
+    }
+    Ok(())
+}
+
+// These bytes, with this one in each place of the digest of the routines.
+fn with_routines(alloc: Global, whole: &[u8], byte: u8) -> Result<Vec<u8>, Fail> {
+    let mut bytes = Vec::from_slice(alloc, whole)?;
+    if bytes.len() < 96 {
+        return Err(Fail::from("length"));
+    }
+    for place in 64..96 {
+        bytes[place] = byte;
+    }
+    Ok(bytes)
+}
+
 // Whether all is done: a session is made, and so many turns are committed, each with its number in so many bytes.
 fn plays<S: Stage>(stage: &mut S, room: &mut Room, turns: u32, many: usize) -> bool
     requires stable { S.Tells stage.old → IsStable (S.standing stage.old).disk }
@@ -240,7 +306,7 @@ fn plays<S: Stage>(stage: &mut S, room: &mut Room, turns: u32, many: usize) -> b
     if at.length != 0 {
         return false;
     }
-    match Journal::create(stage, room, at, &GAME, &first, b"Hall.") {
+    match Journal::create(stage, room, at, &GAME, &RULES, &first, b"Hall.") {
         Ok(journal) => goes_on(stage, room, journal, 0, turns, many),
         Err(_) => false,
     }
@@ -316,7 +382,7 @@ fn takes_up<S: Stage>(stage: &mut S, room: &mut Room, turns: u32) -> bool
     let Ok(at) = attach(stage, "S") else {
         return false;
     };
-    match Journal::find(stage, room, at, &GAME) {
+    match Journal::find(stage, room, at, &GAME, &RULES) {
         Ok(journal) => goes_on(stage, room, journal, 1, 1 + turns, 1),
         Err(_) => false,
     }
@@ -343,14 +409,15 @@ fn a_slot_without_a_state_is_written_whole(rt: HostRuntime) -> Result<(), Fail> 
     Ok(())
 }
 
-// The bytes of a session as it was made and played once in version 1: no slot tells a version, and anything may stand
-// behind the states.
+// The bytes of a session as it was made and played once in version 1: it isn't measured, no slot tells a version, and
+// anything may stand behind the states.
 fn first_version(alloc: Global, room: &mut Room) -> Result<Vec<u8>, Fail> {
     let mut stage = memory(alloc, b"")?;
     plays(&mut stage, room, 1, 1);
     let bytes = stage.crash(alloc, 0)?;
     let changes = [(2, 1), (130, 0), (86_210, 0), (1_563, 7), (87_643, 9)];
-    with_bytes(alloc, bytes.as_slice(), &changes)
+    let bytes = with_bytes(alloc, bytes.as_slice(), &changes)?;
+    with_routines(alloc, bytes.as_slice(), 0)
 }
 
 #[test]
@@ -396,6 +463,7 @@ fn a_session_of_version_1_goes_on(rt: HostRuntime) -> Result<(), Fail> {
         let bytes = stage.crash(rt.alloc(), 0)?;
         assert!(rt; bytes.len() == 172_288);
         assert_eq!(rt; (bytes[2], bytes[130], bytes[86_210]), versions);
+        assert_eq!(rt; (bytes[64], bytes[95]), (0, 0));
     }
     Ok(())
 }
@@ -408,7 +476,7 @@ fn changes<S: Stage>(stage: &mut S, room: &mut Room, changes: &[(usize, u8)], pi
     let Ok(at) = attach(stage, "S") else {
         return false;
     };
-    let Ok(journal) = Journal::find(stage, room, at, &GAME) else {
+    let Ok(journal) = Journal::find(stage, room, at, &GAME, &RULES) else {
         return false;
     };
     let mut state = *room.state();
@@ -462,11 +530,11 @@ fn each_byte_of_a_session_that_is_made(rt: HostRuntime) -> Result<(), Fail> {
     assert_eq!(rt; bytes.len(), 172_288);
     let mut zeros = Vec::new(rt.alloc());
     zeros.resize(bytes.len(), 0)?;
-    let digest = with_digest(rt.alloc(), zeros.as_slice())?;
+    let digests = with_digests(rt.alloc(), zeros.as_slice())?;
     // The mark and the version; each slot's version, the length of its piece, and the piece.
     let expected = with_bytes(
         rt.alloc(),
-        digest.as_slice(),
+        digests.as_slice(),
         &[
             (0, 80),
             (2, 2),
@@ -490,9 +558,9 @@ fn each_byte_of_a_session_that_is_made(rt: HostRuntime) -> Result<(), Fail> {
     Ok(())
 }
 
-// These bytes, with the digest of the game.
-fn with_digest(alloc: Global, whole: &[u8]) -> Result<Vec<u8>, Fail> {
-    let mut bytes = Vec::from_slice(alloc, whole)?;
+// These bytes, with the digests of game and routines.
+fn with_digests(alloc: Global, whole: &[u8]) -> Result<Vec<u8>, Fail> {
+    let mut bytes = with_routines(alloc, whole, 9)?;
     if bytes.len() < 64 {
         return Err(Fail::from("length"));
     }
@@ -514,7 +582,7 @@ fn strange(alloc: Global) -> Result<Vec<u8>, Fail> {
     for place in 3..32 {
         bytes[place] = 100 + place as u8;
     }
-    for place in 64..128 {
+    for place in 96..128 {
         bytes[place] = 100 + place as u8;
     }
     Ok(bytes)

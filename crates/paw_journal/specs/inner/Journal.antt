@@ -7,8 +7,8 @@ use Rattle.paw_stage.specs.Stage.{Standing}
 use Rattle.paw_journal.specs.declared.journal.Journal.{Journal}
 use Rattle.paw_journal.specs.declared.refusal.JournalRefusal.{JournalRefusal}
 use Rattle.paw_journal.specs.declared.refusal.JournalRefusal.TheVariants as refusal
-use Rattle.paw_journal.specs.Session.{Recovered, Unmade, Damaged, Shown, recover, chosen, kept_digest}
-use Rattle.paw_journal.specs.inner.Session.{session_shown}
+use Rattle.paw_journal.specs.Session.{Recovered, Unmade, Damaged, Shown, recover, chosen, kept_digests, zeros}
+use Rattle.paw_journal.specs.inner.Session.{digests_of, session_shown}
 use Rattle.paw_journal.specs.inner.Room.{Room, KeepsSlots, slot_number}
 
 -- A store is attached, and nothing is unsynced: a crash leaves just its bytes.
@@ -21,23 +21,21 @@ pub record IsAtRest (s : Standing) : Type 0 where
 pub record KeptIn (journal : Journal) (room : Room) (s : Standing) : Type 0 where
   pub rests : IsAtRest s
   pub chosen : chosen s.disk.bytes ≡ slot_number journal.slot
-  pub shown : recover s.disk.bytes ≡ session_shown (kept_digest s.disk.bytes) room.state room.piece
+  pub shown : recover s.disk.bytes ≡ session_shown (kept_digests s.disk.bytes) room.state room.piece
   pub slots : KeepsSlots room s.disk.bytes
 
--- Why there is no session of this game, by what the store's bytes stand for. A stage call that failed tells nothing of
--- the store.
-abbrev pub IsSessionRefused : Recovered → List ℕ → JournalRefusal → Type 0
-IsSessionRefused r game (refusal.Unmade n mark) = r ≡ Unmade n mark
-IsSessionRefused r game (refusal.Damaged part at) = r ≡ Damaged part at
-IsSessionRefused r game (refusal.WrongGame kept found) =
-    (state : List ℕ) × (piece : List ℕ) × (r ≡ Shown kept state piece) × (kept ≢ game) × (found ≡ game)
-IsSessionRefused r game (refusal.Outside c) = Unit {0}
-
--- What a search for the session of a game answers: the session, of which state and piece then stand in the room, or why
--- there is none.
-abbrev pub Finds : Recovered → List ℕ → Room → Result Journal JournalRefusal → Type 0
-Finds r game room (Ok journal) = r ≡ session_shown game room.state room.piece
-Finds r game room (Err e) = IsSessionRefused r game e
+-- Why the store has no session of this game to go on with by these routines, by what its bytes stand for. A stage call
+-- that failed tells nothing of the store.
+abbrev pub IsSessionRefused : Recovered → List ℕ → List ℕ → JournalRefusal → Type 0
+IsSessionRefused r game rules (refusal.Unmade n mark) = r ≡ Unmade n mark
+IsSessionRefused r game rules (refusal.Damaged part at) = r ≡ Damaged part at
+IsSessionRefused r game rules (refusal.WrongGame kept found) =
+    (routines : List ℕ) × (state : List ℕ) × (piece : List ℕ) × (r ≡ Shown (digests_of kept routines) state piece)
+    × (kept ≢ game) × (found ≡ game)
+IsSessionRefused r game rules (refusal.WrongRoutines kept found) =
+    (state : List ℕ) × (piece : List ℕ) × (r ≡ Shown (digests_of game kept) state piece)
+    × (kept ≢ zeros 32) × (kept ≢ rules) × (found ≡ rules)
+IsSessionRefused r game rules (refusal.Outside c) = Unit {0}
 
 -- The stage call that failed, by what a call answers.
 abbrev pub failed_stage_call : {A : Type 0} → Result A StageCall → Option StageCall
@@ -49,6 +47,7 @@ outside (refusal.Outside c) = Some c
 outside (refusal.Unmade n mark) = None
 outside (refusal.Damaged part at) = None
 outside (refusal.WrongGame kept found) = None
+outside (refusal.WrongRoutines kept found) = None
 
 abbrev pub refused_call : {A : Type 0} → Result A JournalRefusal → Option StageCall
 refused_call (Ok answer) = None

@@ -4,7 +4,7 @@ use Rattle.paw_journal.specs.declared.layout.Slot.{Slot}
 use Rattle.paw_journal.specs.declared.layout.Slot.TheVariants as which
 use Rattle.paw_journal.specs.declared.drafting.SlotState.{SlotState}
 use Rattle.paw_stage.specs.Stage.{Standing}
-use Rattle.paw_journal.specs.Session.{slot, is_second, two_byte_number, slot_state, slot_shows}
+use Rattle.paw_journal.specs.Session.{Digests, slot, is_second, two_byte_number, slot_state, slot_shows}
 use Rattle.paw_journal.specs.Session.{has_state}
 use Rattle.paw_journal.specs.Session.{stretch, piece_length}
 use Rattle.paw_journal.specs.inner.Session.{session_shown}
@@ -58,8 +58,8 @@ abbrev pub HasRead : Slot → Standing → Room → Type 0
 HasRead which s room = room.slot ≡ slot (slot_number which) s.disk.bytes
 
 -- The room shows what the slot shows that was read.
-abbrev pub ShowsSlot : List ℕ → Room → Room → Type 0
-ShowsSlot digest old new = slot_shows digest old.slot ≡ session_shown digest new.state new.piece
+abbrev pub ShowsSlot : Digests → Room → Room → Type 0
+ShowsSlot digests old new = slot_shows digests old.slot ≡ session_shown digests new.state new.piece
 
 -- The room keeps the state of this slot, which was read, and may show another state and piece.
 abbrev pub KeepsRead : Slot → Room → Room → Type 0

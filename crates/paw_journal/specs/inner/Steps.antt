@@ -10,8 +10,8 @@ use Rattle.paw_journal.specs.declared.layout.Slot.{Slot}
 use Rattle.paw_journal.specs.declared.finding.Header.{Header}
 use Rattle.paw_journal.specs.Session.{session_length, header_length, slot_length, made_mark, mark, chosen, version}
 use Rattle.paw_journal.specs.Session.{is_version}
-use Rattle.paw_journal.specs.Session.{kept_digest, changes, changed, first_unsound, slot, recover}
-use Rattle.paw_journal.specs.inner.Session.{session_shown}
+use Rattle.paw_journal.specs.Session.{Digests, kept_digests, changes, changed, first_unsound, slot, recover}
+use Rattle.paw_journal.specs.inner.Session.{digests_of, session_shown}
 use Rattle.paw_journal.specs.Session.{made_session, differing, differences, rewritten, committed_slot, committed}
 use Rattle.paw_journal.specs.inner.Room.{slot_number, kept_slot}
 use Rattle.paw_journal.specs.inner.Written.{most_written}
@@ -30,11 +30,11 @@ pub record IsBlank (held : List ℕ) (d : Disk) : Type 0 where
   pub blank : mark d.bytes ≡ 0
   pub clean : is_dirty d.dirty 0 ≡ false
 
--- What a header tells of a session that is made of these bytes: the slot in use, and the digest of the game.
-pub record Introduces (number : ℕ) (game : List ℕ) (bytes : List ℕ) : Type 0 where
+-- What a header tells of a session that is made of these bytes: the slot in use, and whose session it is.
+pub record Introduces (number : ℕ) (whose : Digests) (bytes : List ℕ) : Type 0 where
   pub made : IsMade bytes
   pub slot : number ≡ chosen bytes
-  pub digest : game ≡ kept_digest bytes
+  pub digests : whose ≡ kept_digests bytes
 
 -- The store is as long as it was, and of its bytes only those from one place up to another may differ.
 pub record IsWithin (lo hi : ℕ) (old : List ℕ) (d : Disk) : Type 0 where
@@ -69,29 +69,33 @@ pub record IsSpare (k : ℕ) (bytes : List ℕ) : Type 0 where
 abbrev pub Fills : Slot → (List ℕ → List ℕ) → Standing → Standing → Type 0
 Fills which filled old new = slot (slot_number which) new.disk.bytes ≡ filled (slot (slot_number which) old.disk.bytes)
 
--- The digest of the game is as it was.
-abbrev pub SameDigest : Standing → Standing → Type 0
-SameDigest old new = kept_digest new.disk.bytes ≡ kept_digest old.disk.bytes
+-- The session is of the game and of the routines that it was of.
+abbrev pub SameDigests : Standing → Standing → Type 0
+SameDigests old new = kept_digests new.disk.bytes ≡ kept_digests old.disk.bytes
 
--- The session shows this state and this piece, of the game of this digest.
-abbrev pub ShowsIn : List ℕ → List ℕ → List ℕ → Standing → Type 0
-ShowsIn digest state piece s = recover s.disk.bytes ≡ session_shown digest state piece
+-- The session has these digests, and shows this state and this piece.
+abbrev pub ShowsIn : Digests → List ℕ → List ℕ → Standing → Type 0
+ShowsIn digests state piece s = recover s.disk.bytes ≡ session_shown digests state piece
 
--- The session shows this state and this piece, of the game that it is of.
+-- The session has the digests that it had, and shows this state and this piece.
 abbrev pub ShowsNext : List ℕ → List ℕ → Standing → Standing → Type 0
-ShowsNext state piece old new = ShowsIn (kept_digest old.disk.bytes) state piece new
+ShowsNext state piece old new = ShowsIn (kept_digests old.disk.bytes) state piece new
 
 -- The store holds the session as a commit of this state and this piece leaves it.
 abbrev pub HoldsCommitted : List ℕ → List ℕ → Standing → Standing → Type 0
 HoldsCommitted state piece old new = new.disk.bytes ≡ committed state piece old.disk.bytes
 
 -- The store holds the session as it is made.
-abbrev pub HoldsMade : List ℕ → List ℕ → List ℕ → Standing → Type 0
-HoldsMade digest state piece s = s.disk.bytes ≡ made_session digest state piece
+abbrev pub HoldsMade : Digests → List ℕ → List ℕ → Standing → Type 0
+HoldsMade digests state piece s = s.disk.bytes ≡ made_session digests state piece
+
+-- The digests that a header has.
+abbrev pub header_digests : Header → Digests
+header_digests header = digests_of header.game header.routines
 
 -- What a header tells of a session with these bytes.
 abbrev pub IsHeaderOf : List ℕ → Header → Type 0
-IsHeaderOf bytes header = Introduces (slot_number header.slot) header.digest bytes
+IsHeaderOf bytes header = Introduces (slot_number header.slot) (header_digests header) bytes
 
 -- Change records that make one state of another, one for each position that differs.
 pub record Turns (old new records : List ℕ) : Type 0 where

@@ -5,7 +5,7 @@ use Rattle.paw_stage.specs.Stage.{Standing, file_bytes, opened}
 use Rattle.paw_stage.specs.Moments.{Moment}
 use Rattle.paw_journal.specs.declared.layout.Slot.{Slot}
 use Rattle.paw_journal.specs.declared.store.Attached.{Attached}
-use Rattle.paw_journal.specs.Session.{Recovered, IsUnmade, recover, recover_by, kept_digest}
+use Rattle.paw_journal.specs.Session.{Digests, Recovered, IsUnmade, recover, recover_by, kept_digests}
 use Rattle.paw_journal.specs.inner.Session.{session_shown, marked}
 use Rattle.paw_journal.specs.inner.Room.{slot_number}
 
@@ -65,9 +65,9 @@ LeavesUnmade old m = InStore old (Leaves IsUnmade) m
 abbrev pub LeavesUnmadeOr : Recovered → Standing → Moment → Type 0
 LeavesUnmadeOr made old m = InStore old (Leaves (IsUnmadeOr made)) m
 
--- A crash leaves no session, or the one that is made with this state and this piece.
-abbrev pub LeavesMade : List ℕ → List ℕ → List ℕ → Standing → Moment → Type 0
-LeavesMade digest state piece old m = LeavesUnmadeOr (session_shown digest state piece) old m
+-- A crash leaves no session, or the one that is made with these digests, this state and this piece.
+abbrev pub LeavesMade : Digests → List ℕ → List ℕ → Standing → Moment → Type 0
+LeavesMade digests state piece old m = LeavesUnmadeOr (session_shown digests state piece) old m
 
 -- A crash leaves no session, or the one that stands there once it is marked.
 abbrev pub LeavesMarked : Standing → Moment → Type 0
@@ -82,7 +82,7 @@ abbrev pub LeavesSlot : Slot → Standing → Moment → Type 0
 LeavesSlot which old m =
     InStore old (Leaves (IsEither (shown_by (1 - slot_number which) old) (shown_by (slot_number which) old))) m
 
--- A crash leaves what the session showed before, or this state and this piece of its game.
+-- A crash leaves what the session showed before, or this state and this piece, with the digests that it has.
 abbrev pub LeavesOldOr : List ℕ → List ℕ → Standing → Moment → Type 0
 LeavesOldOr state piece old m =
-    InStore old (Leaves (IsEither (recover old.disk.bytes) (session_shown (kept_digest old.disk.bytes) state piece))) m
+    InStore old (Leaves (IsEither (recover old.disk.bytes) (session_shown (kept_digests old.disk.bytes) state piece))) m

@@ -3,15 +3,15 @@ use Rattle.paw_journal.proofs.Headers.{other_mark, other_version, introduces}
 use Rattle.paw_journal.proofs.finding.header_in.Goals as goal
 
 pub returns-then-mark-ne-MADE-clause-refused : goal.returns-then-mark-ne-MADE-clause-refused
-returns-then-mark-ne-MADE-clause-refused c whole game n b = other_mark c.args.bytes.now whole n b c.if-mark-ne-MADE.true
+returns-then-mark-ne-MADE-clause-refused c whole game rules n b = other_mark c.args.bytes.now whole n b c.if-mark-ne-MADE.true
 
 pub returns-then-not-is_known_version-clause-refused : goal.returns-then-not-is_known_version-clause-refused
-returns-then-not-is_known_version-clause-refused c whole game n b =
+returns-then-not-is_known_version-clause-refused c whole game rules n b =
     other_version c.args.bytes.now whole n b c.if-mark-ne-MADE.false
     (sym c.is_known_version.ensures ∙ c.if-not-is_known_version.true)
 
 pub returns-clause-introduced : goal.returns-clause-introduced
 returns-clause-introduced c whole n b =
-    introduces _ _ c.args.bytes.now whole n b c.if-mark-ne-MADE.false
+    introduces _ _ _ c.args.bytes.now whole n b c.if-mark-ne-MADE.false
     (sym c.is_known_version.ensures ∙ c.if-not-is_known_version.false) c.chosen_by.ensures
-    c.copy_from_slice.ensures.after
+    c.digest_at.ensures.value c.digest_at-2.ensures.value

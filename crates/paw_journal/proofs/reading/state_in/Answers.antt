@@ -8,8 +8,8 @@ returns-then-count-gt-MOST_CHANGES-clause-broken c =
     broken_many c.args.slot.now c.number_at-count.result c.number_at-count.ensures.value c.if-count-gt-MOST_CHANGES.true
 
 pub returns-then-count-gt-MOST_CHANGES-clause-damaged : goal.returns-then-count-gt-MOST_CHANGES-clause-damaged
-returns-then-count-gt-MOST_CHANGES-clause-damaged c digest =
-    too_many digest c.args.slot.now c.number_at-count.result c.number_at-count.ensures.value
+returns-then-count-gt-MOST_CHANGES-clause-damaged c digests =
+    too_many digests c.args.slot.now c.number_at-count.result c.number_at-count.ensures.value
     c.if-count-gt-MOST_CHANGES.true
 
 pub returns-in-Some-clause-broken : goal.returns-in-Some-clause-broken
@@ -18,8 +18,8 @@ returns-in-Some-clause-broken c = broken_record c.args.slot.now _ c.number_at-co
     c.in-Some.ensures.unsound
 
 pub returns-in-Some-clause-damaged : goal.returns-in-Some-clause-damaged
-returns-in-Some-clause-damaged c digest =
-    few_changes digest c.args.slot.now _ c.number_at-count.result (Some c.in-Some.number) c.number_at-count.ensures.value c.if-count-gt-MOST_CHANGES.false
+returns-in-Some-clause-damaged c digests =
+    few_changes digests c.args.slot.now _ c.number_at-count.result (Some c.in-Some.number) c.number_at-count.ensures.value c.if-count-gt-MOST_CHANGES.false
     (records_are c.number_at-count.result c.args.slot.now _ refl) c.in-Some.ensures.unsound
 
 pub returns-in-None-clause-whole : goal.returns-in-None-clause-whole

@@ -4,7 +4,7 @@ use Rattle.std.specs.Prelude.{Some}
 use Rattle.paw_stage.specs.Stage.{Standing}
 use Rattle.paw_stage.specs.Across.{EachMoment}
 use Rattle.paw_stage.proofs.Time.{Passes_map, Passes_on}
-use Rattle.paw_journal.specs.Session.{recover, recover_by, kept_digest, chosen, slot, session_length}
+use Rattle.paw_journal.specs.Session.{recover, recover_by, kept_digests, chosen, slot, session_length}
 use Rattle.paw_journal.specs.inner.Session.{session_shown}
 use Rattle.paw_journal.specs.inner.Room.{kept_of, kept_slot, slot_number}
 use Rattle.paw_journal.specs.inner.Written.{WritesLittle}
@@ -12,8 +12,8 @@ use Rattle.paw_journal.specs.inner.Store.{LeavesOldOr}
 use Rattle.paw_journal.specs.inner.Steps.{Drafts, IsSpare, IsFilling, written_slot}
 use Rattle.paw_journal.proofs.Serving.{serves_then}
 use Rattle.paw_journal.proofs.Moved.{beside_none, beside_on}
-use Rattle.paw_journal.proofs.Chooses.{slot_small, selector_is, chosen_shown, chosen_digest, chosen_slot}
-use Rattle.paw_journal.proofs.Fills.{filled_digest, filled_before, filled_other}
+use Rattle.paw_journal.proofs.Chooses.{slot_small, selector_is, chosen_shown, chosen_digests, chosen_slot}
+use Rattle.paw_journal.proofs.Fills.{filled_digests, filled_before, filled_other}
 use Rattle.paw_journal.proofs.Sessions.{short_piece, in_first_of, in_either}
 use Rattle.paw_journal.proofs.Commits.{keeps_of, drafts_as, committed_kept, committed_shows, committed_few}
 use Rattle.paw_journal.proofs.Commits.{committed_part, committed_all, committed_keeps, committed_exact}
@@ -60,7 +60,7 @@ module _ (g : Over) (c : After-choose g) (tells : g.S.Stage.Tells c.args.stage.n
 
   -- the slot shows the new state and piece
   shows : recover_by (slot_number c.other-slot.result) written.disk.bytes
-      ≡ session_shown (kept_digest old.disk.bytes) c.args.state.now c.args.piece.now
+      ≡ session_shown (kept_digests old.disk.bytes) c.args.state.now c.args.piece.now
   shows = committed_shows (slot_number c.other-slot.result) c.draft-draft.result
       (kept_of c.other-slot.result c.args.room.now) c.args.state.now c.slot.result.now c.args.piece.now old written
       filled drafts keeps are short c.requires.piece_length
@@ -167,13 +167,13 @@ returns-clause-shown g c tells =
     ap (λ d. recover d.bytes) (c.in_ok-choose.ensures.chosen (c.write_slot.ensures.serves.tells.0 tells))
     ∙ (chosen_shown (slot_number w) t.disk.bytes (slot_small w) (long g at tells) ∙ shows g at tells)
 
-pub returns-clause-digest : goal.returns-clause-digest
-returns-clause-digest g c tells =
-    let at = (goal.at.returns-clause-digest g c).After-choose in
+pub returns-clause-digests : goal.returns-clause-digests
+returns-clause-digests g c tells =
+    let at = (goal.at.returns-clause-digests g c).After-choose in
     let w = c.other-slot.result in
     let t = g.S.Stage.standing c.write_slot.new.stage in
-    ap (λ d. kept_digest d.bytes) (c.in_ok-choose.ensures.chosen (c.write_slot.ensures.serves.tells.0 tells))
-    ∙ (chosen_digest (slot_number w) t.disk.bytes (long g at tells) ∙ filled_digest _ _ _ (filled g at tells))
+    ap (λ d. kept_digests d.bytes) (c.in_ok-choose.ensures.chosen (c.write_slot.ensures.serves.tells.0 tells))
+    ∙ (chosen_digests (slot_number w) t.disk.bytes (long g at tells) ∙ filled_digests _ _ _ (filled g at tells))
 
 pub returns-clause-kept : goal.returns-clause-kept
 returns-clause-kept g c tells =
@@ -192,6 +192,6 @@ returns-clause-kept g c tells =
     (c.in_ok-write_slot.ensures.written tells)) (c.in_ok-choose.ensures.beside later) e)
     (ap (λ d. chosen d.bytes) e ∙ selector_is (slot_number w) t.disk.bytes (slot_small w) l)
     (ap (λ d. recover d.bytes) e ∙ (chosen_shown (slot_number w) t.disk.bytes (slot_small w) l ∙ shows g a tells))
-    (ap (λ d. kept_digest d.bytes) e ∙ (chosen_digest (slot_number w) t.disk.bytes l ∙ filled_digest (slot_number w) s t full))
+    (ap (λ d. kept_digests d.bytes) e ∙ (chosen_digests (slot_number w) t.disk.bytes l ∙ filled_digests (slot_number w) s t full))
     (filled_other (slot_number w) s t full) (now_kept g a tells)
     (λ j low. ap (λ d. slot j d.bytes) e ∙ chosen_slot (slot_number w) j t.disk.bytes l)

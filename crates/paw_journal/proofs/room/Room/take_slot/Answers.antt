@@ -4,16 +4,16 @@ use Rattle.paw_journal.proofs.Slots.{taken_shows, brought_shows, brought_kept}
 use Rattle.paw_journal.proofs.room.Room.take_slot.Goals as goal
 
 pub returns-then-is_current-clause-shown : goal.returns-then-is_current-clause-shown
-returns-then-is_current-clause-shown c digest =
+returns-then-is_current-clause-shown c digests =
     let second = ap is_second (sym c.slot.ensures.value) ∙ (sym c.is_current.ensures.value ∙ c.if-is_current.true) in
     taken_shows c.args.which c.args.kept c.args.self.now c.show.new.self c.keep.new.self c.requires.whole
-    c.requires.sound c.requires.taken digest second c.show.ensures.value c.keep.ensures.value
+    c.requires.sound c.requires.taken digests second c.show.ensures.value c.keep.ensures.value
 
 pub returns-else-is_current-clause-shown : goal.returns-else-is_current-clause-shown
-returns-else-is_current-clause-shown c digest =
+returns-else-is_current-clause-shown c digests =
     let first = ap is_second (sym c.slot.ensures.value) ∙ (sym c.is_current.ensures.value ∙ c.if-is_current.false) in
     brought_shows c.args.which c.args.kept c.args.self.now c.show-else-is_current.new.self
-    c.keep-else-is_current.new.self c.requires.whole c.requires.sound c.requires.taken digest c.brought_up.result first
+    c.keep-else-is_current.new.self c.requires.whole c.requires.sound c.requires.taken digests c.brought_up.result first
     c.brought_up.ensures c.show-else-is_current.ensures.value c.keep-else-is_current.ensures.value
 
 pub returns-else-is_current-clause-kept : goal.returns-else-is_current-clause-kept
