@@ -9,19 +9,23 @@ use Rattle.paw_stage.specs.Stage.{Standing}
 use Rattle.paw_stage.specs.Moments.{Moment, moment_of, Still, InAttach}
 use Rattle.paw_stage.proofs.Time.{Passes_map}
 use Rattle.paw_reading.specs.Turn.{text_of}
-use Rattle.paw_journal.specs.Session.{recover}
+use Rattle.paw_journal.specs.Session.{Digests, recover}
 use Rattle.paw_state.specs.State.{State}
 use Rattle.paw_stage.specs.declared.StageCall.{StageCall}
 use Rattle.paw_stage.specs.declared.StageCall.TheVariants as call
 use Rattle.paw_stage.specs.declared.Stage.{Ghosts}
 use Rattle.paw_stage.specs.Across.{IsOneOf, Serves, EachMoment, InTwoParts}
+use Rattle.paw_journal.specs.inner.Session.{digests_of}
 use Rattle.paw_journal.specs.inner.Journal.{IsSessionRefused, outside}
 use Rattle.paw_journal.specs.declared.refusal.JournalRefusal.{JournalRefusal}
 use Rattle.paw_journal.specs.declared.refusal.JournalRefusal.TheVariants as refusal
 use Rattle.paw_play.specs.Calls.{session_calls}
 use Rattle.paw_play.specs.inner.Calls.{IsNotForCall, call_of_end}
 use Rattle.paw_play.specs.Session.{IsKept}
-use Rattle.paw_play.specs.Play.{NotYet, InPlay, ShowsState, attached_to, store_bytes, going_on, kept_session, PlaysAgain, refused, unread}
+use Rattle.paw_play.specs.Session.{story_digests}
+use Rattle.paw_play.specs.Played.{ShowsState, going_on, from_state}
+use Rattle.paw_play.specs.Keeping.{InPlay}
+use Rattle.paw_play.specs.Play.{NotYet, attached_to, store_bytes, PlaysAgain, refused, unread}
 use Rattle.paw_play.specs.inner.OnTheWay.{end_of}
 use Rattle.paw_journal.proofs.Disks.{stable_is, stable_leaves}
 use Rattle.paw_play.proofs.Attaching.{other_file, playing_from}
@@ -29,12 +33,12 @@ use Rattle.paw_play.proofs.Parts.{then_attached}
 use Rattle.paw_journal.proofs.Serving.{serves_among}
 use Rattle.paw_play.proofs.Showing.{state_kept}
 
-module _ (g : Story) (digest name : List ℕ) (st : State) (piece : List ℕ) (old : Standing) (valid : Valid g.game)
-    (shows : ShowsState g.game digest (store_bytes old name) st piece) where
+module _ (g : Story) (digests : Digests) (name : List ℕ) (st : State) (piece : List ℕ) (old : Standing) (valid : Valid g.game)
+    (shows : ShowsState g.game digests (store_bytes old name) st piece) where
   -- the store is attached, and nothing was asked or shown
   at_attached : (m : Moment) → m.asked ≡ old.asked → m.shown ≡ old.shown → m.attached ≡ Some name →
       ((n : List ℕ) → n ≢ name → m.files n ≡ old.files n) → m.disk ≡ stable (store_bytes old name) →
-      InPlay (kept_session g st piece digest name) old m
+      InPlay (from_state g st piece digests name) old m
   at_attached m asked shown attached files disk = record {
     taken = 0;
     text = [];
@@ -47,15 +51,15 @@ module _ (g : Story) (digest name : List ℕ) (st : State) (piece : List ℕ) (o
     attached = attached;
     files = files;
     leaves = λ image may. (
-      subst (λ b. IsKept digest (st.events + 0) (going_on g st piece []) (recover b))
+      subst (λ b. IsKept digests (st.events + 0) (going_on g st piece []) (recover b))
           (sym (stable_leaves (stable (store_bytes old name)) image (stable_is (store_bytes old name)) (subst (λ d. MayLeave d image) disk may)))
-          (state_kept g digest (store_bytes old name) st piece valid shows),
+          (state_kept g digests (store_bytes old name) st piece valid shows),
       (text_of (going_on g st piece []), refl),
     );
   }
 
   -- while the session is found
-  pub in_finding : (new : Standing) (m : Moment) → new ≡ attached_to old name → Still new m → InPlay (kept_session g st piece digest name) old m
+  pub in_finding : (new : Standing) (m : Moment) → new ≡ attached_to old name → Still new m → InPlay (from_state g st piece digests name) old m
   in_finding new m is e =
       let k : m ≡ moment_of (attached_to old name) = e ∙ ap moment_of is in
       at_attached m (ap (λ (q : Moment). q.asked) k) (ap (λ (q : Moment). q.shown) k)
@@ -63,45 +67,49 @@ module _ (g : Story) (digest name : List ℕ) (st : State) (piece : List ℕ) (o
       (ap (λ (q : Moment). q.disk) k)
 
   -- where the attach is done
-  pub at_again_attach : (new : Standing) → new ≡ attached_to old name → InPlay (kept_session g st piece digest name) old (moment_of new)
+  pub at_again_attach : (new : Standing) → new ≡ attached_to old name → InPlay (from_state g st piece digests name) old (moment_of new)
   at_again_attach new is = in_finding new (moment_of new) is refl
 
   -- once it is found
-  pub in_taking_up : (m : Moment) → InPlay (kept_session g st piece digest name) (attached_to old name) m → InPlay (kept_session g st piece digest name) old m
-  in_taking_up m i = playing_from _ _ st.events name old m i
+  pub in_taking_up : (m : Moment) → InPlay (from_state g st piece digests name) (attached_to old name) m → InPlay (from_state g st piece digests name) old m
+  in_taking_up m i = playing_from (from_state g st piece digests name) old m i
 
 -- while the session is found, by what stages tell
-pub found_again : {S : Type 0} (s : Ghosts S) (first mid last : S) (g : Story) (digest name : List ℕ) (st : State) (piece : List ℕ) →
-    Valid g.game → ShowsState g.game digest (store_bytes (s.standing first) name) st piece →
+pub found_again : {S : Type 0} (s : Ghosts S) (first mid last : S) (g : Story) (digests : Digests) (name : List ℕ) (st : State) (piece : List ℕ) →
+    Valid g.game → ShowsState g.game digests (store_bytes (s.standing first) name) st piece →
     s.standing mid ≡ attached_to (s.standing first) name → EachMoment s mid last (Still (s.standing mid)) →
-    EachMoment s mid last (InPlay (kept_session g st piece digest name) (s.standing first))
-found_again s first mid last g digest name st piece valid shows is h =
-    Passes_map _ _ _ _ _ (InPlay (kept_session g st piece digest name) (s.standing first)) h
-    (λ m e. in_finding g digest name st piece (s.standing first) valid shows (s.standing mid) m is e)
+    EachMoment s mid last (InPlay (from_state g st piece digests name) (s.standing first))
+found_again s first mid last g digests name st piece valid shows is h =
+    Passes_map _ _ _ _ _ (InPlay (from_state g st piece digests name) (s.standing first)) h
+    (λ m e. in_finding g digests name st piece (s.standing first) valid shows (s.standing mid) m is e)
 
 -- the moments from the attach of its store on, with what a stage says of the moment at which it stands
 pub taken_up_again : {S : Type 0} (s : Ghosts S) →
     ((x : S) (m : Moment) → s.Tells x → s.since x (s.clock x) m → m ≡ moment_of (s.standing x)) →
     ((x : S) (t : ℕ) → s.Tells x → t ≤ s.clock x → s.since x t (moment_of (s.standing x))) →
-    (first mid last : S) (g : Story) (digest name : List ℕ) (st : State) (piece : List ℕ) →
-    Valid g.game → ShowsState g.game digest (store_bytes (s.standing first) name) st piece → s.Tells mid →
+    (first mid last : S) (g : Story) (digests : Digests) (name : List ℕ) (st : State) (piece : List ℕ) →
+    Valid g.game → ShowsState g.game digests (store_bytes (s.standing first) name) st piece → s.Tells mid →
     s.standing mid ≡ attached_to (s.standing first) name →
     EachMoment s first mid (InAttach (s.standing first) (s.standing mid) name) →
-    EachMoment s mid last (InPlay (kept_session g st piece digest name) (s.standing first)) →
-    InTwoParts s first last (NotYet name (s.standing first)) (InPlay (kept_session g st piece digest name) (s.standing first))
-taken_up_again s only counts first mid last g digest name st piece valid shows now is h k =
-    then_attached s only counts first mid last name (InPlay (kept_session g st piece digest name) (s.standing first)) now
-    (at_again_attach g digest name st piece (s.standing first) valid shows (s.standing mid) is) h k
+    EachMoment s mid last (InPlay (from_state g st piece digests name) (s.standing first)) →
+    InTwoParts s first last (NotYet name (s.standing first)) (InPlay (from_state g st piece digests name) (s.standing first))
+taken_up_again s only counts first mid last g digests name st piece valid shows now is h k =
+    then_attached s only counts first mid last name (InPlay (from_state g st piece digests name) (s.standing first)) now
+    (at_again_attach g digests name st piece (s.standing first) valid shows (s.standing mid) is) h k
 
 -- ---- where there is no session ----
 
-module _ (g : Story) (digest name : List ℕ) (old new : Standing) where
-  pub refused_again : (r : JournalRefusal) → IsSessionRefused (recover (store_bytes old name)) digest r →
+module _ (g : Story) (name : List ℕ) (old new : Standing) where
+  pub refused_again : (r : JournalRefusal) →
+      IsSessionRefused (recover (store_bytes old name)) (story_digests g).game (story_digests g).routines r →
       IfSome (outside r) (IsOneOf (call.Read ∷ [])) →
-      new ≡ attached_to old name → PlaysAgain g digest name old new (end_of r)
+      new ≡ attached_to old name → PlaysAgain g name old new (end_of r)
   refused_again (refusal.Unmade n mark) h c e = refused (refusal.Unmade n mark) h e
   refused_again (refusal.Damaged part at) h c e = refused (refusal.Damaged part at) h e
-  refused_again (refusal.WrongGame kept found) h c e = refused (refusal.WrongGame kept found) h e
+  refused_again (refusal.WrongGame kept found) h c e =
+      refused (refusal.WrongGame kept found) (digests_of kept h.0, h.1, h.2, h.3, refl, h.4, h.5) e
+  refused_again (refusal.WrongRoutines kept found) h c e =
+      refused (refusal.WrongRoutines kept found) (digests_of (story_digests g).game kept, h.0, h.1, h.2, refl, refl, h.3, h.4, h.5) e
   refused_again (refusal.Outside q) h (inl c) e = rw c (unread e)
   refused_again (refusal.Outside q) h (inr c) e = absurd c
 
@@ -110,6 +118,7 @@ pub not_for_call : (r : JournalRefusal) → IsNotForCall (end_of r)
 not_for_call (refusal.Unmade n mark) = tt
 not_for_call (refusal.Damaged part at) = tt
 not_for_call (refusal.WrongGame kept found) = tt
+not_for_call (refusal.WrongRoutines kept found) = tt
 not_for_call (refusal.Outside q) = tt
 
 read_sessions : (c : StageCall) → IsOneOf (call.Read ∷ []) c → IsOneOf session_calls c
@@ -122,4 +131,5 @@ pub serves_refused : {S : Type 0} (g : Ghosts S) (r : JournalRefusal) (old new :
 serves_refused g (refusal.Unmade n mark) old new s = serves_among g (call.Read ∷ []) session_calls None old new read_sessions s
 serves_refused g (refusal.Damaged part at) old new s = serves_among g (call.Read ∷ []) session_calls None old new read_sessions s
 serves_refused g (refusal.WrongGame kept found) old new s = serves_among g (call.Read ∷ []) session_calls None old new read_sessions s
+serves_refused g (refusal.WrongRoutines kept found) old new s = serves_among g (call.Read ∷ []) session_calls None old new read_sessions s
 serves_refused g (refusal.Outside q) old new s = serves_among g (call.Read ∷ []) session_calls (Some q) old new read_sessions s

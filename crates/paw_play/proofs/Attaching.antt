@@ -1,16 +1,15 @@
 -- The attach of a session's store.
-use Rattle.std.proofs.Common.{◌≡◌, ◌≢◌, ℕ, List, [], ◌∷◌, Option, Some, None, Ok, refl, sym, ap, ◌∙◌, subst, length, inl}
-use Rattle.paw_effects.specs.Story.{Story}
+use Rattle.std.proofs.Common.{◌≡◌, ◌≢◌, ℕ, List, [], ◌∷◌, Option, Some, None, Ok, refl, sym, ap, ◌∙◌, subst, length, inl, inr}
 use Rattle.paw_stage.specs.Disk.{MayLeave, stable}
 use Rattle.paw_stage.specs.Stage.{Standing, Files, bytes_or_none, made_if_missing, AttachesTo}
 use Rattle.paw_stage.specs.Moments.{Moment, moment_of}
 use Rattle.paw_stage.proofs.Names.{holds_same, holds_other}
 use Rattle.paw_journal.proofs.Disks.{stable_is, stable_leaves}
 use Rattle.paw_journal.specs.Session.{IsUnmade, recover, recover_by}
-use Rattle.paw_play.specs.Keeping.{InSession, InMakingOf}
-use Rattle.paw_play.specs.Play.{InNewGame, attached_to, store_bytes}
+use Rattle.paw_play.specs.Played.{PlayedSession}
+use Rattle.paw_play.specs.Keeping.{InPlay, InMaking, InNewSession}
+use Rattle.paw_play.specs.Play.{attached_to, store_bytes}
 use Rattle.paw_play.specs.inner.OnTheWay.{IsStore}
-use Rattle.paw_play.proofs.Mapped.{in_session_as}
 
 no_bytes : (bytes : List ℕ) → length bytes ≡ 0 → bytes ≡ []
 no_bytes [] h = refl
@@ -49,26 +48,43 @@ none_unmade image e = rw e tt
 -- ---- moments ----
 
 -- an empty store was attached
-pub at_new_attach : (g : Story) (seed : ℕ) (name : List ℕ) (old new : Standing) → new ≡ attached_to old name → store_bytes old name ≡ [] →
-    InNewGame g seed name old (moment_of new)
-at_new_attach g seed name old new is empty = inl (record {
+pub at_new_attach : (s : PlayedSession) (old new : Standing) → new ≡ attached_to old s.name → store_bytes old s.name ≡ [] →
+    InNewSession s old (moment_of new)
+at_new_attach s old new is empty = inl (record {
   asked = ap (λ (q : Standing). q.asked) is;
   shown = ap (λ (q : Standing). q.shown) is;
   attached = ap (λ (q : Standing). q.attached) is;
-  files = λ n ne. ap (λ (q : Standing). q.files n) is ∙ other_file old name n ne;
+  files = λ n ne. ap (λ (q : Standing). q.files n) is ∙ other_file old s.name n ne;
   leaves = λ image may. inl (none_unmade image
-      (stable_leaves (stable (store_bytes old name)) image (stable_is (store_bytes old name))
+      (stable_leaves (stable (store_bytes old s.name)) image (stable_is (store_bytes old s.name))
       (subst (λ d. MayLeave d image) (ap (λ (q : Standing). q.disk) is) may) ∙ empty));
 })
 
 -- what holds from the attached store on holds from before the attach
-pub making_from : (Kept : ℕ → List ℕ → Type 0) (name : List ℕ) (old : Standing) (m : Moment) →
-    InMakingOf Kept name (attached_to old name) m → InMakingOf Kept name old m
-making_from Kept name old m i =
-    record { asked = i.asked; shown = i.shown; attached = i.attached; files = λ n ne. i.files n ne ∙ other_file old name n ne; leaves = i.leaves }
+making_from : (s : PlayedSession) (old : Standing) (m : Moment) → InMaking s (attached_to old s.name) m → InMaking s old m
+making_from s old m i = record {
+  asked = i.asked;
+  shown = i.shown;
+  attached = i.attached;
+  files = λ n ne. i.files n ne ∙ other_file old s.name n ne;
+  leaves = i.leaves;
+}
 
-pub playing_from : (Kept : ℕ → List ℕ → Type 0) (told : ℕ → List ℕ) (past : ℕ) (name : List ℕ) (old : Standing)
-    (m : Moment) → InSession Kept told past name (attached_to old name) m →
-    InSession Kept told past name old m
-playing_from Kept told past name old m i =
-    in_session_as Kept Kept told told past name (attached_to old name) old refl (other_file old name) m i refl (λ image k. k)
+pub playing_from : (s : PlayedSession) (old : Standing) (m : Moment) → InPlay s (attached_to old s.name) m → InPlay s old m
+playing_from s old m i = record {
+  taken = i.taken;
+  text = i.text;
+  last = i.last;
+  there = i.there;
+  few = i.few;
+  asked = i.asked;
+  shown = i.shown;
+  before = i.before;
+  attached = i.attached;
+  files = λ n ne. i.files n ne ∙ other_file old s.name n ne;
+  leaves = i.leaves;
+}
+
+pub new_from : (s : PlayedSession) (old : Standing) (m : Moment) → InNewSession s (attached_to old s.name) m → InNewSession s old m
+new_from s old m (inl i) = inl (making_from s old m i)
+new_from s old m (inr i) = inr (playing_from s old m i)

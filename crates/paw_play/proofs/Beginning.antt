@@ -13,7 +13,7 @@ use Rattle.paw_turn.specs.inner.Player.{Seat, IsSeated, StandsClosed}
 use Rattle.paw_turn.specs.inner.Player.{PlaysTo as StepsTo}
 use Rattle.paw_turn.specs.declared.Step.{Step}
 use Rattle.paw_turn.specs.declared.Step.TheVariants as step
-use Rattle.paw_journal.specs.Session.{Shown, IsUnmade, recover, kept_digest, made_session}
+use Rattle.paw_journal.specs.Session.{Digests, Shown, IsUnmade, recover, kept_digests, made_session}
 use Rattle.paw_journal.specs.inner.Store.{IsBeside, InStore, Leaves}
 use Rattle.paw_stage.specs.Across.{IsOneOf}
 use Rattle.paw_journal.specs.Journal.{writing_calls}
@@ -21,13 +21,14 @@ use Rattle.paw_play.specs.declared.PlayEnd.{PlayEnd}
 use Rattle.paw_play.specs.declared.PlayEnd.TheVariants as end
 use Rattle.paw_play.specs.Session.{IsKept}
 use Rattle.paw_play.specs.Walk.{Walks}
-use Rattle.paw_play.specs.Keeping.{StaysAttached}
-use Rattle.paw_play.specs.Play.{PlayedSession, KeepsLines, InPlay, with_store}
+use Rattle.paw_play.specs.Played.{PlayedSession}
+use Rattle.paw_play.specs.Keeping.{InPlay, InMaking, StaysAttached, RestsWith}
+use Rattle.paw_play.specs.Play.{with_store}
 use Rattle.paw_play.specs.inner.Calls.{unless_ended}
 use Rattle.paw_play.specs.inner.Telling.{Plain}
-use Rattle.paw_play.specs.inner.OnTheWay.{IsWalking, Told, ShowsPiece, refusal_of, seat_state, seat_base, InMaking, Rests, IsStore}
-use Rattle.paw_play.specs.inner.OnTheWay.{BegunAs, Begins, new_session}
-use Rattle.paw_play.proofs.Kept.{step_kept}
+use Rattle.paw_play.specs.inner.OnTheWay.{IsWalking, Told, ShowsPiece, refusal_of, seat_state, seat_base, IsStore}
+use Rattle.paw_play.specs.inner.OnTheWay.{BegunAs, Begins, begun_with}
+use Rattle.paw_play.proofs.Kept.{KeepsLines, step_kept}
 use Rattle.paw_play.proofs.Written.{made_bytes}
 use Rattle.paw_play.proofs.Resting.{rests_on}
 use Rattle.paw_play.proofs.Telling.{shows_piece}
@@ -58,14 +59,14 @@ pub record Begun {F : Type 0} (g : Story) (s : PlayedSession) (first kept : Stan
   pub shows : ShowsPiece found
   pub beside : IsBeside first kept
 
-pub begun : {F : Type 0} (g : Story) (seed : ℕ) (digest name : List ℕ) (first kept : Standing) (next : Seat F) (found : Step) →
+pub begun : {F : Type 0} (g : Story) (seed : ℕ) (digests : Digests) (name : List ℕ) (first kept : Standing) (next : Seat F) (found : Step) →
     IsStore name first → IsSeated next → next.last ≡ found → StepsTo g (reading g seed) found next [] [] → None ≡ refusal_of found →
-    IsBeside first kept → Begun g (new_session g seed digest name) first kept next found
-begun g seed digest name first kept next found store seated last plays fine beside = assumption (shows_piece found fine)
+    IsBeside first kept → Begun g (begun_with g seed digests name) first kept next found
+begun g seed digests name first kept next found store seated last plays fine beside = assumption (shows_piece found fine)
 
 -- what a session shows, by its parts
-pub shown_as : (digest : List ℕ) {state kept piece text : List ℕ} → state ≡ kept → piece ≡ text → Shown digest state piece ≡ Shown digest kept text
-shown_as digest e f = cc
+pub shown_as : (digests : Digests) {state kept piece text : List ℕ} → state ≡ kept → piece ≡ text → Shown digests state piece ≡ Shown digests kept text
+shown_as digests e f = cc
 
 module _ {F : Type 0} {g : Story} {s : PlayedSession} {first kept : Standing} {next : Seat F} {found : Step} (b : Begun g s first kept next found) where
   machine_stands : StandsClosed found next.machine
@@ -74,17 +75,17 @@ module _ {F : Type 0} {g : Story} {s : PlayedSession} {first kept : Standing} {n
   text_is : text_of (s.whole []) ≡ next.piece
   text_is = text_shown Plain g s.whole found next [] [] tt b.shows machine_stands b.plays
 
-  keeps_first : IsKept s.digest 0 (s.whole []) (Shown s.digest (seat_state 0 next) next.piece)
-  keeps_first = step_kept g s.digest 0 s.whole found next [] [] b.shows b.last machine_stands b.plays
+  keeps_first : IsKept s.digests 0 (s.whole []) (Shown s.digests (seat_state 0 next) next.piece)
+  keeps_first = step_kept g s.digests 0 s.whole found next [] [] b.shows b.last machine_stands b.plays
 
-  keeps_none : KeepsLines s first.lines 0 (Shown s.digest (seat_state 0 next) next.piece)
+  keeps_none : KeepsLines s first.lines 0 (Shown s.digests (seat_state 0 next) next.piece)
   keeps_none = let new_one = b.new_one in rw new_one keeps_first
 
   not_this : (f : List ℕ) → f ≢ s.name → first.attached ≢ Some f
   not_this f other e = let a : Some s.name ≡ Some f = sym b.store.attached ∙ e in other (cc)
 
   -- inside the making
-  pub in_making : (m : Moment) → InStore first (Leaves (λ r. IsUnmade r ⊎ (r ≡ Shown s.digest (seat_state 0 next) next.piece))) m → InMaking s first m
+  pub in_making : (m : Moment) → InStore first (Leaves (λ r. IsUnmade r ⊎ (r ≡ Shown s.digests (seat_state 0 next) next.piece))) m → InMaking s first m
   in_making m i = record {
     asked = i.asked;
     shown = i.shown;
@@ -112,9 +113,9 @@ module _ {F : Type 0} {g : Story} {s : PlayedSession} {first kept : Standing} {n
 
   -- once it is made in a store that was empty
   module _ (empty : length first.disk.bytes ≡ 0) (stable : IsStable kept.disk)
-      (is : recover kept.disk.bytes ≡ Shown s.digest (seat_state 0 next) next.piece) (digest : kept_digest kept.disk.bytes ≡ s.digest)
-      (made : kept.disk.bytes ≡ made_session s.digest (seat_base 0 next) next.piece) where
-    rests : Rests s first kept 0
+      (is : recover kept.disk.bytes ≡ Shown s.digests (seat_state 0 next) next.piece) (digests : kept_digests kept.disk.bytes ≡ s.digests)
+      (made : kept.disk.bytes ≡ made_session s.digests (seat_base 0 next) next.piece) where
+    rests : RestsWith s first kept 0
     rests = record {
       there = omega arith;
       few = omega (arith, b.new_one);
@@ -123,7 +124,7 @@ module _ {F : Type 0} {g : Story} {s : PlayedSession} {first kept : Standing} {n
       file = stays.file;
       others = stays.others;
       keeps = subst (KeepsLines s first.lines 0) (sym is) keeps_none;
-      bytes = made_bytes s.whole s.digest (seat_state 0 next) next.piece first.disk.bytes kept.disk.bytes keeps_first empty made digest;
+      bytes = made_bytes s (seat_state 0 next) next.piece first.disk.bytes kept.disk.bytes keeps_first empty made;
     }
 
     -- inside the show of the first piece
@@ -145,7 +146,7 @@ module _ {F : Type 0} {g : Story} {s : PlayedSession} {first kept : Standing} {n
       );
     })
 
-    rests_then : (new : Standing) (text : List ℕ) → new ≡ record kept { shown = text } → Rests s first new 0
+    rests_then : (new : Standing) (text : List ℕ) → new ≡ record kept { shown = text } → RestsWith s first new 0
     rests_then new text e = rests_on s first kept new 0 kept.lines kept.asked text e rests
 
     store_is : (new : Standing) (text : List ℕ) → new ≡ record kept { shown = text } → kept ≡ with_store new first
@@ -162,7 +163,7 @@ module _ {F : Type 0} {g : Story} {s : PlayedSession} {first kept : Standing} {n
           (store_is new (kept.shown ++ next.piece) told.2)
           (walk_begins Plain g s.whole EVENT_LIMIT kept new next found None b.seated b.last b.plays told);
       rests = rests_then new (kept.shown ++ next.piece) told.2;
-      digest = ap (λ (q : Standing). kept_digest q.disk.bytes) told.2 ∙ digest;
+      digests = ap (λ (q : Standing). kept_digests q.disk.bytes) told.2 ∙ digests;
       last = next.piece;
       grown = text_is;
     }

@@ -1,28 +1,41 @@
 -- Making a new session is part of playing it.
-use Rattle.std.proofs.Common.{◌≡◌, ◌∙◌, ℕ, List, refl, ap, inl, inr}
+use Rattle.std.proofs.Common.{◌≡◌, ◌∙◌, ℕ, List, refl, sym, ap, subst, inl, inr}
 use Rattle.paw_effects.specs.Story.{Story, story_of}
 use Rattle.paw_game.specs.Game.{GameLists}
 use Rattle.paw_world.specs.World.{World}
 use Rattle.paw_turn.specs.inner.Player.{Seat, IsNew}
 use Rattle.paw_stage.specs.Stage.{Standing}
 use Rattle.paw_stage.specs.declared.StageCall.TheVariants as call
+use Rattle.paw_journal.specs.Session.{Digests}
+use Rattle.paw_journal.specs.inner.Session.{digests_of}
 use Rattle.paw_play.specs.declared.PlayEnd.{PlayEnd}
 use Rattle.paw_play.specs.declared.PlayEnd.TheVariants as end
-use Rattle.paw_play.specs.Play.{spent, too_deep, unmade, plays}
-use Rattle.paw_play.specs.inner.OnTheWay.{BegunAs, PlaysInStore, new_session}
+use Rattle.paw_play.specs.Session.{story_digests}
+use Rattle.paw_play.specs.Played.{PlayedSession, begun}
+use Rattle.paw_play.specs.Play.{MadeAndPlayed, spent, too_deep, unmade, plays}
+use Rattle.paw_play.specs.inner.OnTheWay.{BegunAs, begun_with}
 
 -- what making a session came to is what playing it came to
-pub begun_plays : (g : Story) (seed : ℕ) (digest name : List ℕ) (first now : Standing) (o : PlayEnd) → BegunAs (new_session g seed digest name) first now o →
-    PlaysInStore (new_session g seed digest name) first now o
-begun_plays g seed digest name first now (end.Spent kind) b = spent kind b.0 b.1 b.2
-begun_plays g seed digest name first now (end.TooDeep table) b = too_deep table b.0 b.1 b.2
-begun_plays g seed digest name first now (end.Outside call.Write) b = unmade call.Write (inl refl) b.0 b.1
-begun_plays g seed digest name first now (end.Outside call.Sync) b = unmade call.Sync (inr (inl refl)) b.0 b.1
-begun_plays g seed digest name first now o b = plays o b
+pub begun_plays : (s : PlayedSession) (first now : Standing) (o : PlayEnd) → BegunAs s first now o → MadeAndPlayed s first now o
+begun_plays s first now (end.Spent kind) b = spent kind b.0 b.1 b.2
+begun_plays s first now (end.TooDeep table) b = too_deep table b.0 b.1 b.2
+begun_plays s first now (end.Outside call.Write) b = unmade call.Write (inl refl) b.0 b.1
+begun_plays s first now (end.Outside call.Sync) b = unmade call.Sync (inr (inl refl)) b.0 b.1
+begun_plays s first now o b = plays o b
 
--- a session that a new player plays
-pub session_of : {F : Type 0} (fresh : Seat F) (g : GameLists) (X : List (List ℕ)) (seed : ℕ) (digest name : List ℕ) → IsNew fresh seed → fresh.game ≡ g →
-    new_session (story_of fresh.game X) fresh.world.seed digest name ≡ new_session (story_of g X) seed digest name
-session_of fresh g X seed digest name is game =
-    ap (λ k. new_session (story_of k X) fresh.world.seed digest name) game
-    ∙ ap (λ (w : World). new_session (story_of g X) w.seed digest name) is.world
+-- a new player has a seed of its own
+pub own_seed : {F : Type 0} (fresh : Seat F) (seed : ℕ) → IsNew fresh seed → IsNew fresh fresh.world.seed
+own_seed fresh seed is = subst (IsNew fresh) (sym (ap (λ (w : World). w.seed) is.world)) is
+
+-- a session that a new player plays, by what was found of its routines
+pub session_of : {F : Type 0} (fresh : Seat F) (g : GameLists) (X : List (List ℕ)) (seed : ℕ) (game rules measured name : List ℕ) →
+    IsNew fresh seed → fresh.game ≡ g → rules ≡ measured →
+    begun_with (story_of fresh.game X) fresh.world.seed (digests_of game rules) name ≡ begun_with (story_of g X) seed (digests_of game measured) name
+session_of fresh g X seed game rules measured name is of same =
+    ap (λ k. begun_with (story_of k X) fresh.world.seed (digests_of game rules) name) of
+    ∙ ap (λ (w : World). begun_with (story_of g X) w.seed (digests_of game rules) name) is.world
+    ∙ ap (λ r. begun_with (story_of g X) seed (digests_of game r) name) same
+
+-- it is the session of the story, where its digests are those of the story
+pub own_session : (g : Story) (seed : ℕ) (digests : Digests) (name : List ℕ) → digests ≡ story_digests g → begun_with g seed digests name ≡ begun g seed name
+own_session g seed digests name same = ap (λ d. begun_with g seed d name) same

@@ -12,7 +12,7 @@ use Rattle.paw_journal.specs.inner.Journal.{KeptIn}
 use Rattle.paw_play.specs.declared.PlayEnd.{PlayEnd}
 use Rattle.paw_play.specs.Calls.{walk_calls, play_calls, session_calls}
 use Rattle.paw_play.specs.inner.Calls.{IsNotForCall, call_of_end, failed_so_far, failed_or, unless_ended}
-use Rattle.paw_play.specs.inner.OnTheWay.{Told}
+use Rattle.paw_play.specs.inner.OnTheWay.{Told, HoldsSession}
 use Rattle.paw_play.specs.declared.line.Session.{Session}
 use Rattle.paw_turn.specs.declared.Step.{Step}
 use Rattle.paw_journal.proofs.Serving.{serves_among}
@@ -49,10 +49,6 @@ play_sessions c h = inr (inr h)
 
 -- ---- where playing goes on unless it has ended ----
 
-pub goes_on_unless : {A : Type 0} (P : A → Type 0) (o : Option PlayEnd) (a : A) → P a → IfOk (unless_ended o a) P
-goes_on_unless P None a h = h
-goes_on_unless P (Some o) a h = tt
-
 pub refused_unless : {A : Type 0} (o : Option PlayEnd) (a : A) → IfSome o IsNotForCall → IfErr (unless_ended o a) IsNotForCall
 refused_unless None a h = tt
 refused_unless (Some o) a h = h
@@ -63,7 +59,9 @@ serves_unless g None a old new s = serves_among g walk_calls play_calls None old
 serves_unless g (Some o) a old new s = serves_among g walk_calls play_calls (call_of_end o) old new walk_plays s
 
 -- the store keeps what it did while the piece was shown
-pub keeps_unless : (room : Room) (kept new : Standing) (piece : List ℕ) (step : Step) (o : Option PlayEnd) (session : Session) →
-    KeptIn session.journal room kept → Told kept new piece step o → IfOk (unless_ended o session) (λ next. KeptIn next.journal room new)
-keeps_unless room kept new piece step None session k told = keeps_shown session.journal room kept new (kept.shown ++ piece) k told.2
-keeps_unless room kept new piece step (Some o) session k told = tt
+pub holds_unless : (tells : Type 0) (events : ℕ) (room : Room) (kept new : Standing) (piece : List ℕ) (step : Step) (o : Option PlayEnd) (session : Session) →
+    session.events ≡ events → (tells → KeptIn session.journal room kept) → (tells → Told kept new piece step o) →
+    IfOk (unless_ended o session) (HoldsSession tells events room new)
+holds_unless tells events room kept new piece step None session e k told =
+    record { events = e; kept = λ t. keeps_shown session.journal room kept new (kept.shown ++ piece) (k t) (told t).2 }
+holds_unless tells events room kept new piece step (Some o) session e k told = tt

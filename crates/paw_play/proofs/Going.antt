@@ -1,11 +1,9 @@
 -- Going on from a kept state is reading the longer list of lines.
 use Rattle.std.proofs.Common.{◌≡◌, ℕ, zero, suc, ◌+◌, ◌<◌, ◌≤◌, List, [], ◌∷◌, ◌++◌, refl, sym, ap, ◌∙◌, length, drop, append-nil, arith}
 use Rattle.std.specs.List.{concat}
-use Rattle.sha2.specs.Sha256.{sha256}
 use Rattle.paw_game.specs.Game.{GameLists}
 use Rattle.paw_game.specs.Valid.{Valid}
 use Rattle.paw_effects.specs.Story.{Story}
-use Rattle.paw_game.specs.Image.{image}
 use Rattle.paw_effects.specs.declared.act.Prompt.{Prompt}
 use Rattle.paw_effects.specs.declared.act.Prompt.TheVariants as prompt
 use Rattle.paw_reading.specs.declared.places.Frame.{Frame}
@@ -19,14 +17,14 @@ use Rattle.paw_reading.proofs.Counts.{pieces_of_lines}
 use Rattle.paw_reading.proofs.Followed.{going_on_is_reading}
 use Rattle.paw_reading.proofs.Past.{past_stays, longer_reading}
 use Rattle.paw_process.proofs.Again.{path_again}
-use Rattle.paw_journal.specs.Session.{Recovered, Shown, recover}
+use Rattle.paw_journal.specs.Session.{Digests, Recovered, Shown, recover}
 use Rattle.paw_state.specs.State.{State, Keeps, FitsFields}
 use Rattle.paw_state.specs.Fields.{state_bytes}
 use Rattle.paw_state.proofs.Lawful.{bytes_tell_the_state}
 use Rattle.paw_state.specs.Record.{last_piece, state_at}
 use Rattle.paw_play.specs.Session.{kept_bytes, IsKept}
 use Rattle.paw_play.specs.Stands.{Stands, since_piece, ending_since, reading_since}
-use Rattle.paw_play.specs.Play.{ShowsState, going_on}
+use Rattle.paw_play.specs.Played.{ShowsState, going_on}
 
 -- where a reading stops its state keeps the rules, and nothing of a piece is open; so much was read in each closed piece
 pub record Settles (g : GameLists) (n : ℕ) (p : Prompt) (path : List Frame) (r : Run) : Type 0 where
@@ -82,23 +80,23 @@ text_since_is zero Unended = refl
 text_since_is (suc n) Unended = refl
 
 -- a session that keeps it keeps the whole
-pub whole_kept : (digest : List ℕ) (n m lines : ℕ) (e : Ending) (r : Recovered) → Counted lines e → n ≤ lines → IsKept digest m (ending_since n e) r →
-    IsKept digest m e r
-whole_kept digest n m lines (WaitsAt p path s) r counted few k =
+pub whole_kept : (digests : Digests) (n m lines : ℕ) (e : Ending) (r : Recovered) → Counted lines e → n ≤ lines → IsKept digests m (ending_since n e) r →
+    IsKept digests m e r
+whole_kept digests n m lines (WaitsAt p path s) r counted few k =
     let low : n < length s.pieces = omega (arith, counted.1, ap length counted.0) in
     record {
       played = tt;
-      shown = k.shown ∙ ap (λ q. Shown digest (kept_bytes (record (state_at m p path s) { piece = length q })) q)
+      shown = k.shown ∙ ap (λ q. Shown digests (kept_bytes (record (state_at m p path s) { piece = length q })) q)
           (last_dropped n s.pieces low);
     }
-whole_kept digest n m lines (Halted IsOver s) r counted few k =
+whole_kept digests n m lines (Halted IsOver s) r counted few k =
     let low : n < length s.pieces = omega (arith, counted, ap length k.played) in
     record {
       played = k.played;
-      shown = k.shown ∙ ap (λ q. Shown digest (kept_bytes (record (state_at m prompt.Over [] s) { piece = length q })) q)
+      shown = k.shown ∙ ap (λ q. Shown digests (kept_bytes (record (state_at m prompt.Over [] s) { piece = length q })) q)
           (last_dropped n s.pieces low);
     }
-whole_kept digest n m lines _ r counted few k = absurd k.played
+whole_kept digests n m lines _ r counted few k = absurd k.played
 
 -- ---- going on from a state of a reading ----
 
@@ -156,32 +154,32 @@ module _ (g : Story) (seed : ℕ) (es fs : List (List ℕ)) where
   )
 
   ended_goes : (e : Ending) → reading g seed es ≡ e → IsSettled g.game (length es) e → Counted (length es) e →
-      (digest : List ℕ) (r : Recovered) (kept : IsKept digest (length es) e r)
-      → (st : State) (piece : List ℕ) → Valid g.game → Keeps g.game st → FitsFields st → r ≡ Shown digest (kept_bytes st) piece
+      (digests other : Digests) (r : Recovered) (kept : IsKept digests (length es) e r)
+      → (st : State) (piece : List ℕ) → Valid g.game → Keeps g.game st → FitsFields st → r ≡ Shown other (kept_bytes st) piece
       → (st.events ≡ length es) × GoesOnFrom e st piece
   unfolding kept_bytes
-  ended_goes (WaitsAt p path s) is k counted digest r kept st piece v keeps fits shown =
-      let both : Shown digest (kept_bytes st) piece ≡ Shown digest (state_bytes (state_at (length es) p path s)) (last_piece s.pieces) = sym shown
+  ended_goes (WaitsAt p path s) is k counted digests other r kept st piece v keeps fits shown =
+      let both : Shown other (kept_bytes st) piece ≡ Shown digests (state_bytes (state_at (length es) p path s)) (last_piece s.pieces) = sym shown
       ∙ kept.shown in
       let same : st ≡ state_at (length es) p path s = bytes_tell_the_state g.game st (state_at (length es) p path s) v keeps fits k.keeps k.fits cc in
       let piece_is : piece ≡ last_piece s.pieces = cc in
       rw (same, piece_is) (refl, waiting_goes p path s is k counted)
-  ended_goes (Halted IsOver s) is k counted digest r kept st piece v keeps fits shown =
-      let both : Shown digest (kept_bytes st) piece ≡ Shown digest (state_bytes (state_at (length es) prompt.Over [] s)) (last_piece s.pieces) = sym shown
+  ended_goes (Halted IsOver s) is k counted digests other r kept st piece v keeps fits shown =
+      let both : Shown other (kept_bytes st) piece ≡ Shown digests (state_bytes (state_at (length es) prompt.Over [] s)) (last_piece s.pieces) = sym shown
       ∙ kept.shown in
       let same : st ≡ state_at (length es) prompt.Over [] s = bytes_tell_the_state g.game st
       (state_at (length es) prompt.Over [] s) v keeps fits k.keeps k.fits cc in
       let piece_is : piece ≡ last_piece s.pieces = cc in
       rw (same, piece_is) (refl, over_goes s is k kept.played counted)
-  ended_goes _ is k counted digest r kept st piece v keeps fits shown = absurd kept.played
+  ended_goes _ is k counted digests other r kept st piece v keeps fits shown = absurd kept.played
 
   -- going on from the state that a store shows is reading the longer list
-  pub goes_on : IsSettled g.game (length es) (reading g seed es) → (bytes : List ℕ) (st : State) (piece : List ℕ) → Valid g.game
-      → Stands g seed es bytes → ShowsState g.game (sha256 (image g.game)) bytes st piece →
+  pub goes_on : IsSettled g.game (length es) (reading g seed es) → (bytes : List ℕ) (digests : Digests) (st : State) (piece : List ℕ) → Valid g.game
+      → Stands g seed es bytes → ShowsState g.game digests bytes st piece →
       (st.events ≡ length es) × (going_on g st piece fs ≡ reading_since g seed es fs)
-  goes_on settled bytes st piece v stands shows =
+  goes_on settled bytes digests st piece v stands shows =
       let e : Ending = reading g seed es in
-      let goes = ended_goes e refl settled (pieces_of_lines g seed es) (sha256 (image g.game))
+      let goes = ended_goes e refl settled (pieces_of_lines g seed es) stands.digests digests
       (recover bytes) stands.keeps st piece v shows.keeps shows.fits shows.shown in
       let ps : List (List ℕ) = pieces_of e in
       let ts : List (List Step) = traces_of e in

@@ -1,5 +1,5 @@
 -- What a session keeps of a player.
-use Rattle.std.proofs.Common.{◌≡◌, ℕ, List, [], ◌∷◌, ◌++◌, refl, sym, ap, ◌∙◌, length}
+use Rattle.std.proofs.Common.{◌≡◌, ℕ, ◌+◌, List, [], ◌∷◌, ◌++◌, refl, sym, ap, ◌∙◌, length}
 use Rattle.std.specs.Prelude.{reverse}
 use Rattle.paw_effects.specs.declared.act.Prompt.{Prompt}
 use Rattle.paw_effects.specs.declared.act.Prompt.TheVariants as prompt
@@ -9,17 +9,22 @@ use Rattle.paw_reading.specs.Turn.{Ending, WaitsAt, Halted}
 use Rattle.paw_turn.specs.inner.Player.{Seat, run_at, PlaysTo, StandsClosed}
 use Rattle.paw_turn.specs.declared.Step.{Step}
 use Rattle.paw_turn.specs.declared.Step.TheVariants as step
-use Rattle.paw_journal.specs.Session.{Shown}
+use Rattle.paw_journal.specs.Session.{Digests, Recovered, Shown}
 use Rattle.paw_process.specs.Kept.{frames_at, kept}
 use Rattle.paw_process.specs.declared.kept.Frames.{Frames}
 use Rattle.paw_state.specs.Record.{last_piece}
 use Rattle.paw_state.specs.State.{State}
 use Rattle.paw_reading.specs.declared.places.Frame.{Frame}
 use Rattle.paw_play.specs.Session.{kept_bytes, IsKept}
-use Rattle.paw_play.specs.Walk.{EndingOf}
+use Rattle.paw_play.specs.Walk.{EndingOf, first_lines}
+use Rattle.paw_play.specs.Played.{PlayedSession}
 use Rattle.paw_play.specs.inner.OnTheWay.{ShowsPiece, seat_state}
 use Rattle.paw_play.proofs.Walking.{on_waits}
 use Rattle.paw_effects.specs.Story.{Story}
+
+-- the session keeps the reading of the first n of these lines
+abbrev pub KeepsLines : PlayedSession → List (List ℕ) → ℕ → Recovered → Type 0
+KeepsLines s lines n r = IsKept s.digests (s.before + n) (s.whole (first_lines n lines)) r
 
 pub last_more : (pieces : List (List ℕ)) (piece : List ℕ) → last_piece (pieces ++ piece ∷ []) ≡ piece
 last_more [] piece = refl
@@ -31,42 +36,42 @@ abbrev parts : {F : Type 0} → ℕ → Prompt → Seat F → Frames → ℕ →
 parts events p next frames n = record { world = next.world; frames = frames; pending = next.pending; prompt = p; events = events; piece = n }
 
 -- what a session shows of them, by the path of the machine and the last piece that was closed
-shown_at : {F : Type 0} (digest : List ℕ) (events : ℕ) (p : Prompt) (path : List Frame) (next : Seat F) (pieces : List (List ℕ)) →
+shown_at : {F : Type 0} (digests : Digests) (events : ℕ) (p : Prompt) (path : List Frame) (next : Seat F) (pieces : List (List ℕ)) →
     kept next.machine ≡ frames_at path next.machine.turning →
-    Shown digest (kept_bytes (parts events p next (kept next.machine) (length next.piece))) next.piece
-    ≡ Shown digest (kept_bytes (parts events p next (frames_at path next.machine.turning) (length (last_piece (pieces ++ next.piece ∷ [])))))
+    Shown digests (kept_bytes (parts events p next (kept next.machine) (length next.piece))) next.piece
+    ≡ Shown digests (kept_bytes (parts events p next (frames_at path next.machine.turning) (length (last_piece (pieces ++ next.piece ∷ [])))))
     (last_piece (pieces ++ next.piece ∷ []))
-shown_at digest events p path next pieces is =
-    ap (λ (k : Frames). Shown digest (kept_bytes (parts events p next k (length next.piece))) next.piece) is
-    ∙ ap (λ (q : List ℕ). Shown digest (kept_bytes (parts events p next (frames_at path next.machine.turning) (length q))) q)
+shown_at digests events p path next pieces is =
+    ap (λ (k : Frames). Shown digests (kept_bytes (parts events p next k (length next.piece))) next.piece) is
+    ∙ ap (λ (q : List ℕ). Shown digests (kept_bytes (parts events p next (frames_at path next.machine.turning) (length q))) q)
     (sym (last_more pieces next.piece))
 
 -- where a player waits, its session keeps the reading
-waits_kept : {F : Type 0} (digest : List ℕ) (events : ℕ) (e : Ending) (p : Prompt) (next : Seat F) (pieces : List (List ℕ))
+waits_kept : {F : Type 0} (digests : Digests) (events : ℕ) (e : Ending) (p : Prompt) (next : Seat F) (pieces : List (List ℕ))
     (traces : List (List Read)) → next.last ≡ step.Waits p →
     e ≡ WaitsAt p (reverse next.machine.frames) (run_at next (pieces ++ next.piece ∷ []) traces []) →
-    IsKept digest events e (Shown digest (seat_state events next) next.piece)
-waits_kept digest events e p next pieces traces last is =
-    rw (is, last) (record { played = tt; shown = shown_at digest events p (reverse next.machine.frames) next pieces refl })
+    IsKept digests events e (Shown digests (seat_state events next) next.piece)
+waits_kept digests events e p next pieces traces last is =
+    rw (is, last) (record { played = tt; shown = shown_at digests events p (reverse next.machine.frames) next pieces refl })
 
-over_kept : {F : Type 0} (digest : List ℕ) (events : ℕ) (e : Ending) (next : Seat F) (pieces : List (List ℕ)) (traces : List (List Read)) →
+over_kept : {F : Type 0} (digests : Digests) (events : ℕ) (e : Ending) (next : Seat F) (pieces : List (List ℕ)) (traces : List (List Read)) →
     next.last ≡ step.Ended → next.machine.frames ≡ [] →
     e ≡ Halted IsOver (run_at next (pieces ++ next.piece ∷ []) traces []) →
-    IsKept digest events e (Shown digest (seat_state events next) next.piece)
-over_kept digest events e next pieces traces last closed is = rw (is, last) (record {
+    IsKept digests events e (Shown digests (seat_state events next) next.piece)
+over_kept digests events e next pieces traces last closed is = rw (is, last) (record {
   played = refl;
-  shown = shown_at digest events prompt.Over [] next pieces
+  shown = shown_at digests events prompt.Over [] next pieces
       (ap (λ fs. frames_at (reverse fs) next.machine.turning) closed);
 })
 
 -- a step that brings a piece leads to a player whose session keeps the reading
-pub step_kept : {F : Type 0} (g : Story) (digest : List ℕ) (events : ℕ) (whole : EndingOf) (s : Step) (next : Seat F) (pieces : List (List ℕ))
+pub step_kept : {F : Type 0} (g : Story) (digests : Digests) (events : ℕ) (whole : EndingOf) (s : Step) (next : Seat F) (pieces : List (List ℕ))
     (traces : List (List Read)) → ShowsPiece s → next.last ≡ s →
-    StandsClosed s next.machine → PlaysTo g whole s next pieces traces → IsKept digest events (whole []) (Shown digest (seat_state events next) next.piece)
-step_kept g digest events whole (step.Waits p) next pieces traces shows last stands plays =
-    waits_kept digest events (whole []) p next pieces (traces ++ plays.0 ∷ []) last
+    StandsClosed s next.machine → PlaysTo g whole s next pieces traces → IsKept digests events (whole []) (Shown digests (seat_state events next) next.piece)
+step_kept g digests events whole (step.Waits p) next pieces traces shows last stands plays =
+    waits_kept digests events (whole []) p next pieces (traces ++ plays.0 ∷ []) last
     (plays.1.1 [] ∙ on_waits g p next.machine (run_at next (pieces ++ next.piece ∷ []) (traces ++ plays.0 ∷ []) []) stands)
-step_kept g digest events whole step.Ended next pieces traces shows last stands plays =
-    over_kept digest events (whole []) next pieces (traces ++ plays.0 ∷ []) last stands.frames (plays.1.1 [])
-step_kept g digest events whole (step.Spent kind) next pieces traces shows last stands plays = absurd shows
-step_kept g digest events whole (step.TooDeep u) next pieces traces shows last stands plays = absurd shows
+step_kept g digests events whole step.Ended next pieces traces shows last stands plays =
+    over_kept digests events (whole []) next pieces (traces ++ plays.0 ∷ []) last stands.frames (plays.1.1 [])
+step_kept g digests events whole (step.Spent kind) next pieces traces shows last stands plays = absurd shows
+step_kept g digests events whole (step.TooDeep u) next pieces traces shows last stands plays = absurd shows

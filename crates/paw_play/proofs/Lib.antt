@@ -1,7 +1,7 @@
 mod Telling
 pub mod Walking
 mod States
-mod Kept
+pub mod Kept
 mod Resting
 mod Written
 mod Following
@@ -10,11 +10,9 @@ mod Playing
 mod Beginning
 mod Begun
 pub mod Parts
-mod Attaching
-mod Mapped
-mod Games
-mod Resuming
-mod Showing
+pub mod Attaching
+pub mod Resuming
+pub mod Showing
 mod Again
 mod Rounds
 pub mod Going

@@ -2,9 +2,7 @@
 use Rattle.std.proofs.Common.{◌≡◌, ℕ, Bool, true, false, List, [], ◌++◌, Option, Some, None, length, take, refl, sym, ap, ◌∙◌, arith}
 use Rattle.std.specs.Prelude.{if◌then◌else◌, nat_le}
 use Rattle.std.proofs.lemmas.List.{length-take-le, take_at}
-use Rattle.sha2.specs.Sha256.{sha256}
 use Rattle.paw_game.specs.Game.{GameLists}
-use Rattle.paw_game.specs.Image.{image}
 use Rattle.paw_game.specs.Valid.{Valid}
 use Rattle.paw_effects.specs.declared.act.Prompt.TheVariants as prompt
 use Rattle.paw_reading.specs.Reading.{IsOver}
@@ -12,7 +10,7 @@ use Rattle.paw_reading.specs.Turn.{Ending, WaitsAt, Halted, reading}
 use Rattle.paw_reading.specs.inner.Saving.{no_positions, EndsKeeping}
 use Rattle.paw_reading.proofs.Saving.{readings_keep_no_position}
 use Rattle.paw_journal.specs.declared.refusal.SessionPart.TheVariants as part
-use Rattle.paw_journal.specs.Session.{Damaged, Shown, recover, chosen, kept_digest, slot, slot_shows, shown_unless, first_unsound, slot_changes}
+use Rattle.paw_journal.specs.Session.{Digests, Damaged, Shown, recover, chosen, kept_digests, slot, slot_shows, shown_unless, first_unsound, slot_changes}
 use Rattle.paw_journal.specs.Session.{slot_state, shown_state, is_second, two_byte_number, most_changes, state_length, first_length, zeros}
 use Rattle.paw_journal.proofs.Recovers.{shown_made, recover_is, recover_made}
 use Rattle.paw_journal.proofs.Fills.{slot_long}
@@ -28,18 +26,18 @@ use Rattle.paw_play.proofs.Settling.{reading_settles}
 
 -- ---- what the slot in use shows ----
 
-by_changes : (digest s d st p : List ℕ) (o : Option ℕ) → shown_unless digest s o ≡ Shown d st p → shown_state s ≡ st
-by_changes digest s d st p None e = cc
-by_changes digest s d st p (Some n) e = absurd (cc e)
+by_changes : (digests : Digests) (s : List ℕ) (d : Digests) (st p : List ℕ) (o : Option ℕ) → shown_unless digests s o ≡ Shown d st p → shown_state s ≡ st
+by_changes digests s d st p None e = cc
+by_changes digests s d st p (Some n) e = absurd (cc e)
 
-by_count : (digest s d st p : List ℕ) (b : Bool) →
-    (if b then shown_unless digest s (first_unsound (slot_changes s)) else Damaged part.Slot 0) ≡ Shown d st p → shown_state s ≡ st
-by_count digest s d st p true e = by_changes digest s d st p (first_unsound (slot_changes s)) e
-by_count digest s d st p false e = absurd (cc e)
+by_count : (digests : Digests) (s : List ℕ) (d : Digests) (st p : List ℕ) (b : Bool) →
+    (if b then shown_unless digests s (first_unsound (slot_changes s)) else Damaged part.Slot 0) ≡ Shown d st p → shown_state s ≡ st
+by_count digests s d st p true e = by_changes digests s d st p (first_unsound (slot_changes s)) e
+by_count digests s d st p false e = absurd (cc e)
 
-by_slot : (digest s d st p : List ℕ) → slot_shows digest s ≡ Shown d st p → shown_state s ≡ st
+by_slot : (digests : Digests) (s : List ℕ) (d : Digests) (st p : List ℕ) → slot_shows digests s ≡ Shown d st p → shown_state s ≡ st
 unfolding slot_shows
-by_slot digest s d st p e = by_count digest s d st p (nat_le (two_byte_number 0 s) most_changes) e
+by_slot digests s d st p e = by_count digests s d st p (nat_le (two_byte_number 0 s) most_changes) e
 
 -- of version 1, a slot shows its first 1,371 bytes and zeros
 shown_first : (s st : List ℕ) → is_second s ≡ false → shown_state s ≡ st → length (slot_state s) ≡ 4096 → take 1371 st ++ zeros 2048 ≡ st
@@ -50,41 +48,43 @@ shown_first s st first is n =
     ap (λ (x : List ℕ). x ++ zeros 2048) (ap (take 1371) form ∙ take_at head (zeros 2048) 1371 l) ∙ sym form
 
 -- so does a store whose slot in use is of version 1
-chosen_first : (bytes digest state piece : List ℕ) → is_second (slot (chosen bytes) bytes) ≡ false → recover bytes ≡ Shown digest state piece
+chosen_first : (bytes : List ℕ) (digests : Digests) (state piece : List ℕ) → is_second (slot (chosen bytes) bytes) ≡ false → recover bytes ≡ Shown digests state piece
     → take 1371 state ++ zeros 2048 ≡ state
-chosen_first bytes digest state piece first e =
-    let made = shown_made bytes digest state piece e in
+chosen_first bytes digests state piece first e =
+    let made = shown_made bytes digests state piece e in
     let s = slot (chosen bytes) bytes in
-    let is : shown_state s ≡ state = by_slot (kept_digest bytes) s digest state piece
+    let is : shown_state s ≡ state = by_slot (kept_digests bytes) s digests state piece
     (sym (recover_is (chosen bytes) bytes refl ∙ recover_made (chosen bytes) bytes made) ∙ e) in
     shown_first s state first is (state_long s (slot_long (chosen bytes) bytes (omega arith) made.long))
 
 -- ---- the state where a reading ended ----
 
 state_same : (g : GameLists) (v : Valid g) (st : State) → Keeps g st → FitsFields st → st.world.kept ≡ no_positions
-    → (bytes digest state piece : List ℕ) → is_second (slot (chosen bytes) bytes) ≡ false → recover bytes ≡ Shown digest state piece
-    → take first_length state ≡ take first_length (kept_bytes st) → recover bytes ≡ Shown digest (kept_bytes st) piece
+    → (bytes : List ℕ) (digests : Digests) (state piece : List ℕ) → is_second (slot (chosen bytes) bytes) ≡ false → recover bytes ≡ Shown digests state piece
+    → take first_length state ≡ take first_length (kept_bytes st) → recover bytes ≡ Shown digests (kept_bytes st) piece
 unfolding kept_bytes
-state_same g v st keeps fits none bytes digest state piece first shown same =
-    let is : state ≡ kept_bytes st = sym (chosen_first bytes digest state piece first shown)
+state_same g v st keeps fits none bytes digests state piece first shown same =
+    let is : state ≡ kept_bytes st = sym (chosen_first bytes digests state piece first shown)
     ∙ (ap (λ (x : List ℕ). x ++ zeros 2048) same ∙ ends_in_zeros st (long_state g st v keeps fits) none) in
-    shown ∙ ap (λ (x : List ℕ). Shown digest x piece) is
+    shown ∙ ap (λ (x : List ℕ). Shown digests x piece) is
 
-ending_kept : (g : GameLists) (v : Valid g) (digest : List ℕ) (n : ℕ) (bytes : List ℕ) (e : Ending) → IsSettled g n e → EndsKeeping no_positions e
-    → KeepsAsOlder digest n e bytes → IsKept digest n e (recover bytes)
-ending_kept g v digest n bytes (WaitsAt p path r) k none old = record {
+ending_kept : (g : GameLists) (v : Valid g) (digests : Digests) (n : ℕ) (bytes : List ℕ) (e : Ending) → IsSettled g n e → EndsKeeping no_positions e
+    → KeepsAsOlder digests n e bytes → IsKept digests n e (recover bytes)
+ending_kept g v digests n bytes (WaitsAt p path r) k none old = record {
   played = tt;
-  shown = state_same g v (state_at n p path r) k.keeps k.fits none bytes digest old.state (last_piece r.pieces) old.first old.shown old.same;
+  shown = state_same g v (state_at n p path r) k.keeps k.fits none bytes digests old.state (last_piece r.pieces) old.first old.shown old.same;
 }
-ending_kept g v digest n bytes (Halted IsOver r) k none old = record {
+ending_kept g v digests n bytes (Halted IsOver r) k none old = record {
   played = old.played;
-  shown = state_same g v (state_at n prompt.Over [] r) k.keeps k.fits none bytes digest old.state (last_piece r.pieces) old.first old.shown old.same;
+  shown = state_same g v (state_at n prompt.Over [] r) k.keeps k.fits none bytes digests old.state (last_piece r.pieces) old.first old.shown old.same;
 }
-ending_kept g v digest n bytes _ k none old = absurd old.played
+ending_kept g v digests n bytes _ k none old = absurd old.played
 
 pub older_sessions_stand : OlderSessionsStand
 older_sessions_stand g seed es bytes played never old = record {
   few = old.few;
-  keeps = ending_kept g.game played.valid.game (sha256 (image g.game)) (length es) bytes (reading g seed es)
+  digests = old.digests;
+  belongs = old.belongs;
+  keeps = ending_kept g.game played.valid.game old.digests (length es) bytes (reading g seed es)
       (reading_settles g seed es played old.few) (readings_keep_no_position g seed es never) old.keeps;
 }

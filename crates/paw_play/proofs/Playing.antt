@@ -18,20 +18,21 @@ use Rattle.paw_turn.specs.inner.Player.{Seat, run_at, IsSeated, StandsClosed}
 use Rattle.paw_turn.specs.inner.Player.{PlaysTo as StepsTo}
 use Rattle.paw_turn.specs.declared.Step.{Step}
 use Rattle.paw_turn.specs.declared.Step.TheVariants as step
-use Rattle.paw_journal.specs.Session.{Shown, recover, kept_digest, committed}
+use Rattle.paw_journal.specs.Session.{Shown, recover, kept_digests, committed}
 use Rattle.paw_journal.specs.inner.Store.{IsBeside, InStore, Leaves, IsEither}
 use Rattle.paw_stage.specs.Across.{IsOneOf}
 use Rattle.paw_journal.specs.Journal.{writing_calls}
 use Rattle.paw_play.specs.declared.PlayEnd.{PlayEnd}
 use Rattle.paw_play.specs.declared.PlayEnd.TheVariants as end
-use Rattle.paw_play.specs.Walk.{first_lines, advanced, Walks}
-use Rattle.paw_play.specs.Keeping.{AgreesWith, KeepsUpWith, StaysAttached, KeepsAllButLast}
-use Rattle.paw_play.specs.Play.{PlayedSession, KeepsLines, KeptBy, InPlay, with_store, Uncommitted, PlaysOn}
+use Rattle.paw_play.specs.Walk.{first_lines, text_for, advanced, Walks}
+use Rattle.paw_play.specs.Played.{PlayedSession}
+use Rattle.paw_play.specs.Keeping.{AgreesWith, KeepsUpWith, InPlay, StaysAttached, RestsWith, KeepsAllButLast}
+use Rattle.paw_play.specs.Play.{with_store, Uncommitted, PlaysOn}
 use Rattle.paw_play.specs.inner.Calls.{unless_ended}
 use Rattle.paw_play.specs.inner.Telling.{Plain}
-use Rattle.paw_play.specs.inner.OnTheWay.{IsWalking, WalksTo, Told, ShowsPiece, refusal_of, seat_state, seat_base, Rests, IsPlaying, PlaysTo}
+use Rattle.paw_play.specs.inner.OnTheWay.{IsWalking, WalksTo, Told, ShowsPiece, refusal_of, seat_state, seat_base, IsPlaying, PlaysTo}
 use Rattle.paw_play.specs.Written.{bytes_before, bytes_after}
-use Rattle.paw_play.proofs.Kept.{step_kept}
+use Rattle.paw_play.proofs.Kept.{KeepsLines, step_kept}
 use Rattle.paw_play.proofs.Written.{more_bytes}
 use Rattle.paw_play.proofs.Resting.{rests_on}
 use Rattle.paw_play.proofs.Telling.{shows_piece}
@@ -41,23 +42,19 @@ use Rattle.paw_effects.specs.Story.{Story}
 
 -- ---- at a prompt ----
 
--- the bytes keep n lines of the session, and the text is a first part of theirs
-abbrev Agrees : PlayedSession → List (List ℕ) → ℕ → List ℕ → List ℕ → Type 0
-Agrees s lines n text bytes = AgreesWith (KeptBy s lines) (λ k. text_of (s.whole (first_lines k lines))) n text bytes
-
-keeps_all : (s : PlayedSession) (lines : List (List ℕ)) (n : ℕ) (text bytes : List ℕ) → Agrees s lines n text bytes →
-    KeepsUpWith (KeptBy s lines) (λ k. text_of (s.whole (first_lines k lines))) n text bytes
+keeps_all : (s : PlayedSession) (lines : List (List ℕ)) (n : ℕ) (text bytes : List ℕ) → AgreesWith s lines n text bytes →
+    KeepsUpWith s lines n text bytes
 keeps_all s lines zero text bytes h = h
 keeps_all s lines (suc n) text bytes h = inl h
 
-whole_text : (s : PlayedSession) (lines : List (List ℕ)) (n : ℕ) (text : List ℕ) → text_of (s.whole (first_lines n lines)) ≡ text →
-    (rest : List ℕ) × (text ++ rest ≡ text_of (s.whole (first_lines n lines)))
+whole_text : (s : PlayedSession) (lines : List (List ℕ)) (n : ℕ) (text : List ℕ) → text_for s.whole lines n ≡ text →
+    (rest : List ℕ) × (text ++ rest ≡ text_for s.whole lines n)
 whole_text s lines n text e = ([], append-nil text ∙ sym e)
 
 -- the text so far
 text_is : {F : Type 0} (g : Story) (s : PlayedSession) (first now : Standing) (seat : Seat F) (n : ℕ)
     (w : IsPlaying g s first now seat n) → IsSeated seat →
-    text_of (s.whole (first_lines n first.lines)) ≡ concat w.walking.pieces
+    text_for s.whole first.lines n ≡ concat w.walking.pieces
 text_is g s first now seat n w seated = text_so_far Plain g s.whole n (with_store now first) now seat w.walking seated
 
 asked_is : {F : Type 0} (g : Story) (s : PlayedSession) (first now : Standing) (seat : Seat F) (n : ℕ) → IsPlaying g s first now seat n
@@ -70,7 +67,7 @@ shown_is g s first now seat n w = ap (λ (q : Standing). q.shown) w.walking.stan
 
 agrees_now : {F : Type 0} (g : Story) (s : PlayedSession) (first now : Standing) (seat : Seat F) (n : ℕ)
     (w : IsPlaying g s first now seat n) → IsSeated seat → (image : List ℕ) → MayLeave now.disk image →
-    Agrees s first.lines n (concat w.walking.pieces) image
+    AgreesWith s first.lines n (concat w.walking.pieces) image
 agrees_now g s first now seat n w seated image may = (
   subst (λ b. KeepsLines s first.lines n (recover b)) (sym (stable_leaves now.disk image w.rests.stable may)) w.rests.keeps,
   whole_text s first.lines n (concat w.walking.pieces) (text_is g s first now seat n w seated),
@@ -105,7 +102,7 @@ line_asked g s first now seat n w seated there few = record {
   few = few;
   asked = let a = asked_is g s first now seat n w in omega (arith, a);
   shown = shown_is g s first now seat n w;
-  before = sym (append-nil (text_of (s.whole (first_lines n first.lines))) ∙ text_is g s first now seat n w seated);
+  before = sym (append-nil (text_for s.whole first.lines n) ∙ text_is g s first now seat n w seated);
   attached = w.rests.attached;
   files = w.rests.others;
   leaves = λ image may. inr (agrees_now g s first now seat n w seated image may);
@@ -175,10 +172,10 @@ module _ {F : Type 0} {g : Story} {s : PlayedSession} {most n events : ℕ} {fir
   text_more = ap text_of whole_is ∙ text_shown Plain g _ found next w.walking.pieces w.walking.traces tt t.shows machine_stands t.plays
 
   -- the session that is committed keeps them
-  keeps_more : KeepsLines s first.lines (suc n) (Shown s.digest (seat_state events next) next.piece)
+  keeps_more : KeepsLines s first.lines (suc n) (Shown s.digests (seat_state events next) next.piece)
   keeps_more =
       let counts = t.counts in
-      rw (← counts, whole_is) (step_kept g s.digest events _ found next w.walking.pieces w.walking.traces t.shows t.last machine_stands t.plays)
+      rw (← counts, whole_is) (step_kept g s.digests events _ found next w.walking.pieces w.walking.traces t.shows t.last machine_stands t.plays)
 
   there : suc n ≤ length first.lines
   there = is_there g s first now mid seat n line w t.lines
@@ -201,13 +198,13 @@ module _ {F : Type 0} {g : Story} {s : PlayedSession} {most n events : ℕ} {fir
   others_still : (f : List ℕ) → f ≢ s.name → mid.files f ≡ first.files f
   others_still f other = ap (λ (q : Standing). q.files f) t.took ∙ w.rests.others f other
 
-  digest_still : kept_digest mid.disk.bytes ≡ s.digest
-  digest_still = ap (λ (q : Standing). kept_digest q.disk.bytes) t.took ∙ w.digest
+  digests_still : kept_digests mid.disk.bytes ≡ s.digests
+  digests_still = ap (λ (q : Standing). kept_digests q.disk.bytes) t.took ∙ w.digests
 
   -- inside the commit
   pub in_commit : (m : Moment) → InStore mid
       (Leaves (IsEither (recover mid.disk.bytes)
-      (Shown (kept_digest mid.disk.bytes) (seat_state events next) next.piece))) m → InPlay s first m
+      (Shown (kept_digests mid.disk.bytes) (seat_state events next) next.piece))) m → InPlay s first m
   in_commit m i = record {
     taken = suc n;
     text = concat w.walking.pieces;
@@ -216,7 +213,7 @@ module _ {F : Type 0} {g : Story} {s : PlayedSession} {most n events : ℕ} {fir
     few = all_few;
     asked = i.asked ∙ asked_more;
     shown = i.shown ∙ shown_so_far;
-    before = sym (append-nil (text_of (s.whole (first_lines n first.lines))) ∙ text_is g s first now seat n w t.seated);
+    before = sym (append-nil (text_for s.whole first.lines n) ∙ text_is g s first now seat n w t.seated);
     attached = i.attached ∙ attached_still;
     files = λ f other. i.files f (not_this f other) ∙ others_still f other;
     leaves = λ image may. elim (i.disk image may) [
@@ -227,7 +224,7 @@ module _ {F : Type 0} {g : Story} {s : PlayedSession} {most n events : ℕ} {fir
       )
       | inr e ↦ inl (
         subst (λ r. KeepsLines s first.lines (suc n) r)
-            (sym (e ∙ ap (λ d. Shown d (seat_state events next) next.piece) digest_still)) keeps_more,
+            (sym (e ∙ ap (λ d. Shown d (seat_state events next) next.piece) digests_still)) keeps_more,
         (next.piece, sym text_more),
       )
     ];
@@ -282,21 +279,18 @@ module _ {F : Type 0} {g : Story} {s : PlayedSession} {most n events : ℕ} {fir
     plays_not c (inr (inl e)) = rw e (record { shows = uncommitted; session = stays })
     plays_not c (inr (inr h)) = absurd h
 
-    module _ (stable : IsStable kept.disk) (is : recover kept.disk.bytes ≡ Shown (kept_digest mid.disk.bytes) (seat_state events next) next.piece)
-        (digest : kept_digest kept.disk.bytes ≡ kept_digest mid.disk.bytes)
+    module _ (stable : IsStable kept.disk) (is : recover kept.disk.bytes ≡ Shown (kept_digests mid.disk.bytes) (seat_state events next) next.piece)
+        (digests : kept_digests kept.disk.bytes ≡ kept_digests mid.disk.bytes)
         (wrote : kept.disk.bytes ≡ committed (seat_base events next) next.piece mid.disk.bytes) where
       -- one commit was made of the bytes before
-      bytes_more : kept.disk.bytes
-          ≡ bytes_after s.whole s.before first.lines (suc n) (bytes_before s.whole (kept_digest kept.disk.bytes) first.disk.bytes)
+      bytes_more : kept.disk.bytes ≡ bytes_after s first.lines (suc n) (bytes_before s first.disk.bytes)
       bytes_more =
-          let same : kept_digest kept.disk.bytes ≡ kept_digest now.disk.bytes = digest ∙ ap (λ (q : Standing). kept_digest q.disk.bytes) t.took in
-          more_bytes s.whole s.before n first.lines s.digest (seat_state events next) next.piece
-          (bytes_before s.whole (kept_digest kept.disk.bytes) first.disk.bytes) mid.disk.bytes kept.disk.bytes keeps_more wrote
-          (ap (λ (q : Standing). q.disk.bytes) t.took ∙ w.rests.bytes
-          ∙ ap (λ d. bytes_after s.whole s.before first.lines n (bytes_before s.whole d first.disk.bytes)) (sym same))
+          more_bytes s n first.lines (seat_state events next) next.piece
+          (bytes_before s first.disk.bytes) mid.disk.bytes kept.disk.bytes keeps_more wrote
+          (ap (λ (q : Standing). q.disk.bytes) t.took ∙ w.rests.bytes)
 
       -- the store is at rest, and keeps all lines
-      rests : Rests s first kept (suc n)
+      rests : RestsWith s first kept (suc n)
       rests = record {
         there = there;
         few = all_few;
@@ -304,7 +298,7 @@ module _ {F : Type 0} {g : Story} {s : PlayedSession} {most n events : ℕ} {fir
         stable = stable;
         file = stays.file;
         others = stays.others;
-        keeps = subst (λ r. KeepsLines s first.lines (suc n) r) (sym (is ∙ ap (λ d. Shown d (seat_state events next) next.piece) digest_still)) keeps_more;
+        keeps = subst (λ r. KeepsLines s first.lines (suc n) r) (sym (is ∙ ap (λ d. Shown d (seat_state events next) next.piece) digests_still)) keeps_more;
         bytes = bytes_more;
       }
 
@@ -340,7 +334,7 @@ module _ {F : Type 0} {g : Story} {s : PlayedSession} {most n events : ℕ} {fir
           walks_on Plain g s.whole most n (with_store kept first) (with_store kept now) kept new seat next given line found o walking_with t.few
           t.seated t.then_seated t.last (t.lines ∙ ap (λ xs. line ∷ xs) (sym beside.lines)) t.cut kept_is t.plays told
 
-      rests_then : (new : Standing) (text : List ℕ) → new ≡ record kept { shown = text } → Rests s first new (suc n)
+      rests_then : (new : Standing) (text : List ℕ) → new ≡ record kept { shown = text } → RestsWith s first new (suc n)
       rests_then new text e = rests_on s first kept new (suc n) kept.lines kept.asked text e rests
 
       asked_then : (new : Standing) (text : List ℕ) → new ≡ record kept { shown = text } → new.asked ≡ first.asked + suc n
@@ -352,7 +346,7 @@ module _ {F : Type 0} {g : Story} {s : PlayedSession} {most n events : ℕ} {fir
       plays_to a new None told = record {
         walking = subst (λ (q : Standing). IsWalking Plain g s.whole (with_store q first) new next (suc n)) (sym told.2) (walks_then new None told);
         rests = rests_then new (kept.shown ++ next.piece) told.2;
-        digest = ap (λ (q : Standing). kept_digest q.disk.bytes) told.2 ∙ digest ∙ digest_still;
+        digests = ap (λ (q : Standing). kept_digests q.disk.bytes) told.2 ∙ digests ∙ digests_still;
         last = next.piece;
         grown = text_more ∙ ap (λ x. x ++ next.piece) (sym (text_is g s first now seat n w t.seated));
       }
@@ -399,7 +393,7 @@ module _ {F : Type 0} (g : Story) (s : PlayedSession) (most n : ℕ) (first now 
       (plays : StepsTo g (λ more. on g w.walking.prompt (reverse seat.machine.frames)
       (run_at seat w.walking.pieces w.walking.traces (given ∷ more))) found next w.walking.pieces w.walking.traces)
     where
-      refused_rests : KeepsAllButLast (KeptBy s first.lines) s.whole s.before s.name first mid
+      refused_rests : KeepsAllButLast s first mid
       refused_rests = (
         n,
         let a = asked_is g s first now seat n w in let b = ap (λ (q : Standing). q.asked) took in omega (arith, a, b),

@@ -20,7 +20,7 @@ use Rattle.paw_process.proofs.Again.{path_again}
 use Rattle.paw_turn.specs.inner.Player.{Seat, run_with, IsSeated, StandsClosed}
 use Rattle.paw_turn.specs.inner.Parts.{prompt_step, seat_at}
 use Rattle.paw_turn.specs.declared.Step.TheVariants as step
-use Rattle.paw_journal.specs.Session.{Shown, recover, kept_digest}
+use Rattle.paw_journal.specs.Session.{Digests, Shown, recover, kept_digests}
 use Rattle.paw_state.specs.inner.State.{state_of}
 use Rattle.paw_state.specs.inner.Fit.{state_read}
 use Rattle.paw_state.specs.declared.Restored.{Restored}
@@ -29,8 +29,10 @@ use Rattle.paw_play.specs.declared.PlayEnd.TheVariants as end
 use Rattle.paw_state.specs.Record.{state_at}
 use Rattle.paw_play.specs.Session.{kept_bytes, IsKept}
 use Rattle.paw_play.specs.Walk.{advanced}
-use Rattle.paw_play.specs.Play.{PlayedSession, InPlay, with_store, PlaysOn, ShowsState, going_on, kept_session}
-use Rattle.paw_play.specs.inner.OnTheWay.{Rests, IsPlaying, IsStore, ShowsAgain}
+use Rattle.paw_play.specs.Played.{PlayedSession, ShowsState, going_on, from_state}
+use Rattle.paw_play.specs.Keeping.{InPlay, RestsWith}
+use Rattle.paw_play.specs.Play.{with_store, PlaysOn}
+use Rattle.paw_play.specs.inner.OnTheWay.{IsPlaying, IsStore, ShowsAgain}
 use Rattle.paw_play.proofs.Resting.{rests_on}
 use Rattle.paw_play.proofs.Written.{had_bytes}
 use Rattle.paw_play.proofs.Walking.{on_waits, first_stands}
@@ -48,7 +50,7 @@ goes_on_from g w m p at events n piece lines =
 
 -- ---- by the prompt ----
 
-module _ (digest : List ℕ) (g : Story) (w : World) (m : OpenTables) (p : PendingLine) (events n : ℕ) (piece : List ℕ) (long : length piece ≡ n) where
+module _ (digests : Digests) (g : Story) (w : World) (m : OpenTables) (p : PendingLine) (events n : ℕ) (piece : List ℕ) (long : length piece ≡ n) where
   same_state : (at : Prompt) → state_of w m p at events n ≡ state_at (events + 0) at (reverse m.frames) (run_from w m p piece [])
   same_state at =
       let e : events ≡ events + 0 = omega arith in
@@ -56,19 +58,19 @@ module _ (digest : List ℕ) (g : Story) (w : World) (m : OpenTables) (p : Pendi
       ∙ ap (λ k. record { world = w; frames = frames_at (reverse m.frames) m.turning; pending = p; prompt = at; events = events + 0; piece = k }) (sym long)
 
   waits_kept : (at : Prompt) (e : Ending) → e ≡ WaitsAt at (reverse m.frames) (run_from w m p piece []) →
-      IsKept digest (events + 0) e (Shown digest (kept_bytes (state_of w m p at events n)) piece)
-  waits_kept at e is = rw is (record { played = tt; shown = ap (λ q. Shown digest (kept_bytes q) piece) (same_state at) })
+      IsKept digests (events + 0) e (Shown digests (kept_bytes (state_of w m p at events n)) piece)
+  waits_kept at e is = rw is (record { played = tt; shown = ap (λ q. Shown digests (kept_bytes q) piece) (same_state at) })
 
   pub kept_at : (at : Prompt) → StandsClosed (prompt_step at) m →
-      IsKept digest (events + 0) (on g at (reverse m.frames) (run_from w m p piece []))
-      (Shown digest (kept_bytes (state_of w m p at events n)) piece)
+      IsKept digests (events + 0) (on g at (reverse m.frames) (run_from w m p piece []))
+      (Shown digests (kept_bytes (state_of w m p at events n)) piece)
   kept_at prompt.Main h = waits_kept prompt.Main _ (on_waits g prompt.Main m (run_from w m p piece []) h)
   kept_at prompt.Quit h = waits_kept prompt.Quit _ (on_waits g prompt.Quit m (run_from w m p piece []) h)
   kept_at prompt.Again h = waits_kept prompt.Again _ (on_waits g prompt.Again m (run_from w m p piece []) h)
   kept_at prompt.Key h = waits_kept prompt.Key _ (on_waits g prompt.Key m (run_from w m p piece []) h)
   kept_at prompt.Over h = record {
     played = refl;
-    shown = ap (λ q. Shown digest (kept_bytes q) piece)
+    shown = ap (λ q. Shown digests (kept_bytes q) piece)
         (same_state prompt.Over ∙ ap (λ fs. state_at (events + 0) prompt.Over (reverse fs) (run_from w m p piece []))
         h.frames);
   }
@@ -90,6 +92,10 @@ pub seat_routines : {F : Type 0} (g : GameLists) (routines : Routines F) (w : Wo
     (at : Prompt) (seat : Seat F) → seat ≡ seat_at g routines w m p at → seat.routines ≡ routines
 seat_routines {F} g routines w m p at seat is = ap (λ (q : Seat F). q.routines) is
 
+pub seat_draws : {F : Type 0} (g : GameLists) (routines : Routines F) (w : World) (m : OpenTables) (p : PendingLine)
+    (at : Prompt) (seat : Seat F) → seat ≡ seat_at g routines w m p at → seat.world.draws ≡ w.draws
+seat_draws {F} g routines w m p at seat is = ap (λ (q : Seat F). q.world.draws) is
+
 waits_at : (at : Prompt) → at ≢ prompt.Over → prompt_step at ≡ step.Waits at
 waits_at prompt.Main h = refl
 waits_at prompt.Quit h = refl
@@ -101,34 +107,34 @@ waits_at prompt.Over h = absurd (h refl)
 
 -- the session that goes on from what was read of a store's state
 abbrev pub read_session : Story → List ℕ → List ℕ → Restored → Standing → PlayedSession
-read_session g name piece r first = kept_session g (state_read r) piece (kept_digest first.disk.bytes) name
+read_session g name piece r first = from_state g (state_read r) piece (kept_digests first.disk.bytes) name
 
 -- a player was made of what was read of the state of the attached store
-pub record Resumed {F : Type 0} (g : Story) (name piece : List ℕ) (r : Restored) (first : Standing) (routines : Routines F) (seat : Seat F) : Type 0 where
+pub record MadeOfRead {F : Type 0} (g : Story) (name piece : List ℕ) (r : Restored) (first : Standing) (routines : Routines F) (seat : Seat F) : Type 0 where
   pub long : length piece ≡ r.piece
   pub is : seat ≡ seat_at g.game routines r.world r.machine r.pending r.prompt
   pub seated : IsSeated seat
   pub store : IsStore name first
-  pub state : ShowsState g.game (kept_digest first.disk.bytes) first.disk.bytes (state_read r) piece
+  pub state : ShowsState g.game (kept_digests first.disk.bytes) first.disk.bytes (state_read r) piece
 
 module _ {F : Type 0} {g : Story} {name piece : List ℕ} {r : Restored} {first : Standing} {routines : Routines F} {seat : Seat F}
-    (u : Resumed g name piece r first routines seat) where
+    (u : MadeOfRead g name piece r first routines seat) where
   machine_stands : StandsClosed (prompt_step r.prompt) r.machine
   machine_stands = subst (λ (q : Seat F). StandsClosed q.last q.machine) u.is u.seated.machine
 
   text_is : text_of (going_on g (state_read r) piece []) ≡ piece
   text_is = ap text_of (goes_on_from g r.world r.machine r.pending r.prompt r.events r.piece piece [])
-      ∙ text_at (kept_digest first.disk.bytes) g r.world r.machine r.pending r.events r.piece piece u.long r.prompt machine_stands
+      ∙ text_at (kept_digests first.disk.bytes) g r.world r.machine r.pending r.events r.piece piece u.long r.prompt machine_stands
 
-  keeps_now : IsKept (kept_digest first.disk.bytes) (r.events + 0) (going_on g (state_read r) piece []) (recover first.disk.bytes)
+  keeps_now : IsKept (kept_digests first.disk.bytes) (r.events + 0) (going_on g (state_read r) piece []) (recover first.disk.bytes)
   keeps_now =
-      let digest : List ℕ = kept_digest first.disk.bytes in
-      subst (IsKept digest (r.events + 0) (going_on g (state_read r) piece [])) (sym u.state.shown)
-      (subst (λ e. IsKept digest (r.events + 0) e (Shown digest (kept_bytes (state_read r)) piece))
+      let digests : Digests = kept_digests first.disk.bytes in
+      subst (IsKept digests (r.events + 0) (going_on g (state_read r) piece [])) (sym u.state.shown)
+      (subst (λ e. IsKept digests (r.events + 0) e (Shown digests (kept_bytes (state_read r)) piece))
       (sym (goes_on_from g r.world r.machine r.pending r.prompt r.events r.piece piece []))
-      (kept_at digest g r.world r.machine r.pending r.events r.piece piece u.long r.prompt machine_stands))
+      (kept_at digests g r.world r.machine r.pending r.events r.piece piece u.long r.prompt machine_stands))
 
-  rests_first : Rests (read_session g name piece r first) first first 0
+  rests_first : RestsWith (read_session g name piece r first) first first 0
   rests_first = record {
     there = omega arith;
     few = omega (arith, u.state.keeps.events);
@@ -137,11 +143,10 @@ module _ {F : Type 0} {g : Story} {name piece : List ℕ} {r : Restored} {first 
     file = u.store.file;
     others = λ f other. refl;
     keeps = keeps_now;
-    bytes = had_bytes (going_on g (state_read r) piece) (kept_digest first.disk.bytes) (kept_digest first.disk.bytes) (kept_bytes (state_read r)) piece
-        first.disk.bytes u.state.shown;
+    bytes = had_bytes (read_session g name piece r first) (kept_digests first.disk.bytes) (kept_bytes (state_read r)) piece first.disk.bytes u.state.shown;
   }
 
-  rests_shown : (new : Standing) (text : List ℕ) → new ≡ record first { shown = text } → Rests (read_session g name piece r first) first new 0
+  rests_shown : (new : Standing) (text : List ℕ) → new ≡ record first { shown = text } → RestsWith (read_session g name piece r first) first new 0
   rests_shown new text e = rests_on (read_session g name piece r first) first first new 0 first.lines first.asked text e rests_first
 
   stands_with : (new : Standing) (part : List ℕ) → new ≡ record first { shown = first.shown ++ part } → new ≡ advanced (with_store new first) 0 part
@@ -165,7 +170,7 @@ module _ {F : Type 0} {g : Story} {name piece : List ℕ} {r : Restored} {first 
     attached = u.store.attached;
     files = λ f other. refl;
     leaves = λ image may. (
-      subst (λ b. IsKept (kept_digest first.disk.bytes) (r.events + 0) (going_on g (state_read r) piece []) (recover b))
+      subst (λ b. IsKept (kept_digests first.disk.bytes) (r.events + 0) (going_on g (state_read r) piece []) (recover b))
           (sym (stable_leaves first.disk image u.store.stable may)) keeps_now,
       (drop i.0 piece, take-append-drop i.0 piece ∙ sym text_is),
     );
@@ -186,7 +191,7 @@ module _ {F : Type 0} {g : Story} {name piece : List ℕ} {r : Restored} {first 
       stands = stands_with new piece told.1 ∙ ap (advanced (with_store new first) 0) (sym (append-nil piece));
     };
     rests = rests_shown new (first.shown ++ piece) told.1;
-    digest = ap (λ (q : Standing). kept_digest q.disk.bytes) told.1;
+    digests = ap (λ (q : Standing). kept_digests q.disk.bytes) told.1;
     last = piece;
     grown = text_is;
   })

@@ -1,5 +1,5 @@
 -- Rounds of a session, one after the other.
-use Rattle.std.proofs.Common.{◌⊎◌, ◌≡◌, inl, inr, ℕ, zero, suc, ◌+◌, ◌<◌, List, [], ◌∷◌, ◌++◌, Some, None, refl, sym, ap, ◌∙◌, subst}
+use Rattle.std.proofs.Common.{◌⊎◌, ◌≡◌, inl, inr, ℕ, zero, suc, ◌+◌, ◌<◌, ◌≤◌, List, [], ◌∷◌, ◌++◌, Some, None, refl, sym, ap, ◌∙◌, subst}
 use Rattle.std.proofs.Common.{length, take, append_assoc, append-nil, arith}
 use Rattle.std.specs.Prelude.{◌-◌, All}
 use Rattle.std.proofs.lemmas.List.{length-take}
@@ -13,21 +13,22 @@ use Rattle.paw_stage.specs.declared.StageCall.TheVariants as call
 use Rattle.paw_stage.specs.Across.{IsOneOf}
 use Rattle.paw_effects.specs.Standing.{AreBytes}
 use Rattle.paw_effects.specs.Story.{Story}
-use Rattle.paw_reading.specs.Turn.{reading}
 use Rattle.paw_reading.specs.Bounds.{IsLine}
 use Rattle.paw_journal.specs.Journal.{writing_calls}
 use Rattle.paw_journal.specs.Session.{IsUnmade, recover}
 use Rattle.paw_journal.proofs.Recovers.{unmade as no_session}
 use Rattle.paw_play.specs.declared.PlayEnd.{PlayEnd}
 use Rattle.paw_play.specs.declared.PlayEnd.TheVariants as end
-use Rattle.paw_play.specs.Walk.{EndingOf, first_lines}
-use Rattle.paw_play.specs.Stands.{Stands, StandsWith, IsPlayedWith, text_since, reading_since}
-use Rattle.paw_play.specs.Keeping.{KeepsUpWith, InSession}
-use Rattle.paw_play.specs.Play.{PlaysWith, PlaysIn, PlaysGame, GoesOn, NotYet, InNewGame, InPlayedOn, attached_to, store_bytes}
+use Rattle.paw_play.specs.Walk.{first_lines}
+use Rattle.paw_play.specs.Stands.{Stands, IsPlayedWith}
+use Rattle.paw_play.specs.Played.{PlayedSession, begun, from_lines}
+use Rattle.paw_play.specs.Keeping.{KeptBy, KeepsUpWith, InPlay, InNewSession, RestsWith}
+use Rattle.paw_play.specs.Play.{PlaysOn, MadeAndPlayed, NewSession, GoesOn, NotYet, attached_to, store_bytes}
 use Rattle.paw_play.specs.Play.{memory, spent, too_deep, unmade, plays, unattached, occupied, plays_in, unread}
 use Rattle.paw_play.specs.Laws.{RoundStop, cut_at, came_to, Round, MayBeLeft, BeginsOver, AtRest, StopsWith, AreRounds, left_after}
-use Rattle.paw_play.specs.Laws.{AreKept, AreKeptOf, RoundsStand}
+use Rattle.paw_play.specs.Laws.{lines_lost, AreKept, AreKeptOf, RoundsStand}
 use Rattle.paw_play.proofs.Attaching.{store_attached}
+use Rattle.paw_play.proofs.Standing.{begun_stands, later_stands}
 
 -- ---- the bytes of the file ----
 
@@ -72,44 +73,38 @@ store_left name left m is (inr apart) = absurd (apart.0 is)
 
 -- ---- the lines of a round ----
 
--- n lines are kept of a round, and the bytes that it left keep them
-abbrev KeptOf : (ℕ → List ℕ → Type 0) → Standing → RoundStop → List ℕ → Type 0
-KeptOf Kept old stop left = (n : ℕ) × AreKept old stop n × Kept n left
+-- n lines are kept of a round, and there is room for them; the bytes that it left keep them
+abbrev KeptOf : PlayedSession → Standing → RoundStop → List ℕ → Type 0
+KeptOf s old stop left = (n : ℕ) × AreKept old stop n × (n ≤ length old.lines) × (s.before + n ≤ EVENT_LIMIT) × KeptBy s old.lines n left
 
-module _ (Kept : ℕ → List ℕ → Type 0) (past : ℕ) (name : List ℕ) (old : Standing) where
+module _ (s : PlayedSession) (old : Standing) where
   -- of one that a crash cut off all that were taken, or all but the last
-  kept_up : (told : ℕ → List ℕ) (m : Moment) (n : ℕ) (text left : List ℕ) → m.asked ≡ old.asked + n → KeepsUpWith Kept told n text left →
-      KeptOf Kept old (cut_at m) left
-  kept_up told m zero text left asked kept = (0, inl asked, kept.0)
-  kept_up told m (suc n) text left asked (inl kept) = (suc n, inl asked, kept.0)
-  kept_up told m (suc n) text left asked (inr kept) = (n, inr asked, kept.0)
+  kept_up : (m : Moment) (n : ℕ) (text left : List ℕ) → n ≤ length old.lines → s.before + n ≤ EVENT_LIMIT → m.asked ≡ old.asked + n →
+      KeepsUpWith s old.lines n text left → KeptOf s old (cut_at m) left
+  kept_up m zero text left there few asked kept = (0, inl asked, there, few, kept.0)
+  kept_up m (suc n) text left there few asked (inl kept) = (suc n, inl asked, there, few, kept.0)
+  kept_up m (suc n) text left there few asked (inr kept) = (n, inr asked, omega (arith, there), omega (arith, few), kept.0)
 
-  cut_keeps : (told : ℕ → List ℕ) (m : Moment) (left : List ℕ) → InSession Kept told past name old m → MayBeLeft name m left → KeptOf Kept old (cut_at m) left
-  cut_keeps told m left i may = kept_up told m i.taken i.text left i.asked (i.leaves left (store_left name left m i.attached may))
+  cut_keeps : (m : Moment) (left : List ℕ) → InPlay s old m → MayBeLeft s.name m left → KeptOf s old (cut_at m) left
+  cut_keeps m left i may = kept_up m i.taken i.text left i.there i.few i.asked (i.leaves left (store_left s.name left m i.attached may))
 
   -- of one that came to its end all but those that are lost by it
-  at_rest : (new : Standing) (n : ℕ) → new.files name ≡ Some new.disk.bytes → Kept n new.disk.bytes → Kept n (store_bytes new name)
-  at_rest new n file keeps = subst (Kept n) (sym (ap bytes_or_none file)) keeps
+  at_rest : (new : Standing) (o : PlayEnd) (n : ℕ) → new.asked ≡ old.asked + n + lines_lost o → RestsWith s (attached_to old s.name) new n →
+      KeptOf s old (came_to new o) (store_bytes new s.name)
+  at_rest new o n asked r = (n, asked, r.there, r.few, subst (KeptBy s old.lines n) (sym (ap bytes_or_none r.file)) r.keeps)
 
-  came_keeps : (whole : EndingOf) (most : ℕ) (new : Standing) (o : PlayEnd) → PlaysWith Kept whole past name most (attached_to old name) new o → AtRest o →
-      KeptOf Kept old (came_to new o) (store_bytes new name)
-  came_keeps whole most new end.Ended p rest =
-      (p.session.0, omega (arith, p.session.1), at_rest new p.session.0 p.session.2.file p.session.2.keeps)
-  came_keeps whole most new end.InputEnded p rest =
-      (p.session.0, omega (arith, p.session.1), at_rest new p.session.0 p.session.2.file p.session.2.keeps)
-  came_keeps whole most new (end.Long events) p rest =
-      (p.session.0, omega (arith, p.session.1), at_rest new p.session.0 p.session.2.file p.session.2.keeps)
-  came_keeps whole most new (end.Outside call.Ask) p rest =
-      (p.session.0, omega (arith, p.session.1), at_rest new p.session.0 p.session.2.file p.session.2.keeps)
-  came_keeps whole most new (end.Outside call.Show) p rest =
-      (p.session.0, omega (arith, p.session.1), at_rest new p.session.0 p.session.2.file p.session.2.keeps)
-  came_keeps whole most new (end.Spent kind) p rest =
-      (p.session.0, omega (arith, p.session.1), at_rest new p.session.0 p.session.2.file p.session.2.keeps)
-  came_keeps whole most new (end.TooDeep table) p rest =
-      (p.session.0, omega (arith, p.session.1), at_rest new p.session.0 p.session.2.file p.session.2.keeps)
-  came_keeps whole most new (end.Outside call.Write) p rest = absurd rest
-  came_keeps whole most new (end.Outside call.Sync) p rest = absurd rest
-  came_keeps whole most new _ p rest = absurd p.shows
+  came_keeps : (most : ℕ) (new : Standing) (o : PlayEnd) → PlaysOn s most (attached_to old s.name) new o → AtRest o →
+      KeptOf s old (came_to new o) (store_bytes new s.name)
+  came_keeps most new end.Ended p rest = at_rest new end.Ended p.session.0 (omega (arith, p.session.1)) p.session.2
+  came_keeps most new end.InputEnded p rest = at_rest new end.InputEnded p.session.0 (omega (arith, p.session.1)) p.session.2
+  came_keeps most new (end.Long events) p rest = at_rest new (end.Long events) p.session.0 (omega (arith, p.session.1)) p.session.2
+  came_keeps most new (end.Outside call.Ask) p rest = at_rest new (end.Outside call.Ask) p.session.0 (omega (arith, p.session.1)) p.session.2
+  came_keeps most new (end.Outside call.Show) p rest = at_rest new (end.Outside call.Show) p.session.0 (omega (arith, p.session.1)) p.session.2
+  came_keeps most new (end.Spent kind) p rest = at_rest new (end.Spent kind) p.session.0 (omega (arith, p.session.1)) p.session.2
+  came_keeps most new (end.TooDeep table) p rest = at_rest new (end.TooDeep table) p.session.0 (omega (arith, p.session.1)) p.session.2
+  came_keeps most new (end.Outside call.Write) p rest = absurd rest
+  came_keeps most new (end.Outside call.Sync) p rest = absurd rest
+  came_keeps most new _ p rest = absurd p.shows
 
 -- ---- the first round ----
 
@@ -122,53 +117,62 @@ no_writing c (inr (inl e)) = rw e (λ rest. rest)
 no_writing c (inr (inr h)) = absurd h
 
 module _ (g : Story) (seed : ℕ) (r : Round) (begins : BeginsOver [] r) (made : ¬ IsUnmade (recover r.left)) where
-  first_cut : (m : Moment) → (NotYet r.name r.old m ⊎ InNewGame g seed r.name r.old m) → MayBeLeft r.name m r.left → KeptOf (StandsWith g seed [] r.old.lines) r.old (cut_at m) r.left
+  first_cut : (m : Moment) → (NotYet r.name r.old m ⊎ InNewSession (begun g seed r.name) r.old m) → MayBeLeft r.name m r.left →
+      KeptOf (begun g seed r.name) r.old (cut_at m) r.left
   first_cut m (inl n) may = absurd (made (empty_unmade r.left (not_yet_left r [] m begins n may)))
   first_cut m (inr (inl i)) may = elim (i.leaves r.left (store_left r.name r.left m i.attached may)) [
     | inl none ↦ absurd (made none)
-    | inr kept ↦ (0, inl (i.asked ∙ omega arith), kept)
+    | inr kept ↦ (0, inl (i.asked ∙ omega arith), omega arith, omega arith, kept)
   ]
-  first_cut m (inr (inr i)) may =
-      cut_keeps (StandsWith g seed [] r.old.lines) 0 r.name r.old (text_since g seed [] r.old.lines) m r.left i may
+  first_cut m (inr (inr i)) may = cut_keeps (begun g seed r.name) r.old m r.left i may
 
   still_empty : (new : Standing) → r.left ≡ store_bytes new r.name → store_bytes new r.name ≡ store_bytes r.old r.name → ⊥
   still_empty new left same = made (empty_unmade r.left (left ∙ same ∙ begins.has))
 
-  first_in : (new : Standing) (o : PlayEnd) →
-      PlaysIn (StandsWith g seed [] r.old.lines) (reading g seed) r.name (attached_to r.old r.name) new o → AtRest o → r.left ≡ store_bytes new r.name →
-      KeptOf (StandsWith g seed [] r.old.lines) r.old (came_to new o) (store_bytes new r.name)
+  first_in : (new : Standing) (o : PlayEnd) → MadeAndPlayed (begun g seed r.name) (attached_to r.old r.name) new o → AtRest o →
+      r.left ≡ store_bytes new r.name → KeptOf (begun g seed r.name) r.old (came_to new o) (store_bytes new r.name)
   first_in new _ (memory e) rest left = absurd (still_empty new left (bytes_of r.old new r.name e))
   first_in new _ (spent kind run is e) rest left = absurd (still_empty new left (bytes_of r.old new r.name e))
   first_in new _ (too_deep table run is e) rest left = absurd (still_empty new left (bytes_of r.old new r.name e))
   first_in new _ (unmade c is e stays) rest left = absurd (no_writing c is rest)
-  first_in new _ (plays o p) rest left = came_keeps (StandsWith g seed [] r.old.lines) 0 r.name r.old (reading g seed) EVENT_LIMIT new o p rest
+  first_in new _ (plays o p) rest left = came_keeps (begun g seed r.name) r.old EVENT_LIMIT new o p rest
 
-  first_came : (new : Standing) (o : PlayEnd) → PlaysGame g seed r.name r.old new o → AtRest o → r.left ≡ store_bytes new r.name →
-      KeptOf (StandsWith g seed [] r.old.lines) r.old (came_to new o) (store_bytes new r.name)
+  first_came : (new : Standing) (o : PlayEnd) → NewSession (begun g seed r.name) r.old new o → AtRest o → r.left ≡ store_bytes new r.name →
+      KeptOf (begun g seed r.name) r.old (came_to new o) (store_bytes new r.name)
   first_came new _ (unattached u) rest left = absurd (still_empty new left (unattached_bytes r.old new r.name u))
   first_came new _ (occupied some e) rest left = absurd (omega (arith, some, ap length begins.has))
   first_came new _ (plays_in o empty p) rest left = first_in new o p rest left
 
-  first_stops : (stop : RoundStop) → StopsWith (λ m. NotYet r.name r.old m ⊎ InNewGame g seed r.name r.old m) (PlaysGame g seed r.name r.old) r.name r.left stop →
-      KeptOf (StandsWith g seed [] r.old.lines) r.old stop r.left
-  first_stops (cut_at m) s = first_cut m s.0 s.1
-  first_stops (came_to new o) s =
-      subst (KeptOf (StandsWith g seed [] r.old.lines) r.old (came_to new o)) (sym s.2) (first_came new o s.0 s.1 s.2)
+  first_stops : (stop : RoundStop) → StopsWith (λ m. NotYet r.name r.old m ⊎ InNewSession (begun g seed r.name) r.old m)
+      (NewSession (begun g seed r.name) r.old) r.name r.left stop → KeptOf (begun g seed r.name) r.old stop r.left
+  first_stops (cut_at m) stopped = first_cut m stopped.0 stopped.1
+  first_stops (came_to new o) stopped =
+      subst (KeptOf (begun g seed r.name) r.old (came_to new o)) (sym stopped.2) (first_came new o stopped.0 stopped.1 stopped.2)
 
 -- ---- a later round ----
 
+-- n lines are kept of a round, and the bytes that it left stand for those before and these
+abbrev StandsBehind : Story → ℕ → List (List ℕ) → Standing → RoundStop → List ℕ → Type 0
+StandsBehind g seed es old stop left = (n : ℕ) × AreKept old stop n × Stands g seed (es ++ first_lines n old.lines) left
+
 module _ (g : Story) (seed : ℕ) (es : List (List ℕ)) (bytes : List ℕ) (r : Round) (begins : BeginsOver bytes r) (stands : Stands g seed es bytes) where
   -- with no line more it stands for those before
-  none_more : (left : List ℕ) → left ≡ bytes → StandsWith g seed es r.old.lines 0 left
+  none_more : (left : List ℕ) → left ≡ bytes → Stands g seed (es ++ first_lines 0 r.old.lines) left
   none_more left e = subst (λ q. Stands g seed (es ++ []) q) (sym e) (subst (λ q. Stands g seed q bytes) (sym (append-nil es)) stands)
 
-  later_cut : (m : Moment) → (NotYet r.name r.old m ⊎ InPlayedOn g seed es r.name r.old m) → MayBeLeft r.name m r.left → KeptOf (StandsWith g seed es r.old.lines) r.old (cut_at m) r.left
-  later_cut m (inl n) may = (0, inl (n.asked ∙ omega arith), none_more r.left (not_yet_left r bytes m begins n may))
-  later_cut m (inr i) may =
-      cut_keeps (StandsWith g seed es r.old.lines) (length es) r.name r.old (text_since g seed es r.old.lines) m r.left i may
+  -- what is kept of the session stands for those before and its own
+  more_stand : (stop : RoundStop) (left : List ℕ) → KeptOf (from_lines g seed es stands.digests r.name) r.old stop left →
+      StandsBehind g seed es r.old stop left
+  more_stand stop left k =
+      (k.0, k.1, later_stands g seed es r.old.lines stands.digests r.name k.0 left stands.belongs k.2 k.3 k.4)
 
-  later_came : (new : Standing) (o : PlayEnd) → GoesOn g seed es r.name r.old new o → AtRest o →
-      KeptOf (StandsWith g seed es r.old.lines) r.old (came_to new o) (store_bytes new r.name)
+  later_cut : (m : Moment) → (NotYet r.name r.old m ⊎ InPlay (from_lines g seed es stands.digests r.name) r.old m) → MayBeLeft r.name m r.left →
+      StandsBehind g seed es r.old (cut_at m) r.left
+  later_cut m (inl n) may = (0, inl (n.asked ∙ omega arith), none_more r.left (not_yet_left r bytes m begins n may))
+  later_cut m (inr i) may = more_stand (cut_at m) r.left (cut_keeps (from_lines g seed es stands.digests r.name) r.old m r.left i may)
+
+  later_came : (new : Standing) (o : PlayEnd) → GoesOn (from_lines g seed es stands.digests r.name) r.old new o → AtRest o →
+      StandsBehind g seed es r.old (came_to new o) (store_bytes new r.name)
   later_came new _ (unattached u) rest =
       (0, unattached_asked r.old new u, none_more (store_bytes new r.name) (unattached_bytes r.old new r.name u ∙ begins.has))
   later_came new _ (unread e) rest =
@@ -176,13 +180,14 @@ module _ (g : Story) (seed : ℕ) (es : List (List ℕ)) (bytes : List ℕ) (r :
   later_came new _ (memory e) rest =
       (0, attached_asked r.old new r.name e, none_more (store_bytes new r.name) (bytes_of r.old new r.name e ∙ begins.has))
   later_came new _ (plays o p) rest =
-      came_keeps (StandsWith g seed es r.old.lines) (length es) r.name r.old (reading_since g seed es) (EVENT_LIMIT - length es) new o p rest
+      more_stand (came_to new o) (store_bytes new r.name)
+      (came_keeps (from_lines g seed es stands.digests r.name) r.old (EVENT_LIMIT - length es) new o p rest)
 
-  later_stops : (stop : RoundStop) → StopsWith (λ m. NotYet r.name r.old m ⊎ InPlayedOn g seed es r.name r.old m) (GoesOn g seed es r.name r.old) r.name r.left stop →
-      KeptOf (StandsWith g seed es r.old.lines) r.old stop r.left
-  later_stops (cut_at m) s = later_cut m s.0 s.1
-  later_stops (came_to new o) s =
-      subst (KeptOf (StandsWith g seed es r.old.lines) r.old (came_to new o)) (sym s.2) (later_came new o s.0 s.1)
+  later_stops : (stop : RoundStop) → StopsWith (λ m. NotYet r.name r.old m ⊎ InPlay (from_lines g seed es stands.digests r.name) r.old m)
+      (GoesOn (from_lines g seed es stands.digests r.name) r.old) r.name r.left stop → StandsBehind g seed es r.old stop r.left
+  later_stops (cut_at m) stopped = later_cut m stopped.0 stopped.1
+  later_stops (came_to new o) stopped =
+      subst (StandsBehind g seed es r.old (came_to new o)) (sym stopped.2) (later_came new o stopped.0 stopped.1)
 
 -- ---- all rounds ----
 
@@ -213,6 +218,7 @@ pub rounds_stand : RoundsStand
 rounds_stand g seed first rounds valid fits is made more =
     let kept = first_stops g seed first is.0 made first.stop is.1 in
     let fs : List (List ℕ) = first_lines kept.0 first.old.lines in
+    let stands : Stands g seed fs first.left = begun_stands g seed first.old.lines first.name kept.0 first.left kept.2 (omega (arith, kept.3)) kept.4 in
     let played : IsPlayedWith g seed fs = record { valid = valid; fits = fits; lines = first_are_lines kept.0 first.old.lines is.0.lines } in
-    let rest = later_rounds g seed fs first.left rounds played kept.2 more in
+    let rest = later_rounds g seed fs first.left rounds played stands more in
     (fs ++ rest.0, (kept.0, rest.0, kept.1, refl, rest.1), rest.2)

@@ -21,7 +21,7 @@ use Rattle.paw_process.proofs.Again.{restored_kept}
 use Rattle.paw_turn.specs.inner.Parts.{Fits, IsPending, prompt_step, seat_at}
 use Rattle.paw_turn.specs.inner.Player.{Seat, StandsClosed, IsSeated}
 use Rattle.paw_turn.proofs.Seating.{restored_fits}
-use Rattle.paw_journal.specs.Session.{Shown, recover, kept_digest, piece_length, state_length}
+use Rattle.paw_journal.specs.Session.{Digests, Shown, recover, kept_digests, piece_length, state_length}
 use Rattle.paw_journal.proofs.ShownPieces.{shown_long}
 use Rattle.paw_state.specs.State.{State, Keeps, FitsFields, HoldsBytes}
 use Rattle.paw_state.specs.inner.State.{state_of}
@@ -31,42 +31,43 @@ use Rattle.paw_state.specs.inner.Fit.{IsRead, state_read}
 use Rattle.paw_state.proofs.Told.{piece_told}
 use Rattle.paw_state.proofs.Lawful.{bytes_tell_the_state, long_state}
 use Rattle.paw_play.specs.Session.{kept_bytes, IsKept}
-use Rattle.paw_play.specs.Play.{ShowsState, going_on, kept_session}
+use Rattle.paw_play.specs.Played.{ShowsState, going_on, from_state}
 use Rattle.paw_play.specs.inner.OnTheWay.{IsStore}
-use Rattle.paw_play.proofs.Resuming.{goes_on_from, kept_at, text_at, seat_game, read_session, Resumed}
+use Rattle.paw_play.proofs.Resuming.{goes_on_from, kept_at, text_at, seat_game, read_session, MadeOfRead}
 
 -- a buffer begins with the bytes of a state
-shows_kept : (digest bytes buffer piece : List ℕ) (st : State) →
-    recover bytes ≡ Shown digest (take state_length buffer) piece → take state_length buffer ≡ state_bytes st →
-    recover bytes ≡ Shown digest (kept_bytes st) piece
+shows_kept : (digests : Digests) (bytes buffer piece : List ℕ) (st : State) →
+    recover bytes ≡ Shown digests (take state_length buffer) piece → take state_length buffer ≡ state_bytes st →
+    recover bytes ≡ Shown digests (kept_bytes st) piece
 unfolding kept_bytes
-shows_kept digest bytes buffer piece st e k = e ∙ ap (λ b. Shown digest b piece) k
+shows_kept digests bytes buffer piece st e k = e ∙ ap (λ b. Shown digests b piece) k
 
 bytes_same : (s t : State) → kept_bytes s ≡ kept_bytes t → state_bytes s ≡ state_bytes t
 unfolding kept_bytes
 bytes_same s t e = e
 
-same_shown : (d a p e b q : List ℕ) → Shown d a p ≡ Shown e b q → (a ≡ b) × (p ≡ q)
-same_shown d a p e b q h = (cc, cc)
+same_shown : (d e : Digests) (a p b q : List ℕ) → Shown d a p ≡ Shown e b q → (d ≡ e) × (a ≡ b) × (p ≡ q)
+same_shown d e a p b q h = (cc, cc, cc)
 
--- the bytes show one state and one piece
-one_state : (g : GameLists) (digest bytes : List ℕ) (s t : State) (p q : List ℕ) → Valid g →
-    ShowsState g digest bytes s p → ShowsState g digest bytes t q → (s ≡ t) × (p ≡ q)
-one_state g digest bytes s t p q valid h k =
-    let e = same_shown digest (kept_bytes s) p digest (kept_bytes t) q (sym h.shown ∙ k.shown) in
-    (bytes_tell_the_state g s t valid h.keeps h.fits k.keeps k.fits (bytes_same s t e.0), e.1)
+-- the bytes show one state and one piece, in one session
+pub one_state : (g : Story) (d e : Digests) (bytes name : List ℕ) (s t : State) (p q : List ℕ) → Valid g.game →
+    ShowsState g.game d bytes s p → ShowsState g.game e bytes t q → from_state g s p d name ≡ from_state g t q e name
+one_state g d e bytes name s t p q valid h k =
+    let one = same_shown d e (kept_bytes s) p (kept_bytes t) q (sym h.shown ∙ k.shown) in
+    let state : s ≡ t = bytes_tell_the_state g.game s t valid h.keeps h.fits k.keeps k.fits (bytes_same s t one.1) in
+    ap (λ x. from_state g x p d name) state ∙ ap (λ x. from_state g t x d name) one.2 ∙ ap (λ x. from_state g t q x name) one.0
 
 -- ---- the piece is as long as the state says ----
 
 -- the piece that stands beside a buffer is as long as the buffer says
-buffer_long : (bytes digest buffer piece : List ℕ) (n : ℕ) →
-    recover bytes ≡ Shown digest (take state_length buffer) piece →
+buffer_long : (bytes : List ℕ) (digests : Digests) (buffer piece : List ℕ) (n : ℕ) →
+    recover bytes ≡ Shown digests (take state_length buffer) piece →
     get_or buffer 1369 0 + 256 * get_or buffer 1370 0 ≡ n → n < 65536 → length piece ≡ n
-buffer_long bytes digest buffer piece n e is low =
+buffer_long bytes digests buffer piece n e is low =
     let a : get_or (take state_length buffer) 1369 0 ≡ get_or buffer 1369 0 = get_or-take 3419 buffer 1369 0 (omega arith) in
     let b : get_or (take state_length buffer) 1370 0 ≡ get_or buffer 1370 0 = get_or-take 3419 buffer 1370 0 (omega arith) in
     let m : piece_length (take state_length buffer) ≡ n = omega (arith, a, b, is) in
-    shown_long bytes digest (take state_length buffer) piece e (omega (arith, m, low)) ∙ m
+    shown_long bytes digests (take state_length buffer) piece e (omega (arith, m, low)) ∙ m
 
 -- ---- parts that were read fit a player ----
 
@@ -106,37 +107,34 @@ read_fits g bytes r is =
 -- ---- a player that was made of what was read ----
 
 pub resumed : {F : Type 0} (g : Story) (name buffer state piece : List ℕ) (r : Restored) (first : Standing) (routines : Routines F) (seat : Seat F) →
-    recover first.disk.bytes ≡ Shown (kept_digest first.disk.bytes) (take state_length state) piece → buffer ≡ state → IsRead g.game buffer r →
+    recover first.disk.bytes ≡ Shown (kept_digests first.disk.bytes) (take state_length state) piece → buffer ≡ state → IsRead g.game buffer r →
     get_or buffer 1369 0 + 256 * get_or buffer 1370 0 ≡ r.piece →
     seat ≡ seat_at g.game routines r.world r.machine r.pending r.prompt → IsSeated seat → IsStore name first →
-    Resumed g name piece r first routines seat
+    MadeOfRead g name piece r first routines seat
 resumed g name buffer state piece r first routines seat shown same read long is seated store =
     let bytes : List ℕ = first.disk.bytes in
-    let digest : List ℕ = kept_digest first.disk.bytes in
-    let there : recover bytes ≡ Shown digest (take state_length buffer) piece =
-    subst (λ x. recover bytes ≡ Shown digest (take state_length x) piece) (sym same) shown in
+    let digests : Digests = kept_digests first.disk.bytes in
+    let there : recover bytes ≡ Shown digests (take state_length buffer) piece =
+    subst (λ x. recover bytes ≡ Shown digests (take state_length x) piece) (sym same) shown in
     record {
-      long = buffer_long bytes digest buffer piece r.piece there long read.fits.piece;
+      long = buffer_long bytes digests buffer piece r.piece there long read.fits.piece;
       is = is;
       seated = seated;
       store = store;
-      state = record { keeps = read.keeps; fits = read.fits; shown = shows_kept digest bytes buffer piece (state_read r) there read.are };
+      state = record { keeps = read.keeps; fits = read.fits; shown = shows_kept digests bytes buffer piece (state_read r) there read.are };
     }
 
 -- the store shows no other state and piece
 pub one_session : {F : Type 0} (g : Story) (name piece : List ℕ) (r : Restored) (first : Standing) (routines : Routines F) (seat : Seat F)
-    (st : State) (other : List ℕ) → Resumed g name piece r first routines seat →
-    ShowsState g.game (kept_digest first.disk.bytes) first.disk.bytes st other →
-    read_session g name piece r first ≡ kept_session g st other (kept_digest first.disk.bytes) name
-one_session g name piece r first routines seat st other u shows =
-    let digest : List ℕ = kept_digest first.disk.bytes in
+    (digests : Digests) (st : State) (other : List ℕ) → MadeOfRead g name piece r first routines seat →
+    ShowsState g.game digests first.disk.bytes st other → read_session g name piece r first ≡ from_state g st other digests name
+one_session g name piece r first routines seat digests st other u shows =
     let valid : Valid g.game = subst Valid (seat_game g.game routines r.world r.machine r.pending r.prompt seat u.is) u.seated.valid in
-    let one = one_state g.game digest first.disk.bytes (state_read r) st piece other valid u.state shows in
-    ap (λ q. kept_session g q piece digest name) one.0 ∙ ap (λ q. kept_session g st q digest name) one.1
+    one_state g (kept_digests first.disk.bytes) digests first.disk.bytes name (state_read r) st piece other valid u.state shows
 
 -- ---- a state that bytes show ----
 
-module _ (g : Story) (digest bytes : List ℕ) (st : State) (piece : List ℕ) (valid : Valid g.game) (shows : ShowsState g.game digest bytes st piece) where
+module _ (g : Story) (digests : Digests) (bytes : List ℕ) (st : State) (piece : List ℕ) (valid : Valid g.game) (shows : ShowsState g.game digests bytes st piece) where
   -- a machine that is restored from the state
   machine : OpenTables
   machine = restored st.frames (waiting_at st.prompt)
@@ -158,19 +156,19 @@ module _ (g : Story) (digest bytes : List ℕ) (st : State) (piece : List ℕ) (
   unfolding kept_bytes
   long =
       let told = piece_told st (long_state g.game st valid shows.keeps shows.fits) shows.fits.piece in
-      shown_long bytes digest (state_bytes st) piece shows.shown (omega (arith, told, shows.fits.piece)) ∙ told
+      shown_long bytes digests (state_bytes st) piece shows.shown (omega (arith, told, shows.fits.piece)) ∙ told
 
   -- it is kept before a line is taken
-  pub state_kept : IsKept digest (st.events + 0) (going_on g st piece []) (recover bytes)
+  pub state_kept : IsKept digests (st.events + 0) (going_on g st piece []) (recover bytes)
   state_kept =
-      subst (IsKept digest (st.events + 0) (going_on g st piece [])) (sym shows.shown)
-      (subst (λ s. IsKept digest (st.events + 0) (going_on g s piece []) (Shown digest (kept_bytes s) piece)) (sym state_is)
-      (subst (λ e. IsKept digest (st.events + 0) e (Shown digest (kept_bytes (state_of st.world machine st.pending st.prompt st.events st.piece)) piece))
+      subst (IsKept digests (st.events + 0) (going_on g st piece [])) (sym shows.shown)
+      (subst (λ s. IsKept digests (st.events + 0) (going_on g s piece []) (Shown digests (kept_bytes s) piece)) (sym state_is)
+      (subst (λ e. IsKept digests (st.events + 0) e (Shown digests (kept_bytes (state_of st.world machine st.pending st.prompt st.events st.piece)) piece))
       (sym (goes_on_from g st.world machine st.pending st.prompt st.events st.piece piece []))
-      (kept_at digest g st.world machine st.pending st.events st.piece piece long st.prompt stands)))
+      (kept_at digests g st.world machine st.pending st.events st.piece piece long st.prompt stands)))
 
   pub state_text : text_of (going_on g st piece []) ≡ piece
   state_text =
       subst (λ s. text_of (going_on g s piece []) ≡ piece) (sym state_is)
       (ap text_of (goes_on_from g st.world machine st.pending st.prompt st.events st.piece piece [])
-      ∙ text_at digest g st.world machine st.pending st.events st.piece piece long st.prompt stands)
+      ∙ text_at digests g st.world machine st.pending st.events st.piece piece long st.prompt stands)

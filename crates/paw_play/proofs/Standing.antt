@@ -3,17 +3,15 @@ use Rattle.std.proofs.Common.{◌≡◌, ◌≢◌, inl, inr, ℕ, ◌+◌, ◌�
 use Rattle.std.proofs.Common.{length, take, drop, arith}
 use Rattle.std.specs.Prelude.{◌-◌}
 use Rattle.std.proofs.Math.Path.{fun_ext}
-use Rattle.std.proofs.lemmas.List.{length-append}
-use Rattle.sha2.specs.Sha256.{sha256}
+use Rattle.std.proofs.lemmas.List.{length-append, length-map, length-take-le}
 use Rattle.paw_base.specs.declared.limits.TheConstants.{EVENT_LIMIT}
 use Rattle.paw_game.specs.Game.{GameLists}
-use Rattle.paw_game.specs.Image.{image}
+use Rattle.paw_game.specs.Valid.{Valid}
 use Rattle.paw_stage.specs.Stage.{Standing}
-use Rattle.paw_stage.specs.Moments.{Moment}
 use Rattle.paw_effects.specs.declared.act.Prompt.TheVariants as prompt
 use Rattle.paw_reading.specs.Run.{Step}
 use Rattle.paw_reading.specs.Reading.{IsOver}
-use Rattle.paw_reading.specs.Turn.{Ending, WaitsAt, Halted, Unended, reading, pieces_of, text_of}
+use Rattle.paw_reading.specs.Turn.{Ending, WaitsAt, Halted, Unended, reading, pieces_of}
 use Rattle.paw_reading.specs.inner.Longer.{ending_with_past}
 use Rattle.paw_reading.specs.inner.Pieces.{Counted}
 use Rattle.paw_reading.proofs.Counts.{pieces_of_lines}
@@ -21,41 +19,48 @@ use Rattle.paw_reading.proofs.Ends.{going_on_ends}
 use Rattle.paw_state.specs.State.{State}
 use Rattle.paw_state.specs.Fields.{state_bytes}
 use Rattle.paw_state.specs.Fit.{Fit}
-use Rattle.paw_journal.specs.Session.{Shown, recover, state_length}
+use Rattle.paw_journal.specs.Session.{Digests, Shown, recover, state_length}
 use Rattle.paw_journal.specs.declared.refusal.JournalRefusal.{JournalRefusal}
 use Rattle.paw_journal.specs.declared.refusal.JournalRefusal.TheVariants as refusal
 use Rattle.paw_play.specs.declared.PlayEnd.{PlayEnd}
 use Rattle.paw_state.specs.Record.{last_piece, state_at}
-use Rattle.paw_play.specs.Session.{kept_bytes, state_after, IsKept}
-use Rattle.paw_play.specs.Walk.{first_lines}
-use Rattle.paw_play.specs.Stands.{Stands, StandsWith, IsPlayedWith, ending_since, text_since, reading_since}
-use Rattle.paw_play.specs.Keeping.{InSession}
-use Rattle.paw_play.specs.Play.{PlaysWith, PlaysOn, KeptBy, ShowsState, Refuses, PlaysUp, no_state, plays_on, PlaysAgain, refused, wanting, plays_up}
-use Rattle.paw_play.specs.Play.{GoesOn, memory, unattached, unread, plays, InPlay, InPlayedOn, going_on, kept_session, attached_to, store_bytes}
-use Rattle.paw_play.specs.Play.{resumed_run}
-use Rattle.paw_play.specs.Laws.{ShowsSome, StandingShows, StandingGoesOn, GoingOnIsTheReading}
-use Rattle.paw_play.proofs.Games.{count_lines}
-use Rattle.paw_play.proofs.Going.{IsSettled, Settles, goes_on, since_past, text_since_is, waiting_goes, whole_kept}
-use Rattle.paw_play.proofs.Mapped.{plays_by, in_session_by}
+use Rattle.paw_play.specs.Session.{kept_bytes, story_digests, IsOfStory, IsKept}
+use Rattle.paw_play.specs.Walk.{EndingOf, first_lines}
+use Rattle.paw_play.specs.Stands.{Stands, IsPlayedWith, ending_since, reading_since}
+use Rattle.paw_play.specs.Played.{PlayedSession, ShowsState, GoesOnFrom, from_shown, behind, begun, from_lines, from_state, going_on, resumed_run}
+use Rattle.paw_play.specs.Keeping.{KeptBy}
+use Rattle.paw_play.specs.Play.{PlaysOn, Refuses, Resumed, no_state, plays_on, PlaysAgain, refused, wanting, plays_up}
+use Rattle.paw_play.specs.Play.{GoesOn, memory, unattached, unread, plays, attached_to, store_bytes}
+use Rattle.paw_play.specs.Laws.{StandingShows, StandingGoesOn, KeptLinesStand, GoingOnIsTheReading}
+use Rattle.paw_play.proofs.Going.{IsSettled, Settles, goes_on, since_past, waiting_goes, whole_kept}
 use Rattle.paw_play.proofs.Settling.{reading_settles}
+use Rattle.paw_play.proofs.Showing.{one_state}
 use Rattle.paw_effects.specs.Story.{Story}
 
 -- ---- what a store shows ----
 
-ending_shows : (g : GameLists) (n : ℕ) (bytes : List ℕ) (e : Ending) → IsSettled g n e → IsKept (sha256 (image g)) n e (recover bytes) → ShowsSome g bytes
-ending_shows g n bytes (WaitsAt p path r) k kept =
-    record { state = state_at n p path r; piece = last_piece r.pieces; shows = record { keeps = k.keeps; fits = k.fits; shown = kept.shown } }
-ending_shows g n bytes (Halted IsOver r) k kept =
-    record { state = state_at n prompt.Over [] r; piece = last_piece r.pieces; shows = record { keeps = k.keeps; fits = k.fits; shown = kept.shown } }
-ending_shows g n bytes _ k kept = absurd kept.played
+ending_shows : (g : GameLists) (digests : Digests) (n : ℕ) (bytes : List ℕ) (e : Ending) → IsSettled g n e → IsKept digests n e (recover bytes) →
+    (st : State) × (piece : List ℕ) × ShowsState g digests bytes st piece
+ending_shows g digests n bytes (WaitsAt p path r) k kept =
+    (state_at n p path r, last_piece r.pieces, record { keeps = k.keeps; fits = k.fits; shown = kept.shown })
+ending_shows g digests n bytes (Halted IsOver r) k kept =
+    (state_at n prompt.Over [] r, last_piece r.pieces, record { keeps = k.keeps; fits = k.fits; shown = kept.shown })
+ending_shows g digests n bytes _ k kept = absurd kept.played
+
+-- in the session whose lines they are
+shown_of : (g : Story) (seed : ℕ) (es : List (List ℕ)) (bytes : List ℕ) → IsPlayedWith g seed es → (stands : Stands g seed es bytes) →
+    (st : State) × (piece : List ℕ) × ShowsState g.game stands.digests bytes st piece
+shown_of g seed es bytes played stands =
+    ending_shows g.game stands.digests (length es) bytes (reading g seed es) (reading_settles g seed es played stands.few) stands.keeps
 
 pub standing_shows : StandingShows
 standing_shows g seed es bytes played stands =
-    ending_shows g.game (length es) bytes (reading g seed es) (reading_settles g seed es played stands.few) stands.keeps
+    let shown = shown_of g seed es bytes played stands in
+    record { digests = stands.digests; belongs = stands.belongs; state = shown.0; piece = shown.1; shows = shown.2 }
 
 pub standing_goes_on : StandingGoesOn
-standing_goes_on g seed es fs bytes st piece played stands shows =
-    goes_on g seed es fs (reading_settles g seed es played stands.few) bytes st piece played.valid.game stands shows
+standing_goes_on g seed es fs bytes digests st piece played stands shows =
+    goes_on g seed es fs (reading_settles g seed es played stands.few) bytes digests st piece played.valid.game stands shows
 
 -- ---- going on from where a reading waits ----
 
@@ -87,95 +92,130 @@ going_on_is_the_reading g seed es fs p path r played few is =
           ∙ ap (λ e. pieces_of e ++ drop 1 (pieces_of (going_on g st last fs))) (sym is);
     }
 
+-- ---- what a session keeps stands for its lines ----
+
+count_lines : (n : ℕ) (lines : List (List ℕ)) → n ≤ length lines → length (first_lines n lines) ≡ n
+count_lines n lines there = length-map (take n lines) (take 255) ∙ length-take-le n lines there
+
+-- those that it took
+pub begun_stands : (g : Story) (seed : ℕ) (lines : List (List ℕ)) (name : List ℕ) (n : ℕ) (bytes : List ℕ) → n ≤ length lines → n ≤ EVENT_LIMIT →
+    KeptBy (begun g seed name) lines n bytes → Stands g seed (first_lines n lines) bytes
+begun_stands g seed lines name n bytes there few kept =
+    let count : length (first_lines n lines) ≡ n = count_lines n lines there in
+    let all : 0 + n ≡ length (first_lines n lines) = omega (arith, count) in
+    record {
+      few = omega (arith, count, few);
+      digests = story_digests g;
+      belongs = record { of_game = refl; of_routines = inr refl };
+      keeps = subst (λ k. IsKept (story_digests g) k (reading g seed (first_lines n lines)) (recover bytes)) all kept;
+    }
+
+-- and those that it went on behind
+pub later_stands : (g : Story) (seed : ℕ) (es lines : List (List ℕ)) (digests : Digests) (name : List ℕ) (n : ℕ) (bytes : List ℕ) → IsOfStory g digests →
+    n ≤ length lines → length es + n ≤ EVENT_LIMIT → KeptBy (from_lines g seed es digests name) lines n bytes → Stands g seed (es ++ first_lines n lines) bytes
+later_stands g seed es lines digests name n bytes belongs there few kept =
+    let fs : List (List ℕ) = first_lines n lines in
+    let all : length (es ++ fs) ≡ length es + n = omega (arith, length-append es fs, count_lines n lines there) in
+    record {
+      few = omega (arith, all, few);
+      digests = digests;
+      belongs = belongs;
+      keeps = whole_kept digests (length es) (length (es ++ fs)) (length (es ++ fs)) (reading g seed (es ++ fs)) (recover bytes)
+          (pieces_of_lines g seed (es ++ fs)) (omega (arith, all))
+          (subst (λ m. IsKept digests m (reading_since g seed es fs) (recover bytes)) (sym all) kept);
+    }
+
+pub kept_lines_stand : KeptLinesStand
+kept_lines_stand = record { first = begun_stands; later = later_stands }
+
 -- ---- taking it up again ----
 
-module _ (g : Story) (seed : ℕ) (es : List (List ℕ)) (bytes : List ℕ) (st : State) (piece name : List ℕ) (played : IsPlayedWith g seed es)
-    (stands : Stands g seed es bytes)
-    (shows : ShowsState g.game (sha256 (image g.game)) bytes st piece) where
-  counts : st.events ≡ length es
-  counts = (standing_goes_on g seed es [] bytes st piece played stands shows).0
+-- the bytes show the state that a session goes on from
+pub record IsShown (g : Story) (name bytes : List ℕ) (s : PlayedSession) : Type 0 where
+  pub digests : Digests
+  pub belongs : IsOfStory g digests
+  pub state : State
+  pub piece : List ℕ
+  pub shows : ShowsState g.game digests bytes state piece
+  pub same : from_state g state piece digests name ≡ s
 
-  goes : (fs : List (List ℕ)) → going_on g st piece fs ≡ reading_since g seed es fs
-  goes fs = (standing_goes_on g seed es fs bytes st piece played stands shows).1
+same_session : (whole by : EndingOf) (before past : ℕ) (digests : Digests) (name : List ℕ) → whole ≡ by → before ≡ past →
+    ◌≡◌ {A = PlayedSession} (record { whole = whole; before = before; digests = digests; name = name })
+    (record { whole = by; before = past; digests = digests; name = name })
+same_session whole by before past digests name e f = cc
 
-  -- what the session keeps stands for the lines before and those since
-  kept_stands : (lines : List (List ℕ)) (n : ℕ) (left : List ℕ) → n ≤ length lines → st.events + n ≤ EVENT_LIMIT →
-      KeptBy (kept_session g st piece (sha256 (image g.game)) name) lines n left → StandsWith g seed es lines n left
-  kept_stands lines n left there few kept =
-      let fs : List (List ℕ) = first_lines n lines in
-      let all : length (es ++ fs) ≡ st.events + n = omega (arith, length-append es fs, count_lines n lines there, counts) in
-      record {
-        few = omega (arith, all, few);
-        keeps = whole_kept (sha256 (image g.game)) (length es) (length (es ++ fs)) (length (es ++ fs)) (reading g seed (es ++ fs)) (recover left)
-            (pieces_of_lines g seed (es ++ fs))
-            (omega (arith, length-append es fs))
-            (subst (λ m. IsKept (sha256 (image g.game)) m (reading_since g seed es fs) (recover left)) (sym all)
-            (subst (λ e. IsKept (sha256 (image g.game)) (st.events + n) e (recover left)) (goes fs) kept));
-      }
-
-  text_is : (lines : List (List ℕ)) (n : ℕ) → text_of (going_on g st piece (first_lines n lines)) ≡ text_since g seed es lines n
-  text_is lines n = ap text_of (goes (first_lines n lines)) ∙ text_since_is (length es) (reading g seed (es ++ first_lines n lines))
-
-  pub in_played_on : (old : Standing) (m : Moment) → InPlay (kept_session g st piece (sha256 (image g.game)) name) old m → InPlayedOn g seed es name old m
-  in_played_on old m i =
-      subst (λ past. InSession (StandsWith g seed es old.lines) (text_since g seed es old.lines) past name old m) counts
-      (in_session_by (KeptBy (kept_session g st piece (sha256 (image g.game)) name) old.lines) (StandsWith g seed es old.lines) st.events name old
-      (kept_stands old.lines)
-      (λ n. text_of (going_on g st piece (first_lines n old.lines))) (text_since g seed es old.lines) (text_is old.lines) m i)
-
-  going_plays : (old new : Standing) (o : PlayEnd) → PlaysOn (kept_session g st piece (sha256 (image g.game)) name) (EVENT_LIMIT - st.events) old new o →
-      PlaysWith (StandsWith g seed es old.lines) (reading_since g seed es) (length es) name (EVENT_LIMIT - length es) old new o
-  going_plays old new o p =
-      subst (λ whole. PlaysWith (StandsWith g seed es old.lines) whole (length es) name (EVENT_LIMIT - length es) old new o) (fun_ext goes)
-      (subst (λ past. PlaysWith (StandsWith g seed es old.lines) (going_on g st piece) past name (EVENT_LIMIT - past) old new o) counts
-      (plays_by (KeptBy (kept_session g st piece (sha256 (image g.game)) name) old.lines) (StandsWith g seed es old.lines) st.events name old
-      (kept_stands old.lines)
-      (going_on g st piece) (EVENT_LIMIT - st.events) new o p))
+pub is_shown : (g : Story) (name bytes : List ℕ) (s : PlayedSession) → GoesOnFrom g name bytes s → IsShown g name bytes s
+is_shown g name bytes _ (from_shown st piece digests belongs shows) =
+    record { digests = digests; belongs = belongs; state = st; piece = piece; shows = shows; same = refl }
+is_shown g name bytes _ (behind seed es played stands) =
+    let shown = shown_of g seed es bytes played stands in
+    let goes = λ (fs : List (List ℕ)). standing_goes_on g seed es fs bytes stands.digests shown.0 shown.1 played stands shown.2 in
+    record {
+      digests = stands.digests;
+      belongs = stands.belongs;
+      state = shown.0;
+      piece = shown.1;
+      shows = shown.2;
+      same = same_session (going_on g shown.0 shown.1) (reading_since g seed es) shown.0.events (length es) stands.digests name
+          (fun_ext (λ fs. (goes fs).1)) (goes []).0;
+    }
 
 -- ---- it is never refused ----
 
-never_refused : (digest bytes state piece : List ℕ) (r : JournalRefusal) → recover bytes ≡ Shown digest state piece → ¬ Refuses digest bytes r
-never_refused digest bytes state piece (refusal.Unmade n mark) is h = cc
-never_refused digest bytes state piece (refusal.Damaged part at) is h = cc
-never_refused digest bytes state piece (refusal.WrongGame kept found) is h =
-    let both : Shown kept h.0 h.1 ≡ Shown digest state piece = sym h.2 ∙ is in
-    let one : kept ≡ digest = cc in
-    h.3 one
-never_refused digest bytes state piece (refusal.Outside c) is h = h
+same_digests : (d e : Digests) (s p t q : List ℕ) → Shown d s p ≡ Shown e t q → d ≡ e
+same_digests d e s p t q h = cc
 
-same_state : (digest s p t q : List ℕ) → Shown digest s p ≡ Shown digest t q → s ≡ t
-same_state digest s p t q e = cc
+never_refused : (g : Story) (digests : Digests) (bytes state piece : List ℕ) (r : JournalRefusal) → IsOfStory g digests →
+    recover bytes ≡ Shown digests state piece → ¬ Refuses (story_digests g) bytes r
+never_refused g digests bytes state piece (refusal.Unmade n mark) of is h = cc
+never_refused g digests bytes state piece (refusal.Damaged part at) of is h = cc
+never_refused g digests bytes state piece (refusal.WrongGame kept found) of is h =
+    let one : h.0 ≡ digests = same_digests h.0 digests h.1 h.2 state piece (sym h.3 ∙ is) in
+    h.5 (h.4 ∙ ap (λ (d : Digests). d.game) one ∙ of.of_game)
+never_refused g digests bytes state piece (refusal.WrongRoutines kept found) of is h =
+    let one : h.0 ≡ digests = same_digests h.0 digests h.1 h.2 state piece (sym h.3 ∙ is) in
+    let mine : kept ≡ digests.routines = h.5 ∙ ap (λ (d : Digests). d.routines) one in
+    elim of.of_routines [
+      | inl none ↦ h.6 (mine ∙ none)
+      | inr own ↦ h.7 (mine ∙ own)
+    ]
+never_refused g digests bytes state piece (refusal.Outside c) of is h = h
+
+same_state : (d e : Digests) (s p t q : List ℕ) → Shown d s p ≡ Shown e t q → s ≡ t
+same_state d e s p t q h = cc
 
 -- a buffer that begins with the bytes of a state is fit
-is_fit : (g : GameLists) (digest bytes buffer piece q : List ℕ) (st : State) → ShowsState g digest bytes st q →
-    recover bytes ≡ Shown digest (take state_length buffer) piece → Fit g buffer
+is_fit : (g : GameLists) (d e : Digests) (bytes buffer piece q : List ℕ) (st : State) → ShowsState g d bytes st q →
+    recover bytes ≡ Shown e (take state_length buffer) piece → Fit g buffer
 unfolding kept_bytes
-is_fit g digest bytes buffer piece q st shows is =
+is_fit g d e bytes buffer piece q st shows is =
     record {
       state = st;
       keeps = shows.keeps;
       fits = shows.fits;
-      are = same_state digest (take state_length buffer) piece (state_bytes st) q
-          (sym is ∙ shows.shown);
+      are = same_state e d (take state_length buffer) piece (state_bytes st) q (sym is ∙ shows.shown);
     }
 
-module _ (g : Story) (seed : ℕ) (es : List (List ℕ)) (name : List ℕ) (old new : Standing) (played : IsPlayedWith g seed es)
-    (stands : Stands g seed es (store_bytes old name)) where
-  state_shown : ShowsSome g.game (store_bytes old name)
-  state_shown = standing_shows g seed es (store_bytes old name) played stands
+module _ (g : Story) (name : List ℕ) (old new : Standing) (valid : Valid g.game) (d : Digests) (of : IsOfStory g d) (st : State) (piece : List ℕ)
+    (shows : ShowsState g.game d (store_bytes old name) st piece) where
+  goes_up : (e : Digests) (o : PlayEnd) → Resumed g e name (attached_to old name) new o → GoesOn (from_state g st piece d name) old new o
+  goes_up e _ (memory is) = memory is
+  goes_up e _ (no_state at state q is unfit fault same) =
+      absurd (unfit (is_fit g.game d e (store_bytes old name) state q piece st shows is))
+  goes_up e _ (plays_on o t q other p) =
+      plays o (subst (λ (s : PlayedSession). PlaysOn s (EVENT_LIMIT - s.before) (attached_to old name) new o)
+      (one_state g e d (store_bytes old name) name t st q piece valid other shows) p)
 
-  goes_up : (o : PlayEnd) → PlaysUp g (sha256 (image g.game)) name (attached_to old name) new o → GoesOn g seed es name old new o
-  goes_up _ (memory e) = memory e
-  goes_up _ (no_state at state piece is unfit fault e) =
-      absurd (unfit (is_fit g.game (sha256 (image g.game)) (store_bytes old name) state piece state_shown.piece state_shown.state state_shown.shows is))
-  goes_up _ (plays_on o st piece shows p) = plays o
-      (going_plays g seed es (store_bytes old name) st piece name played stands shows (attached_to old name) new o p)
+  goes_again : (o : PlayEnd) → PlaysAgain g name old new o → GoesOn (from_state g st piece d name) old new o
+  goes_again _ (unattached u) = unattached u
+  goes_again _ (unread e) = unread e
+  goes_again _ (wanting e) = memory e
+  goes_again _ (refused r h e) = absurd (never_refused g d (store_bytes old name) (kept_bytes st) piece r of shows.shown h)
+  goes_again _ (plays_up o e mine up) = goes_up e o up
 
-  -- what taking up the session comes to
-  pub standing_again : (o : PlayEnd) → PlaysAgain g (sha256 (image g.game)) name old new o → GoesOn g seed es name old new o
-  standing_again _ (unattached u) = unattached u
-  standing_again _ (unread e) = unread e
-  standing_again _ (wanting e) = memory e
-  standing_again _ (refused r h e) =
-      absurd (never_refused (sha256 (image g.game)) (store_bytes old name) (state_after (length es) (reading g seed es)) _ r stands.keeps.shown h)
-  standing_again _ (plays_up o up) = goes_up o up
+-- what taking up a session comes to that goes on from the bytes of its store
+pub again_goes_on : (g : Story) (name : List ℕ) (old new : Standing) (s : PlayedSession) → Valid g.game → GoesOnFrom g name (store_bytes old name) s →
+    (o : PlayEnd) → PlaysAgain g name old new o → GoesOn s old new o
+again_goes_on g name old new s valid from o p =
+    let k = is_shown g name (store_bytes old name) s from in
+    subst (λ q. GoesOn q old new o) k.same (goes_again g name old new valid k.digests k.belongs k.state k.piece k.shows o p)

@@ -1,53 +1,61 @@
 -- What the store of a session keeps, moment by moment and at its end.
 --
--- Here `Kept n bytes` says that these bytes of the store keep the first n lines that are left when a call begins, and
--- `told n` is the text for them. `past` is the number of lines that the session took before.
+-- The lines are those that are left when a call begins.
 use Rattle.std.specs.Prelude.{◌≡◌, ◌≢◌, ◌⊎◌, ℕ, zero, suc, ◌+◌, ◌≤◌, List, ◌++◌, length, Some}
 use Rattle.paw_base.specs.declared.limits.TheConstants.{EVENT_LIMIT}
 use Rattle.paw_stage.specs.Disk.{MayLeave, IsStable}
 use Rattle.paw_stage.specs.Stage.{Standing}
 use Rattle.paw_stage.specs.Moments.{Moment}
 use Rattle.paw_stage.specs.declared.StageCall.TheVariants as call
-use Rattle.paw_journal.specs.Session.{IsUnmade, recover, kept_digest}
+use Rattle.paw_journal.specs.Session.{IsUnmade, recover}
 use Rattle.paw_play.specs.declared.PlayEnd.{PlayEnd}
 use Rattle.paw_play.specs.declared.PlayEnd.TheVariants as end
-use Rattle.paw_play.specs.Walk.{EndingOf, told_before}
+use Rattle.paw_play.specs.Session.{IsKept}
+use Rattle.paw_play.specs.Walk.{first_lines, text_for, text_before}
+use Rattle.paw_play.specs.Played.{PlayedSession}
 use Rattle.paw_play.specs.Written.{bytes_before, bytes_after}
 
+-- the bytes of a store keep the session's reading of the first n lines
+abbrev pub KeptBy : PlayedSession → List (List ℕ) → ℕ → List ℕ → Type 0
+KeptBy s lines n bytes = IsKept s.digests (s.before + n) (s.whole (first_lines n lines)) (recover bytes)
+
 -- the bytes keep n lines, and this text is a first part of theirs
-abbrev pub AgreesWith : (ℕ → List ℕ → Type 0) → (ℕ → List ℕ) → ℕ → List ℕ → List ℕ → Type 0
-AgreesWith Kept told n text bytes = Kept n bytes × ((rest : List ℕ) × (text ++ rest ≡ told n))
+abbrev pub AgreesWith : PlayedSession → List (List ℕ) → ℕ → List ℕ → List ℕ → Type 0
+AgreesWith s lines n text bytes = KeptBy s lines n bytes × ((rest : List ℕ) × (text ++ rest ≡ text_for s.whole lines n))
 
 -- the bytes keep the n lines that were taken, or all but the last
-abbrev pub KeepsUpWith : (ℕ → List ℕ → Type 0) → (ℕ → List ℕ) → ℕ → List ℕ → List ℕ → Type 0
-KeepsUpWith Kept told zero text bytes = AgreesWith Kept told zero text bytes
-KeepsUpWith Kept told (suc n) text bytes = AgreesWith Kept told (suc n) text bytes ⊎ AgreesWith Kept told n text bytes
+abbrev pub KeepsUpWith : PlayedSession → List (List ℕ) → ℕ → List ℕ → List ℕ → Type 0
+KeepsUpWith s lines zero text bytes = AgreesWith s lines zero text bytes
+KeepsUpWith s lines (suc n) text bytes = AgreesWith s lines (suc n) text bytes ⊎ AgreesWith s lines n text bytes
 
 -- A moment at which a session stands. Since the call began n lines were taken, and a text was shown that holds the text
 -- for all but the last of them. Whatever a crash leaves of the store keeps up with them, and the text is a first part
 -- of what it keeps. No other file has changed.
-pub record InSession (Kept : ℕ → List ℕ → Type 0) (told : ℕ → List ℕ) (past : ℕ) (name : List ℕ) (old : Standing)
-    (m : Moment) : Type 0 where
+pub record InPlay (s : PlayedSession) (old : Standing) (m : Moment) : Type 0 where
   pub taken : ℕ
   pub text : List ℕ
   pub last : List ℕ
   pub there : taken ≤ length old.lines
-  pub few : past + taken ≤ EVENT_LIMIT
+  pub few : s.before + taken ≤ EVENT_LIMIT
   pub asked : m.asked ≡ old.asked + taken
   pub shown : m.shown ≡ old.shown ++ text
-  pub before : text ≡ told_before told taken ++ last
-  pub attached : m.attached ≡ Some name
-  pub files : (n : List ℕ) → n ≢ name → m.files n ≡ old.files n
-  pub leaves : (image : List ℕ) → MayLeave m.disk image → KeepsUpWith Kept told taken text image
+  pub before : text ≡ text_before s.whole old.lines taken ++ last
+  pub attached : m.attached ≡ Some s.name
+  pub files : (n : List ℕ) → n ≢ s.name → m.files n ≡ old.files n
+  pub leaves : (image : List ℕ) → MayLeave m.disk image → KeepsUpWith s old.lines taken text image
 
 -- A moment at which a session is made: whatever a crash leaves of the store is no session, or keeps no lines yet.
 -- Nothing was asked or shown, and no other file has changed.
-pub record InMakingOf (Kept : ℕ → List ℕ → Type 0) (name : List ℕ) (old : Standing) (m : Moment) : Type 0 where
+pub record InMaking (s : PlayedSession) (old : Standing) (m : Moment) : Type 0 where
   pub asked : m.asked ≡ old.asked
   pub shown : m.shown ≡ old.shown
-  pub attached : m.attached ≡ Some name
-  pub files : (n : List ℕ) → n ≢ name → m.files n ≡ old.files n
-  pub leaves : (image : List ℕ) → MayLeave m.disk image → IsUnmade (recover image) ⊎ Kept 0 image
+  pub attached : m.attached ≡ Some s.name
+  pub files : (n : List ℕ) → n ≢ s.name → m.files n ≡ old.files n
+  pub leaves : (image : List ℕ) → MayLeave m.disk image → IsUnmade (recover image) ⊎ KeptBy s old.lines 0 image
+
+-- a moment of a new session once its store is attached: it is being made, or it is played
+abbrev pub InNewSession : PlayedSession → Standing → Moment → Type 0
+InNewSession s old m = InMaking s old m ⊎ InPlay s old m
 
 -- The store is attached, its file has its bytes, and no other file has changed.
 pub record StaysAttached (name : List ℕ) (old new : Standing) : Type 0 where
@@ -57,38 +65,34 @@ pub record StaysAttached (name : List ℕ) (old new : Standing) : Type 0 where
 
 -- The store is attached and at rest: a crash leaves just its bytes, which are those of its file. They keep n lines, and
 -- are those that as many commits make of the bytes before the first line. No other file has changed.
-pub record RestsWith (Kept : ℕ → List ℕ → Type 0) (whole : EndingOf) (past : ℕ) (name : List ℕ) (old new : Standing)
-    (n : ℕ) : Type 0 where
+pub record RestsWith (s : PlayedSession) (old new : Standing) (n : ℕ) : Type 0 where
   pub there : n ≤ length old.lines
-  pub few : past + n ≤ EVENT_LIMIT
-  pub attached : new.attached ≡ Some name
+  pub few : s.before + n ≤ EVENT_LIMIT
+  pub attached : new.attached ≡ Some s.name
   pub stable : IsStable new.disk
-  pub file : new.files name ≡ Some new.disk.bytes
-  pub others : (f : List ℕ) → f ≢ name → new.files f ≡ old.files f
-  pub keeps : Kept n new.disk.bytes
-  pub bytes : new.disk.bytes ≡
-      bytes_after whole past old.lines n (bytes_before whole (kept_digest new.disk.bytes) old.disk.bytes)
+  pub file : new.files s.name ≡ Some new.disk.bytes
+  pub others : (f : List ℕ) → f ≢ s.name → new.files f ≡ old.files f
+  pub keeps : KeptBy s old.lines n new.disk.bytes
+  pub bytes : new.disk.bytes ≡ bytes_after s old.lines n (bytes_before s old.disk.bytes)
 
 -- the store keeps all lines that were taken
-abbrev pub KeepsAll : (ℕ → List ℕ → Type 0) → EndingOf → ℕ → List ℕ → Standing → Standing → Type 0
-KeepsAll Kept whole past name old new =
-    (n : ℕ) × (new.asked ≡ old.asked + n) × RestsWith Kept whole past name old new n
+abbrev pub KeepsAll : PlayedSession → Standing → Standing → Type 0
+KeepsAll s old new = (n : ℕ) × (new.asked ≡ old.asked + n) × RestsWith s old new n
 
 -- the store keeps all lines that were taken but the last
-abbrev pub KeepsAllButLast : (ℕ → List ℕ → Type 0) → EndingOf → ℕ → List ℕ → Standing → Standing → Type 0
-KeepsAllButLast Kept whole past name old new =
-    (n : ℕ) × (new.asked ≡ old.asked + suc n) × RestsWith Kept whole past name old new n
+abbrev pub KeepsAllButLast : PlayedSession → Standing → Standing → Type 0
+KeepsAllButLast s old new = (n : ℕ) × (new.asked ≡ old.asked + suc n) × RestsWith s old new n
 
 -- What the store keeps where playing on came to this. Where a commit failed its bytes aren't told here: the moments of
 -- the call tell what a crash leaves of them.
-abbrev pub LeavesStore : (ℕ → List ℕ → Type 0) → EndingOf → ℕ → List ℕ → Standing → Standing → PlayEnd → Type 0
-LeavesStore Kept whole past name old new end.Ended = KeepsAll Kept whole past name old new
-LeavesStore Kept whole past name old new end.InputEnded = KeepsAll Kept whole past name old new
-LeavesStore Kept whole past name old new (end.Long events) = KeepsAll Kept whole past name old new
-LeavesStore Kept whole past name old new (end.Outside call.Ask) = KeepsAll Kept whole past name old new
-LeavesStore Kept whole past name old new (end.Outside call.Show) = KeepsAll Kept whole past name old new
-LeavesStore Kept whole past name old new (end.Spent kind) = KeepsAllButLast Kept whole past name old new
-LeavesStore Kept whole past name old new (end.TooDeep table) = KeepsAllButLast Kept whole past name old new
-LeavesStore Kept whole past name old new (end.Outside call.Write) = StaysAttached name old new
-LeavesStore Kept whole past name old new (end.Outside call.Sync) = StaysAttached name old new
-LeavesStore Kept whole past name old new _ = Unit {0}
+abbrev pub LeavesStore : PlayedSession → Standing → Standing → PlayEnd → Type 0
+LeavesStore s old new end.Ended = KeepsAll s old new
+LeavesStore s old new end.InputEnded = KeepsAll s old new
+LeavesStore s old new (end.Long events) = KeepsAll s old new
+LeavesStore s old new (end.Outside call.Ask) = KeepsAll s old new
+LeavesStore s old new (end.Outside call.Show) = KeepsAll s old new
+LeavesStore s old new (end.Spent kind) = KeepsAllButLast s old new
+LeavesStore s old new (end.TooDeep table) = KeepsAllButLast s old new
+LeavesStore s old new (end.Outside call.Write) = StaysAttached s.name old new
+LeavesStore s old new (end.Outside call.Sync) = StaysAttached s.name old new
+LeavesStore s old new _ = Unit {0}

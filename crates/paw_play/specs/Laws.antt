@@ -1,9 +1,6 @@
 -- The laws of sessions.
 use Rattle.std.specs.Prelude.{◌≡◌, ◌≢◌, ◌⊎◌, ℕ, suc, ◌+◌, ◌^◌, ◌<◌, ◌≤◌, List, [], ◌∷◌, ◌++◌, length, drop, All, Some}
-use Rattle.sha2.specs.Sha256.{sha256}
-use Rattle.paw_game.specs.Game.{GameLists}
 use Rattle.paw_effects.specs.Story.{Story}
-use Rattle.paw_game.specs.Image.{image}
 use Rattle.paw_base.specs.declared.limits.TheConstants.{EVENT_LIMIT}
 use Rattle.paw_stage.specs.Disk.{MayLeave}
 use Rattle.paw_stage.specs.Stage.{Standing, bytes_or_none}
@@ -15,32 +12,47 @@ use Rattle.paw_reading.specs.declared.places.Frame.{Frame}
 use Rattle.paw_reading.specs.Run.{Run}
 use Rattle.paw_reading.specs.Turn.{WaitsAt, reading, pieces_of}
 use Rattle.paw_reading.specs.Bounds.{ValidStory}
-use Rattle.paw_journal.specs.Session.{IsUnmade, recover}
+use Rattle.paw_journal.specs.Session.{Digests, IsUnmade, recover}
 use Rattle.paw_state.specs.State.{State, Keeps, FitsFields}
 use Rattle.paw_state.specs.Record.{last_piece, state_at}
 use Rattle.paw_play.specs.declared.PlayEnd.{PlayEnd}
 use Rattle.paw_play.specs.declared.PlayEnd.TheVariants as end
 use Rattle.paw_play.specs.Walk.{first_lines}
+use Rattle.paw_play.specs.Session.{IsOfStory}
 use Rattle.paw_play.specs.Stands.{Stands, IsPlayedWith, reading_since}
-use Rattle.paw_play.specs.Play.{ShowsState, going_on, store_bytes, NotYet, InNewGame, PlaysGame, InPlayedOn, GoesOn}
+use Rattle.paw_play.specs.Played.{PlayedSession, ShowsState, begun, from_lines, going_on}
+use Rattle.paw_play.specs.Keeping.{KeptBy, InPlay, InNewSession}
+use Rattle.paw_play.specs.Play.{store_bytes, NotYet, NewSession, GoesOn}
 
--- the bytes show a state of the game that keeps all its rules, and a piece
-pub record ShowsSome (g : GameLists) (bytes : List ℕ) : Type 0 where
+-- the bytes hold a session of the story, which shows a state of the game that keeps all its rules, and a piece
+pub record ShowsSome (g : Story) (bytes : List ℕ) : Type 0 where
+  pub digests : Digests
+  pub belongs : IsOfStory g digests
   pub state : State
   pub piece : List ℕ
-  pub shows : ShowsState g (sha256 (image g)) bytes state piece
+  pub shows : ShowsState g.game digests bytes state piece
 
 -- a store that stands for some lines shows a state of the game that keeps all its rules
 abbrev pub StandingShows : Type 0
 StandingShows = (g : Story) (seed : ℕ) (es : List (List ℕ)) (bytes : List ℕ) → IsPlayedWith g seed es →
-    Stands g seed es bytes → ShowsSome g.game bytes
+    Stands g seed es bytes → ShowsSome g bytes
 
 -- going on from the state that it shows is reading the longer list of lines, from the last piece of the former on
 abbrev pub StandingGoesOn : Type 0
 StandingGoesOn =
-    (g : Story) (seed : ℕ) (es fs : List (List ℕ)) (bytes : List ℕ) (st : State) (piece : List ℕ) →
-    IsPlayedWith g seed es → Stands g seed es bytes → ShowsState g.game (sha256 (image g.game)) bytes st piece →
+    (g : Story) (seed : ℕ) (es fs : List (List ℕ)) (bytes : List ℕ) (digests : Digests) (st : State)
+    (piece : List ℕ) → IsPlayedWith g seed es → Stands g seed es bytes → ShowsState g.game digests bytes st piece →
     (st.events ≡ length es) × (going_on g st piece fs ≡ reading_since g seed es fs)
+
+-- Bytes that keep the first n lines of a session stand for them: where it was begun for just these, and where it went on
+-- behind others for those and these.
+pub record KeptLinesStand : Type 0 where
+  pub first : (g : Story) (seed : ℕ) (lines : List (List ℕ)) (name : List ℕ) (n : ℕ) (bytes : List ℕ) →
+      n ≤ length lines → n ≤ EVENT_LIMIT → KeptBy (begun g seed name) lines n bytes →
+      Stands g seed (first_lines n lines) bytes
+  pub later : (g : Story) (seed : ℕ) (es lines : List (List ℕ)) (digests : Digests) (name : List ℕ) (n : ℕ)
+      (bytes : List ℕ) → IsOfStory g digests → n ≤ length lines → length es + n ≤ EVENT_LIMIT →
+      KeptBy (from_lines g seed es digests name) lines n bytes → Stands g seed (es ++ first_lines n lines) bytes
 
 -- ---- going on ----
 
@@ -101,16 +113,24 @@ abbrev pub StopsWith : (Moment → Type 0) → (Standing → PlayEnd → Type 0)
 StopsWith Inside Comes name left (cut_at m) = Inside m × MayBeLeft name m left
 StopsWith Inside Comes name left (came_to new o) = Comes new o × AtRest o × (left ≡ store_bytes new name)
 
+-- a round is played so: what stands at its moments once its store is attached, and what it comes to
+abbrev pub PlaysUntil : (Moment → Type 0) → (Standing → PlayEnd → Type 0) → Round → Type 0
+PlaysUntil Inside Comes r = StopsWith (λ m. NotYet r.name r.old m ⊎ Inside m) Comes r.name r.left r.stop
+
+-- a round in which a session is taken up again
+abbrev pub GoesOnUntil : PlayedSession → Round → Type 0
+GoesOnUntil s r = PlaysUntil (InPlay s r.old) (GoesOn s r.old) r
+
 -- the first round: the game is played from its start, over a file that is missing or empty
 abbrev pub IsFirstRound : Story → ℕ → Round → Type 0
 IsFirstRound g seed r = BeginsOver [] r
-    × StopsWith (λ m. NotYet r.name r.old m ⊎ InNewGame g seed r.name r.old m) (PlaysGame g seed r.name r.old) r.name r.left r.stop
+    × PlaysUntil (InNewSession (begun g seed r.name) r.old) (NewSession (begun g seed r.name) r.old) r
 
--- a later round: the session of these bytes is taken up again, and goes on from whatever lines they stand for
+-- a later round: the session of these bytes is taken up again, and goes on behind whatever lines they stand for
 abbrev pub IsLaterRound : Story → ℕ → List ℕ → Round → Type 0
 IsLaterRound g seed bytes r = BeginsOver bytes r
-    × ((es : List (List ℕ)) → IsPlayedWith g seed es → Stands g seed es bytes →
-    StopsWith (λ m. NotYet r.name r.old m ⊎ InPlayedOn g seed es r.name r.old m) (GoesOn g seed es r.name r.old) r.name r.left r.stop)
+    × ((es : List (List ℕ)) → IsPlayedWith g seed es → (stands : Stands g seed es bytes) →
+    GoesOnUntil (from_lines g seed es stands.digests r.name) r)
 
 -- later rounds one after the other, each over what the one before left
 abbrev pub AreRounds : Story → ℕ → List ℕ → List Round → Type 0

@@ -3,6 +3,7 @@ pub mod Walk
 pub mod Traces
 pub mod Session
 pub mod Stands
+pub mod Played
 pub mod Written
 pub mod Keeping
 pub mod Play

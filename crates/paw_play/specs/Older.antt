@@ -1,30 +1,30 @@
 -- Sessions of version 1, of which the states have no kept positions.
 use Rattle.std.specs.Prelude.{◌≡◌, ℕ, ◌≤◌, false, List, length, take}
-use Rattle.sha2.specs.Sha256.{sha256}
 use Rattle.paw_base.specs.declared.limits.TheConstants.{EVENT_LIMIT}
-use Rattle.paw_game.specs.Image.{image}
 use Rattle.paw_effects.specs.Story.{Story}
 use Rattle.paw_reading.specs.Turn.{Ending, reading, pieces_of}
 use Rattle.paw_reading.specs.Saving.{NeverSaves}
-use Rattle.paw_journal.specs.Session.{Shown, recover, chosen, slot, is_second, first_length}
+use Rattle.paw_journal.specs.Session.{Digests, Shown, recover, chosen, slot, is_second, first_length}
 use Rattle.paw_state.specs.Record.{last_piece}
-use Rattle.paw_play.specs.Session.{state_after, IsPlayed}
+use Rattle.paw_play.specs.Session.{IsOfStory, state_after, IsPlayed}
 use Rattle.paw_play.specs.Stands.{Stands, IsPlayedWith}
 
--- The slot in use is of version 1. It shows a state of the game with this digest, whose first 1,371 bytes are those of
--- the state where a reading ended after so many lines, and the last piece of the reading.
-pub record KeepsAsOlder (digest : List ℕ) (events : ℕ) (e : Ending) (bytes : List ℕ) : Type 0 where
+-- The slot in use is of version 1. It shows a state in a session with these digests, whose first 1,371 bytes are those
+-- of the state where a reading ended after so many lines, and the last piece of the reading.
+pub record KeepsAsOlder (digests : Digests) (events : ℕ) (e : Ending) (bytes : List ℕ) : Type 0 where
   pub played : IsPlayed e
   pub first : is_second (slot (chosen bytes) bytes) ≡ false
   pub state : List ℕ
-  pub shown : recover bytes ≡ Shown digest state (last_piece (pieces_of e))
+  pub shown : recover bytes ≡ Shown digests state (last_piece (pieces_of e))
   pub same : take first_length state ≡ take first_length (state_after events e)
 
--- The bytes of a store are those of an older session for these lines of a game that was begun with this seed: a session
--- has room for them, and it keeps the reading of them all, but for positions.
+-- The bytes of a store are those of an older session for these lines of a story that was begun with this seed: a session
+-- has room for them, and it is one of the story that keeps the reading of them all, but for positions.
 pub record IsOlderSession (g : Story) (seed : ℕ) (es : List (List ℕ)) (bytes : List ℕ) : Type 0 where
   pub few : length es ≤ EVENT_LIMIT
-  pub keeps : KeepsAsOlder (sha256 (image g.game)) (length es) (reading g seed es) bytes
+  pub digests : Digests
+  pub belongs : IsOfStory g digests
+  pub keeps : KeepsAsOlder digests (length es) (reading g seed es) bytes
 
 -- In a game that never saves an older session stands for its lines: no position is missing.
 abbrev pub OlderSessionsStand : Type 0

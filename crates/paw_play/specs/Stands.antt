@@ -1,37 +1,27 @@
 -- What the bytes of a store stand for, and a reading told from one of its pieces on.
 use Rattle.std.specs.Prelude.{ℕ, suc, ◌^◌, ◌<◌, ◌≤◌, List, ◌++◌, length, drop, All}
-use Rattle.std.specs.List.{concat}
-use Rattle.sha2.specs.Sha256.{sha256}
 use Rattle.paw_base.specs.declared.limits.TheConstants.{EVENT_LIMIT}
 use Rattle.paw_effects.specs.Story.{Story}
-use Rattle.paw_game.specs.Image.{image}
 use Rattle.paw_reading.specs.Run.{Run}
-use Rattle.paw_reading.specs.Turn.{Ending, WaitsAt, Halted, Unended, reading, pieces_of}
+use Rattle.paw_reading.specs.Turn.{Ending, WaitsAt, Halted, Unended, reading}
 use Rattle.paw_reading.specs.Bounds.{IsLine, ValidStory}
-use Rattle.paw_journal.specs.Session.{recover}
-use Rattle.paw_play.specs.Session.{IsKept}
-use Rattle.paw_play.specs.Walk.{EndingOf, first_lines}
+use Rattle.paw_journal.specs.Session.{Digests, recover}
+use Rattle.paw_play.specs.Session.{IsOfStory, IsKept}
+use Rattle.paw_play.specs.Walk.{EndingOf}
 
--- The bytes of a store stand for these lines of a game that was begun with this seed: a session has room for them, and
--- it keeps the reading of them all
+-- The bytes of a store stand for these lines of a story that was begun with this seed: a session has room for them, and
+-- the bytes hold one of the story, with these digests, that keeps the reading of them all.
 pub record Stands (g : Story) (seed : ℕ) (es : List (List ℕ)) (bytes : List ℕ) : Type 0 where
   pub few : length es ≤ EVENT_LIMIT
-  pub keeps : IsKept (sha256 (image g.game)) (length es) (reading g seed es) (recover bytes)
+  pub digests : Digests
+  pub belongs : IsOfStory g digests
+  pub keeps : IsKept digests (length es) (reading g seed es) (recover bytes)
 
 -- a valid story is played with a seed of 64 bits and these lines, each of at most 255 bytes
 pub record IsPlayedWith (g : Story) (seed : ℕ) (es : List (List ℕ)) : Type 0 where
   pub valid : ValidStory g
   pub fits : seed < 2 ^ 64
   pub lines : All IsLine es
-
--- the bytes stand for the lines es and the first n of others
-abbrev pub StandsWith : Story → ℕ → List (List ℕ) → List (List ℕ) → ℕ → List ℕ → Type 0
-StandsWith g seed es lines n bytes = Stands g seed (es ++ first_lines n lines) bytes
-
--- the text of these, from the last piece of es on
-abbrev pub text_since : Story → ℕ → List (List ℕ) → List (List ℕ) → ℕ → List ℕ
-text_since g seed es lines n =
-    concat (drop (length es) (pieces_of (reading g seed (es ++ first_lines n lines))))
 
 -- ---- a reading from one of its pieces on ----
 

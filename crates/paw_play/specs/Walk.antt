@@ -29,25 +29,24 @@ pub record TakesLines (whole : EndingOf) (old new : Standing) (n : ℕ) (e : End
   pub there : n ≤ length old.lines
   pub stands : new ≡ advanced old n (text_of e)
 
--- where this is the text for each number of lines: that for all but the last of n lines. Before the first line no text
--- was shown
-abbrev pub told_before : (ℕ → List ℕ) → ℕ → List ℕ
-told_before told zero = []
-told_before told (suc n) = told n
+-- the text for the first n lines
+abbrev pub text_for : EndingOf → List (List ℕ) → ℕ → List ℕ
+text_for whole lines n = text_of (whole (first_lines n lines))
 
--- the text for all but the last of n lines
+-- the text for all but the last of n lines. Before the first line no text was shown
 abbrev pub text_before : EndingOf → List (List ℕ) → ℕ → List ℕ
-text_before whole lines n = told_before (λ k. text_of (whole (first_lines k lines))) n
+text_before whole lines zero = []
+text_before whole lines (suc n) = text_for whole lines n
 
 -- n lines were taken, and a first part of the text of their reading was shown: the text for all but the last, and a
 -- part of the piece that the last one brings, which isn't empty
 pub record PartShown (whole : EndingOf) (old new : Standing) (n : ℕ) : Type 0 where
   pub shown : List ℕ
   pub rest : List ℕ
-  pub part : shown ++ rest ≡ text_of (whole (first_lines n old.lines))
+  pub part : shown ++ rest ≡ text_for whole old.lines n
   pub last : List ℕ
   pub before : shown ≡ text_before whole old.lines n ++ last
-  pub grows : length (text_before whole old.lines n) < length (text_of (whole (first_lines n old.lines)))
+  pub grows : length (text_before whole old.lines n) < length (text_for whole old.lines n)
   pub there : n ≤ length old.lines
   pub stands : new ≡ advanced old n shown
 

@@ -5,22 +5,23 @@ use Rattle.paw_reading.specs.Turn.{Ending, pieces_of}
 use Rattle.paw_journal.specs.Session.{base_length, state_length, made_session, committed}
 use Rattle.paw_state.specs.Record.{last_piece}
 use Rattle.paw_play.specs.Session.{state_after}
-use Rattle.paw_play.specs.Walk.{EndingOf, first_lines}
+use Rattle.paw_play.specs.Walk.{first_lines}
+use Rattle.paw_play.specs.Played.{PlayedSession}
 
 -- the state where a reading ended, after so many lines, as it is written: zeros stand behind it
 abbrev pub base_after : ℕ → Ending → List ℕ
 base_after events e = state_after events e ++ zeros (base_length - state_length)
 
--- the bytes of a store before the first line: those that it had; where it had none, those of a session of the game with
--- this digest as it is made
-abbrev pub bytes_before : EndingOf → List ℕ → List ℕ → List ℕ
-bytes_before whole digest [] = made_session digest (base_after 0 (whole [])) (last_piece (pieces_of (whole [])))
-bytes_before whole digest (b ∷ bytes) = b ∷ bytes
+-- the bytes of a session's store before the first line: those that it had; where it had none, those of the session as
+-- it is made
+abbrev pub bytes_before : PlayedSession → List ℕ → List ℕ
+bytes_before s [] = made_session s.digests (base_after 0 (s.whole [])) (last_piece (pieces_of (s.whole [])))
+bytes_before s (b ∷ bytes) = b ∷ bytes
 
--- what these bytes of a store become with the first n lines: by one commit for each, of the state where the reading of
--- the lines up to it ends, and of its last piece
-abbrev pub bytes_after : EndingOf → ℕ → List (List ℕ) → ℕ → List ℕ → List ℕ
-bytes_after whole past lines zero bytes = bytes
-bytes_after whole past lines (suc n) bytes =
-    committed (base_after (past + suc n) (whole (first_lines (suc n) lines)))
-    (last_piece (pieces_of (whole (first_lines (suc n) lines)))) (bytes_after whole past lines n bytes)
+-- what these bytes of a store become with the first n lines of the session: by one commit for each, of the state where
+-- the reading of the lines up to it ends, and of its last piece
+abbrev pub bytes_after : PlayedSession → List (List ℕ) → ℕ → List ℕ → List ℕ
+bytes_after s lines zero bytes = bytes
+bytes_after s lines (suc n) bytes =
+    committed (base_after (s.before + suc n) (s.whole (first_lines (suc n) lines)))
+    (last_piece (pieces_of (s.whole (first_lines (suc n) lines)))) (bytes_after s lines n bytes)

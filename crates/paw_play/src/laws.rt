@@ -1,6 +1,6 @@
 // The laws of sessions.
 
-ghost use Rattle.paw_play.specs.Laws.{StandingShows, StandingGoesOn, GoingOnIsTheReading, RoundsStand};
+ghost use Rattle.paw_play.specs.Laws.{StandingShows, StandingGoesOn, KeptLinesStand, GoingOnIsTheReading, RoundsStand};
 ghost use Rattle.paw_play.specs.Older.{OlderSessionsStand};
 
 /// A store that stands for lines of a game shows a state that keeps all rules, so it is never refused.
@@ -12,6 +12,11 @@ pub fn standing_shows()
 /// follow, from the last piece of the former on.
 pub fn standing_goes_on()
     ensures goes_on { StandingGoesOn }
+{}
+
+/// What a store keeps of a session stands for its lines: those that it went on behind, and those that it took.
+pub fn kept_lines_stand()
+    ensures stand { KeptLinesStand }
 {}
 
 /// Going on from the state in which the reading of some lines waits is the reading of those lines and the ones that

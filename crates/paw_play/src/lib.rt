@@ -2,7 +2,7 @@
 #![tactic(auto)]
 
 pub mod laws;
-mod line;
+pub mod line;
 pub mod play;
 pub mod preface;
 pub mod resume;

@@ -1,20 +1,19 @@
 // Playing with a session: each line is taken, committed and then shown.
 
-ghost use Rattle.std.specs.Prelude.{◌≡◌, ◌+◌, ◌<◌, ◌≤◌, ◌^◌, take, length, IfOk, IfErr};
+ghost use Rattle.std.specs.Prelude.{◌≡◌, ◌+◌, ◌*◌, ◌<◌, ◌≤◌, take, length, IfOk, IfErr};
 ghost use Rattle.paw_base.specs.declared.limits.TheConstants.{EVENT_LIMIT, READ_LIMIT};
 ghost use Rattle.paw_stage.specs.Across.{Across, EachMoment, Serves};
 ghost use Rattle.paw_stage.specs.inner.Across.{Once, Throughout};
-ghost use Rattle.paw_routines.specs.Routines.{HaveRows};
 ghost use Rattle.paw_turn.specs.inner.Player.{IsSeated};
 ghost use Rattle.paw_turn.specs.inner.Parts.{IsStanding};
 ghost use Rattle.paw_journal.specs.Session.{state_length, piece_length};
 ghost use Rattle.paw_journal.specs.inner.Store.{IsBeside};
-ghost use Rattle.paw_journal.specs.inner.Steps.{SameDigest};
+ghost use Rattle.paw_journal.specs.inner.Steps.{SameDigests};
 ghost use Rattle.paw_journal.specs.Journal.{writing_calls};
 ghost use Rattle.paw_journal.specs.inner.Journal.{KeptIn, failed_stage_call};
-ghost use Rattle.paw_play.specs.Play.{InPlay};
+ghost use Rattle.paw_play.specs.Keeping.{InPlay};
 ghost use Rattle.paw_play.specs.inner.OnTheWay.{EachStory, EachPlaying, Commits, InCommit, Writes, PlaysTo};
-ghost use Rattle.paw_play.specs.inner.OnTheWay.{seat_state, seat_base};
+ghost use Rattle.paw_play.specs.inner.OnTheWay.{seat_state, seat_base, MayPlay, StillPlays, HoldsSession};
 ghost use Rattle.paw_play.specs.Calls.{play_calls};
 ghost use Rattle.paw_play.specs.inner.Calls.{IsNotForCall, failed_or, unless_ended};
 
@@ -36,7 +35,7 @@ pub(crate) struct Session {
 }
 
 /// Puts the bytes of the player's state, after so many lines, and zeros behind them.
-pub(crate) fn put_state<T: Tables, F: Fn(u8, u8) -> u8>(
+pub fn put_state<T: Tables, F: Fn(u8, u8) -> u8>(
     player: &Player<'_, T, F>,
     events: u64,
     into: &mut [u8; STATE_ROOM],
@@ -58,7 +57,10 @@ pub(crate) fn put_state<T: Tables, F: Fn(u8, u8) -> u8>(
 }
 
 /// Commits the player's state and its last piece, after so many lines.
-fn commit<S: Stage, T: Tables, F: Fn(u8, u8) -> u8>(
+///
+/// # Errors
+/// Write or Sync where that call of the stage failed.
+pub fn commit<S: Stage, T: Tables, F: Fn(u8, u8) -> u8>(
     stage: &mut S,
     player: &Player<'_, T, F>,
     room: &mut Room,
@@ -72,7 +74,7 @@ fn commit<S: Stage, T: Tables, F: Fn(u8, u8) -> u8>(
     ensures exact { Once S.Stage stage.old stage.new result (Writes events player.now) }
     ensures shown { Once S.Stage stage.old stage.new result (Commits events player.now) }
     ensures kept { S.Tells stage.old → IfOk result (λ kept. KeptIn kept room.new (S.standing stage.new)) }
-    ensures digest { Once S.Stage stage.old stage.new result SameDigest }
+    ensures digests { Once S.Stage stage.old stage.new result SameDigests }
     ensures beside { Across S.Stage stage.old stage.new IsBeside }
     ensures any_moment { Throughout S.Stage stage.old stage.new (InCommit events player.now) }
 {
@@ -98,19 +100,14 @@ pub(crate) fn play_line<S: Stage, T: Tables, F: Fn(u8, u8) -> u8>(
     room: &mut Room,
     session: Session,
 ) -> Result<Session, PlayEnd>
-    requires seated { IsSeated player.old }
-    requires rows { HaveRows F.Fn player.old.routines }
-    requires draws { player.old.world.draws + READ_LIMIT < 2 ^ 64 }
+    requires player { MayPlay F.Fn (READ_LIMIT * (session.events + 1)) player.old }
     requires few { session.events < EVENT_LIMIT }
     requires kept { S.Tells stage.old → KeptIn session.journal room.old (S.standing stage.old) }
-    ensures seated { IsSeated player.new }
-    ensures game { player.new.game ≡ player.old.game }
-    ensures routines { player.new.routines ≡ player.old.routines }
-    ensures draws { player.new.world.draws ≤ player.old.world.draws + READ_LIMIT }
+    ensures player { StillPlays (player.old.world.draws + READ_LIMIT) player.old player.new }
     ensures serves { Serves S.Stage play_calls (failed_or result) stage.old stage.new }
     ensures refused { IfErr result IsNotForCall }
-    ensures events { IfOk result (λ next. next.events ≡ session.events + 1) }
-    ensures kept { S.Tells stage.old → IfOk result (λ next. KeptIn next.journal room.new (S.standing stage.new)) }
+    ensures session { IfOk result
+        (HoldsSession (S.Tells stage.old) (session.events + 1) room.new (S.standing stage.new)) }
     ensures meaning { Across S.Stage stage.old stage.new (λ old new.
         EachStory F.Fn player.old.routines player.old.game (λ g.
         EachPlaying g player.old session.events old (λ s most n first.

@@ -7,11 +7,14 @@ ghost use Rattle.paw_game.specs.Image.{image};
 ghost use Rattle.paw_stage.specs.Disk.{IsStable};
 ghost use Rattle.paw_stage.specs.Across.{Across, EachMoment, InTwoParts, Serves};
 ghost use Rattle.paw_routines.specs.Routines.{HaveRows};
-ghost use Rattle.paw_turn.specs.inner.Player.{IsSeated, IsNew};
+ghost use Rattle.paw_routines.specs.Measure.{measure};
+ghost use Rattle.paw_journal.specs.inner.Session.{digests_of};
 ghost use Rattle.paw_journal.specs.inner.Journal.{IsAtRest, KeptIn};
-ghost use Rattle.paw_play.specs.Play.{InPlay, NotYet, InNewGame, PlaysOn, PlaysGame, store_bytes};
-ghost use Rattle.paw_play.specs.inner.OnTheWay.{EachStory, EachStarting, InNew, PlaysInStore};
-ghost use Rattle.paw_play.specs.inner.OnTheWay.{Begins, IsStore, new_session};
+ghost use Rattle.paw_play.specs.Played.{begun};
+ghost use Rattle.paw_play.specs.Keeping.{InPlay, InNewSession};
+ghost use Rattle.paw_play.specs.Play.{NotYet, PlaysOn, MadeAndPlayed, NewSession, store_bytes};
+ghost use Rattle.paw_play.specs.inner.OnTheWay.{EachStory, EachStarting, Begins, IsStore, begun_with};
+ghost use Rattle.paw_play.specs.inner.OnTheWay.{MayPlay, MayBegin, StillPlays, IsAttached, HoldsSession};
 ghost use Rattle.paw_play.specs.Calls.{play_calls, session_calls};
 ghost use Rattle.paw_play.specs.inner.Calls.{IsNotForCall, call_of_end, failed_or};
 
@@ -35,10 +38,8 @@ pub(crate) fn play_lines<S: Stage, T: Tables, F: Fn(u8, u8) -> u8>(
     room: &mut Room,
     session: Session,
 ) -> PlayEnd
-    requires seated { IsSeated player.old }
-    requires rows { HaveRows F.Fn player.old.routines }
+    requires player { MayPlay F.Fn (READ_LIMIT * (session.events + 1)) player.old }
     requires few { session.events ≤ EVENT_LIMIT }
-    requires draws { player.old.world.draws ≤ READ_LIMIT * (session.events + 1) }
     requires kept { S.Tells stage.old → KeptIn session.journal room.old (S.standing stage.old) }
     ensures serves { Serves S.Stage play_calls (call_of_end result) stage.old stage.new }
     ensures refused { IsNotForCall result }
@@ -70,27 +71,22 @@ fn begin<S: Stage, T: Tables, F: Fn(u8, u8) -> u8>(
     room: &mut Room,
     at: Attached,
     game: &[u8; 32],
+    rules: &[u8; 32],
 ) -> Result<Session, PlayEnd>
-    requires seated { IsSeated player.old }
-    requires rows { HaveRows F.Fn player.old.routines }
-    requires new { IsNew player.old player.old.world.seed }
+    requires player { MayBegin F.Fn player.old }
     requires empty { at.length ≡ 0 }
-    requires rests { S.Tells stage.old → IsAtRest (S.standing stage.old) }
-    requires attached { S.Tells stage.old → at.length ≡ length (S.standing stage.old).disk.bytes }
-    ensures seated { IsSeated player.new }
-    ensures game { player.new.game ≡ player.old.game }
-    ensures routines { player.new.routines ≡ player.old.routines }
-    ensures draws { player.new.world.draws ≤ READ_LIMIT }
+    requires attached { S.Tells stage.old → IsAttached at (S.standing stage.old) }
+    ensures player { StillPlays READ_LIMIT player.old player.new }
     ensures serves { Serves S.Stage play_calls (failed_or result) stage.old stage.new }
     ensures refused { IfErr result IsNotForCall }
-    ensures events { IfOk result (λ session. session.events ≡ 0) }
-    ensures kept { S.Tells stage.old → IfOk result (λ session. KeptIn session.journal room.new (S.standing stage.new)) }
+    ensures session { IfOk result (HoldsSession (S.Tells stage.old) 0 room.new (S.standing stage.new)) }
     ensures meaning { Across S.Stage stage.old stage.new (λ old new.
         EachStory F.Fn player.old.routines player.old.game (λ g. (name : List ℕ) → IsStore name old →
-        Begins g (new_session g player.old.world.seed game.now name) old new player.new result)) }
+        Begins g (begun_with g player.old.world.seed (digests_of game.now rules.now) name) old new player.new result)) }
     ensures any_moment { Across S.Stage stage.old stage.new (λ old new.
         EachStory F.Fn player.old.routines player.old.game (λ g. (name : List ℕ) → IsStore name old →
-        EachMoment S.Stage stage.old stage.new (InNew (new_session g player.old.world.seed game.now name) old))) }
+        EachMoment S.Stage stage.old stage.new
+        (InNewSession (begun_with g player.old.world.seed (digests_of game.now rules.now) name) old))) }
 {
     let step = player.start();
     if let Some(end) = refused(step) {
@@ -98,7 +94,7 @@ fn begin<S: Stage, T: Tables, F: Fn(u8, u8) -> u8>(
     }
     let mut state = [0u8; STATE_ROOM];
     put_state(player, 0, &mut state);
-    let journal = match Journal::create(stage, room, at, game, &state, player.piece()) {
+    let journal = match Journal::create(stage, room, at, game, rules, &state, player.piece()) {
         Ok(journal) => journal,
         Err(call) => return Err(PlayEnd::Outside(call)),
     };
@@ -126,10 +122,11 @@ fn play_in<S: Stage, T: Tables, F: Fn(u8, u8) -> u8>(
     ensures refused { IsNotForCall result }
     ensures plays { Across S.Stage stage.old stage.new (λ old new.
         EachStory F.Fn routines.now (T.game tables.now) (λ g. (name : List ℕ) → IsStore name old →
-        PlaysInStore (new_session g seed game.now name) old new result)) }
+        MadeAndPlayed (begun_with g seed (digests_of game.now (measure g.rows)) name) old new result)) }
     ensures any_moment { Across S.Stage stage.old stage.new (λ old new.
         EachStory F.Fn routines.now (T.game tables.now) (λ g. (name : List ℕ) → IsStore name old →
-        EachMoment S.Stage stage.old stage.new (InNew (new_session g seed game.now name) old))) }
+        EachMoment S.Stage stage.old stage.new
+        (InNewSession (begun_with g seed (digests_of game.now (measure g.rows)) name) old))) }
 {
     let Ok(mut room) = Room::new(alloc) else {
         return PlayEnd::Memory;
@@ -137,7 +134,7 @@ fn play_in<S: Stage, T: Tables, F: Fn(u8, u8) -> u8>(
     let Ok(mut player) = Player::new(alloc, tables, routines, seed) else {
         return PlayEnd::Memory;
     };
-    match begin(stage, &mut player, &mut room, at, game) {
+    match begin(stage, &mut player, &mut room, at, game, &routines.measure()) {
         Ok(session) => play_lines(stage, &mut player, &mut room, session),
         Err(end) => end,
     }
@@ -145,8 +142,8 @@ fn play_in<S: Stage, T: Tables, F: Fn(u8, u8) -> u8>(
 
 /// Plays a game from its start, with a session of it in the file of this name, which is missing or empty: shows the
 /// piece before the first line, and then a piece for each line, until the game is over or no line is left. Each piece
-/// is committed before it is shown. `game` is the digest of the game's image. Memory is taken before anything is
-/// written.
+/// is committed before it is shown. `game` is the digest of the game's image; the session keeps it, and the measure of
+/// the routines. Memory is taken before anything is written.
 pub fn play_loop<S: Stage, T: Tables, F: Fn(u8, u8) -> u8>(
     alloc: Global,
     stage: &mut S,
@@ -162,10 +159,10 @@ pub fn play_loop<S: Stage, T: Tables, F: Fn(u8, u8) -> u8>(
     ensures serves { Serves S.Stage session_calls (call_of_end result) stage.old stage.new }
     ensures refused { IsNotForCall result }
     ensures plays { Across S.Stage stage.old stage.new (λ old new.
-        EachStory F.Fn routines.now (T.game tables.now) (λ g. PlaysGame g seed name.now old new result)) }
+        EachStory F.Fn routines.now (T.game tables.now) (λ g. NewSession (begun g seed name.now) old new result)) }
     ensures any_moment { Across S.Stage stage.old stage.new (λ old new.
         EachStory F.Fn routines.now (T.game tables.now) (λ g. store_bytes old name.now ≡ [] →
-        InTwoParts S.Stage stage.old stage.new (NotYet name.now old) (InNewGame g seed name.now old))) }
+        InTwoParts S.Stage stage.old stage.new (NotYet name.now old) (InNewSession (begun g seed name.now) old))) }
 {
     let at = match attach(stage, name) {
         Ok(at) => at,

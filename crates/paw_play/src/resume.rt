@@ -9,9 +9,11 @@ ghost use Rattle.paw_stage.specs.inner.Across.{Throughout};
 ghost use Rattle.paw_stage.specs.Moments.{InShow};
 ghost use Rattle.paw_routines.specs.Routines.{HaveRows};
 ghost use Rattle.paw_state.specs.State.{State};
-ghost use Rattle.paw_journal.specs.Session.{kept_digest};
+ghost use Rattle.paw_journal.specs.Session.{Digests, kept_digests};
 ghost use Rattle.paw_journal.specs.inner.Journal.{KeptIn};
-ghost use Rattle.paw_play.specs.Play.{InPlay, NotYet, PlaysUp, PlaysAgain, ShowsState, kept_session, store_bytes};
+ghost use Rattle.paw_play.specs.Played.{PlayedSession, GoesOnFrom, ShowsState, from_state};
+ghost use Rattle.paw_play.specs.Keeping.{InPlay};
+ghost use Rattle.paw_play.specs.Play.{NotYet, Resumed, PlaysAgain, GoesOn, store_bytes};
 ghost use Rattle.paw_play.specs.inner.OnTheWay.{EachStory, IsStore, ShowsAgain, end_of};
 ghost use Rattle.paw_play.specs.Calls.{play_calls, session_calls};
 ghost use Rattle.paw_play.specs.inner.Calls.{IsNotForCall, call_of_end, failed_so_far};
@@ -54,7 +56,8 @@ fn not_found(refusal: JournalRefusal) -> PlayEnd
         JournalRefusal::Outside(call) => PlayEnd::Outside(call),
         JournalRefusal::Unmade { .. }
         | JournalRefusal::Damaged { .. }
-        | JournalRefusal::WrongGame { .. } => PlayEnd::Refused(refusal),
+        | JournalRefusal::WrongGame { .. }
+        | JournalRefusal::WrongRoutines { .. } => PlayEnd::Refused(refusal),
     }
 }
 
@@ -73,12 +76,11 @@ fn take_up<S: Stage, T: Tables, F: Fn(u8, u8) -> u8>(
     ensures refused { IsNotForCall result }
     ensures plays { Across S.Stage stage.old stage.new (λ old new.
         EachStory F.Fn routines.now (T.game tables.now) (λ g. (name : List ℕ) → IsStore name old →
-        PlaysUp g (kept_digest old.disk.bytes) name old new result)) }
+        Resumed g (kept_digests old.disk.bytes) name old new result)) }
     ensures any_moment { Across S.Stage stage.old stage.new (λ old new.
         EachStory F.Fn routines.now (T.game tables.now) (λ g. (name : List ℕ) → IsStore name old →
-        (st : State) (piece : List ℕ) → ShowsState g.game (kept_digest old.disk.bytes) old.disk.bytes st piece →
-        EachMoment S.Stage stage.old stage.new
-        (InPlay (kept_session g st piece (kept_digest old.disk.bytes) name) old))) }
+        (d : Digests) (st : State) (piece : List ℕ) → ShowsState g.game d old.disk.bytes st piece →
+        EachMoment S.Stage stage.old stage.new (InPlay (from_state g st piece d name) old))) }
 {
     let restored = match read_state(tables, room.state()) {
         Ok(restored) => restored,
@@ -104,7 +106,8 @@ fn take_up<S: Stage, T: Tables, F: Fn(u8, u8) -> u8>(
 }
 
 /// Takes up the session of a game that stands in the file of this name: shows its last piece again, and goes on from
-/// its prompt as `play_loop` does; a session that is over asks nothing. `game` is the digest of the game's image.
+/// its prompt as `play_loop` does; a session that is over asks nothing. `game` is the digest of the game's image. A
+/// session that keeps the measure of other routines isn't taken up.
 pub fn resume_loop<S: Stage, T: Tables, F: Fn(u8, u8) -> u8>(
     alloc: Global,
     stage: &mut S,
@@ -119,12 +122,14 @@ pub fn resume_loop<S: Stage, T: Tables, F: Fn(u8, u8) -> u8>(
     ensures serves { Serves S.Stage session_calls (call_of_end result) stage.old stage.new }
     ensures refused { IsNotForCall result }
     ensures plays { Across S.Stage stage.old stage.new (λ old new.
-        EachStory F.Fn routines.now (T.game tables.now) (λ g. PlaysAgain g game.now name.now old new result)) }
+        EachStory F.Fn routines.now (T.game tables.now) (λ g. PlaysAgain g name.now old new result)) }
+    ensures goes_on { Across S.Stage stage.old stage.new (λ old new.
+        EachStory F.Fn routines.now (T.game tables.now) (λ g. (s : PlayedSession) →
+        GoesOnFrom g name.now (store_bytes old name.now) s → GoesOn s old new result)) }
     ensures any_moment { Across S.Stage stage.old stage.new (λ old new.
-        EachStory F.Fn routines.now (T.game tables.now) (λ g.
-        (st : State) (piece : List ℕ) → ShowsState g.game game.now (store_bytes old name.now) st piece →
-        InTwoParts S.Stage stage.old stage.new (NotYet name.now old)
-        (InPlay (kept_session g st piece game.now name.now) old))) }
+        EachStory F.Fn routines.now (T.game tables.now) (λ g. (s : PlayedSession) →
+        GoesOnFrom g name.now (store_bytes old name.now) s →
+        InTwoParts S.Stage stage.old stage.new (NotYet name.now old) (InPlay s old))) }
 {
     // Its clause says that the game is valid, which the proof wants. No call of it is left in the program.
     let _counts = tables.counts();
@@ -135,7 +140,7 @@ pub fn resume_loop<S: Stage, T: Tables, F: Fn(u8, u8) -> u8>(
     let Ok(mut room) = Room::new(alloc) else {
         return PlayEnd::Memory;
     };
-    let journal = match Journal::find(stage, &mut room, at, game) {
+    let journal = match Journal::find(stage, &mut room, at, game, &routines.measure()) {
         Ok(journal) => journal,
         Err(refusal) => return not_found(refusal),
     };

@@ -1,5 +1,5 @@
 -- What stands on the way, inside a call.
-use Rattle.std.specs.Prelude.{◌≡◌, ◌≢◌, ◌⊎◌, ℕ, suc, ◌+◌, ◌<◌, ◌≤◌, List, [], ◌++◌, length, take}
+use Rattle.std.specs.Prelude.{◌≡◌, ◌≢◌, ℕ, suc, ◌+◌, ◌<◌, ◌≤◌, List, [], ◌++◌, length, take}
 use Rattle.std.specs.Prelude.{◌-◌, reverse, Option, Some, None, Result, Ok, Err}
 use Rattle.std.specs.List.{concat}
 use Rattle.std.specs.Fn.{Shared}
@@ -9,30 +9,35 @@ use Rattle.paw_stage.specs.Stage.{Standing}
 use Rattle.paw_stage.specs.Moments.{Moment}
 use Rattle.paw_stage.specs.declared.StageCall.TheVariants as call
 use Rattle.paw_game.specs.Game.{GameLists}
-use Rattle.paw_routines.specs.Routines.{AreRowsOf}
+use Rattle.paw_routines.specs.Routines.{AreRowsOf, HaveRows}
 use Rattle.paw_routines.specs.declared.routines.Routines.{Routines}
 use Rattle.paw_effects.specs.Story.{Story, story_of}
 use Rattle.paw_effects.specs.declared.act.Prompt.{Prompt}
 use Rattle.paw_effects.specs.declared.act.Prompt.TheVariants as prompt
 use Rattle.paw_reading.specs.Run.{Run, Step as Read}
 use Rattle.paw_reading.specs.Reading.{RunsOut, CallsTooDeep}
-use Rattle.paw_reading.specs.Turn.{Halted, reading, on, text_of}
-use Rattle.paw_turn.specs.inner.Player.{Seat, run_at}
+use Rattle.paw_reading.specs.Turn.{Halted, reading, on}
+use Rattle.paw_turn.specs.inner.Player.{Seat, run_at, IsSeated, IsNew}
 use Rattle.paw_turn.specs.inner.Parts.{prompt_at}
 use Rattle.paw_turn.specs.declared.Step.{Step}
 use Rattle.paw_turn.specs.declared.Step.TheVariants as step
 use Rattle.paw_base.specs.Bytes.{zeros}
-use Rattle.paw_journal.specs.Session.{Recovered, Shown, recover, kept_digest, base_length, state_length, committed}
+use Rattle.paw_journal.specs.Session.{Digests, Recovered, Shown, recover, kept_digests, base_length, state_length, committed}
 use Rattle.paw_journal.specs.inner.Store.{InStore, Leaves, IsEither}
+use Rattle.paw_journal.specs.inner.Room.{Room}
+use Rattle.paw_journal.specs.inner.Journal.{IsAtRest, KeptIn}
+use Rattle.paw_journal.specs.declared.store.Attached.{Attached}
 use Rattle.paw_journal.specs.declared.refusal.JournalRefusal.{JournalRefusal}
 use Rattle.paw_journal.specs.declared.refusal.JournalRefusal.TheVariants as refusal
 use Rattle.paw_state.specs.inner.State.{state_of}
 use Rattle.paw_play.specs.declared.PlayEnd.{PlayEnd}
 use Rattle.paw_play.specs.declared.PlayEnd.TheVariants as end
+use Rattle.paw_play.specs.declared.line.Session.{Session}
 use Rattle.paw_play.specs.Session.{kept_bytes}
-use Rattle.paw_play.specs.Walk.{EndingOf, first_lines, advanced, text_before, Walks}
-use Rattle.paw_play.specs.Keeping.{InMakingOf, StaysAttached, RestsWith}
-use Rattle.paw_play.specs.Play.{PlayedSession, KeptBy, InPlay, PlaysOn, PlaysIn, with_store}
+use Rattle.paw_play.specs.Walk.{EndingOf, first_lines, text_for, text_before, advanced, Walks}
+use Rattle.paw_play.specs.Played.{PlayedSession}
+use Rattle.paw_play.specs.Keeping.{StaysAttached, RestsWith}
+use Rattle.paw_play.specs.Play.{PlaysOn, with_store}
 use Rattle.paw_play.specs.inner.Telling.{Telling, Plain, HaveSteps, told_pieces, told_as}
 
 -- ---- a walk ----
@@ -95,31 +100,19 @@ WalksTo telling g whole most first now seat n (Some o) = Walks (told_as telling 
 
 -- ---- a session ----
 
--- the session of a game that is played from its start
-abbrev pub new_session : Story → ℕ → List ℕ → List ℕ → PlayedSession
-new_session g seed digest name = record { whole = reading g seed; before = 0; digest = digest; name = name }
-
--- the store is at rest, and keeps the first n lines
-abbrev pub Rests : PlayedSession → Standing → Standing → ℕ → Type 0
-Rests s old new n = RestsWith (KeptBy s old.lines) s.whole s.before s.name old new n
-
--- a moment at which the session is made
-abbrev pub InMaking : PlayedSession → Standing → Moment → Type 0
-InMaking s old m = InMakingOf (KeptBy s old.lines) s.name old m
-
--- what making a new session in the attached store and playing it comes to
-abbrev pub PlaysInStore : PlayedSession → Standing → Standing → PlayEnd → Type 0
-PlaysInStore s old new o = PlaysIn (KeptBy s old.lines) s.whole s.name old new o
+-- the session of a story that is begun with this seed, whatever its digests
+abbrev pub begun_with : Story → ℕ → Digests → List ℕ → PlayedSession
+begun_with g seed digests name = record { whole = reading g seed; before = 0; digests = digests; name = name }
 
 -- The session is at a prompt: the walk is, the store keeps all lines that were taken, and the text of the last piece
 -- came last.
 pub record IsPlaying {F : Type 0} (g : Story) (s : PlayedSession) (first now : Standing) (seat : Seat F)
     (n : ℕ) : Type 0 where
   pub walking : IsWalking Plain g s.whole (with_store now first) now seat n
-  pub rests : Rests s first now n
-  pub digest : kept_digest now.disk.bytes ≡ s.digest
+  pub rests : RestsWith s first now n
+  pub digests : kept_digests now.disk.bytes ≡ s.digests
   pub last : List ℕ
-  pub grown : text_of (s.whole (first_lines n first.lines)) ≡ text_before s.whole first.lines n ++ last
+  pub grown : text_for s.whole first.lines n ≡ text_before s.whole first.lines n ++ last
 
 -- after one line more: the session is at the next prompt, or playing on has come to this
 abbrev pub PlaysTo : {A F : Type 0} → Story → PlayedSession → ℕ → Standing → Standing → Seat F → ℕ →
@@ -159,7 +152,39 @@ abbrev pub end_of : JournalRefusal → PlayEnd
 end_of (refusal.Unmade n mark) = end.Refused (refusal.Unmade n mark)
 end_of (refusal.Damaged part at) = end.Refused (refusal.Damaged part at)
 end_of (refusal.WrongGame kept found) = end.Refused (refusal.WrongGame kept found)
+end_of (refusal.WrongRoutines kept found) = end.Refused (refusal.WrongRoutines kept found)
 end_of (refusal.Outside c) = end.Outside c
+
+-- ---- a player and its session, between calls ----
+
+-- A player may take lines: it has a seat, its routines have rows, and it drew so many numbers at most.
+pub record MayPlay {F : Type 0} (calls : Shared F (ℕ × (ℕ × Unit {0})) ℕ) (draws : ℕ) (p : Seat F) : Type 0 where
+  pub seated : IsSeated p
+  pub rows : HaveRows calls p.routines
+  pub drew : p.world.draws ≤ draws
+
+-- A player was made just now: it has a seat, its routines have rows, and it has played nothing.
+pub record MayBegin {F : Type 0} (calls : Shared F (ℕ × (ℕ × Unit {0})) ℕ) (p : Seat F) : Type 0 where
+  pub seated : IsSeated p
+  pub rows : HaveRows calls p.routines
+  pub new : IsNew p p.world.seed
+
+-- It plays the same game with the same routines still, and drew so many numbers at most.
+pub record StillPlays {F : Type 0} (draws : ℕ) (old new : Seat F) : Type 0 where
+  pub seated : IsSeated new
+  pub game : new.game ≡ old.game
+  pub routines : new.routines ≡ old.routines
+  pub drew : new.world.draws ≤ draws
+
+-- A store was attached that is at rest and has this length.
+pub record IsAttached (at : Attached) (s : Standing) : Type 0 where
+  pub rests : IsAtRest s
+  pub long : at.length ≡ length s.disk.bytes
+
+-- A session has taken so many lines. Where a stage tells what stands, its store is at rest and holds it.
+pub record HoldsSession (tells : Type 0) (n : ℕ) (room : Room) (now : Standing) (session : Session) : Type 0 where
+  pub events : session.events ≡ n
+  pub kept : tells → KeptIn session.journal room now
 
 -- ---- facts of what is under way ----
 
@@ -181,13 +206,9 @@ abbrev pub EachStarting : {F : Type 0} → Story → Seat F → ℕ → Standing
 EachStarting g seat events now Holds =
     (s : PlayedSession) (first : Standing) → IsPlaying g s first now seat 0 → events ≡ s.before → Holds s first
 
--- a moment at which a new session is made or played
-abbrev pub InNew : PlayedSession → Standing → Moment → Type 0
-InNew s old m = InMaking s old m ⊎ InPlay s old m
-
 -- what the session of a store shows that a player was committed to, after so many lines
 abbrev pub shown_then : {F : Type 0} → ℕ → Seat F → Standing → Recovered
-shown_then events seat s = Shown (kept_digest s.disk.bytes) (seat_state events seat) seat.piece
+shown_then events seat s = Shown (kept_digests s.disk.bytes) (seat_state events seat) seat.piece
 
 -- the player was committed to the session
 abbrev pub Commits : {F : Type 0} → ℕ → Seat F → Standing → Standing → Type 0

@@ -2,21 +2,21 @@ use Rattle.std.proofs.Common.{◌≡◌, List, ap, ◌∙◌, subst}
 use Rattle.std.specs.Prelude.{OnOk, ℕ}
 use Rattle.paw_stage.specs.Stage.{Standing}
 use Rattle.paw_stage.specs.Moments.{Passes}
-use Rattle.paw_journal.specs.Session.{Recovered, Shown, recover, kept_digest, committed}
+use Rattle.paw_journal.specs.Session.{Digests, Recovered, Shown, recover, kept_digests, committed}
 use Rattle.paw_journal.specs.inner.Store.{InStore, Leaves, IsEither}
 use Rattle.paw_play.specs.inner.OnTheWay.{seat_state, seat_base}
 use Rattle.paw_play.proofs.line.commit.Goals as goal
 
 -- what a player's session shows
-same_shown : (digest state piece s p : List ℕ) → state ≡ s → piece ≡ p → Shown digest state piece ≡ Shown digest s p
-same_shown digest state piece s p e f = ap (λ x. Shown digest x piece) e ∙ ap (λ x. Shown digest s x) f
+same_shown : (digests : Digests) (state piece s p : List ℕ) → state ≡ s → piece ≡ p → Shown digests state piece ≡ Shown digests s p
+same_shown digests state piece s p e f = ap (λ x. Shown digests x piece) e ∙ ap (λ x. Shown digests s x) f
 
 pub returns-clause-serves : goal.returns-clause-serves
 returns-clause-serves g c = c.commit.ensures.serves
 
 pub returns-clause-shown : goal.returns-clause-shown
 returns-clause-shown g c = λ tells.
-    let kept : List ℕ = kept_digest (g.S.Stage.standing c.args.stage.now).disk.bytes in
+    let kept : Digests = kept_digests (g.S.Stage.standing c.args.stage.now).disk.bytes in
     subst (λ (x : Recovered). OnOk c.commit.result (recover (g.S.Stage.standing c.commit.new.stage).disk.bytes ≡ x))
     (same_shown kept _ c.piece.result.now (seat_state c.args.events c.args.player.now) c.args.player.now.piece c.put_state.ensures.state c.piece.ensures.value)
     (c.commit.ensures.shown tells)
@@ -36,6 +36,6 @@ returns-clause-any_moment g c = λ tells.
     subst (λ (x : Recovered). Passes (g.S.Stage.clock c.args.stage.now) (g.S.Stage.clock c.commit.new.stage)
     (g.S.Stage.since c.args.stage.now) (g.S.Stage.since c.commit.new.stage)
     (InStore old (Leaves (IsEither (recover old.disk.bytes) x))))
-    (same_shown (kept_digest old.disk.bytes) _ c.piece.result.now (seat_state c.args.events c.args.player.now)
+    (same_shown (kept_digests old.disk.bytes) _ c.piece.result.now (seat_state c.args.events c.args.player.now)
     c.args.player.now.piece c.put_state.ensures.state c.piece.ensures.value)
     (c.commit.ensures.any_moment tells)

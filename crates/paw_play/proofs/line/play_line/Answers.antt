@@ -1,12 +1,11 @@
-use Rattle.std.proofs.Common.{Some, None, ◌≡◌, ◌+◌, refl, sym, arith, inl, inr}
+use Rattle.std.proofs.Common.{Some, None, ◌+◌, refl, sym, arith, inl, inr}
 use Rattle.paw_stage.specs.declared.Asked.TheVariants as asked
 use Rattle.paw_stage.proofs.Time.{Passes_map, Passes_on}
-use Rattle.paw_play.specs.declared.line.Session.{Session}
-use Rattle.paw_play.specs.Play.{InPlay}
+use Rattle.paw_play.specs.Keeping.{InPlay}
 use Rattle.paw_play.proofs.Playing.{in_ask, no_line, no_ask, plays_refused, taken, plays_not, plays_to, in_commit, in_show}
 use Rattle.paw_effects.specs.Story.{story_of}
 use Rattle.paw_journal.proofs.Serving.{serves_done, serves_among, serves_then}
-use Rattle.paw_play.proofs.Following.{keeps_asked, goes_on_unless, refused_unless, serves_unless, keeps_unless, writing_plays}
+use Rattle.paw_play.proofs.Following.{keeps_asked, refused_unless, serves_unless, holds_unless, writing_plays}
 use Rattle.paw_play.proofs.line.play_line.Goals as goal
 
 pub commit-requires-clause-kept : goal.commit-requires-clause-kept
@@ -39,29 +38,26 @@ returns-clause-serves g c =
 pub returns-clause-refused : goal.returns-clause-refused
 returns-clause-refused g c = rw c.unless_ended.ensures.value (refused_unless c.told.result _ c.told.ensures.refused)
 
-pub returns-clause-events : goal.returns-clause-events
-returns-clause-events g c =
-    rw c.unless_ended.ensures.value (goes_on_unless (λ (next : Session). next.events ≡ c.args.session.events + 1) c.told.result _ refl)
-
-pub returns-clause-kept : goal.returns-clause-kept
-returns-clause-kept g c = λ tells.
-    let now = c.ask.ensures.tells.0 tells in
+pub returns-clause-session : goal.returns-clause-session
+returns-clause-session g c =
+    let mid = g.S.Stage.standing c.commit.new.stage in
     rw c.unless_ended.ensures.value
-    (keeps_unless _ (g.S.Stage.standing c.commit.new.stage) (g.S.Stage.standing c.told.new.stage) _ c.take-step.result c.told.result _
-    (c.in-Ok.ensures.kept now) (c.told.ensures.meaning (c.commit.ensures.serves.tells.0 now)))
+    (holds_unless (g.S.Stage.Tells c.args.stage.now) (c.args.session.events + 1) _ mid (g.S.Stage.standing c.told.new.stage) _ c.take-step.result
+    c.told.result _ refl (λ tells. c.in-Ok.ensures.kept (c.ask.ensures.tells.0 tells))
+    (λ tells. c.told.ensures.meaning (c.commit.ensures.serves.tells.0 (c.ask.ensures.tells.0 tells))))
 
 pub returns-in-End-clause-meaning : goal.returns-in-End-clause-meaning
 returns-in-End-clause-meaning g c = λ tells X rows s most n first w events few.
-    no_line (story_of c.args.player.now.game X) s most n first _ c.args.player.now w c.requires.seated few _ (c.in-End.ensures.answer tells)
+    no_line (story_of c.args.player.now.game X) s most n first _ c.args.player.now w c.requires.player.seated few _ (c.in-End.ensures.answer tells)
 
 pub returns-in-Failed-clause-meaning : goal.returns-in-Failed-clause-meaning
 returns-in-Failed-clause-meaning g c = λ tells X rows s most n first w events few.
-    no_ask (story_of c.args.player.now.game X) s most n first _ c.args.player.now w c.requires.seated few _ (c.in-Failed.ensures.answer tells)
+    no_ask (story_of c.args.player.now.game X) s most n first _ c.args.player.now w c.requires.player.seated few _ (c.in-Failed.ensures.answer tells)
 
 pub returns-in-Some-clause-meaning : goal.returns-in-Some-clause-meaning
 returns-in-Some-clause-meaning g c = λ tells X rows s most n first w events few.
     let a = c.in-Line.ensures.answer tells in
-    plays_refused (story_of c.args.player.now.game X) s most n first _ c.args.player.now w c.requires.seated few _
+    plays_refused (story_of c.args.player.now.game X) s most n first _ c.args.player.now w c.requires.player.seated few _
     c.take-step.new.self _ a.0 c.take-step.result c.take-step.ensures.seated c.take-step.ensures.last a.1 a.2.same a.3
     (c.take-step.ensures.meaning X rows w.walking.prompt w.walking.waits w.walking.pieces w.walking.traces)
     c.in-Some.end (sym c.in-Some.ensures.value)
@@ -69,23 +65,23 @@ returns-in-Some-clause-meaning g c = λ tells X rows s most n first w events few
 pub returns-in-End-clause-any_moment : goal.returns-in-End-clause-any_moment
 returns-in-End-clause-any_moment g c = λ tells X rows s most n first w events few.
     Passes_map _ _ _ _ _ (InPlay s first) (c.in-End.ensures.time tells) (in_ask w (g.S.Stage.standing c.ask.new.self) asked.End c.ask.new.into
-    c.requires.seated (omega (arith, events, c.requires.few)) (c.in-End.ensures.answer tells))
+    c.requires.player.seated (omega (arith, events, c.requires.few)) (c.in-End.ensures.answer tells))
 
 pub returns-in-Failed-clause-any_moment : goal.returns-in-Failed-clause-any_moment
 returns-in-Failed-clause-any_moment g c = λ tells X rows s most n first w events few.
     Passes_map _ _ _ _ _ (InPlay s first) (c.in-Failed.ensures.time tells) (in_ask w (g.S.Stage.standing c.ask.new.self) asked.Failed c.ask.new.into
-    c.requires.seated (omega (arith, events, c.requires.few)) (c.in-Failed.ensures.answer tells))
+    c.requires.player.seated (omega (arith, events, c.requires.few)) (c.in-Failed.ensures.answer tells))
 
 pub returns-in-Some-clause-any_moment : goal.returns-in-Some-clause-any_moment
 returns-in-Some-clause-any_moment g c = λ tells X rows s most n first w events few.
     Passes_map _ _ _ _ _ (InPlay s first) (c.in-Line.ensures.time tells) (in_ask w (g.S.Stage.standing c.ask.new.self) (asked.Line c.in-Line.n)
-    c.ask.new.into c.requires.seated (omega (arith, events, c.requires.few)) (c.in-Line.ensures.answer tells))
+    c.ask.new.into c.requires.player.seated (omega (arith, events, c.requires.few)) (c.in-Line.ensures.answer tells))
 
 pub returns-in-Err-clause-meaning : goal.returns-in-Err-clause-meaning
 returns-in-Err-clause-meaning g c = λ tells X rows s most n first w events few.
     let a = c.in-Line.ensures.answer tells in
     let t = taken (story_of c.args.player.now.game X) s most n (c.args.session.events + 1) first _ _ c.args.player.now c.take-step.new.self _ a.0 _
-    w few c.requires.seated c.take-step.ensures.seated c.take-step.ensures.last a.1 a.2.same a.3 (c.take-step.ensures.meaning X rows w.walking.prompt
+    w few c.requires.player.seated c.take-step.ensures.seated c.take-step.ensures.last a.1 a.2.same a.3 (c.take-step.ensures.meaning X rows w.walking.prompt
     w.walking.waits w.walking.pieces w.walking.traces) c.in_default.ensures.value (omega (arith, events)) (omega (arith, c.requires.few)) in
     plays_not t (g.S.Stage.standing c.commit.new.stage) (c.commit.ensures.beside (c.ask.ensures.tells.0 tells)) c.in-Err.call c.in-Err.ensures.serves.among
 
@@ -94,22 +90,22 @@ returns-in-Err-clause-any_moment g c = λ tells X rows s most n first w events f
     let commits = c.commit.ensures.any_moment (c.ask.ensures.tells.0 tells) in
     let a = c.in-Line.ensures.answer tells in
     let t = taken (story_of c.args.player.now.game X) s most n (c.args.session.events + 1) first _ _ c.args.player.now c.take-step.new.self _ a.0 _
-    w few c.requires.seated c.take-step.ensures.seated c.take-step.ensures.last a.1 a.2.same a.3 (c.take-step.ensures.meaning X rows w.walking.prompt
+    w few c.requires.player.seated c.take-step.ensures.seated c.take-step.ensures.last a.1 a.2.same a.3 (c.take-step.ensures.meaning X rows w.walking.prompt
     w.walking.waits w.walking.pieces w.walking.traces) c.in_default.ensures.value (omega (arith, events)) (omega (arith, c.requires.few)) in
     Passes_on _ _ _ _ _ _ (InPlay s first) _
     (Passes_map _ _ _ _ _ (InPlay s first) (c.in-Line.ensures.time tells) (in_ask w (g.S.Stage.standing c.ask.new.self) (asked.Line c.in-Line.n)
-    c.ask.new.into c.requires.seated (omega (arith, events, c.requires.few)) (c.in-Line.ensures.answer tells)))
+    c.ask.new.into c.requires.player.seated (omega (arith, events, c.requires.few)) (c.in-Line.ensures.answer tells)))
     commits (in_commit t)
 
 pub returns-clause-meaning : goal.returns-clause-meaning
 returns-clause-meaning g c = λ tells X rows s most n first w events few.
     let a = c.in-Line.ensures.answer tells in
     let t = taken (story_of c.args.player.now.game X) s most n (c.args.session.events + 1) first _ _ c.args.player.now c.take-step.new.self _ a.0 _
-    w few c.requires.seated c.take-step.ensures.seated c.take-step.ensures.last a.1 a.2.same a.3 (c.take-step.ensures.meaning X rows w.walking.prompt
+    w few c.requires.player.seated c.take-step.ensures.seated c.take-step.ensures.last a.1 a.2.same a.3 (c.take-step.ensures.meaning X rows w.walking.prompt
     w.walking.waits w.walking.pieces w.walking.traces) c.in_default.ensures.value (omega (arith, events)) (omega (arith, c.requires.few)) in
     let now = c.ask.ensures.tells.0 tells in
     rw c.unless_ended.ensures.value (plays_to t (g.S.Stage.standing c.commit.new.stage) (c.commit.ensures.beside now)
-    (c.in-Ok.ensures.kept now).rests.stable (c.in-Ok.ensures.shown now) (c.in-Ok.ensures.digest now) (c.in-Ok.ensures.exact now)
+    (c.in-Ok.ensures.kept now).rests.stable (c.in-Ok.ensures.shown now) (c.in-Ok.ensures.digests now) (c.in-Ok.ensures.exact now)
     _ (g.S.Stage.standing c.told.new.stage) c.told.result (c.told.ensures.meaning (c.commit.ensures.serves.tells.0 now)))
 
 pub returns-clause-any_moment : goal.returns-clause-any_moment
@@ -117,13 +113,13 @@ returns-clause-any_moment g c = λ tells X rows s most n first w events few.
     let now = c.ask.ensures.tells.0 tells in
     let a = c.in-Line.ensures.answer tells in
     let t = taken (story_of c.args.player.now.game X) s most n (c.args.session.events + 1) first _ _ c.args.player.now c.take-step.new.self _ a.0 _
-    w few c.requires.seated c.take-step.ensures.seated c.take-step.ensures.last a.1 a.2.same a.3 (c.take-step.ensures.meaning X rows w.walking.prompt
+    w few c.requires.player.seated c.take-step.ensures.seated c.take-step.ensures.last a.1 a.2.same a.3 (c.take-step.ensures.meaning X rows w.walking.prompt
     w.walking.waits w.walking.pieces w.walking.traces) c.in_default.ensures.value (omega (arith, events)) (omega (arith, c.requires.few)) in
     Passes_on _ _ _ _ _ _ (InPlay s first) _
     (Passes_on _ _ _ _ _ _ (InPlay s first) _
     (Passes_map _ _ _ _ _ (InPlay s first) (c.in-Line.ensures.time tells) (in_ask w (g.S.Stage.standing c.ask.new.self) (asked.Line c.in-Line.n)
-    c.ask.new.into c.requires.seated (omega (arith, events, c.requires.few)) (c.in-Line.ensures.answer tells)))
+    c.ask.new.into c.requires.player.seated (omega (arith, events, c.requires.few)) (c.in-Line.ensures.answer tells)))
     (c.commit.ensures.any_moment now) (in_commit t))
     (c.told.ensures.time (c.commit.ensures.serves.tells.0 now))
     (in_show t (g.S.Stage.standing c.commit.new.stage) (c.commit.ensures.beside now) (c.in-Ok.ensures.kept now).rests.stable (c.in-Ok.ensures.shown now)
-    (c.in-Ok.ensures.digest now) (c.in-Ok.ensures.exact now))
+    (c.in-Ok.ensures.digests now) (c.in-Ok.ensures.exact now))

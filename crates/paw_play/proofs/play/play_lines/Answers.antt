@@ -1,7 +1,7 @@
 use Rattle.std.proofs.Common.{◌≡◌, ◌+◌, ◌-◌, ◌<◌, ◌∙◌, suc, arith, subst, sym, refl, None}
 use Rattle.paw_base.specs.declared.limits.TheConstants.{EVENT_LIMIT}
 use Rattle.paw_stage.proofs.Time.{Passes_on, Passes_none}
-use Rattle.paw_play.specs.Play.{InPlay}
+use Rattle.paw_play.specs.Keeping.{InPlay}
 use Rattle.paw_play.specs.inner.OnTheWay.{IsPlaying}
 use Rattle.paw_play.proofs.Playing.{long_play}
 use Rattle.paw_journal.proofs.Serving.{serves_none, serves_then}
@@ -11,13 +11,13 @@ use Rattle.paw_play.proofs.play.play_lines.Goals as goal
 
 pub loop-init : goal.loop-init
 loop-init g c = record {
-  seated = c.requires.seated;
+  seated = c.requires.player.seated;
   routines = refl;
-  rows = c.requires.rows;
+  rows = c.requires.player.rows;
   events = refl;
   from = omega arith;
   few = c.requires.few;
-  draws = c.requires.draws;
+  draws = c.requires.player.drew;
   serves = serves_none g.S.Stage _ _;
   kept = c.requires.kept;
   playing = λ tells X rows s first start events.
@@ -25,6 +25,11 @@ loop-init g c = record {
       subst (λ k. IsPlaying (story_of c.args.player.now.game X) s first (g.S.Stage.standing c.args.stage.now) c.args.player.now k) none start;
   passes = λ tells X rows s first start events. Passes_none _ _ _;
 }
+
+pub play_line-requires-clause-player : goal.play_line-requires-clause-player
+play_line-requires-clause-player g c =
+    let i = c.loop.invariant in
+    record { seated = i.seated; rows = i.rows; drew = omega (arith, i.draws, i.events) }
 
 pub play_line-requires-clause-kept : goal.play_line-requires-clause-kept
 play_line-requires-clause-kept g c = λ tells. c.loop.invariant.kept (c.loop.invariant.serves.tells.1 tells)
@@ -49,22 +54,22 @@ loop-preserved g c =
     let after_play_line = g.S.Stage.standing c.play_line.new.stage in
     let i = c.loop.invariant in
     record {
-      seated = c.play_line.ensures.seated;
-      routines = c.play_line.ensures.routines ∙ i.routines;
-      rows = rw c.play_line.ensures.routines i.rows;
-      events = c.in-Ok.ensures.events ∙ omega (arith, i.events);
+      seated = c.play_line.ensures.player.seated;
+      routines = c.play_line.ensures.player.routines ∙ i.routines;
+      rows = rw c.play_line.ensures.player.routines i.rows;
+      events = c.in-Ok.ensures.session.events ∙ omega (arith, i.events);
       from = omega (arith, i.from);
       few = omega (arith, c.loop-test.true);
-      draws = omega (arith, c.play_line.ensures.draws, i.draws);
+      draws = omega (arith, c.play_line.ensures.player.drew, i.draws);
       serves = serves_then g.S.Stage _ _ None _ _ _ i.serves c.in-Ok.ensures.serves;
-      kept = λ tells. c.in-Ok.ensures.kept (i.serves.tells.0 tells);
+      kept = λ tells. c.in-Ok.ensures.session.kept (i.serves.tells.0 tells);
       playing = λ tells X rows s first start events.
           let few : c.loop.counter - s.before < EVENT_LIMIT - s.before = omega (arith, c.loop-test.true, i.from, events) in
           let at : c.loop.session.events ≡ s.before + (c.loop.counter - s.before) = omega (arith, i.events, i.from, events) in
           let next = c.in-Ok.ensures.meaning (i.serves.tells.0 tells) X (rw i.routines rows) s (EVENT_LIMIT - s.before)
           (c.loop.counter - s.before) first (i.playing tells X rows s first start events) at few in
           let n : suc (c.loop.counter - s.before) ≡ c.loop.counter + 1 - s.before = omega (arith, i.from, events) in
-          subst (λ k. IsPlaying (story_of k X) s first after_play_line c.play_line.new.player (c.loop.counter + 1 - s.before)) (sym c.play_line.ensures.game)
+          subst (λ k. IsPlaying (story_of k X) s first after_play_line c.play_line.new.player (c.loop.counter + 1 - s.before)) (sym c.play_line.ensures.player.game)
           (subst (λ k. IsPlaying (story_of c.loop.player.game X) s first after_play_line c.play_line.new.player k) n next);
       passes = λ tells X rows s first start events.
           let few : c.loop.counter - s.before < EVENT_LIMIT - s.before = omega (arith, c.loop-test.true, i.from, events) in

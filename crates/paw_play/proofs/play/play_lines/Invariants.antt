@@ -8,7 +8,8 @@ use Rattle.paw_stage.specs.Moments.{Passes}
 use Rattle.paw_turn.specs.inner.Player.{IsSeated}
 use Rattle.paw_journal.specs.inner.Journal.{KeptIn}
 use Rattle.paw_play.specs.Calls.{play_calls}
-use Rattle.paw_play.specs.Play.{PlayedSession, InPlay}
+use Rattle.paw_play.specs.Played.{PlayedSession}
+use Rattle.paw_play.specs.Keeping.{InPlay}
 use Rattle.paw_play.specs.inner.OnTheWay.{IsPlaying}
 use Rattle.paw_play.proofs.play.play_lines.Given as goal
 

@@ -1,17 +1,21 @@
-use Rattle.std.proofs.Common.{◌<◌, ◌⊎◌, ◌∙◌, [], ◌∷◌, None, refl, sym, ap, subst, length, arith}
+use Rattle.std.proofs.Common.{◌<◌, ◌∙◌, [], ◌∷◌, None, refl, sym, ap, subst, length, arith}
 use Rattle.paw_stage.proofs.Time.{Passes_map}
 use Rattle.paw_stage.specs.Stage.{Standing}
-use Rattle.paw_play.specs.Play.{PlayedSession, InNewGame, InPlay, unattached, occupied, plays_in}
-use Rattle.paw_play.specs.inner.OnTheWay.{InMaking, PlaysInStore, IsStore, new_session}
-use Rattle.paw_play.proofs.Attaching.{store_attached, store_empty, at_new_attach}
+use Rattle.paw_routines.specs.Measure.{measure}
+use Rattle.paw_journal.specs.inner.Session.{digests_of}
+use Rattle.paw_play.specs.Played.{PlayedSession, begun}
+use Rattle.paw_play.specs.Keeping.{InNewSession}
+use Rattle.paw_play.specs.Play.{MadeAndPlayed, unattached, occupied, plays_in}
+use Rattle.paw_play.specs.inner.OnTheWay.{IsStore}
+use Rattle.paw_play.proofs.Attaching.{store_attached, store_empty, at_new_attach, new_from}
+use Rattle.paw_play.proofs.Begun.{own_session}
 use Rattle.paw_play.proofs.Parts.{then_attached, attach_failed}
-use Rattle.paw_play.proofs.Games.{game_plays, in_game}
 use Rattle.paw_stage.specs.declared.StageCall.TheVariants as call
 use Rattle.paw_journal.proofs.Serving.{in_front, serves_among, serves_still, serves_then, the_only_one}
 use Rattle.paw_play.specs.Calls.{play_calls}
 use Rattle.paw_play.proofs.Following.{play_sessions}
 use Rattle.paw_play.specs.inner.Calls.{call_of_end}
-use Rattle.paw_effects.specs.Story.{story_of}
+use Rattle.paw_effects.specs.Story.{Story, story_of}
 use Rattle.paw_play.proofs.play.play_loop.Goals as goal
 
 pub returns-in-Err-clause-plays : goal.returns-in-Err-clause-plays
@@ -25,17 +29,18 @@ returns-then-at-ne0-clause-plays g c = λ tells X rows.
 
 pub returns-clause-plays : goal.returns-clause-plays
 returns-clause-plays g c = λ tells X rows.
-    let game2 = g.T.Tables.game c.args.tables.now in
+    let story : Story = story_of (g.T.Tables.game c.args.tables.now) X in
+    let after_attach = g.S.Stage.standing c.attach.new.stage in
     let after_play_in = g.S.Stage.standing c.play_in.new.stage in
     let a = c.in-Ok.ensures.attached tells in
     let old : Standing = g.S.Stage.standing c.args.stage.now in
-    let s : PlayedSession = new_session (story_of game2 X) c.args.seed c.args.game.now c.args.name.now in
-    let store : IsStore c.args.name.now (g.S.Stage.standing c.attach.new.stage) =
-    subst (IsStore c.args.name.now) (sym a.1) (store_attached old c.args.name.now) in
-    plays_in c.play_in.result (store_empty old _ c.args.name.now c.in-Ok.at.length a (omega (arith, c.if-at-ne0.false)))
-    (game_plays (story_of game2 X) c.args.seed c.args.game.now c.args.name.now c.requires.game old after_play_in c.play_in.result
-    (subst (λ q. PlaysInStore s q after_play_in c.play_in.result) a.1
-    (c.play_in.ensures.plays (c.attach.ensures.serves.tells.0 tells) X rows c.args.name.now store)))
+    let name = c.args.name.now in
+    let own = own_session story c.args.seed (digests_of c.args.game.now (measure X)) name (ap (λ d. digests_of d (measure X)) c.requires.game) in
+    let store : IsStore name after_attach = subst (IsStore name) (sym a.1) (store_attached old name) in
+    plays_in c.play_in.result (store_empty old _ name c.in-Ok.at.length a (omega (arith, c.if-at-ne0.false)))
+    (subst (λ q. MadeAndPlayed (begun story c.args.seed name) q after_play_in c.play_in.result) a.1
+    (subst (λ s. MadeAndPlayed s after_attach after_play_in c.play_in.result) own
+    (c.play_in.ensures.plays (c.attach.ensures.serves.tells.0 tells) X rows name store)))
 
 pub returns-in-Err-clause-any_moment : goal.returns-in-Err-clause-any_moment
 returns-in-Err-clause-any_moment g c = λ tells X rows empty.
@@ -54,12 +59,13 @@ returns-clause-any_moment g c = λ tells X rows empty.
     let name = c.args.name.now in
     let a = c.in-Ok.ensures.attached tells in
     let now = c.attach.ensures.serves.tells.0 tells in
-    let s : PlayedSession = new_session story c.args.seed c.args.game.now name in
+    let s : PlayedSession = begun story c.args.seed name in
+    let own = own_session story c.args.seed (digests_of c.args.game.now (measure X)) name (ap (λ d. digests_of d (measure X)) c.requires.game) in
     let store : IsStore name after_attach = subst (IsStore name) (sym a.1) (store_attached old name) in
     then_attached g.S.Stage g.met.S.Stage.only_now g.met.S.Stage.counts_now c.args.stage.now c.attach.new.stage c.play_in.new.stage
-    name (InNewGame story c.args.seed name old) now (at_new_attach story c.args.seed name old after_attach a.1 empty) (c.in-Ok.ensures.time tells)
+    name (InNewSession s old) now (at_new_attach s old after_attach a.1 empty) (c.in-Ok.ensures.time tells)
     (Passes_map _ _ _ _ _ _ (c.play_in.ensures.any_moment now X rows name store)
-    (λ m i. in_game story c.args.seed c.args.game.now name c.requires.game old m (subst (λ q. InMaking s q m ⊎ InPlay s q m) a.1 i)))
+    (λ m i. new_from s old m (subst (λ q. InNewSession s q m) a.1 (subst (λ q. InNewSession q after_attach m) own i))))
 
 pub returns-in-Err-clause-serves : goal.returns-in-Err-clause-serves
 returns-in-Err-clause-serves g c =

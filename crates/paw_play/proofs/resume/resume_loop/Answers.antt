@@ -1,13 +1,21 @@
 use Rattle.std.proofs.Common.{None, [], ◌∷◌, ◌≡◌, refl, sym, ◌∙◌, subst}
 use Rattle.paw_stage.specs.Stage.{Standing}
 use Rattle.paw_stage.proofs.Time.{Passes_on, Passes_none}
-use Rattle.paw_journal.specs.Session.{recover}
+use Rattle.paw_stage.specs.Across.{InTwoParts}
+use Rattle.sha2.specs.Sha256.{sha256}
+use Rattle.paw_game.specs.Image.{image}
+use Rattle.paw_routines.specs.Measure.{measure}
+use Rattle.paw_journal.specs.Session.{Digests, BelongsTo, recover, kept_digests}
 use Rattle.paw_journal.specs.inner.Journal.{IsSessionRefused}
-use Rattle.paw_effects.specs.Story.{story_of}
+use Rattle.paw_effects.specs.Story.{Story, story_of}
 use Rattle.paw_play.specs.inner.Calls.{call_of_end}
-use Rattle.paw_play.specs.Play.{InPlay, PlaysUp, ShowsState, unattached, wanting, plays_up, attached_to, kept_session}
+use Rattle.paw_play.specs.Session.{IsOfStory}
+use Rattle.paw_play.specs.Played.{ShowsState, from_state}
+use Rattle.paw_play.specs.Keeping.{InPlay}
+use Rattle.paw_play.specs.Play.{NotYet, Resumed, store_bytes, unattached, wanting, plays_up, attached_to}
 use Rattle.paw_play.specs.inner.OnTheWay.{IsStore, end_of}
 use Rattle.paw_play.proofs.Attaching.{store_attached}
+use Rattle.paw_play.proofs.Standing.{is_shown, again_goes_on}
 use Rattle.paw_play.proofs.Parts.{attach_failed}
 use Rattle.paw_play.proofs.Again.{taken_up_again, found_again, in_taking_up, refused_again, not_for_call, serves_refused}
 use Rattle.paw_stage.specs.declared.StageCall.TheVariants as call
@@ -26,16 +34,6 @@ returns-in-Err-clause-plays g c = λ tells X rows.
 pub returns-in_default-clause-plays : goal.returns-in_default-clause-plays
 returns-in_default-clause-plays g c = λ tells X rows. wanting (c.in-Ok.ensures.attached tells).1
 
-pub returns-in-Err-clause-any_moment : goal.returns-in-Err-clause-any_moment
-returns-in-Err-clause-any_moment g c = λ tells X rows st piece shows.
-    attach_failed g.S.Stage c.args.stage.now c.attach.new.stage c.args.name.now _ (c.in-Err.ensures.left tells) (c.attach.ensures.time tells)
-
-pub returns-in_default-clause-any_moment : goal.returns-in_default-clause-any_moment
-returns-in_default-clause-any_moment g c = λ tells X rows st piece shows.
-    taken_up_again g.S.Stage g.met.S.Stage.only_now g.met.S.Stage.counts_now c.args.stage.now c.attach.new.stage c.attach.new.stage
-    (story_of (g.T.Tables.game c.args.tables.now) X) c.args.game.now c.args.name.now st piece c.counts-counts.ensures.valid shows
-    (c.attach.ensures.serves.tells.0 tells) (c.in-Ok.ensures.attached tells).1 (c.in-Ok.ensures.time tells) (Passes_none _ _ _)
-
 pub returns-in-Err-find-clause-refused : goal.returns-in-Err-find-clause-refused
 returns-in-Err-find-clause-refused g c = rw c.not_found.ensures.value (not_for_call c.in-Err-find.refusal)
 
@@ -43,62 +41,113 @@ pub returns-in-Err-find-clause-plays : goal.returns-in-Err-find-clause-plays
 returns-in-Err-find-clause-plays g c = λ tells X rows.
     let a = c.in-Ok.ensures.attached tells in
     let now = c.attach.ensures.serves.tells.0 tells in
-    let found = c.in-Err-find.ensures.found now in
+    let refused = c.in-Err-find.ensures.refused now in
     rw c.not_found.ensures.value
-    (refused_again (story_of (g.T.Tables.game c.args.tables.now) X) c.args.game.now c.args.name.now
+    (refused_again (story_of (g.T.Tables.game c.args.tables.now) X) c.args.name.now
     (g.S.Stage.standing c.args.stage.now) (g.S.Stage.standing c.find.new.stage) c.in-Err-find.refusal
-    (subst (λ (q : Standing). IsSessionRefused (recover q.disk.bytes) c.args.game.now c.in-Err-find.refusal) a.1 found)
+    (subst (λ r. IsSessionRefused (recover (store_bytes (g.S.Stage.standing c.args.stage.now) c.args.name.now)) (sha256 (image (g.T.Tables.game c.args.tables.now)))
+    r c.in-Err-find.refusal) (c.measure.ensures.value X rows)
+    (subst (λ d. IsSessionRefused (recover (store_bytes (g.S.Stage.standing c.args.stage.now) c.args.name.now)) d c.measure.result c.in-Err-find.refusal)
+    c.requires.game
+    (subst (λ (q : Standing). IsSessionRefused (recover q.disk.bytes) c.args.game.now c.measure.result c.in-Err-find.refusal) a.1 refused)))
     c.in-Err-find.ensures.serves.among (c.find.ensures.still now ∙ a.1))
-
-pub returns-in-Err-find-clause-any_moment : goal.returns-in-Err-find-clause-any_moment
-returns-in-Err-find-clause-any_moment g c = λ tells X rows st piece shows.
-    let story = story_of (g.T.Tables.game c.args.tables.now) X in
-    let now = c.attach.ensures.serves.tells.0 tells in
-    let there = (c.in-Ok.ensures.attached tells).1 in
-    taken_up_again g.S.Stage g.met.S.Stage.only_now g.met.S.Stage.counts_now c.args.stage.now c.attach.new.stage c.find.new.stage
-    story c.args.game.now c.args.name.now st piece c.counts-counts.ensures.valid shows now there (c.in-Ok.ensures.time tells)
-    (found_again g.S.Stage c.args.stage.now c.attach.new.stage c.find.new.stage
-    story c.args.game.now c.args.name.now st piece c.counts-counts.ensures.valid shows there (c.find.ensures.time now))
 
 pub returns-clause-plays : goal.returns-clause-plays
 returns-clause-plays g c = λ tells X rows.
-    let game2 = g.T.Tables.game c.args.tables.now in
+    let story : Story = story_of (g.T.Tables.game c.args.tables.now) X in
     let old = g.S.Stage.standing c.args.stage.now in
+    let name = c.args.name.now in
     let after_find = g.S.Stage.standing c.find.new.stage in
     let after_take_up = g.S.Stage.standing c.take_up.new.stage in
     let a = c.in-Ok.ensures.attached tells in
     let now = c.attach.ensures.serves.tells.0 tells in
-    let is : g.S.Stage.standing c.find.new.stage ≡ attached_to old c.args.name.now = c.find.ensures.still now ∙ a.1 in
-    let store : IsStore c.args.name.now after_find = subst (IsStore c.args.name.now) (sym is) (store_attached old c.args.name.now) in
-    let up = c.take_up.ensures.plays (c.find.ensures.serves.tells.0 now) X rows c.args.name.now store in
-    plays_up c.take_up.result
-    (subst (λ q. PlaysUp (story_of game2 X) c.args.game.now c.args.name.now q after_take_up c.take_up.result) is
-    (subst (λ d. PlaysUp (story_of game2 X) d c.args.name.now after_find after_take_up c.take_up.result) (c.in-Ok-find.ensures.digest now) up))
+    let digests : Digests = kept_digests after_find.disk.bytes in
+    let belongs : IsOfStory story digests =
+    subst (λ r. BelongsTo (sha256 (image (g.T.Tables.game c.args.tables.now))) r digests) (c.measure.ensures.value X rows)
+    (subst (λ d. BelongsTo d c.measure.result digests) c.requires.game (c.in-Ok-find.ensures.belongs now)) in
+    let is : after_find ≡ attached_to old name = c.find.ensures.still now ∙ a.1 in
+    let store : IsStore name after_find = subst (IsStore name) (sym is) (store_attached old name) in
+    plays_up c.take_up.result digests belongs
+    (subst (λ q. Resumed story digests name q after_take_up c.take_up.result) is
+    (c.take_up.ensures.plays (c.find.ensures.serves.tells.0 now) X rows name store))
 
-pub returns-clause-any_moment : goal.returns-clause-any_moment
-returns-clause-any_moment g c = λ tells X rows st piece shows.
-    let game = g.T.Tables.game c.args.tables.now in
+-- ---- by the session that goes on ----
+
+pub returns-in-Err-clause-goes_on : goal.returns-in-Err-clause-goes_on
+returns-in-Err-clause-goes_on g c = λ tells X rows s from.
+    again_goes_on (story_of (g.T.Tables.game c.args.tables.now) X) c.args.name.now (g.S.Stage.standing c.args.stage.now) _ s
+    c.counts-counts.ensures.valid from _ (returns-in-Err-clause-plays g c tells X rows)
+
+pub returns-in_default-clause-goes_on : goal.returns-in_default-clause-goes_on
+returns-in_default-clause-goes_on g c = λ tells X rows s from.
+    again_goes_on (story_of (g.T.Tables.game c.args.tables.now) X) c.args.name.now (g.S.Stage.standing c.args.stage.now) _ s
+    c.counts-counts.ensures.valid from _ (returns-in_default-clause-plays g c tells X rows)
+
+pub returns-in-Err-find-clause-goes_on : goal.returns-in-Err-find-clause-goes_on
+returns-in-Err-find-clause-goes_on g c = λ tells X rows s from.
+    again_goes_on (story_of (g.T.Tables.game c.args.tables.now) X) c.args.name.now (g.S.Stage.standing c.args.stage.now) _ s
+    c.counts-counts.ensures.valid from _ (returns-in-Err-find-clause-plays g c tells X rows)
+
+pub returns-clause-goes_on : goal.returns-clause-goes_on
+returns-clause-goes_on g c = λ tells X rows s from.
+    again_goes_on (story_of (g.T.Tables.game c.args.tables.now) X) c.args.name.now (g.S.Stage.standing c.args.stage.now) _ s
+    c.counts-counts.ensures.valid from _ (returns-clause-plays g c tells X rows)
+
+-- ---- its moments ----
+
+pub returns-in-Err-clause-any_moment : goal.returns-in-Err-clause-any_moment
+returns-in-Err-clause-any_moment g c = λ tells X rows s from.
+    attach_failed g.S.Stage c.args.stage.now c.attach.new.stage c.args.name.now _ (c.in-Err.ensures.left tells) (c.attach.ensures.time tells)
+
+pub returns-in_default-clause-any_moment : goal.returns-in_default-clause-any_moment
+returns-in_default-clause-any_moment g c = λ tells X rows s from.
+    let story : Story = story_of (g.T.Tables.game c.args.tables.now) X in
     let old : Standing = g.S.Stage.standing c.args.stage.now in
     let name = c.args.name.now in
-    let session = kept_session (story_of game X) st piece c.args.game.now name in
+    let k = is_shown story name (store_bytes old name) s from in
+    subst (λ q. InTwoParts g.S.Stage c.args.stage.now c.attach.new.stage (NotYet name old) (InPlay q old)) k.same
+    (taken_up_again g.S.Stage g.met.S.Stage.only_now g.met.S.Stage.counts_now c.args.stage.now c.attach.new.stage c.attach.new.stage
+    story k.digests name k.state k.piece c.counts-counts.ensures.valid k.shows
+    (c.attach.ensures.serves.tells.0 tells) (c.in-Ok.ensures.attached tells).1 (c.in-Ok.ensures.time tells) (Passes_none _ _ _))
+
+pub returns-in-Err-find-clause-any_moment : goal.returns-in-Err-find-clause-any_moment
+returns-in-Err-find-clause-any_moment g c = λ tells X rows s from.
+    let story : Story = story_of (g.T.Tables.game c.args.tables.now) X in
+    let old : Standing = g.S.Stage.standing c.args.stage.now in
+    let name = c.args.name.now in
+    let k = is_shown story name (store_bytes old name) s from in
+    let now = c.attach.ensures.serves.tells.0 tells in
+    let there = (c.in-Ok.ensures.attached tells).1 in
+    subst (λ q. InTwoParts g.S.Stage c.args.stage.now c.find.new.stage (NotYet name old) (InPlay q old)) k.same
+    (taken_up_again g.S.Stage g.met.S.Stage.only_now g.met.S.Stage.counts_now c.args.stage.now c.attach.new.stage c.find.new.stage
+    story k.digests name k.state k.piece c.counts-counts.ensures.valid k.shows now there (c.in-Ok.ensures.time tells)
+    (found_again g.S.Stage c.args.stage.now c.attach.new.stage c.find.new.stage
+    story k.digests name k.state k.piece c.counts-counts.ensures.valid k.shows there (c.find.ensures.time now)))
+
+pub returns-clause-any_moment : goal.returns-clause-any_moment
+returns-clause-any_moment g c = λ tells X rows s from.
+    let game = g.T.Tables.game c.args.tables.now in
+    let story : Story = story_of game X in
+    let old : Standing = g.S.Stage.standing c.args.stage.now in
+    let name = c.args.name.now in
+    let k = is_shown story name (store_bytes old name) s from in
+    let session = from_state story k.state k.piece k.digests name in
     let valid = c.counts-counts.ensures.valid in
     let now = c.attach.ensures.serves.tells.0 tells in
     let attached = (c.in-Ok.ensures.attached tells).1 in
     let after_find : Standing = g.S.Stage.standing c.find.new.stage in
     let is : after_find ≡ attached_to old name = c.find.ensures.still now ∙ attached in
     let store : IsStore name after_find = subst (IsStore name) (sym is) (store_attached old name) in
-    let there = subst (λ (q : Standing). ShowsState game c.args.game.now q.disk.bytes st piece) (sym is) shows in
-    let own = subst (λ d. ShowsState game d after_find.disk.bytes st piece) (sym (c.in-Ok-find.ensures.digest now)) there in
-    let up = c.take_up.ensures.any_moment (c.find.ensures.serves.tells.0 now) X rows name store st piece own in
-    taken_up_again g.S.Stage g.met.S.Stage.only_now g.met.S.Stage.counts_now c.args.stage.now c.attach.new.stage c.take_up.new.stage
-    (story_of game X) c.args.game.now name st piece valid shows now attached (c.in-Ok.ensures.time tells)
+    let there = subst (λ (q : Standing). ShowsState game k.digests q.disk.bytes k.state k.piece) (sym is) k.shows in
+    let up = c.take_up.ensures.any_moment (c.find.ensures.serves.tells.0 now) X rows name store k.digests k.state k.piece there in
+    subst (λ q. InTwoParts g.S.Stage c.args.stage.now c.take_up.new.stage (NotYet name old) (InPlay q old)) k.same
+    (taken_up_again g.S.Stage g.met.S.Stage.only_now g.met.S.Stage.counts_now c.args.stage.now c.attach.new.stage c.take_up.new.stage
+    story k.digests name k.state k.piece valid k.shows now attached (c.in-Ok.ensures.time tells)
     (Passes_on _ _ _ _ _ _ (InPlay session old) _
     (found_again g.S.Stage c.args.stage.now c.attach.new.stage c.find.new.stage
-    (story_of game X) c.args.game.now name st piece valid shows attached (c.find.ensures.time now))
+    story k.digests name k.state k.piece valid k.shows attached (c.find.ensures.time now))
     up
-    (λ m i. in_taking_up (story_of game X) c.args.game.now name st piece old valid shows m
-    (subst (λ q. InPlay session q m) is (subst (λ d. InPlay (kept_session (story_of game X) st piece d name) after_find m)
-    (c.in-Ok-find.ensures.digest now) i))))
+    (λ m i. in_taking_up story k.digests name k.state k.piece old valid k.shows m (subst (λ q. InPlay session q m) is i))))
 
 pub returns-in-Err-clause-serves : goal.returns-in-Err-clause-serves
 returns-in-Err-clause-serves g c =

@@ -1,4 +1,4 @@
-use Rattle.std.proofs.Common.{◌≡◌, ◌-◌, refl, sym, subst, Some, None}
+use Rattle.std.proofs.Common.{◌≡◌, ◌-◌, refl, sym, subst, Some, None, arith}
 use Rattle.paw_base.specs.declared.limits.TheConstants.{EVENT_LIMIT}
 use Rattle.paw_stage.specs.Moments.{Passes, InShow}
 use Rattle.paw_stage.proofs.Time.{Passes_map, Passes_on}
@@ -9,20 +9,30 @@ use Rattle.paw_state.specs.declared.StateFault.{StateFault}
 use Rattle.paw_state.specs.declared.Restored.{Restored}
 use Rattle.paw_state.specs.Fit.{Fit, Unfit}
 use Rattle.paw_state.specs.inner.Fit.{state_read}
-use Rattle.paw_play.specs.Play.{InPlay, memory, no_state, plays_on}
+use Rattle.paw_play.specs.Keeping.{InPlay}
+use Rattle.paw_play.specs.Play.{memory, no_state, plays_on}
 use Rattle.paw_play.specs.inner.OnTheWay.{ShowsAgain}
 use Rattle.paw_play.proofs.Showing.{read_fits, resumed, one_session}
-use Rattle.paw_play.proofs.Resuming.{in_again_show, again_next, again_last, seat_routines, read_session}
+use Rattle.paw_play.proofs.Resuming.{in_again_show, again_next, again_last, seat_routines, seat_draws, read_session}
 use Rattle.paw_journal.proofs.Serving.{serves_then}
 use Rattle.paw_play.specs.inner.Calls.{call_of_end}
 use Rattle.paw_play.proofs.Following.{keeps_shown}
 use Rattle.paw_play.proofs.resume.take_up.Goals as goal
 
-pub play_lines-requires-clause-rows : goal.play_lines-requires-clause-rows
-play_lines-requires-clause-rows g c = subst (λ r. HaveRows g.F.Fn r)
-    (sym (seat_routines (g.T.Tables.game c.args.tables.now) c.args.routines.now c.in-Ok.restored.world
-    c.in-Ok.restored.machine c.in-Ok.restored.pending c.in-Ok.restored.prompt c.in-Ok-adopt.player
-    c.in-Ok-adopt.ensures.value)) c.requires.rows
+pub play_lines-requires-clause-player : goal.play_lines-requires-clause-player
+play_lines-requires-clause-player g c =
+    let game2 = g.T.Tables.game c.args.tables.now in
+    let r = c.in-Ok.restored in
+    record {
+      seated = c.in-Ok-adopt.ensures.seated;
+      rows = subst (λ q. HaveRows g.F.Fn q)
+          (sym (seat_routines game2 c.args.routines.now r.world r.machine r.pending r.prompt c.in-Ok-adopt.player c.in-Ok-adopt.ensures.value)) c.requires.rows;
+      drew = omega (
+        arith,
+        seat_draws game2 c.args.routines.now r.world r.machine r.pending r.prompt c.in-Ok-adopt.player c.in-Ok-adopt.ensures.value,
+        c.in-Ok.ensures.read.keeps.draws,
+      );
+    }
 
 pub play_lines-requires-clause-kept : goal.play_lines-requires-clause-kept
 play_lines-requires-clause-kept g c = λ tells.
@@ -59,11 +69,11 @@ returns-in-Some-clause-plays g c = λ tells X rows name store.
     c.piece.ensures.value (c.in-Some.ensures.meaning tells)))
 
 pub returns-in-Some-clause-any_moment : goal.returns-in-Some-clause-any_moment
-returns-in-Some-clause-any_moment g c = λ tells X rows name store st piece shows.
+returns-in-Some-clause-any_moment g c = λ tells X rows name store d st piece shows.
     let u = resumed (story_of (g.T.Tables.game c.args.tables.now) X) name c.state.result.now _ c.args.room.now.piece c.in-Ok.restored _ c.args.routines.now
     c.in-Ok-adopt.player (c.requires.kept tells).shown c.state.ensures.value c.in-Ok.ensures.read c.in-Ok.ensures.piece c.in-Ok-adopt.ensures.value
     c.in-Ok-adopt.ensures.seated store in
-    let one = one_session _ name c.args.room.now.piece c.in-Ok.restored _ c.args.routines.now c.in-Ok-adopt.player st piece u shows in
+    let one = one_session _ name c.args.room.now.piece c.in-Ok.restored _ c.args.routines.now c.in-Ok-adopt.player d st piece u shows in
     subst (λ q. Passes (g.S.Stage.clock c.args.stage.now) (g.S.Stage.clock c.show_again.new.stage) (g.S.Stage.since c.args.stage.now)
     (g.S.Stage.since c.show_again.new.stage) (InPlay q (g.S.Stage.standing c.args.stage.now))) one
     (Passes_map _ _ _ _ _ (InPlay (read_session (story_of (g.T.Tables.game c.args.tables.now) X) name c.args.room.now.piece c.in-Ok.restored
@@ -83,11 +93,11 @@ returns-clause-plays g c = λ tells X rows name store.
     (c.play_lines.ensures.meaning (c.show_again.ensures.serves.tells.0 tells) X own _ (g.S.Stage.standing c.args.stage.now) start refl)
 
 pub returns-clause-any_moment : goal.returns-clause-any_moment
-returns-clause-any_moment g c = λ tells X rows name store st piece shows.
+returns-clause-any_moment g c = λ tells X rows name store d st piece shows.
     let u = resumed (story_of (g.T.Tables.game c.args.tables.now) X) name c.state.result.now _ c.args.room.now.piece c.in-Ok.restored _ c.args.routines.now
     c.in-Ok-adopt.player (c.requires.kept tells).shown c.state.ensures.value c.in-Ok.ensures.read c.in-Ok.ensures.piece c.in-Ok-adopt.ensures.value
     c.in-Ok-adopt.ensures.seated store in
-    let one = one_session _ name c.args.room.now.piece c.in-Ok.restored _ c.args.routines.now c.in-Ok-adopt.player st piece u shows in
+    let one = one_session _ name c.args.room.now.piece c.in-Ok.restored _ c.args.routines.now c.in-Ok-adopt.player d st piece u shows in
     let after_show_again = g.S.Stage.standing c.show_again.new.stage in
     let start = again_next u after_show_again (subst (λ x. ShowsAgain (g.S.Stage.standing c.args.stage.now) after_show_again x c.in-Ok.restored.prompt None)
     c.piece.ensures.value (c.in_default-show_again.ensures.meaning tells)) in
