@@ -1,10 +1,8 @@
 -- What playing the two halves of a trial comes to.
-use Rattle.std.proofs.Common.{◌≡◌, ℕ, ◌<◌, List, [], ◌++◌, length, drop, refl, sym, ap, ◌∙◌, subst, arith, append-nil}
+use Rattle.std.proofs.Common.{◌≡◌, ℕ, ◌+◌, ◌<◌, ◌≤◌, List, [], ◌++◌, Some, length, drop, refl, sym, ap, ◌∙◌, subst, arith, append-nil}
 use Rattle.std.specs.Prelude.{◌-◌, All}
 use Rattle.std.proofs.lemmas.List.{drop_all}
-use Rattle.sha2.specs.Sha256.{sha256}
 use Rattle.paw_base.specs.declared.limits.TheConstants.{EVENT_LIMIT}
-use Rattle.paw_game.specs.Image.{image}
 use Rattle.paw_stage.specs.Disk.{IsStable}
 use Rattle.paw_stage.specs.inner.Memory.{Memory, empty, standing_of}
 use Rattle.paw_stage.specs.Stage.{Standing, bytes_or_none}
@@ -12,13 +10,15 @@ use Rattle.paw_reading.specs.Turn.{reading}
 use Rattle.paw_reading.specs.Bounds.{IsLine}
 use Rattle.paw_play.specs.declared.PlayEnd.{PlayEnd}
 use Rattle.paw_play.specs.declared.PlayEnd.TheVariants as play
-use Rattle.paw_play.specs.Walk.{EndingOf, first_lines}
-use Rattle.paw_play.specs.Stands.{Stands, StandsWith, reading_since}
-use Rattle.paw_play.specs.Play.{PlaysWith, PlaysIn, memory, spent, too_deep, unmade, plays, unattached, occupied, plays_in, PlaysGame, PlaysAgain, GoesOn}
+use Rattle.paw_play.specs.Walk.{first_lines}
+use Rattle.paw_play.specs.Stands.{Stands}
+use Rattle.paw_play.specs.Played.{PlayedSession, begun, from_lines, behind}
+use Rattle.paw_play.specs.Keeping.{KeptBy}
+use Rattle.paw_play.specs.Play.{PlaysOn, MadeAndPlayed, memory, spent, too_deep, unmade, plays, unattached, occupied, plays_in, NewSession, PlaysAgain, GoesOn}
 use Rattle.paw_play.specs.Play.{store_bytes, attached_to}
 use Rattle.paw_play.specs.Play as of
-use Rattle.paw_play.proofs.Standing.{standing_again}
-use Rattle.paw_gen.specs.Trial.{trial_game, trial_lines}
+use Rattle.paw_play.proofs.Standing.{begun_stands, later_stands, again_goes_on}
+use Rattle.paw_gen.specs.Trial.{trial_lines}
 use Rattle.paw_trial.specs.declared.TrialEnd.{TrialEnd}
 use Rattle.paw_trial.specs.declared.TrialEnd.TheVariants as end
 use Rattle.paw_trial.specs.Trial.{trial_story, trial_reading}
@@ -46,19 +46,21 @@ pub ready_stable : (h : Half) (n : ℕ) (m : Memory) → IsReadyFor h n m → Is
 ready_stable half.First n m is = subst (λ (x : Memory). IsStable (standing_of x).disk) (sym is) (record { kept = refl; longest = refl; dirty = refl })
 ready_stable half.Second n m holds = holds.stable
 
--- Lines are played behind others, with more lines behind them. Whole is a reading that ends as that of the others and these.
-module _ (n : ℕ) (es lines behind : List (List ℕ)) (all : (es ++ lines) ++ behind ≡ trial_lines n) (are : All IsLine lines) (whole : EndingOf)
-    (stops : (stop : TrialEnd) (fs : List (List ℕ)) → StopsAs stop (whole fs) → StopsAs stop (reading (trial_story n) n (es ++ fs)))
-    (waits : (fs : List (List ℕ)) → Waits (whole fs) → Waits (reading (trial_story n) n (es ++ fs))) where
+-- Lines are played behind others, with more lines behind them, by a session of the store whose reading ends as that of
+-- the others and these; what it keeps stands for them.
+module _ (n : ℕ) (es lines rest : List (List ℕ)) (all : (es ++ lines) ++ rest ≡ trial_lines n) (are : All IsLine lines) (s : PlayedSession)
+    (named : s.name ≡ store_name)
+    (stops : (stop : TrialEnd) (fs : List (List ℕ)) → StopsAs stop (s.whole fs) → StopsAs stop (reading (trial_story n) n (es ++ fs)))
+    (waits : (fs : List (List ℕ)) → Waits (s.whole fs) → Waits (reading (trial_story n) n (es ++ fs)))
+    (stands : (k : ℕ) (bytes : List ℕ) → k ≤ length lines → s.before + k ≤ EVENT_LIMIT → KeptBy s lines k bytes →
+    Stands (trial_story n) n (es ++ first_lines k lines) bytes) where
   -- a trial that stops after k of them
-  stopped : (stop : TrialEnd) (k : ℕ) → StopsAs stop (whole (first_lines k lines)) → StopsAs stop (trial_reading n)
-  stopped stop k h = stops_later n (es ++ first_lines k lines) (drop k lines ++ behind) stop
-      (taken_and_left es lines behind k are ∙ all) (stops stop (first_lines k lines) h)
+  stopped : (stop : TrialEnd) (k : ℕ) → StopsAs stop (s.whole (first_lines k lines)) → StopsAs stop (trial_reading n)
+  stopped stop k h = stops_later n (es ++ first_lines k lines) (drop k lines ++ rest) stop
+      (taken_and_left es lines rest k are ∙ all) (stops stop (first_lines k lines) h)
 
-  half_comes : (past most : ℕ) (old new : Standing) (o : PlayEnd) → old.lines ≡ lines →
-      PlaysWith (StandsWith (trial_story n) n es lines) whole past store_name most old new o →
-      ComesTo n (es ++ lines) new (stop_of o)
-  half_comes past most old new play.InputEnded is p =
+  half_comes : (most : ℕ) (old new : Standing) (o : PlayEnd) → old.lines ≡ lines → PlaysOn s most old new o → ComesTo n (es ++ lines) new (stop_of o)
+  half_comes most old new play.InputEnded is p =
       let reads = p.shows.1.3 in
       let count : p.session.0 ≡ length lines = omega (arith, p.session.1, ap (λ (x : Standing). x.asked) reads.stands, ap length is) in
       let rests = p.session.2 in
@@ -66,73 +68,74 @@ module _ (n : ℕ) (es lines behind : List (List ℕ)) (all : (es ++ lines) ++ b
       let read : first_lines (length old.lines) old.lines ≡ lines = ap (λ (x : List (List ℕ)). first_lines (length x) x) is ∙ taken in
       let kept : Stands (trial_story n) n (es ++ lines) new.disk.bytes =
       subst (λ fs. Stands (trial_story n) n (es ++ fs) new.disk.bytes) (ap (λ k. first_lines k lines) count ∙ taken)
-      rests.keeps in
+      (stands p.session.0 new.disk.bytes (omega (arith, count)) rests.few
+      (subst (λ l. KeptBy s l p.session.0 new.disk.bytes) is rests.keeps)) in
       record {
         stable = rests.stable;
         none = ap (λ (x : Standing). x.lines) reads.stands ∙ drop_all (length old.lines) old.lines (omega arith);
-        waits = waits lines (subst Waits (sym (sym (ap whole read) ∙ reads.reading)) tt);
-        stands = subst (Stands (trial_story n) n (es ++ lines)) (sym (ap bytes_or_none rests.file)) kept;
+        waits = waits lines (subst Waits (sym (sym (ap s.whole read) ∙ reads.reading)) tt);
+        stands = subst (Stands (trial_story n) n (es ++ lines))
+            (sym (ap bytes_or_none (subst (λ x. new.files x ≡ Some new.disk.bytes) named rests.file))) kept;
       }
-  half_comes past most old new play.Ended is p =
-      stopped end.Ended p.shows.0 (subst (StopsAs end.Ended) (sym (sym (ap (λ x. whole (first_lines p.shows.0 x)) is) ∙ p.shows.4.reading)) tt)
-  half_comes past most old new (play.Spent kind) is p =
-      stopped (end.Spent kind) p.shows.0 (subst (StopsAs (end.Spent kind)) (sym (sym (ap (λ x. whole (first_lines p.shows.0 x)) is) ∙ p.shows.4.reading)) refl)
-  half_comes past most old new (play.TooDeep table) is p =
+  half_comes most old new play.Ended is p =
+      stopped end.Ended p.shows.0 (subst (StopsAs end.Ended) (sym (sym (ap (λ x. s.whole (first_lines p.shows.0 x)) is) ∙ p.shows.4.reading)) tt)
+  half_comes most old new (play.Spent kind) is p =
+      stopped (end.Spent kind) p.shows.0 (subst (StopsAs (end.Spent kind)) (sym (sym (ap (λ x. s.whole (first_lines p.shows.0 x)) is) ∙ p.shows.4.reading)) refl)
+  half_comes most old new (play.TooDeep table) is p =
       stopped (end.TooDeep table) p.shows.0
       (subst (StopsAs (end.TooDeep table))
-      (sym (sym (ap (λ x. whole (first_lines p.shows.0 x)) is) ∙ p.shows.4.reading)) refl)
-  half_comes past most old new (play.Occupied size) is p = tt
-  half_comes past most old new (play.Refused r) is p = tt
-  half_comes past most old new (play.State at) is p = tt
-  half_comes past most old new (play.Long events) is p = tt
-  half_comes past most old new (play.Outside c) is p = tt
-  half_comes past most old new play.Memory is p = tt
+      (sym (sym (ap (λ x. s.whole (first_lines p.shows.0 x)) is) ∙ p.shows.4.reading)) refl)
+  half_comes most old new (play.Occupied size) is p = tt
+  half_comes most old new (play.Refused r) is p = tt
+  half_comes most old new (play.State at) is p = tt
+  half_comes most old new (play.Long events) is p = tt
+  half_comes most old new (play.Outside c) is p = tt
+  half_comes most old new play.Memory is p = tt
 
 -- ---- the first half ----
 
 module _ (n : ℕ) (old new : Standing) (is : old.lines ≡ first_half n) where
-  begun : (o : PlayEnd) → PlaysIn (StandsWith (trial_story n) n [] (first_half n)) (reading (trial_story n) n) store_name
-      old new o → ComesTo n (first_half n) new (stop_of o)
-  begun _ (memory e) = tt
-  begun _ (spent kind r e same) = stops_later n [] (trial_lines n) (end.Spent kind) refl (subst (StopsAs (end.Spent kind)) (sym e) refl)
-  begun _ (too_deep table r e same) = stops_later n [] (trial_lines n) (end.TooDeep table) refl (subst (StopsAs (end.TooDeep table)) (sym e) refl)
-  begun _ (unmade c w e stays) = tt
-  begun _ (plays o p) =
-      half_comes n [] (first_half n) (second_half n) (both_halves n) (first_are n) (reading (trial_story n) n)
-      (λ stop fs h. h) (λ fs h. h) 0 EVENT_LIMIT old new o is p
+  made : (o : PlayEnd) → MadeAndPlayed (begun (trial_story n) n store_name) old new o → ComesTo n (first_half n) new (stop_of o)
+  made _ (memory e) = tt
+  made _ (spent kind r e same) = stops_later n [] (trial_lines n) (end.Spent kind) refl (subst (StopsAs (end.Spent kind)) (sym e) refl)
+  made _ (too_deep table r e same) = stops_later n [] (trial_lines n) (end.TooDeep table) refl (subst (StopsAs (end.TooDeep table)) (sym e) refl)
+  made _ (unmade c w e stays) = tt
+  made _ (plays o p) =
+      half_comes n [] (first_half n) (second_half n) (both_halves n) (first_are n) (begun (trial_story n) n store_name) refl
+      (λ stop fs h. h) (λ fs h. h) (λ k bytes there few kept. begun_stands (trial_story n) n (first_half n) store_name k bytes there (omega (arith, few)) kept)
+      EVENT_LIMIT old new o is p
 
 first_comes : (n : ℕ) (old new : Standing) (o : PlayEnd) → old.lines ≡ first_half n →
-    PlaysGame (trial_story n) n store_name old new o → ComesTo n (first_half n) new (stop_of o)
+    NewSession (begun (trial_story n) n store_name) old new o → ComesTo n (first_half n) new (stop_of o)
 first_comes n old new _ is (unattached u) = tt
 first_comes n old new _ is (occupied some e) = tt
-first_comes n old new _ is (plays_in o empty p) =
-    begun n (attached_to old store_name) new is o
-    (subst (λ lines. PlaysIn (StandsWith (trial_story n) n [] lines) (reading (trial_story n) n) store_name
-    (attached_to old store_name) new o) is p)
+first_comes n old new _ is (plays_in o empty p) = made n (attached_to old store_name) new is o p
 
 -- ---- the second half ----
 
-module _ (n : ℕ) (old new : Standing) (is : old.lines ≡ second_half n) where
-  taken_up : (o : PlayEnd) → GoesOn (trial_story n) n (first_half n) store_name old new o → ComesTo n (first_half n ++ second_half n) new (stop_of o)
+module _ (n : ℕ) (old new : Standing) (is : old.lines ≡ second_half n) (stands : Stands (trial_story n) n (first_half n) (store_bytes old store_name)) where
+  taken_up : (o : PlayEnd) → GoesOn (from_lines (trial_story n) n (first_half n) stands.digests store_name) old new o →
+      ComesTo n (first_half n ++ second_half n) new (stop_of o)
   taken_up _ (of.unattached u) = tt
   taken_up _ (of.unread e) = tt
   taken_up _ (of.memory e) = tt
   taken_up _ (of.plays o p) =
       half_comes n (first_half n) (second_half n) [] (append-nil (first_half n ++ second_half n) ∙ both_halves n)
-      (second_are n) (reading_since (trial_story n) n (first_half n))
+      (second_are n) (from_lines (trial_story n) n (first_half n) stands.digests store_name) refl
       (λ stop fs h. stops_since (length (first_half n)) stop (reading (trial_story n) n (first_half n ++ fs)) h)
       (λ fs h. waits_since (length (first_half n)) (reading (trial_story n) n (first_half n ++ fs)) h)
-      (length (first_half n)) (EVENT_LIMIT - length (first_half n)) (attached_to old store_name) new o is
-      (subst (λ lines. PlaysWith (StandsWith (trial_story n) n (first_half n) lines)
-      (reading_since (trial_story n) n (first_half n)) (length (first_half n)) store_name
-      (EVENT_LIMIT - length (first_half n)) (attached_to old store_name) new o) is p)
+      (λ k bytes there few kept. later_stands (trial_story n) n (first_half n) (second_half n) stands.digests store_name k bytes stands.belongs there few kept)
+      (EVENT_LIMIT - length (first_half n)) (attached_to old store_name) new o is p
 
 second_comes : (n : ℕ) (old new : Standing) (o : PlayEnd) → n < 65536 → old.lines ≡ second_half n →
     Stands (trial_story n) n (first_half n) (store_bytes old store_name) →
-    PlaysAgain (trial_story n) (sha256 (image (trial_game n))) store_name old new o → ComesTo n (trial_lines n) new (stop_of o)
+    PlaysAgain (trial_story n) store_name old new o → ComesTo n (trial_lines n) new (stop_of o)
 second_comes n old new o low is stands p =
+    let played = plays_first n low in
     subst (λ lines. ComesTo n lines new (stop_of o)) (both_halves n)
-    (taken_up n old new is o (standing_again (trial_story n) n (first_half n) store_name old new (plays_first n low) stands o p))
+    (taken_up n old new is stands o
+    (again_goes_on (trial_story n) store_name old new (from_lines (trial_story n) n (first_half n) stands.digests store_name) played.valid.game
+    (behind n (first_half n) played stands) o p))
 
 -- ---- either half ----
 

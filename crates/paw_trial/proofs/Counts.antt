@@ -2,11 +2,9 @@
 use Rattle.std.proofs.Common.{◌≡◌, ℕ, ◌<◌, List, [], ◌∷◌, ◌++◌, length, get_or, take, sym, ap, ◌∙◌, arith, length-append}
 use Rattle.std.specs.Prelude.{slice_index, codes, decimal}
 use Rattle.std.proofs.lemmas.List.{get_or_append_left, get_or-take}
-use Rattle.sha2.specs.Sha256.{sha256}
 use Rattle.paw_game.specs.Game.{GameLists}
-use Rattle.paw_game.specs.Image.{image}
 use Rattle.paw_reading.specs.Turn.{Ending, WaitsAt}
-use Rattle.paw_journal.specs.Session.{Recovered, Shown, recover, state_length}
+use Rattle.paw_journal.specs.Session.{Digests, Recovered, Shown, recover, state_length}
 use Rattle.paw_state.specs.State.{State}
 use Rattle.paw_state.specs.Record.{state_at}
 use Rattle.std.specs.List.{concat}
@@ -33,13 +31,13 @@ flags_first s i low =
     get_or_append_left (s.world.flags ++ rest) behind 0 i (omega (arith, low, length-append s.world.flags rest))
     ∙ get_or_append_left s.world.flags rest 0 i low
 
-same_state : (digest s p t q : List ℕ) → Shown digest s p ≡ Shown digest t q → s ≡ t
-same_state digest s p t q e = cc
+same_state : (d e : Digests) (s p t q : List ℕ) → Shown d s p ≡ Shown e t q → s ≡ t
+same_state d e s p t q h = cc
 
-module _ (g : GameLists) (n : ℕ) (buffer piece : List ℕ) (r : Recovered) (is : r ≡ Shown (sha256 (image g)) (take state_length buffer) piece) where
-  counts : (e : Ending) → IsSettled g n e → Waits e → IsKept (sha256 (image g)) n e r → IsTallyOf e (tally_in buffer)
-  counts (WaitsAt p path s) settled w kept =
-      let same : take state_length buffer ≡ kept_bytes (state_at n p path s) = same_state _ _ _ _ _ (sym is ∙ kept.shown) in
+module _ (g : GameLists) (n : ℕ) (buffer piece : List ℕ) (r : Recovered) (digests : Digests) (is : r ≡ Shown digests (take state_length buffer) piece) where
+  counts : (e : Ending) (own : Digests) → IsSettled g n e → Waits e → IsKept own n e r → IsTallyOf e (tally_in buffer)
+  counts (WaitsAt p path s) own settled w kept =
+      let same : take state_length buffer ≡ kept_bytes (state_at n p path s) = same_state _ _ _ _ _ _ (sym is ∙ kept.shown) in
       let size : length s.world.flags ≡ 256 = settled.keeps.world.flags in
       let flag_at : (i : ℕ) → i < 256 → slice_index buffer i ≡ slice_index s.world.flags i = λ i low.
       sym (get_or-take state_length buffer i 0 (omega (arith, low)))
@@ -49,12 +47,12 @@ module _ (g : GameLists) (n : ℕ) (buffer piece : List ℕ) (r : Recovered) (is
       let c = flag_at 38 (omega arith) in
       let d = flag_at 1 (omega arith) in
       cc
-  counts _ settled w kept = absurd w
+  counts _ own settled w kept = absurd w
 
-pub trial_counts : (n : ℕ) (bytes buffer piece : List ℕ) → n < 65536 → Waits (trial_reading n) → Stands (trial_story n) n (trial_lines n) bytes →
-    recover bytes ≡ Shown (sha256 (image (trial_game n))) (take state_length buffer) piece → IsTallyOf (trial_reading n) (tally_in buffer)
-trial_counts n bytes buffer piece low waits stands is =
-    counts (trial_game n) (length (trial_lines n)) buffer piece (recover bytes) is (trial_reading n)
+pub trial_counts : (n : ℕ) (bytes buffer piece : List ℕ) (digests : Digests) → n < 65536 → Waits (trial_reading n) → Stands (trial_story n) n (trial_lines n) bytes →
+    recover bytes ≡ Shown digests (take state_length buffer) piece → IsTallyOf (trial_reading n) (tally_in buffer)
+trial_counts n bytes buffer piece digests low waits stands is =
+    counts (trial_game n) (length (trial_lines n)) buffer piece (recover bytes) digests is (trial_reading n) stands.digests
     (reading_settles (trial_story n) n (trial_lines n) (plays_all n low) (omega (arith, few_lines n))) waits stands.keeps
 
 record Counted : Type 0 where

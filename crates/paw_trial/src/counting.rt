@@ -1,6 +1,7 @@
 // What the session of a trial counts.
 
 ghost use Rattle.std.specs.Prelude.{◌≡◌, IfOk};
+ghost use Rattle.paw_routines.specs.Routines.{HaveRows};
 ghost use Rattle.paw_stage.specs.inner.Memory.{standing_of};
 ghost use Rattle.paw_gen.specs.Trial.{trial_lines};
 ghost use Rattle.paw_trial.specs.Trial.{trial_reading};
@@ -12,6 +13,7 @@ use crate::setting::Setting;
 use paw_base::fault::NoRoom;
 use paw_base::flags::{CARRIED_FLAG, HIGH_TURNS_FLAG, LOCATION_FLAG, LOW_TURNS_FLAG};
 use paw_journal::{Journal, Room, attach};
+use paw_routines::routines::Routines;
 use paw_stage::MemoryStage;
 use paw_state::STATE_ROOM;
 use std::alloc::Global;
@@ -28,23 +30,26 @@ fn counts_in(state: &[u8; STATE_ROOM]) -> Tally
     }
 }
 
-/// What the session counts, once all lines were played.
+/// What the session counts, once all lines were played with these routines.
 ///
 /// # Errors
 /// NoRoom for want of memory, or where a call of the stage failed.
-pub(crate) fn counted(
+pub(crate) fn counted<F: Fn(u8, u8) -> u8>(
     alloc: Global,
     setting: &Setting,
+    routines: &Routines<F>,
     stage: &mut MemoryStage,
 ) -> Result<Tally, NoRoom>
-    requires { HoldsLines setting.now (trial_lines setting.now) (standing_of stage.old) }
+    requires rows { HaveRows F.Fn routines.now }
+    requires holds { HoldsLines setting.now (trial_lines setting.now) (standing_of stage.old) }
     ensures { IfOk result (IsTallyOf (trial_reading setting.now)) }
 {
     let mut room = Room::new(alloc)?;
     let Ok(at) = attach(stage, STORE) else {
         return Err(NoRoom);
     };
-    let Ok(_) = Journal::find(stage, &mut room, at, setting.digest()) else {
+    let rules = routines.measure();
+    let Ok(_) = Journal::find(stage, &mut room, at, setting.digest(), &rules) else {
         return Err(NoRoom);
     };
     Ok(counts_in(room.state()))

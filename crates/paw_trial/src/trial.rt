@@ -52,7 +52,7 @@ fn played(alloc: Global, n: u16) -> Result<Tally, TrialEnd>
     if let Some(end) = play_half(alloc, &setting, Half::Second, &routines, &mut stage) {
         return Err(end);
     }
-    match counted(alloc, &setting, &mut stage) {
+    match counted(alloc, &setting, &routines, &mut stage) {
         Ok(tally) => Ok(tally),
         Err(NoRoom) => Err(TrialEnd::Memory),
     }

@@ -1,9 +1,7 @@
 -- The session of a trial, on the way.
 use Rattle.std.specs.Prelude.{◌≡◌, ℕ, ◌+◌, ◌*◌, ◌/◌, List, [], length, take}
 use Rattle.std.specs.Prelude.{drop, codes, slice_index, Option, Some, None}
-use Rattle.sha2.specs.Sha256.{sha256}
 use Rattle.paw_base.specs.declared.flags.TheConstants.{CARRIED_FLAG, LOW_TURNS_FLAG, HIGH_TURNS_FLAG, LOCATION_FLAG}
-use Rattle.paw_game.specs.Image.{image}
 use Rattle.paw_stage.specs.Disk.{IsStable}
 use Rattle.paw_stage.specs.Stage.{Standing}
 use Rattle.paw_stage.specs.inner.Memory.{Memory, empty, standing_of}
@@ -12,9 +10,10 @@ use Rattle.paw_world.specs.World.{World, flag}
 use Rattle.paw_reading.specs.Turn.{Ending, WaitsAt, reading}
 use Rattle.paw_play.specs.declared.PlayEnd.{PlayEnd}
 use Rattle.paw_play.specs.declared.PlayEnd.TheVariants as play
-use Rattle.paw_play.specs.Play.{store_bytes, PlaysGame, PlaysAgain}
+use Rattle.paw_play.specs.Played.{begun}
+use Rattle.paw_play.specs.Play.{store_bytes, NewSession, PlaysAgain}
 use Rattle.paw_play.specs.Stands.{Stands}
-use Rattle.paw_gen.specs.Trial.{trial_game, trial_lines}
+use Rattle.paw_gen.specs.Trial.{trial_lines}
 use Rattle.paw_trial.specs.Trial.{trial_story, trial_reading}
 use Rattle.paw_trial.specs.inner.Trial.{StopsAs}
 use Rattle.paw_trial.specs.declared.setting.Half.{Half}
@@ -64,8 +63,8 @@ IsReadyFor half.Second n m = HoldsLines n (first_half n) (standing_of m)
 
 -- The lines of a half are played: with a new session, or with that session taken up again.
 abbrev pub PlaysHalf : Half → ℕ → Standing → Standing → PlayEnd → Type 0
-PlaysHalf half.First n old new end = PlaysGame (trial_story n) n store_name old new end
-PlaysHalf half.Second n old new end = PlaysAgain (trial_story n) (sha256 (image (trial_game n))) store_name old new end
+PlaysHalf half.First n old new end = NewSession (begun (trial_story n) n store_name) old new end
+PlaysHalf half.Second n old new end = PlaysAgain (trial_story n) store_name old new end
 
 -- The session holds these lines, or the trial stops.
 abbrev pub ComesTo : ℕ → List (List ℕ) → Standing → Option TrialEnd → Type 0

@@ -3,8 +3,8 @@ use Rattle.sha2.specs.Sha256.{sha256}
 use Rattle.paw_game.specs.Image.{image}
 use Rattle.paw_stage.specs.inner.Memory.{standing_of}
 use Rattle.paw_effects.specs.Story.{story_of}
-use Rattle.paw_play.specs.Play.{PlaysGame, PlaysAgain}
-use Rattle.paw_gen.specs.Trial.{trial_game}
+use Rattle.paw_play.specs.Played.{begun}
+use Rattle.paw_play.specs.Play.{NewSession, PlaysAgain}
 use Rattle.paw_trial.specs.inner.Session.{PlaysHalf, store_name}
 use Rattle.paw_trial.proofs.halves.play_lines.Goals as goal
 
@@ -27,8 +27,8 @@ returns-in-First g c =
     let new = standing_of c.play_loop.new.stage in
     let seed : c.from-seed.result ≡ n = omega arith in
     subst (λ h. PlaysHalf h n old new c.play_loop.result) (sym c.in-First.is)
-    (subst (λ g. PlaysGame (story_of g []) n store_name old new c.play_loop.result) c.game-game.ensures
-    (subst (λ s. PlaysGame (story_of c.game-game.result.now []) s store_name old new c.play_loop.result) seed
+    (subst (λ g. NewSession (begun (story_of g []) n store_name) old new c.play_loop.result) c.game-game.ensures
+    (subst (λ s. NewSession (begun (story_of c.game-game.result.now []) s store_name) old new c.play_loop.result) seed
     (c.play_loop.ensures.plays tt [] c.requires.rows)))
 
 pub returns-in-Second : goal.returns-in-Second
@@ -37,7 +37,5 @@ returns-in-Second g c =
     let old = standing_of c.args.stage.now in
     let new = standing_of c.resume_loop.new.stage in
     subst (λ h. PlaysHalf h n old new c.resume_loop.result) (sym c.in-Second.is)
-    (subst (λ g. PlaysAgain (story_of g []) (sha256 (image (trial_game n))) store_name old new c.resume_loop.result)
-    c.game-game.ensures
-    (subst (λ d. PlaysAgain (story_of c.game-game.result.now []) d store_name old new c.resume_loop.result)
-    c.digest-digest.ensures.digest (c.resume_loop.ensures.plays tt [] c.requires.rows)))
+    (subst (λ g. PlaysAgain (story_of g []) store_name old new c.resume_loop.result)
+    c.game-game.ensures (c.resume_loop.ensures.plays tt [] c.requires.rows))
