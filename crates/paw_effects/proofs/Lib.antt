@@ -13,3 +13,4 @@ mod Facts
 pub mod Worlds
 pub mod Changes
 pub mod Saving
+pub mod Actions
