@@ -1,0 +1,127 @@
+-- The bound that a verdict names holds for every play.
+use Rattle.std.proofs.Common.{◌≡◌, ℕ, zero, suc, ◌+◌, ◌*◌, ◌≤◌, Bool, true, false, List, [], ◌∷◌, Option, Some, None, refl, arith}
+use Rattle.std.specs.Prelude.{if◌then◌else◌, nat_lt, sum_by, All}
+use Rattle.std.proofs.lemmas.Bool.{ltb-false}
+use Rattle.paw_game.specs.Game.{GameLists}
+use Rattle.paw_effects.specs.Story.{Story}
+use Rattle.paw_reading.specs.Bounds.{IsLine, ValidStory}
+use Rattle.paw_reading.specs.Run.{Run}
+use Rattle.paw_reading.specs.Reading.{table_read}
+use Rattle.paw_reading.specs.Turn.{reading}
+use Rattle.paw_check.specs.declared.verdict.Cause.{Cause}
+use Rattle.paw_check.specs.declared.verdict.Cause.TheVariants as cause
+use Rattle.paw_check.specs.declared.verdict.Verdict.{Verdict}
+use Rattle.paw_check.specs.declared.verdict.Verdict.TheVariants as verdict
+use Rattle.paw_check.specs.Measures.{most_said}
+use Rattle.paw_check.specs.Prints.{most_text}
+use Rattle.paw_check.specs.Calls.{turn_tables, most_levels}
+use Rattle.paw_check.specs.Costs.{most_cost}
+use Rattle.paw_check.specs.Bounds.{most_condacts, most_view, most_refusal, most_prompt, most_piece}
+use Rattle.paw_check.specs.Verdicts.{call_too_deep, circle_of_descriptions, above, first_cause, bounds}
+use Rattle.paw_check.specs.Promise.{EndsWithin, StaysWithin, Promises, BoundsHold}
+use Rattle.paw_check.specs.inner.Within.{IsBound, TablesWithin}
+use Rattle.paw_check.proofs.Said.{view_short, unknown_short, refusal_short, timeout_short, prompt_short}
+use Rattle.paw_check.proofs.Room.{Takes, Says, TablesTake, DescribesOnly}
+use Rattle.paw_check.proofs.Phases.{IsEnough, readings_stay}
+use Rattle.paw_check.proofs.Levels.{levels_hold, tables_leave_described}
+
+-- ---- the numbers of a game ----
+
+takes_of : GameLists → Takes
+takes_of g = record {
+  reads = most_cost g (λ c. 1);
+  prints = most_cost g (most_text g);
+  view = most_view g;
+  refusal = most_refusal g;
+  timeout = most_said g 35;
+  prompt = most_prompt g;
+}
+
+says_of : (g : Story) → Says g (takes_of g.game)
+unfolding takes_of
+says_of g = record {
+  view = view_short g.game;
+  refused = refusal_short g.game;
+  unknown = unknown_short g.game;
+  timeout = timeout_short g.game;
+  prompt = prompt_short g.game;
+}
+
+three_tables : (f : ℕ → ℕ) → sum_by f turn_tables ≡ f 0 + (f 1 + f 2)
+three_tables f = omega arith
+
+enough : (k : Takes) (goodbye : ℕ) → 129 * (sum_by k.prints turn_tables + (k.view + k.refusal)) + (goodbye + (k.timeout + k.prompt)) ≤ 65535 →
+    IsEnough (129 * sum_by k.reads turn_tables) (129 * (sum_by k.prints turn_tables + (k.view + k.refusal)) + (goodbye + (k.timeout + k.prompt))) k
+enough k goodbye low = record {
+  reads = omega (arith, three_tables k.reads);
+  bytes = omega (arith, three_tables k.prints);
+  limit = low;
+}
+
+enough_of : (g : GameLists) → most_piece g ≤ 65535 → IsEnough (most_condacts g) (most_piece g) (takes_of g)
+unfolding takes_of
+enough_of g low = enough (takes_of g) (most_said g 14) low
+
+-- what is added to the rounds of a piece has room for the goodbye
+has_goodbye : (a goodbye b : ℕ) → goodbye ≤ a + (goodbye + b)
+has_goodbye a goodbye b = omega arith
+
+bound_of : (g : GameLists) → most_condacts g ≤ 200000 → most_piece g ≤ 65535 → IsBound (most_condacts g) (most_piece g) g
+bound_of g few short = record { reads = few; bytes = short; goodbye = has_goodbye _ (most_said g 14) _ }
+
+-- ---- readings ----
+
+module _ (tables : TablesWithin) (g : Story) (valid : ValidStory g) (calm : call_too_deep g.game ≡ None)
+    (quiet : circle_of_descriptions g.game ≡ None) where
+  only : (t : ℕ) (r : Run) → t ≤ 2 → r.turning ≡ None → DescribesOnly t (table_read g t r)
+  only zero r low none = tt
+  only (suc zero) r low none = tables_leave_described g 1 r valid quiet refl none
+  only (suc (suc zero)) r low none = tables_leave_described g 2 r valid quiet refl none
+  only (suc (suc (suc t))) r low none = absurd (omega arith)
+
+  tables_take : most_condacts g.game ≤ 200000 → most_piece g.game ≤ 65535 → TablesTake g (most_condacts g.game) (most_piece g.game) (takes_of g.game)
+  unfolding takes_of
+  tables_take few short pending m n t r low ready used reads bytes =
+      tables g (most_condacts g.game) (most_piece g.game) pending m n t r valid calm (bound_of g.game few short) low ready used reads bytes
+
+  within : most_condacts g.game ≤ 200000 → most_piece g.game ≤ 65535 → (seed : ℕ) (es : List (List ℕ)) → All IsLine es →
+      EndsWithin (most_condacts g.game) (most_piece g.game) (reading g seed es)
+  within few short =
+      readings_stay g valid (most_condacts g.game) (most_piece g.game) (takes_of g.game) (enough_of g.game short) (says_of g) (tables_take few short) only
+
+-- ---- verdicts ----
+
+within_limit : (limit n : ℕ) → above limit n ≡ None → n ≤ limit
+within_limit limit n h = go (nat_lt limit n) refl h
+  where
+    go : (b : Bool) → nat_lt limit n ≡ b → ◌≡◌ {A = Option (ℕ × ℕ)} (if b then Some (0, 0) else None) None → n ≤ limit
+    go true e k = cc
+    go false e k = ltb-false limit n e
+
+-- a verdict keeps its promise where it does with no cause in this place
+first_keeps : (g : Story) (bound : Verdict) (why : Cause) (place : Option (ℕ × ℕ)) (others : List (Cause × Option (ℕ × ℕ))) →
+    (place ≡ None → Promises (first_cause bound others) g) → Promises (first_cause bound ((why, place) ∷ others)) g
+first_keeps g bound why None others h = h refl
+first_keeps g bound why (Some (t, e)) others h = tt
+
+pub bounds_hold : TablesWithin → BoundsHold
+unfolding bounds
+bounds_hold tables g valid =
+    let bound : Verdict = verdict.Bound (most_levels g.game) (most_condacts g.game) (most_piece g.game) in
+    let texts : List (Cause × Option (ℕ × ℕ)) = (cause.Text, above 65535 (most_piece g.game)) ∷ [] in
+    let numbers : List (Cause × Option (ℕ × ℕ)) = (cause.Condacts, above 200000 (most_condacts g.game)) ∷ texts in
+    let places : List (Cause × Option (ℕ × ℕ)) = (cause.Redescribe, circle_of_descriptions g.game) ∷ numbers in
+    first_keeps g bound cause.Calls (call_too_deep g.game) places
+    (λ calm. first_keeps g bound cause.Redescribe (circle_of_descriptions g.game) numbers
+    (λ quiet. first_keeps g bound cause.Condacts (above 200000 (most_condacts g.game)) texts
+    (λ few. first_keeps g bound cause.Text (above 65535 (most_piece g.game)) []
+    (λ short. stays g valid calm quiet few short))))
+  where
+    stays : (g : Story) → ValidStory g → call_too_deep g.game ≡ None → circle_of_descriptions g.game ≡ None →
+        above 200000 (most_condacts g.game) ≡ None → above 65535 (most_piece g.game) ≡ None →
+        StaysWithin (most_levels g.game) (most_condacts g.game) (most_piece g.game) g
+    stays g valid calm quiet few short = record {
+      readings =
+          within tables g valid calm quiet (within_limit 200000 (most_condacts g.game) few) (within_limit 65535 (most_piece g.game) short);
+      calls = levels_hold g valid calm;
+    }

@@ -1,0 +1,165 @@
+-- Tables read the same with as many levels of calls as there are, and those behind a description never describe again.
+use Rattle.std.proofs.Common.{◌≡◌, ℕ, zero, suc, ◌+◌, ◌≤◌, ◌<◌, true, false, List, [], ◌∷◌, ◌⊎◌, inl, inr, Option, Some, None, refl, sym}
+use Rattle.std.proofs.Common.{subst, length, arith}
+use Rattle.std.specs.Prelude.{nat_le}
+use Rattle.std.specs.List.{list_any, list_all, AllByRecursion}
+use Rattle.std.proofs.lemmas.Bool.{leb-true}
+use Rattle.std.proofs.lemmas.Bool.Decides.{nat_tests}
+use Rattle.paw_base.specs.declared.codes.TheConstants.{PROCESS}
+use Rattle.paw_base.specs.declared.parts.Condact.{Condact}
+use Rattle.paw_base.specs.Condacts.{plain_code}
+use Rattle.paw_game.specs.Game.{GameLists}
+use Rattle.paw_game.specs.Tables.{table_at}
+use Rattle.paw_game.specs.Valid.{Valid, is_table, is_within}
+use Rattle.paw_game.proofs.Kept.{first_of_and}
+use Rattle.paw_world.specs.World.{World}
+use Rattle.paw_effects.specs.Story.{Story}
+use Rattle.paw_effects.specs.declared.act.Effect.{Effect}
+use Rattle.paw_effects.specs.declared.act.Effect.TheVariants as effect
+use Rattle.paw_effects.specs.Effects.{effect_of}
+use Rattle.paw_effects.proofs.Asking.{Leads}
+use Rattle.paw_effects.proofs.EachRow.{effect_leads}
+use Rattle.paw_reading.specs.Bounds.{ValidStory}
+use Rattle.paw_reading.specs.Run.{Run}
+use Rattle.paw_reading.specs.Reading.{Redescribes, Restarts, Halts, Out, Left, Waits, Stopped, at_level, reads, called, table_read}
+use Rattle.paw_reading.proofs.Keeps.{called_keeps}
+use Rattle.paw_check.specs.Calls.{turn_tables, condacts_in, below, most_levels}
+use Rattle.paw_check.specs.Verdicts.{call_too_deep, redescribes}
+use Rattle.paw_check.specs.Promise.{CallsWithin}
+use Rattle.paw_check.specs.inner.Within.{LeavesDescribed, TablesLeaveDescribed}
+use Rattle.paw_check.proofs.Members.{In}
+use Rattle.paw_check.proofs.Leading.{MayLead, effect_goes}
+use Rattle.paw_check.proofs.Alike.{AtMost, Settled, Alike, LeadsOn, plain_alike, none_at, reads_alike}
+use Rattle.paw_check.proofs.Reaching.{each_of_table, no_first, calls_below, of_game, in_reached, NoneAt, none_called, none_behind}
+
+-- a condact after which the location is described again is one that may do so
+describing : (s : Story) (w : World) (c : Condact) → (effect_of s w c).act.effect ≡ effect.Redescribe → redescribes c ≡ true
+describing s w c e = subst (MayLead (plain_code c.code)) e (effect_goes s w c)
+
+module _ (s : Story) (v : Valid s.game) (ts : List ℕ) (few : (t : ℕ) → In t ts → t < length s.game.tables) (Describes : Type 0)
+    (may : (n t : ℕ) → n ≤ 10 → In t (below s.game ts n) → list_any redescribes (condacts_in s.game t) ≡ true → Describes) where
+  abbrev TablesAt : ℕ → ℕ → Type 0
+  TablesAt n t = In t (below s.game ts n)
+
+  abbrev Empty : ℕ → Type 0
+  Empty n = NoneAt s.game v ts n
+
+  -- a condact of a table at level n
+  record OnLevel (n : ℕ) (c : Condact) : Type 0 where
+    calls : c.code ≡ PROCESS → TablesAt (suc n) c.a
+    describes : redescribes c ≡ true → Describes
+
+  on_level : (n t : ℕ) → n ≤ 10 → TablesAt n t → AllByRecursion (λ en. AllByRecursion (OnLevel n) en.condacts) (table_at s.game t)
+  on_level n t low at =
+      each_of_table s.game v t (OnLevel n)
+      (λ c is kept. record { calls = calls_below s.game v ts n t at c is kept; describes = λ e. may n t low at (is redescribes e) })
+
+  -- it leads on so
+  leads_on : (n : ℕ) (w : World) (c : Condact) → OnLevel n c → LeadsOn Describes (TablesAt (suc n)) (effect_of s w c).act.effect
+  leads_on n w c k = go (effect_of s w c).act.effect refl (effect_leads s w c)
+    where
+      go : (e : Effect) → (effect_of s w c).act.effect ≡ e → Leads w c e → LeadsOn Describes (TablesAt (suc n)) e
+      go effect.Go is l = tt
+      go (effect.Exit a) is l = tt
+      go effect.Redescribe is l = k.describes (describing s w c is)
+      go (effect.Call u) is l = subst (TablesAt (suc n)) (sym l.1) (k.calls l.0)
+      go (effect.Loop p) is l = tt
+      go (effect.Ask p) is l = tt
+      go effect.Parse is l = tt
+      go effect.Spent is l = tt
+
+  -- as many levels are left, or enough
+  abbrev Enough : ℕ → ℕ → ℕ → Type 0
+  Enough n m lv = (n ≡ m) ⊎ (Empty (suc (lv + n)) × Empty (suc (lv + m)))
+
+  not_enough : (lv u : ℕ) → TablesAt (suc lv) u → Empty (suc (lv + 0)) → ⊥
+  not_enough lv u at none = let e : suc (lv + 0) ≡ suc lv = omega arith in (subst Empty e none) u at
+
+  fewer : (n m lv : ℕ) → Enough (suc n) (suc m) lv → Enough n m (suc lv)
+  fewer n m lv (inl e) = inl (omega arith)
+  fewer n m lv (inr none) =
+      let one : suc (lv + suc n) ≡ suc (suc lv + n) = omega arith in
+      let other : suc (lv + suc m) ≡ suc (suc lv + m) = omega arith in
+      inr (subst Empty one none.0, subst Empty other none.1)
+
+  -- a table that is called from level lv reads alike with n levels left and with m, where these are all of ten
+  called_alike : (n m lv : ℕ) → lv + m ≡ 10 → Enough n m lv → (u : ℕ) → TablesAt (suc lv) u → (r : Run) → AtMost lv r.turning →
+      Alike Describes lv (called s n lv u r) (called s m lv u r)
+  unfolding called
+  called_alike zero zero lv ten enough u at r low = (refl, tt)
+  called_alike zero (suc m) lv ten (inl e) u at r low = absurd (omega arith)
+  called_alike zero (suc m) lv ten (inr none) u at r low = absurd (not_enough lv u at none.0)
+  called_alike (suc n) zero lv ten (inl e) u at r low = absurd (omega arith)
+  called_alike (suc n) zero lv ten (inr none) u at r low = absurd (not_enough lv u at none.1)
+  called_alike (suc n) (suc m) lv ten enough u at r low =
+      reads_alike s Describes lv (suc lv) u (called s n (suc lv)) (called s m (suc lv)) (called_keeps s n (suc lv)) (called_keeps s m (suc lv)) r low
+      (none_at lv r.turning low)
+      (plain_alike s Describes (suc lv) (called s n (suc lv)) (called s m (suc lv)) (TablesAt (suc (suc lv)))
+      (called_alike n m (suc lv) (omega arith) (fewer n m lv enough)) (OnLevel (suc lv)) (leads_on (suc lv)) u
+      (on_level (suc lv) u (omega arith) at) false r (higher lv r.turning low))
+    where
+      higher : (lv : ℕ) (o : Option _) → AtMost lv o → AtMost (suc lv) o
+      higher lv None low = tt
+      higher lv (Some l) low = omega arith
+
+  none_open : (lv : ℕ) (o : Option _) → o ≡ None → AtMost lv o
+  none_open lv o e = subst (AtMost lv) (sym e) tt
+
+  none_there : (lv : ℕ) (o : Option _) → o ≡ None → at_level lv o ≡ None
+  none_there lv o e = subst (λ q. at_level lv q ≡ None) (sym e) refl
+
+  from_start : (n : ℕ) → (n ≡ 10) ⊎ (Empty (suc n) × Empty 11) → Enough n 10 0
+  from_start n (inl e) = inl e
+  from_start n (inr none) = let e : suc n ≡ suc (0 + n) = omega arith in inr (subst Empty e none.0, none.1)
+
+  -- so does a table at level 0
+  pub table_alike : (n t : ℕ) → (n ≡ 10) ⊎ (Empty (suc n) × Empty 11) → In t ts → (r : Run) → r.turning ≡ None →
+      Alike Describes 0 (reads s (called s n 0) 0 t 0 0 false r) (table_read s t r)
+  unfolding below
+  table_alike n t enough at r none =
+      reads_alike s Describes 0 0 t (called s n 0) (called s 10 0) (called_keeps s n 0) (called_keeps s 10 0) r (none_open 0 r.turning none)
+      (none_there 0 r.turning none)
+      (plain_alike s Describes 0 (called s n 0) (called s 10 0) (TablesAt 1) (called_alike n 10 0 refl (from_start n enough)) (OnLevel 0) (leads_on 0) t
+      (on_level 0 t (omega arith) at) false r (none_open 0 r.turning none))
+
+-- ---- the tables of a turn ----
+
+pub some_tables : (g : GameLists) → Valid g → 3 ≤ length g.tables
+some_tables g v =
+    leb-true 3 (length g.tables)
+    (first_of_and (nat_le 3 (length g.tables)) _ (first_of_and (is_within 3 256 (length g.tables)) (list_all (is_table g) g.tables) v.tables))
+
+pub one_of_three : (t : ℕ) → In t turn_tables → t < 3
+one_of_three t at = grind (arith, nat_tests)
+
+pub in_three : (t : ℕ) → t ≤ 2 → In t turn_tables
+in_three zero low = refl
+in_three (suc zero) low = refl
+in_three (suc (suc zero)) low = refl
+in_three (suc (suc (suc t))) low = absurd (omega arith)
+
+one_of_two : (t : ℕ) → In t (1 ∷ 2 ∷ []) → t < 3
+one_of_two t at = grind (arith, nat_tests)
+
+-- with as many levels of calls as there are each table of a turn reads the same, where no call is too deep
+pub levels_hold : (s : Story) → ValidStory s → call_too_deep s.game ≡ None → CallsWithin (most_levels s.game) s
+levels_hold s valid calm t r low none =
+    (table_alike s valid.game turn_tables (λ u at. omega (arith, one_of_three u at, some_tables s.game valid.game)) (Unit {0}) (λ n u few at h. tt)
+    (most_levels s.game) t (inr (none_behind s.game valid.game calm, none_called s.game valid.game turn_tables 10 calm)) (in_three t low) r none).0
+
+never : (x : Out) → Settled ⊥ 0 x → LeavesDescribed x
+never (Left a r) h = tt
+never (Waits p path r) h = tt
+never (Stopped Redescribes r) h = h
+never (Stopped Restarts r) h = tt
+never (Stopped (Halts halt) r) h = tt
+
+-- a table that is read after a description, or in a time frame, never describes again where no table that it reaches may
+pub tables_leave_described : TablesLeaveDescribed
+tables_leave_described s t r valid quiet at none =
+    let few : (u : ℕ) → In u (1 ∷ 2 ∷ []) → u < length s.game.tables = λ u two. omega (arith, one_of_two u two, some_tables s.game valid.game) in
+    never (table_read s t r)
+    (table_alike s valid.game (1 ∷ 2 ∷ []) few ⊥
+    (λ n u low two h.
+    no_first s.game redescribes _ quiet u (in_reached s.game valid.game (1 ∷ 2 ∷ []) n u low two (of_game s.game valid.game (1 ∷ 2 ∷ []) few n u two)) h)
+    10 t (inl refl) at r none).1

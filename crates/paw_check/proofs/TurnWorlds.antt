@@ -1,0 +1,92 @@
+-- What a turn does beside its tables leaves the world one of the game.
+use Rattle.std.proofs.Common.{◌≡◌, ℕ, ◌+◌, ◌-◌, ◌<◌, ◌≤◌, ◌/◌, ◌%◌, Bool, true, false, List, Some, refl, map, length, min, arith}
+use Rattle.std.proofs.Math.Nat.{min-le_left}
+use Rattle.paw_game.specs.Game.{GameLists}
+use Rattle.paw_game.specs.Tables.{exit_at}
+use Rattle.paw_game.specs.Valid.{Valid}
+use Rattle.paw_game.proofs.Kept.{exit-leads}
+use Rattle.paw_world.specs.World.{World, flag, with_flag, starting_world, is_dark, is_unlit, fallen, fallen_if}
+use Rattle.paw_phrase.specs.declared.Sentence.{Sentence}
+use Rattle.paw_phrase.specs.Sentence.{IsSentence}
+use Rattle.paw_phrase.proofs.SentenceBytes.{AreBytes as AreWords, parsed-bytes}
+use Rattle.paw_effects.specs.Counts.{turns_taken}
+use Rattle.paw_effects.specs.inner.Standing.{IsWorldOf}
+use Rattle.paw_effects.proofs.Worlds.{world_at, world_is, byte_at, flagged, start_so, few_locations}
+use Rattle.paw_reading.specs.Run.{Run, with_timeout, spoken}
+use Rattle.paw_reading.specs.Reading.{coming_phrase}
+use Rattle.paw_reading.specs.Turn.{described, time_frame_passed, counted}
+
+module _ (g : GameLists) (v : Valid g) where
+  byte_of : (w : World) → IsWorldOf g w → (f : ℕ) → flag w f < 256
+  byte_of w k f = byte_at w.flags f k.flags
+
+  flag_set : (w : World) → IsWorldOf g w → (f x : ℕ) → x < 256 → IsWorldOf g (with_flag w f x)
+  flag_set w k f x small =
+      world_is g w.seed w.draws (with_flag w f x) (flagged g v w.seed w.draws w (world_at g w.seed w.draws w k refl (omega arith)) f x small)
+
+  -- ---- flags that fall ----
+
+  fallen_of : (f : ℕ) (w : World) → IsWorldOf g w → IsWorldOf g (fallen f w)
+  fallen_of f w k = flag_set w k f (flag w f - 1) (omega (arith, byte_of w k f))
+
+  fallen_if_of : (b : Bool) (f : ℕ) (w : World) → IsWorldOf g w → IsWorldOf g (fallen_if b f w)
+  fallen_if_of true f w k = fallen_of f w k
+  fallen_if_of false f w k = k
+
+  pub described_of : (w : World) → IsWorldOf g w → IsWorldOf g (described w)
+  described_of w k =
+      fallen_if_of (is_unlit w) 4 (fallen_if (is_dark w) 3 (fallen 2 w)) (fallen_if_of (is_dark w) 3 (fallen 2 w) (fallen_of 2 w k))
+
+  pub time_frame_of : (w : World) → IsWorldOf g w → IsWorldOf g (time_frame_passed w)
+  time_frame_of w k =
+      let first : World = fallen 8 (fallen 7 (fallen 6 (fallen 5 w))) in
+      fallen_if_of (is_unlit w) 10 (fallen_if (is_dark w) 9 first) (fallen_if_of (is_dark w) 9 first
+      (fallen_of 8 _ (fallen_of 7 _ (fallen_of 6 _ (fallen_of 5 w k)))))
+
+  -- ---- the exit, the number of turns, timeouts ----
+
+  pub exit_of : (w : World) → IsWorldOf g w → (to : ℕ) → exit_at g (flag w 38) (flag w 33) ≡ Some to → IsWorldOf g (with_flag w 38 to)
+  exit_of w k to e =
+      flag_set w k 38 to (omega (arith, exit-leads g v (flag w 38) (flag w 33) to e, (few_locations g v).1))
+
+  pub counted_of : (w : World) → IsWorldOf g w → IsWorldOf g (counted w)
+  counted_of w k =
+      let n : ℕ = min 65535 (turns_taken w + 1) in
+      flag_set (with_flag w 31 (n % 256)) (flag_set w k 31 (n % 256) (low n)) 32 (n / 256) (high n (min-le_left 65535 (turns_taken w + 1)))
+    where
+      low : (x : ℕ) → x % 256 < 256
+      low x = omega arith
+
+      high : (x : ℕ) → x ≤ 65535 → x / 256 < 256
+      high x most = omega arith
+
+  pub timeout_of : (b : Bool) (w : World) → IsWorldOf g w → IsWorldOf g (with_timeout b w)
+  timeout_of true w k = flag_set w k 49 (128 + flag w 49 % 128) (low (flag w 49))
+    where
+      low : (x : ℕ) → 128 + x % 128 < 256
+      low x = omega arith
+  timeout_of false w k = flag_set w k 49 (flag w 49 % 128) (low (flag w 49))
+    where
+      low : (x : ℕ) → x % 128 < 256
+      low x = omega arith
+
+  -- ---- phrases ----
+
+  spoken_of : (s : Sentence) (w : World) → AreWords s → IsWorldOf g w → IsWorldOf g (spoken s w)
+  spoken_of s w b k =
+      flag_set _ (flag_set _ (flag_set _ (flag_set _ (flag_set _ (flag_set _ (flag_set _ (flag_set _ (flag_set w k 33 s.verb b.verb) 34 s.noun b.noun)
+      35 s.adjective b.adjective) 36 s.adverb b.adverb) 43 s.preposition b.preposition) 44 s.second_noun b.second_noun)
+      45 s.second_adjective b.second_adjective) 46 s.pronoun_noun b.pronoun_noun) 47 s.pronoun_adjective b.pronoun_adjective
+
+  -- the world in which the sentence of the line's next phrase stands, and its verb is a byte
+  pub phrase_of : (rows : List (List ℕ)) (r : Run) → IsWorldOf g r.world → r.earlier < 256 → (s : Sentence) (left : List ℕ) →
+      coming_phrase (record { game = g; rows = rows }) r ≡ IsSentence s left → IsWorldOf g (spoken s r.world) × (s.verb < 256)
+  phrase_of rows r k early s left e =
+      let words =
+      parsed-bytes g r.pending r.earlier (flag r.world 46) (flag r.world 47) s left v early (byte_of r.world k 46) (byte_of r.world k 47) e in
+      (spoken_of s r.world words k, words.verb)
+
+  -- ---- the start ----
+
+  pub start_of : (seed : ℕ) → IsWorldOf g (starting_world (map (λ o. o.facts) g.objects) (length g.locations) seed)
+  start_of seed = world_is g seed 0 _ (start_so g v seed)

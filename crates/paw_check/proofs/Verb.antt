@@ -1,0 +1,127 @@
+-- What leaves the verb's flag of a world as it is.
+use Rattle.std.proofs.Common.{◌≡◌, ◌⊎◌, ℕ, suc, ◌+◌, ◌-◌, ◌<◌, ◌==◌, Bool, true, false, List, [], ◌∷◌, Option, Some, None}
+use Rattle.std.proofs.Common.{refl, sym, ◌∙◌, subst, length, take, drop, slice_get, arith, inr}
+use Rattle.std.specs.Prelude.{if◌then◌else◌, fold, nat_le, slice_index}
+use Rattle.std.specs.Option.{option_map_or}
+use Rattle.std.proofs.lemmas.Bool.{eqb-false, leb-false}
+use Rattle.std.proofs.lemmas.List.{get_or-set_other, get_or-append_right, get_or-drop, length-take-le}
+use Rattle.paw_base.specs.declared.flags.TheConstants.{VERB_FLAG}
+use Rattle.paw_base.specs.declared.parts.ObjectFacts.{ObjectFacts}
+use Rattle.paw_game.specs.Game.{GameLists}
+use Rattle.paw_world.specs.World.{World, Position, flag, with_flag, place, with_place, let_go, taken_up, moved, at_position}
+use Rattle.paw_world.specs.Weight.{weight}
+use Rattle.paw_effects.specs.declared.act.Effect.TheVariants as effect
+use Rattle.paw_effects.specs.Done.{Done}
+use Rattle.paw_effects.specs.Positions.{loaded}
+use Rattle.paw_effects.specs.Referring.{facts_written, weight_class, referred, referred_to_none}
+use Rattle.paw_effects.specs.ObjectActions.{destination, first_that_holds, hindrances, tried, acted_on}
+use Rattle.paw_effects.specs.AutoActions.{acted_on_found}
+use Rattle.paw_effects.specs.Holds.{answers}
+use Rattle.paw_effects.specs.inner.Standing.{MayBePosition}
+
+-- the verb's flag of a world has this value
+module _ (n : ℕ) where
+  abbrev pub HasVerb : World → Type 0
+  HasVerb w = flag w VERB_FLAG ≡ n
+
+  -- an action leaves it so, or leaves all tables to describe the location
+  abbrev pub LeavesVerb : Done → Type 0
+  LeavesVerb d = HasVerb d.world ⊎ (d.act.effect ≡ effect.Redescribe)
+
+  -- ---- flags ----
+
+  -- what holds in both cases
+  pub one_has : (b : Bool) (x y : World) → HasVerb x → HasVerb y → HasVerb (if b then x else y)
+  one_has true x y h k = h
+  one_has false x y h k = k
+
+  -- another flag gets a value
+  pub other_has : (w : World) (f x : ℕ) → (f == VERB_FLAG) ≡ false → HasVerb w → HasVerb (with_flag w f x)
+  other_has w f x other k = get_or-set_other w.flags f VERB_FLAG x 0 (λ e. eqb-false f VERB_FLAG other (sym e)) ∙ k
+
+  flag_has : (b : Bool) (w : World) (f x : ℕ) → (f == VERB_FLAG) ≡ false → HasVerb w → HasVerb (if b then with_flag w f x else w)
+  flag_has b w f x other k = one_has b (with_flag w f x) w (other_has w f x other k) k
+
+  -- a flag that isn't the verb's gets a value, where there is one
+  pub answered_has : (w : World) (f : ℕ) (answer : Option ℕ) → (f == VERB_FLAG) ≡ false → HasVerb w
+      → HasVerb (option_map_or (with_flag w f) answer w)
+  answered_has w f None other k = k
+  answered_has w f (Some x) other k = other_has w f x other k
+
+  pub moves_has : (w : World) (f : ℕ) (to : Option ℕ) → (f == VERB_FLAG) ≡ false → HasVerb w
+      → HasVerb (option_map_or (λ x. answers (with_flag w f x) true) to (answers w false)).world
+  moves_has w f None other k = k
+  moves_has w f (Some x) other k = other_has w f x other k
+
+  -- ---- moves ----
+
+  pub moved_has : (w : World) (o p : ℕ) → HasVerb w → HasVerb (moved w o p)
+  moved_has w o p k =
+      let left : World = let_go w (place w o) in
+      one_has (place w o == p) w (with_place (taken_up left p) o p) k
+      (flag_has (p == 254) left 1 _ refl (flag_has (place w o == 254) w 1 _ refl k))
+
+  pub dropped_has : (p : ℕ) (os : List ℕ) (w : World) → HasVerb w → HasVerb (fold (λ v o. moved v o p) w os)
+  dropped_has p [] w k = k
+  dropped_has p (o ∷ os) w k = dropped_has p os (moved w o p) (moved_has w o p k)
+
+  -- ---- referring ----
+
+  facts_has : (w : World) (o : ℕ) (f : Option ObjectFacts) → HasVerb w → HasVerb (facts_written w o f)
+  facts_has w o None k = k
+  facts_has w o (Some f) k =
+      let weighed : World = with_flag w 55 (weight w o) in
+      let held : World = with_flag weighed 56 (weight_class f.container) in
+      other_has held 57 (weight_class f.wearable) refl
+      (other_has weighed 56 (weight_class f.container) refl (other_has w 55 (weight w o) refl k))
+
+  pub referred_has : (w : World) (o : ℕ) → HasVerb w → HasVerb (referred w o)
+  referred_has w o k =
+      let numbered : World = with_flag w 51 o in
+      facts_has (with_flag numbered 54 (place w o)) o (slice_get w.facts o)
+      (other_has numbered 54 (place w o) refl (other_has w 51 o refl k))
+
+  none_has : (w : World) → HasVerb w → HasVerb (referred_to_none w)
+  none_has w k =
+      let numbered : World = with_flag w 51 255 in
+      let placed : World = with_flag numbered 54 252 in
+      let weighed : World = with_flag placed 55 0 in
+      let held : World = with_flag weighed 56 0 in
+      other_has held 57 0 refl (other_has weighed 56 0 refl (other_has placed 55 0 refl
+      (other_has numbered 54 252 refl (other_has w 51 255 refl k))))
+
+  pub referred_found_has : (w : World) (found : Option ℕ) → HasVerb w → HasVerb (option_map_or (referred w) found (referred_to_none w))
+  referred_found_has w None k = none_has w k
+  referred_found_has w (Some o) k = referred_has w o k
+
+  -- ---- actions on objects ----
+
+  tried_has : (g : GameLists) (w : World) (o : ℕ) (a : _) (said : Option _) → HasVerb w → HasVerb (tried g w o a said).world
+  tried_has g w o a (Some said) k = k
+  tried_has g w o a None k = moved_has w o (destination w a) k
+
+  pub acted_has : (g : GameLists) (w : World) (o : ℕ) (a : _) → HasVerb w → HasVerb (acted_on g w o a).world
+  acted_has g w o a k = tried_has g (referred w o) o a (first_that_holds (hindrances (referred w o) o a)) (referred_has w o k)
+
+  pub found_has : (g : GameLists) (w : World) (a : _) (found : Option ℕ) → HasVerb w → HasVerb (acted_on_found g w a found).world
+  found_has g w a None k = k
+  found_has g w a (Some o) k = acted_has g w o a k
+
+  -- ---- positions ----
+
+  -- LOAD leaves all tables
+  pub loaded_leaves : (g : GameLists) (w : World) (q : Option Position) → LeavesVerb (loaded g w q)
+  loaded_leaves g w None = inr refl
+  loaded_leaves g w (Some q) = inr refl
+
+  -- flags 0 to m are taken back, and the verb's isn't among them
+  pub ramloaded_has : (g : GameLists) (w : World) (m : ℕ) (saved : Option Position) → MayBePosition g saved → nat_le VERB_FLAG m ≡ false
+      → HasVerb w → HasVerb (option_map_or (at_position w m) saved w)
+  ramloaded_has g w m None at low k = k
+  ramloaded_has g w m (Some q) at low k =
+      let below : m < 33 = leb-false 33 m low in
+      let all : length q.flags ≡ 256 = at.flags in
+      let many : length (take (suc m) q.flags) ≡ suc m = length-take-le (suc m) q.flags (omega arith) in
+      let there : suc m + (33 - suc m) ≡ 33 = omega arith in
+      get_or-append_right (take (suc m) q.flags) (drop (suc m) w.flags) (suc m) 33 0 many (omega arith)
+      ∙ (get_or-drop (suc m) w.flags (33 - suc m) 0 ∙ (subst (λ i. slice_index w.flags i ≡ flag w 33) (sym there) refl ∙ k))

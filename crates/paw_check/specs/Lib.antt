@@ -1,0 +1,10 @@
+pub mod Measures
+pub mod Prints
+pub mod Verbs
+pub mod Calls
+pub mod Costs
+pub mod Bounds
+pub mod Verdicts
+pub mod Shown
+pub mod Promise
+pub mod inner

@@ -1,0 +1,70 @@
+-- What is found of a game: a bound, or the first cause why there is none.
+use Rattle.std.specs.Prelude.{ℕ, Bool, List, [], ◌∷◌, Option, Some, None, nat_lt, if◌then◌else◌}
+use Rattle.std.specs.List.{list_any, position}
+use Rattle.std.specs.Option.{option_map_or}
+use Rattle.paw_base.specs.declared.codes.TheConstants.{DESC, SAVE, LOAD, RESET}
+use Rattle.paw_base.specs.declared.limits.TheConstants.{READ_LIMIT, PIECE_LIMIT, LEVEL_LIMIT}
+use Rattle.paw_base.specs.declared.parts.Condact.{Condact}
+use Rattle.paw_base.specs.declared.tables.TheConstants.{DESCRIBED_TABLE, FRAME_TABLE}
+use Rattle.paw_game.specs.declared.parts.Entry.{Entry}
+use Rattle.paw_game.specs.Game.{GameLists}
+use Rattle.paw_game.specs.Tables.{table_at}
+use Rattle.paw_check.specs.declared.verdict.Cause.{Cause}
+use Rattle.paw_check.specs.declared.verdict.Cause.TheVariants as cause
+use Rattle.paw_check.specs.declared.verdict.Verdict.{Verdict}
+use Rattle.paw_check.specs.declared.verdict.Verdict.TheVariants as verdict
+use Rattle.paw_check.specs.Verbs.{does_one_of}
+use Rattle.paw_check.specs.Calls.{turn_tables, is_call, below, reached_from, most_levels}
+use Rattle.paw_check.specs.Bounds.{most_condacts, most_piece}
+
+-- ---- places ----
+
+-- the number of the first entry with such a condact
+abbrev pub entry_with : (Condact → Bool) → List Entry → Option ℕ
+entry_with is_so entries = position (λ e. list_any is_so e.condacts) entries
+
+-- the first of these tables with such a condact, and its first entry with one
+abbrev pub first_with : GameLists → (Condact → Bool) → List ℕ → Option (ℕ × ℕ)
+first_with g is_so [] = None
+first_with g is_so (t ∷ ts) =
+    option_map_or (λ e. Some (t, e)) (entry_with is_so (table_at g t)) (first_with g is_so ts)
+
+-- ---- causes ----
+
+-- a call in a table ten levels of calls below a turn's tables; a circle of calls comes there too
+abbrev pub call_too_deep : GameLists → Option (ℕ × ℕ)
+call_too_deep g = first_with g is_call (below g turn_tables LEVEL_LIMIT)
+
+-- a condact after which the location is described again, and so the tables of a turn are read once more
+abbrev pub redescribes : Condact → Bool
+redescribes c = does_one_of (DESC ∷ SAVE ∷ LOAD ∷ RESET ∷ []) c
+
+-- such a condact in a table that reading one of the two tables after a description may come to: then how often the
+-- location is described isn't known
+abbrev pub circle_of_descriptions : GameLists → Option (ℕ × ℕ)
+circle_of_descriptions g = first_with g redescribes (reached_from g (DESCRIBED_TABLE ∷ FRAME_TABLE ∷ []))
+
+-- a number above its limit is a cause that lies in no single place, which 0 and 0 stand for
+abbrev pub above : ℕ → ℕ → Option (ℕ × ℕ)
+above limit n = if nat_lt limit n then Some (0, 0) else None
+
+-- the causes in their order, each with its place where it is found
+abbrev pub causes : GameLists → List (Cause × Option (ℕ × ℕ))
+causes g =
+    (cause.Calls, call_too_deep g) ∷ (cause.Redescribe, circle_of_descriptions g)
+    ∷ (cause.Condacts, above READ_LIMIT (most_condacts g)) ∷ (cause.Text, above PIECE_LIMIT (most_piece g)) ∷ []
+
+-- ---- the verdict ----
+
+-- no bound is known, for this cause at this place
+abbrev pub unknown : Cause → (ℕ × ℕ) → Verdict
+unknown why (t, e) = verdict.Unknown why t e
+
+-- the first cause decides; with none there is a bound
+abbrev pub first_cause : Verdict → List (Cause × Option (ℕ × ℕ)) → Verdict
+first_cause bound [] = bound
+first_cause bound ((why, place) ∷ others) = option_map_or (unknown why) place (first_cause bound others)
+
+-- what is found of a game
+unfoldable pub bounds : GameLists → Verdict
+bounds g = first_cause (verdict.Bound (most_levels g) (most_condacts g) (most_piece g)) (causes g)

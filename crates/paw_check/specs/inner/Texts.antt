@@ -1,0 +1,31 @@
+-- What the code keeps of a game's texts, and what a piece prints beside its tables.
+use Rattle.std.specs.Prelude.{◌≡◌, ℕ, ◌+◌}
+use Rattle.paw_base.specs.declared.messages.TheConstants.{SEEN_MESSAGE, NOTHING_THERE_MESSAGE, GOODBYE_MESSAGE}
+use Rattle.paw_base.specs.declared.messages.TheConstants.{TIMEOUT_MESSAGE}
+use Rattle.paw_game.specs.Game.{GameLists}
+use Rattle.paw_check.specs.Bounds.{most_view, most_refusal, most_prompt}
+use Rattle.paw_check.specs.Measures.{most_at, most_of, most_put, most_said}
+use Rattle.paw_check.specs.Prints.{most_list, most_list_or_said, most_inventory, most_count, most_score, most_of_action}
+use Rattle.paw_check.specs.declared.prints.Prints.{Prints}
+use Rattle.paw_check.specs.inner.Capped.{Holds, capped}
+
+-- what is kept is that of this game
+pub record ArePrints (g : GameLists) (p : Prints) : Type 0 where
+  pub system : Holds p.system (most_put g)
+  pub messages : Holds p.messages (most_at g g.messages)
+  pub any_system : p.any_system ≡ capped (most_of g g.system)
+  pub any_message : p.any_message ≡ capped (most_of g g.messages)
+  pub action : p.action ≡ capped (most_of_action g)
+  pub inventory : p.inventory ≡ capped (most_inventory g)
+  pub turns : p.turns ≡ capped (most_count g)
+  pub score : p.score ≡ capped (most_score g)
+  pub here : p.here ≡ capped (most_said g SEEN_MESSAGE + most_list g)
+  pub there : p.there ≡ capped (most_list_or_said g NOTHING_THERE_MESSAGE)
+
+-- what a round prints beside its tables
+abbrev pub most_outside : GameLists → ℕ
+most_outside g = most_view g + most_refusal g
+
+-- what a piece prints behind its rounds
+abbrev pub most_end : GameLists → ℕ
+most_end g = most_said g GOODBYE_MESSAGE + (most_said g TIMEOUT_MESSAGE + most_prompt g)

@@ -1,0 +1,118 @@
+// The verdict on a game.
+
+ghost use Rattle.std.specs.Prelude.{◌≡◌, IfOk};
+ghost use Rattle.paw_game.specs.Valid.{Valid};
+ghost use Rattle.paw_check.specs.Bounds.{most_condacts, most_piece};
+ghost use Rattle.paw_check.specs.Calls.{turn_tables};
+ghost use Rattle.paw_check.specs.Costs.{verb_may_change};
+ghost use Rattle.paw_check.specs.Verdicts.{bounds};
+ghost use Rattle.paw_check.specs.declared.verdict.Verdict.TheVariants as verdict;
+ghost use Rattle.paw_check.specs.inner.Capped.{capped};
+ghost use Rattle.paw_check.specs.inner.Verdicts.{counted};
+
+use crate::costs::round_cost;
+use crate::own::Own;
+use crate::places::Wanted;
+use crate::reached::reached_from;
+use crate::texts::{most_end, most_outside, prints_of};
+use crate::verdict::{Cause, Verdict};
+use paw_base::fault::NoRoom;
+use paw_base::limits::{PIECE_LIMIT, READ_LIMIT};
+use paw_base::tables::{DESCRIBED_TABLE, FRAME_TABLE, RESPONSE_TABLE};
+use paw_game::game::Game;
+use paw_game::parts::GameParts;
+use std::alloc::Global;
+
+/// How many readings of a turn's tables a line may lead to: at most 128 phrases, and what was open before.
+const MOST_ROUNDS: u32 = 129;
+
+/// The most condacts that are read for a piece.
+fn most_condacts(alloc: Global, parts: &GameParts, changing: bool) -> Result<u32, NoRoom>
+    requires valid { Valid parts.now }
+    requires changing { changing ≡ verb_may_change parts.now }
+    ensures value { IfOk result (λ most. most ≡ capped (most_condacts parts.now)) }
+{
+    let round = round_cost(alloc, parts, &Own::Condacts, changing)?;
+    Ok(round.saturating_mul(MOST_ROUNDS))
+}
+
+/// The most bytes of a piece.
+fn most_piece(alloc: Global, parts: &GameParts, changing: bool) -> Result<u32, NoRoom>
+    requires valid { Valid parts.now }
+    requires changing { changing ≡ verb_may_change parts.now }
+    ensures value { IfOk result (λ most. most ≡ capped (most_piece parts.now)) }
+{
+    let prints = prints_of(parts);
+    let outside = most_outside(parts, &prints);
+    let end = most_end(parts, &prints);
+    let round = round_cost(alloc, parts, &Own::Text(prints), changing)?;
+    let whole = round.saturating_add(outside);
+    let rounds = whole.saturating_mul(MOST_ROUNDS);
+    Ok(rounds.saturating_add(end))
+}
+
+/// The verdict on a game that neither calls nor describes too often, by what its pieces take.
+fn counted(alloc: Global, parts: &GameParts, levels: u8, changing: bool) -> Result<Verdict, NoRoom>
+    requires valid { Valid parts.now }
+    requires changing { changing ≡ verb_may_change parts.now }
+    ensures value { IfOk result (λ verdict. verdict ≡ counted parts.now levels) }
+{
+    let condacts = most_condacts(alloc, parts, changing)?;
+    if condacts > READ_LIMIT {
+        return Ok(nowhere(Cause::Condacts));
+    }
+    let text = most_piece(alloc, parts, changing)?;
+    if text as usize > PIECE_LIMIT {
+        return Ok(nowhere(Cause::Text));
+    }
+    Ok(Verdict::Bound {
+        levels,
+        condacts,
+        text,
+    })
+}
+
+/// No bound is known, for a cause that lies in no single place.
+fn nowhere(cause: Cause) -> Verdict
+    ensures value { result ≡ verdict.Unknown cause 0 0 }
+{
+    Verdict::Unknown {
+        cause,
+        table: 0,
+        entry: 0,
+    }
+}
+
+/// What any play of the game takes at most, with whatever routines, seed and lines; or the first cause why that isn't
+/// known. The answer is what the bounds of the game are by their definition.
+///
+/// # Errors
+/// NoRoom only for want of memory.
+pub fn check(alloc: Global, game: &Game) -> Result<Verdict, NoRoom>
+    ensures value { IfOk result (λ verdict. verdict ≡ bounds game.now) }
+{
+    let parts = game.parts();
+    let tables = parts.tables.as_slice();
+    let reached = reached_from(
+        alloc,
+        parts,
+        &[RESPONSE_TABLE, DESCRIBED_TABLE, FRAME_TABLE],
+    )?;
+    if let Some((table, entry)) = Wanted::Call.place(tables, reached.deepest.as_slice()) {
+        return Ok(Verdict::Unknown {
+            cause: Cause::Calls,
+            table,
+            entry,
+        });
+    }
+    let described = reached_from(alloc, parts, &[DESCRIBED_TABLE, FRAME_TABLE])?;
+    if let Some((table, entry)) = Wanted::Description.place(tables, described.all.as_slice()) {
+        return Ok(Verdict::Unknown {
+            cause: Cause::Redescribe,
+            table,
+            entry,
+        });
+    }
+    let changing = Wanted::VerbWriter.is_in(tables, reached.all.as_slice());
+    counted(alloc, parts, reached.levels, changing)
+}

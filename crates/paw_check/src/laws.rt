@@ -1,0 +1,8 @@
+// The law of the check.
+
+ghost use Rattle.paw_check.specs.Promise.{BoundsHold};
+
+/// The bound that is found of a game holds for every play of it: with any routines, any seed and any lines.
+pub fn bounds_hold()
+    ensures hold { BoundsHold }
+{}

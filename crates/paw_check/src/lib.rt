@@ -1,0 +1,19 @@
+//! What any play of a game may take at most: how many condacts and bytes a piece, and how many levels of calls.
+#![tactic(auto)]
+
+mod costs;
+mod deciding;
+pub mod laws;
+mod measures;
+mod own;
+mod places;
+mod prints;
+mod reached;
+mod sets;
+mod sums;
+#[cfg(test)]
+mod tests;
+mod texts;
+pub mod verdict;
+
+pub use deciding::check;

@@ -1,0 +1,28 @@
+// What each condact takes of its own: one condact that is read, or bytes that are printed.
+
+ghost use Rattle.std.specs.Prelude.{◌≡◌, ◌≤◌, length};
+ghost use Rattle.paw_base.specs.Condacts.{is_indirect, plain_code};
+ghost use Rattle.paw_check.specs.inner.Capped.{capped};
+ghost use Rattle.paw_check.specs.inner.Own.{kind_of, kind_in, named_in, text_in, own_in};
+
+use crate::prints::Prints;
+use paw_base::parts::Condact;
+
+/// What is counted of a condact: that it is read, or the most bytes that it prints.
+#[derive(Drop)]
+pub(crate) enum Own {
+    Condacts,
+    Text(Prints),
+}
+
+impl Own {
+    /// What a condact takes of its own.
+    pub(crate) fn of(&self, condact: &Condact) -> u32
+        ensures value { result ≡ own_in self.now condact.now }
+    {
+        match self {
+            Own::Condacts => 1,
+            Own::Text(prints) => prints.of(condact),
+        }
+    }
+}

@@ -1,0 +1,73 @@
+// What is found of a game.
+
+ghost use Rattle.std.specs.Prelude.{◌≡◌, IfOk, string_bytes};
+ghost use Rattle.paw_check.specs.Shown.{cause_name, verdict_text};
+
+use paw_base::fault::NoRoom;
+use std::alloc::Global;
+
+/// Why a game has no bound: its calls go too deep, or in a circle; a table that is read after a description describes
+/// again; a piece might read more condacts, or hold more text, than it may.
+#[derive(Clone, Copy, Drop, PartialEq, Eq, Debug)]
+pub enum Cause {
+    Calls,
+    Redescribe,
+    Condacts,
+    Text,
+}
+
+impl Cause {
+    /// Its name.
+    fn name(self) -> &'static str
+        ensures { result.now ≡ cause_name self }
+    {
+        match self {
+            Cause::Calls => "Calls",
+            Cause::Redescribe => "Redescribe",
+            Cause::Condacts => "Condacts",
+            Cause::Text => "Text",
+        }
+    }
+}
+
+/// What any play of a game takes at most: levels of calls, and condacts and bytes of each piece. Or the first cause why
+/// that isn't known, and the table and the entry that it was found at; 0 and 0 where it lies in no single one.
+#[derive(Clone, Copy, Drop, PartialEq, Eq, Debug)]
+pub enum Verdict {
+    Bound {
+        levels: u8,
+        condacts: u32,
+        text: u32,
+    },
+    Unknown {
+        cause: Cause,
+        table: u8,
+        entry: u16,
+    },
+}
+
+impl Verdict {
+    /// The line that is shown of it.
+    ///
+    /// # Errors
+    /// NoRoom only for want of memory.
+    pub fn text(&self, alloc: Global) -> Result<String, NoRoom>
+        ensures value { IfOk result (λ text. string_bytes text ≡ verdict_text self.now) }
+    {
+        match *self {
+            Verdict::Bound {
+                levels,
+                condacts,
+                text,
+            } => Ok(format!(in alloc; "BOUND levels {levels} condacts {condacts} text {text}\n")?),
+            Verdict::Unknown {
+                cause,
+                table,
+                entry,
+            } => {
+                let name = cause.name();
+                Ok(format!(in alloc; "UNKNOWN {name} at {table}.{entry}\n")?)
+            }
+        }
+    }
+}
