@@ -113,14 +113,14 @@ completes_unopened name Such old new _ memory (failed e) free =
 completes_unopened name Such old new _ memory (wanting at e) free =
     record { image = λ h k. memory h at; other = λ k. tt }
 
--- a game whose source is shown
-pub completes_decompile : (name : List ℕ) (old new : Standing) (o : Outcome) → decompile.Decompiles name old new o →
-    IsUnhindered o → CompletesImage name (λ g. Comes outcome.Done) old o
-completes_decompile name old new _ (decompile.done g s e) free = completes_game name (λ g. Comes outcome.Done) old g outcome.Done s refl
-completes_decompile name old new _ (decompile.unopened o u) free =
+-- a game of which a text is shown
+pub completes_told : {told : GameLists → List ℕ} {at : MemoryAt} (name : List ℕ) (old new : Standing) (o : Outcome) →
+    decompile.TellsOf told at name old new o → IsUnhindered o → CompletesImage name (λ g. Comes outcome.Done) old o
+completes_told name old new _ (decompile.done g s e) free = completes_game name (λ g. Comes outcome.Done) old g outcome.Done s refl
+completes_told name old new _ (decompile.unopened o u) free =
     completes_unopened name (λ g. Comes outcome.Done) old new o (λ g at. tt) u free
-completes_decompile name old new _ (decompile.unshown g s e) free = absurd (hindered call.Show (λ q. cc) free)
-completes_decompile name old new _ (decompile.unprinted e) free = record { image = λ h k. tt; other = λ k. tt }
+completes_told name old new _ (decompile.unshown g s e) free = absurd (hindered call.Show (λ q. cc) free)
+completes_told name old new _ (decompile.untold e) free = record { image = λ h k. tt; other = λ k. tt }
 
 -- a text of so many bytes at most is wrapped, and a longer one is too long
 within : (bytes : List ℕ) → length bytes ≤ 4194304 →

@@ -1,5 +1,6 @@
 -- A session whose calls don't fail.
-use Rattle.std.proofs.Common.{◌≡◌, ◌≢◌, ℕ, ◌<◌, List, [], ◌∷◌, length, take, refl, sym, ◌∙◌, subst, arith, inl, inr}
+use Rattle.std.proofs.Common.{◌≡◌, ◌≢◌, ◌⊎◌, ℕ, ◌<◌, List, [], ◌∷◌, length, take, refl, sym, ap, ◌∙◌, subst, arith, inl, inr}
+use Rattle.paw_base.specs.Bytes.{zeros}
 use Rattle.paw_game.specs.Game.{GameLists}
 use Rattle.paw_effects.specs.Story.{Story, story_of}
 use Rattle.paw_state.specs.State.{State}
@@ -7,21 +8,22 @@ use Rattle.paw_state.specs.Fit.{Fit}
 use Rattle.paw_stage.specs.Stage.{Standing}
 use Rattle.paw_stage.specs.declared.StageCall.{StageCall}
 use Rattle.paw_stage.specs.declared.StageCall.TheVariants as call
-use Rattle.paw_journal.specs.Session.{Recovered, Unmade, Damaged, Shown, recover, state_length}
+use Rattle.paw_journal.specs.Session.{Digests, BelongsTo, Recovered, Unmade, Damaged, Shown, recover, state_length}
 use Rattle.paw_stage.specs.Across.{IsOneOf}
 use Rattle.paw_journal.specs.Journal.{writing_calls}
 use Rattle.paw_journal.specs.declared.refusal.JournalRefusal.{JournalRefusal}
 use Rattle.paw_journal.specs.declared.refusal.JournalRefusal.TheVariants as refusal
-use Rattle.paw_play.specs.Session.{kept_bytes}
+use Rattle.paw_play.specs.Session.{IsOfStory, kept_bytes, story_digests}
 use Rattle.paw_play.specs.Walk.{EndingOf}
 use Rattle.paw_play.specs.Play as session
-use Rattle.paw_play.specs.Play.{ShowsAs, PlaysIn, PlaysFirst, PlaysUp, PlaysAgain, ShowsState, Refuses, attached_to, store_bytes}
+use Rattle.paw_play.specs.Play.{ShowsAs, MadeAndPlayed, NewSession, Resumed, PlaysAgain, Refuses, attached_to, store_bytes}
+use Rattle.paw_play.specs.Played.{PlayedSession, ShowsState, begun}
 use Rattle.paw_play.specs.declared.PlayEnd.{PlayEnd}
 use Rattle.paw_play.specs.declared.PlayEnd.TheVariants as end
 use Rattle.paw_top.specs.Completes.{IsUnhindered}
 use Rattle.paw_top.specs.inner.Completes.{IsWalked, Comes, CompletesNew, CompletesAgain, CompletesImage}
 use Rattle.paw_top.specs.Ends.{outcome_of, refused_as}
-use Rattle.paw_top.specs.Sessions.{digest_of, PlaysNewIn, PlaysAgainIn}
+use Rattle.paw_top.specs.Sessions.{PlaysNewIn, PlaysAgainIn}
 use Rattle.paw_top.specs.declared.outcome.Outcome.{Outcome}
 use Rattle.paw_top.specs.declared.outcome.Outcome.TheVariants as outcome
 use Rattle.paw_top.specs.declared.outcome.MemoryAt.{MemoryAt}
@@ -58,26 +60,24 @@ no_writing c (inl h) = λ q. cc
 no_writing c (inr (inl h)) = λ q. cc
 no_writing c (inr (inr h)) = absurd h
 
-plays_in : (Kept : ℕ → List ℕ → Type 0) (whole : EndingOf) (name : List ℕ) (old new : Standing) (o : PlayEnd) → PlaysIn Kept whole name old new o →
-    IsUnhindered (outcome_of o) → IsWalked (outcome_of o)
-plays_in Kept whole name old new _ (session.memory e) free = tt
-plays_in Kept whole name old new _ (session.spent kind r is e) free = tt
-plays_in Kept whole name old new _ (session.too_deep table r is e) free = tt
-plays_in Kept whole name old new _ (session.unmade c w e stays) free = absurd (hindered c (no_writing c w) free)
-plays_in Kept whole name old new _ (session.plays o p) free = plays_on _ _ old new o p.shows free
+plays_in : (s : PlayedSession) (old new : Standing) (o : PlayEnd) → MadeAndPlayed s old new o → IsUnhindered (outcome_of o) → IsWalked (outcome_of o)
+plays_in s old new _ (session.memory e) free = tt
+plays_in s old new _ (session.spent kind r is e) free = tt
+plays_in s old new _ (session.too_deep table r is e) free = tt
+plays_in s old new _ (session.unmade c w e stays) free = absurd (hindered c (no_writing c w) free)
+plays_in s old new _ (session.plays o p) free = plays_on _ _ old new o p.shows free
 
 -- a store with bytes is refused for their number
 occupied_so : (bytes : List ℕ) → 0 < length bytes → CompletesNew bytes (outcome.Occupied (length bytes))
 occupied_so [] h = absurd (omega (arith, h))
 occupied_so (b ∷ bytes) h = refl
 
-plays_new : (Kept : ℕ → List ℕ → Type 0) (whole : EndingOf) (name : List ℕ) (old new : Standing)
-    (o : PlayEnd) → PlaysFirst Kept whole name old new o →
-    IsUnhindered (outcome_of o) → CompletesNew (store_bytes old name) (outcome_of o)
-plays_new Kept whole name old new _ (session.unattached u) free = absurd (hindered call.Attach (λ q. cc) free)
-plays_new Kept whole name old new _ (session.occupied h e) free = occupied_so (store_bytes old name) h
-plays_new Kept whole name old new _ (session.plays_in o e p) free =
-    subst (λ bytes. CompletesNew bytes (outcome_of o)) (sym e) (plays_in _ _ _ _ new o p free)
+plays_new : (s : PlayedSession) (old new : Standing) (o : PlayEnd) → NewSession s old new o → IsUnhindered (outcome_of o) →
+    CompletesNew (store_bytes old s.name) (outcome_of o)
+plays_new s old new _ (session.unattached u) free = absurd (hindered call.Attach (λ q. cc) free)
+plays_new s old new _ (session.occupied h e) free = occupied_so (store_bytes old s.name) h
+plays_new s old new _ (session.plays_in o e p) free =
+    subst (λ bytes. CompletesNew bytes (outcome_of o)) (sym e) (plays_in s _ new o p free)
 
 new_memory : (bytes : List ℕ) (at : MemoryAt) → CompletesNew bytes (outcome.Memory at)
 new_memory [] at = tt
@@ -88,98 +88,129 @@ pub completes_play : (rows : List (List ℕ)) (name store : List ℕ) (seed : �
     IsUnhindered o → CompletesImage name (λ g. CompletesNew (store_bytes old store)) old o
 completes_play rows name store seed old new o p free =
     completes_file name (λ g. CompletesNew (store_bytes old store)) old new o p
-    (λ g end q free. plays_new _ _ store old new end q free) (λ g at. new_memory (store_bytes old store) at) free
+    (λ g end q free. plays_new (begun (story_of g rows) seed store) old new end q free)
+    (λ g at. new_memory (store_bytes old store) at) free
 
 -- ---- a session that is taken up again ----
 
--- bytes show one digest
-no_game : (kept digest s t p q : List ℕ) (r : Recovered) → r ≡ Shown kept s p → r ≡ Shown digest t q → kept ≢ digest → ⊥
-no_game kept digest s t p q r h is other = other cc
+-- bytes show one session: its digests, its state and its piece
+same_digests : (d c : Digests) (s t p q : List ℕ) (r : Recovered) → r ≡ Shown d s p → r ≡ Shown c t q → d ≡ c
+same_digests d c s t p q r h k = let e : Shown d s p ≡ Shown c t q = sym h ∙ k in cc
 
--- bytes that give no session of the game show none
-not_shown : (digest bytes state piece : List ℕ) (r : JournalRefusal) → Refuses digest bytes r → recover bytes ≡ Shown digest state piece → ⊥
-not_shown digest bytes state piece (refusal.Unmade n mark) h is = let e : Unmade n mark ≡ Shown digest state piece = sym h ∙ is in cc
-not_shown digest bytes state piece (refusal.Damaged p at) h is = let e : Damaged p at ≡ Shown digest state piece = sym h ∙ is in cc
-not_shown digest bytes state piece (refusal.WrongGame kept found) h is = no_game kept digest h.0 state h.1 piece (recover bytes) h.2 is h.3
-not_shown digest bytes state piece (refusal.Outside c) h is = h
+same_state : (d c : Digests) (s t p q : List ℕ) → Shown d s p ≡ Shown c t q → s ≡ t
+same_state d c s t p q e = cc
+
+same_piece : (d c : Digests) (s t p q : List ℕ) (r : Recovered) → r ≡ Shown d s p → r ≡ Shown c t q → p ≡ q
+same_piece d c s t p q r h k = let e : Shown d s p ≡ Shown c t q = sym h ∙ k in cc
+
+-- the digest of the game is told by the whole
+game_of : (d c : Digests) → d ≡ c → d.game ≡ c.game
+game_of d c e = ap (λ (x : Digests). x.game) e
+
+routines_of : (d c : Digests) → d ≡ c → d.routines ≡ c.routines
+routines_of d c e = ap (λ (x : Digests). x.routines) e
+
+-- routines that the session doesn't tell, or that are the story's, aren't others
+no_others : (kept own : List ℕ) → (kept ≡ zeros 32) ⊎ (kept ≡ own) → kept ≢ zeros 32 → kept ≢ own → ⊥
+no_others kept own (inl h) none other = none h
+no_others kept own (inr h) none other = other h
+
+-- bytes that give no session of the story show none
+not_shown : (own d : Digests) (bytes state piece : List ℕ) (r : JournalRefusal) → BelongsTo own.game own.routines d → Refuses own bytes r →
+    recover bytes ≡ Shown d state piece → ⊥
+not_shown own d bytes state piece (refusal.Unmade n mark) b h is = let e : Unmade n mark ≡ Shown d state piece = sym h ∙ is in cc
+not_shown own d bytes state piece (refusal.Damaged p at) b h is = let e : Damaged p at ≡ Shown d state piece = sym h ∙ is in cc
+not_shown own d bytes state piece (refusal.WrongGame kept found) b h is =
+    h.5 (h.4 ∙ game_of h.0 d (same_digests h.0 d h.1 state h.2 piece (recover bytes) h.3 is) ∙ b.of_game)
+not_shown own d bytes state piece (refusal.WrongRoutines kept found) b h is =
+    let mine : kept ≡ d.routines = h.5 ∙ routines_of h.0 d (same_digests h.0 d h.1 state h.2 piece (recover bytes) h.3 is) in
+    no_others d.routines own.routines b.of_routines (λ q. h.6 (mine ∙ q)) (λ q. h.7 (mine ∙ q))
+not_shown own d bytes state piece (refusal.Outside c) b h is = h
 
 -- bytes are refused in one way
-one_refusal : (digest bytes : List ℕ) (r q : JournalRefusal) → Refuses digest bytes r → Refuses digest bytes q → r ≡ q
-one_refusal digest bytes (refusal.Unmade n mark) (refusal.Unmade m other) h k = let e : Unmade n mark ≡ Unmade m other = sym h ∙ k in cc
-one_refusal digest bytes (refusal.Unmade n mark) (refusal.Damaged p at) h k = let e : Unmade n mark ≡ Damaged p at = sym h ∙ k in cc
-one_refusal digest bytes (refusal.Unmade n mark) (refusal.WrongGame kept found) h k = let e : Unmade n mark ≡ Shown kept k.0 k.1 = sym h ∙ k.2 in cc
-one_refusal digest bytes (refusal.Damaged p at) (refusal.Unmade m other) h k = let e : Damaged p at ≡ Unmade m other = sym h ∙ k in cc
-one_refusal digest bytes (refusal.Damaged p at) (refusal.Damaged q place) h k = let e : Damaged p at ≡ Damaged q place = sym h ∙ k in cc
-one_refusal digest bytes (refusal.Damaged p at) (refusal.WrongGame kept found) h k = let e : Damaged p at ≡ Shown kept k.0 k.1 = sym h ∙ k.2 in cc
-one_refusal digest bytes (refusal.WrongGame kept found) (refusal.Unmade m other) h k = let e : Shown kept h.0 h.1 ≡ Unmade m other = sym h.2 ∙ k in cc
-one_refusal digest bytes (refusal.WrongGame kept found) (refusal.Damaged q place) h k = let e : Shown kept h.0 h.1 ≡ Damaged q place = sym h.2 ∙ k in cc
-one_refusal digest bytes (refusal.WrongGame kept found) (refusal.WrongGame other place) h k =
-    let e : Shown kept h.0 h.1 ≡ Shown other k.0 k.1 = sym h.2 ∙ k.2 in
-    let f : found ≡ place = h.4 ∙ sym k.4 in
+one_refusal : (own : Digests) (bytes : List ℕ) (r q : JournalRefusal) → Refuses own bytes r → Refuses own bytes q → r ≡ q
+one_refusal own bytes (refusal.Unmade n mark) (refusal.Unmade m other) h k = let e : Unmade n mark ≡ Unmade m other = sym h ∙ k in cc
+one_refusal own bytes (refusal.Unmade n mark) (refusal.Damaged p at) h k = let e : Unmade n mark ≡ Damaged p at = sym h ∙ k in cc
+one_refusal own bytes (refusal.Unmade n mark) (refusal.WrongGame kept found) h k = let e : Unmade n mark ≡ Shown k.0 k.1 k.2 = sym h ∙ k.3 in cc
+one_refusal own bytes (refusal.Unmade n mark) (refusal.WrongRoutines kept found) h k = let e : Unmade n mark ≡ Shown k.0 k.1 k.2 = sym h ∙ k.3 in cc
+one_refusal own bytes (refusal.Damaged p at) (refusal.Unmade m other) h k = let e : Damaged p at ≡ Unmade m other = sym h ∙ k in cc
+one_refusal own bytes (refusal.Damaged p at) (refusal.Damaged q place) h k = let e : Damaged p at ≡ Damaged q place = sym h ∙ k in cc
+one_refusal own bytes (refusal.Damaged p at) (refusal.WrongGame kept found) h k = let e : Damaged p at ≡ Shown k.0 k.1 k.2 = sym h ∙ k.3 in cc
+one_refusal own bytes (refusal.Damaged p at) (refusal.WrongRoutines kept found) h k = let e : Damaged p at ≡ Shown k.0 k.1 k.2 = sym h ∙ k.3 in cc
+one_refusal own bytes (refusal.WrongGame kept found) (refusal.Unmade m other) h k = let e : Shown h.0 h.1 h.2 ≡ Unmade m other = sym h.3 ∙ k in cc
+one_refusal own bytes (refusal.WrongGame kept found) (refusal.Damaged q place) h k = let e : Shown h.0 h.1 h.2 ≡ Damaged q place = sym h.3 ∙ k in cc
+one_refusal own bytes (refusal.WrongGame kept found) (refusal.WrongGame other place) h k =
+    let e : kept ≡ other = h.4 ∙ game_of h.0 k.0 (same_digests h.0 k.0 h.1 k.1 h.2 k.2 (recover bytes) h.3 k.3) ∙ sym k.4 in
+    let f : found ≡ place = h.6 ∙ sym k.6 in
     cc
-one_refusal digest bytes (refusal.Outside c) q h k = absurd h
-one_refusal digest bytes r (refusal.Outside c) h k = absurd k
+one_refusal own bytes (refusal.WrongGame kept found) (refusal.WrongRoutines other place) h k =
+    absurd (h.5 (h.4 ∙ game_of h.0 k.0 (same_digests h.0 k.0 h.1 k.1 h.2 k.2 (recover bytes) h.3 k.3) ∙ k.4))
+one_refusal own bytes (refusal.WrongRoutines kept found) (refusal.Unmade m other) h k = let e : Shown h.0 h.1 h.2 ≡ Unmade m other = sym h.3 ∙ k in cc
+one_refusal own bytes (refusal.WrongRoutines kept found) (refusal.Damaged q place) h k = let e : Shown h.0 h.1 h.2 ≡ Damaged q place = sym h.3 ∙ k in cc
+one_refusal own bytes (refusal.WrongRoutines kept found) (refusal.WrongGame other place) h k =
+    absurd (k.5 (k.4 ∙ game_of k.0 h.0 (same_digests k.0 h.0 k.1 h.1 k.2 h.2 (recover bytes) k.3 h.3) ∙ h.4))
+one_refusal own bytes (refusal.WrongRoutines kept found) (refusal.WrongRoutines other place) h k =
+    let e : kept ≡ other = h.5 ∙ routines_of h.0 k.0 (same_digests h.0 k.0 h.1 k.1 h.2 k.2 (recover bytes) h.3 k.3) ∙ sym k.5 in
+    let f : found ≡ place = h.8 ∙ sym k.8 in
+    cc
+one_refusal own bytes (refusal.Outside c) q h k = absurd h
+one_refusal own bytes r (refusal.Outside c) h k = absurd k
 
 -- a refusal that is due came
 comes_so : (r q : JournalRefusal) → r ≡ q → Comes (refused_as q) (refused_as r)
 comes_so r (refusal.Unmade n mark) e = rw e refl
 comes_so r (refusal.Damaged p at) e = rw e refl
 comes_so r (refusal.WrongGame kept found) e = rw e refl
+comes_so r (refusal.WrongRoutines kept found) e = rw e refl
 comes_so r (refusal.Outside c) e = rw e refl
 
-again_memory : (g : GameLists) (digest bytes : List ℕ) (at : MemoryAt) → CompletesAgain g digest bytes (outcome.Memory at)
-again_memory g digest bytes at = record { shown = λ st piece h. tt; refused = λ r h. tt; no_state = λ state piece is not. (0, tt) }
+again_memory : (g : Story) (bytes : List ℕ) (at : MemoryAt) → CompletesAgain g bytes (outcome.Memory at)
+again_memory g bytes at = record { shown = λ d st piece b h. tt; refused = λ r h. tt; no_state = λ d state piece b is not. (0, tt) }
 
 -- a session of no state of the game shows none
-is_unfit : (g : GameLists) (digest bytes state piece : List ℕ) → recover bytes ≡ Shown digest (take state_length state) piece → ¬ Fit g state →
-    (st : State) (p : List ℕ) → ShowsState g digest bytes st p → ⊥
+is_unfit : (g : GameLists) (d c : Digests) (bytes state piece : List ℕ) → recover bytes ≡ Shown d (take state_length state) piece → ¬ Fit g state →
+    (st : State) (p : List ℕ) → ShowsState g c bytes st p → ⊥
 unfolding kept_bytes
-is_unfit g digest bytes state piece is not st p h =
-    let e : Shown digest (take state_length state) piece ≡ Shown digest (kept_bytes st) p = sym is ∙ h.shown in
+is_unfit g d c bytes state piece is not st p h =
+    let e : Shown d (take state_length state) piece ≡ Shown c (kept_bytes st) p = sym is ∙ h.shown in
     not (record { state = st; keeps = h.keeps; fits = h.fits; are = same_state _ _ _ _ _ _ e })
-  where
-    same_state : (d c s t p q : List ℕ) → Shown d s p ≡ Shown c t q → s ≡ t
-    same_state d c s t p q h = cc
 
 -- a session that shows a state shows no other bytes
-shows_other : (g : GameLists) (digest bytes state p q : List ℕ) (st : State) → recover bytes ≡ Shown digest state q → ShowsState g digest bytes st p →
-    ((s : State) → ¬ ShowsState g digest bytes s q) → ⊥
-shows_other g digest bytes state p q st is h not = not st (subst (λ x. ShowsState g digest bytes st x) (same_piece _ _ _ _ _ _ (sym h.shown ∙ is)) h)
-  where
-    same_piece : (d c s t x y : List ℕ) → Shown d s x ≡ Shown c t y → x ≡ y
-    same_piece d c s t x y e = cc
+shows_other : (g : GameLists) (d c : Digests) (bytes state p q : List ℕ) (st : State) → recover bytes ≡ Shown c state q → ShowsState g d bytes st p →
+    ((s : State) → ¬ ShowsState g c bytes s q) → ⊥
+shows_other g d c bytes state p q st is h not =
+    not st (subst (λ x. ShowsState g c bytes st x) (same_piece d c _ _ _ _ (recover bytes) h.shown is)
+    (subst (λ x. ShowsState g x bytes st p) (same_digests d c _ _ _ _ (recover bytes) h.shown is) h))
 
-plays_up : (g : Story) (digest name : List ℕ) (old new : Standing) (o : PlayEnd) → PlaysUp g digest name old new o →
-    IsUnhindered (outcome_of o) → CompletesAgain g.game digest old.disk.bytes (outcome_of o)
-plays_up g digest name old new _ (session.memory e) free = again_memory g.game digest old.disk.bytes memory.Play
-plays_up g digest name old new _ (session.no_state at state piece is not fault e) free = record {
-  shown = λ st p h. absurd (is_unfit g.game digest old.disk.bytes state piece is not st p h);
-  refused = λ r h. absurd (not_shown digest old.disk.bytes (take state_length state) piece r h is);
-  no_state = λ s p h k. (at, refl);
+resumed : (g : Story) (d : Digests) (name : List ℕ) (old new : Standing) (o : PlayEnd) → IsOfStory g d → Resumed g d name old new o →
+    IsUnhindered (outcome_of o) → CompletesAgain g old.disk.bytes (outcome_of o)
+resumed g d name old new _ mine (session.memory e) free = again_memory g old.disk.bytes memory.Play
+resumed g d name old new _ mine (session.no_state at state piece is not fault e) free = record {
+  shown = λ c st p b h. absurd (is_unfit g.game d c old.disk.bytes state piece is not st p h);
+  refused = λ r h. absurd (not_shown (story_digests g) d old.disk.bytes (take state_length state) piece r mine h is);
+  no_state = λ c s p b h k. (at, refl);
 }
-plays_up g digest name old new _ (session.plays_on o st piece h p) free = record {
-  shown = λ s q k. plays_on _ _ old new o p.shows free;
-  refused = λ r k. absurd (not_shown digest old.disk.bytes (kept_bytes st) piece r k h.shown);
-  no_state = λ s q is k. absurd (shows_other g.game digest old.disk.bytes s piece q st is h k);
+resumed g d name old new _ mine (session.plays_on o st piece h p) free = record {
+  shown = λ c s q b k. plays_on _ _ old new o p.shows free;
+  refused = λ r k. absurd (not_shown (story_digests g) d old.disk.bytes (kept_bytes st) piece r mine k h.shown);
+  no_state = λ c s q b is k. absurd (shows_other g.game d c old.disk.bytes s piece q st is h k);
 }
 
-plays_again : (g : Story) (digest name : List ℕ) (old new : Standing) (o : PlayEnd) → PlaysAgain g digest name old new o →
-    IsUnhindered (outcome_of o) →
-    CompletesAgain g.game digest (store_bytes old name) (outcome_of o)
-plays_again g digest name old new _ (session.unattached u) free = absurd (hindered call.Attach (λ q. cc) free)
-plays_again g digest name old new _ (session.unread e) free = absurd (hindered call.Read (λ q. cc) free)
-plays_again g digest name old new _ (session.wanting e) free = again_memory g.game digest (store_bytes old name) memory.Play
-plays_again g digest name old new _ (session.refused r h e) free = record {
-  shown = λ st piece k. absurd (not_shown digest (store_bytes old name) (kept_bytes st) piece r h k.shown);
-  refused = λ q k. comes_so r q (one_refusal digest (store_bytes old name) r q h k);
-  no_state = λ state piece is k. absurd (not_shown digest (store_bytes old name) state piece r h is);
+plays_again : (g : Story) (name : List ℕ) (old new : Standing) (o : PlayEnd) → PlaysAgain g name old new o → IsUnhindered (outcome_of o) →
+    CompletesAgain g (store_bytes old name) (outcome_of o)
+plays_again g name old new _ (session.unattached u) free = absurd (hindered call.Attach (λ q. cc) free)
+plays_again g name old new _ (session.unread e) free = absurd (hindered call.Read (λ q. cc) free)
+plays_again g name old new _ (session.wanting e) free = again_memory g (store_bytes old name) memory.Play
+plays_again g name old new _ (session.refused r h e) free = record {
+  shown = λ d st piece b k. absurd (not_shown (story_digests g) d (store_bytes old name) (kept_bytes st) piece r b h k.shown);
+  refused = λ q k. comes_so r q (one_refusal (story_digests g) (store_bytes old name) r q h k);
+  no_state = λ d state piece b is k. absurd (not_shown (story_digests g) d (store_bytes old name) state piece r b h is);
 }
-plays_again g digest name old new _ (session.plays_up o p) free = plays_up g digest name (attached_to old name) new o p free
+plays_again g name old new _ (session.plays_up o d mine p) free = resumed g d name (attached_to old name) new o mine p free
 
 pub completes_resume : (rows : List (List ℕ)) (name store : List ℕ) (old new : Standing) (o : Outcome) → PlaysAgainIn rows name store old new o →
-    IsUnhindered o →
-    CompletesImage name (λ g. CompletesAgain g (digest_of g) (store_bytes old store)) old o
+    IsUnhindered o → CompletesImage name (λ g. CompletesAgain (story_of g rows) (store_bytes old store)) old o
 completes_resume rows name store old new o p free =
-    completes_file name (λ h. CompletesAgain h (digest_of h) (store_bytes old store)) old new o p
-    (λ g end q free. plays_again (story_of g rows) (digest_of g) store old new end q free)
-    (λ h at. again_memory h (digest_of h) (store_bytes old store) at) free
+    completes_file name (λ h. CompletesAgain (story_of h rows) (store_bytes old store)) old new o p
+    (λ g end q free. plays_again (story_of g rows) store old new end q free)
+    (λ h at. again_memory (story_of h rows) (store_bytes old store) at) free

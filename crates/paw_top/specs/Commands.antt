@@ -12,6 +12,7 @@ use Rattle.paw_stage.specs.declared.StageCall.TheVariants as call
 use Rattle.paw_play.specs.Calls.{walk_calls, session_calls}
 use Rattle.paw_top.specs.Answers.{load_calls, load_memory}
 use Rattle.paw_top.specs.Compile.{Compiles}
+use Rattle.paw_top.specs.Check.{Checks}
 use Rattle.paw_top.specs.Decompile.{Decompiles}
 use Rattle.paw_top.specs.Shows.{Wraps}
 use Rattle.paw_top.specs.Walk.{WalksAs, reading_traced}
@@ -23,7 +24,8 @@ use Rattle.paw_top.specs.declared.outcome.MemoryAt.TheVariants as place
 
 -- what is asked for: to compile a source to an image; to show the source of an image; to walk through the game of an
 -- image, with a seed; to play it, with a new session in a store; to go on with the session in a store; to trace a walk;
--- to play the trial of a number; to show a text in columns of a width
+-- to play the trial of a number; to show what any play of the game of an image takes at most; to show a text in columns
+-- of a width
 pub data Command : Type 0 where
   Compile : (source image : List ℕ) → Command
   Decompile : (image : List ℕ) → Command
@@ -32,6 +34,7 @@ pub data Command : Type 0 where
   Resume : (image store : List ℕ) → Command
   Trace : (image : List ℕ) (seed : ℕ) → Command
   Trial : (n : ℕ) → Command
+  Check : (image : List ℕ) → Command
   Wrap : (width : ℕ) (text : List ℕ) → Command
 
 -- ---- words ----
@@ -89,6 +92,7 @@ commands =
     ∷ record { name = codes "resume"; form = File (codes "I") (File (codes "F") End); makes = Resume }
     ∷ record { name = codes "trace"; form = File (codes "I") (Number (codes "SEED") seed_of End); makes = Trace }
     ∷ record { name = codes "trial"; form = Number (codes "N") trial_of End; makes = Trial }
+    ∷ record { name = codes "check"; form = File (codes "I") End; makes = Check }
     ∷ record { name = codes "wrap"; form = Number (codes "N") width_of (File (codes "T") End); makes = Wrap }
     ∷ []
 
@@ -135,6 +139,7 @@ meaning (Resume image store) =
 meaning (Trace image seed) =
     storeless (load_calls ++ walk_calls) (place.Play ∷ load_memory) (λ rows. WalksAs reading_traced rows image seed)
 meaning (Trial n) = storeless (call.Show ∷ []) (place.Trial ∷ []) (λ rows. Tries n)
+meaning (Check image) = storeless (call.Show ∷ load_calls) (place.Check ∷ load_memory) (λ rows. Checks image)
 meaning (Wrap width text) = storeless (call.Show ∷ load_calls) (place.Wrap ∷ load_memory) (λ rows. Wraps width text)
 
 -- ---- from words to a command ----

@@ -1,4 +1,4 @@
--- What decompiling an image comes to.
+-- What showing a text of the game of an image comes to, and decompiling it.
 use Rattle.std.specs.Prelude.{◌≡◌, ℕ, List}
 use Rattle.paw_game.specs.Game.{GameLists}
 use Rattle.paw_print.specs.Canonical.{canonical_of}
@@ -8,17 +8,23 @@ use Rattle.paw_top.specs.Loads.{Holds}
 use Rattle.paw_top.specs.Opens.{Unopened}
 use Rattle.paw_top.specs.declared.outcome.Outcome.{Outcome}
 use Rattle.paw_top.specs.declared.outcome.Outcome.TheVariants as outcome
+use Rattle.paw_top.specs.declared.outcome.MemoryAt.{MemoryAt}
 use Rattle.paw_top.specs.declared.outcome.MemoryAt.TheVariants as memory
 
--- how a decompiler leaves what stands, by its answer
-pub data Decompiles (name : List ℕ) (old new : Standing) : Outcome → Type 0 where
-  -- the file is the image of a game, and its canonical source was shown
-  done : (g : GameLists) → Holds old name g → new ≡ with_shown (canonical_of g) old →
-      Decompiles name old new outcome.Done
+-- How a command that shows a text of a game leaves what stands, by its answer. The text is told by the game, and memory
+-- may be wanting for it.
+pub data TellsOf (told : GameLists → List ℕ) (at : MemoryAt) (name : List ℕ) (old new : Standing) : Outcome → Type 0 where
+  -- the file is the image of a game, and its text was shown
+  done : (g : GameLists) → Holds old name g → new ≡ with_shown (told g) old →
+      TellsOf told at name old new outcome.Done
   -- the file gives no game; nothing is changed
-  unopened : (o : Outcome) → Unopened name old new o → Decompiles name old new o
-  -- the source couldn't be shown: a first part of it was
-  unshown : (g : GameLists) → Holds old name g → ShowsPart (canonical_of g) old new →
-      Decompiles name old new (outcome.Outside call.Show)
-  -- memory was wanting for the source; nothing is changed
-  unprinted : new ≡ old → Decompiles name old new (outcome.Memory memory.Print)
+  unopened : (o : Outcome) → Unopened name old new o → TellsOf told at name old new o
+  -- the text couldn't be shown: a first part of it was
+  unshown : (g : GameLists) → Holds old name g → ShowsPart (told g) old new →
+      TellsOf told at name old new (outcome.Outside call.Show)
+  -- memory was wanting for the text; nothing is changed
+  untold : new ≡ old → TellsOf told at name old new (outcome.Memory at)
+
+-- a decompiler shows the canonical source
+abbrev pub Decompiles : List ℕ → Standing → Standing → Outcome → Type 0
+Decompiles = TellsOf canonical_of memory.Print

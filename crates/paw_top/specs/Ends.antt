@@ -18,6 +18,7 @@ abbrev pub refused_as : JournalRefusal → Outcome
 refused_as (refusal.Unmade n mark) = outcome.Unmade n mark
 refused_as (refusal.Damaged p at) = outcome.SessionDamaged p at
 refused_as (refusal.WrongGame kept found) = outcome.WrongGame kept found
+refused_as (refusal.WrongRoutines kept found) = outcome.WrongRoutines kept found
 refused_as (refusal.Outside c) = outcome.Outside c
 
 -- the answer for what playing came to

@@ -6,6 +6,7 @@ pub mod Opens
 pub mod Shows
 pub mod Compile
 pub mod Decompile
+pub mod Check
 pub mod Walk
 pub mod Sessions
 pub mod Tries

@@ -26,6 +26,7 @@ status_of (outcome.Occupied n) = 4
 status_of (outcome.Unmade n mark) = 4
 status_of (outcome.SessionDamaged p at) = 4
 status_of (outcome.WrongGame kept found) = 4
+status_of (outcome.WrongRoutines kept found) = 4
 status_of (outcome.Spent kind) = 5
 status_of (outcome.TooDeep table) = 6
 status_of (outcome.Outside c) = 7
@@ -77,7 +78,13 @@ memory_name memory.Print = codes "Print"
 memory_name memory.Image = codes "Image"
 memory_name memory.Play = codes "Play"
 memory_name memory.Trial = codes "Trial"
+memory_name memory.Check = codes "Check"
 memory_name memory.Wrap = codes "Wrap"
+
+-- the line that names the digest that a session keeps and the one that was found, in hexadecimal digits
+abbrev pub digests_line : List ℕ → List ℕ → List ℕ → List ℕ
+digests_line said kept found =
+    said ++ (codes ": kept " ++ (encode_lower kept ++ (codes " found " ++ (encode_lower found ++ codes "\n"))))
 
 -- what is written to standard error; nothing for Done, Ended and InputEnded
 abbrev pub error_text : Outcome → List ℕ
@@ -91,8 +98,8 @@ error_text (outcome.Unmade n mark) = codes "no session: length "
     ++ (decimal n ++ (codes ", mark " ++ (decimal mark ++ codes "\n")))
 error_text (outcome.SessionDamaged p at) = codes "session damaged: "
     ++ (part_name p ++ (codes " at " ++ (decimal at ++ codes "\n")))
-error_text (outcome.WrongGame kept found) = codes "session is of another game: kept "
-    ++ (encode_lower kept ++ (codes " found " ++ (encode_lower found ++ codes "\n")))
+error_text (outcome.WrongGame kept found) = digests_line (codes "session is of another game") kept found
+error_text (outcome.WrongRoutines kept found) = digests_line (codes "session has other routines") kept found
 error_text (outcome.Spent kind) = codes "piece spent its " ++ (spent_name kind ++ codes "\n")
 error_text (outcome.TooDeep table) = codes "too many calls at table " ++ (decimal table ++ codes "\n")
 error_text (outcome.Outside c) = codes "outside failed: " ++ (call_name c ++ codes "\n")

@@ -110,6 +110,7 @@ fn nothing_is_loaded_twice_nor_asked_for_behind_the_end(rt: HostRuntime) -> Resu
         ),
         // A trial has a stage of its own for its files and lines.
         ("trial\n0", "WAIT", "show"),
+        ("check\nhall", "WAIT", "load(hall) show"),
         ("wrap\n10\nhall source", "WAIT", "load(hall source) show"),
         // An empty text takes no call.
         ("wrap\n10\nstore", "WAIT", "load(store)"),
@@ -166,6 +167,9 @@ fn words_that_have_no_form_are_usage(rt: HostRuntime) -> Result<(), Fail> {
         "decompile",
         "decompile\n\n",
         "decompile\nimage\nsource",
+        "check",
+        "check\n\n",
+        "check\nimage\nimage",
         "wrap",
         "wrap\n10",
         "wrap\n10\n\n",
@@ -231,6 +235,7 @@ fn a_text_may_be_too_long(rt: HostRuntime) -> Result<(), Fail> {
     assert_eq!(rt; stage.shown(), b"".as_slice());
     for (outcome, status, said) in [
         (Outcome::TextTooLong, 2, "text is too long\n"),
+        (Outcome::Memory(MemoryAt::Check), 8, "no memory: Check\n"),
         (Outcome::Memory(MemoryAt::Wrap), 8, "no memory: Wrap\n"),
     ] {
         assert_eq!(rt; outcome.status(), status, "{outcome:?}");

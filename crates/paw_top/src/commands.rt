@@ -15,7 +15,7 @@ ghost use Rattle.paw_top.specs.inner.Commands.{SpellsCommand, meant};
 ghost use Rattle.paw_top.specs.declared.outcome.Outcome.TheVariants as outcome;
 
 use crate::compile::compile;
-use crate::decompile::decompile;
+use crate::decompile::{check, decompile};
 use crate::outcome::Outcome;
 use crate::sessions::{play, resume, walk};
 use crate::show::{Width, wrap};
@@ -29,7 +29,7 @@ use std::alloc::Global;
 /// What stands on standard error where the words have no form: every command of the tool.
 pub(crate) const USAGE: &str =
     "usage: paw compile S I | decompile I | walk I SEED | play I F SEED | resume I F | \
-     trace I SEED | trial N | wrap N T\n";
+     trace I SEED | trial N | check I | wrap N T\n";
 
 /// What is asked for.
 #[derive(Clone, Copy, Drop)]
@@ -70,6 +70,10 @@ pub(crate) enum Command<'a> {
     /// and shows a line that tells what the reading of all lines comes to.
     Trial {
         n: u16,
+    },
+    /// Loads the image, and shows what any play of its game takes at most, or the first cause why that isn't known.
+    Check {
+        image: &'a str,
     },
     /// Loads the text, and shows it with its lines broken at spaces, each as late as the width allows.
     Wrap {
@@ -233,6 +237,11 @@ pub(crate) fn command_of<'a>(words: &'a [String]) -> Option<Command<'a>>
             end(words)?;
             Some(Command::Trial { n })
         }
+        "check" => {
+            let (image, words) = file(words)?;
+            end(words)?;
+            Some(Command::Check { image })
+        }
         "wrap" => {
             let (width, words) = width(words)?;
             let (text, words) = file(words)?;
@@ -278,6 +287,7 @@ impl<'a> Command<'a> {
                 walk::<StepLines, _, _>(alloc, stage, routines, image, seed)
             }
             Command::Trial { n } => trial(alloc, stage, n),
+            Command::Check { image } => check(alloc, stage, image),
             Command::Wrap { width, text } => wrap(alloc, stage, width, text),
         }
     }

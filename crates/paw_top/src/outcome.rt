@@ -4,7 +4,7 @@ ghost use Rattle.std.specs.Prelude.{◌≡◌, IfOk, string_bytes};
 ghost use Rattle.paw_top.specs.Ends.{outcome_of, refused_as};
 ghost use Rattle.paw_top.specs.declared.outcome.Outcome.TheVariants as outcome;
 ghost use Rattle.paw_top.specs.Outcomes.{status_of, error_text, call_name, kind_name};
-ghost use Rattle.paw_top.specs.Outcomes.{memory_name, part_name, spent_name};
+ghost use Rattle.paw_top.specs.Outcomes.{digests_line, memory_name, part_name, spent_name};
 
 use crate::commands::USAGE;
 use paw_base::fault::{NoRoom, SourceFault, SourceKind, SpentKind};
@@ -14,7 +14,8 @@ use paw_stage::StageCall;
 use std::alloc::Global;
 
 /// Where memory was wanting: in a load, in reading a source, in printing one, in decoding or encoding an image, in
-/// making what a game is played with, in a trial, which has a stage in memory of its own, or in wrapping a text.
+/// making what a game is played with, in a trial, which has a stage in memory of its own, in checking a game, or in
+/// wrapping a text.
 #[derive(Clone, Copy, Drop, PartialEq, Eq, Debug)]
 pub enum MemoryAt {
     Load,
@@ -23,6 +24,7 @@ pub enum MemoryAt {
     Image,
     Play,
     Trial,
+    Check,
     Wrap,
 }
 
@@ -34,7 +36,7 @@ pub enum MemoryAt {
 /// Of a store. Occupied: a new session was asked for, and the store has so many bytes already. Unmade: it has no
 /// session; its length in bytes, and its first byte (0 where there is none). SessionDamaged: a rule of the session is
 /// broken, first at this place in this part. WrongGame: the session is of another game; the digest that it keeps, and
-/// that of the image.
+/// that of the image. WrongRoutines: it was played with other routines; the digest of those, and that of these.
 ///
 /// Spent: a piece would read or hold too much. TooDeep: a table was called at the deepest level. Outside: a call of the
 /// stage failed. Long: the session has all the lines that it may have. Memory: want of memory.
@@ -51,6 +53,7 @@ pub enum Outcome {
     Unmade { length: u64, mark: u8 },
     SessionDamaged { part: SessionPart, at: u64 },
     WrongGame { kept: [u8; 32], found: [u8; 32] },
+    WrongRoutines { kept: [u8; 32], found: [u8; 32] },
     Spent(SpentKind),
     TooDeep { table: u8 },
     Outside(StageCall),
@@ -66,6 +69,7 @@ fn refused_as(refusal: JournalRefusal) -> Outcome
         JournalRefusal::Unmade { length, mark } => Outcome::Unmade { length, mark },
         JournalRefusal::Damaged { part, at } => Outcome::SessionDamaged { part, at },
         JournalRefusal::WrongGame { kept, found } => Outcome::WrongGame { kept, found },
+        JournalRefusal::WrongRoutines { kept, found } => Outcome::WrongRoutines { kept, found },
         JournalRefusal::Outside(call) => Outcome::Outside(call),
     }
 }
@@ -140,6 +144,7 @@ fn memory_name(at: MemoryAt) -> &'static str
         MemoryAt::Image => "Image",
         MemoryAt::Play => "Play",
         MemoryAt::Trial => "Trial",
+        MemoryAt::Check => "Check",
         MemoryAt::Wrap => "Wrap",
     }
 }
@@ -165,13 +170,18 @@ fn spent_name(kind: SpentKind) -> &'static str
     }
 }
 
-// The text that names two digests, in hexadecimal digits.
-fn wrong_game_text(alloc: Global, kept: &[u8; 32], found: &[u8; 32]) -> Result<String, NoRoom>
-    ensures value { IfOk result (λ text. string_bytes text ≡ error_text (outcome.WrongGame kept.now found.now)) }
+// The line that says this and names the digest that a session keeps and the one that was found, in hexadecimal digits.
+fn digests_line(
+    alloc: Global,
+    said: &str,
+    kept: &[u8; 32],
+    found: &[u8; 32],
+) -> Result<String, NoRoom>
+    ensures value { IfOk result (λ text. string_bytes text ≡ digests_line said.now kept.now found.now) }
 {
     let kept = hex::encode(alloc, kept.as_slice())?;
     let found = hex::encode(alloc, found.as_slice())?;
-    Ok(format!(in alloc; "session is of another game: kept {kept} found {found}\n")?)
+    Ok(format!(in alloc; "{said}: kept {kept} found {found}\n")?)
 }
 
 impl Outcome {
@@ -189,7 +199,8 @@ impl Outcome {
             Outcome::Occupied { .. }
             | Outcome::Unmade { .. }
             | Outcome::SessionDamaged { .. }
-            | Outcome::WrongGame { .. } => 4,
+            | Outcome::WrongGame { .. }
+            | Outcome::WrongRoutines { .. } => 4,
             Outcome::Spent(_) => 5,
             Outcome::TooDeep { .. } => 6,
             Outcome::Outside(_) => 7,
@@ -226,7 +237,12 @@ impl Outcome {
                 let name = part_name(part);
                 Ok(format!(in alloc; "session damaged: {name} at {at}\n")?)
             }
-            Outcome::WrongGame { kept, found } => wrong_game_text(alloc, &kept, &found),
+            Outcome::WrongGame { kept, found } => {
+                digests_line(alloc, "session is of another game", &kept, &found)
+            }
+            Outcome::WrongRoutines { kept, found } => {
+                digests_line(alloc, "session has other routines", &kept, &found)
+            }
             Outcome::Spent(kind) => {
                 let name = spent_name(kind);
                 Ok(format!(in alloc; "piece spent its {name}\n")?)

@@ -1,8 +1,10 @@
 // Sessions over stages in memory: rounds of one session, stores that give none, and calls that fail.
 
 use crate::outcome::Outcome;
-use crate::settled::{run, settle, settle_and_run};
+use crate::routines::give;
+use crate::settled::{run, run_with, settle, settle_and_run};
 use paw_journal::{SessionPart, digest};
+use paw_routines::routines::Routines;
 use paw_stage::{FailStage, MemoryStage, Stage, StageCall};
 use std::alloc::Global;
 use std::process::Abort;
@@ -235,6 +237,22 @@ fn stores_that_give_no_session_are_refused(rt: HostRuntime) -> Result<(), Fail> 
             },
         ),
         ("resume\ncave\nstore", [].as_slice(), 0, other),
+        // The game is asked for before the routines.
+        (
+            "resume\ncave\nstore",
+            ROUTINES_PLACES.as_slice(),
+            200,
+            other,
+        ),
+        (
+            RESUME,
+            ROUTINES_PLACES.as_slice(),
+            200,
+            Outcome::WrongRoutines {
+                kept: [200; 32],
+                found: THESE_ROUTINES,
+            },
+        ),
         (
             RESUME,
             FIRST_PLACES.as_slice(),
@@ -269,18 +287,75 @@ fn stores_that_give_no_session_are_refused(rt: HostRuntime) -> Result<(), Fail> 
     Ok(())
 }
 
+/// Where a session keeps the digest of its routines.
+const ROUTINES_PLACES: [usize; 32] = [
+    64, 65, 66, 67, 68, 69, 70, 71, 72, 73, 74, 75, 76, 77, 78, 79, 80, 81, 82, 83, 84, 85, 86, 87,
+    88, 89, 90, 91, 92, 93, 94, 95,
+];
+
+/// The digest of the program's routines: of 3, and their values.
+const THESE_ROUTINES: [u8; 32] = [
+    0x15, 0xd9, 0x80, 0xf4, 0xd2, 0x35, 0x39, 0x54, 0x47, 0x63, 0x10, 0xbb, 0xb8, 0xaf, 0xf7, 0xac,
+    0xc8, 0xb9, 0x0e, 0x4a, 0x5b, 0xdc, 0x7c, 0x1b, 0xe6, 0xc9, 0x5e, 0x8c, 0x3e, 0xd0, 0x3e, 0x92,
+];
+
+/// The digest of no routines: of 0.
+const NO_ROUTINES: [u8; 32] = [
+    0x6e, 0x34, 0x0b, 0x9c, 0xff, 0xb3, 0x7a, 0x98, 0x9c, 0xa5, 0x44, 0xe6, 0xbb, 0x78, 0x0a, 0x2c,
+    0x78, 0x90, 0x1d, 0x3f, 0xb3, 0x37, 0x38, 0x76, 0x85, 0x11, 0xa3, 0x06, 0x17, 0xaf, 0xa0, 0x1d,
+];
+
+#[test]
+fn a_session_knows_its_routines(rt: HostRuntime) -> Result<(), Fail> {
+    let alloc = rt.alloc();
+    let mut stage = stage_of(&rt, alloc, b"", "WAIT")?;
+    assert_eq!(rt;
+        settle_and_run(&rt, alloc, &mut stage, PLAY)?,
+        Outcome::InputEnded
+    );
+    // Resumed by a program with none it is refused, with both digests, and its file stays as it is.
+    let before = stage.load(alloc, "store", MOST)?;
+    settle(&rt, &mut stage);
+    let none = Routines::new(0, give);
+    let refused = run_with(alloc, &mut stage, &none, RESUME)?;
+    assert_eq!(rt;
+        refused,
+        Outcome::WrongRoutines {
+            kept: THESE_ROUTINES,
+            found: NO_ROUTINES
+        }
+    );
+    assert_eq!(rt;
+        stage.load(alloc, "store", MOST)?.as_slice(),
+        before.as_slice()
+    );
+    // One that wasn't measured goes on with any, and is never measured.
+    let unmeasured = with_bytes(alloc, before.as_slice(), &ROUTINES_PLACES, 0)?;
+    let mut stage = stage_of(&rt, alloc, unmeasured.as_slice(), "WAIT")?;
+    settle(&rt, &mut stage);
+    assert_eq!(rt;
+        run_with(alloc, &mut stage, &none, RESUME)?,
+        Outcome::InputEnded
+    );
+    assert_eq!(rt; stage.shown(), b"OK.\n>\nOK.\n>\n".as_slice());
+    let after = stage.load(alloc, "store", MOST)?;
+    assert_eq!(rt; &after[64..96], [0u8; 32].as_slice());
+    Ok(())
+}
+
 /// Where a session and each of its slots tell their version.
 const VERSIONS: [usize; 3] = [VERSION_AT, 128 + 2, 86_208 + 2];
 
 /// Where a state of the earlier form ends in slot 0 and in slot 1: any bytes may stand behind it.
 const EARLIER_ENDS: [usize; 2] = [128 + 64 + 1371, 86_208 + 64 + 1371];
 
-/// A session of the earlier form, which waits for the answer to the first of two questions.
+/// A session of the earlier form, which isn't measured and waits for the answer to the first of two questions.
 pub(crate) fn earlier_form(rt: &impl Abort, alloc: Global) -> Result<Vec<u8>, Fail> {
     let first = round_to_end(PLAY, "WAIT\nSHAKE ALL", "Hall.\n>\nOK.\n>\nSure? ");
     let store = plays_rounds(rt, alloc, &[first])?;
     let earlier = with_bytes(alloc, store.as_slice(), &VERSIONS, 1)?;
-    with_bytes(alloc, earlier.as_slice(), &EARLIER_ENDS, 7)
+    let unmeasured = with_bytes(alloc, earlier.as_slice(), &ROUTINES_PLACES, 0)?;
+    with_bytes(alloc, unmeasured.as_slice(), &EARLIER_ENDS, 7)
 }
 
 #[test]

@@ -4,16 +4,16 @@ ghost use Rattle.std.specs.Prelude.{◌≡◌, ◌≢◌, ℕ, List, [], ◌∷�
 ghost use Rattle.paw_effects.specs.Story.{Story};
 ghost use Rattle.paw_play.specs.inner.Telling.{told_as};
 ghost use Rattle.paw_play.specs.Calls.{walk_calls, session_calls};
-ghost use Rattle.paw_play.specs.Play.{NotYet, InNewGame, InPlay, InPlayedOn, ShowsState, store_bytes};
-ghost use Rattle.paw_play.specs.Stands.{Stands, IsPlayedWith};
+ghost use Rattle.paw_play.specs.Keeping.{InNewSession, InPlay};
+ghost use Rattle.paw_play.specs.Play.{NotYet, store_bytes};
+ghost use Rattle.paw_play.specs.Played.{PlayedSession, GoesOnFrom, begun};
 ghost use Rattle.paw_reading.specs.Turn.{reading};
-ghost use Rattle.paw_state.specs.State.{State};
 ghost use Rattle.paw_stage.specs.Across.{Across, InTwoParts, Serves, IsOneOf};
 ghost use Rattle.paw_routines.specs.Routines.{AreRowsOf, HaveRows};
 ghost use Rattle.paw_stage.specs.Disk.{IsStable};
 ghost use Rattle.paw_top.specs.Answers.{IfMemory, load_calls, load_memory, failed_call};
 ghost use Rattle.paw_top.specs.Loads.{Holds};
-ghost use Rattle.paw_top.specs.Sessions.{PlaysNewIn, PlaysAgainIn, GoesOnIn, digest_of, session_from};
+ghost use Rattle.paw_top.specs.Sessions.{PlaysNewIn, PlaysAgainIn, GoesOnIn};
 ghost use Rattle.paw_top.specs.Walk.{WalksAs};
 ghost use Rattle.paw_top.specs.declared.outcome.MemoryAt.TheVariants as memory;
 ghost use Rattle.paw_top.specs.declared.outcome.Outcome.TheVariants as outcome;
@@ -70,7 +70,7 @@ pub(crate) fn play<S: Stage, F: Fn(u8, u8) -> u8>(
         AreRowsOf F.Fn routines.now X → PlaysNewIn X image.now store.now seed old new result) }
     ensures any_moment { Across S.Stage stage.old stage.new (λ old new. (s : Story) →
         AreRowsOf F.Fn routines.now s.rows → Holds old image.now s.game → store_bytes old store.now ≡ [] →
-        InTwoParts S.Stage stage.old stage.new (NotYet store.now old) (InNewGame s seed store.now old)) }
+        InTwoParts S.Stage stage.old stage.new (NotYet store.now old) (InNewSession (begun s seed store.now) old)) }
 {
     let bytes = given!(load(alloc, stage, image, IMAGE_LIMIT));
     let view = given!(view_in(alloc, bytes.as_slice()));
@@ -93,20 +93,13 @@ pub(crate) fn resume<S: Stage, F: Fn(u8, u8) -> u8>(
     ensures memory { IfMemory result (IsOneOf (memory.Play ∷ load_memory)) }
     ensures plays { Across S.Stage stage.old stage.new (λ old new. (X : List (List ℕ)) →
         AreRowsOf F.Fn routines.now X → PlaysAgainIn X image.now store.now old new result) }
-    ensures any_moment { Across S.Stage stage.old stage.new (λ old new. (s : Story) (st : State) (piece : List ℕ) →
-        AreRowsOf F.Fn routines.now s.rows → Holds old image.now s.game →
-        ShowsState s.game (digest_of s.game) (store_bytes old store.now) st piece →
-        InTwoParts S.Stage stage.old stage.new (NotYet store.now old)
-        (InPlay (session_from s store.now st piece) old)) }
-    ensures goes_on { Across S.Stage stage.old stage.new (λ old new. (s : Story) (seed : ℕ) (es : List (List ℕ)) →
-        AreRowsOf F.Fn routines.now s.rows → Holds old image.now s.game →
-        IsPlayedWith s seed es → Stands s seed es (store_bytes old store.now) →
-        GoesOnIn image.now store.now s seed es old new result) }
-    ensures any_moment_on { Across S.Stage stage.old stage.new (λ old new.
-        (s : Story) (seed : ℕ) (es : List (List ℕ)) →
-        AreRowsOf F.Fn routines.now s.rows → Holds old image.now s.game →
-        IsPlayedWith s seed es → Stands s seed es (store_bytes old store.now) →
-        InTwoParts S.Stage stage.old stage.new (NotYet store.now old) (InPlayedOn s seed es store.now old)) }
+    ensures goes_on { Across S.Stage stage.old stage.new (λ old new. (g : Story) (s : PlayedSession) →
+        AreRowsOf F.Fn routines.now g.rows → Holds old image.now g.game →
+        GoesOnFrom g store.now (store_bytes old store.now) s → GoesOnIn image.now g.game s old new result) }
+    ensures any_moment { Across S.Stage stage.old stage.new (λ old new. (g : Story) (s : PlayedSession) →
+        AreRowsOf F.Fn routines.now g.rows → Holds old image.now g.game →
+        GoesOnFrom g store.now (store_bytes old store.now) s →
+        InTwoParts S.Stage stage.old stage.new (NotYet store.now old) (InPlay s old)) }
 {
     let bytes = given!(load(alloc, stage, image, IMAGE_LIMIT));
     let view = given!(view_in(alloc, bytes.as_slice()));

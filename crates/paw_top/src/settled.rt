@@ -1,5 +1,6 @@
 // Commands over stages, for tests.
 
+ghost use Rattle.paw_routines.specs.Routines.{HaveRows};
 ghost use Rattle.paw_stage.specs.Disk.{IsStable};
 
 use crate::outcome::Outcome;
@@ -30,9 +31,21 @@ fn words_of(alloc: Global, lines: &str) -> Result<Vec<String>, AllocError> {
 pub fn run<S: Stage>(alloc: Global, stage: &mut S, words: &str) -> Result<Outcome, AllocError>
     requires synced { S.Tells stage.old → IsStable (S.standing stage.old).disk }
 {
+    run_with(alloc, stage, &Routines::new(ROUTINES, give), words)
+}
+
+/// The same with these routines.
+pub fn run_with<S: Stage, F: Fn(u8, u8) -> u8>(
+    alloc: Global,
+    stage: &mut S,
+    routines: &Routines<F>,
+    words: &str,
+) -> Result<Outcome, AllocError>
+    requires rows { HaveRows F.Fn routines.now }
+    requires synced { S.Tells stage.old → IsStable (S.standing stage.old).disk }
+{
     let words = words_of(alloc, words)?;
-    let routines = Routines::new(ROUTINES, give);
-    Ok(paw(alloc, stage, &routines, words.as_slice()))
+    Ok(paw(alloc, stage, routines, words.as_slice()))
 }
 
 /// The same, where the attached store is synced first.

@@ -466,7 +466,7 @@ fn outcomes_have_their_status_and_text(rt: HostRuntime) -> Result<(), Fail> {
 
 #[test]
 fn answers_for_a_store_have_their_status_and_text(rt: HostRuntime) -> Result<(), Fail> {
-    let answers: [(Outcome, u8, &[u8]); 6] = [
+    let answers: [(Outcome, u8, &[u8]); 7] = [
         (
             Outcome::Occupied { length: 4096 },
             4,
@@ -511,6 +511,15 @@ fn answers_for_a_store_have_their_status_and_text(rt: HostRuntime) -> Result<(),
             },
             4,
             b"session is of another game: kept 1f1f1f1f1f1f1f1f1f1f1f1f1f1f1f1f1f1f1f1f1f1f1f1f1f1f1f1f1f1f1f1f \
+            found e0e0e0e0e0e0e0e0e0e0e0e0e0e0e0e0e0e0e0e0e0e0e0e0e0e0e0e0e0e0e0e0\n",
+        ),
+        (
+            Outcome::WrongRoutines {
+                kept: [0x1f; 32],
+                found: [0xe0; 32],
+            },
+            4,
+            b"session has other routines: kept 1f1f1f1f1f1f1f1f1f1f1f1f1f1f1f1f1f1f1f1f1f1f1f1f1f1f1f1f1f1f1f1f \
             found e0e0e0e0e0e0e0e0e0e0e0e0e0e0e0e0e0e0e0e0e0e0e0e0e0e0e0e0e0e0e0e0\n",
         ),
     ];

@@ -27,9 +27,10 @@ use std::alloc::Global;
 /// The moments of `play` and of `resume` come in two parts. Until the store is attached nothing was asked or shown, and
 /// no file has changed, but that the store's may be there, empty (`NotYet`). From then on the store is attached at each
 /// moment. In `play` whatever a crash leaves of it is no session yet, or stands for all lines that were taken, or for
-/// all but the last (`InNewGame`). Where the store stands for some lines, `resume` never refuses it and goes on as the
-/// reading of these lines and more (`goes_on` of `ResumesIn`), and whatever a crash leaves stands for them and all that
-/// were taken since, or for all but the last (`InPlayedOn`).
+/// all but the last (`InNewSession`). Where a session goes on from the bytes of the store, behind the lines that they
+/// stand for or from the state that they show, `resume` never refuses it and goes on as the reading of these lines and
+/// more (`goes_on` of `ResumesIn`), and whatever a crash leaves stands for them and all that were taken since, or for all
+/// but the last (`InPlay`). At each moment the session keeps the digests of its game and its routines.
 ///
 /// Where playing comes to an end with nothing failed in the store, its bytes are exactly those that one commit for each
 /// line that is kept makes of the bytes before: a line whose piece is spent changes nothing there.

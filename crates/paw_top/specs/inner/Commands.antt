@@ -2,7 +2,7 @@
 use Rattle.std.specs.Prelude.{◌≡◌, Option, Some, None}
 use Rattle.paw_top.specs.declared.commands.Command.{Command as Given}
 use Rattle.paw_top.specs.declared.commands.Command.TheVariants as given
-use Rattle.paw_top.specs.Commands.{Command, Compile, Decompile, Walk, Play, Resume, Trace, Trial, Wrap}
+use Rattle.paw_top.specs.Commands.{Command, Compile, Decompile, Walk, Play, Resume, Trace, Trial, Check, Wrap}
 
 -- what the code's command asks for
 abbrev pub meant : Given → Command
@@ -13,6 +13,7 @@ meant (given.Play image store seed) = Play image.now store.now seed
 meant (given.Resume image store) = Resume image.now store.now
 meant (given.Trace image seed) = Trace image.now seed
 meant (given.Trial n) = Trial n
+meant (given.Check image) = Check image.now
 meant (given.Wrap width text) = Wrap width.columns text.now
 
 -- the code's answer spells what is asked for

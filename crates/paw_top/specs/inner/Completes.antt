@@ -2,25 +2,29 @@
 use Rattle.std.specs.Prelude.{◌≡◌, ◌≢◌, ℕ, List, [], ◌∷◌, length, Result, Ok, Err, Some, nat_le, if◌then◌else◌}
 use Rattle.paw_base.specs.declared.fault.SourceFault.{SourceFault}
 use Rattle.paw_game.specs.Game.{GameLists}
+use Rattle.paw_effects.specs.Story.{Story, story_of}
 use Rattle.paw_grammar.specs.Spells.{spelled}
 use Rattle.paw_stage.specs.Stage.{Standing}
 use Rattle.paw_state.specs.State.{State}
-use Rattle.paw_journal.specs.Session.{Shown, recover}
+use Rattle.paw_journal.specs.Session.{Digests, Shown, recover}
 use Rattle.paw_journal.specs.declared.refusal.SessionPart.TheVariants as part
 use Rattle.paw_journal.specs.declared.refusal.JournalRefusal.{JournalRefusal}
 use Rattle.paw_reading.specs.Reading.{IsOver, RunsOut, CallsTooDeep}
 use Rattle.paw_reading.specs.Turn.{Ending, WaitsAt, Halted, Unended, reading}
 use Rattle.paw_trial.specs.Trial.{trial_reading}
 use Rattle.paw_wrap.specs.declared.columns.TheConstants.{WRAP_LIMIT}
-use Rattle.paw_play.specs.Play.{ShowsState, Refuses, store_bytes}
+use Rattle.paw_play.specs.Play.{Refuses, store_bytes}
+use Rattle.paw_play.specs.Played.{ShowsState}
+use Rattle.paw_play.specs.Session.{IsOfStory, story_digests}
 use Rattle.paw_top.specs.Compile.{Compiles}
 use Rattle.paw_top.specs.Completes.{IsUnhindered}
+use Rattle.paw_top.specs.Check.{Checks}
 use Rattle.paw_top.specs.Decompile.{Decompiles}
 use Rattle.paw_top.specs.Ends.{refused_as}
 use Rattle.paw_top.specs.Loads.{Holds, HoldsDamage}
 use Rattle.paw_top.specs.inner.Loads.{HoldsNone}
 use Rattle.paw_top.specs.Shows.{Wraps}
-use Rattle.paw_top.specs.Sessions.{PlaysNewIn, PlaysAgainIn, digest_of}
+use Rattle.paw_top.specs.Sessions.{PlaysNewIn, PlaysAgainIn}
 use Rattle.paw_top.specs.Tries.{Tries}
 use Rattle.paw_top.specs.Walk.{WalksAs, reading_traced}
 use Rattle.paw_top.specs.declared.outcome.Outcome.{Outcome}
@@ -61,12 +65,13 @@ abbrev pub CompletesNew : List ℕ → Outcome → Type 0
 CompletesNew [] o = IsWalked o
 CompletesNew (b ∷ bytes) o = Comes (outcome.Occupied (length (b ∷ bytes))) o
 
--- a session that shows a state of the game is played on, and any other store is refused
-pub record CompletesAgain (g : GameLists) (digest bytes : List ℕ) (o : Outcome) : Type 0 where
-  pub shown : (st : State) (piece : List ℕ) → ShowsState g digest bytes st piece → IsWalked o
-  pub refused : (r : JournalRefusal) → Refuses digest bytes r → Comes (refused_as r) o
-  pub no_state : (state piece : List ℕ) → recover bytes ≡ Shown digest state piece →
-      ((st : State) → ¬ ShowsState g digest bytes st piece) →
+-- a session of the story that shows a state of its game is played on, and any other store is refused
+pub record CompletesAgain (g : Story) (bytes : List ℕ) (o : Outcome) : Type 0 where
+  pub shown : (d : Digests) (st : State) (piece : List ℕ) → IsOfStory g d → ShowsState g.game d bytes st piece →
+      IsWalked o
+  pub refused : (r : JournalRefusal) → Refuses (story_digests g) bytes r → Comes (refused_as r) o
+  pub no_state : (d : Digests) (state piece : List ℕ) → IsOfStory g d → recover bytes ≡ Shown d state piece →
+      ((st : State) → ¬ ShowsState g.game d bytes st piece) →
       (at : ℕ) × Comes (outcome.SessionDamaged part.State at) o
 
 -- where the image is there, such an answer comes of its game; where the file is no image, it is refused
@@ -102,10 +107,12 @@ pub record EachCompletes : Type 0 where
       IsUnhindered o → CompletesImage image (λ g. CompletesNew (store_bytes old store)) old o
   pub resume : (rows : List (List ℕ)) (image store : List ℕ) (old new : Standing) (o : Outcome) →
       PlaysAgainIn rows image store old new o →
-      IsUnhindered o → CompletesImage image (λ g. CompletesAgain g (digest_of g) (store_bytes old store)) old o
+      IsUnhindered o → CompletesImage image (λ g. CompletesAgain (story_of g rows) (store_bytes old store)) old o
   pub trace : (rows : List (List ℕ)) (image : List ℕ) (seed : ℕ) (old new : Standing) (o : Outcome) →
       WalksAs reading_traced rows image seed old new o → IsUnhindered o → CompletesImage image (λ g. IsWalked) old o
   pub trial : (n : ℕ) (old new : Standing) (o : Outcome) → Tries n old new o →
       IsUnhindered o → Comes (due (trial_reading n)) o
+  pub check : (image : List ℕ) (old new : Standing) (o : Outcome) → Checks image old new o →
+      IsUnhindered o → CompletesImage image (λ g. Comes outcome.Done) old o
   pub wrap : (width : ℕ) (text : List ℕ) (old new : Standing) (o : Outcome) → Wraps width text old new o →
       IsUnhindered o → CompletesWrap text old o

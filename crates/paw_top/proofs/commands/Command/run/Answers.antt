@@ -20,20 +20,21 @@ returns-in-Play-clause-moments g c = λ tells X rows.
 pub returns-in-Resume-clause-comes : goal.returns-in-Resume-clause-comes
 returns-in-Resume-clause-comes g c = λ tells X rows. rw c.in-Resume.is record {
   again = c.resume.ensures.plays tells X rows;
-  goes_on = λ h seed es holds played stands. c.resume.ensures.goes_on tells (story_of h X) seed es rows holds played stands;
+  goes_on = λ h s holds goes. c.resume.ensures.goes_on tells (story_of h X) s rows holds goes;
 }
 
 pub returns-in-Resume-clause-moments : goal.returns-in-Resume-clause-moments
-returns-in-Resume-clause-moments g c = λ tells X rows. rw c.in-Resume.is record {
-  from_a_state = λ h st piece holds shows. c.resume.ensures.any_moment tells (story_of h X) st piece rows holds shows;
-  from_lines = λ h seed es holds played stands. c.resume.ensures.any_moment_on tells (story_of h X) seed es rows holds played stands;
-}
+returns-in-Resume-clause-moments g c = λ tells X rows.
+    rw c.in-Resume.is (λ h s holds goes. c.resume.ensures.any_moment tells (story_of h X) s rows holds goes)
 
 pub returns-in-Trace-clause-comes : goal.returns-in-Trace-clause-comes
 returns-in-Trace-clause-comes g c = λ tells X rows. rw c.in-Trace.is (c.walk-in-Trace.ensures.walks tells X rows)
 
 pub returns-in-Trial-clause-comes : goal.returns-in-Trial-clause-comes
 returns-in-Trial-clause-comes g c = λ tells X rows. rw c.in-Trial.is (c.trial.ensures.tries tells)
+
+pub returns-in-Check-clause-comes : goal.returns-in-Check-clause-comes
+returns-in-Check-clause-comes g c = λ tells X rows. rw c.in-Check.is (c.check.ensures.checks tells)
 
 pub returns-in-Wrap-clause-comes : goal.returns-in-Wrap-clause-comes
 returns-in-Wrap-clause-comes g c = λ tells X rows. rw c.in-Wrap.is (c.wrap.ensures.wraps tells)
