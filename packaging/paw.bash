@@ -3,7 +3,7 @@
 _paw() {
     local word=${COMP_WORDS[COMP_CWORD]} last=${COMP_WORDS[COMP_CWORD - 1]} ends
     # What README.md tells of commands and their words; packaging/make writes it.
-    local names='compile decompile walk trace play resume trial wrap' takes
+    local names='compile decompile walk trace play resume trial check wrap' takes
     case ${COMP_WORDS[1]} in
     compile) takes='SOURCE IMAGE' ;;
     decompile) takes='IMAGE' ;;
@@ -12,6 +12,7 @@ _paw() {
     play) takes='IMAGE SESSION SEED' ;;
     resume) takes='IMAGE SESSION' ;;
     trial) takes='N' ;;
+    check) takes='IMAGE' ;;
     wrap) takes='N TEXT' ;;
     esac
     # So far packaging/make.
