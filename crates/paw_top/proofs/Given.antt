@@ -11,7 +11,9 @@ small_in true b x small = omega arith
 small_in false true x small = omega arith
 small_in false false x small = omega (arith, ones_le_self x)
 
--- rows stand for three routines that may be called everywhere and give this
-pub given_stand : {F : Type 0} (calls : Shared F (ℕ × (ℕ × Unit {0})) ℕ) (f : F) → ((n x : ℕ) → n < 3 → x < 256 → calls.pre f (n, (x, tt)))
-    → ((n x y : ℕ) → n < 3 → x < 256 → y < 256 → calls.post f (n, (x, tt)) y → y ≡ given n x) → (X : List (List ℕ)) × StandFor calls f 3 X
-given_stand {F} calls f callable gives = (rows_of given 3, stand_for calls f given 3 (λ n x below small. small_in (n == 0) (n == 1) x small) callable gives)
+-- rows stand for so many routines that may be called everywhere and give this
+pub given_stand : {F : Type 0} {count : ℕ} (calls : Shared F (ℕ × (ℕ × Unit {0})) ℕ) (f : F)
+    → ((n x : ℕ) → n < count → x < 256 → calls.pre f (n, (x, tt)))
+    → ((n x y : ℕ) → n < count → x < 256 → y < 256 → calls.post f (n, (x, tt)) y → y ≡ given n x)
+    → (X : List (List ℕ)) × StandFor calls f count X
+given_stand {F} {count} calls f callable gives = (rows_of given count, stand_for calls f given count (λ n x below small. small_in (n == 0) (n == 1) x small) callable gives)

@@ -1,10 +1,8 @@
 // Sessions over stages in memory: rounds of one session, stores that give none, and calls that fail.
 
 use crate::outcome::Outcome;
-use crate::routines::give;
-use crate::settled::{run, run_with, settle, settle_and_run};
+use crate::settled::{run, settle, settle_and_run, settle_and_run_with_none};
 use paw_journal::{SessionPart, digest};
-use paw_routines::routines::Routines;
 use paw_stage::{FailStage, MemoryStage, Stage, StageCall};
 use std::alloc::Global;
 use std::process::Abort;
@@ -315,9 +313,7 @@ fn a_session_knows_its_routines(rt: HostRuntime) -> Result<(), Fail> {
     );
     // Resumed by a program with none it is refused, with both digests, and its file stays as it is.
     let before = stage.load(alloc, "store", MOST)?;
-    settle(&rt, &mut stage);
-    let none = Routines::new(0, give);
-    let refused = run_with(alloc, &mut stage, &none, RESUME)?;
+    let refused = settle_and_run_with_none(&rt, alloc, &mut stage, RESUME)?;
     assert_eq!(rt;
         refused,
         Outcome::WrongRoutines {
@@ -332,9 +328,8 @@ fn a_session_knows_its_routines(rt: HostRuntime) -> Result<(), Fail> {
     // One that wasn't measured goes on with any, and is never measured.
     let unmeasured = with_bytes(alloc, before.as_slice(), &ROUTINES_PLACES, 0)?;
     let mut stage = stage_of(&rt, alloc, unmeasured.as_slice(), "WAIT")?;
-    settle(&rt, &mut stage);
     assert_eq!(rt;
-        run_with(alloc, &mut stage, &none, RESUME)?,
+        settle_and_run_with_none(&rt, alloc, &mut stage, RESUME)?,
         Outcome::InputEnded
     );
     assert_eq!(rt; stage.shown(), b"OK.\n>\nOK.\n>\n".as_slice());

@@ -34,8 +34,8 @@ pub fn run<S: Stage>(alloc: Global, stage: &mut S, words: &str) -> Result<Outcom
     run_with(alloc, stage, &Routines::new(ROUTINES, give), words)
 }
 
-/// The same with these routines.
-pub fn run_with<S: Stage, F: Fn(u8, u8) -> u8>(
+// The same with these routines.
+fn run_with<S: Stage, F: Fn(u8, u8) -> u8>(
     alloc: Global,
     stage: &mut S,
     routines: &Routines<F>,
@@ -57,4 +57,15 @@ pub fn settle_and_run<S: Stage>(
 ) -> Result<Outcome, AllocError> {
     settle(rt, stage);
     run(alloc, stage, words)
+}
+
+/// The same by a program with no routines.
+pub fn settle_and_run_with_none<S: Stage>(
+    rt: &impl Abort,
+    alloc: Global,
+    stage: &mut S,
+    words: &str,
+) -> Result<Outcome, AllocError> {
+    settle(rt, stage);
+    run_with(alloc, stage, &Routines::new(0, give), words)
 }
