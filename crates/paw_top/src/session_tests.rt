@@ -328,13 +328,17 @@ fn a_session_knows_its_routines(rt: HostRuntime) -> Result<(), Fail> {
     // One that wasn't measured goes on with any, and is never measured.
     let unmeasured = with_bytes(alloc, before.as_slice(), &ROUTINES_PLACES, 0)?;
     let mut stage = stage_of(&rt, alloc, unmeasured.as_slice(), "WAIT")?;
+    let compiled = stage.shown().len();
     assert_eq!(rt;
         settle_and_run_with_none(&rt, alloc, &mut stage, RESUME)?,
         Outcome::InputEnded
     );
-    assert_eq!(rt; stage.shown(), b"OK.\n>\nOK.\n>\n".as_slice());
+    assert_eq!(rt;
+        stage.shown().get(compiled..),
+        Some(b"OK.\n>\nOK.\n>\n".as_slice())
+    );
     let after = stage.load(alloc, "store", MOST)?;
-    assert_eq!(rt; &after[64..96], [0u8; 32].as_slice());
+    assert_eq!(rt; after.get(64..96), Some([0u8; 32].as_slice()));
     Ok(())
 }
 
