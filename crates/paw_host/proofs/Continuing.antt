@@ -1,0 +1,70 @@
+-- Sessions stay such as may be, whatever is asked of them.
+use Rattle.std.proofs.Common.{◌≡◌, ◌⊎◌, inl, inr, ℕ, ◌<◌, ◌≤◌, ◌^◌, List, [], ◌∷◌, ◌++◌, refl, sym, ap, ◌∙◌, subst, true, false, Bool, length, nat_le, Option, Some, None}
+use Rattle.std.specs.Prelude.{codes, if◌then◌else◌}
+use Rattle.std.proofs.lemmas.List.Elements.{All-append, All-cons, All-nil}
+use Rattle.paw_base.specs.declared.limits.TheConstants.{EVENT_LIMIT}
+use Rattle.paw_effects.specs.Story.{Story}
+use Rattle.paw_reading.specs.Bounds.{IsLine, ValidStory}
+use Rattle.paw_reading.specs.Reading.{IsOver, RunsOut, CallsTooDeep}
+use Rattle.paw_reading.specs.Turn.{Ending, WaitsAt, Halted, Unended, reading}
+use Rattle.paw_play.specs.Stands.{IsPlayedWith}
+use Rattle.paw_host.specs.Names.{Request, is_name}
+use Rattle.paw_host.specs.Replies.{Session, Absent, At, Refused, Sessions, Answer, gone_on, begun, begun_with, taken, told, answer, is_over, sessions_with}
+use Rattle.paw_host.specs.Promise.{MayBe}
+use Rattle.paw_host.specs.inner.Lines.{AllMay}
+use Rattle.paw_host.proofs.Serving.{same_or_not, its_own, not_its_own}
+
+-- the text, if there is one, is a line
+abbrev pub IfLine : Option (List ℕ) → Type 0
+IfLine None = Unit {0}
+IfLine (Some text) = IsLine text
+
+one_more : (g : Story) (own : ℕ) (es : List (List ℕ)) (text : List ℕ) → IsPlayedWith g own es → IsLine text → IsPlayedWith g own (es ++ text ∷ [])
+one_more g own es text p l =
+    record { valid = p.valid; fits = p.fits; lines = All-append IsLine es (text ∷ []) p.lines (All-cons IsLine text [] l (All-nil IsLine)) }
+
+gone_may : (g : Story) (old new : Session) (e : Ending) → MayBe g old → MayBe g new → MayBe g (gone_on old new e).session
+gone_may g old new (WaitsAt p path r) a b = b
+gone_may g old new (Halted IsOver r) a b = b
+gone_may g old new (Halted (RunsOut kind) r) a b = a
+gone_may g old new (Halted (CallsTooDeep table) r) a b = a
+gone_may g old new Unended a b = b
+
+taken_may_by : (g : Story) (own : ℕ) (es : List (List ℕ)) (text : List ℕ) (e : Ending) (over full : Bool) → IsPlayedWith g own es → IsPlayedWith g own (es ++ text ∷ []) →
+    MayBe g (if over then record { body = codes "over"; session = At own es } else if full then record { body = codes "full"; session = At own es }
+    else gone_on (At own es) (At own (es ++ text ∷ [])) e).session
+taken_may_by g own es text e true full a b = a
+taken_may_by g own es text e false true a b = a
+taken_may_by g own es text e false false a b = gone_may g (At own es) (At own (es ++ text ∷ [])) e a b
+
+taken_may : (g : Story) (own : ℕ) (es : List (List ℕ)) (text : List ℕ) → IsPlayedWith g own es → IsLine text → MayBe g (taken g own es text).session
+taken_may g own es text p l =
+    taken_may_by g own es text (reading g own (es ++ text ∷ [])) (is_over (reading g own es)) (nat_le EVENT_LIMIT (length es)) p (one_more g own es text p l)
+
+begun_may : (g : Story) (text : Option (List ℕ)) (body : List ℕ) (s : Session) → MayBe g s → IfLine text → MayBe g (begun_with g text body s).session
+begun_may g None body s p l = p
+begun_may g (Some text) body Absent p l = tt
+begun_may g (Some text) body (At own es) p l = taken_may g own es text p l
+begun_may g (Some text) body (Refused bytes) p l = tt
+
+-- what a session becomes that may be
+pub answer_may : (g : Story) (seed : ℕ) (before : Session) (text : Option (List ℕ)) → ValidStory g → seed < 2 ^ 64 → IfLine text → MayBe g before →
+    MayBe g (answer g seed before text).session
+unfolding answer
+answer_may g seed Absent text valid small l p =
+    begun_may g text (begun g seed).body (begun g seed).session
+    (gone_may g Absent (At seed []) (reading g seed []) tt (record { valid = valid; fits = small; lines = All-nil IsLine })) l
+answer_may g seed (At own es) None valid small l p = p
+answer_may g seed (At own es) (Some text) valid small l p = taken_may g own es text p l
+answer_may g seed (Refused bytes) text valid small l p = tt
+
+-- what all sessions become
+pub all_may : (g : Story) (seed : ℕ) (sessions : Sessions) (request : Option Request) → ValidStory g → seed < 2 ^ 64 →
+    ((r : Request) → request ≡ Some r → (is_name r.name ≡ true) × IfLine r.text) → AllMay g sessions → AllMay g (sessions_with g seed sessions request)
+all_may g seed sessions None valid small lines may = may
+all_may g seed sessions (Some r) valid small lines may = λ name is. elim (same_or_not name r.name) [
+  | inl e ↦ subst (λ x. MayBe g (sessions_with g seed sessions (Some r) x)) (sym e)
+      (subst (MayBe g) (sym (its_own r.name (answer g seed (sessions r.name) r.text).session sessions))
+      (answer_may g seed (sessions r.name) r.text valid small (lines r refl).1 (may r.name (lines r refl).0)))
+  | inr o ↦ subst (MayBe g) (sym (not_its_own r.name name (answer g seed (sessions r.name) r.text).session sessions o.1)) (may name is)
+]

@@ -1,0 +1,17 @@
+-- The rows of the program's routines.
+use Rattle.std.proofs.Common.{◌≡◌, ℕ, ◌<◌, ◌-◌, ◌/◌, ◌==◌, List, Bool, true, false, count_ones, if◌then◌else◌, arith}
+use Rattle.std.specs.Fn.{Shared}
+use Rattle.std.proofs.lemmas.Nat.{ones_le_self}
+use Rattle.paw_routines.specs.Rows.{StandFor}
+use Rattle.paw_routines.proofs.FunctionRows.{rows_of, stand_for}
+use Rattle.paw_host.specs.Given.{given}
+
+small_in : (a b : Bool) (x : ℕ) → x < 256 → (if a then 255 - x else if b then x / 2 else count_ones x) < 256
+small_in true b x small = omega arith
+small_in false true x small = omega arith
+small_in false false x small = omega (arith, ones_le_self x)
+
+-- rows stand for three routines that may be called everywhere and give this
+pub given_stand : {F : Type 0} (calls : Shared F (ℕ × (ℕ × Unit {0})) ℕ) (f : F) → ((n x : ℕ) → n < 3 → x < 256 → calls.pre f (n, (x, tt)))
+    → ((n x y : ℕ) → n < 3 → x < 256 → y < 256 → calls.post f (n, (x, tt)) y → y ≡ given n x) → (X : List (List ℕ)) × StandFor calls f 3 X
+given_stand {F} calls f callable gives = (rows_of given 3, stand_for calls f given 3 (λ n x below small. small_in (n == 0) (n == 1) x small) callable gives)

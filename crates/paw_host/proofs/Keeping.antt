@@ -1,0 +1,71 @@
+-- Answers of a session that was kept.
+use Rattle.std.proofs.Common.{◌≡◌, ◌≢◌, ◌⊎◌, inl, inr, ℕ, ◌<◌, List, [], ◌∷◌, ◌++◌, refl, sym, ap, ◌∙◌, subst, length, arith, Option, Some, None}
+use Rattle.std.specs.Prelude.{codes}
+use Rattle.paw_effects.specs.Story.{Story}
+use Rattle.paw_reading.specs.Turn.{reading, pieces_of}
+use Rattle.paw_stage.specs.Disk.{IsStable}
+use Rattle.paw_stage.specs.Stage.{Standing}
+use Rattle.paw_stage.specs.Moments.{Moment, moment_of}
+use Rattle.paw_journal.proofs.Disks.{stable_leaves}
+use Rattle.paw_state.specs.Record.{last_piece}
+use Rattle.paw_turn.specs.inner.Player.{Seat}
+use Rattle.paw_play.specs.Stands.{Stands, IsPlayedWith}
+use Rattle.paw_play.specs.Laws.{ShowsSome}
+use Rattle.paw_play.proofs.Standing.{standing_shows}
+use Rattle.paw_host.specs.Replies.{Session, Absent, At, Refused, Answer, taken, answer}
+use Rattle.paw_host.specs.Promise.{Stores, MayBe}
+use Rattle.paw_host.specs.inner.Answers.{SitsAt, Answers, InFile, StoresEither}
+
+module _ (g : Story) (seed : ℕ) (bytes : List ℕ) (some : 0 < length bytes) where
+  no_absent : {A : Type 0} → bytes ≡ [] → A
+  no_absent e = absurd (omega (arith, some, ap length e))
+
+  no_refused : {A : Type 0} (kept : List ℕ) → Stores g (Refused kept) bytes → ShowsSome g bytes → A
+  no_refused kept h shows = absurd (h.1.1 (subst (ShowsSome g) h.0 shows))
+
+  -- the store has no session of the game
+  pub kept_refused : (before : Session) (text : Option (List ℕ)) (old new : List ℕ) → MayBe g before → Stores g before bytes →
+      ¬ ShowsSome g bytes → new ≡ old ++ codes "refused" → Answers g (answer g seed before text) old new bytes
+  unfolding answer
+  kept_refused Absent text old new may stores none grown = no_absent stores
+  kept_refused (At own es) text old new may stores none grown = absurd (none (standing_shows g own es bytes may stores))
+  kept_refused (Refused kept) text old new may stores none grown = record { body = grown; stores = stores }
+
+  -- it has one, which tells its last piece
+  pub kept_told : (before : Session) (old new piece : List ℕ) → MayBe g before → Stores g before bytes → ShowsSome g bytes →
+      ((own : ℕ) (es : List (List ℕ)) → IsPlayedWith g own es → Stands g own es bytes → piece ≡ last_piece (pieces_of (reading g own es))) →
+      new ≡ old ++ piece → Answers g (answer g seed before None) old new bytes
+  unfolding answer
+  kept_told Absent old new piece may stores shows last grown = no_absent stores
+  kept_told (At own es) old new piece may stores shows last grown =
+      record { body = grown ∙ ap (λ x. old ++ x) (last own es may stores); stores = stores }
+  kept_told (Refused kept) old new piece may stores shows last grown = no_refused kept stores shows
+
+  -- it has one, which takes a text
+  pub kept_takes : (before : Session) (text old new left : List ℕ) → MayBe g before → Stores g before bytes → ShowsSome g bytes →
+      ((own : ℕ) (es : List (List ℕ)) → IsPlayedWith g own es → Stands g own es bytes → Answers g (taken g own es text) old new left) →
+      Answers g (answer g seed before (Some text)) old new left
+  unfolding answer
+  kept_takes Absent text old new left may stores shows takes = no_absent stores
+  kept_takes (At own es) text old new left may stores shows takes = takes own es may stores
+  kept_takes (Refused kept) text old new left may stores shows takes = no_refused kept stores shows
+
+  -- what holds of each session that takes the text holds of this one
+  pub kept_each : (P : Session → Session → Type 0) (before : Session) (text : List ℕ) → MayBe g before → Stores g before bytes → ShowsSome g bytes →
+      ((own : ℕ) (es : List (List ℕ)) → IsPlayedWith g own es → Stands g own es bytes → P (At own es) (taken g own es text).session) →
+      P before (answer g seed before (Some text)).session
+  unfolding answer
+  kept_each P Absent text may stores shows each = no_absent stores
+  kept_each P (At own es) text may stores shows each = each own es may stores
+  kept_each P (Refused kept) text may stores shows each = no_refused kept stores shows
+
+-- while nothing is written
+pub still_in_file : (g : Story) (before after : Session) (old : Standing) (m : Moment) → IsStable old.disk → Stores g before old.disk.bytes → m ≡ moment_of old →
+    InFile (StoresEither g before after) old m
+still_in_file g before after old m settled stores e = subst (InFile (StoresEither g before after) old) (sym e) (record {
+  asked = refl;
+  shown = refl;
+  attached = refl;
+  files = λ n other. refl;
+  disk = λ left may. inl (subst (Stores g before) (sym (stable_leaves old.disk left settled may)) stores);
+})

@@ -1,0 +1,13 @@
+pub mod Given
+pub mod Sitting
+pub mod Opening
+mod Numbers
+pub mod Named
+pub mod Reaching
+pub mod Serving
+pub mod Taking
+pub mod Answering
+pub mod Keeping
+pub mod Hosting
+pub mod Continuing
+pub mod Calls

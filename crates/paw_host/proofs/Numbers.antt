@@ -1,0 +1,42 @@
+-- A word of digits, and the seed that it is parsed as.
+use Rattle.std.proofs.Common.{◌≡◌, ℕ, ◌<◌, ◌^◌, true, false, ltb, leb, cond, List, length, Option, Some, None, Result, Ok, Err}
+use Rattle.std.proofs.Common.{refl, ◌&&◌, ◌+◌, ◌*◌, ◌-◌, ◌≤◌}
+use Rattle.std.specs.Char.{is_ascii_digit}
+use Rattle.std.specs.List.{list_all}
+use Rattle.std.specs.Option.{option_and_then}
+use Rattle.std.specs.Result.{OkIff, result_ok}
+use Rattle.std.specs.Str.Parse.{digits_value, ParsesUnsigned}
+use Rattle.std.proofs.lemmas.Bool.{and_from, and_parts, le-leb, leb-true, lt-ltb, ltb-true}
+use Rattle.std.proofs.Math.Bool.{and-true}
+use Rattle.std.proofs.lemmas.Str.Parse.{IsNumeralModel, numerals_by_value, parse_digits}
+use Rattle.paw_host.specs.Words.{seed_of}
+
+-- what decimal digits alone make, and what they are worth
+own : IsNumeralModel (λ ds. list_all is_ascii_digit ds ≡ true) (digits_value 10)
+own = numerals_by_value (λ ds. list_all is_ascii_digit ds ≡ true) (record {
+  empty = refl;
+  parts = λ c cs h. let both = and_parts (is_ascii_digit c) _ h in
+      let range = and_parts (leb 48 c) (leb c 57) both.0 in ((leb-true 48 c range.0, leb-true c 57 range.1), both.1);
+  more = λ c cs k h. and_from (is_ascii_digit c) _ (and_from (leb 48 c) (leb c 57) (le-leb 48 c k.0) (le-leb c 57 k.1)) h;
+})
+
+-- what a parse of so many digits gives, where a number below the limit is kept
+kept_below : {E : Type 0} (limit n count : ℕ) (r : Result ℕ E) → OkIff r ((0 < count) × (n < limit)) n
+    → result_ok r ≡ option_and_then (λ m. cond (ltb m limit) (Some m) None) (cond (ltb 0 count) (Some n) None)
+kept_below limit n count (Ok x) h = rw (h.1, lt-ltb 0 count h.0.0, lt-ltb n limit h.0.1) refl
+kept_below limit n count (Err e) h =
+    elim (ltb 0 count) as (λ a. ltb 0 count ≡ a →
+    ◌≡◌ {A = Option ℕ} None (option_and_then (λ m. cond (ltb m limit) (Some m) None) (cond a (Some n) None))) [
+      | true ↦ λ s. elim (ltb n limit) as (λ b. ltb n limit ≡ b → ◌≡◌ {A = Option ℕ} None (cond b (Some n) None)) [
+        | true ↦ λ t. absurd (h (ltb-true 0 count s, ltb-true n limit t))
+        | false ↦ λ t. refl
+      ] refl
+      | false ↦ λ s. refl
+    ] refl
+
+pub seed_is : {E : Type 0} (word : List ℕ) (r : Result ℕ E) → (leb (length word) 20 && list_all is_ascii_digit word) ≡ true
+    → ParsesUnsigned 64 10 word r → result_ok r ≡ seed_of word
+seed_is word r t h =
+    let both = and_parts (leb (length word) 20) _ t in
+    rw (both.0, both.1, and-true (ltb 0 (length word)))
+    (kept_below (2 ^ 64) (digits_value 10 word) (length word) r (parse_digits own 64 word r h both.1))

@@ -1,0 +1,250 @@
+-- Sessions that are begun, and sessions that are taken up.
+use Rattle.std.proofs.Common.{◌≡◌, ◌≢◌, ◌⊎◌, inl, inr, ℕ, ◌+◌, ◌*◌, ◌<◌, List, [], ◌∷◌, ◌++◌, refl, sym, ap, ◌∙◌, subst, true, take, length, get_or, arith}
+use Rattle.std.proofs.Common.{Option, Some, None, codes, Result, Ok, Err}
+use Rattle.std.proofs.lemmas.List.{append-nil, get_or-take, take_all}
+use Rattle.std.specs.Prelude.{reverse}
+use Rattle.sha2.specs.Sha256.{sha256}
+use Rattle.paw_base.specs.declared.limits.TheConstants.{EVENT_LIMIT}
+use Rattle.paw_game.specs.Game.{GameLists}
+use Rattle.paw_game.specs.Image.{image}
+use Rattle.paw_stage.specs.Stage.{Standing}
+use Rattle.paw_stage.specs.Moments.{Moment}
+use Rattle.paw_effects.specs.Story.{Story}
+use Rattle.paw_effects.specs.declared.act.Prompt.{Prompt}
+use Rattle.paw_effects.specs.declared.act.Prompt.TheVariants as prompt
+use Rattle.paw_reading.specs.Run.{Run, Step as Read}
+use Rattle.paw_reading.specs.Reading.{IsOver, RunsOut, CallsTooDeep}
+use Rattle.paw_reading.specs.Turn.{Ending, Halted, reading, on, pieces_of}
+use Rattle.paw_turn.specs.inner.Player.{Seat, run_at, PlaysTo, IsSeated, StandsClosed}
+use Rattle.paw_turn.specs.inner.Parts.{seat_at, prompt_step}
+use Rattle.paw_turn.specs.declared.Step.{Step}
+use Rattle.paw_turn.specs.declared.Step.TheVariants as step
+use Rattle.paw_routines.specs.declared.routines.Routines.{Routines}
+use Rattle.paw_stage.specs.declared.StageCall.{StageCall}
+use Rattle.paw_routines.specs.Measure.{measure}
+use Rattle.paw_journal.specs.Session.{Digests, Recovered, Unmade, Damaged, Shown, IsUnmade, recover, state_length, piece_length}
+use Rattle.paw_journal.proofs.ShownPieces.{shown_long}
+use Rattle.paw_journal.specs.inner.Session.{session_shown}
+use Rattle.paw_journal.specs.inner.Store.{LeavesMade}
+use Rattle.paw_journal.specs.inner.Journal.{IsSessionRefused}
+use Rattle.paw_journal.specs.declared.refusal.JournalRefusal.{JournalRefusal}
+use Rattle.paw_journal.specs.declared.refusal.JournalRefusal.TheVariants as refusal
+use Rattle.paw_state.specs.State.{State}
+use Rattle.paw_state.specs.Fields.{state_bytes}
+use Rattle.paw_state.specs.Fit.{Fit}
+use Rattle.paw_state.specs.Record.{last_piece}
+use Rattle.paw_state.specs.declared.Restored.{Restored}
+use Rattle.paw_state.specs.inner.Fit.{IsRead, state_read}
+use Rattle.paw_play.specs.Session.{story_digests, IsOfStory, kept_bytes, IsKept}
+use Rattle.paw_play.specs.Stands.{Stands, IsPlayedWith}
+use Rattle.paw_play.specs.Played.{ShowsState, going_on}
+use Rattle.paw_play.specs.Laws.{ShowsSome}
+use Rattle.paw_play.specs.inner.OnTheWay.{ShowsPiece, seat_state}
+use Rattle.paw_play.proofs.Kept.{step_kept}
+use Rattle.paw_play.proofs.Resuming.{goes_on_from}
+use Rattle.paw_play.proofs.Standing.{standing_goes_on}
+use Rattle.paw_host.specs.Replies.{Session, Absent, At, Answer, gone_on, begun, is_over}
+use Rattle.paw_host.specs.inner.Answers.{SitsAt, word_of, InFile, LeftOfBeginning}
+use Rattle.paw_host.proofs.Sitting.{kept_gone, same_digests, same_piece, same_halt}
+
+-- ---- the piece before the first line ----
+
+sits_by : {F : Type 0} (g : Story) (seed : ℕ) (found : Step) (next : Seat F) → next.last ≡ found →
+    PlaysTo g (reading g seed) found next [] [] → ShowsPiece found → SitsAt g seed [] next
+sits_by g seed (step.Waits p) next is plays shows = record {
+  whole = reading g seed;
+  follows = inl (λ fs. refl);
+  pieces = next.piece ∷ [];
+  traces = plays.0 ∷ [];
+  waits = λ q e fs.
+      let same : step.Waits p ≡ step.Waits q = sym is ∙ e in
+      let at : p ≡ q = cc in
+      subst (λ x. reading g seed fs ≡ on g x (reverse next.machine.frames) (run_at next (next.piece ∷ []) (plays.0 ∷ []) fs)) at (plays.1.1 fs);
+  over = λ e. let same : step.Waits p ≡ step.Ended = sym is ∙ e in cc;
+}
+sits_by g seed step.Ended next is plays shows = record {
+  whole = reading g seed;
+  follows = inl (λ fs. refl);
+  pieces = [];
+  traces = [];
+  waits = λ q e fs. let same : step.Ended ≡ step.Waits q = sym is ∙ e in cc;
+  over = λ e. ap is_over (plays.1.1 []);
+}
+sits_by g seed (step.Spent kind) next is plays shows = absurd shows
+sits_by g seed (step.TooDeep table) next is plays shows = absurd shows
+
+module _ {F : Type 0} (g : Story) (seed : ℕ) (found : Step) (next : Seat F) (is : next.last ≡ found) (seated : IsSeated next)
+    (plays : PlaysTo g (reading g seed) found next [] []) where
+  pub sits : ShowsPiece found → SitsAt g seed [] next
+  sits shows = sits_by g seed found next is plays shows
+
+  first_kept : (digests : Digests) → ShowsPiece found → IsKept digests 0 (reading g seed []) (Shown digests (seat_state 0 next) next.piece)
+  first_kept digests shows =
+      step_kept g digests 0 (reading g seed) found next [] [] shows is (subst (λ q. StandsClosed q next.machine) is seated.machine) plays
+
+  pub first_answer : ShowsPiece found → begun g seed ≡ record { body = next.piece; session = At seed [] }
+  first_answer shows = kept_gone (story_digests g) (seat_state 0 next) next.piece 0 _ _ _ (first_kept (story_digests g) shows)
+
+  pub first_stands : (bytes : List ℕ) → ShowsPiece found → recover bytes ≡ Shown (story_digests g) (seat_state 0 next) next.piece → Stands g seed [] bytes
+  first_stands bytes shows e = record {
+    few = omega arith;
+    digests = story_digests g;
+    belongs = record { of_game = refl; of_routines = inr refl };
+    keeps = rw e (first_kept (story_digests g) shows);
+  }
+
+  pub first_refused : (word : List ℕ) → word_of found ≡ Some word → begun g seed ≡ record { body = word; session = Absent }
+  first_refused word e = elim found as (λ q. PlaysTo g (reading g seed) q next [] [] → word_of q ≡ Some word → begun g seed ≡ record { body = word; session = Absent }) [
+    | step.Waits q ↦ λ plays e. cc
+    | step.Ended ↦ λ plays e. cc
+    | step.Spent kind ↦ λ plays e. let w : codes "spent" ≡ word = cc in rw (plays.1 []).1 (ap (λ b. record { body = b; session = Absent }) w)
+    | step.TooDeep table ↦ λ plays e. let w : codes "too deep" ≡ word = cc in rw (plays.1 []).1 (ap (λ b. record { body = b; session = Absent }) w)
+  ] plays e
+
+  -- while the session is made
+  pub in_beginning : (state : List ℕ) (old : Standing) (m : Moment) → ShowsPiece found → take state_length state ≡ seat_state 0 next →
+      LeavesMade (story_digests g) state next.piece old m → InFile (LeftOfBeginning g seed) old m
+  in_beginning state old m shows e i = record {
+    asked = i.asked;
+    shown = i.shown;
+    attached = i.attached;
+    files = i.files;
+    disk = λ left may. elim (i.disk left may) [
+      | inl h ↦ inr (begins, inl h)
+      | inr h ↦ inr (begins, inr (first_stands left shows (h ∙ ap (λ b. Shown (story_digests g) b next.piece) e)))
+    ];
+  }
+    where
+      begins : (begun g seed).session ≡ At seed []
+      begins = ap (λ (a : Answer). a.session) (first_answer shows)
+
+-- ---- a session that is taken up ----
+
+-- a buffer begins with the bytes of a state
+shows_kept : (digests : Digests) (bytes buffer piece : List ℕ) (st : State) →
+    recover bytes ≡ Shown digests (take state_length buffer) piece → take state_length buffer ≡ state_bytes st →
+    recover bytes ≡ Shown digests (kept_bytes st) piece
+unfolding kept_bytes
+shows_kept digests bytes buffer piece st e k = e ∙ ap (λ b. Shown digests b piece) k
+
+pub read_shows : (g : GameLists) (digests : Digests) (bytes buffer piece : List ℕ) (r : Restored) →
+    recover bytes ≡ session_shown digests buffer piece → IsRead g buffer r → ShowsState g digests bytes (state_read r) piece
+read_shows g digests bytes buffer piece r shown read =
+    record { keeps = read.keeps; fits = read.fits; shown = shows_kept digests bytes buffer piece (state_read r) shown read.are }
+
+over_step : (at : Prompt) → prompt_step at ≡ step.Ended → at ≡ prompt.Over
+over_step prompt.Main h = cc
+over_step prompt.Quit h = cc
+over_step prompt.Again h = cc
+over_step prompt.Key h = cc
+over_step prompt.Over h = refl
+
+waits_step : (at p : Prompt) → prompt_step at ≡ step.Waits p → at ≡ p
+waits_step prompt.Main p h = cc
+waits_step prompt.Quit p h = cc
+waits_step prompt.Again p h = cc
+waits_step prompt.Key p h = cc
+waits_step prompt.Over p h = cc
+
+module _ {F : Type 0} (g : Story) (seed : ℕ) (es : List (List ℕ)) (digests : Digests) (bytes piece : List ℕ) (r : Restored) (routines : Routines F) (seat : Seat F)
+    (played : IsPlayedWith g seed es) (stands : Stands g seed es bytes) (shows : ShowsState g.game digests bytes (state_read r) piece)
+    (is : seat ≡ seat_at g.game routines r.world r.machine r.pending r.prompt) where
+  goes : (fs : List (List ℕ)) → going_on g (state_read r) piece fs ≡ on g r.prompt (reverse r.machine.frames) (run_at seat (piece ∷ []) [] fs)
+  goes fs = goes_on_from g r.world r.machine r.pending r.prompt r.events r.piece piece fs
+      ∙ ap (λ (q : Seat F). on g r.prompt (reverse r.machine.frames) (run_at q (piece ∷ []) [] fs)) (sym is)
+
+  goes_here : (fs : List (List ℕ)) → going_on g (state_read r) piece fs ≡ on g r.prompt (reverse seat.machine.frames) (run_at seat (piece ∷ []) [] fs)
+  goes_here fs = goes fs
+      ∙ ap (λ (q : Seat F). on g r.prompt (reverse q.machine.frames) (run_at seat (piece ∷ []) [] fs)) (sym is)
+
+  last_is : seat.last ≡ prompt_step r.prompt
+  last_is = ap (λ (q : Seat F). q.last) is
+
+  on_over : r.prompt ≡ prompt.Over → is_over (reading g seed es) ≡ true
+  on_over e =
+      let since = (standing_goes_on g seed es [] bytes digests (state_read r) piece played stands shows).1 in
+      let h = same_halt (length es) (reading g seed (es ++ [])) IsOver _
+      (sym since ∙ goes [] ∙ ap (λ q. on g q (reverse r.machine.frames) (run_at seat (piece ∷ []) [] [])) e) in
+      subst (λ l. is_over (reading g seed l) ≡ true) (append-nil es) (ap is_over h.1)
+
+  pub sits_again : SitsAt g seed es seat
+  sits_again = record {
+    whole = going_on g (state_read r) piece;
+    follows = inr (λ fs. (standing_goes_on g seed es fs bytes digests (state_read r) piece played stands shows).1);
+    pieces = piece ∷ [];
+    traces = [];
+    waits = λ p e fs.
+        let at : r.prompt ≡ p = waits_step r.prompt p (sym last_is ∙ e) in
+        goes_here fs ∙ ap (λ q. on g q (reverse seat.machine.frames) (run_at seat (piece ∷ []) [] fs)) at;
+    over = λ e. on_over (over_step r.prompt (sym last_is ∙ e));
+  }
+
+  pub counts : r.events ≡ length es
+  counts = (standing_goes_on g seed es [] bytes digests (state_read r) piece played stands shows).0
+
+  pub last_shown : piece ≡ last_piece (pieces_of (reading g seed es))
+  last_shown = same_piece _ _ _ _ _ _ (sym shows.shown ∙ stands.keeps.shown)
+
+-- the piece that stands beside a buffer is as long as the buffer says
+buffer_long : (bytes : List ℕ) (digests : Digests) (buffer piece : List ℕ) (n : ℕ) →
+    recover bytes ≡ Shown digests (take state_length buffer) piece →
+    get_or buffer 1369 0 + 256 * get_or buffer 1370 0 ≡ n → n < 65536 → length piece ≡ n
+buffer_long bytes digests buffer piece n e is low =
+    let a : get_or (take state_length buffer) 1369 0 ≡ get_or buffer 1369 0 = get_or-take 3419 buffer 1369 0 (omega arith) in
+    let b : get_or (take state_length buffer) 1370 0 ≡ get_or buffer 1370 0 = get_or-take 3419 buffer 1370 0 (omega arith) in
+    let m : piece_length (take state_length buffer) ≡ n = omega (arith, a, b, is) in
+    shown_long bytes digests (take state_length buffer) piece e (omega (arith, m, low)) ∙ m
+
+-- a player is seated with what was read of a session of the story
+pub taken_up : {F : Type 0} (g : Story) (digests : Digests) (bytes state buffer piece : List ℕ) (r : Restored) (routines : Routines F) (seat : Seat F) →
+    recover bytes ≡ session_shown digests state piece → buffer ≡ state → IsOfStory g digests → IsRead g.game buffer r →
+    get_or buffer 1369 0 + 256 * get_or buffer 1370 0 ≡ r.piece → seat ≡ seat_at g.game routines r.world r.machine r.pending r.prompt →
+    ShowsSome g bytes × ((seed : ℕ) (es : List (List ℕ)) → IsPlayedWith g seed es → Stands g seed es bytes →
+    SitsAt g seed es seat × (r.events ≡ length es) × (take 65535 piece ≡ last_piece (pieces_of (reading g seed es))))
+taken_up {F} g digests bytes state buffer piece r routines seat shown same belongs read told is =
+    let there : recover bytes ≡ session_shown digests buffer piece = subst (λ x. recover bytes ≡ session_shown digests x piece) (sym same) shown in
+    let shows = read_shows g.game digests bytes buffer piece r there read in
+    let long = buffer_long bytes digests buffer piece r.piece there told read.fits.piece in (
+      record { digests = digests; belongs = belongs; state = state_read r; piece = piece; shows = shows },
+      λ seed es played stands. (
+        sits_again g seed es digests bytes piece r routines seat played stands shows is,
+        counts g seed es digests bytes piece r routines seat played stands shows is,
+        take_all 65535 piece (omega (arith, long, read.fits.piece)) ∙ last_shown g seed es digests bytes piece r routines seat played stands shows is,
+      ),
+    )
+
+-- ---- a session that is refused ----
+
+-- a buffer that begins with the bytes of a state is fit
+is_fit : (g : GameLists) (own : Digests) (bytes : List ℕ) (digests : Digests) (buffer piece q : List ℕ) (st : State) → ShowsState g own bytes st q →
+    recover bytes ≡ Shown digests (take state_length buffer) piece → Fit g buffer
+unfolding kept_bytes
+is_fit g own bytes digests buffer piece q st shows is =
+    record { state = st; keeps = shows.keeps; fits = shows.fits; are = same_state _ _ _ _ _ _ (sym is ∙ shows.shown) }
+  where
+    same_state : (d : Digests) (s p : List ℕ) (e : Digests) (t q : List ℕ) → Shown d s p ≡ Shown e t q → s ≡ t
+    same_state d s p e t q h = cc
+
+-- bytes that a session can't be read of show none
+pub unfit_shows_none : (g : Story) (digests : Digests) (bytes buffer piece : List ℕ) → recover bytes ≡ session_shown digests buffer piece →
+    ¬ Fit g.game buffer → ¬ ShowsSome g bytes
+unfit_shows_none g digests bytes buffer piece shown unfit some =
+    unfit (is_fit g.game some.digests bytes digests buffer piece some.piece some.state some.shows shown)
+
+-- nor do those that are refused
+pub refused_shows_none : (g : Story) (bytes : List ℕ) (e : JournalRefusal) →
+    IsSessionRefused (recover bytes) (sha256 (image g.game)) (measure g.rows) e → ((c : StageCall) → e ≢ refusal.Outside c) → ¬ ShowsSome g bytes
+refused_shows_none g bytes (refusal.Unmade n mark) h other some =
+    let clash : Unmade n mark ≡ Shown some.digests (kept_bytes some.state) some.piece = sym h ∙ some.shows.shown in cc
+refused_shows_none g bytes (refusal.Damaged part at) h other some =
+    let clash : Damaged part at ≡ Shown some.digests (kept_bytes some.state) some.piece = sym h ∙ some.shows.shown in cc
+refused_shows_none g bytes (refusal.WrongGame kept found) h other some =
+    let same = same_digests _ _ _ _ _ _ (sym h.3 ∙ some.shows.shown) in
+    h.4 (ap (λ (d : Digests). d.game) same ∙ some.belongs.of_game)
+refused_shows_none g bytes (refusal.WrongRoutines kept found) h other some =
+    let same = same_digests _ _ _ _ _ _ (sym h.2 ∙ some.shows.shown) in
+    elim some.belongs.of_routines [
+      | inl z ↦ h.3 (ap (λ (d : Digests). d.routines) same ∙ z)
+      | inr m ↦ h.4 (ap (λ (d : Digests). d.routines) same ∙ m)
+    ]
+refused_shows_none g bytes (refusal.Outside c) h other some = other c refl

@@ -1,0 +1,120 @@
+-- From a store at rest to one that is attached, and what a crash leaves of all files meanwhile.
+use Rattle.std.proofs.Common.{◌≡◌, ◌≢◌, ◌⊎◌, inl, inr, ℕ, List, [], Option, Some, None, true, false, refl, sym, ap, ◌∙◌, subst, bytes_eq}
+use Rattle.std.specs.Prelude.{if◌then◌else◌}
+use Rattle.std.proofs.lemmas.Slice.Eq.{bytes_eq-Decides}
+use Rattle.paw_stage.specs.Disk.{IsStable, MayLeave, stable}
+use Rattle.paw_stage.specs.Stage.{Standing, Files, file_bytes, bytes_or_none, made_if_missing, opened, Unattached}
+use Rattle.paw_stage.specs.Moments.{Moment, moment_of, InAttach}
+use Rattle.paw_journal.proofs.Disks.{stable_is, stable_leaves}
+use Rattle.paw_effects.specs.Story.{Story}
+use Rattle.paw_play.specs.Laws.{MayBeLeft}
+use Rattle.paw_play.proofs.Attaching.{other_file}
+use Rattle.paw_host.specs.Replies.{Session}
+use Rattle.paw_host.specs.Promise.{Stores}
+use Rattle.paw_host.specs.inner.Answers.{InFile, InAnswer, IsAside, LeftOf}
+
+-- while a store is attached the file of its name has its bytes
+abbrev pub FilesHold : Standing → Type 0
+FilesHold s = (n : List ℕ) → s.attached ≡ Some n → file_bytes s n ≡ s.disk.bytes
+
+-- a moment at which nothing is done yet: a crash leaves of each file the bytes that it had
+pub record IsBefore (name : List ℕ) (old : Standing) (m : Moment) : Type 0 where
+  pub asked : m.asked ≡ old.asked
+  pub shown : m.shown ≡ old.shown
+  pub files : (f : List ℕ) → f ≢ name → m.files f ≡ old.files f
+  pub left : (f bytes : List ℕ) → MayBeLeft f m bytes → bytes ≡ file_bytes old f
+
+-- at rest
+pub rest_left : (s : Standing) → IsStable s.disk → FilesHold s → (f bytes : List ℕ) → MayBeLeft f (moment_of s) bytes → bytes ≡ file_bytes s f
+rest_left s settled holds f bytes (inl h) = stable_leaves s.disk bytes settled h.1 ∙ sym (holds f h.0)
+rest_left s settled holds f bytes (inr h) = h.1
+
+-- ---- the attach ----
+
+made_by : (name f : List ℕ) (files : Files) (file : Option (List ℕ)) → files name ≡ file →
+    bytes_or_none (made_if_missing name file files f) ≡ bytes_or_none (files f)
+made_by name f files (Some bytes) e = refl
+made_by name f files None e =
+    elim (bytes_eq f name) as (λ b. bytes_eq f name ≡ b → bytes_or_none (if b then Some [] else files f) ≡ bytes_or_none (files f)) [
+      | true ↦ λ t. let same : f ≡ name = (bytes_eq-Decides f name).0 t in sym (ap bytes_or_none (ap files same ∙ e))
+      | false ↦ λ t. refl
+    ] refl
+
+made_bytes : (old : Standing) (name f : List ℕ) → bytes_or_none ((opened name old).files f) ≡ file_bytes old f
+made_bytes old name f = made_by name f old.files (old.files name) refl
+
+same_name : (name f : List ℕ) → ◌≡◌ {A = Option (List ℕ)} (Some name) (Some f) → name ≡ f
+same_name name f e = cc
+
+opened_left : (old : Standing) (name f bytes : List ℕ) → MayBeLeft f (moment_of (opened name old)) bytes → bytes ≡ file_bytes old f
+opened_left old name f bytes (inl h) =
+    stable_leaves (stable (file_bytes old name)) bytes (stable_is (file_bytes old name)) h.1 ∙ ap (file_bytes old) (same_name name f h.0)
+opened_left old name f bytes (inr h) = h.1 ∙ made_bytes old name f
+
+none_left : (old : Standing) (f bytes : List ℕ) → MayBeLeft f (moment_of (record old { attached = None; disk = stable [] })) bytes → bytes ≡ file_bytes old f
+none_left old f bytes (inl h) = let no : ◌≡◌ {A = Option (List ℕ)} None (Some f) = h.0 in cc
+none_left old f bytes (inr h) = h.1
+
+module _ (old new : Standing) (name : List ℕ) (settled : IsStable old.disk) (holds : FilesHold old) where
+  before_it : IsBefore name old (moment_of old)
+  before_it = record { asked = refl; shown = refl; files = λ f ne. refl; left = rest_left old settled holds }
+
+  made_it : IsBefore name old (record (moment_of old) { files = made_if_missing name (old.files name) old.files })
+  made_it = record {
+    asked = refl;
+    shown = refl;
+    files = λ f ne. other_file old name f ne;
+    left = λ f bytes may. elim may [
+      | inl h ↦ rest_left old settled holds f bytes (inl h)
+      | inr h ↦ h.1 ∙ made_bytes old name f
+    ];
+  }
+
+  opened_it : IsBefore name old (moment_of (opened name old))
+  opened_it = record { asked = refl; shown = refl; files = λ f ne. other_file old name f ne; left = opened_left old name }
+
+  unattached_it : Unattached old new → IsBefore name old (moment_of new)
+  unattached_it (inl e) = subst (λ q. IsBefore name old (moment_of q)) (sym e) before_it
+  unattached_it (inr e) = subst (λ q. IsBefore name old (moment_of q)) (sym e)
+      (record { asked = refl; shown = refl; files = λ f ne. refl; left = none_left old })
+
+  -- inside the attach
+  pub in_attach : (new ≡ opened name old) ⊎ Unattached old new → (m : Moment) → InAttach old new name m → IsBefore name old m
+  in_attach how m (inl e) = subst (IsBefore name old) (sym e) before_it
+  in_attach how m (inr (inl e)) = subst (IsBefore name old) (sym e) made_it
+  in_attach how m (inr (inr e)) = subst (IsBefore name old) (sym e) (elim how [
+    | inl is ↦ subst (λ q. IsBefore name old (moment_of q)) (sym is) opened_it
+    | inr u ↦ unattached_it u
+  ])
+
+-- ---- a session that is asked for something ----
+
+module _ (g : Story) (seed : ℕ) (name : List ℕ) (before after : Session) (old : Standing) (stores : Stores g before (file_bytes old name)) where
+  -- before anything is done
+  pub answer_before : (m : Moment) → IsBefore name old m → InAnswer g seed name before after old m
+  answer_before m i = record {
+    asked = i.asked;
+    shown = i.shown;
+    files = i.files;
+    others = λ f ne bytes may. i.left f bytes may;
+    left = λ bytes may. inl (subst (Stores g before) (sym (i.left name bytes may)) stores);
+  }
+
+  -- once the store is attached
+  pub answer_in_file : (m : Moment) → InFile (LeftOf g seed before after) (opened name old) m → InAnswer g seed name before after old m
+  answer_in_file m i = record {
+    asked = i.asked;
+    shown = i.shown;
+    files = still;
+    others = λ f ne bytes may. elim may [
+      | inl h ↦ absurd (ne (sym (same_name name f (sym i.attached ∙ h.0))))
+      | inr h ↦ h.1 ∙ ap bytes_or_none (still f ne)
+    ];
+    left = λ bytes may. elim may [
+      | inl h ↦ i.disk bytes h.1
+      | inr h ↦ absurd (h.0 i.attached)
+    ];
+  }
+    where
+      still : (f : List ℕ) → f ≢ name → m.files f ≡ old.files f
+      still f ne = i.files f (λ e. ne (sym (same_name name f e))) ∙ other_file old name f ne

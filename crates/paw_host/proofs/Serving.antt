@@ -1,0 +1,149 @@
+-- The host, from line to line.
+use Rattle.std.proofs.Common.{◌≡◌, ◌≢◌, ◌⊎◌, inl, inr, ℕ, zero, suc, ◌+◌, ◌<◌, ◌≤◌, List, [], ◌∷◌, ◌++◌, Option, Some, None, true, false}
+use Rattle.std.proofs.Common.{refl, sym, ap, ◌∙◌, subst, length, take, drop, bytes_eq, arith, append_assoc}
+use Rattle.std.proofs.lemmas.List.{append-nil, append_cancel_right, take-append-drop}
+use Rattle.std.proofs.lemmas.Slice.Eq.{bytes_eq-Decides}
+use Rattle.std.specs.Prelude.{codes, if◌then◌else◌}
+use Rattle.paw_effects.specs.Story.{Story}
+use Rattle.paw_stage.specs.Disk.{IsStable}
+use Rattle.paw_stage.specs.Stage.{Standing, file_bytes, bytes_or_none}
+use Rattle.paw_stage.specs.Moments.{Moment, moment_of, InShow}
+use Rattle.paw_play.specs.Laws.{MayBeLeft}
+use Rattle.paw_host.specs.Names.{Request, request_of, is_name, store_name}
+use Rattle.paw_host.specs.Replies.{Session, Sessions, with_session, answer, reply, reply_to, sessions_with, sessions_after, replies}
+use Rattle.paw_host.specs.Promise.{Stores, MayBe, AllStore, EachLeft, AllLeft, IsNotOf, LeftOfMaking}
+use Rattle.paw_host.specs.inner.Answers.{Answers, InAnswer, IsAside}
+use Rattle.paw_host.specs.inner.Lines.{IsNotFor, IsDone, InWork, Does, Doing}
+use Rattle.paw_host.proofs.Reaching.{FilesHold, rest_left}
+
+-- ---- lists of lines ----
+
+pub sessions_more : (g : Story) (seed : ℕ) (first : Sessions) (lines : List (List ℕ)) (n : ℕ) (line : List ℕ) (rest : List (List ℕ)) →
+    drop n lines ≡ line ∷ rest →
+    sessions_after g seed first (take (suc n) lines) ≡ sessions_with g seed (sessions_after g seed first (take n lines)) (request_of line)
+unfolding sessions_after
+sessions_more g seed first [] zero line rest h = cc
+sessions_more g seed first [] (suc n) line rest h = cc
+sessions_more g seed first (l ∷ lines) zero line rest h = let e : l ≡ line = cc in ap (λ x. sessions_with g seed first (request_of x)) e
+sessions_more g seed first (l ∷ lines) (suc n) line rest h = sessions_more g seed (sessions_with g seed first (request_of l)) lines n line rest h
+
+pub replies_more : (g : Story) (seed : ℕ) (first : Sessions) (lines : List (List ℕ)) (n : ℕ) (line : List ℕ) (rest : List (List ℕ)) →
+    drop n lines ≡ line ∷ rest →
+    replies g seed first (take (suc n) lines)
+    ≡ replies g seed first (take n lines) ++ reply_to g seed (sessions_after g seed first (take n lines)) (request_of line)
+unfolding sessions_after replies
+replies_more g seed first [] zero line rest h = cc
+replies_more g seed first [] (suc n) line rest h = cc
+replies_more g seed first (l ∷ lines) zero line rest h =
+    let e : l ≡ line = cc in append-nil (reply_to g seed first (request_of l)) ∙ ap (λ x. reply_to g seed first (request_of x)) e
+replies_more g seed first (l ∷ lines) (suc n) line rest h =
+    let next : Sessions = sessions_with g seed first (request_of l) in
+    ap (λ t. reply_to g seed first (request_of l) ++ t) (replies_more g seed next lines n line rest h)
+    ∙ sym (append_assoc (reply_to g seed first (request_of l)) (replies g seed next (take n lines))
+    (reply_to g seed (sessions_after g seed next (take n lines)) (request_of line)))
+
+-- a file that is none of the lines' up to one more is none of those before, and not that line's
+pub not_of_more : (lines : List (List ℕ)) (n : ℕ) (line : List ℕ) (rest : List (List ℕ)) (f : List ℕ) → drop n lines ≡ line ∷ rest →
+    IsNotOf (take (suc n) lines) f → IsNotOf (take n lines) f × IsNotFor (request_of line) f
+not_of_more [] zero line rest f h k = cc
+not_of_more [] (suc n) line rest f h k = cc
+not_of_more (l ∷ lines) zero line rest f h k = let e : l ≡ line = cc in (tt, subst (λ x. IsNotFor (request_of x) f) e k.0)
+not_of_more (l ∷ lines) (suc n) line rest f h k = let m = not_of_more lines n line rest f h k.1 in ((k.0, m.0), m.1)
+
+-- ---- names ----
+
+-- two names have two files
+pub other_store : (a b : List ℕ) → a ≢ b → store_name a ≢ store_name b
+other_store a b ne e = ne (append_cancel_right a b (codes ".paw") e)
+
+pub same_or_not : (a b : List ℕ) → (a ≡ b) ⊎ ((a ≢ b) × (bytes_eq a b ≡ false))
+same_or_not a b = elim (bytes_eq a b) as (λ t. bytes_eq a b ≡ t → (a ≡ b) ⊎ ((a ≢ b) × (bytes_eq a b ≡ false))) [
+  | true ↦ λ t. inl ((bytes_eq-Decides a b).0 t)
+  | false ↦ λ t. inr (λ e. let yes : bytes_eq a b ≡ true = (bytes_eq-Decides a b).1 e in let no : true ≡ false = sym yes ∙ t in cc, t)
+] refl
+
+pub its_own : (name : List ℕ) (session : Session) (sessions : Sessions) → with_session name session sessions name ≡ session
+its_own name session sessions = ap (λ b. if b then session else sessions name) ((bytes_eq-Decides name name).1 refl)
+
+pub not_its_own : (name other : List ℕ) (session : Session) (sessions : Sessions) → bytes_eq other name ≡ false → with_session name session sessions other ≡ sessions other
+not_its_own name other session sessions e = ap (λ b. if b then session else sessions other) e
+
+-- ---- what a line asks for ----
+
+module _ (g : Story) (seed : ℕ) (sessions : Sessions) (old new : Standing) (stores : AllStore g sessions old) where
+  -- nothing
+  pub nothing_done : new ≡ old → IsDone g sessions None old new
+  nothing_done e = subst (IsDone g sessions None old) (sym e) (record { lines = refl; asked = refl; shown = refl; files = λ f h. refl; stores = stores })
+
+  module _ (r : Request) (named : is_name r.name ≡ true) (aside : IsAside (store_name r.name) old new) where
+    after : Sessions
+    after = sessions_with g seed sessions (Some r)
+
+    -- the session of a name
+    pub request_done : Stores g (answer g seed (sessions r.name) r.text).session (file_bytes new (store_name r.name)) → IsDone g after (Some r) old new
+    unfolding after
+    request_done h = record {
+      lines = aside.lines;
+      asked = aside.asked;
+      shown = aside.shown;
+      files = λ f none. aside.files f (none r refl);
+      stores = λ name is. elim (same_or_not name r.name) [
+        | inl e ↦ subst (λ x. Stores g (after x) (file_bytes new (store_name x))) (sym e)
+            (subst (λ s. Stores g s (file_bytes new (store_name r.name))) (sym (its_own r.name (answer g seed (sessions r.name) r.text).session sessions)) h)
+        | inr o ↦ subst (λ s. Stores g s (file_bytes new (store_name name)))
+            (sym (not_its_own r.name name (answer g seed (sessions r.name) r.text).session sessions o.1))
+            (subst (Stores g (sessions name)) (sym (ap bytes_or_none (aside.files (store_name name) (other_store name r.name o.0)))) (stores name is))
+      ];
+    }
+
+-- while it is done
+module _ (g : Story) (seed : ℕ) (sessions : Sessions) (old : Standing) (stores : AllStore g sessions old) where
+  pub in_nothing : (m : Moment) → IsStable old.disk → FilesHold old → m ≡ moment_of old → InWork g seed sessions sessions None old m
+  in_nothing m settled holds e = subst (InWork g seed sessions sessions None old) (sym e) (record {
+    asked = refl;
+    shown = refl;
+    files = λ f h. refl;
+    left = λ name is bytes may. inl (subst (Stores g (sessions name)) (sym (rest_left old settled holds (store_name name) bytes may)) (stores name is));
+  })
+
+  pub in_request : (r : Request) (m : Moment) →
+      InAnswer g seed (store_name r.name) (sessions r.name) (answer g seed (sessions r.name) r.text).session old m →
+      InWork g seed sessions (sessions_with g seed sessions (Some r)) (Some r) old m
+  in_request r m i = record {
+    asked = i.asked;
+    shown = i.shown;
+    files = λ f none. i.files f (none r refl);
+    left = λ name is bytes may. elim (same_or_not name r.name) [
+      | inl e ↦ subst (λ x. Stores g (sessions x) bytes ⊎ Stores g (sessions_with g seed sessions (Some r) x) bytes
+          ⊎ LeftOfMaking g seed (sessions x) (sessions_with g seed sessions (Some r) x) bytes) (sym e)
+          (subst (λ s. Stores g (sessions r.name) bytes ⊎ Stores g s bytes ⊎ LeftOfMaking g seed (sessions r.name) s bytes)
+          (sym (its_own r.name (answer g seed (sessions r.name) r.text).session sessions))
+          (i.left bytes (subst (λ x. MayBeLeft (store_name x) m bytes) e may)))
+      | inr o ↦ inl (subst (Stores g (sessions name)) (sym (i.others (store_name name) (other_store name r.name o.0) bytes may)) (stores name is))
+    ];
+  }
+
+-- ---- the reply ----
+
+spoken : (name body : List ℕ) → ((codes "[" ++ (name ++ codes "]\n")) ++ body) ++ codes "\n" ≡ reply name body
+spoken name body =
+    ap (λ x. 91 ∷ x) (append_assoc (name ++ codes "]\n") body (codes "\n") ∙ append_assoc name (codes "]\n") (body ++ codes "\n"))
+
+-- a session was asked for something, and the reply is made
+pub does_request : (g : Story) (seed : ℕ) (sessions : Sessions) (old new : Standing) (r : Request) (store begun grown whole : List ℕ) → AllStore g sessions old →
+    is_name r.name ≡ true → store ≡ store_name r.name → IsAside store old new → begun ≡ codes "[" ++ (r.name ++ codes "]\n") →
+    Answers g (answer g seed (sessions r.name) r.text) begun grown (file_bytes new store) → whole ≡ grown ++ codes "\n" →
+    Does g seed sessions (Some r) whole old new
+does_request g seed sessions old new r store begun grown whole stores named is aside opens a ends = (
+  ends ∙ ap (λ x. x ++ codes "\n") (a.body ∙ ap (λ x. x ++ (answer g seed (sessions r.name) r.text).body) opens)
+      ∙ spoken r.name (answer g seed (sessions r.name) r.text).body,
+  request_done g seed sessions old new stores r named (subst (λ x. IsAside x old new) is aside)
+      (subst (λ x. Stores g (answer g seed (sessions r.name) r.text).session (file_bytes new x)) is a.stores),
+)
+
+-- while it is asked
+pub doing_request : (g : Story) (seed : ℕ) (sessions : Sessions) (old : Standing) (r : Request) (store : List ℕ) (m : Moment) → AllStore g sessions old →
+    store ≡ store_name r.name → InAnswer g seed store (sessions r.name) (answer g seed (sessions r.name) r.text).session old m →
+    Doing g seed sessions (Some r) old m
+doing_request g seed sessions old r store m stores is i =
+    in_request g seed sessions old stores r m (subst (λ x. InAnswer g seed x (sessions r.name) (answer g seed (sessions r.name) r.text).session old m) is i)

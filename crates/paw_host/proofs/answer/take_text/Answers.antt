@@ -1,0 +1,109 @@
+use Rattle.std.proofs.Common.{◌≡◌, ◌+◌, ◌++◌, ◌∙◌, ◌≤◌, ◌<◌, List, ℕ, refl, sym, ap, subst, arith, length}
+use Rattle.paw_stage.specs.Stage.{Standing}
+use Rattle.paw_stage.proofs.Time.{Passes_map, Passes_none}
+use Rattle.paw_journal.proofs.Serving.{serves_none}
+use Rattle.paw_journal.specs.Session.{Shown}
+use Rattle.paw_effects.specs.Story.{Story, story_of}
+use Rattle.paw_turn.specs.inner.Parts.{prompt_at}
+use Rattle.paw_play.specs.inner.OnTheWay.{seat_state}
+use Rattle.paw_host.specs.Replies.{At, taken}
+use Rattle.paw_host.specs.inner.Answers.{InFile, StoresEither}
+use Rattle.paw_host.proofs.Sitting.{shows_by}
+use Rattle.paw_host.proofs.Taking.{over_answer, full_answer, refused_answer, took, in_taking, beside_same, digests_are}
+use Rattle.paw_host.proofs.answer.take_text.Goals as goal
+
+pub returns-then-is_over-clause-serves : goal.returns-then-is_over-clause-serves
+returns-then-is_over-clause-serves g c = serves_none g.S.Stage _ _
+
+pub returns-then-is_over-clause-beside : goal.returns-then-is_over-clause-beside
+returns-then-is_over-clause-beside g c = λ tells. beside_same _
+
+pub returns-then-is_over-clause-meaning : goal.returns-then-is_over-clause-meaning
+returns-then-is_over-clause-meaning g c = λ tells X rows seed es s count stands.
+    rw (over_answer s c.requires.seated c.args.text.now c.if-is_over.ensures.cases) (record { body = c.push.ensures.value; stores = stands })
+
+pub returns-then-is_over-clause-any_moment : goal.returns-then-is_over-clause-any_moment
+returns-then-is_over-clause-any_moment g c = λ tells X rows seed es s count stands. Passes_none _ _ _
+
+pub returns-then-is_full-clause-serves : goal.returns-then-is_full-clause-serves
+returns-then-is_full-clause-serves g c = serves_none g.S.Stage _ _
+
+pub returns-then-is_full-clause-beside : goal.returns-then-is_full-clause-beside
+returns-then-is_full-clause-beside g c = λ tells. beside_same _
+
+pub returns-then-is_full-clause-meaning : goal.returns-then-is_full-clause-meaning
+returns-then-is_full-clause-meaning g c = λ tells X rows seed es s count stands.
+    rw (full_answer s c.requires.seated c.args.text.now (prompt_at c.args.player.now.last) c.if-is_over.ensures.cases
+    (omega (arith, c.if-is_full.ensures.cases, count))) (record { body = c.push-then-is_full.ensures.value; stores = stands })
+
+pub returns-then-is_full-clause-any_moment : goal.returns-then-is_full-clause-any_moment
+returns-then-is_full-clause-any_moment g c = λ tells X rows seed es s count stands. Passes_none _ _ _
+
+pub returns-in-Some-clause-serves : goal.returns-in-Some-clause-serves
+returns-in-Some-clause-serves g c = serves_none g.S.Stage _ _
+
+pub returns-in-Some-clause-beside : goal.returns-in-Some-clause-beside
+returns-in-Some-clause-beside g c = λ tells. beside_same _
+
+pub returns-in-Some-clause-meaning : goal.returns-in-Some-clause-meaning
+returns-in-Some-clause-meaning g c = λ tells X rows seed es s count stands.
+    let p = prompt_at c.args.player.now.last in
+    let last = c.if-is_over.ensures.cases in
+    let few : length es < 1000000000 = omega (arith, c.if-is_full.ensures.cases, count) in
+    rw (refused_answer s c.requires.seated c.args.text.now p last few c.take-step.result c.take-step.new.self c.take-step.ensures.last c.take-step.ensures.seated
+    (c.take-step.ensures.meaning X rows p last s.pieces s.traces) c.in-Some.word.now c.in-Some.ensures.value)
+    (record { body = c.push-in-Some.ensures.value; stores = stands })
+
+pub returns-in-Some-clause-any_moment : goal.returns-in-Some-clause-any_moment
+returns-in-Some-clause-any_moment g c = λ tells X rows seed es s count stands. Passes_none _ _ _
+
+pub returns-in-Err-clause-any_moment : goal.returns-in-Err-clause-any_moment
+returns-in-Err-clause-any_moment g c = λ tells X rows seed es s count stands.
+    let story : Story = story_of c.args.player.now.game X in
+    let old : Standing = g.S.Stage.standing c.args.stage.now in
+    let p = prompt_at c.args.player.now.last in
+    let last = c.if-is_over.ensures.cases in
+    let few : length es < 1000000000 = omega (arith, c.if-is_full.ensures.cases, count) in
+    let plays = c.take-step.ensures.meaning X rows p last s.pieces s.traces in
+    let shows = shows_by c.take-step.result c.in_default.ensures.value in
+    Passes_map _ _ _ _ _ (InFile (StoresEither story (At seed es) (taken story seed es c.args.text.now).session) old) (c.commit.ensures.any_moment tells)
+    (λ m i. in_taking s c.requires.seated c.args.text.now p last few c.take-step.result c.take-step.new.self c.take-step.ensures.last c.take-step.ensures.seated plays
+    (c.args.opened.events + 1) old m shows (omega (arith, count)) stands _ _ (c.requires.kept tells).shown i)
+
+pub returns-clause-meaning : goal.returns-clause-meaning
+returns-clause-meaning g c = λ tells X rows seed es s count stands.
+    let p = prompt_at c.args.player.now.last in
+    let last = c.if-is_over.ensures.cases in
+    let few : length es < 1000000000 = omega (arith, c.if-is_full.ensures.cases, count) in
+    let plays = c.take-step.ensures.meaning X rows p last s.pieces s.traces in
+    let shows = shows_by c.take-step.result c.in_default.ensures.value in
+    let next = c.take-step.new.self in
+    took s c.requires.seated c.args.text.now p last few c.take-step.result next c.take-step.ensures.last c.take-step.ensures.seated plays
+    stands.digests c.args.reply.now _ _ (c.args.opened.events + 1) stands.belongs shows (omega (arith, count))
+    (c.in-Ok.ensures.shown tells ∙ ap (λ d. Shown d (seat_state (c.args.opened.events + 1) next) next.piece) (digests_are (story_of c.args.player.now.game X) seed es _ _ _ stands (c.requires.kept tells).shown))
+    (c.push-2.ensures.value ∙ ap (λ x. c.args.reply.now ++ x) c.piece.ensures.value)
+
+pub returns-clause-any_moment : goal.returns-clause-any_moment
+returns-clause-any_moment g c = λ tells X rows seed es s count stands.
+    let story : Story = story_of c.args.player.now.game X in
+    let old : Standing = g.S.Stage.standing c.args.stage.now in
+    let p = prompt_at c.args.player.now.last in
+    let last = c.if-is_over.ensures.cases in
+    let few : length es < 1000000000 = omega (arith, c.if-is_full.ensures.cases, count) in
+    let plays = c.take-step.ensures.meaning X rows p last s.pieces s.traces in
+    let shows = shows_by c.take-step.result c.in_default.ensures.value in
+    Passes_map _ _ _ _ _ (InFile (StoresEither story (At seed es) (taken story seed es c.args.text.now).session) old) (c.commit.ensures.any_moment tells)
+    (λ m i. in_taking s c.requires.seated c.args.text.now p last few c.take-step.result c.take-step.new.self c.take-step.ensures.last c.take-step.ensures.seated plays
+    (c.args.opened.events + 1) old m shows (omega (arith, count)) stands _ _ (c.requires.kept tells).shown i)
+
+pub returns-then-is_over-clause-rests : goal.returns-then-is_over-clause-rests
+returns-then-is_over-clause-rests g c = λ tells. (c.requires.kept tells).rests
+
+pub returns-then-is_full-clause-rests : goal.returns-then-is_full-clause-rests
+returns-then-is_full-clause-rests g c = λ tells. (c.requires.kept tells).rests
+
+pub returns-in-Some-clause-rests : goal.returns-in-Some-clause-rests
+returns-in-Some-clause-rests g c = λ tells. (c.requires.kept tells).rests
+
+pub returns-clause-rests : goal.returns-clause-rests
+returns-clause-rests g c = λ tells. (c.in-Ok.ensures.kept tells).rests

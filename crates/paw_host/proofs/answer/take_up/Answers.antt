@@ -1,0 +1,80 @@
+use Rattle.std.proofs.Common.{◌≡◌, List, ℕ, refl, sym, ap, subst}
+use Rattle.std.specs.Prelude.{Result, Ok, Err, IsOk}
+use Rattle.sha2.specs.Sha256.{sha256}
+use Rattle.paw_game.specs.Game.{GameLists}
+use Rattle.paw_game.specs.Image.{image}
+use Rattle.paw_routines.specs.Measure.{measure}
+use Rattle.paw_stage.specs.Stage.{Standing}
+use Rattle.paw_effects.specs.Story.{Story, story_of}
+use Rattle.paw_effects.specs.declared.act.Prompt.{Prompt}
+use Rattle.paw_effects.specs.declared.act.Prompt.TheVariants as prompt
+use Rattle.paw_journal.specs.Session.{BelongsTo, recover, kept_digests}
+use Rattle.paw_journal.specs.inner.Session.{session_shown}
+use Rattle.paw_state.specs.declared.StateFault.{StateFault}
+use Rattle.paw_state.specs.declared.Restored.{Restored}
+use Rattle.paw_state.specs.Fit.{Fit}
+use Rattle.paw_state.specs.inner.Fit.{IsRead}
+use Rattle.paw_turn.specs.inner.Player.{Seat}
+use Rattle.paw_turn.specs.inner.Parts.{Fits, IsStanding, prompt_step, seat_at}
+use Rattle.paw_world.specs.World.{World}
+use Rattle.paw_process.specs.OpenTables.{OpenTables}
+use Rattle.paw_phrase.specs.Pending.{PendingLine}
+use Rattle.paw_routines.specs.declared.routines.Routines.{Routines}
+use Rattle.paw_play.specs.Session.{IsOfStory}
+use Rattle.paw_play.proofs.Showing.{read_fits}
+use Rattle.paw_host.proofs.Opening.{taken_up, unfit_shows_none}
+use Rattle.paw_host.proofs.answer.take_up.Goals as goal
+
+not_ok : (r : Result Restored StateFault) (e : StateFault) → r ≡ Err e → IsOk r → ⊥
+not_ok (Ok x) e is h = cc
+not_ok (Err f) e is h = cc
+
+stands_step : (at : Prompt) → IsStanding (prompt_step at)
+stands_step prompt.Main = tt
+stands_step prompt.Quit = tt
+stands_step prompt.Again = tt
+stands_step prompt.Key = tt
+stands_step prompt.Over = tt
+
+stands_at : {F : Type 0} (g : GameLists) (routines : Routines F) (w : World) (m : OpenTables) (p : PendingLine) (at : Prompt) (seat : Seat F) →
+    seat ≡ seat_at g routines w m p at → IsStanding seat.last
+stands_at {F} g routines w m p at seat is = subst IsStanding (sym (ap (λ (q : Seat F). q.last) is)) (stands_step at)
+
+of_story : (g : Story) (game rules bytes : List ℕ) → game ≡ sha256 (image g.game) → rules ≡ measure g.rows → BelongsTo game rules (kept_digests bytes) →
+    IsOfStory g (kept_digests bytes)
+of_story g game rules bytes e f b = subst (λ x. BelongsTo x (measure g.rows) (kept_digests bytes)) e (subst (λ x. BelongsTo game x (kept_digests bytes)) f b)
+
+pub returns-in-Err-clause-meaning : goal.returns-in-Err-clause-meaning
+returns-in-Err-clause-meaning g c = λ tells X rows.
+    let old : Standing = g.S.Stage.standing c.args.stage.now in
+    let state = c.find.new.room.state in
+    let piece = c.find.new.room.piece in
+    let shown = subst (λ (q : Standing). recover q.disk.bytes ≡ session_shown (kept_digests q.disk.bytes) state piece) (c.in-Ok.ensures.still tells)
+    (c.in-Ok.ensures.kept tells).shown in
+    unfit_shows_none (story_of c.args.player.now.game X) (kept_digests old.disk.bytes) old.disk.bytes state piece shown
+    (λ fit. not_ok (Err c.in-Err.field-0) c.in-Err.field-0 refl (c.in-Err.ensures.fit.1
+    (subst (λ (h : GameLists). Fit h c.state.result.now) c.requires.same (subst (Fit c.args.player.now.game) (sym c.state.ensures.value) fit))))
+
+pub seat-requires-clause-fits : goal.seat-requires-clause-fits
+seat-requires-clause-fits g c =
+    let r = c.in-Ok-read_state.restored in
+    subst (λ (h : GameLists). Fits h r.world r.machine r.pending r.prompt) (sym c.requires.same)
+    (read_fits (g.T.Tables.game c.args.tables.now) c.state.result.now r c.in-Ok-read_state.ensures.read)
+
+pub returns-clause-standing : goal.returns-clause-standing
+returns-clause-standing g c = stands_at _ _ _ _ _ c.in-Ok-read_state.restored.prompt c.seat.new.self c.seat.ensures.value
+
+pub returns-clause-meaning : goal.returns-clause-meaning
+returns-clause-meaning g c = λ tells X rows.
+    let story : Story = story_of c.args.player.now.game X in
+    let old : Standing = g.S.Stage.standing c.args.stage.now in
+    let state = c.find.new.room.state in
+    let piece = c.find.new.room.piece in
+    let r = c.in-Ok-read_state.restored in
+    let still = c.in-Ok.ensures.still tells in
+    let shown = subst (λ (q : Standing). recover q.disk.bytes ≡ session_shown (kept_digests q.disk.bytes) state piece) still (c.in-Ok.ensures.kept tells).shown in
+    let belongs = subst (λ (q : Standing). IsOfStory story (kept_digests q.disk.bytes)) still
+    (of_story story c.args.game.now c.args.rules.now (g.S.Stage.standing c.find.new.stage).disk.bytes c.requires.digest (c.requires.measured X rows) (c.in-Ok.ensures.belongs tells)) in
+    let read = subst (λ (h : GameLists). IsRead h c.state.result.now r) (sym c.requires.same) c.in-Ok-read_state.ensures.read in
+    taken_up story (kept_digests old.disk.bytes) old.disk.bytes state c.state.result.now piece r c.args.player.now.routines c.seat.new.self shown
+    c.state.ensures.value belongs read c.in-Ok-read_state.ensures.piece c.seat.ensures.value

@@ -1,0 +1,47 @@
+use Rattle.std.proofs.Common.{◌≡◌, ◌∙◌, sym, subst, arith, length}
+use Rattle.std.proofs.lemmas.Bool.{leb-true}
+use Rattle.paw_stage.proofs.Time.{Passes_map}
+use Rattle.paw_stage.specs.Stage.{file_bytes}
+use Rattle.paw_effects.specs.Story.{Story, story_of}
+use Rattle.paw_host.specs.Replies.{Sessions}
+use Rattle.paw_host.specs.Promise.{Stores}
+use Rattle.paw_host.specs.inner.Names.{asks}
+use Rattle.paw_host.specs.inner.Lines.{Doing}
+use Rattle.paw_host.proofs.Named.{name_short}
+use Rattle.paw_host.proofs.Serving.{does_request, doing_request}
+use Rattle.paw_host.proofs.lines.Seats.answer.Goals as goal
+
+pub begin-requires : goal.begin-requires
+begin-requires g c = record { short = leb-true (length c.args.request.name.now) 16 (name_short c.args.request.name.now c.requires.name) }
+
+pub returns-clause-done : goal.returns-clause-done
+returns-clause-done g c = λ tells X rows sessions may stores.
+    let story : Story = story_of c.args.self.now.player.game X in
+    let name = c.args.request.name.now in
+    let store = c.as_str.result.now in
+    let is = c.as_str.ensures.value ∙ c.set.ensures.value in
+    let old = g.S.Stage.standing c.args.stage.now in
+    let here = subst (λ x. Stores story (sessions name) (file_bytes old x)) (sym is) (stores name c.requires.name) in
+    does_request story c.args.hosted.now.seed sessions old _ (asks c.args.request) store _ _ _ stores c.requires.name is
+    (c.answer.ensures.aside tells) c.begin.ensures.value (c.in-Ok.ensures.meaning tells X rows (sessions name) (may name c.requires.name) here)
+    c.push.ensures.value
+
+pub returns-in-Err-clause-any_moment : goal.returns-in-Err-clause-any_moment
+returns-in-Err-clause-any_moment g c = λ tells X rows sessions may stores.
+    let story : Story = story_of c.args.self.now.player.game X in
+    let name = c.args.request.name.now in
+    let is = c.as_str.ensures.value ∙ c.set.ensures.value in
+    let old = g.S.Stage.standing c.args.stage.now in
+    let here = subst (λ x. Stores story (sessions name) (file_bytes old x)) (sym is) (stores name c.requires.name) in
+    Passes_map _ _ _ _ _ (Doing story c.args.hosted.now.seed sessions _ old) (c.answer.ensures.any_moment tells X rows (sessions name) (may name c.requires.name) here)
+    (λ m i. doing_request story c.args.hosted.now.seed sessions old (asks c.args.request) c.as_str.result.now m stores is i)
+
+pub returns-clause-any_moment : goal.returns-clause-any_moment
+returns-clause-any_moment g c = λ tells X rows sessions may stores.
+    let story : Story = story_of c.args.self.now.player.game X in
+    let name = c.args.request.name.now in
+    let is = c.as_str.ensures.value ∙ c.set.ensures.value in
+    let old = g.S.Stage.standing c.args.stage.now in
+    let here = subst (λ x. Stores story (sessions name) (file_bytes old x)) (sym is) (stores name c.requires.name) in
+    Passes_map _ _ _ _ _ (Doing story c.args.hosted.now.seed sessions _ old) (c.answer.ensures.any_moment tells X rows (sessions name) (may name c.requires.name) here)
+    (λ m i. doing_request story c.args.hosted.now.seed sessions old (asks c.args.request) c.as_str.result.now m stores is i)

@@ -1,0 +1,52 @@
+-- What hosting comes to.
+use Rattle.std.specs.Prelude.{◌≡◌, ℕ, List, [], ◌∷◌, length, Some, None}
+use Rattle.paw_game.specs.Game.{GameLists}
+use Rattle.paw_image.specs.Damage.{bad}
+use Rattle.paw_image.specs.Images.{IsImage}
+use Rattle.paw_effects.specs.Story.{Story, story_of}
+use Rattle.paw_stage.specs.Stage.{Standing}
+use Rattle.paw_stage.specs.Moments.{Moment, moment_of}
+use Rattle.paw_stage.specs.declared.StageCall.{StageCall}
+use Rattle.paw_stage.specs.declared.StageCall.TheVariants as call
+use Rattle.paw_host.specs.Replies.{Sessions}
+use Rattle.paw_host.specs.Promise.{InHost, Answered, BeginsWith}
+use Rattle.paw_host.specs.declared.outcome.HostOutcome.{HostOutcome}
+use Rattle.paw_host.specs.declared.outcome.HostOutcome.TheVariants as outcome
+use Rattle.paw_host.specs.declared.lines.TheConstants.{HOST_LIMIT}
+
+-- What taking lines comes to. Where a call failed, what stands then is a moment of the host.
+abbrev pub Hosts : Story → ℕ → Sessions → Standing → Standing → HostOutcome → Type 0
+Hosts g seed first old new outcome.InputEnded = Answered g seed first old new (length old.lines)
+Hosts g seed first old new (outcome.Long lines) = (lines ≡ HOST_LIMIT) × Answered g seed first old new HOST_LIMIT
+Hosts g seed first old new (outcome.Outside c) = InHost g seed first old (moment_of new)
+Hosts g seed first old new outcome.Memory = new ≡ old
+Hosts g seed first old new _ = ⊥
+
+-- the file of this name holds the image of this game
+abbrev pub Holds : Standing → List ℕ → GameLists → Type 0
+Holds s name g = (bytes : List ℕ) × (s.files name ≡ Some bytes) × IsImage bytes g
+
+-- the file of this name holds no image of a valid game: the first rule that its bytes break is broken at this place
+abbrev pub HoldsDamage : Standing → List ℕ → ℕ → Type 0
+HoldsDamage s name at = (bytes : List ℕ) × (s.files name ≡ Some bytes) × ((g : GameLists) → ¬ IsImage bytes g)
+    × (bad bytes ≡ Some at)
+
+-- What hosting the game of an image file comes to, with these rows of routines, whatever sessions there are; or why it
+-- isn't hosted, with nothing changed.
+pub data HostsFile (rows : List (List ℕ)) (name : List ℕ) (seed : ℕ) (old new : Standing) : HostOutcome → Type 0 where
+  hosts : (g : GameLists) (o : HostOutcome) → Holds old name g →
+      ((first : Sessions) → BeginsWith (story_of g rows) first old → Hosts (story_of g rows) seed first old new o) →
+      HostsFile rows name seed old new o
+  damaged : (at : ℕ) → HoldsDamage old name at → new ≡ old → HostsFile rows name seed old new (outcome.ImageDamaged at)
+  absent : old.files name ≡ None → new ≡ old → HostsFile rows name seed old new (outcome.Outside call.LoadAbsent)
+  failed : new ≡ old → HostsFile rows name seed old new (outcome.Outside call.Load)
+  wanting : new ≡ old → HostsFile rows name seed old new outcome.Memory
+
+-- what stands at each moment of it: that the moments are such ones is what `Come` says
+abbrev pub HostsAtEachMoment : ((Moment → Type 0) → Type 0) → List (List ℕ) → List ℕ → ℕ → Standing → Type 0
+HostsAtEachMoment Come rows name seed old = (g : GameLists) (first : Sessions) → Holds old name g →
+    BeginsWith (story_of g rows) first old → Come (InHost (story_of g rows) seed first old)
+
+-- the two counts of a load
+abbrev pub load_calls : List StageCall
+load_calls = call.Load ∷ call.LoadAbsent ∷ []

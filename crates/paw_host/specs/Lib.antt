@@ -1,0 +1,8 @@
+pub mod Given
+pub mod Names
+pub mod Replies
+pub mod Promise
+pub mod Outcomes
+pub mod Words
+pub mod Hosts
+pub mod inner

@@ -1,0 +1,98 @@
+-- The promise of the host over the files of all names: what was shown, and what a crash leaves of each file, at each
+-- moment and at the end.
+use Rattle.std.specs.Prelude.{◌≡◌, ◌≢◌, ◌⊎◌, ℕ, zero, suc, ◌+◌, ◌≤◌, true, List, [], ◌++◌, length, take, drop, All, Some}
+use Rattle.std.specs.List.{AllByRecursion}
+use Rattle.paw_effects.specs.Story.{Story}
+use Rattle.paw_effects.specs.Standing.{AreBytes}
+use Rattle.paw_stage.specs.Stage.{Standing, file_bytes}
+use Rattle.paw_stage.specs.Moments.{Moment}
+use Rattle.paw_journal.specs.Session.{IsUnmade, recover}
+use Rattle.paw_play.specs.Stands.{Stands, IsPlayedWith}
+use Rattle.paw_play.specs.Laws.{ShowsSome, MayBeLeft}
+use Rattle.paw_host.specs.Names.{Request, request_of, is_name, store_name}
+use Rattle.paw_host.specs.Replies.{Session, Absent, At, Refused, Sessions, replies, sessions_after}
+
+-- A file with these bytes is refused: it isn't empty, and it shows no session of the game and its routines.
+abbrev pub IsRefused : Story → List ℕ → Type 0
+IsRefused g bytes = (bytes ≢ []) × ¬ ShowsSome g bytes
+
+-- The bytes of a name's file, by what there is of the name: none; those of a store that stands for its lines; or those
+-- that are refused.
+abbrev pub Stores : Story → Session → List ℕ → Type 0
+Stores g Absent bytes = bytes ≡ []
+Stores g (At seed lines) bytes = Stands g seed lines bytes
+Stores g (Refused kept) bytes = (bytes ≡ kept) × IsRefused g kept
+
+-- A session may be: it stands at lines that the game may be played with.
+abbrev pub MayBe : Story → Session → Type 0
+MayBe g (At seed lines) = IsPlayedWith g seed lines
+MayBe g _ = Unit {0}
+
+-- The files of all names are those of these sessions.
+abbrev pub AllStore : Story → Sessions → Standing → Type 0
+AllStore g sessions s =
+    (name : List ℕ) → is_name name ≡ true → Stores g (sessions name) (file_bytes s (store_name name))
+
+-- Whatever a crash leaves at this moment of the file of a name, it is that of its session.
+abbrev pub AllLeft : Story → Sessions → Moment → Type 0
+AllLeft g sessions m = (name : List ℕ) → is_name name ≡ true → (bytes : List ℕ) →
+    MayBeLeft (store_name name) m bytes → Stores g (sessions name) bytes
+
+-- A crash may leave these bytes while a name's first session is made: no session, or one that stands at no lines.
+abbrev pub LeftOfMaking : Story → ℕ → Session → Session → List ℕ → Type 0
+LeftOfMaking g seed Absent (At own lines) bytes = IsUnmade (recover bytes) ⊎ Stands g seed [] bytes
+LeftOfMaking g seed _ _ bytes = ⊥
+
+-- Whatever a crash leaves at this moment of the file of a name, it is that of its session before a line or after it; or
+-- the session is being made. Where the line isn't about the name, both are the same.
+abbrev pub EachLeft : Story → ℕ → Sessions → Sessions → Moment → Type 0
+EachLeft g seed before after m = (name : List ℕ) → is_name name ≡ true → (bytes : List ℕ) →
+    MayBeLeft (store_name name) m bytes →
+    Stores g (before name) bytes ⊎ Stores g (after name) bytes ⊎ LeftOfMaking g seed (before name) (after name) bytes
+
+-- the text begins with this one, and is a first part of that one
+abbrev pub IsBetween : List ℕ → List ℕ → List ℕ → Type 0
+IsBetween from to text = ((more : List ℕ) × (text ≡ from ++ more)) × ((rest : List ℕ) × (text ++ rest ≡ to))
+
+-- So many of these lines were taken, and this text was shown for them. Either the last one is at work: the replies to
+-- those before it were shown, and the file of each name is as before it or as after it. Or what it does to the files is
+-- done: the file of each name is as after it, and its reply is being shown.
+abbrev pub KeepsUp : Story → ℕ → Sessions → List (List ℕ) → ℕ → List ℕ → Moment → Type 0
+KeepsUp g seed first lines zero text m = (text ≡ []) × AllLeft g first m
+KeepsUp g seed first lines (suc n) text m =
+    ((text ≡ replies g seed first (take n lines)) × EachLeft g seed (sessions_after g seed first (take n lines))
+    (sessions_after g seed first (take (suc n) lines)) m)
+    ⊎ (IsBetween (replies g seed first (take n lines)) (replies g seed first (take (suc n) lines)) text
+    × AllLeft g (sessions_after g seed first (take (suc n) lines)) m)
+
+-- This file is that of no name which these lines ask for.
+abbrev pub IsNotOf : List (List ℕ) → List ℕ → Type 0
+IsNotOf lines file = AllByRecursion (λ line. (r : Request) → request_of line ≡ Some r → file ≢ store_name r.name) lines
+
+-- A moment of the host. Since the call began so many lines were taken, and a text was shown, with which the files keep
+-- up. No file has changed that isn't that of a name which these lines ask for.
+pub record InHost (g : Story) (seed : ℕ) (first : Sessions) (old : Standing) (m : Moment) : Type 0 where
+  pub taken : ℕ
+  pub text : List ℕ
+  pub there : taken ≤ length old.lines
+  pub asked : m.asked ≡ old.asked + taken
+  pub shown : m.shown ≡ old.shown ++ text
+  pub keeps : KeepsUp g seed first old.lines taken text m
+  pub others : (file : List ℕ) → IsNotOf (take taken old.lines) file → m.files file ≡ old.files file
+
+-- So many lines were taken, and each got its reply. The file of each name is that of its session after them, and no
+-- other file has changed.
+pub record Answered (g : Story) (seed : ℕ) (first : Sessions) (old new : Standing) (n : ℕ) : Type 0 where
+  pub there : n ≤ length old.lines
+  pub lines : new.lines ≡ drop n old.lines
+  pub asked : new.asked ≡ old.asked + n
+  pub shown : new.shown ≡ old.shown ++ replies g seed first (take n old.lines)
+  pub files : AllStore g (sessions_after g seed first (take n old.lines)) new
+  pub others : (file : List ℕ) → IsNotOf (take n old.lines) file → new.files file ≡ old.files file
+
+-- The host may begin with these sessions: each may be, the file of each name is that of its session, and the lines are
+-- bytes.
+pub record BeginsWith (g : Story) (first : Sessions) (old : Standing) : Type 0 where
+  pub may : (name : List ℕ) → is_name name ≡ true → MayBe g (first name)
+  pub files : AllStore g first old
+  pub lines : All AreBytes old.lines

@@ -1,0 +1,234 @@
+// Taking lines: what each asks for is done, and then the reply is shown.
+
+ghost use Rattle.std.specs.Prelude.{◌≡◌, ◌≢◌, ◌≤◌, [], Some, true, codes, length, IfOk, OnOk, IfSome, IfNone};
+ghost use Rattle.sha2.specs.Sha256.{sha256};
+ghost use Rattle.paw_base.specs.declared.limits.TheConstants.{LINE_LIMIT};
+ghost use Rattle.paw_game.specs.Image.{image};
+ghost use Rattle.paw_stage.specs.Disk.{IsStable};
+ghost use Rattle.paw_stage.specs.Across.{Across, EachMoment, Serves};
+ghost use Rattle.paw_routines.specs.Routines.{HaveRows};
+ghost use Rattle.paw_turn.specs.inner.Player.{IsSeated};
+ghost use Rattle.paw_journal.specs.inner.Journal.{failed_stage_call};
+ghost use Rattle.paw_play.specs.Calls.{session_calls};
+ghost use Rattle.paw_play.specs.inner.OnTheWay.{EachStory};
+ghost use Rattle.paw_host.specs.Names.{is_name, request_in};
+ghost use Rattle.paw_host.specs.Replies.{Sessions, reply as spoken};
+ghost use Rattle.paw_host.specs.Promise.{AllStore, BeginsWith, InHost};
+ghost use Rattle.paw_host.specs.Hosts.{Hosts};
+ghost use Rattle.paw_host.specs.Outcomes.{failed_call, failed_so_far};
+ghost use Rattle.paw_host.specs.declared.outcome.HostOutcome.TheVariants as outcome;
+ghost use Rattle.paw_host.specs.inner.Names.{asks};
+ghost use Rattle.paw_host.specs.inner.Answers.{answer_calls, IsMeasureOf};
+ghost use Rattle.paw_host.specs.inner.Lines.{AllMay, Does, Doing, EachServing, ServesTo};
+
+use crate::answer::{Hosted, answer};
+use crate::names::{Request, StoreName, request_in};
+use crate::outcome::HostOutcome;
+use crate::reply::{Reply, begin};
+use paw_base::fault::NoRoom;
+use paw_base::limits::LINE_LIMIT;
+use paw_game::tables::Tables;
+use paw_journal::Room;
+use paw_play::show::show;
+use paw_routines::routines::Routines;
+use paw_stage::{Asked, Stage, StageCall};
+use paw_turn::Player;
+use std::alloc::Global;
+
+/// The most lines that the host takes.
+pub const HOST_LIMIT: u64 = 1_000_000_000;
+
+/// Makes the reply to a line of another form.
+fn refuse_line(reply: &mut Reply)
+    ensures value { reply.new ≡ spoken [] (codes "bad line") }
+{
+    begin(reply, b"");
+    reply.push(b"bad line\n");
+}
+
+/// What every session is played with, one after the other: a player, a journal's room, the name of the store, and the
+/// reply. It takes all its memory when it is made.
+#[derive(Drop)]
+pub(crate) struct Seats<'a, T: Tables, F: Fn(u8, u8) -> u8> {
+    player: Player<'a, T, F>,
+    room: Room,
+    store: StoreName,
+    reply: Reply,
+}
+
+impl<'a, T: Tables, F: Fn(u8, u8) -> u8> Seats<'a, T, F> {
+    /// The seats of a game.
+    ///
+    /// # Errors
+    /// NoRoom where there is no memory for them.
+    pub(crate) fn new(
+        alloc: Global,
+        tables: &'a T,
+        routines: &'a Routines<F>,
+        seed: u64,
+    ) -> Result<Seats<'a, T, F>, NoRoom>
+        ensures seated { IfOk result (λ s. IsSeated s.player) }
+        ensures game { IfOk result (λ s. s.player.game ≡ T.game tables.now) }
+        ensures routines { IfOk result (λ s. s.player.routines ≡ routines.now) }
+    {
+        Ok(Seats {
+            player: Player::new(alloc, tables, routines, seed)?,
+            room: Room::new(alloc)?,
+            store: StoreName::new(alloc)?,
+            reply: Reply::new(alloc)?,
+        })
+    }
+
+    /// Does what is asked for, and makes the reply.
+    fn answer<S: Stage>(
+        &mut self,
+        stage: &mut S,
+        hosted: &Hosted<'_, T>,
+        request: Request<'_>,
+    ) -> Result<(), StageCall>
+        requires seated { IsSeated self.old.player }
+        requires rows { HaveRows F.Fn self.old.player.routines }
+        requires same { self.old.player.game ≡ T.game hosted.now.tables.now }
+        requires digest { hosted.now.game ≡ sha256 (image self.old.player.game) }
+        requires measured { IsMeasureOf F.Fn self.old.player.routines hosted.now.rules }
+        requires name { is_name request.name.now ≡ true }
+        requires short { IfSome request.text (λ t. length t.now ≤ LINE_LIMIT) }
+        requires synced { S.Tells stage.old → IsStable (S.standing stage.old).disk }
+        ensures seated { IsSeated self.new.player }
+        ensures game { self.new.player.game ≡ self.old.player.game }
+        ensures routines { self.new.player.routines ≡ self.old.player.routines }
+        ensures serves { Serves S.Stage answer_calls (failed_stage_call result) stage.old stage.new }
+        ensures synced { S.Tells stage.old → OnOk result (IsStable (S.standing stage.new).disk) }
+        ensures done { Across S.Stage stage.old stage.new (λ old new.
+            EachStory F.Fn self.old.player.routines self.old.player.game (λ g. (sessions : Sessions) →
+            AllMay g sessions → AllStore g sessions old →
+            OnOk result (Does g hosted.now.seed sessions (Some (asks request)) self.new.reply old new))) }
+        ensures any_moment { Across S.Stage stage.old stage.new (λ old new.
+            EachStory F.Fn self.old.player.routines self.old.player.game (λ g. (sessions : Sessions) →
+            AllMay g sessions → AllStore g sessions old →
+            EachMoment S.Stage stage.old stage.new (Doing g hosted.now.seed sessions (Some (asks request)) old))) }
+    {
+        begin(&mut self.reply, request.name);
+        self.store.set(request.name);
+        match answer(
+            stage,
+            &mut self.player,
+            &mut self.room,
+            &mut self.reply,
+            hosted,
+            self.store.as_str(),
+            request.text,
+        ) {
+            Ok(_) => {}
+            Err(call) => return Err(call),
+        }
+        self.reply.push(b"\n");
+        Ok(())
+    }
+
+    /// Does what a line asks for, and makes the reply.
+    fn reply<S: Stage>(
+        &mut self,
+        stage: &mut S,
+        hosted: &Hosted<'_, T>,
+        line: &[u8],
+    ) -> Result<(), StageCall>
+        requires seated { IsSeated self.old.player }
+        requires rows { HaveRows F.Fn self.old.player.routines }
+        requires same { self.old.player.game ≡ T.game hosted.now.tables.now }
+        requires digest { hosted.now.game ≡ sha256 (image self.old.player.game) }
+        requires measured { IsMeasureOf F.Fn self.old.player.routines hosted.now.rules }
+        requires short { length line.now ≤ LINE_LIMIT }
+        requires synced { S.Tells stage.old → IsStable (S.standing stage.old).disk }
+        ensures seated { IsSeated self.new.player }
+        ensures game { self.new.player.game ≡ self.old.player.game }
+        ensures routines { self.new.player.routines ≡ self.old.player.routines }
+        ensures serves { Serves S.Stage answer_calls (failed_stage_call result) stage.old stage.new }
+        ensures synced { S.Tells stage.old → OnOk result (IsStable (S.standing stage.new).disk) }
+        ensures done { Across S.Stage stage.old stage.new (λ old new.
+            EachStory F.Fn self.old.player.routines self.old.player.game (λ g. (sessions : Sessions) →
+            AllMay g sessions → AllStore g sessions old →
+            OnOk result (Does g hosted.now.seed sessions (request_in line.now) self.new.reply old new))) }
+        ensures any_moment { Across S.Stage stage.old stage.new (λ old new.
+            EachStory F.Fn self.old.player.routines self.old.player.game (λ g. (sessions : Sessions) →
+            AllMay g sessions → AllStore g sessions old →
+            EachMoment S.Stage stage.old stage.new (Doing g hosted.now.seed sessions (request_in line.now) old))) }
+    {
+        match request_in(line) {
+            Some(request) => self.answer(stage, hosted, request),
+            None => {
+                refuse_line(&mut self.reply);
+                Ok(())
+            }
+        }
+    }
+
+    /// Asks for a line, does what it asks for, and shows the reply. None where a further line may follow.
+    fn serve<S: Stage>(&mut self, stage: &mut S, hosted: &Hosted<'_, T>) -> Option<HostOutcome>
+        requires seated { IsSeated self.old.player }
+        requires rows { HaveRows F.Fn self.old.player.routines }
+        requires same { self.old.player.game ≡ T.game hosted.now.tables.now }
+        requires digest { hosted.now.game ≡ sha256 (image self.old.player.game) }
+        requires measured { IsMeasureOf F.Fn self.old.player.routines hosted.now.rules }
+        requires synced { S.Tells stage.old → IsStable (S.standing stage.old).disk }
+        ensures seated { IsSeated self.new.player }
+        ensures game { self.new.player.game ≡ self.old.player.game }
+        ensures routines { self.new.player.routines ≡ self.old.player.routines }
+        ensures form { IfSome result (λ o. o ≢ outcome.Usage) }
+        ensures serves { Serves S.Stage session_calls (failed_so_far result) stage.old stage.new }
+        ensures synced { S.Tells stage.old → IfNone result (IsStable (S.standing stage.new).disk) }
+        ensures meaning { Across S.Stage stage.old stage.new (λ old new.
+            EachStory F.Fn self.old.player.routines self.old.player.game (λ g.
+            EachServing g hosted.now.seed old (λ first start n. ServesTo g hosted.now.seed first start new n result))) }
+        ensures any_moment { Across S.Stage stage.old stage.new (λ old new.
+            EachStory F.Fn self.old.player.routines self.old.player.game (λ g.
+            EachServing g hosted.now.seed old (λ first start n.
+            EachMoment S.Stage stage.old stage.new (InHost g hosted.now.seed first start)))) }
+    {
+        let mut line = [0u8; LINE_LIMIT];
+        let n = match stage.ask(&mut line) {
+            Asked::Line(n) => n as usize,
+            Asked::End => return Some(HostOutcome::InputEnded),
+            Asked::Failed => return Some(HostOutcome::Outside(StageCall::Ask)),
+        };
+        match self.reply(stage, hosted, &line[..n]) {
+            Ok(_) => {}
+            Err(call) => return Some(HostOutcome::Outside(call)),
+        }
+        // A reply is never empty, so this is one call.
+        match show(stage, self.reply.bytes()) {
+            Ok(_) => None,
+            Err(_) => Some(HostOutcome::Outside(StageCall::Show)),
+        }
+    }
+
+    /// Takes lines until none is left, at most as many as the host takes.
+    pub(crate) fn serve_all<S: Stage>(
+        &mut self,
+        stage: &mut S,
+        hosted: &Hosted<'_, T>,
+    ) -> HostOutcome
+        requires seated { IsSeated self.old.player }
+        requires rows { HaveRows F.Fn self.old.player.routines }
+        requires same { self.old.player.game ≡ T.game hosted.now.tables.now }
+        requires digest { hosted.now.game ≡ sha256 (image self.old.player.game) }
+        requires measured { IsMeasureOf F.Fn self.old.player.routines hosted.now.rules }
+        requires synced { S.Tells stage.old → IsStable (S.standing stage.old).disk }
+        ensures form { result ≢ outcome.Usage }
+        ensures serves { Serves S.Stage session_calls (failed_call result) stage.old stage.new }
+        ensures meaning { Across S.Stage stage.old stage.new (λ old new.
+            EachStory F.Fn self.old.player.routines self.old.player.game (λ g. (first : Sessions) →
+            BeginsWith g first old → Hosts g hosted.now.seed first old new result)) }
+        ensures any_moment { Across S.Stage stage.old stage.new (λ old new.
+            EachStory F.Fn self.old.player.routines self.old.player.game (λ g. (first : Sessions) →
+            BeginsWith g first old →
+            EachMoment S.Stage stage.old stage.new (InHost g hosted.now.seed first old))) }
+    {
+        for _ in 0..HOST_LIMIT {
+            if let Some(outcome) = self.serve(stage, hosted) {
+                return outcome;
+            }
+        }
+        HostOutcome::Long { lines: HOST_LIMIT }
+    }
+}

@@ -1,0 +1,54 @@
+// The game of an image file.
+
+ghost use Rattle.std.specs.Prelude.{◌≡◌, ◌≢◌, ℕ, List, None, Some, IfOk, IfErr};
+ghost use Rattle.paw_stage.specs.Across.{Across, Serves};
+ghost use Rattle.paw_stage.specs.inner.Across.{Throughout};
+ghost use Rattle.paw_stage.specs.Moments.{Still};
+ghost use Rattle.paw_image.specs.Images.{IsImage};
+ghost use Rattle.paw_image.specs.inner.Views.{game_read};
+ghost use Rattle.paw_host.specs.Hosts.{load_calls};
+ghost use Rattle.paw_host.specs.inner.Opens.{LoadsSome, LoadsNone, GivesNone, failed_or};
+ghost use Rattle.paw_host.specs.declared.outcome.HostOutcome.TheVariants as outcome;
+
+use crate::outcome::HostOutcome;
+use paw_base::limits::IMAGE_LIMIT;
+use paw_image::refusal::ImageRefusal;
+use paw_image::view::View;
+use paw_stage::{LoadRefusal, Stage, StageCall};
+use std::alloc::Global;
+
+/// The bytes of an image file, one more than an image may have where it is longer; or why there are none.
+pub(crate) fn load<S: Stage>(
+    alloc: Global,
+    stage: &mut S,
+    name: &str,
+) -> Result<Vec<u8>, HostOutcome>
+    ensures serves { Serves S.Stage load_calls (failed_or result) stage.old stage.new }
+    ensures form { IfErr result (λ o. o ≢ outcome.Usage) }
+    ensures some { Across S.Stage stage.old stage.new (λ old new.
+        IfOk result (λ v. LoadsSome name.now old new v.items)) }
+    ensures none { Across S.Stage stage.old stage.new (λ old new. IfErr result (LoadsNone name.now old new)) }
+    ensures time { Throughout S.Stage stage.old stage.new Still }
+{
+    match stage.load(alloc, name, IMAGE_LIMIT) {
+        Ok(bytes) => Ok(bytes),
+        Err(LoadRefusal::Absent) => Err(HostOutcome::Outside(StageCall::LoadAbsent)),
+        Err(LoadRefusal::Failed) => Err(HostOutcome::Outside(StageCall::Load)),
+        Err(LoadRefusal::Memory) => Err(HostOutcome::Memory),
+    }
+}
+
+/// The game whose image the bytes are, read in place, or why there is none.
+pub(crate) fn view_in<'a>(alloc: Global, bytes: &'a [u8]) -> Result<View<'a>, HostOutcome>
+    ensures found { IfOk result (λ view. IsImage bytes.now (game_read view)) }
+    ensures bytes { IfOk result (λ view. view ≡ bytes.now) }
+    ensures none { IfErr result (GivesNone bytes.now) }
+    ensures form { IfErr result (λ o. o ≢ outcome.Usage) }
+    ensures fine { failed_or result ≡ None }
+{
+    match View::new(alloc, bytes) {
+        Ok(view) => Ok(view),
+        Err(ImageRefusal::Damaged { at }) => Err(HostOutcome::ImageDamaged { at }),
+        Err(ImageRefusal::Memory) => Err(HostOutcome::Memory),
+    }
+}

@@ -1,0 +1,417 @@
+// Hosting over stages in memory.
+
+ghost use Rattle.paw_stage.specs.Disk.{IsStable};
+
+use crate::host::host;
+use crate::outcome::HostOutcome;
+use crate::routines::{ROUTINES, give};
+use crate::tests::images::{HALL, OTHER};
+use paw_routines::routines::Routines;
+use paw_stage::{CallKind, FailStage, MemoryStage, Stage, StageCall, StopStage};
+use std::alloc::{AllocError, Global};
+use std::process::Abort;
+use std::test::Fail;
+
+mod images;
+
+/// What is shown before the first line in the hall, and what GET LAMP and I bring there.
+const FIRST: &str = "A hall.\nI can also see:\nlamp\nsword\nbag\nWhat now?\n> ";
+
+const TAKES: &str = "I take the lamp.\nWhat now?\n> ";
+
+const HAS: &str = "I have:\nlamp\ncoat\nWhat now?\n> ";
+
+/// More bytes than any file here has.
+const MOST: usize = 200_000;
+
+/// Syncs the attached store, or does nothing where there is none, so that the host may begin.
+fn settle<S: Stage>(rt: &impl Abort, stage: &mut S)
+    ensures synced { S.Tells stage.new → IsStable (S.standing stage.new).disk }
+{
+    assert!(rt; stage.sync().is_ok());
+}
+
+// What hosting with these words comes to, with the program's routines, where nothing is unsynced.
+fn host_words<S: Stage>(
+    alloc: Global,
+    stage: &mut S,
+    words: &[&str],
+) -> Result<HostOutcome, AllocError>
+    requires synced { S.Tells stage.old → IsStable (S.standing stage.old).disk }
+{
+    let mut owned = Vec::new(alloc);
+    for word in words {
+        owned.push(String::from_str(alloc, word)?)?;
+    }
+    let routines = Routines::new(ROUTINES, give);
+    Ok(host(alloc, stage, &routines, owned.as_slice()))
+}
+
+// The hall is hosted.
+fn run<S: Stage>(rt: &impl Abort, alloc: Global, stage: &mut S) -> Result<HostOutcome, AllocError> {
+    settle(rt, stage);
+    host_words(alloc, stage, &["hall", "7"])
+}
+
+// A stage with both games and these lines.
+fn stage_of(alloc: Global, lines: &[&[u8]]) -> Result<MemoryStage, Fail> {
+    let mut stage = MemoryStage::new(alloc, 400, 8_000_000)?;
+    stage.add_file("hall", HALL)?;
+    stage.add_file("other", OTHER)?;
+    for line in lines {
+        stage.add_line(alloc, line)?;
+    }
+    Ok(stage)
+}
+
+// The text of replies: names and bodies, one after the other.
+fn replies(alloc: Global, all: &[(&str, &str)]) -> Result<String, AllocError> {
+    let mut text = String::new(alloc);
+    for (name, body) in all {
+        for part in ["[", name, "]\n", body, "\n"] {
+            text.push_str(part)?;
+        }
+    }
+    Ok(text)
+}
+
+// These lines get these replies, behind what was shown before.
+fn shows(
+    rt: &impl Abort,
+    alloc: Global,
+    stage: &mut MemoryStage,
+    lines: &[&[u8]],
+    all: &[(&str, &str)],
+) -> Result<(), Fail> {
+    let before = stage.shown().len();
+    for line in lines {
+        stage.add_line(alloc, line)?;
+    }
+    assert_eq!(rt; run(rt, alloc, stage)?, HostOutcome::InputEnded);
+    let wanted = replies(alloc, all)?;
+    assert_eq!(rt;
+        &stage.shown()[before.min(stage.shown().len())..],
+        wanted.as_bytes()
+    );
+    Ok(())
+}
+
+#[test]
+fn each_player_plays_as_if_alone(rt: HostRuntime) -> Result<(), Fail> {
+    let alloc = rt.alloc();
+    let mut stage = stage_of(alloc, &[])?;
+    let mut both = String::from_str(alloc, FIRST)?;
+    both.push_str(TAKES)?;
+    shows(
+        &rt,
+        alloc,
+        &mut stage,
+        &[b"ann GET LAMP", b"bob", b"bob LOOK", b"ann I"],
+        &[
+            ("ann", both.as_str()),
+            ("bob", FIRST),
+            ("bob", FIRST),
+            ("ann", HAS),
+        ],
+    )?;
+    shows(
+        &rt,
+        alloc,
+        &mut stage,
+        &[b"ann DEEP", b"ann WAIT", b"Ann X", b"bob", b"ann"],
+        &[
+            ("ann", "too deep"),
+            ("ann", "OK.\nWhat now?\n> "),
+            ("", "bad line"),
+            ("bob", FIRST),
+            ("ann", "OK.\nWhat now?\n> "),
+        ],
+    )
+}
+
+#[test]
+fn a_session_that_is_over_takes_no_text(rt: HostRuntime) -> Result<(), Fail> {
+    let alloc = rt.alloc();
+    let mut stage = stage_of(alloc, &[])?;
+    shows(
+        &rt,
+        alloc,
+        &mut stage,
+        &[
+            b"ann",
+            b"ann QUIT",
+            b"ann y",
+            b"ann no",
+            b"ann LOOK",
+            b"ann",
+        ],
+        &[
+            ("ann", FIRST),
+            ("ann", "Are you sure? "),
+            ("ann", "Another go? "),
+            ("ann", "Goodbye.\n"),
+            ("ann", "over"),
+            ("ann", "Goodbye.\n"),
+        ],
+    )
+}
+
+#[test]
+fn lines_of_another_form_attach_nothing(rt: HostRuntime) -> Result<(), Fail> {
+    let alloc = rt.alloc();
+    let long = [b'a'; 300];
+    let lines: [&[u8]; 12] = [
+        b"",
+        b" ",
+        b" ann",
+        b"Ann",
+        b"an.n",
+        b"../ann",
+        b"ann/x LOOK",
+        b"abcdefghijklmnopq",
+        b"abcdefghijklmnopq LOOK",
+        b"ann\x00 LOOK",
+        b"\xc3\xa4nn",
+        &long,
+    ];
+    for line in lines {
+        let mut stage = stage_of(alloc, &[line])?;
+        assert_eq!(rt; run(&rt, alloc, &mut stage)?, HostOutcome::InputEnded);
+        assert_eq!(rt; stage.shown(), b"[]\nbad line\n".as_slice());
+        // The sync before, the load, the line, the show, and the end: no store.
+        assert_eq!(rt; stage.calls(), 5);
+    }
+    Ok(())
+}
+
+#[test]
+fn names_and_texts_are_parted_at_the_first_space(rt: HostRuntime) -> Result<(), Fail> {
+    let alloc = rt.alloc();
+    let mut stage = stage_of(alloc, &[])?;
+    let mut twice = String::from_str(alloc, FIRST)?;
+    twice.push_str("What now?\n> ")?;
+    shows(
+        &rt,
+        alloc,
+        &mut stage,
+        &[b"abcdefghijklmno0 ", b"abcdefghijklmno0", b"9  LOOK"],
+        &[
+            ("abcdefghijklmno0", twice.as_str()),
+            ("abcdefghijklmno0", "What now?\n> "),
+            (
+                "9",
+                "A hall.\nI can also see:\nlamp\nsword\nbag\nWhat now?\n> A hall.\nI can also see:\nlamp\nsword\nbag\nWhat now?\n> ",
+            ),
+        ],
+    )
+}
+
+// A store with these bytes is refused, and keeps them.
+fn refuses(rt: &impl Abort, alloc: Global, bytes: &[u8]) -> Result<(), Fail> {
+    let mut stage = stage_of(alloc, &[b"eve", b"eve LOOK"])?;
+    stage.add_file("eve.paw", bytes)?;
+    assert_eq!(rt; run(rt, alloc, &mut stage)?, HostOutcome::InputEnded);
+    assert_eq!(rt;
+        stage.shown(),
+        b"[eve]\nrefused\n[eve]\nrefused\n".as_slice()
+    );
+    assert_eq!(rt; stage.written(), 0);
+    let left = stage.load(alloc, "eve.paw", MOST)?;
+    assert_eq!(rt; left.as_slice(), bytes);
+    Ok(())
+}
+
+// The session of a player after these lines.
+fn session_after(
+    rt: &impl Abort,
+    alloc: Global,
+    image: &str,
+    lines: &[&[u8]],
+) -> Result<Vec<u8>, Fail> {
+    let mut stage = stage_of(alloc, lines)?;
+    settle(rt, &mut stage);
+    let outcome = host_words(alloc, &mut stage, &[image, "7"])?;
+    assert_eq!(rt; outcome, HostOutcome::InputEnded);
+    Ok(stage.load(alloc, "ann.paw", MOST)?)
+}
+
+#[test]
+fn stores_that_give_no_session_are_refused(rt: HostRuntime) -> Result<(), Fail> {
+    let alloc = rt.alloc();
+    refuses(&rt, alloc, b"x")?;
+    let other = session_after(&rt, alloc, "other", &[b"ann"])?;
+    refuses(&rt, alloc, other.as_slice())?;
+    let good = session_after(&rt, alloc, "hall", &[b"ann"])?;
+    for (place, byte) in [(0usize, 0u8), (2, 3), (448, 200), (86_528, 200)] {
+        let mut bad = good.as_slice().to_vec(alloc)?;
+        if let Some(spot) = bad.as_mut_slice().get_mut(place) {
+            *spot = byte;
+        }
+        // What stands in the slot that isn't in use is no fault.
+        if place < 86_208 {
+            refuses(&rt, alloc, bad.as_slice())?;
+        }
+    }
+    Ok(())
+}
+
+#[test]
+fn words_and_images(rt: HostRuntime) -> Result<(), Fail> {
+    let alloc = rt.alloc();
+    let forms: [(&[&str], HostOutcome, u8); 9] = [
+        (&[], HostOutcome::Usage, 1),
+        (&["hall"], HostOutcome::Usage, 1),
+        (&["", "7"], HostOutcome::Usage, 1),
+        (&["hall", "x"], HostOutcome::Usage, 1),
+        (&["hall", "+7"], HostOutcome::Usage, 1),
+        (&["hall", "18446744073709551616"], HostOutcome::Usage, 1),
+        (&["hall", "7", "8"], HostOutcome::Usage, 1),
+        (
+            &["none", "7"],
+            HostOutcome::Outside(StageCall::LoadAbsent),
+            7,
+        ),
+        (&["ann.paw", "7"], HostOutcome::ImageDamaged { at: 0 }, 3),
+    ];
+    for (words, wanted, status) in forms {
+        let mut stage = stage_of(alloc, &[b"ann"])?;
+        stage.add_file("ann.paw", b"x")?;
+        settle(&rt, &mut stage);
+        let outcome = host_words(alloc, &mut stage, words)?;
+        assert_eq!(rt; outcome, wanted);
+        assert_eq!(rt; outcome.status(), status);
+        assert!(rt; stage.shown().is_empty());
+    }
+    Ok(())
+}
+
+/// The lines of two players, between which calls stop; what each is answered once they are all taken.
+const LINES: [&[u8]; 4] = [b"ann GET LAMP", b"bob", b"ann I", b"bob GET LAMP"];
+
+// What a player may be answered after so many of these lines.
+fn pieces(name: &[u8], taken: usize) -> &'static str {
+    match (name, taken) {
+        (b"ann.paw", 0) | (b"bob.paw", 0 | 1) => "",
+        (b"ann.paw", 1 | 2) => TAKES,
+        (b"ann.paw", _) => HAS,
+        (_, 4) => TAKES,
+        _ => FIRST,
+    }
+}
+
+// What these bytes of a player's store are answered with.
+fn answered(rt: &impl Abort, alloc: Global, bytes: &[u8]) -> Result<Vec<u8>, Fail> {
+    let mut stage = stage_of(alloc, &[b"eve"])?;
+    stage.add_file("eve.paw", bytes)?;
+    assert_eq!(rt; run(rt, alloc, &mut stage)?, HostOutcome::InputEnded);
+    let shown = stage.shown();
+    assert!(rt; shown.starts_with(b"[eve]\n") && shown.ends_with(b"\n"));
+    Ok(shown[6..shown.len() - 1].to_vec(alloc)?)
+}
+
+// Whether a crash may leave a store that is answered so while this line of a player is at work: as before it, as after
+// it, or, where the session is made by it, refused, or at its first prompt.
+fn may_be(name: &[u8], taken: usize, body: &[u8]) -> bool {
+    let before = pieces(name, taken.saturating_sub(1));
+    let after = pieces(name, taken);
+    body == before.as_bytes()
+        || body == after.as_bytes()
+        || body == FIRST.as_bytes() && before.is_empty()
+        || body == b"refused".as_slice() && before.is_empty()
+}
+
+#[test]
+fn a_crash_behind_any_call_loses_no_turn(rt: HostRuntime) -> Result<(), Fail> {
+    let alloc = rt.alloc();
+    let mut stage = stage_of(alloc, &LINES)?;
+    assert_eq!(rt; run(&rt, alloc, &mut stage)?, HostOutcome::InputEnded);
+    let mut name = Vec::new(alloc);
+    let mut taken = 0usize;
+    let mut call = 0u64;
+    for number in 0..400 {
+        let Some((kind, named)) = stage.call(number) else {
+            break;
+        };
+        match kind {
+            CallKind::Add => continue,
+            CallKind::Take => taken = taken.saturating_add(1),
+            CallKind::Attach => name = named.to_vec(alloc)?,
+            _ => {}
+        }
+        for pick in 0..3u8 {
+            if let Some(left) = stage.crash_after(alloc, call, pick)? {
+                let body = answered(&rt, alloc, left.as_slice())?;
+                // Between a line that is taken and its attach, the store of the line before it is attached.
+                let line = if kind == CallKind::Take {
+                    taken - 1
+                } else {
+                    taken
+                };
+                assert!(rt;
+                    may_be(name.as_slice(), line, body.as_slice()),
+                    "{call} {pick}"
+                );
+            }
+        }
+        call = call.saturating_add(1);
+    }
+    assert_eq!(rt; stage.calls(), call);
+    Ok(())
+}
+
+// A player's line of its own, over what a run left of the store, is answered as after these lines, or as after one less.
+fn left_over<S: Stage>(
+    rt: &impl Abort,
+    alloc: Global,
+    stage: &mut S,
+    name: &str,
+    shown: &[u8],
+) -> Result<(), Fail> {
+    let taken = LINES.len().min(
+        shown
+            .windows(2)
+            .filter(|pair| *pair == b"]\n".as_slice())
+            .count(),
+    );
+    let left = match stage.load(alloc, name, MOST) {
+        Ok(left) => left,
+        Err(_) => Vec::new(alloc),
+    };
+    let body = answered(rt, alloc, left.as_slice())?;
+    let fresh = left.is_empty() && body.as_slice() == FIRST.as_bytes();
+    assert!(rt;
+        fresh
+            || may_be(name.as_bytes(), taken, body.as_slice())
+            || may_be(
+                name.as_bytes(),
+                (taken + 1).min(LINES.len()),
+                body.as_slice()
+            ),
+        "{name} {taken}"
+    );
+    Ok(())
+}
+
+#[test]
+fn each_call_stops_and_fails_alone(rt: HostRuntime) -> Result<(), Fail> {
+    let alloc = rt.alloc();
+    let mut whole = stage_of(alloc, &LINES)?;
+    assert_eq!(rt; run(&rt, alloc, &mut whole)?, HostOutcome::InputEnded);
+    // The first call of all is the sync before, which may not fail.
+    for number in 1..whole.calls() {
+        let mut stage = StopStage::new(stage_of(alloc, &LINES)?, number);
+        let outcome = run(&rt, alloc, &mut stage)?;
+        assert!(rt; matches!(outcome, HostOutcome::Outside(_)));
+        assert!(rt; whole.shown().starts_with(stage.inner().shown()));
+        let listed = [number].to_vec(alloc)?;
+        let mut stage = FailStage::new(stage_of(alloc, &LINES)?, listed);
+        let outcome = run(&rt, alloc, &mut stage)?;
+        assert!(rt; matches!(outcome, HostOutcome::Outside(_)));
+        let shown = stage.inner().shown().to_vec(alloc)?;
+        assert!(rt; whole.shown().starts_with(shown.as_slice()));
+        for name in ["ann.paw", "bob.paw"] {
+            left_over(&rt, alloc, &mut stage, name, shown.as_slice())?;
+        }
+    }
+    Ok(())
+}
