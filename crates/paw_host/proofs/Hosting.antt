@@ -1,21 +1,26 @@
 -- The host, from line to line: what stands, and what stands at each moment.
-use Rattle.std.proofs.Common.{◌≡◌, ◌≢◌, ◌⊎◌, inl, inr, ℕ, zero, suc, ◌+◌, ◌<◌, ◌≤◌, List, [], ◌∷◌, ◌++◌, Option, Some, None, true, false}
-use Rattle.std.proofs.Common.{refl, sym, ap, ◌∙◌, subst, length, take, drop, arith, append_assoc, All}
-use Rattle.std.proofs.lemmas.List.{append-nil, take-append-drop, length-append}
-use Rattle.std.proofs.lemmas.List.Elements.{All-append, All-cons, All-nil, All-drop}
+use Rattle.std.proofs.Common.{◌≡◌, ◌≢◌, ◌⊎◌, inl, inr, ℕ, zero, suc, ◌+◌, ◌<◌, ◌≤◌, ◌^◌, ◌==◌, List, [], ◌∷◌, ◌++◌, Option, Some, None, Bool, true, false}
+use Rattle.std.proofs.Common.{refl, sym, ap, ◌∙◌, subst, length, take, drop, arith, append_assoc}
+use Rattle.std.specs.Prelude.{All, position, if◌then◌else◌}
+use Rattle.std.proofs.lemmas.List.{append-nil, take-append-drop, length-drop, length-take}
+use Rattle.std.proofs.lemmas.List.Elements.{All-drop, All-take, All-head}
 use Rattle.paw_base.specs.declared.limits.TheConstants.{LINE_LIMIT}
 use Rattle.paw_effects.specs.Story.{Story}
 use Rattle.paw_effects.specs.Standing.{AreBytes}
+use Rattle.paw_reading.specs.Bounds.{ValidStory}
 use Rattle.paw_stage.specs.Disk.{IsStable}
-use Rattle.paw_stage.specs.Stage.{Standing, file_bytes, with_shown}
+use Rattle.paw_stage.specs.Stage.{Standing, IsCut, file_bytes, with_shown}
 use Rattle.paw_stage.specs.Moments.{Moment, Passes, moment_of, InAsk, InShow}
 use Rattle.paw_stage.specs.declared.Asked.TheVariants as asked
-use Rattle.paw_play.specs.Laws.{MayBeLeft}
 use Rattle.paw_play.proofs.Walking.{drop_more, drop_all}
-use Rattle.paw_host.specs.Names.{Request, request_of, is_name, store_name}
-use Rattle.paw_host.specs.Replies.{Session, Sessions, reply_to, sessions_with, sessions_after, replies}
-use Rattle.paw_host.specs.Promise.{Stores, AllStore, AllLeft, EachLeft, KeepsUp, IsBetween, IsNotOf, InHost, Answered, BeginsWith}
-use Rattle.paw_host.specs.inner.Lines.{AllMay, IsNotFor, IsDone, InWork, IsServing}
+use Rattle.paw_host.specs.Names.{Request, parted, parted_at, request_in, request_of, is_name, store_name}
+use Rattle.paw_host.specs.Replies.{Sessions, reply_to, sessions_with, sessions_after, replies}
+use Rattle.paw_host.specs.Promise.{Stores, AllStore, AllLeft, EachLeft, KeepsUp, IsNotOf, InHost, Answered, BeginsWith}
+use Rattle.paw_host.specs.Hosts.{Hosts}
+use Rattle.paw_host.specs.declared.outcome.HostOutcome.{HostOutcome}
+use Rattle.paw_host.specs.declared.outcome.HostOutcome.TheVariants as outcome
+use Rattle.paw_host.specs.inner.Lines.{AllMay, Does, Doing, IsDone, InWork, IsServing, ServesTo}
+use Rattle.paw_host.proofs.Continuing.{IfLine, all_may}
 use Rattle.paw_host.proofs.Reaching.{FilesHold, rest_left}
 use Rattle.paw_host.proofs.Serving.{sessions_more, replies_more, not_of_more}
 
@@ -23,6 +28,36 @@ use Rattle.paw_host.proofs.Serving.{sessions_more, replies_more, not_of_more}
 all_left : (g : Story) (sessions : Sessions) (s : Standing) → AllStore g sessions s → IsStable s.disk → FilesHold s → AllLeft g sessions (moment_of s)
 all_left g sessions s stores settled holds name is bytes may =
     subst (Stores g (sessions name)) (sym (rest_left s settled holds (store_name name) bytes may)) (stores name is)
+
+-- ---- what a line asks for ----
+
+-- what the first bytes of a line ask for is what the line does
+pub cut_request : (line into given : List ℕ) (n : ℕ) → IsCut line into n → given ≡ take n into → request_in given ≡ request_of line
+unfolding request_of
+cut_request line into given n cut e = ap request_in (e ∙ cut.same)
+
+text_line : (line : List ℕ) (at : Option ℕ) → length line ≤ LINE_LIMIT → AreBytes line → IfLine (parted_at line at).text
+text_line line None short bytes = tt
+text_line line (Some at) short bytes =
+    record { short = omega (arith, length-drop (at + 1) line, short); bytes = All-drop (λ b. b < 256) (at + 1) line bytes }
+
+request_line : (line : List ℕ) (named : Bool) → is_name (parted line).name ≡ named → length line ≤ LINE_LIMIT → AreBytes line → (r : Request) →
+    (if named then Some (parted line) else None) ≡ Some r → (is_name r.name ≡ true) × IfLine r.text
+request_line line true is short bytes r e =
+    let same : parted line ≡ r = cc in
+    subst (λ (q : Request). (is_name q.name ≡ true) × IfLine q.text) same (is, text_line line (position (λ b. b == 32) line) short bytes)
+request_line line false is short bytes r e = cc
+
+-- a name, and a text that is a line
+asks_line : (line : List ℕ) → AreBytes line → (r : Request) → request_of line ≡ Some r → (is_name r.name ≡ true) × IfLine r.text
+unfolding request_of
+asks_line line bytes r e =
+    request_line (take LINE_LIMIT line) (is_name (parted (take LINE_LIMIT line)).name) refl (omega (arith, length-take LINE_LIMIT line))
+    (All-take (λ b. b < 256) LINE_LIMIT line bytes) r e
+
+-- each line that is left is made of bytes
+line_bytes : (lines : List (List ℕ)) (n : ℕ) (line : List ℕ) (rest : List (List ℕ)) → drop n lines ≡ line ∷ rest → All AreBytes lines → AreBytes line
+line_bytes lines n line rest e all = All-head AreBytes line rest (subst (All AreBytes) e (All-drop AreBytes n lines all))
 
 -- ---- before the first line ----
 
@@ -43,27 +78,28 @@ serving_first g seed first old b settled = record {
 
 -- ---- at a prompt ----
 
+-- the replies to one line more go on behind those before
+grown : (g : Story) (seed : ℕ) (lines : List (List ℕ)) (n : ℕ) (at : Sessions) →
+    (more : List ℕ) × (replies g seed at (take (suc n) lines) ≡ replies g seed at (take n lines) ++ more)
+unfolding replies
+grown g seed [] zero at = ([], refl)
+grown g seed [] (suc n) at = ([], refl)
+grown g seed (l ∷ lines) zero at = (reply_to g seed at (request_of l) ++ [], refl)
+grown g seed (l ∷ lines) (suc n) at =
+    let r = grown g seed lines n (sessions_with g seed at (request_of l)) in (
+      r.0,
+      ap (λ t. reply_to g seed at (request_of l) ++ t) r.1
+          ∙ sym (append_assoc (reply_to g seed at (request_of l)) (replies g seed (sessions_with g seed at (request_of l)) (take n lines)) r.0),
+    )
+
 keeps_now : (g : Story) (seed : ℕ) (first : Sessions) (lines : List (List ℕ)) (n : ℕ) (m : Moment) → AllLeft g (sessions_after g seed first (take n lines)) m →
     KeepsUp g seed first lines n (replies g seed first (take n lines)) m
 unfolding sessions_after replies
 keeps_now g seed first lines zero m h = (refl, h)
-keeps_now g seed first lines (suc n) m h = inr ((no_more, ([], append-nil (replies g seed first (take (suc n) lines)))), h)
-  where
-    no_more : (more : List ℕ) × (replies g seed first (take (suc n) lines) ≡ replies g seed first (take n lines) ++ more)
-    no_more = grown lines n first
-      where
-        grown : (ls : List (List ℕ)) (k : ℕ) (at : Sessions) → (more : List ℕ) × (replies g seed at (take (suc k) ls) ≡ replies g seed at (take k ls) ++ more)
-        grown [] zero at = ([], refl)
-        grown [] (suc k) at = ([], refl)
-        grown (l ∷ ls) zero at = (reply_to g seed at (request_of l) ++ [], refl)
-        grown (l ∷ ls) (suc k) at =
-            let r = grown ls k (sessions_with g seed at (request_of l)) in (
-              r.0,
-              ap (λ t. reply_to g seed at (request_of l) ++ t) r.1
-                  ∙ sym (append_assoc (reply_to g seed at (request_of l)) (replies g seed (sessions_with g seed at (request_of l)) (take k ls)) r.0),
-            )
+keeps_now g seed first lines (suc n) m h =
+    inr ((grown g seed lines n first, ([], append-nil (replies g seed first (take (suc n) lines)))), h)
 
-pub at_prompt : (g : Story) (seed : ℕ) (first : Sessions) (old now : Standing) (n : ℕ) → IsServing g seed first old now n → FilesHold now →
+at_prompt : (g : Story) (seed : ℕ) (first : Sessions) (old now : Standing) (n : ℕ) → IsServing g seed first old now n → FilesHold now →
     InHost g seed first old (moment_of now)
 at_prompt g seed first old now n s holds = record {
   taken = n;
@@ -75,6 +111,10 @@ at_prompt g seed first old now n s holds = record {
   others = s.answered.others;
 }
 
+pub still_at_prompt : (g : Story) (seed : ℕ) (first : Sessions) (old now : Standing) (n : ℕ) → IsServing g seed first old now n → FilesHold now →
+    (m : Moment) → m ≡ moment_of now → InHost g seed first old m
+still_at_prompt g seed first old now n s holds m e = subst (InHost g seed first old) (sym e) (at_prompt g seed first old now n s holds)
+
 -- no line is left
 pub all_answered : (g : Story) (seed : ℕ) (first : Sessions) (old now : Standing) (n : ℕ) → IsServing g seed first old now n → now.lines ≡ [] → n ≡ length old.lines
 all_answered g seed first old now n s none = drop_all old.lines n (sym s.answered.lines ∙ none) s.answered.there
@@ -83,21 +123,19 @@ all_answered g seed first old now n s none = drop_all old.lines n (sym s.answere
 
 module _ (g : Story) (seed : ℕ) (first : Sessions) (old now mid : Standing) (n : ℕ) (line : List ℕ) (s : IsServing g seed first old now n) (holds : FilesHold now)
     (left : now.lines ≡ line ∷ mid.lines) (took : mid ≡ record now { lines = mid.lines; asked = now.asked + 1 }) where
-  before : Sessions
+  abbrev before : Sessions
   before = sessions_after g seed first (take n old.lines)
 
-  after : Sessions
+  abbrev after : Sessions
   after = sessions_with g seed before (request_of line)
 
   at : drop n old.lines ≡ line ∷ mid.lines
   at = sym s.answered.lines ∙ left
 
   after_is : sessions_after g seed first (take (suc n) old.lines) ≡ after
-  unfolding before after
   after_is = sessions_more g seed first old.lines n line mid.lines at
 
   more : replies g seed first (take (suc n) old.lines) ≡ replies g seed first (take n old.lines) ++ reply_to g seed before (request_of line)
-  unfolding before
   more = replies_more g seed first old.lines n line mid.lines at
 
   there : suc n ≤ length old.lines
@@ -113,12 +151,10 @@ module _ (g : Story) (seed : ℕ) (first : Sessions) (old now mid : Standing) (n
   others_same f h = ap (λ (q : Standing). q.files f) took ∙ s.answered.others f (not_of_more old.lines n line mid.lines f at h).0
 
   pub mid_stores : AllStore g before mid
-  unfolding before
   mid_stores name is = subst (λ (q : Standing). Stores g (before name) (file_bytes q (store_name name))) (sym took) (s.answered.files name is)
 
   -- while it is asked for, and while what it asks for is done
   pub in_work : (m : Moment) → InWork g seed before after (request_of line) mid m → InHost g seed first old m
-  unfolding before
   in_work m i = record {
     taken = suc n;
     text = replies g seed first (take n old.lines);
@@ -129,7 +165,31 @@ module _ (g : Story) (seed : ℕ) (first : Sessions) (old now mid : Standing) (n
     others = λ f h. i.files f (not_of_more old.lines n line mid.lines f at h).1 ∙ others_same f h;
   }
 
-  module _ (done : Standing) (is : IsDone g after (request_of line) mid done) (settled : IsStable done.disk) (done_holds : FilesHold done) where
+  mid_settled : IsStable mid.disk
+  mid_settled = subst (λ (q : Standing). IsStable q.disk) (sym took) s.settled
+
+  mid_holds : FilesHold mid
+  mid_holds = subst FilesHold (sym took) holds
+
+  -- once it was taken nothing is done yet
+  not_begun : InWork g seed before after (request_of line) mid (moment_of mid)
+  not_begun = record {
+    asked = refl;
+    shown = refl;
+    files = λ f h. refl;
+    left = λ name is bytes may. inl (all_left g before mid mid_stores mid_settled mid_holds name is bytes may);
+  }
+
+  -- while the host asks for it
+  pub in_ask : (count : ℕ) (m : Moment) → InAsk now (asked.Line count) m → InHost g seed first old m
+  in_ask count m (inl e) = still_at_prompt g seed first old now n s holds m e
+  in_ask count m (inr e) = in_work m (subst (InWork g seed before after (request_of line) mid) (sym (e ∙ sym (ap moment_of took))) not_begun)
+
+  -- while what it asks for is done
+  pub in_doing : (request : Option Request) → request ≡ request_of line → (m : Moment) → Doing g seed before request mid m → InHost g seed first old m
+  in_doing request same m i = in_work m (subst (λ r. Doing g seed before r mid m) same i)
+
+  module _ (done : Standing) (is : IsDone g after (request_of line) mid done) (settled : IsStable done.disk) where
     shown_before : done.shown ≡ old.shown ++ replies g seed first (take n old.lines)
     shown_before = is.shown ∙ shown_same
 
@@ -137,9 +197,8 @@ module _ (g : Story) (seed : ℕ) (first : Sessions) (old now mid : Standing) (n
     others_done f h = is.files f (not_of_more old.lines n line mid.lines f at h).1 ∙ others_same f h
 
     -- while its reply is shown
-    pub in_reply : (m : Moment) → InShow done (reply_to g seed before (request_of line)) m → InHost g seed first old m
-    unfolding before
-    in_reply m i = subst (InHost g seed first old) (sym i.1) (record {
+    pub in_reply : FilesHold done → (m : Moment) → InShow done (reply_to g seed before (request_of line)) m → InHost g seed first old m
+    in_reply done_holds m i = subst (InHost g seed first old) (sym i.1) (record {
       taken = suc n;
       text = replies g seed first (take n old.lines) ++ take i.0 (reply_to g seed before (request_of line));
       there = there;
@@ -163,7 +222,6 @@ module _ (g : Story) (seed : ℕ) (first : Sessions) (old now mid : Standing) (n
 
     -- the next line may come
     pub serving_next : (new : Standing) → new ≡ with_shown (reply_to g seed before (request_of line)) done → AllMay g after → IsServing g seed first old new (suc n)
-    unfolding before
     serving_next new e may = subst (λ q. IsServing g seed first old q (suc n)) (sym e) (record {
       answered = record {
         there = there;
@@ -178,6 +236,24 @@ module _ (g : Story) (seed : ℕ) (first : Sessions) (old now mid : Standing) (n
       settled = settled;
     })
 
+  module _ (request : Option Request) (text : List ℕ) (done : Standing) (same : request ≡ request_of line) (does : Does g seed before request text mid done)
+      (settled : IsStable done.disk) where
+    is_done : Does g seed before (request_of line) text mid done
+    is_done = subst (λ r. Does g seed before r text mid done) same does
+
+    -- while the reply that was made is shown
+    pub in_show : FilesHold done → (shown : List ℕ) → shown ≡ text → (m : Moment) → InShow done shown m → InHost g seed first old m
+    in_show done_holds shown e m i = in_reply done is_done.1 settled done_holds m (subst (λ t. InShow done t m) (e ∙ is_done.0) i)
+
+    -- once it was shown
+    pub serves_next : (shown : List ℕ) (new : Standing) → shown ≡ text → new ≡ with_shown shown done → ValidStory g → seed < 2 ^ 64 → All AreBytes old.lines →
+        IsServing g seed first old new (suc n)
+    serves_next shown new e grew valid small bytes =
+        serving_next done is_done.1 settled new (grew ∙ ap (λ t. with_shown t done) (e ∙ is_done.0))
+        (all_may g seed before (request_of line) valid small (asks_line line (line_bytes old.lines n line mid.lines at bytes)) s.may)
+
+-- ---- what taking lines comes to ----
+
 -- where the calls ended is one of their moments
 pub ends_inside : (clock now : ℕ) (past since : ℕ → Moment → Type 0) (P : Moment → Type 0) (m : Moment) → Passes clock now past since P →
     since clock m → (past clock m → P m) → P m
@@ -185,3 +261,28 @@ ends_inside clock now past since P m h at before = elim (h.nothing_else clock m 
   | inl q ↦ before q
   | inr q ↦ q.1
 ]
+
+-- what the last line came to, if there was one
+pub hosts_by : (g : Story) (seed : ℕ) (first : Sessions) (old new : Standing) (n : ℕ) (o : HostOutcome) → ServesTo g seed first old new n (Some o) →
+    InHost g seed first old (moment_of new) → Hosts g seed first old new o
+hosts_by g seed first old new n outcome.InputEnded h i = subst (Answered g seed first old new) h.0 h.1.answered
+hosts_by g seed first old new n outcome.Usage h i = absurd h
+hosts_by g seed first old new n (outcome.ImageDamaged _) h i = absurd h
+hosts_by g seed first old new n (outcome.Outside c) h i = i
+hosts_by g seed first old new n outcome.Memory h i = absurd h
+hosts_by g seed first old new n (outcome.Long lines) h i = absurd h
+
+-- before the first line
+pub at_first : (g : Story) (seed : ℕ) (first : Sessions) (old : Standing) → BeginsWith g first old → IsStable old.disk → FilesHold old →
+    (m : Moment) → m ≡ moment_of old → InHost g seed first old m
+at_first g seed first old b settled holds m e = still_at_prompt g seed first old old 0 (serving_first g seed first old b settled) holds m e
+
+-- ---- a stage that rests ----
+
+-- a line that was taken leaves the store as it was
+pub asked_settled : (old new : Standing) → new ≡ record old { lines = new.lines; asked = old.asked + 1 } → IsStable old.disk → IsStable new.disk
+asked_settled old new e h = subst (λ (q : Standing). IsStable q.disk) (sym e) h
+
+-- and so does a text that was shown
+pub shown_settled : (old new : Standing) (text : List ℕ) → new ≡ with_shown text old → IsStable old.disk → IsStable new.disk
+shown_settled old new text e h = subst (λ (q : Standing). IsStable q.disk) (sym e) h

@@ -11,3 +11,4 @@ pub mod Keeping
 pub mod Hosting
 pub mod Continuing
 pub mod Calls
+pub mod Loading

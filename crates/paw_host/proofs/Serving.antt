@@ -76,12 +76,11 @@ module _ (g : Story) (seed : ℕ) (sessions : Sessions) (old new : Standing) (st
   nothing_done e = subst (IsDone g sessions None old) (sym e) (record { lines = refl; asked = refl; shown = refl; files = λ f h. refl; stores = stores })
 
   module _ (r : Request) (named : is_name r.name ≡ true) (aside : IsAside (store_name r.name) old new) where
-    after : Sessions
+    abbrev after : Sessions
     after = sessions_with g seed sessions (Some r)
 
     -- the session of a name
     pub request_done : Stores g (answer g seed (sessions r.name) r.text).session (file_bytes new (store_name r.name)) → IsDone g after (Some r) old new
-    unfolding after
     request_done h = record {
       lines = aside.lines;
       asked = aside.asked;

@@ -102,11 +102,11 @@ impl<'a, T: Tables, F: Fn(u8, u8) -> u8> Seats<'a, T, F> {
         ensures done { Across S.Stage stage.old stage.new (λ old new.
             EachStory F.Fn self.old.player.routines self.old.player.game (λ g. (sessions : Sessions) →
             AllMay g sessions → AllStore g sessions old →
-            OnOk result (Does g hosted.now.seed sessions (Some (asks request)) self.new.reply old new))) }
+            OnOk result (Does g hosted.now.seed sessions (Some (asks request.entry)) self.new.reply old new))) }
         ensures any_moment { Across S.Stage stage.old stage.new (λ old new.
             EachStory F.Fn self.old.player.routines self.old.player.game (λ g. (sessions : Sessions) →
             AllMay g sessions → AllStore g sessions old →
-            EachMoment S.Stage stage.old stage.new (Doing g hosted.now.seed sessions (Some (asks request)) old))) }
+            EachMoment S.Stage stage.old stage.new (Doing g hosted.now.seed sessions (Some (asks request.entry)) old))) }
     {
         begin(&mut self.reply, request.name);
         self.store.set(request.name);

@@ -1,9 +1,75 @@
-use Rattle.std.proofs.Common.{Some, None, ◌++◌}
+use Rattle.std.proofs.Common.{Some, None, ◌++◌, ◌∙◌, refl, sym, ap, subst}
+use Rattle.sha2.specs.Sha256.{sha256}
+use Rattle.paw_image.specs.inner.Views.{game_read}
+use Rattle.paw_effects.specs.Story.{Story, story_of}
+use Rattle.paw_stage.specs.Disk.{IsStable}
+use Rattle.paw_stage.specs.Stage.{Standing}
+use Rattle.paw_stage.proofs.Time.{Passes_map, Passes_on}
 use Rattle.paw_journal.proofs.Serving.{in_front, behind, serves_among, serves_still, serves_then}
 use Rattle.paw_play.specs.Calls.{session_calls}
 use Rattle.paw_host.specs.Hosts.{load_calls}
 use Rattle.paw_host.specs.Outcomes.{failed_call}
+use Rattle.paw_host.specs.Promise.{BeginsWith, InHost}
+use Rattle.paw_host.proofs.Hosting.{at_first}
+use Rattle.paw_host.proofs.Loading.{holds_loaded, same_story, unloaded, undecoded, hosted}
+use Rattle.paw_host.proofs.Reaching.{FilesHold}
 use Rattle.paw_host.proofs.host.host.Goals as goal
+
+pub host_game-requires-clause-digest : goal.host_game-requires-clause-digest
+host_game-requires-clause-digest g c = c.digest.ensures.value ∙ ap sha256 (c.bytes.ensures.value ∙ c.bytes.ensures.image.spelled)
+
+pub host_game-requires-clause-synced : goal.host_game-requires-clause-synced
+host_game-requires-clause-synced g c = λ tells.
+    let before = c.load.ensures.serves.tells.1 tells in
+    subst (λ (q : Standing). IsStable q.disk) (sym (c.in-Ok.ensures.some before).3) (c.requires.synced before)
+
+pub returns-in-Err-clause-comes : goal.returns-in-Err-clause-comes
+returns-in-Err-clause-comes g c = λ tells. rw c.in-Some.ensures.value
+    (λ X rows. unloaded X c.in-Some.call.image.now c.in-Some.call.seed _ _ c.in-Err.outcome (c.in-Err.ensures.none tells))
+
+pub returns-in-Err-view_in-clause-comes : goal.returns-in-Err-view_in-clause-comes
+returns-in-Err-view_in-clause-comes g c = λ tells. rw c.in-Some.ensures.value
+    (λ X rows. undecoded X c.in-Some.call.image.now _ _ c.in-Some.call.seed _ _ c.in-Err-view_in.outcome c.as_slice.ensures.value
+    (c.in-Ok.ensures.some tells) c.in-Err-view_in.ensures.none)
+
+pub returns-clause-comes : goal.returns-clause-comes
+returns-clause-comes g c = λ tells. rw c.in-Some.ensures.value
+    (λ X rows.
+    let f = c.in-Ok.ensures.some tells in
+    let game = game_read c.in-Ok-view_in.view in
+    hosted X c.in-Some.call.image.now c.in-Some.call.seed _ _ _ c.host_game.result game
+    (holds_loaded c.in-Some.call.image.now _ _ _ _ game c.as_slice.ensures.value f c.in-Ok-view_in.ensures.found) f.3
+    (c.host_game.ensures.meaning (c.load.ensures.serves.tells.0 tells) X rows))
+
+pub returns-in-Err-clause-moments : goal.returns-in-Err-clause-moments
+returns-in-Err-clause-moments g c = λ tells. rw c.in-Some.ensures.value
+    (λ X rows k first holds b.
+    let files : FilesHold (g.S.Stage.standing c.args.stage.now) = λ name e. g.met.S.Stage.files_hold c.args.stage.now name tells e in
+    Passes_map _ _ _ _ _ _ (c.load.ensures.time tells)
+    (at_first (story_of k X) c.in-Some.call.seed first _ b (c.requires.synced tells) files))
+
+pub returns-in-Err-view_in-clause-moments : goal.returns-in-Err-view_in-clause-moments
+returns-in-Err-view_in-clause-moments g c = λ tells. rw c.in-Some.ensures.value
+    (λ X rows k first holds b.
+    let files : FilesHold (g.S.Stage.standing c.args.stage.now) = λ name e. g.met.S.Stage.files_hold c.args.stage.now name tells e in
+    Passes_map _ _ _ _ _ _ (c.load.ensures.time tells)
+    (at_first (story_of k X) c.in-Some.call.seed first _ b (c.requires.synced tells) files))
+
+pub returns-clause-moments : goal.returns-clause-moments
+returns-clause-moments g c = λ tells. rw c.in-Some.ensures.value
+    (λ X rows k first holds b.
+    let f = c.in-Ok.ensures.some tells in
+    let old : Standing = g.S.Stage.standing c.args.stage.now in
+    let seed = c.in-Some.call.seed in
+    let game = game_read c.in-Ok-view_in.view in
+    let files : FilesHold old = λ name e. g.met.S.Stage.files_hold c.args.stage.now name tells e in
+    let same = same_story old c.in-Some.call.image.now game k X
+    (holds_loaded c.in-Some.call.image.now _ _ _ _ game c.as_slice.ensures.value f c.in-Ok-view_in.ensures.found) holds in
+    Passes_on _ _ _ _ _ _ (InHost (story_of k X) seed first old) _
+    (Passes_map _ _ _ _ _ (InHost (story_of k X) seed first old) (c.load.ensures.time tells) (at_first (story_of k X) seed first old b (c.requires.synced tells) files))
+    (c.host_game.ensures.any_moment (c.load.ensures.serves.tells.0 tells) X rows first
+    (subst (λ q. BeginsWith (story_of game X) first q) (sym f.3) (subst (λ s. BeginsWith s first old) (sym same) b)))
+    (λ m i. subst (λ s. InHost s seed first old m) same (subst (λ q. InHost (story_of game X) seed first q m) f.3 i)))
 
 pub returns-in-Err-clause-serves : goal.returns-in-Err-clause-serves
 returns-in-Err-clause-serves g c = serves_among g.S.Stage _ _ (failed_call c.in-Err.outcome) _ _ (in_front load_calls session_calls) c.in-Err.ensures.serves

@@ -1,7 +1,15 @@
-use Rattle.std.proofs.Common.{refl, inl, inr, Some, None}
+use Rattle.std.proofs.Common.{refl, sym, subst, inl, inr, Some, None}
 use Rattle.paw_stage.specs.declared.StageCall.TheVariants as call
+use Rattle.paw_stage.proofs.Time.{Passes_map, Passes_on}
+use Rattle.paw_effects.specs.Story.{story_of}
+use Rattle.paw_turn.proofs.Standing.{valid_story}
 use Rattle.paw_journal.proofs.Serving.{serves_done, serves_among, serves_then}
+use Rattle.paw_host.specs.Promise.{InHost}
+use Rattle.paw_host.specs.inner.Lines.{IsServing}
 use Rattle.paw_host.proofs.Calls.{answers_serve, shows_serve}
+use Rattle.paw_host.proofs.Reaching.{FilesHold}
+use Rattle.paw_host.proofs.Hosting.{asked_settled, shown_settled, all_answered, still_at_prompt, cut_request}
+use Rattle.paw_host.proofs.Hosting.{mid_stores, in_ask, in_doing, in_show, serves_next}
 use Rattle.paw_host.proofs.lines.Seats.serve.Goals as goal
 
 pub returns-in-End-clause-serves : goal.returns-in-End-clause-serves
@@ -21,8 +29,113 @@ returns-in-Ok-show-clause-serves g c =
     (serves_done g.S.Stage _ _ c.ask.ensures.tells c.in-Line.ensures.faulted) c.in-Ok.ensures.serves)
     (serves_among g.S.Stage _ _ None _ _ shows_serve c.in-Ok-show.ensures.serves)
 
-pub returns-clause-serves : goal.returns-clause-serves
-returns-clause-serves g c =
+pub returns-in-Err-show-clause-serves : goal.returns-in-Err-show-clause-serves
+returns-in-Err-show-clause-serves g c =
     serves_then g.S.Stage _ _ (Some call.Show) _ _ _ (serves_then g.S.Stage _ _ None _ _ _
     (serves_done g.S.Stage _ _ c.ask.ensures.tells c.in-Line.ensures.faulted) c.in-Ok.ensures.serves)
     (serves_among g.S.Stage _ _ (Some call.Show) _ _ shows_serve c.in-Err-show.ensures.serves)
+
+pub reply-requires-clause-synced : goal.reply-requires-clause-synced
+reply-requires-clause-synced g c = λ tells.
+    let before = c.ask.ensures.tells.1 tells in
+    asked_settled (g.S.Stage.standing c.args.stage.now) (g.S.Stage.standing c.ask.new.self) (c.in-Line.ensures.answer before).3 (c.requires.synced before)
+
+pub returns-in-Ok-show-clause-synced : goal.returns-in-Ok-show-clause-synced
+returns-in-Ok-show-clause-synced g c = λ tells.
+    let asked = c.ask.ensures.tells.0 tells in
+    shown_settled (g.S.Stage.standing c.reply.new.stage) (g.S.Stage.standing c.show.new.stage) c.bytes.result.now (c.in-Ok-show.ensures.shown (c.reply.ensures.serves.tells.0 asked)) (c.in-Ok.ensures.synced asked)
+
+pub returns-in-End-clause-meaning : goal.returns-in-End-clause-meaning
+returns-in-End-clause-meaning g c = λ tells X rows first start n small bytes s.
+    let story = story_of c.args.self.now.player.game X in
+    let seed = c.args.hosted.now.seed in
+    let a = c.in-End.ensures.answer tells in
+    (all_answered story seed first start (g.S.Stage.standing c.args.stage.now) n s a.0, subst (λ q. IsServing story seed first start q n) (sym a.1) s)
+
+pub returns-in-Ok-show-clause-meaning : goal.returns-in-Ok-show-clause-meaning
+returns-in-Ok-show-clause-meaning g c = λ tells X rows first start n small bytes s.
+    let story = story_of c.args.self.now.player.game X in
+    let seed = c.args.hosted.now.seed in
+    let old = g.S.Stage.standing c.args.stage.now in
+    let mid = g.S.Stage.standing c.ask.new.self in
+    let a = c.in-Line.ensures.answer tells in
+    let asked = c.ask.ensures.tells.0 tells in
+    let holds : FilesHold old = λ name e. g.met.S.Stage.files_hold c.args.stage.now name tells e in
+    let does = c.in-Ok.ensures.done asked X rows _ s.may (mid_stores story seed first start old mid n a.0 s holds a.1 a.3) in
+    serves_next story seed first start old mid n a.0 s holds a.1 a.3 _ _ _ (cut_request a.0 _ _ _ a.2 refl) does (c.in-Ok.ensures.synced asked)
+    _ _ c.bytes.ensures.value (c.in-Ok-show.ensures.shown (c.reply.ensures.serves.tells.0 asked))
+    (valid_story g.F.Fn c.args.self.now.player.routines c.args.self.now.player.game X c.requires.seated.valid rows) small bytes
+
+pub returns-in-End-clause-any_moment : goal.returns-in-End-clause-any_moment
+returns-in-End-clause-any_moment g c = λ tells X rows first start n small bytes s.
+    let story = story_of c.args.self.now.player.game X in
+    let seed = c.args.hosted.now.seed in
+    let old = g.S.Stage.standing c.args.stage.now in
+    let holds : FilesHold old = λ name e. g.met.S.Stage.files_hold c.args.stage.now name tells e in
+    Passes_map _ _ _ _ _ (InHost story seed first start) (c.in-End.ensures.time tells) (λ m e. still_at_prompt story seed first start old n s holds m e)
+
+pub returns-in-Failed-clause-any_moment : goal.returns-in-Failed-clause-any_moment
+returns-in-Failed-clause-any_moment g c = λ tells X rows first start n small bytes s.
+    let story = story_of c.args.self.now.player.game X in
+    let seed = c.args.hosted.now.seed in
+    let old = g.S.Stage.standing c.args.stage.now in
+    let holds : FilesHold old = λ name e. g.met.S.Stage.files_hold c.args.stage.now name tells e in
+    Passes_map _ _ _ _ _ (InHost story seed first start) (c.in-Failed.ensures.time tells) (λ m e. still_at_prompt story seed first start old n s holds m e)
+
+pub returns-in-Err-clause-any_moment : goal.returns-in-Err-clause-any_moment
+returns-in-Err-clause-any_moment g c = λ tells X rows first start n small bytes s.
+    let story = story_of c.args.self.now.player.game X in
+    let seed = c.args.hosted.now.seed in
+    let old = g.S.Stage.standing c.args.stage.now in
+    let mid = g.S.Stage.standing c.ask.new.self in
+    let a = c.in-Line.ensures.answer tells in
+    let asked = c.ask.ensures.tells.0 tells in
+    let holds : FilesHold old = λ name e. g.met.S.Stage.files_hold c.args.stage.now name tells e in
+    Passes_on _ _ _ _ _ _ (InHost story seed first start) _
+    (Passes_map _ _ _ _ _ (InHost story seed first start) (c.in-Line.ensures.time tells) (in_ask story seed first start old mid n a.0 s holds a.1 a.3 c.in-Line.n))
+    (c.reply.ensures.any_moment asked X rows _ s.may (mid_stores story seed first start old mid n a.0 s holds a.1 a.3))
+    (in_doing story seed first start old mid n a.0 s holds a.1 a.3 _ (cut_request a.0 _ _ _ a.2 refl))
+
+pub returns-in-Ok-show-clause-any_moment : goal.returns-in-Ok-show-clause-any_moment
+returns-in-Ok-show-clause-any_moment g c = λ tells X rows first start n small bytes s.
+    let story = story_of c.args.self.now.player.game X in
+    let seed = c.args.hosted.now.seed in
+    let old = g.S.Stage.standing c.args.stage.now in
+    let mid = g.S.Stage.standing c.ask.new.self in
+    let a = c.in-Line.ensures.answer tells in
+    let asked = c.ask.ensures.tells.0 tells in
+    let replied = c.reply.ensures.serves.tells.0 asked in
+    let holds : FilesHold old = λ name e. g.met.S.Stage.files_hold c.args.stage.now name tells e in
+    let done_holds : FilesHold (g.S.Stage.standing c.reply.new.stage) = λ name e. g.met.S.Stage.files_hold c.reply.new.stage name replied e in
+    let same = cut_request a.0 _ _ _ a.2 refl in
+    let stores = mid_stores story seed first start old mid n a.0 s holds a.1 a.3 in
+    Passes_on _ _ _ _ _ _ (InHost story seed first start) _
+    (Passes_on _ _ _ _ _ _ (InHost story seed first start) _
+    (Passes_map _ _ _ _ _ (InHost story seed first start) (c.in-Line.ensures.time tells) (in_ask story seed first start old mid n a.0 s holds a.1 a.3 c.in-Line.n))
+    (c.reply.ensures.any_moment asked X rows _ s.may stores)
+    (in_doing story seed first start old mid n a.0 s holds a.1 a.3 _ same))
+    (c.show.ensures.time replied)
+    (in_show story seed first start old mid n a.0 s holds a.1 a.3 _ _ _ same (c.in-Ok.ensures.done asked X rows _ s.may stores) (c.in-Ok.ensures.synced asked)
+    done_holds _ c.bytes.ensures.value)
+
+pub returns-in-Err-show-clause-any_moment : goal.returns-in-Err-show-clause-any_moment
+returns-in-Err-show-clause-any_moment g c = λ tells X rows first start n small bytes s.
+    let story = story_of c.args.self.now.player.game X in
+    let seed = c.args.hosted.now.seed in
+    let old = g.S.Stage.standing c.args.stage.now in
+    let mid = g.S.Stage.standing c.ask.new.self in
+    let a = c.in-Line.ensures.answer tells in
+    let asked = c.ask.ensures.tells.0 tells in
+    let replied = c.reply.ensures.serves.tells.0 asked in
+    let holds : FilesHold old = λ name e. g.met.S.Stage.files_hold c.args.stage.now name tells e in
+    let done_holds : FilesHold (g.S.Stage.standing c.reply.new.stage) = λ name e. g.met.S.Stage.files_hold c.reply.new.stage name replied e in
+    let same = cut_request a.0 _ _ _ a.2 refl in
+    let stores = mid_stores story seed first start old mid n a.0 s holds a.1 a.3 in
+    Passes_on _ _ _ _ _ _ (InHost story seed first start) _
+    (Passes_on _ _ _ _ _ _ (InHost story seed first start) _
+    (Passes_map _ _ _ _ _ (InHost story seed first start) (c.in-Line.ensures.time tells) (in_ask story seed first start old mid n a.0 s holds a.1 a.3 c.in-Line.n))
+    (c.reply.ensures.any_moment asked X rows _ s.may stores)
+    (in_doing story seed first start old mid n a.0 s holds a.1 a.3 _ same))
+    (c.show.ensures.time replied)
+    (in_show story seed first start old mid n a.0 s holds a.1 a.3 _ _ _ same (c.in-Ok.ensures.done asked X rows _ s.may stores) (c.in-Ok.ensures.synced asked)
+    done_holds _ c.bytes.ensures.value)

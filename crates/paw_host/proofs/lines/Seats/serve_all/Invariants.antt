@@ -1,8 +1,15 @@
-use Rattle.std.proofs.Common.{◌≡◌, None}
+use Rattle.std.proofs.Common.{◌≡◌, ◌≤◌, ℕ, List, None}
 use Rattle.paw_stage.specs.Disk.{IsStable}
 use Rattle.paw_stage.specs.Across.{Serves}
+use Rattle.paw_stage.specs.Moments.{Passes}
+use Rattle.paw_routines.specs.Routines.{AreRowsOf}
+use Rattle.paw_effects.specs.Story.{story_of}
 use Rattle.paw_turn.specs.inner.Player.{IsSeated}
 use Rattle.paw_play.specs.Calls.{session_calls}
+use Rattle.paw_host.specs.Replies.{Sessions}
+use Rattle.paw_host.specs.Promise.{BeginsWith, InHost}
+use Rattle.paw_host.specs.inner.Lines.{IsServing}
+use Rattle.paw_host.specs.declared.lines.TheConstants.{HOST_LIMIT}
 use Rattle.paw_host.proofs.lines.Seats.serve_all.Given as goal
 
 -- so many lines were answered
@@ -11,6 +18,14 @@ invariant-loop g l = record {
   seated : IsSeated l.self.player;
   game : l.self.player.game ≡ l.fn.self.player.game;
   routines : l.self.player.routines ≡ l.fn.self.player.routines;
+  few : l.counter ≤ HOST_LIMIT;
   serves : Serves g.S.Stage session_calls None l.fn.stage l.stage;
   synced : g.S.Stage.Tells l.stage → IsStable (g.S.Stage.standing l.stage).disk;
+  serving : g.S.Stage.Tells l.fn.stage → (X : List (List ℕ)) → AreRowsOf g.F.Fn l.fn.self.player.routines X → (first : Sessions) →
+      BeginsWith (story_of l.fn.self.player.game X) first (g.S.Stage.standing l.fn.stage) →
+      IsServing (story_of l.fn.self.player.game X) l.fn.hosted.seed first (g.S.Stage.standing l.fn.stage) (g.S.Stage.standing l.stage) l.counter;
+  passes : g.S.Stage.Tells l.fn.stage → (X : List (List ℕ)) → AreRowsOf g.F.Fn l.fn.self.player.routines X → (first : Sessions) →
+      BeginsWith (story_of l.fn.self.player.game X) first (g.S.Stage.standing l.fn.stage) →
+      Passes (g.S.Stage.clock l.fn.stage) (g.S.Stage.clock l.stage) (g.S.Stage.since l.fn.stage) (g.S.Stage.since l.stage)
+      (InHost (story_of l.fn.self.player.game X) l.fn.hosted.seed first (g.S.Stage.standing l.fn.stage));
 }
