@@ -5,13 +5,16 @@ use Rattle.std.proofs.lemmas.Slice.Eq.{bytes_eq-Decides}
 use Rattle.paw_stage.specs.Disk.{IsStable, MayLeave, stable}
 use Rattle.paw_stage.specs.Stage.{Standing, Files, file_bytes, bytes_or_none, made_if_missing, opened, Unattached}
 use Rattle.paw_stage.specs.Moments.{Moment, moment_of, InAttach}
+use Rattle.paw_journal.specs.Session.{IsUnmade, Recovered, Shown, Digests, recover, recover_by}
+use Rattle.paw_journal.specs.inner.Store.{IsBeside}
 use Rattle.paw_journal.proofs.Disks.{stable_is, stable_leaves}
 use Rattle.paw_effects.specs.Story.{Story}
 use Rattle.paw_play.specs.Laws.{MayBeLeft}
 use Rattle.paw_play.proofs.Attaching.{other_file}
-use Rattle.paw_host.specs.Replies.{Session}
+use Rattle.paw_play.specs.Stands.{Stands}
+use Rattle.paw_host.specs.Replies.{Session, Absent, At, Refused}
 use Rattle.paw_host.specs.Promise.{Stores}
-use Rattle.paw_host.specs.inner.Answers.{InFile, InAnswer, IsAside, LeftOf}
+use Rattle.paw_host.specs.inner.Answers.{InFile, InAnswer, IsAside, LeftOf, StoresEither}
 
 -- while a store is attached the file of its name has its bytes
 abbrev pub FilesHold : Standing → Type 0
@@ -118,3 +121,62 @@ module _ (g : Story) (seed : ℕ) (name : List ℕ) (before after : Session) (ol
     where
       still : (f : List ℕ) → f ≢ name → m.files f ≡ old.files f
       still f ne = i.files f (λ e. ne (sym (same_name name f e))) ∙ other_file old name f ne
+
+-- from a store with no bytes, of which there is no session
+pub answer_in_new : (g : Story) (seed : ℕ) (name : List ℕ) (before after : Session) (old mid : Standing) (m : Moment) →
+    Stores g before (file_bytes old name) → before ≡ Absent → mid ≡ opened name old → InFile (LeftOf g seed Absent after) mid m →
+    InAnswer g seed name before after old m
+answer_in_new g seed name before after old mid m stores none is i =
+    answer_in_file g seed name before after old stores m
+    (subst (λ s. InFile (LeftOf g seed s after) (opened name old) m) (sym none) (subst (λ q. InFile (LeftOf g seed Absent after) q m) is i))
+
+-- from a store with bytes
+pub answer_in_kept : (g : Story) (seed : ℕ) (name : List ℕ) (before after : Session) (old mid : Standing) (m : Moment) →
+    Stores g before (file_bytes old name) → mid ≡ opened name old → InFile (StoresEither g before after) mid m →
+    InAnswer g seed name before after old m
+answer_in_kept g seed name before after old mid m stores is i =
+    answer_in_file g seed name before after old stores m (either_left (subst (λ q. InFile (StoresEither g before after) q m) is i))
+  where
+    either_left : InFile (StoresEither g before after) (opened name old) m → InFile (LeftOf g seed before after) (opened name old) m
+    either_left j = record {
+      asked = j.asked;
+      shown = j.shown;
+      attached = j.attached;
+      files = j.files;
+      disk = λ bytes may. elim (j.disk bytes may) [ inl h ↦ inl h | inr h ↦ inr (inl h) ];
+    }
+
+-- ---- what it leaves ----
+
+-- no bytes are no session
+unmade : (bytes : List ℕ) → bytes ≡ [] → IsUnmade (recover bytes)
+unfolding recover recover_by
+unmade bytes e = rw e tt
+
+not_shown : (r : Recovered) (d : Digests) (state piece : List ℕ) → IsUnmade r → r ≡ Shown d state piece → ⊥
+not_shown r d state piece h e = subst IsUnmade e h
+
+pub none_stored : (g : Story) (before : Session) (bytes : List ℕ) → bytes ≡ [] → Stores g before bytes → before ≡ Absent
+none_stored g Absent bytes e h = refl
+none_stored g (At own es) bytes e h = absurd (not_shown (recover bytes) _ _ _ (unmade bytes e) h.keeps.shown)
+none_stored g (Refused kept) bytes e h = absurd (h.1.0 (sym h.0 ∙ e))
+
+-- an attach that failed
+pub aside_unattached : (name : List ℕ) (old new : Standing) → Unattached old new → IsAside name old new
+aside_unattached name old new (inl e) = subst (IsAside name old) (sym e) (record { lines = refl; asked = refl; shown = refl; files = λ f ne. refl })
+aside_unattached name old new (inr e) = subst (IsAside name old) (sym e) (record { lines = refl; asked = refl; shown = refl; files = λ f ne. refl })
+
+module _ (name : List ℕ) (old mid new : Standing) (is : mid ≡ opened name old) (b : IsBeside mid new) where
+  -- the store is attached still
+  pub attached_still : new.attached ≡ Some name
+  attached_still = b.attached ∙ ap (λ (q : Standing). q.attached) is
+
+  -- and all else as it was
+  pub aside_beside : IsAside name old new
+  aside_beside = record {
+    lines = b.lines ∙ ap (λ (q : Standing). q.lines) is;
+    asked = b.asked ∙ ap (λ (q : Standing). q.asked) is;
+    shown = b.shown ∙ ap (λ (q : Standing). q.shown) is;
+    files = λ f ne. b.files f (λ e. ne (sym (same_name name f (sym (ap (λ (q : Standing). q.attached) is) ∙ e))))
+        ∙ (ap (λ (q : Standing). q.files f) is ∙ other_file old name f ne);
+  }

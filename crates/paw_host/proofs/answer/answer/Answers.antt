@@ -1,0 +1,138 @@
+use Rattle.std.proofs.Common.{◌≡◌, ◌∙◌, List, ℕ, [], refl, sym, ap, subst, arith, length, inl, inr, Some, None}
+use Rattle.std.proofs.lemmas.Result.{on_ok_weaker}
+use Rattle.std.specs.Option.{option_copied}
+use Rattle.paw_stage.specs.Stage.{Standing, file_bytes, opened}
+use Rattle.paw_stage.proofs.Time.{Passes_map, Passes_on}
+use Rattle.paw_journal.specs.inner.Journal.{failed_stage_call}
+use Rattle.paw_journal.proofs.Serving.{serves_among, serves_then}
+use Rattle.paw_effects.specs.Story.{Story, story_of}
+use Rattle.paw_host.specs.Replies.{Session, Absent, answer}
+use Rattle.paw_host.specs.Promise.{MayBe, Stores}
+use Rattle.paw_host.specs.inner.Answers.{Answers, InAnswer, InFile, LeftOf}
+use Rattle.paw_host.proofs.Calls.{writes_answer, reads_answer, attaches_answer}
+use Rattle.paw_host.proofs.Reaching.{in_attach, answer_before, answer_in_new, answer_in_kept, none_stored, no_bytes, attached_still, aside_beside, aside_unattached}
+use Rattle.paw_host.proofs.answer.answer.Goals as goal
+
+-- ---- the attach failed ----
+
+pub returns-in-Err-clause-serves : goal.returns-in-Err-clause-serves
+returns-in-Err-clause-serves g c = serves_among g.S.Stage _ _ (Some c.in-Err.call) _ _ attaches_answer c.in-Err.ensures.serves
+
+pub returns-in-Err-clause-aside : goal.returns-in-Err-clause-aside
+returns-in-Err-clause-aside g c = λ tells. aside_unattached c.args.store.now _ _ (c.in-Err.ensures.left tells)
+
+pub returns-in-Err-clause-any_moment : goal.returns-in-Err-clause-any_moment
+returns-in-Err-clause-any_moment g c = λ tells X rows before may stores.
+    let story : Story = story_of c.args.player.now.game X in
+    let old : Standing = g.S.Stage.standing c.args.stage.now in
+    let name = c.args.store.now in
+    Passes_map _ _ _ _ _ (InAnswer story c.args.hosted.now.seed name before (answer story c.args.hosted.now.seed before (option_copied c.args.text)).session old)
+    (c.attach.ensures.time tells)
+    (λ m i. answer_before story c.args.hosted.now.seed name before _ old stores m
+    (in_attach old (g.S.Stage.standing c.attach.new.stage) name (c.requires.synced tells)
+    (λ n e. g.met.S.Stage.files_hold c.args.stage.now n tells e) (inr (c.in-Err.ensures.left tells)) m i))
+
+-- ---- a new session ----
+
+pub returns-then-at-eq0-clause-serves : goal.returns-then-at-eq0-clause-serves
+returns-then-at-eq0-clause-serves g c =
+    serves_then g.S.Stage _ _ (failed_stage_call c.answer_new.result) _ _ _ c.in-Ok.ensures.serves
+    (serves_among g.S.Stage _ _ (failed_stage_call c.answer_new.result) _ _ writes_answer c.answer_new.ensures.serves)
+
+pub returns-then-at-eq0-clause-synced : goal.returns-then-at-eq0-clause-synced
+returns-then-at-eq0-clause-synced g c = λ tells.
+    on_ok_weaker c.answer_new.result (λ r. r.stable) (c.answer_new.ensures.rests (c.attach.ensures.serves.tells.0 tells))
+
+pub returns-then-at-eq0-clause-aside : goal.returns-then-at-eq0-clause-aside
+returns-then-at-eq0-clause-aside g c = λ tells.
+    aside_beside c.args.store.now (g.S.Stage.standing c.args.stage.now) (g.S.Stage.standing c.attach.new.stage) (g.S.Stage.standing c.answer_new.new.stage)
+    (c.in-Ok.ensures.attached tells).1 (c.answer_new.ensures.beside (c.attach.ensures.serves.tells.0 tells))
+
+pub returns-then-at-eq0-clause-meaning : goal.returns-then-at-eq0-clause-meaning
+returns-then-at-eq0-clause-meaning g c = λ tells X rows before may stores.
+    let story : Story = story_of c.args.player.now.game X in
+    let seed = c.args.hosted.now.seed in
+    let name = c.args.store.now in
+    let text = option_copied c.args.text in
+    let old : Standing = g.S.Stage.standing c.args.stage.now in
+    let mid : Standing = g.S.Stage.standing c.attach.new.stage in
+    let new : Standing = g.S.Stage.standing c.answer_new.new.stage in
+    let now = c.attach.ensures.serves.tells.0 tells in
+    let a = c.in-Ok.ensures.attached tells in
+    let none = none_stored story before (file_bytes old name) (no_bytes (file_bytes old name) (sym a.0 ∙ c.if-at-eq0.true)) stores in
+    let there = g.met.S.Stage.files_hold c.answer_new.new.stage name (c.answer_new.ensures.serves.tells.0 now)
+        (attached_still name old mid new a.1 (c.answer_new.ensures.beside now)) in
+    on_ok_weaker c.answer_new.result
+    (λ h. subst (λ s. Answers story (answer story seed s text) c.args.reply.now c.answer_new.new.reply (file_bytes new name)) (sym none)
+    (subst (λ b. Answers story (answer story seed Absent text) c.args.reply.now c.answer_new.new.reply b) (sym there) h))
+    (c.answer_new.ensures.meaning now X rows)
+
+pub returns-then-at-eq0-clause-any_moment : goal.returns-then-at-eq0-clause-any_moment
+returns-then-at-eq0-clause-any_moment g c = λ tells X rows before may stores.
+    let story : Story = story_of c.args.player.now.game X in
+    let seed = c.args.hosted.now.seed in
+    let name = c.args.store.now in
+    let text = option_copied c.args.text in
+    let old : Standing = g.S.Stage.standing c.args.stage.now in
+    let mid : Standing = g.S.Stage.standing c.attach.new.stage in
+    let now = c.attach.ensures.serves.tells.0 tells in
+    let a = c.in-Ok.ensures.attached tells in
+    let none = none_stored story before (file_bytes old name) (no_bytes (file_bytes old name) (sym a.0 ∙ c.if-at-eq0.true)) stores in
+    let after : Session = (answer story seed before text).session in
+    Passes_on _ _ _ _ _ _ (InAnswer story seed name before after old) _
+    (Passes_map _ _ _ _ _ (InAnswer story seed name before after old) (c.in-Ok.ensures.time tells)
+    (λ m i. answer_before story seed name before after old stores m
+    (in_attach old mid name (c.requires.synced tells) (λ n e. g.met.S.Stage.files_hold c.args.stage.now n tells e) (inl a.1) m i)))
+    (c.answer_new.ensures.any_moment now X rows)
+    (λ m i. answer_in_new story seed name before after old mid m stores none a.1
+    (subst (λ s. InFile (LeftOf story seed Absent (answer story seed s text).session) mid m) (sym none) i))
+
+-- ---- one that was kept ----
+
+pub returns-clause-serves : goal.returns-clause-serves
+returns-clause-serves g c =
+    serves_then g.S.Stage _ _ (failed_stage_call c.answer_kept.result) _ _ _ c.in-Ok.ensures.serves
+    (serves_among g.S.Stage _ _ (failed_stage_call c.answer_kept.result) _ _ reads_answer c.answer_kept.ensures.serves)
+
+pub returns-clause-synced : goal.returns-clause-synced
+returns-clause-synced g c = λ tells.
+    on_ok_weaker c.answer_kept.result (λ r. r.stable) (c.answer_kept.ensures.rests (c.attach.ensures.serves.tells.0 tells))
+
+pub returns-clause-aside : goal.returns-clause-aside
+returns-clause-aside g c = λ tells.
+    aside_beside c.args.store.now (g.S.Stage.standing c.args.stage.now) (g.S.Stage.standing c.attach.new.stage) (g.S.Stage.standing c.answer_kept.new.stage)
+    (c.in-Ok.ensures.attached tells).1 (c.answer_kept.ensures.beside (c.attach.ensures.serves.tells.0 tells))
+
+pub returns-clause-meaning : goal.returns-clause-meaning
+returns-clause-meaning g c = λ tells X rows before may stores.
+    let story : Story = story_of c.args.player.now.game X in
+    let name = c.args.store.now in
+    let old : Standing = g.S.Stage.standing c.args.stage.now in
+    let mid : Standing = g.S.Stage.standing c.attach.new.stage in
+    let new : Standing = g.S.Stage.standing c.answer_kept.new.stage in
+    let now = c.attach.ensures.serves.tells.0 tells in
+    let a = c.in-Ok.ensures.attached tells in
+    let there = g.met.S.Stage.files_hold c.answer_kept.new.stage name (c.answer_kept.ensures.serves.tells.0 now)
+        (attached_still name old mid new a.1 (c.answer_kept.ensures.beside now)) in
+    let here = subst (λ (q : Standing). Stores story before q.disk.bytes) (sym a.1) stores in
+    on_ok_weaker c.answer_kept.result
+    (λ h. subst (λ b. Answers story (answer story c.args.hosted.now.seed before (option_copied c.args.text)) c.args.reply.now c.answer_kept.new.reply b) (sym there) h)
+    (c.answer_kept.ensures.meaning now X rows before may here)
+
+pub returns-clause-any_moment : goal.returns-clause-any_moment
+returns-clause-any_moment g c = λ tells X rows before may stores.
+    let story : Story = story_of c.args.player.now.game X in
+    let seed = c.args.hosted.now.seed in
+    let name = c.args.store.now in
+    let old : Standing = g.S.Stage.standing c.args.stage.now in
+    let mid : Standing = g.S.Stage.standing c.attach.new.stage in
+    let now = c.attach.ensures.serves.tells.0 tells in
+    let a = c.in-Ok.ensures.attached tells in
+    let after : Session = (answer story seed before (option_copied c.args.text)).session in
+    let here = subst (λ (q : Standing). Stores story before q.disk.bytes) (sym a.1) stores in
+    Passes_on _ _ _ _ _ _ (InAnswer story seed name before after old) _
+    (Passes_map _ _ _ _ _ (InAnswer story seed name before after old) (c.in-Ok.ensures.time tells)
+    (λ m i. answer_before story seed name before after old stores m
+    (in_attach old mid name (c.requires.synced tells) (λ n e. g.met.S.Stage.files_hold c.args.stage.now n tells e) (inl a.1) m i)))
+    (c.answer_kept.ensures.any_moment now X rows before may here)
+    (λ m i. answer_in_kept story seed name before after old mid m stores a.1 i)
