@@ -1,5 +1,5 @@
 -- From a store at rest to one that is attached, and what a crash leaves of all files meanwhile.
-use Rattle.std.proofs.Common.{◌≡◌, ◌≢◌, ◌⊎◌, inl, inr, ℕ, List, [], Option, Some, None, true, false, refl, sym, ap, ◌∙◌, subst, bytes_eq}
+use Rattle.std.proofs.Common.{◌≡◌, ◌≢◌, ◌⊎◌, inl, inr, ℕ, List, [], Option, Some, None, true, false, refl, sym, ap, ◌∙◌, subst, bytes_eq, length, ◌∷◌}
 use Rattle.std.specs.Prelude.{if◌then◌else◌}
 use Rattle.std.proofs.lemmas.Slice.Eq.{bytes_eq-Decides}
 use Rattle.paw_stage.specs.Disk.{IsStable, MayLeave, stable}
@@ -147,6 +147,10 @@ answer_in_kept g seed name before after old mid m stores is i =
     }
 
 -- ---- what it leaves ----
+
+pub no_bytes : (bytes : List ℕ) → length bytes ≡ 0 → bytes ≡ []
+no_bytes [] h = refl
+no_bytes (b ∷ bytes) h = cc
 
 -- no bytes are no session
 unmade : (bytes : List ℕ) → bytes ≡ [] → IsUnmade (recover bytes)
