@@ -41,19 +41,10 @@ module _ (g : Story) (seed : ℕ) (bytes : List ℕ) (some : 0 < length bytes) w
       record { body = grown ∙ ap (λ x. old ++ x) (last own es may stores); stores = stores }
   kept_told (Refused kept) old new piece may stores shows last grown = no_refused kept stores shows
 
-  -- it has one, which takes a text
-  pub kept_takes : (before : Session) (text old new left : List ℕ) → MayBe g before → Stores g before bytes → ShowsSome g bytes →
-      ((own : ℕ) (es : List (List ℕ)) → IsPlayedWith g own es → Stands g own es bytes → Answers g (taken g own es text) old new left) →
-      Answers g (answer g seed before (Some text)) old new left
-  unfolding answer
-  kept_takes Absent text old new left may stores shows takes = no_absent stores
-  kept_takes (At own es) text old new left may stores shows takes = takes own es may stores
-  kept_takes (Refused kept) text old new left may stores shows takes = no_refused kept stores shows
-
-  -- what holds of each session that takes the text holds of this one
-  pub kept_each : (P : Session → Session → Type 0) (before : Session) (text : List ℕ) → MayBe g before → Stores g before bytes → ShowsSome g bytes →
-      ((own : ℕ) (es : List (List ℕ)) → IsPlayedWith g own es → Stands g own es bytes → P (At own es) (taken g own es text).session) →
-      P before (answer g seed before (Some text)).session
+  -- it has one, which takes a text: what holds of each session that does so holds of this one
+  pub kept_each : (P : Session → Answer → Type 0) (before : Session) (text : List ℕ) → MayBe g before → Stores g before bytes → ShowsSome g bytes →
+      ((own : ℕ) (es : List (List ℕ)) → IsPlayedWith g own es → Stands g own es bytes → P (At own es) (taken g own es text)) →
+      P before (answer g seed before (Some text))
   unfolding answer
   kept_each P Absent text may stores shows each = no_absent stores
   kept_each P (At own es) text may stores shows each = each own es may stores
