@@ -89,22 +89,22 @@ returns-then-at-eq0-clause-any_moment g c = λ tells X rows before may stores.
 
 -- ---- one that was kept ----
 
-pub returns-clause-serves : goal.returns-clause-serves
-returns-clause-serves g c =
+pub returns-else-at-eq0-clause-serves : goal.returns-else-at-eq0-clause-serves
+returns-else-at-eq0-clause-serves g c =
     serves_then g.S.Stage _ _ (failed_stage_call c.answer_kept.result) _ _ _ c.in-Ok.ensures.serves
     (serves_among g.S.Stage _ _ (failed_stage_call c.answer_kept.result) _ _ reads_answer c.answer_kept.ensures.serves)
 
-pub returns-clause-synced : goal.returns-clause-synced
-returns-clause-synced g c = λ tells.
+pub returns-else-at-eq0-clause-synced : goal.returns-else-at-eq0-clause-synced
+returns-else-at-eq0-clause-synced g c = λ tells.
     on_ok_weaker c.answer_kept.result (λ r. r.stable) (c.answer_kept.ensures.rests (c.attach.ensures.serves.tells.0 tells))
 
-pub returns-clause-aside : goal.returns-clause-aside
-returns-clause-aside g c = λ tells.
+pub returns-else-at-eq0-clause-aside : goal.returns-else-at-eq0-clause-aside
+returns-else-at-eq0-clause-aside g c = λ tells.
     aside_beside c.args.store.now (g.S.Stage.standing c.args.stage.now) (g.S.Stage.standing c.attach.new.stage) (g.S.Stage.standing c.answer_kept.new.stage)
     (c.in-Ok.ensures.attached tells).1 (c.answer_kept.ensures.beside (c.attach.ensures.serves.tells.0 tells))
 
-pub returns-clause-meaning : goal.returns-clause-meaning
-returns-clause-meaning g c = λ tells X rows before may stores.
+pub returns-else-at-eq0-clause-meaning : goal.returns-else-at-eq0-clause-meaning
+returns-else-at-eq0-clause-meaning g c = λ tells X rows before may stores.
     let story : Story = story_of c.args.player.now.game X in
     let name = c.args.store.now in
     let old : Standing = g.S.Stage.standing c.args.stage.now in
@@ -119,8 +119,8 @@ returns-clause-meaning g c = λ tells X rows before may stores.
     (λ h. subst (λ b. Answers story (answer story c.args.hosted.now.seed before (option_copied c.args.text)) c.args.reply.now c.answer_kept.new.reply b) (sym there) h)
     (c.answer_kept.ensures.meaning now X rows before may here)
 
-pub returns-clause-any_moment : goal.returns-clause-any_moment
-returns-clause-any_moment g c = λ tells X rows before may stores.
+pub returns-else-at-eq0-clause-any_moment : goal.returns-else-at-eq0-clause-any_moment
+returns-else-at-eq0-clause-any_moment g c = λ tells X rows before may stores.
     let story : Story = story_of c.args.player.now.game X in
     let seed = c.args.hosted.now.seed in
     let name = c.args.store.now in
