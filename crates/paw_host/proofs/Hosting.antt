@@ -1,7 +1,7 @@
 -- The host, from line to line: what stands, and what stands at each moment.
 use Rattle.std.proofs.Common.{◌≡◌, ◌≢◌, ◌⊎◌, inl, inr, ℕ, zero, suc, ◌+◌, ◌<◌, ◌≤◌, ◌^◌, ◌==◌, List, [], ◌∷◌, ◌++◌, Option, Some, None, Bool, true, false}
 use Rattle.std.proofs.Common.{refl, sym, ap, ◌∙◌, subst, length, take, drop, arith, append_assoc}
-use Rattle.std.specs.Prelude.{All, position, if◌then◌else◌}
+use Rattle.std.specs.Prelude.{All, position, IfSome, if◌then◌else◌}
 use Rattle.std.proofs.lemmas.List.{append-nil, take-append-drop, length-drop, length-take}
 use Rattle.std.proofs.lemmas.List.Elements.{All-drop, All-take, All-head}
 use Rattle.paw_base.specs.declared.limits.TheConstants.{LINE_LIMIT}
@@ -12,14 +12,18 @@ use Rattle.paw_stage.specs.Disk.{IsStable}
 use Rattle.paw_stage.specs.Stage.{Standing, IsCut, file_bytes, with_shown}
 use Rattle.paw_stage.specs.Moments.{Moment, Passes, moment_of, InAsk, InShow}
 use Rattle.paw_stage.specs.declared.Asked.TheVariants as asked
+use Rattle.paw_stage.specs.Across.{IsOneOf}
+use Rattle.paw_play.specs.Calls.{session_calls}
 use Rattle.paw_play.proofs.Walking.{drop_more, drop_all}
 use Rattle.paw_host.specs.Names.{Request, parted, parted_at, request_in, request_of, is_name, store_name}
 use Rattle.paw_host.specs.Replies.{Sessions, reply_to, sessions_with, sessions_after, replies}
 use Rattle.paw_host.specs.Promise.{Stores, AllStore, AllLeft, EachLeft, KeepsUp, IsNotOf, InHost, Answered, BeginsWith}
-use Rattle.paw_host.specs.Hosts.{Hosts}
+use Rattle.paw_host.specs.Hosts.{HasTaken, Ends, Hosts}
+use Rattle.paw_host.specs.Outcomes.{failed_call}
+use Rattle.paw_host.specs.declared.lines.TheConstants.{HOST_LIMIT}
 use Rattle.paw_host.specs.declared.outcome.HostOutcome.{HostOutcome}
 use Rattle.paw_host.specs.declared.outcome.HostOutcome.TheVariants as outcome
-use Rattle.paw_host.specs.inner.Lines.{AllMay, Does, Doing, IsDone, InWork, IsServing, ServesTo}
+use Rattle.paw_host.specs.inner.Lines.{AllMay, Does, Doing, IsDone, InWork, IsServing, SameLines, ServesTo, TakesTo}
 use Rattle.paw_host.proofs.Continuing.{IfLine, all_may}
 use Rattle.paw_host.proofs.Reaching.{FilesHold, rest_left}
 use Rattle.paw_host.proofs.Serving.{sessions_more, replies_more, not_of_more}
@@ -271,6 +275,39 @@ hosts_by g seed first old new n (outcome.ImageDamaged _) h i = absurd h
 hosts_by g seed first old new n (outcome.Outside c) h i = i
 hosts_by g seed first old new n outcome.Memory h i = absurd h
 hosts_by g seed first old new n (outcome.Long lines) h i = absurd h
+
+-- ---- lines that were taken ----
+
+-- a line was asked for, and its reply was made and shown
+pub took_one : (old mid done new : Standing) (line shown : List ℕ) → old.lines ≡ line ∷ mid.lines → mid ≡ record old { lines = mid.lines; asked = old.asked + 1 } →
+    SameLines mid done → new ≡ with_shown shown done → TakesTo old new None
+took_one old mid done new line shown left took same grew = (
+  line,
+  left ∙ ap (λ x. line ∷ x) (sym (ap (λ (q : Standing). q.lines) grew ∙ same.lines)),
+  ap (λ (q : Standing). q.asked) grew ∙ same.asked ∙ ap (λ (q : Standing). q.asked) took,
+)
+
+pub taken_none : (old : Standing) → HasTaken old old 0
+taken_none old = record { there = omega arith; lines = refl; asked = omega arith }
+
+-- one line more
+pub taken_more : (old now new : Standing) (n : ℕ) → HasTaken old now n → TakesTo now new None → HasTaken old new (n + 1)
+taken_more old now new n h k =
+    let m = drop_more old.lines n k.0 new.lines (sym h.lines ∙ k.1) in
+    let count : suc n ≡ n + 1 = omega arith in
+    subst (HasTaken old new) count (record { there = m.1; lines = sym m.0; asked = omega (arith, k.2, h.asked) })
+
+-- none was left, or a call failed
+pub ends_by : (old now new : Standing) (n : ℕ) (o : HostOutcome) → HasTaken old now n → n < HOST_LIMIT → TakesTo now new (Some o) →
+    IfSome (failed_call o) (IsOneOf session_calls) → Ends old new o
+ends_by old now new n outcome.InputEnded h few k among =
+    let all : n ≡ length old.lines = drop_all old.lines n (sym h.lines ∙ k.0) h.there in
+    (omega (arith, all, few), subst (λ q. HasTaken old q (length old.lines)) (sym k.1) (subst (HasTaken old now) all h))
+ends_by old now new n outcome.Usage h few k among = absurd k
+ends_by old now new n (outcome.ImageDamaged _) h few k among = absurd k
+ends_by old now new n (outcome.Outside c) h few k among = among
+ends_by old now new n outcome.Memory h few k among = absurd k
+ends_by old now new n (outcome.Long lines) h few k among = absurd k
 
 -- before the first line
 pub at_first : (g : Story) (seed : ℕ) (first : Sessions) (old : Standing) → BeginsWith g first old → IsStable old.disk → FilesHold old →

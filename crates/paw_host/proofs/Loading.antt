@@ -11,7 +11,7 @@ use Rattle.paw_stage.specs.Stage.{Standing}
 use Rattle.paw_stage.specs.declared.StageCall.TheVariants as call
 use Rattle.paw_host.specs.Replies.{Sessions}
 use Rattle.paw_host.specs.Promise.{BeginsWith}
-use Rattle.paw_host.specs.Hosts.{Hosts, HostsFile, Holds, HoldsDamage, hosts, damaged, absent, failed, wanting}
+use Rattle.paw_host.specs.Hosts.{Ends, Hosts, HostsFile, Holds, HoldsDamage, hosts, damaged, absent, failed, wanting}
 use Rattle.paw_host.specs.declared.outcome.HostOutcome.{HostOutcome}
 use Rattle.paw_host.specs.declared.outcome.HostOutcome.TheVariants as outcome
 use Rattle.paw_host.specs.inner.Opens.{LoadsSome, LoadsNone, GivesNone}
@@ -85,6 +85,7 @@ undecoded rows name given bytes seed old new o e f h = unopened rows name given 
 
 -- a game that is hosted, at a stage where nothing has changed since the load
 pub hosted : (rows : List (List ℕ)) (name : List ℕ) (seed : ℕ) (old mid new : Standing) (o : HostOutcome) (g : GameLists) → Holds old name g → mid ≡ old →
-    ((first : Sessions) → BeginsWith (story_of g rows) first mid → Hosts (story_of g rows) seed first mid new o) → HostsFile rows name seed old new o
-hosted rows name seed old mid new o g holds still h =
-    hosts g o holds (subst (λ q. (first : Sessions) → BeginsWith (story_of g rows) first q → Hosts (story_of g rows) seed first q new o) still h)
+    Ends mid new o → ((first : Sessions) → BeginsWith (story_of g rows) first mid → Hosts (story_of g rows) seed first mid new o) → HostsFile rows name seed old new o
+hosted rows name seed old mid new o g holds still ends h =
+    hosts g o holds (subst (λ q. Ends q new o) still ends)
+    (subst (λ q. (first : Sessions) → BeginsWith (story_of g rows) first q → Hosts (story_of g rows) seed first q new o) still h)

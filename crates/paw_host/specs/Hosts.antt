@@ -1,18 +1,36 @@
 -- What hosting comes to.
-use Rattle.std.specs.Prelude.{◌≡◌, ℕ, List, [], ◌∷◌, length, Some, None}
+use Rattle.std.specs.Prelude.{◌≡◌, ℕ, ◌+◌, ◌<◌, ◌≤◌, List, [], ◌∷◌, length, drop, Some, None}
 use Rattle.paw_game.specs.Game.{GameLists}
 use Rattle.paw_image.specs.Damage.{bad}
 use Rattle.paw_image.specs.Images.{IsImage}
 use Rattle.paw_effects.specs.Story.{Story, story_of}
 use Rattle.paw_stage.specs.Stage.{Standing}
 use Rattle.paw_stage.specs.Moments.{Moment, moment_of}
+use Rattle.paw_stage.specs.Across.{IsOneOf}
 use Rattle.paw_stage.specs.declared.StageCall.{StageCall}
 use Rattle.paw_stage.specs.declared.StageCall.TheVariants as call
+use Rattle.paw_play.specs.Calls.{session_calls}
 use Rattle.paw_host.specs.Replies.{Sessions}
 use Rattle.paw_host.specs.Promise.{InHost, Answered, BeginsWith}
 use Rattle.paw_host.specs.declared.outcome.HostOutcome.{HostOutcome}
 use Rattle.paw_host.specs.declared.outcome.HostOutcome.TheVariants as outcome
 use Rattle.paw_host.specs.declared.lines.TheConstants.{HOST_LIMIT}
+
+-- so many lines were taken, in order
+pub record HasTaken (old new : Standing) (n : ℕ) : Type 0 where
+  pub there : n ≤ length old.lines
+  pub lines : new.lines ≡ drop n old.lines
+  pub asked : new.asked ≡ old.asked + n
+
+-- How taking lines ends, whatever files there are: all lines were taken, and they are fewer than the host takes; or as
+-- many as it takes were taken, and the next one would be asked for; or one of its calls failed; or memory was wanting
+-- before the first line was asked for.
+abbrev pub Ends : Standing → Standing → HostOutcome → Type 0
+Ends old new outcome.InputEnded = (length old.lines < HOST_LIMIT) × HasTaken old new (length old.lines)
+Ends old new (outcome.Long lines) = (lines ≡ HOST_LIMIT) × HasTaken old new HOST_LIMIT
+Ends old new (outcome.Outside c) = IsOneOf session_calls c
+Ends old new outcome.Memory = new ≡ old
+Ends old new _ = ⊥
 
 -- What taking lines comes to. Where a call failed, what stands then is a moment of the host.
 abbrev pub Hosts : Story → ℕ → Sessions → Standing → Standing → HostOutcome → Type 0
@@ -34,7 +52,7 @@ HoldsDamage s name at = (bytes : List ℕ) × (s.files name ≡ Some bytes) × (
 -- What hosting the game of an image file comes to, with these rows of routines, whatever sessions there are; or why it
 -- isn't hosted, with nothing changed.
 pub data HostsFile (rows : List (List ℕ)) (name : List ℕ) (seed : ℕ) (old new : Standing) : HostOutcome → Type 0 where
-  hosts : (g : GameLists) (o : HostOutcome) → Holds old name g →
+  hosts : (g : GameLists) (o : HostOutcome) → Holds old name g → Ends old new o →
       ((first : Sessions) → BeginsWith (story_of g rows) first old → Hosts (story_of g rows) seed first old new o) →
       HostsFile rows name seed old new o
   damaged : (at : ℕ) → HoldsDamage old name at → new ≡ old → HostsFile rows name seed old new (outcome.ImageDamaged at)

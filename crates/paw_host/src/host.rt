@@ -12,7 +12,7 @@ ghost use Rattle.paw_host.specs.Words.{asked_for};
 ghost use Rattle.paw_play.specs.inner.OnTheWay.{EachStory};
 ghost use Rattle.paw_host.specs.Replies.{Sessions};
 ghost use Rattle.paw_host.specs.Promise.{BeginsWith, InHost};
-ghost use Rattle.paw_host.specs.Hosts.{load_calls, Hosts, HostsFile, HostsAtEachMoment};
+ghost use Rattle.paw_host.specs.Hosts.{load_calls, Ends, Hosts, HostsFile, HostsAtEachMoment};
 ghost use Rattle.paw_host.specs.inner.Answers.{IsMeasureOf};
 ghost use Rattle.paw_host.specs.declared.outcome.HostOutcome.TheVariants as outcome;
 
@@ -40,6 +40,7 @@ fn host_game<S: Stage, T: Tables, F: Fn(u8, u8) -> u8>(
     requires synced { S.Tells stage.old → IsStable (S.standing stage.old).disk }
     ensures form { result ≢ outcome.Usage }
     ensures serves { Serves S.Stage session_calls (failed_call result) stage.old stage.new }
+    ensures ends { Across S.Stage stage.old stage.new (λ old new. Ends old new result) }
     ensures meaning { Across S.Stage stage.old stage.new (λ old new.
         EachStory F.Fn routines.now (T.game hosted.now.tables.now) (λ g. (first : Sessions) →
         BeginsWith g first old → Hosts g hosted.now.seed first old new result)) }

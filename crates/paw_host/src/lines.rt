@@ -14,12 +14,12 @@ ghost use Rattle.paw_play.specs.inner.OnTheWay.{EachStory};
 ghost use Rattle.paw_host.specs.Names.{is_name, request_in};
 ghost use Rattle.paw_host.specs.Replies.{Sessions, reply as spoken};
 ghost use Rattle.paw_host.specs.Promise.{AllStore, BeginsWith, InHost};
-ghost use Rattle.paw_host.specs.Hosts.{Hosts};
+ghost use Rattle.paw_host.specs.Hosts.{Ends, Hosts};
 ghost use Rattle.paw_host.specs.Outcomes.{failed_call, failed_so_far};
 ghost use Rattle.paw_host.specs.declared.outcome.HostOutcome.TheVariants as outcome;
 ghost use Rattle.paw_host.specs.inner.Names.{asks};
 ghost use Rattle.paw_host.specs.inner.Answers.{answer_calls, IsMeasureOf};
-ghost use Rattle.paw_host.specs.inner.Lines.{AllMay, Does, Doing, EachServing, ServesTo};
+ghost use Rattle.paw_host.specs.inner.Lines.{AllMay, Does, Doing, EachServing, SameLines, ServesTo, TakesTo};
 
 use crate::answer::{Hosted, answer};
 use crate::names::{Request, StoreName, request_in};
@@ -99,6 +99,7 @@ impl<'a, T: Tables, F: Fn(u8, u8) -> u8> Seats<'a, T, F> {
         ensures routines { self.new.player.routines ≡ self.old.player.routines }
         ensures serves { Serves S.Stage answer_calls (failed_stage_call result) stage.old stage.new }
         ensures synced { S.Tells stage.old → OnOk result (IsStable (S.standing stage.new).disk) }
+        ensures lines { Across S.Stage stage.old stage.new SameLines }
         ensures done { Across S.Stage stage.old stage.new (λ old new.
             EachStory F.Fn self.old.player.routines self.old.player.game (λ g. (sessions : Sessions) →
             AllMay g sessions → AllStore g sessions old →
@@ -145,6 +146,7 @@ impl<'a, T: Tables, F: Fn(u8, u8) -> u8> Seats<'a, T, F> {
         ensures routines { self.new.player.routines ≡ self.old.player.routines }
         ensures serves { Serves S.Stage answer_calls (failed_stage_call result) stage.old stage.new }
         ensures synced { S.Tells stage.old → OnOk result (IsStable (S.standing stage.new).disk) }
+        ensures lines { Across S.Stage stage.old stage.new SameLines }
         ensures done { Across S.Stage stage.old stage.new (λ old new.
             EachStory F.Fn self.old.player.routines self.old.player.game (λ g. (sessions : Sessions) →
             AllMay g sessions → AllStore g sessions old →
@@ -177,6 +179,7 @@ impl<'a, T: Tables, F: Fn(u8, u8) -> u8> Seats<'a, T, F> {
         ensures form { IfSome result (λ o. o ≢ outcome.Usage) }
         ensures serves { Serves S.Stage session_calls (failed_so_far result) stage.old stage.new }
         ensures synced { S.Tells stage.old → IfNone result (IsStable (S.standing stage.new).disk) }
+        ensures takes { Across S.Stage stage.old stage.new (λ old new. TakesTo old new result) }
         ensures meaning { Across S.Stage stage.old stage.new (λ old new.
             EachStory F.Fn self.old.player.routines self.old.player.game (λ g.
             EachServing g hosted.now.seed old (λ first start n. ServesTo g hosted.now.seed first start new n result))) }
@@ -216,6 +219,7 @@ impl<'a, T: Tables, F: Fn(u8, u8) -> u8> Seats<'a, T, F> {
         requires synced { S.Tells stage.old → IsStable (S.standing stage.old).disk }
         ensures form { result ≢ outcome.Usage }
         ensures serves { Serves S.Stage session_calls (failed_call result) stage.old stage.new }
+        ensures ends { Across S.Stage stage.old stage.new (λ old new. Ends old new result) }
         ensures meaning { Across S.Stage stage.old stage.new (λ old new.
             EachStory F.Fn self.old.player.routines self.old.player.game (λ g. (first : Sessions) →
             BeginsWith g first old → Hosts g hosted.now.seed first old new result)) }

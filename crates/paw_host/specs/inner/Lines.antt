@@ -1,5 +1,5 @@
 -- What stands on the way from line to line.
-use Rattle.std.specs.Prelude.{◌≡◌, ◌≢◌, ℕ, suc, ◌<◌, ◌^◌, true, List, length, take, All, Option, Some, None}
+use Rattle.std.specs.Prelude.{◌≡◌, ◌≢◌, ℕ, suc, ◌+◌, ◌<◌, ◌^◌, true, List, [], ◌∷◌, length, take, All, Option, Some, None}
 use Rattle.paw_effects.specs.Story.{Story}
 use Rattle.paw_effects.specs.Standing.{AreBytes}
 use Rattle.paw_stage.specs.Disk.{IsStable}
@@ -14,6 +14,18 @@ use Rattle.paw_host.specs.declared.outcome.HostOutcome.TheVariants as outcome
 -- each of the sessions may be
 abbrev pub AllMay : Story → Sessions → Type 0
 AllMay g sessions = (name : List ℕ) → is_name name ≡ true → MayBe g (sessions name)
+
+-- no line is taken
+pub record SameLines (old new : Standing) : Type 0 where
+  pub lines : new.lines ≡ old.lines
+  pub asked : new.asked ≡ old.asked
+
+-- One line is taken; or none was left. Where a call failed nothing is told.
+abbrev pub TakesTo : Standing → Standing → Option HostOutcome → Type 0
+TakesTo old new None = (line : List ℕ) × (old.lines ≡ line ∷ new.lines) × (new.asked ≡ old.asked + 1)
+TakesTo old new (Some outcome.InputEnded) = (old.lines ≡ []) × (new ≡ old)
+TakesTo old new (Some (outcome.Outside c)) = Unit {0}
+TakesTo old new (Some _) = ⊥
 
 -- this file isn't the one of the name that is asked for
 abbrev pub IsNotFor : Option Request → List ℕ → Type 0

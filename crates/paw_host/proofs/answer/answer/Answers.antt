@@ -61,7 +61,7 @@ returns-then-at-eq0-clause-meaning g c = λ tells X rows before may stores.
     let a = c.in-Ok.ensures.attached tells in
     let none = none_stored story before (file_bytes old name) (no_bytes (file_bytes old name) (sym a.0 ∙ c.if-at-eq0.true)) stores in
     let there = g.met.S.Stage.files_hold c.answer_new.new.stage name (c.answer_new.ensures.serves.tells.0 now)
-        (attached_still name old mid new a.1 (c.answer_new.ensures.beside now)) in
+    (attached_still name old mid new a.1 (c.answer_new.ensures.beside now)) in
     on_ok_weaker c.answer_new.result
     (λ h. subst (λ s. Answers story (answer story seed s text) c.args.reply.now c.answer_new.new.reply (file_bytes new name)) (sym none)
     (subst (λ b. Answers story (answer story seed Absent text) c.args.reply.now c.answer_new.new.reply b) (sym there) h))
@@ -113,7 +113,7 @@ returns-else-at-eq0-clause-meaning g c = λ tells X rows before may stores.
     let now = c.attach.ensures.serves.tells.0 tells in
     let a = c.in-Ok.ensures.attached tells in
     let there = g.met.S.Stage.files_hold c.answer_kept.new.stage name (c.answer_kept.ensures.serves.tells.0 now)
-        (attached_still name old mid new a.1 (c.answer_kept.ensures.beside now)) in
+    (attached_still name old mid new a.1 (c.answer_kept.ensures.beside now)) in
     let here = subst (λ (q : Standing). Stores story before q.disk.bytes) (sym a.1) stores in
     on_ok_weaker c.answer_kept.result
     (λ h. subst (λ b. Answers story (answer story c.args.hosted.now.seed before (option_copied c.args.text)) c.args.reply.now c.answer_kept.new.reply b) (sym there) h)

@@ -102,13 +102,13 @@ returns-in-Some-clause-meaning g c = λ tells X rows before may stores.
     (kept_each story seed old.disk.bytes (omega (arith, c.requires.some, c.requires.attached tells))
     (λ b a. OnOk c.take_text.result (Answers story a c.args.reply.now c.take_text.new.reply new.disk.bytes)) before text may stores t.0
     (λ first es played stands.
-        let u = t.1 first es played stands in
-        subst (λ (h : GameLists). OnOk c.take_text.result
-        (Answers (story_of h X) (taken (story_of h X) first es text) c.args.reply.now c.take_text.new.reply new.disk.bytes)) game
-        (c.take_text.ensures.meaning (c.take_up.ensures.serves.tells.0 tells) X own first es
-        (subst (λ (h : GameLists). SitsAt (story_of h X) first es c.take_up.new.player) (sym game) u.0) u.1
-        (subst (λ (h : GameLists). Stands (story_of h X) first es mid.disk.bytes) (sym game)
-        (subst (λ (q : Standing). Stands story first es q.disk.bytes) (sym (c.take_up.ensures.still tells)) stands)))))
+    let u = t.1 first es played stands in
+    subst (λ (h : GameLists). OnOk c.take_text.result
+    (Answers (story_of h X) (taken (story_of h X) first es text) c.args.reply.now c.take_text.new.reply new.disk.bytes)) game
+    (c.take_text.ensures.meaning (c.take_up.ensures.serves.tells.0 tells) X own first es
+    (subst (λ (h : GameLists). SitsAt (story_of h X) first es c.take_up.new.player) (sym game) u.0) u.1
+    (subst (λ (h : GameLists). Stands (story_of h X) first es mid.disk.bytes) (sym game)
+    (subst (λ (q : Standing). Stands story first es q.disk.bytes) (sym (c.take_up.ensures.still tells)) stands)))))
 
 pub returns-in-Some-clause-any_moment : goal.returns-in-Some-clause-any_moment
 returns-in-Some-clause-any_moment g c = λ tells X rows before may stores.
@@ -128,17 +128,17 @@ returns-in-Some-clause-any_moment g c = λ tells X rows before may stores.
     (λ b a. Stores story b old.disk.bytes → Passes (g.S.Stage.clock c.args.stage.now) (g.S.Stage.clock c.take_text.new.stage) (g.S.Stage.since c.args.stage.now)
     (g.S.Stage.since c.take_text.new.stage) (InFile (StoresEither story b a.session) old)) before text may stores t.0
     (λ first es played stands here.
-        let u = t.1 first es played stands in
-        let after : Session = (taken story first es text).session in
-        Passes_on _ _ _ _ _ _ (InFile (StoresEither story (At first es) after) old) _
-        (Passes_map _ _ _ _ _ (InFile (StoresEither story (At first es) after) old) (c.take_up.ensures.time tells)
-        (λ m i. still_in_file story (At first es) after old m rests here i))
-        (c.take_text.ensures.any_moment (c.take_up.ensures.serves.tells.0 tells) X own first es
-        (subst (λ (h : GameLists). SitsAt (story_of h X) first es c.take_up.new.player) (sym game) u.0) u.1
-        (subst (λ (h : GameLists). Stands (story_of h X) first es mid.disk.bytes) (sym game)
-        (subst (λ (q : Standing). Stands story first es q.disk.bytes) (sym (c.take_up.ensures.still tells)) stands)))
-        (λ m i. subst (λ q. InFile (StoresEither story (At first es) after) q m) (c.take_up.ensures.still tells)
-        (subst (λ (h : GameLists). InFile (StoresEither (story_of h X) (At first es) (taken (story_of h X) first es text).session) mid m) game i)))
+    let u = t.1 first es played stands in
+    let after : Session = (taken story first es text).session in
+    Passes_on _ _ _ _ _ _ (InFile (StoresEither story (At first es) after) old) _
+    (Passes_map _ _ _ _ _ (InFile (StoresEither story (At first es) after) old) (c.take_up.ensures.time tells)
+    (λ m i. still_in_file story (At first es) after old m rests here i))
+    (c.take_text.ensures.any_moment (c.take_up.ensures.serves.tells.0 tells) X own first es
+    (subst (λ (h : GameLists). SitsAt (story_of h X) first es c.take_up.new.player) (sym game) u.0) u.1
+    (subst (λ (h : GameLists). Stands (story_of h X) first es mid.disk.bytes) (sym game)
+    (subst (λ (q : Standing). Stands story first es q.disk.bytes) (sym (c.take_up.ensures.still tells)) stands)))
+    (λ m i. subst (λ q. InFile (StoresEither story (At first es) after) q m) (c.take_up.ensures.still tells)
+    (subst (λ (h : GameLists). InFile (StoresEither (story_of h X) (At first es) (taken (story_of h X) first es text).session) mid m) game i)))
     stores)
 
 -- ---- none is ----

@@ -39,7 +39,7 @@ returns-clause-comes g c = λ tells. rw c.in-Some.ensures.value
     let game = game_read c.in-Ok-view_in.view in
     hosted X c.in-Some.call.image.now c.in-Some.call.seed _ _ _ c.host_game.result game
     (holds_loaded c.in-Some.call.image.now _ _ _ _ game c.as_slice.ensures.value f c.in-Ok-view_in.ensures.found) f.3
-    (c.host_game.ensures.meaning (c.load.ensures.serves.tells.0 tells) X rows))
+    (c.host_game.ensures.ends (c.load.ensures.serves.tells.0 tells)) (c.host_game.ensures.meaning (c.load.ensures.serves.tells.0 tells) X rows))
 
 pub returns-in-Err-clause-moments : goal.returns-in-Err-clause-moments
 returns-in-Err-clause-moments g c = λ tells. rw c.in-Some.ensures.value

@@ -14,6 +14,12 @@ use Rattle.paw_host.proofs.lines.Seats.answer.Goals as goal
 pub begin-requires : goal.begin-requires
 begin-requires g c = record { short = leb-true (length c.args.request.name.now) 16 (name_short c.args.request.name.now c.requires.name) }
 
+pub returns-in-Err-clause-lines : goal.returns-in-Err-clause-lines
+returns-in-Err-clause-lines g c = λ tells. let a = c.answer.ensures.aside tells in record { lines = a.lines; asked = a.asked }
+
+pub returns-clause-lines : goal.returns-clause-lines
+returns-clause-lines g c = λ tells. let a = c.answer.ensures.aside tells in record { lines = a.lines; asked = a.asked }
+
 pub returns-clause-done : goal.returns-clause-done
 returns-clause-done g c = λ tells X rows sessions may stores.
     let story : Story = story_of c.args.self.now.player.game X in

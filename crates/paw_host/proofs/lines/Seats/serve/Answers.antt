@@ -8,7 +8,7 @@ use Rattle.paw_host.specs.Promise.{InHost}
 use Rattle.paw_host.specs.inner.Lines.{IsServing}
 use Rattle.paw_host.proofs.Calls.{answers_serve, shows_serve}
 use Rattle.paw_host.proofs.Reaching.{FilesHold}
-use Rattle.paw_host.proofs.Hosting.{asked_settled, shown_settled, all_answered, still_at_prompt, cut_request}
+use Rattle.paw_host.proofs.Hosting.{asked_settled, shown_settled, all_answered, still_at_prompt, cut_request, took_one}
 use Rattle.paw_host.proofs.Hosting.{mid_stores, in_ask, in_doing, in_show, serves_next}
 use Rattle.paw_host.proofs.lines.Seats.serve.Goals as goal
 
@@ -44,6 +44,14 @@ pub returns-in-Ok-show-clause-synced : goal.returns-in-Ok-show-clause-synced
 returns-in-Ok-show-clause-synced g c = λ tells.
     let asked = c.ask.ensures.tells.0 tells in
     shown_settled (g.S.Stage.standing c.reply.new.stage) (g.S.Stage.standing c.show.new.stage) c.bytes.result.now (c.in-Ok-show.ensures.shown (c.reply.ensures.serves.tells.0 asked)) (c.in-Ok.ensures.synced asked)
+
+pub returns-in-Ok-show-clause-takes : goal.returns-in-Ok-show-clause-takes
+returns-in-Ok-show-clause-takes g c = λ tells.
+    let a = c.in-Line.ensures.answer tells in
+    let asked = c.ask.ensures.tells.0 tells in
+    took_one (g.S.Stage.standing c.args.stage.now) (g.S.Stage.standing c.ask.new.self) (g.S.Stage.standing c.reply.new.stage)
+    (g.S.Stage.standing c.show.new.stage) a.0 c.bytes.result.now a.1 a.3 (c.reply.ensures.lines asked)
+    (c.in-Ok-show.ensures.shown (c.reply.ensures.serves.tells.0 asked))
 
 pub returns-in-End-clause-meaning : goal.returns-in-End-clause-meaning
 returns-in-End-clause-meaning g c = λ tells X rows first start n small bytes s.

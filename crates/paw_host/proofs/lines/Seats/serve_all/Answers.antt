@@ -5,10 +5,11 @@ use Rattle.paw_journal.proofs.Serving.{serves_none, serves_then}
 use Rattle.paw_routines.specs.Routines.{AreRowsOf}
 use Rattle.paw_effects.specs.Story.{story_of}
 use Rattle.paw_host.specs.Outcomes.{failed_call}
+use Rattle.paw_host.specs.Hosts.{HasTaken}
 use Rattle.paw_host.specs.Promise.{Answered, InHost}
 use Rattle.paw_host.specs.inner.Lines.{IsServing, ServesTo}
 use Rattle.paw_host.proofs.Reaching.{FilesHold}
-use Rattle.paw_host.proofs.Hosting.{serving_first, at_first, ends_inside, hosts_by}
+use Rattle.paw_host.proofs.Hosting.{serving_first, at_first, ends_inside, hosts_by, taken_none, taken_more, ends_by}
 use Rattle.paw_host.proofs.lines.Seats.serve_all.Goals as goal
 
 pub loop-init : goal.loop-init
@@ -19,12 +20,25 @@ loop-init g c = record {
   few = omega arith;
   serves = serves_none g.S.Stage _ _;
   synced = c.requires.synced;
+  taken = λ tells. taken_none _;
   serving = λ tells X rows first b. serving_first _ _ first _ b (c.requires.synced tells);
   passes = λ tells X rows first b. Passes_none _ _ _;
 }
 
 pub returns-in-Some-clause-serves : goal.returns-in-Some-clause-serves
 returns-in-Some-clause-serves g c = serves_then g.S.Stage _ _ (failed_call c.in-Some.outcome) _ _ _ c.loop.invariant.serves c.in-Some.ensures.serves
+
+pub returns-in-Some-clause-ends : goal.returns-in-Some-clause-ends
+returns-in-Some-clause-ends g c = λ tells.
+    let i = c.loop.invariant in
+    ends_by (g.S.Stage.standing c.args.stage.now) (g.S.Stage.standing c.loop.stage) (g.S.Stage.standing c.serve.new.stage) c.loop.counter c.in-Some.outcome
+    (i.taken tells) c.loop-test.true (c.in-Some.ensures.takes (i.serves.tells.0 tells)) c.in-Some.ensures.serves.among
+
+pub returns-clause-ends : goal.returns-clause-ends
+returns-clause-ends g c = λ tells.
+    let i = c.loop.invariant in
+    let all : c.loop.counter ≡ 1000000000 = omega (arith, i.few, c.loop-test.false) in
+    (refl, subst (HasTaken (g.S.Stage.standing c.args.stage.now) (g.S.Stage.standing c.loop.stage)) all (i.taken tells))
 
 pub returns-in-Some-clause-any_moment : goal.returns-in-Some-clause-any_moment
 returns-in-Some-clause-any_moment g c = λ tells X rows first b.
@@ -83,6 +97,8 @@ loop-preserved g c =
       few = omega (arith, c.loop-test.true);
       serves = serves_then g.S.Stage _ _ None _ _ _ i.serves c.in_default.ensures.serves;
       synced = λ tells. c.in_default.ensures.synced (c.serve.ensures.serves.tells.1 tells);
+      taken = λ tells.
+          taken_more start now next c.loop.counter (i.taken tells) (c.in_default.ensures.takes (i.serves.tells.0 tells));
       serving = λ tells X rows first b.
           let own = subst (λ r. AreRowsOf g.F.Fn r X) (sym i.routines) rows in
           let serving = subst (λ k. IsServing (story_of k X) seed first start now c.loop.counter) (sym i.game) (i.serving tells X rows first b) in

@@ -7,6 +7,7 @@ use Rattle.paw_effects.specs.Story.{story_of}
 use Rattle.paw_turn.specs.inner.Player.{IsSeated}
 use Rattle.paw_play.specs.Calls.{session_calls}
 use Rattle.paw_host.specs.Replies.{Sessions}
+use Rattle.paw_host.specs.Hosts.{HasTaken}
 use Rattle.paw_host.specs.Promise.{BeginsWith, InHost}
 use Rattle.paw_host.specs.inner.Lines.{IsServing}
 use Rattle.paw_host.specs.declared.lines.TheConstants.{HOST_LIMIT}
@@ -21,6 +22,7 @@ invariant-loop g l = record {
   few : l.counter ≤ HOST_LIMIT;
   serves : Serves g.S.Stage session_calls None l.fn.stage l.stage;
   synced : g.S.Stage.Tells l.stage → IsStable (g.S.Stage.standing l.stage).disk;
+  taken : g.S.Stage.Tells l.fn.stage → HasTaken (g.S.Stage.standing l.fn.stage) (g.S.Stage.standing l.stage) l.counter;
   serving : g.S.Stage.Tells l.fn.stage → (X : List (List ℕ)) → AreRowsOf g.F.Fn l.fn.self.player.routines X → (first : Sessions) →
       BeginsWith (story_of l.fn.self.player.game X) first (g.S.Stage.standing l.fn.stage) →
       IsServing (story_of l.fn.self.player.game X) l.fn.hosted.seed first (g.S.Stage.standing l.fn.stage) (g.S.Stage.standing l.stage) l.counter;
