@@ -12,3 +12,4 @@ pub mod Hosting
 pub mod Continuing
 pub mod Calls
 pub mod Loading
+pub mod Alone

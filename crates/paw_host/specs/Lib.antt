@@ -5,4 +5,5 @@ pub mod Promise
 pub mod Outcomes
 pub mod Words
 pub mod Hosts
+pub mod Laws
 pub mod inner

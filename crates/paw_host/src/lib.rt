@@ -3,6 +3,7 @@
 
 mod answer;
 pub mod host;
+pub mod laws;
 pub mod lines;
 mod names;
 mod open;

@@ -1,0 +1,70 @@
+-- The laws of hosting: each plays as if alone.
+use Rattle.std.specs.Prelude.{◌≡◌, ℕ, List, [], ◌∷◌, ◌++◌, map, Option, Some, None, if◌then◌else◌}
+use Rattle.std.specs.Str.{bytes_eq}
+use Rattle.paw_effects.specs.Story.{Story}
+use Rattle.paw_effects.specs.declared.act.Prompt.{Prompt}
+use Rattle.paw_reading.specs.declared.places.Frame.{Frame}
+use Rattle.paw_reading.specs.Run.{Run}
+use Rattle.paw_reading.specs.Turn.{WaitsAt, reading, pieces_of}
+use Rattle.paw_host.specs.Names.{Request, request_of}
+use Rattle.paw_host.specs.Replies.{Session, Absent, At, Sessions, answer, sessions_with, sessions_after}
+
+-- ---- one name among others ----
+
+-- what a line asks of this name, if it does, and then what comes later
+abbrev pub asked_first : List ℕ → Option Request → List (Option (List ℕ)) → List (Option (List ℕ))
+asked_first name None later = later
+asked_first name (Some r) later = if bytes_eq name r.name then r.text ∷ later else later
+
+-- what these lines ask of this name, in order: no text, or this one
+unfoldable pub asked_of : List ℕ → List (List ℕ) → List (Option (List ℕ))
+asked_of name [] = []
+asked_of name (line ∷ lines) = asked_first name (request_of line) (asked_of name lines)
+
+-- the answer to a line that asks something of this name, if it does, and then what comes later
+abbrev pub answered_first : Story → ℕ → Sessions → List ℕ → Option Request → List (List ℕ) → List (List ℕ)
+answered_first g seed sessions name None later = later
+answered_first g seed sessions name (Some r) later =
+    if bytes_eq name r.name then (answer g seed (sessions r.name) r.text).body ∷ later else later
+
+-- the answers in the replies to these lines that are to this name, in order
+unfoldable pub answered_to : Story → ℕ → Sessions → List ℕ → List (List ℕ) → List (List ℕ)
+answered_to g seed sessions name [] = []
+answered_to g seed sessions name (line ∷ lines) =
+    answered_first g seed sessions name (request_of line)
+    (answered_to g seed (sessions_with g seed sessions (request_of line)) name lines)
+
+-- ---- one session alone ----
+
+-- a session, once all this was asked of it
+unfoldable pub session_after : Story → ℕ → Session → List (Option (List ℕ)) → Session
+session_after g seed session [] = session
+session_after g seed session (text ∷ texts) = session_after g seed (answer g seed session text).session texts
+
+-- its answers, in order
+unfoldable pub answers_of : Story → ℕ → Session → List (Option (List ℕ)) → List (List ℕ)
+answers_of g seed session [] = []
+answers_of g seed session (text ∷ texts) =
+    (answer g seed session text).body ∷ answers_of g seed (answer g seed session text).session texts
+
+-- ---- the laws ----
+
+-- The session of a name, and what the name is answered, come of that session and of what is asked of that name alone.
+pub record EachPlaysAlone : Type 0 where
+  pub session : (g : Story) (seed : ℕ) (sessions : Sessions) (name : List ℕ) (lines : List (List ℕ)) →
+      sessions_after g seed sessions lines name ≡ session_after g seed (sessions name) (asked_of name lines)
+  pub answers : (g : Story) (seed : ℕ) (sessions : Sessions) (name : List ℕ) (lines : List (List ℕ)) →
+      answered_to g seed sessions name lines ≡ answers_of g seed (sessions name) (asked_of name lines)
+
+-- Where a session took all texts that were asked of it, and its reading then waits, it answered them with the pieces of
+-- that reading, one for each. One that was begun by the name alone was answered with all pieces of its reading.
+pub record PiecesAreAnswered : Type 0 where
+  pub later : (g : Story) (seed : ℕ) (es texts : List (List ℕ)) (p : Prompt) (path : List Frame) (r : Run) →
+      session_after g seed (At seed es) (map Some texts) ≡ At seed (es ++ texts) →
+      reading g seed (es ++ texts) ≡ WaitsAt p path r →
+      pieces_of (reading g seed (es ++ texts))
+      ≡ pieces_of (reading g seed es) ++ answers_of g seed (At seed es) (map Some texts)
+  pub first : (g : Story) (seed : ℕ) (texts : List (List ℕ)) (p : Prompt) (path : List Frame) (r : Run) →
+      session_after g seed Absent (None ∷ map Some texts) ≡ At seed texts →
+      reading g seed texts ≡ WaitsAt p path r →
+      answers_of g seed Absent (None ∷ map Some texts) ≡ pieces_of (reading g seed texts)
