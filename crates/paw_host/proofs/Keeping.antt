@@ -1,5 +1,5 @@
 -- Answers of a session that was kept.
-use Rattle.std.proofs.Common.{◌≡◌, ◌≢◌, ◌⊎◌, inl, inr, ℕ, ◌<◌, List, [], ◌∷◌, ◌++◌, refl, sym, ap, ◌∙◌, subst, length, arith, Option, Some, None}
+use Rattle.std.proofs.Common.{◌≡◌, inl, ℕ, ◌<◌, List, [], ◌++◌, refl, sym, ap, ◌∙◌, subst, length, arith, Option, Some, None}
 use Rattle.std.specs.Prelude.{codes}
 use Rattle.paw_effects.specs.Story.{Story}
 use Rattle.paw_reading.specs.Turn.{reading, pieces_of}
@@ -8,13 +8,12 @@ use Rattle.paw_stage.specs.Stage.{Standing}
 use Rattle.paw_stage.specs.Moments.{Moment, moment_of}
 use Rattle.paw_journal.proofs.Disks.{stable_leaves}
 use Rattle.paw_state.specs.Record.{last_piece}
-use Rattle.paw_turn.specs.inner.Player.{Seat}
 use Rattle.paw_play.specs.Stands.{Stands, IsPlayedWith}
 use Rattle.paw_play.specs.Laws.{ShowsSome}
 use Rattle.paw_play.proofs.Standing.{standing_shows}
 use Rattle.paw_host.specs.Replies.{Session, Absent, At, Refused, Answer, taken, answer}
 use Rattle.paw_host.specs.Promise.{Stores, MayBe}
-use Rattle.paw_host.specs.inner.Answers.{SitsAt, Answers, InFile, StoresEither}
+use Rattle.paw_host.specs.inner.Answers.{Answers, InFile, StoresEither}
 
 module _ (g : Story) (seed : ℕ) (bytes : List ℕ) (some : 0 < length bytes) where
   no_absent : {A : Type 0} → bytes ≡ [] → A

@@ -1,10 +1,9 @@
 -- Sessions that are begun, and sessions that are taken up.
-use Rattle.std.proofs.Common.{◌≡◌, ◌≢◌, ◌⊎◌, inl, inr, ℕ, ◌+◌, ◌*◌, ◌<◌, List, [], ◌∷◌, ◌++◌, refl, sym, ap, ◌∙◌, subst, true, take, length, get_or, arith}
-use Rattle.std.proofs.Common.{Option, Some, None, codes, Result, Ok, Err}
+use Rattle.std.proofs.Common.{◌≡◌, ◌≢◌, inl, inr, ℕ, ◌+◌, ◌*◌, ◌<◌, List, [], ◌∷◌, ◌++◌, refl, sym, ap, ◌∙◌, subst, true, take, length, get_or, arith}
+use Rattle.std.proofs.Common.{Some, codes}
 use Rattle.std.proofs.lemmas.List.{append-nil, get_or-take, take_all}
 use Rattle.std.specs.Prelude.{reverse}
 use Rattle.sha2.specs.Sha256.{sha256}
-use Rattle.paw_base.specs.declared.limits.TheConstants.{EVENT_LIMIT}
 use Rattle.paw_game.specs.Game.{GameLists}
 use Rattle.paw_game.specs.Image.{image}
 use Rattle.paw_stage.specs.Stage.{Standing}
@@ -12,9 +11,8 @@ use Rattle.paw_stage.specs.Moments.{Moment}
 use Rattle.paw_effects.specs.Story.{Story}
 use Rattle.paw_effects.specs.declared.act.Prompt.{Prompt}
 use Rattle.paw_effects.specs.declared.act.Prompt.TheVariants as prompt
-use Rattle.paw_reading.specs.Run.{Run, Step as Read}
-use Rattle.paw_reading.specs.Reading.{IsOver, RunsOut, CallsTooDeep}
-use Rattle.paw_reading.specs.Turn.{Ending, Halted, reading, on, pieces_of}
+use Rattle.paw_reading.specs.Reading.{IsOver}
+use Rattle.paw_reading.specs.Turn.{reading, on, pieces_of}
 use Rattle.paw_turn.specs.inner.Player.{Seat, run_at, PlaysTo, IsSeated, StandsClosed}
 use Rattle.paw_turn.specs.inner.Parts.{seat_at, prompt_step}
 use Rattle.paw_turn.specs.declared.Step.{Step}
@@ -22,7 +20,7 @@ use Rattle.paw_turn.specs.declared.Step.TheVariants as step
 use Rattle.paw_routines.specs.declared.routines.Routines.{Routines}
 use Rattle.paw_stage.specs.declared.StageCall.{StageCall}
 use Rattle.paw_routines.specs.Measure.{measure}
-use Rattle.paw_journal.specs.Session.{Digests, Recovered, Unmade, Damaged, Shown, IsUnmade, recover, state_length, piece_length}
+use Rattle.paw_journal.specs.Session.{Digests, Unmade, Damaged, Shown, recover, state_length, piece_length}
 use Rattle.paw_journal.proofs.ShownPieces.{shown_long}
 use Rattle.paw_journal.specs.inner.Session.{session_shown}
 use Rattle.paw_journal.specs.inner.Store.{LeavesMade}
@@ -43,7 +41,7 @@ use Rattle.paw_play.specs.inner.OnTheWay.{ShowsPiece, seat_state}
 use Rattle.paw_play.proofs.Kept.{step_kept}
 use Rattle.paw_play.proofs.Resuming.{goes_on_from}
 use Rattle.paw_play.proofs.Standing.{standing_goes_on}
-use Rattle.paw_host.specs.Replies.{Session, Absent, At, Answer, gone_on, begun, is_over}
+use Rattle.paw_host.specs.Replies.{Absent, At, Answer, begun, is_over}
 use Rattle.paw_host.specs.inner.Answers.{SitsAt, word_of, InFile, LeftOfBeginning}
 use Rattle.paw_host.proofs.Sitting.{kept_gone, same_digests, same_piece, same_halt}
 

@@ -2,7 +2,7 @@
 use Rattle.std.proofs.Common.{◌≡◌, ◌≢◌, ◌⊎◌, inl, inr, ℕ, List, [], Option, Some, None, true, false, refl, sym, ap, ◌∙◌, subst, bytes_eq, length, ◌∷◌}
 use Rattle.std.specs.Prelude.{if◌then◌else◌}
 use Rattle.std.proofs.lemmas.Slice.Eq.{bytes_eq-Decides}
-use Rattle.paw_stage.specs.Disk.{IsStable, MayLeave, stable}
+use Rattle.paw_stage.specs.Disk.{IsStable, stable}
 use Rattle.paw_stage.specs.Stage.{Standing, Files, file_bytes, bytes_or_none, made_if_missing, opened, Unattached}
 use Rattle.paw_stage.specs.Moments.{Moment, moment_of, InAttach}
 use Rattle.paw_journal.specs.Session.{IsUnmade, Recovered, Shown, Digests, recover, recover_by}
@@ -11,7 +11,6 @@ use Rattle.paw_journal.proofs.Disks.{stable_is, stable_leaves}
 use Rattle.paw_effects.specs.Story.{Story}
 use Rattle.paw_play.specs.Laws.{MayBeLeft}
 use Rattle.paw_play.proofs.Attaching.{other_file}
-use Rattle.paw_play.specs.Stands.{Stands}
 use Rattle.paw_host.specs.Replies.{Session, Absent, At, Refused}
 use Rattle.paw_host.specs.Promise.{Stores}
 use Rattle.paw_host.specs.inner.Answers.{InFile, InAnswer, IsAside, LeftOf, StoresEither}

@@ -1,6 +1,6 @@
 -- A player that sits where the reading of some lines ended, and what a text brings there.
-use Rattle.std.proofs.Common.{◌≡◌, ◌≢◌, ◌⊎◌, inl, inr, ℕ, suc, ◌+◌, ◌<◌, ◌≤◌, List, [], ◌∷◌, ◌++◌, refl, sym, ap, ◌∙◌, subst, true, false, cond}
-use Rattle.std.proofs.Common.{length, length-append, arith, nat_le, Option, Some, None, codes}
+use Rattle.std.proofs.Common.{◌≡◌, inl, inr, ℕ, ◌+◌, ◌<◌, List, [], ◌∷◌, ◌++◌, refl, sym, ap, ◌∙◌, subst, false}
+use Rattle.std.proofs.Common.{length, length-append, arith, Some, None, codes}
 use Rattle.std.proofs.lemmas.List.{append-nil}
 use Rattle.std.specs.Prelude.{reverse}
 use Rattle.std.proofs.lemmas.Bool.{lt-leb}
@@ -8,22 +8,21 @@ use Rattle.paw_base.specs.declared.limits.TheConstants.{EVENT_LIMIT}
 use Rattle.paw_effects.specs.Story.{Story}
 use Rattle.paw_effects.specs.declared.act.Prompt.{Prompt}
 use Rattle.paw_reading.specs.declared.places.Frame.{Frame}
-use Rattle.paw_reading.specs.Run.{Run, Step as Read}
+use Rattle.paw_reading.specs.Run.{Run}
 use Rattle.paw_reading.specs.Reading.{Halt, IsOver, RunsOut, CallsTooDeep}
-use Rattle.paw_reading.specs.Turn.{Ending, WaitsAt, Halted, Unended, reading, on, pieces_of}
+use Rattle.paw_reading.specs.Turn.{Ending, WaitsAt, Halted, Unended, reading, on}
 use Rattle.paw_reading.proofs.Counts.{pieces_of_lines}
 use Rattle.paw_turn.specs.inner.Player.{Seat, run_at, PlaysTo, IsSeated, StandsAt, StandsClosed}
 use Rattle.paw_turn.specs.declared.Step.{Step}
 use Rattle.paw_turn.specs.declared.Step.TheVariants as step
 use Rattle.paw_journal.specs.Session.{Digests, Recovered, Shown, recover}
-use Rattle.paw_state.specs.Record.{last_piece}
 use Rattle.paw_play.specs.Session.{story_digests, IsOfStory, IsKept}
-use Rattle.paw_play.specs.Stands.{Stands, ending_since, reading_since}
+use Rattle.paw_play.specs.Stands.{Stands, ending_since}
 use Rattle.paw_play.specs.inner.OnTheWay.{ShowsPiece, seat_state}
 use Rattle.paw_play.proofs.Going.{whole_kept}
 use Rattle.paw_play.proofs.Kept.{step_kept}
 use Rattle.paw_play.proofs.Walking.{on_waits}
-use Rattle.paw_host.specs.Replies.{Session, Absent, At, Answer, gone_on, begun, taken, is_over}
+use Rattle.paw_host.specs.Replies.{Session, At, gone_on, taken, is_over}
 use Rattle.paw_host.specs.inner.Answers.{SitsAt, word_of}
 
 -- ---- answers by how a reading ended ----

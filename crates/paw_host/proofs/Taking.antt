@@ -1,6 +1,6 @@
 -- A text that is taken, by what becomes of it.
-use Rattle.std.proofs.Common.{◌≡◌, ◌≢◌, ◌⊎◌, inl, inr, ℕ, ◌+◌, ◌<◌, ◌≤◌, List, [], ◌∷◌, ◌++◌, refl, sym, ap, ◌∙◌, subst, true, false}
-use Rattle.std.proofs.Common.{length, arith, Option, Some, None}
+use Rattle.std.proofs.Common.{◌≡◌, ◌≢◌, inl, inr, ℕ, ◌+◌, ◌<◌, ◌≤◌, List, [], ◌∷◌, ◌++◌, refl, sym, ap, ◌∙◌}
+use Rattle.std.proofs.Common.{length, Some}
 use Rattle.std.proofs.lemmas.Bool.{le-leb}
 use Rattle.paw_base.specs.declared.limits.TheConstants.{EVENT_LIMIT}
 use Rattle.paw_stage.specs.Stage.{Standing}
@@ -8,18 +8,17 @@ use Rattle.paw_stage.specs.Moments.{Moment}
 use Rattle.paw_effects.specs.Story.{Story}
 use Rattle.paw_effects.specs.declared.act.Prompt.{Prompt}
 use Rattle.paw_effects.specs.declared.act.Prompt.TheVariants as prompt
-use Rattle.paw_reading.specs.Turn.{reading, on}
+use Rattle.paw_reading.specs.Turn.{on}
 use Rattle.std.specs.Prelude.{reverse, codes}
 use Rattle.paw_process.specs.OpenTables.{OpenTables}
 use Rattle.paw_turn.specs.inner.Player.{Seat, run_at, PlaysTo, IsSeated, IsStanding, StandsClosed, prompt_at}
 use Rattle.paw_turn.specs.declared.Step.{Step}
 use Rattle.paw_turn.specs.declared.Step.TheVariants as step
-use Rattle.paw_journal.specs.Session.{Digests, Recovered, Shown, recover, kept_digests}
+use Rattle.paw_journal.specs.Session.{Digests, Shown, recover, kept_digests}
 use Rattle.paw_play.specs.Session.{IsOfStory}
-use Rattle.paw_journal.specs.inner.Store.{IsBeside}
 use Rattle.paw_play.specs.Stands.{Stands}
-use Rattle.paw_play.specs.inner.OnTheWay.{ShowsPiece, seat_state, shown_then, InCommit}
-use Rattle.paw_host.specs.Replies.{Session, At, Answer, taken, is_over}
+use Rattle.paw_play.specs.inner.OnTheWay.{ShowsPiece, seat_state, InCommit}
+use Rattle.paw_host.specs.Replies.{At, taken}
 use Rattle.paw_host.specs.Promise.{Stores}
 use Rattle.paw_host.specs.inner.Answers.{SitsAt, Answers, InFile, StoresEither, word_of}
 use Rattle.paw_host.proofs.Sitting.{same_digests, not_over, text_answer, text_stands, text_refused}
@@ -90,7 +89,3 @@ module _ {F : Type 0} {g : Story} {seed : ℕ} {es : List (List ℕ)} {seat : Se
         after : (bytes : List ℕ) → recover bytes ≡ Shown stands.digests (seat_state events next) next.piece →
             Stores g (taken g seed es text).session bytes
         after bytes e = (took stands.digests [] next.piece bytes events stands.belongs shows count e refl).stores
-
--- nothing has changed
-pub beside_same : (s : Standing) → IsBeside s s
-beside_same s = record { lines = refl; asked = refl; shown = refl; attached = refl; files = λ n h. refl; file = λ n h e. e }

@@ -1,13 +1,13 @@
-use Rattle.std.proofs.Common.{◌≡◌, ◌∙◌, List, ℕ, [], refl, sym, ap, subst, arith, length, inl, inr, Some, None}
+use Rattle.std.proofs.Common.{◌∙◌, sym, subst, inl, inr, Some}
 use Rattle.std.proofs.lemmas.Result.{on_ok_weaker}
 use Rattle.std.specs.Option.{option_copied}
-use Rattle.paw_stage.specs.Stage.{Standing, file_bytes, opened}
+use Rattle.paw_stage.specs.Stage.{Standing, file_bytes}
 use Rattle.paw_stage.proofs.Time.{Passes_map, Passes_on}
 use Rattle.paw_journal.specs.inner.Journal.{failed_stage_call}
 use Rattle.paw_journal.proofs.Serving.{serves_among, serves_then}
 use Rattle.paw_effects.specs.Story.{Story, story_of}
 use Rattle.paw_host.specs.Replies.{Session, Absent, answer}
-use Rattle.paw_host.specs.Promise.{MayBe, Stores}
+use Rattle.paw_host.specs.Promise.{Stores}
 use Rattle.paw_host.specs.inner.Answers.{Answers, InAnswer, InFile, LeftOf}
 use Rattle.paw_host.proofs.Calls.{writes_answer, reads_answer, attaches_answer}
 use Rattle.paw_host.proofs.Reaching.{in_attach, answer_before, answer_in_new, answer_in_kept, none_stored, no_bytes, attached_still, aside_beside, aside_unattached}

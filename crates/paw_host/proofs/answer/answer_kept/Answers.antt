@@ -1,4 +1,4 @@
-use Rattle.std.proofs.Common.{◌≡◌, ◌+◌, ◌∙◌, List, ℕ, [], refl, sym, ap, subst, arith, length, take, Some, None}
+use Rattle.std.proofs.Common.{◌∙◌, sym, ap, subst, arith, Some}
 use Rattle.std.specs.Prelude.{OnOk}
 use Rattle.std.specs.Option.{option_copied}
 use Rattle.paw_game.specs.Game.{GameLists}
@@ -8,6 +8,7 @@ use Rattle.paw_stage.proofs.Time.{Passes_map, Passes_on}
 use Rattle.paw_routines.specs.Routines.{AreRowsOf, HaveRows}
 use Rattle.paw_journal.specs.inner.Journal.{IsAtRest, failed_stage_call}
 use Rattle.paw_journal.specs.inner.Store.{IsBeside}
+use Rattle.paw_journal.proofs.Moved.{beside_same}
 use Rattle.paw_journal.proofs.Serving.{serves_then, serves_among}
 use Rattle.paw_effects.specs.Story.{Story, story_of}
 use Rattle.paw_play.specs.Stands.{Stands}
@@ -16,7 +17,6 @@ use Rattle.paw_host.specs.Promise.{Stores}
 use Rattle.paw_host.specs.inner.Answers.{SitsAt, Answers, InFile, StoresEither}
 use Rattle.paw_host.proofs.Calls.{reads_kept, writes_kept}
 use Rattle.paw_host.proofs.Keeping.{kept_refused, kept_told, kept_each, still_in_file}
-use Rattle.paw_host.proofs.Taking.{beside_same}
 use Rattle.paw_host.proofs.answer.answer_kept.Goals as goal
 
 -- ---- the calls of taking a text ----
@@ -33,9 +33,7 @@ pub returns-in-Ok-None-clause-rests : goal.returns-in-Ok-None-clause-rests
 returns-in-Ok-None-clause-rests g c = λ tells. subst IsAtRest (sym (c.take_up.ensures.still tells)) (c.requires.rests tells)
 
 pub returns-in-Ok-None-clause-beside : goal.returns-in-Ok-None-clause-beside
-returns-in-Ok-None-clause-beside g c = λ tells.
-    let old : Standing = g.S.Stage.standing c.args.stage.now in
-    subst (IsBeside old) (sym (c.take_up.ensures.still tells)) (beside_same old)
+returns-in-Ok-None-clause-beside g c = λ tells. beside_same _ _ (c.take_up.ensures.still tells)
 
 pub returns-in-Ok-None-clause-meaning : goal.returns-in-Ok-None-clause-meaning
 returns-in-Ok-None-clause-meaning g c = λ tells X rows before may stores.
@@ -59,9 +57,7 @@ returns-in-Ok-None-clause-any_moment g c = λ tells X rows before may stores.
 -- ---- a call failed ----
 
 pub returns-in-Err-clause-beside : goal.returns-in-Err-clause-beside
-returns-in-Err-clause-beside g c = λ tells.
-    let old : Standing = g.S.Stage.standing c.args.stage.now in
-    subst (IsBeside old) (sym (c.take_up.ensures.still tells)) (beside_same old)
+returns-in-Err-clause-beside g c = λ tells. beside_same _ _ (c.take_up.ensures.still tells)
 
 pub returns-in-Err-clause-serves : goal.returns-in-Err-clause-serves
 returns-in-Err-clause-serves g c = serves_among g.S.Stage _ _ (Some c.in-Err.call) _ _ reads_kept c.in-Err.ensures.serves
@@ -147,9 +143,7 @@ pub returns-in-None-clause-rests : goal.returns-in-None-clause-rests
 returns-in-None-clause-rests g c = λ tells. (rw c.in-Ok-Some.field-0-is at (c.in-Ok-Some.ensures.kept tells)).rests
 
 pub returns-in-None-clause-beside : goal.returns-in-None-clause-beside
-returns-in-None-clause-beside g c = λ tells.
-    let old : Standing = g.S.Stage.standing c.args.stage.now in
-    subst (IsBeside old) (sym (c.take_up.ensures.still tells)) (beside_same old)
+returns-in-None-clause-beside g c = λ tells. beside_same _ _ (c.take_up.ensures.still tells)
 
 pub returns-in-None-clause-meaning : goal.returns-in-None-clause-meaning
 returns-in-None-clause-meaning g c = λ tells X rows before may stores.

@@ -1,4 +1,4 @@
-use Rattle.std.proofs.Common.{◌≡◌, ◌+◌, ◌∙◌, List, ℕ, [], refl, sym, ap, subst, arith, length, inl, inr, Some, None}
+use Rattle.std.proofs.Common.{◌∙◌, [], sym, ap, subst, Some}
 use Rattle.std.proofs.lemmas.Result.{on_ok_weaker}
 use Rattle.std.specs.Option.{option_copied}
 use Rattle.paw_game.specs.Game.{GameLists}

@@ -1,6 +1,7 @@
-use Rattle.std.proofs.Common.{◌≡◌, ◌++◌, ◌∙◌, List, ℕ, refl, sym, ap, subst, take}
+use Rattle.std.proofs.Common.{◌≡◌, ◌++◌, ◌∙◌, List, ℕ, sym, ap, subst}
 use Rattle.paw_stage.specs.Stage.{Standing}
 use Rattle.paw_stage.proofs.Time.{Passes_map, Passes_none}
+use Rattle.paw_journal.proofs.Moved.{beside_none}
 use Rattle.paw_journal.proofs.Serving.{serves_none}
 use Rattle.paw_journal.specs.Session.{Digests, Recovered, Shown}
 use Rattle.paw_journal.specs.inner.Session.{digests_of}
@@ -10,7 +11,6 @@ use Rattle.paw_effects.specs.Story.{Story, story_of}
 use Rattle.paw_host.specs.Replies.{Answer}
 use Rattle.paw_host.specs.inner.Answers.{InFile, LeftOfBeginning}
 use Rattle.paw_host.proofs.Sitting.{shows_by}
-use Rattle.paw_host.proofs.Taking.{beside_same}
 use Rattle.paw_host.proofs.Opening.{sits, first_answer, first_stands, first_refused, in_beginning}
 use Rattle.paw_host.proofs.answer.begin.Goals as goal
 
@@ -24,7 +24,7 @@ pub returns-in-Some-clause-serves : goal.returns-in-Some-clause-serves
 returns-in-Some-clause-serves g c = serves_none g.S.Stage _ _
 
 pub returns-in-Some-clause-beside : goal.returns-in-Some-clause-beside
-returns-in-Some-clause-beside g c = λ tells. beside_same _
+returns-in-Some-clause-beside g c = λ tells. beside_none _
 
 pub returns-in-Some-clause-meaning : goal.returns-in-Some-clause-meaning
 returns-in-Some-clause-meaning g c = λ tells X rows.

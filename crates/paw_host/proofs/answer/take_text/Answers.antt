@@ -1,6 +1,7 @@
-use Rattle.std.proofs.Common.{◌≡◌, ◌+◌, ◌++◌, ◌∙◌, ◌≤◌, ◌<◌, List, ℕ, refl, sym, ap, subst, arith, length}
+use Rattle.std.proofs.Common.{◌+◌, ◌++◌, ◌∙◌, ◌<◌, ap, arith, length}
 use Rattle.paw_stage.specs.Stage.{Standing}
 use Rattle.paw_stage.proofs.Time.{Passes_map, Passes_none}
+use Rattle.paw_journal.proofs.Moved.{beside_none}
 use Rattle.paw_journal.proofs.Serving.{serves_none}
 use Rattle.paw_journal.specs.Session.{Shown}
 use Rattle.paw_effects.specs.Story.{Story, story_of}
@@ -9,14 +10,14 @@ use Rattle.paw_play.specs.inner.OnTheWay.{seat_state}
 use Rattle.paw_host.specs.Replies.{At, taken}
 use Rattle.paw_host.specs.inner.Answers.{InFile, StoresEither}
 use Rattle.paw_host.proofs.Sitting.{shows_by}
-use Rattle.paw_host.proofs.Taking.{over_answer, full_answer, refused_answer, took, in_taking, beside_same, digests_are}
+use Rattle.paw_host.proofs.Taking.{over_answer, full_answer, refused_answer, took, in_taking, digests_are}
 use Rattle.paw_host.proofs.answer.take_text.Goals as goal
 
 pub returns-then-is_over-clause-serves : goal.returns-then-is_over-clause-serves
 returns-then-is_over-clause-serves g c = serves_none g.S.Stage _ _
 
 pub returns-then-is_over-clause-beside : goal.returns-then-is_over-clause-beside
-returns-then-is_over-clause-beside g c = λ tells. beside_same _
+returns-then-is_over-clause-beside g c = λ tells. beside_none _
 
 pub returns-then-is_over-clause-meaning : goal.returns-then-is_over-clause-meaning
 returns-then-is_over-clause-meaning g c = λ tells X rows seed es s count stands.
@@ -29,7 +30,7 @@ pub returns-then-is_full-clause-serves : goal.returns-then-is_full-clause-serves
 returns-then-is_full-clause-serves g c = serves_none g.S.Stage _ _
 
 pub returns-then-is_full-clause-beside : goal.returns-then-is_full-clause-beside
-returns-then-is_full-clause-beside g c = λ tells. beside_same _
+returns-then-is_full-clause-beside g c = λ tells. beside_none _
 
 pub returns-then-is_full-clause-meaning : goal.returns-then-is_full-clause-meaning
 returns-then-is_full-clause-meaning g c = λ tells X rows seed es s count stands.
@@ -43,7 +44,7 @@ pub returns-in-Some-clause-serves : goal.returns-in-Some-clause-serves
 returns-in-Some-clause-serves g c = serves_none g.S.Stage _ _
 
 pub returns-in-Some-clause-beside : goal.returns-in-Some-clause-beside
-returns-in-Some-clause-beside g c = λ tells. beside_same _
+returns-in-Some-clause-beside g c = λ tells. beside_none _
 
 pub returns-in-Some-clause-meaning : goal.returns-in-Some-clause-meaning
 returns-in-Some-clause-meaning g c = λ tells X rows seed es s count stands.
