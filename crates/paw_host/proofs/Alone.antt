@@ -20,7 +20,7 @@ use Rattle.paw_reading.proofs.Followed.{going_on_is_reading}
 use Rattle.paw_reading.proofs.Past.{longer_reading}
 use Rattle.paw_state.specs.Record.{last_piece}
 use Rattle.paw_host.specs.Names.{Request, request_of}
-use Rattle.paw_host.specs.Replies.{Session, Absent, At, Sessions, Answer, gone_on, begun, taken, answer, is_over, sessions_with, sessions_after}
+use Rattle.paw_host.specs.Replies.{Absent, At, Sessions, Answer, gone_on, answer, is_over, sessions_with, sessions_after}
 use Rattle.paw_host.specs.Laws.{asked_first, asked_of, answered_first, answered_to, session_after, answers_of, EachPlaysAlone, PiecesAreAnswered}
 
 -- ---- one name among others ----

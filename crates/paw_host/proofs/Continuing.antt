@@ -1,5 +1,5 @@
 -- Sessions stay such as may be, whatever is asked of them.
-use Rattle.std.proofs.Common.{◌≡◌, ◌⊎◌, inl, inr, ℕ, ◌<◌, ◌≤◌, ◌^◌, List, [], ◌∷◌, ◌++◌, refl, sym, ap, ◌∙◌, subst, true, false, Bool, length, nat_le, Option, Some, None}
+use Rattle.std.proofs.Common.{◌≡◌, inl, inr, ℕ, ◌<◌, ◌^◌, List, [], ◌∷◌, ◌++◌, refl, sym, subst, true, false, Bool, length, nat_le, Option, Some, None}
 use Rattle.std.specs.Prelude.{codes, if◌then◌else◌}
 use Rattle.std.proofs.lemmas.List.Elements.{All-append, All-cons, All-nil}
 use Rattle.paw_base.specs.declared.limits.TheConstants.{EVENT_LIMIT}
@@ -9,7 +9,7 @@ use Rattle.paw_reading.specs.Reading.{IsOver, RunsOut, CallsTooDeep}
 use Rattle.paw_reading.specs.Turn.{Ending, WaitsAt, Halted, Unended, reading}
 use Rattle.paw_play.specs.Stands.{IsPlayedWith}
 use Rattle.paw_host.specs.Names.{Request, is_name}
-use Rattle.paw_host.specs.Replies.{Session, Absent, At, Refused, Sessions, Answer, gone_on, begun, begun_with, taken, told, answer, is_over, sessions_with}
+use Rattle.paw_host.specs.Replies.{Session, Absent, At, Refused, Sessions, gone_on, begun, begun_with, taken, answer, is_over, sessions_with}
 use Rattle.paw_host.specs.Promise.{MayBe}
 use Rattle.paw_host.specs.inner.Lines.{AllMay}
 use Rattle.paw_host.proofs.Serving.{same_or_not, its_own, not_its_own}

@@ -1,5 +1,5 @@
 -- The host, from line to line: what stands, and what stands at each moment.
-use Rattle.std.proofs.Common.{◌≡◌, ◌≢◌, ◌⊎◌, inl, inr, ℕ, zero, suc, ◌+◌, ◌<◌, ◌≤◌, ◌^◌, ◌==◌, List, [], ◌∷◌, ◌++◌, Option, Some, None, Bool, true, false}
+use Rattle.std.proofs.Common.{◌≡◌, inl, inr, ℕ, zero, suc, ◌+◌, ◌<◌, ◌≤◌, ◌^◌, ◌==◌, List, [], ◌∷◌, ◌++◌, Option, Some, None, Bool, true, false}
 use Rattle.std.proofs.Common.{refl, sym, ap, ◌∙◌, subst, length, take, drop, arith, append_assoc}
 use Rattle.std.specs.Prelude.{All, position, IfSome, if◌then◌else◌}
 use Rattle.std.proofs.lemmas.List.{append-nil, take-append-drop, length-drop, length-take}
@@ -17,7 +17,7 @@ use Rattle.paw_play.specs.Calls.{session_calls}
 use Rattle.paw_play.proofs.Walking.{drop_more, drop_all}
 use Rattle.paw_host.specs.Names.{Request, parted, parted_at, request_in, request_of, is_name, store_name}
 use Rattle.paw_host.specs.Replies.{Sessions, reply_to, sessions_with, sessions_after, replies}
-use Rattle.paw_host.specs.Promise.{Stores, AllStore, AllLeft, EachLeft, KeepsUp, IsNotOf, InHost, Answered, BeginsWith}
+use Rattle.paw_host.specs.Promise.{Stores, AllStore, AllLeft, EachLeft, KeepsUp, IsNotOf, InHost, Answered, BeginsWith, attached_with, attached_after, MayAttach, AttachedIn}
 use Rattle.paw_host.specs.Hosts.{HasTaken, Ends, Hosts}
 use Rattle.paw_host.specs.Outcomes.{failed_call}
 use Rattle.paw_host.specs.declared.lines.TheConstants.{HOST_LIMIT}
@@ -26,7 +26,7 @@ use Rattle.paw_host.specs.declared.outcome.HostOutcome.TheVariants as outcome
 use Rattle.paw_host.specs.inner.Lines.{AllMay, Does, Doing, IsDone, InWork, IsServing, SameLines, ServesTo, TakesTo}
 use Rattle.paw_host.proofs.Continuing.{IfLine, all_may}
 use Rattle.paw_host.proofs.Reaching.{FilesHold, rest_left}
-use Rattle.paw_host.proofs.Serving.{sessions_more, replies_more, not_of_more}
+use Rattle.paw_host.proofs.Serving.{sessions_more, replies_more, not_of_more, last_line, attached_more, attached_now, attached_in, each_done, with_attached}
 
 -- the files of all sessions, at rest
 all_left : (g : Story) (sessions : Sessions) (s : Standing) → AllStore g sessions s → IsStable s.disk → FilesHold s → AllLeft g sessions (moment_of s)
@@ -66,7 +66,7 @@ line_bytes lines n line rest e all = All-head AreBytes line rest (subst (All Are
 -- ---- before the first line ----
 
 pub serving_first : (g : Story) (seed : ℕ) (first : Sessions) (old : Standing) → BeginsWith g first old → IsStable old.disk → IsServing g seed first old old 0
-unfolding sessions_after replies
+unfolding sessions_after replies attached_after
 serving_first g seed first old b settled = record {
   answered = record {
     there = omega arith;
@@ -74,6 +74,7 @@ serving_first g seed first old b settled = record {
     asked = omega arith;
     shown = sym (append-nil old.shown);
     files = b.files;
+    attached = refl;
     others = λ f h. refl;
   };
   may = b.may;
@@ -96,12 +97,20 @@ grown g seed (l ∷ lines) (suc n) at =
           ∙ sym (append_assoc (reply_to g seed at (request_of l)) (replies g seed (sessions_with g seed at (request_of l)) (take n lines)) r.0),
     )
 
-keeps_now : (g : Story) (seed : ℕ) (first : Sessions) (lines : List (List ℕ)) (n : ℕ) (m : Moment) → AllLeft g (sessions_after g seed first (take n lines)) m →
+keeps_now : (g : Story) (seed : ℕ) (first : Sessions) (start : Option (List ℕ)) (lines : List (List ℕ)) (n : ℕ) (m : Moment) → n ≤ length lines →
+    m.attached ≡ attached_after start (take n lines) → AllLeft g (sessions_after g seed first (take n lines)) m →
     KeepsUp g seed first lines n (replies g seed first (take n lines)) m
 unfolding sessions_after replies
-keeps_now g seed first lines zero m h = (refl, h)
-keeps_now g seed first lines (suc n) m h =
-    inr ((grown g seed lines n first, ([], append-nil (replies g seed first (take (suc n) lines)))), h)
+keeps_now g seed first start lines zero m there attached h = (refl, h)
+keeps_now g seed first start lines (suc n) m there attached h =
+    let last = last_line lines n there in
+    let more = sessions_more g seed first lines n last.0 last.1 last.2 in (
+      subst (λ q. EachLeft g seed (sessions_after g seed first (take n lines)) q m) (sym more)
+          (each_done g seed (sessions_after g seed first (take n lines)) (request_of last.0) m
+          (with_attached (request_of last.0) (attached_after start (take n lines)) m.attached (attached ∙ attached_more start lines n last.0 last.1 last.2))
+          (subst (λ q. AllLeft g q m) more h)),
+      inr ((grown g seed lines n first, ([], append-nil (replies g seed first (take (suc n) lines)))), h),
+    )
 
 at_prompt : (g : Story) (seed : ℕ) (first : Sessions) (old now : Standing) (n : ℕ) → IsServing g seed first old now n → FilesHold now →
     InHost g seed first old (moment_of now)
@@ -111,7 +120,8 @@ at_prompt g seed first old now n s holds = record {
   there = s.answered.there;
   asked = s.answered.asked;
   shown = s.answered.shown;
-  keeps = keeps_now g seed first old.lines n (moment_of now) (all_left g (sessions_after g seed first (take n old.lines)) now s.answered.files s.settled holds);
+  attached = subst (AttachedIn old.attached (take n old.lines)) (sym s.answered.attached) (attached_now old.attached (take n old.lines));
+  keeps = keeps_now g seed first old.attached old.lines n (moment_of now) s.answered.there s.answered.attached (all_left g (sessions_after g seed first (take n old.lines)) now s.answered.files s.settled holds);
   others = s.answered.others;
 }
 
@@ -122,6 +132,10 @@ still_at_prompt g seed first old now n s holds m e = subst (InHost g seed first 
 -- no line is left
 pub all_answered : (g : Story) (seed : ℕ) (first : Sessions) (old now : Standing) (n : ℕ) → IsServing g seed first old now n → now.lines ≡ [] → n ≡ length old.lines
 all_answered g seed first old now n s none = drop_all old.lines n (sym s.answered.lines ∙ none) s.answered.there
+
+nothing_attached : (request : Option Request) (attached : Option (List ℕ)) → MayAttach request attached attached
+nothing_attached None attached = refl
+nothing_attached (Some r) attached = inl refl
 
 -- ---- one line more ----
 
@@ -151,6 +165,9 @@ module _ (g : Story) (seed : ℕ) (first : Sessions) (old now mid : Standing) (n
   shown_same : mid.shown ≡ old.shown ++ replies g seed first (take n old.lines)
   shown_same = ap (λ (q : Standing). q.shown) took ∙ s.answered.shown
 
+  attached_same : mid.attached ≡ attached_after old.attached (take n old.lines)
+  attached_same = ap (λ (q : Standing). q.attached) took ∙ s.answered.attached
+
   others_same : (f : List ℕ) → IsNotOf (take (suc n) old.lines) f → mid.files f ≡ old.files f
   others_same f h = ap (λ (q : Standing). q.files f) took ∙ s.answered.others f (not_of_more old.lines n line mid.lines f at h).0
 
@@ -165,7 +182,8 @@ module _ (g : Story) (seed : ℕ) (first : Sessions) (old now mid : Standing) (n
     there = there;
     asked = i.asked ∙ asked_more;
     shown = i.shown ∙ shown_same;
-    keeps = inl (refl, subst (λ x. EachLeft g seed before x m) (sym after_is) i.left);
+    keeps = (subst (λ x. EachLeft g seed before x m) (sym after_is) i.left, inl refl);
+    attached = attached_in old.attached old.lines n line mid.lines m.attached at (subst (λ a. MayAttach (request_of line) a m.attached) attached_same i.attached);
     others = λ f h. i.files f (not_of_more old.lines n line mid.lines f at h).1 ∙ others_same f h;
   }
 
@@ -181,6 +199,7 @@ module _ (g : Story) (seed : ℕ) (first : Sessions) (old now mid : Standing) (n
     asked = refl;
     shown = refl;
     files = λ f h. refl;
+    attached = nothing_attached (request_of line) mid.attached;
     left = λ name is bytes may. inl (all_left g before mid mid_stores mid_settled mid_holds name is bytes may);
   }
 
@@ -200,6 +219,9 @@ module _ (g : Story) (seed : ℕ) (first : Sessions) (old now mid : Standing) (n
     others_done : (f : List ℕ) → IsNotOf (take (suc n) old.lines) f → done.files f ≡ old.files f
     others_done f h = is.files f (not_of_more old.lines n line mid.lines f at h).1 ∙ others_same f h
 
+    attached_done : done.attached ≡ attached_after old.attached (take (suc n) old.lines)
+    attached_done = is.attached ∙ ap (attached_with (request_of line)) attached_same ∙ sym (attached_more old.attached old.lines n line mid.lines at)
+
     -- while its reply is shown
     pub in_reply : FilesHold done → (m : Moment) → InShow done (reply_to g seed before (request_of line)) m → InHost g seed first old m
     in_reply done_holds m i = subst (InHost g seed first old) (sym i.1) (record {
@@ -209,18 +231,24 @@ module _ (g : Story) (seed : ℕ) (first : Sessions) (old now mid : Standing) (n
       asked = is.asked ∙ asked_more;
       shown = ap (λ x. x ++ take i.0 (reply_to g seed before (request_of line))) shown_before
           ∙ append_assoc old.shown (replies g seed first (take n old.lines)) (take i.0 (reply_to g seed before (request_of line)));
-      keeps = inr (
-        (
-          (take i.0 (reply_to g seed before (request_of line)), refl),
+      keeps = (
+        subst (λ x. EachLeft g seed before x (moment_of done)) (sym after_is)
+            (each_done g seed before (request_of line) (moment_of done) (with_attached (request_of line) mid.attached done.attached is.attached)
+            (all_left g after done is.stores settled done_holds)),
+        inr (
           (
-            drop i.0 (reply_to g seed before (request_of line)),
-            append_assoc (replies g seed first (take n old.lines)) (take i.0 (reply_to g seed before (request_of line)))
-                (drop i.0 (reply_to g seed before (request_of line)))
-                ∙ ap (λ x. replies g seed first (take n old.lines) ++ x) (take-append-drop i.0 (reply_to g seed before (request_of line))) ∙ sym more,
+            (take i.0 (reply_to g seed before (request_of line)), refl),
+            (
+              drop i.0 (reply_to g seed before (request_of line)),
+              append_assoc (replies g seed first (take n old.lines)) (take i.0 (reply_to g seed before (request_of line)))
+                  (drop i.0 (reply_to g seed before (request_of line)))
+                  ∙ ap (λ x. replies g seed first (take n old.lines) ++ x) (take-append-drop i.0 (reply_to g seed before (request_of line))) ∙ sym more,
+            ),
           ),
+          subst (λ x. AllLeft g x (moment_of done)) (sym after_is) (all_left g after done is.stores settled done_holds),
         ),
-        subst (λ x. AllLeft g x (moment_of done)) (sym after_is) (all_left g after done is.stores settled done_holds),
       );
+      attached = subst (AttachedIn old.attached (take (suc n) old.lines)) (sym attached_done) (attached_now old.attached (take (suc n) old.lines));
       others = others_done;
     })
 
@@ -233,6 +261,7 @@ module _ (g : Story) (seed : ℕ) (first : Sessions) (old now mid : Standing) (n
         asked = is.asked ∙ asked_more;
         shown = ap (λ x. x ++ reply_to g seed before (request_of line)) shown_before
             ∙ append_assoc old.shown (replies g seed first (take n old.lines)) (reply_to g seed before (request_of line)) ∙ ap (λ x. old.shown ++ x) (sym more);
+        attached = attached_done;
         files = subst (λ x. AllStore g x (with_shown (reply_to g seed before (request_of line)) done)) (sym after_is) is.stores;
         others = others_done;
       };

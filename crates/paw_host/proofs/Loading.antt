@@ -1,17 +1,17 @@
 -- The game of an image file, and why there is none.
-use Rattle.std.proofs.Common.{◌≡◌, ◌⊎◌, inl, inr, ℕ, ◌+◌, ◌≤◌, List, Option, Some, None, length, take, sym, ap, ◌∙◌, subst, arith}
+use Rattle.std.proofs.Common.{◌≡◌, ◌⊎◌, inl, inr, ℕ, ◌+◌, ◌≤◌, List, Option, Some, length, take, sym, ap, ◌∙◌, subst, arith}
 use Rattle.std.proofs.lemmas.List.{take_all, length-take-le}
 use Rattle.paw_game.specs.Game.{GameLists}
 use Rattle.paw_image.specs.Damage.{bad}
 use Rattle.paw_image.specs.Images.{IsImage}
 use Rattle.paw_image.proofs.ImageLaws.{one_game}
 use Rattle.paw_image.proofs.WholeLaws.{over_is_bad}
-use Rattle.paw_effects.specs.Story.{Story, story_of}
+use Rattle.paw_effects.specs.Story.{story_of}
 use Rattle.paw_stage.specs.Stage.{Standing}
 use Rattle.paw_stage.specs.declared.StageCall.TheVariants as call
 use Rattle.paw_host.specs.Replies.{Sessions}
 use Rattle.paw_host.specs.Promise.{BeginsWith}
-use Rattle.paw_host.specs.Hosts.{Ends, Hosts, HostsFile, Holds, HoldsDamage, hosts, damaged, absent, failed, wanting}
+use Rattle.paw_host.specs.Hosts.{Ends, Hosts, HostsFile, Holds, hosts, damaged, absent, failed, wanting}
 use Rattle.paw_host.specs.declared.outcome.HostOutcome.{HostOutcome}
 use Rattle.paw_host.specs.declared.outcome.HostOutcome.TheVariants as outcome
 use Rattle.paw_host.specs.inner.Opens.{LoadsSome, LoadsNone, GivesNone}

@@ -1,6 +1,6 @@
 -- From a store at rest to one that is attached, and what a crash leaves of all files meanwhile.
-use Rattle.std.proofs.Common.{◌≡◌, ◌≢◌, ◌⊎◌, inl, inr, ℕ, List, [], Option, Some, None, true, false, refl, sym, ap, ◌∙◌, subst, bytes_eq, length, ◌∷◌}
-use Rattle.std.specs.Prelude.{if◌then◌else◌}
+use Rattle.std.proofs.Common.{◌≡◌, ◌≢◌, ◌⊎◌, inl, inr, ℕ, List, [], Option, Some, None, true, false, refl, sym, ap, ◌∙◌, subst, bytes_eq, length, ◌∷◌, Result, Ok, Err}
+use Rattle.std.specs.Prelude.{OnOk, if◌then◌else◌}
 use Rattle.std.proofs.lemmas.Slice.Eq.{bytes_eq-Decides}
 use Rattle.paw_stage.specs.Disk.{IsStable, stable}
 use Rattle.paw_stage.specs.Stage.{Standing, Files, file_bytes, bytes_or_none, made_if_missing, opened, Unattached}
@@ -24,6 +24,7 @@ pub record IsBefore (name : List ℕ) (old : Standing) (m : Moment) : Type 0 whe
   pub asked : m.asked ≡ old.asked
   pub shown : m.shown ≡ old.shown
   pub files : (f : List ℕ) → f ≢ name → m.files f ≡ old.files f
+  pub attached : (m.attached ≡ old.attached) ⊎ (m.attached ≡ Some name) ⊎ (m.attached ≡ None)
   pub left : (f bytes : List ℕ) → MayBeLeft f m bytes → bytes ≡ file_bytes old f
 
 -- at rest
@@ -59,13 +60,14 @@ none_left old f bytes (inr h) = h.1
 
 module _ (old new : Standing) (name : List ℕ) (settled : IsStable old.disk) (holds : FilesHold old) where
   before_it : IsBefore name old (moment_of old)
-  before_it = record { asked = refl; shown = refl; files = λ f ne. refl; left = rest_left old settled holds }
+  before_it = record { asked = refl; shown = refl; files = λ f ne. refl; attached = inl refl; left = rest_left old settled holds }
 
   made_it : IsBefore name old (record (moment_of old) { files = made_if_missing name (old.files name) old.files })
   made_it = record {
     asked = refl;
     shown = refl;
     files = λ f ne. other_file old name f ne;
+    attached = inl refl;
     left = λ f bytes may. elim may [
       | inl h ↦ rest_left old settled holds f bytes (inl h)
       | inr h ↦ h.1 ∙ made_bytes old name f
@@ -73,12 +75,12 @@ module _ (old new : Standing) (name : List ℕ) (settled : IsStable old.disk) (h
   }
 
   opened_it : IsBefore name old (moment_of (opened name old))
-  opened_it = record { asked = refl; shown = refl; files = λ f ne. other_file old name f ne; left = opened_left old name }
+  opened_it = record { asked = refl; shown = refl; files = λ f ne. other_file old name f ne; attached = inr (inl refl); left = opened_left old name }
 
   unattached_it : Unattached old new → IsBefore name old (moment_of new)
   unattached_it (inl e) = subst (λ q. IsBefore name old (moment_of q)) (sym e) before_it
   unattached_it (inr e) = subst (λ q. IsBefore name old (moment_of q)) (sym e)
-      (record { asked = refl; shown = refl; files = λ f ne. refl; left = none_left old })
+      (record { asked = refl; shown = refl; files = λ f ne. refl; attached = inr (inr refl); left = none_left old })
 
   -- inside the attach
   pub in_attach : (new ≡ opened name old) ⊎ Unattached old new → (m : Moment) → InAttach old new name m → IsBefore name old m
@@ -99,6 +101,7 @@ module _ (g : Story) (seed : ℕ) (name : List ℕ) (before after : Session) (ol
     shown = i.shown;
     files = i.files;
     others = λ f ne bytes may. i.left f bytes may;
+    attached = i.attached;
     left = λ bytes may. inl (subst (Stores g before) (sym (i.left name bytes may)) stores);
   }
 
@@ -112,8 +115,9 @@ module _ (g : Story) (seed : ℕ) (name : List ℕ) (before after : Session) (ol
       | inl h ↦ absurd (ne (sym (same_name name f (sym i.attached ∙ h.0))))
       | inr h ↦ h.1 ∙ ap bytes_or_none (still f ne)
     ];
+    attached = inr (inl i.attached);
     left = λ bytes may. elim may [
-      | inl h ↦ i.disk bytes h.1
+      | inl h ↦ elim (i.disk bytes h.1) [ inl b ↦ inl b | inr a ↦ inr (i.attached, a) ]
       | inr h ↦ absurd (h.0 i.attached)
     ];
   }
@@ -183,3 +187,8 @@ module _ (name : List ℕ) (old mid new : Standing) (is : mid ≡ opened name ol
     files = λ f ne. b.files f (λ e. ne (sym (same_name name f (sym (ap (λ (q : Standing). q.attached) is) ∙ e))))
         ∙ (ap (λ (q : Standing). q.files f) is ∙ other_file old name f ne);
   }
+
+-- what holds anyway holds where a call is done
+pub on_ok : {A E : Type 0} {P : Type 0} (r : Result A E) → P → OnOk r P
+on_ok (Ok a) p = p
+on_ok (Err e) p = tt

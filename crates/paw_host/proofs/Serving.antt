@@ -1,17 +1,17 @@
 -- The host, from line to line.
-use Rattle.std.proofs.Common.{◌≡◌, ◌≢◌, ◌⊎◌, inl, inr, ℕ, zero, suc, ◌+◌, ◌<◌, ◌≤◌, List, [], ◌∷◌, ◌++◌, Option, Some, None, true, false}
+use Rattle.std.proofs.Common.{◌≡◌, ◌≢◌, ◌⊎◌, inl, inr, ℕ, zero, suc, ◌≤◌, List, [], ◌∷◌, ◌++◌, Option, Some, None, true, false}
 use Rattle.std.proofs.Common.{refl, sym, ap, ◌∙◌, subst, length, take, drop, bytes_eq, arith, append_assoc}
-use Rattle.std.proofs.lemmas.List.{append-nil, append_cancel_right, take-append-drop}
+use Rattle.std.proofs.lemmas.List.{append-nil, append_cancel_right}
 use Rattle.std.proofs.lemmas.Slice.Eq.{bytes_eq-Decides}
 use Rattle.std.specs.Prelude.{codes, if◌then◌else◌}
 use Rattle.paw_effects.specs.Story.{Story}
 use Rattle.paw_stage.specs.Disk.{IsStable}
 use Rattle.paw_stage.specs.Stage.{Standing, file_bytes, bytes_or_none}
-use Rattle.paw_stage.specs.Moments.{Moment, moment_of, InShow}
+use Rattle.paw_stage.specs.Moments.{Moment, moment_of}
 use Rattle.paw_play.specs.Laws.{MayBeLeft}
 use Rattle.paw_host.specs.Names.{Request, request_of, is_name, store_name}
 use Rattle.paw_host.specs.Replies.{Session, Sessions, with_session, answer, reply, reply_to, sessions_with, sessions_after, replies}
-use Rattle.paw_host.specs.Promise.{Stores, MayBe, AllStore, EachLeft, AllLeft, IsNotOf, LeftOfMaking}
+use Rattle.paw_host.specs.Promise.{Stores, AllStore, EachLeft, AllLeft, IsNotOf, LeftOfMaking, attached_with, attached_after, MayAttach, AttachedIn}
 use Rattle.paw_host.specs.inner.Answers.{Answers, InAnswer, IsAside}
 use Rattle.paw_host.specs.inner.Lines.{IsNotFor, IsDone, InWork, Does, Doing}
 use Rattle.paw_host.proofs.Reaching.{FilesHold, rest_left}
@@ -50,6 +50,47 @@ not_of_more [] (suc n) line rest f h k = cc
 not_of_more (l ∷ lines) zero line rest f h k = let e : l ≡ line = cc in (tt, subst (λ x. IsNotFor (request_of x) f) e k.0)
 not_of_more (l ∷ lines) (suc n) line rest f h k = let m = not_of_more lines n line rest f h k.1 in ((k.0, m.0), m.1)
 
+drop_none : (n : ℕ) → ◌≡◌ {A = List (List ℕ)} (drop n []) []
+drop_none zero = refl
+drop_none (suc n) = refl
+
+-- so many lines have a last one
+pub last_line : (lines : List (List ℕ)) (n : ℕ) → suc n ≤ length lines → (line : List ℕ) × (rest : List (List ℕ)) × (drop n lines ≡ line ∷ rest)
+last_line [] n h = absurd (omega (arith, h))
+last_line (l ∷ lines) zero h = (l, lines, refl)
+last_line (l ∷ lines) (suc n) h = last_line lines n (omega (arith, h))
+
+-- ---- the attached store ----
+
+pub attached_more : (start : Option (List ℕ)) (lines : List (List ℕ)) (n : ℕ) (line : List ℕ) (rest : List (List ℕ)) → drop n lines ≡ line ∷ rest →
+    attached_after start (take (suc n) lines) ≡ attached_with (request_of line) (attached_after start (take n lines))
+unfolding attached_after
+attached_more start [] zero line rest h = cc
+attached_more start [] (suc n) line rest h = cc
+attached_more start (l ∷ lines) zero line rest h = let e : l ≡ line = cc in ap (λ x. attached_with (request_of x) start) e
+attached_more start (l ∷ lines) (suc n) line rest h = attached_more (attached_with (request_of l) start) lines n line rest h
+
+done_attached : (request : Option Request) (start : Option (List ℕ)) → MayAttach request start (attached_with request start)
+done_attached None start = refl
+done_attached (Some r) start = inr (inl refl)
+
+-- after lines that are done
+pub attached_now : (start : Option (List ℕ)) (lines : List (List ℕ)) → AttachedIn start lines (attached_after start lines)
+unfolding attached_after AttachedIn
+attached_now start [] = refl
+attached_now start (line ∷ []) = done_attached (request_of line) start
+attached_now start (line ∷ next ∷ lines) = attached_now (attached_with (request_of line) start) (next ∷ lines)
+
+-- while one more is at work
+pub attached_in : (start : Option (List ℕ)) (lines : List (List ℕ)) (n : ℕ) (line : List ℕ) (rest : List (List ℕ)) (attached : Option (List ℕ)) →
+    drop n lines ≡ line ∷ rest → MayAttach (request_of line) (attached_after start (take n lines)) attached → AttachedIn start (take (suc n) lines) attached
+unfolding attached_after AttachedIn
+attached_in start [] zero line rest attached h k = cc
+attached_in start [] (suc n) line rest attached h k = cc
+attached_in start (l ∷ lines) zero line rest attached h k = let e : line ≡ l = cc in subst (λ x. MayAttach (request_of x) start attached) e k
+attached_in start (l ∷ []) (suc n) line rest attached h k = let none : ◌≡◌ {A = List (List ℕ)} [] (line ∷ rest) = sym (drop_none n) ∙ h in cc
+attached_in start (l ∷ next ∷ lines) (suc n) line rest attached h k = attached_in (attached_with (request_of l) start) (next ∷ lines) n line rest attached h k
+
 -- ---- names ----
 
 -- two names have two files
@@ -73,15 +114,17 @@ not_its_own name other session sessions e = ap (λ b. if b then session else ses
 module _ (g : Story) (seed : ℕ) (sessions : Sessions) (old new : Standing) (stores : AllStore g sessions old) where
   -- nothing
   pub nothing_done : new ≡ old → IsDone g sessions None old new
-  nothing_done e = subst (IsDone g sessions None old) (sym e) (record { lines = refl; asked = refl; shown = refl; files = λ f h. refl; stores = stores })
+  nothing_done e = subst (IsDone g sessions None old) (sym e) (record { lines = refl; asked = refl; shown = refl; files = λ f h. refl; stores = stores; attached = refl })
 
   module _ (r : Request) (named : is_name r.name ≡ true) (aside : IsAside (store_name r.name) old new) where
     abbrev after : Sessions
     after = sessions_with g seed sessions (Some r)
 
     -- the session of a name
-    pub request_done : Stores g (answer g seed (sessions r.name) r.text).session (file_bytes new (store_name r.name)) → IsDone g after (Some r) old new
-    request_done h = record {
+    pub request_done : new.attached ≡ Some (store_name r.name) → Stores g (answer g seed (sessions r.name) r.text).session (file_bytes new (store_name r.name)) →
+        IsDone g after (Some r) old new
+    request_done attached h = record {
+      attached = attached;
       lines = aside.lines;
       asked = aside.asked;
       shown = aside.shown;
@@ -102,6 +145,7 @@ module _ (g : Story) (seed : ℕ) (sessions : Sessions) (old : Standing) (stores
     asked = refl;
     shown = refl;
     files = λ f h. refl;
+    attached = refl;
     left = λ name is bytes may. inl (subst (Stores g (sessions name)) (sym (rest_left old settled holds (store_name name) bytes may)) (stores name is));
   })
 
@@ -112,15 +156,31 @@ module _ (g : Story) (seed : ℕ) (sessions : Sessions) (old : Standing) (stores
     asked = i.asked;
     shown = i.shown;
     files = λ f none. i.files f (none r refl);
+    attached = i.attached;
     left = λ name is bytes may. elim (same_or_not name r.name) [
-      | inl e ↦ subst (λ x. Stores g (sessions x) bytes ⊎ Stores g (sessions_with g seed sessions (Some r) x) bytes
-          ⊎ LeftOfMaking g seed (sessions x) (sessions_with g seed sessions (Some r) x) bytes) (sym e)
-          (subst (λ s. Stores g (sessions r.name) bytes ⊎ Stores g s bytes ⊎ LeftOfMaking g seed (sessions r.name) s bytes)
+      | inl e ↦ subst (λ x. Stores g (sessions x) bytes ⊎ ((m.attached ≡ Some (store_name x)) × (Stores g (sessions_with g seed sessions (Some r) x) bytes
+          ⊎ LeftOfMaking g seed (sessions x) (sessions_with g seed sessions (Some r) x) bytes))) (sym e)
+          (subst (λ s. Stores g (sessions r.name) bytes
+          ⊎ ((m.attached ≡ Some (store_name r.name)) × (Stores g s bytes ⊎ LeftOfMaking g seed (sessions r.name) s bytes)))
           (sym (its_own r.name (answer g seed (sessions r.name) r.text).session sessions))
           (i.left bytes (subst (λ x. MayBeLeft (store_name x) m bytes) e may)))
       | inr o ↦ inl (subst (Stores g (sessions name)) (sym (i.others (store_name name) (other_store name r.name o.0) bytes may)) (stores name is))
     ];
   }
+
+-- once it is done
+pub each_done : (g : Story) (seed : ℕ) (sessions : Sessions) (request : Option Request) (m : Moment) →
+    ((r : Request) → request ≡ Some r → m.attached ≡ Some (store_name r.name)) → AllLeft g (sessions_with g seed sessions request) m →
+    EachLeft g seed sessions (sessions_with g seed sessions request) m
+each_done g seed sessions None m attached all = λ name is bytes may. inl (all name is bytes may)
+each_done g seed sessions (Some r) m attached all = λ name is bytes may. elim (same_or_not name r.name) [
+  | inl e ↦ inr (attached r refl ∙ ap (λ n. Some (store_name n)) (sym e), inl (all name is bytes may))
+  | inr o ↦ inl (subst (λ s. Stores g s bytes) (not_its_own r.name name (answer g seed (sessions r.name) r.text).session sessions o.1) (all name is bytes may))
+]
+
+pub with_attached : (request : Option Request) (start attached : Option (List ℕ)) → attached ≡ attached_with request start → (r : Request) → request ≡ Some r →
+    attached ≡ Some (store_name r.name)
+with_attached request start attached e r is = e ∙ ap (λ o. attached_with o start) is
 
 -- ---- the reply ----
 
@@ -130,13 +190,13 @@ spoken name body =
 
 -- a session was asked for something, and the reply is made
 pub does_request : (g : Story) (seed : ℕ) (sessions : Sessions) (old new : Standing) (r : Request) (store begun grown whole : List ℕ) → AllStore g sessions old →
-    is_name r.name ≡ true → store ≡ store_name r.name → IsAside store old new → begun ≡ codes "[" ++ (r.name ++ codes "]\n") →
+    is_name r.name ≡ true → store ≡ store_name r.name → IsAside store old new → new.attached ≡ Some store → begun ≡ codes "[" ++ (r.name ++ codes "]\n") →
     Answers g (answer g seed (sessions r.name) r.text) begun grown (file_bytes new store) → whole ≡ grown ++ codes "\n" →
     Does g seed sessions (Some r) whole old new
-does_request g seed sessions old new r store begun grown whole stores named is aside opens a ends = (
+does_request g seed sessions old new r store begun grown whole stores named is aside attached opens a ends = (
   ends ∙ ap (λ x. x ++ codes "\n") (a.body ∙ ap (λ x. x ++ (answer g seed (sessions r.name) r.text).body) opens)
       ∙ spoken r.name (answer g seed (sessions r.name) r.text).body,
-  request_done g seed sessions old new stores r named (subst (λ x. IsAside x old new) is aside)
+  request_done g seed sessions old new stores r named (subst (λ x. IsAside x old new) is aside) (attached ∙ ap Some is)
       (subst (λ x. Stores g (answer g seed (sessions r.name) r.text).session (file_bytes new x)) is a.stores),
 )
 

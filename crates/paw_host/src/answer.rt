@@ -421,6 +421,7 @@ pub(crate) fn answer<S: Stage, T: Tables, F: Fn(u8, u8) -> u8>(
     ensures serves { Serves S.Stage answer_calls (failed_stage_call result) stage.old stage.new }
     ensures synced { S.Tells stage.old → OnOk result (IsStable (S.standing stage.new).disk) }
     ensures aside { Across S.Stage stage.old stage.new (IsAside store.now) }
+    ensures attached { Across S.Stage stage.old stage.new (λ old new. OnOk result (new.attached ≡ Some store.now)) }
     ensures meaning { Across S.Stage stage.old stage.new (λ old new.
         EachStory F.Fn player.old.routines player.old.game (λ g. (before : Session) → MayBe g before →
         Stores g before (file_bytes old store.now) →

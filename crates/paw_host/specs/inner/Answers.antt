@@ -90,15 +90,17 @@ pub record IsAside (name : List ℕ) (old new : Standing) : Type 0 where
   pub files : (f : List ℕ) → f ≢ name → new.files f ≡ old.files f
 
 -- A moment at which a session is asked for something: only the file of its name may differ from what stood, and whatever a
--- crash leaves of that is of the session before or after, or of one that is made.
+-- crash leaves of that is of the session before; or the store is attached, and it is of the session after, or of one that
+-- is made.
 pub record InAnswer (g : Story) (seed : ℕ) (name : List ℕ) (before after : Session) (old : Standing) (m : Moment)
     : Type 0 where
   pub asked : m.asked ≡ old.asked
   pub shown : m.shown ≡ old.shown
   pub files : (f : List ℕ) → f ≢ name → m.files f ≡ old.files f
   pub others : (f : List ℕ) → f ≢ name → (bytes : List ℕ) → MayBeLeft f m bytes → bytes ≡ file_bytes old f
-  pub left : (bytes : List ℕ) → MayBeLeft name m bytes →
-      Stores g before bytes ⊎ Stores g after bytes ⊎ LeftOfMaking g seed before after bytes
+  pub attached : (m.attached ≡ old.attached) ⊎ (m.attached ≡ Some name) ⊎ (m.attached ≡ None)
+  pub left : (bytes : List ℕ) → MayBeLeft name m bytes → Stores g before bytes
+      ⊎ ((m.attached ≡ Some name) × (Stores g after bytes ⊎ LeftOfMaking g seed before after bytes))
 
 -- the bytes are of one session or of another, or of one that is made
 abbrev pub LeftOf : Story → ℕ → Session → Session → List ℕ → Type 0

@@ -7,7 +7,7 @@ use Rattle.paw_stage.specs.Stage.{Standing}
 use Rattle.paw_stage.specs.Moments.{Moment}
 use Rattle.paw_host.specs.Names.{Request, is_name, store_name}
 use Rattle.paw_host.specs.Replies.{Sessions, reply_to, sessions_with, sessions_after}
-use Rattle.paw_host.specs.Promise.{MayBe, AllStore, EachLeft, Answered}
+use Rattle.paw_host.specs.Promise.{MayBe, AllStore, EachLeft, Answered, attached_with, MayAttach}
 use Rattle.paw_host.specs.declared.outcome.HostOutcome.{HostOutcome}
 use Rattle.paw_host.specs.declared.outcome.HostOutcome.TheVariants as outcome
 
@@ -38,6 +38,7 @@ pub record IsDone (g : Story) (after : Sessions) (request : Option Request) (old
   pub shown : new.shown ≡ old.shown
   pub files : (f : List ℕ) → IsNotFor request f → new.files f ≡ old.files f
   pub stores : AllStore g after new
+  pub attached : new.attached ≡ attached_with request old.attached
 
 -- a moment at which it is being done
 pub record InWork (g : Story) (seed : ℕ) (before after : Sessions) (request : Option Request) (old : Standing)
@@ -46,6 +47,7 @@ pub record InWork (g : Story) (seed : ℕ) (before after : Sessions) (request : 
   pub shown : m.shown ≡ old.shown
   pub files : (f : List ℕ) → IsNotFor request f → m.files f ≡ old.files f
   pub left : EachLeft g seed before after m
+  pub attached : MayAttach request old.attached m.attached
 
 -- n lines were answered, and the host waits for the next one
 pub record IsServing (g : Story) (seed : ℕ) (first : Sessions) (old now : Standing) (n : ℕ) : Type 0 where

@@ -10,7 +10,7 @@ use Rattle.paw_host.specs.Replies.{Session, Absent, answer}
 use Rattle.paw_host.specs.Promise.{Stores}
 use Rattle.paw_host.specs.inner.Answers.{Answers, InAnswer, InFile, LeftOf}
 use Rattle.paw_host.proofs.Calls.{writes_answer, reads_answer, attaches_answer}
-use Rattle.paw_host.proofs.Reaching.{in_attach, answer_before, answer_in_new, answer_in_kept, none_stored, no_bytes, attached_still, aside_beside, aside_unattached}
+use Rattle.paw_host.proofs.Reaching.{in_attach, answer_before, answer_in_new, answer_in_kept, none_stored, no_bytes, attached_still, on_ok, aside_beside, aside_unattached}
 use Rattle.paw_host.proofs.answer.answer.Goals as goal
 
 -- ---- the attach failed ----
@@ -47,6 +47,11 @@ pub returns-then-at-eq0-clause-aside : goal.returns-then-at-eq0-clause-aside
 returns-then-at-eq0-clause-aside g c = λ tells.
     aside_beside c.args.store.now (g.S.Stage.standing c.args.stage.now) (g.S.Stage.standing c.attach.new.stage) (g.S.Stage.standing c.answer_new.new.stage)
     (c.in-Ok.ensures.attached tells).1 (c.answer_new.ensures.beside (c.attach.ensures.serves.tells.0 tells))
+
+pub returns-then-at-eq0-clause-attached : goal.returns-then-at-eq0-clause-attached
+returns-then-at-eq0-clause-attached g c = λ tells.
+    on_ok c.answer_new.result (attached_still c.args.store.now (g.S.Stage.standing c.args.stage.now) (g.S.Stage.standing c.attach.new.stage)
+    (g.S.Stage.standing c.answer_new.new.stage) (c.in-Ok.ensures.attached tells).1 (c.answer_new.ensures.beside (c.attach.ensures.serves.tells.0 tells)))
 
 pub returns-then-at-eq0-clause-meaning : goal.returns-then-at-eq0-clause-meaning
 returns-then-at-eq0-clause-meaning g c = λ tells X rows before may stores.
@@ -102,6 +107,11 @@ pub returns-else-at-eq0-clause-aside : goal.returns-else-at-eq0-clause-aside
 returns-else-at-eq0-clause-aside g c = λ tells.
     aside_beside c.args.store.now (g.S.Stage.standing c.args.stage.now) (g.S.Stage.standing c.attach.new.stage) (g.S.Stage.standing c.answer_kept.new.stage)
     (c.in-Ok.ensures.attached tells).1 (c.answer_kept.ensures.beside (c.attach.ensures.serves.tells.0 tells))
+
+pub returns-else-at-eq0-clause-attached : goal.returns-else-at-eq0-clause-attached
+returns-else-at-eq0-clause-attached g c = λ tells.
+    on_ok c.answer_kept.result (attached_still c.args.store.now (g.S.Stage.standing c.args.stage.now) (g.S.Stage.standing c.attach.new.stage)
+    (g.S.Stage.standing c.answer_kept.new.stage) (c.in-Ok.ensures.attached tells).1 (c.answer_kept.ensures.beside (c.attach.ensures.serves.tells.0 tells)))
 
 pub returns-else-at-eq0-clause-meaning : goal.returns-else-at-eq0-clause-meaning
 returns-else-at-eq0-clause-meaning g c = λ tells X rows before may stores.

@@ -1,9 +1,8 @@
-use Rattle.std.proofs.Common.{◌≡◌, ◌∙◌, sym, subst, arith, length}
+use Rattle.std.proofs.Common.{◌∙◌, sym, subst, length}
 use Rattle.std.proofs.lemmas.Bool.{leb-true}
 use Rattle.paw_stage.proofs.Time.{Passes_map}
 use Rattle.paw_stage.specs.Stage.{file_bytes}
 use Rattle.paw_effects.specs.Story.{Story, story_of}
-use Rattle.paw_host.specs.Replies.{Sessions}
 use Rattle.paw_host.specs.Promise.{Stores}
 use Rattle.paw_host.specs.inner.Names.{asks}
 use Rattle.paw_host.specs.inner.Lines.{Doing}
@@ -29,7 +28,7 @@ returns-clause-done g c = λ tells X rows sessions may stores.
     let old = g.S.Stage.standing c.args.stage.now in
     let here = subst (λ x. Stores story (sessions name) (file_bytes old x)) (sym is) (stores name c.requires.name) in
     does_request story c.args.hosted.now.seed sessions old _ (asks c.args.request) store _ _ _ stores c.requires.name is
-    (c.answer.ensures.aside tells) c.begin.ensures.value (c.in-Ok.ensures.meaning tells X rows (sessions name) (may name c.requires.name) here)
+    (c.answer.ensures.aside tells) (c.in-Ok.ensures.attached tells) c.begin.ensures.value (c.in-Ok.ensures.meaning tells X rows (sessions name) (may name c.requires.name) here)
     c.push.ensures.value
 
 pub returns-in-Err-clause-any_moment : goal.returns-in-Err-clause-any_moment

@@ -2,7 +2,6 @@ use Rattle.std.proofs.Common.{refl, sym, subst}
 use Rattle.std.specs.Prelude.{OnOk}
 use Rattle.paw_stage.proofs.Time.{Passes_map, Passes_none}
 use Rattle.paw_effects.specs.Story.{story_of}
-use Rattle.paw_host.specs.inner.Names.{asks}
 use Rattle.paw_host.specs.inner.Lines.{Does, Doing}
 use Rattle.paw_host.proofs.Serving.{nothing_done}
 use Rattle.paw_host.proofs.lines.Seats.reply.Goals as goal
