@@ -53,7 +53,7 @@ request_line line true is short bytes r e =
 request_line line false is short bytes r e = cc
 
 -- a name, and a text that is a line
-asks_line : (line : List ℕ) → AreBytes line → (r : Request) → request_of line ≡ Some r → (is_name r.name ≡ true) × IfLine r.text
+pub asks_line : (line : List ℕ) → AreBytes line → (r : Request) → request_of line ≡ Some r → (is_name r.name ≡ true) × IfLine r.text
 unfolding request_of
 asks_line line bytes r e =
     request_line (take LINE_LIMIT line) (is_name (parted (take LINE_LIMIT line)).name) refl (omega (arith, length-take LINE_LIMIT line))

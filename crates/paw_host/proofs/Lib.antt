@@ -13,3 +13,4 @@ pub mod Continuing
 pub mod Calls
 pub mod Loading
 pub mod Alone
+pub mod Crashing

@@ -160,7 +160,7 @@ unmade : (bytes : List ℕ) → bytes ≡ [] → IsUnmade (recover bytes)
 unfolding recover recover_by
 unmade bytes e = rw e tt
 
-not_shown : (r : Recovered) (d : Digests) (state piece : List ℕ) → IsUnmade r → r ≡ Shown d state piece → ⊥
+pub not_shown : (r : Recovered) (d : Digests) (state piece : List ℕ) → IsUnmade r → r ≡ Shown d state piece → ⊥
 not_shown r d state piece h e = subst IsUnmade e h
 
 pub none_stored : (g : Story) (before : Session) (bytes : List ℕ) → bytes ≡ [] → Stores g before bytes → before ≡ Absent

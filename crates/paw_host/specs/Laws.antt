@@ -1,13 +1,20 @@
--- The laws of hosting: each plays as if alone.
-use Rattle.std.specs.Prelude.{◌≡◌, ℕ, List, [], ◌∷◌, ◌++◌, map, Option, Some, None, if◌then◌else◌}
+-- The laws of hosting: each plays as if alone, and goes on after a crash.
+use Rattle.std.specs.Prelude.{◌≡◌, ℕ, zero, suc, ◌<◌, ◌^◌, true, List, [], ◌∷◌, ◌++◌, map, take, All}
+use Rattle.std.specs.Prelude.{Option, Some, None, if◌then◌else◌}
 use Rattle.std.specs.Str.{bytes_eq}
 use Rattle.paw_effects.specs.Story.{Story}
+use Rattle.paw_effects.specs.Standing.{AreBytes}
 use Rattle.paw_effects.specs.declared.act.Prompt.{Prompt}
 use Rattle.paw_reading.specs.declared.places.Frame.{Frame}
 use Rattle.paw_reading.specs.Run.{Run}
 use Rattle.paw_reading.specs.Turn.{WaitsAt, reading, pieces_of}
-use Rattle.paw_host.specs.Names.{Request, request_of}
-use Rattle.paw_host.specs.Replies.{Session, Absent, At, Sessions, answer, sessions_with, sessions_after}
+use Rattle.paw_reading.specs.Bounds.{ValidStory}
+use Rattle.paw_stage.specs.Stage.{Standing, file_bytes}
+use Rattle.paw_stage.specs.Moments.{Moment}
+use Rattle.paw_play.specs.Laws.{MayBeLeft}
+use Rattle.paw_host.specs.Names.{Request, request_of, is_name, store_name}
+use Rattle.paw_host.specs.Replies.{Session, Absent, At, Refused, Sessions, answer, sessions_with, sessions_after}
+use Rattle.paw_host.specs.Promise.{BeginsWith, InHost}
 
 -- ---- one name among others ----
 
@@ -68,3 +75,38 @@ pub record PiecesAreAnswered : Type 0 where
       session_after g seed Absent (None ∷ map Some texts) ≡ At seed texts →
       reading g seed texts ≡ WaitsAt p path r →
       answers_of g seed Absent (None ∷ map Some texts) ≡ pieces_of (reading g seed texts)
+
+-- ---- after a crash ----
+
+-- the lines before the last of the first n
+abbrev pub before_last : List (List ℕ) → ℕ → List (List ℕ)
+before_last lines zero = []
+before_last lines (suc n) = take n lines
+
+-- it stands at lines
+abbrev pub IsBegun : Session → Type 0
+IsBegun (At own lines) = Unit {0}
+IsBegun _ = ⊥
+
+-- What there may be of a name after a crash: its session before a line, or after it; or, where its first session was being
+-- made, one that stands at no lines, or a file that is refused.
+pub data AfterCrash (seed : ℕ) (before after : Session) : Session → Type 0 where
+  as_before : AfterCrash seed before after before
+  as_after : AfterCrash seed before after after
+  at_no_lines : before ≡ Absent → IsBegun after → AfterCrash seed before after (At seed [])
+  half_made : (bytes : List ℕ) → before ≡ Absent → IsBegun after → AfterCrash seed before after (Refused bytes)
+
+-- a crash at this moment may leave what then stands: the files of all names
+abbrev pub CrashLeaves : Moment → Standing → Type 0
+CrashLeaves m next = (name : List ℕ) → is_name name ≡ true →
+    MayBeLeft (store_name name) m (file_bytes next (store_name name))
+
+-- Hosting that is cut off by a crash at any of its moments may be begun again over what is left, with such a session of
+-- each name. The line that was at work is the last one that was taken.
+abbrev pub MayBeBegunAgain : Type 0
+MayBeBegunAgain =
+    (g : Story) (seed : ℕ) (first : Sessions) (old next : Standing) (m : Moment) → ValidStory g → seed < 2 ^ 64 →
+    BeginsWith g first old → (i : InHost g seed first old m) → CrashLeaves m next → All AreBytes next.lines →
+    (again : Sessions) × BeginsWith g again next × ((name : List ℕ) → is_name name ≡ true →
+    AfterCrash seed (sessions_after g seed first (before_last old.lines i.taken) name)
+    (sessions_after g seed first (take i.taken old.lines) name) (again name))

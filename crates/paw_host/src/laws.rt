@@ -1,6 +1,6 @@
 // The laws of hosting.
 
-ghost use Rattle.paw_host.specs.Laws.{EachPlaysAlone, PiecesAreAnswered};
+ghost use Rattle.paw_host.specs.Laws.{EachPlaysAlone, PiecesAreAnswered, MayBeBegunAgain};
 
 /// Each plays as if alone: whatever lines of others come between, the session of a name, and what the name is answered,
 /// come of that session and of the lines of that name alone.
@@ -11,4 +11,11 @@ pub fn each_plays_alone()
 /// A player whose texts were all taken was answered with the pieces of the game, one for each text.
 pub fn pieces_are_answered()
     ensures pieces { PiecesAreAnswered }
+{}
+
+/// Hosting may be cut off by a crash at any moment, inside any call, and begun again over whatever the crash leaves: each
+/// name then has its session before the line that was at work, or after it. A name whose first session was being made
+/// may have one that stands at no lines, or a file that is refused until it is taken away.
+pub fn may_be_begun_again()
+    ensures again { MayBeBegunAgain }
 {}
