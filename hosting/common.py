@@ -1,0 +1,299 @@
+"""What the scripts here share: the programs, names and lines, the lock of a name, rates, and what the file of a session tells."""
+import collections
+import contextlib
+import fcntl
+import hashlib
+import os
+import re
+import secrets
+import socket
+import string
+import struct
+import subprocess
+import sys
+import time
+import unicodedata
+import zlib
+
+TOP = os.path.dirname(os.path.dirname(os.path.abspath(__file__)))
+sys.path.insert(0, os.path.join(TOP, "tools"))
+import sessions  # noqa: E402
+
+LONGEST_NAME, LONGEST_LINE = 16, 200    # letters; a line counts with its first 255 bytes, the name and a space among them
+LONGEST_REPLY = 131200                  # bytes: a name, two pieces and what stands around them
+LENGTH, MARK = sessions.SLOTS + 2 * sessions.SLOT, 80
+OVER = 4                                # the prompt of a session whose game is over
+SLOWEST = 30                            # seconds in which a line has to be answered
+WIDTH = 72                              # columns: the narrowest that authors break their texts to
+
+
+# --- The programs --------------------------------------------------------------------------------------------------
+
+def program(name):
+    """The path of paw or pawhost: that of the variable of its name in capitals, or else bin/ of the repository."""
+    path = os.path.abspath(os.environ.get(name.upper()) or os.path.join(TOP, "bin", name))
+    if not os.access(path, os.X_OK):
+        sys.exit("no program at %s" % path)
+    return path
+
+
+class Ended(Exception):
+    """pawhost has ended, and a line may be without a reply. The status is with it."""
+
+    def __init__(self, status):
+        super().__init__("pawhost ended with status %s" % status)
+        self.status = status
+
+
+class Host:
+    """A pawhost in a folder of sessions.
+
+    A body may hold what looks like the beginning of another reply. So the output is a socket that keeps packets apart, and each
+    reply, which pawhost writes in one go, is one packet. A lock that is passed on is held until pawhost has ended too.
+    """
+
+    def __init__(self, folder, image, seed, lock=None):
+        self.output, its_output = socket.socketpair(socket.AF_UNIX, socket.SOCK_SEQPACKET)
+        self.output.settimeout(SLOWEST)
+        its_output.setsockopt(socket.SOL_SOCKET, socket.SO_SNDBUF, 2 * LONGEST_REPLY)
+        with its_output:
+            self.process = subprocess.Popen([program("pawhost"), os.path.abspath(image), str(seed)], cwd=folder, bufsize=0,
+                                            stdin=subprocess.PIPE, stdout=its_output, pass_fds=() if lock is None else (lock,))
+
+    def ask(self, name, text=None):
+        """The body of the reply to a line of a name, or to the name alone."""
+        self.send(name, text)
+        return self.reply(name)
+
+    def send(self, name, text=None):
+        """Hands a line over. Where pawhost has ended, the reply tells it."""
+        with contextlib.suppress(BrokenPipeError):
+            self.process.stdin.write(name.encode("ascii") + (b"" if text is None else b" " + text) + b"\n")
+
+    def reply(self, name):
+        """The body of the next reply, which is that to a line of this name."""
+        try:
+            reply = self.output.recv(LONGEST_REPLY)
+        except ConnectionResetError:
+            reply = b""
+        except TimeoutError:
+            self.process.kill()
+            reply = b""
+        if not reply:
+            raise Ended(self.process.wait())
+        begins = b"[" + name.encode("ascii") + b"]\n"
+        if not (reply.startswith(begins) and reply.endswith(b"\n")):
+            raise ValueError("no reply to %s: %r" % (name, reply[:80]))
+        return reply[len(begins):-1].decode("latin-1")
+
+    def end(self):
+        self.process.stdin.close()
+        self.output.close()
+        return self.process.wait()
+
+    def __enter__(self):
+        return self
+
+    def __exit__(self, *_):
+        self.end()
+
+
+def why_not(image, seed):
+    """Why pawhost can't play an image with a seed, in words; None where it can."""
+    status = subprocess.run([program("pawhost"), image, str(seed)], stdin=subprocess.DEVNULL, stdout=subprocess.DEVNULL).returncode
+    return None if status == 0 else "pawhost can't play %s with the seed %s: status %d" % (image, seed, status)
+
+
+# --- Names and lines -----------------------------------------------------------------------------------------------
+
+def is_name(name):
+    return re.fullmatch("[a-z0-9]{1,%d}" % LONGEST_NAME, name) is not None
+
+
+def new_name():
+    """Sixteen random letters, which nobody guesses: who has the name has the session."""
+    return "".join(secrets.choice(string.ascii_lowercase) for _ in range(LONGEST_NAME))
+
+
+def plain_line(typed):
+    """The bytes of a typed line, in the letters that games know; None where it is too long or holds a control character."""
+    typed = typed.replace("\u2019", "'").replace("\u2018", "'").replace("\u201c", '"').replace("\u201d", '"')
+    plain = "".join(char for char in unicodedata.normalize("NFKD", typed) if not unicodedata.combining(char))
+    if len(plain) > LONGEST_LINE or any(unicodedata.category(char) == "Cc" for char in plain):
+        return None
+    return bytes(ord(char) if " " <= char <= "~" else ord("?") for char in plain)
+
+
+def partition_of(name, partitions):
+    """Which of so many partitions a name belongs to."""
+    return zlib.crc32(name.encode("ascii")) % partitions
+
+
+# --- What a file tells ---------------------------------------------------------------------------------------------
+
+Kept = collections.namedtuple("Kept", "lines prompt")
+NOTHING, BROKEN = Kept(None, None), Kept(-1, None)
+
+
+def path_of(folder, name):
+    return os.path.join(folder, name + ".paw")
+
+
+def bytes_of(path):
+    """The bytes of a file; none where it is missing."""
+    try:
+        with open(path, "rb") as file:
+            return file.read()
+    except FileNotFoundError:
+        return b""
+
+
+def kept_in(data):
+    """How many lines the bytes of a session stand for, and its prompt; NOTHING where there are none, BROKEN where they can't be read.
+
+    Only pawhost finds every fault: this looks no further than it needs to count.
+    """
+    if not data:
+        return NOTHING
+    if len(data) != LENGTH or data[0] != MARK:
+        return BROKEN
+    state = sessions.state_of(data)
+    return Kept(state.lines, state.prompt)
+
+
+def kept(folder, name):
+    return kept_in(bytes_of(path_of(folder, name)))
+
+
+def is_half_made(folder, name):
+    """Whether a session was cut off while it was made: it has no mark yet, and has taken no line, so nothing is lost with it."""
+    data = bytes_of(path_of(folder, name))
+    whole = data.ljust(LENGTH, b"\0")
+    return bool(data) and data[0] == 0 and all(sessions.state_at(whole, slot).lines == 0 for slot in (0, 1))
+
+
+def put_aside(folder, name):
+    """Takes a file out of the way, and keeps it."""
+    os.makedirs(os.path.join(folder, "aside"), exist_ok=True)
+    os.rename(path_of(folder, name), os.path.join(folder, "aside", "%s.%d" % (name, time.time_ns())))
+
+
+def names_in(folder):
+    """The names that have a file in a folder."""
+    return sorted(entry.name[:-4] for entry in os.scandir(folder) if entry.name.endswith(".paw") and is_name(entry.name[:-4]))
+
+
+def sync_folder(folder):
+    """Sees to it that the names in a folder are on the disk."""
+    file = os.open(folder, os.O_RDONLY)
+    try:
+        os.fsync(file)
+    finally:
+        os.close(file)
+
+
+# --- Locks and rates -----------------------------------------------------------------------------------------------
+
+class Busy(Exception):
+    """Somebody else has the lock of a name."""
+
+
+@contextlib.contextmanager
+def locked(folder, name, patience):
+    """Holds the lock of a name: a byte of one file, whose place is the digest of the name. Waits so many seconds for it.
+
+    It belongs to the file as it was opened here: a pawhost that is given the number of that file holds the lock with us.
+    """
+    place = int.from_bytes(hashlib.sha256(name.encode("ascii")).digest()[:8], "little") >> 2
+    wanted = struct.pack("hhqqi4x", fcntl.F_WRLCK, os.SEEK_SET, place, 1, 0)
+    end = time.monotonic() + patience
+    file = os.open(os.path.join(folder, ".locks"), os.O_RDWR | os.O_CREAT | os.O_CLOEXEC, 0o600)
+    try:
+        while True:
+            try:
+                fcntl.fcntl(file, fcntl.F_OFD_SETLK, wanted)
+                break
+            except OSError:
+                if time.monotonic() > end:
+                    raise Busy() from None
+                time.sleep(0.01)
+        yield file
+    finally:
+        os.close(file)
+
+
+def lock_folder(folder):
+    """Holds a folder for one pawhost; gives the open file, or None where another holds it."""
+    file = os.open(os.path.join(folder, ".folder"), os.O_RDWR | os.O_CREAT | os.O_CLOEXEC, 0o600)
+    try:
+        fcntl.flock(file, fcntl.LOCK_EX | fcntl.LOCK_NB)
+    except OSError:
+        os.close(file)
+        return None
+    return file
+
+
+def seconds_to_wait(folder, kind, who, each, burst):
+    """Counts something that somebody does; gives 0, or the seconds to wait where it is more than once in so many seconds (each).
+
+    A burst of so many may come at once. The file of the rates has 65,536 places, so strangers can't make it grow; two who share a
+    place share their rate. A place holds the time up to which all is used up.
+    """
+    place = 8 * int.from_bytes(hashlib.sha256(("%s %s" % (kind, who)).encode()).digest()[:2], "little")
+    file = os.open(os.path.join(folder, ".rates"), os.O_RDWR | os.O_CREAT | os.O_CLOEXEC, 0o600)
+    try:
+        fcntl.flock(file, fcntl.LOCK_EX)
+        now = time.time()
+        read = os.pread(file, 8, place)
+        until = max(now, struct.unpack("d", read)[0] if len(read) == 8 else 0)
+        if until - now > each * burst:
+            return until - now - each * burst
+        os.pwrite(file, struct.pack("d", until + each), place)
+        return 0
+    finally:
+        os.close(file)
+
+
+def whose(address):
+    """Those who share an address: of IPv6, a network of 64 bits."""
+    return ":".join(address.split(":")[:4]) if ":" in address else address
+
+
+# --- A turn --------------------------------------------------------------------------------------------------------
+
+Turn = collections.namedtuple("Turn", "body lines taken over")
+
+
+def take(host, folder, name, text=None, seen=None):
+    """Has pawhost take a line once, under the lock of the name.
+
+    The line is taken where it comes from one who has seen as many lines as the session stands for. Otherwise it was sent twice, or
+    somebody else has played on: the last text is shown, and nothing changes. Without a line a session is begun, or shown.
+    """
+    before = kept(folder, name)
+    if before.lines is None or text is None or before.lines != seen:
+        body, after = host.ask(name), kept(folder, name)
+        return Turn(body, after.lines, False, after.prompt == OVER)
+    body, after = host.ask(name, text), kept(folder, name)
+    return Turn(body, after.lines, after.lines == seen + 1, after.prompt == OVER)
+
+
+def meaning(body):
+    """What the words of pawhost that stand in place of a text mean."""
+    return {"over": "The game is over.",
+            "full": "This game has all the lines that it can keep.",
+            "spent": "The game can't answer that: its answer would be too long. It stands where it was.",
+            "too deep": "The game can't answer that: its tables call each other too deep. It stands where it was.",
+            "refused": "What was kept of this game can't be read. Tell the host: nothing of it was changed."}.get(body, body)
+
+
+def flowing(text):
+    """The text without the line ends that only break a paragraph to the width of a screen: where the next word wouldn't have fitted."""
+    rows = []
+    for row in text.split("\n"):
+        word = row.split(" ")[0]
+        if rows and word and rows[-1][1] and rows[-1][1] + 1 + len(word) > WIDTH:
+            rows[-1] = (rows[-1][0] + " " + row, len(row))
+        else:
+            rows.append((row, len(row)))
+    return "\n".join(row for row, _ in rows)
