@@ -261,7 +261,7 @@ def whose(address):
 
 # --- A turn --------------------------------------------------------------------------------------------------------
 
-Turn = collections.namedtuple("Turn", "body lines taken over")
+Turn = collections.namedtuple("Turn", "body lines taken over note", defaults=[""])
 
 
 def take(host, folder, name, text=None, seen=None):

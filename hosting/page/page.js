@@ -67,28 +67,30 @@ async function post(fields) {
   }
 }
 
-async function send(typed) {
+// Begins the game where nothing was typed; takes a line back where it says so.
+async function send(typed, isUndo = false) {
   if (sending) return;
   sending = true;
   const before = seen;
-  const answer = await post(typed === null ? { seen: "" } : { seen, line: typed });
+  const answer = await post(isUndo ? { seen, undo: 1 } : typed === null ? { seen: "" } : { seen, line: typed });
   sending = false;
   if (answer.refused) {
     note.textContent = answer.refused;
     return;
   }
   asked = -1;
-  // A line that had to be sent again was taken the first time, where the session has just one line more.
+  // A line that had to be sent again was taken the first time, where the session has just one change more.
   const isAgain = answer.tried > 0 && answer.seen === Number(before) + 1;
-  const isOurs = typed === null || answer.taken || isAgain || !answer.text;
-  if (isOurs && field.value === typed) field.value = "";
+  const isOurs = typed === null || answer.taken || isAgain || !answer.text && !isUndo;
+  if (isOurs && !isUndo && field.value === typed) field.value = "";
   note.textContent = isAgain ? "" : answer.note;
   const echo = typed === null || !isOurs ? null : prompt.textContent + " " + typed;
   const first = show({ typed: echo, text: answer.text });
   if (answer.seen !== null && answer.seen >= 0) {
     seen = String(answer.seen);
-    root.dataset.seen = document.getElementById("seen").value = seen;
-    if (answer.text) keep({ typed: echo, line: isOurs ? typed : null, text: answer.text, seen });
+    root.dataset.seen = seen;
+    document.querySelectorAll("#form [name=seen], #undo [name=seen]").forEach((hidden) => { hidden.value = seen; });
+    if (answer.text) keep({ typed: echo, line: isOurs && !isUndo ? typed : null, text: answer.text, seen });
     ask(answer.prompt || prompt.textContent, answer.over ? "over" : "on");
   }
   (first || note).scrollIntoView({ block: "start" });
@@ -121,6 +123,11 @@ function transcript() {
 form.addEventListener("submit", (event) => {
   event.preventDefault();
   send(field.value);
+});
+
+document.getElementById("undo").addEventListener("submit", (event) => {
+  event.preventDefault();
+  send("(undo)", true);
 });
 
 // The lines typed before come back by the arrows.
