@@ -235,6 +235,15 @@ fn session_after(
     Ok(stage.load(alloc, "ann.paw", MOST)?)
 }
 
+// These bytes with another one at a place.
+fn with_byte(alloc: Global, bytes: &[u8], place: usize, byte: u8) -> Result<Vec<u8>, AllocError> {
+    let mut changed = bytes.to_vec(alloc)?;
+    if let Some(spot) = changed.as_mut_slice().get_mut(place) {
+        *spot = byte;
+    }
+    Ok(changed)
+}
+
 #[test]
 fn stores_that_give_no_session_are_refused(rt: HostRuntime) -> Result<(), Fail> {
     let alloc = rt.alloc();
@@ -242,16 +251,15 @@ fn stores_that_give_no_session_are_refused(rt: HostRuntime) -> Result<(), Fail> 
     let other = session_after(&rt, alloc, "other", &[b"ann"])?;
     refuses(&rt, alloc, other.as_slice())?;
     let good = session_after(&rt, alloc, "hall", &[b"ann"])?;
-    for (place, byte) in [(0usize, 0u8), (2, 3), (448, 200), (86_528, 200)] {
-        let mut bad = good.as_slice().to_vec(alloc)?;
-        if let Some(spot) = bad.as_mut_slice().get_mut(place) {
-            *spot = byte;
-        }
-        // What stands in the slot that isn't in use is no fault.
-        if place < 86_208 {
-            refuses(&rt, alloc, bad.as_slice())?;
-        }
+    // The mark, the version, the digests of the game and of the routines, the place of an object.
+    for (place, byte) in [(0usize, 0u8), (2, 3), (32, 1), (64, 1), (448, 200)] {
+        let bad = with_byte(alloc, good.as_slice(), place, byte)?;
+        refuses(&rt, alloc, bad.as_slice())?;
     }
+    // What stands in the slot that isn't in use is no fault.
+    let spoilt = with_byte(alloc, good.as_slice(), 86_528, 200)?;
+    let body = answered(&rt, alloc, spoilt.as_slice())?;
+    assert_eq!(rt; body.as_slice(), FIRST.as_bytes());
     Ok(())
 }
 
