@@ -10,6 +10,7 @@ import os
 import zlib
 
 import common
+import copies
 
 MOST = 20
 
@@ -73,13 +74,18 @@ def go_back(folder, name):
 
     The change is counted first. Where this is cut off behind that nothing was taken back, and the page is shown where the game stands.
     """
-    before = copy_before(folder, name)
-    if before is None:
-        return False
-    write(path_of(folder, name, "count"), b"%d" % (taken_back(folder, name) + 1))
-    made = path_of(folder, name, "session")
-    write(made, before)
-    common.sync_folder(os.path.dirname(made))
-    os.replace(made, common.path_of(folder, name))
-    common.sync_folder(folder)
-    return True
+    with contextlib.ExitStack() as held:
+        try:
+            held.enter_context(copies.held(common.path_of(folder, name)))
+        except (copies.Refused, OSError):  # a program plays it by itself, or there is none
+            return False
+        before = copy_before(folder, name)
+        if before is None:
+            return False
+        write(path_of(folder, name, "count"), b"%d" % (taken_back(folder, name) + 1))
+        made = path_of(folder, name, "session")
+        write(made, before)
+        common.sync_folder(os.path.dirname(made))
+        os.replace(made, common.path_of(folder, name))
+        common.sync_folder(folder)
+        return True
