@@ -17,8 +17,3 @@ status_of (outcome.Long lines) = 9
 abbrev pub failed_call : HostOutcome → Option StageCall
 failed_call (outcome.Outside c) = Some c
 failed_call _ = None
-
--- the call that failed, if an outcome has come
-abbrev pub failed_so_far : Option HostOutcome → Option StageCall
-failed_so_far None = None
-failed_so_far (Some o) = failed_call o

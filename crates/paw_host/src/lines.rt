@@ -15,11 +15,11 @@ ghost use Rattle.paw_host.specs.Names.{is_name, request_in};
 ghost use Rattle.paw_host.specs.Replies.{Sessions, reply as spoken};
 ghost use Rattle.paw_host.specs.Promise.{AllStore, BeginsWith, InHost};
 ghost use Rattle.paw_host.specs.Hosts.{Ends, Hosts};
-ghost use Rattle.paw_host.specs.Outcomes.{failed_call, failed_so_far};
+ghost use Rattle.paw_host.specs.Outcomes.{failed_call};
 ghost use Rattle.paw_host.specs.declared.outcome.HostOutcome.TheVariants as outcome;
 ghost use Rattle.paw_host.specs.inner.Names.{asks};
 ghost use Rattle.paw_host.specs.inner.Answers.{answer_calls, IsMeasureOf};
-ghost use Rattle.paw_host.specs.inner.Lines.{AllMay, Does, Doing, EachServing, SameLines, ServesTo, TakesTo};
+ghost use Rattle.paw_host.specs.inner.Lines.{AllMay, Does, Doing, EachServing, SameLines, ServesTo, TakesTo, failed_so_far};
 
 use crate::answer::{Hosted, answer};
 use crate::names::{Request, StoreName, request_in};

@@ -314,7 +314,8 @@ fn answered(rt: &impl Abort, alloc: Global, bytes: &[u8]) -> Result<Vec<u8>, Fai
     assert_eq!(rt; run(rt, alloc, &mut stage)?, HostOutcome::InputEnded);
     let shown = stage.shown();
     assert!(rt; shown.starts_with(b"[eve]\n") && shown.ends_with(b"\n"));
-    Ok(shown[6..shown.len() - 1].to_vec(alloc)?)
+    let body = shown.get(6..shown.len().saturating_sub(1));
+    Ok(body.unwrap_or(b"").to_vec(alloc)?)
 }
 
 // Whether a crash may leave a store that is answered so while this line of a player is at work: as before it, as after

@@ -5,11 +5,18 @@ use Rattle.paw_effects.specs.Standing.{AreBytes}
 use Rattle.paw_stage.specs.Disk.{IsStable}
 use Rattle.paw_stage.specs.Stage.{Standing}
 use Rattle.paw_stage.specs.Moments.{Moment}
+use Rattle.paw_stage.specs.declared.StageCall.{StageCall}
 use Rattle.paw_host.specs.Names.{Request, is_name, store_name}
 use Rattle.paw_host.specs.Replies.{Sessions, reply_to, sessions_with, sessions_after}
 use Rattle.paw_host.specs.Promise.{MayBe, AllStore, EachLeft, Answered, attached_with, MayAttach}
+use Rattle.paw_host.specs.Outcomes.{failed_call}
 use Rattle.paw_host.specs.declared.outcome.HostOutcome.{HostOutcome}
 use Rattle.paw_host.specs.declared.outcome.HostOutcome.TheVariants as outcome
+
+-- the call that failed, if an outcome has come
+abbrev pub failed_so_far : Option HostOutcome → Option StageCall
+failed_so_far None = None
+failed_so_far (Some o) = failed_call o
 
 -- each of the sessions may be
 abbrev pub AllMay : Story → Sessions → Type 0
