@@ -11,6 +11,7 @@ pub mod LengthLaws
 pub mod ListLaws
 pub mod ListLoop
 pub mod MarkLaws
+pub mod MatchHere
 pub mod MatchLaws
 pub mod OrderLaws
 pub mod PassRows

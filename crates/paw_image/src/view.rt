@@ -18,7 +18,7 @@ use crate::order::next_in;
 use crate::refusal::ImageRefusal;
 use paw_base::limits::{IMAGE_LIMIT, WORD_LENGTH};
 use paw_base::parts::{Condact, Counts, ObjectFacts};
-use paw_game::lookup::word_of;
+use paw_game::lookup::{is_for, word_of};
 use paw_game::parts::{GamePart, Word};
 use paw_game::tables::Tables;
 use std::alloc::Global;
@@ -172,6 +172,11 @@ impl<'a> Tables for View<'a> {
     }
 
     fn next_match(&self, table: u8, from: u16, verb: u8, noun: u8) -> Option<u16> {
+        // Most often the entry at hand matches, and none is searched for; where it isn't there, none comes after it.
+        let (own_verb, own_noun) = self.head(table, from)?;
+        if is_for(own_verb, verb) && is_for(own_noun, noun) {
+            return Some(from);
+        }
         let index = index_of(&self.offsets.tables, table)?;
         next_in(&index.order, from, verb, noun)
     }
