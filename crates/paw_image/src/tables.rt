@@ -7,7 +7,7 @@ ghost use Rattle.paw_image.specs.Damage.{after_parameter, after_condact};
 ghost use Rattle.paw_faults.specs.inner.Gives.{Gives};
 ghost use Rattle.paw_image.specs.inner.Reading.{IsFault, code_at, parameter_at};
 ghost use Rattle.paw_image.specs.inner.Reading.{leading_condact, leading_entry, leading_table};
-ghost use Rattle.paw_base.specs.inner.Condacts.{condact_row_of};
+ghost use Rattle.paw_base.specs.Condacts.{first_kind, second_kind};
 
 use crate::fault::ReadFault;
 use crate::field_rules::FieldRules;
@@ -17,20 +17,21 @@ use crate::rows::{
     ReadRow, Row, length_of_few, length_of_rows, read_few, read_rows, write_few, write_rows,
 };
 use paw_base::parts::Condact;
-use paw_base::rows::{CondactRow, ParamKind, condact_row};
+use paw_base::rows::{ParamKind, condact_row};
 use paw_faults::unread::Unread;
 use paw_game::parts::{Condacts, Entry, Table};
 use std::alloc::{AllocError, Global};
 
-/// A code of a condact, and what the table of condacts says of it.
-fn read_code(bytes: &[u8]) -> Result<((u8, CondactRow), &[u8]), ReadFault>
+/// A code of a condact, and the kinds of its parameters.
+fn read_code(bytes: &[u8]) -> Result<((u8, (ParamKind, ParamKind)), &[u8]), ReadFault>
     ensures gives { Gives (λ x. (x.0.0, x.1.now)) result (code_at bytes.now) }
     ensures fails { OnErr result (IsFault (code_at bytes.now)) }
-    ensures row { IfOk result (λ x. x.0.1 ≡ condact_row_of x.0.0) }
+    ensures first { IfOk result (λ x. x.0.1.0 ≡ first_kind x.0.0) }
+    ensures second { IfOk result (λ x. x.0.1.1 ≡ second_kind x.0.0) }
 {
     let (code, rest) = read_byte(bytes)?;
     match condact_row(code) {
-        Some(row) => Ok(((code, row), rest)),
+        Some(row) => Ok(((code, (row.first, row.second)), rest)),
         None => Err(Unread::Fault(bytes.len())),
     }
 }
@@ -63,9 +64,9 @@ pub fn read_condact(bytes: &[u8]) -> Result<(Condact, &[u8]), ReadFault>
     ensures gives { Gives (λ x. (x.0, x.1.now)) result (leading_condact bytes.now) }
     ensures fails { OnErr result (IsFault (leading_condact bytes.now)) }
 {
-    let ((code, row), rest) = read_code(bytes)?;
-    let (a, rest) = read_parameter(row.first, rest)?;
-    let (b, rest) = read_parameter(row.second, rest)?;
+    let ((code, (first, second)), rest) = read_code(bytes)?;
+    let (a, rest) = read_parameter(first, rest)?;
+    let (b, rest) = read_parameter(second, rest)?;
     Ok((Condact { code, a, b }, rest))
 }
 
