@@ -2,7 +2,7 @@
 
 ghost use Rattle.std.specs.Prelude.{◌≡◌, ◌*◌, ◌/◌, ◌<◌, drop, Ok, OnErr};
 ghost use Rattle.std.specs.Option.{option_copied, option_map};
-ghost use Rattle.paw_image.specs.inner.CondactMarks.{AreMarks, MarkEntry};
+ghost use Rattle.paw_image.specs.inner.CondactMarks.{AreMarks, MarkEntry, marks_of};
 ghost use Rattle.paw_image.specs.Damage.{each};
 ghost use Rattle.paw_faults.specs.inner.Gives.{Gives};
 ghost use Rattle.paw_image.specs.inner.Reading.{IsFault, text_at};
@@ -10,6 +10,7 @@ ghost use Rattle.paw_image.specs.inner.Rows.{condact_after, condact_among, entry
 ghost use Rattle.paw_image.specs.inner.Rows.{facts_here, head_here, nth_condact, past_condact, up_to, value_of};
 
 use crate::fault::ReadFault;
+use crate::marks::CondactMarks;
 use crate::objects::read_after_text;
 use crate::tables::read_condact;
 use crate::texts::read_text;
@@ -126,9 +127,15 @@ fn condact_after(count: u8, bytes: &[u8]) -> Result<(Condact, &[u8]), ReadFault>
     read_condact(rest)
 }
 
-/// Of so many condacts, those from the last mark on that isn't behind a condact.
-fn from_mark<'a>(marks: &[u16], at: u8, count: u8, condacts: &'a [u8]) -> &'a [u8]
-    requires marks { AreMarks marks.now count condacts.now }
+/// Of so many condacts of an entry, those from the last mark on that isn't behind a condact.
+fn from_mark<'a>(
+    marks: &CondactMarks,
+    entry: u16,
+    at: u8,
+    count: u8,
+    condacts: &'a [u8],
+) -> &'a [u8]
+    requires marks { AreMarks (marks_of marks.now entry) count condacts.now }
     requires within { at < count }
     ensures value { each past_condact (at / 8 * 8) condacts.now ≡ Ok result.now }
 {
@@ -136,32 +143,45 @@ fn from_mark<'a>(marks: &[u16], at: u8, count: u8, condacts: &'a [u8]) -> &'a [u
     if eights == 0 {
         return condacts;
     }
+    let marks = marks.from_entry(entry);
     from_place(condacts, marks[eights - 1] as u32)
 }
 
-/// One of so many condacts with these marks.
+/// One of so many condacts of an entry.
 #[tactic(auto, using(crate::proofs::Faults::no_value))]
-fn condact_of(marks: &[u16], at: u8, count: u8, condacts: &[u8]) -> Option<Condact>
-    requires marks { AreMarks marks.now count condacts.now }
+fn condact_of(
+    marks: &CondactMarks,
+    entry: u16,
+    at: u8,
+    count: u8,
+    condacts: &[u8],
+) -> Option<Condact>
+    requires marks { AreMarks (marks_of marks.now entry) count condacts.now }
     ensures value { result ≡ condact_among at count condacts.now }
 {
     if at >= count {
         return None;
     }
-    match condact_after(at % 8, from_mark(marks, at, count, condacts)) {
+    match condact_after(at % 8, from_mark(marks, entry, at, count, condacts)) {
         Ok((condact, _)) => Some(condact),
         Err(_) => None,
     }
 }
 
-/// A condact of the entry that begins at a place and has these marks.
+/// A condact of the entry of this number, which begins at a place.
 #[tactic(auto, unfolding(crate::specs::inner::Rows::nth_condact))]
-pub fn condact_in(bytes: &[u8], place: u32, marks: &[u16], at: u8) -> Option<Condact>
-    requires marks { MarkEntry marks.now (drop place bytes.now) }
+pub fn condact_in(
+    bytes: &[u8],
+    place: u32,
+    marks: &CondactMarks,
+    entry: u16,
+    at: u8,
+) -> Option<Condact>
+    requires marks { MarkEntry (marks_of marks.now entry) (drop place bytes.now) }
     ensures value { result ≡ nth_condact at (drop place bytes.now) }
 {
     match from_place(bytes, place) {
-        [_, _, count, condacts @ ..] => condact_of(marks, at, *count, condacts),
+        [_, _, count, condacts @ ..] => condact_of(marks, entry, at, *count, condacts),
         _ => None,
     }
 }

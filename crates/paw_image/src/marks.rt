@@ -1,7 +1,7 @@
 // Marks in the condacts of entries, so that a condact is found without those far before it.
 
-ghost use Rattle.std.specs.Prelude.{◌≡◌, ◌+◌, ◌*◌, ◌≤◌, ◌<◌, ◌^◌, IfOk, OnOk, drop, length, slice_index};
-ghost use Rattle.paw_image.specs.inner.CondactMarks.{AreMarks, IsEnd, KeepsPlaces, MarkEntries, MarkEntry};
+ghost use Rattle.std.specs.Prelude.{◌≡◌, ◌+◌, ◌*◌, ◌≤◌, ◌<◌, ◌^◌, IfOk, OnOk, drop, length};
+ghost use Rattle.paw_image.specs.inner.CondactMarks.{marks_of, AreMarks, IsEnd, KeepsPlaces, MarkEntries, MarkEntry};
 ghost use Rattle.paw_image.specs.Damage.{after_condact, after_entry, each};
 ghost use Rattle.paw_image.specs.inner.Offsets.{begins};
 ghost use Rattle.paw_faults.specs.inner.Gives.{Gives};
@@ -27,7 +27,7 @@ pub struct CondactMarks {
 impl CondactMarks {
     /// The marks from those of an entry on.
     pub fn from_entry(&self, entry: u16) -> &[u16]
-        ensures value { result.now ≡ drop (slice_index self.now.firsts.items entry) self.now.marks.items }
+        ensures value { result.now ≡ marks_of self.now entry }
     {
         let first = match self.firsts.get(entry as usize) {
             Some(first) => *first as usize,

@@ -168,7 +168,7 @@ impl<'a> Tables for View<'a> {
     fn condact(&self, table: u8, entry: u16, at: u8) -> Option<Condact> {
         let index = index_of(&self.offsets.tables, table)?;
         let offset = offset_in(&index.entries, entry as usize)?;
-        condact_in(self.bytes, offset, index.marks.from_entry(entry), at)
+        condact_in(self.bytes, offset, &index.marks, entry, at)
     }
 
     fn next_match(&self, table: u8, from: u16, verb: u8, noun: u8) -> Option<u16> {

@@ -2,6 +2,7 @@
 use Rattle.std.specs.Prelude.{◌≡◌, ℕ, suc, ◌*◌, ◌-◌, ◌<◌, List, [], ◌∷◌, length, drop, Some, Ok, slice_get, slice_index}
 use Rattle.paw_image.specs.Damage.{each}
 use Rattle.paw_image.specs.inner.Rows.{past_condact}
+use Rattle.paw_image.specs.declared.marks.CondactMarks.{CondactMarks}
 use Rattle.paw_image.specs.declared.offsets.TableIndex.{TableIndex}
 
 -- bytes are the last of all bytes
@@ -27,6 +28,10 @@ MarkEntry marks [] = Unit {0}
 MarkEntry marks (verb ∷ []) = Unit {0}
 MarkEntry marks (verb ∷ noun ∷ []) = Unit {0}
 MarkEntry marks (verb ∷ noun ∷ count ∷ condacts) = AreMarks marks count condacts
+
+-- the marks from those of an entry on
+abbrev pub marks_of : CondactMarks → ℕ → List ℕ
+marks_of marks entry = drop (slice_index marks.firsts.items entry) marks.marks.items
 
 -- the marks of each entry of a table begin at its first one
 abbrev pub MarkEntries : (bytes offsets firsts marks : List ℕ) → Type 0

@@ -36,7 +36,7 @@ condact_in-requires c =
     ∙ sym c.in_ok-offset.ensures.value in
     let index = c.in_ok-index.index.now in
     let marks = marks_by_index c.self.invariant c.args.table index there c.args.entry c.in_ok-offset.offset begins in
-    record { marks = rw c.from_entry.ensures.value marks }
+    record { marks = marks }
 
 pub returns : goal.returns
 returns c =
