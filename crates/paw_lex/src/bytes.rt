@@ -31,7 +31,11 @@ fn is_allowed(text: bool, byte: u8) -> bool
 fn any_is_forbidden(text: bool, line: &[u8]) -> bool
     ensures { result ≡ list_any (λ b. not (is_allowed text b)) line.now }
 {
-    line.iter().any(|byte| !is_allowed(text, *byte))
+    let mut any = false;
+    for byte in line {
+        any = any | !is_allowed(text, *byte);
+    }
+    any
 }
 
 fn has_forbidden_byte(text: bool, line: &[u8]) -> bool
