@@ -1,3 +1,4 @@
+pub mod FirstByte
 pub mod LineCuts
 pub mod Printed
 pub mod Slices

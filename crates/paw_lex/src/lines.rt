@@ -8,6 +8,7 @@ ghost use Rattle.paw_base.specs.declared.limits.TheConstants.{SOURCE_LIMIT};
 ghost use Rattle.paw_lex.specs.Lines.{lines_of};
 ghost use Rattle.paw_lex.specs.inner.Lines.{bytes_of, LiesIn, IsLineEnd};
 
+use memchr::memchr;
 use std::marker::Model;
 
 /// The byte before which a source ends.
@@ -34,7 +35,7 @@ fn place_of_first(bytes: &[u8], byte: u8) -> usize
     ensures value { result ≡ position_or_len (λ b. b == byte) bytes.now }
     ensures within { result ≤ length bytes.now }
 {
-    bytes.iter().take_while(|b| **b != byte).count()
+    memchr(byte, bytes).unwrap_or(bytes.len())
 }
 
 /// How many bytes a line has without the CR at its end.
