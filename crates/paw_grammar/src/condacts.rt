@@ -9,6 +9,7 @@ ghost use Rattle.paw_grammar.specs.Numbers.{number_below};
 ghost use Rattle.paw_grammar.specs.Vocabulary.{word_or_none};
 ghost use Rattle.paw_grammar.specs.Condacts.{table, parameter, condact, condacts_in, with_more_condacts};
 ghost use Rattle.paw_grammar.specs.Condacts.{more_condacts, flag_behind_at, first_parameter, code_of};
+ghost use Rattle.paw_grammar.specs.Tokens.{at_is_next};
 
 use crate::bounds::Bounds;
 use crate::numbers::{byte_below, number, number_below};
@@ -54,10 +55,10 @@ fn flag_behind_at(tokens: &mut Tokens) -> Result<u8, ReadError>
 }
 
 /// Whether the condact of a plain code is indirect: it may be, and `@` follows its name.
-fn is_indirect(plain: u8, at_is_next: bool) -> bool
-    ensures { result ≡ (may_be_indirect plain && at_is_next) }
+fn is_indirect(plain: u8, tokens: &Tokens) -> bool
+    ensures { result ≡ (may_be_indirect plain && at_is_next tokens.now) }
 {
-    may_be_indirect(plain) && at_is_next
+    may_be_indirect(plain) && tokens.at_is_next()
 }
 
 /// The code of the indirect condact with a plain code.
@@ -147,7 +148,7 @@ impl<'a> Scope<'a> {
         let Some(row) = condact_row(plain) else {
             return Err(Unread::Fault(SourceKind::Condact));
         };
-        let indirect = is_indirect(plain, tokens.at_is_next());
+        let indirect = is_indirect(plain, tokens);
         let code = code_of(indirect, plain);
         let a = self.first_parameter(indirect, row.first, tokens)?;
         let b = self.parameter(row.second, tokens)?;
