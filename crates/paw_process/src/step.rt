@@ -1,7 +1,7 @@
 // One step of reading.
 
 ghost use Rattle.std.specs.Prelude.{◌≡◌, ℕ, ◌+◌, ◌-◌, ◌<◌, List, [], ◌∷◌, length};
-ghost use Rattle.std.specs.Prelude.{true, false, Some, None, IsNone, if◌then◌else◌};
+ghost use Rattle.std.specs.Prelude.{true, false, Some, None, IfNone, IfSome, IsNone, if◌then◌else◌};
 ghost use Rattle.paw_base.specs.declared.limits.TheConstants.{ENTRY_LIMIT};
 ghost use Rattle.paw_base.specs.declared.messages.TheConstants.{QUIT_MESSAGE};
 ghost use Rattle.paw_game.specs.Valid.{Valid};
@@ -21,7 +21,7 @@ ghost use Rattle.paw_process.specs.inner.OpenTables.{below, ReadsNone, AtCondact
 ghost use Rattle.paw_process.specs.inner.OpenTables.{IsLoopWithin, LoopFits, IsReading};
 ghost use Rattle.paw_process.specs.inner.Meaning.{InStories, having, going_in, run_held};
 ghost use Rattle.paw_process.specs.inner.Moves.{Continues, StandsOrTurned, turning_as, looping, resolved, acted_at};
-ghost use Rattle.paw_process.specs.inner.Moves.{next_of, past_of, turning_at, reading_at, ReadsTable, ReadsOne};
+ghost use Rattle.paw_process.specs.inner.Moves.{next_of, past_of, turning_at, reading_at, Enters, EntersNone, ReadsTable, ReadsOne};
 ghost use Rattle.paw_process.specs.inner.Steps.{IsReady, IsInnermost, MayReadOne, MayStep, HasMoved, HasStepped};
 ghost use Rattle.paw_process.specs.inner.Work.{work, frames_work, Progress};
 ghost use Rattle.paw_world.specs.inner.Places.{left_above};
@@ -405,6 +405,27 @@ impl<T: Tables, F: Fn(u8, u8) -> u8> Rulebook<'_, T, F> {
         }
     }
 
+    /// Where reading goes on from this frame: inside an entry at its condact, and from the start of one at the next that
+    /// matches. None exactly where none does.
+    fn enter(&self, world: &World, f: Frame) -> Option<Frame>
+        requires place { 0 < f.at → f.entry < ENTRY_LIMIT }
+        ensures some { IfSome result (λ e. Enters (T.game self.now.tables.now) world.now f e) }
+        ensures none { IfNone result (EntersNone (T.game self.now.tables.now) world.now f) }
+    {
+        if f.at > 0 {
+            return Some(f);
+        }
+        let verb = world.flag(VERB_FLAG);
+        let noun = world.flag(NOUN_FLAG);
+        let entry = self.tables.next_match(f.table, f.entry, verb, noun)?;
+        Some(Frame {
+            table: f.table,
+            entry,
+            at: 0,
+            acted: f.acted,
+        })
+    }
+
     /// One step of reading: from the start of an entry to the next that matches, and a condact there.
     pub(crate) fn step(&self, machine: &mut Machine, situation: &mut Situation) -> Option<Turned>
         requires may { MayStep F.Fn self.now.routines.now (T.game self.now.tables.now) machine.old situation.old.world }
@@ -418,22 +439,11 @@ impl<T: Tables, F: Fn(u8, u8) -> u8> Rulebook<'_, T, F> {
         // Its clause says that the game is valid, which the proof wants. No call of it is left in the program.
         let _counts = self.tables.counts();
         let f = machine.top();
-        if f.at > 0 {
-            return self.inside(machine, situation, f);
-        }
-        let verb = situation.world.flag(VERB_FLAG);
-        let noun = situation.world.flag(NOUN_FLAG);
-        match self.tables.next_match(f.table, f.entry, verb, noun) {
+        match self.enter(&situation.world, f) {
             None => self.leave_level(machine, &mut situation.world, f.acted),
-            Some(entry) => {
-                let f = Frame {
-                    table: f.table,
-                    entry,
-                    at: 0,
-                    acted: f.acted,
-                };
-                machine.set_top(f);
-                self.inside(machine, situation, f)
+            Some(entered) => {
+                machine.set_top(entered);
+                self.inside(machine, situation, entered)
             }
         }
     }

@@ -1,8 +1,9 @@
 -- What each move of the machine makes of the reading.
-use Rattle.std.specs.Prelude.{◌≡◌, ℕ, suc, ◌+◌, ◌++◌, Bool, true, false, List, Option, Some, None, length}
+use Rattle.std.specs.Prelude.{◌≡◌, ℕ, suc, ◌+◌, ◌<◌, ◌≤◌, ◌++◌, Bool, true, false, List, ◌∷◌, Option, Some, None, length}
 use Rattle.paw_base.specs.declared.limits.TheConstants.{ENTRY_LIMIT}
 use Rattle.paw_base.specs.declared.parts.Condact.{Condact}
-use Rattle.paw_effects.specs.Story.{Story}
+use Rattle.paw_game.specs.Game.{GameLists}
+use Rattle.paw_effects.specs.Story.{Story, story_of}
 use Rattle.paw_world.specs.World.{World}
 use Rattle.paw_phrase.specs.declared.Found.{Found}
 use Rattle.paw_phrase.specs.declared.Found.TheVariants as found
@@ -10,7 +11,7 @@ use Rattle.paw_effects.specs.declared.act.Effect.{Effect}
 use Rattle.paw_reading.specs.declared.places.Frame.{Frame}
 use Rattle.paw_reading.specs.declared.places.OpenLoop.{OpenLoop}
 use Rattle.paw_reading.specs.Run.{Run, Step}
-use Rattle.paw_reading.specs.Reading.{Out, again, turns, looped, deeper, plain, inside}
+use Rattle.paw_reading.specs.Reading.{Out, Left, again, turns, looped, deeper, plain, inside}
 use Rattle.paw_reading.specs.Reading.{after_action, step_at, noted, reads_one}
 use Rattle.paw_reading.specs.inner.GoingOn.{along}
 use Rattle.paw_process.specs.OpenTables.{OpenTables}
@@ -72,6 +73,19 @@ ReadsTable g x old t new =
     × ((lines : List (List ℕ)) →
     Continues g (x (to_come lines (run_held old r))) t new.machine.frames
     (to_come lines (run_held new (with_steps steps r))))
+
+-- from one frame of the innermost table reading goes on at the condact of another
+pub record Enters (g : GameLists) (w : World) (f e : Frame) : Type 0 where
+  pub entry : e.entry < ENTRY_LIMIT
+  pub low : f.entry ≤ e.entry
+  pub goes : (X : List (List ℕ)) (fs : List Frame) (r : Run) → r.world ≡ w →
+      going_in (story_of g X) (f ∷ fs) r ≡ reading_at (story_of g X) fs e r
+
+-- from this frame reading goes on at none: the innermost table is left
+abbrev pub EntersNone : GameLists → World → Frame → Type 0
+EntersNone g w f =
+    (X : List (List ℕ)) (fs : List Frame) (r : Run) → r.world ≡ w →
+    going_in (story_of g X) (f ∷ fs) r ≡ resolved (story_of g X) fs (Left f.acted r)
 
 -- reading one condact of this frame
 abbrev pub one_at : Story → List Frame → Frame → Condact → Run → Out
