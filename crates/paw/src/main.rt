@@ -5,10 +5,10 @@ ghost use Rattle.std.specs.Prelude.{◌≡◌};
 ghost use Rattle.std.specs.Process.{exit_status};
 ghost use Rattle.paw_top.specs.Outcomes.{status_of};
 
+use paw_routines::program::{ROUTINES, give};
 use paw_routines::routines::Routines;
 use paw_stage::RealStage;
 use paw_top::outcome::{NO_MEMORY, Outcome};
-use paw_top::routines::{ROUTINES, give};
 use paw_top::top::paw;
 use std::alloc::Global;
 use std::env::{self, Env};

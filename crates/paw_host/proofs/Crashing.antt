@@ -32,7 +32,7 @@ may_before g seed first lines zero valid small bytes may = may_after g seed firs
 may_before g seed first lines (suc n) valid small bytes may =
     may_after g seed first (take n lines) valid small (All-take AreBytes n lines bytes) may
 
--- what a crash leaves while the last of so many lines is at work
+-- what a crash leaves while the last of n lines is at work
 left_at : (g : Story) (seed : ℕ) (first : Sessions) (lines : List (List ℕ)) (n : ℕ) (text : List ℕ) (m : Moment) → KeepsUp g seed first lines n text m →
     EachLeft g seed (sessions_after g seed first (before_last lines n)) (sessions_after g seed first (take n lines)) m
 unfolding sessions_after

@@ -83,7 +83,7 @@ serving_first g seed first old b settled = record {
 
 -- ---- at a prompt ----
 
--- the replies to one line more go on behind those before
+-- the replies to one line more are those before, and its own
 grown : (g : Story) (seed : ℕ) (lines : List (List ℕ)) (n : ℕ) (at : Sessions) →
     (more : List ℕ) × (replies g seed at (take (suc n) lines) ≡ replies g seed at (take n lines) ++ more)
 unfolding replies
@@ -285,7 +285,7 @@ module _ (g : Story) (seed : ℕ) (first : Sessions) (old now mid : Standing) (n
         serving_next done is_done.1 settled new (grew ∙ ap (λ t. with_shown t done) (e ∙ is_done.0))
         (all_may g seed before (request_of line) valid small (asks_line line (line_bytes old.lines n line mid.lines at bytes)) s.may)
 
--- ---- what taking lines comes to ----
+-- ---- how taking lines ends ----
 
 -- where the calls ended is one of their moments
 pub ends_inside : (clock now : ℕ) (past since : ℕ → Moment → Type 0) (P : Moment → Type 0) (m : Moment) → Passes clock now past since P →
@@ -295,7 +295,7 @@ ends_inside clock now past since P m h at before = elim (h.nothing_else clock m 
   | inr q ↦ q.1
 ]
 
--- what the last line came to, if there was one
+-- what the last line did, if there was one
 pub hosts_by : (g : Story) (seed : ℕ) (first : Sessions) (old new : Standing) (n : ℕ) (o : HostOutcome) → ServesTo g seed first old new n (Some o) →
     InHost g seed first old (moment_of new) → Hosts g seed first old new o
 hosts_by g seed first old new n outcome.InputEnded h i = subst (Answered g seed first old new) h.0 h.1.answered

@@ -30,7 +30,7 @@ module _ (g : Story) (seed : ℕ) (bytes : List ℕ) (some : 0 < length bytes) w
   kept_refused (At own es) text old new may stores none grown = absurd (none (standing_shows g own es bytes may stores))
   kept_refused (Refused kept) text old new may stores none grown = record { body = grown; stores = stores }
 
-  -- it has one, which tells its last piece
+  -- it has one, and answers with its last piece
   pub kept_told : (before : Session) (old new piece : List ℕ) → MayBe g before → Stores g before bytes → ShowsSome g bytes →
       ((own : ℕ) (es : List (List ℕ)) → IsPlayedWith g own es → Stands g own es bytes → piece ≡ last_piece (pieces_of (reading g own es))) →
       new ≡ old ++ piece → Answers g (answer g seed before None) old new bytes

@@ -1,4 +1,3 @@
-pub mod Given
 pub mod Sitting
 pub mod Opening
 mod Numbers

@@ -61,7 +61,7 @@ pub same_story : (old : Standing) (name : List ℕ) (g k : GameLists) (rows : Li
 same_story old name g k rows h i =
     ap (λ (x : GameLists). story_of x rows) (one_game g k h.2.valid i.2.valid (sym h.2.spelled ∙ same_file _ h.0 i.0 h.1 i.1 ∙ i.2.spelled))
 
--- ---- what hosting comes to ----
+-- ---- how hosting ends ----
 
 -- a load that gives nothing
 pub unloaded : (rows : List (List ℕ)) (name : List ℕ) (seed : ℕ) (old new : Standing) (o : HostOutcome) → LoadsNone name old new o →

@@ -54,7 +54,7 @@ drop_none : (n : ℕ) → ◌≡◌ {A = List (List ℕ)} (drop n []) []
 drop_none zero = refl
 drop_none (suc n) = refl
 
--- so many lines have a last one
+-- where there are lines there is a last one
 pub last_line : (lines : List (List ℕ)) (n : ℕ) → suc n ≤ length lines → (line : List ℕ) × (rest : List (List ℕ)) × (drop n lines ≡ line ∷ rest)
 last_line [] n h = absurd (omega (arith, h))
 last_line (l ∷ lines) zero h = (l, lines, refl)

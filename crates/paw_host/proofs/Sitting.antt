@@ -40,7 +40,7 @@ kept_gone digests state piece n old new (WaitsAt p path r) k = ap (λ q. record 
 kept_gone digests state piece n old new (Halted IsOver r) k = ap (λ q. record { body = q; session = new }) (sym (same_piece _ _ _ _ _ _ k.shown))
 kept_gone digests state piece n old new _ k = absurd k.played
 
--- a reading that is told from some piece on halts as it does from its first
+-- a reading that is followed from some piece on halts as it does from its first
 pub same_halt : (n : ℕ) (e : Ending) (halt : Halt) (r : Run) → ending_since n e ≡ Halted halt r → (s : Run) × (e ≡ Halted halt s)
 same_halt n (WaitsAt p path s) halt r h = cc
 same_halt n (Halted other s) halt r h = let k : other ≡ halt = cc in (s, ap (λ x. Halted x s) k)

@@ -1,4 +1,4 @@
--- What hosting comes to.
+-- How hosting ends, and what it leaves.
 use Rattle.std.specs.Prelude.{◌≡◌, ℕ, ◌+◌, ◌<◌, ◌≤◌, List, [], ◌∷◌, length, drop, Some, None}
 use Rattle.paw_game.specs.Game.{GameLists}
 use Rattle.paw_image.specs.Damage.{bad}
@@ -16,14 +16,14 @@ use Rattle.paw_host.specs.declared.outcome.HostOutcome.{HostOutcome}
 use Rattle.paw_host.specs.declared.outcome.HostOutcome.TheVariants as outcome
 use Rattle.paw_host.specs.declared.lines.TheConstants.{HOST_LIMIT}
 
--- so many lines were taken, in order
+-- the first n lines were taken, in order
 pub record HasTaken (old new : Standing) (n : ℕ) : Type 0 where
   pub there : n ≤ length old.lines
   pub lines : new.lines ≡ drop n old.lines
   pub asked : new.asked ≡ old.asked + n
 
 -- How taking lines ends, whatever files there are: all lines were taken, and they are fewer than the host takes; or as
--- many as it takes were taken, and the next one would be asked for; or one of its calls failed; or memory was wanting
+-- many as it takes were taken, and the next one would be asked for; or one of its calls failed; or memory was lacking
 -- before the first line was asked for.
 abbrev pub Ends : Standing → Standing → HostOutcome → Type 0
 Ends old new outcome.InputEnded = (length old.lines < HOST_LIMIT) × HasTaken old new (length old.lines)
@@ -32,7 +32,7 @@ Ends old new (outcome.Outside c) = IsOneOf session_calls c
 Ends old new outcome.Memory = new ≡ old
 Ends old new _ = ⊥
 
--- What taking lines comes to. Where a call failed, what stands then is a moment of the host.
+-- How taking lines ends, and what it leaves. Where a call failed, what stands then is a moment of the host.
 abbrev pub Hosts : Story → ℕ → Sessions → Standing → Standing → HostOutcome → Type 0
 Hosts g seed first old new outcome.InputEnded = Answered g seed first old new (length old.lines)
 Hosts g seed first old new (outcome.Long lines) = (lines ≡ HOST_LIMIT) × Answered g seed first old new HOST_LIMIT
@@ -49,7 +49,7 @@ abbrev pub HoldsDamage : Standing → List ℕ → ℕ → Type 0
 HoldsDamage s name at = (bytes : List ℕ) × (s.files name ≡ Some bytes) × ((g : GameLists) → ¬ IsImage bytes g)
     × (bad bytes ≡ Some at)
 
--- What hosting the game of an image file comes to, with these rows of routines, whatever sessions there are; or why it
+-- How hosting the game of an image file ends, with these rows of routines, whatever sessions there are; or why it
 -- isn't hosted, with nothing changed.
 pub data HostsFile (rows : List (List ℕ)) (name : List ℕ) (seed : ℕ) (old new : Standing) : HostOutcome → Type 0 where
   hosts : (g : GameLists) (o : HostOutcome) → Holds old name g → Ends old new o →

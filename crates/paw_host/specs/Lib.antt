@@ -1,4 +1,3 @@
-pub mod Given
 pub mod Names
 pub mod Replies
 pub mod Promise

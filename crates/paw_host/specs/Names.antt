@@ -13,7 +13,7 @@ is_name_byte b = is_ascii_lowercase b || is_ascii_digit b
 abbrev pub is_name : List ℕ → Bool
 is_name name = nat_lt 0 (length name) && (nat_le (length name) 16 && list_all is_name_byte name)
 
--- what a line asks for: the name of a player, and the text behind the name, if there is one
+-- what a line asks for: the name of a player, and the text after the name, if there is one
 pub record Request : Type 0 where
   pub name : List ℕ
   pub text : Option (List ℕ)

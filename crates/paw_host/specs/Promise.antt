@@ -57,7 +57,7 @@ EachLeft g seed before after m = (name : List ℕ) → is_name name ≡ true →
 abbrev pub IsBetween : List ℕ → List ℕ → List ℕ → Type 0
 IsBetween from to text = ((more : List ℕ) × (text ≡ from ++ more)) × ((rest : List ℕ) × (text ++ rest ≡ to))
 
--- So many of these lines were taken, and this text was shown for them. The last one is at work, and the file of each name
+-- This number of lines was taken, and this text was shown for them. The last one is at work, and the file of each name
 -- is as before it, or as after it where its store is attached. The replies to those before it were shown; its own is being
 -- shown only once the file of each name is as after it.
 abbrev pub KeepsUp : Story → ℕ → Sessions → List (List ℕ) → ℕ → List ℕ → Moment → Type 0
@@ -94,7 +94,7 @@ AttachedIn before (line ∷ next ∷ lines) attached =
 abbrev pub IsNotOf : List (List ℕ) → List ℕ → Type 0
 IsNotOf lines file = AllByRecursion (λ line. (r : Request) → request_of line ≡ Some r → file ≢ store_name r.name) lines
 
--- A moment of the host. Since the call began so many lines were taken, and a text was shown, with which the files keep
+-- A moment of the host. Since the call began lines were taken, and a text was shown, with which the files keep
 -- up. The attached store is that of a line. No file has changed that isn't that of a name which these lines ask for.
 pub record InHost (g : Story) (seed : ℕ) (first : Sessions) (old : Standing) (m : Moment) : Type 0 where
   pub taken : ℕ
@@ -106,7 +106,7 @@ pub record InHost (g : Story) (seed : ℕ) (first : Sessions) (old : Standing) (
   pub attached : AttachedIn old.attached (take taken old.lines) m.attached
   pub others : (file : List ℕ) → IsNotOf (take taken old.lines) file → m.files file ≡ old.files file
 
--- So many lines were taken, and each got its reply. The file of each name is that of its session after them, and the store
+-- The first n lines were taken, and each got its reply. The file of each name is that of its session after them, and the store
 -- of the last name that was asked for is attached. No other file has changed.
 pub record Answered (g : Story) (seed : ℕ) (first : Sessions) (old new : Standing) (n : ℕ) : Type 0 where
   pub there : n ≤ length old.lines

@@ -78,7 +78,7 @@ answer g seed (Refused bytes) text = record { body = codes "refused"; session = 
 
 -- ---- all sessions ----
 
--- a reply: the name in brackets and the answer, each with a newline behind it
+-- a reply: the name in brackets and the answer, each ended by a newline
 abbrev pub reply : List ℕ → List ℕ → List ℕ
 reply name body = codes "[" ++ (name ++ (codes "]\n" ++ (body ++ codes "\n")))
 

@@ -271,7 +271,7 @@ fn take_text<S: Stage, T: Tables, F: Fn(u8, u8) -> u8>(
 }
 
 /// The piece of a session that was taken up. It has at most 65,535 bytes, but no clause of `Room::piece` says so: the cut
-/// tells the proof.
+/// shows it to the proof.
 fn kept_piece(room: &Room) -> &[u8]
     ensures value { result.now ≡ take PIECE_LIMIT room.now.piece }
     ensures short { length result.now ≤ PIECE_LIMIT }

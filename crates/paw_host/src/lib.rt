@@ -9,7 +9,6 @@ mod names;
 mod open;
 pub mod outcome;
 mod reply;
-pub mod routines;
 #[cfg(test)]
 mod tests;
 mod words;

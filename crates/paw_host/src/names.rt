@@ -14,13 +14,13 @@ use std::str;
 /// The most bytes of a name.
 const NAME_LIMIT: usize = 16;
 
-/// What comes behind a name in that of its file.
+/// What follows a name in that of its file.
 const STORE_END: &[u8] = b".paw";
 
 /// The most bytes of the name of a file.
 const STORE_LIMIT: usize = 20;
 
-/// What a line asks for: the name of a player, and the text behind the name, if there is one.
+/// What a line asks for: the name of a player, and the text after the name, if there is one.
 #[derive(Clone, Copy, Drop)]
 pub(crate) struct Request<'a> {
     pub name: &'a [u8],

@@ -1,13 +1,13 @@
-// What hosting comes to.
+// How hosting ends.
 
 ghost use Rattle.std.specs.Prelude.{◌≡◌};
 ghost use Rattle.paw_host.specs.Outcomes.{status_of};
 
 use paw_stage::StageCall;
 
-/// What hosting comes to. InputEnded: no line is left, and each got its reply. Usage: the words have no form.
+/// How hosting ends. InputEnded: no line is left, and each got its reply. Usage: the words have no form.
 /// ImageDamaged: the file is no image of a valid game; the place of the first field that breaks its rule. Outside: a call
-/// of the stage failed. Memory: want of memory, before the first line is asked for. Long: as many lines were taken as the
+/// of the stage failed. Memory: lack of memory, before the first line is asked for. Long: as many lines were taken as the
 /// host takes.
 #[derive(Clone, Copy, Drop, PartialEq, Eq, Debug)]
 pub enum HostOutcome {
@@ -19,7 +19,7 @@ pub enum HostOutcome {
     Long { lines: u64 },
 }
 
-/// The exit status for want of memory.
+/// The exit status for lack of memory.
 pub const NO_MEMORY: u8 = 8;
 
 impl HostOutcome {

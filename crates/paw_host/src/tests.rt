@@ -4,8 +4,8 @@ ghost use Rattle.paw_stage.specs.Disk.{IsStable};
 
 use crate::host::host;
 use crate::outcome::HostOutcome;
-use crate::routines::{ROUTINES, give};
 use crate::tests::images::{HALL, OTHER};
+use paw_routines::program::{ROUTINES, give};
 use paw_routines::routines::Routines;
 use paw_stage::{CallKind, FailStage, MemoryStage, Stage, StageCall, StopStage};
 use std::alloc::{AllocError, Global};
@@ -31,7 +31,7 @@ fn settle<S: Stage>(rt: &impl Abort, stage: &mut S)
     assert!(rt; stage.sync().is_ok());
 }
 
-// What hosting with these words comes to, with the program's routines, where nothing is unsynced.
+// How hosting with these words ends, with the program's routines, where nothing is unsynced.
 fn host_words<S: Stage>(
     alloc: Global,
     stage: &mut S,
@@ -75,7 +75,7 @@ fn replies(alloc: Global, all: &[(&str, &str)]) -> Result<String, AllocError> {
     Ok(text)
 }
 
-// These lines get these replies, behind what was shown before.
+// These lines get these replies, after what was shown before.
 fn shows(
     rt: &impl Abort,
     alloc: Global,
@@ -296,7 +296,7 @@ fn words_and_images(rt: HostRuntime) -> Result<(), Fail> {
 /// The lines of two players, between which calls stop; what each is answered once they are all taken.
 const LINES: [&[u8]; 4] = [b"ann GET LAMP", b"bob", b"ann I", b"bob GET LAMP"];
 
-// What a player may be answered after so many of these lines.
+// What a player may be answered after this number of these lines.
 fn pieces(name: &[u8], taken: usize) -> &'static str {
     match (name, taken) {
         (b"ann.paw", 0) | (b"bob.paw", 0 | 1) => "",

@@ -1,3 +1,3 @@
 pub mod FunctionRows
 pub mod Measures
-pub mod ThreeRoutines
+pub mod ProgramRows

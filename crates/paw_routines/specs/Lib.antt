@@ -1,3 +1,4 @@
 pub mod Rows
 pub mod Routines
 pub mod Measure
+pub mod Program

@@ -1,23 +1,13 @@
 // Three routines, and none.
 
-ghost use Rattle.std.specs.Prelude.{◌≡◌, ◌+◌, ◌-◌, ◌/◌, ◌%◌, ◌==◌, count_ones, if◌then◌else◌};
+ghost use Rattle.std.specs.Prelude.{◌≡◌, ◌+◌, ◌%◌};
 
+use crate::program::{ROUTINES, give};
 use crate::routines::Routines;
-
-/// What three routines give: the complement, the half, and the number of one bits.
-fn give(n: u8, x: u8) -> u8
-    ensures value { result ≡ (if n == 0 then 255 - x else if n == 1 then x / 2 else count_ones x) }
-{
-    match n {
-        0 => 255 - x,
-        1 => x / 2,
-        _ => x.count_ones() as u8,
-    }
-}
 
 #[test]
 fn three_routines(rt: HostRuntime) {
-    let routines = Routines::new(3, give);
+    let routines = Routines::new(ROUTINES, give);
     for (n, x, answer) in [
         (0, 0, Some(255)),
         (0, 9, Some(246)),

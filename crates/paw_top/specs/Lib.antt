@@ -1,4 +1,3 @@
-pub mod Given
 pub mod Ends
 pub mod Answers
 pub mod Loads

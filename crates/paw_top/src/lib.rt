@@ -15,7 +15,6 @@ pub mod laws;
 mod load;
 mod open;
 pub mod outcome;
-pub mod routines;
 #[cfg(test)]
 mod session_tests;
 mod sessions;

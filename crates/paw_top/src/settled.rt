@@ -4,8 +4,8 @@ ghost use Rattle.paw_routines.specs.Routines.{HaveRows};
 ghost use Rattle.paw_stage.specs.Disk.{IsStable};
 
 use crate::outcome::Outcome;
-use crate::routines::{ROUTINES, give};
 use crate::top::paw;
+use paw_routines::program::{ROUTINES, give};
 use paw_routines::routines::Routines;
 use paw_stage::Stage;
 use std::alloc::{AllocError, Global};

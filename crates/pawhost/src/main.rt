@@ -7,14 +7,14 @@ ghost use Rattle.paw_host.specs.Outcomes.{status_of};
 
 use paw_host::host::host;
 use paw_host::outcome::{HostOutcome, NO_MEMORY};
-use paw_host::routines::{ROUTINES, give};
+use paw_routines::program::{ROUTINES, give};
 use paw_routines::routines::Routines;
 use paw_stage::RealStage;
 use std::env::{self, Env};
 use std::io::{self, ErrorKind};
 use std::process::ExitCode;
 
-// The words behind the program's name; none of them where one isn't text.
+// The words after the program's name; none of them where one isn't text.
 fn words_of<R: Env + AllocGlobal>(rt: &R) -> io::Result<Vec<String>> {
     match env::args(rt) {
         Ok(words) => Ok(words.skip(1).collect(rt.alloc())?),

@@ -1,5 +1,5 @@
 use Rattle.std.proofs.Common.{rules}
-use Rattle.paw_top.proofs.Given.{given_stand}
+use Rattle.paw_routines.proofs.ProgramRows.{given_stand}
 use Rattle.paw.proofs.main.Goals as goal
 
 pub new-routines-requires : goal.new-routines-requires

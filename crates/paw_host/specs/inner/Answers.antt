@@ -36,7 +36,7 @@ word_of step.Ended = None
 word_of (step.Spent kind) = Some (codes "spent")
 word_of (step.TooDeep table) = Some (codes "too deep")
 
--- A player sits where the reading of these lines ended: whatever lines follow, their reading, told from some piece on, goes
+-- A player sits where the reading of these lines ended: whatever lines follow, their reading, from some piece on, goes
 -- on from the player's prompt; or the player has ended, and the reading is over.
 pub record SitsAt {F : Type 0} (g : Story) (seed : ℕ) (es : List (List ℕ)) (seat : Seat F) : Type 0 where
   pub whole : EndingOf
@@ -53,7 +53,7 @@ pub record Answers (g : Story) (a : Answer) (before after bytes : List ℕ) : Ty
   pub body : after ≡ before ++ a.body
   pub stores : Stores g a.session bytes
 
--- what beginning the game in the attached store comes to: the piece before the first line is spent or calls too deep, as
+-- what beginning the game in the attached store leaves: the piece before the first line is spent or calls too deep, as
 -- the reply says; or the player sits at the first prompt, the store keeps it, and the reply has the piece
 abbrev pub BeginsTo : {F : Type 0} → Story → ℕ → List ℕ → List ℕ → Seat F → List ℕ → Option Opened → Type 0
 BeginsTo g seed before after seat bytes None = (begun g seed).session ≡ Absent × (after ≡ before ++ (begun g seed).body)
@@ -61,7 +61,7 @@ BeginsTo g seed before after seat bytes (Some s) =
     SitsAt g seed [] seat × Stands g seed [] bytes × ((begun g seed).session ≡ At seed [])
     × (after ≡ before ++ (begun g seed).body)
 
--- what taking up the session of these bytes comes to, and where they stand for lines, those
+-- what taking up the session of these bytes leaves, and where they stand for lines, those
 abbrev pub TakesUp : {F : Type 0} → Story → Room → Seat F → List ℕ → Option Opened → Type 0
 TakesUp g room seat bytes None = ¬ ShowsSome g bytes
 TakesUp g room seat bytes (Some s) = ShowsSome g bytes × ((seed : ℕ) (es : List (List ℕ)) → IsPlayedWith g seed es →

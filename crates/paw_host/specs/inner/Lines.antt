@@ -27,7 +27,7 @@ pub record SameLines (old new : Standing) : Type 0 where
   pub lines : new.lines ≡ old.lines
   pub asked : new.asked ≡ old.asked
 
--- One line is taken; or none was left. Where a call failed nothing is told.
+-- One line is taken; or none was left. Where a call failed nothing is said.
 abbrev pub TakesTo : Standing → Standing → Option HostOutcome → Type 0
 TakesTo old new None = (line : List ℕ) × (old.lines ≡ line ∷ new.lines) × (new.asked ≡ old.asked + 1)
 TakesTo old new (Some outcome.InputEnded) = (old.lines ≡ []) × (new ≡ old)
@@ -62,7 +62,7 @@ pub record IsServing (g : Story) (seed : ℕ) (first : Sessions) (old now : Stan
   pub may : AllMay g (sessions_after g seed first (take n old.lines))
   pub settled : IsStable now.disk
 
--- After one line more the host waits for the next one; or no line was left. Where a call failed the moments tell what
+-- After one line more the host waits for the next one; or no line was left. Where a call failed the moments say what
 -- stands.
 abbrev pub ServesTo : Story → ℕ → Sessions → Standing → Standing → ℕ → Option HostOutcome → Type 0
 ServesTo g seed first old new n None = IsServing g seed first old new (suc n)

@@ -1,4 +1,4 @@
--- What loading an image file comes to.
+-- What loading an image file gives.
 use Rattle.std.specs.Prelude.{◌≡◌, ℕ, ◌+◌, List, take, Option, Some, None, Result, Ok, Err}
 use Rattle.paw_base.specs.declared.limits.TheConstants.{IMAGE_LIMIT}
 use Rattle.paw_game.specs.Game.{GameLists}
@@ -28,7 +28,7 @@ LoadsNone name old new (outcome.Outside call.Load) = new ≡ old
 LoadsNone name old new outcome.Memory = new ≡ old
 LoadsNone name old new _ = ⊥
 
--- why bytes give no game: they are no image of a valid one, or memory was wanting
+-- why bytes give no game: they are no image of a valid one, or memory was lacking
 abbrev pub GivesNone : List ℕ → HostOutcome → Type 0
 GivesNone bytes (outcome.ImageDamaged at) = ((g : GameLists) → ¬ IsImage bytes g) × (bad bytes ≡ Some at)
 GivesNone bytes outcome.Memory = Unit {0}

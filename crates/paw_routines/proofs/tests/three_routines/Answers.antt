@@ -1,7 +1,6 @@
 use Rattle.std.proofs.Common.{rules}
-use Rattle.paw_routines.proofs.ThreeRoutines.{given, three_rows}
+use Rattle.paw_routines.proofs.ProgramRows.{given_stand}
 use Rattle.paw_routines.proofs.tests.three_routines.Goals as goal
 
 pub new-routines-requires : goal.new-routines-requires
-unfolding given
-new-routines-requires g c = record { rows = three_rows _ _ (λ n x below small. tt) (λ n x y below small byte called. search rules) }
+new-routines-requires g c = record { rows = given_stand _ _ (λ n x below small. tt) (λ n x y below small byte called. search rules) }

@@ -1,5 +1,5 @@
 use Rattle.std.proofs.Common.{rules}
-use Rattle.paw_top.proofs.Given.{given_stand}
+use Rattle.paw_routines.proofs.ProgramRows.{given_stand}
 use Rattle.paw_top.proofs.settled.settle_and_run_with_none.Goals as goal
 
 pub new-requires : goal.new-requires

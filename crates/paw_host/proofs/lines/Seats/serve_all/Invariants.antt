@@ -13,7 +13,7 @@ use Rattle.paw_host.specs.inner.Lines.{IsServing}
 use Rattle.paw_host.specs.declared.lines.TheConstants.{HOST_LIMIT}
 use Rattle.paw_host.proofs.lines.Seats.serve_all.Given as goal
 
--- so many lines were answered
+-- i lines were answered
 abbrev pub invariant-loop : goal.invariant-loop
 invariant-loop g l = record {
   seated : IsSeated l.self.player;

@@ -1,4 +1,4 @@
--- What the routines of the program give.
+-- What the routines of the programs give.
 use Rattle.std.specs.Prelude.{ℕ, ◌-◌, ◌/◌, ◌==◌, count_ones, if◌then◌else◌}
 
 -- of a byte routine 0 gives the complement, 1 the half, and 2 the number of one bits

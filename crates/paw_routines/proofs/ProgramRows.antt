@@ -1,10 +1,10 @@
--- The rows of the program's routines.
+-- The rows of the routines of the programs.
 use Rattle.std.proofs.Common.{◌≡◌, ℕ, ◌<◌, ◌-◌, ◌/◌, ◌==◌, List, Bool, true, false, count_ones, if◌then◌else◌, arith}
 use Rattle.std.specs.Fn.{Shared}
 use Rattle.std.proofs.lemmas.Nat.{ones_le_self}
 use Rattle.paw_routines.specs.Rows.{StandFor}
 use Rattle.paw_routines.proofs.FunctionRows.{rows_of, stand_for}
-use Rattle.paw_top.specs.Given.{given}
+use Rattle.paw_routines.specs.Program.{given}
 
 small_in : (a b : Bool) (x : ℕ) → x < 256 → (if a then 255 - x else if b then x / 2 else count_ones x) < 256
 small_in true b x small = omega arith

@@ -1,9 +1,9 @@
-// The routines of the program.
+// The routines of the programs.
 
 ghost use Rattle.std.specs.Prelude.{◌≡◌};
-ghost use Rattle.paw_top.specs.Given.{given};
+ghost use Rattle.paw_routines.specs.Program.{given};
 
-/// How many routines there are.
+/// How many routines the programs have.
 pub const ROUTINES: u8 = 3;
 
 /// What they give for a byte: 0 its complement, 1 its half, 2 the number of its one bits.
