@@ -256,7 +256,14 @@ def seconds_to_wait(folder, kind, who, each, burst):
 
 def whose(address):
     """Those who share an address: of IPv6, a network of 64 bits."""
-    return ":".join(address.split(":")[:4]) if ":" in address else address
+    if ":" not in address:
+        return address
+    import ipaddress  # wanted by few, and not by each request
+    try:
+        found = ipaddress.IPv6Address(address.partition("%")[0])
+    except ValueError:
+        return address
+    return str(found.ipv4_mapped or ipaddress.IPv6Network((int(found) >> 64 << 64, 64)))
 
 
 # --- A turn --------------------------------------------------------------------------------------------------------

@@ -22,7 +22,7 @@ import sys
 import time
 
 import redis
-from redis.exceptions import BusyLoadingError, ConnectionError, ResponseError, TimeoutError, WatchError
+from redis.exceptions import BusyLoadingError, ConnectionError, RedisError, ResponseError, TimeoutError, WatchError  # noqa: F401
 
 import common
 
