@@ -294,7 +294,8 @@ class Terminal:
         self.is_asked = True
         text, typed = None, ""
         while text is None:
-            self.readline.set_startup_hook(lambda: self.readline.insert_text(typed))
+            # Python drops a Ctrl-C that comes in a hook of readline's, so there is one only where a line goes on.
+            self.readline.set_startup_hook((lambda: self.readline.insert_text(typed)) if typed else None)
             try:
                 self.typing = True
                 self.take_keys(True)
