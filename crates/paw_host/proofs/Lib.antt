@@ -1,4 +1,5 @@
 pub mod Sitting
+pub mod Staying
 pub mod Opening
 mod Numbers
 pub mod Named

@@ -4,3 +4,4 @@ pub mod Answers
 pub mod Words
 pub mod Opens
 pub mod Lines
+pub mod Seats

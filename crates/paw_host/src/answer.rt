@@ -3,9 +3,7 @@
 ghost use Rattle.std.specs.Prelude.{◌≡◌, ◌+◌, ◌*◌, ◌<◌, ◌≤◌, ◌⊎◌, ℕ, List, [], ◌∷◌, ◌++◌, length, take, None, Some};
 ghost use Rattle.std.specs.Prelude.{IfOk, OnOk, IfSome, IfNone, MatchOption, MatchBool};
 ghost use Rattle.std.specs.Option.{option_copied};
-ghost use Rattle.sha2.specs.Sha256.{sha256};
-ghost use Rattle.paw_base.specs.declared.limits.TheConstants.{EVENT_LIMIT, LINE_LIMIT, PIECE_LIMIT, READ_LIMIT};
-ghost use Rattle.paw_game.specs.Image.{image};
+ghost use Rattle.paw_base.specs.declared.limits.TheConstants.{EVENT_LIMIT, LINE_LIMIT, PIECE_LIMIT};
 ghost use Rattle.paw_stage.specs.Disk.{IsStable};
 ghost use Rattle.paw_stage.specs.Moments.{Still};
 ghost use Rattle.paw_stage.specs.Across.{Across, EachMoment, Serves};
@@ -26,7 +24,8 @@ ghost use Rattle.paw_host.specs.Replies.{Session, Absent, At, taken, answer};
 ghost use Rattle.paw_host.specs.Promise.{MayBe, Stores};
 ghost use Rattle.paw_host.specs.inner.Answers.{word_of, SitsAt, Answers, BeginsTo, TakesUp};
 ghost use Rattle.paw_host.specs.inner.Answers.{InFile, InAnswer, IsAside, StoresEither, LeftOf, LeftOfBeginning};
-ghost use Rattle.paw_host.specs.inner.Answers.{answer_calls, IsMeasureOf};
+ghost use Rattle.paw_host.specs.inner.Answers.{answer_calls, LeavesBegun};
+ghost use Rattle.paw_host.specs.inner.Seats.{AreDigestsOf, IsHosted, PlaysAnew, StandsAfter, Stays};
 ghost use Rattle.paw_host.specs.declared.reply.TheConstants.{REPLY_LIMIT};
 
 use crate::reply::Reply;
@@ -73,10 +72,7 @@ fn start_anew<T: Tables, F: Fn(u8, u8) -> u8>(player: &mut Player<'_, T, F>, see
     requires seated { IsSeated player.old }
     requires rows { HaveRows F.Fn player.old.routines }
     ensures last { player.new.last ≡ result }
-    ensures seated { IsSeated player.new }
-    ensures game { player.new.game ≡ player.old.game }
-    ensures routines { player.new.routines ≡ player.old.routines }
-    ensures draws { player.new.world.draws ≤ READ_LIMIT }
+    ensures anew { PlaysAnew player.old player.new }
     ensures meaning { EachStory F.Fn player.old.routines player.old.game (λ g.
         PlaysTo g (reading g seed) result player.new [] []) }
 {
@@ -98,24 +94,16 @@ fn begin<S: Stage, T: Tables, F: Fn(u8, u8) -> u8>(
 ) -> Result<Option<Opened>, StageCall>
     requires seated { IsSeated player.old }
     requires rows { HaveRows F.Fn player.old.routines }
-    requires digest { game.now ≡ sha256 (image player.old.game) }
-    requires measured { IsMeasureOf F.Fn player.old.routines rules.now }
+    requires digests { AreDigestsOf F.Fn player.old.game player.old.routines game.now rules.now }
     requires empty { at.length ≡ 0 }
     requires rests { S.Tells stage.old → IsAtRest (S.standing stage.old) }
     requires attached { S.Tells stage.old → at.length ≡ length (S.standing stage.old).disk.bytes }
     requires room { length reply.old + PIECE_LIMIT ≤ REPLY_LIMIT }
-    ensures seated { IsSeated player.new }
-    ensures game { player.new.game ≡ player.old.game }
-    ensures routines { player.new.routines ≡ player.old.routines }
-    ensures draws { player.new.world.draws ≤ READ_LIMIT }
-    ensures standing { IfOk result (λ found. IfSome found (λ s. IsStanding player.new.last)) }
-    ensures events { IfOk result (λ found. IfSome found (λ s. s.events ≡ 0)) }
+    ensures anew { PlaysAnew player.old player.new }
+    ensures opened { IfOk result (λ found. IfSome found (λ s. (s.events ≡ 0) × StandsAfter s.events player.new)) }
     ensures short { length reply.new ≤ length reply.old + PIECE_LIMIT }
     ensures serves { Serves S.Stage writing_calls (failed_stage_call result) stage.old stage.new }
-    ensures kept { S.Tells stage.old →
-        IfOk result (λ found. IfSome found (λ s. KeptIn s.journal room.new (S.standing stage.new))) }
-    ensures still { S.Tells stage.old →
-        IfOk result (λ found. IfNone found (S.standing stage.new ≡ S.standing stage.old)) }
+    ensures leaves { Across S.Stage stage.old stage.new (λ old new. IfOk result (LeavesBegun room.new old new)) }
     ensures beside { Across S.Stage stage.old stage.new IsBeside }
     ensures meaning { Across S.Stage stage.old stage.new (λ old new.
         EachStory F.Fn player.old.routines player.old.game (λ g.
@@ -151,16 +139,11 @@ fn take_up<S: Stage, T: Tables, F: Fn(u8, u8) -> u8>(
 ) -> Result<Option<Opened>, StageCall>
     requires seated { IsSeated player.old }
     requires same { player.old.game ≡ T.game tables.now }
-    requires digest { game.now ≡ sha256 (image player.old.game) }
-    requires measured { IsMeasureOf F.Fn player.old.routines rules.now }
+    requires digests { AreDigestsOf F.Fn player.old.game player.old.routines game.now rules.now }
     requires rests { S.Tells stage.old → IsAtRest (S.standing stage.old) }
     requires attached { S.Tells stage.old → at.length ≡ length (S.standing stage.old).disk.bytes }
-    ensures seated { IsSeated player.new }
-    ensures game { player.new.game ≡ player.old.game }
-    ensures routines { player.new.routines ≡ player.old.routines }
-    ensures few { IfOk result (λ found. IfSome found (λ s. s.events ≤ EVENT_LIMIT)) }
-    ensures draws { IfOk result (λ found. IfSome found (λ s. player.new.world.draws ≤ READ_LIMIT * (s.events + 1))) }
-    ensures standing { IfOk result (λ found. IfSome found (λ s. IsStanding player.new.last)) }
+    ensures stays { Stays player.old player.new }
+    ensures opened { IfOk result (λ found. IfSome found (λ s. StandsAfter s.events player.new)) }
     ensures serves { Serves S.Stage (call.Read ∷ []) (failed_stage_call result) stage.old stage.new }
     ensures still { S.Tells stage.old → S.standing stage.new ≡ S.standing stage.old }
     ensures kept { S.Tells stage.old →
@@ -225,16 +208,12 @@ fn take_text<S: Stage, T: Tables, F: Fn(u8, u8) -> u8>(
     text: &[u8],
 ) -> Result<(), StageCall>
     requires seated { IsSeated player.old }
-    requires standing { IsStanding player.old.last }
     requires rows { HaveRows F.Fn player.old.routines }
+    requires opened { StandsAfter opened.events player.old }
     requires short { length text.now ≤ LINE_LIMIT }
-    requires few { opened.events ≤ EVENT_LIMIT }
-    requires draws { player.old.world.draws ≤ READ_LIMIT * (opened.events + 1) }
     requires kept { S.Tells stage.old → KeptIn opened.journal room.old (S.standing stage.old) }
     requires room { length reply.old + PIECE_LIMIT ≤ REPLY_LIMIT }
-    ensures seated { IsSeated player.new }
-    ensures game { player.new.game ≡ player.old.game }
-    ensures routines { player.new.routines ≡ player.old.routines }
+    ensures stays { Stays player.old player.new }
     ensures short { length reply.new ≤ length reply.old + PIECE_LIMIT }
     ensures serves { Serves S.Stage writing_calls (failed_stage_call result) stage.old stage.new }
     ensures rests { S.Tells stage.old → OnOk result (IsAtRest (S.standing stage.new)) }
@@ -292,16 +271,13 @@ fn answer_new<S: Stage, T: Tables, F: Fn(u8, u8) -> u8>(
 ) -> Result<(), StageCall>
     requires seated { IsSeated player.old }
     requires rows { HaveRows F.Fn player.old.routines }
-    requires digest { hosted.now.game ≡ sha256 (image player.old.game) }
-    requires measured { IsMeasureOf F.Fn player.old.routines hosted.now.rules }
+    requires digests { AreDigestsOf F.Fn player.old.game player.old.routines hosted.now.game hosted.now.rules }
     requires short { IfSome text (λ t. length t.now ≤ LINE_LIMIT) }
     requires empty { at.length ≡ 0 }
     requires rests { S.Tells stage.old → IsAtRest (S.standing stage.old) }
     requires attached { S.Tells stage.old → at.length ≡ length (S.standing stage.old).disk.bytes }
     requires room { length reply.old ≤ 20 }
-    ensures seated { IsSeated player.new }
-    ensures game { player.new.game ≡ player.old.game }
-    ensures routines { player.new.routines ≡ player.old.routines }
+    ensures stays { Stays player.old player.new }
     ensures short { length reply.new ≤ length reply.old + 2 * PIECE_LIMIT }
     ensures serves { Serves S.Stage writing_calls (failed_stage_call result) stage.old stage.new }
     ensures rests { S.Tells stage.old → OnOk result (IsAtRest (S.standing stage.new)) }
@@ -344,19 +320,13 @@ fn answer_kept<S: Stage, T: Tables, F: Fn(u8, u8) -> u8>(
     hosted: &Hosted<'_, T>,
     text: Option<&[u8]>,
 ) -> Result<(), StageCall>
-    requires seated { IsSeated player.old }
-    requires rows { HaveRows F.Fn player.old.routines }
-    requires same { player.old.game ≡ T.game hosted.now.tables.now }
-    requires digest { hosted.now.game ≡ sha256 (image player.old.game) }
-    requires measured { IsMeasureOf F.Fn player.old.routines hosted.now.rules }
+    requires hosted { IsHosted F.Fn (T.game hosted.now.tables.now) hosted.now.game hosted.now.rules player.old }
     requires short { IfSome text (λ t. length t.now ≤ LINE_LIMIT) }
     requires some { 0 < at.length }
     requires rests { S.Tells stage.old → IsAtRest (S.standing stage.old) }
     requires attached { S.Tells stage.old → at.length ≡ length (S.standing stage.old).disk.bytes }
     requires room { length reply.old ≤ 20 }
-    ensures seated { IsSeated player.new }
-    ensures game { player.new.game ≡ player.old.game }
-    ensures routines { player.new.routines ≡ player.old.routines }
+    ensures stays { Stays player.old player.new }
     ensures short { length reply.new ≤ length reply.old + 2 * PIECE_LIMIT }
     ensures serves { Serves S.Stage (call.Read ∷ writing_calls) (failed_stage_call result) stage.old stage.new }
     ensures rests { S.Tells stage.old → OnOk result (IsAtRest (S.standing stage.new)) }
@@ -406,17 +376,11 @@ pub(crate) fn answer<S: Stage, T: Tables, F: Fn(u8, u8) -> u8>(
     store: &str,
     text: Option<&[u8]>,
 ) -> Result<(), StageCall>
-    requires seated { IsSeated player.old }
-    requires rows { HaveRows F.Fn player.old.routines }
-    requires same { player.old.game ≡ T.game hosted.now.tables.now }
-    requires digest { hosted.now.game ≡ sha256 (image player.old.game) }
-    requires measured { IsMeasureOf F.Fn player.old.routines hosted.now.rules }
+    requires hosted { IsHosted F.Fn (T.game hosted.now.tables.now) hosted.now.game hosted.now.rules player.old }
     requires short { IfSome text (λ t. length t.now ≤ LINE_LIMIT) }
     requires synced { S.Tells stage.old → IsStable (S.standing stage.old).disk }
     requires room { length reply.old ≤ 20 }
-    ensures seated { IsSeated player.new }
-    ensures game { player.new.game ≡ player.old.game }
-    ensures routines { player.new.routines ≡ player.old.routines }
+    ensures stays { Stays player.old player.new }
     ensures short { length reply.new ≤ length reply.old + 2 * PIECE_LIMIT }
     ensures serves { Serves S.Stage answer_calls (failed_stage_call result) stage.old stage.new }
     ensures synced { S.Tells stage.old → OnOk result (IsStable (S.standing stage.new).disk) }

@@ -1,8 +1,6 @@
 // The top call.
 
 ghost use Rattle.std.specs.Prelude.{◌≡◌, ◌↔◌, ◌≢◌, ◌++◌, ℕ, List, None, IfSome};
-ghost use Rattle.sha2.specs.Sha256.{sha256};
-ghost use Rattle.paw_game.specs.Image.{image};
 ghost use Rattle.paw_stage.specs.Across.{Across, EachMoment, Serves};
 ghost use Rattle.paw_stage.specs.Disk.{IsStable};
 ghost use Rattle.paw_routines.specs.Routines.{AreRowsOf, HaveRows};
@@ -13,7 +11,7 @@ ghost use Rattle.paw_play.specs.inner.OnTheWay.{EachStory};
 ghost use Rattle.paw_host.specs.Replies.{Sessions};
 ghost use Rattle.paw_host.specs.Promise.{BeginsWith, InHost};
 ghost use Rattle.paw_host.specs.Hosts.{load_calls, Ends, Hosts, HostsFile, HostsAtEachMoment};
-ghost use Rattle.paw_host.specs.inner.Answers.{IsMeasureOf};
+ghost use Rattle.paw_host.specs.inner.Seats.{AreDigestsOf};
 ghost use Rattle.paw_host.specs.declared.outcome.HostOutcome.TheVariants as outcome;
 
 use crate::answer::Hosted;
@@ -35,8 +33,7 @@ fn host_game<S: Stage, T: Tables, F: Fn(u8, u8) -> u8>(
     hosted: &Hosted<'_, T>,
 ) -> HostOutcome
     requires rows { HaveRows F.Fn routines.now }
-    requires digest { hosted.now.game ≡ sha256 (image (T.game hosted.now.tables.now)) }
-    requires measured { IsMeasureOf F.Fn routines.now hosted.now.rules }
+    requires digests { AreDigestsOf F.Fn (T.game hosted.now.tables.now) routines.now hosted.now.game hosted.now.rules }
     requires synced { S.Tells stage.old → IsStable (S.standing stage.old).disk }
     ensures form { result ≢ outcome.Usage }
     ensures serves { Serves S.Stage session_calls (failed_call result) stage.old stage.new }

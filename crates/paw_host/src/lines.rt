@@ -1,12 +1,9 @@
 // Taking lines: what each asks for is done, and then the reply is shown.
 
 ghost use Rattle.std.specs.Prelude.{◌≡◌, ◌≢◌, ◌≤◌, [], Some, true, codes, length, IfOk, OnOk, IfSome, IfNone};
-ghost use Rattle.sha2.specs.Sha256.{sha256};
 ghost use Rattle.paw_base.specs.declared.limits.TheConstants.{LINE_LIMIT};
-ghost use Rattle.paw_game.specs.Image.{image};
 ghost use Rattle.paw_stage.specs.Disk.{IsStable};
 ghost use Rattle.paw_stage.specs.Across.{Across, EachMoment, Serves};
-ghost use Rattle.paw_routines.specs.Routines.{HaveRows};
 ghost use Rattle.paw_turn.specs.inner.Player.{IsSeated};
 ghost use Rattle.paw_journal.specs.inner.Journal.{failed_stage_call};
 ghost use Rattle.paw_play.specs.Calls.{session_calls};
@@ -18,7 +15,8 @@ ghost use Rattle.paw_host.specs.Hosts.{Ends, Hosts};
 ghost use Rattle.paw_host.specs.Outcomes.{failed_call};
 ghost use Rattle.paw_host.specs.declared.outcome.HostOutcome.TheVariants as outcome;
 ghost use Rattle.paw_host.specs.inner.Names.{asks};
-ghost use Rattle.paw_host.specs.inner.Answers.{answer_calls, IsMeasureOf};
+ghost use Rattle.paw_host.specs.inner.Answers.{answer_calls};
+ghost use Rattle.paw_host.specs.inner.Seats.{IsHosted, Stays};
 ghost use Rattle.paw_host.specs.inner.Lines.{AllMay, Does, Doing, EachServing, SameLines, ServesTo, TakesTo, failed_so_far};
 
 use crate::answer::{Hosted, answer};
@@ -86,17 +84,11 @@ impl<'a, T: Tables, F: Fn(u8, u8) -> u8> Seats<'a, T, F> {
         hosted: &Hosted<'_, T>,
         request: Request<'_>,
     ) -> Result<(), StageCall>
-        requires seated { IsSeated self.old.player }
-        requires rows { HaveRows F.Fn self.old.player.routines }
-        requires same { self.old.player.game ≡ T.game hosted.now.tables.now }
-        requires digest { hosted.now.game ≡ sha256 (image self.old.player.game) }
-        requires measured { IsMeasureOf F.Fn self.old.player.routines hosted.now.rules }
+        requires hosted { IsHosted F.Fn (T.game hosted.now.tables.now) hosted.now.game hosted.now.rules self.old.player }
         requires name { is_name request.name.now ≡ true }
         requires short { IfSome request.text (λ t. length t.now ≤ LINE_LIMIT) }
         requires synced { S.Tells stage.old → IsStable (S.standing stage.old).disk }
-        ensures seated { IsSeated self.new.player }
-        ensures game { self.new.player.game ≡ self.old.player.game }
-        ensures routines { self.new.player.routines ≡ self.old.player.routines }
+        ensures stays { Stays self.old.player self.new.player }
         ensures serves { Serves S.Stage answer_calls (failed_stage_call result) stage.old stage.new }
         ensures synced { S.Tells stage.old → OnOk result (IsStable (S.standing stage.new).disk) }
         ensures lines { Across S.Stage stage.old stage.new SameLines }
@@ -134,16 +126,10 @@ impl<'a, T: Tables, F: Fn(u8, u8) -> u8> Seats<'a, T, F> {
         hosted: &Hosted<'_, T>,
         line: &[u8],
     ) -> Result<(), StageCall>
-        requires seated { IsSeated self.old.player }
-        requires rows { HaveRows F.Fn self.old.player.routines }
-        requires same { self.old.player.game ≡ T.game hosted.now.tables.now }
-        requires digest { hosted.now.game ≡ sha256 (image self.old.player.game) }
-        requires measured { IsMeasureOf F.Fn self.old.player.routines hosted.now.rules }
+        requires hosted { IsHosted F.Fn (T.game hosted.now.tables.now) hosted.now.game hosted.now.rules self.old.player }
         requires short { length line.now ≤ LINE_LIMIT }
         requires synced { S.Tells stage.old → IsStable (S.standing stage.old).disk }
-        ensures seated { IsSeated self.new.player }
-        ensures game { self.new.player.game ≡ self.old.player.game }
-        ensures routines { self.new.player.routines ≡ self.old.player.routines }
+        ensures stays { Stays self.old.player self.new.player }
         ensures serves { Serves S.Stage answer_calls (failed_stage_call result) stage.old stage.new }
         ensures synced { S.Tells stage.old → OnOk result (IsStable (S.standing stage.new).disk) }
         ensures lines { Across S.Stage stage.old stage.new SameLines }
@@ -167,15 +153,9 @@ impl<'a, T: Tables, F: Fn(u8, u8) -> u8> Seats<'a, T, F> {
 
     /// Asks for a line, does what it asks for, and shows the reply. None where a further line may follow.
     fn serve<S: Stage>(&mut self, stage: &mut S, hosted: &Hosted<'_, T>) -> Option<HostOutcome>
-        requires seated { IsSeated self.old.player }
-        requires rows { HaveRows F.Fn self.old.player.routines }
-        requires same { self.old.player.game ≡ T.game hosted.now.tables.now }
-        requires digest { hosted.now.game ≡ sha256 (image self.old.player.game) }
-        requires measured { IsMeasureOf F.Fn self.old.player.routines hosted.now.rules }
+        requires hosted { IsHosted F.Fn (T.game hosted.now.tables.now) hosted.now.game hosted.now.rules self.old.player }
         requires synced { S.Tells stage.old → IsStable (S.standing stage.old).disk }
-        ensures seated { IsSeated self.new.player }
-        ensures game { self.new.player.game ≡ self.old.player.game }
-        ensures routines { self.new.player.routines ≡ self.old.player.routines }
+        ensures stays { Stays self.old.player self.new.player }
         ensures form { IfSome result (λ o. o ≢ outcome.Usage) }
         ensures serves { Serves S.Stage session_calls (failed_so_far result) stage.old stage.new }
         ensures synced { S.Tells stage.old → IfNone result (IsStable (S.standing stage.new).disk) }
@@ -211,11 +191,7 @@ impl<'a, T: Tables, F: Fn(u8, u8) -> u8> Seats<'a, T, F> {
         stage: &mut S,
         hosted: &Hosted<'_, T>,
     ) -> HostOutcome
-        requires seated { IsSeated self.old.player }
-        requires rows { HaveRows F.Fn self.old.player.routines }
-        requires same { self.old.player.game ≡ T.game hosted.now.tables.now }
-        requires digest { hosted.now.game ≡ sha256 (image self.old.player.game) }
-        requires measured { IsMeasureOf F.Fn self.old.player.routines hosted.now.rules }
+        requires hosted { IsHosted F.Fn (T.game hosted.now.tables.now) hosted.now.game hosted.now.rules self.old.player }
         requires synced { S.Tells stage.old → IsStable (S.standing stage.old).disk }
         ensures form { result ≢ outcome.Usage }
         ensures serves { Serves S.Stage session_calls (failed_call result) stage.old stage.new }

@@ -6,10 +6,6 @@ use Rattle.paw_stage.specs.Stage.{Standing, file_bytes}
 use Rattle.paw_stage.specs.Moments.{Moment}
 use Rattle.paw_stage.specs.declared.StageCall.{StageCall}
 use Rattle.paw_stage.specs.declared.StageCall.TheVariants as call
-use Rattle.std.specs.Fn.{Shared}
-use Rattle.paw_routines.specs.Measure.{measure}
-use Rattle.paw_routines.specs.Routines.{AreRowsOf}
-use Rattle.paw_routines.specs.declared.routines.Routines.{Routines}
 use Rattle.paw_effects.specs.Story.{Story}
 use Rattle.paw_effects.specs.declared.act.Prompt.{Prompt}
 use Rattle.paw_reading.specs.Run.{Step as Read}
@@ -20,6 +16,7 @@ use Rattle.paw_turn.specs.declared.Step.TheVariants as step
 use Rattle.paw_journal.specs.Session.{IsUnmade, recover}
 use Rattle.paw_journal.specs.Journal.{writing_calls}
 use Rattle.paw_journal.specs.inner.Store.{InStore}
+use Rattle.paw_journal.specs.inner.Journal.{KeptIn}
 use Rattle.paw_journal.specs.inner.Room.{Room}
 use Rattle.paw_state.specs.Record.{last_piece}
 use Rattle.paw_play.specs.Walk.{EndingOf}
@@ -60,6 +57,11 @@ BeginsTo g seed before after seat bytes None = (begun g seed).session ≡ Absent
 BeginsTo g seed before after seat bytes (Some s) =
     SitsAt g seed [] seat × Stands g seed [] bytes × ((begun g seed).session ≡ At seed [])
     × (after ≡ before ++ (begun g seed).body)
+
+-- a beginning leaves the attached store as it was; or the store keeps the session that is made, by its journal
+abbrev pub LeavesBegun : Room → Standing → Standing → Option Opened → Type 0
+LeavesBegun room old new None = new ≡ old
+LeavesBegun room old new (Some s) = KeptIn s.journal room new
 
 -- what taking up the session of these bytes leaves, and where they stand for lines, those
 abbrev pub TakesUp : {F : Type 0} → Story → Room → Seat F → List ℕ → Option Opened → Type 0
@@ -109,7 +111,3 @@ LeftOf g seed before after bytes = Stores g before bytes ⊎ Stores g after byte
 -- the calls by which a session is asked for something
 abbrev pub answer_calls : List StageCall
 answer_calls = call.Attach ∷ call.Read ∷ writing_calls
-
--- these are the digest of the routines
-abbrev pub IsMeasureOf : {F : Type 0} → Shared F (ℕ × (ℕ × Unit {0})) ℕ → Routines F → List ℕ → Type 0
-IsMeasureOf calls routines rules = (X : List (List ℕ)) → AreRowsOf calls routines X → rules ≡ measure X

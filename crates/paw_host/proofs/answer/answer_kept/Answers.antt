@@ -17,12 +17,16 @@ use Rattle.paw_host.specs.Promise.{Stores}
 use Rattle.paw_host.specs.inner.Answers.{SitsAt, Answers, InFile, StoresEither}
 use Rattle.paw_host.proofs.Calls.{reads_kept, writes_kept}
 use Rattle.paw_host.proofs.Keeping.{kept_refused, kept_told, kept_each, still_in_file}
+use Rattle.paw_host.proofs.Staying.{stays_on}
 use Rattle.paw_host.proofs.answer.answer_kept.Goals as goal
 
 -- ---- the calls of taking a text ----
 
 pub take_text-requires-clause-rows : goal.take_text-requires-clause-rows
-take_text-requires-clause-rows g c = subst (λ r. HaveRows g.F.Fn r) (sym c.take_up.ensures.routines) c.requires.rows
+take_text-requires-clause-rows g c = subst (λ r. HaveRows g.F.Fn r) (sym c.take_up.ensures.stays.routines) c.requires.hosted.rows
+
+pub take_text-requires-clause-opened : goal.take_text-requires-clause-opened
+take_text-requires-clause-opened g c = rw c.in-Ok-Some.field-0-is at c.in-Ok-Some.ensures.opened
 
 pub take_text-requires-clause-kept : goal.take_text-requires-clause-kept
 take_text-requires-clause-kept g c = λ tells. rw c.in-Ok-Some.field-0-is at (c.in-Ok-Some.ensures.kept (c.take_up.ensures.serves.tells.1 tells))
@@ -72,6 +76,9 @@ returns-in-Err-clause-any_moment g c = λ tells X rows before may stores.
 
 -- ---- a text is taken ----
 
+pub returns-in-Some-clause-stays : goal.returns-in-Some-clause-stays
+returns-in-Some-clause-stays g c = stays_on c.take_up.ensures.stays c.take_text.ensures.stays
+
 pub returns-in-Some-clause-serves : goal.returns-in-Some-clause-serves
 returns-in-Some-clause-serves g c =
     serves_then g.S.Stage _ _ (failed_stage_call c.take_text.result) _ _ _ c.in-Ok-Some.ensures.serves
@@ -90,8 +97,8 @@ returns-in-Some-clause-meaning g c = λ tells X rows before may stores.
     let old : Standing = g.S.Stage.standing c.args.stage.now in
     let mid : Standing = g.S.Stage.standing c.take_up.new.stage in
     let new : Standing = g.S.Stage.standing c.take_text.new.stage in
-    let game = c.take_up.ensures.game in
-    let own = subst (λ r. AreRowsOf g.F.Fn r X) (sym c.take_up.ensures.routines) rows in
+    let game = c.take_up.ensures.stays.game in
+    let own = subst (λ r. AreRowsOf g.F.Fn r X) (sym c.take_up.ensures.stays.routines) rows in
     let t = rw c.in-Ok-Some.field-0-is at (c.in-Ok-Some.ensures.meaning tells X rows) in
     subst (λ x. OnOk c.take_text.result (Answers story (answer story seed before x) c.args.reply.now c.take_text.new.reply new.disk.bytes))
     (sym (ap option_copied c.in-Some.is))
@@ -113,8 +120,8 @@ returns-in-Some-clause-any_moment g c = λ tells X rows before may stores.
     let text = c.in-Some.text.now in
     let old : Standing = g.S.Stage.standing c.args.stage.now in
     let mid : Standing = g.S.Stage.standing c.take_up.new.stage in
-    let game = c.take_up.ensures.game in
-    let own = subst (λ r. AreRowsOf g.F.Fn r X) (sym c.take_up.ensures.routines) rows in
+    let game = c.take_up.ensures.stays.game in
+    let own = subst (λ r. AreRowsOf g.F.Fn r X) (sym c.take_up.ensures.stays.routines) rows in
     let t = rw c.in-Ok-Some.field-0-is at (c.in-Ok-Some.ensures.meaning tells X rows) in
     let rests = (c.requires.rests tells).stable in
     subst (λ x. Passes (g.S.Stage.clock c.args.stage.now) (g.S.Stage.clock c.take_text.new.stage) (g.S.Stage.since c.args.stage.now)

@@ -15,27 +15,31 @@ use Rattle.paw_host.specs.Replies.{Absent, At, taken, answer}
 use Rattle.paw_host.specs.inner.Answers.{SitsAt, Answers, InFile, LeftOf, StoresEither}
 use Rattle.paw_host.proofs.Answering.{not_begun, just_begun, begun_then, in_new_begun, in_new_taking}
 use Rattle.paw_host.proofs.Reaching.{no_bytes}
+use Rattle.paw_host.proofs.Staying.{stays_on}
 use Rattle.paw_host.proofs.answer.answer_new.Goals as goal
 
 -- ---- the calls of taking a text ----
 
 pub take_text-requires-clause-rows : goal.take_text-requires-clause-rows
-take_text-requires-clause-rows g c = subst (λ r. HaveRows g.F.Fn r) (sym c.begin.ensures.routines) c.requires.rows
+take_text-requires-clause-rows g c = subst (λ r. HaveRows g.F.Fn r) (sym c.begin.ensures.anew.stays.routines) c.requires.rows
+
+pub take_text-requires-clause-opened : goal.take_text-requires-clause-opened
+take_text-requires-clause-opened g c = (rw c.in-Ok-Some.field-0-is at c.in-Ok-Some.ensures.opened).1
 
 pub take_text-requires-clause-kept : goal.take_text-requires-clause-kept
-take_text-requires-clause-kept g c = λ tells. rw c.in-Ok-Some.field-0-is at (c.in-Ok-Some.ensures.kept (c.begin.ensures.serves.tells.1 tells))
+take_text-requires-clause-kept g c = λ tells. rw c.in-Ok-Some.field-0-is at (c.in-Ok-Some.ensures.leaves (c.begin.ensures.serves.tells.1 tells))
 
 -- ---- the game isn't begun ----
 
 pub returns-in-Ok-None-clause-rests : goal.returns-in-Ok-None-clause-rests
-returns-in-Ok-None-clause-rests g c = λ tells. subst IsAtRest (sym (rw c.in-Ok-None.field-0-is at (c.in-Ok-None.ensures.still tells))) (c.requires.rests tells)
+returns-in-Ok-None-clause-rests g c = λ tells. subst IsAtRest (sym (rw c.in-Ok-None.field-0-is at (c.in-Ok-None.ensures.leaves tells))) (c.requires.rests tells)
 
 pub returns-in-Ok-None-clause-meaning : goal.returns-in-Ok-None-clause-meaning
 returns-in-Ok-None-clause-meaning g c = λ tells X rows.
     let story : Story = story_of c.args.player.now.game X in
     let b = rw c.in-Ok-None.field-0-is at (c.in-Ok-None.ensures.meaning tells X rows) in
     not_begun story c.args.hosted.now.seed (option_copied c.args.text) c.args.reply.now c.begin.new.reply _ b.0 b.1
-    (ap (λ (q : Standing). q.disk.bytes) (rw c.in-Ok-None.field-0-is at (c.in-Ok-None.ensures.still tells))
+    (ap (λ (q : Standing). q.disk.bytes) (rw c.in-Ok-None.field-0-is at (c.in-Ok-None.ensures.leaves tells))
     ∙ no_bytes (g.S.Stage.standing c.args.stage.now).disk.bytes (sym (c.requires.attached tells) ∙ c.requires.empty))
 
 pub returns-in-Ok-None-clause-any_moment : goal.returns-in-Ok-None-clause-any_moment
@@ -58,6 +62,9 @@ returns-in-Err-clause-any_moment g c = λ tells X rows.
 
 -- ---- a text is taken ----
 
+pub returns-in-Some-clause-stays : goal.returns-in-Some-clause-stays
+returns-in-Some-clause-stays g c = stays_on c.begin.ensures.anew.stays c.take_text.ensures.stays
+
 pub returns-in-Some-clause-serves : goal.returns-in-Some-clause-serves
 returns-in-Some-clause-serves g c =
     serves_then g.S.Stage _ _ (failed_stage_call c.take_text.result) _ _ _ c.in-Ok-Some.ensures.serves c.take_text.ensures.serves
@@ -73,16 +80,16 @@ returns-in-Some-clause-meaning g c = λ tells X rows.
     let text = c.in-Some.text.now in
     let mid : Standing = g.S.Stage.standing c.begin.new.stage in
     let new : Standing = g.S.Stage.standing c.take_text.new.stage in
-    let own = subst (λ r. AreRowsOf g.F.Fn r X) (sym c.begin.ensures.routines) rows in
+    let own = subst (λ r. AreRowsOf g.F.Fn r X) (sym c.begin.ensures.anew.stays.routines) rows in
     let b = rw c.in-Ok-Some.field-0-is at (c.in-Ok-Some.ensures.meaning tells X rows) in
-    let sits = subst (λ (h : GameLists). SitsAt (story_of h X) seed [] c.begin.new.player) (sym c.begin.ensures.game) b.0 in
-    let stands = subst (λ (h : GameLists). Stands (story_of h X) seed [] mid.disk.bytes) (sym c.begin.ensures.game) b.1 in
+    let sits = subst (λ (h : GameLists). SitsAt (story_of h X) seed [] c.begin.new.player) (sym c.begin.ensures.anew.stays.game) b.0 in
+    let stands = subst (λ (h : GameLists). Stands (story_of h X) seed [] mid.disk.bytes) (sym c.begin.ensures.anew.stays.game) b.1 in
     let is = ap option_copied c.in-Some.is in
     on_ok_weaker c.take_text.result
     (λ a. subst (λ t. Answers story (answer story seed Absent t) c.args.reply.now c.take_text.new.reply new.disk.bytes) (sym is)
     (begun_then story seed text c.args.reply.now c.begin.new.reply c.take_text.new.reply new.disk.bytes b.2 b.3
-    (subst (λ (h : GameLists). Answers (story_of h X) (taken (story_of h X) seed [] text) c.begin.new.reply c.take_text.new.reply new.disk.bytes) c.begin.ensures.game a)))
-    (c.take_text.ensures.meaning (c.begin.ensures.serves.tells.0 tells) X own seed [] sits (rw c.in-Ok-Some.field-0-is at c.in-Ok-Some.ensures.events) stands)
+    (subst (λ (h : GameLists). Answers (story_of h X) (taken (story_of h X) seed [] text) c.begin.new.reply c.take_text.new.reply new.disk.bytes) c.begin.ensures.anew.stays.game a)))
+    (c.take_text.ensures.meaning (c.begin.ensures.serves.tells.0 tells) X own seed [] sits (rw c.in-Ok-Some.field-0-is at c.in-Ok-Some.ensures.opened).0 stands)
 
 pub returns-in-Some-clause-any_moment : goal.returns-in-Some-clause-any_moment
 returns-in-Some-clause-any_moment g c = λ tells X rows.
@@ -91,24 +98,24 @@ returns-in-Some-clause-any_moment g c = λ tells X rows.
     let text = c.in-Some.text.now in
     let old : Standing = g.S.Stage.standing c.args.stage.now in
     let mid : Standing = g.S.Stage.standing c.begin.new.stage in
-    let own = subst (λ r. AreRowsOf g.F.Fn r X) (sym c.begin.ensures.routines) rows in
+    let own = subst (λ r. AreRowsOf g.F.Fn r X) (sym c.begin.ensures.anew.stays.routines) rows in
     let b = rw c.in-Ok-Some.field-0-is at (c.in-Ok-Some.ensures.meaning tells X rows) in
-    let sits = subst (λ (h : GameLists). SitsAt (story_of h X) seed [] c.begin.new.player) (sym c.begin.ensures.game) b.0 in
-    let stands = subst (λ (h : GameLists). Stands (story_of h X) seed [] mid.disk.bytes) (sym c.begin.ensures.game) b.1 in
+    let sits = subst (λ (h : GameLists). SitsAt (story_of h X) seed [] c.begin.new.player) (sym c.begin.ensures.anew.stays.game) b.0 in
+    let stands = subst (λ (h : GameLists). Stands (story_of h X) seed [] mid.disk.bytes) (sym c.begin.ensures.anew.stays.game) b.1 in
     let is = ap option_copied c.in-Some.is in
     subst (λ t. Passes (g.S.Stage.clock c.args.stage.now) (g.S.Stage.clock c.take_text.new.stage) (g.S.Stage.since c.args.stage.now)
     (g.S.Stage.since c.take_text.new.stage) (InFile (LeftOf story seed Absent (answer story seed Absent t).session) old)) (sym is)
     (Passes_on _ _ _ _ _ _ (InFile (LeftOf story seed Absent (answer story seed Absent (Some text)).session) old) _
     (Passes_map _ _ _ _ _ (InFile (LeftOf story seed Absent (answer story seed Absent (Some text)).session) old)
     (c.begin.ensures.any_moment tells X rows) (λ m i. in_new_begun story seed (Some text) old m i))
-    (c.take_text.ensures.any_moment (c.begin.ensures.serves.tells.0 tells) X own seed [] sits (rw c.in-Ok-Some.field-0-is at c.in-Ok-Some.ensures.events) stands)
+    (c.take_text.ensures.any_moment (c.begin.ensures.serves.tells.0 tells) X own seed [] sits (rw c.in-Ok-Some.field-0-is at c.in-Ok-Some.ensures.opened).0 stands)
     (λ m i. in_new_taking story seed text old mid m b.2 (c.begin.ensures.beside tells)
-    (subst (λ (h : GameLists). InFile (StoresEither (story_of h X) (At seed []) (taken (story_of h X) seed [] text).session) mid m) c.begin.ensures.game i)))
+    (subst (λ (h : GameLists). InFile (StoresEither (story_of h X) (At seed []) (taken (story_of h X) seed [] text).session) mid m) c.begin.ensures.anew.stays.game i)))
 
 -- ---- none is ----
 
 pub returns-in-None-clause-rests : goal.returns-in-None-clause-rests
-returns-in-None-clause-rests g c = λ tells. (rw c.in-Ok-Some.field-0-is at (c.in-Ok-Some.ensures.kept tells)).rests
+returns-in-None-clause-rests g c = λ tells. (rw c.in-Ok-Some.field-0-is at (c.in-Ok-Some.ensures.leaves tells)).rests
 
 pub returns-in-None-clause-meaning : goal.returns-in-None-clause-meaning
 returns-in-None-clause-meaning g c = λ tells X rows.

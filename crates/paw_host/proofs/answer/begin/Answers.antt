@@ -29,7 +29,7 @@ returns-in-Some-clause-beside g c = λ tells. beside_none _
 pub returns-in-Some-clause-meaning : goal.returns-in-Some-clause-meaning
 returns-in-Some-clause-meaning g c = λ tells X rows.
     let r = first_refused (story_of c.args.player.now.game X) c.args.seed c.start_anew-step.result c.start_anew-step.new.player c.start_anew-step.ensures.last
-    c.start_anew-step.ensures.seated (c.start_anew-step.ensures.meaning X rows) c.in-Some.word.now c.in-Some.ensures.value in
+    c.start_anew-step.ensures.anew.stays.seated (c.start_anew-step.ensures.meaning X rows) c.in-Some.word.now c.in-Some.ensures.value in
     (ap (λ (a : Answer). a.session) r, c.push.ensures.value ∙ ap (λ (a : Answer). c.args.reply.now ++ a.body) (sym r))
 
 pub returns-in-Some-clause-any_moment : goal.returns-in-Some-clause-any_moment
@@ -41,11 +41,11 @@ returns-in-Err-clause-any_moment g c = λ tells X rows.
     let old : Standing = g.S.Stage.standing c.args.stage.now in
     let shows = shows_by c.start_anew-step.result c.in_default.ensures.value in
     Passes_map _ _ _ _ _ (InFile (LeftOfBeginning story c.args.seed) old) (c.create.ensures.any_moment tells)
-    (λ m i. in_beginning story c.args.seed c.start_anew-step.result c.start_anew-step.new.player c.start_anew-step.ensures.last c.start_anew-step.ensures.seated
+    (λ m i. in_beginning story c.args.seed c.start_anew-step.result c.start_anew-step.new.player c.start_anew-step.ensures.last c.start_anew-step.ensures.anew.stays.seated
     (c.start_anew-step.ensures.meaning X rows) _ old m shows c.put_state.ensures.state
     (subst (λ p. LeavesMade (story_digests story) c.put_state.new.into p old m) c.piece.ensures.value
     (subst (λ d. LeavesMade d c.put_state.new.into c.piece.result.now old m)
-    (same_digests _ _ _ _ c.requires.digest (c.requires.measured X rows)) i)))
+    (same_digests _ _ _ _ c.requires.digests.digest (c.requires.digests.measured X rows)) i)))
 
 pub returns-clause-meaning : goal.returns-clause-meaning
 returns-clause-meaning g c = λ tells X rows.
@@ -53,10 +53,10 @@ returns-clause-meaning g c = λ tells X rows.
     let shows = shows_by c.start_anew-step.result c.in_default.ensures.value in
     let plays = c.start_anew-step.ensures.meaning X rows in
     let r = first_answer story c.args.seed c.start_anew-step.result c.start_anew-step.new.player c.start_anew-step.ensures.last
-    c.start_anew-step.ensures.seated plays shows in (
-      sits story c.args.seed c.start_anew-step.result c.start_anew-step.new.player c.start_anew-step.ensures.last c.start_anew-step.ensures.seated plays shows,
-      first_stands story c.args.seed c.start_anew-step.result c.start_anew-step.new.player c.start_anew-step.ensures.last c.start_anew-step.ensures.seated plays _ shows
-          (c.in-Ok.ensures.shown tells ∙ same_shown _ _ _ _ _ _ (same_digests _ _ _ _ c.requires.digest (c.requires.measured X rows)) c.put_state.ensures.state c.piece.ensures.value),
+    c.start_anew-step.ensures.anew.stays.seated plays shows in (
+      sits story c.args.seed c.start_anew-step.result c.start_anew-step.new.player c.start_anew-step.ensures.last c.start_anew-step.ensures.anew.stays.seated plays shows,
+      first_stands story c.args.seed c.start_anew-step.result c.start_anew-step.new.player c.start_anew-step.ensures.last c.start_anew-step.ensures.anew.stays.seated plays _ shows
+          (c.in-Ok.ensures.shown tells ∙ same_shown _ _ _ _ _ _ (same_digests _ _ _ _ c.requires.digests.digest (c.requires.digests.measured X rows)) c.put_state.ensures.state c.piece.ensures.value),
       ap (λ (a : Answer). a.session) r,
       c.push-2.ensures.value ∙ ap (λ x. c.args.reply.now ++ x) c.piece-2.ensures.value ∙ ap (λ (a : Answer). c.args.reply.now ++ a.body) (sym r),
     )
@@ -67,8 +67,8 @@ returns-clause-any_moment g c = λ tells X rows.
     let old : Standing = g.S.Stage.standing c.args.stage.now in
     let shows = shows_by c.start_anew-step.result c.in_default.ensures.value in
     Passes_map _ _ _ _ _ (InFile (LeftOfBeginning story c.args.seed) old) (c.create.ensures.any_moment tells)
-    (λ m i. in_beginning story c.args.seed c.start_anew-step.result c.start_anew-step.new.player c.start_anew-step.ensures.last c.start_anew-step.ensures.seated
+    (λ m i. in_beginning story c.args.seed c.start_anew-step.result c.start_anew-step.new.player c.start_anew-step.ensures.last c.start_anew-step.ensures.anew.stays.seated
     (c.start_anew-step.ensures.meaning X rows) _ old m shows c.put_state.ensures.state
     (subst (λ p. LeavesMade (story_digests story) c.put_state.new.into p old m) c.piece.ensures.value
     (subst (λ d. LeavesMade d c.put_state.new.into c.piece.result.now old m)
-    (same_digests _ _ _ _ c.requires.digest (c.requires.measured X rows)) i)))
+    (same_digests _ _ _ _ c.requires.digests.digest (c.requires.digests.measured X rows)) i)))

@@ -1,6 +1,7 @@
-use Rattle.std.proofs.Common.{◌≡◌, List, ℕ, refl, sym, ap, subst}
+use Rattle.std.proofs.Common.{◌≡◌, ◌≤◌, ◌+◌, ◌*◌, List, ℕ, refl, sym, ap, subst}
 use Rattle.std.specs.Prelude.{Result, Ok, Err, IsOk}
 use Rattle.sha2.specs.Sha256.{sha256}
+use Rattle.paw_base.specs.declared.limits.TheConstants.{READ_LIMIT}
 use Rattle.paw_game.specs.Game.{GameLists}
 use Rattle.paw_game.specs.Image.{image}
 use Rattle.paw_routines.specs.Measure.{measure}
@@ -13,8 +14,9 @@ use Rattle.paw_journal.specs.inner.Session.{session_shown}
 use Rattle.paw_state.specs.declared.StateFault.{StateFault}
 use Rattle.paw_state.specs.declared.Restored.{Restored}
 use Rattle.paw_state.specs.Fit.{Fit}
-use Rattle.paw_state.specs.inner.Fit.{IsRead}
-use Rattle.paw_turn.specs.inner.Player.{Seat}
+use Rattle.paw_state.specs.State.{Keeps}
+use Rattle.paw_state.specs.inner.Fit.{IsRead, state_read}
+use Rattle.paw_turn.specs.inner.Player.{Seat, IsSeated}
 use Rattle.paw_turn.specs.inner.Parts.{Fits, IsStanding, prompt_step, seat_at}
 use Rattle.paw_world.specs.World.{World}
 use Rattle.paw_process.specs.OpenTables.{OpenTables}
@@ -22,6 +24,7 @@ use Rattle.paw_phrase.specs.Pending.{PendingLine}
 use Rattle.paw_routines.specs.declared.routines.Routines.{Routines}
 use Rattle.paw_play.specs.Session.{IsOfStory}
 use Rattle.paw_play.proofs.Showing.{read_fits}
+use Rattle.paw_host.specs.inner.Seats.{StandsAfter, Stays}
 use Rattle.paw_host.proofs.Opening.{taken_up, unfit_shows_none}
 use Rattle.paw_host.proofs.answer.take_up.Goals as goal
 
@@ -39,6 +42,19 @@ stands_step prompt.Over = tt
 stands_at : {F : Type 0} (g : GameLists) (routines : Routines F) (w : World) (m : OpenTables) (p : PendingLine) (at : Prompt) (seat : Seat F) →
     seat ≡ seat_at g routines w m p at → IsStanding seat.last
 stands_at {F} g routines w m p at seat is = subst IsStanding (sym (ap (λ (q : Seat F). q.last) is)) (stands_step at)
+
+stands_after : {F : Type 0} (g h : GameLists) (routines : Routines F) (r : Restored) (seat : Seat F) → Keeps g (state_read r) →
+    seat ≡ seat_at h routines r.world r.machine r.pending r.prompt → StandsAfter r.events seat
+stands_after {F} g h routines r seat keeps is = record {
+  few = keeps.events;
+  standing = stands_at h routines r.world r.machine r.pending r.prompt seat is;
+  draws = subst (λ (w : World). w.draws ≤ READ_LIMIT * (r.events + 1)) (sym (ap (λ (q : Seat F). q.world) is)) keeps.draws;
+}
+
+stays_at : {F : Type 0} (w : World) (m : OpenTables) (p : PendingLine) (at : Prompt) (old new : Seat F) → IsSeated new →
+    new ≡ seat_at old.game old.routines w m p at → Stays old new
+stays_at {F} w m p at old new seated is =
+    record { seated = seated; game = ap (λ (q : Seat F). q.game) is; routines = ap (λ (q : Seat F). q.routines) is }
 
 of_story : (g : Story) (game rules bytes : List ℕ) → game ≡ sha256 (image g.game) → rules ≡ measure g.rows → BelongsTo game rules (kept_digests bytes) →
     IsOfStory g (kept_digests bytes)
@@ -61,8 +77,12 @@ seat-requires-clause-fits g c =
     subst (λ (h : GameLists). Fits h r.world r.machine r.pending r.prompt) (sym c.requires.same)
     (read_fits (g.T.Tables.game c.args.tables.now) c.state.result.now r c.in-Ok-read_state.ensures.read)
 
-pub returns-clause-standing : goal.returns-clause-standing
-returns-clause-standing g c = stands_at _ _ _ _ _ c.in-Ok-read_state.restored.prompt c.seat.new.self c.seat.ensures.value
+pub returns-clause-stays : goal.returns-clause-stays
+returns-clause-stays g c = stays_at _ _ _ _ c.args.player.now c.seat.new.self c.seat.ensures.seated c.seat.ensures.value
+
+pub returns-clause-opened : goal.returns-clause-opened
+returns-clause-opened g c =
+    stands_after (g.T.Tables.game c.args.tables.now) _ _ c.in-Ok-read_state.restored c.seat.new.self c.in-Ok-read_state.ensures.read.keeps c.seat.ensures.value
 
 pub returns-clause-meaning : goal.returns-clause-meaning
 returns-clause-meaning g c = λ tells X rows.
@@ -74,7 +94,7 @@ returns-clause-meaning g c = λ tells X rows.
     let still = c.in-Ok.ensures.still tells in
     let shown = subst (λ (q : Standing). recover q.disk.bytes ≡ session_shown (kept_digests q.disk.bytes) state piece) still (c.in-Ok.ensures.kept tells).shown in
     let belongs = subst (λ (q : Standing). IsOfStory story (kept_digests q.disk.bytes)) still
-    (of_story story c.args.game.now c.args.rules.now (g.S.Stage.standing c.find.new.stage).disk.bytes c.requires.digest (c.requires.measured X rows) (c.in-Ok.ensures.belongs tells)) in
+    (of_story story c.args.game.now c.args.rules.now (g.S.Stage.standing c.find.new.stage).disk.bytes c.requires.digests.digest (c.requires.digests.measured X rows) (c.in-Ok.ensures.belongs tells)) in
     let read = subst (λ (h : GameLists). IsRead h c.state.result.now r) (sym c.requires.same) c.in-Ok-read_state.ensures.read in
     taken_up story (kept_digests old.disk.bytes) old.disk.bytes state c.state.result.now piece r c.args.player.now.routines c.seat.new.self shown
     c.state.ensures.value belongs read c.in-Ok-read_state.ensures.piece c.seat.ensures.value

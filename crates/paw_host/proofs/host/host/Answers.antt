@@ -15,8 +15,11 @@ use Rattle.paw_host.proofs.Loading.{holds_loaded, same_story, unloaded, undecode
 use Rattle.paw_host.proofs.Reaching.{FilesHold}
 use Rattle.paw_host.proofs.host.host.Goals as goal
 
-pub host_game-requires-clause-digest : goal.host_game-requires-clause-digest
-host_game-requires-clause-digest g c = c.digest.ensures.value ∙ ap sha256 (c.bytes.ensures.value ∙ c.bytes.ensures.image.spelled)
+pub host_game-requires-clause-digests : goal.host_game-requires-clause-digests
+host_game-requires-clause-digests g c = record {
+  digest = c.digest.ensures.value ∙ ap sha256 (c.bytes.ensures.value ∙ c.bytes.ensures.image.spelled);
+  measured = c.measure.ensures.value;
+}
 
 pub host_game-requires-clause-synced : goal.host_game-requires-clause-synced
 host_game-requires-clause-synced g c = λ tells.

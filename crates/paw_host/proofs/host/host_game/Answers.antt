@@ -1,22 +1,20 @@
 use Rattle.std.proofs.Common.{◌∙◌, sym, ap, subst}
-use Rattle.sha2.specs.Sha256.{sha256}
-use Rattle.paw_game.specs.Image.{image}
 use Rattle.paw_routines.specs.Routines.{AreRowsOf, HaveRows}
 use Rattle.paw_effects.specs.Story.{story_of}
 use Rattle.paw_stage.specs.Moments.{Passes}
 use Rattle.paw_stage.proofs.Time.{Passes_none}
 use Rattle.paw_host.specs.Promise.{BeginsWith, InHost}
 use Rattle.paw_host.specs.Hosts.{Hosts}
+use Rattle.paw_host.proofs.Staying.{digests_on}
 use Rattle.paw_host.proofs.host.host_game.Goals as goal
 
-pub serve_all-requires-clause-rows : goal.serve_all-requires-clause-rows
-serve_all-requires-clause-rows g c = subst (HaveRows g.F.Fn) (sym c.in-Ok.ensures.routines) c.requires.rows
-
-pub serve_all-requires-clause-digest : goal.serve_all-requires-clause-digest
-serve_all-requires-clause-digest g c = c.requires.digest ∙ ap (λ k. sha256 (image k)) (sym c.in-Ok.ensures.game)
-
-pub serve_all-requires-clause-measured : goal.serve_all-requires-clause-measured
-serve_all-requires-clause-measured g c = λ X rows. c.requires.measured X (subst (λ r. AreRowsOf g.F.Fn r X) c.in-Ok.ensures.routines rows)
+pub serve_all-requires-clause-hosted : goal.serve_all-requires-clause-hosted
+serve_all-requires-clause-hosted g c = record {
+  seated = c.in-Ok.ensures.seated;
+  rows = subst (HaveRows g.F.Fn) (sym c.in-Ok.ensures.routines) c.requires.rows;
+  same = c.in-Ok.ensures.game;
+  digests = digests_on g.F.Fn _ _ _ _ _ _ (sym c.in-Ok.ensures.game) (sym c.in-Ok.ensures.routines) c.requires.digests;
+}
 
 pub returns-in-Ok-clause-meaning : goal.returns-in-Ok-clause-meaning
 returns-in-Ok-clause-meaning g c = λ tells X rows first b.

@@ -72,7 +72,7 @@ returns-in-Ok-show-clause-meaning g c = λ tells X rows first start n small byte
     let does = c.in-Ok.ensures.done asked X rows _ s.may (mid_stores story seed first start old mid n a.0 s holds a.1 a.3) in
     serves_next story seed first start old mid n a.0 s holds a.1 a.3 _ _ _ (cut_request a.0 _ _ _ a.2 refl) does (c.in-Ok.ensures.synced asked)
     _ _ c.bytes.ensures.value (c.in-Ok-show.ensures.shown (c.reply.ensures.serves.tells.0 asked))
-    (valid_story g.F.Fn c.args.self.now.player.routines c.args.self.now.player.game X c.requires.seated.valid rows) small bytes
+    (valid_story g.F.Fn c.args.self.now.player.routines c.args.self.now.player.game X c.requires.hosted.seated.valid rows) small bytes
 
 pub returns-in-End-clause-any_moment : goal.returns-in-End-clause-any_moment
 returns-in-End-clause-any_moment g c = λ tells X rows first start n small bytes s.

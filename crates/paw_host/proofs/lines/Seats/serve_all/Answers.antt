@@ -9,14 +9,13 @@ use Rattle.paw_host.specs.Hosts.{HasTaken}
 use Rattle.paw_host.specs.Promise.{Answered, InHost}
 use Rattle.paw_host.specs.inner.Lines.{IsServing, ServesTo}
 use Rattle.paw_host.proofs.Reaching.{FilesHold}
+use Rattle.paw_host.proofs.Staying.{stays_same, stays_on, hosted_on}
 use Rattle.paw_host.proofs.Hosting.{serving_first, at_first, ends_inside, hosts_by, taken_none, taken_more, ends_by}
 use Rattle.paw_host.proofs.lines.Seats.serve_all.Goals as goal
 
 pub loop-init : goal.loop-init
 loop-init g c = record {
-  seated = c.requires.seated;
-  game = refl;
-  routines = refl;
+  stays = stays_same c.requires.hosted.seated;
   few = omega arith;
   serves = serves_none g.S.Stage _ _;
   synced = c.requires.synced;
@@ -47,10 +46,10 @@ returns-in-Some-clause-any_moment g c = λ tells X rows first b.
     let start = g.S.Stage.standing c.args.stage.now in
     let now = g.S.Stage.standing c.loop.stage in
     let story = story_of c.args.self.now.player.game X in
-    let serving = subst (λ k. IsServing (story_of k X) seed first start now c.loop.counter) (sym i.game) (i.serving tells X rows first b) in
+    let serving = subst (λ k. IsServing (story_of k X) seed first start now c.loop.counter) (sym i.stays.game) (i.serving tells X rows first b) in
     Passes_on _ _ _ _ _ _ (InHost story seed first start) _ (i.passes tells X rows first b)
-    (c.in-Some.ensures.any_moment (i.serves.tells.0 tells) X (subst (λ r. AreRowsOf g.F.Fn r X) (sym i.routines) rows) first start c.loop.counter
-    (omega arith) b.lines serving) (λ m j. subst (λ k. InHost (story_of k X) seed first start m) i.game j)
+    (c.in-Some.ensures.any_moment (i.serves.tells.0 tells) X (subst (λ r. AreRowsOf g.F.Fn r X) (sym i.stays.routines) rows) first start c.loop.counter
+    (omega arith) b.lines serving) (λ m j. subst (λ k. InHost (story_of k X) seed first start m) i.stays.game j)
 
 pub returns-in-Some-clause-meaning : goal.returns-in-Some-clause-meaning
 returns-in-Some-clause-meaning g c = λ tells X rows first b.
@@ -59,15 +58,15 @@ returns-in-Some-clause-meaning g c = λ tells X rows first b.
     let start = g.S.Stage.standing c.args.stage.now in
     let now = g.S.Stage.standing c.loop.stage in
     let story = story_of c.args.self.now.player.game X in
-    let own = subst (λ r. AreRowsOf g.F.Fn r X) (sym i.routines) rows in
+    let own = subst (λ r. AreRowsOf g.F.Fn r X) (sym i.stays.routines) rows in
     let here = i.serves.tells.0 tells in
     let holds : FilesHold start = λ name e. g.met.S.Stage.files_hold c.args.stage.now name tells e in
-    let serving = subst (λ k. IsServing (story_of k X) seed first start now c.loop.counter) (sym i.game) (i.serving tells X rows first b) in
+    let serving = subst (λ k. IsServing (story_of k X) seed first start now c.loop.counter) (sym i.stays.game) (i.serving tells X rows first b) in
     let passes = Passes_on _ _ _ _ _ _ (InHost story seed first start) _ (i.passes tells X rows first b)
     (c.in-Some.ensures.any_moment here X own first start c.loop.counter (omega arith) b.lines serving)
-    (λ m j. subst (λ k. InHost (story_of k X) seed first start m) i.game j) in
+    (λ m j. subst (λ k. InHost (story_of k X) seed first start m) i.stays.game j) in
     hosts_by story seed first start (g.S.Stage.standing c.serve.new.stage) c.loop.counter c.in-Some.outcome
-    (subst (λ k. ServesTo (story_of k X) seed first start (g.S.Stage.standing c.serve.new.stage) c.loop.counter (Some c.in-Some.outcome)) i.game
+    (subst (λ k. ServesTo (story_of k X) seed first start (g.S.Stage.standing c.serve.new.stage) c.loop.counter (Some c.in-Some.outcome)) i.stays.game
     (c.in-Some.ensures.meaning here X own first start c.loop.counter (omega arith) b.lines serving))
     (ends_inside _ _ _ _ (InHost story seed first start) _ passes
     (g.met.S.Stage.counts_now c.serve.new.stage (g.S.Stage.clock c.args.stage.now) (c.serve.ensures.serves.tells.0 here) passes.later)
@@ -91,25 +90,26 @@ loop-preserved g c =
     let next = g.S.Stage.standing c.serve.new.stage in
     let game = c.args.self.now.player.game in
     record {
-      seated = c.serve.ensures.seated;
-      game = c.serve.ensures.game ∙ i.game;
-      routines = c.serve.ensures.routines ∙ i.routines;
+      stays = stays_on i.stays c.serve.ensures.stays;
       few = omega (arith, c.loop-test.true);
       serves = serves_then g.S.Stage _ _ None _ _ _ i.serves c.in_default.ensures.serves;
       synced = λ tells. c.in_default.ensures.synced (c.serve.ensures.serves.tells.1 tells);
       taken = λ tells.
           taken_more start now next c.loop.counter (i.taken tells) (c.in_default.ensures.takes (i.serves.tells.0 tells));
       serving = λ tells X rows first b.
-          let own = subst (λ r. AreRowsOf g.F.Fn r X) (sym i.routines) rows in
-          let serving = subst (λ k. IsServing (story_of k X) seed first start now c.loop.counter) (sym i.game) (i.serving tells X rows first b) in
+          let own = subst (λ r. AreRowsOf g.F.Fn r X) (sym i.stays.routines) rows in
+          let serving = subst (λ k. IsServing (story_of k X) seed first start now c.loop.counter) (sym i.stays.game) (i.serving tells X rows first b) in
           let served = c.in_default.ensures.meaning (i.serves.tells.0 tells) X own first start c.loop.counter (omega arith) b.lines serving in
           let n : suc c.loop.counter ≡ c.loop.counter + 1 = omega arith in
           subst (λ k. IsServing (story_of game X) seed first start next k) n
-          (subst (λ k. IsServing (story_of k X) seed first start next (suc c.loop.counter)) i.game served);
+          (subst (λ k. IsServing (story_of k X) seed first start next (suc c.loop.counter)) i.stays.game served);
       passes = λ tells X rows first b.
-          let own = subst (λ r. AreRowsOf g.F.Fn r X) (sym i.routines) rows in
-          let serving = subst (λ k. IsServing (story_of k X) seed first start now c.loop.counter) (sym i.game) (i.serving tells X rows first b) in
+          let own = subst (λ r. AreRowsOf g.F.Fn r X) (sym i.stays.routines) rows in
+          let serving = subst (λ k. IsServing (story_of k X) seed first start now c.loop.counter) (sym i.stays.game) (i.serving tells X rows first b) in
           Passes_on _ _ _ _ _ _ (InHost (story_of game X) seed first start) _ (i.passes tells X rows first b)
           (c.in_default.ensures.any_moment (i.serves.tells.0 tells) X own first start c.loop.counter (omega arith) b.lines serving)
-          (λ m j. subst (λ k. InHost (story_of k X) seed first start m) i.game j);
+          (λ m j. subst (λ k. InHost (story_of k X) seed first start m) i.stays.game j);
     }
+
+pub serve-requires-clause-hosted : goal.serve-requires-clause-hosted
+serve-requires-clause-hosted g c = hosted_on c.requires.hosted c.loop.invariant.stays

@@ -4,21 +4,19 @@ use Rattle.paw_stage.specs.Across.{Serves}
 use Rattle.paw_stage.specs.Moments.{Passes}
 use Rattle.paw_routines.specs.Routines.{AreRowsOf}
 use Rattle.paw_effects.specs.Story.{story_of}
-use Rattle.paw_turn.specs.inner.Player.{IsSeated}
 use Rattle.paw_play.specs.Calls.{session_calls}
 use Rattle.paw_host.specs.Replies.{Sessions}
 use Rattle.paw_host.specs.Hosts.{HasTaken}
 use Rattle.paw_host.specs.Promise.{BeginsWith, InHost}
 use Rattle.paw_host.specs.inner.Lines.{IsServing}
+use Rattle.paw_host.specs.inner.Seats.{Stays}
 use Rattle.paw_host.specs.declared.lines.TheConstants.{HOST_LIMIT}
 use Rattle.paw_host.proofs.lines.Seats.serve_all.Given as goal
 
 -- i lines were answered
 abbrev pub invariant-loop : goal.invariant-loop
 invariant-loop g l = record {
-  seated : IsSeated l.self.player;
-  game : l.self.player.game ≡ l.fn.self.player.game;
-  routines : l.self.player.routines ≡ l.fn.self.player.routines;
+  stays : Stays l.fn.self.player l.self.player;
   few : l.counter ≤ HOST_LIMIT;
   serves : Serves g.S.Stage session_calls None l.fn.stage l.stage;
   synced : g.S.Stage.Tells l.stage → IsStable (g.S.Stage.standing l.stage).disk;

@@ -1,0 +1,29 @@
+-- A player that stays at its game.
+use Rattle.std.proofs.Common.{◌≡◌, ℕ, List, sym, subst, ◌∙◌, refl}
+use Rattle.std.specs.Fn.{Shared}
+use Rattle.paw_game.specs.Game.{GameLists}
+use Rattle.paw_routines.specs.Routines.{AreRowsOf, HaveRows}
+use Rattle.paw_routines.specs.declared.routines.Routines.{Routines}
+use Rattle.paw_turn.specs.inner.Player.{Seat, IsSeated}
+use Rattle.paw_host.specs.inner.Seats.{AreDigestsOf, IsHosted, Stays}
+
+pub stays_same : {F : Type 0} {a : Seat F} → IsSeated a → Stays a a
+stays_same h = record { seated = h; game = refl; routines = refl }
+
+pub stays_on : {F : Type 0} {a b c : Seat F} → Stays a b → Stays b c → Stays a c
+stays_on h k = record { seated = k.seated; game = k.game ∙ h.game; routines = k.routines ∙ h.routines }
+
+pub digests_on : {F : Type 0} (calls : Shared F (ℕ × (ℕ × Unit {0})) ℕ) (g h : GameLists) (r s : Routines F) (game rules : List ℕ) →
+    g ≡ h → r ≡ s → AreDigestsOf calls g r game rules → AreDigestsOf calls h s game rules
+digests_on calls g h r s game rules e f d =
+    subst (λ q. AreDigestsOf calls q s game rules) e (subst (λ q. AreDigestsOf calls g q game rules) f d)
+
+-- the game stays hosted
+pub hosted_on : {F : Type 0} {calls : Shared F (ℕ × (ℕ × Unit {0})) ℕ} {tables : GameLists} {game rules : List ℕ} {a b : Seat F} →
+    IsHosted calls tables game rules a → Stays a b → IsHosted calls tables game rules b
+hosted_on {calls} {game} {rules} {a} {b} h k = record {
+  seated = k.seated;
+  rows = subst (HaveRows calls) (sym k.routines) h.rows;
+  same = k.game ∙ h.same;
+  digests = digests_on calls a.game b.game a.routines b.routines game rules (sym k.game) (sym k.routines) h.digests;
+}

@@ -1,0 +1,47 @@
+-- The player of a hosted game, inside a call.
+use Rattle.std.specs.Prelude.{◌≡◌, ℕ, ◌+◌, ◌*◌, ◌≤◌, List}
+use Rattle.std.specs.Fn.{Shared}
+use Rattle.sha2.specs.Sha256.{sha256}
+use Rattle.paw_base.specs.declared.limits.TheConstants.{EVENT_LIMIT, READ_LIMIT}
+use Rattle.paw_game.specs.Game.{GameLists}
+use Rattle.paw_game.specs.Image.{image}
+use Rattle.paw_routines.specs.Measure.{measure}
+use Rattle.paw_routines.specs.Routines.{AreRowsOf, HaveRows}
+use Rattle.paw_routines.specs.declared.routines.Routines.{Routines}
+use Rattle.paw_turn.specs.inner.Player.{Seat, IsSeated}
+use Rattle.paw_turn.specs.inner.Parts.{IsStanding}
+
+-- a player that is seated, at the game and with the routines that it had
+pub record Stays {F : Type 0} (old new : Seat F) : Type 0 where
+  pub seated : IsSeated new
+  pub game : new.game ≡ old.game
+  pub routines : new.routines ≡ old.routines
+
+-- a player that stays, and of whose numbers no more were drawn than one piece draws
+pub record PlaysAnew {F : Type 0} (old new : Seat F) : Type 0 where
+  pub stays : Stays old new
+  pub draws : new.world.draws ≤ READ_LIMIT
+
+-- a player that stands, after so many lines as a session may have
+pub record StandsAfter {F : Type 0} (events : ℕ) (seat : Seat F) : Type 0 where
+  pub few : events ≤ EVENT_LIMIT
+  pub standing : IsStanding seat.last
+  pub draws : seat.world.draws ≤ READ_LIMIT * (events + 1)
+
+-- these are the digest of the routines
+abbrev pub IsMeasureOf : {F : Type 0} → Shared F (ℕ × (ℕ × Unit {0})) ℕ → Routines F → List ℕ → Type 0
+IsMeasureOf calls routines rules = (X : List (List ℕ)) → AreRowsOf calls routines X → rules ≡ measure X
+
+-- these are the digests of a game's image and of the routines
+pub record AreDigestsOf {F : Type 0} (calls : Shared F (ℕ × (ℕ × Unit {0})) ℕ) (g : GameLists) (routines : Routines F)
+    (game rules : List ℕ) : Type 0 where
+  pub digest : game ≡ sha256 (image g)
+  pub measured : IsMeasureOf calls routines rules
+
+-- a player of the hosted game: it is seated at the game of these tables, and these are the digests of what it plays with
+pub record IsHosted {F : Type 0} (calls : Shared F (ℕ × (ℕ × Unit {0})) ℕ) (tables : GameLists) (game rules : List ℕ)
+    (seat : Seat F) : Type 0 where
+  pub seated : IsSeated seat
+  pub rows : HaveRows calls seat.routines
+  pub same : seat.game ≡ tables
+  pub digests : AreDigestsOf calls seat.game seat.routines game rules
