@@ -1,4 +1,4 @@
-use Rattle.std.proofs.Common.{◌∙◌, sym, ap, subst}
+use Rattle.std.proofs.Common.{sym, subst}
 use Rattle.paw_routines.specs.Routines.{AreRowsOf, HaveRows}
 use Rattle.paw_effects.specs.Story.{story_of}
 use Rattle.paw_stage.specs.Moments.{Passes}
