@@ -2,7 +2,7 @@
 use Rattle.std.proofs.Common.{◌≡◌, ℕ, List, sym, subst, ◌∙◌, refl}
 use Rattle.std.specs.Fn.{Shared}
 use Rattle.paw_game.specs.Game.{GameLists}
-use Rattle.paw_routines.specs.Routines.{AreRowsOf, HaveRows}
+use Rattle.paw_routines.specs.Routines.{HaveRows}
 use Rattle.paw_routines.specs.declared.routines.Routines.{Routines}
 use Rattle.paw_turn.specs.inner.Player.{Seat, IsSeated}
 use Rattle.paw_host.specs.inner.Seats.{AreDigestsOf, IsHosted, Stays}

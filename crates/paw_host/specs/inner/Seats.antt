@@ -22,7 +22,7 @@ pub record PlaysAnew {F : Type 0} (old new : Seat F) : Type 0 where
   pub stays : Stays old new
   pub draws : new.world.draws ≤ READ_LIMIT
 
--- a player that stands, after so many lines as a session may have
+-- a player that stands, after as many lines as a session may have
 pub record StandsAfter {F : Type 0} (events : ℕ) (seat : Seat F) : Type 0 where
   pub few : events ≤ EVENT_LIMIT
   pub standing : IsStanding seat.last
