@@ -1,4 +1,3 @@
 pub mod Bytes
 pub mod Condacts
-pub mod Steps
 pub mod inner

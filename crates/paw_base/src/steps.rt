@@ -1,7 +1,7 @@
 // The steps of a piece: the condacts that were read for it.
 
 ghost use Rattle.std.specs.Prelude.{◌≡◌, ◌<◌, suc, ◌∷◌, [], ◌++◌, take, length};
-ghost use Rattle.paw_base.specs.Steps.{KeptSteps};
+ghost use Rattle.paw_base.specs.inner.Steps.{KeptSteps};
 ghost use Rattle.paw_base.specs.inner.Steps.{no_steps, with_step_noted};
 
 use crate::limits::STEP_LIMIT;
@@ -36,7 +36,7 @@ pub struct Steps {
 
 impl Model for Steps {
     ghost use Rattle.std.specs.Prelude.{take};
-    ghost use Rattle.paw_base.specs.Steps.{KeptSteps};
+    ghost use Rattle.paw_base.specs.inner.Steps.{KeptSteps};
 
     ghost Value = { KeptSteps };
 

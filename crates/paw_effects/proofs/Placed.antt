@@ -25,7 +25,7 @@ use Rattle.paw_world.specs.World.{starting_world, restarted, with_objects_return
 use Rattle.paw_effects.specs.declared.object_actions.Action.{Action}
 use Rattle.paw_effects.specs.declared.object_actions.Action.TheVariants as action
 use Rattle.paw_effects.specs.declared.object_words.Words.{Words}
-use Rattle.paw_effects.specs.Worlds.{ArePlacesOf, StandsIn}
+use Rattle.paw_effects.specs.inner.Worlds.{ArePlacesOf, StandsIn}
 use Rattle.paw_effects.specs.Story.{Story}
 use Rattle.paw_routines.specs.Rows.{value_at}
 use Rattle.paw_effects.specs.Positions.{loaded, position_number}

@@ -23,7 +23,8 @@ use Rattle.paw_game.proofs.Kept.{first_of_and, second_of_and, facts_kept, facts-
 use Rattle.paw_world.specs.World.{World, flag, with_flag, place, with_place, here, let_go, taken_up, moved, first_carried, flags_with}
 use Rattle.paw_world.specs.World.{opening_places, starting_world, restarted, with_objects_returned}
 use Rattle.paw_world.specs.Weight.{filled_weight, weight_down, weight, objects_at}
-use Rattle.paw_effects.specs.Worlds.{IsOf, ArePlacesOf}
+use Rattle.paw_effects.specs.Worlds.{IsOf}
+use Rattle.paw_effects.specs.inner.Worlds.{ArePlacesOf}
 use Rattle.paw_effects.specs.Presence.{named_place}
 use Rattle.paw_effects.specs.Standing.{AreBytes}
 use Rattle.paw_effects.specs.inner.Standing.{MayBePosition, IsWorldOf}

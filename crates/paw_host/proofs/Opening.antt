@@ -27,8 +27,7 @@ use Rattle.paw_journal.specs.inner.Store.{LeavesMade}
 use Rattle.paw_journal.specs.inner.Journal.{IsSessionRefused}
 use Rattle.paw_journal.specs.declared.refusal.JournalRefusal.{JournalRefusal}
 use Rattle.paw_journal.specs.declared.refusal.JournalRefusal.TheVariants as refusal
-use Rattle.paw_state.specs.State.{State}
-use Rattle.paw_state.specs.Fields.{state_bytes}
+use Rattle.paw_state.specs.State.{State, state_bytes}
 use Rattle.paw_state.specs.Fit.{Fit}
 use Rattle.paw_state.specs.Record.{last_piece}
 use Rattle.paw_state.specs.declared.Restored.{Restored}

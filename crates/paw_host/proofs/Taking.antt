@@ -10,7 +10,7 @@ use Rattle.paw_effects.specs.declared.act.Prompt.{Prompt}
 use Rattle.paw_effects.specs.declared.act.Prompt.TheVariants as prompt
 use Rattle.paw_reading.specs.Turn.{on}
 use Rattle.std.specs.Prelude.{reverse, codes}
-use Rattle.paw_process.specs.OpenTables.{OpenTables}
+use Rattle.paw_process.specs.inner.OpenTables.{OpenTables}
 use Rattle.paw_turn.specs.inner.Player.{Seat, run_at, PlaysTo, IsSeated, IsStanding, StandsClosed, prompt_at}
 use Rattle.paw_turn.specs.declared.Step.{Step}
 use Rattle.paw_turn.specs.declared.Step.TheVariants as step

@@ -11,6 +11,7 @@ use Rattle.paw_stage.proofs.Time.{Passes_map}
 use Rattle.paw_reading.specs.Turn.{text_of}
 use Rattle.paw_journal.specs.Session.{Digests, recover}
 use Rattle.paw_state.specs.State.{State}
+use Rattle.paw_state.proofs.Ruled.{each_of}
 use Rattle.paw_stage.specs.declared.StageCall.{StageCall}
 use Rattle.paw_stage.specs.declared.StageCall.TheVariants as call
 use Rattle.paw_stage.specs.declared.Stage.{Ghosts}
@@ -44,7 +45,7 @@ module _ (g : Story) (digests : Digests) (name : List ℕ) (st : State) (piece :
     text = [];
     last = [];
     there = omega arith;
-    few = omega (arith, shows.keeps.events);
+    few = omega (arith, (each_of g.game st shows.keeps).events);
     asked = asked ∙ omega arith;
     shown = shown ∙ sym (append-nil old.shown);
     before = refl;

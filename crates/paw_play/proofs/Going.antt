@@ -19,7 +19,7 @@ use Rattle.paw_reading.proofs.Past.{past_stays, longer_reading}
 use Rattle.paw_process.proofs.Again.{path_again}
 use Rattle.paw_journal.specs.Session.{Digests, Recovered, Shown, recover}
 use Rattle.paw_state.specs.State.{State, Keeps, FitsFields}
-use Rattle.paw_state.specs.Fields.{state_bytes}
+use Rattle.paw_state.specs.State.{state_bytes}
 use Rattle.paw_state.proofs.Lawful.{bytes_tell_the_state}
 use Rattle.paw_state.specs.Record.{last_piece, state_at}
 use Rattle.paw_play.specs.Session.{kept_bytes, IsKept}

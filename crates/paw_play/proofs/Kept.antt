@@ -10,7 +10,8 @@ use Rattle.paw_turn.specs.inner.Player.{Seat, run_at, PlaysTo, StandsClosed}
 use Rattle.paw_turn.specs.declared.Step.{Step}
 use Rattle.paw_turn.specs.declared.Step.TheVariants as step
 use Rattle.paw_journal.specs.Session.{Digests, Recovered, Shown}
-use Rattle.paw_process.specs.Kept.{frames_at, kept}
+use Rattle.paw_process.specs.Kept.{frames_at}
+use Rattle.paw_process.specs.inner.Kept.{kept}
 use Rattle.paw_process.specs.declared.kept.Frames.{Frames}
 use Rattle.paw_state.specs.Record.{last_piece}
 use Rattle.paw_state.specs.State.{State}

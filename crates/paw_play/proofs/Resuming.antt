@@ -14,7 +14,7 @@ use Rattle.paw_effects.specs.declared.act.Prompt.TheVariants as prompt
 use Rattle.paw_reading.specs.declared.places.Frame.{Frame}
 use Rattle.paw_reading.specs.Run.{Run}
 use Rattle.paw_reading.specs.Turn.{Ending, WaitsAt, on, text_of}
-use Rattle.paw_process.specs.OpenTables.{OpenTables}
+use Rattle.paw_process.specs.inner.OpenTables.{OpenTables}
 use Rattle.paw_process.specs.Kept.{frames_at}
 use Rattle.paw_process.proofs.Again.{path_again}
 use Rattle.paw_turn.specs.inner.Player.{Seat, run_with, IsSeated, StandsClosed}
@@ -27,6 +27,7 @@ use Rattle.paw_state.specs.declared.Restored.{Restored}
 use Rattle.paw_play.specs.declared.PlayEnd.{PlayEnd}
 use Rattle.paw_play.specs.declared.PlayEnd.TheVariants as end
 use Rattle.paw_state.specs.Record.{state_at}
+use Rattle.paw_state.proofs.Ruled.{each_of}
 use Rattle.paw_play.specs.Session.{kept_bytes, IsKept}
 use Rattle.paw_play.specs.Walk.{advanced}
 use Rattle.paw_play.specs.Played.{PlayedSession, ShowsState, going_on, from_state}
@@ -137,7 +138,7 @@ module _ {F : Type 0} {g : Story} {name piece : List ℕ} {r : Restored} {first 
   rests_first : RestsWith (read_session g name piece r first) first first 0
   rests_first = record {
     there = omega arith;
-    few = omega (arith, u.state.keeps.events);
+    few = omega (arith, (each_of g.game (state_read r) u.state.keeps).events);
     attached = u.store.attached;
     stable = u.store.stable;
     file = u.store.file;
@@ -163,7 +164,7 @@ module _ {F : Type 0} {g : Story} {name piece : List ℕ} {r : Restored} {first 
     text = take i.0 piece;
     last = take i.0 piece;
     there = omega arith;
-    few = omega (arith, u.state.keeps.events);
+    few = omega (arith, (each_of g.game (state_read r) u.state.keeps).events);
     asked = omega arith;
     shown = refl;
     before = refl;

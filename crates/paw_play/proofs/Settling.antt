@@ -9,7 +9,7 @@ use Rattle.paw_world.specs.World.{World, Position, IsSavedFor, IsWorld}
 use Rattle.paw_effects.specs.declared.act.Prompt.{Prompt}
 use Rattle.paw_effects.specs.declared.act.Prompt.TheVariants as prompt
 use Rattle.paw_effects.specs.Story.{Story}
-use Rattle.paw_effects.specs.Worlds.{ArePlacesOf, StandsIn}
+use Rattle.paw_effects.specs.inner.Worlds.{ArePlacesOf, StandsIn}
 use Rattle.paw_effects.specs.Standing.{AreBytes}
 use Rattle.paw_effects.specs.inner.Standing.{MayBePosition, IsWorldOf}
 use Rattle.paw_effects.proofs.Worlds.{few_objects, place_small}
@@ -23,8 +23,9 @@ use Rattle.paw_reading.specs.Places.{waiting_code}
 use Rattle.paw_reading.specs.inner.Places.{AreOpenAt, StandsRightly, StopsRightly, StopsBounded}
 use Rattle.paw_reading.proofs.Counts.{pieces_of_lines}
 use Rattle.paw_reading.proofs.Rightly.{readings_stop_rightly, readings_are_bounded}
-use Rattle.paw_state.specs.Record.{last_piece}
+use Rattle.paw_state.specs.Record.{last_piece, state_at}
 use Rattle.paw_state.specs.State.{HoldsBytes}
+use Rattle.paw_state.proofs.Ruled.{keeps_of}
 use Rattle.paw_play.specs.Stands.{IsPlayedWith}
 use Rattle.paw_process.proofs.Fitting.{places_fit, eleven_rows}
 use Rattle.paw_play.proofs.Going.{Settles, IsSettled}
@@ -80,7 +81,7 @@ module _ (g : GameLists) (v : Valid g) (seed : ℕ) (n : ℕ) (fits : seed < 2 ^
   settles : (p : Prompt) (path : List Frame) (r : Run) → StandsRightly g p path r → IsBounded seed 0 r → length r.pieces + length r.events ≡ suc n →
       Settles g n p path r
   settles p path r k bound count = record {
-    keeps = record {
+    keeps = keeps_of g (state_at n p path r) (record {
       world = k.world.of;
       sound = world_sound g v r.world k.world;
       places = (k.world.places, (saved_stands g r.world.saved k.world.saved, λ i d low. saved_stands g _ (k.world.kept i d low)));
@@ -90,7 +91,7 @@ module _ (g : GameLists) (v : Valid g) (seed : ℕ) (n : ℕ) (fits : seed < 2 ^
       frames = places_fit g (waiting_code p) path r.turning k.places;
       line = k.pending.short;
       pending = closed_line g p path r k;
-    };
+    });
     fits = record {
       flags = k.world.flags;
       places = places_are_bytes g v r.world.places k.world.places;

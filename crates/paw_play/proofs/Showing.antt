@@ -8,13 +8,14 @@ use Rattle.paw_world.specs.World.{Position, IsSavedFor}
 use Rattle.paw_effects.specs.declared.act.Prompt.{Prompt}
 use Rattle.paw_effects.specs.declared.act.Prompt.TheVariants as prompt
 use Rattle.paw_effects.specs.Story.{Story}
-use Rattle.paw_effects.specs.Worlds.{StandsIn}
+use Rattle.paw_effects.specs.inner.Worlds.{StandsIn}
 use Rattle.paw_effects.specs.inner.Standing.{MayBePosition, IsWorldOf}
 use Rattle.paw_reading.specs.Turn.{text_of}
-use Rattle.paw_process.specs.OpenTables.{OpenTables}
+use Rattle.paw_process.specs.inner.OpenTables.{OpenTables}
 use Rattle.paw_routines.specs.declared.routines.Routines.{Routines}
 use Rattle.paw_stage.specs.Stage.{Standing}
-use Rattle.paw_process.specs.Kept.{kept, waiting_code}
+use Rattle.paw_process.specs.Kept.{waiting_code}
+use Rattle.paw_process.specs.inner.Kept.{kept}
 use Rattle.paw_process.specs.inner.Kept.{restored, waiting_at, StandsAt}
 use Rattle.paw_process.proofs.Restored.{stands_at}
 use Rattle.paw_process.proofs.Again.{restored_kept}
@@ -25,10 +26,11 @@ use Rattle.paw_journal.specs.Session.{Digests, Shown, recover, kept_digests, pie
 use Rattle.paw_journal.proofs.ShownPieces.{shown_long}
 use Rattle.paw_state.specs.State.{State, Keeps, FitsFields, HoldsBytes}
 use Rattle.paw_state.specs.inner.State.{state_of}
-use Rattle.paw_state.specs.Fields.{state_bytes}
+use Rattle.paw_state.specs.State.{state_bytes}
 use Rattle.paw_state.specs.declared.Restored.{Restored}
 use Rattle.paw_state.specs.inner.Fit.{IsRead, state_read}
 use Rattle.paw_state.proofs.Told.{piece_told}
+use Rattle.paw_state.proofs.Ruled.{each_of}
 use Rattle.paw_state.proofs.Lawful.{bytes_tell_the_state, long_state}
 use Rattle.paw_play.specs.Session.{kept_bytes, IsKept}
 use Rattle.paw_play.specs.Played.{ShowsState, going_on, from_state}
@@ -77,14 +79,16 @@ position_from g n (Some q) same alike placed holds = record { flags = alike.flag
 
 -- the world of a state that keeps the rules is one of the game
 world_of : (g : GameLists) (s : State) → Keeps g s → FitsFields s → IsWorldOf g s.world
-world_of g s k fits = record {
-  of = k.world;
-  flags = fits.flags;
-  places = k.places.0;
-  saved = position_from g (length s.world.places) s.world.saved k.world.places k.sound.saved k.places.1.0 fits.saved;
-  four = k.sound.kept.four;
-  kept = λ i d low. position_from g (length s.world.places) _ k.world.places (k.sound.kept.each i d low) (k.places.1.1 i d low) (fits.kept i d low);
-}
+world_of g s k fits =
+    let places = (each_of g s k).places in
+    record {
+      of = k.world;
+      flags = fits.flags;
+      places = places.0;
+      saved = position_from g (length s.world.places) s.world.saved k.world.places k.sound.saved places.1.0 fits.saved;
+      four = k.sound.kept.four;
+      kept = λ i d low. position_from g (length s.world.places) _ k.world.places (k.sound.kept.each i d low) (places.1.1 i d low) (fits.kept i d low);
+    }
 
 closed_line : (at : Prompt) (m : OpenTables) (bytes : List ℕ) → StandsAt at m → IfNone (waiting_code at) (bytes ≡ []) → m.frames ≡ [] → bytes ≡ []
 closed_line prompt.Main m bytes s p e = p
@@ -96,13 +100,13 @@ closed_line prompt.Over m bytes s p e = p
 -- what is pending in it may be pending at its prompt
 pending_of : (g : GameLists) (s : State) (m : OpenTables) → Keeps g s → FitsFields s → StandsAt s.prompt m → IsPending m s.pending
 pending_of g s m k fits stands =
-    record { bytes = record { short = k.line; bytes = fits.line }; taken = closed_line s.prompt m s.pending.bytes stands k.pending; earlier = fits.earlier }
+    record { bytes = record { short = k.line; bytes = fits.line }; taken = closed_line s.prompt m s.pending.bytes stands (each_of g s k).pending; earlier = fits.earlier }
 
 pub read_fits : (g : GameLists) (bytes : List ℕ) (r : Restored) → IsRead g bytes r → Fits g r.world r.machine r.pending r.prompt
 read_fits g bytes r is =
     restored_fits g r.prompt (kept r.machine) r.world r.machine r.pending (world_of g (state_read r) is.keeps is.fits)
     (pending_of g (state_read r) r.machine is.keeps is.fits is.stands)
-    is.keeps.rows is.machine is.stands is.keeps.frames
+    is.keeps.rows is.machine is.stands (each_of g (state_read r) is.keeps).frames
 
 -- ---- a player that was made of what was read ----
 
@@ -142,15 +146,15 @@ module _ (g : Story) (digests : Digests) (bytes : List ℕ) (st : State) (piece 
   state_is : st ≡ state_of st.world machine st.pending st.prompt st.events st.piece
   unfolding machine
   state_is = ap (λ k. record { world = st.world; frames = k; pending = st.pending; prompt = st.prompt; events = st.events; piece = st.piece })
-      (sym (restored_kept g.game st.prompt (waiting_at st.prompt) st.frames shows.keeps.rows shows.keeps.frames))
+      (sym (restored_kept g.game st.prompt (waiting_at st.prompt) st.frames shows.keeps.rows (each_of g.game st shows.keeps).frames))
 
   stands : StandsClosed (prompt_step st.prompt) machine
   unfolding machine
   stands =
       let at : StandsAt st.prompt (restored st.frames (waiting_at st.prompt)) =
-      stands_at g.game st.prompt st.frames valid shows.keeps.rows shows.keeps.frames in
+      stands_at g.game st.prompt st.frames valid shows.keeps.rows (each_of g.game st shows.keeps).frames in
       (restored_fits g.game st.prompt st.frames st.world (restored st.frames (waiting_at st.prompt)) st.pending (world_of g.game st shows.keeps shows.fits)
-      (pending_of g.game st (restored st.frames (waiting_at st.prompt)) shows.keeps shows.fits at) shows.keeps.rows refl at shows.keeps.frames).machine
+      (pending_of g.game st (restored st.frames (waiting_at st.prompt)) shows.keeps shows.fits at) shows.keeps.rows refl at (each_of g.game st shows.keeps).frames).machine
 
   long : length piece ≡ st.piece
   unfolding kept_bytes

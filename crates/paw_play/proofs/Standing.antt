@@ -17,7 +17,7 @@ use Rattle.paw_reading.specs.inner.Pieces.{Counted}
 use Rattle.paw_reading.proofs.Counts.{pieces_of_lines}
 use Rattle.paw_reading.proofs.Ends.{going_on_ends}
 use Rattle.paw_state.specs.State.{State}
-use Rattle.paw_state.specs.Fields.{state_bytes}
+use Rattle.paw_state.specs.State.{state_bytes}
 use Rattle.paw_state.specs.Fit.{Fit}
 use Rattle.paw_journal.specs.Session.{Digests, Shown, recover, state_length}
 use Rattle.paw_journal.specs.declared.refusal.JournalRefusal.{JournalRefusal}

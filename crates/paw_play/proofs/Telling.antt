@@ -5,7 +5,7 @@ use Rattle.std.proofs.lemmas.List.Folds.{concat-append}
 use Rattle.std.proofs.lemmas.List.{append-nil}
 use Rattle.std.specs.Prelude.{◌-◌, flat_map}
 use Rattle.std.specs.List.{concat}
-use Rattle.paw_base.specs.Steps.{KeptSteps}
+use Rattle.paw_base.specs.inner.Steps.{KeptSteps}
 use Rattle.paw_base.specs.inner.Steps.{kept_steps}
 use Rattle.paw_stage.specs.Stage.{Standing, ShowsPart, with_shown}
 use Rattle.paw_stage.specs.Moments.{Moment, moment_of, InShow}

@@ -13,7 +13,7 @@ use Rattle.paw_reading.specs.Run.{Run, Step as Read}
 use Rattle.paw_reading.specs.Reading.{Waits, Halt, IsOver, RunsOut, CallsTooDeep, asked}
 use Rattle.paw_reading.specs.GoingOn.{on_path}
 use Rattle.paw_reading.specs.Turn.{WaitsAt, at_main, reading, on, text_of}
-use Rattle.paw_process.specs.OpenTables.{OpenTables}
+use Rattle.paw_process.specs.inner.OpenTables.{OpenTables}
 use Rattle.paw_world.specs.World.{World}
 use Rattle.paw_turn.specs.inner.Player.{Seat, run_at, PlayHalts, PlaysTo, StandsAt, StandsClosed, IsSeated, IsNew}
 use Rattle.paw_turn.specs.declared.Step.{Step}

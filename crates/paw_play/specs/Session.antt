@@ -9,7 +9,7 @@ use Rattle.paw_reading.specs.Reading.{IsOver}
 use Rattle.paw_reading.specs.Turn.{Ending, WaitsAt, Halted, pieces_of}
 use Rattle.paw_journal.specs.Session.{Digests, BelongsTo, Recovered, Shown}
 use Rattle.paw_state.specs.State.{State}
-use Rattle.paw_state.specs.Fields.{state_bytes}
+use Rattle.paw_state.specs.State.{state_bytes}
 use Rattle.paw_state.specs.Record.{last_piece, state_at}
 
 -- the digests of a story: that of its game, and that of its routines

@@ -13,12 +13,15 @@ use Rattle.paw_effects.specs.declared.act.Prompt.TheVariants as prompt
 use Rattle.paw_reading.specs.declared.places.Frame.{Frame}
 use Rattle.paw_reading.specs.declared.places.OpenLoop.{OpenLoop}
 use Rattle.paw_process.specs.declared.kept.Frames.{Frames}
-use Rattle.paw_process.specs.OpenTables.{OpenTables}
+use Rattle.paw_process.specs.inner.OpenTables.{OpenTables}
 use Rattle.paw_process.specs.inner.OpenTables.{refilled}
 use Rattle.paw_process.proofs.Rows.{length_rows}
 use Rattle.paw_process.proofs.Restored.{first_of, second, no_first}
-use Rattle.paw_process.specs.Kept.{unused, frames_at, kept, is_unused, row_stands, rows_fault, condact_of, parameter_of}
-use Rattle.paw_process.specs.Kept.{loop_fault, count_fits, fault_at, frames_fault, waiting_code}
+use Rattle.paw_process.specs.Kept.{frames_at, parameter_of}
+use Rattle.paw_process.specs.inner.Kept.{unused, kept}
+use Rattle.paw_process.specs.inner.Kept.{is_unused, row_stands, rows_fault, condact_of}
+use Rattle.paw_process.specs.Kept.{count_fits, waiting_code}
+use Rattle.paw_process.specs.inner.Kept.{loop_fault, fault_at, frames_fault}
 use Rattle.paw_process.specs.inner.Kept.{restored, waiting_at, StandsAt}
 
 -- ---- the machine again ----

@@ -16,9 +16,13 @@ use Rattle.paw_reading.specs.declared.places.Frame.{Frame}
 use Rattle.paw_reading.specs.declared.places.OpenLoop.{OpenLoop}
 use Rattle.paw_reading.specs.Turn.{first_table}
 use Rattle.paw_reading.specs.inner.Places.{LeadsTo, tables_of, IsLoopIn, AreOpenTo, AreOpenAt, ArePlaces}
-use Rattle.paw_process.specs.Kept.{unused, frames_at, condact_of, has_code, may_open, parameter_of, row_stands, rows_fault}
+use Rattle.paw_process.specs.Kept.{frames_at, has_code, may_open, parameter_of}
+use Rattle.paw_process.specs.inner.Kept.{unused}
+use Rattle.paw_process.specs.inner.Kept.{condact_of, row_stands, rows_fault}
 use Rattle.paw_process.proofs.Rows.{table_of}
-use Rattle.paw_process.specs.Kept.{is_that_table, loop_stands, loop_fault, count_fits, fault_at, frames_fault}
+use Rattle.paw_process.specs.Kept.{count_fits}
+use Rattle.paw_process.specs.inner.Kept.{is_that_table}
+use Rattle.paw_process.specs.inner.Kept.{loop_stands, loop_fault, fault_at, frames_fault}
 use Rattle.paw_process.specs.declared.kept.Frames.{Frames}
 use Rattle.paw_process.proofs.PathRows.{unused_stand, row_calls, path_stands, loop_fits, both_none}
 use Rattle.paw_process.proofs.Restored.{first_of, second, no_first, none_open}

@@ -11,8 +11,11 @@ use Rattle.paw_reading.specs.declared.places.Frame.{Frame}
 use Rattle.paw_reading.specs.declared.places.OpenLoop.{OpenLoop}
 use Rattle.paw_reading.specs.Turn.{first_table}
 use Rattle.paw_reading.specs.inner.Places.{LeadsTo, tables_of, IsLoopIn}
-use Rattle.paw_process.specs.Kept.{unused, condact_of, has_code, may_open, parameter_of, row_stands, rows_fault}
-use Rattle.paw_process.specs.Kept.{is_that_table, loop_fault}
+use Rattle.paw_process.specs.Kept.{has_code, may_open, parameter_of}
+use Rattle.paw_process.specs.inner.Kept.{unused}
+use Rattle.paw_process.specs.inner.Kept.{condact_of, row_stands, rows_fault}
+use Rattle.paw_process.specs.inner.Kept.{is_that_table}
+use Rattle.paw_process.specs.inner.Kept.{loop_fault}
 use Rattle.paw_process.proofs.Rows.{table_of}
 
 -- rows that aren't used stand

@@ -16,9 +16,12 @@ use Rattle.paw_effects.specs.declared.act.Prompt.{Prompt}
 use Rattle.paw_effects.specs.declared.act.Prompt.TheVariants as prompt
 use Rattle.paw_reading.specs.declared.places.Frame.{Frame}
 use Rattle.paw_reading.specs.declared.places.OpenLoop.{OpenLoop}
-use Rattle.paw_process.specs.Kept.{condact_of, has_code, may_open, parameter_of, row_stands, rows_fault, is_that_table}
+use Rattle.paw_process.specs.Kept.{has_code, may_open, parameter_of}
+use Rattle.paw_process.specs.inner.Kept.{is_that_table}
+use Rattle.paw_process.specs.inner.Kept.{condact_of, row_stands, rows_fault}
 use Rattle.paw_process.proofs.Rows.{table_of}
-use Rattle.paw_process.specs.Kept.{loop_stands, loop_fault, count_fits, fault_at, frames_fault}
+use Rattle.paw_process.specs.Kept.{count_fits}
+use Rattle.paw_process.specs.inner.Kept.{loop_stands, loop_fault, fault_at, frames_fault}
 use Rattle.paw_process.specs.inner.Kept.{restored, waiting_at, StandsAt}
 use Rattle.paw_process.specs.declared.kept.Frames.{Frames}
 use Rattle.paw_process.specs.inner.OpenTables.{below, IsAtCondact, AtCondacts, InTable, IsLoopWithin, LoopFits, IsWaiting, IsClosed}

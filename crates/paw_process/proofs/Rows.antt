@@ -4,12 +4,12 @@ use Rattle.std.proofs.Common.{take, drop, replicate, reverse, slice_set, refl, a
 use Rattle.std.specs.Option.{option_map}
 use Rattle.std.proofs.lemmas.List.{reverse-append, reverse-reverse, length-take}
 use Rattle.std.proofs.Math.Seq.{take-suc, take-suc-set}
-use Rattle.paw_base.specs.Steps.{KeptSteps}
+use Rattle.paw_base.specs.inner.Steps.{KeptSteps}
 use Rattle.paw_effects.specs.declared.act.Prompt.{Prompt}
 use Rattle.paw_reading.specs.declared.places.Frame.{Frame}
 use Rattle.paw_reading.specs.declared.places.OpenLoop.{OpenLoop}
-use Rattle.paw_process.specs.Kept.{kept, unused}
-use Rattle.paw_process.specs.OpenTables.{OpenTables}
+use Rattle.paw_process.specs.inner.Kept.{kept, unused}
+use Rattle.paw_process.specs.inner.OpenTables.{OpenTables}
 use Rattle.paw_process.specs.inner.OpenTables.{below}
 
 -- the table of a frame that may be there

@@ -1,3 +1,2 @@
-pub mod OpenTables
 pub mod Kept
 pub mod inner

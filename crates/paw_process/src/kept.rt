@@ -3,9 +3,12 @@
 ghost use Rattle.std.specs.Prelude.{◌≡◌, ◌+◌, ◌<◌, ◌-◌, ◌==◌, length, slice_get};
 ghost use Rattle.std.specs.Option.{option_map};
 ghost use Rattle.paw_game.specs.Valid.{is_place};
-ghost use Rattle.paw_process.specs.Kept.{waiting_code, may_open, has_code, parameter_of, is_unused};
-ghost use Rattle.paw_process.specs.Kept.{row_stands, rows_fault, is_that_table, loop_stands};
-ghost use Rattle.paw_process.specs.Kept.{loop_fault, count_fits, frames_fault};
+ghost use Rattle.paw_process.specs.Kept.{waiting_code, may_open, has_code, parameter_of};
+ghost use Rattle.paw_process.specs.inner.Kept.{is_unused};
+ghost use Rattle.paw_process.specs.inner.Kept.{is_that_table};
+ghost use Rattle.paw_process.specs.inner.Kept.{row_stands, rows_fault, loop_stands};
+ghost use Rattle.paw_process.specs.Kept.{count_fits};
+ghost use Rattle.paw_process.specs.inner.Kept.{loop_fault, frames_fault};
 ghost use Rattle.paw_process.specs.inner.Kept.{waiting_at};
 
 use crate::machine::MOST_FRAMES;

@@ -10,10 +10,11 @@ ghost use Rattle.paw_reading.specs.Reading.{step_at};
 ghost use Rattle.paw_reading.specs.Turn.{first_table};
 ghost use Rattle.paw_reading.specs.inner.Places.{ArePlaces};
 ghost use Rattle.paw_process.specs.declared.machine.TheConstants.{MOST_FRAMES};
-ghost use Rattle.paw_process.specs.OpenTables.{OpenTables};
+ghost use Rattle.paw_process.specs.inner.OpenTables.{OpenTables};
 ghost use Rattle.paw_process.specs.inner.OpenTables.{below, ReadsStep, IsReading, IsClosed};
 ghost use Rattle.paw_process.specs.inner.OpenTables.{new_machine, refilled, table_begun};
-ghost use Rattle.paw_process.specs.Kept.{kept as kept_of, frames_fault};
+ghost use Rattle.paw_process.specs.inner.Kept.{kept as kept_of};
+ghost use Rattle.paw_process.specs.inner.Kept.{frames_fault};
 ghost use Rattle.paw_process.specs.inner.Kept.{restored, waiting_at, StandsAt};
 ghost use Rattle.paw_process.specs.inner.Meaning.{InStories, having, RunsTo, IsStopped, AwaitsAnswer};
 ghost use Rattle.paw_process.specs.inner.Meaning.{AnswersQuit, AnswersKey};
@@ -53,7 +54,7 @@ impl Model for Machine {
     ghost use Rattle.paw_base.specs.declared.limits.TheConstants.{READ_LIMIT};
     ghost use Rattle.paw_process.specs.declared.machine.TheConstants.{MOST_FRAMES};
     ghost use Rattle.std.specs.Prelude.{◌≡◌, ◌+◌, ◌≤◌, length, take, reverse};
-    ghost use Rattle.paw_process.specs.OpenTables.{OpenTables};
+    ghost use Rattle.paw_process.specs.inner.OpenTables.{OpenTables};
 
     ghost Value = { OpenTables };
 

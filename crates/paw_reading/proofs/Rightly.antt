@@ -9,7 +9,7 @@ use Rattle.paw_game.specs.Tables.{exit_at}
 use Rattle.paw_game.specs.Valid.{Valid}
 use Rattle.paw_world.specs.World.{World, Position, flag, with_flag, is_dark, is_unlit, fallen, fallen_if}
 use Rattle.paw_phrase.specs.Sentence.{Parsed, IsSentence, IsUnknown, IsNoPhrase}
-use Rattle.paw_effects.specs.Worlds.{StandsIn}
+use Rattle.paw_effects.specs.inner.Worlds.{StandsIn}
 use Rattle.paw_effects.specs.inner.Standing.{MayBePosition}
 use Rattle.paw_effects.specs.Story.{Story}
 use Rattle.paw_effects.specs.declared.act.Prompt.{Prompt}

@@ -1,7 +1,7 @@
 -- A position that isn't there.
 use Rattle.std.proofs.Common.{◌≡◌, None, replicate, refl}
 use Rattle.paw_state.specs.declared.held.Held.{Held}
-use Rattle.paw_state.specs.Fields.{held_of}
+use Rattle.paw_state.specs.State.{held_of}
 use Rattle.paw_state.proofs.Written.{zeros_all}
 use Rattle.paw_state.proofs.Cut.{same_held}
 

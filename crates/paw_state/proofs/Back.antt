@@ -17,9 +17,11 @@ use Rattle.paw_process.specs.declared.kept.Frames.{Frames}
 use Rattle.paw_process.specs.Kept.{waiting_code}
 use Rattle.paw_state.specs.declared.fields.Fields.{Fields}
 use Rattle.paw_state.specs.declared.held.Held.{Held}
-use Rattle.paw_state.specs.State.{State, Keeps}
-use Rattle.paw_state.specs.Fields.{zeros, filled, held_of, prompt_code, loop_or_zeros, fields_of}
-use Rattle.paw_state.specs.Faults.{rule, first_not, is_zero, places_fault, absent_fault, held_fault, kept_fault, prompt_of}
+use Rattle.paw_state.specs.State.{State}
+use Rattle.paw_state.specs.inner.State.{KeepsEach}
+use Rattle.paw_state.specs.State.{zeros, filled, held_of, prompt_code, fields_of}
+use Rattle.paw_state.specs.inner.State.{loop_or_zeros}
+use Rattle.paw_state.specs.inner.Faults.{rule, first_not, is_zero, places_fault, absent_fault, held_fault, kept_fault, prompt_of}
 use Rattle.paw_state.specs.inner.Parts.{held_in, world_in, frames_in, state_in}
 use Rattle.paw_state.proofs.Positions.{IsHeldOf, saved_held, kept_held}
 use Rattle.paw_state.specs.Fields.{IsSizedHeld, AreSized}
@@ -118,7 +120,7 @@ kept_again g (k ∷ ks) h =
     let q = kept_again g ks (λ i d low. h (suc i) d (omega (arith, low))) in
     cc
 
-turning_again : (o : Option OpenLoop) → (if presence o == 0 then None else Some (loop_or_zeros o)) ≡ o
+pub turning_again : (o : Option OpenLoop) → (if presence o == 0 then None else Some (loop_or_zeros o)) ≡ o
 turning_again None = refl
 turning_again (Some l) = refl
 
@@ -137,7 +139,7 @@ same_world a b facts locations flags places saved kept seed draws =
     (record { facts = b.facts; locations = b.locations; flags = b.flags; places = b.places; saved = b.saved; kept = b.kept; seed = b.seed; draws = b.draws }) =
     cc in e
 
-same_frames : (a b : Frames) → a.count ≡ b.count → a.rows ≡ b.rows → a.turning ≡ b.turning → a ≡ b
+pub same_frames : (a b : Frames) → a.count ≡ b.count → a.rows ≡ b.rows → a.turning ≡ b.turning → a ≡ b
 same_frames a b count rows turning =
     let e : ◌≡◌ {A = Frames} (record { count = a.count; rows = a.rows; turning = a.turning })
     (record { count = b.count; rows = b.rows; turning = b.turning }) = cc in e
@@ -153,7 +155,7 @@ same_state a b world frames pending at events piece =
     (record { world = a.world; frames = a.frames; pending = a.pending; prompt = a.prompt; events = a.events; piece = a.piece })
     (record { world = b.world; frames = b.frames; pending = b.pending; prompt = b.prompt; events = b.events; piece = b.piece }) = cc in e
 
-pub fields_back : (g : GameLists) (s : State) → Keeps g s → state_in g (fields_of s) ≡ s
+pub fields_back : (g : GameLists) (s : State) → KeepsEach g s → state_in g (fields_of s) ≡ s
 fields_back g s k =
     same_state (state_in g (fields_of s)) s
     (same_world (world_in g (fields_of s)) s.world (sym k.world.facts) (sym k.world.locations) refl

@@ -10,9 +10,10 @@ use Rattle.paw_state.specs.declared.fields.Row.{Row}
 use Rattle.paw_state.specs.declared.fields.Fields.{Fields}
 use Rattle.paw_state.specs.declared.held.Held.{Held}
 use Rattle.std.specs.List.{concat}
-use Rattle.paw_state.specs.Fields.{IsSizedHeld, AreSized, eight_bytes, row_bytes, loop_bytes, held_bytes}
+use Rattle.paw_state.specs.Fields.{IsSizedHeld, AreSized}
+use Rattle.paw_state.specs.inner.Fields.{eight_bytes, row_bytes, loop_bytes, held_bytes}
 use Rattle.paw_state.specs.inner.Fields.{two_at, eight_at, row_at, rows_at, held_at}
-use Rattle.paw_state.specs.Fields.{world_bytes, number_bytes, table_bytes, pending_bytes, kept_position_bytes, field_bytes}
+use Rattle.paw_state.specs.inner.Fields.{world_bytes, number_bytes, table_bytes, pending_bytes, kept_position_bytes, field_bytes}
 use Rattle.paw_state.specs.inner.Fields.{fields_at}
 use Rattle.paw_state.proofs.Pieces.{range_is, behind, byte_is}
 use Rattle.paw_state.proofs.Written.{length-rows}
@@ -47,7 +48,7 @@ held_cut h q s =
     let h2 : drop 257 bytes ≡ concat (h.places ∷ []) ++ q = later bytes h.flags q (h.places ∷ []) 1 256 h1 s.flags in
     same_held (held_at bytes) h refl (here bytes h.flags q (h.places ∷ []) 1 256 h1 s.flags) (here bytes h.places q [] 257 255 h2 s.places)
 
-length-held : (h : Held) → IsSizedHeld h → length (held_bytes h) ≡ 512
+pub length-held : (h : Held) → IsSizedHeld h → length (held_bytes h) ≡ 512
 unfolding held_bytes
 length-held h s = simp length-append (omega (arith, s.flags, s.places))
 

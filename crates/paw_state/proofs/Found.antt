@@ -4,9 +4,9 @@ use Rattle.std.specs.Prelude.{All, IsTrue, if◌then◌else◌}
 use Rattle.std.proofs.lemmas.List.{length-take, length-drop, length-replicate, length-append, take-append-drop, take_at, drop_at}
 use Rattle.std.proofs.lemmas.List.Elements.{All-cons}
 use Rattle.std.proofs.lemmas.Bool.{eqb-true}
-use Rattle.paw_state.specs.Fields.{zeros, filled}
+use Rattle.paw_state.specs.State.{zeros, filled}
 use Rattle.std.specs.Option.{option_or}
-use Rattle.paw_state.specs.Faults.{rule, first_not, is_zero}
+use Rattle.paw_state.specs.inner.Faults.{rule, first_not, is_zero}
 
 pub rule_holds : (at : ℕ) (holds : Bool) → rule at holds ≡ None → holds ≡ true
 rule_holds at true h = refl

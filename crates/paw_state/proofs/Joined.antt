@@ -6,9 +6,9 @@ use Rattle.std.proofs.lemmas.List.{length-drop}
 use Rattle.std.proofs.Math.Seq.{take-add}
 use Rattle.paw_game.specs.Image.{two_bytes}
 use Rattle.paw_state.specs.State.{AreBytes}
-use Rattle.paw_state.specs.Fields.{eight_bytes, row_bytes, loop_bytes, held_bytes}
+use Rattle.paw_state.specs.inner.Fields.{eight_bytes, row_bytes, loop_bytes, held_bytes}
 use Rattle.paw_state.specs.inner.Fields.{two_at, eight_at, row_at, rows_at, held_at, fields_at}
-use Rattle.paw_state.specs.Fields.{world_bytes, number_bytes, table_bytes, pending_bytes, kept_position_bytes, field_bytes}
+use Rattle.paw_state.specs.inner.Fields.{world_bytes, number_bytes, table_bytes, pending_bytes, kept_position_bytes, field_bytes}
 use Rattle.paw_state.proofs.Pieces.{range_join, byte_range, length_range, range_bytes, drop_bytes, each_byte}
 
 two_join : (bytes : List ℕ) (at : ℕ) → at + 2 ≤ length bytes → AreBytes bytes → two_bytes (two_at bytes at) ≡ slice_range bytes at (at + 2)

@@ -14,15 +14,17 @@ use Rattle.paw_world.specs.World.{Position, IsSavedFor, IsWorld}
 use Rattle.paw_effects.specs.declared.act.Prompt.{Prompt}
 use Rattle.paw_effects.specs.declared.act.Prompt.TheVariants as prompt
 use Rattle.paw_process.specs.declared.kept.Frames.{Frames}
-use Rattle.paw_process.specs.Kept.{waiting_code, count_fits, fault_at}
-use Rattle.paw_process.specs.Kept.{rows_fault as machine_rows, loop_fault as machine_loop}
+use Rattle.paw_process.specs.Kept.{waiting_code, count_fits}
+use Rattle.paw_process.specs.inner.Kept.{fault_at}
+use Rattle.paw_process.specs.inner.Kept.{rows_fault as machine_rows, loop_fault as machine_loop}
 use Rattle.paw_process.proofs.Restored.{no_first as no_machine_first}
 use Rattle.paw_state.specs.declared.fields.Fields.{Fields}
 use Rattle.paw_state.specs.declared.held.Held.{Held}
-use Rattle.paw_effects.specs.Worlds.{ArePlacesOf}
-use Rattle.paw_state.specs.State.{State, Keeps}
-use Rattle.paw_state.specs.Fields.{zeros, filled, held_of, prompt_code, row_of, fields_of}
-use Rattle.paw_state.specs.Faults.{rule, first_not, is_zero, places_fault, absent_fault, held_fault, kept_fault, prompt_of, row_fields_fault}
+use Rattle.paw_effects.specs.inner.Worlds.{ArePlacesOf}
+use Rattle.paw_state.specs.State.{State}
+use Rattle.paw_state.specs.inner.State.{KeepsEach}
+use Rattle.paw_state.specs.State.{zeros, filled, held_of, prompt_code, row_of, fields_of}
+use Rattle.paw_state.specs.inner.Faults.{rule, first_not, is_zero, places_fault, absent_fault, held_fault, kept_fault, prompt_of, row_fields_fault}
 use Rattle.paw_state.specs.inner.Parts.{held_in, frame_in, frames_in, state_in}
 use Rattle.paw_state.proofs.Positions.{IsHeldOf, saved_held, kept_held, held_size_for, held_placed}
 use Rattle.paw_state.specs.Fields.{IsSizedHeld, AreSized}
@@ -82,7 +84,7 @@ kept_kept g at (k ∷ ks) v z h =
     All-cons (IsHeldOf g) (held_in (length g.objects) k) (map (held_in (length g.objects)) ks) (held_kept g at k v (z 0 k (omega arith)) p.0)
     (kept_kept g (at + 512) ks v (λ i d low. z (suc i) d (omega (arith, low))) p.1)
 
-line_kept : (code : Option ℕ) (n : ℕ) (line : List ℕ) → (is_some code || (n == 0)) ≡ true → IfNone code (take n line ≡ [])
+pub line_kept : (code : Option ℕ) (n : ℕ) (line : List ℕ) → (is_some code || (n == 0)) ≡ true → IfNone code (take n line ≡ [])
 line_kept None n line h = let z : n ≡ 0 = eqb-true n 0 h in rw z refl
 line_kept (Some code) n line h = tt
 
@@ -109,7 +111,7 @@ sound_in g f v z s =
       };
     }
 
-pub keeps_in : (g : GameLists) (f : Fields) → Valid g → AreSized f → AreSound g f → Keeps g (state_in g f)
+pub keeps_in : (g : GameLists) (f : Fields) → Valid g → AreSized f → AreSound g f → KeepsEach g (state_in g f)
 keeps_in g f v z s = record {
   world = record { facts = refl; locations = refl; flags = z.flags; places = objects_length g f.places v z.places };
   sound = sound_in g f v z s;
@@ -163,7 +165,7 @@ line_sound : (code : Option ℕ) (bytes : List ℕ) → IfNone code (bytes ≡ [
 line_sound None bytes h = rw h refl
 line_sound (Some code) bytes h = refl
 
-pub sound_fields : (g : GameLists) (s : State) → Keeps g s → AreSound g (fields_of s)
+pub sound_fields : (g : GameLists) (s : State) → KeepsEach g s → AreSound g (fields_of s)
 sound_fields g s k =
     let m = machine_sound g (waiting_code s.prompt) s.frames k.frames in
     let again = sym (prompt_again s.prompt) in

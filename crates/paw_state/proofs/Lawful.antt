@@ -3,12 +3,15 @@ use Rattle.std.proofs.Common.{◌≡◌, ℕ, ◌≤◌, List, [], ◌++◌, Som
 use Rattle.std.proofs.lemmas.List.{take-append-drop, take_at}
 use Rattle.paw_game.specs.Game.{GameLists}
 use Rattle.paw_game.specs.Valid.{Valid}
-use Rattle.paw_process.specs.Kept.{kept}
+use Rattle.paw_process.specs.inner.Kept.{kept}
 use Rattle.paw_process.specs.inner.Kept.{restored, waiting_at, StandsAt}
 use Rattle.paw_state.specs.State.{State, Keeps, FitsFields, AreBytes}
-use Rattle.paw_state.specs.Fields.{fields_of, field_bytes, state_bytes}
+use Rattle.paw_state.specs.State.{fields_of, state_bytes}
+use Rattle.paw_state.specs.inner.Fields.{field_bytes}
 use Rattle.paw_state.specs.inner.Fields.{fields_at}
-use Rattle.paw_state.specs.Faults.{fields_fault}
+use Rattle.paw_state.specs.inner.Faults.{fields_fault}
+use Rattle.paw_state.specs.inner.State.{KeepsEach}
+use Rattle.paw_state.specs.inner.Faults.{parts_fault}
 use Rattle.paw_state.specs.inner.Parts.{state_in}
 use Rattle.paw_state.specs.declared.Restored.{Restored}
 use Rattle.paw_state.specs.Fit.{Fit, Unfit}
@@ -17,46 +20,57 @@ use Rattle.paw_state.specs.inner.Fit.{state_read, IsRead}
 use Rattle.paw_state.specs.inner.Laws.{FieldsStand, OneFault, FitOrUnfit, BytesTellTheState, WrittenIsFit}
 use Rattle.paw_state.proofs.Joined.{fields_join}
 use Rattle.paw_state.proofs.Cut.{fields_cut, kept-length, length-fields}
-use Rattle.paw_state.proofs.Sound.{sound_of, none_of}
+use Rattle.paw_state.proofs.Listed.{bytes_same, state_same}
+use Rattle.paw_state.proofs.Firsts.{faults_same, lengths_sized}
+use Rattle.paw_state.proofs.Ruled.{each_of, keeps_of}
+use Rattle.paw_state.proofs.Sound.{AreSound, sound_of}
 use Rattle.paw_state.proofs.Told.{AreLong}
 use Rattle.paw_state.proofs.Back.{state_back, fields_back}
-use Rattle.paw_state.proofs.Keeping.{keeps_in, sound_fields}
+use Rattle.paw_state.proofs.Keeping.{keeps_in}
 use Rattle.paw_state.proofs.Sizes.{sized_at, fits_at, sized_of}
 
 pub fields_stand : FieldsStand
-fields_stand f rest s = fields_cut f rest s
+fields_stand f rest s = ap (λ (l : List ℕ). fields_at (l ++ rest)) (bytes_same f) ∙ fields_cut f rest s
 
 pub one_fault : OneFault
 one_fault g bytes at u =
     let split : bytes ≡ field_bytes u.fields ++ drop 3419 bytes =
-    sym (take-append-drop 3419 bytes) ∙ ap (λ (l : List ℕ). l ++ drop 3419 bytes) u.are in
+    sym (take-append-drop 3419 bytes) ∙ ap (λ (l : List ℕ). l ++ drop 3419 bytes) (u.are ∙ bytes_same u.fields) in
     ap (fields_fault g) (ap fields_at split ∙ fields_cut u.fields (drop 3419 bytes) u.sized) ∙ u.fault
 
 -- a fault of the fields at their places is the one of the bytes
 pub is_unfit : (g : GameLists) (bytes : List ℕ) (at : ℕ) → 3419 ≤ length bytes → AreBytes bytes → unfit g bytes ≡ Some at → Unfit g bytes at
-is_unfit g bytes at n b h = record { fields = fields_at bytes; sized = sized_at bytes n b; are = sym (fields_join bytes n b); fault = h }
+is_unfit g bytes at n b h = record { fields = fields_at bytes; sized = sized_at bytes n b; are = sym (fields_join bytes n b) ∙ sym (bytes_same (fields_at bytes)); fault = h }
 
 -- the fields that stand in bytes of which the first are a state's
-fields_there : (g : GameLists) (s : State) (bytes : List ℕ) → Valid g → Keeps g s → FitsFields s → take 3419 bytes ≡ state_bytes s
+fields_there : (g : GameLists) (s : State) (bytes : List ℕ) → Valid g → KeepsEach g s → FitsFields s → take 3419 bytes ≡ state_bytes s
     → fields_at bytes ≡ fields_of s
 fields_there g s bytes v k h e =
-    let split : bytes ≡ state_bytes s ++ drop 3419 bytes =
-    sym (take-append-drop 3419 bytes) ∙ ap (λ (l : List ℕ). l ++ drop 3419 bytes) e in
+    let split : bytes ≡ field_bytes (fields_of s) ++ drop 3419 bytes =
+    sym (take-append-drop 3419 bytes) ∙ ap (λ (l : List ℕ). l ++ drop 3419 bytes) (e ∙ state_same s) in
     ap fields_at split ∙ fields_cut (fields_of s) (drop 3419 bytes) (sized_of g s v k h)
 
 pub fit_has_none : (g : GameLists) (bytes : List ℕ) → Valid g → Fit g bytes → unfit g bytes ≡ None
-fit_has_none g bytes v h =
-    ap (fields_fault g) (fields_there g h.state bytes v h.keeps h.fits h.are) ∙ none_of g (fields_of h.state) (sound_fields g h.state h.keeps)
+fit_has_none g bytes v h = ap (fields_fault g) (fields_there g h.state bytes v (each_of g h.state h.keeps) h.fits h.are) ∙ h.keeps.fields
+
+-- the fault that is found part by part
+pub unfit_parts : (g : GameLists) (bytes : List ℕ) → 3419 ≤ length bytes → AreBytes bytes → unfit g bytes ≡ parts_fault g (fields_at bytes)
+unfit_parts g bytes n b = faults_same g (fields_at bytes) (lengths_sized (fields_at bytes) (sized_at bytes n b))
+
+sound_at : (g : GameLists) (bytes : List ℕ) → 3419 ≤ length bytes → AreBytes bytes → unfit g bytes ≡ None → AreSound g (fields_at bytes)
+sound_at g bytes n b h = sound_of g (fields_at bytes) (sym (unfit_parts g bytes n b) ∙ h)
 
 -- bytes without a fault are those of the state that their fields say
 pub bytes_are : (g : GameLists) (bytes : List ℕ) → Valid g → 3419 ≤ length bytes → AreBytes bytes → unfit g bytes ≡ None
     → take 3419 bytes ≡ state_bytes (state_in g (fields_at bytes))
 bytes_are g bytes v n b h =
-    sym (ap field_bytes (state_back g (fields_at bytes) v (sized_at bytes n b) (sound_of g (fields_at bytes) h)) ∙ fields_join bytes n b)
+    sym (state_same (state_in g (fields_at bytes))
+    ∙ (ap field_bytes (state_back g (fields_at bytes) v (sized_at bytes n b) (sound_at g bytes n b h)) ∙ fields_join bytes n b))
 
 pub state_kept : (g : GameLists) (bytes : List ℕ) → Valid g → 3419 ≤ length bytes → AreBytes bytes → unfit g bytes ≡ None
     → Keeps g (state_in g (fields_at bytes))
-state_kept g bytes v n b h = keeps_in g (fields_at bytes) v (sized_at bytes n b) (sound_of g (fields_at bytes) h)
+state_kept g bytes v n b h =
+    keeps_of g (state_in g (fields_at bytes)) (keeps_in g (fields_at bytes) v (sized_at bytes n b) (sound_at g bytes n b h))
 
 pub none_is_fit : (g : GameLists) (bytes : List ℕ) → Valid g → 3419 ≤ length bytes → AreBytes bytes → unfit g bytes ≡ None → Fit g bytes
 none_is_fit g bytes v n b h = record {
@@ -73,19 +87,23 @@ fit_or_unfit g bytes v n b = (none_is_fit g bytes v n b, fit_has_none g bytes v)
 
 pub bytes_tell_the_state : BytesTellTheState
 bytes_tell_the_state g s t v ks hs kt ht e =
-    let a = fields_cut (fields_of s) [] (sized_of g s v ks hs) in
-    let b = fields_cut (fields_of t) [] (sized_of g t v kt ht) in
-    let f : fields_of s ≡ fields_of t = sym a ∙ (ap (λ (l : List ℕ). fields_at (l ++ [])) e ∙ b) in
-    sym (fields_back g s ks) ∙ (ap (state_in g) f ∙ fields_back g t kt)
-
-pub written_is_fit : WrittenIsFit
-written_is_fit g s rest v k h =
-    let n = length-fields (fields_of s) (sized_of g s v k h) in
-    (n, record { state = s; keeps = k; fits = h; are = take_at (state_bytes s) rest 3419 n })
+    let es = each_of g s ks in
+    let et = each_of g t kt in
+    let a = fields_cut (fields_of s) [] (sized_of g s v es hs) in
+    let b = fields_cut (fields_of t) [] (sized_of g t v et ht) in
+    let same : field_bytes (fields_of s) ≡ field_bytes (fields_of t) = sym (state_same s) ∙ (e ∙ state_same t) in
+    let f : fields_of s ≡ fields_of t = sym a ∙ (ap (λ (l : List ℕ). fields_at (l ++ [])) same ∙ b) in
+    sym (fields_back g s es) ∙ (ap (state_in g) f ∙ fields_back g t et)
 
 pub long_state : (g : GameLists) (s : State) → Valid g → Keeps g s → FitsFields s → AreLong s
 long_state g s v k h =
-    let z = sized_of g s v k h in record { all = length-fields (fields_of s) z; kept = kept-length (fields_of s) z }
+    let z = sized_of g s v (each_of g s k) h in
+    record { all = ap length (state_same s) ∙ length-fields (fields_of s) z; kept = kept-length (fields_of s) z }
+
+pub written_is_fit : WrittenIsFit
+written_is_fit g s rest v k h =
+    let n = (long_state g s v k h).all in
+    (n, record { state = s; keeps = k; fits = h; are = take_at (state_bytes s) rest 3419 n })
 
 -- ---- what is read ----
 

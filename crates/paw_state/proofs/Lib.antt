@@ -2,6 +2,8 @@ pub mod Pieces
 pub mod Positions
 pub mod Absent
 pub mod Written
+pub mod Listed
+pub mod Firsts
 pub mod Joined
 pub mod Cut
 pub mod Found
@@ -12,6 +14,7 @@ pub mod Loops
 pub mod Back
 pub mod Keeping
 pub mod Sizes
+pub mod Ruled
 pub mod Lawful
 pub mod Told
 pub mod Recorded

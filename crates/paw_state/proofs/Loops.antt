@@ -12,15 +12,18 @@ use Rattle.paw_game.specs.Tables.{head_at, condact_at}
 use Rattle.paw_reading.specs.declared.places.Frame.{Frame}
 use Rattle.paw_reading.specs.declared.places.OpenLoop.{OpenLoop}
 use Rattle.paw_process.specs.declared.kept.Frames.{Frames}
-use Rattle.paw_process.specs.Kept.{has_code, is_that_table, loop_stands}
-use Rattle.paw_process.specs.Kept.{loop_fault as machine_fault}
+use Rattle.paw_process.specs.Kept.{has_code}
+use Rattle.paw_process.specs.inner.Kept.{is_that_table}
+use Rattle.paw_process.specs.inner.Kept.{loop_stands}
+use Rattle.paw_process.specs.inner.Kept.{loop_fault as machine_fault}
 use Rattle.paw_process.proofs.Restored.{first_of, second}
 use Rattle.paw_process.proofs.Rows.{table_of}
 use Rattle.paw_state.specs.declared.fields.Row.{Row}
 use Rattle.paw_state.specs.declared.fields.Fields.{Fields}
-use Rattle.paw_state.specs.Fields.{row_of, loop_or_zeros}
+use Rattle.paw_state.specs.State.{row_of}
+use Rattle.paw_state.specs.inner.State.{loop_or_zeros}
 use Rattle.paw_state.specs.inner.Parts.{frame_in, turning_in, frames_in}
-use Rattle.paw_state.specs.Faults.{rule, first, no_loop_fault, loop_fields_fault}
+use Rattle.paw_state.specs.inner.Faults.{rule, first, no_loop_fault, loop_fields_fault}
 use Rattle.paw_state.proofs.Found.{rule_holds, no_rule, no_first, none_first}
 use Rattle.paw_state.proofs.Rows.{both, four, four_none, head_there}
 use Rattle.paw_state.proofs.Sound.{turning_rest}

@@ -7,14 +7,15 @@ use Rattle.paw_game.specs.declared.parts.Entry.{Entry}
 use Rattle.paw_game.specs.Game.{GameLists}
 use Rattle.paw_game.specs.Tables.{condacts_of, entry_at, head_at, condact_at}
 use Rattle.paw_reading.specs.declared.places.Frame.{Frame}
-use Rattle.paw_process.specs.Kept.{may_open, has_code, parameter_of, condact_of, is_unused, row_stands}
-use Rattle.paw_process.specs.Kept.{rows_fault as machine_fault}
+use Rattle.paw_process.specs.Kept.{may_open, has_code, parameter_of}
+use Rattle.paw_process.specs.inner.Kept.{condact_of, is_unused, row_stands}
+use Rattle.paw_process.specs.inner.Kept.{rows_fault as machine_fault}
 use Rattle.paw_process.proofs.Restored.{first_of, second}
 use Rattle.paw_state.specs.declared.fields.Row.{Row}
-use Rattle.paw_state.specs.Fields.{row_of}
+use Rattle.paw_state.specs.State.{row_of}
 use Rattle.paw_state.specs.inner.Parts.{frame_in}
 use Rattle.std.specs.Option.{option_or}
-use Rattle.paw_state.specs.Faults.{rule, first, unused_fault, used_fault, row_fault, row_fields_fault, called_table}
+use Rattle.paw_state.specs.inner.Faults.{rule, first, unused_fault, used_fault, row_fault, row_fields_fault, called_table}
 use Rattle.paw_state.proofs.Found.{rule_holds, no_rule, no_first, none_first}
 
 pub both : (a b : Bool) → a ≡ true → b ≡ true → (a && b) ≡ true

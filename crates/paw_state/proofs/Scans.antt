@@ -9,7 +9,7 @@ use Rattle.paw_state.specs.declared.fields.Row.{Row}
 use Rattle.paw_state.specs.declared.held.Held.{Held}
 use Rattle.paw_state.specs.inner.Fields.{row_at, rows_at}
 use Rattle.std.specs.Option.{option_or}
-use Rattle.paw_state.specs.Faults.{rule, first_not, held_fault, kept_fault, row_fault, row_fields_fault, called_table}
+use Rattle.paw_state.specs.inner.Faults.{rule, first_not, held_fault, kept_fault, row_fault, row_fields_fault, called_table}
 
 -- ---- bytes ----
 

@@ -16,15 +16,20 @@ use Rattle.paw_world.specs.World.{Position}
 use Rattle.paw_reading.specs.declared.places.Frame.{Frame}
 use Rattle.paw_reading.specs.declared.places.OpenLoop.{OpenLoop}
 use Rattle.paw_process.specs.declared.kept.Frames.{Frames}
-use Rattle.paw_process.specs.Kept.{may_open, has_code, parameter_of, condact_of, is_unused, row_stands}
-use Rattle.paw_process.specs.Kept.{is_that_table, loop_stands, waiting_code}
+use Rattle.paw_process.specs.Kept.{may_open, has_code, parameter_of}
+use Rattle.paw_process.specs.inner.Kept.{condact_of, is_unused, row_stands}
+use Rattle.paw_process.specs.Kept.{waiting_code}
+use Rattle.paw_process.specs.inner.Kept.{is_that_table}
+use Rattle.paw_process.specs.inner.Kept.{loop_stands}
 use Rattle.paw_process.proofs.Rows.{table_of}
-use Rattle.paw_process.specs.Kept.{rows_fault as machine_rows, loop_fault as machine_loop}
+use Rattle.paw_process.specs.inner.Kept.{rows_fault as machine_rows, loop_fault as machine_loop}
 use Rattle.paw_process.proofs.Restored.{first_of, second}
 use Rattle.paw_state.specs.declared.fields.Row.{Row}
 use Rattle.paw_state.specs.declared.held.Held.{Held}
-use Rattle.paw_state.specs.State.{State, AreBytes, HoldsBytes, FitsFields, Keeps}
-use Rattle.paw_state.specs.Fields.{held_of, row_of, loop_or_zeros, fields_of}
+use Rattle.paw_state.specs.State.{State, AreBytes, HoldsBytes, FitsFields}
+use Rattle.paw_state.specs.inner.State.{KeepsEach}
+use Rattle.paw_state.specs.State.{held_of, row_of, fields_of}
+use Rattle.paw_state.specs.inner.State.{loop_or_zeros}
 use Rattle.paw_state.specs.inner.Fields.{two_at, eight_at, row_at, rows_at, held_at, fields_at}
 use Rattle.paw_state.specs.inner.Parts.{held_in, state_in}
 use Rattle.paw_state.proofs.Pieces.{length_range, range_bytes, drop_bytes, each_byte}
@@ -169,7 +174,7 @@ held_size g (Some q) v h = record { flags = h.flags; places = length-filled q.pl
 kept_size : (g : GameLists) (kept : List (Option Position)) → Valid g → All (IsHeldOf g) kept → All IsSizedHeld (map held_of kept)
 kept_size g kept v h = All-map IsSizedHeld held_of kept (λ k d low. held_size g (get_or kept k d) v (h k d low))
 
-pub sized_of : (g : GameLists) (s : State) → Valid g → Keeps g s → FitsFields s → AreSized (fields_of s)
+pub sized_of : (g : GameLists) (s : State) → Valid g → KeepsEach g s → FitsFields s → AreSized (fields_of s)
 sized_of g s v k h =
     let m = machine_sound g (waiting_code s.prompt) s.frames k.frames in
     record {

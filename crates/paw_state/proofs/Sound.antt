@@ -5,8 +5,8 @@ use Rattle.paw_game.specs.Game.{GameLists}
 use Rattle.paw_process.specs.Kept.{waiting_code, count_fits}
 use Rattle.paw_state.specs.declared.fields.Fields.{Fields}
 use Rattle.std.specs.Option.{option_or}
-use Rattle.paw_state.specs.Faults.{rule, first, first_not, is_zero, places_fault, held_fault, kept_fault, numbers_fault, prompt_of, prompt_fault}
-use Rattle.paw_state.specs.Faults.{frame_fields_fault, no_loop_fault, loop_fields_fault, turning_fault, pending_fault, fields_fault}
+use Rattle.paw_state.specs.inner.Faults.{rule, first, first_not, is_zero, places_fault, held_fault, kept_fault, numbers_fault, prompt_of, prompt_fault}
+use Rattle.paw_state.specs.inner.Faults.{frame_fields_fault, no_loop_fault, loop_fields_fault, turning_fault, pending_fault, parts_fault}
 use Rattle.paw_state.proofs.Found.{rule_holds, no_rule, no_first, none_first}
 
 -- where no loop is open the loop's bytes are 0; else the loop keeps its rules
@@ -56,7 +56,7 @@ eight_none a b c d e f g h ka kb kc kd ke kf kg kh =
     (none_first e (first (f ∷ g ∷ h ∷ [])) ke
     (none_first f (first (g ∷ h ∷ [])) kf (two_none g h kg kh))))))
 
-pub sound_of : (g : GameLists) (f : Fields) → fields_fault g f ≡ None → AreSound g f
+pub sound_of : (g : GameLists) (f : Fields) → parts_fault g f ≡ None → AreSound g f
 sound_of g f h =
     let p = eight (places_fault g 256 f.places) (held_fault g 511 f.saved) (numbers_fault f) (prompt_fault f) (frame_fields_fault g f) (turning_fault g f)
     (pending_fault f) (kept_fault g 1371 f.kept) h in
@@ -80,7 +80,7 @@ sound_of g f h =
       kept = p.7;
     }
 
-pub none_of : (g : GameLists) (f : Fields) → AreSound g f → fields_fault g f ≡ None
+pub none_of : (g : GameLists) (f : Fields) → AreSound g f → parts_fault g f ≡ None
 none_of g f s =
     eight_none (places_fault g 256 f.places) (held_fault g 511 f.saved) (numbers_fault f) (prompt_fault f) (frame_fields_fault g f) (turning_fault g f)
     (pending_fault f) (kept_fault g 1371 f.kept) s.places s.saved

@@ -2,10 +2,12 @@
 use Rattle.std.proofs.Common.{◌≡◌, ℕ, ◌+◌, ◌*◌, ◌<◌, ◌^◌, List, [], ◌∷◌, ◌++◌, length, take, drop, get_or, sym, ap, ◌∙◌, arith, append_assoc, length-append}
 use Rattle.std.proofs.lemmas.List.{append-nil, get_or_append_left, get_or-append-add, take-append-drop}
 use Rattle.paw_state.proofs.Found.{length-zeros}
+use Rattle.paw_state.proofs.Listed.{state_same}
 use Rattle.paw_game.specs.Image.{two_bytes}
 use Rattle.paw_state.specs.declared.fields.Fields.{Fields}
 use Rattle.paw_state.specs.State.{State}
-use Rattle.paw_state.specs.Fields.{world_bytes, number_bytes, table_bytes, pending_bytes, kept_position_bytes, field_bytes, fields_of, state_bytes, zeros}
+use Rattle.paw_state.specs.State.{fields_of, state_bytes, zeros}
+use Rattle.paw_state.specs.inner.Fields.{world_bytes, number_bytes, table_bytes, pending_bytes, kept_position_bytes, field_bytes}
 
 inner_join : (d e p k : List ℕ) → (d ++ (e ++ (p ++ []))) ++ (k ++ []) ≡ (d ++ e) ++ (p ++ k)
 inner_join d e p k = simp (append_assoc, append-nil)
@@ -48,7 +50,7 @@ pub record AreLong (s : State) : Type 0 where
 pub piece_told : (s : State) → AreLong s → s.piece < 2 ^ 16 → get_or (state_bytes s) 1369 0 + 256 * get_or (state_bytes s) 1370 0 ≡ s.piece
 piece_told s l h =
     let f = fields_of s in
-    let e = state_ends f in
+    let e = state_same s ∙ state_ends f in
     rw e (two_there (front f) s.piece (kept_position_bytes f) (front_long (front f) s.piece (kept_position_bytes f) (ap length (sym e) ∙ l.all) l.kept) h)
 
 -- as it stands in a buffer

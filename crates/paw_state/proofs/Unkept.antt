@@ -5,9 +5,11 @@ use Rattle.std.proofs.lemmas.List.{take_at}
 use Rattle.paw_world.specs.World.{Position}
 use Rattle.paw_state.specs.State.{State}
 use Rattle.paw_state.specs.declared.fields.Fields.{Fields}
-use Rattle.paw_state.specs.Fields.{zeros, world_bytes, number_bytes, table_bytes, pending_bytes, kept_position_bytes, held_bytes}
-use Rattle.paw_state.specs.Fields.{held_of, fields_of, state_bytes}
+use Rattle.paw_state.specs.State.{zeros}
+use Rattle.paw_state.specs.inner.Fields.{world_bytes, number_bytes, table_bytes, pending_bytes, kept_position_bytes, held_bytes}
+use Rattle.paw_state.specs.State.{held_of, fields_of, state_bytes}
 use Rattle.paw_state.proofs.Found.{length-zeros}
+use Rattle.paw_state.proofs.Listed.{state_same}
 use Rattle.paw_state.proofs.Told.{AreLong}
 
 -- four times nothing
@@ -29,7 +31,7 @@ joined a b c d e = simp (append_assoc, append-nil)
 state_splits : (s : State) → state_bytes s ≡ before_kept (fields_of s) ++ kept_position_bytes (fields_of s)
 unfolding before_kept
 state_splits s =
-    let f = fields_of s in joined (world_bytes f) (number_bytes f) (table_bytes f) (pending_bytes f) (kept_position_bytes f)
+    let f = fields_of s in state_same s ∙ joined (world_bytes f) (number_bytes f) (table_bytes f) (pending_bytes f) (kept_position_bytes f)
 
 cut_back : (bytes front back : List ℕ) → bytes ≡ front ++ back → length bytes ≡ 3419 → back ≡ zeros 2048 → take 1371 bytes ++ zeros 2048 ≡ bytes
 cut_back bytes front back e n z =

@@ -8,7 +8,8 @@ use Rattle.std.proofs.lemmas.Slice.{take-put_mid, drop-put_mid}
 use borrow.Rule.Slice.PartMut.{put_mid}
 use Rattle.paw_state.specs.declared.fields.Row.{Row}
 use Rattle.std.specs.List.{concat}
-use Rattle.paw_state.specs.Fields.{zeros, filled, row_bytes}
+use Rattle.paw_state.specs.State.{zeros, filled}
+use Rattle.paw_state.specs.inner.Fields.{row_bytes}
 
 -- ---- zeros ----
 

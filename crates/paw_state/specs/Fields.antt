@@ -1,70 +1,134 @@
--- The fields of a state's bytes. Numbers of several bytes have the low one first.
-use Rattle.std.specs.Prelude.{◌≡◌, ℕ, ◌-◌, ◌^◌, ◌<◌, List, [], ◌∷◌, ◌++◌, Option, Some, None, All, length, map}
-use Rattle.std.specs.Prelude.{flat_map, is_some, if◌then◌else◌}
-use Rattle.std.specs.List.{concat}
-use Rattle.std.specs.Option.{unwrap_or}
+-- The fields of a state in the order of their bytes, each with its rule. Numbers of several bytes have the low one first.
+use Rattle.std.specs.Prelude.{◌≡◌, ℕ, suc, ◌+◌, ◌-◌, ◌*◌, ◌^◌, ◌<◌, ◌==◌, ◌||◌, Bool, true, false, not, List, [], ◌∷◌, ◌++◌}
+use Rattle.std.specs.Prelude.{Option, Some, None, All, length, flat_map, is_some, nat_lt, nat_le, slice_get}
+use Rattle.std.specs.Prelude.{slice_index_or, if◌then◌else◌}
+use Rattle.std.specs.Option.{option_map_or, unwrap_or}
 use Rattle.std.specs.Int.{w64, to_le_bytes}
-unfoldable pub use Rattle.paw_base.specs.Bytes.{zeros}
-use Rattle.paw_base.specs.declared.limits.TheConstants.{OBJECT_LIMIT, FLAG_COUNT, LINE_LIMIT, POSITION_COUNT}
+use Rattle.paw_base.specs.declared.codes.TheConstants.{PROCESS, DOALL}
+use Rattle.paw_base.specs.declared.limits.TheConstants.{READ_LIMIT, EVENT_LIMIT, OBJECT_LIMIT, FLAG_COUNT, LINE_LIMIT}
+use Rattle.paw_base.specs.declared.limits.TheConstants.{POSITION_COUNT}
+use Rattle.paw_game.specs.Game.{GameLists}
 use Rattle.paw_game.specs.Image.{two_bytes}
-use Rattle.paw_world.specs.World.{Position}
+use Rattle.paw_game.specs.Tables.{head_at, condact_at}
+use Rattle.paw_game.specs.Valid.{is_place}
 use Rattle.paw_effects.specs.declared.act.Prompt.{Prompt}
 use Rattle.paw_effects.specs.declared.act.Prompt.TheVariants as prompt
-use Rattle.paw_reading.specs.declared.places.Frame.{Frame}
 use Rattle.paw_reading.specs.declared.places.OpenLoop.{OpenLoop}
 use Rattle.paw_process.specs.declared.machine.TheConstants.{MOST_FRAMES}
+use Rattle.paw_process.specs.Kept.{waiting_code, may_open, has_code, parameter_of, count_fits}
 use Rattle.paw_state.specs.declared.fields.Row.{Row}
 use Rattle.paw_state.specs.declared.fields.Fields.{Fields}
 use Rattle.paw_state.specs.declared.held.Held.{Held}
-use Rattle.paw_state.specs.State.{State}
 
--- ---- from a state to its bytes ----
+-- ---- fields ----
 
--- these bytes, filled up with zeros to so many
-abbrev pub filled : ℕ → List ℕ → List ℕ
-filled n bytes = bytes ++ zeros (n - length bytes)
+-- a field: its value, its bytes, and whether its rule holds in a game
+pub record Field : Type 0 where
+  pub value : ℕ
+  pub bytes : List ℕ
+  pub holds : GameLists → Bool
+
+-- a number of one byte, with its rule
+abbrev pub byte : ℕ → (GameLists → Bool) → Field
+byte n holds = record { value = n; bytes = n ∷ []; holds = holds }
+
+-- a number of two bytes
+abbrev pub two : ℕ → (GameLists → Bool) → Field
+two n holds = record { value = n; bytes = two_bytes n; holds = holds }
 
 -- a number of eight bytes
-abbrev pub eight_bytes : ℕ → List ℕ
-eight_bytes n = to_le_bytes w64 n
+abbrev pub eight : ℕ → (GameLists → Bool) → Field
+eight n holds = record { value = n; bytes = to_le_bytes w64 n; holds = holds }
 
--- a frame: table, entry, condact, and 1 where an action was carried out
-abbrev pub row_bytes : Row → List ℕ
-row_bytes r = r.table ∷ (two_bytes r.entry ++ r.at ∷ r.acted ∷ [])
+-- bytes that are fields, one by one: the rule of each takes its number, counted from i on, and the byte
+unfoldable pub one_by_one : (ℕ → ℕ → GameLists → Bool) → ℕ → List ℕ → List Field
+one_by_one holds i [] = []
+one_by_one holds i (b ∷ bs) = byte b (holds i b) ∷ one_by_one holds (suc i) bs
 
--- the open loop: level, table, entry, condact, place, last object
-abbrev pub loop_bytes : OpenLoop → List ℕ
-loop_bytes l = l.level ∷ l.table ∷ (two_bytes l.entry ++ l.at ∷ l.place ∷ l.last ∷ [])
+-- the fields of something that isn't there where this number is 0: then each of them is 0
+unfoldable pub if_there : ℕ → List Field → List Field
+if_there there [] = []
+if_there there (f ∷ fs) =
+    record f { holds = λ g. if there == 0 then f.value == 0 else f.holds g } ∷ if_there there fs
 
--- a position that may be there: whether it is, its flags, and its places
-unfoldable pub held_bytes : Held → List ℕ
-held_bytes h = concat ((h.there ∷ []) ∷ h.flags ∷ h.places ∷ [])
+-- the bytes of fields
+abbrev pub bytes_of : List Field → List ℕ
+bytes_of fields = flat_map (λ f. f.bytes) fields
 
--- flags and places, now and in the saved position
-unfoldable pub world_bytes : Fields → List ℕ
-world_bytes f = concat (f.flags ∷ f.places ∷ held_bytes f.saved ∷ [])
+-- the place of the first field whose rule doesn't hold in a game; the bytes of the fields stand from this place on
+unfoldable pub fault_from : GameLists → ℕ → List Field → Option ℕ
+fault_from g at [] = None
+fault_from g at (f ∷ fs) = if f.holds g then fault_from g (at + length f.bytes) fs else Some at
 
--- the seed, how many words were drawn, and how many lines were taken
-unfoldable pub number_bytes : Fields → List ℕ
-number_bytes f = concat (eight_bytes f.seed ∷ eight_bytes f.draws ∷ eight_bytes f.events ∷ [])
+-- ---- the fields of a state ----
 
--- the prompt, the rows of the open tables, and the open loop
-unfoldable pub table_bytes : Fields → List ℕ
-table_bytes f = concat (
-    (f.prompt ∷ f.count ∷ []) ∷ flat_map row_bytes f.rows ∷ (f.looping ∷ []) ∷ loop_bytes f.turning ∷ [])
+-- of the bytes for places the first are those of the objects, each a place of the game; the others are 0
+abbrev pub place_holds : ℕ → ℕ → GameLists → Bool
+place_holds i place g = if nat_lt i (length g.objects) then is_place (length g.locations) place else place == 0
 
--- what is pending, and how many bytes the last piece has
-unfoldable pub pending_bytes : Fields → List ℕ
-pending_bytes f = concat ((f.earlier ∷ f.pending ∷ []) ∷ f.line ∷ two_bytes f.piece ∷ [])
+-- a position: 1 where it is there, its flags, and its places
+abbrev pub held_fields : Held → List Field
+held_fields h =
+    byte h.there (λ g. nat_le h.there 1)
+    ∷ if_there h.there (one_by_one (λ i flag g. true) 0 h.flags ++ one_by_one place_holds 0 h.places)
 
--- the kept positions
-unfoldable pub kept_position_bytes : Fields → List ℕ
-kept_position_bytes f = flat_map held_bytes f.kept
+-- a row, where n are used from it on: table, entry, condact, and 1 where an action was carried out. Its table is the
+-- one that was called, and the outermost is 0, 1 or 2; each but the last is at a PROCESS, and the last at this condact
+abbrev pub row_fields : ℕ → (GameLists → Option ℕ) → ℕ → Row → List Field
+row_fields code caller n r = if_there n (
+    byte r.table (λ g. may_open (caller g) r.table)
+    ∷ two r.entry (λ g. is_some (head_at g r.table r.entry))
+    ∷ byte r.at (λ g. has_code (if n == 1 then code else PROCESS) (condact_at g r.table r.entry r.at))
+    ∷ byte r.acted (λ g. nat_le r.acted 1)
+    ∷ [])
 
--- the bytes of a state's fields
-abbrev pub field_bytes : Fields → List ℕ
-field_bytes f = concat (
-    world_bytes f ∷ number_bytes f ∷ table_bytes f ∷ pending_bytes f ∷ kept_position_bytes f ∷ [])
+-- rows, the first n of which are used; the PROCESS of each calls the table of the next
+unfoldable pub rows_fields : ℕ → (GameLists → Option ℕ) → ℕ → List Row → List Field
+rows_fields code caller n [] = []
+rows_fields code caller n (r ∷ rs) =
+    row_fields code caller n r
+    ++ rows_fields code (λ g. Some (parameter_of (condact_at g r.table r.entry r.at))) (n - 1) rs
+
+-- the open loop: the level and the table of an open table, entry, condact (a DOALL), place, last object
+abbrev pub loop_fields : Fields → OpenLoop → List Field
+loop_fields f l = if_there f.looping (
+    byte l.level (λ g. nat_lt l.level f.count)
+    ∷ byte l.table (λ g. option_map_or (λ r. l.table == r.table) (slice_get f.rows l.level) false)
+    ∷ two l.entry (λ g. is_some (head_at g l.table l.entry))
+    ∷ byte l.at (λ g. has_code DOALL (condact_at g l.table l.entry l.at))
+    ∷ byte l.place (λ g. is_place (length g.locations) l.place)
+    ∷ byte l.last (λ g. nat_lt l.last (length g.objects))
+    ∷ [])
+
+-- the prompt of a code from 0 to 4; above it the game is over
+abbrev pub prompt_of : ℕ → Prompt
+prompt_of n = slice_index_or (prompt.Main ∷ prompt.Quit ∷ prompt.Again ∷ prompt.Key ∷ []) n prompt.Over
+
+-- All fields, in order: flags and places, now and in the saved position; the seed, how many words were drawn, and how
+-- many lines were taken; the prompt, how many tables are open, and their rows; whether a loop is open (none is where no
+-- table is), and the loop; the verb of the sentence before; how many bytes are pending (none at a prompt outside
+-- tables), and these, with zeros after them; how many bytes the last piece has; the kept positions. At most
+-- 1,000,000,000 lines were taken. The words drawn are at most 200,000 for each, and 200,000 for the piece before the
+-- first; where the lines are too many this isn't looked at
+unfoldable pub state_fields : Fields → List Field
+state_fields f =
+    let inside = waiting_code (prompt_of f.prompt) in
+    one_by_one (λ i flag g. true) 0 f.flags
+    ++ one_by_one place_holds 0 f.places
+    ++ held_fields f.saved
+    ++ eight f.seed (λ g. true)
+    ∷ eight f.draws (λ g. not (nat_le f.events EVENT_LIMIT) || nat_le f.draws (READ_LIMIT * (f.events + 1)))
+    ∷ eight f.events (λ g. nat_le f.events EVENT_LIMIT)
+    ∷ byte f.prompt (λ g. nat_le f.prompt 4)
+    ∷ byte f.count (λ g. count_fits inside f.count)
+    ∷ rows_fields (unwrap_or inside 0) (λ g. None) f.count f.rows
+    ++ byte f.looping (λ g. nat_le f.looping (if f.count == 0 then 0 else 1))
+    ∷ loop_fields f f.turning
+    ++ byte f.earlier (λ g. true)
+    ∷ byte f.pending (λ g. is_some inside || (f.pending == 0))
+    ∷ one_by_one (λ i b g. nat_lt i f.pending || (b == 0)) 0 f.line
+    ++ two f.piece (λ g. true)
+    ∷ flat_map held_fields f.kept
 
 -- the arrays of a position have their lengths
 pub record IsSizedHeld (h : Held) : Type 0 where
@@ -87,49 +151,3 @@ pub record AreSized (f : Fields) : Type 0 where
   pub piece : f.piece < 2 ^ 16
   pub four : length f.kept ≡ POSITION_COUNT
   pub kept : All IsSizedHeld f.kept
-
--- a position that is there, with its flags and places; all 0 where there is none
-abbrev pub held_of : Option Position → Held
-held_of None = record { there = 0; flags = zeros FLAG_COUNT; places = zeros OBJECT_LIMIT }
-held_of (Some q) = record { there = 1; flags = q.flags; places = filled OBJECT_LIMIT q.places }
-
--- the code of a prompt
-abbrev pub prompt_code : Prompt → ℕ
-prompt_code prompt.Main = 0
-prompt_code prompt.Quit = 1
-prompt_code prompt.Again = 2
-prompt_code prompt.Key = 3
-prompt_code prompt.Over = 4
-
--- the row of a frame, with 1 where an action was carried out
-abbrev pub row_of : Frame → Row
-row_of f = record { table = f.table; entry = f.entry; at = f.at; acted = (if f.acted then 1 else 0) }
-
--- the loop, or one that is all 0 where there is none
-abbrev pub loop_or_zeros : Option OpenLoop → OpenLoop
-loop_or_zeros o = unwrap_or o (record { level = 0; table = 0; entry = 0; at = 0; place = 0; last = 0 })
-
--- the fields of a state, with 1 where a loop is open
-abbrev pub fields_of : State → Fields
-fields_of s = record {
-  flags = s.world.flags;
-  places = filled OBJECT_LIMIT s.world.places;
-  saved = held_of s.world.saved;
-  kept = map held_of s.world.kept;
-  seed = s.world.seed;
-  draws = s.world.draws;
-  events = s.events;
-  prompt = prompt_code s.prompt;
-  count = s.frames.count;
-  rows = map row_of s.frames.rows;
-  looping = (if is_some s.frames.turning then 1 else 0);
-  turning = loop_or_zeros s.frames.turning;
-  earlier = s.pending.earlier;
-  pending = length s.pending.bytes;
-  line = filled LINE_LIMIT s.pending.bytes;
-  piece = s.piece;
-}
-
--- the bytes of a state
-abbrev pub state_bytes : State → List ℕ
-state_bytes s = field_bytes (fields_of s)

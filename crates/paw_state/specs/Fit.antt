@@ -3,9 +3,8 @@ use Rattle.std.specs.Prelude.{◌≡◌, ℕ, List, Some, take}
 use Rattle.paw_game.specs.Game.{GameLists}
 use Rattle.paw_state.specs.declared.layout.TheConstants.{STATE_LENGTH}
 use Rattle.paw_state.specs.declared.fields.Fields.{Fields}
-use Rattle.paw_state.specs.State.{State, Keeps, FitsFields}
-use Rattle.paw_state.specs.Fields.{AreSized, field_bytes, state_bytes}
-use Rattle.paw_state.specs.Faults.{fields_fault}
+use Rattle.paw_state.specs.Fields.{AreSized, bytes_of, state_fields, fault_from}
+use Rattle.paw_state.specs.State.{State, Keeps, FitsFields, state_bytes}
 
 -- bytes are fit for a game where those that a state has are of one that keeps its rules
 pub record Fit (g : GameLists) (bytes : List ℕ) : Type 0 where
@@ -18,5 +17,5 @@ pub record Fit (g : GameLists) (bytes : List ℕ) : Type 0 where
 pub record Unfit (g : GameLists) (bytes : List ℕ) (at : ℕ) : Type 0 where
   pub fields : Fields
   pub sized : AreSized fields
-  pub are : take STATE_LENGTH bytes ≡ field_bytes fields
-  pub fault : fields_fault g fields ≡ Some at
+  pub are : take STATE_LENGTH bytes ≡ bytes_of (state_fields fields)
+  pub fault : fault_from g 0 (state_fields fields) ≡ Some at

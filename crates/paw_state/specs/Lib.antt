@@ -1,6 +1,5 @@
-pub mod State
 pub mod Fields
-pub mod Faults
+pub mod State
 pub mod Fit
 pub mod Record
 pub mod inner

@@ -1,15 +1,23 @@
--- What a session keeps of a game that is played, and the rules that it keeps.
-use Rattle.std.specs.Prelude.{◌≡◌, ℕ, ◌+◌, ◌*◌, ◌^◌, ◌<◌, ◌≤◌, [], Option, None, length, All, IfSome, IfNone}
-use Rattle.paw_base.specs.declared.limits.TheConstants.{LINE_LIMIT, READ_LIMIT, EVENT_LIMIT}
+-- What a session keeps of a game that is played, its fields and bytes, and the rules that it keeps.
+use Rattle.std.specs.Prelude.{◌≡◌, ℕ, ◌-◌, ◌^◌, ◌<◌, ◌≤◌, List, ◌++◌, Option, Some, None, length, map, is_some, All, IfSome}
+use Rattle.std.specs.Prelude.{if◌then◌else◌}
+use Rattle.std.specs.Option.{unwrap_or}
+unfoldable pub use Rattle.paw_base.specs.Bytes.{zeros}
+use Rattle.paw_base.specs.declared.limits.TheConstants.{LINE_LIMIT, OBJECT_LIMIT, FLAG_COUNT}
 use Rattle.paw_game.specs.Game.{GameLists}
 use Rattle.paw_world.specs.World.{World, Position, IsWorld}
 use Rattle.paw_phrase.specs.Pending.{PendingLine}
 use Rattle.paw_effects.specs.declared.act.Prompt.{Prompt}
-use Rattle.paw_effects.specs.Worlds.{IsOf, ArePlacesOf, StandsIn}
+use Rattle.paw_effects.specs.declared.act.Prompt.TheVariants as prompt
+use Rattle.paw_effects.specs.Worlds.{IsOf}
 pub use Rattle.paw_effects.specs.Standing.{AreBytes}
+use Rattle.paw_reading.specs.declared.places.Frame.{Frame}
 use Rattle.paw_process.specs.declared.machine.TheConstants.{MOST_FRAMES}
-use Rattle.paw_process.specs.Kept.{kept, waiting_code, frames_fault}
 use Rattle.paw_process.specs.declared.kept.Frames.{Frames}
+use Rattle.paw_state.specs.declared.fields.Row.{Row}
+use Rattle.paw_state.specs.declared.fields.Fields.{Fields}
+use Rattle.paw_state.specs.declared.held.Held.{Held}
+use Rattle.paw_state.specs.Fields.{bytes_of, state_fields, fault_from}
 
 -- the world; the places in the tables that are open; what is pending; the prompt; how many lines were taken; and how
 -- many bytes the last piece has
@@ -21,20 +29,64 @@ pub record State : Type 0 where
   pub events : ℕ
   pub piece : ℕ
 
--- The rules of a state: the world is the game's, and sound, with each object at a place, now, in the saved position and
--- in the kept ones; at most 1,000,000,000 lines were taken; the words drawn are at most 200,000 for each line, and
--- 200,000 for the piece before the first; the open tables and the open loop are such as a game waits in at the prompt,
--- in eleven rows; at most 255 bytes are pending, and none where no table is open
+-- ---- its fields ----
+
+-- these bytes, filled up with zeros to n of them
+abbrev pub filled : ℕ → List ℕ → List ℕ
+filled n bytes = bytes ++ zeros (n - length bytes)
+
+-- a position that is there, with its flags and places; all 0 where there is none
+abbrev pub held_of : Option Position → Held
+held_of None = record { there = 0; flags = zeros FLAG_COUNT; places = zeros OBJECT_LIMIT }
+held_of (Some q) = record { there = 1; flags = q.flags; places = filled OBJECT_LIMIT q.places }
+
+-- the code of a prompt
+abbrev pub prompt_code : Prompt → ℕ
+prompt_code prompt.Main = 0
+prompt_code prompt.Quit = 1
+prompt_code prompt.Again = 2
+prompt_code prompt.Key = 3
+prompt_code prompt.Over = 4
+
+-- the row of a frame, with 1 where an action was carried out
+abbrev pub row_of : Frame → Row
+row_of f = record { table = f.table; entry = f.entry; at = f.at; acted = (if f.acted then 1 else 0) }
+
+-- the fields of a state, with 1 where a loop is open
+abbrev pub fields_of : State → Fields
+fields_of s = record {
+  flags = s.world.flags;
+  places = filled OBJECT_LIMIT s.world.places;
+  saved = held_of s.world.saved;
+  kept = map held_of s.world.kept;
+  seed = s.world.seed;
+  draws = s.world.draws;
+  events = s.events;
+  prompt = prompt_code s.prompt;
+  count = s.frames.count;
+  rows = map row_of s.frames.rows;
+  looping = (if is_some s.frames.turning then 1 else 0);
+  turning = unwrap_or s.frames.turning (record { level = 0; table = 0; entry = 0; at = 0; place = 0; last = 0 });
+  earlier = s.pending.earlier;
+  pending = length s.pending.bytes;
+  line = filled LINE_LIMIT s.pending.bytes;
+  piece = s.piece;
+}
+
+-- the bytes of a state
+abbrev pub state_bytes : State → List ℕ
+state_bytes s = bytes_of (state_fields (fields_of s))
+
+-- ---- its rules ----
+
+-- The rules of a state: the world is the game's, and sound; there are eleven rows for open tables; at most 255 bytes are
+-- pending; and each of its fields keeps its rule
 pub record Keeps (g : GameLists) (s : State) : Type 0 where
   pub world : IsOf g s.world
   pub sound : IsWorld s.world
-  pub places : ArePlacesOf g s.world.places × (StandsIn g s.world.saved × All (StandsIn g) s.world.kept)
-  pub events : s.events ≤ EVENT_LIMIT
-  pub draws : s.world.draws ≤ READ_LIMIT * (s.events + 1)
   pub rows : length s.frames.rows ≡ MOST_FRAMES
-  pub frames : frames_fault g s.prompt s.frames ≡ None
   pub line : length s.pending.bytes ≤ LINE_LIMIT
-  pub pending : IfNone (waiting_code s.prompt) (s.pending.bytes ≡ [])
+  pub fields : fault_from g 0 (state_fields (fields_of s)) ≡ None
 
 -- the flags and the places of a position, where there is one, are bytes
 abbrev pub HoldsBytes : Option Position → Type 0

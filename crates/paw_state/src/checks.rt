@@ -3,13 +3,13 @@
 ghost use Rattle.std.specs.Prelude.{◌≡◌, ◌+◌, ◌<◌, ◌≤◌, ◌^◌, ◌*◌, length, slice_get};
 ghost use Rattle.std.specs.Option.{option_map};
 ghost use Rattle.paw_game.specs.Valid.{Valid, is_place};
-ghost use Rattle.paw_process.specs.Kept.{is_that_table};
+ghost use Rattle.paw_process.specs.inner.Kept.{is_that_table};
 ghost use Rattle.paw_state.specs.declared.layout.TheConstants.{HELD_LENGTH, ROW_LENGTH, STATE_ROOM};
-ghost use Rattle.paw_state.specs.Faults.{rule, first_not, is_zero, places_fault, absent_fault, held_fault};
-ghost use Rattle.paw_state.specs.Faults.{kept_fault, numbers_fault, prompt_of, prompt_fault, unused_fault};
-ghost use Rattle.paw_state.specs.Faults.{used_fault, row_fault, row_fields_fault, no_loop_fault};
-ghost use Rattle.paw_state.specs.Faults.{loop_fields_fault, turning_fault, frame_fields_fault, pending_fault};
-ghost use Rattle.paw_state.specs.Faults.{fields_fault};
+ghost use Rattle.paw_state.specs.inner.Faults.{rule, first_not, is_zero, places_fault, absent_fault, held_fault};
+ghost use Rattle.paw_state.specs.inner.Faults.{kept_fault, numbers_fault, prompt_of, prompt_fault, unused_fault};
+ghost use Rattle.paw_state.specs.inner.Faults.{used_fault, row_fault, row_fields_fault, no_loop_fault};
+ghost use Rattle.paw_state.specs.inner.Faults.{loop_fields_fault, turning_fault, frame_fields_fault, pending_fault};
+ghost use Rattle.paw_state.specs.inner.Faults.{parts_fault};
 ghost use Rattle.paw_state.specs.inner.Faults.{fault_of};
 
 use crate::StateFault;
@@ -285,7 +285,7 @@ fn check_pending(fields: &Fields) -> Result<(), StateFault>
 
 /// The first field that breaks its rule in this game is at fault.
 pub(crate) fn check<T: Tables>(tables: &T, fields: &Fields) -> Result<(), StateFault>
-    ensures value { fault_of result ≡ fields_fault (T.game tables.now) fields.now }
+    ensures value { fault_of result ≡ parts_fault (T.game tables.now) fields.now }
     ensures valid { Valid (T.game tables.now) }
 {
     check_places(tables, PLACES, &fields.places)?;

@@ -8,11 +8,11 @@ ghost use Rattle.paw_state.specs.declared.layout.TheConstants.{STATE_LENGTH, STA
 ghost use Rattle.paw_state.specs.inner.Parts.{frame_in};
 ghost use Rattle.paw_state.specs.inner.Writer.{Writes};
 ghost use Rattle.paw_state.specs.State.{AreBytes};
-ghost use Rattle.paw_state.specs.Fields.{zeros, row_of};
+ghost use Rattle.paw_state.specs.State.{zeros, row_of};
 ghost use Rattle.paw_state.specs.inner.Fields.{two_at, eight_at, row_at, rows_at};
-ghost use Rattle.paw_state.specs.Fields.{row_bytes, loop_bytes, world_bytes, number_bytes, table_bytes};
+ghost use Rattle.paw_state.specs.inner.Fields.{row_bytes, loop_bytes, world_bytes, number_bytes, table_bytes};
 ghost use Rattle.paw_state.specs.inner.Fields.{fields_at};
-ghost use Rattle.paw_state.specs.Fields.{pending_bytes, kept_position_bytes, field_bytes};
+ghost use Rattle.paw_state.specs.inner.Fields.{pending_bytes, kept_position_bytes, field_bytes};
 
 use crate::held::Held;
 use crate::layout::{
@@ -208,7 +208,7 @@ impl Fields {
     }
 
     /// Flags and places, now and in the saved position.
-    #[tactic(auto, unfolding(crate::specs::Fields::world_bytes))]
+    #[tactic(auto, unfolding(crate::specs::inner::Fields::world_bytes))]
     fn put_world(&self, writer: &mut Writer)
         requires room { length writer.old + 1023 ≤ STATE_ROOM }
         ensures { Writes (world_bytes self.now) 1023 writer.old writer.new }
@@ -219,7 +219,7 @@ impl Fields {
     }
 
     /// The seed, the draws and the lines.
-    #[tactic(auto, unfolding(crate::specs::Fields::number_bytes))]
+    #[tactic(auto, unfolding(crate::specs::inner::Fields::number_bytes))]
     fn put_numbers(&self, writer: &mut Writer)
         requires room { length writer.old + 24 ≤ STATE_ROOM }
         ensures { Writes (number_bytes self.now) 24 writer.old writer.new }
@@ -230,7 +230,7 @@ impl Fields {
     }
 
     /// The prompt, the rows of the open tables, and the open loop.
-    #[tactic(auto, unfolding(crate::specs::Fields::table_bytes))]
+    #[tactic(auto, unfolding(crate::specs::inner::Fields::table_bytes))]
     fn put_tables(&self, writer: &mut Writer)
         requires room { length writer.old + 65 ≤ STATE_ROOM }
         ensures { Writes (table_bytes self.now) 65 writer.old writer.new }
@@ -264,7 +264,7 @@ impl Fields {
     }
 
     /// What is pending, and how many bytes the last piece has.
-    #[tactic(auto, unfolding(crate::specs::Fields::pending_bytes))]
+    #[tactic(auto, unfolding(crate::specs::inner::Fields::pending_bytes))]
     fn put_pending(&self, writer: &mut Writer)
         requires room { length writer.old + 259 ≤ STATE_ROOM }
         ensures { Writes (pending_bytes self.now) 259 writer.old writer.new }
@@ -275,7 +275,7 @@ impl Fields {
     }
 
     /// The kept positions.
-    #[tactic(auto, unfolding(crate::specs::Fields::kept_position_bytes))]
+    #[tactic(auto, unfolding(crate::specs::inner::Fields::kept_position_bytes))]
     fn put_kept(&self, writer: &mut Writer)
         requires room { length writer.old + POSITION_COUNT * HELD_LENGTH ≤ STATE_ROOM }
         ensures { Writes (kept_position_bytes self.now) (POSITION_COUNT * HELD_LENGTH) writer.old writer.new }

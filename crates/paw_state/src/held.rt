@@ -2,7 +2,7 @@
 
 ghost use Rattle.std.specs.Prelude.{◌≡◌, ◌+◌, ◌≤◌, length, drop};
 ghost use Rattle.paw_state.specs.declared.layout.TheConstants.{HELD_LENGTH, STATE_ROOM};
-ghost use Rattle.paw_state.specs.Fields.{held_bytes};
+ghost use Rattle.paw_state.specs.inner.Fields.{held_bytes};
 ghost use Rattle.paw_state.specs.inner.Fields.{held_at};
 ghost use Rattle.paw_state.specs.inner.Writer.{Writes};
 
@@ -39,7 +39,7 @@ impl Held {
     }
 
     /// Writes the bytes of a position.
-    #[tactic(auto, unfolding(crate::specs::Fields::held_bytes))]
+    #[tactic(auto, unfolding(crate::specs::inner::Fields::held_bytes))]
     pub(crate) fn put(&self, writer: &mut Writer)
         requires room { length writer.old + HELD_LENGTH ≤ STATE_ROOM }
         ensures { Writes (held_bytes self.now) HELD_LENGTH writer.old writer.new }

@@ -3,10 +3,11 @@
 ghost use Rattle.std.specs.Prelude.{◌+◌, ◌*◌, slice_index, ◌≡◌, ◌≢◌, ◌<◌, ◌≤◌, ◌↔◌, None};
 ghost use Rattle.std.specs.Prelude.{length, map, replicate, slice_set, IsOk, IfOk, IfErr};
 ghost use Rattle.paw_base.specs.declared.limits.TheConstants.{POSITION_COUNT};
-ghost use Rattle.paw_process.specs.Kept.{kept, frames_fault};
+ghost use Rattle.paw_process.specs.inner.Kept.{kept};
+ghost use Rattle.paw_process.specs.inner.Kept.{frames_fault};
 ghost use Rattle.paw_process.specs.inner.Kept.{restored, waiting_at, StandsAt};
 ghost use Rattle.paw_state.specs.declared.layout.TheConstants.{PIECE};
-ghost use Rattle.paw_state.specs.Faults.{fields_fault};
+ghost use Rattle.paw_state.specs.inner.Faults.{parts_fault};
 ghost use Rattle.paw_world.specs.World.{kept_position};
 ghost use Rattle.paw_state.specs.inner.Parts.{SetsSaved, held_in, world_in, frame_in, frames_in, state_in};
 ghost use Rattle.paw_state.specs.Fit.{Fit, Unfit};
@@ -122,7 +123,7 @@ fn frame_rows(rows: &[Row; MOST_FRAMES]) -> [Frame; MOST_FRAMES]
 
 /// The parts of a game that these fields say, which keep their rules.
 fn restored<T: Tables>(tables: &T, fields: &Fields) -> Restored
-    requires sound { fields_fault (T.game tables.now) fields.now ≡ None }
+    requires sound { parts_fault (T.game tables.now) fields.now ≡ None }
     ensures state { state_read result ≡ state_in (T.game tables.now) fields.now }
     ensures machine { result.machine ≡ restored (kept result.machine) (waiting_at result.prompt) }
     ensures stands { StandsAt result.prompt result.machine }

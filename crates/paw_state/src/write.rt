@@ -7,8 +7,9 @@ ghost use Rattle.paw_world.specs.World.{kept_position, IsWorld};
 ghost use Rattle.paw_state.specs.declared.layout.TheConstants.{PIECE, STATE_LENGTH, STATE_ROOM};
 ghost use Rattle.paw_state.specs.State.{AreBytes, HoldsBytes, FitsFields};
 ghost use Rattle.paw_state.specs.inner.State.{state_of, state_with};
-ghost use Rattle.paw_state.specs.Fields.{zeros, filled, held_of, prompt_code, row_of};
-ghost use Rattle.paw_state.specs.Fields.{loop_or_zeros, fields_of, state_bytes};
+ghost use Rattle.paw_state.specs.State.{zeros, filled, held_of, prompt_code, row_of};
+ghost use Rattle.paw_state.specs.State.{fields_of, state_bytes};
+ghost use Rattle.paw_state.specs.inner.State.{loop_or_zeros};
 
 use crate::fields::{Fields, Row};
 use crate::held::Held;

@@ -2,7 +2,7 @@
 
 ghost use Rattle.std.specs.Prelude.{◌≡◌, ◌+◌, ◌-◌, ◌≤◌, [], ◌++◌, length};
 ghost use Rattle.paw_state.specs.declared.layout.TheConstants.{STATE_ROOM};
-ghost use Rattle.paw_state.specs.Fields.{zeros};
+ghost use Rattle.paw_state.specs.State.{zeros};
 ghost use Rattle.paw_state.specs.inner.Writer.{Writes};
 
 use crate::layout::STATE_ROOM;
@@ -18,7 +18,7 @@ pub(crate) struct Writer {
 impl Model for Writer {
     ghost use Rattle.std.specs.Prelude.{◌≡◌, ◌-◌, ◌≤◌, List, ℕ, take, drop};
     ghost use Rattle.paw_state.specs.declared.layout.TheConstants.{STATE_ROOM};
-    ghost use Rattle.paw_state.specs.Fields.{zeros};
+    ghost use Rattle.paw_state.specs.State.{zeros};
 
     ghost Value = { List ℕ };
 

@@ -8,8 +8,9 @@ use Rattle.paw_journal.specs.Session.{Digests, Recovered, Shown, recover, state_
 use Rattle.paw_state.specs.State.{State}
 use Rattle.paw_state.specs.Record.{state_at}
 use Rattle.std.specs.List.{concat}
-use Rattle.paw_state.specs.Fields.{fields_of, held_bytes, world_bytes, number_bytes, table_bytes, pending_bytes}
-use Rattle.paw_state.specs.Fields as fields
+use Rattle.paw_state.specs.State.{fields_of}
+use Rattle.paw_state.specs.inner.Fields.{held_bytes, world_bytes, number_bytes, table_bytes, pending_bytes, kept_position_bytes}
+use Rattle.paw_state.proofs.Listed.{state_same}
 use Rattle.paw_play.specs.Session.{kept_bytes, IsKept}
 use Rattle.paw_play.specs.Stands.{Stands}
 use Rattle.paw_play.proofs.Going.{IsSettled}
@@ -27,9 +28,10 @@ unfolding kept_bytes world_bytes
 flags_first s i low =
     let f = fields_of s in
     let rest = concat (f.places ∷ held_bytes f.saved ∷ []) in
-    let behind = concat (number_bytes f ∷ table_bytes f ∷ pending_bytes f ∷ fields.kept_position_bytes f ∷ []) in
-    get_or_append_left (s.world.flags ++ rest) behind 0 i (omega (arith, low, length-append s.world.flags rest))
-    ∙ get_or_append_left s.world.flags rest 0 i low
+    let behind = concat (number_bytes f ∷ table_bytes f ∷ pending_bytes f ∷ kept_position_bytes f ∷ []) in
+    ap (λ (l : List ℕ). get_or l i 0) (state_same s)
+    ∙ (get_or_append_left (s.world.flags ++ rest) behind 0 i (omega (arith, low, length-append s.world.flags rest))
+    ∙ get_or_append_left s.world.flags rest 0 i low)
 
 same_state : (d e : Digests) (s p t q : List ℕ) → Shown d s p ≡ Shown e t q → s ≡ t
 same_state d e s p t q h = cc

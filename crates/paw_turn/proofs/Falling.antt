@@ -5,7 +5,7 @@ use Rattle.paw_reading.specs.declared.places.Frame.{Frame}
 use Rattle.paw_reading.specs.Run.{Run, Step as Read}
 use Rattle.paw_reading.specs.Reading.{Out, table_read}
 use Rattle.paw_reading.specs.Turn.{Ending, left_to_read}
-use Rattle.paw_process.specs.OpenTables.{OpenTables}
+use Rattle.paw_process.specs.inner.OpenTables.{OpenTables}
 use Rattle.paw_process.specs.inner.OpenTables.{HasRead, ReadsNone, new_machine}
 use Rattle.paw_process.specs.inner.Meaning.{ComesTo}
 use Rattle.paw_process.specs.declared.Turned.{Turned}

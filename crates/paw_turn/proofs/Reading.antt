@@ -4,7 +4,7 @@ use Rattle.paw_effects.specs.Story.{Story}
 use Rattle.paw_reading.specs.Run.{Run}
 use Rattle.paw_reading.specs.Reading.{table_read}
 use Rattle.paw_reading.specs.Turn.{AtTimeFrame, AtResponse, Ending, table_done, turn}
-use Rattle.paw_process.specs.OpenTables.{OpenTables}
+use Rattle.paw_process.specs.inner.OpenTables.{OpenTables}
 use Rattle.paw_process.specs.inner.OpenTables.{HasRead, ReadsNone, table_begun}
 use Rattle.paw_process.specs.inner.Meaning.{having, RunsTo}
 use Rattle.paw_process.specs.declared.Turned.{Turned}

@@ -5,7 +5,7 @@ use Rattle.std.specs.Prelude.{if◌then◌else◌, nat_lt}
 use Rattle.std.specs.Option.{option_or}
 use Rattle.std.proofs.lemmas.Bool.{eqb-true, ltb-true}
 use Rattle.std.proofs.lemmas.List.{reverse-reverse}
-use Rattle.paw_base.specs.Steps.{KeptSteps}
+use Rattle.paw_base.specs.inner.Steps.{KeptSteps}
 use Rattle.paw_base.specs.inner.Steps.{no_steps}
 use Rattle.paw_game.specs.Game.{GameLists}
 use Rattle.paw_routines.specs.declared.routines.Routines.{Routines}
@@ -21,10 +21,12 @@ use Rattle.paw_reading.specs.declared.places.OpenLoop.{OpenLoop}
 use Rattle.paw_reading.specs.Turn.{first_table}
 use Rattle.paw_reading.specs.inner.Places.{ArePlaces, IsLoopOf}
 use Rattle.paw_phrase.specs.Pending.{PendingLine}
-use Rattle.paw_process.specs.OpenTables.{OpenTables}
+use Rattle.paw_process.specs.inner.OpenTables.{OpenTables}
 use Rattle.paw_process.specs.inner.OpenTables.{IsWaiting, IsClosed, new_machine, refilled}
-use Rattle.paw_process.specs.Kept.{kept, rows_fault, is_that_table, loop_stands, loop_fault}
-use Rattle.paw_process.specs.Kept.{count_fits, fault_at, frames_fault, waiting_code}
+use Rattle.paw_process.specs.inner.Kept.{kept, is_that_table}
+use Rattle.paw_process.specs.inner.Kept.{rows_fault, loop_stands, loop_fault}
+use Rattle.paw_process.specs.Kept.{count_fits, waiting_code}
+use Rattle.paw_process.specs.inner.Kept.{fault_at, frames_fault}
 use Rattle.paw_process.specs.inner.Kept.{restored, waiting_at}
 use Rattle.paw_process.specs.inner.Kept.{StandsAt as MachineStandsAt}
 use Rattle.paw_process.specs.declared.kept.Frames.{Frames}

@@ -22,7 +22,7 @@ use Rattle.paw_reading.specs.Bounds.{IsLine, ValidStory}
 use Rattle.paw_reading.specs.inner.Places.{StandsRightly, StopsRightly}
 use Rattle.paw_reading.proofs.Waiting.{waits_on}
 use Rattle.paw_reading.proofs.Rightly.{readings_stop_rightly, going_on_stops_rightly}
-use Rattle.paw_process.specs.OpenTables.{OpenTables}
+use Rattle.paw_process.specs.inner.OpenTables.{OpenTables}
 use Rattle.paw_process.specs.inner.OpenTables.{IsClosed}
 use Rattle.paw_turn.specs.declared.Step.{Step}
 use Rattle.paw_turn.specs.declared.Step.TheVariants as step

@@ -8,7 +8,7 @@ use Rattle.paw_reading.specs.declared.places.Frame.{Frame}
 use Rattle.paw_reading.specs.Run.{Run, closed}
 use Rattle.paw_reading.specs.Reading.{Out, Waits}
 use Rattle.paw_reading.specs.inner.Places.{IsLoopOf}
-use Rattle.paw_process.specs.OpenTables.{OpenTables}
+use Rattle.paw_process.specs.inner.OpenTables.{OpenTables}
 use Rattle.paw_process.specs.inner.OpenTables.{IsWaiting, IsClosed}
 use Rattle.paw_process.specs.inner.Meaning.{IsStopped}
 use Rattle.paw_process.specs.declared.Turned.{Turned}

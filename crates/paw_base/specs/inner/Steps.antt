@@ -1,8 +1,12 @@
--- The steps of a piece: words that contracts between crates and proofs use beside those of specs/Steps.antt.
-use Rattle.std.specs.Prelude.{suc, List, [], ◌∷◌, ◌++◌, length, take}
+-- The steps of a piece: the condacts that are read for it. Words of contracts between crates, and of proofs.
+use Rattle.std.specs.Prelude.{ℕ, suc, List, [], ◌∷◌, ◌++◌, length, take}
 use Rattle.paw_base.specs.declared.limits.TheConstants.{STEP_LIMIT}
 use Rattle.paw_base.specs.declared.steps.StepRow.{StepRow}
-use Rattle.paw_base.specs.Steps.{KeptSteps}
+
+-- what is kept of the steps of a piece: the first 1,000, and how many there were
+pub record KeptSteps : Type 0 where
+  pub rows : List StepRow
+  pub count : ℕ
 
 -- what is kept of these steps
 abbrev pub kept_steps : List StepRow → KeptSteps

@@ -3,7 +3,8 @@ use Rattle.std.specs.Prelude.{◌≡◌, Option, length, IfSome, All}
 use Rattle.paw_base.specs.declared.limits.TheConstants.{FLAG_COUNT, POSITION_COUNT}
 use Rattle.paw_game.specs.Game.{GameLists}
 use Rattle.paw_world.specs.World.{World, Position}
-use Rattle.paw_effects.specs.Worlds.{IsOf, ArePlacesOf}
+use Rattle.paw_effects.specs.Worlds.{IsOf}
+use Rattle.paw_effects.specs.inner.Worlds.{ArePlacesOf}
 use Rattle.paw_effects.specs.Standing.{AreBytes}
 
 -- a position of the game: 256 flags that are bytes, and each object at a place

@@ -1,6 +1,6 @@
 -- How a walk tells the pieces of a game: words that contracts and proofs use.
 use Rattle.std.specs.Prelude.{◌≡◌, ◌-◌, List, ℕ, [], ◌++◌, length, take, flat_map}
-use Rattle.paw_base.specs.Steps.{KeptSteps}
+use Rattle.paw_base.specs.inner.Steps.{KeptSteps}
 use Rattle.paw_base.specs.declared.limits.TheConstants.{STEP_LIMIT}
 use Rattle.paw_reading.specs.Run.{Run, Step as Read}
 use Rattle.paw_reading.specs.Turn.{Ending}

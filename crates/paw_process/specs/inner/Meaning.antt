@@ -12,7 +12,7 @@ use Rattle.paw_reading.specs.Run.{Run, Step, closed, is_ignored, heard, reply, i
 use Rattle.paw_reading.specs.Reading.{Halt, RunsOut, CallsTooDeep, Redescribes, Out, Left, Stopped, halts, rest}
 use Rattle.paw_reading.specs.GoingOn.{on_path}
 use Rattle.paw_reading.specs.inner.GoingOn.{along}
-use Rattle.paw_process.specs.OpenTables.{OpenTables}
+use Rattle.paw_process.specs.inner.OpenTables.{OpenTables}
 use Rattle.paw_process.specs.inner.OpenTables.{HasRead, IsWaiting, IsClosed}
 use Rattle.paw_process.specs.declared.situation.Situation.{Situation}
 use Rattle.paw_process.specs.declared.Turned.{Turned}

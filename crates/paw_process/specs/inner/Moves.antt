@@ -14,7 +14,7 @@ use Rattle.paw_reading.specs.Run.{Run, Step}
 use Rattle.paw_reading.specs.Reading.{Out, Left, again, turns, looped, deeper, plain, inside}
 use Rattle.paw_reading.specs.Reading.{after_action, step_at, noted, reads_one}
 use Rattle.paw_reading.specs.inner.GoingOn.{along}
-use Rattle.paw_process.specs.OpenTables.{OpenTables}
+use Rattle.paw_process.specs.inner.OpenTables.{OpenTables}
 use Rattle.paw_process.specs.inner.OpenTables.{HasRead, ReadsStep, IsReading}
 use Rattle.paw_process.specs.inner.Meaning.{Held, run_held, with_steps, to_come, going_in, ComesTo, IsStopped}
 use Rattle.paw_process.specs.declared.Turned.{Turned}

@@ -1,13 +1,22 @@
--- The tables that are open: words that contracts between crates and proofs use beside those of specs/OpenTables.antt.
+-- The tables that are open. Words of contracts between crates, and of proofs.
 use Rattle.std.specs.Prelude.{◌≡◌, ℕ, ◌+◌, ◌<◌, ◌≤◌, false, List, [], ◌∷◌, Option, Some, None, length, IfSome}
 use Rattle.paw_base.specs.declared.limits.TheConstants.{ENTRY_LIMIT, CONDACT_LIMIT, READ_LIMIT}
+use Rattle.paw_base.specs.inner.Steps.{KeptSteps}
 use Rattle.paw_base.specs.inner.Steps.{no_steps, kept_steps, with_step_noted}
 use Rattle.paw_effects.specs.declared.act.Prompt.{Prompt}
 use Rattle.paw_reading.specs.declared.places.Frame.{Frame}
 use Rattle.paw_reading.specs.declared.places.OpenLoop.{OpenLoop}
 use Rattle.paw_reading.specs.Run.{Step}
 use Rattle.paw_process.specs.declared.machine.TheConstants.{MOST_FRAMES}
-use Rattle.paw_process.specs.OpenTables.{OpenTables}
+
+-- what a machine holds: the places in the tables that are open, the innermost first; the open loop; the prompt at which
+-- it waits; how many condacts the open piece may still read; and what is kept of the steps of the piece
+pub record OpenTables : Type 0 where
+  pub frames : List Frame
+  pub turning : Option OpenLoop
+  pub waiting : Option Prompt
+  pub left : ℕ
+  pub steps : KeptSteps
 
 -- the open piece has read these condacts, and so many in all as a piece may
 pub record HasRead (read : List Step) (m : OpenTables) : Type 0 where

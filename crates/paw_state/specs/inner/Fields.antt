@@ -1,6 +1,10 @@
--- Where the fields of a state stand in its bytes.
-use Rattle.std.specs.Prelude.{ℕ, zero, suc, ◌+◌, List, [], ◌∷◌, drop, slice_index, slice_range}
-use Rattle.std.specs.Int.{w16, w64, from_le_bytes}
+-- The bytes of a state's fields, part by part, and where each field stands in them: words of contracts and proofs.
+-- specs/Fields.antt says the bytes in one list.
+use Rattle.std.specs.Prelude.{ℕ, zero, suc, ◌+◌, List, [], ◌∷◌, ◌++◌, drop, flat_map, slice_index, slice_range}
+use Rattle.std.specs.List.{concat}
+use Rattle.std.specs.Int.{w16, w64, from_le_bytes, to_le_bytes}
+use Rattle.paw_game.specs.Image.{two_bytes}
+use Rattle.paw_reading.specs.declared.places.OpenLoop.{OpenLoop}
 use Rattle.paw_process.specs.declared.machine.TheConstants.{MOST_FRAMES}
 use Rattle.paw_state.specs.declared.layout.TheConstants.{FLAGS, PLACES, SAVED, HELD_FLAGS, HELD_PLACES, HELD_LENGTH}
 use Rattle.paw_state.specs.declared.layout.TheConstants.{SEED, DRAWS, EVENTS, PROMPT, COUNT, ROWS, ROW_LENGTH}
@@ -10,6 +14,52 @@ use Rattle.paw_state.specs.declared.layout.TheConstants.{LINE, PIECE, KEPT}
 use Rattle.paw_state.specs.declared.fields.Row.{Row}
 use Rattle.paw_state.specs.declared.fields.Fields.{Fields}
 use Rattle.paw_state.specs.declared.held.Held.{Held}
+
+-- ---- from fields to bytes ----
+
+-- a number of eight bytes
+abbrev pub eight_bytes : ℕ → List ℕ
+eight_bytes n = to_le_bytes w64 n
+
+-- a frame: table, entry, condact, and 1 where an action was carried out
+abbrev pub row_bytes : Row → List ℕ
+row_bytes r = r.table ∷ (two_bytes r.entry ++ r.at ∷ r.acted ∷ [])
+
+-- the open loop: level, table, entry, condact, place, last object
+abbrev pub loop_bytes : OpenLoop → List ℕ
+loop_bytes l = l.level ∷ l.table ∷ (two_bytes l.entry ++ l.at ∷ l.place ∷ l.last ∷ [])
+
+-- a position that may be there: whether it is, its flags, and its places
+unfoldable pub held_bytes : Held → List ℕ
+held_bytes h = concat ((h.there ∷ []) ∷ h.flags ∷ h.places ∷ [])
+
+-- flags and places, now and in the saved position
+unfoldable pub world_bytes : Fields → List ℕ
+world_bytes f = concat (f.flags ∷ f.places ∷ held_bytes f.saved ∷ [])
+
+-- the seed, how many words were drawn, and how many lines were taken
+unfoldable pub number_bytes : Fields → List ℕ
+number_bytes f = concat (eight_bytes f.seed ∷ eight_bytes f.draws ∷ eight_bytes f.events ∷ [])
+
+-- the prompt, the rows of the open tables, and the open loop
+unfoldable pub table_bytes : Fields → List ℕ
+table_bytes f = concat (
+    (f.prompt ∷ f.count ∷ []) ∷ flat_map row_bytes f.rows ∷ (f.looping ∷ []) ∷ loop_bytes f.turning ∷ [])
+
+-- what is pending, and how many bytes the last piece has
+unfoldable pub pending_bytes : Fields → List ℕ
+pending_bytes f = concat ((f.earlier ∷ f.pending ∷ []) ∷ f.line ∷ two_bytes f.piece ∷ [])
+
+-- the kept positions
+unfoldable pub kept_position_bytes : Fields → List ℕ
+kept_position_bytes f = flat_map held_bytes f.kept
+
+-- the bytes of a state's fields
+abbrev pub field_bytes : Fields → List ℕ
+field_bytes f = concat (
+    world_bytes f ∷ number_bytes f ∷ table_bytes f ∷ pending_bytes f ∷ kept_position_bytes f ∷ [])
+
+-- ---- from bytes to fields ----
 
 -- the number in the two bytes from a place on
 abbrev pub two_at : List ℕ → ℕ → ℕ

@@ -5,14 +5,15 @@ use Rattle.paw_game.specs.Valid.{Valid}
 use Rattle.paw_state.specs.declared.layout.TheConstants.{STATE_LENGTH}
 use Rattle.paw_state.specs.State.{State, Keeps, FitsFields, AreBytes}
 use Rattle.paw_state.specs.declared.fields.Fields.{Fields}
-use Rattle.paw_state.specs.Fields.{AreSized, field_bytes, state_bytes}
+use Rattle.paw_state.specs.Fields.{AreSized, bytes_of, state_fields}
+use Rattle.paw_state.specs.State.{state_bytes}
 use Rattle.paw_state.specs.Fit.{Fit, Unfit}
 use Rattle.paw_state.specs.inner.Fields.{fields_at}
 use Rattle.paw_state.specs.inner.Fit.{unfit}
 
 -- fields stand at their places in the bytes that they are written to
 abbrev pub FieldsStand : Type 0
-FieldsStand = (f : Fields) (rest : List ℕ) → AreSized f → fields_at (field_bytes f ++ rest) ≡ f
+FieldsStand = (f : Fields) (rest : List ℕ) → AreSized f → fields_at (bytes_of (state_fields f) ++ rest) ≡ f
 
 -- so bytes have one fault at most, which is that of the fields at these places
 abbrev pub OneFault : Type 0

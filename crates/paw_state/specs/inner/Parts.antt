@@ -10,7 +10,7 @@ use Rattle.paw_state.specs.declared.fields.Row.{Row}
 use Rattle.paw_state.specs.declared.fields.Fields.{Fields}
 use Rattle.paw_state.specs.declared.held.Held.{Held}
 use Rattle.paw_state.specs.State.{State}
-use Rattle.paw_state.specs.Faults.{prompt_of}
+use Rattle.paw_state.specs.inner.Faults.{prompt_of}
 
 -- a position where it is there: the flags, and the places of so many objects
 abbrev pub held_in : ℕ → Held → Option Position

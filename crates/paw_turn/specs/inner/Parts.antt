@@ -1,6 +1,6 @@
 -- The parts of a player: what is lent of it, and a player that stands with such parts.
 use Rattle.std.specs.Prelude.{◌≡◌, ℕ, ◌<◌, List, [], None, length, reverse}
-use Rattle.paw_base.specs.Steps.{KeptSteps}
+use Rattle.paw_base.specs.inner.Steps.{KeptSteps}
 use Rattle.paw_game.specs.Game.{GameLists}
 use Rattle.paw_world.specs.World.{World}
 use Rattle.paw_phrase.specs.Pending.{PendingLine}
@@ -13,8 +13,9 @@ use Rattle.paw_reading.specs.Run.{Step as Read}
 use Rattle.paw_reading.specs.Turn.{on}
 use Rattle.paw_reading.specs.Bounds.{IsLine}
 use Rattle.paw_process.specs.declared.machine.TheConstants.{MOST_FRAMES}
-use Rattle.paw_process.specs.OpenTables.{OpenTables}
-use Rattle.paw_process.specs.Kept.{kept, frames_fault}
+use Rattle.paw_process.specs.inner.OpenTables.{OpenTables}
+use Rattle.paw_process.specs.inner.Kept.{kept}
+use Rattle.paw_process.specs.inner.Kept.{frames_fault}
 use Rattle.paw_process.specs.inner.OpenTables.{refilled}
 use Rattle.paw_process.specs.inner.Kept.{restored, waiting_at}
 use Rattle.paw_process.specs.inner.Kept.{StandsAt as MachineStandsAt}

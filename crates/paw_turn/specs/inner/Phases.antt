@@ -21,7 +21,7 @@ use Rattle.paw_reading.specs.Reading.{Halt, IsOver, RunsOut, CallsTooDeep, Out, 
 use Rattle.paw_reading.specs.GoingOn.{on_path}
 use Rattle.paw_reading.specs.Turn.{Ending, Halted, AtDescribe, AtTimeFrame, AtPhrase, AtResponse}
 use Rattle.paw_reading.specs.Turn.{table_done, turn, first_table, goes_on, TurnPhase}
-use Rattle.paw_process.specs.OpenTables.{OpenTables}
+use Rattle.paw_process.specs.inner.OpenTables.{OpenTables}
 use Rattle.paw_process.specs.inner.OpenTables.{HasRead, IsClosed, refilled}
 use Rattle.paw_process.specs.inner.Meaning.{SamePast, ComesTo}
 use Rattle.paw_process.specs.declared.Turned.{Turned}

@@ -16,10 +16,11 @@ use Rattle.paw_state.specs.declared.Restored.{Restored}
 use Rattle.paw_state.specs.Fit.{Fit}
 use Rattle.paw_state.specs.State.{Keeps}
 use Rattle.paw_state.specs.inner.Fit.{IsRead, state_read}
+use Rattle.paw_state.proofs.Ruled.{each_of}
 use Rattle.paw_turn.specs.inner.Player.{Seat, IsSeated}
 use Rattle.paw_turn.specs.inner.Parts.{Fits, IsStanding, prompt_step, seat_at}
 use Rattle.paw_world.specs.World.{World}
-use Rattle.paw_process.specs.OpenTables.{OpenTables}
+use Rattle.paw_process.specs.inner.OpenTables.{OpenTables}
 use Rattle.paw_phrase.specs.Pending.{PendingLine}
 use Rattle.paw_routines.specs.declared.routines.Routines.{Routines}
 use Rattle.paw_play.specs.Session.{IsOfStory}
@@ -46,9 +47,9 @@ stands_at {F} g routines w m p at seat is = subst IsStanding (sym (ap (λ (q : S
 stands_after : {F : Type 0} (g h : GameLists) (routines : Routines F) (r : Restored) (seat : Seat F) → Keeps g (state_read r) →
     seat ≡ seat_at h routines r.world r.machine r.pending r.prompt → StandsAfter r.events seat
 stands_after {F} g h routines r seat keeps is = record {
-  few = keeps.events;
+  few = (each_of g (state_read r) keeps).events;
   standing = stands_at h routines r.world r.machine r.pending r.prompt seat is;
-  draws = subst (λ (w : World). w.draws ≤ READ_LIMIT * (r.events + 1)) (sym (ap (λ (q : Seat F). q.world) is)) keeps.draws;
+  draws = subst (λ (w : World). w.draws ≤ READ_LIMIT * (r.events + 1)) (sym (ap (λ (q : Seat F). q.world) is)) (each_of g (state_read r) keeps).draws;
 }
 
 stays_at : {F : Type 0} (w : World) (m : OpenTables) (p : PendingLine) (at : Prompt) (old new : Seat F) → IsSeated new →

@@ -1,5 +1,5 @@
 use Rattle.std.proofs.Common.{◌∙◌, ◌++◌, ap, length}
-use Rattle.paw_state.specs.Fields.{zeros, state_bytes}
+use Rattle.paw_state.specs.State.{zeros, state_bytes}
 use Rattle.paw_state.specs.inner.State.{state_of}
 use Rattle.paw_play.specs.Session.{kept_bytes}
 use Rattle.paw_play.proofs.States.{cut, same_parts}

@@ -9,6 +9,7 @@ use Rattle.paw_state.specs.declared.StateFault.{StateFault}
 use Rattle.paw_state.specs.declared.Restored.{Restored}
 use Rattle.paw_state.specs.Fit.{Fit, Unfit}
 use Rattle.paw_state.specs.inner.Fit.{state_read}
+use Rattle.paw_state.proofs.Ruled.{each_of}
 use Rattle.paw_play.specs.Keeping.{InPlay}
 use Rattle.paw_play.specs.Play.{memory, no_state, plays_on}
 use Rattle.paw_play.specs.inner.OnTheWay.{ShowsAgain}
@@ -30,9 +31,12 @@ play_lines-requires-clause-player g c =
       drew = omega (
         arith,
         seat_draws game2 c.args.routines.now r.world r.machine r.pending r.prompt c.in-Ok-adopt.player c.in-Ok-adopt.ensures.value,
-        c.in-Ok.ensures.read.keeps.draws,
+        (each_of game2 (state_read r) c.in-Ok.ensures.read.keeps).draws,
       );
     }
+
+pub play_lines-requires-clause-few : goal.play_lines-requires-clause-few
+play_lines-requires-clause-few g c = (each_of (g.T.Tables.game c.args.tables.now) (state_read c.in-Ok.restored) c.in-Ok.ensures.read.keeps).events
 
 pub play_lines-requires-clause-kept : goal.play_lines-requires-clause-kept
 play_lines-requires-clause-kept g c = λ tells.

@@ -1,6 +1,6 @@
 use Rattle.std.proofs.Common.{◌+◌, ap, ◌∙◌, arith, rules}
 use Rattle.paw_game.specs.Valid.{is_place}
-use Rattle.paw_state.specs.Faults.{rule}
+use Rattle.paw_state.specs.inner.Faults.{rule}
 use Rattle.paw_state.proofs.Scans.{stops, goes_on, at_end}
 use Rattle.paw_state.proofs.checks.all_places.Goals as goal
 

@@ -1,6 +1,6 @@
 use Rattle.std.proofs.Common.{◌≡◌, ◌+◌, drop}
 use Rattle.paw_game.specs.Valid.{is_place}
-use Rattle.paw_state.specs.Faults.{first_not}
+use Rattle.paw_state.specs.inner.Faults.{first_not}
 use Rattle.paw_state.proofs.checks.all_places.Given as goal
 
 -- the places so far are the game's

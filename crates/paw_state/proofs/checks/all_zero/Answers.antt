@@ -1,5 +1,5 @@
 use Rattle.std.proofs.Common.{arith, rules}
-use Rattle.paw_state.specs.Faults.{is_zero}
+use Rattle.paw_state.specs.inner.Faults.{is_zero}
 use Rattle.paw_state.proofs.Scans.{stops, goes_on, at_end}
 use Rattle.paw_state.proofs.checks.all_zero.Goals as goal
 

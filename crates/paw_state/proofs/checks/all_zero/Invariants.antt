@@ -1,5 +1,5 @@
 use Rattle.std.proofs.Common.{◌≡◌, ◌+◌, drop}
-use Rattle.paw_state.specs.Faults.{first_not, is_zero}
+use Rattle.paw_state.specs.inner.Faults.{first_not, is_zero}
 use Rattle.paw_state.proofs.checks.all_zero.Given as goal
 
 -- the bytes so far are 0

@@ -1,7 +1,7 @@
 use Rattle.std.proofs.Common.{false, ◌∙◌, arith}
 use Rattle.std.proofs.lemmas.List.{length-set}
 use Rattle.paw_reading.specs.declared.places.Frame.{Frame}
-use Rattle.paw_state.specs.Fields.{row_of}
+use Rattle.paw_state.specs.State.{row_of}
 use Rattle.paw_state.proofs.Written.{mapped_more, mapped_all}
 use Rattle.paw_state.proofs.write.rows_of.Goals as goal
 

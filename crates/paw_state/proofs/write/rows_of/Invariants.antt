@@ -1,5 +1,5 @@
 use Rattle.std.proofs.Common.{◌≡◌, length, take, map}
-use Rattle.paw_state.specs.Fields.{row_of}
+use Rattle.paw_state.specs.State.{row_of}
 use Rattle.paw_state.proofs.write.rows_of.Given as goal
 
 -- there is room for eleven rows, of which the first are those of the frames

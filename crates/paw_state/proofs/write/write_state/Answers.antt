@@ -1,10 +1,20 @@
-use Rattle.std.proofs.Common.{◌≡◌, ◌++◌, length, sym, ap, ◌∙◌}
+use Rattle.std.proofs.Common.{◌≡◌, ℕ, List, ◌++◌, length, sym, ap, ◌∙◌}
 use Rattle.paw_process.specs.declared.kept.Frames.{Frames}
 use Rattle.paw_state.specs.State.{State}
 use Rattle.paw_state.specs.inner.State.{state_of}
-use Rattle.paw_state.specs.Fields.{zeros, fields_of, field_bytes, kept_position_bytes, state_bytes}
+use Rattle.paw_state.specs.State.{zeros, fields_of, state_bytes}
+use Rattle.paw_state.specs.inner.Fields.{field_bytes, kept_position_bytes}
+use Rattle.paw_state.proofs.Listed.{state_same}
 use Rattle.paw_state.proofs.Told.{AreLong, buffer_long, piece_in}
 use Rattle.paw_state.proofs.write.write_state.Goals as goal
+
+pub returns-clause-value : goal.returns-clause-value
+returns-clause-value c =
+    let s : State = state_of c.args.world.now c.args.machine.now c.args.pending.now c.args.prompt c.args.events c.args.piece in
+    let frames = λ (k : Frames). fields_of
+    (record { world = c.args.world.now; frames = k; pending = c.args.pending.now; prompt = c.args.prompt; events = c.args.events; piece = c.args.piece }) in
+    c.bytes.ensures.value ∙ (ap (λ f. field_bytes f ++ zeros 677) (c.fields_of-fields.ensures.value ∙ ap frames c.frames-frames.ensures.value)
+    ∙ ap (λ (l : List ℕ). l ++ zeros 677) (sym (state_same s)))
 
 pub returns-clause-length : goal.returns-clause-length
 returns-clause-length c =
@@ -12,7 +22,8 @@ returns-clause-length c =
     let frames = λ (k : Frames). fields_of
     (record { world = c.args.world.now; frames = k; pending = c.args.pending.now; prompt = c.args.prompt; events = c.args.events; piece = c.args.piece }) in
     let is : c.bytes.result ≡ state_bytes s ++ zeros 677 =
-    c.bytes.ensures.value ∙ ap (λ f. field_bytes f ++ zeros 677) (c.fields_of-fields.ensures.value ∙ ap frames c.frames-frames.ensures.value) in
+    c.bytes.ensures.value ∙ (ap (λ f. field_bytes f ++ zeros 677) (c.fields_of-fields.ensures.value ∙ ap frames c.frames-frames.ensures.value)
+    ∙ ap (λ (l : List ℕ). l ++ zeros 677) (sym (state_same s))) in
     buffer_long (state_bytes s) c.bytes.result is c.bytes.ensures.room
 
 pub returns-clause-piece : goal.returns-clause-piece
@@ -21,7 +32,7 @@ returns-clause-piece c =
     let frames = λ (k : Frames). fields_of
     (record { world = c.args.world.now; frames = k; pending = c.args.pending.now; prompt = c.args.prompt; events = c.args.events; piece = c.args.piece }) in
     let same = c.fields_of-fields.ensures.value ∙ ap frames c.frames-frames.ensures.value in
-    let is : c.bytes.result ≡ state_bytes s ++ zeros 677 = c.bytes.ensures.value ∙ ap (λ f. field_bytes f ++ zeros 677) same in
+    let is : c.bytes.result ≡ state_bytes s ++ zeros 677 = c.bytes.ensures.value ∙ (ap (λ f. field_bytes f ++ zeros 677) same ∙ ap (λ (l : List ℕ). l ++ zeros 677) (sym (state_same s))) in
     let long : AreLong s = record {
       all = buffer_long (state_bytes s) c.bytes.result is c.bytes.ensures.room;
       kept = ap (λ f. length (kept_position_bytes f)) (sym same) ∙ c.bytes.ensures.kept;

@@ -2,7 +2,8 @@ use Rattle.std.proofs.Common.{◌≡◌, None, reverse, sym, subst, arith}
 use Rattle.paw_process.proofs.Rows.{kept_rows}
 use Rattle.paw_process.proofs.Again.{kept_again}
 use Rattle.paw_process.proofs.Fitting.{places_fit}
-use Rattle.paw_process.specs.Kept.{waiting_code, frames_fault}
+use Rattle.paw_process.specs.Kept.{waiting_code}
+use Rattle.paw_process.specs.inner.Kept.{frames_fault}
 use Rattle.paw_process.specs.declared.kept.Frames.{Frames}
 use Rattle.paw_process.proofs.machine.Machine.frames.Goals as goal
 

@@ -1,6 +1,6 @@
 use Rattle.std.proofs.Common.{length, ap, arith}
 use Rattle.std.proofs.lemmas.List.{length-append}
-use Rattle.paw_state.specs.Fields.{kept_position_bytes}
+use Rattle.paw_state.specs.inner.Fields.{kept_position_bytes}
 use Rattle.paw_state.proofs.Written.{all_written}
 use Rattle.paw_state.proofs.fields.Fields.bytes.Goals as goal
 

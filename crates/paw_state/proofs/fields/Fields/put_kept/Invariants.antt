@@ -1,6 +1,6 @@
 use Rattle.std.proofs.Common.{◌≡◌, ◌+◌, ◌*◌, ◌++◌, length, take}
 use Rattle.std.specs.Prelude.{flat_map}
-use Rattle.paw_state.specs.Fields.{held_bytes}
+use Rattle.paw_state.specs.inner.Fields.{held_bytes}
 use Rattle.paw_state.proofs.fields.Fields.put_kept.Given as goal
 
 -- the positions so far are written

@@ -1,5 +1,5 @@
 use Rattle.std.proofs.Common.{◌≡◌, List, ℕ, ◌++◌, length, ap, ◌∙◌, arith}
-use Rattle.paw_state.specs.Fields.{eight_bytes, number_bytes}
+use Rattle.paw_state.specs.inner.Fields.{eight_bytes, number_bytes}
 use Rattle.paw_state.proofs.Written.{three}
 use Rattle.paw_state.proofs.fields.Fields.put_numbers.Goals as goal
 

@@ -1,6 +1,6 @@
 use Rattle.std.proofs.Common.{◌≡◌, ◌++◌, take}
 use Rattle.std.specs.Prelude.{flat_map}
-use Rattle.paw_state.specs.Fields.{row_bytes}
+use Rattle.paw_state.specs.inner.Fields.{row_bytes}
 use Rattle.paw_state.proofs.fields.Fields.put_rows.Given as goal
 
 -- the rows so far are written

@@ -1,7 +1,7 @@
 use Rattle.std.proofs.Common.{◌≡◌, ℕ, List, refl, ap, ◌∙◌}
 use Rattle.paw_phrase.specs.Pending.{PendingLine}
-use Rattle.paw_process.specs.OpenTables.{OpenTables}
-use Rattle.paw_process.specs.Kept.{kept}
+use Rattle.paw_process.specs.inner.OpenTables.{OpenTables}
+use Rattle.paw_process.specs.inner.Kept.{kept}
 use Rattle.paw_process.specs.inner.Kept.{restored, waiting_at}
 use Rattle.paw_process.specs.declared.kept.Frames.{Frames}
 use Rattle.paw_turn.specs.inner.Player.{Seat}

@@ -4,7 +4,7 @@ use Rattle.paw_phrase.specs.Pending.{PendingLine}
 use Rattle.paw_world.specs.World.{World, restarted}
 use Rattle.paw_effects.specs.Worlds.{IsOf}
 use Rattle.paw_reading.specs.Run.{begins_with, with_timeout}
-use Rattle.paw_process.specs.OpenTables.{OpenTables}
+use Rattle.paw_process.specs.inner.OpenTables.{OpenTables}
 use Rattle.paw_turn.proofs.Renewing.{again_restarts, again_told, restarted_of, changed_of}
 use Rattle.paw_process.proofs.Readings.{moved_none}
 use Rattle.paw_turn.proofs.turn.Turn.hear_again.Goals as goal
