@@ -26,7 +26,7 @@ use paw_base::words::{ADJECTIVE_CLASS, ADVERB_CLASS, NOUN_CLASS, PREPOSITION_CLA
 use paw_faults::unread::Unread;
 use std::marker::Model;
 
-/// How many values flags, and numbers, have.
+/// How many values a flag, or a number, may have.
 const BYTES: u16 = 256;
 
 /// Takes the number of a table; 255 stands for one that is above.
@@ -120,7 +120,7 @@ impl<'a> Scope<'a> {
         }
     }
 
-    /// Takes a first parameter of this kind, or, where the condact is indirect, `@` and a flag.
+    /// Takes a first parameter of this kind or, where the condact is indirect, `@` and a flag.
     fn first_parameter(
         &self,
         indirect: bool,
