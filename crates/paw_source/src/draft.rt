@@ -113,7 +113,7 @@ fn next_name(section: Section) -> &'static [u8]
 }
 
 impl Draft {
-    /// Nothing yet.
+    /// A draft of no lines.
     pub(crate) fn new(alloc: Global) -> Draft
         ensures { result ≡ nothing_yet }
     {
@@ -157,7 +157,7 @@ impl Draft {
 
     // ---- lines of texts ----
 
-    /// Whether an item of a section of texts stands above, so that a line that doesn't begin with `/` is a text line.
+    /// Whether a line that doesn't begin with `/` is a text line here, after an item of a section of texts.
     pub(crate) fn is_in_text(&self) -> bool
         ensures { result ≡ is_in_text self.now }
     {
@@ -315,8 +315,8 @@ impl Draft {
 
     // ---- rows ----
 
-    /// Reads a line of tokens that doesn't begin with `/`; `blank` tells that it begins with a space or a tab, `tables`
-    /// how many headers of tables the source has.
+    /// Reads a line of tokens that doesn't begin with `/`. `blank` says whether it begins with a space or a tab,
+    /// `tables` how many headers of tables the source has.
     pub(crate) fn row(
         &mut self,
         alloc: Global,

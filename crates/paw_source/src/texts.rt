@@ -38,7 +38,7 @@ pub(crate) fn text_item(
     Ok(())
 }
 
-/// Adds a line to the last text of a section; `begun` tells that the text has a line.
+/// Adds a line to the last text of a section; `begun` says whether the text has a line.
 ///
 /// # Errors
 /// TooBig where the text would pass 4,095 bytes.
