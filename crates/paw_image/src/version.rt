@@ -16,14 +16,14 @@ use paw_game::parts::{Entry, GameParts, Table};
 /// The version of an image, which says what codes may stand in it.
 #[derive(Clone, Copy, Drop, PartialEq, Eq, Debug)]
 pub enum Version {
-    /// Those of plain condacts.
+    /// The codes of plain condacts.
     One,
-    /// Those of indirect condacts too.
+    /// The codes of indirect condacts too.
     Two,
 }
 
 impl Version {
-    /// The byte that tells the version.
+    /// The byte that stands for the version.
     pub fn byte(self) -> u8
         ensures value { result ≡ byte_of self }
     {
