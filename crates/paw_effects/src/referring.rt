@@ -13,8 +13,8 @@ use paw_base::words::NO_WORD;
 use paw_game::tables::Tables;
 use paw_world::world::World;
 
-/// Refers to an object: the flags 51 and 54 to 57 become its number, its place, its weight, and 128 where it is a
-/// container and where it may be worn, else 0.
+/// Refers to an object: flag 51 becomes its number, 54 its place, and 55 its weight; 56 becomes 128 where it is a
+/// container, 57 where it may be worn, and otherwise 0.
 pub fn refer<T: Tables>(tables: &T, world: &mut World, o: u8)
     requires game { IsOf (T.game tables.now) world.old }
     requires object { o < length (T.game tables.now).objects }
@@ -34,7 +34,7 @@ pub fn refer<T: Tables>(tables: &T, world: &mut World, o: u8)
     world.set_flag(REFERRED_WEARABLE_FLAG, class(facts.wearable));
 }
 
-// What a flag says of whether an object is of a class.
+// The flag for whether an object is of a class.
 fn class(member: bool) -> u8
     ensures { result ≡ weight_class member }
 {

@@ -133,7 +133,7 @@ enum Answer {
 
 use Answer::{Cancels, Does, Drops, Tests};
 
-/// A condact, and what it is to answer.
+/// A condact, and the answer that it should give.
 type Case = (u8, u8, u8, Answer);
 
 /// Condacts that are read one after the other, and what they print together.
@@ -449,7 +449,7 @@ fn run(rt: &impl Abort, alloc: Global, parts: GameParts, scenes: &[Scene]) -> Re
     run_with(rt, alloc, &game, &routines, scenes)
 }
 
-/// Reads these condacts in a piece that holds so many bytes already.
+/// Reads these condacts in a piece that holds this number of bytes already.
 fn run_behind(
     rt: &impl Abort,
     alloc: Global,
