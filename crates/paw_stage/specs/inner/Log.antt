@@ -12,7 +12,7 @@ pub record Logged : Type 0 where
   pub calls_left : ℕ
   pub bytes_left : ℕ
 
--- Whether there is room for one more call with so many bytes.
+-- Whether there is room for one more call with this number of bytes.
 abbrev pub has_room : Logged → ℕ → Bool
 has_room l n = nat_lt 0 l.calls_left && nat_le n l.bytes_left
 
