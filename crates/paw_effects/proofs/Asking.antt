@@ -38,7 +38,7 @@ AsksAt code prompt.Again = code ≡ END
 AsksAt code prompt.Key = code ≡ ANYKEY
 AsksAt code prompt.Over = ⊥
 
--- PROCESS alone calls a table, DOALL alone opens a loop, and each prompt has its own code
+-- Only PROCESS calls a table, only DOALL opens a loop, and each prompt has its own code.
 abbrev pub Leads : World → Condact → Effect → Type 0
 Leads w c effect.Go = Unit {0}
 Leads w c (effect.Exit a) = Unit {0}
@@ -152,7 +152,7 @@ IsInner prompt.Again = Unit {0}
 IsInner prompt.Key = Unit {0}
 IsInner prompt.Over = ⊥
 
--- an action asks at prompts in tables alone
+-- An action asks only at prompts in tables.
 abbrev pub AsksInner : Effect → Type 0
 AsksInner effect.Go = Unit {0}
 AsksInner (effect.Exit a) = Unit {0}

@@ -1,4 +1,4 @@
--- What is true of each condact: how reading goes on behind it, and what it leaves of a world.
+-- What is true of each condact: how reading goes on after it, and what it leaves of a world.
 use Rattle.std.proofs.Common.{◌≡◌, ◌≢◌, ℕ, suc, ◌+◌, ◌<◌, Bool, true, false, List, [], Option, refl, slice_get, length, All, IsTrue, arith}
 use Rattle.std.proofs.Math.Nat.{min-le_left}
 use Rattle.std.specs.Prelude.{not}
@@ -87,11 +87,11 @@ still code text act leads = record {
   keeps = λ ks s w c is o k. k;
 }
 
--- one that prints
+-- An action that prints.
 printed : (code : ℕ) (text : GameLists → World → Condact → List ℕ) → Facts code (printing text)
 printed code text = still code _ _ (λ s w c is. tt)
 
--- one that gives a flag a byte
+-- An action that gives a flag a byte.
 set : (code : ℕ) (f x : World → Condact → ℕ)
     → ((g : GameLists) (v : Valid g) (seed n : ℕ) (w : World) (c : Condact) → Is g v seed n w → c.a < 256 → c.b < 256 → x w c < 256)
     → Facts code (changing (λ w c. with_flag w (f w c) (x w c)))
@@ -102,7 +102,7 @@ set code f x small = record {
   keeps = λ ks s w c is o k. k;
 }
 
--- one that gives two flags its numbers
+-- An action that gives two flags its numbers.
 set_two : (code f h : ℕ) → Facts code (changing (λ w c. with_flag (with_flag w f c.a) h c.b))
 set_two code f h = record {
   leads = λ s w c is. tt;
@@ -111,7 +111,7 @@ set_two code f h = record {
   keeps = λ ks s w c is o k. k;
 }
 
--- one that moves an object to a place
+-- An action that moves an object to a place.
 moving : (code : ℕ) (o p : World → Condact → ℕ)
     → ((g : GameLists) (w : World) (c : Condact) → c.code ≡ code → Valid g → IsTrue (is_right g c) → IsPlaced g w
     → is_place (length g.locations) (p w c) ≡ true)
@@ -125,7 +125,7 @@ moving code o p at stands = record {
   keeps = λ ks s w c is o_is k. moved_kept ks w (o w c) (p w c) k;
 }
 
--- one on the object that it names
+-- An action on the object that it names.
 on_object : (code : ℕ) (a : Condact → Action) → ((g : GameLists) (c : Condact) → c.code ≡ code → IsTrue (is_right g c) → Goes g (a c))
     → ((g : GameLists) (v : Valid g) (seed n : ℕ) (c : Condact) → c.code ≡ code → is_right g c ≡ true → Puts g v seed n (a c))
     → Facts code (doing (λ g w c. acted_on g w c.a (a c)))
@@ -136,7 +136,7 @@ on_object code a goes puts = record {
   keeps = λ ks s w c is o k. acted_kept ks s.game w c.a (a c) k;
 }
 
--- one on the object that the sentence names
+-- An action on the object that the sentence names.
 by_name : (code : ℕ) (a : Condact → Action) → ((g : GameLists) (c : Condact) → c.code ≡ code → IsTrue (is_right g c) → Goes g (a c))
     → ((g : GameLists) (v : Valid g) (seed n : ℕ) (c : Condact) → c.code ≡ code → is_right g c ≡ true → Puts g v seed n (a c))
     → Facts code (doing (λ g w c. acted_by_name g w (a c)))
@@ -391,11 +391,11 @@ effect_leads s w c =
     of_carried (λ (d : Done). Leads w c d.act.effect) (plain_effect s w) (as_plain s.game w c) (makes w)
     (λ d is. leads_as s.game w c d is (plain_effect s w d).act.effect (plain_leads w d s)) tt
 
--- an action asks at prompts in tables alone
+-- An action asks only at prompts in tables.
 pub effect_asks : (s : Story) (w : World) (c : Condact) → AsksInner (effect_of s w c).act.effect
 effect_asks s w c = leads_inner w c (effect_of s w c).act.effect (effect_leads s w c)
 
--- of the conditions QUIT alone asks
+-- Of the conditions only QUIT asks.
 pub condition_asks : (g : GameLists) (w : World) (c : Condact) → (holds g w c).answer ≡ truth.Ask → c.code ≡ QUIT
 unfolding holds
 condition_asks g w c =

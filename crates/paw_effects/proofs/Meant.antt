@@ -65,6 +65,6 @@ flipped false h = cc
 pub tests_low : (code : ℕ) → IsPlainCode code → is_test (meaning_of code) ≡ true → code < INVEN
 tests_low code is h = ltb-true code INVEN (sym (low_is code is) ∙ h)
 
--- and an action is none of those before it
+-- An action isn't one of those before it.
 pub acts_high : (code : ℕ) → IsPlainCode code → is_test (meaning_of code) ≡ false → INVEN ≤ code
 acts_high code is h = leb-true INVEN code (flipped (nat_le INVEN code) (sym (high_is code is) ∙ h))

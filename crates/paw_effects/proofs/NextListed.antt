@@ -17,13 +17,13 @@ use Rattle.paw_effects.specs.declared.lists.Listed.TheVariants as listed
 use Rattle.paw_effects.specs.inner.Listing.{lesser, first_above, listed_from, listed_above}
 use Rattle.paw_effects.specs.Presence.{is_held}
 
--- the objects at a place above one, where none is found
+-- The objects at a place above this one, where none is found.
 pub at_ends : (w : World) (p : ℕ) (above found : Option ℕ) → found ≡ first_at w p above → IfNone found (listed_above w (listed.At p) above ≡ [])
 at_ends w p None None is = above_at_none w p None (sym is)
 at_ends w p (Some a) None is = above_at_none w p (Some a) (sym is)
 at_ends w p above (Some o) is = tt
 
--- and where one is found
+-- The same, where one is found.
 pub at_goes_on : (w : World) (p : ℕ) (above found : Option ℕ) → found ≡ first_at w p above
     → IfSome found (λ o. listed_above w (listed.At p) above ≡ o ∷ listed_above w (listed.At p) (Some o))
 at_goes_on w p above None is = tt
@@ -143,7 +143,7 @@ pub held_ends : (w : World) (above a b found : Option ℕ) → a ≡ first_at w 
     → IfNone found (listed_above w listed.Held above ≡ [])
 held_ends w above a b found worn carried is = found_ends w (first_above above) found (found_held w above a b found worn carried is)
 
--- and where one is found
+-- The same, where one is found.
 pub held_goes_on : (w : World) (above a b found : Option ℕ) → a ≡ first_at w 253 above → b ≡ first_at w 254 above → found ≡ lesser a b
     → IfSome found (λ o. listed_above w listed.Held above ≡ o ∷ listed_above w listed.Held (Some o))
 held_goes_on w above a b found worn carried is = found_goes_on w (first_above above) found (found_held w above a b found worn carried is)

@@ -193,7 +193,7 @@ facts_placed g w o (Some f) k = k
 pub referred_placed : (g : GameLists) (w : World) (o : ℕ) → IsPlaced g w → IsPlaced g (referred w o)
 referred_placed g w o k = facts_placed g (with_flag (with_flag w 51 o) 54 (place w o)) o (slice_get w.facts o) k
 
--- an action puts objects in at places alone
+-- An action puts objects only in at places.
 abbrev pub GoesToPlace : GameLists → Action → Type 0
 GoesToPlace g action.Get = Unit {0}
 GoesToPlace g action.Drop = Unit {0}

@@ -29,7 +29,7 @@ use Rattle.paw_effects.specs.Presence.{named_place}
 use Rattle.paw_effects.specs.Standing.{AreBytes}
 use Rattle.paw_effects.specs.inner.Standing.{MayBePosition, IsWorldOf}
 
--- a world of the game with this seed, and at most so many words drawn
+-- A world of the game with this seed, and at most n words drawn.
 pub record IsWorldAt (g : GameLists) (seed n : ℕ) (w : World) : Type 0 where
   pub of : IsOf g w
   pub places : ArePlacesOf g w.places
@@ -123,7 +123,7 @@ parameter_small g v kind.Noun x h = word_or_none_small g v 2 x h
 parameter_small g v kind.Adjective x h = word_or_none_small g v 3 x h
 parameter_small g v kind.Preposition x h = word_or_none_small g v 4 x h
 
--- and so is one that comes while the game is played
+-- So is one that arises in play.
 pub argument_small : (g : GameLists) → Valid g → (k : ParamKind) (x : ℕ) → IsTrue (is_argument g k x) → x < 256
 argument_small g v kind.Adverb x h = ltb-true x 256 h
 argument_small g v kind.Noun x h = ltb-true x 256 h

@@ -32,7 +32,7 @@ first_of_and a b h = (and_parts a b h).0
 pub second_of_and : (a b : Bool) → IsTrue (a && b) → IsTrue b
 second_of_and a b h = (and_parts a b h).1
 
--- what holds of what a call found, by what stands there
+-- What holds of what a call found, by what stands there.
 pub IfSome-from : {X : Type 0} (P : X → Type 0) (r o : Option X) → r ≡ o → ((x : X) → o ≡ Some x → P x) → IfSome r P
 IfSome-from P None o e h = tt
 IfSome-from P (Some x) o e h = h x (sym e)
@@ -43,7 +43,7 @@ pub IfSome-copied : {X : Type 0} (P : X → Type 0) (r : Option (Bor X)) (o : Op
 IfSome-copied P None o e h = tt
 IfSome-copied P (Some x) o e h = h x.now (sym e)
 
--- what a mapped value is of
+-- The value that a mapped value comes from.
 pub option_map-Some : {A B : Type 0} (f : A → B) (o : Option A) (y : B) → option_map f o ≡ Some y → (x : A) × (o ≡ Some x) × (f x ≡ y)
 option_map-Some f None y e = absurd (none-some y e)
 option_map-Some f (Some x) y e = (x, refl, same_Some (f x) y e)

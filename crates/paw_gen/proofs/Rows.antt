@@ -12,7 +12,7 @@ use Rattle.paw_gen.specs.Trial.{rows}
 rows_more : {A : Type 0} (row : ℕ → A) (n : ℕ) → rows (n + 1) row ≡ rows n row ++ row n ∷ []
 rows_more row n = map-range_with_len_more row 0 n n (omega arith)
 
--- one row more, pushed behind some that stand before them all
+-- One row more, pushed after some others that come first.
 pub pushed : {A : Type 0} (row : ℕ → A) (before : List A) (n : ℕ) (old new : List A) (x : A) → old ≡ before ++ rows n row → x ≡ row n
     → new ≡ old ++ x ∷ [] → new ≡ before ++ rows (n + 1) row
 pushed row before n old new x e f g =

@@ -13,7 +13,7 @@ use Rattle.paw_grammar.specs.inner.Numbers.{capped}
 abbrev pub number_after : ℕ → List ℕ → Option ℕ
 number_after n ds = cond (list_all is_ascii_digit ds) (Some (digits_value_after 10 n ds)) None
 
--- what is capped doesn't tell two numbers above the cap apart
+-- Two numbers above the cap look the same once they are capped.
 same_number : (a b : ℕ) (ds : List ℕ) → min a 4294967295 ≡ min b 4294967295 → capped (number_after a ds) ≡ capped (number_after b ds)
 same_number a b [] h = ap Some h
 same_number a b (d ∷ ds) h =

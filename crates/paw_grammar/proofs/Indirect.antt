@@ -64,7 +64,7 @@ read_code code false plain may = or_left (is_plain_code code) (is_indirect code)
 pub first_kind-indirect : (code : ℕ) → may_be_indirect code ≡ true → first_kind (code + 128) ≡ Flag
 first_kind-indirect code may = ap (λ (l : CondactLine). l.first) (line_of-indirect code may)
 
--- and the second as that of the plain one
+-- The second is of the same kind as that of the plain one.
 pub second_kind-read : (code : ℕ) (indirect : Bool) → IsPlainCode code → (indirect ≡ true → may_be_indirect code ≡ true)
     → second_kind (code_of indirect code) ≡ second_kind code
 second_kind-read code true plain may =
@@ -72,7 +72,7 @@ second_kind-read code true plain may =
     ∙ sym (ap (λ (l : CondactLine). l.second) (line_of-plain code plain))
 second_kind-read code false plain may = refl
 
--- and it has the name of the plain one
+-- It has the name of the plain one.
 pub name_of-read : (code : ℕ) (indirect : Bool) → IsPlainCode code → (indirect ≡ true → may_be_indirect code ≡ true)
     → name_of (code_of indirect code) ≡ name_of code
 name_of-read code true plain may =

@@ -29,7 +29,7 @@ pub fails_next : {A B : Type 0} (e : Unread ℕ) (r : Result A ℕ) (f : A → R
 fails_next fault.Memory r f h = tt
 fails_next (fault.Fault left) r f h = rw h refl
 
--- where one row has no value, so many have none
+-- Where one row has no value, all of them together have none.
 pub each_fault : (pass : List ℕ → Passing) (count i : ℕ) (bytes : List ℕ) (total : Passing) → i < count
     → IsFault (pass bytes) → each pass (count - i) bytes ≡ total → IsFault total
 unfolding each

@@ -31,7 +31,7 @@ use Rattle.paw_image.proofs.ValidLaws.{letters_fit, ValidParts}
 
 -- ---- mark and version ----
 
--- a byte that tells a version is the one that it is told by
+-- A byte that stands for a version is the byte of that version.
 told : (byte : ℕ) → is_within 1 2 byte ≡ true → byte ≡ byte_of (version_told byte)
 told zero h = absurd cc
 told (suc zero) h = refl

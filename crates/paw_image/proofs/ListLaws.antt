@@ -34,7 +34,7 @@ rows_again row image Fits again [] rest fits = refl
 rows_again row image Fits again (x ∷ xs) rest fits =
     rw (append_assoc (image x) (flat_map image xs) rest, again x (flat_map image xs ++ rest) fits.0, rows_again row image Fits again xs rest fits.1) refl
 
--- ---- behind a count of one byte ----
+-- ---- after a count of one byte ----
 
 pub few_take : {A : Type 0} (row : List ℕ → Reading A) (image : A → List ℕ) → TakesRow row image
     → TakesRow (few_at row) (λ xs. length xs ∷ flat_map image xs)

@@ -52,12 +52,12 @@ rest_fits row image rule takes bytes rest fits s = (takes bytes (s.value, rest) 
 pub taken_length : (bytes text rest : List ℕ) → Takes bytes text rest → length bytes ≡ length text + length rest
 taken_length bytes text rest t = ap (λ (l : List ℕ). length l) t.parts ∙ length-append text rest
 
--- what was taken ends where what is left begins, in the last bytes of so many
+-- What was taken ends where what is left begins, in the last of `total` bytes.
 pub taken_ends : (bytes text rest : List ℕ) (total start : ℕ) → Takes bytes text rest → start + length bytes ≡ total
     → start + length text + length rest ≡ total
 taken_ends bytes text rest total start t h = omega (arith, h, taken_length bytes text rest t)
 
--- so many rows keep the rule and stand there, with where they begin in the last bytes of so many
+-- These n rows keep the rule and stand there, with where they begin in the last of `total` bytes.
 pub record Placed {A : Type 0} (pass : List ℕ → Passing) (image : A → List ℕ) (n : ℕ) (bytes : List ℕ)
     (reading : Reading (List A)) (rule : A → Bool) (rest : List ℕ) : Type 0 where
   pub value : List A

@@ -90,7 +90,7 @@ module _ (g : GameLists) where
       (split_all (keeps_entry (declared_as One g)) (is_entry g) (λ (e : Entry). any_indirect e.condacts) split_entry es)
       ∙ move_out (leb (length es) 4000) (list_all (is_entry g) es) (not (list_any (λ (e : Entry). any_indirect e.condacts) es))
 
-  -- version 1 wants the rules of a game, and no indirect condact
+  -- Version 1 needs the rules of a game, and no indirect condact.
   pub split_tables : (ts : List (List Entry))
       → list_all (keeps_table (declared_as One g)) ts ≡ (list_all (is_table g) ts && not (has_indirect ts))
   unfolding has_indirect
@@ -110,7 +110,7 @@ not_plain : (code : ℕ) → is_indirect code ≡ true → is_plain_code code �
 unfolding is_indirect
 not_plain code h = none_from code (leb-true INDIRECT code (and_parts (leb INDIRECT code) _ h).0)
 
--- where the first of two isn't, the other is
+-- Where the first of two isn't so, the other is.
 later_of : (a b : Bool) → a ≡ false → (a || b) ≡ true → b ≡ true
 later_of true b e h = absurd cc
 later_of false b e h = h
@@ -123,7 +123,7 @@ either false = inr refl
 abbrev StopsRow : {A : Type 0} → (List ℕ → Passing) → (A → List ℕ) → (two test : A → Bool) → Type 0
 StopsRow {A} pass image two test = (x : A) (rest : List ℕ) → two x ≡ true → test x ≡ true → IsFault (pass (image x ++ rest))
 
--- where rows stop that a test finds, and others pass, so many stop of which the test finds one
+-- Where rows stop that a test finds, and others pass, a list of rows stops of which the test finds one.
 each_stops : {A : Type 0} (pass : List ℕ → Passing) (image : A → List ℕ) (one two test : A → Bool)
     → ((x : A) → one x ≡ (two x && not (test x))) → PassesRow pass image one → StopsRow pass image two test
     → (xs : List A) (rest : List ℕ) → list_all two xs ≡ true → list_any test xs ≡ true
@@ -210,7 +210,7 @@ needed_keeps g h = elim (either (has_indirect g.tables)) [
   | inr none ↦ rw none (keep_in_1 g h none)
 ]
 
--- a fault is no end
+-- A fault isn't an end.
 no_end : (p : Passing) → IsFault p → is_end p ≡ false
 no_end (Ok rest) h = absurd h
 no_end (Err left) h = refl

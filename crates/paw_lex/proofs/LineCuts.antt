@@ -11,7 +11,7 @@ use Rattle.paw_lex.specs.Lines.{lines_of}
 use Rattle.paw_lex.specs.inner.Lines.{IsLineEnd}
 use Rattle.paw_lex.proofs.Slices.{take-slice_range, drop-slice_range, slice_range-slice_range, before_first-drop, slice_range-one, slice_range-two}
 
--- a part with parts behind it is a line that ended
+-- A part with parts after it is a line that ended.
 pub lines_of_parts-cons : (part : List ℕ) (parts : List (List ℕ)) → 0 < length parts
     → lines_of_parts (part ∷ parts) ≡ strip_carriage_return part ∷ lines_of_parts parts
 lines_of_parts-cons part [] h = absurd (omega arith)
@@ -25,7 +25,7 @@ lines-lf s h =
     ap lines_of_parts (slice_split_first (λ b. eqb b 10) s 0 h)
     ∙ lines_of_parts-cons (before_first (λ b. eqb b 10) s) (slice_split (λ b. eqb b 10) (after_first (λ b. eqb b 10) s)) more
 
--- a last line without LF
+-- A last line without LF is the only line.
 lines-last : (s : List ℕ) → 0 < length s → position_or_len (λ b. eqb b 10) s ≡ length s → lines s ≡ s ∷ []
 lines-last s h e =
     ap lines_of_parts (slice_split_none (λ b. eqb b 10) s (λ k d l. fails_before_first (λ b. eqb b 10) s k d (omega arith)))

@@ -41,7 +41,7 @@ no_return line e =
     ] in
     rw last refl
 
--- a printed line and its LF
+-- A printed line and its LF are read as that line.
 pub lines_of-line : (line rest : List ℕ) → list_all is_printed_byte line ≡ true → lines_of (line ++ 10 ∷ rest) ≡ line ∷ lines_of rest
 unfolding lines_of
 lines_of-line line rest e =
@@ -76,7 +76,7 @@ end_of_token (b ∷ bs) rest e h =
     let both = and_parts (not (ends_token b)) (list_all (λ c. not (ends_token c)) bs) e in
     rw (both.0, end_of_token bs rest both.1 h, one-add) refl
 
--- a token, where nothing or a byte that ends it follows
+-- A token is read as the first one where nothing follows, or a byte that ends it.
 pub tokens_of-token : (token rest : List ℕ) → is_token token ≡ true → position_or_len ends_token rest ≡ 0 → tokens_of (token ++ rest) ≡ token ∷ tokens_of rest
 tokens_of-token token rest e h =
     let both = and_parts _ _ e in
@@ -84,7 +84,7 @@ tokens_of-token token rest e h =
     token_first (token ++ rest) (length token) (sym (end_of_token token rest both.1 h)) long
     ∙ rw (take_at token rest (length token) refl, drop_at token rest (length token) refl) refl
 
--- tokens with a space between each two
+-- Tokens with a space between each two are read as these tokens.
 pub tokens_of-join : (ts : List (List ℕ)) → list_all is_token ts ≡ true → tokens_of (join_with_byte 32 ts) ≡ ts
 unfolding tokens_of
 tokens_of-join [] e = refl

@@ -1,4 +1,4 @@
--- Reading a phrase mark by mark comes to what the phrase is.
+-- Reading a phrase mark by mark gives what the phrase is.
 use Rattle.std.proofs.Common.{◌≡◌, ◌+◌, ◌-◌, ℕ, Bool, true, false, cond, eqb, List, [], ◌∷◌, ◌++◌, Option, Some, None, length, take, drop, refl, sym}
 use Rattle.std.proofs.Common.{ap, ◌∙◌, arith}
 use Rattle.std.specs.List.{list_any}
@@ -21,7 +21,7 @@ abbrev pub after_part : Option Draft → Parsed → (Draft → Parsed) → Parse
 after_part None stop go = stop
 after_part (Some d) stop go = go d
 
--- what a draft comes to that is read on over these marks
+-- What a draft ends as where it is read on over these marks.
 unfoldable pub along : GameLists → ℕ → List Mark → Draft → Parsed
 along g e [] d = draft_outcome e d []
 along g e (m ∷ ms) d = after_part (with_part (phrase_part_of g m.token) d) (draft_outcome e d m.after) (along g e ms)
@@ -57,7 +57,7 @@ means g (Some letters) = word_means g letters (word_at g letters) refl
 abbrev draft : Found → Sentence → Draft
 draft f s = record { found = f; words = s }
 
--- what the tokens of a phrase come to, where s is filled before them
+-- What the tokens of a phrase are, where s is filled before them.
 abbrev parsed_tokens : GameLists → ℕ → Sentence → List (List ℕ) → List ℕ → Parsed
 parsed_tokens g e s ts rest = cond (has_known g ts) (IsSentence (finished e (with_tokens g ts s)) rest) (IsUnknown rest)
 

@@ -29,7 +29,7 @@ five_letters-kept run letter h =
     let fewer : 5 - length (run ++ letter ∷ []) ≡ 4 - length run = omega (arith, length-append run (letter ∷ [])) in
     rw (whole, fewer, short, spaces) (letter_at run (replicate (4 - length run) 32) letter 32)
 
--- any other is not
+-- Any other letter is not.
 five_letters-cut : (run : List ℕ) (letter : ℕ) → 5 ≤ length run → five_letters (run ++ letter ∷ []) ≡ five_letters run
 five_letters-cut run letter h =
     let cut : take 5 (run ++ letter ∷ []) ≡ take 5 run = take-append-le 5 run (letter ∷ []) h in

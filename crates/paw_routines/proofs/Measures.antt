@@ -9,11 +9,11 @@ use Rattle.std.proofs.lemmas.List.Folds.{concat-append}
 use Rattle.std.proofs.lemmas.Option.{same_Some, get_or_from_slice_get, slice_get-get_or, slice_get_within}
 use Rattle.paw_routines.specs.Rows.{StandFor, value_in, value_at}
 
--- so many first values of a row are those of row n
+-- The first values of a row, up to this number, are those of row n.
 abbrev pub AreValues : List (List ℕ) → ℕ → ℕ → List ℕ → Type 0
 AreValues rows n count row = (x : ℕ) → x < count → value_at rows n x ≡ Some (get_or row x 0)
 
--- with the next value put in its place there is one more
+-- With the next value put in its place there is one more.
 values_more : (rows : List (List ℕ)) (n x : ℕ) (row : List ℕ) (y : ℕ) → AreValues rows n x row → x < length row → value_at rows n x ≡ Some y
     → AreValues rows n (x + 1) (set row x y)
 values_more rows n x row y values fits at = λ k low. elim (cases_eq k x) [
@@ -21,7 +21,7 @@ values_more rows n x row y values fits at = λ k low. elim (cases_eq k x) [
   | inr other ↦ values k (omega (arith, low, other)) ∙ ap (λ (z : ℕ). Some z) (sym (get_or-set_other row x k y 0 other))
 ]
 
--- with the next answer put in its place
+-- With the next answer put in its place there is one more.
 pub answer_more : {F : Type 0} (calls : Shared F (ℕ × (ℕ × Unit {0})) ℕ) (f : F) (count : ℕ) (rows : List (List ℕ)) → StandFor calls f count rows
     → (n x : ℕ) (row : List ℕ) (y : ℕ) → n < count → x < 256 → y < 256 → length row ≡ 256 → calls.post f (n, (x, tt)) y
     → AreValues rows n x row → AreValues rows n (x + 1) (set row x y)

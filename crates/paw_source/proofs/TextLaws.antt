@@ -87,7 +87,7 @@ whole_line first (b ∷ bs) h c s =
       | false ↦ within_line bs p.1
     ])
 
--- what may stand anywhere may stand behind a text
+-- What may stand anywhere may stand after a text.
 behind : (first : Bool) (t l : List ℕ) → is_printed first t ≡ true → ((f : Bool) → is_printed f l ≡ true) → is_printed first (t ++ l) ≡ true
 behind first [] l h any = any first
 behind first (b ∷ bs) l h any =

@@ -86,12 +86,12 @@ pub done-next : (room : List ℕ) (calls : List Call) (k : ℕ) (d : Call) → k
 done-next room calls k d low =
     ap (all_done room) (take_more calls k d low) ∙ map-append (done_in room) (take k calls) (get_or calls k d ∷ [])
 
--- the next call lies behind those before it
+-- The next call lies after those before it.
 pub laid-next : (calls : List Call) (k start end : ℕ) (d : Call) → k < length calls → AreLaid (drop k calls) start end →
     AreLaid (get_or calls k d ∷ drop (k + 1) calls) start end
 laid-next calls k start end d low h = subst (λ l. AreLaid l start end) (drop_more calls k d low) h
 
--- the calls lie behind any earlier place too
+-- The calls lie after any earlier place too.
 pub laid-from : (calls : List Call) (start low end : ℕ) → low ≤ start → AreLaid calls start end → AreLaid calls low end
 laid-from [] start low end l h = omega arith
 laid-from (c ∷ calls) start low end l h = (omega (arith, h.0), h.1, h.2, h.3)

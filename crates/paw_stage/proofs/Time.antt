@@ -2,7 +2,7 @@
 use Rattle.std.proofs.Common.{ℕ, inl, inr, arith}
 use Rattle.paw_stage.specs.Moments.{Moment, Passes}
 
--- a weaker word for what stands inside a call
+-- A weaker statement of what stands inside a call.
 pub Passes_map : (b n : ℕ) (past since : ℕ → Moment → Type 0) (P Q : Moment → Type 0) → Passes b n past since P →
     ((m : Moment) → P m → Q m) → Passes b n past since Q
 Passes_map b n past since P Q h f = record {

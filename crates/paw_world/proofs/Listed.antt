@@ -3,7 +3,7 @@ use Rattle.std.proofs.Common.{◌≡◌, ℕ, ◌≤◌, ◌<◌, List, Some, le
 use Rattle.std.proofs.lemmas.List.{length-take-le, get_or-take}
 use Rattle.std.proofs.lemmas.Option.{slice_get-get_or}
 
--- so many as are taken
+-- There are as many as are taken.
 pub count_is : {X : Type 0} (n : ℕ) (all some : List X) → take n all ≡ some → n ≤ length all → length some ≡ n
 count_is n all some taken fits = ap length (sym taken) ∙ length-take-le n all fits
 

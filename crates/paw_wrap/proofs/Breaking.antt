@@ -11,7 +11,7 @@ pub breaks_from-empty : (w at before : ℕ) → breaks_from w at before [] ≡ [
 unfolding breaks_from
 breaks_from-empty w at before = refl
 
--- A byte ends its line, or a space is broken at, or the line goes on behind it.
+-- A byte ends its line, or a space is a break, or the line goes on after it.
 pub data Step (w at before b : ℕ) (bs : List ℕ) : Type 0 where
   ends_line : eqb b line_feed ≡ true → breaks_from w at before (b ∷ bs) ≡ breaks_from w (suc at) 0 bs
       → Step w at before b bs

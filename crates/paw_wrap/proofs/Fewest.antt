@@ -7,7 +7,7 @@ use Rattle.paw_wrap.specs.FirstFit.{space, line_feed, word_length, breaks_from, 
 use Rattle.paw_wrap.proofs.Breaking.{Step, step, breaks_from-empty, word_length-cons}
 use Rattle.paw_wrap.proofs.LineWidths.{lines, has_space, first_line, lines-line_feed, lines-other, first_line-onto, drop-onto, FitsBehind, fits_behind}
 
--- the bytes are those of the text, but that at most so many spaces became LFs
+-- The bytes are those of the text, except that at most n spaces became LFs.
 abbrev pub Broken : List ℕ → List ℕ → ℕ → Type 0
 Broken [] [] n = ⊤
 Broken [] (c ∷ cs) n = ⊥

@@ -32,7 +32,7 @@ pub drop-onto : (b : ℕ) (ls : List (List ℕ)) → drop 1 (onto_first b ls) �
 drop-onto b [] = refl
 drop-onto b (l ∷ ls) = refl
 
--- each line fits, where so many bytes stand before the first
+-- Each line fits, where `before` bytes stand before the first.
 pub record FitsBehind (w before : ℕ) (ls : List (List ℕ)) : Type 0 where
   pub first : has_space (first_line ls) ≡ true → before + length (first_line ls) ≤ w
   pub rest : AllByRecursion (FitsLine w) (drop 1 ls)
@@ -52,7 +52,7 @@ fits_behind w [] f = record { first = λ never. absurd (cc); rest = tt }
 fits_behind w (l ∷ ls) (inl h, more) = record { first = λ _. omega (arith, h); rest = more }
 fits_behind w (l ∷ ls) (inr none, more) = record { first = λ some. absurd (cc); rest = more }
 
--- behind an LF a line begins
+-- A line begins after an LF.
 pub behind_line_feed : (w before b : ℕ) (bs : List ℕ) → eqb b line_feed ≡ true → FitsBehind w 0 (lines bs) → FitsBehind w before (lines (b ∷ bs))
 behind_line_feed w before b bs e f = rw (lines-line_feed b bs e) (record { first = λ never. absurd (cc); rest = fits_all w (lines bs) f })
 
