@@ -64,7 +64,7 @@ indirect_within code h = elim (cases_lt code (length condact_lines)) [
       absurd cc
 ]
 
--- below 128 a code is plain
+-- Below 128 a code is plain.
 pub plain_below : (code : ℕ) → code < INDIRECT → is_indirect code ≡ false
 unfolding is_indirect
 plain_below code low = rw (lt-leb INDIRECT code low) refl
@@ -78,7 +78,7 @@ pub indirect_from : (code : ℕ) → INDIRECT ≤ code → is_indirect code ≡ 
 unfolding is_indirect
 indirect_from code high = rw (le-leb INDIRECT code high) refl
 
--- a code is a byte
+-- A code is a byte.
 pub code_small : (code : ℕ) → IsCode code → code < 256
 unfolding is_indirect
 code_small code is = elim (or_cases (is_plain_code code) (is_indirect code) is) [
@@ -86,7 +86,7 @@ code_small code is = elim (or_cases (is_plain_code code) (is_indirect code) is) 
   | inr indirect ↦ let within = indirect_within (code - INDIRECT) (and_parts (nat_le INDIRECT code) _ indirect).1 in omega (arith, within)
 ]
 
--- a plain code is a code
+-- A plain code is a code.
 pub plain_is : (code : ℕ) → IsPlainCode code → IsCode code
 plain_is code h = rw h refl
 
@@ -107,7 +107,7 @@ pub plain_within : (code : ℕ) → IsCode code → INDIRECT ≤ code → IsPlai
 plain_within code is high =
     within_code (code - INDIRECT) (indirect_within (code - INDIRECT) (sym (indirect_from code high) ∙ indirect_of_code code is high))
 
--- the row of a code is that of a plain one, or of the indirect one that stands for it
+-- The row of a code is that of a plain one, or of the indirect one that stands for it.
 pub plain_side : (code : ℕ) → code < INDIRECT → (r : Option CondactRow) → SomeIff r (IsPlainCode code) (row_of_line (plain_line code))
     → SomeIff r (IsCode code) (condact_row_of code)
 unfolding line_of
@@ -131,7 +131,7 @@ alike : (b : Bool) (code : ℕ) → (if b then indirect_line (code - INDIRECT) e
 alike true code = refl
 alike false code = refl
 
--- an indirect condact acts where the plain one does
+-- An indirect condact acts where the plain one does.
 pub acts_alike : (code : ℕ) → (line_of code).acts ≡ (plain_line (plain_code code)).acts
 unfolding line_of
 acts_alike code = alike (is_indirect code) code
@@ -161,7 +161,7 @@ plain_names : below (λ code. not (is_code code) || (is_plain (name_of code))) 2
 unfolding condact_lines plain_line line_of is_plain_code is_indirect below
 plain_names = refl
 
--- a name has at most eight bytes, and no space
+-- A name has at most eight bytes, and no space.
 pub is_plain-name_of : (code : ℕ) → IsCode code → is_plain (name_of code) ≡ true
 is_plain-name_of = each_code (λ code. is_plain (name_of code)) plain_names
 
@@ -173,7 +173,7 @@ some_name : below (λ code. not (is_code code) || (nat_lt 0 (length (name_of cod
 unfolding condact_lines plain_line line_of is_plain_code is_indirect below
 some_name = refl
 
--- a name has a byte
+-- A name has a byte.
 pub length-name_of : (code : ℕ) → IsCode code → 0 < length (name_of code)
 length-name_of code h = leb-true 1 (length (name_of code)) (each_code (λ k. nat_lt 0 (length (name_of k))) some_name code h)
 
@@ -198,7 +198,7 @@ firsts_stand : below (λ code. not (is_code code) || (nat_le (param_count (secon
 unfolding condact_lines plain_line line_of is_plain_code is_indirect below
 firsts_stand = refl
 
--- a code with a second parameter has a first
+-- A code with a second parameter has a first.
 pub param_count-second_kind : (code : ℕ) → IsCode code → param_count (second_kind code) ≤ param_count (first_kind code)
 param_count-second_kind code h =
     leb-true (param_count (second_kind code)) (param_count (first_kind code))

@@ -49,7 +49,7 @@ use Rattle.paw_effects.proofs.Changes.{moves_so, done_so, tested_so}
 use Rattle.paw_effects.proofs.Saving.{AreKept, KeepsBy, one_kept, moved_kept, dropped_kept, acted_kept, found_kept, referred_found as kept_found}
 use Rattle.paw_effects.proofs.Saving.{ramloaded_kept, loaded_kept, answered_kept, moves_kept, done_kept, tested_kept}
 
--- what a meaning of this code leads to, and what it leaves
+-- What a meaning of this code leads to, and what it leaves.
 record Facts (code : ℕ) (m : Meaning) : Type 0 where
   leads : LeadsOn code m
   places : PlacesBy code m
@@ -58,7 +58,7 @@ record Facts (code : ℕ) (m : Meaning) : Type 0 where
 
 -- ---- kinds of rows ----
 
--- a condition that changes nothing
+-- A condition that changes nothing.
 tested : (code : ℕ) (so : World → Condact → Bool) → Facts code (tests so)
 tested code so = record {
   leads = λ g w c is h. absurd (truth_told _ h);
@@ -67,7 +67,7 @@ tested code so = record {
   keeps = λ ks g w c k. k;
 }
 
--- a condition that makes a draw
+-- A condition that makes a draw.
 chance : (code : ℕ) (so : World → Condact → Bool) → Facts code (Tests (λ g w c. answers (drawn_on w 1) (so w c)))
 chance code so = record {
   leads = λ g w c is h. absurd (truth_told _ h);
@@ -76,7 +76,7 @@ chance code so = record {
   keeps = λ ks g w c k. k;
 }
 
--- an action that changes nothing
+-- An action that changes nothing.
 still : (code : ℕ) (text : Story → World → Condact → List ℕ) (act : Story → World → Condact → Act)
     → ((s : Story) (w : World) (c : Condact) → c.code ≡ code → Leads w c (act s w c).effect)
     → Facts code (Acts (λ s w c. record { text = text s w c; world = w; act = act s w c }))
@@ -402,7 +402,7 @@ condition_asks g w c =
     of_carried (λ (t : Tested). t.answer ≡ truth.Ask → c.code ≡ QUIT) (plain_holds g w) (as_plain g w c) (answers w false)
     (λ d is asks. same_code g w c d is QUIT quit_itself (plain_asks w d g asks)) (λ asks. absurd (truth_told false asks))
 
--- objects stand at places of the game
+-- Objects stand at places of the game.
 pub effect_placed : (s : Story) (w : World) (c : Condact) → Valid s.game → IsTrue (is_right s.game c) → IsPlaced s.game w
     → IsPlaced s.game (effect_of s w c).world
 unfolding effect_of
@@ -416,7 +416,7 @@ condition_placed g w c k =
     of_carried (λ (t : Tested). IsPlaced g t.world) (plain_holds g w) (as_plain g w c) (answers w false)
     (λ d is. plain_test_placed w d g k) k
 
--- the positions that are kept stay as they are
+-- The positions that are kept stay as they are.
 pub effect_kept : (ks : List (Option Position)) (s : Story) (w : World) (c : Condact) → c.code ≢ SAVE → AreKept ks w
     → AreKept ks (effect_of s w c).world
 unfolding effect_of
@@ -430,7 +430,7 @@ condition_kept ks g w c k =
     of_carried (λ (t : Tested). AreKept ks t.world) (plain_holds g w) (as_plain g w c) (answers w false)
     (λ d is. plain_test_kept w d ks g k) k
 
--- the world stays one of the game that is played
+-- The world stays one of the game that is played.
 module _ (g : GameLists) (v : Valid g) (seed n : ℕ) where
   pub effect_so : (X : List (List ℕ)) (w : World) (c : Condact) → All AreBytes X → Is g v seed n w → is_condact g c ≡ true
       → IsNext g v seed n (effect_of (story_of g X) w c).world

@@ -5,7 +5,7 @@ use Rattle.std.proofs.Math.Seq.{take-suc-set}
 use Rattle.paw_base.specs.declared.parts.ObjectFacts.{ObjectFacts}
 use Rattle.paw_game.specs.declared.parts.ObjectRow.{ObjectRow}
 
--- the facts of these objects
+-- The facts of these objects.
 abbrev pub facts_all : List ObjectRow → List ObjectFacts
 facts_all os = map (λ o. o.facts) os
 

@@ -61,7 +61,7 @@ flipped : (b : Bool) → not b ≡ false → b ≡ true
 flipped true h = refl
 flipped false h = cc
 
--- a condition comes before the first action
+-- A condition comes before the first action.
 pub tests_low : (code : ℕ) → IsPlainCode code → is_test (meaning_of code) ≡ true → code < INVEN
 tests_low code is h = ltb-true code INVEN (sym (low_is code is) ∙ h)
 

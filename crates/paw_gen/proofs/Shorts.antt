@@ -67,7 +67,7 @@ all_words_short [] h = refl
 all_words_short (w ∷ ws) h =
     let p = and_parts (is_word w) (list_all is_word ws) h in and_both (word_short w p.0) (all_words_short ws p.1)
 
--- the parts together, for at most 109 objects and 219 locations
+-- The parts together, for at most 109 objects and 219 locations.
 limited : (all head words system none objects locations exits tables things places : ℕ)
     → all ≡ head + words + system + none + objects + locations + exits + tables → head ≡ 17 → words ≤ 7 * (8 + things) → system ≤ 4097 * 54 → none ≡ 0
     → objects ≤ 4101 * things → locations ≤ 4097 * places → exits ≤ 5 * places → tables ≡ 39 → things ≤ 109 → places ≤ 219 → all ≤ 4194304
@@ -89,7 +89,7 @@ words_short n =
     flat_short word_image 7 (words_of n) (all_words_short (words_of n) (each_word n)) in
     subst (λ m. length (flat_map word_image (words_of n)) ≤ 7 * m) size short
 
--- the parts of a game's image
+-- The parts of a game's image.
 parts_size : (g : GameLists) → length (image g) ≡ length (head_image g) + length (flat_map word_image g.words)
     + length (flat_map text_image g.system) + length (flat_map text_image g.messages)
     + length (flat_map object_image g.objects) + length (flat_map text_image g.locations) + length (flat_map exits_image g.exits)

@@ -44,7 +44,7 @@ number_between before after k = before ++ (decimal k ++ after)
 abbrev pub system_text : ℕ → List ℕ
 system_text k = number_between (codes "s") [] k
 
--- The text of a location, such as `Place 7.`
+-- The text of a location, such as `Place 7.`.
 abbrev pub trial_location_text : ℕ → List ℕ
 trial_location_text k = number_between (codes "Place ") (codes ".") k
 

@@ -148,7 +148,7 @@ mark_is d n bytes rest fits e =
     let walked = condacts_walked d n bytes rest fits e in
     walked.past ∙ ap (λ (r : List ℕ). Ok r) (sym walked.end)
 
--- marks that are kept mark the same entry
+-- Marks that are kept mark the same entry.
 pub entry_kept : (first : ℕ) (marks more bytes : List ℕ) → KeepsPlaces marks more → MarkEntry (drop first marks) bytes → MarkEntry (drop first more) bytes
 entry_kept first marks more [] keeps h = tt
 entry_kept first marks more (verb ∷ []) keeps h = tt
@@ -184,14 +184,14 @@ mark_of marks condacts count at eights are lt e =
     let m = are eights (omega (arith, lt, e)) in
     (m.0, m.1, subst (λ (n : ℕ). GoesOnAt (n * 8) condacts m.0) (sym e) m.2)
 
--- a condact is read from its mark on
+-- A condact is read from its mark on.
 pub condact_from : (at count : ℕ) (condacts rest : List ℕ) (x : Option Condact) → at < count → each past_condact (at / 8 * 8) condacts ≡ Ok rest
     → value_of (condact_after (at % 8) rest) ≡ x → x ≡ condact_among at count condacts
 condact_from at count condacts rest x lt e is =
     let same = each_more past_condact (at / 8 * 8) (at % 8) at condacts rest (omega arith) e in
     sym (rw (lt-ltb at count lt, same) is)
 
--- the marks of the entry at the front, whose first three bytes are its verb, its noun and its number of condacts
+-- The marks of the entry at the front, whose first three bytes are its verb, its noun and its number of condacts.
 pub marks_at : (marks row : List ℕ) → 3 ≤ length row → MarkEntry marks row → AreMarks marks (get_or row 2 0) (take (length row - 3) (drop 3 row))
 marks_at marks [] le h = absurd (omega (arith, le))
 marks_at marks (verb ∷ []) le h = absurd (omega (arith, le))

@@ -36,7 +36,7 @@ last_line s n h e f =
     lines-last s h (sym e ∙ f) ∙ sym (ap (λ (line : List ℕ). line ∷ lines (drop n s)) (take_all n s (omega arith))
     ∙ ap (λ (rest : List ℕ). s ∷ lines rest) (drop_all n s (omega arith)))
 
--- n bytes stand before the first LF, and w without a CR at their end
+-- Before the first LF there are n bytes, and w of them without a CR at their end.
 pub line_before_lf : (s : List ℕ) (n w : ℕ) → n ≡ position_or_len (λ b. eqb b 10) s → n < length s → w ≤ n
     → take w (take n s) ≡ strip_carriage_return (take n s) → lines s ≡ take w s ∷ lines (drop (n + 1) s)
 line_before_lf s n w e h l f =
@@ -55,7 +55,7 @@ line_end_at s n w e h (inr (q, cr)) =
     subst (λ k. slice_range s w (k + 1) ≡ get_or s w 0 ∷ get_or s k 0 ∷ []) q (slice_range-two s w (omega arith)) in
     inr (both ∙ rw (cr_there, lf) refl)
 
--- the lines that are left, where the source ends before the place `end`
+-- The lines that are left, where the source ends before the place `end`.
 pub lines_of-drop : (s : List ℕ) (end at : ℕ) → end ≡ position_or_len (λ b. eqb b 26) s → at ≤ end → lines_of (drop at s) ≡ lines (slice_range s at end)
 unfolding lines_of
 lines_of-drop s end at e h =

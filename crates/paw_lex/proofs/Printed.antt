@@ -15,7 +15,7 @@ use Rattle.paw_lex.proofs.LineCuts.{lines_of_parts-cons}
 use Rattle.paw_lex.proofs.Slices.{before_first-cons}
 use Rattle.paw_lex.proofs.TokenCuts.{tokens_of-blank, token_first}
 
--- no printed byte is below the space
+-- No printed byte is below the space.
 printed_is_not : (n b : ℕ) → n < 32 → is_printed_byte b ≡ true → eqb b n ≡ false
 printed_is_not n b h e =
     let above = leb-true 32 b (and_parts _ _ e).0 in
@@ -24,7 +24,7 @@ printed_is_not n b h e =
 none_is : (n : ℕ) (line : List ℕ) → n < 32 → list_all is_printed_byte line ≡ true → All (λ b. eqb b n ≡ false) line
 none_is n line h e = λ k d l. printed_is_not n (get_or line k d) h (AllPass-from_list_all is_printed_byte line e k d l)
 
--- the text of a source goes on past printed bytes
+-- The text of a source goes on past printed bytes.
 text-append : (line rest : List ℕ) → list_all is_printed_byte line ≡ true
     → before_first (λ b. eqb b 26) (line ++ rest) ≡ line ++ before_first (λ b. eqb b 26) rest
 text-append [] rest e = refl
@@ -52,7 +52,7 @@ lines_of-line line rest e =
     ∙ lines_of_parts-cons line (slice_split (λ b. eqb b 10) text) more
     ∙ ap (λ (bytes : List ℕ). bytes ∷ lines text) (no_return line e)
 
--- each line with its LF
+-- Each line with its LF.
 abbrev pub printed_lines : List (List ℕ) → List ℕ
 printed_lines = flat_map (λ line. line ++ 10 ∷ [])
 
@@ -65,7 +65,7 @@ lines_of-printed_lines (line ∷ ls) e =
     ∙ lines_of-line line (printed_lines ls) both.0
     ∙ ap (λ (rest : List (List ℕ)). line ∷ rest) (lines_of-printed_lines ls both.1)
 
--- a token has a byte, and none that ends it
+-- A token has a byte, and none that ends it.
 abbrev pub is_token : List ℕ → Bool
 is_token token = ltb 0 (length token) && list_all (λ b. not (ends_token b)) token
 

@@ -35,7 +35,7 @@ pub tokens_of-blank : (b : ℕ) (bs : List ℕ) → is_blank b ≡ true → toke
 unfolding tokens_of
 tokens_of-blank b bs e = ap full (pieces-blank b bs e)
 
--- blanks at the front make no token
+-- Blanks at the front make no token.
 pub past_blanks : (s : List ℕ) (n : ℕ) → n ≤ prefix_len is_blank s → tokens_of (drop n s) ≡ tokens_of s
 past_blanks s zero h = refl
 past_blanks [] (suc n) h = refl
@@ -54,7 +54,7 @@ all_blank (b ∷ bs) =
       | false ↦ λ e. refl
     ] refl
 
--- the blanks at the front are blanks
+-- The blanks at the front are blanks.
 pub blanks_first : (s : List ℕ) (n : ℕ) → n ≡ prefix_len is_blank s → list_all is_blank (take n s) ≡ true
 blanks_first s n e = ap (λ k. list_all is_blank (take k s)) e ∙ all_blank s
 

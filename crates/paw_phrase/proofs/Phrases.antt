@@ -118,13 +118,13 @@ leaves-map P Q f (IsSentence s rest) h = f rest h
 leaves-map P Q f (IsUnknown rest) h = f rest h
 leaves-map P Q f IsNoPhrase h = tt
 
--- a phrase that is taken makes what is pending shorter
+-- A phrase that is taken makes what is pending shorter.
 pub parsed-shorter : (g : GameLists) (pending : List ℕ) (earlier noun adjective : ℕ)
     → Leaves (λ rest. length rest < length pending) (parsed g pending earlier noun adjective)
 parsed-shorter g pending e n a =
     leaves-map (IsRest pending) (λ rest. length rest < length pending) (rest-shorter pending) (parsed g pending e n a) (parsed-rest g pending e n a)
 
--- the same for a phrase that is known to be a sentence, or unknown
+-- The same for a phrase that is known to be a sentence, or unknown.
 pub sentence-rest : (g : GameLists) (pending : List ℕ) (earlier noun adjective : ℕ) (s : Sentence) (rest : List ℕ)
     → parsed g pending earlier noun adjective ≡ IsSentence s rest → IsRest pending rest
 sentence-rest g pending e n a s rest is = subst (Leaves (IsRest pending)) is (parsed-rest g pending e n a)

@@ -74,7 +74,7 @@ parsed_marks-fall g pending e n a (m ∷ ms) h =
     at_mark g pending e n a m ms (is_parting g m.token) refl h
     (parsed_marks-fall g pending e n a ms (Fall_up _ _ ms (omega (arith, h.0)) h.1))
 
--- a phrase that is taken leaves nothing, or at least two bytes less
+-- A phrase that is taken leaves nothing, or at least two bytes less.
 pub phrases_take_two : PhrasesTakeTwo
 unfolding parsed
 phrases_take_two g pending e n a = parsed_marks-fall g pending e n a (marks pending) (Fall_up _ _ (marks pending) (omega arith) (marks_from-fall pending []))

@@ -8,7 +8,7 @@ use Rattle.std.proofs.lemmas.Option.{none-some, same_Some, get_or_from_slice_get
 use Rattle.std.proofs.Math.ListN.{get_or}
 use Rattle.paw_routines.specs.Rows.{StandFor, value_in, value_at}
 
--- the values of a function from 0 to 255
+-- The values of a function from 0 to 255.
 abbrev pub row_of : (ℕ → ℕ) → List ℕ
 row_of h = map h (range_with_len 0 256)
 
@@ -66,7 +66,7 @@ in_row rows n (Some row) e whole bytes x y small at =
     let all : All (λ z. z < 256) row = subst (λ r. All (λ z. z < 256) r) is (bytes n row low) in
     subst (λ z. z < 256) (same_Some _ y at) (all x 0 (omega (arith, size, small)))
 
--- a value that stands in rows is a byte
+-- A value that stands in rows is a byte.
 pub value-byte : {F : Type 0} (calls : Shared F (ℕ × (ℕ × Unit {0})) ℕ) (f : F) (count : ℕ) (rows : List (List ℕ)) → StandFor calls f count rows
     → (n x y : ℕ) → x < 256 → value_at rows n x ≡ Some y → y < 256
 value-byte calls f count rows stand n x y small at =

@@ -28,7 +28,7 @@ pub answer_more : {F : Type 0} (calls : Shared F (ℕ × (ℕ × Unit {0})) ℕ)
 answer_more calls f count rows stand n x row y below small byte size called values =
     values_more rows n x row y values (omega (arith, small, size)) (stand.answers n x y below small byte called)
 
--- a row with all the values of row n is row n
+-- A row with all the values of row n is row n.
 pub whole_row : {F : Type 0} (calls : Shared F (ℕ × (ℕ × Unit {0})) ℕ) (f : F) (count : ℕ) (rows : List (List ℕ)) → StandFor calls f count rows
     → (n : ℕ) (row : List ℕ) → n < count → length row ≡ 256 → AreValues rows n 256 row → slice_get rows n ≡ Some row
 whole_row calls f count rows stand n row below size values =
@@ -40,7 +40,7 @@ whole_row calls f count rows stand n row below size values =
     same_Some _ _ (sym (ap (λ (o : Option (List ℕ)). value_in o k) found) ∙ values k (omega (arith, less, long))) in
     found ∙ ap (λ (l : List ℕ). Some l) (same_number_lists r row (long ∙ sym size) each)
 
--- the first rows and the next one, in order
+-- The first rows and the next one, in order.
 pub concat-more : (rows : List (List ℕ)) (n : ℕ) (row : List ℕ) → slice_get rows n ≡ Some row → concat (take (n + 1) rows) ≡ concat (take n rows) ++ row
 concat-more rows n row at =
     ap concat (take_more rows n row (slice_get_within rows n row at) ∙ ap (λ r. take n rows ++ r ∷ []) (get_or_from_slice_get rows n row row at))

@@ -10,7 +10,7 @@ use Rattle.paw_stage.specs.inner.Log.{done_in, all_done, IsEndOf}
 use Rattle.paw_stage.specs.declared.log.Call.{Call}
 use Rattle.paw_stage.proofs.Logs.{done-next}
 
--- one more, where this is a call of the stage
+-- One more, where this is a call of the stage.
 abbrev pub one_if : Bool → ℕ
 one_if true = 1
 one_if false = 0

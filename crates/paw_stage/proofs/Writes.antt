@@ -68,7 +68,7 @@ index-put at new old i =
           ∙ sym (laid_behind (min at (length old)) new i (slice_index old i) high)))
     ]
 
--- bytes laid over those that stand from another place on
+-- Bytes laid over those that stand from another place on.
 pub lays : (place at from to : ℕ) (bytes into new : List ℕ) (j : ℕ) → from ≡ min (at - place) (length bytes) →
     to ≡ min (place - at) (length into) → new ≡ put to (take (length into - to) (drop from bytes)) into →
     j < length into → slice_index new j ≡ laid_over place bytes (at + j) (slice_index into j)
@@ -91,7 +91,7 @@ lays place at from to bytes into new j ef et e low =
           laid_behind to part j (slice_index into j) (omega (arith, n)) ∙ sym (laid_behind place bytes (at + j) (slice_index into j) h)
     ]))
 
--- another value laid over n bytes, as far as they go
+-- Another value laid over n bytes, as far as they go.
 pub spoils : (place p n : ℕ) (store new : List ℕ) (j : ℕ) → p ≡ min place (length store) →
     new ≡ put p (replicate (min n (length store - p)) 255) store → j < length store →
     slice_index new j ≡ spoiled_if (nat_le place j && nat_lt j (place + n)) (slice_index store j)

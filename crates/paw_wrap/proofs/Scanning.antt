@@ -125,6 +125,6 @@ inside_from w at before (b ∷ bs) i =
       | Step.goes_on e f r ↦ rw (r, more) (inside_from w (suc at) (suc before) bs i)
     ]
 
--- each break is a place of the text
+-- Each break is a place of the text.
 pub is_inside : (w : ℕ) (text places : List ℕ) (i : ℕ) → places ≡ breaks_from w 0 0 text → i < length places → get_or places i 0 < length text
 is_inside w text places i e h = rw e (omega (arith, inside_from w 0 0 text i (rw e at h)))

@@ -48,7 +48,7 @@ undone-broken w before b bs e r again =
     (with_byte-suc space space (breaks_from w 0 0 bs) (wrapped w 0 bs)
     ∙ ap (λ (rest : List ℕ). space ∷ rest) again ∙ ap (λ c. c ∷ bs) (sym (eqb-true b space e)))
 
--- spaces at the breaks give the text back
+-- Spaces at the breaks give the text back.
 pub undone : (w before : ℕ) (text : List ℕ) → with_byte space (breaks_from w 0 before text) (wrapped w before text) ≡ text
 unfolding breaks_from
 undone w before [] = refl
