@@ -8,11 +8,11 @@ use Rattle.paw_base.specs.declared.parts.ObjectFacts.{ObjectFacts}
 use Rattle.paw_world.specs.World.{World, place, with_flag}
 use Rattle.paw_world.specs.Weight.{weight}
 
--- The flag that says whether something is so of an object: 128, half of a byte's range, or 0.
+-- The value of a flag for a fact about an object: 128 where it holds, and 0 where it doesn't.
 abbrev pub weight_class : Bool → ℕ
 weight_class b = if b then REFERRED_SO else 0
 
--- The flags of the object last referred to, by its facts; they stay where there is no such object.
+-- The world with the flags of the object last referred to, by its facts; the same world where there is no such object.
 abbrev pub facts_written : World → ℕ → Option ObjectFacts → World
 facts_written w o None = w
 facts_written w o (Some f) =

@@ -14,7 +14,7 @@ use Rattle.paw_game.specs.Game.{GameLists}
 abbrev pub facts_at : GameLists → ℕ → Option ObjectFacts
 facts_at g o = option_map (λ row. row.facts) (slice_get g.objects o)
 
--- The location to which the exit of this verb leads, if there is one. A valid game has no two for one location.
+-- The location to which the exit of this verb leads, if there is one. In a valid game no location has two.
 abbrev pub exit_of : List Exit → ℕ → Option ℕ
 exit_of xs verb = option_map (λ x. x.to) (find (λ x. x.verb == verb) xs)
 
@@ -50,7 +50,7 @@ is_for word flag = (word == ANY_WORD) || ((word == NO_WORD) || (word == flag))
 abbrev pub matches : ℕ → ℕ → Entry → Bool
 matches verb noun e = is_for e.verb verb && is_for e.noun noun
 
--- The word with these letters, if there is one. A valid game has no two.
+-- The word with these letters, if there is one. In a valid game there are never two.
 abbrev pub word_of : List ℕ → List Word → Option Word
 word_of letters ws = find (λ w. bytes_eq w.letters letters) ws
 

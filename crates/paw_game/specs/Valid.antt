@@ -80,7 +80,7 @@ is_text_byte b = is_within 32 126 b || (b == 10)
 abbrev pub begins_no_line : ℕ → Bool
 begins_no_line b = (b == 47) || (b == 59)
 
--- Whether bytes may stand in a text, where `first` says that a line begins with them.
+-- Whether bytes may stand in a text, where `first` says whether a line begins with them.
 abbrev pub is_printed : Bool → List ℕ → Bool
 is_printed first [] = true
 is_printed first (b ∷ bs) = (is_text_byte b && not (first && begins_no_line b)) && is_printed (b == 10) bs

@@ -194,7 +194,7 @@ abbrev pub is_end : Passing → Bool
 is_end (Ok []) = true
 is_end _ = false
 
--- Whether version 2 is given without need: with the codes of version 1 too, the fields after the words end well.
+-- Whether version 2 is given without need: the fields after the words pass with the codes of version 1 too.
 abbrev pub needs_no_2 : Version → Passing → Bool
 needs_no_2 One with_plain_codes = false
 needs_no_2 Two with_plain_codes = is_end with_plain_codes
@@ -213,8 +213,8 @@ place_in total (Err left) = Some (total - left)
 place_in total (Ok []) = None
 place_in total (Ok (b ∷ bytes)) = Some (total - length (b ∷ bytes))
 
--- The place of the first broken rule, or nothing. The first rule of all is that there aren't too many bytes; the last
--- is that the version, byte 4, is needed.
+-- The place of the first broken rule, or nothing. The first rule is that there aren't too many bytes, where the place
+-- is their limit; the last is that the version, byte 4, is needed.
 unfoldable pub bad : List ℕ → Option ℕ
 bad bytes =
     if nat_lt IMAGE_LIMIT (length bytes) then Some IMAGE_LIMIT

@@ -48,7 +48,7 @@ abbrev pub is_parting : GameLists → Option (List ℕ) → Bool
 is_parting g None = true
 is_parting g (Some letters) = option_map_or (λ word. word.1 == CONJUNCTION_CLASS) (word_at g letters) false
 
--- The marks from the first that doesn't separate phrases.
+-- The marks from the first one on that doesn't separate phrases.
 abbrev pub from_phrase : GameLists → List Mark → List Mark
 from_phrase g [] = []
 from_phrase g (m ∷ ms) = if is_parting g m.token then from_phrase g ms else m ∷ ms

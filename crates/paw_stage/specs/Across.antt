@@ -23,12 +23,12 @@ pub record Serves {S : Type 0} (g : Ghosts S) (calls : List StageCall) (failed :
 abbrev pub Across : {S : Type 0} → Ghosts S → S → S → (Standing → Standing → Type 0) → Type 0
 Across g old new Holds = g.Tells old → Holds (g.standing old) (g.standing new)
 
--- The moments of the calls are those before them, and all others are of this sort.
+-- The moments of the calls are those before them, and others for which `Inside` holds.
 abbrev pub EachMoment : {S : Type 0} → Ghosts S → S → S → (Moment → Type 0) → Type 0
 EachMoment g old new Inside = Moments g.clock g.since old new Inside
 
--- The moments of the calls in two parts: at first all are as `Before` says, and from some time on, once a store is
--- attached, all are as `After` says. If that time never came, there is the first part alone.
+-- The moments of the calls in two parts: up to some time, when a store is attached, `Before` holds for those of the
+-- calls, and from then on `After` holds for all. If that time never came, there is only the first part.
 pub data InTwoParts {S : Type 0} (g : Ghosts S) (old new : S) (Before After : Moment → Type 0) : Type 0 where
   first_alone : EachMoment g old new Before → InTwoParts g old new Before After
   both : (turn : ℕ) → g.clock old ≤ turn → turn ≤ g.clock new → ((m : Moment) → g.since new turn m → After m) →

@@ -19,8 +19,8 @@ abbrev pub is_dirty : List Range → ℕ → Bool
 is_dirty [] i = false
 is_dirty (r ∷ ranges) i = (nat_le r.from i && nat_lt i r.to) || is_dirty ranges i
 
--- The bytes that a crash may leave: any bytes where the disk was written since the last sync, and any past its length
--- at that sync. All others stay.
+-- The bytes that a crash may leave: any where the disk was written since the last sync, and any past its length at that
+-- sync, up to the greatest since. All others stay.
 pub record MayLeave (d : Disk) (image : List ℕ) : Type 0 where
   pub no_shorter : length d.synced ≤ length image
   pub no_longer : length image ≤ d.longest

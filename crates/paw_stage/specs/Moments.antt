@@ -25,8 +25,8 @@ pub record Passes (before now : ℕ) (past since : ℕ → Moment → Type 0) (I
       past t m ⊎ (((u : ℕ) → u ≤ before → since u m) × Inside m)
   pub keeps : (t : ℕ) (m : Moment) → t ≤ before → past t m → since t m
 
--- The moments of a call, or of several, are those before, and all others are of this sort. `clock` and `since` give the
--- time and the moments of the stage `old` and of what the calls make of it.
+-- The moments of a call, or of several, are those before, and others for which `Inside` holds. `clock` and `since` give
+-- the time and the moments of the stage `old`, and of what the calls make of it.
 abbrev pub Moments : {S : Type 0} → (S → ℕ) → (S → ℕ → Moment → Type 0) → S → S → (Moment → Type 0) → Type 0
 Moments clock since old new Inside = Passes (clock old) (clock new) (since old) (since new) Inside
 

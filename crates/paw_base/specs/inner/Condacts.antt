@@ -1,4 +1,4 @@
--- The condacts: words that contracts between crates and proofs use beside those of specs/Condacts.antt.
+-- The condacts: definitions for contracts and proofs, besides those of specs/Condacts.antt.
 use Rattle.std.specs.Prelude.{ℕ, ◌≡◌, ◌-◌, ◌++◌, Bool, true, List, length}
 use Rattle.std.specs.Prelude.{replicate, nat_le, ◌==◌, ◌&&◌, not}
 use Rattle.std.specs.List.{list_any, before_first}

@@ -1,4 +1,4 @@
--- The steps of a piece: the condacts that are read for it. Words of contracts between crates, and of proofs.
+-- The steps of a piece: the condacts that are read for it. Definitions for contracts between crates, and for proofs.
 use Rattle.std.specs.Prelude.{ℕ, suc, List, [], ◌∷◌, ◌++◌, length, take}
 use Rattle.paw_base.specs.declared.limits.TheConstants.{STEP_LIMIT}
 use Rattle.paw_base.specs.declared.steps.StepRow.{StepRow}

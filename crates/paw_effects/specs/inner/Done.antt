@@ -1,4 +1,4 @@
--- What an action does: words that contracts between crates and proofs use beside those of specs/Done.antt.
+-- What an action does: definitions for contracts and proofs, besides those of specs/Done.antt.
 use Rattle.std.specs.Prelude.{◌≡◌, ℕ, ◌+◌, ◌<◌, ◌≤◌, List, ◌++◌, length}
 use Rattle.paw_base.specs.declared.limits.TheConstants.{PIECE_LIMIT}
 use Rattle.paw_world.specs.World.{World}

@@ -1,4 +1,4 @@
--- Worlds as a game may be in: words that contracts between crates and proofs use beside those of specs/Standing.antt.
+-- Worlds as a game may be in: definitions for contracts and proofs, besides those of specs/Standing.antt.
 use Rattle.std.specs.Prelude.{◌≡◌, Option, length, IfSome, All}
 use Rattle.paw_base.specs.declared.limits.TheConstants.{FLAG_COUNT, POSITION_COUNT}
 use Rattle.paw_game.specs.Game.{GameLists}

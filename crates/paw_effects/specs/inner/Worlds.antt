@@ -1,4 +1,4 @@
--- The places of a game: words that contracts between crates and proofs use beside those of specs/Worlds.antt.
+-- The places of a game: definitions for contracts and proofs, besides those of specs/Worlds.antt.
 use Rattle.std.specs.Prelude.{ℕ, List, length, Option, IfSome, IsTrue, All}
 use Rattle.paw_game.specs.Game.{GameLists}
 use Rattle.paw_game.specs.Valid.{is_place}

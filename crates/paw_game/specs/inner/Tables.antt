@@ -1,5 +1,4 @@
--- What a game's lists hold at a number: words that contracts between crates and proofs use beside those of
--- specs/Tables.antt.
+-- What a game's lists hold at a number: definitions for contracts and proofs, besides those of specs/Tables.antt.
 use Rattle.std.specs.Prelude.{ℕ, suc, Bool, false, List, [], ◌∷◌, Option}
 use Rattle.std.specs.Prelude.{Some, None, slice_get, drop, if◌then◌else◌}
 use Rattle.std.specs.Option.{option_map, option_map_or}

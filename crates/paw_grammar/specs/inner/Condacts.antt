@@ -1,4 +1,4 @@
--- The condacts of a line: words that contracts between crates and proofs use beside those of specs/Condacts.antt.
+-- The condacts of a line: definitions for contracts and proofs, besides those of specs/Condacts.antt.
 use Rattle.std.specs.Prelude.{◌≤◌, List}
 use Rattle.paw_game.specs.declared.parts.Word.{Word}
 use Rattle.paw_grammar.specs.declared.bounds.Bounds.{Bounds}

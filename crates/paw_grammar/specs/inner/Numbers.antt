@@ -1,4 +1,4 @@
--- Numbers: words that contracts between crates and proofs use beside those of specs/Numbers.antt.
+-- Numbers: definitions for contracts and proofs, besides those of specs/Numbers.antt.
 use Rattle.std.specs.Prelude.{ℕ, List, min, Option, Some, None, Result}
 use Rattle.paw_base.specs.declared.fault.SourceKind.{SourceKind}
 use Rattle.paw_base.specs.declared.fault.SourceKind.TheVariants as kind

@@ -1,5 +1,5 @@
--- Which bytes are an image, and what a refusal says of them: words that contracts between crates and proofs use beside
--- those of specs/Images.antt.
+-- Which bytes are an image, and what a refusal says of them: definitions for contracts and proofs, besides those of
+-- specs/Images.antt.
 use Rattle.std.specs.Prelude.{ℕ, ◌<◌, List, slice_index, Result, Ok, Err}
 use Rattle.paw_image.specs.declared.refusal.ImageRefusal.{ImageRefusal}
 use Rattle.paw_image.specs.declared.refusal.ImageRefusal.TheVariants as refusal

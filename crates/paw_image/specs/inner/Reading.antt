@@ -1,5 +1,4 @@
--- Reading an image from left to right: words that contracts between crates and proofs use beside those of
--- specs/Reading.antt.
+-- Reading an image from left to right: definitions for contracts and proofs, besides those of specs/Reading.antt.
 use Rattle.std.specs.Prelude.{ℕ, zero, suc, not, List, [], ◌∷◌, length, Result}
 use Rattle.std.specs.Prelude.{Ok, Err, ◌==◌, ◌&&◌, bit_and, if◌then◌else◌}
 use Rattle.paw_base.specs.declared.parts.Condact.{Condact}

@@ -1,4 +1,4 @@
--- The lines of a source: words that contracts between crates and proofs use beside those of specs/Lines.antt.
+-- The lines of a source: definitions for contracts and proofs, besides those of specs/Lines.antt.
 use Rattle.std.specs.Prelude.{◌≡◌, ℕ, ◌≤◌, ◌⊎◌, List, [], ◌∷◌, length, slice_range}
 use Rattle.std.specs.Str.Lines.{lines}
 use Rattle.paw_lex.specs.declared.lines.Line.{Line}

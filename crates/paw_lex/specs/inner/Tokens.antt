@@ -1,4 +1,4 @@
--- The tokens of a line: words that contracts between crates and proofs use beside those of specs/Tokens.antt.
+-- The tokens of a line: definitions for contracts and proofs, besides those of specs/Tokens.antt.
 use Rattle.std.specs.Prelude.{ℕ, Bool, ◌||◌, ◌==◌, List, slice_range, IsTrue}
 use Rattle.std.specs.List.{list_all}
 use Rattle.paw_lex.specs.declared.lines.Line.{Line}

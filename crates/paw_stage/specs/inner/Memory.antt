@@ -66,7 +66,7 @@ Notes c d result old new =
     (IsErr result ↔ IsFalse (can_note d old)) × OnErr result (new ≡ failed c old)
     × OnOk result (new ≡ recorded d old)
 
--- The moments of a call are those before it, and all others are of this sort, by what stood before.
+-- The moments of a call are those before it, and others for which `Inside` holds, by what stood before.
 abbrev pub Throughout : Memory → Memory → (Standing → Moment → Type 0) → Type 0
 Throughout old new Inside = Moments clock_of moments_of old new (Inside (standing_of old))
 

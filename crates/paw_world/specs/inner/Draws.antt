@@ -1,4 +1,4 @@
--- The random words of a seed: words that contracts between crates and proofs use beside those of specs/Draws.antt.
+-- The random words of a seed: definitions for contracts and proofs, besides those of specs/Draws.antt.
 use Rattle.std.specs.Prelude.{ℕ}
 use Rattle.rand_pcg.specs.Lcg.{Lcg, advance, started, increment_of}
 use Rattle.rand_pcg.specs.Pcg.{multiplier_64}

@@ -1,4 +1,4 @@
--- The weight of objects: words that contracts between crates and proofs use beside those of specs/Weight.antt.
+-- The weight of objects: definitions for contracts and proofs, besides those of specs/Weight.antt.
 use Rattle.std.specs.Prelude.{ℕ, ◌+◌, sum_by, min}
 use Rattle.paw_world.specs.World.{World}
 use Rattle.paw_world.specs.Weight.{objects_at, weight_down, weight}

@@ -1,4 +1,4 @@
--- The world of a game: words that contracts between crates and proofs use beside those of specs/World.antt.
+-- The world of a game: definitions for contracts and proofs, besides those of specs/World.antt.
 use Rattle.std.specs.Prelude.{◌≡◌, ℕ, ◌-◌, ◌≤◌, not, List, length, Option, None, Some, slice_index, slice_set}
 use Rattle.std.specs.Option.{option_map_or}
 use Rattle.paw_base.specs.declared.limits.TheConstants.{OBJECT_LIMIT, FLAG_COUNT}
