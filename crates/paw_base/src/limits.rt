@@ -45,7 +45,7 @@ pub const ENTRY_LIMIT: usize = 4000;
 /// The most condacts of an entry.
 pub const CONDACT_LIMIT: usize = 255;
 
-/// The greatest weight that an object has of itself.
+/// The greatest weight of an object by itself.
 pub const WEIGHT_LIMIT: u8 = 63;
 
 /// How many levels below an object count in its weight.

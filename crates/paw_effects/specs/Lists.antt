@@ -65,6 +65,6 @@ abbrev pub inventory_text : GameLists → World → List ℕ
 inventory_text g w =
     say_text g w INVENTORY_MESSAGE ++ list_or_say g w EMPTY_HANDED_MESSAGE (map (held_text g w) (held_objects w))
 
--- LISTOBJ: a list of what stands at the current location; nothing where that is none of the game's.
+-- LISTOBJ: a list of what stands at the current location; nothing where that isn't one of the game's.
 abbrev pub here_list_text : GameLists → World → List ℕ
 here_list_text g w = if is_somewhere w then seen_text g w (texts_at g w (flag w LOCATION_FLAG)) else []

@@ -15,7 +15,7 @@ pub fn is_somewhere(world: &World) -> bool
     world.flag(LOCATION_FLAG) < world.locations()
 }
 
-/// The current location, or not created (252) where it is none of the game's.
+/// The current location, or not created (252) where it isn't one of the game's.
 pub fn here(world: &World) -> u8
     ensures value { result ≡ here world.now }
 {

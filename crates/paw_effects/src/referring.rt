@@ -22,7 +22,7 @@ pub fn refer<T: Tables>(tables: &T, world: &mut World, o: u8)
     ensures game { IsOf (T.game tables.now) world.new }
     ensures draws { world.new.draws ≡ world.old.draws }
 {
-    // The tables stand here for the clauses alone, which name their game: the world has what the code asks for.
+    // The tables are here only for the clauses, which name their game: the world has what the code asks for.
     let _ = tables;
     let place = world.place(o);
     world.set_flag(REFERRED_FLAG, o);

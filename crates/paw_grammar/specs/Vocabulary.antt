@@ -19,7 +19,7 @@ use Rattle.paw_grammar.specs.Tokens.{read_by, is_named}
 
 -- ---- spelling ----
 
--- Whether a token has letters and digits alone, and at least one.
+-- Whether a token has only letters and digits, and at least one.
 abbrev pub is_word_token : List ℕ → Bool
 is_word_token t = nat_lt 0 (length t) && list_all is_ascii_alphanumeric t
 
@@ -99,7 +99,7 @@ or_none meaning t = if bytes_eq t (codes "_") then Some NO_WORD else meaning t
 abbrev pub or_any : (List ℕ → Option ℕ) → List ℕ → Option ℕ
 or_any meaning t = if bytes_eq t (codes "*") then Some ANY_WORD else or_none meaning t
 
--- The word of an object, or one that is a parameter; `_` is none.
+-- The word of an object, or one that is a parameter; `_` is no word.
 abbrev pub word_or_none : List Word → ℕ → List (List ℕ) → Result (ℕ × List (List ℕ)) SourceKind
 word_or_none ws class ts = read_by kind.Word (or_none (λ t. in_class class (known ws t))) ts
 

@@ -172,8 +172,8 @@ impl<'a> Scope<'a> {
     /// Takes all condacts up to the end of the line, and adds them to those of their entry.
     ///
     /// # Errors
-    /// The line's first fault, token by token: Condact where a name is none of the 108, and of a parameter Missing, and
-    /// Word, Number or Range by its kind; of `@`, where it may stand, Number or Range by what follows. TooBig where no
+    /// The line's first fault, token by token: Condact where a name isn't one of the 108; for a parameter Missing, and
+    /// Word, Number or Range by its kind; for `@`, where it may stand, Number or Range by what follows. TooBig where no
     /// token has a fault and the entry would have more than 255 condacts. Memory where there is none. What the entry
     /// then holds is open.
     #[tactic(auto, unfolding(crate::specs::Condacts::more_condacts))]

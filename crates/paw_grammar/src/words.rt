@@ -91,7 +91,7 @@ fn class_named(token: &[u8]) -> Option<u8>
 /// `conjunction` and `pronoun`.
 ///
 /// # Errors
-/// Missing exactly where the line ends, and Word exactly where the token is none of these names.
+/// Missing exactly where the line ends, and Word exactly where the token isn't one of these names.
 pub fn class(tokens: &mut Tokens) -> Result<u8, ReadError>
     ensures { Gives (λ class. (class, tokens.new)) result (class tokens.old) }
 {
@@ -121,7 +121,7 @@ fn kind_named(token: &[u8]) -> Option<(bool, bool)>
 /// Takes the kind of an object, `-`, `C`, `W` or `CW`: whether it is a container, and whether it may be worn.
 ///
 /// # Errors
-/// Missing exactly where the line ends, and Word exactly where the token is none of these.
+/// Missing exactly where the line ends, and Word exactly where the token isn't one of these.
 pub fn object_kind(tokens: &mut Tokens) -> Result<(bool, bool), ReadError>
     ensures { Gives (λ kind. (kind, tokens.new)) result (object_kind tokens.old) }
 {

@@ -92,7 +92,7 @@ with_objects_returned w =
 abbrev pub is_somewhere : World → Bool
 is_somewhere w = nat_lt (flag w LOCATION_FLAG) w.locations
 
--- The current location, or "not created" where it is none of the game's.
+-- The current location, or "not created" where it isn't one of the game's.
 abbrev pub here : World → ℕ
 here w = if is_somewhere w then flag w LOCATION_FLAG else NOT_CREATED_PLACE
 

@@ -24,7 +24,7 @@ logged d l = record {
   bytes_left = l.bytes_left - size_of d;
 }
 
--- One call more, for which room was made beside the spare room.
+-- One call more, for which room was made besides the spare room.
 abbrev pub call_logged : DoneCall → Logged → Logged
 call_logged d l = record l { calls = l.calls ++ d ∷ [] }
 

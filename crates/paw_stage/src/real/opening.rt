@@ -1,4 +1,5 @@
 // A real file that is opened as a store.
+//
 // No clause says what the system does, so nothing here has one: tests try it.
 
 use crate::Failed;
@@ -52,6 +53,7 @@ fn open_apart<R: Files<File = File>>(rt: &R, name: &str) -> io::Result<File> {
 
 // Locks a file, without waiting, until it is closed, which the system does too where the program ends in any way. It
 // fails where another holds the lock. It keeps away only those who ask for it, as every program of this stage does.
+//
 // Where the file system has no locks the game is played without: nothing shows whether another has it, and most often
 // none has.
 fn lock(file: &File) -> io::Result<()> {
