@@ -11,11 +11,11 @@ pub record Done : Type 0 where
   pub world : World
   pub act : Act
 
--- The answer that reading goes on with this effect, and the line and the loop stay as they are.
+-- The answer of an action after which reading goes on with this effect, with the line and the loop as they are.
 abbrev pub plainly : Effect → Act
 plainly e = record { effect = e; drop_line = false; cancel_loop = false }
 
--- The answer that reading goes on with this effect, and the rest of the line is dropped.
+-- The answer of an action after which reading goes on with this effect, with the rest of the line dropped.
 abbrev pub dropping : Effect → Act
 dropping e = record { effect = e; drop_line = true; cancel_loop = false }
 

@@ -35,7 +35,7 @@ text_limit section.Otx = OBJECT_LIMIT
 text_limit section.Ltx = LOCATION_LIMIT
 text_limit _ = 0
 
--- The texts with an empty one more. Its number is that of the texts before it, which has to be below the limit.
+-- The texts with an empty one more. Its number is how many there were before it, which has to be below the limit.
 abbrev pub text_item : ℕ → ℕ → List (List ℕ) → Result (List (List ℕ)) SourceKind
 text_item limit n ts =
     if not (n == length ts) then Err kind.Range

@@ -10,7 +10,7 @@ use Rattle.paw_game.specs.Valid.{is_within}
 use Rattle.paw_faults.specs.Bind.{◌>>=◌}
 use Rattle.paw_grammar.specs.Tokens.{read_by}
 
--- The value of a number: one decimal digit or more, with any zeros before it.
+-- The value of a token of decimal digits, at least one; zeros may come first.
 abbrev pub number : List ℕ → Option ℕ
 number word = if nat_lt 0 (length word) && list_all is_ascii_digit word then Some (digits_value 10 word) else None
 

@@ -39,8 +39,7 @@ with_adjective value s =
     if s.noun == NO_WORD then record s { adjective = or_value s.adjective value }
     else record s { second_adjective = or_value s.second_adjective value }
 
--- A pronoun gives the noun and adjective that it stands for; if it stands for none, or both nouns are there, it is
--- ignored.
+-- A pronoun gives the noun and adjective that it stands for; it is ignored if it has none, or both nouns are there.
 abbrev pub with_pronoun : Sentence → Sentence
 with_pronoun s =
     if s.pronoun_noun == NO_WORD then s else

@@ -173,13 +173,13 @@ pub record IsPosition (objects : ℕ) (q : Position) : Type 0 where
 abbrev pub IsSavedFor : ℕ → Option Position → Type 0
 IsSavedFor objects saved = IfSome saved (IsPosition objects)
 
--- There are as many kept positions as there should be, each of them empty or for this number of objects.
+-- There are four kept positions, each of them empty or for this number of objects.
 pub record AreSavedFor (objects : ℕ) (kept : List (Option Position)) : Type 0 where
   pub four : length kept ≡ POSITION_COUNT
   pub each : All (IsSavedFor objects) kept
 
--- What holds of every world: it has not too many objects, facts and a place for each, and all flags; and its saved and
--- kept positions are for this number of objects.
+-- What holds of every world: not too many objects, facts and a place for each, all flags, and saved and kept positions
+-- for this number of objects.
 pub record IsWorld (w : World) : Type 0 where
   pub objects : length w.places ≤ OBJECT_LIMIT
   pub facts : length w.facts ≡ length w.places
