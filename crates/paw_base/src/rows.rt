@@ -259,6 +259,7 @@ pub fn condact_named(name: &[u8]) -> Option<u8>
     Some(code as u8)
 }
 
+/// The index in the table of the condact with this name, in any case of letters.
 fn code_of(name: &[u8]) -> Option<usize>
     ensures { result ≡ code_named name.now }
 {

@@ -27,6 +27,7 @@ struct Meaning {
     class: u8,
 }
 
+/// The declared word with these letters.
 fn find(words: &BTreeMap<[u8; WORD_LENGTH], Meaning>, letters: [u8; WORD_LENGTH]) -> Option<Word>
     ensures { result ≡ word_of letters (words_in words.now.entries) }
 {
@@ -40,6 +41,7 @@ fn find(words: &BTreeMap<[u8; WORD_LENGTH], Meaning>, letters: [u8; WORD_LENGTH]
     }
 }
 
+/// How many words are declared.
 fn count(words: &BTreeMap<[u8; WORD_LENGTH], Meaning>) -> usize
     ensures { result ≡ length (words_in words.now.entries) }
 {
@@ -189,12 +191,14 @@ impl Vocabulary {
         find(&self.words, letters)
     }
 
+    /// The value of the word that a token spells, where it has this class.
     fn word_value(&self, class: u8, token: &[u8]) -> Option<u8>
         ensures { result ≡ in_class class (known self.now token.now) }
     {
         in_class(class, self.known(token))
     }
 
+    /// The verb value of the word that a token spells.
     fn verb_value(&self, token: &[u8]) -> Option<u8>
         ensures { result ≡ as_verb (known self.now token.now) }
     {

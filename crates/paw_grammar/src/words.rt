@@ -80,6 +80,7 @@ pub(crate) fn place_among(names: &[&[u8]], token: &[u8]) -> Option<usize>
     names.iter().position(|name| is_named(token, name))
 }
 
+/// The class that a token names, in any case of letters.
 fn class_named(token: &[u8]) -> Option<u8>
     ensures { result ≡ place_among class_names token.now }
 {
@@ -102,6 +103,7 @@ pub fn class(tokens: &mut Tokens) -> Result<u8, ReadError>
     }
 }
 
+/// What a kind says of an object: whether it is a container, and whether it may be worn.
 fn kind_named(token: &[u8]) -> Option<(bool, bool)>
     ensures { result ≡ kind_named token.now }
 {

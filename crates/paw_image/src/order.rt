@@ -37,6 +37,7 @@ fn ranked(verb: u8, noun: u8, entry: u16) -> u32
     (verb as u32 * 256 + noun as u32) * 65536 + entry as u32
 }
 
+/// The rank of a head, by its verb, its noun and the number of its entry.
 fn rank(head: &Head) -> u32
     ensures value { result ≡ rank head.now }
 {

@@ -34,6 +34,7 @@ struct Reading {
     end: usize,
 }
 
+/// What a token, or a separator (None), is in a phrase.
 fn part_of<T: Tables>(tables: &T, token: Option<[u8; WORD_LENGTH]>) -> Part
     ensures value { result ≡ phrase_part_of (T.game tables.now) token }
 {

@@ -53,6 +53,7 @@ impl Places {
         all
     }
 
+    /// The places of no objects.
     fn empty() -> Places
         ensures { result ≡ [] }
     {
