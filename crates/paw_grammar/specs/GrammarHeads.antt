@@ -82,7 +82,7 @@ item_in s d n = if nat_lt 0 (text_limit s) then new_text s d n else Err kind.Sec
 
 -- ---- the line ----
 
--- A line that begins with `/`: an item where a number follows and ends the line, and otherwise a header.
+-- A line that begins with `/`. Where a number follows, the line is an item and ends there; otherwise it is a header.
 abbrev pub slash_line : Spelt → List ℕ → Option ℕ → List (List ℕ) → Result Spelt SourceKind
 slash_line d name (Some n) ts = ended ts >>= λ _. item_in d.section d n
 slash_line d name None ts = header d name ts

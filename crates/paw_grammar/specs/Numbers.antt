@@ -30,6 +30,6 @@ number_within low high ts = number_with (is_within low high) ts
 abbrev pub number_below : ℕ → List (List ℕ) → Result (ℕ × List (List ℕ)) SourceKind
 number_below limit ts = number_with (λ n. nat_lt n limit) ts
 
--- The number of a row, which is the number n of rows before it; once there are `count` rows, no number is right.
+-- The number of a row: n, which is how many rows stand before it. Once there are `count` rows, no number is right.
 abbrev pub row_number : ℕ → ℕ → List (List ℕ) → Result (ℕ × List (List ℕ)) SourceKind
 row_number n count ts = number_with (λ m. (m == n) && nat_lt n count) ts

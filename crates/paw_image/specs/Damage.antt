@@ -194,7 +194,7 @@ abbrev pub is_end : Passing → Bool
 is_end (Ok []) = true
 is_end _ = false
 
--- Whether version 2 is given without need: the fields after the words pass with the codes of version 1 too.
+-- Whether version 2 isn't needed: it is the version, and with the codes of version 1 the lists pass to the end.
 abbrev pub needs_no_2 : Version → Passing → Bool
 needs_no_2 One with_plain_codes = false
 needs_no_2 Two with_plain_codes = is_end with_plain_codes

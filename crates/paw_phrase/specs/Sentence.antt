@@ -67,7 +67,7 @@ with_tokens g tokens s =
 abbrev pub with_verb : ℕ → Sentence → Sentence
 with_verb earlier s = record s { verb = or_value s.verb (if nat_lt s.noun FIRST_PLAIN_NOUN then s.noun else earlier) }
 
--- A first noun that a pronoun may stand for is, with its adjective, what pronouns stand for from now on.
+-- A first noun that a pronoun may stand for becomes, with its adjective, the meaning of pronouns from now on.
 abbrev pub with_meaning : Sentence → Sentence
 with_meaning s =
     if nat_le FIRST_NAMED_NOUN s.noun && nat_le s.noun GREATEST_WORD

@@ -27,8 +27,8 @@ Across g old new Holds = g.Tells old → Holds (g.standing old) (g.standing new)
 abbrev pub EachMoment : {S : Type 0} → Ghosts S → S → S → (Moment → Type 0) → Type 0
 EachMoment g old new Inside = Moments g.clock g.since old new Inside
 
--- The moments of the calls in two parts: up to some time, when a store is attached, `Before` holds for those of the
--- calls, and from then on `After` holds for all. If that time never came, there is only the first part.
+-- Calls in two parts, of which the second begins once a store is attached: `Before` holds for each moment of the calls,
+-- or it comes since the second part began, and `After` holds for all of those. There may be no second part.
 pub data InTwoParts {S : Type 0} (g : Ghosts S) (old new : S) (Before After : Moment → Type 0) : Type 0 where
   first_alone : EachMoment g old new Before → InTwoParts g old new Before After
   both : (turn : ℕ) → g.clock old ≤ turn → turn ≤ g.clock new → ((m : Moment) → g.since new turn m → After m) →

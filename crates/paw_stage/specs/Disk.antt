@@ -30,7 +30,7 @@ pub record MayLeave (d : Disk) (image : List ℕ) : Type 0 where
 abbrev pub put : ℕ → List ℕ → List ℕ → List ℕ
 put at new old = take at old ++ new ++ drop (at + length new) old
 
--- The disk with these bytes put at a place, where n bytes from there on count as written.
+-- The disk once a write of n bytes at a place has put these bytes there: all n count as written.
 abbrev pub touched : ℕ → ℕ → List ℕ → Disk → Disk
 touched at n new d = record {
   bytes = put at new d.bytes;

@@ -17,8 +17,8 @@ pub record Moment : Type 0 where
 abbrev pub moment_of : Standing → Moment
 moment_of s = record { files = s.files; asked = s.asked; shown = s.shown; attached = s.attached; disk = s.disk }
 
--- How the time and the moments since a time change over a call. The moments after it are those before and those inside
--- the call, and these come since each time up to the call.
+-- What a call does to the time, which doesn't fall, and to the moments since each time up to the call: those before it
+-- stay, and only moments inside the call are added, which come since each of these times.
 pub record Passes (before now : ℕ) (past since : ℕ → Moment → Type 0) (Inside : Moment → Type 0) : Type 0 where
   pub later : before ≤ now
   pub nothing_else : (t : ℕ) (m : Moment) → t ≤ before → since t m →
