@@ -35,8 +35,8 @@ fn is_argument<T: Tables>(tables: &T, kind: ParamKind, value: u8) -> bool
     }
 }
 
-/// The plain condact of an indirect one, with this value as its first parameter. None exactly where the value breaks the
-/// rule of what that parameter names.
+/// The plain condact of an indirect one, with this value as its first parameter. None exactly where the value breaks
+/// the rule of what that parameter names.
 fn plain_with<T: Tables>(tables: &T, c: Condact, value: u8) -> Option<Condact>
     requires indirect { is_indirect c.code ≡ true }
     ensures value { result ≡ plain_with (T.game tables.now) c value }

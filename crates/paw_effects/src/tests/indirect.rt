@@ -29,8 +29,8 @@ const EXTERN_FROM: u8 = INDIRECT + EXTERN;
 
 const PAUSE_FROM: u8 = INDIRECT + PAUSE;
 
-/// The game has two messages, 54 system messages, five objects, three locations and five routines. A value past the last
-/// of them makes a condition fail, and an action do nothing.
+/// The game has two messages, 54 system messages, five objects, three locations and five routines. A value past the
+/// last of them makes a condition fail, and an action do nothing.
 const FROM_FLAGS: &[Scene] = scenes! {
     MES_FROM 100 0 GO, LET 100 2 GO, MES_FROM 100 0 GO => "Taken";
     LET 100 53 GO, SYSMESS_FROM 100 0 GO, LET 100 54 GO, SYSMESS_FROM 100 0 GO => "v";
