@@ -31,7 +31,7 @@ pub length-condact_lines : length condact_lines ≡ length CONDACTS
 unfolding condact_lines
 length-condact_lines = refl
 
--- the plain codes are the places of the code's table
+-- The plain codes are the indices of the code's table.
 pub code_within : (code : ℕ) → IsPlainCode code → code < length CONDACTS
 unfolding is_plain_code
 code_within code h = rw (sym length-condact_lines) (ltb-true code (length condact_lines) h)
@@ -52,7 +52,7 @@ row_is code row h e = rw (e ∙ held_at code row h) refl
 
 -- ---- indirect codes
 
--- what may be indirect has a line
+-- A code that may be indirect has a line.
 pub indirect_within : (code : ℕ) → may_be_indirect code ≡ true → code < length CONDACTS
 unfolding plain_line
 indirect_within code h = elim (cases_lt code (length condact_lines)) [
@@ -64,12 +64,12 @@ indirect_within code h = elim (cases_lt code (length condact_lines)) [
       absurd cc
 ]
 
--- below 128 a code is plain
+-- Below 128 a code is plain.
 pub plain_below : (code : ℕ) → code < INDIRECT → is_indirect code ≡ false
 unfolding is_indirect
 plain_below code low = rw (lt-leb INDIRECT code low) refl
 
--- and from 128 on none is
+-- From 128 on no code is plain.
 pub none_from : (code : ℕ) → INDIRECT ≤ code → is_plain_code code ≡ false
 unfolding is_plain_code
 none_from code high = le-ltb code (length condact_lines) (omega (arith, high, length-condact_lines))
@@ -78,7 +78,7 @@ pub indirect_from : (code : ℕ) → INDIRECT ≤ code → is_indirect code ≡ 
 unfolding is_indirect
 indirect_from code high = rw (le-leb INDIRECT code high) refl
 
--- a code is a byte
+-- A code is a byte.
 pub code_small : (code : ℕ) → IsCode code → code < 256
 unfolding is_indirect
 code_small code is = elim (or_cases (is_plain_code code) (is_indirect code) is) [
@@ -86,11 +86,11 @@ code_small code is = elim (or_cases (is_plain_code code) (is_indirect code) is) 
   | inr indirect ↦ let within = indirect_within (code - INDIRECT) (and_parts (nat_le INDIRECT code) _ indirect).1 in omega (arith, within)
 ]
 
--- a plain code is a code
+-- A plain code is a code.
 pub plain_is : (code : ℕ) → IsPlainCode code → IsCode code
 plain_is code h = rw h refl
 
--- a code below 128 is plain, and from 128 on that of a plain one
+-- A code below 128 is plain.
 pub plain_of_code : (code : ℕ) → IsCode code → code < INDIRECT → IsPlainCode code
 plain_of_code code is low = elim (or_cases (is_plain_code code) (is_indirect code) is) [
   | inl plain ↦ plain
@@ -107,7 +107,7 @@ pub plain_within : (code : ℕ) → IsCode code → INDIRECT ≤ code → IsPlai
 plain_within code is high =
     within_code (code - INDIRECT) (indirect_within (code - INDIRECT) (sym (indirect_from code high) ∙ indirect_of_code code is high))
 
--- the row of a code is that of a plain one, or of the indirect one that stands for it
+-- The row of a code is that of a plain one, or of the indirect one that stands for it.
 pub plain_side : (code : ℕ) → code < INDIRECT → (r : Option CondactRow) → SomeIff r (IsPlainCode code) (row_of_line (plain_line code))
     → SomeIff r (IsCode code) (condact_row_of code)
 unfolding line_of
@@ -131,7 +131,7 @@ alike : (b : Bool) (code : ℕ) → (if b then indirect_line (code - INDIRECT) e
 alike true code = refl
 alike false code = refl
 
--- an indirect condact acts where the plain one does
+-- An indirect condact acts where the plain one does.
 pub acts_alike : (code : ℕ) → (line_of code).acts ≡ (plain_line (plain_code code)).acts
 unfolding line_of
 acts_alike code = alike (is_indirect code) code
@@ -161,11 +161,11 @@ plain_names : below (λ code. not (is_code code) || (is_plain (name_of code))) 2
 unfolding condact_lines plain_line line_of is_plain_code is_indirect below
 plain_names = refl
 
--- a name has at most eight bytes, and no space
+-- A name has at most eight bytes, and no space.
 pub is_plain-name_of : (code : ℕ) → IsCode code → is_plain (name_of code) ≡ true
 is_plain-name_of = each_code (λ code. is_plain (name_of code)) plain_names
 
--- so it is what stands in the row before the first space
+-- So the name is what stands in the row before the first space.
 pub before_space-row_of : (code : ℕ) → IsCode code → before_space (condact_row_of code).name ≡ name_of code
 before_space-row_of code h = before_space-filled_up (name_of code) (has_space-plain (name_of code) (is_plain-name_of code h))
 
@@ -173,7 +173,7 @@ some_name : below (λ code. not (is_code code) || (nat_lt 0 (length (name_of cod
 unfolding condact_lines plain_line line_of is_plain_code is_indirect below
 some_name = refl
 
--- a name has a byte
+-- A name has a byte.
 pub length-name_of : (code : ℕ) → IsCode code → 0 < length (name_of code)
 length-name_of code h = leb-true 1 (length (name_of code)) (each_code (λ k. nat_lt 0 (length (name_of k))) some_name code h)
 
@@ -181,7 +181,7 @@ letter_names : below (λ code. not (is_code code) || (list_all (λ byte. is_asci
 unfolding condact_lines plain_line line_of is_plain_code is_indirect below
 letter_names = refl
 
--- a name has capitals and digits alone
+-- A name has only capitals and digits.
 pub letters-name_of : (code : ℕ) → IsCode code → list_all (λ byte. is_ascii_uppercase byte || is_ascii_digit byte) (name_of code) ≡ true
 letters-name_of = each_code (λ code. list_all (λ byte. is_ascii_uppercase byte || is_ascii_digit byte) (name_of code)) letter_names
 
@@ -189,7 +189,7 @@ capital_names : below (λ code. not (is_code code) || (bytes_eq (name_of code) (
 unfolding condact_lines plain_line line_of is_plain_code is_indirect below
 capital_names = refl
 
--- a name is read as it stands
+-- A name is read as it stands.
 pub HasName-name_of : (code : ℕ) → IsPlainCode code → HasName code (name_of code)
 HasName-name_of code h =
     (h, (bytes_eq-Decides (name_of code) (capitals (name_of code))).0 (each_code (λ k. bytes_eq (name_of k) (capitals (name_of k))) capital_names code (plain_is code h)))
@@ -198,7 +198,7 @@ firsts_stand : below (λ code. not (is_code code) || (nat_le (param_count (secon
 unfolding condact_lines plain_line line_of is_plain_code is_indirect below
 firsts_stand = refl
 
--- a code with a second parameter has a first
+-- A code with a second parameter has a first.
 pub param_count-second_kind : (code : ℕ) → IsCode code → param_count (second_kind code) ≤ param_count (first_kind code)
 param_count-second_kind code h =
     leb-true (param_count (second_kind code)) (param_count (first_kind code))

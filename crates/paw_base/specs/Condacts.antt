@@ -8,21 +8,21 @@ use Rattle.paw_base.specs.declared.rows.ParamKind.TheVariants.{Absent, Location,
 use Rattle.paw_base.specs.declared.rows.ParamKind.TheVariants.{Number, Message, System, Table, Adverb}
 use Rattle.paw_base.specs.declared.rows.ParamKind.TheVariants.{Noun, Adjective, Preposition}
 
--- a line of the table: the name, what the first and the second parameter name, and whether the condact acts or tests
+-- A line of the table: its name, what its first and its second parameter name, and whether the condact acts or tests.
 pub record CondactLine : Type 0 where
   pub name : List ℕ
   pub first : ParamKind
   pub second : ParamKind
   pub acts : Bool
 
--- a line of a condition, and that of an action
+-- The line of a condition, and below it that of an action.
 abbrev pub condition : List ℕ → ParamKind → ParamKind → CondactLine
 condition name first second = record { name = name; first = first; second = second; acts = false }
 
 abbrev pub action : List ℕ → ParamKind → ParamKind → CondactLine
 action name first second = record { name = name; first = first; second = second; acts = true }
 
--- the lines of the codes from 0 on, in their order
+-- The lines of the codes from 0 on, in their order.
 unfoldable pub condact_lines : List CondactLine
 condact_lines =
     condition (codes "AT") Location Absent ∷  -- 0
@@ -135,67 +135,67 @@ condact_lines =
     action (codes "INPUT") Number Absent ∷  -- 107
     []
 
--- the plain codes are the numbers of the lines
+-- Whether a number is a plain code: one of the numbers of the lines.
 unfoldable pub is_plain_code : ℕ → Bool
 is_plain_code code = nat_lt code (length condact_lines)
 
--- a line with no name and no parameters
+-- A line with no name and no parameters.
 abbrev pub no_line : CondactLine
 no_line = action [] Absent Absent
 
--- the line of a plain code; of any other number one with no name
+-- The line of a plain code; for any other number, a line with no name and no parameters.
 unfoldable pub plain_line : ℕ → CondactLine
 plain_line code = slice_index_or condact_lines code no_line
 
--- a kind stands for one parameter, Absent for none
+-- How many parameters a kind stands for: 1, or 0 for Absent.
 abbrev pub param_count : ParamKind → ℕ
 param_count Absent = 0
 param_count _ = 1
 
--- a condact with a first parameter may take it from a flag, but PROCESS and DOALL
+-- Whether the condact of a plain code may take its first parameter from a flag: it has one, and isn't PROCESS or DOALL.
 abbrev pub may_be_indirect : ℕ → Bool
 may_be_indirect code = nat_lt 0 (param_count (plain_line code).first) && not ((code == PROCESS) || (code == DOALL))
 
--- the code of an indirect condact: that of the plain one, and 128
+-- Whether a code is that of an indirect condact: the code of the plain one, plus 128.
 unfoldable pub is_indirect : ℕ → Bool
 is_indirect code = nat_le INDIRECT code && may_be_indirect (code - INDIRECT)
 
--- a code of a condact
+-- Whether a number is the code of a condact, plain or indirect.
 abbrev pub is_code : ℕ → Bool
 is_code code = is_plain_code code || is_indirect code
 
--- the code of the plain condact
+-- The code of the plain condact that a condact is or stands for.
 abbrev pub plain_code : ℕ → ℕ
 plain_code code = if is_indirect code then code - INDIRECT else code
 
--- the line of the indirect condact of a plain code: its first parameter is a flag
+-- The line of the indirect condact with this plain code: its first parameter is a flag.
 abbrev pub indirect_line : ℕ → CondactLine
 indirect_line code = record (plain_line code) { first = Flag }
 
--- the line of a code
+-- The line of a code.
 unfoldable pub line_of : ℕ → CondactLine
 line_of code = if is_indirect code then indirect_line (code - INDIRECT) else plain_line code
 
--- the name of a code
+-- The name of a code.
 abbrev pub name_of : ℕ → List ℕ
 name_of code = (line_of code).name
 
--- what the first parameter of a code names
+-- What the first parameter of a code names.
 abbrev pub first_kind : ℕ → ParamKind
 first_kind code = (line_of code).first
 
--- what the second parameter of a code names
+-- What the second parameter of a code names.
 abbrev pub second_kind : ℕ → ParamKind
 second_kind code = (line_of code).second
 
--- how many parameters a code has: 0 to 2
+-- How many parameters a code has: 0 to 2.
 abbrev pub params_of : ℕ → ℕ
 params_of code = param_count (first_kind code) + param_count (second_kind code)
 
--- the letters a to z read as capitals
+-- A name with the letters a to z as capitals.
 abbrev pub capitals : List ℕ → List ℕ
 capitals name = map to_ascii_uppercase name
 
--- the least code with this name, its letters read as capitals, where there is one
+-- The least code with this name, in any case of letters, if there is one.
 abbrev pub code_named : List ℕ → Option ℕ
 code_named name = position (λ line. bytes_eq line.name (capitals name)) condact_lines

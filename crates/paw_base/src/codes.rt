@@ -324,5 +324,5 @@ pub const LINE: u8 = 106;
 /// The code of the condact INPUT.
 pub const INPUT: u8 = 107;
 
-/// What the code of an indirect condact has above that of the plain one.
+/// The difference between the code of an indirect condact and that of the plain one.
 pub const INDIRECT: u8 = 128;

@@ -2,7 +2,7 @@
 
 use std::alloc::{AllocError, AllocFailed};
 
-/// Want of memory.
+/// There is no memory.
 #[derive(Clone, Copy, Drop, PartialEq, Eq, Debug)]
 pub struct NoRoom;
 
@@ -18,7 +18,7 @@ impl<T: Drop> From<AllocFailed<T>> for NoRoom {
     }
 }
 
-/// What a piece has used up: the condacts that it may read, or the text that it may hold.
+/// What a piece used up: the condacts that it may read, or the text that it may hold.
 #[derive(Clone, Copy, Drop, PartialEq, Eq, Debug)]
 pub enum SpentKind {
     Condacts,

@@ -1,39 +1,39 @@
-// The flags that mean something of themselves. All others are the author's.
+// The flags that have a meaning of their own. All others are the author's.
 
-/// Not 0 while it is dark.
+/// A flag that isn't 0 while it is dark.
 pub const DARK_FLAG: u8 = 0;
 
 /// How many objects are carried.
 pub const CARRIED_FLAG: u8 = 1;
 
-/// Falls before each view.
+/// A flag that falls by one before each view.
 pub const VIEW_FLAG: u8 = 2;
 
-/// Falls before each view while it is dark.
+/// A flag that falls by one before each view while it is dark.
 pub const DARK_VIEW_FLAG: u8 = 3;
 
-/// Falls before each view while it is dark and the light source isn't present.
+/// A flag that falls by one before each view while it is dark and the light source isn't present.
 pub const UNLIT_VIEW_FLAG: u8 = 4;
 
-/// The first of the flags that fall in each time frame.
+/// The first of the flags that fall by one in each time frame.
 pub const FIRST_FRAME_FLAG: u8 = 5;
 
-/// The last of the flags that fall in each time frame.
+/// The last of the flags that fall by one in each time frame.
 pub const LAST_FRAME_FLAG: u8 = 8;
 
-/// Falls in each time frame while it is dark.
+/// A flag that falls by one in each time frame while it is dark.
 pub const DARK_FRAME_FLAG: u8 = 9;
 
-/// Falls in each time frame while it is dark and the light source isn't present.
+/// A flag that falls by one in each time frame while it is dark and the light source isn't present.
 pub const UNLIT_FRAME_FLAG: u8 = 10;
 
 /// The score.
 pub const SCORE_FLAG: u8 = 30;
 
-/// The number of turns, modulo 256.
+/// The low byte of the number of turns.
 pub const LOW_TURNS_FLAG: u8 = 31;
 
-/// The number of turns, divided by 256.
+/// The high byte of the number of turns.
 pub const HIGH_TURNS_FLAG: u8 = 32;
 
 /// The verb of the sentence; 255 for none, as in all words of the sentence.
@@ -72,10 +72,10 @@ pub const PRONOUN_NOUN_FLAG: u8 = 46;
 /// The adjective that a pronoun stands for.
 pub const PRONOUN_ADJECTIVE_FLAG: u8 = 47;
 
-/// Not 0 while a prompt may run out of time.
+/// A flag that isn't 0 while a prompt may run out of time.
 pub const TIMEOUT_FLAG: u8 = 48;
 
-/// Its bit 7 tells that the last line was a timeout.
+/// A flag whose bit 7 says that the last line was a timeout.
 pub const TIMED_OUT_FLAG: u8 = 49;
 
 /// That bit.
@@ -90,7 +90,7 @@ pub const REFERRED_FLAG: u8 = 51;
 /// The greatest weight that may be carried.
 pub const MOST_WEIGHT_FLAG: u8 = 52;
 
-/// Its bit 6 makes lists run on one line.
+/// A flag whose bit 6 makes lists run on one line.
 pub const LISTING_FLAG: u8 = 53;
 
 /// That bit.
@@ -102,13 +102,13 @@ pub const REFERRED_PLACE_FLAG: u8 = 54;
 /// The weight of the object last referred to.
 pub const REFERRED_WEIGHT_FLAG: u8 = 55;
 
-/// Tells by 128 or 0 whether the object last referred to is a container.
+/// Whether the object last referred to is a container: 128 if it is, 0 if not.
 pub const REFERRED_CONTAINER_FLAG: u8 = 56;
 
-/// Tells by 128 or 0 whether the object last referred to may be worn.
+/// Whether the object last referred to may be worn: 128 if it may, 0 if not.
 pub const REFERRED_WEARABLE_FLAG: u8 = 57;
 
-/// How these two tell that it is so.
+/// The value of these two flags where it is so.
 pub const REFERRED_SO: u8 = 128;
 
 /// The number of the position that SAVE keeps and LOAD takes back, modulo 4.

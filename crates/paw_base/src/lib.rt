@@ -1,5 +1,5 @@
-//! Plain types that every other crate of the workspace speaks of, the numbers that have names, the table of condacts,
-//! the piece, the steps of a piece, and rows in memory.
+//! Plain types that all other crates of the workspace name, the numbers that have names, the table of condacts, the
+//! piece, the steps of a piece, and rows in memory.
 #![tactic(auto)]
 
 pub mod codes;

@@ -6,7 +6,7 @@ pub const SOURCE_LIMIT: usize = 8_388_608;
 /// The most bytes of an image.
 pub const IMAGE_LIMIT: usize = 4_194_304;
 
-/// The letters of a word that count.
+/// How many letters of a word count.
 pub const WORD_LENGTH: usize = 5;
 
 /// The most words of a game.
@@ -45,22 +45,22 @@ pub const ENTRY_LIMIT: usize = 4000;
 /// The most condacts of an entry.
 pub const CONDACT_LIMIT: usize = 255;
 
-/// The greatest weight that an object has of itself.
+/// The greatest weight of an object by itself.
 pub const WEIGHT_LIMIT: u8 = 63;
 
-/// How many levels below an object its contents weigh.
+/// How many levels below an object count in its weight.
 pub const WEIGHT_LEVELS: usize = 10;
 
-/// The objects that may be carried when a game starts.
+/// How many objects may be carried when a game starts.
 pub const STARTING_CARRIED: u8 = 4;
 
 /// The weight that may be carried when a game starts.
 pub const STARTING_WEIGHT: u8 = 10;
 
-/// The flags of a world.
+/// How many flags a world has.
 pub const FLAG_COUNT: usize = 256;
 
-/// The positions that SAVE keeps.
+/// How many positions SAVE keeps.
 pub const POSITION_COUNT: usize = 4;
 
 /// The most bytes of a line.
@@ -75,7 +75,7 @@ pub const READ_LIMIT: u32 = 200_000;
 /// The most steps of a piece that are kept.
 pub const STEP_LIMIT: usize = 1000;
 
-/// How deep tables may call one another.
+/// How many levels deep tables may call one another.
 pub const LEVEL_LIMIT: usize = 10;
 
 /// The most lines of a session.

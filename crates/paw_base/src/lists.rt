@@ -5,7 +5,7 @@ ghost use Rattle.std.specs.Prelude.{◌≡◌, [], IfOk};
 use std::alloc::{AllocError, Global};
 use std::marker::Model;
 
-/// Some rows, in written order; contracts see the list.
+/// Some rows, in written order; contracts see them as a list.
 #[derive(Drop)]
 pub struct Rows<T> {
     pub rows: Vec<T>,
@@ -37,7 +37,7 @@ impl<T: Copy> Rows<T> {
     /// These rows.
     ///
     /// # Errors
-    /// AllocError for want of memory.
+    /// AllocError where there is no memory.
     pub fn from_slice(alloc: Global, rows: &[T]) -> Result<Rows<T>, AllocError>
         ensures value { IfOk result (λ all. all ≡ rows.now) }
     {

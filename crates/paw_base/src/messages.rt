@@ -1,4 +1,4 @@
-// The system messages that are put without an author's asking, by what they say.
+// The system messages that a game prints of itself, by what they say.
 
 /// It is dark.
 pub const DARK_MESSAGE: u8 = 0;
@@ -48,7 +48,7 @@ pub const TURNS_MESSAGE: u8 = 17;
 /// What comes after the number of turns.
 pub const TURN_MESSAGE: u8 = 18;
 
-/// What makes turns of a turn.
+/// The plural ending of the word for turns.
 pub const PLURAL_MESSAGE: u8 = 19;
 
 /// What ends the line of turns.
@@ -114,7 +114,7 @@ pub const TOO_HEAVY_MESSAGE: u8 = 43;
 /// The object was put in; a container's name follows.
 pub const PUT_IN_MESSAGE: u8 = 44;
 
-/// The object is here, and not in; a container's name follows.
+/// The object is here, and not inside; a container's name follows.
 pub const NOT_TAKEN_OUT_MESSAGE: u8 = 45;
 
 /// The object is here, and not carried.
@@ -126,7 +126,7 @@ pub const NOT_PUT_ON_MESSAGE: u8 = 50;
 /// What ends a line with a container's name.
 pub const NAME_END_MESSAGE: u8 = 51;
 
-/// There is no such object in; a container's name follows.
+/// There is no such object inside; a container's name follows.
 pub const NOT_INSIDE_MESSAGE: u8 = 52;
 
 /// No object is at the place.

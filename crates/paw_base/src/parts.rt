@@ -8,7 +8,7 @@ pub struct Condact {
     pub b: u8,
 }
 
-/// What a game says of an object beside its text: its two words (255 for none), the place where it begins, its own
+/// What a game says of an object besides its text: its two words (255 for none), the place where it begins, its own
 /// weight (0 to 63), and whether it is a container and may be worn.
 #[derive(Clone, Copy, Drop, PartialEq, Eq, Debug)]
 pub struct ObjectFacts {

@@ -186,7 +186,7 @@ static CONDACTS: [([u8; 8], ParamKind, ParamKind, bool); 108] = [
     (*b"INPUT   ", Number, Absent, true),
 ];
 
-/// What the table says of a code; None where it is that of no condact.
+/// What the table says of a code; None where it isn't the code of a condact.
 pub fn condact_row(code: u8) -> Option<CondactRow>
     ensures { SomeIff result (IsCode code) (condact_row_of code) }
 {
@@ -228,7 +228,7 @@ pub fn may_be_indirect(code: u8) -> bool
     indirect_row(code).is_some()
 }
 
-/// The code of the plain condact: for an indirect one that which it stands for.
+/// The code of the plain condact that a condact is, or that an indirect one stands for.
 pub fn plain_code(code: u8) -> u8
     requires code { IsCode code }
     ensures value { result ≡ plain_code code }
@@ -241,7 +241,7 @@ pub fn plain_code(code: u8) -> u8
     }
 }
 
-/// Whether the condact of a code acts; one that doesn't tests.
+/// Whether the condact of a code acts; otherwise it tests.
 pub fn acts(code: u8) -> bool
     requires code { IsCode code }
     ensures value { result ≡ is_act code }
@@ -249,7 +249,7 @@ pub fn acts(code: u8) -> bool
     CONDACTS[plain_code(code) as usize].3
 }
 
-/// The code of the condact with this name, its letters a to z read as capitals; None where there is none.
+/// The code of the condact with this name, in any case of letters; None where there is none.
 pub fn condact_named(name: &[u8]) -> Option<u8>
     ensures value { result ≡ code_named name.now }
     ensures found { IfSome result (λ code. HasName code name.now) }
@@ -259,6 +259,7 @@ pub fn condact_named(name: &[u8]) -> Option<u8>
     Some(code as u8)
 }
 
+/// The index in the table of the condact with this name, in any case of letters.
 fn code_of(name: &[u8]) -> Option<usize>
     ensures { result ≡ code_named name.now }
 {

@@ -7,8 +7,8 @@ ghost use Rattle.paw_base.specs.inner.Steps.{no_steps, with_step_noted};
 use crate::limits::STEP_LIMIT;
 use std::marker::Model;
 
-/// One condact that was read: where it stands, its code, and whether reading went on in its entry. Only a condition
-/// that failed has a no.
+/// One condact that was read: where it stands, its code, and whether reading went on in its entry: only after a
+/// condition that failed it didn't.
 #[derive(Clone, Copy, Drop, PartialEq, Eq, Debug)]
 pub struct StepRow {
     pub table: u8,
@@ -61,7 +61,7 @@ impl Steps {
         self.count = 0;
     }
 
-    /// One step more. It is kept where fewer than 1,000 are.
+    /// Notes one step more. It is kept where fewer than 1,000 are.
     pub fn note(&mut self, row: StepRow)
         requires { self.old.count < 4294967295 }
         ensures { self.new ≡ with_step_noted row self.old }
@@ -85,14 +85,14 @@ impl Steps {
     }
 }
 
-/// The first so many rows, or all where there are fewer.
+/// The first `count` rows, or all where there are fewer.
 fn up_to(rows: &[StepRow], count: usize) -> &[StepRow]
     ensures { result.now ≡ take count rows.now }
 {
     &rows[..count.min(rows.len())]
 }
 
-/// Puts a step behind the first so many rows, where there is room.
+/// Puts a step after the first `count` rows, where there is room.
 fn keep(rows: &mut [StepRow], count: usize, row: StepRow)
     ensures rows { take (suc count) rows.new ≡ take (length rows.old) (take count rows.old ++ row ∷ []) }
     ensures length { length rows.new ≡ length rows.old }

@@ -1,4 +1,4 @@
-// The numbers of words: their classes, and the values that mean something of themselves.
+// The numbers of words: their classes, and the values that have a meaning of their own.
 
 /// The class of verbs.
 pub const VERB_CLASS: u8 = 0;
@@ -24,7 +24,7 @@ pub const PRONOUN_CLASS: u8 = 6;
 /// The word `*` of an entry, which matches any word.
 pub const ANY_WORD: u8 = 1;
 
-/// The word `_`: none, in a sentence or an object; any, in an entry.
+/// The word `_`: no word in a sentence or of an object, and any word in an entry.
 pub const NO_WORD: u8 = 255;
 
 /// The least value that a word may have.

@@ -30,7 +30,7 @@ use Rattle.paw_effects.proofs.Carried.{carried_itself}
 
 -- ---- what asks, calls and loops ----
 
--- the codes of the condacts that ask
+-- The codes of the condacts that ask.
 abbrev pub AsksAt : ℕ → Prompt → Type 0
 AsksAt code prompt.Main = ⊥
 AsksAt code prompt.Quit = code ≡ QUIT
@@ -38,7 +38,7 @@ AsksAt code prompt.Again = code ≡ END
 AsksAt code prompt.Key = code ≡ ANYKEY
 AsksAt code prompt.Over = ⊥
 
--- PROCESS alone calls a table, DOALL alone opens a loop, and each prompt has its own code
+-- Only PROCESS calls a table, only DOALL opens a loop, and each prompt has its own code.
 abbrev pub Leads : World → Condact → Effect → Type 0
 Leads w c effect.Go = Unit {0}
 Leads w c (effect.Exit a) = Unit {0}
@@ -51,7 +51,7 @@ Leads w c effect.Spent = Unit {0}
 
 -- ---- an indirect condact leads on as the plain one ----
 
--- what asks, calls a table, opens a loop or keeps a position can't be indirect
+-- What asks, calls a table, opens a loop or keeps a position can't be indirect.
 pub quit_itself : may_be_indirect QUIT ≡ false
 unfolding condact_lines plain_line
 quit_itself = refl
@@ -129,7 +129,7 @@ move_told w f (Some to) h = cc
 
 -- ---- each row ----
 
--- a condition of this code asks only where it is QUIT; an action leads on as its code says
+-- A condition of this code asks only where it is QUIT; an action leads on as its code says.
 abbrev pub LeadsOn : ℕ → Meaning → Type 0
 LeadsOn code (Tests tested) = (g : GameLists) (w : World) (c : Condact) → c.code ≡ code → (tested g w c).answer ≡ truth.Ask → c.code ≡ QUIT
 LeadsOn code (Acts done) = (s : Story) (w : World) (c : Condact) → c.code ≡ code → Leads w c (done s w c).act.effect
@@ -144,7 +144,7 @@ asks_by (Acts done) g w c h e = absurd (truth_told false e)
 
 -- ---- prompts ----
 
--- the prompts in tables
+-- The prompts in tables.
 abbrev pub IsInner : Prompt → Type 0
 IsInner prompt.Main = ⊥
 IsInner prompt.Quit = Unit {0}
@@ -152,7 +152,7 @@ IsInner prompt.Again = Unit {0}
 IsInner prompt.Key = Unit {0}
 IsInner prompt.Over = ⊥
 
--- an action asks at prompts in tables alone
+-- An action asks only at prompts in tables.
 abbrev pub AsksInner : Effect → Type 0
 AsksInner effect.Go = Unit {0}
 AsksInner (effect.Exit a) = Unit {0}

@@ -18,7 +18,7 @@ use Rattle.paw_effects.specs.Holds.{is_condition}
 
 -- ---- codes ----
 
--- a plain code is that of its plain condact
+-- A plain code is that of its plain condact.
 pub plain_itself : (code : ℕ) → IsPlainCode code → plain_code code ≡ code
 plain_itself code h = let within = code_within code h in rw (plain_below code (omega (arith, within))) refl
 
@@ -42,7 +42,7 @@ plain_code_plain code is = go (is_indirect code) refl
     go true e = plain_from code e
     go false e = plain_unless code is e
 
--- the second parameter is what the plain one's is
+-- The second parameter is what the plain one's is.
 second_alike : (code : ℕ) → IsCode code → second_kind code ≡ second_kind (plain_code code)
 unfolding line_of
 second_alike code is = go (is_indirect code) refl
@@ -54,7 +54,7 @@ second_alike code is = go (is_indirect code) refl
 
 -- ---- what is carried out ----
 
--- an indirect condact takes the value of its flag
+-- An indirect condact takes the value of its flag.
 pub taken : (g : GameLists) (w : World) (c : Condact) (value : ℕ) (found : Option Condact) → is_indirect c.code ≡ true → value ≡ flag w c.a
     → found ≡ plain_with g c value → found ≡ as_plain g w c
 unfolding as_plain
@@ -62,7 +62,7 @@ taken g w c value found e same is =
     is ∙ (ap (λ x. plain_with g c x) same ∙ sym (ap (λ (b : Bool). if b then plain_with g c (flag w c.a) else Some c) e))
 
 module _ (g : GameLists) (w : World) (c d : Condact) (is : as_plain g w c ≡ Some d) where
-  -- it is the condact itself, or the plain one with the value of the flag
+  -- It is the condact itself, or the plain one with the value of the flag.
   carried : (P : Condact → Type 0) → (is_indirect c.code ≡ false → P c)
       → (is_indirect c.code ≡ true → is_argument g (first_kind (plain_code c.code)) (flag w c.a) ≡ true
       → P (record { code = plain_code c.code; a = flag w c.a; b = c.b })) → P d
@@ -92,14 +92,14 @@ module _ (g : GameLists) (w : World) (c d : Condact) (is : as_plain g w c ≡ So
   carried_kind code = carried (λ x. is_condition x ≡ is_condition c) (λ e. refl) (λ e k.
       rw (plain_itself (plain_code c.code) (plain_code_plain c.code code)) refl)
 
-  -- a condact that can't be indirect is itself
+  -- A condact that can't be indirect is itself.
   pub carried_itself : (code : ℕ) → may_be_indirect code ≡ false → d.code ≡ code → d ≡ c
   carried_itself code never = carried (λ x. x.code ≡ code → x ≡ c) (λ e same. refl) (λ e k same.
       let plain : c.code - INDIRECT ≡ code = subst (λ b. (if b then c.code - INDIRECT else c.code) ≡ code) e same in
       let may : may_be_indirect code ≡ true = subst (λ x. may_be_indirect x ≡ true) plain (may_be c.code e) in
       absurd cc)
 
--- what holds of what is carried out, and where nothing is, holds of all
+-- What holds of what is carried out, and where nothing is, holds of all.
 pub of_carried : {A B : Type 0} (P : B → Type 0) (f : A → B) (o : Option A) (past : B) → ((x : A) → o ≡ Some x → P (f x)) → P past
     → P (option_map_or f o past)
 of_carried P f None past found none = none

@@ -89,7 +89,7 @@ module _ (g : GameLists) (v : Valid g) (seed n : ℕ) where
     draws = k.draws;
   }
 
-  -- flags and places of a world are a position
+  -- Flags and places of a world are a position.
   now_kept : (w : World) → Is w → IsPositionOf g (position_of w)
   now_kept w k = record { flags = k.of.flags; bytes = k.flags; each = k.of.places; places = k.places }
 
@@ -119,7 +119,7 @@ module _ (g : GameLists) (v : Valid g) (seed n : ℕ) where
 
   -- ---- kept positions ----
 
-  -- where the number is none of the four there is none
+  -- Where the number is none of the four there is none.
   pub kept_at : (w : World) → Is w → (m : ℕ) → MayBePosition g (kept_position w m)
   kept_at w k m = elim (cases_lt m (length w.kept)) [
     | inl low ↦ k.kept m None low
@@ -157,11 +157,11 @@ module _ (g : GameLists) (v : Valid g) (seed n : ℕ) where
       of_hundred : (x : ℕ) → 1 + x % 100 < 256
       of_hundred x = omega arith
 
-  -- a flag of a world is given a byte
+  -- A flag of a world is given a byte.
   pub flag_so : (w : World) → Is w → (f x : ℕ) → x < 256 → IsNext (with_flag w f x)
   flag_so w k f x small = flagged g v seed (suc n) w (next w k) f x small
 
-  -- two flags are given bytes
+  -- Two flags are given bytes.
   pub flags_so : (w : World) → Is w → (f x h y : ℕ) → x < 256 → y < 256 → IsNext (with_flag (with_flag w f x) h y)
   flags_so w k f x h y small little = flagged g v seed (suc n) (with_flag w f x) (flag_so w k f x small) h y little
 
@@ -174,7 +174,7 @@ module _ (g : GameLists) (v : Valid g) (seed n : ℕ) where
   all_so p at [] w k = k
   all_so p at (o ∷ objects) w k = all_so p at objects (moved w o p) (moved_so g v seed n w k o p at)
 
-  -- what a parameter of this code may be
+  -- What a parameter of this code may be.
   first_of : (c : Condact) (code : ℕ) → c.code ≡ code → is_right g c ≡ true → IsTrue (is_argument g (first_kind code) c.a)
   first_of c code is kept = subst (λ k. IsTrue (is_argument g (first_kind k) c.a)) is (right-first g c kept)
 
@@ -240,7 +240,7 @@ module _ (g : GameLists) (v : Valid g) (seed n : ℕ) where
       let set : (u : World) → Is u → (f x : ℕ) → x < 256 → Is (with_flag u f x) = λ u. flagged g v seed n u in
       set _ (set _ (set _ (set _ (set w k 51 255 (omega arith)) 54 252 (omega arith)) 55 0 (omega arith)) 56 0 (omega arith)) 57 0 (omega arith)
 
-  -- a container of an action is a place
+  -- A container of an action is a place.
   abbrev pub PutsAt : Action → Type 0
   PutsAt action.Get = Unit {0}
   PutsAt action.Drop = Unit {0}
@@ -279,7 +279,7 @@ module _ (g : GameLists) (v : Valid g) (seed n : ℕ) where
   meant_so w k (Some o) small = referred_so w k o (small o refl)
   meant_so w k None small = none_so w k
 
-  -- an object that fits is one of the game's
+  -- An object that fits is one of the game's.
   fits_small : (w : World) → Is w → (o : ℕ) → fits_sentence w o ≡ true → o < 256
   fits_small w k o h = go (slice_get w.facts o) refl h
     where
@@ -316,7 +316,7 @@ module _ (g : GameLists) (v : Valid g) (seed n : ℕ) where
 
   -- ---- all actions ----
 
-  -- a value of rows of bytes is a byte
+  -- A value of rows of bytes is a byte.
   pub value_small : (rows : List (List ℕ)) → All AreBytes rows → (m x y : ℕ) (row : Option (List ℕ)) → slice_get rows m ≡ row → value_in row x ≡ Some y → y < 256
   value_small rows bytes m x y None e is = cc
   value_small rows bytes m x y (Some row) e is =
@@ -346,7 +346,7 @@ module _ (g : GameLists) (v : Valid g) (seed n : ℕ) where
 
   -- ---- each row ----
 
-  -- a condition, and an action of this code, leave a world of the game; they may make a draw
+  -- A condition, and an action of this code, leave a world of the game; they may make a draw.
   abbrev pub SoBy : ℕ → Meaning → Type 0
   SoBy code (Tests tested) = (w : World) (c : Condact) → Is w → IsNext (tested g w c).world
   SoBy code (Acts done) = (X : List (List ℕ)) (w : World) (c : Condact) → c.code ≡ code → All AreBytes X → Is w → is_right g c ≡ true →

@@ -1,4 +1,4 @@
--- What is true of each condact: how reading goes on behind it, and what it leaves of a world.
+-- What is true of each condact: how reading goes on after it, and what it leaves of a world.
 use Rattle.std.proofs.Common.{◌≡◌, ◌≢◌, ℕ, suc, ◌+◌, ◌<◌, Bool, true, false, List, [], Option, refl, slice_get, length, All, IsTrue, arith}
 use Rattle.std.proofs.Math.Nat.{min-le_left}
 use Rattle.std.specs.Prelude.{not}
@@ -49,7 +49,7 @@ use Rattle.paw_effects.proofs.Changes.{moves_so, done_so, tested_so}
 use Rattle.paw_effects.proofs.Saving.{AreKept, KeepsBy, one_kept, moved_kept, dropped_kept, acted_kept, found_kept, referred_found as kept_found}
 use Rattle.paw_effects.proofs.Saving.{ramloaded_kept, loaded_kept, answered_kept, moves_kept, done_kept, tested_kept}
 
--- what a meaning of this code leads to, and what it leaves
+-- What a meaning of this code leads to, and what it leaves.
 record Facts (code : ℕ) (m : Meaning) : Type 0 where
   leads : LeadsOn code m
   places : PlacesBy code m
@@ -58,7 +58,7 @@ record Facts (code : ℕ) (m : Meaning) : Type 0 where
 
 -- ---- kinds of rows ----
 
--- a condition that changes nothing
+-- A condition that changes nothing.
 tested : (code : ℕ) (so : World → Condact → Bool) → Facts code (tests so)
 tested code so = record {
   leads = λ g w c is h. absurd (truth_told _ h);
@@ -67,7 +67,7 @@ tested code so = record {
   keeps = λ ks g w c k. k;
 }
 
--- a condition that makes a draw
+-- A condition that makes a draw.
 chance : (code : ℕ) (so : World → Condact → Bool) → Facts code (Tests (λ g w c. answers (drawn_on w 1) (so w c)))
 chance code so = record {
   leads = λ g w c is h. absurd (truth_told _ h);
@@ -76,7 +76,7 @@ chance code so = record {
   keeps = λ ks g w c k. k;
 }
 
--- an action that changes nothing
+-- An action that changes nothing.
 still : (code : ℕ) (text : Story → World → Condact → List ℕ) (act : Story → World → Condact → Act)
     → ((s : Story) (w : World) (c : Condact) → c.code ≡ code → Leads w c (act s w c).effect)
     → Facts code (Acts (λ s w c. record { text = text s w c; world = w; act = act s w c }))
@@ -87,11 +87,11 @@ still code text act leads = record {
   keeps = λ ks s w c is o k. k;
 }
 
--- one that prints
+-- An action that prints.
 printed : (code : ℕ) (text : GameLists → World → Condact → List ℕ) → Facts code (printing text)
 printed code text = still code _ _ (λ s w c is. tt)
 
--- one that gives a flag a byte
+-- An action that gives a flag a byte.
 set : (code : ℕ) (f x : World → Condact → ℕ)
     → ((g : GameLists) (v : Valid g) (seed n : ℕ) (w : World) (c : Condact) → Is g v seed n w → c.a < 256 → c.b < 256 → x w c < 256)
     → Facts code (changing (λ w c. with_flag w (f w c) (x w c)))
@@ -102,7 +102,7 @@ set code f x small = record {
   keeps = λ ks s w c is o k. k;
 }
 
--- one that gives two flags its numbers
+-- An action that gives two flags its numbers.
 set_two : (code f h : ℕ) → Facts code (changing (λ w c. with_flag (with_flag w f c.a) h c.b))
 set_two code f h = record {
   leads = λ s w c is. tt;
@@ -111,7 +111,7 @@ set_two code f h = record {
   keeps = λ ks s w c is o k. k;
 }
 
--- one that moves an object to a place
+-- An action that moves an object to a place.
 moving : (code : ℕ) (o p : World → Condact → ℕ)
     → ((g : GameLists) (w : World) (c : Condact) → c.code ≡ code → Valid g → IsTrue (is_right g c) → IsPlaced g w
     → is_place (length g.locations) (p w c) ≡ true)
@@ -125,7 +125,7 @@ moving code o p at stands = record {
   keeps = λ ks s w c is o_is k. moved_kept ks w (o w c) (p w c) k;
 }
 
--- one on the object that it names
+-- An action on the object that it names.
 on_object : (code : ℕ) (a : Condact → Action) → ((g : GameLists) (c : Condact) → c.code ≡ code → IsTrue (is_right g c) → Goes g (a c))
     → ((g : GameLists) (v : Valid g) (seed n : ℕ) (c : Condact) → c.code ≡ code → is_right g c ≡ true → Puts g v seed n (a c))
     → Facts code (doing (λ g w c. acted_on g w c.a (a c)))
@@ -136,7 +136,7 @@ on_object code a goes puts = record {
   keeps = λ ks s w c is o k. acted_kept ks s.game w c.a (a c) k;
 }
 
--- one on the object that the sentence names
+-- An action on the object that the sentence names.
 by_name : (code : ℕ) (a : Condact → Action) → ((g : GameLists) (c : Condact) → c.code ≡ code → IsTrue (is_right g c) → Goes g (a c))
     → ((g : GameLists) (v : Valid g) (seed n : ℕ) (c : Condact) → c.code ≡ code → is_right g c ≡ true → Puts g v seed n (a c))
     → Facts code (doing (λ g w c. acted_by_name g w (a c)))
@@ -391,18 +391,18 @@ effect_leads s w c =
     of_carried (λ (d : Done). Leads w c d.act.effect) (plain_effect s w) (as_plain s.game w c) (makes w)
     (λ d is. leads_as s.game w c d is (plain_effect s w d).act.effect (plain_leads w d s)) tt
 
--- an action asks at prompts in tables alone
+-- An action asks only at prompts in tables.
 pub effect_asks : (s : Story) (w : World) (c : Condact) → AsksInner (effect_of s w c).act.effect
 effect_asks s w c = leads_inner w c (effect_of s w c).act.effect (effect_leads s w c)
 
--- of the conditions QUIT alone asks
+-- Of the conditions only QUIT asks.
 pub condition_asks : (g : GameLists) (w : World) (c : Condact) → (holds g w c).answer ≡ truth.Ask → c.code ≡ QUIT
 unfolding holds
 condition_asks g w c =
     of_carried (λ (t : Tested). t.answer ≡ truth.Ask → c.code ≡ QUIT) (plain_holds g w) (as_plain g w c) (answers w false)
     (λ d is asks. same_code g w c d is QUIT quit_itself (plain_asks w d g asks)) (λ asks. absurd (truth_told false asks))
 
--- objects stand at places of the game
+-- Objects stand at places of the game.
 pub effect_placed : (s : Story) (w : World) (c : Condact) → Valid s.game → IsTrue (is_right s.game c) → IsPlaced s.game w
     → IsPlaced s.game (effect_of s w c).world
 unfolding effect_of
@@ -416,7 +416,7 @@ condition_placed g w c k =
     of_carried (λ (t : Tested). IsPlaced g t.world) (plain_holds g w) (as_plain g w c) (answers w false)
     (λ d is. plain_test_placed w d g k) k
 
--- the positions that are kept stay as they are
+-- The positions that are kept stay as they are.
 pub effect_kept : (ks : List (Option Position)) (s : Story) (w : World) (c : Condact) → c.code ≢ SAVE → AreKept ks w
     → AreKept ks (effect_of s w c).world
 unfolding effect_of
@@ -430,7 +430,7 @@ condition_kept ks g w c k =
     of_carried (λ (t : Tested). AreKept ks t.world) (plain_holds g w) (as_plain g w c) (answers w false)
     (λ d is. plain_test_kept w d ks g k) k
 
--- the world stays one of the game that is played
+-- The world stays one of the game that is played.
 module _ (g : GameLists) (v : Valid g) (seed n : ℕ) where
   pub effect_so : (X : List (List ℕ)) (w : World) (c : Condact) → All AreBytes X → Is g v seed n w → is_condact g c ≡ true
       → IsNext g v seed n (effect_of (story_of g X) w c).world

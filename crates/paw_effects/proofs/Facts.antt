@@ -5,7 +5,7 @@ use Rattle.std.proofs.Math.Seq.{take-suc-set}
 use Rattle.paw_base.specs.declared.parts.ObjectFacts.{ObjectFacts}
 use Rattle.paw_game.specs.declared.parts.ObjectRow.{ObjectRow}
 
--- the facts of these objects
+-- The facts of these objects.
 abbrev pub facts_all : List ObjectRow → List ObjectFacts
 facts_all os = map (λ o. o.facts) os
 
@@ -16,7 +16,7 @@ one_more [] (suc o) f is = cc
 one_more (r ∷ os) zero f is = let e : r.facts ≡ f = cc in ap (λ (x : ObjectFacts). x ∷ []) e
 one_more (r ∷ os) (suc o) f is = ap (λ (xs : List ObjectFacts). r.facts ∷ xs) (one_more os o f is)
 
--- one object more is written down
+-- The facts of one more object are copied.
 pub taken_more : (os : List ObjectRow) (facts : List ObjectFacts) (o : ℕ) (f : ObjectFacts) → o < length facts
     → option_map (λ (r : ObjectRow). r.facts) (slice_get os o) ≡ Some f
     → take o facts ≡ take o (facts_all os) → take (o + 1) (set facts o f) ≡ take (o + 1) (facts_all os)

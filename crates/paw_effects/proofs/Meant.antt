@@ -61,10 +61,10 @@ flipped : (b : Bool) → not b ≡ false → b ≡ true
 flipped true h = refl
 flipped false h = cc
 
--- a condition comes before the first action
+-- A condition comes before the first action.
 pub tests_low : (code : ℕ) → IsPlainCode code → is_test (meaning_of code) ≡ true → code < INVEN
 tests_low code is h = ltb-true code INVEN (sym (low_is code is) ∙ h)
 
--- and an action is none of those before it
+-- An action isn't one of those before it.
 pub acts_high : (code : ℕ) → IsPlainCode code → is_test (meaning_of code) ≡ false → INVEN ≤ code
 acts_high code is h = leb-true INVEN code (flipped (nat_le INVEN code) (sym (high_is code is) ∙ h))

@@ -12,7 +12,7 @@ use Rattle.paw_effects.specs.Worlds.{IsOf}
 use Rattle.paw_effects.specs.Presence.{named_place, held_objects, is_held}
 use Rattle.paw_effects.specs.MoveActions.{all_dropped, moved_if_place, names_place}
 
--- the same objects and locations, as many flags and places, and as many draws
+-- The same objects and locations, as many flags and places, and as many draws.
 pub record Alike (w v : World) : Type 0 where
   pub facts : v.facts ≡ w.facts
   pub locations : v.locations ≡ w.locations
@@ -67,7 +67,7 @@ Alike-moved_if_place w v o p is =
     let P : World → Type 0 = λ u. Alike w u in
     subst P (sym is) (Alike-either (names_place w p) w _ w (Alike-moved w o (named_place w p)) (Alike-same w))
 
--- a world like that of a game is the game's
+-- A world like that of a game is the game's.
 pub IsOf-alike : (g : GameLists) (w v : World) → Alike w v → IsOf g w → IsOf g v
 IsOf-alike g w v alike of = record {
   facts = alike.facts ∙ of.facts;
@@ -82,7 +82,7 @@ range_more a (suc n) =
     let same : a + 1 + n ≡ a + suc n = omega arith in
     ap (λ (l : List ℕ). a ∷ l) (range_more (a + 1) n ∙ ap (λ (x : ℕ). range_with_len (a + 1) n ++ x ∷ []) same)
 
--- what is held of the objects below a number is dropped
+-- What is held of the objects below a number is dropped.
 abbrev pub dropped_below : World → ℕ → World
 dropped_below w n = fold (λ v o. moved v o (here w)) w (filter (is_held w) (range_with_len 0 n))
 
@@ -102,7 +102,7 @@ dropped_one_more w n b is =
     ∙ (fold-append F w (filter (is_held w) (range_with_len 0 n)) (filter (is_held w) (n ∷ []))
     ∙ ap (fold F (dropped_below w n)) (filter_one w n b is)))
 
--- those below a number are dropped, and the others stand where they stood
+-- Those below a number are dropped, and the others stand where they stood.
 pub record AreDropped (w : World) (n : ℕ) (v : World) : Type 0 where
   pub dropped : v ≡ dropped_below w n
   pub others : (k : ℕ) → n ≤ k → place v k ≡ place w k

@@ -17,20 +17,20 @@ use Rattle.paw_effects.specs.declared.lists.Listed.TheVariants as listed
 use Rattle.paw_effects.specs.inner.Listing.{lesser, first_above, listed_from, listed_above}
 use Rattle.paw_effects.specs.Presence.{is_held}
 
--- the objects at a place above one, where none is found
+-- The objects at a place above this one, where none is found.
 pub at_ends : (w : World) (p : ℕ) (above found : Option ℕ) → found ≡ first_at w p above → IfNone found (listed_above w (listed.At p) above ≡ [])
 at_ends w p None None is = above_at_none w p None (sym is)
 at_ends w p (Some a) None is = above_at_none w p (Some a) (sym is)
 at_ends w p above (Some o) is = tt
 
--- and where one is found
+-- The same, where one is found.
 pub at_goes_on : (w : World) (p : ℕ) (above found : Option ℕ) → found ≡ first_at w p above
     → IfSome found (λ o. listed_above w (listed.At p) above ≡ o ∷ listed_above w (listed.At p) (Some o))
 at_goes_on w p above None is = tt
 at_goes_on w p None (Some o) is = above_at_some w p None o (sym is)
 at_goes_on w p (Some a) (Some o) is = above_at_some w p (Some a) o (sym is)
 
--- what is worn or carried from one number on
+-- What is worn or carried from one number on.
 abbrev held_on : World → ℕ → List ℕ
 held_on w from = listed_from w listed.Held from
 
@@ -68,7 +68,7 @@ later places p from found within other is =
     let same : length places - (from + 1) ≡ length places - suc from = omega arith in
     is ∙ (least_at_pass places p from within other ∙ ap (least_at places p) same)
 
--- nothing is found before the number from which one looks
+-- Nothing is found before the number from which one looks.
 not_before : (places : List ℕ) (p from : ℕ) (found : Option ℕ) → from ≤ length places → found ≡ least_at places p (length places - from)
     → IfSome found (λ o. from ≤ o)
 not_before places p from None low is = tt
@@ -84,17 +84,17 @@ lesser_second : (from : ℕ) (a : Option ℕ) → IfSome a (λ o. from ≤ o) �
 lesser_second from None low = refl
 lesser_second from (Some o) low = let least : min o from ≡ from = omega arith in ap (λ (n : ℕ). Some n) least
 
--- what there is from a number on, by the lesser of what is found
+-- What there is from a number on, by the lesser of what is found.
 data Found (w : World) (from : ℕ) : Option ℕ → Type 0 where
   nothing : held_on w from ≡ [] → Found w from None
   object : (o : ℕ) → held_on w from ≡ o ∷ held_on w (suc o) → Found w from (Some o)
 
--- an object is passed by
+-- An object is passed by.
 passed : (w : World) (from : ℕ) (found : Option ℕ) → held_on w from ≡ held_on w (suc from) → Found w (suc from) found → Found w from found
 passed w from _ same (nothing e) = nothing (same ∙ e)
 passed w from _ same (object o e) = object o (same ∙ e)
 
--- n objects are left to look at
+-- There are n objects left to look at.
 found_on : (n : ℕ) (w : World) (from : ℕ) (a b : Option ℕ) → n ≡ length w.places - from
     → a ≡ least_at w.places 253 (length w.places - from) → b ≡ least_at w.places 254 (length w.places - from) → Found w from (lesser a b)
 found_on zero w from a b many worn carried =
@@ -138,12 +138,12 @@ found_held w above a b found worn carried is =
     (found_on (length w.places - first_above above) w (first_above above) a b refl
     (worn ∙ ap (least_at w.places 253) (left_on w.places above)) (carried ∙ ap (least_at w.places 254) (left_on w.places above)))
 
--- what is worn or carried above an object, where none is found
+-- What is worn or carried above an object, where none is found.
 pub held_ends : (w : World) (above a b found : Option ℕ) → a ≡ first_at w 253 above → b ≡ first_at w 254 above → found ≡ lesser a b
     → IfNone found (listed_above w listed.Held above ≡ [])
 held_ends w above a b found worn carried is = found_ends w (first_above above) found (found_held w above a b found worn carried is)
 
--- and where one is found
+-- The same, where one is found.
 pub held_goes_on : (w : World) (above a b found : Option ℕ) → a ≡ first_at w 253 above → b ≡ first_at w 254 above → found ≡ lesser a b
     → IfSome found (λ o. listed_above w listed.Held above ≡ o ∷ listed_above w listed.Held (Some o))
 held_goes_on w above a b found worn carried is = found_goes_on w (first_above above) found (found_held w above a b found worn carried is)

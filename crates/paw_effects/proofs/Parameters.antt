@@ -17,7 +17,7 @@ object_below : (g : GameLists) (k : ParamKind) (x : ℕ) → names_object k ≡ 
 object_below g kind.Object x h p = ltb-true x (length g.objects) p
 object_below g _ x h p = cc
 
--- in a world of the game the object that a parameter names is one of the world's
+-- In a world of the game the object that a parameter names is one of the world's.
 pub object_stands : (g : GameLists) (w : World) (c : Condact) → IsOf g w → is_right g c ≡ true → IsTrue (takes_object c.code) → c.a < length w.places
 object_stands g w c of kept taken =
     subst (λ n. c.a < n) (sym of.places) (object_below g (first_kind c.code) c.a taken (right-first g c kept))

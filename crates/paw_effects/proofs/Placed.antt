@@ -39,24 +39,24 @@ use Rattle.paw_effects.specs.Meanings.{Meaning, Tests, Acts}
 use Rattle.paw_effects.specs.Effects.{done_by}
 use Rattle.paw_effects.specs.Holds.{answers, tested_by}
 
--- the facts and the number of locations are the game's, and each object stands at a place of it
+-- The facts and the number of locations are the game's, and each object stands at a place of it.
 abbrev pub IsPlaced : GameLists → World → Type 0
 IsPlaced g w = (w.facts ≡ map (λ o. o.facts) g.objects) × ((w.locations ≡ length g.locations)
     × (ArePlacesOf g w.places × (StandsIn g w.saved × All (StandsIn g) w.kept)))
 
--- what holds in both cases
+-- What holds in both cases.
 pub one_placed : (g : GameLists) (b : Bool) (x y : World) → IsPlaced g x → IsPlaced g y → IsPlaced g (if b then x else y)
 one_placed g true x y h k = h
 one_placed g false x y h k = k
 
--- the same, each with its test
+-- The same, each with its test.
 by_test : (g : GameLists) (b : Bool) (x y : World) → (b ≡ true → IsPlaced g x) → (b ≡ false → IsPlaced g y) → IsPlaced g (if b then x else y)
 by_test g true x y h k = h refl
 by_test g false x y h k = k refl
 
 -- ---- places ----
 
--- a game has a location
+-- A game has a location.
 first_place : (g : GameLists) → Valid g → is_place (length g.locations) 0 ≡ true
 first_place g v =
     let some = leb-true 1 (length g.locations) (first_of_and _ (rows_kept 252 is_text g.locations) v.locations) in
@@ -80,7 +80,7 @@ place_of : (locations here p : ℕ) → is_place locations here ≡ true → (na
     is_place locations (if p == 255 then here else p) ≡ true
 place_of locations here p h k = grind (arith, nat_tests)
 
--- a place that a parameter names
+-- A place that a parameter names.
 pub named_is_place : (g : GameLists) (w : World) (p : ℕ) → w.locations ≡ length g.locations → IsTrue (is_argument g kind.Place p) →
     is_place (length g.locations) (named_place w p) ≡ true
 named_is_place g w p of h = place_of (length g.locations) (here w) p (here_place g w of) h
@@ -124,7 +124,7 @@ returned_placed g w v k = (k.0, (k.1.0, (begins_placed g w.facts v k.0, k.1.1.1)
 low_place : (locations x : ℕ) → nat_lt x locations ≡ true → is_place locations x ≡ true
 low_place locations x h = grind (arith, nat_tests)
 
--- what the parameters of some codes name
+-- What the parameters of some codes name.
 autop_takes : first_kind AUTOP ≡ kind.Location
 unfolding condact_lines line_of plain_line is_indirect
 autop_takes = refl
@@ -145,7 +145,7 @@ doall_takes : first_kind DOALL ≡ kind.Place
 unfolding condact_lines line_of plain_line is_indirect
 doall_takes = refl
 
--- a parameter keeps the rule of the kind that its code says
+-- A parameter keeps the rule of the kind that its code says.
 pub first_kept : (g : GameLists) (c : Condact) (code : ℕ) (k : ParamKind) → first_kind code ≡ k → c.code ≡ code → IsTrue (is_right g c) →
     IsTrue (is_argument g k c.a)
 first_kept g c code k takes is kept = subst (λ x. IsTrue (is_argument g x c.a)) (ap first_kind is ∙ takes) (right-first g c kept)
@@ -154,7 +154,7 @@ pub second_kept : (g : GameLists) (c : Condact) (code : ℕ) (k : ParamKind) →
     IsTrue (is_argument g k c.b)
 second_kept g c code k takes is kept = subst (λ x. IsTrue (is_argument g x c.b)) (ap second_kind is ∙ takes) (right-second g c kept)
 
--- a loop goes over the objects at a place
+-- A loop goes over the objects at a place.
 pub doall_place : (g : GameLists) (w : World) (c : Condact) → w.locations ≡ length g.locations → IsTrue (is_right g c) → c.code ≡ DOALL →
     IsTrue (is_place (length g.locations) (named_place w c.a))
 doall_place g w c of kept is = named_is_place g w c.a of (first_kept g c DOALL kind.Place doall_takes is kept)
@@ -193,7 +193,7 @@ facts_placed g w o (Some f) k = k
 pub referred_placed : (g : GameLists) (w : World) (o : ℕ) → IsPlaced g w → IsPlaced g (referred w o)
 referred_placed g w o k = facts_placed g (with_flag (with_flag w 51 o) 54 (place w o)) o (slice_get w.facts o) k
 
--- an action puts objects in at places alone
+-- An action puts objects only in at places.
 abbrev pub GoesToPlace : GameLists → Action → Type 0
 GoesToPlace g action.Get = Unit {0}
 GoesToPlace g action.Drop = Unit {0}
@@ -214,7 +214,7 @@ destined g w (action.TakeOut l) of h = grind (arith, nat_tests)
 pub record Goes (g : GameLists) (a : Action) : Type 0 where
   pub to : GoesToPlace g a
 
--- the containers of AUTOP and PUTIN are places
+-- The containers of AUTOP and PUTIN are places.
 pub autop_goes : (g : GameLists) (c : Condact) → c.code ≡ AUTOP → IsTrue (is_right g c) → Goes g (action.PutIn c.a)
 autop_goes g c is r = record { to = low_place (length g.locations) c.a (first_kept g c AUTOP kind.Location autop_takes is r) }
 
@@ -252,7 +252,7 @@ pub taken_placed : (g : GameLists) (w : World) (kept : Option Position) → Stan
 taken_placed g w None at k = k
 taken_placed g w (Some q) at k = (k.0, (k.1.0, (at, k.1.1.1)))
 
--- where the number is none of the four there is nothing to take
+-- Where the number is none of the four there is nothing to take.
 pub kept_stands : (g : GameLists) (w : World) (n : ℕ) → IsPlaced g w → StandsIn g (kept_position w n)
 kept_stands g w n k =
     elim (cases_lt n (length w.kept)) [
@@ -275,7 +275,7 @@ moves_placed g w f (Some to) k = k
 
 -- ---- each row ----
 
--- a condition, and an action of this code, leave the objects at places of the game
+-- A condition, and an action of this code, leave the objects at places of the game.
 abbrev pub PlacesBy : ℕ → Meaning → Type 0
 PlacesBy code (Tests tested) = (g : GameLists) (w : World) (c : Condact) → IsPlaced g w → IsPlaced g (tested g w c).world
 PlacesBy code (Acts done) = (s : Story) (w : World) (c : Condact) → c.code ≡ code → Valid s.game → IsTrue (is_right s.game c) → IsPlaced s.game w →

@@ -2,7 +2,7 @@
 use Rattle.std.proofs.Common.{◌≡◌, ℕ, ◌+◌, ◌<◌, Bool, true, false, List, ◌++◌, length, ap, arith, length-append, ◌∙◌}
 use Rattle.paw_base.specs.inner.Piece.{Puts}
 
--- the part that doesn't fit is part of a whole that doesn't
+-- The part that doesn't fit is part of a whole that doesn't.
 pub too_long : (held part rest start whole : List ℕ) → held ++ (part ++ rest) ≡ start ++ whole → 65535 < length held + length part →
     65535 < length start + length whole
 too_long held part rest start whole e long =
@@ -12,7 +12,7 @@ too_long held part rest start whole e long =
     let right : length (start ++ whole) ≡ length start + length whole = length-append start whole in
     omega (arith, lengths, left, right, long)
 
--- the last part is put where the whole is
+-- The last part is put where the whole is.
 pub puts_whole : (ok : Bool) (held new text start whole : List ℕ) → held ++ text ≡ start ++ whole → Puts held new ok text → Puts start new ok whole
 puts_whole true held new text start whole e puts =
     let lengths : length (held ++ text) ≡ length (start ++ whole) = ap length e in

@@ -3,13 +3,13 @@ use Rattle.std.proofs.Common.{ℕ, zero, suc, List, [], ◌∷◌}
 use Rattle.std.specs.List.{slice_index_or}
 use Rattle.paw_effects.specs.Meanings.{Meaning, changing, meanings, meaning_of}
 
--- a fact of each row of a list, by the row's place
+-- A fact of each row of a list, by the row's place.
 abbrev pub Each : (ℕ → Meaning → Type 0) → List Meaning → Type 0
 Each P [] = Unit {0}
 Each P (m ∷ ms) = P 0 m × Each (λ n. P (suc n)) ms
 
 infixr 10 ◌&◌
--- the fact of a row, and those of the rows after it
+-- The fact of a row, and those of the rows after it.
 abbrev pub ◌&◌ : {A B : Type 0} → A → B → A × B
 one & others = (one, others)
 

@@ -24,9 +24,9 @@ use Rattle.paw_effects.specs.Meanings.{Meaning, Tests, Acts}
 use Rattle.paw_effects.specs.Effects.{done_by}
 use Rattle.paw_effects.specs.Holds.{answers, tested_by}
 
--- the positions that a world keeps
+-- The positions that a world keeps.
 module _ (ks : List (Option Position)) where
-  -- they are these
+  -- They are these.
   abbrev pub AreKept : World → Type 0
   AreKept w = w.kept ≡ ks
 
@@ -80,7 +80,7 @@ module _ (ks : List (Option Position)) where
   ramloaded_kept w n None k = k
   ramloaded_kept w n (Some q) k = k
 
-  -- LOAD takes a position and changes none
+  -- LOAD takes a position and changes none.
   pub loaded_kept : (g : GameLists) (w : World) (kept : Option Position) → AreKept w → AreKept (loaded g w kept).world
   loaded_kept g w None k = k
   loaded_kept g w (Some q) k = k
@@ -95,7 +95,7 @@ module _ (ks : List (Option Position)) where
 
   -- ---- each row ----
 
-  -- a condition, and an action of a code that isn't SAVE, keep these positions
+  -- A condition, and an action of a code that isn't SAVE, keep these positions.
   abbrev pub KeepsBy : ℕ → Meaning → Type 0
   KeepsBy code (Tests tested) = (g : GameLists) (w : World) (c : Condact) → AreKept w → AreKept (tested g w c).world
   KeepsBy code (Acts done) = (s : Story) (w : World) (c : Condact) → c.code ≡ code → code ≢ SAVE → AreKept w → AreKept (done s w c).world

@@ -38,7 +38,7 @@ found_nowhere w p above is none = sym (ap (find (fits_sentence w)) (above_at_non
 nothing : ObjectFacts
 nothing = record { noun = 0; adjective = 0; start = 0; weight = 0; container = false; wearable = false }
 
--- an object's facts
+-- An object's facts.
 of_facts : (w : World) (o : ℕ) → o < length w.facts → fits_sentence w o ≡ names w (get_or w.facts o nothing)
 of_facts w o known = ap (λ found. option_map_or (names w) found false) (slice_get-get_or w.facts o nothing known)
 

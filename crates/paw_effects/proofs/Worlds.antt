@@ -29,7 +29,7 @@ use Rattle.paw_effects.specs.Presence.{named_place}
 use Rattle.paw_effects.specs.Standing.{AreBytes}
 use Rattle.paw_effects.specs.inner.Standing.{MayBePosition, IsWorldOf}
 
--- a world of the game with this seed, and at most so many words drawn
+-- A world of the game with this seed, and at most n words drawn.
 pub record IsWorldAt (g : GameLists) (seed n : ℕ) (w : World) : Type 0 where
   pub of : IsOf g w
   pub places : ArePlacesOf g w.places
@@ -107,7 +107,7 @@ word_or_none_small g v class value h = go (value == 255) refl h
 pub place_small : (g : GameLists) → Valid g → (p : ℕ) → IsTrue (is_place (length g.locations) p) → p < 256
 place_small g v p h = let few = (few_locations g v).1 in grind (arith, nat_tests)
 
--- a parameter is a byte
+-- A parameter is a byte.
 pub parameter_small : (g : GameLists) → Valid g → (k : ParamKind) (x : ℕ) → IsTrue (is_parameter (counts_of g) g.words k x) → x < 256
 parameter_small g v kind.Absent x h = omega (arith, eqb-true x 0 h)
 parameter_small g v kind.Location x h = omega (arith, ltb-true x (length g.locations) h, (few_locations g v).1)
@@ -123,7 +123,7 @@ parameter_small g v kind.Noun x h = word_or_none_small g v 2 x h
 parameter_small g v kind.Adjective x h = word_or_none_small g v 3 x h
 parameter_small g v kind.Preposition x h = word_or_none_small g v 4 x h
 
--- and so is one that comes while the game is played
+-- So is one that arises in play.
 pub argument_small : (g : GameLists) → Valid g → (k : ParamKind) (x : ℕ) → IsTrue (is_argument g k x) → x < 256
 argument_small g v kind.Adverb x h = ltb-true x 256 h
 argument_small g v kind.Noun x h = ltb-true x 256 h
@@ -131,7 +131,7 @@ argument_small g v kind.Adjective x h = ltb-true x 256 h
 argument_small g v kind.Preposition x h = ltb-true x 256 h
 argument_small g v k x h = parameter_small g v k x h
 
--- the words of an object's facts
+-- The words of an object's facts.
 pub record AreSmall (f : ObjectFacts) : Type 0 where
   pub noun : f.noun < 256
   pub adjective : f.adjective < 256
@@ -146,7 +146,7 @@ facts_small g v o f e =
           (first_of_and (is_word_or_none g.words 3 f.adjective) _ (second_of_and (is_word_or_none g.words 2 f.noun) _ kept));
     }
 
--- the facts of a world are those of the game
+-- The facts of a world are those of the game.
 facts_same : (os : List ObjectRow) (o : ℕ) → slice_get (map (λ (r : ObjectRow). r.facts) os) o ≡ option_map (λ (r : ObjectRow). r.facts) (slice_get os o)
 facts_same os o = slice_get-map (λ (r : ObjectRow). r.facts) os o
 
@@ -160,7 +160,7 @@ module _ (g : GameLists) (v : Valid g) (seed : ℕ) where
   -- ---- parts of a world ----
 
   module _ (n : ℕ) where
-    -- what holds in both cases
+    -- What holds in both cases.
     pub world_of : (b : Bool) (x y : World) → IsWorldAt g seed n x → IsWorldAt g seed n y → IsWorldAt g seed n (if b then x else y)
     world_of true x y h k = h
     world_of false x y h k = k
@@ -234,7 +234,7 @@ module _ (g : GameLists) (v : Valid g) (seed : ℕ) where
         let up : World = taken_up free p in
         world_of (place w o == p) w (with_place up o p) k (placed up (taken_up_so free (let_go_so w k (place w o)) p) o p at)
 
-    -- what an object weighs is a byte
+    -- What an object weighs is a byte.
     facts_are : (w : World) → IsWorldAt g seed n w → (o : ℕ) → slice_get w.facts o ≡ facts_at g o
     facts_are w k o = subst (λ fs. slice_get w.facts o ≡ slice_get fs o) k.of.facts refl ∙ facts_same g.objects o
 
@@ -286,7 +286,7 @@ module _ (g : GameLists) (v : Valid g) (seed : ℕ) where
   start_count : length (opening_places (map (λ o. o.facts) g.objects)) ≡ length g.objects
   start_count = length-map (map (λ (o : ObjectRow). o.facts) g.objects) (λ (f : ObjectFacts). f.start) ∙ length-map g.objects (λ (o : ObjectRow). o.facts)
 
-  -- 256 flags that are bytes
+  -- 256 flags that are bytes.
   record AreFlags (flags : List ℕ) : Type 0 where
     all : length flags ≡ 256
     bytes : AreBytes flags

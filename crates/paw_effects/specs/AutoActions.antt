@@ -17,29 +17,29 @@ use Rattle.paw_effects.specs.Referring.{referred, referred_to_none}
 use Rattle.paw_effects.specs.ObjectSearch.{some_fits, first_fitting}
 use Rattle.paw_effects.specs.ObjectActions.{refuses, acted_on}
 
--- where each action looks for its object, in this order
+-- Where each action looks for its object, in this order.
 abbrev pub looks_at : Action → List Spot
 looks_at action.Get = Here ∷ At CARRIED_PLACE ∷ At WORN_PLACE ∷ []
 looks_at action.Remove = At WORN_PLACE ∷ At CARRIED_PLACE ∷ Here ∷ []
 looks_at (action.TakeOut l) = At l ∷ At CARRIED_PLACE ∷ At WORN_PLACE ∷ Here ∷ []
 looks_at _ = At CARRIED_PLACE ∷ At WORN_PLACE ∷ Here ∷ []  -- Drop, Wear, PutIn
 
--- what is said where it isn't found there
+-- The message of an action whose object isn't found there.
 abbrev pub missing : Action → Words
 missing action.Get = Says NOT_HERE_MESSAGE
 missing action.Remove = Says NOT_WORN_MESSAGE
 missing (action.TakeOut l) = Names NOT_INSIDE_MESSAGE l
 missing _ = Says NOT_CARRIED_MESSAGE  -- Drop, Wear, PutIn
 
--- the action on the object that was found; with none it is refused, as impossible where no object of the game fits
+-- The action on the object that was found. With none it is refused, as impossible where no object of the game fits.
 abbrev pub acted_on_found : GameLists → World → Action → Option ℕ → Done
 acted_on_found g w a (Some o) = acted_on g w o a
 acted_on_found g w a None = refuses g w (if some_fits w then missing a else Says IMPOSSIBLE_MESSAGE)
 
--- an action on the object that the sentence means
+-- The action on the object that the sentence means.
 abbrev pub acted_by_name : GameLists → World → Action → Done
 acted_by_name g w a = acted_on_found g w a (first_fitting w (looks_at a))
 
--- referring to the object that the sentence means, looked for as DROP does, or to none
+-- Refers to the object that the sentence means, which is looked for as DROP does, or to none.
 abbrev pub referred_by_name : World → World
 referred_by_name w = option_map_or (referred w) (first_fitting w (looks_at action.Drop)) (referred_to_none w)

@@ -3,6 +3,6 @@ use Rattle.std.specs.Prelude.{ℕ, ◌+◌, ◌%◌}
 use Rattle.paw_world.specs.Draws.{random_word}
 use Rattle.paw_world.specs.World.{World}
 
--- a number from 1 to 100, by the next random word
+-- A number from 1 to 100, by the next random word.
 abbrev pub rolled : World → ℕ
 rolled w = 1 + random_word w.seed w.draws % 100

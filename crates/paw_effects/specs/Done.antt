@@ -5,32 +5,32 @@ use Rattle.paw_effects.specs.declared.act.Effect.{Effect}
 use Rattle.paw_effects.specs.declared.act.Effect.TheVariants as effect
 use Rattle.paw_effects.specs.declared.act.Act.{Act}
 
--- what an action prints, the world after it, and what it answers
+-- What an action prints, the world after it, and what it answers.
 pub record Done : Type 0 where
   pub text : List ℕ
   pub world : World
   pub act : Act
 
--- reading goes on so, with the line and the loop as they are
+-- The answer of an action after which reading goes on with this effect, with the line and the loop as they are.
 abbrev pub plainly : Effect → Act
 plainly e = record { effect = e; drop_line = false; cancel_loop = false }
 
--- reading goes on so, and the rest of the line is dropped
+-- The answer of an action after which reading goes on with this effect, with the rest of the line dropped.
 abbrev pub dropping : Effect → Act
 dropping e = record { effect = e; drop_line = true; cancel_loop = false }
 
--- this is printed, and reading goes on so
+-- Prints this text, and reading goes on with this effect.
 abbrev pub tells : World → List ℕ → Effect → Done
 tells w text e = record { text = text; world = w; act = plainly e }
 
--- nothing is printed, and reading goes on so
+-- Prints nothing, and reading goes on with this effect.
 abbrev pub leads : World → Effect → Done
 leads w e = tells w [] e
 
--- this is printed, and reading goes on at the next condact
+-- Prints this text, and reading goes on at the next condact.
 abbrev pub prints : World → List ℕ → Done
 prints w text = tells w text effect.Go
 
--- reading goes on at the next condact with this world, and nothing is printed
+-- Leaves this world and prints nothing, and reading goes on at the next condact.
 abbrev pub makes : World → Done
 makes w = leads w effect.Go

@@ -9,15 +9,15 @@ pub use Rattle.paw_effects.specs.Referring.{referred}
 use Rattle.paw_effects.specs.Indirect.{as_plain}
 use Rattle.paw_effects.specs.Meanings.{Meaning, Tests, Acts, meaning_of}
 
--- what a meaning does; a condition is never done
+-- What a meaning does; that of a condition does nothing.
 abbrev pub done_by : Meaning → Story → World → Condact → Done
 done_by (Tests holds) s w c = makes w
 done_by (Acts done) s w c = done s w c
 
--- a plain action does what it means
+-- What a plain action does, by its meaning.
 unfoldable pub plain_effect : Story → World → Condact → Done
 plain_effect s w c = done_by (meaning_of c.code) s w c
 
--- an action does what the plain one does that is carried out; where there is none it is done, and changes nothing
+-- What an action does: the same as the plain action that is carried out for it, or nothing where there is none.
 unfoldable pub effect_of : Story → World → Condact → Done
 effect_of s w c = option_map_or (plain_effect s w) (as_plain s.game w c) (makes w)

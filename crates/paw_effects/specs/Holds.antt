@@ -9,19 +9,19 @@ pub use Rattle.paw_effects.specs.Tested.{Tested, truth_of, answers, moves}
 use Rattle.paw_effects.specs.Indirect.{as_plain}
 use Rattle.paw_effects.specs.Meanings.{Meaning, Tests, Acts, meaning_of, is_test}
 
--- a condition is what tests; an indirect condact is one where the plain one is
+-- Whether a condact is a condition, that is one that tests; an indirect condact is one where the plain one is.
 abbrev pub is_condition : Condact → Bool
 is_condition c = is_test (meaning_of (plain_code c.code))
 
--- what a meaning answers; an action is asked nothing
+-- What a meaning answers; that of an action answers no.
 abbrev pub tested_by : Meaning → GameLists → World → Condact → Tested
 tested_by (Tests holds) g w c = holds g w c
 tested_by (Acts done) g w c = answers w false
 
--- a plain condition answers by what it means
+-- What a plain condition answers, by its meaning.
 unfoldable pub plain_holds : GameLists → World → Condact → Tested
 plain_holds g w c = tested_by (meaning_of c.code) g w c
 
--- a condition answers as the plain one that is carried out; where there is none it fails
+-- What a condition answers: the same as the plain condition that is carried out for it; where there is none it fails.
 unfoldable pub holds : GameLists → World → Condact → Tested
 holds g w c = option_map_or (plain_holds g w) (as_plain g w c) (answers w false)

@@ -11,60 +11,60 @@ use Rattle.paw_world.specs.Weight.{objects_at}
 use Rattle.paw_effects.specs.Presence.{held_objects}
 use Rattle.paw_effects.specs.Texts.{object_text, put_text, say_text}
 
--- each text in a line of its own
+-- Each text in a line of its own.
 abbrev pub as_lines : List (List ℕ) → List ℕ
 as_lines texts = flat_map (λ text. text ++ 10 ∷ []) texts
 
--- what joins a text to the one before it, by what follows it
+-- What joins a text to the one before it, by the texts after it: ` and ` where there are none, and otherwise `, `.
 abbrev pub joint : {A : Type 0} → List A → List ℕ
 joint [] = codes " and "
 joint (_ ∷ _) = codes ", "
 
--- the texts behind the first one, and the end of the sentence
+-- The texts after the first one, each with what joins it, and the end of the sentence.
 abbrev pub others_joined : List (List ℕ) → List ℕ
 others_joined [] = codes ".\n"
 others_joined (text ∷ texts) = joint texts ++ (text ++ others_joined texts)
 
--- the texts joined by `, `, the last one by ` and `, and `.` and a newline
+-- The texts in one sentence: joined by `, `, the last one by ` and `, with `.` and a newline at the end.
 abbrev pub as_sentence : List (List ℕ) → List ℕ
 as_sentence [] = []
 as_sentence (text ∷ texts) = text ++ others_joined texts
 
--- lists are sentences where bit 6 of the flag of lists is set
+-- Whether lists are sentences: bit 6 of the flag of lists is set.
 abbrev pub lists_are_sentences : World → Bool
 lists_are_sentences w = not (bit_and (flag w LISTING_FLAG) LISTING_BIT == 0)
 
--- texts as a list
+-- Texts as a list, in one sentence or in lines.
 abbrev pub list_of : World → List (List ℕ) → List ℕ
 list_of w texts = if lists_are_sentences w then as_sentence texts else as_lines texts
 
--- a list, or a message where there is nothing to list
+-- A list, or this message where there is nothing to list.
 abbrev pub list_or_say : GameLists → World → ℕ → List (List ℕ) → List ℕ
 list_or_say g w s [] = say_text g w s
 list_or_say g w s (text ∷ texts) = list_of w (text ∷ texts)
 
--- that objects can be seen, and a list, where there is something to list
+-- The message that objects can be seen, and a list of them; nothing where there is nothing to list.
 abbrev pub seen_text : GameLists → World → List (List ℕ) → List ℕ
 seen_text g w [] = []
 seen_text g w (text ∷ texts) = say_text g w SEEN_MESSAGE ++ list_of w (text ∷ texts)
 
--- the texts of the objects at a place, in rising number
+-- The texts of the objects at a place, in rising order of their numbers.
 abbrev pub texts_at : GameLists → World → ℕ → List (List ℕ)
 texts_at g w p = map (object_text g) (objects_at w p)
 
--- a message tells what is worn
+-- The message that an object is worn, where it is.
 abbrev pub worn_text : GameLists → World → ℕ → List ℕ
 worn_text g w o = if place w o == WORN_PLACE then put_text g w IS_WORN_MESSAGE else []
 
--- the text of an object that is worn or carried
+-- The text of an object that is worn or carried, with the message where it is worn.
 abbrev pub held_text : GameLists → World → ℕ → List ℕ
 held_text g w o = object_text g o ++ worn_text g w o
 
--- INVEN: what is worn and carried, behind its message, or that it is nothing
+-- INVEN: a message, and then what is worn and carried, or a message that it is nothing.
 abbrev pub inventory_text : GameLists → World → List ℕ
 inventory_text g w =
     say_text g w INVENTORY_MESSAGE ++ list_or_say g w EMPTY_HANDED_MESSAGE (map (held_text g w) (held_objects w))
 
--- LISTOBJ: what stands at the current location; nothing where that is none of the game's
+-- LISTOBJ: a list of what stands at the current location; nothing where that isn't one of the game's.
 abbrev pub here_list_text : GameLists → World → List ℕ
 here_list_text g w = if is_somewhere w then seen_text g w (texts_at g w (flag w LOCATION_FLAG)) else []

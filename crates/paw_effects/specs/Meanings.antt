@@ -34,36 +34,36 @@ use Rattle.paw_effects.specs.MoveActions.{all_dropped, swapped, referred_moved, 
 use Rattle.paw_effects.specs.ObjectActions.{acted_on}
 use Rattle.paw_effects.specs.AutoActions.{acted_by_name, referred_by_name}
 
--- A condition tests the world, and may change it; an action acts on it, and the routines of the story may help.
+-- What a condact means: a condition tests the world, and may change it; an action acts on it, and may use the routines.
 pub data Meaning : Type 0 where
   Tests : (GameLists → World → Condact → Tested) → Meaning
   Acts : (Story → World → Condact → Done) → Meaning
 
--- a condition that changes nothing
+-- A condition that changes nothing.
 abbrev pub tests : (World → Condact → Bool) → Meaning
 tests holds = Tests (λ g w c. answers w (holds w c))
 
--- an action that needs no routine
+-- An action that needs no routine.
 abbrev pub doing : (GameLists → World → Condact → Done) → Meaning
 doing done = Acts (λ s w c. done s.game w c)
 
--- an action that prints, and changes nothing
+-- An action that prints, and changes nothing.
 abbrev pub printing : (GameLists → World → Condact → List ℕ) → Meaning
 printing text = doing (λ g w c. prints w (text g w c))
 
--- an action that changes the world, and prints nothing
+-- An action that changes the world, and prints nothing.
 abbrev pub changing : (World → Condact → World) → Meaning
 changing made = doing (λ g w c. makes (made w c))
 
--- an action for what is shown or played beside the text: it prints its name and its numbers
+-- An action for what is shown or played besides the text: it prints its name and its numbers.
 abbrev pub mark : Meaning
 mark = printing (λ g w c. mark_text c)
 
--- EXTERN: a flag becomes the answer of a routine on its value, where there is such a routine
+-- EXTERN: a flag becomes the answer of a routine to its value, if there is such a routine.
 abbrev pub answered_by : List (List ℕ) → World → ℕ → ℕ → World
 answered_by rows w n f = option_map_or (with_flag w f) (value_at rows n (flag w f)) w
 
--- the meanings of the plain codes from 0 on, in their order
+-- The meanings of the plain codes from 0 on, in their order.
 unfoldable pub meanings : List Meaning
 meanings =
     tests (λ w c. flag w LOCATION_FLAG == c.a) ∷  -- AT
@@ -164,11 +164,11 @@ meanings =
     mark ∷ mark ∷ mark ∷ mark ∷  -- PAUSE, MODE, LINE, INPUT
     []
 
--- what a plain code means; one above the last is an action that changes nothing
+-- The meaning of a plain code; for a number above the last one, an action that changes nothing.
 unfoldable pub meaning_of : ℕ → Meaning
 meaning_of code = slice_index_or meanings code (changing (λ w c. w))
 
--- whether a meaning is that of a condition
+-- Whether a meaning is that of a condition.
 abbrev pub is_test : Meaning → Bool
 is_test (Tests holds) = true
 is_test (Acts done) = false

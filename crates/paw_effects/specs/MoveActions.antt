@@ -1,4 +1,4 @@
--- The actions that move objects, and the one that tells a place.
+-- The actions that move objects, and the numbers that name places.
 use Rattle.std.specs.Prelude.{ℕ, ◌||◌, Bool, nat_lt, length, fold, if◌then◌else◌}
 use Rattle.paw_base.specs.declared.flags.TheConstants.{LOCATION_FLAG, REFERRED_FLAG}
 use Rattle.paw_base.specs.declared.places.TheConstants.{NOT_CREATED_PLACE, HERE_PLACE}
@@ -6,27 +6,27 @@ use Rattle.paw_game.specs.Valid.{is_within}
 use Rattle.paw_world.specs.World.{World, flag, with_flag, place, moved, here, with_objects_returned}
 use Rattle.paw_effects.specs.Presence.{named_place, held_objects}
 
--- all that is worn or carried moves to the current location, one object after the other
+-- All that is worn or carried moves to the current location, one object after the other.
 abbrev pub all_dropped : World → World
 all_dropped w = fold (λ v o. moved v o (here w)) w (held_objects w)
 
--- each of two objects moves to where the other stood, the first one first
+-- Each of two objects moves to where the other stood, the first one first.
 abbrev pub swapped : World → ℕ → ℕ → World
 swapped w o k = moved (moved w o (place w k)) k (place w o)
 
--- the object last referred to moves to a place; nothing where there is no such object
+-- The object last referred to moves to a place; nothing happens where there is no such object.
 abbrev pub referred_moved : World → ℕ → World
 referred_moved w p = if nat_lt (flag w REFERRED_FLAG) (length w.places) then moved w (flag w REFERRED_FLAG) p else w
 
--- a number names a place: a location of the game, not created, worn, carried, or the current location
+-- Whether a number names a place: a location of the game, not created, worn, carried, or the current location.
 abbrev pub names_place : World → ℕ → Bool
 names_place w p = nat_lt p w.locations || is_within NOT_CREATED_PLACE HERE_PLACE p
 
--- an object moves to the place that a number names; nothing where it names none
+-- An object moves to the place that a number names; nothing happens where it names none.
 abbrev pub moved_if_place : World → ℕ → ℕ → World
 moved_if_place w o p = if names_place w p then moved w o (named_place w p) else w
 
--- RESET puts all objects back to where they begin, with flag 1 the number of those that begin carried, and makes a
--- location the current one
+-- RESET puts all objects back where they begin, sets flag 1 to the number of those that begin carried, and makes a
+-- location the current one.
 abbrev pub reset : World → ℕ → World
 reset w l = with_flag (with_objects_returned w) LOCATION_FLAG l

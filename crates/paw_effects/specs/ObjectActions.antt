@@ -25,35 +25,35 @@ use Rattle.paw_effects.specs.Presence.{is_held}
 use Rattle.paw_effects.specs.Referring.{referred}
 use Rattle.paw_effects.specs.ObjectWords.{spoken_words, ends_loop}
 
--- ---- what is looked at ----
+-- ---- what the tests ask ----
 
--- an object is worn
+-- Whether an object is worn.
 abbrev pub is_worn : World → ℕ → Bool
 is_worn w o = place w o == WORN_PLACE
 
--- an object is carried
+-- Whether an object is carried.
 abbrev pub is_carried : World → ℕ → Bool
 is_carried w o = place w o == CARRIED_PLACE
 
--- an object may be worn
+-- Whether an object may be worn.
 abbrev pub can_be_worn : World → ℕ → Bool
 can_be_worn w o = option_map_or (λ f. f.wearable) (slice_get w.facts o) false
 
--- with this object more weight would be carried than may be
+-- Whether more weight would be carried with this object than is allowed.
 abbrev pub is_too_heavy : World → ℕ → Bool
 is_too_heavy w o = nat_lt (flag w MOST_WEIGHT_FLAG) (carried_weight w + weight w o)
 
--- as many objects are carried as may be
+-- Whether as many objects are carried as are allowed.
 abbrev pub is_laden : World → Bool
 is_laden w = nat_le (flag w MOST_CARRIED_FLAG) (flag w CARRIED_FLAG)
 
--- the object whose number is that of a place is worn or carried, so what comes out of it is held already
+-- Whether the object whose number is that of a place is worn or carried; what comes out of it is then held already.
 abbrev pub holds_place : World → ℕ → Bool
 holds_place w l = nat_lt l (length w.places) && is_held w l
 
--- ---- what hinders an action, and what is said then ----
+-- ---- what hinders an action, and the message then ----
 
--- the tests of each action in their order, and what is said where one holds
+-- The tests of each action in their order, each with its message where it holds.
 abbrev pub hindrances : World → ℕ → Action → List (Bool × Words)
 hindrances w o action.Get =
     (is_held w o, Says HELD_MESSAGE) ∷ (not (is_here w o), Says NOT_HERE_MESSAGE)
@@ -72,21 +72,21 @@ hindrances w o _ =  -- Drop, PutIn
     (is_worn w o, Says WORN_MESSAGE) ∷ (is_here w o, Says NOT_HELD_MESSAGE)
     ∷ (not (is_carried w o), Says NOT_CARRIED_MESSAGE) ∷ []
 
--- the first test that holds decides
+-- The message of the first test that holds.
 abbrev pub first_that_holds : List (Bool × Words) → Option Words
 first_that_holds [] = None
 first_that_holds ((holds, said) ∷ tests) = if holds then Some said else first_that_holds tests
 
 -- ---- what is done otherwise ----
 
--- where the object moves
+-- Where the object moves.
 abbrev pub destination : World → Action → ℕ
 destination w action.Drop = here w
 destination w action.Wear = WORN_PLACE
 destination w (action.PutIn l) = l
 destination w _ = CARRIED_PLACE  -- Get, Remove, TakeOut
 
--- what is said then
+-- The message of an action that is done.
 abbrev pub outcome : Action → Words
 outcome action.Drop = Says DROPPED_MESSAGE
 outcome action.Wear = Says PUT_ON_MESSAGE
@@ -94,17 +94,17 @@ outcome action.Remove = Says TAKEN_OFF_MESSAGE
 outcome (action.PutIn l) = Names PUT_IN_MESSAGE l
 outcome _ = Says TAKEN_MESSAGE  -- Get, TakeOut
 
--- an action is refused: this is said, the rest of the line is dropped, and the table is left with an action carried out
+-- An action is refused with a message; the rest of the line is dropped, and the table left with an action carried out.
 abbrev pub refuses : GameLists → World → Words → Done
 refuses g w said =
     let act : Act = record { effect = effect.Exit true; drop_line = true; cancel_loop = ends_loop said } in
     record { text = spoken_words g w said; world = w; act = act }
 
--- an action on an object where this is said against it, or nothing is
+-- An action on an object: it is refused with this message, or carried out where there is none.
 abbrev pub tried : GameLists → World → ℕ → Action → Option Words → Done
 tried g w o a (Some said) = refuses g w said
 tried g w o a None = let after = moved w o (destination w a) in prints after (spoken_words g after (outcome a))
 
--- an action on an object, which is referred to first
+-- An action on an object, which is referred to first.
 abbrev pub acted_on : GameLists → World → ℕ → Action → Done
 acted_on g w o a = let w' = referred w o in tried g w' o a (first_that_holds (hindrances w' o a))

@@ -9,12 +9,12 @@ use Rattle.paw_effects.specs.declared.act.Effect.TheVariants as effect
 use Rattle.paw_effects.specs.Done.{Done, tells, leads}
 use Rattle.paw_effects.specs.Texts.{say_text}
 
--- which of the kept positions is meant
+-- The number of the kept position that is meant.
 abbrev pub position_number : World → ℕ
 position_number w = flag w POSITION_FLAG % POSITION_COUNT
 
--- all flags and all places become those of a position, and nothing is counted; where it wasn't kept it is said that
--- this can't be done
+-- All flags and all places become those of a position, and nothing is counted anew; where none was kept, a message says
+-- that this can't be done.
 abbrev pub loaded : GameLists → World → Option Position → Done
 loaded g w None = tells w (say_text g w IMPOSSIBLE_MESSAGE) effect.Redescribe
 loaded g w (Some q) = leads (record w { flags = q.flags; places = q.places }) effect.Redescribe

@@ -8,11 +8,11 @@ use Rattle.paw_base.specs.declared.parts.ObjectFacts.{ObjectFacts}
 use Rattle.paw_world.specs.World.{World, place, with_flag}
 use Rattle.paw_world.specs.Weight.{weight}
 
--- how a flag tells that an object is so: 128, half of a byte, or 0
+-- The value of a flag for a fact about an object: 128 where it holds, and 0 where it doesn't.
 abbrev pub weight_class : Bool → ℕ
 weight_class b = if b then REFERRED_SO else 0
 
--- the flags of the object last referred to, by its facts; they stay where there is no such object
+-- The world with the flags of the object last referred to, by its facts; the same world where there is no such object.
 abbrev pub facts_written : World → ℕ → Option ObjectFacts → World
 facts_written w o None = w
 facts_written w o (Some f) =
@@ -20,12 +20,12 @@ facts_written w o (Some f) =
     let held = with_flag weighed REFERRED_CONTAINER_FLAG (weight_class f.container) in
     with_flag held REFERRED_WEARABLE_FLAG (weight_class f.wearable)
 
--- referring to an object: flags become its number, its place and its weight, and tell a container and what may be worn
+-- Refers to an object: flags become its number, place and weight, and say whether it is a container and may be worn.
 abbrev pub referred : World → ℕ → World
 referred w o =
     facts_written (with_flag (with_flag w REFERRED_FLAG o) REFERRED_PLACE_FLAG (place w o)) o (slice_get w.facts o)
 
--- referring to no object: its number is none, its place is not created, and the others are 0
+-- Refers to no object: its number is none, its place is not created, and the other flags are 0.
 abbrev pub referred_to_none : World → World
 referred_to_none w =
     let none = with_flag (with_flag w REFERRED_FLAG NO_WORD) REFERRED_PLACE_FLAG NOT_CREATED_PLACE in

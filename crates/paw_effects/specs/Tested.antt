@@ -8,20 +8,20 @@ use Rattle.paw_world.specs.World.{World, flag, with_flag}
 use Rattle.paw_effects.specs.declared.act.Truth.{Truth}
 use Rattle.paw_effects.specs.declared.act.Truth.TheVariants as truth
 
--- what a condition answers, and the world after it: CHANCE makes a draw, MOVE changes a flag
+-- What a condition answers, and the world after it: CHANCE makes a draw, MOVE changes a flag.
 pub record Tested : Type 0 where
   pub answer : Truth
   pub world : World
 
--- a condition that holds answers yes
+-- The answer of a condition: yes where it holds, and no otherwise.
 abbrev pub truth_of : Bool → Truth
 truth_of b = if b then truth.Yes else truth.No
 
--- a condition answers by whether it holds, and this world is left
+-- A condition answers by whether it holds, and leaves this world.
 abbrev pub answers : World → Bool → Tested
 answers w b = record { answer = truth_of b; world = w }
 
--- MOVE takes the exit for the sentence's verb from the location that a flag names, to where it leads
+-- MOVE takes the exit for the sentence's verb from the location in a flag, and sets the flag to where it leads.
 abbrev pub moves : GameLists → World → ℕ → Tested
 moves g w f =
     option_map_or (λ to. answers (with_flag w f to) true) (exit_at g (flag w f) (flag w VERB_FLAG)) (answers w false)

@@ -5,36 +5,36 @@ use Rattle.paw_base.specs.declared.flags.TheConstants.{REFERRED_FLAG}
 use Rattle.paw_game.specs.Game.{GameLists}
 use Rattle.paw_world.specs.World.{World, flag}
 
--- the text of an object, as it is; none where there is no such object
+-- The text of an object, as it is; none where there is no such object.
 abbrev pub object_text : GameLists → ℕ → List ℕ
 object_text g o = unwrap_or (option_map (λ row. row.text) (slice_get g.objects o)) []
 
--- each underscore is replaced by the name; the name isn't searched again
+-- A text with each underscore replaced by the name, in which underscores stay.
 abbrev pub with_name : List ℕ → List ℕ → List ℕ
 with_name name [] = []
 with_name name (b ∷ bs) = if b == 95 then name ++ with_name name bs else b ∷ with_name name bs
 
--- a text as it is printed: with the text of the object last referred to as the name
+-- A text as it is printed, with the text of the object last referred to in place of each underscore.
 abbrev pub printed_text : GameLists → World → List ℕ → List ℕ
 printed_text g w text = with_name (object_text g (flag w REFERRED_FLAG)) text
 
--- a text and a newline; nothing where the text is empty
+-- A text and a newline; nothing where the text is empty.
 abbrev pub ended_text : GameLists → World → List ℕ → List ℕ
 ended_text g w [] = []
 ended_text g w (b ∷ bs) = printed_text g w (b ∷ bs) ++ 10 ∷ []
 
--- putting a system message prints it where there is one
+-- A system message as it is printed; nothing where there is none.
 abbrev pub put_text : GameLists → World → ℕ → List ℕ
 put_text g w s = printed_text g w (unwrap_or (slice_get g.system s) [])
 
--- saying a system message prints it with a newline, where there is one that isn't empty
+-- A system message as it is printed, and a newline; nothing where there is none or it is empty.
 abbrev pub say_text : GameLists → World → ℕ → List ℕ
 say_text g w s = ended_text g w (unwrap_or (slice_get g.system s) [])
 
--- the description of a location, with a newline, where there is one that isn't empty
+-- The description of a location, and a newline; nothing where there is none or it is empty.
 abbrev pub location_text : GameLists → World → ℕ → List ℕ
 location_text g w l = ended_text g w (unwrap_or (slice_get g.locations l) [])
 
--- a message
+-- A message as it is printed; nothing where there is none.
 abbrev pub message_text : GameLists → World → ℕ → List ℕ
 message_text g w m = printed_text g w (unwrap_or (slice_get g.messages m) [])

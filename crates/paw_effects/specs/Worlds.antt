@@ -4,8 +4,8 @@ use Rattle.paw_base.specs.declared.limits.TheConstants.{FLAG_COUNT}
 use Rattle.paw_game.specs.Game.{GameLists}
 use Rattle.paw_world.specs.World.{World}
 
--- a world of this game: what it says of objects and how many locations it has are the game's; it has 256 flags, and a
--- place for each object
+-- A world of this game: the facts of its objects and its number of locations are the game's; it has 256 flags, and a
+-- place for each object.
 pub record IsOf (g : GameLists) (w : World) : Type 0 where
   pub facts : w.facts ≡ map (λ o. o.facts) g.objects
   pub locations : w.locations ≡ length g.locations

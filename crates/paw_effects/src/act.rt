@@ -14,7 +14,7 @@ pub enum Prompt {
     Over,
 }
 
-/// What a condition answers. QUIT alone asks.
+/// What a condition answers. Only QUIT asks.
 #[derive(Clone, Copy, Drop, PartialEq, Eq, Debug)]
 pub enum Truth {
     Yes,
@@ -46,7 +46,7 @@ pub struct Act {
     pub cancel_loop: bool,
 }
 
-/// An action that goes on so, with the line and the loop as they are.
+/// The answer of an action that goes on with this effect, with the line and the loop as they are.
 pub(crate) fn on(effect: Effect) -> Act
     ensures value { result ≡ plainly effect }
 {
@@ -57,7 +57,7 @@ pub(crate) fn on(effect: Effect) -> Act
     }
 }
 
-/// An action that goes on so, with the rest of the line dropped and the loop as it is.
+/// The answer of an action that goes on with this effect, with the rest of the line dropped and the loop as it is.
 pub(crate) fn dropping(effect: Effect) -> Act
     ensures value { result ≡ dropping effect }
 {
@@ -67,7 +67,7 @@ pub(crate) fn dropping(effect: Effect) -> Act
     }
 }
 
-/// An action that goes on so where its text fits, and else is spent.
+/// The answer of an action that goes on with this effect where its text fits, and is spent where it doesn't.
 pub(crate) fn after(fits: bool, e: Effect) -> Act
     ensures value { result ≡ plainly (if fits then e else effect.Spent) }
 {

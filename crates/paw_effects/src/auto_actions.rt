@@ -32,7 +32,7 @@ fn found(world: &World, action: Action) -> Option<u8>
     }
 }
 
-/// What fits among what is carried, then worn, then here.
+/// The object that fits among those carried, then those worn, then those here.
 fn found_carried_first(world: &World) -> Option<u8>
     ensures value { result ≡ first_fitting world.now (looks_at action.Drop) }
     ensures known { IfSome result (λ o. o < length world.now.places) }
@@ -40,7 +40,7 @@ fn found_carried_first(world: &World) -> Option<u8>
     first_fitting(world, &[Spot::CARRIED, Spot::WORN, Spot::Here])
 }
 
-/// What is said where the object of an action isn't found.
+/// The message where the object of an action isn't found.
 fn missing(action: Action) -> Words
     ensures value { result ≡ missing action }
 {

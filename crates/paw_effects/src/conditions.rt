@@ -33,8 +33,8 @@ fn truth(holds: bool) -> Truth
     if holds { Truth::Yes } else { Truth::No }
 }
 
-/// MOVE takes the exit for the verb from the location that a flag names, to where it leads. False exactly where there
-/// is no such exit.
+/// MOVE takes the exit for the verb from the location in a flag, which becomes the one that it leads to. False exactly
+/// where there is no such exit.
 fn moves<T: Tables>(tables: &T, world: &mut World, f: u8) -> bool
     requires game { IsOf (T.game tables.now) world.old }
     ensures answer { truth_of result ≡ (moves (T.game tables.now) world.old f).answer }
@@ -51,7 +51,7 @@ fn moves<T: Tables>(tables: &T, world: &mut World, f: u8) -> bool
     }
 }
 
-/// Whether a condact tests; one that doesn't acts. An indirect one is what the plain one is.
+/// Whether a condact tests; otherwise it acts. An indirect one is what the plain one is.
 pub fn is_condition(c: Condact) -> bool
     requires code { IsCode c.code }
     ensures value { result ≡ is_condition c }

@@ -1,5 +1,5 @@
-// The counts that a game tells: its turns and its score. Where nothing is printed the empty text is pushed, whose
-// clause tells the proof that the piece fits.
+// The counts that a game shows: its turns and its score. Where nothing is printed the empty text is pushed, whose
+// clause gives the proof that the piece fits.
 
 ghost use Rattle.std.specs.Prelude.{◌≡◌, ◌==◌, [], if◌then◌else◌};
 ghost use Rattle.paw_base.specs.declared.messages.TheConstants.{PLURAL_MESSAGE};
@@ -24,7 +24,7 @@ pub fn turns_taken(world: &World) -> u16
     u16::from(world.flag(LOW_TURNS_FLAG)) + 256 * u16::from(world.flag(HIGH_TURNS_FLAG))
 }
 
-/// Puts what makes a word of more than one, unless the number is 1.
+/// Prints the plural ending, unless the number is 1.
 fn put_plural<T: Tables>(tables: &T, world: &World, piece: &mut Piece, number: u16) -> bool
     ensures puts { Puts piece.old piece.new result
         (if number == 1 then [] else put_text (T.game tables.now) world.now PLURAL_MESSAGE) }
@@ -36,7 +36,7 @@ fn put_plural<T: Tables>(tables: &T, world: &World, piece: &mut Piece, number: u
     }
 }
 
-/// Tells the number of turns.
+/// Prints the number of turns.
 pub(crate) fn tell_turns<T: Tables>(tables: &T, world: &World, piece: &mut Piece) -> bool
     ensures puts { Puts piece.old piece.new result (turns_text (T.game tables.now) world.now) }
 {
@@ -48,7 +48,7 @@ pub(crate) fn tell_turns<T: Tables>(tables: &T, world: &World, piece: &mut Piece
         && say(tables, world, piece, TURNS_END_MESSAGE)
 }
 
-/// Tells the score.
+/// Prints the score.
 pub(crate) fn tell_score<T: Tables>(tables: &T, world: &World, piece: &mut Piece) -> bool
     ensures puts { Puts piece.old piece.new result (score_text (T.game tables.now) world.now) }
 {

@@ -42,7 +42,7 @@ use paw_game::tables::Tables;
 use paw_routines::routines::Routines;
 use paw_world::world::World;
 
-/// Puts a question, and waits for its answer.
+/// Prints a question, and waits for its answer.
 fn ask<T: Tables>(tables: &T, world: &World, piece: &mut Piece, question: u8, prompt: Prompt) -> Act
     ensures does { Does (tells world.now (put_text (T.game tables.now) world.now question) (effect.Ask prompt))
         piece.old piece.new world.now result }
@@ -67,7 +67,7 @@ fn set_both(world: &mut World, first: (u8, u8), second: (u8, u8))
     world.set_flag(second.0, second.1);
 }
 
-/// EXTERN gives a flag the answer of a routine on the flag's value. Nothing changes where there is no such routine.
+/// EXTERN sets a flag to the answer of a routine to the flag's value. Nothing changes where there is no such routine.
 fn answer_by_routine<F: Fn(u8, u8) -> u8>(world: &mut World, routines: &Routines<F>, n: u8, f: u8)
     requires rows { HaveRows F.Fn routines.now }
     ensures value { (X : List (List ℕ)) → AreRowsOf F.Fn routines.now X → world.new ≡ answered_by X world.old n f }
@@ -79,14 +79,14 @@ fn answer_by_routine<F: Fn(u8, u8) -> u8>(world: &mut World, routines: &Routines
     }
 }
 
-/// An action that printed its text, and goes on where it fits.
+/// The answer of an action that printed its text, and goes on where the text fits.
 fn printed(fits: bool) -> Act
     ensures value { result ≡ plainly (if fits then effect.Go else effect.Spent) }
 {
     after(fits, Effect::Go)
 }
 
-/// An action that is done, and goes on.
+/// The answer of an action that is done, and goes on.
 fn done(_change: ()) -> Act
     ensures value { result ≡ plainly effect.Go }
 {
@@ -94,8 +94,8 @@ fn done(_change: ()) -> Act
 }
 
 /// Does an action of this game: changes the world, and prints into the piece. Spent exactly where the piece would pass
-/// its limit; what the piece and the world then hold is open. An indirect action takes the value of its flag; where that
-/// breaks the rule of its first parameter it is done, and changes nothing.
+/// its limit; the piece and the world may then hold anything. An indirect action takes the value of its flag; where
+/// that breaks the rule of its first parameter it is done, and changes nothing.
 #[tactic(auto, unfolding(crate::specs::Effects::effect_of))]
 pub fn act<T: Tables, F: Fn(u8, u8) -> u8>(
     tables: &T,
@@ -140,7 +140,7 @@ fn act_plain<T: Tables, F: Fn(u8, u8) -> u8>(
     ensures game { IsOf (T.game tables.now) world.new }
     ensures draws { world.new.draws ≤ world.old.draws + 1 }
 {
-    // Its clause says that the world is sound, which the proof wants. No call of it is left in the program.
+    // Its clause says that the world is sound, which the proof needs. No call of it is left in the program.
     let _objects = world.objects();
     print_nothing(piece);
     match c.code {

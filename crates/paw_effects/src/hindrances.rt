@@ -32,7 +32,7 @@ fn can_be_worn(world: &World, o: u8) -> bool
     world.facts(o).wearable
 }
 
-/// Whether more would be carried, with this object, than may be.
+/// Whether more weight would be carried with this object than is allowed.
 fn is_too_heavy(world: &World, o: u8) -> bool
     requires known { o < length world.now.places }
     ensures value { result ≡ is_too_heavy world.now o }
@@ -41,7 +41,7 @@ fn is_too_heavy(world: &World, o: u8) -> bool
     total > u16::from(world.flag(MOST_WEIGHT_FLAG))
 }
 
-/// Whether as many objects are carried as may be.
+/// Whether as many objects are carried as are allowed.
 fn is_laden(world: &World) -> bool
     ensures value { result ≡ is_laden world.now }
 {
@@ -55,7 +55,7 @@ fn holds_place(world: &World, place: u8) -> bool
     place < world.objects() && is_held(world, place)
 }
 
-/// What is said where the first test that holds does.
+/// The message of the first test that holds.
 fn first_that_holds(tests: &[(bool, Words)]) -> Option<Words>
     ensures value { result ≡ first_that_holds tests.now }
 {
@@ -67,7 +67,7 @@ fn first_that_holds(tests: &[(bool, Words)]) -> Option<Words>
     None
 }
 
-/// What hinders an action on an object that was referred to: what the first test that holds says.
+/// What hinders an action on an object that was referred to: the message of the first test that holds.
 pub(crate) fn hindrance(world: &World, o: u8, action: Action) -> Option<Words>
     requires known { o < length world.now.places }
     ensures value { result ≡ first_that_holds (hindrances world.now o action) }

@@ -1,4 +1,4 @@
-// Lists of objects. The empty text that is pushed where nothing is printed tells the proof that the piece fits.
+// Lists of objects. Where nothing is printed the empty text is pushed, which gives the proof that the piece fits.
 
 ghost use Rattle.std.specs.Prelude.{◌≡◌, ◌<◌, ◌++◌, ◌∷◌, [], length, IfSome, IfNone, Some, None};
 ghost use Rattle.paw_base.specs.inner.Piece.{Puts};
@@ -25,7 +25,7 @@ pub(crate) enum Listed {
     Held,
 }
 
-/// The lesser of two numbers; where one of them isn't there the other.
+/// The lesser of two numbers, or the one that is there.
 fn lesser(a: Option<u8>, b: Option<u8>) -> Option<u8>
     ensures value { result ≡ lesser a b }
 {
@@ -61,7 +61,7 @@ fn lists_are_sentences(world: &World) -> bool
     world.flag(LISTING_FLAG) & LISTING_BIT != 0
 }
 
-/// Puts the message behind what is worn, where the object is.
+/// Prints the message that an object is worn, where it is.
 fn put_if_worn<T: Tables>(tables: &T, world: &World, piece: &mut Piece, o: u8) -> bool
     requires known { o < length world.now.places }
     ensures puts { Puts piece.old piece.new result (worn_text (T.game tables.now) world.now o) }
@@ -145,7 +145,7 @@ impl<'a, T: Tables> ObjectList<'a, T> {
         piece.push(&[])
     }
 
-    /// What joins the text of an object to the one before it.
+    /// What joins the text of an object to the one before it: a comma, or the word `and` before the last.
     fn joint(&self, o: u8) -> &'static [u8]
         ensures value { result.now ≡ joint (listed_above self.now.world self.now.listed (Some o)) }
     {
@@ -155,7 +155,7 @@ impl<'a, T: Tables> ObjectList<'a, T> {
         }
     }
 
-    /// Prints the text of an object of the list behind another one.
+    /// Prints the text of an object of the list after another one.
     fn print_joined(&self, piece: &mut Piece, o: u8) -> bool
         requires known { o < length self.now.world.places }
         ensures puts { Puts piece.old piece.new result
@@ -165,7 +165,7 @@ impl<'a, T: Tables> ObjectList<'a, T> {
         piece.push(self.joint(o)) && self.print_text(piece, o)
     }
 
-    /// Prints the objects of the list above this one, each behind the one before it, and ends the sentence.
+    /// Prints the objects of the list above this one, each after the one before it, and ends the sentence.
     fn print_others(&self, piece: &mut Piece, first: u8) -> bool
         ensures puts { Puts piece.old piece.new result
             (others_joined (texts_above self.now.game self.now.world self.now.listed (Some first))) }
@@ -195,7 +195,7 @@ impl<'a, T: Tables> ObjectList<'a, T> {
         }
     }
 
-    /// Prints the list, or says a system message where there is nothing to list.
+    /// Prints the list, or a system message where there is nothing to list.
     fn print_or_say(&self, piece: &mut Piece, s: u8) -> bool
         ensures puts { Puts piece.old piece.new result (list_or_say self.now.game self.now.world s
             (texts_above self.now.game self.now.world self.now.listed None)) }

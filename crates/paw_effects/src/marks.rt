@@ -1,5 +1,5 @@
-// The marks that stand for what a game shows or plays beside its text. Where nothing is printed the empty text is
-// pushed, whose clause tells the proof that the piece fits.
+// The marks that stand for what a game shows or plays besides its text. Where nothing is printed the empty text is
+// pushed, whose clause gives the proof that the piece fits.
 
 ghost use Rattle.paw_base.specs.inner.Condacts.{IsCode};
 ghost use Rattle.paw_base.specs.inner.Piece.{Puts};

@@ -1,4 +1,4 @@
-// What the actions do that move objects.
+// The actions that move objects.
 
 ghost use Rattle.std.specs.Prelude.{◌≡◌, ◌<◌, length};
 ghost use Rattle.paw_game.specs.Game.{GameLists};
@@ -62,7 +62,7 @@ pub(crate) fn move_if_place(world: &mut World, o: u8, p: u8)
     }
 }
 
-/// Puts all objects back to where they begin, with flag 1 the number of those that begin carried, and makes a location
+/// Puts all objects back where they begin, sets flag 1 to the number of those that begin carried, and makes a location
 /// the current one.
 pub(crate) fn reset(world: &mut World, location: u8)
     ensures value { world.new ≡ reset world.old location }

@@ -15,7 +15,7 @@ use paw_base::places::{CARRIED_PLACE, WORN_PLACE};
 use paw_game::tables::Tables;
 use paw_world::world::World;
 
-/// An action on an object. Two of them know a container, by the number of its place.
+/// An action on an object. Two of them have a container, by the number of its place.
 #[derive(Clone, Copy, Drop, PartialEq, Eq, Debug)]
 pub(crate) enum Action {
     Get,
@@ -39,7 +39,7 @@ impl Action {
         }
     }
 
-    /// What is said once it is done.
+    /// The message once it is done.
     fn outcome(self) -> Words
         ensures value { result ≡ outcome self }
     {
@@ -53,8 +53,8 @@ impl Action {
     }
 }
 
-/// Refuses an action: says why, drops the rest of the line, and leaves the table as one in which an action was carried
-/// out.
+/// Refuses an action: prints why, drops the rest of the line, and leaves the table as one in which an action was
+/// carried out.
 pub(crate) fn refuse<T: Tables>(tables: &T, world: &World, piece: &mut Piece, words: Words) -> Act
     ensures does { Does (refuses (T.game tables.now) world.now words) piece.old piece.new world.now result }
 {

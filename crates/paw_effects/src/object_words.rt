@@ -1,4 +1,4 @@
-// What is said of an action on an object.
+// The messages of an action on an object.
 
 ghost use Rattle.std.specs.Prelude.{◌≡◌};
 ghost use Rattle.paw_base.specs.declared.messages.TheConstants.{PUT_IN_MESSAGE, NOT_TAKEN_OUT_MESSAGE};
@@ -18,7 +18,7 @@ use paw_base::piece::Piece;
 use paw_game::tables::Tables;
 use paw_world::world::World;
 
-/// What is said of an action: a system message; or a system message and then the name of a container.
+/// The message of an action: a system message; or a system message and then the name of a container.
 #[derive(Clone, Copy, Drop, PartialEq, Eq, Debug)]
 pub(crate) enum Words {
     Says(u8),
@@ -26,7 +26,7 @@ pub(crate) enum Words {
 }
 
 impl Words {
-    /// Nothing of the game is meant.
+    /// No object of the game is meant.
     pub(crate) const NO_SUCH_OBJECT: Words = Words::Says(IMPOSSIBLE_MESSAGE);
 
     /// It isn't worn.
@@ -101,7 +101,7 @@ impl Words {
         Words::Names(NOT_INSIDE_MESSAGE, container)
     }
 
-    /// Whether the loop over objects ends once this was said.
+    /// Whether the loop over objects ends after this message.
     pub(crate) fn ends_loop(self) -> bool
         ensures value { result ≡ ends_loop self }
     {
@@ -109,7 +109,7 @@ impl Words {
     }
 }
 
-/// Says this. False exactly where it doesn't fit; what the piece holds then is open.
+/// Prints this message. False exactly where it doesn't fit; the piece may then hold anything.
 pub(crate) fn speak<T: Tables>(tables: &T, world: &World, piece: &mut Piece, words: Words) -> bool
     ensures puts { Puts piece.old piece.new result (spoken_words (T.game tables.now) world.now words) }
 {

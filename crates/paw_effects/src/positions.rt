@@ -20,7 +20,7 @@ use paw_world::world::World;
 /// How many positions there are.
 const POSITIONS: u8 = POSITION_COUNT as u8;
 
-/// Which of the four positions is meant.
+/// The number of the position that is meant, of four.
 fn position_number(world: &World) -> u8
     ensures value { result ≡ position_number world.now }
     ensures bound { result < POSITION_COUNT }
@@ -28,7 +28,7 @@ fn position_number(world: &World) -> u8
     world.flag(POSITION_FLAG) % POSITIONS
 }
 
-/// Takes a position back, or says that this can't be done where it wasn't kept.
+/// Takes a position back, or prints that this can't be done where it wasn't kept.
 fn load_position<T: Tables>(tables: &T, world: &mut World, piece: &mut Piece, n: u8) -> Act
     requires known { n < POSITION_COUNT }
     ensures does { Does (loaded (T.game tables.now) world.old (kept_position world.old n))
@@ -37,7 +37,7 @@ fn load_position<T: Tables>(tables: &T, world: &mut World, piece: &mut Piece, n:
     ensures draws { world.new.draws ≡ world.old.draws }
 {
     print_nothing(piece);
-    // Its clause says that the world is sound, which the proof wants. No call of it is left in the program.
+    // Its clause says that the world is sound, which the proof needs. No call of it is left in the program.
     let _objects = world.objects();
     if world.recall(n) {
         on(Effect::Redescribe)
@@ -59,7 +59,7 @@ pub(crate) fn save(world: &mut World)
     world.keep(n);
 }
 
-/// Takes the position back that is meant, or says that this can't be done where it wasn't kept.
+/// Takes back the position that is meant, or prints that this can't be done where it wasn't kept.
 pub(crate) fn load<T: Tables>(tables: &T, world: &mut World, piece: &mut Piece) -> Act
     ensures does { Does (loaded (T.game tables.now) world.old (kept_position world.old (position_number world.old)))
         piece.old piece.new world.new result }

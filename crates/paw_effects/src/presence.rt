@@ -15,7 +15,7 @@ pub fn is_somewhere(world: &World) -> bool
     world.flag(LOCATION_FLAG) < world.locations()
 }
 
-/// The current location, or not created (252).
+/// The current location, or not created (252) where it isn't one of the game's.
 pub fn here(world: &World) -> u8
     ensures value { result ≡ here world.now }
 {
@@ -26,7 +26,7 @@ pub fn here(world: &World) -> u8
     }
 }
 
-/// A place as a parameter names it: 255 stands for the current location.
+/// The place that a parameter names: 255 stands for the current location.
 pub fn named_place(world: &World, p: u8) -> u8
     ensures value { result ≡ named_place world.now p }
 {

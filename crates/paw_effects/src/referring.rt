@@ -13,8 +13,8 @@ use paw_base::words::NO_WORD;
 use paw_game::tables::Tables;
 use paw_world::world::World;
 
-/// Refers to an object: the flags 51 and 54 to 57 become its number, its place, its weight, and 128 where it is a
-/// container and where it may be worn, else 0.
+/// Refers to an object: flag 51 becomes its number, 54 its place, and 55 its weight; 56 becomes 128 where it is a
+/// container, 57 where it may be worn, and otherwise 0.
 pub fn refer<T: Tables>(tables: &T, world: &mut World, o: u8)
     requires game { IsOf (T.game tables.now) world.old }
     requires object { o < length (T.game tables.now).objects }
@@ -22,7 +22,7 @@ pub fn refer<T: Tables>(tables: &T, world: &mut World, o: u8)
     ensures game { IsOf (T.game tables.now) world.new }
     ensures draws { world.new.draws ≡ world.old.draws }
 {
-    // The tables stand here for the clauses alone, which name their game: the world has what the code asks for.
+    // The tables are here only for the clauses, which name their game: the world has what the code asks for.
     let _ = tables;
     let place = world.place(o);
     world.set_flag(REFERRED_FLAG, o);
@@ -34,7 +34,7 @@ pub fn refer<T: Tables>(tables: &T, world: &mut World, o: u8)
     world.set_flag(REFERRED_WEARABLE_FLAG, class(facts.wearable));
 }
 
-// What a flag says of whether an object is of a class.
+// The flag for whether an object is of a class.
 fn class(member: bool) -> u8
     ensures { result ≡ weight_class member }
 {

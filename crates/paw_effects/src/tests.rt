@@ -133,7 +133,7 @@ enum Answer {
 
 use Answer::{Cancels, Does, Drops, Tests};
 
-/// A condact, and what it is to answer.
+/// A condact, and the answer that it should give.
 type Case = (u8, u8, u8, Answer);
 
 /// Condacts that are read one after the other, and what they print together.
@@ -166,7 +166,7 @@ const CONDITIONS: &[Scene] = scenes! {
     WORN 1 0 YES, WORN 0 0 NO, NOTWORN 0 0 YES => "";
     CARRIED 0 0 YES, CARRIED 1 0 NO, NOTCARR 1 0 YES => "";
     ISAT 4 255 YES, ISAT 2 0 YES, ISAT 3 252 YES, ISAT 0 255 NO, ISNOTAT 0 254 NO => "";
-    // The current location is none of the game's.
+    // The current location isn't one of the game's.
     LET 38 200 GO, ISAT 3 255 YES, ISNOTAT 4 255 YES, PRESENT 3 0 NO => "";
     GOTO 1 0 GO, LET 60 5 GO, COPYFF 60 61 GO => "";
     ZERO 60 0 NO, ZERO 62 0 YES, NOTZERO 60 0 YES => "";
@@ -214,7 +214,7 @@ const MOVES: &[Scene] = scenes! {
     LET 60 255 GO, COPYFO 60 2 GO, ISAT 2 1 YES => "";
     // 0 is worn, 1 and 3 are carried.
     DROPALL 0 0 GO, ISAT 0 1 YES, ISAT 1 1 YES, ISAT 3 1 YES, ZERO 1 0 YES => "";
-    // The current location is none of the game's.
+    // The current location isn't one of the game's.
     PLACE 0 253 GO, LET 38 200 GO, DROPALL 0 0 GO, ISAT 0 252 YES => "";
     PLACE 1 254 GO, CREATE 1 0 GO, ISAT 1 252 YES => "";
     RESET 2 0 REDESCRIBE, AT 2 0 YES, EQ 1 1 YES, EQ 60 255 YES => "";
@@ -449,7 +449,7 @@ fn run(rt: &impl Abort, alloc: Global, parts: GameParts, scenes: &[Scene]) -> Re
     run_with(rt, alloc, &game, &routines, scenes)
 }
 
-/// Reads these condacts in a piece that holds so many bytes already.
+/// Reads these condacts in a piece that holds this number of bytes already.
 fn run_behind(
     rt: &impl Abort,
     alloc: Global,

@@ -16,7 +16,7 @@ use paw_game::parts::GamePart;
 use paw_game::tables::Tables;
 use paw_world::world::World;
 
-/// The text before the first underscore, and the text behind it; None where there is no underscore.
+/// The text before the first underscore, and the text after it; None where there is no underscore.
 fn parted(text: &[u8]) -> Option<(&[u8], &[u8])>
     ensures none { IfNone result ((name : List ℕ) → with_name name text.now ≡ text.now) }
     ensures some { IfSome result (λ p. (name : List ℕ) →
@@ -96,24 +96,24 @@ pub(crate) fn print_line<T: Tables>(
     print_text(tables, world, piece, text) && piece.push(b"\n")
 }
 
-/// Puts a system message, where there is one. False exactly where the piece would pass its limit; what it holds then is
-/// open.
+/// Prints a system message, where there is one. False exactly where the piece would pass its limit; it may then hold
+/// anything.
 pub fn put<T: Tables>(tables: &T, world: &World, piece: &mut Piece, s: u8) -> bool
     ensures puts { Puts piece.old piece.new result (put_text (T.game tables.now) world.now s) }
 {
     print_text(tables, world, piece, text_of(tables, GamePart::System, s))
 }
 
-/// Says a system message: with a newline, where there is one that isn't empty. False exactly where the piece would pass
-/// its limit; what it holds then is open.
+/// Prints a system message with a newline, where there is one that isn't empty. False exactly where the piece would
+/// pass its limit; it may then hold anything.
 pub fn say<T: Tables>(tables: &T, world: &World, piece: &mut Piece, s: u8) -> bool
     ensures puts { Puts piece.old piece.new result (say_text (T.game tables.now) world.now s) }
 {
     print_line(tables, world, piece, text_of(tables, GamePart::System, s))
 }
 
-/// Describes a location: its text with a newline, where there is one that isn't empty. False exactly where the piece
-/// would pass its limit; what it holds then is open.
+/// Prints a location's text with a newline, where there is one that isn't empty. False exactly where the piece would
+/// pass its limit; it may then hold anything.
 pub fn place_text<T: Tables>(tables: &T, world: &World, piece: &mut Piece, location: u8) -> bool
     ensures puts { Puts piece.old piece.new result (location_text (T.game tables.now) world.now location) }
 {
@@ -121,7 +121,7 @@ pub fn place_text<T: Tables>(tables: &T, world: &World, piece: &mut Piece, locat
     print_line(tables, world, piece, text)
 }
 
-/// Prints nothing: the piece holds what it held, which fits. Only the proof wants it, for the clause of an action that
+/// Prints nothing: the piece holds what it held, which fits. Only the proof needs it, for the clause of an action that
 /// prints nothing.
 pub(crate) fn print_nothing(piece: &Piece)
     ensures same { piece.now ≡ piece.now ++ [] }

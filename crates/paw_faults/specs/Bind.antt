@@ -1,8 +1,8 @@
--- What is read one thing after another: a value, or the first fault.
+-- Reading one thing after another gives a value, or the first fault.
 use Rattle.std.specs.Prelude.{Result, Ok, Err}
 
 infixl 10 ◌>>=◌
--- what comes of the value, or the fault that there was
+-- What the function makes of the value; or, where there was a fault, that fault.
 abbrev pub ◌>>=◌ : {E A B : Type 0} → Result A E → (A → Result B E) → Result B E
 (Ok x) >>= f = f x
 (Err fault) >>= f = Err fault

@@ -1,10 +1,10 @@
-// What an answer tells of what is read.
+// What an answer says of what is read.
 
 ghost use Rattle.std.specs.Prelude.{ℕ, ◌≡◌, Result, Ok, Err};
 ghost use Rattle.paw_faults.specs.inner.Gives.{Gives};
 ghost use Rattle.paw_faults.specs.declared.unread.Unread.TheVariants as unread;
 
-/// What is answered tells what is read: what gives the same value is the same, what gives the same fault too, and
+/// An answer shows what is read: whatever gives the same value is the same, so is whatever gives the same fault, and
 /// nothing gives both a value and a fault.
 pub fn answers_tell_the_reading()
     ensures value { (f : ℕ → ℕ) (x : ℕ) (r s : Result ℕ ℕ) → Gives f (Ok x) r → Gives f (Ok x) s → r ≡ s }
@@ -13,7 +13,7 @@ pub fn answers_tell_the_reading()
     ensures apart { (f : ℕ → ℕ) (x n : ℕ) (r : Result ℕ ℕ) → Gives f (Ok x) r → ¬ Gives f (Err (unread.Fault n)) r }
 {}
 
-/// Memory may be wanting whatever is read.
+/// Memory may be lacking whatever is read.
 pub fn memory_may_be_wanting()
     ensures always { (f : ℕ → ℕ) (r : Result ℕ ℕ) → Gives f (Err unread.Memory) r }
 {}

@@ -1,4 +1,4 @@
-//! Why something isn't read: for want of memory, or for its first fault.
+//! Why something isn't read: lack of memory, or its first fault.
 #![tactic(auto)]
 
 pub mod laws;

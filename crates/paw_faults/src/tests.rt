@@ -1,10 +1,10 @@
-// Faults and want of memory, told apart.
+// Faults and lack of memory, each in its own way.
 
 use crate::unread::Unread;
 use std::alloc::AllocError;
 use std::test::Fail;
 
-/// The first even number; else how many numbers there are is the fault.
+/// The first even number; where there is none, the fault is how many numbers there are.
 fn first_even(numbers: &[u8]) -> Result<u8, Unread<usize>> {
     for &n in numbers {
         if n % 2 == 0 {

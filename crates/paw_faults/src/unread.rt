@@ -5,7 +5,7 @@ ghost use Rattle.paw_faults.specs.declared.unread.Unread.TheVariants.{Memory};
 
 use std::alloc::{AllocError, AllocFailed};
 
-/// Why something isn't read: memory was wanting, or this is its first fault.
+/// Why something isn't read: memory was lacking, or this is its first fault.
 #[derive(Clone, Copy, Drop, PartialEq, Eq, Debug)]
 pub enum Unread<F> {
     Memory,

@@ -31,6 +31,6 @@ pub some_tables : (g : GameLists) → Valid g → 3 ≤ length g.tables
 some_tables g v =
     leb-true 3 (length g.tables) (first_of_and (nat_le 3 (length g.tables)) _ (first_of_and (is_within 3 256 (length g.tables)) _ v.tables))
 
--- each location has a list of exits
+-- Each location has a list of exits.
 pub exits_each : (g : GameLists) → Valid g → length g.exits ≡ length g.locations
 exits_each g v = eqb-true (length g.exits) (length g.locations) (first_of_and (length g.exits == length g.locations) _ v.exits)

@@ -47,7 +47,7 @@ is_none-first_bad rule (x ∷ xs) =
 
 -- ---- words
 
--- the words rise after these letters
+-- The words rise after these letters.
 unfoldable pub rise_after : List ℕ → List Word → Bool
 rise_after before [] = true
 rise_after before (w ∷ ws) = is_lt (slice_cmp nat_cmp before w.letters) && rise_after w.letters ws
@@ -137,7 +137,7 @@ fault_in-none : (p : GamePart) (row : Option ℕ) → is_none row ≡ true → f
 fault_in-none p None h = refl
 fault_in-none p (Some row) h = absurd (false≢true h)
 
--- what no fault in the whole says of the parts
+-- What no fault in the whole says of the parts.
 record AllNone (g : GameLists) : Type 0 where
   words : fault_in part.Words (words_fault g.words) ≡ None
   system : fault_in part.System (texts_fault 0 256 g.system) ≡ None

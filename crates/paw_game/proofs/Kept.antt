@@ -32,18 +32,18 @@ first_of_and a b h = (and_parts a b h).0
 pub second_of_and : (a b : Bool) → IsTrue (a && b) → IsTrue b
 second_of_and a b h = (and_parts a b h).1
 
--- what holds of what a call found, by what stands there
+-- What holds of what a call found, by what stands there.
 pub IfSome-from : {X : Type 0} (P : X → Type 0) (r o : Option X) → r ≡ o → ((x : X) → o ≡ Some x → P x) → IfSome r P
 IfSome-from P None o e h = tt
 IfSome-from P (Some x) o e h = h x (sym e)
 
--- the same of what a call lent
+-- The same of what a call lent.
 pub IfSome-copied : {X : Type 0} (P : X → Type 0) (r : Option (Bor X)) (o : Option X) → option_copied r ≡ o
     → ((x : X) → o ≡ Some x → P x) → IfSome r (λ x. P x.now)
 IfSome-copied P None o e h = tt
 IfSome-copied P (Some x) o e h = h x.now (sym e)
 
--- what a mapped value is of
+-- The value that a mapped value comes from.
 pub option_map-Some : {A B : Type 0} (f : A → B) (o : Option A) (y : B) → option_map f o ≡ Some y → (x : A) × (o ≡ Some x) × (f x ≡ y)
 option_map-Some f None y e = absurd (none-some y e)
 option_map-Some f (Some x) y e = (x, refl, same_Some (f x) y e)
@@ -55,7 +55,7 @@ list_all-at rule [] i x h e = absurd (none-some x e)
 list_all-at rule (y ∷ ys) zero x h e = rw (← same_Some y x e) (first_of_and (rule y) _ h)
 list_all-at rule (y ∷ ys) (suc i) x h e = list_all-at rule ys i x (second_of_and (rule y) _ h) e
 
--- a number within the list has a row
+-- A number within the list has a row.
 pub row_at : {X : Type 0} (xs : List X) (i : ℕ) → i < length xs → (x : X) × (slice_get xs i ≡ Some x)
 row_at [] i h = absurd (omega arith)
 row_at (x ∷ xs) zero h = (x, refl)
@@ -166,7 +166,7 @@ entry_kept g v t e en h =
 pub entry-small : (g : GameLists) → Valid g → (t e : ℕ) (en : Entry) → entry_at g t e ≡ Some en → e < 4000
 entry-small g v t e en h = omega (arith, slice_get_within (table_at g t) e en h, table-short g v t)
 
--- an entry's condacts keep their rules, and are few
+-- An entry's condacts keep their rules, and are few.
 condacts_kept : (g : GameLists) (en : Entry) → IsTrue (is_entry g en) → IsTrue (nat_le (length en.condacts) 255 && list_all (is_condact g) en.condacts)
 condacts_kept g en h =
     second_of_and (is_any en.noun || has_word g.words 2 en.noun) _ (second_of_and (is_any en.verb || is_verb_value g.words en.verb) _ h)
@@ -195,7 +195,7 @@ condact_kept g v t e k c h =
     list_all-at (is_condact g) at.0.condacts k c
     (second_of_and (nat_le (length at.0.condacts) 255) _ (condacts_kept g at.0 (entry_kept g v t e at.0 at.1))) at.2
 
--- an entry with a head stands there
+-- An entry with a head stands there.
 head_stands : (o : Option Entry) (h : ℕ × ℕ) → option_map {U = ℕ × ℕ} (λ (en : Entry). (en.verb, en.noun)) o ≡ Some h → (en : Entry) × (o ≡ Some en)
 head_stands o h e = let at = option_map-Some {B = ℕ × ℕ} (λ (en : Entry). (en.verb, en.noun)) o h e in (at.0, at.1)
 
@@ -245,7 +245,7 @@ first_kept rule c h = first_of_and (rule (first_kind c.code) c.a) _ (second_of_a
 pub second_kept : (rule : ParamKind → ℕ → Bool) (c : Condact) → IsTrue (keeps_kinds rule c) → IsTrue (rule (second_kind c.code) c.b)
 second_kept rule c h = second_of_and (rule (first_kind c.code) c.a) _ (second_of_and (is_code c.code) _ h)
 
--- a condact that keeps a rule keeps another that the first one gives
+-- A condact that keeps a rule keeps another that the first one gives.
 pub keeps_other : (rule other : ParamKind → ℕ → Bool) (c : Condact) → ((k : ParamKind) (x : ℕ) → IsTrue (rule k x) → IsTrue (other k x))
     → IsTrue (keeps_kinds rule c) → IsTrue (keeps_kinds other c)
 keeps_other rule other c gives h =

@@ -12,7 +12,7 @@ use Rattle.paw_game.specs.Tables.{entry_at, matches, table_at}
 use Rattle.paw_game.specs.inner.Tables.{first_match, match_at, matches_at}
 use Rattle.paw_game.proofs.Kept.{entry-small}
 
--- the entry that is found is one of these, and matches
+-- The entry that is found is one of these, and matches.
 pub record IsFound (verb noun from : ℕ) (es : List Entry) (e : ℕ) : Type 0 where
   pub reached : from ≤ e
   pub entry : Entry
@@ -59,7 +59,7 @@ match-matches g t from verb noun e h =
     let f = match-is g t from verb noun e h in
     rw f.1.1 f.1.2
 
--- one entry on: it is the one, or the next is looked at
+-- One entry on: it is the one, or the next is looked at.
 drop-at : {X : Type 0} (n : ℕ) (xs : List X) (x : X) → slice_get xs n ≡ Some x → drop n xs ≡ x ∷ drop (suc n) xs
 drop-at n [] x h = absurd (none-some x h)
 drop-at zero (y ∷ ys) x h = rw (same_Some y x h) refl

@@ -24,7 +24,7 @@ word_in letters (x ∷ xs) w h e =
 pub word_kept : (g : GameLists) → Valid g → (letters : List ℕ) (w : Word) → word_of letters g.words ≡ Some w → IsTrue (is_word w)
 word_kept g v letters w e = word_in letters g.words w (first_of_and _ (words_rise g.words) (second_of_and (nat_le (length g.words) 2000) _ v.words)) e
 
--- what a word means: a value from 2 to 254, and a class up to 6
+-- What a word means: a value from 2 to 254, and a class up to 6.
 pub record IsMeaning (m : ℕ × ℕ) : Type 0 where
   pub low : 2 ≤ m.0
   pub high : m.0 ≤ 254

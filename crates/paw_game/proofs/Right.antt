@@ -45,7 +45,7 @@ right_argument g kind.Adjective x v h = word_small g.words 3 x v.words h
 right_argument g kind.Preposition x v h = word_small g.words 4 x v.words h
 right_argument g k x v h = h
 
--- each condact of a valid game can be carried out
+-- Each condact of a valid game can be carried out.
 pub right_condact : (g : GameLists) (c : Condact) → Valid g → IsTrue (is_condact g c) → IsTrue (is_right g c)
 right_condact g c v h = keeps_other (is_parameter (counts_of g) g.words) (is_argument g) c (λ k x of. right_argument g k x v of) h
 

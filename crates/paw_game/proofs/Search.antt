@@ -29,7 +29,7 @@ Less-from_is_lt Greater h = absurd (false≢true h)
 is_lt-reverse : (o : Ordering) → o ≡ Less → is_lt (ordering_reverse o) ≡ false
 is_lt-reverse o h = rw h refl
 
--- the first word stands below each later one
+-- The first word stands below each later one.
 rises_from : (w : Word) (ws : List Word) (k : ℕ) (d : Word) → IsTrue (words_rise (w ∷ ws)) → k < length ws
     → slice_cmp nat_cmp w.letters (get_or ws k d).letters ≡ Less
 rises_from w [] k d h l = absurd (omega arith)
@@ -43,7 +43,7 @@ rest_rises : (w : Word) (ws : List Word) → IsTrue (words_rise (w ∷ ws)) → 
 rest_rises w [] h = refl
 rest_rises w (v ∷ vs) h = (and_parts _ (words_rise (v ∷ vs)) h).1
 
--- each word stands below each later one
+-- Each word stands below each later one.
 pub rises : (ws : List Word) (i j : ℕ) (d : Word) → IsTrue (words_rise ws) → i < j → j < length ws
     → slice_cmp nat_cmp (get_or ws i d).letters (get_or ws j d).letters ≡ Less
 rises [] i j d h l m = absurd (omega arith)
@@ -73,13 +73,13 @@ word_missing letters ws i h e =
     (λ k l. sym (is_eq-slice_cmp (get_or ws k d).letters letters)
     ∙ elim (cases_lt k i) [ inl below ↦ ap is_eq (cut.0 k d (omega arith) below) | inr from ↦ ap is_eq (cut.1 k d from l) ])
 
--- what a search by halving found is the word with these letters
+-- What a search by halving found is the word with these letters.
 pub found_is : (letters : List ℕ) (ws : List Word) (r : Result ℕ ℕ) (i : ℕ) (d : Word) → IsTrue (words_rise ws) → IsSearchInRange r (length ws)
     → IsBinarySearchResult (compared letters) ws r → Some i ≡ result_ok r → Some (get_or ws i d) ≡ word_of letters ws
 found_is letters ws (Ok j) i d h l e is = rw (same_Some i j is) (word_found letters ws j d h l e)
 found_is letters ws (Err j) i d h l e is = absurd (none-some i (sym is))
 
--- where it found nothing there is no such word
+-- Where it found nothing there is no such word.
 pub missing_is : (letters : List ℕ) (ws : List Word) (r : Result ℕ ℕ) → IsTrue (words_rise ws) → IsBinarySearchResult (compared letters) ws r
     → None ≡ result_ok r → word_of letters ws ≡ None
 missing_is letters ws (Ok j) h e is = absurd (none-some j is)

@@ -1,4 +1,4 @@
--- The image of a game: the bytes that stand for it in a file. Numbers of two bytes have the low one first.
+-- The image of a game: the bytes that stand for it in a file. A number of two bytes has its low byte first.
 use Rattle.std.specs.Prelude.{ℕ, ◌+◌, Bool, List, [], ◌∷◌, ◌++◌, length, flat_map, if◌then◌else◌}
 use Rattle.std.specs.Int.{w16, to_le_bytes}
 use Rattle.std.specs.List.{list_any}
@@ -12,73 +12,73 @@ use Rattle.paw_game.specs.declared.parts.Exit.{Exit}
 use Rattle.paw_game.specs.declared.parts.Entry.{Entry}
 use Rattle.paw_game.specs.Game.{GameLists}
 
--- a number of two bytes
+-- A number as two bytes.
 abbrev pub two_bytes : ℕ → List ℕ
 two_bytes n = to_le_bytes w16 n
 
--- one of the condacts takes its first parameter from a flag
+-- Whether one of the condacts takes its first parameter from a flag.
 abbrev pub any_indirect : List Condact → Bool
 any_indirect cs = list_any (λ c. is_indirect c.code) cs
 
--- an entry of one of the tables has such a condact
+-- Whether an entry of one of the tables has such a condact.
 unfoldable pub has_indirect : List (List Entry) → Bool
 has_indirect tables = list_any (λ es. list_any (λ e. any_indirect e.condacts) es) tables
 
--- the version: 2 where a condact of the game is indirect, and 1 otherwise
+-- The version of a game's image: 2 where a condact of the game is indirect, and 1 otherwise.
 unfoldable pub version_of : GameLists → ℕ
 version_of g = if has_indirect g.tables then 2 else 1
 
--- the mark PAWI, the version, and how many words, system messages, messages, objects, locations and tables follow
+-- The mark PAWI, the version, and the numbers of words, system messages, messages, objects, locations and tables.
 abbrev pub head_image : GameLists → List ℕ
 head_image g =
     80 ∷ 65 ∷ 87 ∷ 73 ∷ version_of g ∷ (two_bytes (length g.words) ++ two_bytes (length g.system)
     ++ two_bytes (length g.messages) ++ two_bytes (length g.objects) ++ two_bytes (length g.locations)
     ++ two_bytes (length g.tables))
 
--- five letters, value, class
+-- A word: five letters, its value and its class.
 abbrev pub word_image : Word → List ℕ
 word_image w = w.letters ++ w.value ∷ w.class ∷ []
 
--- a length of two bytes, and the text
+-- A text: its length in two bytes, and its bytes.
 abbrev pub text_image : List ℕ → List ℕ
 text_image bytes = two_bytes (length bytes) ++ bytes
 
--- bits 0 to 5 are the weight, bit 6 tells a container, bit 7 that it may be worn
+-- The weight byte of an object: bits 0 to 5 are its weight, bit 6 marks a container, and bit 7 what may be worn.
 abbrev pub weight_byte : ℕ → Bool → Bool → ℕ
 weight_byte weight container wearable = weight + (if container then 64 else 0) + (if wearable then 128 else 0)
 
--- text, noun, adjective, first place, weight
+-- An object: its text, its noun, its adjective, the place where it begins, and its weight byte.
 abbrev pub object_image : ObjectRow → List ℕ
 object_image o =
     text_image o.text ++ o.facts.noun ∷ o.facts.adjective ∷ o.facts.start
     ∷ weight_byte o.facts.weight o.facts.container o.facts.wearable ∷ []
 
--- verb, location
+-- An exit: its verb, and the location that it leads to.
 abbrev pub exit_image : Exit → List ℕ
 exit_image x = x.verb ∷ x.to ∷ []
 
--- how many exits, and each
+-- The exits of a location: their number in one byte, and each exit.
 abbrev pub exits_image : List Exit → List ℕ
 exits_image xs = length xs ∷ flat_map exit_image xs
 
--- a parameter that the code has takes one byte, another none
+-- A parameter: one byte where the code has it, and no byte otherwise.
 abbrev pub parameter_image : ParamKind → ℕ → List ℕ
 parameter_image kind.Absent x = []
 parameter_image _ x = x ∷ []
 
--- code, and the parameters that it has
+-- A condact: its code, and the parameters that this code has.
 abbrev pub condact_image : Condact → List ℕ
 condact_image c = c.code ∷ (parameter_image (first_kind c.code) c.a ++ parameter_image (second_kind c.code) c.b)
 
--- verb, noun, how many condacts, and each
+-- An entry: its verb, its noun, the number of its condacts in one byte, and each condact.
 abbrev pub entry_image : Entry → List ℕ
 entry_image e = e.verb ∷ e.noun ∷ length e.condacts ∷ flat_map condact_image e.condacts
 
--- how many entries, and each
+-- A table: the number of its entries in two bytes, and each entry.
 abbrev pub table_image : List Entry → List ℕ
 table_image es = two_bytes (length es) ++ flat_map entry_image es
 
--- words, system messages, messages, objects, locations, exits and tables follow one another
+-- The image of a game: its head, then its words, system messages, messages, objects, locations, exits and tables.
 abbrev pub image : GameLists → List ℕ
 image g =
     head_image g ++ flat_map word_image g.words ++ flat_map text_image g.system ++ flat_map text_image g.messages

@@ -10,50 +10,50 @@ use Rattle.paw_game.specs.declared.parts.Exit.{Exit}
 use Rattle.paw_game.specs.declared.parts.Entry.{Entry}
 use Rattle.paw_game.specs.Game.{GameLists}
 
--- the facts of an object
+-- The facts of an object, if there is such an object.
 abbrev pub facts_at : GameLists → ℕ → Option ObjectFacts
 facts_at g o = option_map (λ row. row.facts) (slice_get g.objects o)
 
--- where the exit of this verb leads; no two exits of a location have the same verb
+-- The location to which the exit of this verb leads, if there is one. In a valid game no location has two.
 abbrev pub exit_of : List Exit → ℕ → Option ℕ
 exit_of xs verb = option_map (λ x. x.to) (find (λ x. x.verb == verb) xs)
 
--- where the exit of this verb leads from a location
+-- The location to which the exit of this verb leads from a location, if there is one.
 abbrev pub exit_at : GameLists → ℕ → ℕ → Option ℕ
 exit_at g location verb = exit_of (unwrap_or (slice_get g.exits location) []) verb
 
--- a table's entries; none where there is no such table
+-- The entries of a table; none where there is no such table.
 abbrev pub table_at : GameLists → ℕ → List Entry
 table_at g t = unwrap_or (slice_get g.tables t) []
 
--- an entry of a table
+-- An entry of a table, if there is one.
 abbrev pub entry_at : GameLists → ℕ → ℕ → Option Entry
 entry_at g t e = slice_get (table_at g t) e
 
--- the condacts of an entry; none where there is no entry
+-- The condacts of an entry; none where there is no entry.
 abbrev pub condacts_of : Option Entry → List Condact
 condacts_of entry = option_map_or (λ e. e.condacts) entry []
 
--- the verb and the noun of an entry
+-- The verb and the noun of an entry, if there is one.
 abbrev pub head_at : GameLists → ℕ → ℕ → Option (ℕ × ℕ)
 head_at g t e = option_map (λ entry. (entry.verb, entry.noun)) (entry_at g t e)
 
--- a condact of an entry of a table
+-- A condact of an entry of a table, if there is one.
 abbrev pub condact_at : GameLists → ℕ → ℕ → ℕ → Option Condact
 condact_at g t e k = slice_get (condacts_of (entry_at g t e)) k
 
--- an entry's word matches: `*` and `_` match any
+-- Whether the word of an entry matches the value of a flag; `*` and `_` match any value.
 abbrev pub is_for : ℕ → ℕ → Bool
 is_for word flag = (word == ANY_WORD) || ((word == NO_WORD) || (word == flag))
 
--- an entry matches these values of the verb and the noun
+-- Whether an entry matches these values of the verb and the noun.
 abbrev pub matches : ℕ → ℕ → Entry → Bool
 matches verb noun e = is_for e.verb verb && is_for e.noun noun
 
--- the word with these letters; no two words have the same
+-- The word with these letters, if there is one. In a valid game there are never two.
 abbrev pub word_of : List ℕ → List Word → Option Word
 word_of letters ws = find (λ w. bytes_eq w.letters letters) ws
 
--- the value and the class of the word with these letters
+-- The value and the class of the word with these letters, if there is one.
 abbrev pub word_at : GameLists → List ℕ → Option (ℕ × ℕ)
 word_at g letters = option_map (λ w. (w.value, w.class)) (word_of letters g.words)

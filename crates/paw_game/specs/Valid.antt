@@ -24,105 +24,105 @@ use Rattle.paw_game.specs.declared.parts.Exit.{Exit}
 use Rattle.paw_game.specs.declared.parts.Entry.{Entry}
 use Rattle.paw_game.specs.Game.{GameLists, counts_of}
 
--- from one number to another, both included
+-- Whether a number is between two others, which are included.
 abbrev pub is_within : ℕ → ℕ → ℕ → Bool
 is_within low high n = nat_le low n && nat_le n high
 
--- at most so many rows, and each keeps a rule
+-- Whether a list has at most this many rows, and each of them keeps a rule.
 abbrev pub rows_kept : {A : Type 0} → ℕ → (A → Bool) → List A → Bool
 rows_kept most rule rows = nat_le (length rows) most && list_all rule rows
 
 -- ---- words ----
 
--- a capital or a digit
+-- Whether a byte is a capital or a digit.
 abbrev pub is_letter : ℕ → Bool
 is_letter c = is_within 65 90 c || is_within 48 57 c
 
--- capitals and digits, and then spaces alone
+-- Whether bytes are capitals and digits, with nothing but spaces after them.
 abbrev pub is_filled : List ℕ → Bool
 is_filled [] = true
 is_filled (c ∷ cs) = if is_letter c then is_filled cs else list_all (λ d. d == 32) (c ∷ cs)
 
--- five places, the first a letter, filled up with spaces
+-- Whether bytes are the letters of a word: five, of which the first is a capital or a digit, filled up with spaces.
 abbrev pub are_letters : List ℕ → Bool
 are_letters [] = false
 are_letters (c ∷ cs) = (length (c ∷ cs) == WORD_LENGTH) && (is_letter c && is_filled cs)
 
--- a word by itself: its letters, a value, and a class, of which that of pronouns is the last
+-- Whether a word keeps the rules of a single word: its letters, its value, and its class, at most that of pronouns.
 abbrev pub is_word : Word → Bool
 is_word w = are_letters w.letters && (is_within LEAST_WORD GREATEST_WORD w.value && nat_le w.class PRONOUN_CLASS)
 
--- the words rise by their letters, byte by byte; so no two have the same letters
+-- Whether words rise by their letters, byte by byte, so that no two have the same letters.
 abbrev pub words_rise : List Word → Bool
 words_rise [] = true
 words_rise (w ∷ []) = true
 words_rise (w ∷ v ∷ ws) = is_lt (slice_cmp nat_cmp w.letters v.letters) && words_rise (v ∷ ws)
 
--- the rules of words: not too many, each a word, and in order
+-- Whether words keep their rules: they aren't too many, each is a word, and they are in order.
 abbrev pub words_kept : List Word → Bool
 words_kept ws = nat_le (length ws) WORD_LIMIT && (list_all is_word ws && words_rise ws)
 
--- a word of this class has this value
+-- Whether a word of this class has this value.
 abbrev pub has_word : List Word → ℕ → ℕ → Bool
 has_word ws class value = list_any (λ w. (w.class == class) && (w.value == value)) ws
 
--- the value of a verb, or of a noun that serves as one
+-- Whether a value is that of a verb, or of a noun that serves as one.
 abbrev pub is_verb_value : List Word → ℕ → Bool
 is_verb_value ws value = has_word ws VERB_CLASS value || (nat_lt value FIRST_PLAIN_NOUN && has_word ws NOUN_CLASS value)
 
 -- ---- texts ----
 
--- a byte that prints, or a line end
+-- Whether a byte prints, or is a line end.
 abbrev pub is_text_byte : ℕ → Bool
 is_text_byte b = is_within 32 126 b || (b == 10)
 
--- '/' and ';' begin no line of a text
+-- Whether a byte may not begin a line of a text: '/' and ';' may not.
 abbrev pub begins_no_line : ℕ → Bool
 begins_no_line b = (b == 47) || (b == 59)
 
--- bytes that may stand in a text; first tells that a line begins here
+-- Whether bytes may stand in a text, where `first` says whether a line begins with them.
 abbrev pub is_printed : Bool → List ℕ → Bool
 is_printed first [] = true
 is_printed first (b ∷ bs) = (is_text_byte b && not (first && begins_no_line b)) && is_printed (b == 10) bs
 
--- a text isn't too long, and each of its bytes may stand in it
+-- Whether a text isn't too long, and each of its bytes may stand in it.
 abbrev pub is_text : List ℕ → Bool
 is_text bytes = nat_le (length bytes) TEXT_LIMIT && is_printed true bytes
 
 -- ---- places, objects, exits ----
 
--- where an object may stand: a location, or not created, worn or carried
+-- Whether an object may begin at a place: a location, or not created, worn or carried.
 abbrev pub is_place : ℕ → ℕ → Bool
 is_place locations p = nat_lt p locations || is_within NOT_CREATED_PLACE CARRIED_PLACE p
 
--- no word, or the value of a word of this class
+-- Whether a value is no word, or that of a word of this class.
 abbrev pub is_word_or_none : List Word → ℕ → ℕ → Bool
 is_word_or_none ws class value = (value == NO_WORD) || has_word ws class value
 
--- what a game says of an object beside its text
+-- Whether the facts of an object keep their rules: its noun, its adjective, where it begins, and its weight.
 abbrev pub are_facts : List Word → ℕ → ObjectFacts → Bool
 are_facts ws locations f =
     is_word_or_none ws NOUN_CLASS f.noun && (is_word_or_none ws ADJECTIVE_CLASS f.adjective
     && (is_place locations f.start && nat_le f.weight WEIGHT_LIMIT))
 
--- an object: its text, and its facts
+-- Whether an object keeps its rules, which are those of its text and of its facts.
 abbrev pub is_object : List Word → ℕ → ObjectRow → Bool
 is_object ws locations o = is_text o.text && are_facts ws locations o.facts
 
--- each exit has a verb value that no exit after it has, and leads to a location
+-- Whether each exit has a verb value that no exit after it has, and leads to a location.
 abbrev pub are_exits : List Word → ℕ → List Exit → Bool
 are_exits ws locations [] = true
 are_exits ws locations (x ∷ xs) =
     (is_verb_value ws x.verb && (nat_lt x.to locations && not (list_any (λ y. y.verb == x.verb) xs)))
     && are_exits ws locations xs
 
--- the exits of one location: not too many, which distinct verb values give anyhow
+-- Whether the exits of one location keep their rules; distinct verb values alone see to it that they aren't too many.
 abbrev pub is_exits : List Word → ℕ → List Exit → Bool
 is_exits ws locations xs = nat_le (length xs) EXIT_LIMIT && are_exits ws locations xs
 
 -- ---- tables ----
 
--- a parameter keeps the rule of its kind, where there are so many rows and these words; a flag or a number is a byte
+-- Whether a parameter keeps the rule of its kind, by these counts and words; a flag or a number is any byte.
 abbrev pub is_parameter : Counts → List Word → ParamKind → ℕ → Bool
 is_parameter counts ws kind.Absent x = x == 0
 is_parameter counts ws kind.Location x = nat_lt x counts.locations
@@ -137,8 +137,8 @@ is_parameter counts ws kind.Adjective x = is_word_or_none ws ADJECTIVE_CLASS x
 is_parameter counts ws kind.Preposition x = is_word_or_none ws PREPOSITION_CLASS x
 is_parameter counts ws _ x = nat_lt x 256
 
--- the same for a value that comes while a game is played: a word may be any byte, since one that the game doesn't have
--- is a word that no sentence has
+-- Whether a value that arises in play keeps the rule of a kind. A word may be any byte here: a value that the game has
+-- no word for is one that no sentence has.
 abbrev pub is_argument : GameLists → ParamKind → ℕ → Bool
 is_argument g kind.Adverb x = nat_lt x 256
 is_argument g kind.Noun x = nat_lt x 256
@@ -146,31 +146,31 @@ is_argument g kind.Adjective x = nat_lt x 256
 is_argument g kind.Preposition x = nat_lt x 256
 is_argument g k x = is_parameter (counts_of g) g.words k x
 
--- a code of a condact, with parameters that keep the rule of their kinds
+-- Whether a condact has a code, and parameters that keep the rules of their kinds.
 abbrev pub keeps_kinds : (ParamKind → ℕ → Bool) → Condact → Bool
 keeps_kinds rule c = is_code c.code && (rule (first_kind c.code) c.a && rule (second_kind c.code) c.b)
 
--- a condact: its parameters name what the game has; one that it doesn't have is 0
+-- Whether a condact keeps its rules: its parameters name what the game has, and those that it doesn't have are 0.
 abbrev pub is_condact : GameLists → Condact → Bool
 is_condact g c = keeps_kinds (is_parameter (counts_of g) g.words) c
 
--- a word of an entry that matches any word
+-- Whether the word of an entry matches any word.
 abbrev pub is_any : ℕ → Bool
 is_any value = (value == ANY_WORD) || (value == NO_WORD)
 
--- an entry: its verb, its noun, and its condacts, which are not too many
+-- Whether an entry keeps its rules: those of its verb, its noun and its condacts, which aren't too many.
 abbrev pub is_entry : GameLists → Entry → Bool
 is_entry g e =
     (is_any e.verb || is_verb_value g.words e.verb) && ((is_any e.noun || has_word g.words NOUN_CLASS e.noun)
     && rows_kept CONDACT_LIMIT (is_condact g) e.condacts)
 
--- a table: its entries, which are not too many
+-- Whether a table keeps its rules: its entries aren't too many, and each keeps its own.
 abbrev pub is_table : GameLists → List Entry → Bool
 is_table g es = rows_kept ENTRY_LIMIT (is_entry g) es
 
 -- ---- the whole game ----
 
--- a valid game: each list has as many rows as it may have, and each row keeps its rule; each location has its exits
+-- A valid game: each list has a length that it may have, each row keeps its rules, and each location has its exits.
 pub record Valid (g : GameLists) : Type 0 where
   pub words : IsTrue (words_kept g.words)
   pub system : IsTrue (rows_kept SYSTEM_LIMIT is_text g.system)

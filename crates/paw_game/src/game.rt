@@ -34,7 +34,7 @@ impl Game {
     ///
     /// # Errors
     /// A GameFault exactly where the lists break a rule: the first part in the order of `GamePart` that does, with its
-    /// limit where it has too many rows, its length where it has too few, and else its least row that breaks a rule.
+    /// limit where it has too many rows, its length where it has too few, and otherwise its first bad row.
     pub fn new(parts: GameParts) -> Result<Game, GameFault>
         ensures game { IfOk result (λ game. game ≡ parts) }
         ensures valid { OnOk result (Valid parts) }

@@ -187,6 +187,7 @@ impl<'a> Inspector<'a> {
     }
 }
 
+/// Whether one of the exits has this verb.
 fn has_verb(exits: &[Exit], verb: u8) -> bool
     ensures value { result ≡ list_any (λ x. x.verb == verb) exits.now }
 {

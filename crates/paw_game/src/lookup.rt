@@ -31,6 +31,7 @@ pub(crate) fn text_at(parts: &GameParts, part: GamePart, number: u8) -> Option<&
     }
 }
 
+/// The bytes of a text, if there is one with this number.
 fn text_in(texts: &[Text], number: u8) -> Option<&[u8]>
     ensures value { option_copied result ≡ slice_get texts.now number }
 {
@@ -53,6 +54,7 @@ pub(crate) fn exit_at(parts: &GameParts, location: u8, verb: u8) -> Option<u8>
     exit_of(exits.rows.as_slice(), verb)
 }
 
+/// The location to which the exit of this verb leads, if there is one.
 fn exit_of(exits: &[Exit], verb: u8) -> Option<u8>
     ensures value { result ≡ exit_of exits.now verb }
 {
@@ -86,6 +88,7 @@ fn entry_at(parts: &GameParts, table: u8, entry: u16) -> Option<&Entry>
     table.rows.get(entry as usize)
 }
 
+/// The least entry of a table, not below `from`, that matches this verb and noun.
 pub(crate) fn match_at(parts: &GameParts, table: u8, from: u16, verb: u8, noun: u8) -> Option<usize>
     ensures value { result ≡ match_at parts.now table from verb noun }
 {

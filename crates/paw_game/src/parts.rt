@@ -66,7 +66,7 @@ impl Entry {
     /// The entry for this verb and noun of these condacts, each a code and its two parameters.
     ///
     /// # Errors
-    /// AllocError for want of memory.
+    /// AllocError where there is no memory.
     pub fn from_codes(
         alloc: Global,
         verb: u8,
@@ -141,7 +141,7 @@ pub enum GamePart {
 }
 
 /// The first part of a game, in the order of `GamePart`, that breaks a rule. The row is the part's limit where it has
-/// too many rows, its length where it has too few, and else its least row that breaks a rule.
+/// too many rows, its length where it has too few, and otherwise its first row that breaks a rule.
 #[derive(Clone, Copy, Drop, PartialEq, Eq, Debug)]
 pub struct GameFault {
     pub part: GamePart,

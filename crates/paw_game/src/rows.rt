@@ -3,8 +3,8 @@
 ghost use Rattle.std.specs.Prelude.{◌≡◌, ◌<◌, ◌^◌, IfSome};
 ghost use Rattle.paw_game.specs.inner.Fault.{part_row_fault};
 
-/// The row to name of a part with so many rows, of which this is the first bad one: the most rows that it may have
-/// where it has more, their number where it has fewer than the least; None where no rule is broken.
+/// The row to name of a part with `count` rows and `bad` as its first bad one: `most` where it has more rows than that,
+/// `count` where it has fewer than `least`, and otherwise `bad`; None where no rule is broken.
 pub(crate) fn row_fault(least: usize, most: usize, count: usize, bad: Option<usize>) -> Option<u32>
     requires limit { most < 2 ^ 32 }
     requires within { IfSome bad (λ row. row < count) }

@@ -16,7 +16,7 @@ use paw_base::words::{
 };
 use std::marker::Model;
 
-/// How many rows each list has, be it more than a game may have.
+/// How many rows each list has, even if that is more than a game may have.
 #[derive(Clone, Copy, Drop)]
 pub struct Lengths {
     pub words: usize,
@@ -87,7 +87,7 @@ impl<'a> Model for Rules<'a> {
 }
 
 impl<'a> Rules<'a> {
-    /// The rules where there are so many rows, and these words.
+    /// The rules for these numbers of rows, and these words.
     pub fn new(lengths: Lengths, words: &'a [Word]) -> Rules<'a>
         ensures value { result ≡ record { counts = counts_in lengths; words = words.now } }
     {

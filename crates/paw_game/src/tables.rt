@@ -4,7 +4,7 @@ use crate::parts::GamePart;
 use paw_base::limits::WORD_LENGTH;
 use paw_base::parts::{Condact, Counts, ObjectFacts};
 
-/// What stands for one valid game, and tells its lists by number. No call takes memory.
+/// A valid game that answers what its lists hold, by number. No call takes memory.
 pub trait Tables {
     ghost use Rattle.std.specs.Prelude.{◌≡◌, ◌≤◌, ◌<◌, length, IsTrue, IfSome, OnSome};
     ghost use Rattle.std.specs.Option.{option_copied};
@@ -34,7 +34,7 @@ pub trait Tables {
         ensures value { option_copied result ≡ text_at (game self.now) part number }
         ensures short { IfSome result (λ text. length text.now ≤ TEXT_LIMIT) };
 
-    /// Where a location's exit for a verb leads; None exactly where it has no such exit.
+    /// The location to which a location's exit for a verb leads; None exactly where it has no such exit.
     fn exit(&self, location: u8, verb: u8) -> Option<u8>
         ensures value { result ≡ exit_at (game self.now) location verb }
         ensures leads { IfSome result (λ to. to < length (game self.now).locations) };

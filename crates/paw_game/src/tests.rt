@@ -1,4 +1,4 @@
-// A small game, taken in, read by number, and broken part by part.
+// A small game, made, read by number, and broken part by part.
 
 use crate::game::Game;
 use crate::parts::{Entry, Exit, Exits, GamePart, GameParts, ObjectRow, Table, Text, Word};
@@ -100,7 +100,7 @@ fn talks_much(alloc: Global) -> Result<GameParts, AllocError> {
     Ok(parts)
 }
 
-/// The small game with two bad messages behind a good one, and a bad object in an earlier row.
+/// The small game with two bad messages after a good one, and a bad object in an earlier row.
 fn broken_twice(alloc: Global) -> Result<GameParts, AllocError> {
     let mut parts = broken(alloc, GamePart::Objects)?;
     for line in [b"Go.".as_slice(), b"/Stay.", b";"] {

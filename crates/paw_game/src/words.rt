@@ -42,14 +42,14 @@ fn is_word(word: &Word) -> bool
         && word.class <= PRONOUN_CLASS
 }
 
-/// Capitals and digits, one at least, and then spaces alone.
+/// Whether letters are capitals and digits, at least one, and then only spaces.
 pub fn are_letters(letters: &[u8; WORD_LENGTH]) -> bool
     ensures value { result ≡ are_letters letters.now }
 {
     is_letter(letters[0]) && is_filled(letters.as_slice())
 }
 
-/// Capitals and digits, and then spaces alone.
+/// Whether letters are capitals and digits, and then only spaces.
 fn is_filled(letters: &[u8]) -> bool
     ensures value { result ≡ is_filled letters.now }
 {

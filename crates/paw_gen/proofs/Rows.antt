@@ -8,11 +8,11 @@ use Rattle.std.proofs.lemmas.List.Folds.{list_any_at, list_all_at}
 use Rattle.std.proofs.lemmas.List.FromFn.{map-range_with_len_more, length-map-range_with_len, take-map-range_with_len, get_or-map-range_with_len}
 use Rattle.paw_gen.specs.Trial.{rows}
 
--- one row more
+-- One row more.
 rows_more : {A : Type 0} (row : ℕ → A) (n : ℕ) → rows (n + 1) row ≡ rows n row ++ row n ∷ []
 rows_more row n = map-range_with_len_more row 0 n n (omega arith)
 
--- one row more, pushed behind some that stand before them all
+-- One row more, pushed after some others that come first.
 pub pushed : {A : Type 0} (row : ℕ → A) (before : List A) (n : ℕ) (old new : List A) (x : A) → old ≡ before ++ rows n row → x ≡ row n
     → new ≡ old ++ x ∷ [] → new ≡ before ++ rows (n + 1) row
 pushed row before n old new x e f g =
@@ -22,7 +22,7 @@ pushed row before n old new x e f g =
 pub length_rows : {A : Type 0} (row : ℕ → A) (n : ℕ) → length (rows n row) ≡ n
 length_rows row n = length-map-range_with_len row 0 n
 
--- fewer rows are the first of them
+-- Fewer rows are the first of them.
 pub rows_fewer : {A : Type 0} (row : ℕ → A) (n m : ℕ) → n ≤ m → rows n row ++ drop n (rows m row) ≡ rows m row
 rows_fewer row n m h = ap (λ xs. xs ++ drop n (rows m row)) (sym (take-map-range_with_len row 0 m n h)) ∙ take-append-drop n (rows m row)
 
@@ -33,11 +33,11 @@ all_from rule row from (suc n) h =
     ap (λ b. b && list_all rule (map row (range_with_len (from + 1) n))) (h from (omega arith))
     ∙ all_from rule row (from + 1) n (λ k low. h k (omega (arith, low)))
 
--- each row keeps the rule
+-- Each row keeps the rule.
 pub all_rows : {A : Type 0} (rule : A → Bool) (row : ℕ → A) (n : ℕ) → ((k : ℕ) → k < n → rule (row k) ≡ true) → list_all rule (rows n row) ≡ true
 all_rows rule row n h = all_from rule row 0 n (λ k low. h k (omega (arith, low)))
 
--- a rule that all rows keep is kept by row k
+-- A rule that all rows keep is kept by row k.
 pub all_at : {A : Type 0} (rule : A → Bool) (row : ℕ → A) (n k : ℕ) → list_all rule (rows n row) ≡ true → k < n → rule (row k) ≡ true
 all_at rule row n k h low = kept (rule (row k)) refl
   where
@@ -48,7 +48,7 @@ all_at rule row n k h low = kept (rule (row k)) refl
         (ap rule (get_or-map-range_with_len row 0 n k k (row 0) low (omega arith)) ∙ e) in
         absurd cc
 
--- a rule that row k keeps is kept by one of the rows
+-- A rule that row k keeps is kept by one of the rows.
 pub any_row : {A : Type 0} (rule : A → Bool) (row : ℕ → A) (n k : ℕ) → k < n → rule (row k) ≡ true → list_any rule (rows n row) ≡ true
 any_row rule row n k low h =
     list_any_at rule (rows n row) k (row 0) (omega (arith, low, length_rows row n))

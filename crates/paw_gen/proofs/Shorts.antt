@@ -16,7 +16,7 @@ use Rattle.paw_gen.proofs.Rows.{length_rows, all_rows, all_at}
 use Rattle.paw_gen.proofs.Computed.{system_texts, location_texts, object_texts}
 use Rattle.paw_gen.proofs.Valids.{words_of, each_word}
 
--- rows of at most so many bytes
+-- Rows of at most this many bytes.
 flat_short : {A : Type 0} (bytes : A → List ℕ) (most : ℕ) (xs : List A) → list_all (λ x. nat_le (length (bytes x)) most) xs ≡ true
     → length (flat_map bytes xs) ≤ most * length xs
 flat_short bytes most [] h = omega arith
@@ -67,13 +67,13 @@ all_words_short [] h = refl
 all_words_short (w ∷ ws) h =
     let p = and_parts (is_word w) (list_all is_word ws) h in and_both (word_short w p.0) (all_words_short ws p.1)
 
--- the parts together, for at most 109 objects and 219 locations
+-- The parts together, for at most 109 objects and 219 locations.
 limited : (all head words system none objects locations exits tables things places : ℕ)
     → all ≡ head + words + system + none + objects + locations + exits + tables → head ≡ 17 → words ≤ 7 * (8 + things) → system ≤ 4097 * 54 → none ≡ 0
     → objects ≤ 4101 * things → locations ≤ 4097 * places → exits ≤ 5 * places → tables ≡ 39 → things ≤ 109 → places ≤ 219 → all ≤ 4194304
 limited all head words system none objects locations exits tables things places a b c d e f g h i j k = omega arith
 
--- rows of which each is so short
+-- Rows of which each is that short.
 rows_short : {A : Type 0} (bytes : A → List ℕ) (row : ℕ → A) (most n : ℕ) → ((k : ℕ) → k < n → length (bytes (row k)) ≤ most)
     → length (flat_map bytes (rows n row)) ≤ most * n
 rows_short bytes row most n h =
@@ -89,7 +89,7 @@ words_short n =
     flat_short word_image 7 (words_of n) (all_words_short (words_of n) (each_word n)) in
     subst (λ m. length (flat_map word_image (words_of n)) ≤ 7 * m) size short
 
--- the parts of a game's image
+-- The parts of a game's image.
 parts_size : (g : GameLists) → length (image g) ≡ length (head_image g) + length (flat_map word_image g.words)
     + length (flat_map text_image g.system) + length (flat_map text_image g.messages)
     + length (flat_map object_image g.objects) + length (flat_map text_image g.locations) + length (flat_map exits_image g.exits)
@@ -98,7 +98,7 @@ parts_size g =
     total (head_image g) (flat_map word_image g.words) (flat_map text_image g.system) (flat_map text_image g.messages)
     (flat_map object_image g.objects) (flat_map text_image g.locations) (flat_map exits_image g.exits) (flat_map table_image g.tables)
 
--- a game whose parts have at most so many bytes
+-- A game whose parts have at most these numbers of bytes.
 limited_game : (g : GameLists) (things places : ℕ) → length (flat_map word_image g.words) ≤ 7 * (8 + things)
     → length (flat_map text_image g.system) ≤ 4097 * 54 → length (flat_map text_image g.messages) ≡ 0
     → length (flat_map object_image g.objects) ≤ 4101 * things → length (flat_map text_image g.locations) ≤ 4097 * places

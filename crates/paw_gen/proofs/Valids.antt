@@ -92,7 +92,7 @@ exits_of_one n k =
     lt_true ((k + location_count n - 1) % location_count n) (location_count n) (omega arith) in
     and_both (and_both (north_known n) (and_both north refl)) (and_both (and_both (south_known n) (and_both south refl)) refl)
 
--- one list of exits for each location
+-- One list of exits for each location.
 abbrev AreExits : ℕ → ℕ → Type 0
 AreExits n locations =
     ((length (rows (location_count n) (ring_exits (location_count n))) == locations)
@@ -106,12 +106,12 @@ exits_fine n =
 
 -- ---- tables ----
 
--- DOALL at HERE or CARRIED
+-- DOALL at HERE or CARRIED.
 doall_fine : (g : GameLists) (p : ℕ) → is_within 252 255 p ≡ true → is_condact g (condact_with DOALL p) ≡ true
 unfolding condact_lines plain_line line_of is_plain_code is_indirect
 doall_fine g p h = and_both (or_right (nat_lt p (length g.locations)) h) refl
 
--- enough tables and not too many, each by its rule
+-- Enough tables and not too many, each by its rule.
 abbrev tables_keep : GameLists → Bool
 tables_keep g = is_within 3 256 (length g.tables) && list_all (is_table g) g.tables
 

@@ -18,47 +18,47 @@ use Rattle.paw_gen.specs.declared.vocabulary.TheConstants.{LOOK_WORD, NORTH_WORD
 
 -- ---- how many ----
 
--- how many locations the game of a number has
+-- How many locations the game with this number has.
 abbrev pub location_count : ℕ → ℕ
 location_count n = 20 + n % 200
 
--- how many objects it has
+-- How many objects the game with this number has.
 abbrev pub object_count : ℕ → ℕ
 object_count n = 10 + n % 100
 
--- how many lines its session has
+-- How many lines the session with this number has.
 abbrev pub line_count : ℕ → ℕ
 line_count n = 10 + n % 90
 
--- one row for each number below this
+-- A row for each number from 0 on, `count` rows in all.
 abbrev pub rows : {A : Type 0} → ℕ → (ℕ → A) → List A
 rows count row = map row (range_with_len 0 count)
 
 -- ---- texts ----
 
--- a number between two texts
+-- A number between two texts.
 abbrev pub number_between : List ℕ → List ℕ → ℕ → List ℕ
 number_between before after k = before ++ (decimal k ++ after)
 
--- `s` and the number of a system message
+-- The text of a system message: `s` and its number.
 abbrev pub system_text : ℕ → List ℕ
 system_text k = number_between (codes "s") [] k
 
--- `Place 7.`
+-- The text of a location, such as `Place 7.`.
 abbrev pub trial_location_text : ℕ → List ℕ
 trial_location_text k = number_between (codes "Place ") (codes ".") k
 
--- `thing 7`
+-- The text of an object, such as `thing 7`.
 abbrev pub trial_object_text : ℕ → List ℕ
 trial_object_text k = number_between (codes "thing ") [] k
 
 -- ---- words ----
 
--- a word, by its parts
+-- A word with these letters, this value and this class.
 abbrev pub word_with : List ℕ → ℕ → ℕ → Word
 word_with letters value class = record { letters = letters; value = value; class = class }
 
--- the words that all these games have
+-- The words that all these games have.
 abbrev pub named_words : List Word
 named_words =
     word_with (codes "ALL  ") ALL_WORD NOUN_CLASS ∷ word_with (codes "AND  ") AND_WORD CONJUNCTION_CLASS
@@ -66,17 +66,17 @@ named_words =
     ∷ word_with (codes "INVEN") INVEN_WORD VERB_CLASS ∷ word_with (codes "LOOK ") LOOK_WORD VERB_CLASS
     ∷ word_with (codes "NORTH") NORTH_WORD NOUN_CLASS ∷ word_with (codes "SOUTH") SOUTH_WORD NOUN_CLASS ∷ []
 
--- T and the number in three digits, as `T007 `
+-- The letters of the noun of an object: T and the object's number in three digits, such as `T007 `.
 abbrev pub object_letters : ℕ → List ℕ
 object_letters k = 84 ∷ (48 + k / 100) ∷ (48 + k / 10 % 10) ∷ (48 + k % 10) ∷ 32 ∷ []
 
--- the noun of an object
+-- The noun of an object.
 abbrev pub object_word : ℕ → Word
 object_word k = word_with (object_letters k) (FIRST_NAMED_NOUN + k) NOUN_CLASS
 
 -- ---- objects and exits ----
 
--- the facts of object k, in a game of so many locations
+-- The facts of object k in a game with this number of locations.
 abbrev pub object_facts : ℕ → ℕ → ObjectFacts
 object_facts locations k = record {
   noun = FIRST_NAMED_NOUN + k;
@@ -87,11 +87,11 @@ object_facts locations k = record {
   wearable = false;
 }
 
--- object k, in a game of so many locations
+-- Object k in a game with this number of locations.
 abbrev pub trial_object : ℕ → ℕ → ObjectRow
 trial_object locations k = record { text = trial_object_text k; facts = object_facts locations k }
 
--- the locations are a ring: NORTH leads to the next, SOUTH to the one before
+-- The exits of location k. The locations are a ring: NORTH leads to the next, SOUTH to the one before.
 abbrev pub ring_exits : ℕ → ℕ → List Exit
 ring_exits locations k =
     record { verb = NORTH_WORD; to = (k + 1) % locations }
@@ -99,15 +99,15 @@ ring_exits locations k =
 
 -- ---- tables ----
 
--- a condact of this code, and its first parameter, which is 0 where it has none
+-- A condact with this code and this first parameter, which is 0 where it has none.
 abbrev pub condact_with : ℕ → ℕ → Condact
 condact_with code a = record { code = code; a = a; b = 0 }
 
--- an entry, by its parts
+-- An entry with this verb, this noun and these condacts.
 abbrev pub entry : ℕ → ℕ → List Condact → Entry
 entry verb noun condacts = record { verb = verb; noun = noun; condacts = condacts }
 
--- the answers to lines: `GET ALL` and `DROP ALL` go over the objects here and over those that are carried
+-- The entries that answer lines: `GET ALL` goes over the objects here, and `DROP ALL` over those that are carried.
 abbrev pub answer_entries : List Entry
 answer_entries =
     entry GET_WORD ALL_WORD (condact_with DOALL HERE_PLACE ∷ []) ∷
@@ -118,13 +118,13 @@ answer_entries =
     entry INVEN_WORD NO_WORD (condact_with INVEN 0 ∷ condact_with DONE 0 ∷ []) ∷
     []
 
--- behind a location's text the objects there are listed
+-- The entry that lists the objects at a location after its text.
 abbrev pub listing : List Entry
 listing = entry NO_WORD NO_WORD (condact_with LISTOBJ 0 ∷ []) ∷ []
 
 -- ---- the game and its lines ----
 
--- the game of a trial
+-- The game of a trial, by its number.
 unfoldable pub trial_game : ℕ → GameLists
 trial_game n = record {
   words = named_words ++ rows (object_count n) object_word;
@@ -136,7 +136,7 @@ trial_game n = record {
   tables = answer_entries ∷ listing ∷ [] ∷ [];
 }
 
--- the lines come round, by their number
+-- Line j of a trial; six lines come in turn, again and again.
 abbrev pub trial_line : ℕ → List ℕ
 trial_line j =
     if j % 6 == 0 then codes "NORTH"
@@ -146,6 +146,6 @@ trial_line j =
     else if j % 6 == 4 then codes "DROP ALL"
     else codes "SOUTH AND GET ALL"
 
--- the lines of a trial
+-- The lines of a trial, by its number.
 unfoldable pub trial_lines : ℕ → List (List ℕ)
 trial_lines n = rows (line_count n) trial_line

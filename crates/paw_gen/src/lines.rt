@@ -25,7 +25,7 @@ fn line_at(number: u16) -> &'static [u8]
 /// The lines of a trial, in their order, without line ends.
 ///
 /// # Errors
-/// NoRoom for want of memory.
+/// NoRoom where there is no memory.
 #[tactic(auto, unfolding(crate::specs::Trial::trial_lines))]
 pub fn lines_of(alloc: Global, n: u16) -> Result<Vec<Text>, NoRoom>
     ensures { IfOk result (λ lines. lines.items ≡ trial_lines n) }

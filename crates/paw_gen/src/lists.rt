@@ -15,7 +15,7 @@ use paw_base::words::{CONJUNCTION_CLASS, FIRST_NAMED_NOUN, NO_WORD, NOUN_CLASS, 
 use paw_game::parts::{Exit, Exits, ObjectRow, Word};
 use std::alloc::Global;
 
-/// The words beside the objects' nouns.
+/// The words other than the objects' nouns.
 fn named_words() -> [Word; 8]
     ensures { result ≡ named_words }
 {
@@ -83,7 +83,7 @@ fn object_facts(locations: u16, number: u16) -> ObjectFacts
     }
 }
 
-/// The objects, in a game of so many locations.
+/// The objects in a game with this number of locations.
 pub(crate) fn objects(alloc: Global, locations: u16, objects: u16) -> Result<Vec<ObjectRow>, NoRoom>
     requires some { 0 < locations }
     requires places { locations ≤ LOCATION_LIMIT }

@@ -3,7 +3,7 @@
 /// ALL, by which an entry goes over objects.
 pub(crate) const ALL_WORD: u8 = 20;
 
-/// AND, which parts phrases.
+/// AND, which separates phrases.
 pub(crate) const AND_WORD: u8 = 2;
 
 /// DROP.
@@ -12,7 +12,7 @@ pub(crate) const DROP_WORD: u8 = 31;
 /// GET.
 pub(crate) const GET_WORD: u8 = 30;
 
-/// INVEN, which tells what is held.
+/// INVEN, which lists what is held.
 pub(crate) const INVEN_WORD: u8 = 33;
 
 /// LOOK.

@@ -9,11 +9,11 @@ use Rattle.std.proofs.lemmas.Bool.{and_parts, leb-true}
 use Rattle.std.proofs.lemmas.Str.{digit_value_digit}
 use Rattle.paw_grammar.specs.inner.Numbers.{capped}
 
--- the number that digits make after the number n
+-- The number that digits make after the number n.
 abbrev pub number_after : ℕ → List ℕ → Option ℕ
 number_after n ds = cond (list_all is_ascii_digit ds) (Some (digits_value_after 10 n ds)) None
 
--- what is capped doesn't tell two numbers above the cap apart
+-- Two numbers above the cap look the same once they are capped.
 same_number : (a b : ℕ) (ds : List ℕ) → min a 4294967295 ≡ min b 4294967295 → capped (number_after a ds) ≡ capped (number_after b ds)
 same_number a b [] h = ap Some h
 same_number a b (d ∷ ds) h =
@@ -23,11 +23,11 @@ same_number a b (d ∷ ds) h =
       | false ↦ refl
     ]
 
--- what a digit is worth
+-- What a digit is worth.
 pub digit_worth : (d : ℕ) → is_ascii_digit d ≡ true → digit_value d + 48 ≡ d
 digit_worth d h = let range = and_parts (leb 48 d) (leb d 57) h in digit_value_digit d (leb-true 48 d range.0, leb-true d 57 range.1)
 
--- one digit more
+-- One digit more.
 pub digit_read : (n more : ℕ) (t : List ℕ) (i : ℕ) → i < length t → is_ascii_digit (get_or t i 0) ≡ true
     → min more 4294967295 ≡ min (n * 10 + digit_value (get_or t i 0)) 4294967295
     → capped (number_after n (drop i t)) ≡ capped (number_after more (drop (i + 1) t))

@@ -23,7 +23,7 @@ bytes_eq-sym a b =
     (Decides-like (bytes_eq a b) (λ (e : a ≡ b). sym e) (λ (e : b ≡ a). sym e) (bytes_eq-Decides a b))
     (bytes_eq-Decides b a)
 
--- what the map holds at some letters is the word with these letters
+-- What the map holds at some letters is the word with these letters.
 pub found : (es : List Entry) (k : List ℕ) → option_map (λ m. word_from (k, m)) (lookup (is_at (slice_cmp nat_cmp k)) es) ≡ word_of k (words_in es)
 found [] k = refl
 found (e ∷ es) k =
@@ -42,7 +42,7 @@ none_here false w rest h = (refl, h)
 is_same : (k l : List ℕ) → slice_cmp nat_cmp k l ≡ Equal → bytes_eq l k ≡ true
 is_same k l e = bytes_eq-sym l k ∙ sym (is_eq-slice_cmp k l) ∙ ap is_eq e
 
--- a word with new letters goes to its place
+-- A word with new letters goes to its place.
 pub put_in : (es : List Entry) (w : Word) → word_of w.letters (words_in es) ≡ None
     → words_in (insert_entry (slice_cmp nat_cmp) es w.letters (record { value = w.value; class = w.class })) ≡ words_with w (words_in es)
 unfolding words_with

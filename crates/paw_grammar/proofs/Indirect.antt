@@ -14,7 +14,7 @@ use Rattle.paw_game.specs.declared.parts.Word.{Word}
 use Rattle.paw_grammar.specs.declared.bounds.Bounds.{Bounds}
 use Rattle.paw_grammar.specs.Condacts.{parameter, is_indirect_before, first_parameter, code_of, condact}
 
--- a name gives a plain code
+-- A name gives a plain code.
 pub named_plain : (name : List ℕ) (code : ℕ) → ok_or (code_named name) fault.Condact ≡ Ok code → IsPlainCode code
 named_plain name code h =
     elim (code_named name) as (λ o. code_named name ≡ o → ok_or o fault.Condact ≡ Ok code → IsPlainCode code) [
@@ -25,7 +25,7 @@ named_plain name code h =
           subst IsPlainCode same (code_named_found name found e).0
     ] refl h
 
--- a condact that is read part by part
+-- A condact that is read part by part.
 pub condact_made : (bounds : Bounds) (ws : List Word) (name : List ℕ) (ts : List (List ℕ)) (plain : ℕ) (indirect : Bool)
     (a b : ℕ × List (List ℕ)) → code_named name ≡ Some plain → is_indirect_before plain ts ≡ indirect
     → first_parameter bounds ws indirect (first_kind plain) ts ≡ Ok a → parameter bounds ws (second_kind plain) a.1 ≡ Ok b
@@ -60,11 +60,11 @@ pub read_code : (code : ℕ) (indirect : Bool) → IsPlainCode code → (indirec
 read_code code true plain may = or_right (is_plain_code (code + 128)) (is_indirect (code + 128)) (indirect_is code (may refl))
 read_code code false plain may = or_left (is_plain_code code) (is_indirect code) plain
 
--- the first parameter of an indirect condact is a flag
+-- The first parameter of an indirect condact is a flag.
 pub first_kind-indirect : (code : ℕ) → may_be_indirect code ≡ true → first_kind (code + 128) ≡ Flag
 first_kind-indirect code may = ap (λ (l : CondactLine). l.first) (line_of-indirect code may)
 
--- and the second as that of the plain one
+-- The second is of the same kind as that of the plain one.
 pub second_kind-read : (code : ℕ) (indirect : Bool) → IsPlainCode code → (indirect ≡ true → may_be_indirect code ≡ true)
     → second_kind (code_of indirect code) ≡ second_kind code
 second_kind-read code true plain may =
@@ -72,7 +72,7 @@ second_kind-read code true plain may =
     ∙ sym (ap (λ (l : CondactLine). l.second) (line_of-plain code plain))
 second_kind-read code false plain may = refl
 
--- and it has the name of the plain one
+-- It has the name of the plain one.
 pub name_of-read : (code : ℕ) (indirect : Bool) → IsPlainCode code → (indirect ≡ true → may_be_indirect code ≡ true)
     → name_of (code_of indirect code) ≡ name_of code
 name_of-read code true plain may =

@@ -26,7 +26,7 @@ use Rattle.paw_grammar.specs.Condacts.{condact, condacts_in, with_more_condacts}
 
 -- ---- each parameter that is there takes one token
 
--- n tokens, none or one, stand before the rest
+-- Before the rest stand n tokens, none or one.
 data Takes (n : ℕ) (ts rest : List (List ℕ)) : Type 0 where
   none : n ≡ 0 → ts ≡ rest → Takes n ts rest
   one : (t : List ℕ) → n ≡ 1 → ts ≡ t ∷ rest → Takes n ts rest
@@ -72,7 +72,7 @@ takes_first bounds ws code false ts rest x may e = takes bounds ws (first_kind c
 
 -- ---- a condact takes as many tokens as it has parameters
 
--- the tokens rest are left of ts after n parameters
+-- The tokens rest are left of ts after n parameters.
 pub record Left (bounds : Bounds) (ws : List Word) (n : ℕ) (ts rest : List (List ℕ)) : Type 0 where
   pub same : condacts_in bounds ws n ts ≡ condacts_in bounds ws 0 rest
   pub shorter : length rest ≤ length ts
@@ -118,7 +118,7 @@ skips bounds ws name ts rest c e =
 
 -- ---- the loop over the condacts
 
--- one condact more
+-- One condact more.
 one_more : (bounds : Bounds) (ws : List Word) (cs : List Condact) (name : List ℕ) (ts rest : List (List ℕ))
     (c : Condact) → condact bounds ws name ts ≡ Ok (c, rest)
     → with_more_condacts cs (condacts_in bounds ws 0 (name ∷ ts)) ≡ with_more_condacts (cs ++ c ∷ []) (condacts_in bounds ws 0 rest)
@@ -130,7 +130,7 @@ one_more bounds ws cs name ts rest c e =
       | Err k ↦ refl
     ])
 
--- a condact with a fault
+-- A condact with a fault.
 one_fault : (bounds : Bounds) (ws : List Word) (cs : List Condact) (name : List ℕ) (ts : List (List ℕ))
     (k : SourceKind) → condact bounds ws name ts ≡ Err k
     → with_more_condacts cs (condacts_in bounds ws 0 (name ∷ ts)) ≡ Err k

@@ -7,11 +7,11 @@ use Rattle.paw_faults.specs.Bind.{◌>>=◌}
 use Rattle.paw_grammar.specs.Tokens.{read_by}
 use Rattle.paw_grammar.specs.Numbers.{in_range}
 
--- a read value, and the tokens that are left
+-- A read value, and the tokens that are left.
 abbrev pub Reads : Type 0 → Type 0
 Reads A = Result (A × List (List ℕ)) SourceKind
 
--- where two steps succeed, the first gave a value, and the second went on from it
+-- Where two steps succeed, the first gave a value, and the second went on from it.
 pub record Bound {A B : Type 0} (r : Result A SourceKind) (f : A → Result B SourceKind) (y : B) : Type 0 where
   pub value : A
   pub is : r ≡ Ok value
@@ -24,7 +24,7 @@ bound (Ok x) f y e = record { value = x; is = refl; goes_on = e }
 pub pair_parts : {A B : Type 0} (a c : A) (b d : B) → ◌≡◌ {A = Result (A × B) SourceKind} (Ok (a, b)) (Ok (c, d)) → (a ≡ c) × (b ≡ d)
 pair_parts {A} {B} a c b d e = let f : ◌≡◌ {A = A × B} (a, b) (c, d) = cc in (ap (λ x. x.0) f, ap (λ x. x.1) f)
 
--- the first token means the value, and the others are left
+-- The first token means the value, and the others are left.
 pub record Meant {A : Type 0} (meaning : List ℕ → Option A) (ts : List (List ℕ)) (x : A × List (List ℕ)) : Type 0 where
   pub first : List ℕ
   pub all : ts ≡ first ∷ x.1
@@ -46,7 +46,7 @@ kept_by rule n m e =
       | false ↦ λ h f. absurd cc
     ] refl e
 
--- a value in range was read, and keeps the rule
+-- A value in range was read, and keeps the rule.
 pub record Ranged (rule : ℕ → Bool) (r : Reads ℕ) (x : ℕ × List (List ℕ)) : Type 0 where
   pub is : r ≡ Ok x
   pub keeps : rule x.0 ≡ true

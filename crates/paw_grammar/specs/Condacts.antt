@@ -22,33 +22,33 @@ use Rattle.paw_grammar.specs.Vocabulary.{place_among, word_or_none}
 
 -- ---- places ----
 
--- the places where an object may be at first beside the locations, by their numbers from the first on
+-- The names of the places other than locations where an object may begin, in the order of their numbers.
 abbrev pub place_names : List (List ℕ)
 place_names = codes "NOTCREATED" ∷ codes "WORN" ∷ codes "CARRIED" ∷ []
 
--- A place, by its number or by its name: a location, or one of the others up to the last that may stand here. The names
--- count from the first place that is no location.
+-- A place, by its number or by its name: a location, or one of the others up to the last that is allowed here. Names
+-- count from the first place that isn't a location.
 abbrev pub place_up_to : ℕ → (List ℕ → Option ℕ) → ℕ → List (List ℕ) → Result (ℕ × List (List ℕ)) SourceKind
 place_up_to last named locations ts =
     read_by fault.Number (λ t. option_or (number t) (option_map (λ i. NOT_CREATED_PLACE + i) (named t))) ts
     >>= in_range (λ n. nat_lt n locations || is_within NOT_CREATED_PLACE last n)
 
--- the first place of an object
+-- The place where an object begins.
 abbrev pub first_place : ℕ → List (List ℕ) → Result (ℕ × List (List ℕ)) SourceKind
 first_place locations ts = place_up_to CARRIED_PLACE (place_among place_names) locations ts
 
--- a place that is a parameter
+-- A place that is a parameter.
 abbrev pub any_place : ℕ → List (List ℕ) → Result (ℕ × List (List ℕ)) SourceKind
 any_place locations ts = place_up_to HERE_PLACE (place_among (place_names ++ codes "HERE" ∷ [])) locations ts
 
 -- ---- parameters ----
 
--- A table's number is below the number of headers of tables. 255 stands for one that no byte holds: there are then more
+-- The number of a table, below the number of table headers. 255 stands for any number above it too: there are then more
 -- than 256 headers, and one of them has a fault.
 abbrev pub table : ℕ → List (List ℕ) → Result (ℕ × List (List ℕ)) SourceKind
 table tables ts = number_below tables ts >>= λ n. Ok (min n.0 255, n.1)
 
--- a parameter of each kind; one that isn't there takes no token, and is 0
+-- A parameter of a kind; one that the condact doesn't have takes no token, and is 0.
 abbrev pub parameter : Bounds → List Word → ParamKind → List (List ℕ) → Result (ℕ × List (List ℕ)) SourceKind
 parameter bounds ws kind.Absent ts = Ok (0, ts)
 parameter bounds ws kind.Location ts = number_below bounds.locations ts
@@ -66,27 +66,27 @@ parameter bounds ws kind.Preposition ts = word_or_none ws PREPOSITION_CLASS ts
 
 -- ---- indirect parameters ----
 
--- the condact with this plain code is indirect: it may be, and `@` follows its name
+-- Whether the condact with this plain code is indirect: it may be, and `@` follows its name.
 abbrev pub is_indirect_before : ℕ → List (List ℕ) → Bool
 is_indirect_before plain ts = may_be_indirect plain && at_is_next ts
 
--- the number of a flag behind the first byte of a token, which is `@`
+-- The number of a flag after the first byte of a token, which is `@`.
 abbrev pub flag_behind_at : List (List ℕ) → Result (ℕ × List (List ℕ)) SourceKind
 flag_behind_at ts = read_by fault.Number (λ t. number (drop 1 t)) ts >>= in_range (λ n. nat_lt n FLAG_COUNT)
 
--- the first parameter: a flag behind `@` where the condact is indirect
+-- The first parameter: a flag after `@` where the condact is indirect.
 abbrev pub first_parameter : Bounds → List Word → Bool → ParamKind → List (List ℕ)
     → Result (ℕ × List (List ℕ)) SourceKind
 first_parameter bounds ws indirect k ts = if indirect then flag_behind_at ts else parameter bounds ws k ts
 
--- the code of a condact: where it is indirect, that of the plain one and 128
+-- The code of a condact: that of the plain one, plus 128 where it is indirect.
 abbrev pub code_of : Bool → ℕ → ℕ
 code_of indirect plain = if indirect then plain + INDIRECT else plain
 
 -- ---- condacts ----
 
--- A condact: its name, which is Condact where none has it, and its parameters, which the next tokens are. `@` and a
--- number stand for the first one where that may come from a flag.
+-- A condact: its name (the fault Condact where no condact has it), and its parameters, which are the next tokens. The
+-- first may be `@` and the number of a flag where the condact may be indirect.
 unfoldable pub condact : Bounds → List Word → List ℕ → List (List ℕ) → Result (Condact × List (List ℕ)) SourceKind
 condact bounds ws name ts = do
   plain ← ok_or (code_named name) fault.Condact
@@ -94,7 +94,7 @@ condact bounds ws name ts = do
   b ← parameter bounds ws (second_kind plain) a.1
   Ok (record { code = code_of (is_indirect_before plain ts) plain; a = a.0; b = b.0 }, b.1)
 
--- the condacts from here to the end of the line, where the next skip tokens are parameters of the one before
+-- The condacts from here to the end of the line, where the next `skip` tokens are parameters of the one before.
 unfoldable pub condacts_in : Bounds → List Word → ℕ → List (List ℕ) → Result (List Condact) SourceKind
 condacts_in bounds ws skip [] = Ok []
 condacts_in bounds ws (suc skip) (t ∷ ts) = condacts_in bounds ws skip ts
@@ -103,10 +103,10 @@ condacts_in bounds ws zero (t ∷ ts) = do
   cs ← condacts_in bounds ws (params_of c.0.code) ts
   Ok (c.0 ∷ cs)
 
--- the condacts of an entry, and those of a line of it after them
+-- The condacts of an entry, followed by those of one more line.
 abbrev pub with_more_condacts : List Condact → Result (List Condact) SourceKind → Result (List Condact) SourceKind
 with_more_condacts before cs = cs >>= λ more. Ok (before ++ more)
 
--- an entry's condacts after a line of it: 255 at most
+-- The condacts of an entry, followed by those of one more line; 255 at most.
 unfoldable pub more_condacts : Bounds → List Word → List Condact → List (List ℕ) → Result (List Condact) SourceKind
 more_condacts bounds ws before ts = with_more_condacts before (condacts_in bounds ws 0 ts) >>= at_most CONDACT_LIMIT

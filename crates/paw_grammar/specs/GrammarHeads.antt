@@ -14,7 +14,7 @@ use Rattle.paw_grammar.specs.GrammarTexts.{text_item, text_limit, texts_of, with
 
 -- ---- headers ----
 
--- the header that comes next after a section, and the section that it opens; after objects, and after a table, a table
+-- The header that follows a section, and the section that it opens. A table follows objects or another table.
 abbrev pub next_header : Section → List ℕ × Section
 next_header section.Before = (codes "/VOC", section.Voc)
 next_header section.Voc = (codes "/STX", section.Stx)
@@ -25,24 +25,24 @@ next_header section.Ltx = (codes "/CON", section.Con)
 next_header section.Con = (codes "/OBJ", section.Obj)
 next_header _ = (codes "/PRO", section.Pro)
 
--- a section opens
+-- What is spelled once a section opens.
 abbrev pub section_opened : Section → Spelt → Spelt
 section_opened s d = record d { section = s; begun = false }
 
--- a header of one token
+-- A header of one token opens its section.
 abbrev pub plain_header : Section → Spelt → List (List ℕ) → Result Spelt SourceKind
 plain_header s d ts = ended ts >>= λ _. Ok (section_opened s d)
 
--- exits lead from location to location, so there has to be one
+-- The header of exits: they lead from location to location, so there has to be a location.
 abbrev pub con_header : Spelt → List (List ℕ) → Result Spelt SourceKind
 con_header d ts = ended ts >>= λ _.
     if length d.locations == 0 then Err kind.Missing else Ok (section_opened section.Con d)
 
--- the first table needs a row for each object
+-- Whether no table has begun and an object still lacks its row.
 abbrev pub lacks_rows : Spelt → Bool
 lacks_rows d = (length d.tables == 0) && nat_lt (length d.facts) (length d.names)
 
--- a header of two tokens, of which the second is the number of the next table
+-- The header of a table: two tokens, of which the second is the number of the next table.
 abbrev pub pro_header : Spelt → List (List ℕ) → Result Spelt SourceKind
 pro_header d ts =
     number_below TABLE_LIMIT ts >>= λ n.
@@ -51,38 +51,38 @@ pro_header d ts =
     if lacks_rows d then Err kind.Missing
     else Ok (record (section_opened section.Pro d) { tables = d.tables ++ [] ∷ [] })
 
--- the header of a section, after its name
+-- What is spelled after a section's header, by the tokens after its name.
 abbrev pub header_of : Section → Spelt → List (List ℕ) → Result Spelt SourceKind
 header_of section.Before d ts = Err kind.Section
 header_of section.Con d ts = con_header d ts
 header_of section.Pro d ts = pro_header d ts
 header_of s d ts = plain_header s d ts
 
--- a header has to be the next in order
+-- What is spelled after a header, which has to be the next in order.
 abbrev pub header : Spelt → List ℕ → List (List ℕ) → Result Spelt SourceKind
 header d name ts =
     if is_named name (next_header d.section).0 then header_of (next_header d.section).1 d ts else Err kind.Section
 
 -- ---- items ----
 
--- a new text of the section
+-- What is spelled once a new text of the section begins.
 abbrev pub new_text : Section → Spelt → ℕ → Result Spelt SourceKind
 new_text s d n = text_item (text_limit s) n (texts_of s d) >>= λ ts. Ok (with_texts s false ts d)
 
--- the exits of location n begin: items rise, gaps are allowed, and n is a location
+-- What is spelled once the exits of location n begin: items rise, gaps are allowed, and n is a location.
 abbrev pub new_exits : Spelt → ℕ → Result Spelt SourceKind
 new_exits d n =
     if nat_lt n (length d.exits) || not (nat_lt n (length d.locations)) then Err kind.Range
     else Ok (record d { exits = all_exits (suc n) d.exits })
 
--- an item of a section; only texts and exits have items
+-- What is spelled after an item of a section; only texts and exits have items.
 abbrev pub item_in : Section → Spelt → ℕ → Result Spelt SourceKind
 item_in section.Con d n = new_exits d n
 item_in s d n = if nat_lt 0 (text_limit s) then new_text s d n else Err kind.Section
 
 -- ---- the line ----
 
--- The first token is `/` and a number, or else a header's name. An item ends with its number.
+-- A line that begins with `/`. Where a number follows, the line is an item and ends there; otherwise it is a header.
 abbrev pub slash_line : Spelt → List ℕ → Option ℕ → List (List ℕ) → Result Spelt SourceKind
 slash_line d name (Some n) ts = ended ts >>= λ _. item_in d.section d n
 slash_line d name None ts = header d name ts

@@ -22,7 +22,7 @@ use Rattle.paw_grammar.specs.GrammarState.{Spelt, last_or, with_last}
 
 -- ---- /VOC ----
 
--- `word value class`, the words with this one in its place
+-- `word value class`: the words, with this one in its place.
 unfoldable pub voc_row : List Word → List (List ℕ) → Result (List Word) SourceKind
 voc_row ws ts = do
   w ← word ts
@@ -33,7 +33,7 @@ voc_row ws ts = do
 
 -- ---- /CON ----
 
--- `word location`, the exits of a location with this one, whose verb no other has
+-- `word location`: the exits of a location, with this one added, whose verb no other has.
 unfoldable pub exit_row : List Word → ℕ → List Exit → List (List ℕ) → Result (List Exit) SourceKind
 exit_row ws locations xs ts = do
   v ← verb_word ws ts
@@ -42,7 +42,7 @@ exit_row ws locations xs ts = do
   if list_any (λ x. x.verb == v.0) xs then Err fault.Duplicate
       else Ok (xs ++ (record { verb = v.0; to = to.0 }) ∷ [])
 
--- of the location of the last item
+-- A row of /CON adds an exit to the location of the last item.
 abbrev pub con_row : Spelt → List (List ℕ) → Result Spelt SourceKind
 con_row d ts =
     if length d.exits == 0 then Err fault.Section
@@ -51,7 +51,7 @@ con_row d ts =
 
 -- ---- /OBJ ----
 
--- `n place weight kind noun adjective`
+-- `n place weight kind noun adjective`: the facts of the next object.
 unfoldable pub object_row : List Word → ℕ → ℕ → ℕ → List (List ℕ) → Result ObjectFacts SourceKind
 object_row ws locations next count ts = do
   n ← row_number next count ts
@@ -70,7 +70,7 @@ object_row ws locations next count ts = do
     wearable = k.0.1;
   })
 
--- of the objects, one more
+-- A row of /OBJ adds the facts of one more object.
 abbrev pub obj_row : Spelt → List (List ℕ) → Result Spelt SourceKind
 obj_row d ts =
     object_row d.words (length d.locations) (length d.facts) (length d.names) ts
@@ -78,7 +78,7 @@ obj_row d ts =
 
 -- ---- /PRO ----
 
--- what parameters may name; p is the number of tables
+-- The bounds of what parameters may name; p is the number of tables.
 abbrev pub bounds_of : ℕ → Spelt → Bounds
 bounds_of p d = record {
   system = length d.system;
@@ -88,7 +88,7 @@ bounds_of p d = record {
   tables = p;
 }
 
--- `verb noun condacts`, the entries of a table with this one; an entry has at most 255 condacts, a table 4,000 entries
+-- `verb noun condacts`: the entries of a table with one more. An entry has at most 255 condacts, a table 4,000 entries.
 unfoldable pub entry_row : Bounds → List Word → List Entry → List (List ℕ) → Result (List Entry) SourceKind
 entry_row bounds ws es ts = do
   v ← entry_verb ws ts
@@ -97,18 +97,18 @@ entry_row bounds ws es ts = do
   if nat_lt (length es) ENTRY_LIMIT then Ok (es ++ (record { verb = v.0; noun = n.0; condacts = cs }) ∷ [])
       else Err fault.TooBig
 
--- an entry with nothing in it
+-- An entry with nothing in it.
 abbrev pub no_entry : Entry
 no_entry = record { verb = 0; noun = 0; condacts = [] }
 
--- ` condacts`, more of the last entry, which has to be there
+-- ` condacts`: more condacts of the last entry, which has to be there.
 unfoldable pub more_row : Bounds → List Word → List Entry → List (List ℕ) → Result (List Entry) SourceKind
 more_row bounds ws es ts =
     if length es == 0 then Err fault.Section
     else more_condacts bounds ws (last_or no_entry es).condacts ts
     >>= λ cs. Ok (with_last (record (last_or no_entry es) { condacts = cs }) es)
 
--- a line of the last table: more condacts where it begins with a blank, else an entry
+-- A line of the last table: more condacts where it begins with a blank, and otherwise an entry.
 abbrev pub pro_row : ℕ → Spelt → Bool → List (List ℕ) → Result Spelt SourceKind
 pro_row p d more ts =
     (if more then more_row (bounds_of p d) d.words (last_or [] d.tables) ts
@@ -117,7 +117,7 @@ pro_row p d more ts =
 
 -- ---- a row ----
 
--- a row of a section; no other section has rows
+-- A row of a section; no other section has rows.
 abbrev pub row_in : Section → ℕ → Spelt → Bool → List (List ℕ) → Result Spelt SourceKind
 row_in section.Voc p d more ts = voc_row d.words ts >>= λ ws. Ok (record d { words = ws })
 row_in section.Con p d more ts = con_row d ts

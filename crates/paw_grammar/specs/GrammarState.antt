@@ -11,7 +11,7 @@ use Rattle.paw_game.specs.Game.{GameLists}
 use Rattle.paw_grammar.specs.declared.section.Section.{Section}
 use Rattle.paw_grammar.specs.declared.section.Section.TheVariants as section
 
--- the section that is open, and the rows that were read
+-- The section that is open, and the rows that were read.
 pub record Spelt : Type 0 where
   pub section : Section
   pub words : List Word  -- in the order of their letters
@@ -24,7 +24,7 @@ pub record Spelt : Type 0 where
   pub facts : List ObjectFacts  -- of the objects up to the last row of /OBJ
   pub tables : List (List Entry)
 
--- nothing was read yet
+-- What is spelled before the first line.
 abbrev pub nothing_yet : Spelt
 nothing_yet = record {
   section = section.Before;
@@ -39,23 +39,23 @@ nothing_yet = record {
   tables = [];
 }
 
--- the last of a list; some other value where there is none
+-- The last of a list; this other value where the list is empty.
 abbrev pub last_or : {A : Type 0} → A → List A → A
 last_or other xs = slice_index_or xs (length xs - 1) other
 
--- the list with this as its last
+-- The list with this in place of its last.
 abbrev pub with_last : {A : Type 0} → A → List A → List A
 with_last x xs = slice_set xs (length xs - 1) x
 
--- each text with the facts of its row
+-- Each text with the facts of its row.
 unfoldable pub objects_of : List (List ℕ) → List ObjectFacts → List ObjectRow
 objects_of texts facts = map (λ (o : List ℕ × ObjectFacts). record { text = o.0; facts = o.1 }) (zip texts facts)
 
--- a list of exits for each of so many locations; those that have no item of /CON have none
+-- A list of exits for each location; those that have no item of /CON have no exits.
 abbrev pub all_exits : ℕ → List (List Exit) → List (List Exit)
 all_exits locations es = es ++ replicate (locations - length es) []
 
--- the game that the lines spell
+-- The game that the lines spell.
 abbrev pub game_of : Spelt → GameLists
 game_of d = record {
   words = d.words;

@@ -11,7 +11,7 @@ use Rattle.paw_faults.specs.Bind.{◌>>=◌}
 use Rattle.paw_grammar.specs.Tokens.{at_most}
 use Rattle.paw_grammar.specs.GrammarState.{Spelt, last_or, with_last}
 
--- the texts of a section; others than sections of texts have none
+-- The texts of a section; none where it isn't a section of texts.
 abbrev pub texts_of : Section → Spelt → List (List ℕ)
 texts_of section.Stx d = d.system
 texts_of section.Mtx d = d.messages
@@ -19,7 +19,7 @@ texts_of section.Otx d = d.names
 texts_of section.Ltx d = d.locations
 texts_of _ d = []
 
--- a section's texts put in place of those that stood there; whether the last of them has a line
+-- What is spelled with these texts in a section; `begun` says whether the last of them has a line.
 abbrev pub with_texts : Section → Bool → List (List ℕ) → Spelt → Spelt
 with_texts section.Stx begun ts d = record d { system = ts; begun = begun }
 with_texts section.Mtx begun ts d = record d { messages = ts; begun = begun }
@@ -27,7 +27,7 @@ with_texts section.Otx begun ts d = record d { names = ts; begun = begun }
 with_texts section.Ltx begun ts d = record d { locations = ts; begun = begun }
 with_texts _ begun ts d = d
 
--- the most texts of a section; others than sections of texts have none
+-- The most texts that a section may have; none where it isn't a section of texts.
 abbrev pub text_limit : Section → ℕ
 text_limit section.Stx = SYSTEM_LIMIT
 text_limit section.Mtx = MESSAGE_LIMIT
@@ -35,22 +35,22 @@ text_limit section.Otx = OBJECT_LIMIT
 text_limit section.Ltx = LOCATION_LIMIT
 text_limit _ = 0
 
--- the texts with an empty one more: its number is how many there were before, and there may be no more than the limit
+-- The texts with an empty one more. Its number is how many there were before it, which has to be below the limit.
 abbrev pub text_item : ℕ → ℕ → List (List ℕ) → Result (List (List ℕ)) SourceKind
 text_item limit n ts =
     if not (n == length ts) then Err kind.Range
     else if not (nat_lt (length ts) limit) then Err kind.TooBig
     else Ok (ts ++ [] ∷ [])
 
--- A line that doesn't begin with `/` after an item of a section of texts. (A line that begins with `;` is none either,
--- as it is a comment everywhere.)
+-- Whether a line that doesn't begin with `/` belongs to a text: it follows an item of a section of texts. (A line that
+-- begins with `;` never does, as it is a comment everywhere.)
 abbrev pub is_in_text : Spelt → Bool
 is_in_text d = not (length (texts_of d.section d) == 0)
 
--- a text and one line more: lines are joined by LF
+-- A text with one line more; lines are joined by LF.
 abbrev pub with_line : Bool → List ℕ → List ℕ → List ℕ
 with_line begun text line = text ++ (if begun then 10 ∷ line else line)
 
--- the texts with one line more at the end of the last, where that isn't too long
+-- The texts with one line more at the end of the last, where that isn't too long.
 abbrev pub text_line : Bool → List ℕ → List (List ℕ) → Result (List (List ℕ)) SourceKind
 text_line begun line ts = at_most TEXT_LIMIT (with_line begun (last_or [] ts) line) >>= λ t. Ok (with_last t ts)

@@ -10,26 +10,26 @@ use Rattle.paw_game.specs.Valid.{is_within}
 use Rattle.paw_faults.specs.Bind.{◌>>=◌}
 use Rattle.paw_grammar.specs.Tokens.{read_by}
 
--- a number is one decimal digit or more, and counts by its value, however many zeros stand first
+-- The value of a token of decimal digits, at least one; zeros may come first.
 abbrev pub number : List ℕ → Option ℕ
 number word = if nat_lt 0 (length word) && list_all is_ascii_digit word then Some (digits_value 10 word) else None
 
--- a number that keeps its rule; Range where it doesn't
+-- A number that keeps a rule; the fault Range where it breaks it.
 abbrev pub in_range : (ℕ → Bool) → ℕ × List (List ℕ) → Result (ℕ × List (List ℕ)) SourceKind
 in_range rule n = if rule n.0 then Ok n else Err kind.Range
 
--- a number that keeps a rule
+-- The next token as a number that keeps a rule.
 abbrev pub number_with : (ℕ → Bool) → List (List ℕ) → Result (ℕ × List (List ℕ)) SourceKind
 number_with rule ts = read_by kind.Number number ts >>= in_range rule
 
--- a number from low to high
+-- A number from low to high, both included.
 abbrev pub number_within : ℕ → ℕ → List (List ℕ) → Result (ℕ × List (List ℕ)) SourceKind
 number_within low high ts = number_with (is_within low high) ts
 
--- a number below a limit
+-- A number below a limit.
 abbrev pub number_below : ℕ → List (List ℕ) → Result (ℕ × List (List ℕ)) SourceKind
 number_below limit ts = number_with (λ n. nat_lt n limit) ts
 
--- the number of a row, n rows standing before it: n alone, and none where count rows are all that may come
+-- The number of a row: n, which is how many rows stand before it. Once there are `count` rows, no number is right.
 abbrev pub row_number : ℕ → ℕ → List (List ℕ) → Result (ℕ × List (List ℕ)) SourceKind
 row_number n count ts = number_with (λ m. (m == n) && nat_lt n count) ts

@@ -21,32 +21,32 @@ use Rattle.paw_grammar.specs.GrammarRows.{row_in}
 
 -- ---- one line ----
 
--- a line that begins with `/`
+-- Whether a line begins with `/`.
 abbrev pub begins_with_slash : List ℕ → Bool
 begins_with_slash [] = false
 begins_with_slash (b ∷ bs) = b == 47
 
--- a line that begins with a space or a tab
+-- Whether a line begins with a space or a tab.
 abbrev pub begins_with_blank : List ℕ → Bool
 begins_with_blank [] = false
 begins_with_blank (b ∷ bs) = is_blank b
 
--- a line of a text: not one that begins with `/`
+-- Whether a line belongs to a text; one that begins with `/` never does.
 abbrev pub is_text_line : Spelt → List ℕ → Bool
 is_text_line d l = is_in_text d && not (begins_with_slash l)
 
--- what is spelled with a text line more
+-- What is spelled once a line is added to a text.
 abbrev pub text_added : Spelt → List ℕ → Result Spelt SourceKind
 text_added d l = text_line d.begun l (texts_of d.section d) >>= λ ts. Ok (with_texts d.section true ts d)
 
--- the tokens of a line; where there are none it is skipped
+-- What is spelled after the tokens of a line; a line without tokens is skipped.
 abbrev pub tokens_added : ℕ → Spelt → Bool → Bool → List (List ℕ) → Result Spelt SourceKind
 tokens_added p d slash blank [] = Ok d
 tokens_added p d slash blank (t ∷ ts) =
     if slash then slash_line d t (number (drop 1 t)) ts else row_in d.section p d blank (t ∷ ts)
 
--- What is spelled after one line more, or the line's first fault. A comment spells nothing. A forbidden byte comes
--- first.
+-- What is spelled after one line more, or the line's first fault; a forbidden byte counts before all others. A comment
+-- spells nothing.
 unfoldable pub step : ℕ → Spelt → List ℕ → Result Spelt SourceKind
 step p d l =
     if is_comment l then Ok d
@@ -56,38 +56,38 @@ step p d l =
 
 -- ---- all lines ----
 
--- a line that begins with `/` and whose first token is `/PRO`
+-- Whether a line begins with `/` and its first token is `/PRO`.
 abbrev pub begins_table : List ℕ → Bool
 begins_table l = begins_with_slash l && is_named (slice_index_or (tokens_of l) 0 []) (codes "/PRO")
 
--- a fault of this line and this kind
+-- A fault with this line and this kind.
 abbrev pub fault : ℕ → SourceKind → SourceFault
 fault line kind = record { line = line; kind = kind }
 
--- what comes first has the first fault, which is of this line
+-- Goes on from what is spelled up to a line, or ends with that line's fault.
 abbrev pub at_line : ℕ → Result Spelt SourceKind → (Spelt → Result GameLists SourceFault) → Result GameLists SourceFault
 at_line n (Err k) go = Err (fault n k)
 at_line n (Ok d) go = go d
 
--- what n lines spell, where no line has a fault: enough tables, and an image that isn't too long
+-- The game that n lines without a fault spell; it needs enough tables, and an image that isn't too long.
 abbrev pub whole : ℕ → Spelt → Result GameLists SourceFault
 whole n d =
     if nat_lt (length d.tables) TABLE_LEAST then Err (fault (suc n) kind.Missing)
     else if nat_lt IMAGE_LIMIT (length (image (game_of d))) then Err (fault (suc n) kind.TooBig)
     else Ok (game_of d)
 
--- what is spelled by what n lines spell and the lines after them
+-- The game that a source spells, by what its first n lines spell and the lines after them.
 unfoldable pub spelled_after : ℕ → ℕ → Spelt → List (List ℕ) → Result GameLists SourceFault
 spelled_after p n d [] = whole n d
 spelled_after p n d (l ∷ ls) = at_line (suc n) (step p d l) (λ e. spelled_after p (suc n) e ls)
 
--- The game that a source spells, or the line and the kind of its first fault. A parameter may name as many tables as
--- lines begin one.
+-- The game that a source spells, or the line and the kind of its first fault. Parameters may name as many tables as
+-- there are lines that begin one.
 unfoldable pub spelled : List ℕ → Result GameLists SourceFault
 spelled source =
     if nat_lt SOURCE_LIMIT (length source) then Err (fault 0 kind.TooBig)
     else spelled_after (count_by begins_table (lines_of source)) 0 nothing_yet (lines_of source)
 
--- a source spells this game
+-- A source spells this game.
 abbrev pub Spells : List ℕ → GameLists → Type 0
 Spells source g = spelled source ≡ Ok g

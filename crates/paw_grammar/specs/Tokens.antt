@@ -7,35 +7,35 @@ use Rattle.paw_base.specs.declared.fault.SourceKind.{SourceKind}
 use Rattle.paw_base.specs.declared.fault.SourceKind.TheVariants as kind
 use Rattle.paw_faults.specs.Bind.{◌>>=◌}
 
--- the next token, and those after it; Missing where the line ends
+-- The next token, and those after it; the fault Missing where the line ends.
 abbrev pub token : List (List ℕ) → Result (List ℕ × List (List ℕ)) SourceKind
 token [] = Err kind.Missing
 token (t ∷ ts) = Ok (t, ts)
 
--- the line ends; a token too many is Extra
+-- The end of the line; the fault Extra where there is a token more.
 abbrev pub ended : List (List ℕ) → Result (Unit {0}) SourceKind
 ended [] = Ok tt
 ended (t ∷ ts) = Err kind.Extra
 
--- what the next token means, and those after it; where it means nothing, this fault
+-- What the next token means, and the tokens after it; this fault where it has no meaning.
 abbrev pub read_by : {A : Type 0} → SourceKind → (List ℕ → Option A) → List (List ℕ)
     → Result (A × List (List ℕ)) SourceKind
 read_by k meaning ts = token ts >>= λ t. ok_or (meaning t.0) k >>= λ x. Ok (x, t.1)
 
--- a list of so many at most; TooBig where there are more
+-- A list of at most this length; the fault TooBig where it is longer.
 abbrev pub at_most : {A : Type 0} → ℕ → List A → Result (List A) SourceKind
 at_most limit xs = if nat_lt limit (length xs) then Err kind.TooBig else Ok xs
 
--- a token that begins with `@`
+-- Whether a token begins with `@`.
 abbrev pub begins_with_at : List ℕ → Bool
 begins_with_at [] = false
 begins_with_at (b ∷ bs) = b == 64
 
--- the next token begins with `@`
+-- Whether the next token begins with `@`.
 abbrev pub at_is_next : List (List ℕ) → Bool
 at_is_next [] = false
 at_is_next (t ∷ ts) = begins_with_at t
 
--- the token is this name, in any case of letters
+-- Whether a token is this name, in any case of letters.
 abbrev pub is_named : List ℕ → List ℕ → Bool
 is_named t name = str_eq_ignore_ascii_case t name

@@ -19,56 +19,56 @@ use Rattle.paw_grammar.specs.Tokens.{read_by, is_named}
 
 -- ---- spelling ----
 
--- letters and digits; one at least
+-- Whether a token has only letters and digits, and at least one.
 abbrev pub is_word_token : List ℕ → Bool
 is_word_token t = nat_lt 0 (length t) && list_all is_ascii_alphanumeric t
 
--- capitals, cut to five letters, filled up with spaces
+-- The letters of a word: capitals, cut to five, filled up with spaces.
 abbrev pub letters_of : List ℕ → List ℕ
 letters_of t = take WORD_LENGTH (capitals t) ++ replicate (WORD_LENGTH - length t) 32
 
--- the five letters of a token that spells a word
+-- The five letters of a token that spells a word.
 abbrev pub letters_in : List ℕ → Option (List ℕ)
 letters_in t = if is_word_token t then Some (letters_of t) else None
 
--- a word, declared or not
+-- The letters of a word, declared or not.
 abbrev pub word : List (List ℕ) → Result (List ℕ × List (List ℕ)) SourceKind
 word ts = read_by kind.Word letters_in ts
 
--- the names of the classes, by their numbers
+-- The names of the classes, in the order of their numbers.
 abbrev pub class_names : List (List ℕ)
 class_names =
     codes "VERB" ∷ codes "ADVERB" ∷ codes "NOUN" ∷ codes "ADJECTIVE" ∷ codes "PREPOSITION" ∷ codes "CONJUNCTION"
     ∷ codes "PRONOUN" ∷ []
 
--- the place of the name that the token is, in any case of letters
+-- The index of the name that a token is, in any case of letters, if it is one of them.
 abbrev pub place_among : List (List ℕ) → List ℕ → Option ℕ
 place_among names t = position (is_named t) names
 
--- a class of words
+-- The class of words that a token names, by its number.
 abbrev pub class : List (List ℕ) → Result (ℕ × List (List ℕ)) SourceKind
 class ts = read_by kind.Word (place_among class_names) ts
 
--- what kind an object is: whether it is a container, and whether it may be worn
+-- The two facts that a kind gives of an object: whether it is a container, and whether it may be worn.
 abbrev pub kind_named : List ℕ → Option (Bool × Bool)
 kind_named t =
     lookup (is_named t)
     ((codes "-", (false, false)) ∷ (codes "C", (true, false)) ∷ (codes "W", (false, true)) ∷ (codes "CW", (true, true))
     ∷ [])
 
--- the kind of an object
+-- The kind of an object.
 abbrev pub object_kind : List (List ℕ) → Result ((Bool × Bool) × List (List ℕ)) SourceKind
 object_kind ts = read_by kind.Word kind_named ts
 
 -- ---- declaring ----
 
--- the words, which stand in order of their letters, with one more in its place
+-- The words in the order of their letters, with one more in its place.
 unfoldable pub words_with : Word → List Word → List Word
 words_with w [] = w ∷ []
 words_with w (v ∷ vs) = if is_lt (slice_cmp nat_cmp w.letters v.letters) then w ∷ v ∷ vs else v ∷ words_with w vs
 
--- the words with one more: Duplicate where a word of whatever class has its letters, TooBig where there are as many as
--- may be
+-- The words with one more: the fault Duplicate where a word of any class has its letters, TooBig where there are as
+-- many as allowed.
 abbrev pub declared : Word → List Word → Result (List Word) SourceKind
 declared w ws =
     if is_some (word_of w.letters ws) then Err kind.Duplicate
@@ -77,40 +77,40 @@ declared w ws =
 
 -- ---- looking up ----
 
--- the value of a word, where there is one and it has this class
+-- The value of a word, where there is one and it has this class.
 abbrev pub in_class : ℕ → Option Word → Option ℕ
 in_class class word = option_and_then (λ (w : Word). if w.class == class then Some w.value else None) word
 
--- a verb value: that of a verb, or of a noun that serves as one
+-- The verb value of a word: that of a verb, or of a noun that serves as one.
 abbrev pub as_verb : Option Word → Option ℕ
 as_verb word = option_and_then (λ (w : Word).
     if (w.class == VERB_CLASS) || ((w.class == NOUN_CLASS) && nat_lt w.value FIRST_PLAIN_NOUN) then Some w.value
     else None) word
 
--- the declared word that a token spells
+-- The declared word that a token spells.
 abbrev pub known : List Word → List ℕ → Option Word
 known ws t = if is_word_token t then word_of (letters_of t) ws else None
 
--- `_` is no word
+-- What a token means where `_` is no word.
 abbrev pub or_none : (List ℕ → Option ℕ) → List ℕ → Option ℕ
 or_none meaning t = if bytes_eq t (codes "_") then Some NO_WORD else meaning t
 
--- `*` is any word, and `_` is no word
+-- What a token means where `*` is any word, and `_` is no word.
 abbrev pub or_any : (List ℕ → Option ℕ) → List ℕ → Option ℕ
 or_any meaning t = if bytes_eq t (codes "*") then Some ANY_WORD else or_none meaning t
 
--- an object's word, or one that is a parameter
+-- The word of an object, or one that is a parameter; `_` is no word.
 abbrev pub word_or_none : List Word → ℕ → List (List ℕ) → Result (ℕ × List (List ℕ)) SourceKind
 word_or_none ws class ts = read_by kind.Word (or_none (λ t. in_class class (known ws t))) ts
 
--- the verb of an exit
+-- The verb of an exit.
 abbrev pub verb_word : List Word → List (List ℕ) → Result (ℕ × List (List ℕ)) SourceKind
 verb_word ws ts = read_by kind.Word (λ t. as_verb (known ws t)) ts
 
--- the verb of an entry
+-- The verb of an entry.
 abbrev pub entry_verb : List Word → List (List ℕ) → Result (ℕ × List (List ℕ)) SourceKind
 entry_verb ws ts = read_by kind.Word (or_any (λ t. as_verb (known ws t))) ts
 
--- the noun of an entry
+-- The noun of an entry.
 abbrev pub entry_noun : List Word → List (List ℕ) → Result (ℕ × List (List ℕ)) SourceKind
 entry_noun ws ts = read_by kind.Word (or_any (λ t. in_class NOUN_CLASS (known ws t))) ts

@@ -26,7 +26,7 @@ use paw_base::words::{ADJECTIVE_CLASS, ADVERB_CLASS, NOUN_CLASS, PREPOSITION_CLA
 use paw_faults::unread::Unread;
 use std::marker::Model;
 
-/// How many values flags, and numbers, have.
+/// How many values a flag, or a number, may have.
 const BYTES: u16 = 256;
 
 /// Takes the number of a table; 255 stands for one that is above.
@@ -120,7 +120,7 @@ impl<'a> Scope<'a> {
         }
     }
 
-    /// Takes a first parameter of this kind, or, where the condact is indirect, `@` and a flag.
+    /// Takes a first parameter of this kind or, where the condact is indirect, `@` and a flag.
     fn first_parameter(
         &self,
         indirect: bool,
@@ -172,8 +172,8 @@ impl<'a> Scope<'a> {
     /// Takes all condacts up to the end of the line, and adds them to those of their entry.
     ///
     /// # Errors
-    /// The line's first fault, token by token: Condact where a name is none of the 108, and of a parameter Missing, and
-    /// Word, Number or Range by its kind; of `@`, where it may stand, Number or Range by what follows. TooBig where no
+    /// The line's first fault, token by token: Condact where a name isn't one of the 108; for a parameter Missing, and
+    /// Word, Number or Range by its kind; for `@`, where it may stand, Number or Range by what follows. TooBig where no
     /// token has a fault and the entry would have more than 255 condacts. Memory where there is none. What the entry
     /// then holds is open.
     #[tactic(auto, unfolding(crate::specs::Condacts::more_condacts))]

@@ -43,8 +43,8 @@ fn next_number(tokens: &mut Tokens) -> Result<u32, ReadError>
 /// Takes a number from `low` to `high`.
 ///
 /// # Errors
-/// Missing, Number or Range, by this order, exactly where the line ends, the token isn't a number, or it is another
-/// one.
+/// Missing, Number or Range, in this order, exactly where the line ends, the token isn't a number, or it is another
+/// number.
 pub fn number_within(tokens: &mut Tokens, low: u8, high: u8) -> Result<u8, ReadError>
     ensures { Gives (λ n. (n, tokens.new)) result (number_within low high tokens.old) }
 {
@@ -83,10 +83,10 @@ pub fn byte_below(tokens: &mut Tokens, limit: u16) -> Result<u8, ReadError>
     Ok(number as u8)
 }
 
-/// Takes the number of a row, `number` rows standing before it, where at most `count` rows may come.
+/// Takes the number of a row, with `number` rows before it, where at most `count` rows may come.
 ///
 /// # Errors
-/// As `number_within`; a number other than the row's own is Range, and so is any where all rows stand before.
+/// As `number_within`; a number other than the row's own is Range, and so is any where all rows were there before.
 pub fn row_number(tokens: &mut Tokens, number: u16, count: u16) -> Result<(), ReadError>
     ensures value { Gives (λ _. (number, tokens.new)) result (row_number number count tokens.old) }
     ensures room { OnOk result (number < count) }

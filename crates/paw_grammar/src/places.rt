@@ -21,7 +21,7 @@ use paw_faults::unread::Unread;
 /// The names of the places 252 to 255.
 static PLACE_NAMES: [&[u8]; 4] = [b"NOTCREATED", b"WORN", b"CARRIED", b"HERE"];
 
-/// The names of the places 252 to 254, where an object may be at first.
+/// The names of the places 252 to 254, where an object may begin.
 static FIRST_PLACE_NAMES: [&[u8]; 3] = [b"NOTCREATED", b"WORN", b"CARRIED"];
 
 /// The place with the first of the names.
@@ -66,11 +66,11 @@ fn named_place(tokens: &mut Tokens, names: &[&[u8]], locations: u16) -> Result<u
     }
 }
 
-/// Takes the first place of an object: a location, or 252 to 254, which may be written `NOTCREATED`, `WORN`, `CARRIED`.
+/// Takes the place where an object begins: a location, or 252 to 254, which may be `NOTCREATED`, `WORN` or `CARRIED`.
 ///
 /// # Errors
-/// Missing, Number or Range, by this order, exactly where the line ends, the token is neither a number nor such a name,
-/// or it is the number of no such place.
+/// Missing, Number or Range, in this order, exactly where the line ends, the token is neither a number nor such a name,
+/// or it is a number but not of such a place.
 pub fn first_place(tokens: &mut Tokens, locations: u16) -> Result<u8, ReadError>
     requires { locations ≤ 256 }
     ensures { Gives (λ place. (place, tokens.new)) result (first_place locations tokens.old) }

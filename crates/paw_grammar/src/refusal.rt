@@ -3,5 +3,5 @@
 use paw_base::fault::SourceKind;
 use paw_faults::unread::Unread;
 
-/// Why a line isn't read: want of memory, or its first fault.
+/// Why a line isn't read: lack of memory, or its first fault.
 pub type ReadError = Unread<SourceKind>;

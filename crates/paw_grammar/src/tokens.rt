@@ -64,7 +64,7 @@ impl<'a> Tokens<'a> {
         }
     }
 
-    /// Whether the next token begins with `@`. It is left.
+    /// Whether the next token begins with `@`. It isn't taken.
     pub(crate) fn at_is_next(&self) -> bool
         ensures { result ≡ at_is_next self.now }
     {

@@ -27,6 +27,7 @@ struct Meaning {
     class: u8,
 }
 
+/// The declared word with these letters.
 fn find(words: &BTreeMap<[u8; WORD_LENGTH], Meaning>, letters: [u8; WORD_LENGTH]) -> Option<Word>
     ensures { result ≡ word_of letters (words_in words.now.entries) }
 {
@@ -40,6 +41,7 @@ fn find(words: &BTreeMap<[u8; WORD_LENGTH], Meaning>, letters: [u8; WORD_LENGTH]
     }
 }
 
+/// How many words are declared.
 fn count(words: &BTreeMap<[u8; WORD_LENGTH], Meaning>) -> usize
     ensures { result ≡ length (words_in words.now.entries) }
 {
@@ -98,7 +100,7 @@ fn as_verb(word: Option<Word>) -> Option<u8>
     }
 }
 
-/// 255 for `_`, and else this value.
+/// 255 for `_`, and otherwise this value.
 fn or_none(token: &[u8], value: Option<u8>) -> Option<u8>
     ensures { result ≡ or_none (λ _. value) token.now }
 {
@@ -108,7 +110,7 @@ fn or_none(token: &[u8], value: Option<u8>) -> Option<u8>
     }
 }
 
-/// 1 for `*`, 255 for `_`, and else this value.
+/// 1 for `*`, 255 for `_`, and otherwise this value.
 fn or_any(token: &[u8], value: Option<u8>) -> Option<u8>
     ensures { result ≡ or_any (λ _. value) token.now }
 {
@@ -157,7 +159,7 @@ impl Vocabulary {
     /// Declares a word.
     ///
     /// # Errors
-    /// Duplicate exactly where its letters are declared, of whatever class, and else TooBig exactly where there are
+    /// Duplicate exactly where its letters are declared, with any class, and otherwise TooBig exactly where there are
     /// 2,000 words. Memory where there is none.
     pub fn declare(&mut self, word: Word) -> Result<(), ReadError>
         ensures { Gives (λ _. self.new) result (declared word self.old) }
@@ -189,19 +191,21 @@ impl Vocabulary {
         find(&self.words, letters)
     }
 
+    /// The value of the word that a token spells, where it has this class.
     fn word_value(&self, class: u8, token: &[u8]) -> Option<u8>
         ensures { result ≡ in_class class (known self.now token.now) }
     {
         in_class(class, self.known(token))
     }
 
+    /// The verb value of the word that a token spells.
     fn verb_value(&self, token: &[u8]) -> Option<u8>
         ensures { result ≡ as_verb (known self.now token.now) }
     {
         as_verb(self.known(token))
     }
 
-    /// Takes an object's word, or one that is a parameter: 255 for `_`, and else the value of the word of this class.
+    /// Takes an object's word, or one that is a parameter: 255 for `_`, otherwise the value of the word of this class.
     ///
     /// # Errors
     /// Missing exactly where the line ends, and Word exactly where the token is no such word.
@@ -223,7 +227,7 @@ impl Vocabulary {
         or_word_fault(self.verb_value(token))
     }
 
-    /// Takes the verb of an entry: 1 for `*`, 255 for `_`, and else the value of a verb, or of a noun below 20.
+    /// Takes the verb of an entry: 1 for `*`, 255 for `_`, and otherwise the value of a verb, or of a noun below 20.
     ///
     /// # Errors
     /// As `word_or_none`.
@@ -234,7 +238,7 @@ impl Vocabulary {
         or_word_fault(or_any(token, self.verb_value(token)))
     }
 
-    /// Takes the noun of an entry: 1 for `*`, 255 for `_`, and else the value of a noun.
+    /// Takes the noun of an entry: 1 for `*`, 255 for `_`, and otherwise the value of a noun.
     ///
     /// # Errors
     /// As `word_or_none`.

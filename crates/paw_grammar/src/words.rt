@@ -80,6 +80,7 @@ pub(crate) fn place_among(names: &[&[u8]], token: &[u8]) -> Option<usize>
     names.iter().position(|name| is_named(token, name))
 }
 
+/// The class that a token names, in any case of letters.
 fn class_named(token: &[u8]) -> Option<u8>
     ensures { result ≡ place_among class_names token.now }
 {
@@ -91,7 +92,7 @@ fn class_named(token: &[u8]) -> Option<u8>
 /// `conjunction` and `pronoun`.
 ///
 /// # Errors
-/// Missing exactly where the line ends, and Word exactly where the token is none of these names.
+/// Missing exactly where the line ends, and Word exactly where the token isn't one of these names.
 pub fn class(tokens: &mut Tokens) -> Result<u8, ReadError>
     ensures { Gives (λ class. (class, tokens.new)) result (class tokens.old) }
 {
@@ -102,6 +103,7 @@ pub fn class(tokens: &mut Tokens) -> Result<u8, ReadError>
     }
 }
 
+/// What a kind says of an object: whether it is a container, and whether it may be worn.
 fn kind_named(token: &[u8]) -> Option<(bool, bool)>
     ensures { result ≡ kind_named token.now }
 {
@@ -121,7 +123,7 @@ fn kind_named(token: &[u8]) -> Option<(bool, bool)>
 /// Takes the kind of an object, `-`, `C`, `W` or `CW`: whether it is a container, and whether it may be worn.
 ///
 /// # Errors
-/// Missing exactly where the line ends, and Word exactly where the token is none of these.
+/// Missing exactly where the line ends, and Word exactly where the token isn't one of these.
 pub fn object_kind(tokens: &mut Tokens) -> Result<(bool, bool), ReadError>
     ensures { Gives (λ kind. (kind, tokens.new)) result (object_kind tokens.old) }
 {

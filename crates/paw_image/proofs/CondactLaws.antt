@@ -1,4 +1,4 @@
--- Condacts that are walked over, and the marks that tell where they go on.
+-- Condacts that are walked over, and the marks that say where they go on.
 use Rattle.std.proofs.Common.{◌≡◌, ℕ, zero, suc, ◌+◌, ◌-◌, ◌*◌, ◌/◌, ◌%◌, ◌<◌, ◌≤◌, List, [], ◌∷◌, ◌++◌, length}
 use Rattle.std.proofs.Common.{get_or, take, drop, Option, Result, Some, Ok, Err, refl, sym, ap, subst, ◌∙◌, inl, inr, arith, suc-mul}
 use Rattle.std.specs.Prelude.{◌^◌, slice_get, OnOk}
@@ -25,14 +25,14 @@ use Rattle.paw_image.proofs.RowLaws.{condact_takes}
 use Rattle.paw_image.proofs.SoundRows.{condact_sound}
 use Rattle.paw_image.proofs.Stands.{taken_length}
 
--- ---- so many rows, and then more ----
+-- ---- n rows, and then more ----
 
 bind_bind : {A B C : Type 0} (r : Result A ℕ) (f : A → Result B ℕ) (g : B → Result C ℕ) (h : A → Result C ℕ)
     → ((x : A) → h x ≡ (f x >>= g)) → (r >>= h) ≡ ((r >>= f) >>= g)
 bind_bind (Ok x) f g h same = same x
 bind_bind (Err left) f g h same = refl
 
--- to go over m rows and then over n is to go over m + n
+-- To pass over m rows and then over n is to pass over m + n.
 pub each_add : (pass : List ℕ → Passing) (m n : ℕ) (bytes : List ℕ) → each pass (m + n) bytes ≡ (each pass m bytes >>= each pass n)
 unfolding each
 each_add pass zero n bytes = let k : 0 + n ≡ n = omega arith in rw k refl
@@ -71,7 +71,8 @@ condact_most c =
     let b = parameter_image (second_kind c.code) c.b in
     omega (arith, length-append a b, parameter_most (first_kind c.code) c.a, parameter_most (second_kind c.code) c.b)
 
--- condacts that were gone over are read without their rules, and end at the same place, behind at most three bytes each
+-- Condacts that were passed over are read without their rules and end at the same place, after at most three bytes
+-- each.
 pub record Walked (n : ℕ) (bytes rest : List ℕ) : Type 0 where
   pub past : each past_condact n bytes ≡ Ok rest
   pub end : IsEnd bytes rest
@@ -117,7 +118,7 @@ get_drop (suc n) (x ∷ xs) k = let at : suc n + k ≡ suc (n + k) = omega arith
 
 -- ---- marks ----
 
--- from a number on, marks behind this many eights
+-- From a number on, there is a mark after each of this many eights.
 abbrev pub MarkedSoFar : List ℕ → (start eights : ℕ) → List ℕ → Type 0
 MarkedSoFar marks start eights condacts =
     (k : ℕ) → k < eights → (mark : ℕ) × (slice_get marks (start + k) ≡ Some mark) × GoesOnAt (suc k * 8) condacts mark
@@ -140,14 +141,14 @@ all_marked marks condacts start count so_far k lt =
     let m = so_far k (omega (arith, lt)) in
     (m.0, get_drop start marks k ∙ m.1, m.2)
 
--- the mark behind the condacts that were gone over
+-- The mark after the condacts that were passed over.
 pub mark_is : (d : Preface) (n : ℕ) (bytes rest : List ℕ) → IsBytes bytes → each (after_condact d) n bytes ≡ Ok rest
     → GoesOnAt n bytes (length bytes - length rest)
 mark_is d n bytes rest fits e =
     let walked = condacts_walked d n bytes rest fits e in
     walked.past ∙ ap (λ (r : List ℕ). Ok r) (sym walked.end)
 
--- marks that are kept mark the same entry
+-- Marks that are kept mark the same entry.
 pub entry_kept : (first : ℕ) (marks more bytes : List ℕ) → KeepsPlaces marks more → MarkEntry (drop first marks) bytes → MarkEntry (drop first more) bytes
 entry_kept first marks more [] keeps h = tt
 entry_kept first marks more (verb ∷ []) keeps h = tt
@@ -176,21 +177,21 @@ one_more_entry all offsets firsts marks more p same so_far keeps last e q found 
 
 -- ---- a condact by its mark ----
 
--- of a condact that isn't among the first eight, the mark of its eight
+-- A condact that isn't among the first eight has the mark of its eight.
 pub mark_of : (marks condacts : List ℕ) (count at eights : ℕ) → AreMarks marks count condacts → at < count → at / 8 ≡ suc eights
     → (mark : ℕ) × (slice_get marks eights ≡ Some mark) × GoesOnAt (at / 8 * 8) condacts mark
 mark_of marks condacts count at eights are lt e =
     let m = are eights (omega (arith, lt, e)) in
     (m.0, m.1, subst (λ (n : ℕ). GoesOnAt (n * 8) condacts m.0) (sym e) m.2)
 
--- a condact is read from its mark on
+-- A condact is read from its mark on.
 pub condact_from : (at count : ℕ) (condacts rest : List ℕ) (x : Option Condact) → at < count → each past_condact (at / 8 * 8) condacts ≡ Ok rest
     → value_of (condact_after (at % 8) rest) ≡ x → x ≡ condact_among at count condacts
 condact_from at count condacts rest x lt e is =
     let same = each_more past_condact (at / 8 * 8) (at % 8) at condacts rest (omega arith) e in
     sym (rw (lt-ltb at count lt, same) is)
 
--- the marks of the entry at the front, whose first three bytes are its verb, its noun and its number of condacts
+-- The marks of the entry at the front, whose first three bytes are its verb, its noun and its number of condacts.
 pub marks_at : (marks row : List ℕ) → 3 ≤ length row → MarkEntry marks row → AreMarks marks (get_or row 2 0) (take (length row - 3) (drop 3 row))
 marks_at marks [] le h = absurd (omega (arith, le))
 marks_at marks (verb ∷ []) le h = absurd (omega (arith, le))
@@ -198,9 +199,9 @@ marks_at marks (verb ∷ noun ∷ []) le h = absurd (omega (arith, le))
 marks_at marks (verb ∷ noun ∷ count ∷ condacts) le h =
     subst (AreMarks marks count) (sym (take_all (length (verb ∷ noun ∷ count ∷ condacts) - 3) condacts (omega arith))) h
 
--- ---- as they are gone over ----
+-- ---- as they are passed over ----
 
--- the first fault of eight rows behind some is that of all
+-- The first fault of eight rows after some others is that of all.
 pub eights_fail : (pass : List ℕ → Passing) (i count : ℕ) (bytes rest : List ℕ) (e : Unread ℕ) → i * 8 + 8 ≤ count
     → each pass (i * 8) bytes ≡ Ok rest → Fails e (each pass 8 rest) → Fails e (each pass count bytes)
 eights_fail pass i count bytes rest e le so_far h =

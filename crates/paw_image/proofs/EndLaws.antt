@@ -1,4 +1,4 @@
--- The last of all bytes: what is left behind rows at their front is the last of them too.
+-- The last of all bytes: what is left after rows at their front is the last of them too.
 use Rattle.std.proofs.Common.{◌≡◌, ℕ, ◌+◌, ◌-◌, ◌≤◌, Bool, List, length, drop, Ok, refl, sym, ap, subst, ◌∙◌, arith}
 use Rattle.std.specs.List.{flat_map}
 use Rattle.std.proofs.lemmas.List.{drop_at, drop-drop, length-drop, get_or-drop}
@@ -38,7 +38,7 @@ pub end_fits : (all bytes : List ℕ) → IsBytes all → IsEnd all bytes → Is
 end_fits all bytes fits p =
     subst IsBytes p (λ i. rw (get_or-drop (length all - length bytes) all i 0) (fits (length all - length bytes + i)))
 
--- ---- behind rows ----
+-- ---- after rows ----
 
 module _ (all bytes rest : List ℕ) (fits : IsBytes all) (end : IsEnd all bytes) where
   pub rows_end : {A : Type 0} (pass : List ℕ → Passing) (row : List ℕ → Reading A) (image : A → List ℕ) (rule : A → Bool)

@@ -13,23 +13,23 @@ pub fault_first : {A B : Type 0} (r : Result A ℕ) (f : A → Result B ℕ) →
 fault_first (Ok x) f h = absurd h
 fault_first (Err left) f h = tt
 
--- what follows a step with a value has none where its own first step has none
+-- What follows a step with a value has none where its own first step has none.
 pub fault_next : {A B : Type 0} (r : Result A ℕ) (f : A → Result B ℕ) (x : A) → r ≡ Ok x → IsFault (f x) → IsFault (r >>= f)
 fault_next r f x e h = rw e h
 
--- that a fault of a first step, or of the second, is one of both
+-- That a fault of a first step, or of the second, is one of both.
 pub ruleset fault_steps = (fault_first, fault_next)
 
 pub no_value : {A : Type 0} (r : Reading A) → IsFault r → value_of r ≡ None
 no_value (Ok x) h = absurd h
 no_value (Err left) h = refl
 
--- a fault of a first step is one of what follows it
+-- A fault of a first step is one of what follows it.
 pub fails_next : {A B : Type 0} (e : Unread ℕ) (r : Result A ℕ) (f : A → Result B ℕ) → Fails e r → Fails e (r >>= f)
 fails_next fault.Memory r f h = tt
 fails_next (fault.Fault left) r f h = rw h refl
 
--- where one row has no value, so many have none
+-- Where one row has no value, all of them together have none.
 pub each_fault : (pass : List ℕ → Passing) (count i : ℕ) (bytes : List ℕ) (total : Passing) → i < count
     → IsFault (pass bytes) → each pass (count - i) bytes ≡ total → IsFault total
 unfolding each

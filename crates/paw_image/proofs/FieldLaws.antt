@@ -31,16 +31,16 @@ read_ok x = Ok x
 ok_is : {A : Type 0} (x y : A) → read_ok x ≡ read_ok y → x ≡ y
 ok_is x y e = cc
 
--- what holds of the value that was made holds of the value that was answered
+-- What holds of the value that was made holds of the value that was answered.
 pub at_ok : {A : Type 0} (P : A → Type 0) (x y : A) → read_ok x ≡ read_ok y → P x → P y
 at_ok P x y e p = subst P (ok_is x y e) p
 
--- what follows from the value of a step that did not fail
+-- What follows from the value of a step that did not fail.
 pub bind_then : {A B : Type 0} (P : Type 0) (r : Result A ℕ) (f : A → Result B ℕ) (y : B) → (r >>= f) ≡ Ok y → ((x : A) → r ≡ Ok x → f x ≡ Ok y → P) → P
 bind_then P (Ok x) f y e go = go x refl e
 bind_then P (Err left) f y e go = absurd cc
 
--- a test that failed nothing
+-- A test that failed nothing.
 pub guard_ok : {A : Type 0} (b : Bool) (left : ℕ) (x : Result A ℕ) (y : A) → cond b (Err left) x ≡ Ok y → (b ≡ false) × (x ≡ Ok y)
 guard_ok true left x y e = absurd cc
 guard_ok false left x y e = (refl, e)

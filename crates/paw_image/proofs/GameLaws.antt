@@ -22,7 +22,7 @@ use Rattle.paw_image.proofs.SoundRows.{declared_as}
 use Rattle.paw_image.proofs.ValidLaws.{parts_of, valid_fits}
 use Rattle.paw_image.proofs.VersionLaws.{needed_by, needed_byte}
 
--- the lists after the words one after another, from each on, and what follows them
+-- The lists after the words one after another, from each on, and what follows them.
 abbrev pub from_tables : GameLists → List ℕ → List ℕ
 from_tables g rest = flat_map table_image g.tables ++ rest
 
@@ -41,14 +41,14 @@ from_messages g rest = flat_map text_image g.messages ++ from_objects g rest
 abbrev pub lists_image : GameLists → List ℕ → List ℕ
 lists_image g rest = flat_map text_image g.system ++ from_messages g rest
 
--- what declares as many rows as there are is what the game declares
+-- What declares as many rows as there are is what the game declares.
 declared_is : (d : Preface) (g : GameLists) → g.words ≡ d.words → length d.words ≡ d.counts.words
     → length g.system ≡ d.counts.system → length g.messages ≡ d.counts.messages
     → length g.objects ≡ d.counts.objects → length g.locations ≡ d.counts.locations
     → length g.tables ≡ d.counts.tables → d ≡ declared_as d.version g
 declared_is d g words a b c e f h = rw (words, a, b, c, e, f, h) refl
 
--- lists that were read
+-- Lists that were read.
 pub record AreTaken (d : Preface) (bytes : List ℕ) (x : GameLists × List ℕ) : Type 0 where
   pub parts : bytes ≡ lists_image x.0 x.1
   pub declared : length d.words ≡ d.counts.words → d ≡ declared_as d.version x.0
@@ -109,7 +109,7 @@ image_is v g is =
     let spelled : image g ≡ front_with (version_of g) (counts_of g) g.words ++ lists_image g [] = simp (append_assoc, append-nil) in
     spelled ∙ ap (λ (byte : ℕ). front_with byte (counts_of g) g.words ++ lists_image g []) (sym is)
 
--- what is read is the game, where nothing is left and the version is right
+-- What is read is the game, where nothing is left and the version is right.
 pub ended : (g : GameLists) (right : Bool) → right ≡ true → (if eqb (length {A = ℕ} []) 0 && right then read_ok g else Err 0) ≡ Ok g
 ended g right h = rw h refl
 

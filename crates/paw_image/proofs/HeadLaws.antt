@@ -31,7 +31,7 @@ use Rattle.paw_image.proofs.ValidLaws.{letters_fit, ValidParts}
 
 -- ---- mark and version ----
 
--- a byte that tells a version is the one that it is told by
+-- A byte that stands for a version is the byte of that version.
 told : (byte : ℕ) → is_within 1 2 byte ≡ true → byte ≡ byte_of (version_told byte)
 told zero h = absurd cc
 told (suc zero) h = refl
@@ -61,13 +61,13 @@ version_passes Two rest = rw (bytes_again 4 (codes "PAWI") (2 ∷ rest) refl) re
 
 -- ---- counts ----
 
--- the six counts
+-- The six counts.
 abbrev pub counts_image : Counts → List ℕ
 counts_image c =
     two_bytes c.words ++ two_bytes c.system ++ two_bytes c.messages ++ two_bytes c.objects ++ two_bytes c.locations
     ++ two_bytes c.tables
 
--- the counts keep their limits
+-- The counts keep their limits.
 pub record AreFew (c : Counts) : Type 0 where
   pub words : is_within 0 2000 c.words ≡ true
   pub system : is_within 0 256 c.system ≡ true
@@ -76,7 +76,7 @@ pub record AreFew (c : Counts) : Type 0 where
   pub locations : is_within 1 252 c.locations ≡ true
   pub tables : is_within 3 256 c.tables ≡ true
 
--- what follows from a number that kept its limits
+-- What follows from a number that kept its limits.
 within_then : {B : Type 0} (P : Type 0) (least most : ℕ) (bytes : List ℕ) (f : ℕ × List ℕ → Result B ℕ) (y : B)
     → IsBytes bytes → (number_kept least most bytes >>= f) ≡ Ok y
     → ((x : ℕ × List ℕ) → Takes bytes (two_bytes x.0) x.1 → is_within least most x.0 ≡ true → f x ≡ Ok y → P) → P
@@ -203,7 +203,7 @@ words_pass before (w ∷ ws) rest h rise =
 
 -- ---- the front ----
 
--- mark, a byte for the version, counts and words
+-- Mark, a byte for the version, counts and words.
 abbrev pub front_with : ℕ → Counts → List Word → List ℕ
 front_with byte counts words = codes "PAWI" ++ (byte ∷ (counts_image counts ++ flat_map word_image words))
 

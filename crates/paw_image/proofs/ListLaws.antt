@@ -6,11 +6,11 @@ use Rattle.paw_image.specs.Reading.{Reading, byte_at}
 use Rattle.paw_image.specs.inner.Reading.{few_at, leading_rows}
 use Rattle.paw_image.proofs.FieldLaws.{IsBytes, Takes, Takes-then, bind_then, at_ok, byte_takes}
 
--- a row that is read stands there as its image
+-- A row that is read stands there as its image.
 abbrev pub TakesRow : {A : Type 0} → (List ℕ → Reading A) → (A → List ℕ) → Type 0
 TakesRow {A} row image = (bytes : List ℕ) (x : A × List ℕ) → IsBytes bytes → row bytes ≡ Ok x → Takes bytes (image x.0) x.1
 
--- the image of a row that fits is read as that row
+-- The image of a row that fits is read as that row.
 abbrev pub ReadsAgain : {A : Type 0} → (List ℕ → Reading A) → (A → List ℕ) → (A → Type 0) → Type 0
 ReadsAgain {A} row image Fits = (x : A) (rest : List ℕ) → Fits x → row (image x ++ rest) ≡ Ok (x, rest)
 
@@ -34,7 +34,7 @@ rows_again row image Fits again [] rest fits = refl
 rows_again row image Fits again (x ∷ xs) rest fits =
     rw (append_assoc (image x) (flat_map image xs) rest, again x (flat_map image xs ++ rest) fits.0, rows_again row image Fits again xs rest fits.1) refl
 
--- ---- behind a count of one byte ----
+-- ---- after a count of one byte ----
 
 pub few_take : {A : Type 0} (row : List ℕ → Reading A) (image : A → List ℕ) → TakesRow row image
     → TakesRow (few_at row) (λ xs. length xs ∷ flat_map image xs)
@@ -53,11 +53,11 @@ few_again row image Fits again xs rest fits = rows_again row image Fits again xs
 
 -- ---- writing at the end ----
 
--- what was written, and then more
+-- What was written, and then more.
 pub grows : (a x y : List ℕ) {b c z : List ℕ} → b ≡ a ++ x → c ≡ b ++ z → z ≡ y → c ≡ a ++ (x ++ y)
 grows a x y {b = b} first second is = second ∙ ap (λ (t : List ℕ). b ++ t) is ∙ ap (λ (t : List ℕ). t ++ y) first ∙ append_assoc a x y
 
--- the same where the last step may have failed
+-- The same where the last step may have failed.
 pub grows_last : {T E : Type 0} (r : Result T E) (a x y : List ℕ) {b z : List ℕ} (c : List ℕ) → b ≡ a ++ x
     → OnOk r (c ≡ b ++ z) → z ≡ y → OnOk r (c ≡ a ++ (x ++ y))
 grows_last (Ok _) a x y c first second is = grows a x y first second is

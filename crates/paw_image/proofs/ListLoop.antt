@@ -13,11 +13,11 @@ use Rattle.paw_image.specs.inner.Reading.{leading_rows}
 use Rattle.paw_image.specs.inner.Words.{letters_if_word, last_letters}
 use Rattle.paw_image.proofs.Faults.{fails_next}
 
--- what was read before, and what is still read
+-- What was read before, and what is still read.
 abbrev pub with_front : {A : Type 0} → List A → Reading (List A) → Reading (List A)
 with_front front reading = reading >>= λ x. Ok (front ++ x.0, x.1)
 
--- a row, and what is still read after it
+-- A row, and what is still read after it.
 abbrev pub one_more : {A : Type 0} → Reading A → (A → List ℕ → Reading (List A)) → Reading (List A)
 one_more one others = one >>= λ x. others x.0 x.1 >>= λ y. Ok (x.0 ∷ y.0, y.1)
 

@@ -26,7 +26,7 @@ use Rattle.paw_image.proofs.PlaceLaws.{next_at}
 byte_at_place : (bytes front rest : List ℕ) (at k : ℕ) → drop at bytes ≡ front ++ rest → get_or bytes (at + k) 0 ≡ get_or (front ++ rest) k 0
 byte_at_place bytes front rest at k e = sym (get_or-drop at bytes k 0) ∙ ap (λ (l : List ℕ). get_or l k 0) e
 
--- the heads read where entries begin are those of the entries
+-- The heads read where entries begin are those of the entries.
 heads_same : (bytes rest : List ℕ) (es : List Entry) (n at : ℕ) → drop at bytes ≡ flat_map entry_image es ++ rest
     → heads_at bytes n (offsets entry_image at es) ≡ heads_of n es
 heads_same bytes rest [] n at e = refl
@@ -37,7 +37,7 @@ heads_same bytes rest (x ∷ xs) n at e =
     let noun : get_or bytes (at + 1) 0 ≡ x.noun = byte_at_place bytes (entry_image x) others at 1 here in
     rw (verb, noun, heads_same bytes rest xs (suc n) (at + length (entry_image x)) (next_at bytes (entry_image x) others at here)) refl
 
--- the entry of a head
+-- The entry of a head.
 record OfEntry (es : List Entry) (n k : ℕ) (h : Head) : Type 0 where
   entry : Entry
   is : slice_get es k ≡ Some entry
@@ -70,7 +70,7 @@ head_of_entry (y ∷ ys) n (suc k) x e =
 
 -- ---- the first entry that matches ----
 
--- the first doesn't match, so it is a later one
+-- The first doesn't match, so it is a later one.
 not_here : (n : ℕ) (x : Entry) (xs : List Entry) (verb noun e : ℕ) → matches verb noun x ≡ false
     → IsFound verb noun n (x ∷ xs) e → IsFound verb noun (suc n) xs e
 not_here n x xs verb noun e differs f =
@@ -107,7 +107,7 @@ words_match : (h : Head) (x : Entry) (verb noun : ℕ) → h.verb ≡ x.verb →
 words_match h x verb noun same same_too both = rw (same, same_too) at both
 
 module _ (es : List Entry) (heads : List Head) (perm : IsPermutation (heads_of 0 es) heads) (verb from noun : ℕ) where
-  -- the entry of a head that matches
+  -- The entry of a head that matches.
   entry_found : (e : ℕ) → IsMatch heads (is_match verb noun) from e → IsFound verb noun from (drop from es) e
   entry_found e m =
       let found = at_contains (heads_of 0 es) m.head (Contains-permutation heads (heads_of 0 es) m.head (IsPermutation-sym (heads_of 0 es) heads perm) m.is) in
@@ -121,7 +121,7 @@ module _ (es : List Entry) (heads : List Head) (perm : IsPermutation (heads_of 0
         matching = words_match m.head o.entry verb noun o.verb o.noun m.matching;
       }
 
-  -- the head of an entry that matches
+  -- The head of an entry that matches.
   head_found : (e : ℕ) → IsFound verb noun from (drop from es) e → IsMatch heads (is_match verb noun) from e
   head_found e f =
       let place : e ≡ from + (e - from) = omega (arith, f.reached) in

@@ -23,14 +23,14 @@ pub IsLeast-same : (P Q : ℕ → Type 0) → ((e : ℕ) → P e → Q e) → ((
 IsLeast-same P Q to from None h = λ e q. h e (from e q)
 IsLeast-same P Q to from (Some e) h = (to e h.0, λ f q. h.1 f (from f q))
 
--- only one number is the first with a property
+-- Only one number is the first with a property.
 pub one_least : (P : ℕ → Type 0) (r s : Option ℕ) → IsLeast P r → IsLeast P s → r ≡ s
 one_least P None None h k = refl
 one_least P None (Some e) h k = absurd (h e k.0)
 one_least P (Some e) None h k = absurd (k e h.0)
 one_least P (Some e) (Some f) h k = let same : e ≡ f = omega (arith, h.1 f k.0, k.1 e h.0) in ap Some same
 
--- the first with one property or the other
+-- The first with one property or the other.
 lower_least : (P Q : ℕ → Type 0) (r s : Option ℕ) → IsLeast P r → IsLeast Q s → IsLeast (λ e. P e ⊎ Q e) (lower r s)
 lower_least P Q None None h k = λ e either. elim either [ inl p ↦ h e p | inr q ↦ k e q ]
 lower_least P Q None (Some f) h k = (inr k.0, λ e either. elim either [ inl p ↦ absurd (h e p) | inr q ↦ k.1 e q ])
@@ -59,7 +59,7 @@ IsMatch-other : (heads : List Head) (p q : Head → Bool) → ((h : Head) → p 
     → IsMatch heads p from e → IsMatch heads q from e
 IsMatch-other heads p q weaker from e m = record { reached = m.reached; head = m.head; is = m.is; number = m.number; matching = weaker m.head m.matching }
 
--- the first of a head that passes one test or the other
+-- The first of a head that passes one test or the other.
 pub either_least : (heads : List Head) (p q : Head → Bool) (from : ℕ) (r s : Option ℕ) → IsLeast (IsMatch heads p from) r → IsLeast (IsMatch heads q from) s
     → IsLeast (IsMatch heads (λ h. p h || q h) from) (lower r s)
 either_least heads p q from r s h k =
@@ -85,7 +85,7 @@ pub heads_long : (bytes : List ℕ) (n : ℕ) (ps : List ℕ) → length (heads_
 heads_long bytes n [] = refl
 heads_long bytes n (p ∷ ps) = ap suc (heads_long bytes (suc n) ps)
 
--- the heads at these offsets, in order, rise
+-- The heads at these offsets, in order, rise.
 pub sorted_rise : (bytes offsets : List ℕ) (heads : List Head) → IsBytes bytes → length offsets ≤ 4000
     → IsPermutation (heads_at bytes 0 offsets) heads → IsNonDecreasingBy rank heads → Rises heads
 sorted_rise bytes offsets heads fits few same rises =
@@ -110,7 +110,7 @@ pub start_at : (heads : List Head) (starts : List ℕ) → AreStarts heads start
 start_at heads starts a verb start le e =
     subst (IsStart heads verb) (get_or_default starts verb 0 start (omega (arith, a.long)) ∙ sym e) (a.each verb le)
 
--- the heads of a verb end where those of the next one begin
+-- The heads of a verb end where those of the next one begin.
 pub starts_rise : (heads : List Head) (verb start end : ℕ) → IsStart heads verb start → IsStart heads (verb + 1) end → start ≤ end
 starts_rise heads verb start end s e =
     let d : Head = record { verb = 0; noun = 0; entry = 0 } in
@@ -119,7 +119,7 @@ starts_rise heads verb start end s e =
       | inr le ↦ le
     ]
 
--- between which places the heads of a verb stand
+-- Between which places the heads of a verb stand.
 pub record RunsAt (order : Order) (verb start end : ℕ) : Type 0 where
   pub starts : IsStart order.heads.items verb start
   pub ends : IsStart order.heads.items (verb + 1) end
@@ -178,7 +178,7 @@ module _ (heads : List Head) (r : Rises heads) (verb start end : ℕ) (s : IsSta
 
 module _ (heads : List Head) (verb noun from at : ℕ) (r : Rises heads) (verbs : All (λ h. h.verb ≡ verb) heads)
     (parted : IsPartitionPoint (λ h. ltb (rank h) (ranked verb noun from) ≡ true) (λ h. ltb (rank h) (ranked verb noun from) ≡ false) heads at) where
-  -- a match stands not before the place that was searched for
+  -- A match stands not before the place that was searched for.
   pub not_before : (e : ℕ) (m : IsMatch heads (λ h. eqb h.noun noun) from e) → at ≤ m.is.0
   not_before e m =
       elim (cases_lt m.is.0 at) [
@@ -192,7 +192,7 @@ module _ (heads : List Head) (verb noun from at : ℕ) (r : Rises heads) (verbs 
   pub none_past : length heads ≤ at → IsLeast (IsMatch heads (λ h. eqb h.noun noun) from) None
   none_past past = λ e m. omega (arith, not_before e m, m.is.1)
 
-  -- the head there is no later than a match
+  -- The head there is no later than a match.
   no_later : (h : Head) → at < length heads → h ≡ get_or heads at h → (e : ℕ) (m : IsMatch heads (λ x. eqb x.noun noun) from e) → rank h ≤ rank m.head
   no_later h lt is e m =
       let up = r.rises at m.is.0 m.head (not_before e m) m.is.1 in
@@ -231,7 +231,7 @@ module _ (heads : List Head) (verb noun from at : ℕ) (r : Rises heads) (verbs 
       ) in
       other same
 
--- the first head has the least noun
+-- The first head has the least noun.
 pub all_above : (heads : List Head) (verb noun from : ℕ) (h : Head) → Rises heads → All (λ x. x.verb ≡ verb) heads
     → 0 < length heads → h ≡ get_or heads 0 h → noun < h.noun → IsLeast (IsMatch heads (λ x. eqb x.noun noun) from) None
 all_above heads verb noun from h r verbs some is above = λ e m.
@@ -274,7 +274,7 @@ one_of_three false true false false = refl
 one_of_three false false true m = refl
 one_of_three false false false m = refl
 
--- an entry's verb matches where it is any verb, none, or this one
+-- An entry's verb matches where it is any verb, none, or this one.
 pub least_of_three : (heads : List Head) (verb noun from : ℕ) (any none same : Option ℕ)
     → IsLeast (IsMatch heads (λ h. eqb h.verb 1 && is_for h.noun noun) from) any
     → IsLeast (IsMatch heads (λ h. eqb h.verb 255 && is_for h.noun noun) from) none
@@ -291,7 +291,7 @@ least_of_three heads verb noun from any none same a n s =
     (lower any (lower none same))
     (either_least heads (with 1) (λ h. with 255 h || with verb h) from any (lower none same) a (either_least heads (with 255) (with verb) from none same n s))
 
--- what was found of the entries not below a number is not below it
+-- What was found of the entries not below a number is not below it.
 pub least_reached : (heads : List Head) (has : Head → Bool) (from : ℕ) (r : Option ℕ)
     → IsLeast (IsMatch heads has from) r → IfSome r (λ e. from ≤ e)
 least_reached heads has from None least = tt

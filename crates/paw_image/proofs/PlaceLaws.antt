@@ -40,11 +40,11 @@ all_at P [] k x h e = absurd (none-some x e)
 all_at P (y ∷ ys) zero x h e = subst P (same_Some y x e) h.0
 all_at P (y ∷ ys) (suc k) x h e = all_at P ys k x h.1 e
 
--- what follows what stands at a place
+-- What follows what stands at a place.
 pub next_at : (bytes text rest : List ℕ) (at : ℕ) → drop at bytes ≡ text ++ rest → drop (at + length text) bytes ≡ rest
 next_at bytes text rest at e = sym (drop-drop (length text) at bytes) ∙ ap (drop (length text)) e ∙ drop_at text rest (length text) refl
 
--- the row that stands at the place where it begins
+-- The row that stands at the place where it begins.
 pub record RowAt {A : Type 0} (image : A → List ℕ) (bytes : List ℕ) (found : Option A) (p : ℕ) : Type 0 where
   pub row : A
   pub after : List ℕ
@@ -68,7 +68,7 @@ no_row image (x ∷ xs) at (suc k) h = no_row image xs (at + length (image x)) k
 
 -- ---- the lists ----
 
--- what stands where each list begins
+-- What stands where each list begins.
 pub record ListsAt (bytes : List ℕ) (g : GameLists) : Type 0 where
   pub after_system : List ℕ
   pub system : drop (system_begins g) bytes ≡ flat_map text_image g.system ++ after_system
@@ -192,7 +192,7 @@ no_exit g verb k h = rw (no_row exits_image g.exits (exits_begin g) k h) refl
 
 -- ---- entries ----
 
--- the entries of a table, where they begin
+-- The entries of a table, where they begin.
 pub record TableAt (bytes : List ℕ) (found : Option (List Entry)) (ps : List ℕ) : Type 0 where
   pub rows : List Entry
   pub at : ℕ
@@ -233,7 +233,7 @@ entry_in_table bytes found (Some ps) k p there h =
     let t = there ps refl in
     rw t.is (row_lies entry_image bytes t.after t.rows t.at t.lies k p (rw t.begin at h))
 
--- the entry that stands at the place where it begins
+-- The entry that stands at the place where it begins.
 pub entry_lies : (bytes : List ℕ) (g : GameLists) → ListsAt bytes g → (t k p : ℕ)
     → slice_get (unwrap_or (slice_get (entry_offsets (tables_begin_at g) g.tables) t) []) k ≡ Some p
     → RowAt entry_image bytes (slice_get (unwrap_or (slice_get g.tables t) []) k) p
@@ -279,7 +279,7 @@ condact_found (c ∷ cs) rest (suc k) fits lt =
       condact_again c (flat_map condact_image cs ++ rest) fits.0,
     ) (condact_found cs rest k fits.1 (omega arith))
 
--- what the bytes of an entry say
+-- What the bytes of an entry say.
 pub condact_there : (e : Entry) (after : List ℕ) (k : ℕ) → AllByRecursion FitsCondact e.condacts
     → nth_condact k (entry_image e ++ after) ≡ slice_get e.condacts k
 unfolding nth_condact

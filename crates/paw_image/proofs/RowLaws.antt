@@ -46,7 +46,7 @@ text_again text rest fits = rw (number_again (length text) (text ++ rest) fits, 
 abbrev pub facts_image : ObjectFacts → List ℕ
 facts_image f = f.noun ∷ f.adjective ∷ f.start ∷ weight_byte f.weight f.container f.wearable ∷ []
 
--- a bit that is 0 or 1, times its worth
+-- A bit that is 0 or 1, times its worth.
 worth_64 : (bit : ℕ) → bit < 2 → cond (not (eqb (bit * 64) 0)) 64 0 ≡ bit * 64
 worth_64 zero lt = refl
 worth_64 (suc zero) lt = refl
@@ -57,7 +57,7 @@ worth_128 zero lt = refl
 worth_128 (suc zero) lt = refl
 worth_128 (suc (suc bit)) lt = absurd (omega arith)
 
--- the three parts of a byte make up the byte
+-- The three parts of a byte make up the byte.
 weight_takes : (b : ℕ) → b < 256 → weight_byte (bit_and b 63) (not (eqb (bit_and b 64) 0)) (not (eqb (bit_and b 128) 0)) ≡ b
 weight_takes b lt =
     rw (and_mask b 6, and_pow b 6, and_pow b 7)
@@ -65,7 +65,7 @@ weight_takes b lt =
     let h128 = worth_128 (bit_at b 7) (omega arith) in
     rw (h64, h128) (omega arith))
 
--- the bits of a byte with this weight, and with these two bits above it
+-- The bits of a byte with this weight, and with these two bits above it.
 byte_parts : (b weight six seven : ℕ) → b ≡ weight + six * 64 + seven * 128 → weight < 64 → six < 2 → seven < 2
     → (bit_and b 63 ≡ weight) × (not (eqb (bit_and b 64) 0) ≡ not (eqb (six * 64) 0))
     × (not (eqb (bit_and b 128) 0) ≡ not (eqb (seven * 128) 0))
@@ -74,7 +74,7 @@ byte_parts b weight six seven is low bit other =
     let seven_is : bit_at b 7 ≡ seven = omega (arith, is, low, bit, other) in
     (and_mask b 6 ∙ omega (arith, is, low, bit, other), rw (and_pow b 6, six_is) refl, rw (and_pow b 7, seven_is) refl)
 
--- the byte gives the three parts back
+-- The byte gives the three parts back.
 byte_gives : (weight : ℕ) (container wearable : Bool) → weight < 64
     → (bit_and (weight_byte weight container wearable) 63 ≡ weight)
     × (not (eqb (bit_and (weight_byte weight container wearable) 64) 0) ≡ container)

@@ -32,7 +32,7 @@ use Rattle.paw_image.proofs.ListLaws.{rows_take}
 use Rattle.paw_image.proofs.RowLaws.{text_takes, exit_takes, condact_takes, entry_takes, parameter_takes, table_takes}
 use Rattle.paw_image.proofs.Stands.{and_true, kept_then, bytes_length, Stands, SoundRow, rest_fits, each_sound, taken_length}
 
--- what the lists of a game say at their front, in an image of a version
+-- What the lists of a game say at their front, in an image of a version.
 abbrev pub declared_as : Version → GameLists → Preface
 declared_as v g = record { version = v; counts = counts_of g; words = g.words }
 
@@ -84,7 +84,7 @@ object_sound d bytes rest fits e =
 
 -- ---- exits ----
 
--- none of the exits has one of these verbs
+-- None of the exits has one of these verbs.
 abbrev pub none_of : List ℕ → List Exit → Bool
 none_of verbs xs = list_all (λ x. not (list_any (λ earlier. eqb earlier x.verb) verbs)) xs
 
@@ -98,7 +98,7 @@ split_or false true false q = refl
 split_or false false true q = refl
 split_or false false false q = refl
 
--- none of them has this verb or one of these, exactly where none has this one and none has one of these
+-- None of them has this verb or one of these, exactly where none has this one and none has one of these.
 pub none_of-one_more : (v : ℕ) (verbs : List ℕ) (xs : List Exit) → none_of (v ∷ verbs) xs ≡ (not (list_any (λ y. eqb y.verb v) xs) && none_of verbs xs)
 none_of-one_more v verbs [] = refl
 none_of-one_more v verbs (x ∷ xs) =
@@ -110,7 +110,7 @@ pub none_of-none : (xs : List Exit) → none_of [] xs ≡ true
 none_of-none [] = refl
 none_of-none (x ∷ xs) = none_of-none xs
 
--- what the exits after those with these verbs keep
+-- What the exits after those with these verbs keep.
 abbrev keeps_after : Preface → List ℕ → List Exit → Bool
 keeps_after d verbs xs = none_of verbs xs && are_exits d.words d.counts.locations xs
 
@@ -156,7 +156,7 @@ exits_sound d bytes rest fits e =
 
 -- ---- tables ----
 
--- the rules of condacts, entries and tables, by what the front declares
+-- The rules of condacts, entries and tables, by what the front declares.
 abbrev pub keeps_condact : Preface → Condact → Bool
 keeps_condact d c =
     may_stand d.version c.code && (is_parameter d.counts d.words (first_kind c.code) c.a && is_parameter d.counts d.words (second_kind c.code) c.b)
@@ -183,7 +183,7 @@ code_is : (bytes : List ℕ) → code_at bytes ≡ field_kept is_code byte_at by
 code_is [] = refl
 code_is (code ∷ bytes) = refl
 
--- what may stand is a code
+-- What may stand is a code.
 stands_code : (v : Version) (code : ℕ) → may_stand v code ≡ true → is_code code ≡ true
 stands_code One code h = rw h refl
 stands_code Two code h = h
@@ -225,7 +225,7 @@ entry_sound d bytes rest fits e =
       keeps = rw (verb_kept, noun_kept, few (length rows.value) (omega (arith, count_taken.1)), rows.keeps) refl;
     })))
 
--- a table, with where its entries begin
+-- A table, with where its entries begin.
 pub record TablePlaced (d : Preface) (bytes rest : List ℕ) : Type 0 where
   pub value : List Entry
   pub reads : leading_table bytes ≡ Ok (value, rest)
@@ -249,7 +249,7 @@ table_placed d bytes rest fits e =
           rw (count_ok, count_kept) (rows.begin total (start + 2) after);
     })
 
--- tables, with where their entries begin
+-- Tables, with where their entries begin.
 pub record TablesPlaced (d : Preface) (n : ℕ) (bytes rest : List ℕ) : Type 0 where
   pub value : List (List Entry)
   pub reads : leading_rows leading_table n bytes ≡ Ok (value, rest)

@@ -16,7 +16,7 @@ use Rattle.paw_game.specs.Valid.{is_within, are_letters, is_word, has_word, is_v
 use Rattle.paw_game.specs.Valid.{is_text, is_object, is_exits, is_parameter, is_condact, is_entry, is_table, Valid}
 use Rattle.paw_image.specs.inner.Sizes.{FitsWord, FitsText, FitsObject, FitsExits, FitsParameter, FitsCondact, FitsEntry, FitsTable, FitsGame}
 
--- what a test gives at each element
+-- What a test gives at each element.
 all_give : {A : Type 0} (p : A → Bool) (P : A → Type 0) → ((x : A) → p x ≡ true → P x) → (xs : List A) → list_all p xs ≡ true → AllByRecursion P xs
 all_give p P gives [] e = tt
 all_give p P gives (x ∷ xs) e = let both = and_parts (p x) (list_all p xs) e in (gives x both.0, all_give p P gives xs both.1)
@@ -90,7 +90,7 @@ pub record ValidParts (g : GameLists) : Type 0 where
   pub tables_within : is_within 3 256 (length g.tables) ≡ true
   pub tables_keep : list_all (is_table g) g.tables ≡ true
 
--- the two parts of a rule
+-- The two parts of a rule.
 few_of : (n most : ℕ) (b : Bool) → (leb n most && b) ≡ true → leb n most ≡ true
 few_of n most b h = (and_parts (leb n most) b h).0
 

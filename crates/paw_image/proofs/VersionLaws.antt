@@ -27,21 +27,21 @@ use Rattle.paw_image.proofs.Stands.{and_true, PassesRow}
 
 -- ---- the rules of version 1 ----
 
--- what the table says of a code below 128 it says of a plain one
+-- What the table says of a code below 128 it says of a plain one.
 pub plain_side : (code : ℕ) (row : Option CondactRow) → code < INDIRECT → SomeIff row (IsCode code) (condact_row_of code)
     → SomeIff row (IsPlainCode code) (condact_row_of code)
 plain_side code None low h = λ plain. h (plain_is code plain)
 plain_side code (Some row) low h = (plain_of_code code h.0 low, h.1)
 
--- from 128 on no code is plain
+-- From 128 on no code is plain.
 pub no_plain : (code : ℕ) → INDIRECT ≤ code → IsPlainCode code → ⊥
 no_plain code high plain = let none = none_from code high in cc
 
--- a plain code isn't indirect
+-- A plain code isn't indirect.
 plain_not : (code : ℕ) → is_plain_code code ≡ true → is_indirect code ≡ false
 plain_not code h = let low = code_within code h in plain_below code (omega (arith, low))
 
--- so it is a code that isn't indirect
+-- So it is a code that isn't indirect.
 split_code : (plain indirect rest : Bool) → (plain ≡ true → indirect ≡ false)
     → (plain && rest) ≡ (((plain || indirect) && rest) && not indirect)
 split_code true indirect true gives = rw (gives refl) refl
@@ -56,7 +56,7 @@ split_both true true false d = refl
 split_both true true true d = refl
 split_both true false c d = refl
 
--- where a rule is another and a test that fails, it holds of each where the other does and the test of none
+-- Where a rule is another and a test that fails, it holds of each where the other does and the test of none.
 split_all : {A : Type 0} (one two test : A → Bool) → ((x : A) → one x ≡ (two x && not (test x))) → (xs : List A)
     → list_all one xs ≡ (list_all two xs && not (list_any test xs))
 split_all one two test splits [] = refl
@@ -90,14 +90,14 @@ module _ (g : GameLists) where
       (split_all (keeps_entry (declared_as One g)) (is_entry g) (λ (e : Entry). any_indirect e.condacts) split_entry es)
       ∙ move_out (leb (length es) 4000) (list_all (is_entry g) es) (not (list_any (λ (e : Entry). any_indirect e.condacts) es))
 
-  -- version 1 wants the rules of a game, and no indirect condact
+  -- Version 1 needs the rules of a game, and no indirect condact.
   pub split_tables : (ts : List (List Entry))
       → list_all (keeps_table (declared_as One g)) ts ≡ (list_all (is_table g) ts && not (has_indirect ts))
   unfolding has_indirect
   split_tables ts =
       split_all (keeps_table (declared_as One g)) (is_table g) (λ (es : List Entry). list_any (λ (e : Entry). any_indirect e.condacts) es) split_table ts
 
-  -- tables that keep the rules of a version keep those of a game
+  -- Tables that keep the rules of a version keep those of a game.
   pub tables_valid : (v : Version) (ts : List (List Entry)) → list_all (keeps_table (declared_as v g)) ts ≡ true
       → list_all (is_table g) ts ≡ true
   tables_valid One ts h = (and_parts (list_all (is_table g) ts) _ (sym (split_tables ts) ∙ h)).0
@@ -105,12 +105,12 @@ module _ (g : GameLists) where
 
 -- ---- where version 1 stops ----
 
--- an indirect code isn't plain
+-- An indirect code isn't plain.
 not_plain : (code : ℕ) → is_indirect code ≡ true → is_plain_code code ≡ false
 unfolding is_indirect
 not_plain code h = none_from code (leb-true INDIRECT code (and_parts (leb INDIRECT code) _ h).0)
 
--- where the first of two isn't, the other is
+-- Where the first of two isn't so, the other is.
 later_of : (a b : Bool) → a ≡ false → (a || b) ≡ true → b ≡ true
 later_of true b e h = absurd cc
 later_of false b e h = h
@@ -119,11 +119,11 @@ either : (b : Bool) → (b ≡ true) ⊎ (b ≡ false)
 either true = inl refl
 either false = inr refl
 
--- in the image of a row that keeps a rule, and that a test finds, there is a fault
+-- In the image of a row that keeps a rule, and that a test finds, there is a fault.
 abbrev StopsRow : {A : Type 0} → (List ℕ → Passing) → (A → List ℕ) → (two test : A → Bool) → Type 0
 StopsRow {A} pass image two test = (x : A) (rest : List ℕ) → two x ≡ true → test x ≡ true → IsFault (pass (image x ++ rest))
 
--- where rows stop that a test finds, and others pass, so many stop of which the test finds one
+-- Where rows stop that a test finds, and others pass, a list of rows stops of which the test finds one.
 each_stops : {A : Type 0} (pass : List ℕ → Passing) (image : A → List ℕ) (one two test : A → Bool)
     → ((x : A) → one x ≡ (two x && not (test x))) → PassesRow pass image one → StopsRow pass image two test
     → (xs : List A) (rest : List ℕ) → list_all two xs ≡ true → list_any test xs ≡ true
@@ -196,13 +196,13 @@ needed_byte g = elim (either (has_indirect g.tables)) [
   | inr none ↦ rw none refl
 ]
 
--- the tables of a game that has no indirect condact keep the rules of version 1
+-- The tables of a game that has no indirect condact keep the rules of version 1.
 keep_in_1 : (g : GameLists) → list_all (is_table g) g.tables ≡ true → has_indirect g.tables ≡ false
     → list_all (keeps_table (declared_as One g)) g.tables ≡ true
 keep_in_1 g h none =
     split_tables g g.tables ∙ and_true (list_all (is_table g) g.tables) _ h (ap (λ (b : Bool). not b) none)
 
--- a game's tables keep the rules of the version that it needs
+-- A game's tables keep the rules of the version that it needs.
 pub needed_keeps : (g : GameLists) → list_all (is_table g) g.tables ≡ true
     → list_all (keeps_table (declared_as (needed_by g) g)) g.tables ≡ true
 needed_keeps g h = elim (either (has_indirect g.tables)) [
@@ -210,19 +210,19 @@ needed_keeps g h = elim (either (has_indirect g.tables)) [
   | inr none ↦ rw none (keep_in_1 g h none)
 ]
 
--- a fault is no end
+-- A fault isn't an end.
 no_end : (p : Passing) → IsFault p → is_end p ≡ false
 no_end (Ok rest) h = absurd h
 no_end (Err left) h = refl
 
--- a game needs its version, where the tables stop in version 1 if a condact is indirect
+-- A game needs its version, where the tables stop in version 1 if a condact is indirect.
 pub is_needed : (g : GameLists) (p : Passing) → (has_indirect g.tables ≡ true → IsFault p) → needs_no_2 (needed_by g) p ≡ false
 is_needed g p stops = elim (either (has_indirect g.tables)) [
   | inl is ↦ rw is (no_end p (stops is))
   | inr none ↦ rw none refl
 ]
 
--- where the tables keep the rules of a version that is needed, it is the game's
+-- Where the tables keep the rules of a version that is needed, it is the game's.
 pub right_version : (v : Version) (g : GameLists) (p : Passing) → list_all (keeps_table (declared_as v g)) g.tables ≡ true
     → needs_no_2 v p ≡ false → (list_all (keeps_table (declared_as One g)) g.tables ≡ true → p ≡ Ok [])
     → byte_of v ≡ version_of g

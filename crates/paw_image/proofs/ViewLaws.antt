@@ -44,7 +44,7 @@ game_is : (bytes : List ℕ) (g : GameLists) → all_of bytes ≡ Ok g → game_
 unfolding game_read
 game_is bytes g e = rw e refl
 
--- the offsets that come of bytes in which no rule is broken are those of the game
+-- The offsets that come of bytes in which no rule is broken are those of the game.
 pub index_from : (bytes : List ℕ) (front : Front) (rest : List ℕ) (p : Offsets) → IsBytes bytes
     → length bytes ≤ IMAGE_LIMIT → bad bytes ≡ None → IsPassed bytes front rest p
     → IsIndex bytes front.counts front.words.items p
@@ -70,7 +70,7 @@ index_from bytes front rest p fits short whole passed =
       marked = passed.marked (read.end d passed.declared);
     }
 
--- a place of damage tells that there is no image
+-- A place of damage shows that there is no image.
 pub damage_is_none : (bytes : List ℕ) (r : ImageRefusal) → AtDamage r (λ at. bad bytes ≡ Some at) → AtDamage r (λ _. (g : GameLists) → IsImage bytes g → ⊥)
 damage_is_none bytes refusal.Memory h = tt
 damage_is_none bytes (refusal.Damaged at) h = λ g is. none-some at (sym (image_is_whole bytes g is) ∙ h)
@@ -101,7 +101,7 @@ in_table : (found : Option (List Entry)) → ((es : List Entry) → found ≡ So
 in_table None fits k e h = absurd (none-some e h)
 in_table (Some es) fits k e h = (all_at FitsEntry es k e (fits es refl).entries h).condacts
 
--- the condacts of an entry fit
+-- The condacts of an entry fit.
 entry_fits : (bytes : List ℕ) → IsImage bytes (game_read bytes) → (t k : ℕ) (e : Entry)
     → slice_get (unwrap_or (slice_get (game_read bytes).tables t) []) k ≡ Some e → AllByRecursion FitsCondact e.condacts
 entry_fits bytes is t k e h =
@@ -152,7 +152,7 @@ pub ordered_at : (bytes : List ℕ) (ts : List TableIndex) (k : ℕ) (t : TableI
     → IsOrder bytes t.entries.items t.order
 ordered_at bytes ts k t h e = all_at (λ (x : TableIndex). IsOrder bytes x.entries.items x.order) ts k t h e
 
--- the entries kept of a table are where its entries begin
+-- The entries kept of a table are where its entries begin.
 entries_at : (ts : List TableIndex) (k : ℕ) (t : TableIndex) (ps : List (List ℕ)) → entries_of ts ≡ ps
     → slice_get ts k ≡ Some t → slice_get ps k ≡ Some t.entries.items
 entries_at ts k t ps e h = ap (λ (l : List (List ℕ)). slice_get l k) (sym e) ∙ slice_get-map (λ (x : TableIndex). x.entries.items) ts k ∙ rw h refl
@@ -184,7 +184,7 @@ no_index_read {bytes} {counts} {words} {p} is t k h = no_entry_read bytes t k (r
 
 module _ {bytes : List ℕ} {counts : Counts} {words : List Word} {p : Offsets} (is : IsIndex bytes counts words p)
     (t : ℕ) (i : TableIndex) (there : slice_get p.tables.items t ≡ Some i) (k : ℕ) where
-  -- an entry begins where the index of its table says
+  -- An entry begins where the index of its table says.
   entry_begins : slice_get (unwrap_or (slice_get (entry_offsets (tables_begin_at (game_read bytes)) (game_read bytes).tables) t) []) k
       ≡ slice_get i.entries.items k
   entry_begins = rw (entries_at p.tables.items t i _ is.tables there) refl

@@ -36,7 +36,7 @@ use Rattle.paw_image.proofs.ValidLaws.{parts_of}
 
 -- ---- the lists ----
 
--- where the rows of the lists begin that follow the words, which end at a place
+-- Where the rows of the lists begin that follow the words, which end at a place.
 pub record StandAt (start : ℕ) (g : GameLists) (p : Offsets) : Type 0 where
   pub system : p.system.items ≡ offsets text_image start g.system
   pub messages : p.messages.items ≡ offsets text_image (start + length (flat_map text_image g.system)) g.messages
@@ -52,7 +52,7 @@ pub record StandAt (start : ℕ) (g : GameLists) (p : Offsets) : Type 0 where
       ≡ entry_offsets (start + length (flat_map text_image g.system) + length (flat_map text_image g.messages) + length (flat_map object_image g.objects)
       + length (flat_map text_image g.locations) + length (flat_map exits_image g.exits)) g.tables
 
--- the lists after the words, as they are read by their rules
+-- The lists after the words, as they are read by their rules.
 record AreRead (d : Preface) (bytes rest : List ℕ) : Type 0 where
   game : GameLists
   reads : lists_at d bytes ≡ Ok (game, rest)
@@ -122,7 +122,7 @@ lists_sound d bytes rest fits e =
           };
     })))))
 
--- what the front declares, and the lists that keep its rules, make a valid game
+-- What the front declares, and the lists that keep its rules, make a valid game.
 valid_from : (bytes : List ℕ) (x : Preface × List ℕ) (rest : List ℕ) → Fronted bytes x
     → (r : AreRead x.0 x.1 rest) → x.0 ≡ declared_as x.0.version r.game → Valid r.game
 valid_from bytes x rest f r is =
@@ -151,7 +151,7 @@ valid_from bytes x rest f r is =
       tables = and_true (is_within 3 256 (length g.tables)) _ few.tables (tables_valid g x.0.version g.tables kept_tables);
     }
 
--- the lists of a valid game pass up to its tables
+-- The lists of a valid game pass up to its tables.
 tables_reached : (version : Version) (g : GameLists) (rest : List ℕ) → Valid g
     → after_lists (declared_as version g) (lists_image g rest)
     ≡ each (after_table (declared_as version g)) (length g.tables) (from_tables g rest)
@@ -182,7 +182,7 @@ lists_pass version g rest valid keep =
 
 -- ---- all of the bytes ----
 
--- bytes that are read by their rules to the end
+-- Bytes that are read by their rules to the end.
 pub record IsWhole (bytes : List ℕ) : Type 0 where
   pub game : GameLists
   pub reads : all_of bytes ≡ Ok game
@@ -249,7 +249,7 @@ nothing_left total (Err left) e = absurd cc
 nothing_left total (Ok []) e = refl
 nothing_left total (Ok (b ∷ bytes)) e = absurd cc
 
--- where no place is named, the first one isn't, nor is the other asked for
+-- Where no place is named, the first one isn't, nor is the other asked for.
 pub both_none : (first : Option ℕ) (asked : Bool) (n : ℕ) → option_or first (if asked then Some n else None) ≡ None
     → (first ≡ None) × (asked ≡ false)
 both_none None false n e = (refl, refl)

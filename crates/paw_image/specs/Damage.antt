@@ -1,6 +1,6 @@
--- The first rule of an image that bytes break. The bytes are read in order, and each field is written with its rule over
--- itself and what was read before it. A fault tells how many bytes are left at the first byte of the first field that
--- breaks its rule or isn't all there. One rule comes behind all of these: version 2 stands only where a code needs it.
+-- The first rule of an image that bytes break. The bytes are read in order, and each field has a rule about itself and
+-- what was read before it. A fault is the number of bytes left at the start of the first field that breaks its rule or
+-- isn't all there. One rule comes after all of these: version 2 is allowed only where a code needs it.
 use Rattle.std.specs.Prelude.{ℕ, zero, suc, ◌-◌, ◌==◌, ◌&&◌, ◌||◌, Bool, true, false, not, List, [], ◌∷◌, length}
 use Rattle.std.specs.Prelude.{Option, Some, None, Result, Ok, Err, nat_lt, nat_le, codes, if◌then◌else◌}
 use Rattle.std.specs.List.{list_any}
@@ -27,20 +27,20 @@ use Rattle.paw_image.specs.declared.version.Version.{Version}
 use Rattle.paw_image.specs.declared.version.Version.TheVariants.{One, Two}
 use Rattle.paw_image.specs.Reading.{Reading, byte_at, bytes_at, number_at}
 
--- a field that keeps a rule, or a fault at its first byte
+-- A field that keeps a rule; where it breaks the rule, a fault at its first byte.
 abbrev pub field_kept : {A : Type 0} → (A → Bool) → (List ℕ → Reading A) → List ℕ → Reading A
 field_kept rule field bytes = field bytes >>= λ x. if rule x.0 then Ok x else Err (length bytes)
 
--- the bytes after something, or a fault in it
+-- The bytes after what was read, or a fault in it.
 abbrev pub Passing : Type 0
 Passing = Result (List ℕ) ℕ
 
--- the bytes after so many rows
+-- The bytes after n rows, or the first fault in them.
 unfoldable pub each : (List ℕ → Passing) → ℕ → List ℕ → Passing
 each row zero bytes = Ok bytes
 each row (suc n) bytes = row bytes >>= each row n
 
--- what stands before the other lists: the version, how many rows each list has, and the words
+-- What stands before the other lists: the version, how many rows each list has, and the words.
 pub record Preface : Type 0 where
   pub version : Version
   pub counts : Counts
@@ -48,22 +48,22 @@ pub record Preface : Type 0 where
 
 -- ---- the head ----
 
--- the version that a byte tells
+-- The version that a byte stands for: One for 1, and Two for any other byte.
 abbrev pub version_told : ℕ → Version
 version_told byte = if byte == 1 then One else Two
 
--- the mark PAWI, and version 1 or 2
+-- The mark PAWI, and a version that is 1 or 2; the version is what is read.
 unfoldable pub version_kept : List ℕ → Reading Version
 version_kept bytes = do
   mark ← field_kept (λ m. bytes_eq m (codes "PAWI")) (bytes_at 4) bytes
   byte ← field_kept (is_within 1 2) byte_at mark.1
   Ok (version_told byte.0, byte.1)
 
--- a number of two bytes, from one to another, both included
+-- A number of two bytes within a range, both ends included.
 abbrev pub number_kept : ℕ → ℕ → List ℕ → Reading ℕ
 number_kept least most = field_kept (is_within least most) number_at
 
--- how many words, system messages, messages, objects, locations and tables follow
+-- How many words, system messages, messages, objects, locations and tables follow.
 unfoldable pub counts_kept : List ℕ → Reading Counts
 counts_kept bytes = do
   words ← number_kept 0 WORD_LIMIT bytes
@@ -76,7 +76,7 @@ counts_kept bytes = do
 
 -- ---- words ----
 
--- letters above those before, value, class
+-- A word: letters that are above the letters before, a value, and a class.
 unfoldable pub word_kept : List ℕ → List ℕ → Reading Word
 word_kept before bytes = do
   letters ← field_kept (λ l. are_letters l && is_lt (slice_cmp nat_cmp before l)) (bytes_at WORD_LENGTH) bytes
@@ -84,7 +84,7 @@ word_kept before bytes = do
   class ← field_kept (λ c. nat_le c PRONOUN_CLASS) byte_at value.1
   Ok (record { letters = letters.0; value = value.0; class = class.0 }, class.1)
 
--- so many words, each above the one before
+-- A list of n words, each above the one before.
 unfoldable pub words_above : List ℕ → ℕ → List ℕ → Reading (List Word)
 words_above before zero bytes = Ok ([], bytes)
 words_above before (suc n) bytes = do
@@ -94,14 +94,14 @@ words_above before (suc n) bytes = do
 
 -- ---- texts, objects, exits ----
 
--- a length of at most 4,095, and a text of bytes that may stand in one
+-- The bytes after a text: a length of at most 4,095, and bytes that may stand in a text.
 unfoldable pub after_text : List ℕ → Passing
 after_text bytes = do
   len ← number_kept 0 TEXT_LIMIT bytes
   text ← field_kept (is_printed true) (bytes_at len.0) len.1
   Ok text.1
 
--- noun, adjective, first place, and any byte for the weight
+-- The bytes after an object's facts: its noun, its adjective, where it begins, and any byte for its weight.
 unfoldable pub after_facts : Preface → List ℕ → Passing
 after_facts d bytes = do
   noun ← field_kept (is_word_or_none d.words NOUN_CLASS) byte_at bytes
@@ -110,46 +110,46 @@ after_facts d bytes = do
   weight ← byte_at start.1
   Ok weight.1
 
--- a text, and what is said of the object
+-- The bytes after an object: its text, and its facts.
 abbrev pub after_object : Preface → List ℕ → Passing
 after_object d bytes = after_text bytes >>= after_facts d
 
--- an exit after exits with these verbs: a verb value that is none of them, and a location; the verb is told
+-- The verb of an exit after exits with these verbs: a verb value that is none of them. A location follows it.
 unfoldable pub exit_kept : Preface → List ℕ → List ℕ → Reading ℕ
 exit_kept d verbs bytes = do
   verb ← field_kept (λ v. is_verb_value d.words v && not (list_any (λ earlier. earlier == v) verbs)) byte_at bytes
   to ← field_kept (λ l. nat_lt l d.counts.locations) byte_at verb.1
   Ok (verb.0, to.1)
 
--- so many exits, after exits with these verbs
+-- The bytes after n exits that follow exits with these verbs.
 unfoldable pub after_exits_of : Preface → List ℕ → ℕ → List ℕ → Passing
 after_exits_of d verbs zero bytes = Ok bytes
 after_exits_of d verbs (suc n) bytes = exit_kept d verbs bytes >>= λ x. after_exits_of d (x.0 ∷ verbs) n x.1
 
--- how many exits, and each
+-- The bytes after the exits of a location: how many there are, and each of them.
 unfoldable pub after_exits : Preface → List ℕ → Passing
 after_exits d bytes = byte_at bytes >>= λ count. after_exits_of d [] count.0 count.1
 
 -- ---- tables ----
 
--- a parameter of this kind; one that a code doesn't have takes no byte
+-- The bytes after a parameter of this kind; one that a code doesn't have takes no byte.
 abbrev pub after_parameter : Preface → ParamKind → List ℕ → Passing
 after_parameter d kind.Absent bytes = Ok bytes
 after_parameter d k bytes = field_kept (is_parameter d.counts d.words k) byte_at bytes >>= λ x. Ok x.1
 
--- the codes that may stand in an image: in version 1 the plain ones, in version 2 those of indirect condacts too
+-- Whether a code may stand in an image: in version 1 a plain one, in version 2 that of an indirect condact too.
 abbrev pub may_stand : Version → ℕ → Bool
 may_stand One code = is_plain_code code
 may_stand Two code = is_code code
 
--- a code that may stand, and the parameters that it has
+-- The bytes after a condact: a code that may stand, and the parameters that it has.
 unfoldable pub after_condact : Preface → List ℕ → Passing
 after_condact d bytes = do
   code ← field_kept (may_stand d.version) byte_at bytes
   a ← after_parameter d (first_kind code.0) code.1
   after_parameter d (second_kind code.0) a
 
--- verb, noun, how many condacts, and each
+-- The bytes after an entry: its verb, its noun, how many condacts it has, and each of them.
 unfoldable pub after_entry : Preface → List ℕ → Passing
 after_entry d bytes = do
   verb ← field_kept (λ v. is_any v || is_verb_value d.words v) byte_at bytes
@@ -157,13 +157,13 @@ after_entry d bytes = do
   count ← byte_at noun.1
   each (after_condact d) count.0 count.1
 
--- how many entries, at most 4,000, and each
+-- The bytes after a table: how many entries it has, at most 4,000, and each of them.
 unfoldable pub after_table : Preface → List ℕ → Passing
 after_table d bytes = number_kept 0 ENTRY_LIMIT bytes >>= λ count. each (after_entry d) count.0 count.1
 
 -- ---- the whole image ----
 
--- the lists after the words; each location has its exits
+-- The bytes after all lists that follow the words; there are as many lists of exits as locations.
 unfoldable pub after_lists : Preface → List ℕ → Passing
 after_lists d bytes = do
   system ← each after_text d.counts.system bytes
@@ -173,7 +173,7 @@ after_lists d bytes = do
   exits ← each (after_exits d) d.counts.locations locations
   each (after_table d) d.counts.tables exits
 
--- mark, version, counts and words
+-- The front of an image: its mark, version, counts and words.
 unfoldable pub front : List ℕ → Reading Preface
 front bytes = do
   version ← version_kept bytes
@@ -181,20 +181,20 @@ front bytes = do
   words ← words_above [] counts.0.words counts.1
   Ok (record { version = version.0; counts = counts.0; words = words.0 }, words.1)
 
--- the bytes after the last field
+-- The bytes after the last field.
 unfoldable pub after_all : List ℕ → Passing
 after_all bytes = front bytes >>= λ d. after_lists d.0 d.1
 
--- the same front with version 1
+-- The same front with version 1.
 abbrev pub as_version_1 : Preface → Preface
 as_version_1 d = record d { version = One }
 
--- nothing is left after the last field
+-- Whether nothing is left after the last field.
 abbrev pub is_end : Passing → Bool
 is_end (Ok []) = true
 is_end _ = false
 
--- version 2 without need, by how the fields after the words pass with the codes of version 1
+-- Whether version 2 isn't needed: it is the version, and with the codes of version 1 the lists pass to the end.
 abbrev pub needs_no_2 : Version → Passing → Bool
 needs_no_2 One with_plain_codes = false
 needs_no_2 Two with_plain_codes = is_end with_plain_codes
@@ -203,18 +203,18 @@ abbrev pub is_needless_after : Reading Preface → Bool
 is_needless_after (Ok d) = needs_no_2 d.0.version (after_lists (as_version_1 d.0) d.1)
 is_needless_after (Err left) = false
 
--- the version is 2, and no code needs it
+-- Whether the version is 2 though no code needs it.
 unfoldable pub is_needless : List ℕ → Bool
 is_needless bytes = is_needless_after (front bytes)
 
--- of so many bytes, the place of a fault, or of the first byte after the last field
+-- The place of a fault, or of the first byte after the last field, in `total` bytes; nothing where all is well.
 abbrev pub place_in : ℕ → Passing → Option ℕ
 place_in total (Err left) = Some (total - left)
 place_in total (Ok []) = None
 place_in total (Ok (b ∷ bytes)) = Some (total - length (b ∷ bytes))
 
--- the place of the first broken rule; bytes that are too many break the first of all, and a version that isn't needed,
--- which is byte 4, the last
+-- The place of the first broken rule, or nothing. The first rule is that there aren't too many bytes, where the place
+-- is their limit; the last is that the version, byte 4, is needed.
 unfoldable pub bad : List ℕ → Option ℕ
 bad bytes =
     if nat_lt IMAGE_LIMIT (length bytes) then Some IMAGE_LIMIT

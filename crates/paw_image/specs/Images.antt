@@ -1,10 +1,10 @@
--- Which bytes are an image, and what a refusal says of them.
+-- Which bytes are an image.
 use Rattle.std.specs.Prelude.{◌≡◌, ℕ, ◌≤◌, List, length}
 use Rattle.paw_game.specs.Game.{GameLists}
 use Rattle.paw_game.specs.Valid.{Valid}
 use Rattle.paw_game.specs.Image.{image}
 
--- the bytes are the image of this valid game, at most 4,194,304 bytes
+-- These bytes are the image of this valid game, and at most 4,194,304.
 pub record IsImage (bytes : List ℕ) (g : GameLists) : Type 0 where
   pub spelled : bytes ≡ image g
   pub valid : Valid g

@@ -39,7 +39,7 @@ pub fn text_in(bytes: &[u8], place: u32) -> Option<&[u8]>
     }
 }
 
-/// What is said of the object that begins at a place.
+/// The facts of the object that begins at a place.
 #[tactic(auto, using(crate::proofs::Faults::no_value), unfolding(crate::specs::inner::Rows::facts_here))]
 pub fn facts_in(bytes: &[u8], place: u32) -> Option<ObjectFacts>
     ensures value { result ≡ facts_here (drop place bytes.now) }
@@ -66,7 +66,7 @@ fn exit_here(bytes: &[u8]) -> Option<(Exit, &[u8])>
     }
 }
 
-/// Of so many exits, where the first with this verb leads.
+/// Where the first of `count` exits with this verb leads.
 #[tactic(auto, using(crate::proofs::ExitLoop::exit_none, crate::proofs::ExitLoop::exit_past))]
 fn exit_of(verb: u8, count: u8, bytes: &[u8]) -> Option<u8>
     ensures value { result ≡ exit_in verb count bytes.now }
@@ -82,7 +82,7 @@ fn exit_of(verb: u8, count: u8, bytes: &[u8]) -> Option<u8>
     None
 }
 
-/// Where the exit for a verb leads, of the exits that begin at a place.
+/// Where the exit for a verb leads, among the exits that begin at a place.
 #[tactic(auto, unfolding(crate::specs::inner::Rows::exits_here))]
 pub fn exit_at(bytes: &[u8], place: u32, verb: u8) -> Option<u8>
     ensures value { result ≡ exits_here verb (drop place bytes.now) }
@@ -104,7 +104,7 @@ pub fn head_in(bytes: &[u8], place: u32) -> Option<(u8, u8)>
     }
 }
 
-/// The bytes after so many condacts.
+/// The bytes after this number of condacts.
 fn past_condacts(count: u8, bytes: &[u8]) -> Result<&[u8], ReadFault>
     ensures gives { Gives (λ x. x.now) result (each past_condact count bytes.now) }
     ensures fails { OnErr result (IsFault (each past_condact count bytes.now)) }
@@ -117,7 +117,7 @@ fn past_condacts(count: u8, bytes: &[u8]) -> Result<&[u8], ReadFault>
     Ok(rest)
 }
 
-/// The condact after so many condacts.
+/// The condact after this number of condacts.
 #[tactic(auto, using(crate::proofs::Faults::fault_steps))]
 fn condact_after(count: u8, bytes: &[u8]) -> Result<(Condact, &[u8]), ReadFault>
     ensures gives { Gives (λ x. (x.0, x.1.now)) result (condact_after count bytes.now) }
@@ -127,7 +127,7 @@ fn condact_after(count: u8, bytes: &[u8]) -> Result<(Condact, &[u8]), ReadFault>
     read_condact(rest)
 }
 
-/// Of so many condacts of an entry, those from the last mark on that isn't behind a condact.
+/// The bytes of an entry's `count` condacts from the last mark on that isn't past condact `at`.
 fn from_mark<'a>(
     marks: &CondactMarks,
     entry: u16,
@@ -147,7 +147,7 @@ fn from_mark<'a>(
     from_place(condacts, marks[eights - 1] as u32)
 }
 
-/// One of so many condacts of an entry.
+/// One of this number of condacts of an entry.
 #[tactic(auto, using(crate::proofs::Faults::no_value))]
 fn condact_of(
     marks: &CondactMarks,
@@ -168,7 +168,7 @@ fn condact_of(
     }
 }
 
-/// A condact of the entry of this number, which begins at a place.
+/// A condact, by its number, of the entry that begins at a place.
 #[tactic(auto, unfolding(crate::specs::inner::Rows::nth_condact))]
 pub fn condact_in(
     bytes: &[u8],
@@ -186,7 +186,7 @@ pub fn condact_in(
     }
 }
 
-/// A row up to so many condacts.
+/// A row up to this number of condacts, and with them.
 fn up_to<'a>(row: &'a [u8], count: u8, condacts: &[u8]) -> Option<&'a [u8]>
     ensures value { option_copied result ≡ up_to row.now (each past_condact count condacts.now) }
 {

@@ -29,7 +29,7 @@ pub struct Passed<'a> {
     pub offsets: Offsets,
 }
 
-/// Goes over all fields of an image: front and offsets, and the bytes after the last.
+/// Passes over all fields of an image: its front, its offsets, and the bytes after the last field.
 #[tactic(auto, unfolding(crate::specs::Damage::after_all))]
 fn pass_all<'a>(alloc: Global, bytes: &'a [u8]) -> Result<(Passed<'a>, &'a [u8]), ReadFault>
     requires small { length bytes.now < 2 ^ 32 }
@@ -61,7 +61,7 @@ fn pass_as_version_1(alloc: Global, bytes: &[u8], passed: &Passed) -> Result<boo
     }
 }
 
-/// Whether the version is 2, and no code needs it. The lists are gone over a second time in version 2 alone, and there
+/// Whether the version is 2, and no code needs it. The lists are passed a second time only in version 2, and there only
 /// up to the first indirect condact.
 #[tactic(auto, unfolding(crate::specs::Damage::is_needless))]
 fn is_needless(alloc: Global, bytes: &[u8], passed: &Passed) -> Result<bool, AllocError>
@@ -75,7 +75,7 @@ fn is_needless(alloc: Global, bytes: &[u8], passed: &Passed) -> Result<bool, All
     }
 }
 
-/// Goes over bytes that are to be an image: front and offsets, or the place of the first broken rule.
+/// Passes over bytes that should be an image: their front and offsets, or the place of the first broken rule.
 #[tactic(auto, unfolding(crate::specs::Damage::bad))]
 pub fn pass_whole<'a>(alloc: Global, bytes: &'a [u8]) -> Result<Passed<'a>, ImageRefusal>
     requires short { length bytes.now ≤ IMAGE_LIMIT }
@@ -99,7 +99,7 @@ pub fn pass_whole<'a>(alloc: Global, bytes: &'a [u8]) -> Result<Passed<'a>, Imag
     Err(ImageRefusal::Damaged { at })
 }
 
-/// The refusal of bytes that are no image.
+/// The refusal of bytes that aren't an image.
 pub fn damage(alloc: Global, bytes: &[u8]) -> ImageRefusal
     requires short { length bytes.now ≤ IMAGE_LIMIT }
     requires none { (g : GameLists) → ¬ IsImage bytes.now g }

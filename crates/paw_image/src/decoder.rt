@@ -15,7 +15,7 @@ use paw_faults::unread::Unread;
 use paw_game::game::Game;
 use std::alloc::Global;
 
-/// The game whose image the bytes are; None where they are no image.
+/// The game whose image the bytes are; None where they aren't an image.
 fn read_game(alloc: Global, bytes: &[u8]) -> Result<Option<Game>, ImageRefusal>
     requires short { length bytes.now ≤ IMAGE_LIMIT }
     ensures found { IfOk result (λ o. IfSome o (IsImage bytes.now)) }
@@ -37,7 +37,7 @@ fn read_game(alloc: Global, bytes: &[u8]) -> Result<Option<Game>, ImageRefusal>
 /// # Errors
 /// Damaged exactly where the bytes aren't the image of a valid game, or more than 4,194,304; the place is that of the
 /// first field, in order, that breaks its rule or isn't all there, and 4 where no field does, but the version is 2 and
-/// no condact is indirect. Memory only for want of memory.
+/// no condact is indirect. Memory only where there is none.
 pub fn decode(alloc: Global, bytes: &[u8]) -> Result<Game, ImageRefusal>
     ensures found { IfOk result (IsImage bytes.now) }
     ensures only { (g : GameLists) → IsImage bytes.now g → IfOk result (λ game. game ≡ g) }

@@ -21,8 +21,8 @@ pub fn image_length(game: &Game) -> u64
 /// The image of a game.
 ///
 /// # Errors
-/// Damaged exactly where the image would be longer than 4,194,304 bytes; the place is that limit. Memory only for want
-/// of memory.
+/// Damaged exactly where the image would be longer than 4,194,304 bytes; the place is that limit. Memory only where
+/// there is none.
 pub fn encode(alloc: Global, game: &Game) -> Result<Vec<u8>, ImageRefusal>
     ensures found { IfOk result (λ v. IsImage v.items game.now) }
     ensures damaged { IfDamaged result (λ _. IMAGE_LIMIT < length (image game.now)) }

@@ -2,6 +2,6 @@
 
 use paw_faults::unread::Unread;
 
-/// Why a part of an image can't be read: want of memory, or its first field that isn't all there, or has no meaning. So
-/// many bytes are left from that field's first byte on.
+/// Why a part of an image can't be read: lack of memory, or its first field that isn't all there or has no meaning. The
+/// number is how many bytes are left from that field's first byte on.
 pub type ReadFault = Unread<usize>;

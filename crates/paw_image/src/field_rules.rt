@@ -9,7 +9,7 @@ use crate::version::Version;
 use paw_game::rules::{Lengths, Rules};
 use std::marker::Model;
 
-/// Which codes may stand, and the rules of bytes that name words and rows. Contracts see the front that says so.
+/// Which codes may stand, and the rules of bytes that name words and rows. Contracts see the front that sets them.
 #[derive(Drop)]
 pub struct FieldRules<'a> {
     pub version: Version,
@@ -25,7 +25,7 @@ impl<'a> Model for FieldRules<'a> {
 }
 
 impl<'a> FieldRules<'a> {
-    /// The rules behind a front.
+    /// The rules that a front sets.
     pub fn new(front: &'a Front) -> FieldRules<'a>
         ensures value { result ≡ preface_of front.now }
     {

@@ -65,7 +65,7 @@ pub fn read_number(bytes: &[u8]) -> Result<(u16, &[u8]), ReadFault>
     Ok((u16::from_le_bytes(two), rest))
 }
 
-/// The number at the front, which is none below the one and none above the other.
+/// The number at the front, which lies between two others, both included.
 pub fn read_within(least: usize, most: usize, bytes: &[u8]) -> Result<(u16, &[u8]), ReadFault>
     ensures gives { Gives (λ x. (x.0, x.1.now)) result (number_kept least most bytes.now) }
 {

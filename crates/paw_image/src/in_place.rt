@@ -1,4 +1,4 @@
-// The rows of an image, gone over where they stand: each field is tested by its rule.
+// The rows of an image, passed over where they stand: each field is tested by its rule.
 
 ghost use Rattle.std.specs.Prelude.{◌≡◌, ◌≤◌, ◌<◌, ◌^◌, IfOk, length};
 ghost use Rattle.paw_image.specs.Damage.{each};
@@ -9,7 +9,7 @@ use crate::fault::ReadFault;
 use crate::field_rules::FieldRules;
 use std::alloc::Global;
 
-/// What an image has a list of, gone over in place.
+/// Something of which an image has a list, passed over in place.
 pub trait InPlace {
     ghost use Rattle.std.specs.Prelude.{List, ℕ};
     ghost use Rattle.paw_image.specs.Damage.{Passing, Preface};
@@ -23,7 +23,7 @@ pub trait InPlace {
         ensures gives { Gives (λ x. x.now) result (passing rules.now bytes.now) };
 }
 
-/// The bytes after so many rows.
+/// The bytes after this number of rows.
 #[tactic(auto, unfolding(crate::specs::Damage::each))]
 pub fn pass_each<'a, R: InPlace>(
     rules: &FieldRules,
@@ -39,7 +39,7 @@ pub fn pass_each<'a, R: InPlace>(
     Ok(rest)
 }
 
-/// Goes over so many rows at the front of the last of so many bytes: where each begins, and the bytes after them.
+/// Passes over `count` rows at the front of the last of `total` bytes: where each begins, and the bytes after them.
 pub fn pass_rows<'a, R: InPlace>(
     alloc: Global,
     rules: &FieldRules,

@@ -15,7 +15,7 @@ use paw_base::parts::Condact;
 use paw_game::values::is_any;
 use std::alloc::Global;
 
-/// Where the condacts of a table's entries go on behind each eight of them.
+/// Where the condacts of a table's entries go on after each eight of them.
 #[derive(Drop)]
 pub struct CondactMarks {
     /// The number of the first mark of each entry.
@@ -40,7 +40,7 @@ impl CondactMarks {
     }
 }
 
-/// The bytes after so many condacts; a mark is kept behind each eight that another follows.
+/// The bytes after this number of condacts; a mark is noted after each eight that another follows.
 fn pass_condacts<'a>(
     rules: &FieldRules,
     count: u8,
@@ -61,7 +61,7 @@ fn pass_condacts<'a>(
     pass_each::<Condact>(rules, (count - eights * 8) as usize, rest)
 }
 
-/// The bytes after the entry at the front, whose marks are kept.
+/// The bytes after the entry at the front, whose marks are noted.
 #[tactic(auto, unfolding(crate::specs::Damage::after_entry))]
 fn pass_entry<'a>(
     rules: &FieldRules,
@@ -85,8 +85,8 @@ fn pass_entry<'a>(
     pass_condacts(rules, count, rest, marks)
 }
 
-/// Goes over so many entries at the front of the last of all bytes: where each begins, their marks, and the bytes after
-/// them.
+/// Passes over a number of entries at the front of the last of all bytes: where each begins, their marks, and the bytes
+/// after them.
 pub fn pass_entries<'a>(
     alloc: Global,
     rules: &FieldRules,

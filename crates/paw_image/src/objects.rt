@@ -21,13 +21,13 @@ use std::alloc::{AllocError, Global};
 /// The bits of an object's last byte that are its weight.
 const WEIGHT_BITS: u8 = 0b0011_1111;
 
-/// The bit of an object's last byte that tells a container.
+/// The bit of an object's last byte that marks a container.
 const CONTAINER_BIT: u8 = 0b0100_0000;
 
-/// The bit of an object's last byte that tells that it may be worn.
+/// The bit of an object's last byte that marks what may be worn.
 const WEARABLE_BIT: u8 = 0b1000_0000;
 
-/// What is said of an object beside its text.
+/// The facts of the object whose text was read, and the bytes after them.
 #[tactic(auto, using(crate::proofs::Faults::fault_steps), unfolding(crate::specs::inner::Reading::leading_facts))]
 pub fn read_facts(bytes: &[u8]) -> Result<(ObjectFacts, &[u8]), ReadFault>
     ensures gives { Gives (λ x. (x.0, x.1.now)) result (leading_facts bytes.now) }
@@ -48,7 +48,7 @@ pub fn read_facts(bytes: &[u8]) -> Result<(ObjectFacts, &[u8]), ReadFault>
     Ok((facts, rest))
 }
 
-/// What is said of the object at the front.
+/// The facts of the object at the front.
 #[tactic(auto, using(crate::proofs::Faults::fault_steps))]
 pub fn read_after_text(bytes: &[u8]) -> Result<(ObjectFacts, &[u8]), ReadFault>
     ensures gives { Gives (λ x. (x.0, x.1.now)) result (after_text_facts bytes.now) }
@@ -95,7 +95,7 @@ impl ReadRow for ObjectRow {
     }
 }
 
-/// The bytes after what is said of an object beside its text.
+/// The bytes after the facts of an object, which follow its text.
 #[tactic(auto, unfolding(crate::specs::Damage::after_facts))]
 fn pass_facts<'a>(rules: &FieldRules, bytes: &'a [u8]) -> Result<&'a [u8], ReadFault>
     ensures gives { Gives (λ x. x.now) result (after_facts rules.now bytes.now) }

@@ -30,13 +30,14 @@ pub struct Order {
     pub starts: Vec<u16>,
 }
 
-/// Where an entry comes in order of verb, noun and number.
+/// The rank of an entry in the order of verb, noun and number.
 fn ranked(verb: u8, noun: u8, entry: u16) -> u32
     ensures value { result ≡ ranked verb noun entry }
 {
     (verb as u32 * 256 + noun as u32) * 65536 + entry as u32
 }
 
+/// The rank of a head, by its verb, its noun and the number of its entry.
 fn rank(head: &Head) -> u32
     ensures value { result ≡ rank head.now }
 {
@@ -135,7 +136,7 @@ fn run_of(order: &Order, verb: u8) -> &[Head]
     &order.heads[start..end]
 }
 
-/// Where the first head stands whose rank isn't below this one.
+/// The place of the first head whose rank isn't below this one.
 fn place_of(run: &[Head], least: u32) -> usize
     requires rises { Rises run.now }
     ensures parts { IsPartitionPoint (λ h. nat_lt (rank h) least ≡ true) (λ h. nat_lt (rank h) least ≡ false)
@@ -148,7 +149,7 @@ fn place_of(run: &[Head], least: u32) -> usize
     )
 }
 
-/// Of heads with one verb, the least entry not below `from` that has this noun itself, by a search.
+/// The least entry not below `from`, among heads with one verb, that has this noun itself, found by a search.
 fn search_with(run: &[Head], verb: u8, noun: u8, from: u16) -> Option<u16>
     requires rises { Rises run.now }
     requires verb { All (λ h. h.verb ≡ verb) run.now }
@@ -162,8 +163,8 @@ fn search_with(run: &[Head], verb: u8, noun: u8, from: u16) -> Option<u16>
     }
 }
 
-/// Of heads with one verb, the least entry not below `from` that has this noun itself. Where the nouns begin above it no
-/// search is needed: so it is with `ANY_WORD`, the least of all, in nearly every run.
+/// The least entry not below `from`, among heads with one verb, that has this noun itself. Where the nouns begin above
+/// it no search is needed: so it is with `ANY_WORD`, the least of all, in nearly every run.
 fn first_with(run: &[Head], verb: u8, noun: u8, from: u16) -> Option<u16>
     requires rises { Rises run.now }
     requires verb { All (λ h. h.verb ≡ verb) run.now }
@@ -176,7 +177,7 @@ fn first_with(run: &[Head], verb: u8, noun: u8, from: u16) -> Option<u16>
     search_with(run, verb, noun, from)
 }
 
-/// The lower of two numbers; the one where the other is missing.
+/// The lower of two numbers, or the one that is there.
 fn lower(first: Option<u16>, second: Option<u16>) -> Option<u16>
     ensures value { result ≡ lower first second }
 {
@@ -202,8 +203,8 @@ fn first_for(order: &Order, verb: u8, noun: u8, from: u16) -> Option<u16>
     lower(any, lower(none, same))
 }
 
-/// The least entry not below `from` that matches this verb and noun: of the look-ups for the verb itself and for the
-/// two that match any verb, the least.
+/// The least entry not below `from` that matches this verb and noun: the least of those found for the verb itself and
+/// for the two verbs that match any.
 pub fn next_in(order: &Order, from: u16, verb: u8, noun: u8) -> Option<u16>
     requires sorted { IsSorted order.now }
     ensures least { IsLeast (IsMatch order.now.heads.items (is_match verb noun) from) result }

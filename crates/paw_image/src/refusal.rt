@@ -1,18 +1,18 @@
-// Why bytes are no image of a game, or a game has no image.
+// Why bytes aren't the image of a game, or a game has no image.
 
 use std::alloc::AllocError;
 use thiserror::Error;
 
-/// Why bytes are no image of a game, or a game has no image.
+/// Why bytes aren't the image of a game, or a game has no image.
 #[derive(Clone, Copy, Drop, PartialEq, Eq, Debug, Error)]
 pub enum ImageRefusal {
-    /// The bytes are no image of a game, or the image would have too many.
+    /// The bytes aren't the image of a game, or the image would have too many.
     #[error("image damaged at {at}")]
     Damaged {
         /// The place, counted in bytes from 0.
         at: u64,
     },
-    /// Want of memory.
+    /// There is no memory.
     #[error("no memory for an image")]
     Memory,
 }

@@ -9,7 +9,7 @@ use crate::fault::ReadFault;
 use crate::fields::read_byte;
 use std::alloc::{AllocError, Global};
 
-/// What an image has a list of: a row is spelled by some bytes.
+/// Something of which an image has a list: a row is spelled by some bytes.
 pub trait Row {
     ghost use Rattle.std.specs.Prelude.{◌≡◌, ◌<◌, ◌^◌, ◌++◌, List, ℕ, length, OnOk};
 
@@ -31,7 +31,7 @@ pub trait Row {
         ensures writes { OnOk result (out.new.items ≡ out.old.items ++ spelling self.now) };
 }
 
-/// What an image has a list of, read where it stands at the front of bytes.
+/// Something of which an image has a list, read where it stands at the front of bytes.
 pub trait ReadRow: Drop {
     ghost use Rattle.std.specs.Prelude.{List, ℕ};
     ghost use Rattle.paw_image.specs.Reading.{Reading};
@@ -63,7 +63,7 @@ pub fn read_rows<R: ReadRow>(
     Ok((rows, rest))
 }
 
-/// Reads rows behind a count of one byte.
+/// Reads rows after a count of one byte.
 #[tactic(auto, unfolding(crate::specs::inner::Reading::few_at))]
 pub fn read_few<R: ReadRow>(alloc: Global, bytes: &[u8]) -> Result<(Vec<R>, &[u8]), ReadFault>
     ensures gives { Gives (λ x. (x.0.items, x.1.now)) result (few_at R.reading bytes.now) }
@@ -105,7 +105,7 @@ pub fn length_of_few<R: Row>(rows: &[R]) -> usize
     1 + length_of_rows(rows)
 }
 
-/// Writes the rows at the end, behind a count of one byte.
+/// Writes the rows at the end, after a count of one byte.
 pub fn write_few<R: Row>(rows: &[R], out: &mut Vec<u8>) -> Result<(), AllocError>
     requires few { length rows.now < 256 }
     requires fits { AllByRecursion R.fits rows.now }

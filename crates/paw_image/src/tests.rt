@@ -165,7 +165,7 @@ fn damage_of_version_2_is_named(rt: HostRuntime) -> Result<(), Fail> {
         (4, &[3], 4),
         (36, &[108], 36),
         (36, &[127], 36),
-        // INVEN has no parameter, and PROCESS, DOALL and a code of no condact can't be indirect.
+        // INVEN has no parameter, and neither PROCESS nor DOALL nor a code that isn't a condact's can be indirect.
         (36, &[157], 36),
         (36, &[213], 36),
         (36, &[214], 36),
@@ -286,7 +286,7 @@ fn both_find_the_next_match(rt: HostRuntime) -> Result<(), Fail> {
     Ok(())
 }
 
-/// What is said of an object that is no container and isn't worn.
+/// The facts of an object that isn't a container and can't be worn.
 fn facts(noun: u8, adjective: u8, start: u8, weight: u8) -> ObjectFacts {
     ObjectFacts {
         noun,
@@ -353,7 +353,7 @@ fn numbered(number: u8) -> Condact {
     Condact { code, a, b }
 }
 
-/// An image with a table whose entries have these many condacts.
+/// An image with a table whose entries have these numbers of condacts.
 fn of_many_lengths(alloc: Global) -> Result<Vec<u8>, AllocError> {
     let mut image = SMALLEST[..20].to_vec(alloc)?;
     image.extend_from_slice(&[6, 0])?;

@@ -16,14 +16,14 @@ use paw_game::parts::{Entry, GameParts, Table};
 /// The version of an image, which says what codes may stand in it.
 #[derive(Clone, Copy, Drop, PartialEq, Eq, Debug)]
 pub enum Version {
-    /// Those of plain condacts.
+    /// The codes of plain condacts.
     One,
-    /// Those of indirect condacts too.
+    /// The codes of indirect condacts too.
     Two,
 }
 
 impl Version {
-    /// The byte that tells the version.
+    /// The byte that stands for the version.
     pub fn byte(self) -> u8
         ensures value { result ≡ byte_of self }
     {
@@ -76,6 +76,7 @@ fn has_indirect(tables: &[Table]) -> bool
         .any(|table| any_entry_indirect(table.rows.as_slice()))
 }
 
+/// Whether one of the entries has an indirect condact.
 fn any_entry_indirect(entries: &[Entry]) -> bool
     ensures value { result ≡ list_any (λ e. any_indirect e.condacts) entries.now }
 {
@@ -84,6 +85,7 @@ fn any_entry_indirect(entries: &[Entry]) -> bool
         .any(|entry| any_indirect(entry.condacts.rows.as_slice()))
 }
 
+/// Whether one of the condacts is indirect.
 fn any_indirect(condacts: &[Condact]) -> bool
     ensures value { result ≡ any_indirect condacts.now }
 {

@@ -73,8 +73,8 @@ impl<'a> View<'a> {
     ///
     /// # Errors
     /// As `decode`: Damaged exactly where the bytes aren't the image of a valid game, or more than 4,194,304; the place
-    /// is that of the first field, in order, that breaks its rule or isn't all there, and 4 where no field does, but the
-    /// version is 2 and no condact is indirect. Memory only for want of memory.
+    /// is that of the first field, in order, that breaks its rule or isn't all there, and 4 where no field does, but
+    /// the version is 2 and no condact is indirect. Memory only where there is none.
     pub fn new(alloc: Global, bytes: &'a [u8]) -> Result<View<'a>, ImageRefusal>
         ensures bytes { IfOk result (λ view. view ≡ bytes.now) }
         ensures found { OnOk result (IsImage bytes.now (game_read bytes.now)) }
@@ -172,7 +172,7 @@ impl<'a> Tables for View<'a> {
     }
 
     fn next_match(&self, table: u8, from: u16, verb: u8, noun: u8) -> Option<u16> {
-        // Most often the entry at hand matches, and none is searched for; where it isn't there, none comes after it.
+        // Most often the entry at hand matches, and no search is needed; where it isn't there, none comes after it.
         let (own_verb, own_noun) = self.head(table, from)?;
         if is_for(own_verb, verb) && is_for(own_noun, noun) {
             return Some(from);

@@ -11,7 +11,7 @@ use Rattle.paw_lex.specs.Lines.{lines_of}
 use Rattle.paw_lex.specs.inner.Lines.{IsLineEnd}
 use Rattle.paw_lex.proofs.Slices.{take-slice_range, drop-slice_range, slice_range-slice_range, before_first-drop, slice_range-one, slice_range-two}
 
--- a part with parts behind it is a line that ended
+-- A part with parts after it is a line that ended.
 pub lines_of_parts-cons : (part : List ℕ) (parts : List (List ℕ)) → 0 < length parts
     → lines_of_parts (part ∷ parts) ≡ strip_carriage_return part ∷ lines_of_parts parts
 lines_of_parts-cons part [] h = absurd (omega arith)
@@ -25,7 +25,7 @@ lines-lf s h =
     ap lines_of_parts (slice_split_first (λ b. eqb b 10) s 0 h)
     ∙ lines_of_parts-cons (before_first (λ b. eqb b 10) s) (slice_split (λ b. eqb b 10) (after_first (λ b. eqb b 10) s)) more
 
--- a last line without LF
+-- A last line without LF is the only line.
 lines-last : (s : List ℕ) → 0 < length s → position_or_len (λ b. eqb b 10) s ≡ length s → lines s ≡ s ∷ []
 lines-last s h e =
     ap lines_of_parts (slice_split_none (λ b. eqb b 10) s (λ k d l. fails_before_first (λ b. eqb b 10) s k d (omega arith)))
@@ -36,7 +36,7 @@ last_line s n h e f =
     lines-last s h (sym e ∙ f) ∙ sym (ap (λ (line : List ℕ). line ∷ lines (drop n s)) (take_all n s (omega arith))
     ∙ ap (λ (rest : List ℕ). s ∷ lines rest) (drop_all n s (omega arith)))
 
--- n bytes stand before the first LF, and w without a CR at their end
+-- Before the first LF there are n bytes, and w of them without a CR at their end.
 pub line_before_lf : (s : List ℕ) (n w : ℕ) → n ≡ position_or_len (λ b. eqb b 10) s → n < length s → w ≤ n
     → take w (take n s) ≡ strip_carriage_return (take n s) → lines s ≡ take w s ∷ lines (drop (n + 1) s)
 line_before_lf s n w e h l f =
@@ -55,7 +55,7 @@ line_end_at s n w e h (inr (q, cr)) =
     subst (λ k. slice_range s w (k + 1) ≡ get_or s w 0 ∷ get_or s k 0 ∷ []) q (slice_range-two s w (omega arith)) in
     inr (both ∙ rw (cr_there, lf) refl)
 
--- the lines that are left, where the source ends before the place `end`
+-- The lines that are left, where the source ends before the place `end`.
 pub lines_of-drop : (s : List ℕ) (end at : ℕ) → end ≡ position_or_len (λ b. eqb b 26) s → at ≤ end → lines_of (drop at s) ≡ lines (slice_range s at end)
 unfolding lines_of
 lines_of-drop s end at e h =

@@ -15,7 +15,7 @@ use Rattle.paw_lex.proofs.LineCuts.{lines_of_parts-cons}
 use Rattle.paw_lex.proofs.Slices.{before_first-cons}
 use Rattle.paw_lex.proofs.TokenCuts.{tokens_of-blank, token_first}
 
--- no printed byte is below the space
+-- No printed byte is below the space.
 printed_is_not : (n b : ℕ) → n < 32 → is_printed_byte b ≡ true → eqb b n ≡ false
 printed_is_not n b h e =
     let above = leb-true 32 b (and_parts _ _ e).0 in
@@ -24,7 +24,7 @@ printed_is_not n b h e =
 none_is : (n : ℕ) (line : List ℕ) → n < 32 → list_all is_printed_byte line ≡ true → All (λ b. eqb b n ≡ false) line
 none_is n line h e = λ k d l. printed_is_not n (get_or line k d) h (AllPass-from_list_all is_printed_byte line e k d l)
 
--- the text of a source goes on past printed bytes
+-- The text of a source goes on past printed bytes.
 text-append : (line rest : List ℕ) → list_all is_printed_byte line ≡ true
     → before_first (λ b. eqb b 26) (line ++ rest) ≡ line ++ before_first (λ b. eqb b 26) rest
 text-append [] rest e = refl
@@ -41,7 +41,7 @@ no_return line e =
     ] in
     rw last refl
 
--- a printed line and its LF
+-- A printed line and its LF are read as that line.
 pub lines_of-line : (line rest : List ℕ) → list_all is_printed_byte line ≡ true → lines_of (line ++ 10 ∷ rest) ≡ line ∷ lines_of rest
 unfolding lines_of
 lines_of-line line rest e =
@@ -52,7 +52,7 @@ lines_of-line line rest e =
     ∙ lines_of_parts-cons line (slice_split (λ b. eqb b 10) text) more
     ∙ ap (λ (bytes : List ℕ). bytes ∷ lines text) (no_return line e)
 
--- each line with its LF
+-- Each line with its LF.
 abbrev pub printed_lines : List (List ℕ) → List ℕ
 printed_lines = flat_map (λ line. line ++ 10 ∷ [])
 
@@ -65,7 +65,7 @@ lines_of-printed_lines (line ∷ ls) e =
     ∙ lines_of-line line (printed_lines ls) both.0
     ∙ ap (λ (rest : List (List ℕ)). line ∷ rest) (lines_of-printed_lines ls both.1)
 
--- a token has a byte, and none that ends it
+-- A token has a byte, and none that ends it.
 abbrev pub is_token : List ℕ → Bool
 is_token token = ltb 0 (length token) && list_all (λ b. not (ends_token b)) token
 
@@ -76,7 +76,7 @@ end_of_token (b ∷ bs) rest e h =
     let both = and_parts (not (ends_token b)) (list_all (λ c. not (ends_token c)) bs) e in
     rw (both.0, end_of_token bs rest both.1 h, one-add) refl
 
--- a token, where nothing or a byte that ends it follows
+-- A token is read as the first one where nothing follows, or a byte that ends it.
 pub tokens_of-token : (token rest : List ℕ) → is_token token ≡ true → position_or_len ends_token rest ≡ 0 → tokens_of (token ++ rest) ≡ token ∷ tokens_of rest
 tokens_of-token token rest e h =
     let both = and_parts _ _ e in
@@ -84,7 +84,7 @@ tokens_of-token token rest e h =
     token_first (token ++ rest) (length token) (sym (end_of_token token rest both.1 h)) long
     ∙ rw (take_at token rest (length token) refl, drop_at token rest (length token) refl) refl
 
--- tokens with a space between each two
+-- Tokens with a space between each two are read as these tokens.
 pub tokens_of-join : (ts : List (List ℕ)) → list_all is_token ts ≡ true → tokens_of (join_with_byte 32 ts) ≡ ts
 unfolding tokens_of
 tokens_of-join [] e = refl

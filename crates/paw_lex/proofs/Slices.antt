@@ -32,7 +32,7 @@ before_first-drop p (x ∷ xs) (suc n) h =
       | false ↦ λ g. rw one-add (before_first-drop p xs n (omega arith))
     ] h
 
--- one byte, and two
+-- One byte, and two.
 pub slice_range-one : (s : List ℕ) (n : ℕ) → n < length s → slice_range s n (n + 1) ≡ get_or s n 0 ∷ []
 slice_range-one s n h =
     let e : n + 1 - n ≡ 1 = omega arith in

@@ -35,7 +35,7 @@ pub tokens_of-blank : (b : ℕ) (bs : List ℕ) → is_blank b ≡ true → toke
 unfolding tokens_of
 tokens_of-blank b bs e = ap full (pieces-blank b bs e)
 
--- blanks at the front make no token
+-- Blanks at the front make no token.
 pub past_blanks : (s : List ℕ) (n : ℕ) → n ≤ prefix_len is_blank s → tokens_of (drop n s) ≡ tokens_of s
 past_blanks s zero h = refl
 past_blanks [] (suc n) h = refl
@@ -54,16 +54,16 @@ all_blank (b ∷ bs) =
       | false ↦ λ e. refl
     ] refl
 
--- the blanks at the front are blanks
+-- The blanks at the front are blanks.
 pub blanks_first : (s : List ℕ) (n : ℕ) → n ≡ prefix_len is_blank s → list_all is_blank (take n s) ≡ true
 blanks_first s n e = ap (λ k. list_all is_blank (take k s)) e ∙ all_blank s
 
--- they stand in the bytes that are looked at
+-- They stand in the bytes that are looked at.
 pub blanks_at : (s : List ℕ) (from to n : ℕ) → n ≤ to - from
     → list_all is_blank (take n (slice_range s from to)) ≡ true → list_all is_blank (slice_range s from (from + n)) ≡ true
 blanks_at s from to n h e = ap (list_all is_blank) (sym (take-slice_range s from to n h)) ∙ e
 
--- where neither a blank nor a token stands, nothing or a `;` does
+-- Where neither a blank nor a token stands, there is nothing or a `;`.
 pub no_token : (s : List ℕ) → prefix_len is_blank s ≡ 0 → position_or_len ends_token s ≡ 0 → tokens_of s ≡ []
 unfolding tokens_of
 no_token [] h g = refl
@@ -77,7 +77,7 @@ no_token (b ∷ bs) h g =
       ] refl j
     ] refl h g
 
--- the first piece has n bytes, and what is behind it stands from there on
+-- The first piece has n bytes, and the pieces after it stand from there on.
 record Begins (s : List ℕ) (n : ℕ) : Type 0 where
   behind : List (List ℕ)
   first : pieces s ≡ take n s ∷ behind
@@ -116,7 +116,7 @@ no_more_blanks s n e =
       | inr h ↦ prefix_len-drop_all is_blank s n h
     ]
 
--- n blanks stand first, and k bytes of a token behind them
+-- First there are n blanks, and after them k bytes of a token.
 pub none_left : (s : List ℕ) (n k : ℕ) → n ≡ prefix_len is_blank s → k ≡ position_or_len ends_token (take (length s - n) (drop n s)) → k ≡ 0 → tokens_of s ≡ []
 none_left s n k e f z =
     let here : position_or_len ends_token (drop n s) ≡ 0 = ap (position_or_len ends_token) (sym (take_rest s n)) ∙ sym f ∙ z in

@@ -2,19 +2,19 @@
 use Rattle.std.specs.Prelude.{ℕ, Bool, false, ◌&&◌, ◌||◌, not, ◌==◌, nat_le, List, [], ◌∷◌}
 use Rattle.std.specs.List.{list_any}
 
--- a line that begins with `;`: it may hold any byte
+-- Whether a line is a comment: it begins with `;`, and may hold any byte.
 abbrev pub is_comment : List ℕ → Bool
 is_comment [] = false
 is_comment (b ∷ bs) = b == 59
 
--- a byte from the space to `~`
+-- Whether a byte is from the space to `~`.
 abbrev pub is_printed_byte : ℕ → Bool
 is_printed_byte b = nat_le 0x20 b && nat_le b 0x7E
 
--- a text line may hold printed bytes, any other line tabs too
+-- Whether a line may hold a byte: a text line may hold printed bytes, any other line tabs too.
 abbrev pub is_allowed : Bool → ℕ → Bool
 is_allowed text b = is_printed_byte b || (not text && b == 9)
 
--- the line is no comment and holds a byte that isn't allowed in it
+-- Whether a line is no comment and holds a byte that isn't allowed in it.
 abbrev pub has_forbidden_byte : Bool → List ℕ → Bool
 has_forbidden_byte text line = not (is_comment line) && list_any (λ b. not (is_allowed text b)) line

@@ -3,7 +3,7 @@ use Rattle.std.specs.Prelude.{ℕ, ◌==◌, List}
 use Rattle.std.specs.List.{before_first}
 use Rattle.std.specs.Str.Lines.{lines}
 
--- The lines of a source. It ends before its first byte 0x1A, where there is one. An LF ends a line, and a CR right
--- before it belongs to the line end. A last line without LF is a line; nothing after the last LF is none.
+-- The lines of a source, which ends before its first byte 0x1A, if there is one. An LF ends a line, and a CR right
+-- before it belongs to the line end. A last line without LF is a line too; after a last LF there is none.
 unfoldable pub lines_of : List ℕ → List (List ℕ)
 lines_of source = lines (before_first (λ b. b == 0x1A) source)

@@ -28,6 +28,7 @@ fn is_allowed(text: bool, byte: u8) -> bool
     matches!(byte, b' '..=b'~') || !text && byte == b'\t'
 }
 
+/// Whether a byte of the line isn't allowed in it.
 fn any_is_forbidden(text: bool, line: &[u8]) -> bool
     ensures { result ≡ list_any (λ b. not (is_allowed text b)) line.now }
 {
@@ -45,7 +46,7 @@ fn has_forbidden_byte(text: bool, line: &[u8]) -> bool
 }
 
 /// The fault of a line that holds a forbidden byte. A comment may hold any byte, a text line the bytes from the space
-/// to `~`, and any other line tabs too. `text` tells that it is a text line.
+/// to `~`, and any other line tabs too. `text` says whether it is a text line.
 pub fn byte_fault(source: &[u8], line: &Line, text: bool) -> Option<LexFault>
     requires { LiesIn source.now line.now }
     ensures { let forbidden = has_forbidden_byte text (bytes_of source.now line.now) in

@@ -15,7 +15,7 @@ use std::marker::Model;
 const END_MARK: u8 = 0x1A;
 
 /// A line of a source: its number, counted from 1, the place of its first byte, and the place after its last one. The
-/// line end is no part of it.
+/// line end isn't part of it.
 #[derive(Clone, Copy, Drop, PartialEq, Eq, Debug)]
 pub struct Line {
     pub number: u32,
@@ -30,7 +30,7 @@ struct Cut {
     whole: usize,
 }
 
-/// The place of the first such byte, or the length where there is none.
+/// The place of the first byte with this value, or the length where there is none.
 fn place_of_first(bytes: &[u8], byte: u8) -> usize
     ensures value { result ≡ position_or_len (λ b. b == byte) bytes.now }
     ensures within { result ≤ length bytes.now }
@@ -127,15 +127,15 @@ impl<'a> Lines<'a> {
     }
 
     /// The next line, or `None` exactly where none is left. The source ends before its first byte 0x1A. An LF ends a
-    /// line, and a CR right before it belongs to the line end. A last line without LF is a line; nothing after the last
-    /// LF is none. Lines are numbered from 1, and there are no more of them than bytes.
+    /// line, and a CR right before it belongs to the line end. A last line without LF is a line too; after a last LF
+    /// there is none. Lines are numbered from 1, and there are no more of them than bytes.
     pub fn next(&mut self) -> Option<Line>
         ensures lines { MatchOption result (self.old.left ≡ [])
             (λ line. self.old.left ≡ bytes_of self.old.source line ∷ self.new.left) }
         ensures numbers { IfSome result (λ line. (line.number ≡ self.old.given + 1)
             × (line.number ≡ self.new.given) × (line.number ≤ length self.old.source)) }
 
-        // A line begins where the walk stands, and the walk goes on behind its line end.
+        // A line begins where the walk stands, and the walk goes on after its line end.
         ensures spans { IfSome result (λ line. LiesIn self.old.source line
             × (line.from ≡ self.old.at) × (line.from < self.new.at) × (line.to ≤ self.new.at)) }
         ensures line_end { IfSome result (λ line.

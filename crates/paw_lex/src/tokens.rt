@@ -61,8 +61,8 @@ fn first_token(bytes: &[u8]) -> Option<Token>
 }
 
 /// The next token of a line from the place `from` on, with only blanks in between, or `None` exactly where none is
-/// left. `from` is the line's first place, or the place after its token before: what stands in front of it isn't looked
-/// at. A line is cut into tokens at spaces and tabs, up to its first `;`.
+/// left. `from` is the line's first place, or the place after the token before; what stands before it isn't looked at.
+/// A line is cut into tokens at spaces and tabs, up to its first `;`.
 pub fn next_token(source: &[u8], line: &Line, from: usize) -> Option<Token>
     requires span { LiesIn source.now line.now }
     requires place { (line.now.from ≤ from) × (from ≤ line.now.to) }

@@ -1,4 +1,4 @@
--- Reading a phrase mark by mark comes to what the phrase is.
+-- Reading a phrase mark by mark gives what the phrase is.
 use Rattle.std.proofs.Common.{◌≡◌, ◌+◌, ◌-◌, ℕ, Bool, true, false, cond, eqb, List, [], ◌∷◌, ◌++◌, Option, Some, None, length, take, drop, refl, sym}
 use Rattle.std.proofs.Common.{ap, ◌∙◌, arith}
 use Rattle.std.specs.List.{list_any}
@@ -16,21 +16,21 @@ use Rattle.paw_phrase.specs.Phrase.{Mark, marks, is_parting, from_phrase, phrase
 use Rattle.paw_phrase.specs.Sentence.{blank, with_word, with_tokens, finished, Parsed, IsSentence, IsUnknown, IsNoPhrase, parsed_marks, parsed}
 use Rattle.paw_phrase.specs.inner.Draft.{part_of_word, phrase_part_of, with_part, started, draft_outcome}
 
--- after a part the draft goes on, or its phrase has ended
+-- After a part the draft goes on, or its phrase has ended.
 abbrev pub after_part : Option Draft → Parsed → (Draft → Parsed) → Parsed
 after_part None stop go = stop
 after_part (Some d) stop go = go d
 
--- what a draft comes to that is read on over these marks
+-- What a draft ends as where it is read on over these marks.
 unfoldable pub along : GameLists → ℕ → List Mark → Draft → Parsed
 along g e [] d = draft_outcome e d []
 along g e (m ∷ ms) d = after_part (with_part (phrase_part_of g m.token) d) (draft_outcome e d m.after) (along g e ms)
 
--- a token is a word of the game
+-- A token is a word of the game.
 abbrev has_known : GameLists → List (List ℕ) → Bool
 has_known g tokens = list_any (λ token. is_some (word_at g token)) tokens
 
--- what a part says of the tokens that begin with it
+-- What a part says of the tokens that begin with it.
 abbrev Means : GameLists → Option (List ℕ) → Part → Type 0
 Means g t part.Break = is_parting g t ≡ true
 Means g t part.Unknown =
@@ -57,11 +57,11 @@ means g (Some letters) = word_means g letters (word_at g letters) refl
 abbrev draft : Found → Sentence → Draft
 draft f s = record { found = f; words = s }
 
--- what the tokens of a phrase come to, where s is filled before them
+-- What the tokens of a phrase are, where s is filled before them.
 abbrev parsed_tokens : GameLists → ℕ → Sentence → List (List ℕ) → List ℕ → Parsed
 parsed_tokens g e s ts rest = cond (has_known g ts) (IsSentence (finished e (with_tokens g ts s)) rest) (IsUnknown rest)
 
--- a part after a known word
+-- A part after a known word.
 part_of_sentence : (g : GameLists) (e : ℕ) (m : Mark) (ms : List Mark)
     → ((s : Sentence) → along g e ms (draft found.Sentence s)
     ≡ IsSentence (finished e (with_tokens g (phrase_tokens g ms) s)) (bytes_after g ms))
@@ -74,7 +74,7 @@ part_of_sentence g e m ms again s part.Unknown h = again s ∙ rw (h.0)
 part_of_sentence g e m ms again s (part.Word value class) h =
     again (with_word value class s) ∙ rw (h.0) (ap (λ x. IsSentence (finished e x) (bytes_after g ms)) (sym (h.1 (phrase_tokens g ms) s)))
 
--- with a known word
+-- With a known word.
 with_known_word : (g : GameLists) (e : ℕ) (ms : List Mark) (s : Sentence)
     → along g e ms (draft found.Sentence s) ≡ IsSentence (finished e (with_tokens g (phrase_tokens g ms) s)) (bytes_after g ms)
 unfolding along
@@ -87,7 +87,7 @@ parsed_tokens_are g e s x ts rest b known words =
     ap (λ c. cond c (IsSentence (finished e (with_tokens g ts s)) rest) (IsUnknown rest)) known
     ∙ ap (λ y. cond b (IsSentence (finished e y) rest) (IsUnknown rest)) words
 
--- a part after unknown tokens alone
+-- A part after unknown tokens alone.
 part_of_unknown : (g : GameLists) (e : ℕ) (m : Mark) (ms : List Mark)
     → ((s : Sentence) → along g e ms (draft found.Nothing s) ≡ parsed_tokens g e s (phrase_tokens g ms) (bytes_after g ms))
     → (s : Sentence) (p : Part) → Means g m.token p
@@ -104,7 +104,7 @@ part_of_unknown g e m ms again s (part.Word value class) h =
     with_known_word g e ms word
     ∙ rw (h.0) (sym (parsed_tokens_are g e s (with_tokens g ts word) (option_to_list m.token ++ ts) (bytes_after g ms) true (h.2 ts) (h.1 ts s)))
 
--- with unknown tokens alone
+-- With unknown tokens alone.
 with_no_word : (g : GameLists) (e : ℕ) (ms : List Mark) (s : Sentence)
     → along g e ms (draft found.Nothing s) ≡ parsed_tokens g e s (phrase_tokens g ms) (bytes_after g ms)
 unfolding along
@@ -119,7 +119,7 @@ parsed_from-token : (g : GameLists) (e : ℕ) (m : Mark) (ms : List Mark) (s : S
     → parsed_from g e s (from_phrase g (m ∷ ms)) ≡ parsed_tokens g e s (option_to_list m.token ++ phrase_tokens g ms) (bytes_after g ms)
 parsed_from-token g e m ms s h = rw h (rw h refl)
 
--- a part before the phrase
+-- A part before the phrase.
 part_of_nothing : (g : GameLists) (e : ℕ) (m : Mark) (ms : List Mark)
     → ((s : Sentence) → along g e ms (draft found.Empty s) ≡ parsed_from g e s (from_phrase g ms))
     → (s : Sentence) (p : Part) → Means g m.token p
@@ -138,7 +138,7 @@ part_of_nothing g e m ms again s (part.Word value class) h =
     ∙ sym (parsed_from-token g e m ms s (h.0) ∙ parsed_tokens_are g e s (with_tokens g ts word)
     (option_to_list m.token ++ ts) (bytes_after g ms) true (h.2 ts) (h.1 ts s))
 
--- with no token
+-- With no token.
 with_no_token : (g : GameLists) (e : ℕ) (ms : List Mark) (s : Sentence)
     → along g e ms (draft found.Empty s) ≡ parsed_from g e s (from_phrase g ms)
 unfolding along
@@ -153,7 +153,7 @@ pub along-started : (g : GameLists) (bytes : List ℕ) (e n a : ℕ) → along g
 unfolding parsed
 along-started g bytes e n a = with_no_token g e (marks bytes) (blank n a) ∙ parsed_from-marks g e n a (from_phrase g (marks bytes))
 
--- one mark more is read, from the bytes from i on
+-- One mark more is read, from the bytes from i on.
 pub along-mark : (g : GameLists) (e : ℕ) (s : List ℕ) (i k : ℕ) (t : Option (List ℕ)) (d : Draft) (p : Part) (next : Option Draft)
     (whole : Parsed) → whole ≡ along g e (marks (drop i s)) d
     → marks (take (length s - i) (drop i s))
@@ -168,7 +168,7 @@ along-mark g e s i k t d p next whole so_far first is_part is_next =
     ∙ ap (λ ms. along g e ms d) here
     ∙ ap (λ x. after_part x (draft_outcome e d (drop (i + k) s)) go) (sym (is_next ∙ ap (λ q. with_part q d) is_part))
 
--- no mark is left
+-- No mark is left.
 pub along-end : (g : GameLists) (e : ℕ) (s : List ℕ) (i : ℕ) (d : Draft) (whole : Parsed) → whole ≡ along g e (marks (drop i s)) d
     → marks (take (length s - i) (drop i s)) ≡ [] → whole ≡ draft_outcome e d (drop (length s) s)
 unfolding along

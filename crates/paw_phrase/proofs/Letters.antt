@@ -6,7 +6,7 @@ use Rattle.std.proofs.Math.Seq.{take-suc}
 use Rattle.std.proofs.lemmas.List.{length-take-le, length-map, map-append, take_all, take-append-le, set_at}
 use Rattle.paw_phrase.specs.Phrase.{five_letters}
 
--- the first n bytes, with small letters read as capitals
+-- The first n bytes, with small letters read as capitals.
 abbrev pub letters_of : ℕ → List ℕ → List ℕ
 letters_of n bytes = map to_ascii_uppercase (take n bytes)
 
@@ -20,7 +20,7 @@ letters_of-suc n bytes h =
 letter_at : (run filling : List ℕ) (letter x : ℕ) → (run ++ letter ∷ []) ++ filling ≡ set (run ++ x ∷ filling) (length run) letter
 letter_at run filling letter x = append_assoc run (letter ∷ []) filling ∙ sym (set_at run x filling letter (length run) refl)
 
--- a letter among the first five is kept
+-- A letter among the first five is kept.
 five_letters-kept : (run : List ℕ) (letter : ℕ) → length run < 5 → five_letters (run ++ letter ∷ []) ≡ set (five_letters run) (length run) letter
 five_letters-kept run letter h =
     let whole : take 5 (run ++ letter ∷ []) ≡ run ++ letter ∷ [] = take_all 5 (run ++ letter ∷ []) (omega (arith, length-append run (letter ∷ []))) in
@@ -29,7 +29,7 @@ five_letters-kept run letter h =
     let fewer : 5 - length (run ++ letter ∷ []) ≡ 4 - length run = omega (arith, length-append run (letter ∷ [])) in
     rw (whole, fewer, short, spaces) (letter_at run (replicate (4 - length run) 32) letter 32)
 
--- any other is not
+-- Any other letter is not.
 five_letters-cut : (run : List ℕ) (letter : ℕ) → 5 ≤ length run → five_letters (run ++ letter ∷ []) ≡ five_letters run
 five_letters-cut run letter h =
     let cut : take 5 (run ++ letter ∷ []) ≡ take 5 run = take-append-le 5 run (letter ∷ []) h in

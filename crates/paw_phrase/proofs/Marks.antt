@@ -6,7 +6,7 @@ use Rattle.std.proofs.lemmas.List.{get_or-drop}
 use Rattle.paw_phrase.specs.Phrase.{is_separator, five_letters, marks_from, marks}
 use Rattle.paw_phrase.proofs.Letters.{letters_of, letters_of-suc, length-letters_of, letter_kept, letter_cut}
 
--- a byte of a token belongs to the token that has begun
+-- A byte of a token belongs to the token that has begun.
 marks_from-more : (s : List ℕ) (n : ℕ) → n < length s → is_ascii_alphanumeric (get_or s n 0) ≡ true
     → marks_from (letters_of n s) (drop n s) ≡ marks_from (letters_of (n + 1) s) (drop (n + 1) s)
 unfolding marks_from
@@ -14,7 +14,7 @@ marks_from-more s n h token =
     ap (marks_from (letters_of n s)) (drop-cons s n 0 h)
     ∙ rw (token, add-one) (ap (λ run. marks_from run (drop (suc n) s)) (sym (letters_of-suc n s h)))
 
--- a token ends before bytes that don't go on with it
+-- A token ends before bytes that don't go on with it.
 marks_from-end : (run rest : List ℕ) → 0 < length run → (0 < length rest → is_ascii_alphanumeric (get_or rest 0 0) ≡ false)
     → marks_from run rest ≡ record { token = Some (five_letters run); after = rest } ∷ marks rest
 unfolding marks_from
@@ -22,7 +22,7 @@ marks_from-end [] rest begun ends = absurd (omega arith)
 marks_from-end (b ∷ bs) [] begun ends = refl
 marks_from-end (b ∷ bs) (c ∷ cs) begun ends = let other : is_ascii_alphanumeric c ≡ false = ends (omega arith) in rw other refl
 
--- the first n bytes are a token's, and these are its letters
+-- The first n bytes are a token's, and these are its letters.
 abbrev pub IsToken : List ℕ → ℕ → List ℕ → Type 0
 IsToken s n letters = (marks s ≡ marks_from (letters_of n s) (drop n s)) × (letters ≡ five_letters (letters_of n s))
 
@@ -42,7 +42,7 @@ begun : (s : List ℕ) (n : ℕ) → 0 < length s → is_ascii_alphanumeric (get
 begun s zero some token ends = let never = ends some in cc
 begun s (suc n) some token ends = omega arith
 
--- the token is the first mark
+-- The token is the first mark.
 pub marks-token : (s : List ℕ) (n : ℕ) (letters : List ℕ) → 0 < length s → is_ascii_alphanumeric (get_or s 0 0) ≡ true → n ≤ length s
     → (n < length s → is_ascii_alphanumeric (get_or s n 0) ≡ false) → IsToken s n letters
     → marks s ≡ record { token = Some letters; after = drop n s } ∷ marks (drop n s)
@@ -53,7 +53,7 @@ marks-token s n letters some token within ends so_far =
     (λ more. ap is_ascii_alphanumeric (get_or-drop n s 0 0 ∙ ap (λ k. get_or s k 0) (add-zero n)) ∙ ends (omega (arith, length-drop n s)))
     ∙ ap (λ (l : List ℕ). record { token = Some l; after = drop n s } ∷ marks (drop n s)) (sym so_far.1)
 
--- a blank leaves no mark
+-- A blank leaves no mark.
 pub marks-blank : (s : List ℕ) (n : ℕ) → n < length s → is_ascii_alphanumeric (get_or s n 0) ≡ false → is_separator (get_or s n 0) ≡ false
     → marks (drop n s) ≡ marks (drop (n + 1) s)
 unfolding marks_from

@@ -12,7 +12,7 @@ use Rattle.paw_phrase.specs.Phrase.{bytes_after}
 use Rattle.paw_phrase.specs.Sentence.{Parsed, IsSentence, IsUnknown, IsNoPhrase, parsed_marks, parsed}
 pub use Rattle.paw_phrase.specs.inner.Leaving.{Leaves}
 
--- the bytes that stay pending: those behind the first few
+-- The bytes that stay pending: all after the first few.
 pub record IsRest (pending rest : List ℕ) : Type 0 where
   pub from : ℕ
   pub some : 0 < from
@@ -27,7 +27,7 @@ rest-shorter pending rest h =
 pub rest-all : (P : ℕ → Type 0) (pending rest : List ℕ) → IsRest pending rest → All P pending → All P rest
 rest-all P pending rest h all = subst (All P) (sym h.is) (All-drop P h.from pending all)
 
--- bytes behind a token or a separator, where a token's n bytes stand before s
+-- Bytes after a token or a separator, where a token's n bytes stand before s.
 record IsBehind (n : ℕ) (s after : List ℕ) : Type 0 where
   from : ℕ
   some : 0 < n + from
@@ -83,7 +83,7 @@ rest_from s after h = record { from = h.from; some = omega (arith, h.some); with
 marks-rest : (s : List ℕ) → Each (IsRest s) (marks s)
 marks-rest s = Each-map (IsBehind 0 s) (IsRest s) (rest_from s) (marks s) (marks_from-behind s [])
 
--- where something is left, nothing may be left too
+-- Where something may be left, nothing may be left too.
 rest-none : (s after : List ℕ) → IsRest s after → IsRest s []
 rest-none s after h = record { from = length s; some = omega (arith, h.some, h.within); within = omega arith; is = sym (drop_all (length s) s (omega arith)) }
 
@@ -107,7 +107,7 @@ parsed_marks-rest g pending e n a [] h = tt
 parsed_marks-rest g pending e n a (m ∷ ms) h =
     leaves (IsRest pending) _ _ (bytes_after g (m ∷ ms)) (bytes_after-each (IsRest pending) g (m ∷ ms) (rest-none pending m.after h.0) h)
 
--- what stays pending is what stands behind the first few bytes
+-- What stays pending is what stands after the first few bytes.
 pub parsed-rest : (g : GameLists) (pending : List ℕ) (earlier noun adjective : ℕ) → Leaves (IsRest pending) (parsed g pending earlier noun adjective)
 unfolding parsed
 parsed-rest g pending e n a = parsed_marks-rest g pending e n a (from_phrase g (marks pending))
@@ -118,13 +118,13 @@ leaves-map P Q f (IsSentence s rest) h = f rest h
 leaves-map P Q f (IsUnknown rest) h = f rest h
 leaves-map P Q f IsNoPhrase h = tt
 
--- a phrase that is taken makes what is pending shorter
+-- A phrase that is taken makes what is pending shorter.
 pub parsed-shorter : (g : GameLists) (pending : List ℕ) (earlier noun adjective : ℕ)
     → Leaves (λ rest. length rest < length pending) (parsed g pending earlier noun adjective)
 parsed-shorter g pending e n a =
     leaves-map (IsRest pending) (λ rest. length rest < length pending) (rest-shorter pending) (parsed g pending e n a) (parsed-rest g pending e n a)
 
--- the same for a phrase that is known to be a sentence, or unknown
+-- The same for a phrase that is known to be a sentence, or unknown.
 pub sentence-rest : (g : GameLists) (pending : List ℕ) (earlier noun adjective : ℕ) (s : Sentence) (rest : List ℕ)
     → parsed g pending earlier noun adjective ≡ IsSentence s rest → IsRest pending rest
 sentence-rest g pending e n a s rest is = subst (Leaves (IsRest pending)) is (parsed-rest g pending e n a)

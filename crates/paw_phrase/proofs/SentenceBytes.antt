@@ -13,7 +13,7 @@ use Rattle.paw_phrase.specs.Phrase.{Mark, marks, from_phrase, phrase_tokens, byt
 use Rattle.paw_phrase.specs.Sentence.{blank, or_value, with_noun, with_adjective, with_pronoun, with_word, with_tokens, with_verb, with_meaning}
 use Rattle.paw_phrase.specs.Sentence.{finished, Parsed, IsSentence, IsUnknown, IsNoPhrase, parsed_marks, parsed}
 
--- each part of the sentence is a byte
+-- Each part of the sentence is a byte.
 pub record AreBytes (s : Sentence) : Type 0 where
   pub verb : s.verb < 256
   pub noun : s.noun < 256
@@ -89,7 +89,7 @@ with_meaning-bytes s k =
     let meant : AreBytes (record s { pronoun_noun = s.noun; pronoun_adjective = s.adjective }) = assumption in
     either AreBytes _ _ _ meant k
 
--- the value of a valid word
+-- The value of a valid word.
 value-byte : (w : Word) → IsTrue (is_word w) → w.value < 256
 value-byte w h =
     let parts = and_parts (are_letters w.letters) (is_within 2 254 w.value && leb w.class 6) h in
@@ -97,7 +97,7 @@ value-byte w h =
     let bounds = and_parts (leb 2 w.value) (leb w.value 254) range.0 in
     omega (arith, leb-true w.value 254 bounds.1)
 
--- a known word has a value
+-- A known word has a value.
 abbrev HasByte : Option (ℕ × ℕ) → Type 0
 HasByte None = Unit {0}
 HasByte (Some word) = word.0 < 256
@@ -127,14 +127,14 @@ with_tokens-bytes g [] s valid k = k
 with_tokens-bytes g (token ∷ tokens) s valid k =
     with_tokens-bytes g tokens _ valid (with_known-bytes (word_at g token) s (word_at-byte g token valid) k)
 
--- a sentence of bytes, where the bytes of the pronoun and the earlier verb are
+-- A sentence of bytes, where the bytes of the pronoun and the earlier verb are.
 pub sentence-bytes : (g : GameLists) (tokens : List (List ℕ)) (earlier noun adjective : ℕ) → Valid g → earlier < 256 → noun < 256 → adjective < 256
     → AreBytes (finished earlier (with_tokens g tokens (blank noun adjective)))
 sentence-bytes g tokens e n a valid he hn ha =
     let words = with_tokens g tokens (blank n a) in
     with_meaning-bytes (with_verb e words) (with_verb-bytes e words he (with_tokens-bytes g tokens (blank n a) valid (blank-bytes n a hn ha)))
 
--- a fact of the sentence, where there is one
+-- A fact of the sentence, where there is one.
 abbrev Gives : (Sentence → Type 0) → Parsed → Type 0
 Gives P (IsSentence s rest) = P s
 Gives P (IsUnknown rest) = Unit {0}
@@ -150,7 +150,7 @@ parsed_marks-bytes g e n a valid he hn ha (m ∷ ms) =
     let tokens = phrase_tokens g (m ∷ ms) in
     gives AreBytes _ (finished e (with_tokens g tokens (blank n a))) (bytes_after g (m ∷ ms)) (sentence-bytes g tokens e n a valid he hn ha)
 
--- the sentence that is parsed is one of bytes
+-- The sentence that is parsed is one of bytes.
 pub parsed-bytes : (g : GameLists) (pending : List ℕ) (earlier noun adjective : ℕ) (s : Sentence) (rest : List ℕ) → Valid g → earlier < 256
     → noun < 256 → adjective < 256 → parsed g pending earlier noun adjective ≡ IsSentence s rest → AreBytes s
 unfolding parsed

@@ -1,4 +1,4 @@
--- A phrase takes at least two bytes, where something is left behind it.
+-- A phrase takes at least two bytes, where something is left after it.
 use Rattle.std.proofs.Common.{◌≡◌, ◌⊎◌, ◌<◌, ◌≤◌, ◌+◌, ℕ, Bool, true, false, cond, List, [], ◌∷◌, ◌++◌, None, length, refl, sym, subst, inl, inr}
 use Rattle.std.proofs.Common.{arith, length-append}
 use Rattle.std.specs.Char.{to_ascii_uppercase, is_ascii_alphanumeric}
@@ -9,7 +9,7 @@ use Rattle.paw_phrase.specs.Sentence.{parsed_marks, parsed}
 use Rattle.paw_phrase.specs.inner.Leaving.{Leaves, IsTwoLess, PhrasesTakeTwo}
 use Rattle.paw_phrase.proofs.Phrases.{leaves}
 
--- behind each mark there are fewer bytes than behind the one before, and at first fewer than n
+-- Fewer bytes stand after each mark than after the one before, and fewer than n after the first.
 abbrev Fall : ℕ → List Mark → Type 0
 Fall n [] = Unit {0}
 Fall n (m ∷ ms) = (length m.after < n) × Fall (length m.after) ms
@@ -18,7 +18,7 @@ Fall_up : (n k : ℕ) (ms : List Mark) → n ≤ k → Fall n ms → Fall k ms
 Fall_up n k [] le h = tt
 Fall_up n k (m ∷ ms) le h = (omega (arith, le, h.0), h.1)
 
--- behind a token stand the bytes s
+-- The bytes s stand after a token.
 token_mark-fall : (run s : List ℕ) (ms ns : List Mark) → Fall (length s) (ms ++ ns) → Fall (length run + length s) (token_mark run s ++ ms ++ ns)
 token_mark-fall [] s ms ns h = Fall_up _ _ (ms ++ ns) (omega arith) h
 token_mark-fall (b ∷ bs) s ms ns h = (omega arith, h)
@@ -44,7 +44,7 @@ marks_from-fall (b ∷ bs) run =
           (separator_mark-fall b bs (marks_from [] bs) (Fall_up _ _ (marks_from [] bs) (omega arith) (marks_from-fall bs [])))
     ]
 
--- behind a later mark that parts phrases
+-- The same after a later mark that separates phrases.
 bytes_after-fall : (g : GameLists) (n : ℕ) (ms : List Mark) → Fall n ms → (bytes_after g ms ≡ []) ⊎ (length (bytes_after g ms) < n)
 bytes_after-fall g n [] h = inl refl
 bytes_after-fall g n (m ∷ ms) h =
@@ -57,7 +57,7 @@ two_less : (pending rest : List ℕ) (n : ℕ) → n < length pending → (rest 
 two_less pending rest n less (inl none) = inl none
 two_less pending rest n less (inr fewer) = inr (omega (arith, less, fewer))
 
--- the phrase begins at this mark, or, where it parts phrases, behind it
+-- The phrase begins at this mark, or after it where the mark separates phrases.
 at_mark : (g : GameLists) (pending : List ℕ) (e n a : ℕ) (m : Mark) (ms : List Mark) (v : Bool) → is_parting g m.token ≡ v
     → Fall (length pending) (m ∷ ms) → Leaves (IsTwoLess pending) (parsed_marks g e n a (from_phrase g ms))
     → Leaves (IsTwoLess pending) (parsed_marks g e n a (cond v (from_phrase g ms) (m ∷ ms)))
@@ -74,7 +74,7 @@ parsed_marks-fall g pending e n a (m ∷ ms) h =
     at_mark g pending e n a m ms (is_parting g m.token) refl h
     (parsed_marks-fall g pending e n a ms (Fall_up _ _ ms (omega (arith, h.0)) h.1))
 
--- a phrase that is taken leaves nothing, or at least two bytes less
+-- A phrase that is taken leaves nothing, or at least two bytes less.
 pub phrases_take_two : PhrasesTakeTwo
 unfolding parsed
 phrases_take_two g pending e n a = parsed_marks-fall g pending e n a (marks pending) (Fall_up _ _ (marks pending) (omega arith) (marks_from-fall pending []))

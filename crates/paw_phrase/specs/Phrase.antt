@@ -9,56 +9,56 @@ use Rattle.paw_base.specs.declared.limits.TheConstants.{WORD_LENGTH}
 use Rattle.paw_game.specs.Game.{GameLists}
 use Rattle.paw_game.specs.Tables.{word_at}
 
--- these bytes part phrases
+-- Whether a byte separates phrases.
 abbrev pub is_separator : ℕ → Bool
 is_separator b = list_any (λ s. s == b) (codes ".,;:!?\"")
 
--- a token cut to five letters, filled up with spaces
+-- A token cut to five letters, filled up with spaces.
 abbrev pub five_letters : List ℕ → List ℕ
 five_letters token = take WORD_LENGTH token ++ replicate (WORD_LENGTH - length token) 32
 
--- a token, or a separator (which has none), and the bytes behind it
+-- A token, or a separator (which has no token), and the bytes after it.
 pub record Mark : Type 0 where
   pub token : Option (List ℕ)
   pub after : List ℕ
 
--- the token of a run of its bytes; none where the run is empty
+-- The mark of a token with these bytes; none where there are no bytes.
 abbrev pub token_mark : List ℕ → List ℕ → List Mark
 token_mark [] after = []
 token_mark (b ∷ bs) after = record { token = Some (five_letters (b ∷ bs)); after = after } ∷ []
 
--- a separator, where this byte is one
+-- The mark of a separator, where this byte is one.
 abbrev pub separator_mark : ℕ → List ℕ → List Mark
 separator_mark b after = if is_separator b then record { token = None; after = after } ∷ [] else []
 
--- the tokens and separators of the bytes, in order, where the token bytes run stand right before them
+-- The tokens and separators of bytes, in order, where the token bytes in `run` stand right before them.
 unfoldable pub marks_from : List ℕ → List ℕ → List Mark
 marks_from run [] = token_mark run []
 marks_from run (b ∷ bs) =
     if is_ascii_alphanumeric b then marks_from (run ++ to_ascii_uppercase b ∷ []) bs
     else token_mark run (b ∷ bs) ++ separator_mark b bs ++ marks_from [] bs
 
--- a token is a longest run of letters and digits; small letters are read as capitals, and a byte that is neither in a
--- token nor a separator is a blank
+-- The tokens and separators of bytes, in order. A token is a longest run of letters and digits, with small letters read
+-- as capitals; a byte that is neither in a token nor a separator is a blank.
 abbrev pub marks : List ℕ → List Mark
 marks bytes = marks_from [] bytes
 
--- a separator parts phrases, and so does a token with these letters that is a conjunction
+-- Whether a mark separates phrases: it is a separator, or a token whose letters are those of a conjunction.
 abbrev pub is_parting : GameLists → Option (List ℕ) → Bool
 is_parting g None = true
 is_parting g (Some letters) = option_map_or (λ word. word.1 == CONJUNCTION_CLASS) (word_at g letters) false
 
--- the marks from the first that doesn't part phrases on
+-- The marks from the first one on that doesn't separate phrases.
 abbrev pub from_phrase : GameLists → List Mark → List Mark
 from_phrase g [] = []
 from_phrase g (m ∷ ms) = if is_parting g m.token then from_phrase g ms else m ∷ ms
 
--- the tokens up to the next mark that parts phrases; a separator has none
+-- The tokens up to the next mark that separates phrases.
 abbrev pub phrase_tokens : GameLists → List Mark → List (List ℕ)
 phrase_tokens g [] = []
 phrase_tokens g (m ∷ ms) = if is_parting g m.token then [] else option_to_list m.token ++ phrase_tokens g ms
 
--- the bytes behind the next mark that parts phrases; none where there is no such mark
+-- The bytes after the next mark that separates phrases; none where there is no such mark.
 abbrev pub bytes_after : GameLists → List Mark → List ℕ
 bytes_after g [] = []
 bytes_after g (m ∷ ms) = if is_parting g m.token then m.after else bytes_after g ms

@@ -10,7 +10,7 @@ use Rattle.paw_game.specs.Tables.{word_at}
 use Rattle.paw_phrase.specs.Phrase.{Mark, marks, from_phrase, phrase_tokens, bytes_after}
 use Rattle.paw_phrase.specs.declared.Sentence.{Sentence}
 
--- no word yet; a pronoun stands for this noun and this adjective
+-- A sentence with no word yet, in which a pronoun stands for this noun and this adjective.
 abbrev pub blank : ℕ → ℕ → Sentence
 blank noun adjective = record {
   verb = NO_WORD;
@@ -24,22 +24,22 @@ blank noun adjective = record {
   pronoun_adjective = adjective;
 }
 
--- the value where there is none yet
+-- The old value; or the new one where there is none yet.
 abbrev pub or_value : ℕ → ℕ → ℕ
 or_value old value = if old == NO_WORD then value else old
 
--- a noun fills the first place that is free; with both filled it is ignored
+-- A noun fills the first of its two places that is free; where both are filled it is ignored.
 abbrev pub with_noun : ℕ → Sentence → Sentence
 with_noun value s =
     if s.noun == NO_WORD then record s { noun = value } else record s { second_noun = or_value s.second_noun value }
 
--- an adjective belongs to the first noun until that stands, and then to the second
+-- An adjective belongs to the first noun while there is none yet, then to the second; a further one is ignored.
 abbrev pub with_adjective : ℕ → Sentence → Sentence
 with_adjective value s =
     if s.noun == NO_WORD then record s { adjective = or_value s.adjective value }
     else record s { second_adjective = or_value s.second_adjective value }
 
--- a pronoun stands for a noun and its adjective; where it stands for none, or both nouns are there, it is ignored
+-- A pronoun gives the noun and adjective that it stands for; it is ignored if it has none, or both nouns are there.
 abbrev pub with_pronoun : Sentence → Sentence
 with_pronoun s =
     if s.pronoun_noun == NO_WORD then s else
@@ -47,8 +47,8 @@ with_pronoun s =
     if s.second_noun == NO_WORD
     then record s { second_noun = s.pronoun_noun; second_adjective = s.pronoun_adjective } else s
 
--- A word of this value and class is added: a verb, an adverb or a preposition where there is none yet, a noun, an
--- adjective or a pronoun. A conjunction is in no phrase.
+-- The sentence with a word of this value and class. A verb, an adverb or a preposition counts only where there is none
+-- yet; a noun, an adjective or a pronoun has its rule above. A conjunction is in no phrase.
 abbrev pub with_word : ℕ → ℕ → Sentence → Sentence
 with_word value class s =
     if class == VERB_CLASS then record s { verb = or_value s.verb value } else
@@ -58,34 +58,34 @@ with_word value class s =
     if class == PREPOSITION_CLASS then record s { preposition = or_value s.preposition value } else
     if class == PRONOUN_CLASS then with_pronoun s else s
 
--- the tokens' words are added from left to right; an unknown token is skipped
+-- The words of the tokens are added from left to right; an unknown token is skipped.
 abbrev pub with_tokens : GameLists → List (List ℕ) → Sentence → Sentence
 with_tokens g tokens s =
     fold (λ filled token. option_map_or (λ word. with_word word.0 word.1 filled) (word_at g token) filled) s tokens
 
--- where there is no verb, a first noun that serves as one stands for it, and else the verb of the sentence before
+-- Where there is no verb, a first noun that serves as one stands for it, and otherwise the verb of the sentence before.
 abbrev pub with_verb : ℕ → Sentence → Sentence
 with_verb earlier s = record s { verb = or_value s.verb (if nat_lt s.noun FIRST_PLAIN_NOUN then s.noun else earlier) }
 
--- a first noun that a pronoun may stand for is what it stands for from now on
+-- A first noun that a pronoun may stand for becomes, with its adjective, the meaning of pronouns from now on.
 abbrev pub with_meaning : Sentence → Sentence
 with_meaning s =
     if nat_le FIRST_NAMED_NOUN s.noun && nat_le s.noun GREATEST_WORD
     then record s { pronoun_noun = s.noun; pronoun_adjective = s.adjective } else s
 
--- the words of a phrase become its sentence, after this verb
+-- The sentence that the words of a phrase make, where the sentence before has this verb.
 abbrev pub finished : ℕ → Sentence → Sentence
 finished earlier s = with_meaning (with_verb earlier s)
 
--- what the next phrase of the pending bytes is: a sentence, or a phrase with no known word, each with the bytes that
--- stay pending; or no phrase
+-- What the next phrase of the pending bytes is: a sentence, or a phrase with no known word, each with the bytes that
+-- stay pending; or no phrase.
 pub data Parsed : Type 0 where
   IsSentence : (s : Sentence) (rest : List ℕ) → Parsed
   IsUnknown : (rest : List ℕ) → Parsed
   IsNoPhrase : Parsed
 
--- the phrase that begins these marks: its tokens, which are a sentence where one of them is a word of the game, and the
--- bytes behind it; with no mark there is none
+-- The phrase that begins these marks: its tokens are a sentence where one of them is a word of the game, and the bytes
+-- after it stay pending. Where there is no mark there is no phrase.
 abbrev pub parsed_marks : GameLists → ℕ → ℕ → ℕ → List Mark → Parsed
 parsed_marks g earlier noun adjective [] = IsNoPhrase
 parsed_marks g earlier noun adjective (m ∷ ms) =
@@ -94,6 +94,6 @@ parsed_marks g earlier noun adjective (m ∷ ms) =
     then IsSentence (finished earlier (with_tokens g tokens (blank noun adjective))) (bytes_after g (m ∷ ms))
     else IsUnknown (bytes_after g (m ∷ ms))
 
--- the next phrase of the pending bytes, after this verb, where a pronoun stands for this noun and adjective
+-- The next phrase of the pending bytes, after this verb, where a pronoun stands for this noun and adjective.
 unfoldable pub parsed : GameLists → List ℕ → ℕ → ℕ → ℕ → Parsed
 parsed g pending earlier noun adjective = parsed_marks g earlier noun adjective (from_phrase g (marks pending))

@@ -62,6 +62,7 @@ impl Sentence {
         }
     }
 
+    /// A noun fills the first of its two places that is free; where both are filled it is ignored.
     fn add_noun(&mut self, value: u8)
         ensures value { self.new ≡ with_noun value self.old }
     {
@@ -72,6 +73,7 @@ impl Sentence {
         }
     }
 
+    /// An adjective belongs to the first noun while there is none yet, then to the second.
     fn add_adjective(&mut self, value: u8)
         ensures value { self.new ≡ with_adjective value self.old }
     {
@@ -82,6 +84,7 @@ impl Sentence {
         }
     }
 
+    /// A pronoun gives the noun and adjective that it stands for, if it has a noun and a noun's place is free.
     fn add_pronoun(&mut self)
         ensures value { self.new ≡ with_pronoun self.old }
     {

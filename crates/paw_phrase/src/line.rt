@@ -57,7 +57,7 @@ impl Pending {
         }
     }
 
-    /// A new line becomes what is pending, and there is no earlier verb.
+    /// A new line becomes pending, and there is no earlier verb.
     pub fn set(&mut self, line: &[u8])
         requires { length line.now ≤ LINE_LIMIT }
         ensures value { self.new ≡ record { bytes = line.now; earlier = NO_WORD } }
@@ -87,7 +87,7 @@ impl Pending {
         self.earlier
     }
 
-    /// A phrase with this verb was taken, of which the first bytes are gone.
+    /// A phrase with this verb was taken, and the first `count` bytes are gone.
     pub(crate) fn pass(&mut self, count: usize, verb: u8)
         requires { count ≤ length self.old.bytes }
         ensures value { self.new ≡ record { bytes = drop count self.old.bytes; earlier = verb } }

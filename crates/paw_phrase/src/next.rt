@@ -27,13 +27,14 @@ struct Draft {
     words: Sentence,
 }
 
-/// A phrase that was read to its end, and where the bytes behind it begin.
+/// A phrase that was read to its end, and where the bytes after it begin.
 #[derive(Clone, Copy, Drop)]
 struct Reading {
     draft: Draft,
     end: usize,
 }
 
+/// What a token, or a separator (None), is in a phrase.
 fn part_of<T: Tables>(tables: &T, token: Option<[u8; WORD_LENGTH]>) -> Part
     ensures value { result ≡ phrase_part_of (T.game tables.now) token }
 {
@@ -107,12 +108,12 @@ fn read_phrase<T: Tables>(tables: &T, bytes: &[u8], noun: u8, adjective: u8) -> 
     }
 }
 
-/// Takes the next phrase of what is pending. Before, the pronoun fields of `sentence` tell which noun and adjective a
-/// pronoun stands for; the other fields are not looked at.
+/// Takes the next phrase of what is pending. Before the call, the pronoun fields of `sentence` say which noun and
+/// adjective a pronoun stands for; the other fields are not looked at.
 ///
 /// Sentence: `sentence` is the phrase's, with the noun and adjective that a pronoun stands for from now on, the bytes
-/// behind the phrase stay pending, and its verb becomes the earlier one. Nothing, for a phrase with no known word: the
-/// bytes behind it stay pending, and nothing else changes. Empty, where there is no phrase: nothing changes.
+/// after the phrase stay pending, and its verb becomes the earlier one. Nothing, for a phrase with no known word: the
+/// bytes after it stay pending, and nothing else changes. Empty, where there is no phrase: nothing changes.
 pub fn next_phrase<T: Tables>(tables: &T, pending: &mut Pending, sentence: &mut Sentence) -> Found
     ensures value { TakesPhrase
         (parsed (T.game tables.now) pending.old.bytes pending.old.earlier

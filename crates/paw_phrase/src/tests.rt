@@ -113,11 +113,11 @@ fn words_fill_a_sentence(rt: HostRuntime) -> Result<(), Fail> {
     let cases: [(&[u8], [u8; 7]); 20] = [
         // Small letters are read as capitals, and any byte but letters, digits and separators is a blank.
         (b"wear\xffthe-lamp'", [32, 50, N, N, N, N, N]),
-        // Five letters tell a word, and digits are letters.
+        // Five letters decide which word it is, and digits are letters.
         (b"REMOVALS LAMP", [33, 50, N, N, N, N, N]),
         (b"WEAR LAMPS", [32, N, N, N, N, N, N]),
         (b"WEAR2 LAMP", [30, 50, N, N, N, N, N]),
-        // A noun below 20 stands for a verb that is left out, and else the earlier verb does.
+        // A noun below 20 stands for a verb that is left out, and otherwise the earlier verb does.
         (b"N", [2, 2, N, N, N, N, N]),
         (b"WAIT NORTHWARDS", [38, 2, N, N, N, N, N]),
         (b"ALL", [30, 20, N, N, N, N, N]),
@@ -125,10 +125,10 @@ fn words_fill_a_sentence(rt: HostRuntime) -> Result<(), Fail> {
         // The first verb counts, and the first two nouns.
         (b"DROP GET LAMP SWORD BAG", [31, 50, N, N, N, 51, N]),
         (b"DROP ALL EXCEPT SWORD", [31, 20, N, N, 2, 51, N]),
-        // An adjective belongs to the noun behind it, or to the second noun once the first stands.
+        // An adjective belongs to the noun after it, or to the second noun once the first is there.
         (b"TAKE THE RED LAMP QUICKLY", [30, 50, 2, 2, N, N, N]),
         (b"PUT LAMP RED IN BAG", [34, 50, N, N, 3, 52, 2]),
-        // A pronoun overwrites an adjective; behind two nouns it is ignored.
+        // A pronoun overwrites an adjective; after two nouns it is ignored.
         (b"DROP IT", [31, 52, 7, N, N, N, N]),
         (b"DROP RED IT IN BAG", [31, 52, 7, N, 3, 52, N]),
         (b"PUT LAMP IN IT", [34, 50, N, N, 3, 52, 7]),
@@ -166,7 +166,7 @@ fn pronouns_stand_for_what_was_named(rt: HostRuntime) -> Result<(), Fail> {
         assert_eq!(rt; sentence.pronoun_noun, noun, "{line:?}");
         assert_eq!(rt; sentence.pronoun_adjective, adjective, "{line:?}");
     }
-    // Where a pronoun stands for nothing it is ignored, and is a known word still.
+    // Where a pronoun stands for nothing it is ignored, and is still a known word.
     let mut pending = Pending::new();
     pending.set(b"DROP IT");
     let mut sentence = Sentence {

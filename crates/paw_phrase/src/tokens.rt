@@ -46,7 +46,7 @@ fn first_token(bytes: &[u8]) -> Mark
     }
 }
 
-/// The first token or separator; None where there are blanks alone.
+/// The first token or separator; None where there are only blanks.
 pub(crate) fn first_mark(bytes: &[u8]) -> Option<Mark>
     ensures within { IfSome result (λ mark. mark.end ≤ length bytes.now) }
     ensures some { IfSome result (λ mark. 0 < mark.end) }

@@ -8,7 +8,7 @@ use Rattle.paw_game.specs.declared.parts.Word.{Word}
 use Rattle.paw_print.specs.Lines.{first_word}
 use Rattle.paw_print.specs.inner.Words.{TellsFirst}
 
--- a word of this class with this value
+-- A word of this class with this value.
 abbrev pub means : ℕ → ℕ → Word → Bool
 means class value w = eqb w.class class && eqb w.value value
 
@@ -24,7 +24,7 @@ or_none : (found : Option Word) → option_or found None ≡ found
 or_none None = refl
 or_none (Some w) = refl
 
--- one word more
+-- One word more.
 abbrev one : ℕ → ℕ → Word → Option Word
 one class value w = cond (means class value w) (Some w) None
 
@@ -45,7 +45,7 @@ first_word-more : (ws : List Word) (i : ℕ) (d : Word) (class value : ℕ) → 
 first_word-more ws i d class value h =
     ap (λ (vs : List Word). first_word vs class value) (take_more ws i d h) ∙ first_word-push (take i ws) (get_or ws i d) class value
 
--- a word of another class
+-- A word of another class.
 pub TellsFirst-other : (table : List (Option Word)) (ws : List Word) (i : ℕ) (d : Word) (class : ℕ) → i < length ws → (get_or ws i d).class ≢ class
     → TellsFirst table (take i ws) class → TellsFirst table (take (i + 1) ws) class
 TellsFirst-other table ws i d class h other tells =
@@ -58,7 +58,7 @@ TellsFirst-other table ws i d class h other tells =
           ∙ rw differs (or_none (first_word (take i ws) class value)));
     }
 
--- a word of the class
+-- A word of the class.
 pub TellsFirst-more : (table : List (Option Word)) (ws : List Word) (i : ℕ) (d : Word) (class : ℕ)
     → (get_or ws i d).value < 256 → i < length ws → (get_or ws i d).class ≡ class
     → TellsFirst table (take i ws) class

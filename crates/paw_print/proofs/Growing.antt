@@ -1,4 +1,4 @@
--- Lines behind lines: what a loop over rows has written.
+-- Lines after lines: what a loop over rows has written.
 use Rattle.std.proofs.Common.{◌≡◌, ℕ, suc, ◌<◌, ◌+◌, List, [], ◌∷◌, ◌++◌, length, take, map, get_or, Result, Ok, Err, refl, sym, ap, ◌∙◌, zero-add, arith}
 use Rattle.std.specs.Prelude.{OnOk}
 use Rattle.std.specs.List.{flat_map}
@@ -6,7 +6,7 @@ use Rattle.std.proofs.lemmas.Grind.{flat_map-append}
 use Rattle.std.proofs.lemmas.List.{append_assoc, append-nil, take_more, map-append, length-take-le}
 use Rattle.paw_print.specs.Canonical.{numbered, with_line_end, written}
 
--- more lines
+-- More lines.
 pub written_more : (a b c z : List ℕ) (xs ys : List (List ℕ)) → b ≡ a ++ written xs → c ≡ b ++ z → z ≡ written ys → c ≡ a ++ written (xs ++ ys)
 written_more a b c z xs ys first second is =
     second
@@ -15,17 +15,17 @@ written_more a b c z xs ys first second is =
     ∙ ap (λ (t : List ℕ). a ++ (written xs ++ t)) is
     ∙ ap (λ (t : List ℕ). a ++ t) (sym (flat_map-append with_line_end xs ys))
 
--- the same where the last step may have failed
+-- The same where the last step may have failed.
 pub written_last : {T E : Type 0} (r : Result T E) (a b c z : List ℕ) (xs ys : List (List ℕ)) → b ≡ a ++ written xs
     → OnOk r (c ≡ b ++ z) → z ≡ written ys → OnOk r (c ≡ a ++ written (xs ++ ys))
 written_last (Ok _) a b c z xs ys first second is = written_more a b c z xs ys first second is
 written_last (Err _) a b c z xs ys first second is = tt
 
--- the first rows, and the next
+-- The first rows, and the next.
 take_next : {A : Type 0} (xs : List A) (i : ℕ) (x : A) → i < length xs → x ≡ get_or xs i x → take i xs ++ x ∷ [] ≡ take (i + 1) xs
 take_next {A} xs i x h is = sym (take_more xs i x h ∙ ap (λ (y : A). take i xs ++ y ∷ []) (sym is))
 
--- a line for each row
+-- A line for each row.
 pub map_more : {A : Type 0} (f : A → List ℕ) (before : List (List ℕ)) (xs : List A) (i : ℕ) (x : A) (a b c : List ℕ) → i < length xs → x ≡ get_or xs i x
     → b ≡ a ++ written (before ++ map f (take i xs)) → c ≡ b ++ with_line_end (f x) → c ≡ a ++ written (before ++ map f (take (i + 1) xs))
 map_more {A} f before xs i x a b c h is first second =
@@ -35,7 +35,7 @@ map_more {A} f before xs i x a b c h is first second =
     ∙ ap (λ (ls : List (List ℕ)). before ++ ls) (sym (map-append f (take i xs) (x ∷ [])))
     ∙ ap (λ (ys : List A). before ++ map f ys) (take_next xs i x h is))
 
--- lines for each row
+-- Lines for each row.
 pub rows_more : {A : Type 0} (g : A → List (List ℕ)) (before : List (List ℕ)) (xs : List A) (i : ℕ) (x : A) (a b c : List ℕ) → i < length xs → x ≡ get_or xs i x
     → b ≡ a ++ written (before ++ flat_map g (take i xs)) → c ≡ b ++ written (g x) → c ≡ a ++ written (before ++ flat_map g (take (i + 1) xs))
 rows_more {A} g before xs i x a b c h is first second =
@@ -63,7 +63,7 @@ numbered-take {A} g xs i x h =
     let e : 0 + length (take i xs) ≡ i = zero-add (length (take i xs)) ∙ length-take-le i xs (omega arith) in
     numbered-push g 0 (take i xs) x ∙ ap (λ k. numbered g 0 (take i xs) ++ g k x) e
 
--- lines for each row and its number
+-- Lines for each row and its number.
 pub numbered_more : {A : Type 0} (g : ℕ → A → List (List ℕ)) (before : List (List ℕ)) (xs : List A) (i : ℕ) (x : A)
     (a b c : List ℕ) → i < length xs → x ≡ get_or xs i x
     → b ≡ a ++ written (before ++ numbered g 0 (take i xs)) → c ≡ b ++ written (g i x) → c ≡ a ++ written (before ++ numbered g 0 (take (i + 1) xs))
@@ -74,7 +74,7 @@ numbered_more {A} g before xs i x a b c h is first second =
     ∙ ap (λ (ls : List (List ℕ)). before ++ ls) (sym (numbered-take g xs i x h))
     ∙ ap (λ (ys : List A). before ++ numbered g 0 ys) (take_next xs i x h is))
 
--- rows of which a part is printed
+-- Rows of which a part is printed.
 pub numbered-map : {A B : Type 0} (g : ℕ → B → List (List ℕ)) (part : A → B) (n : ℕ) (xs : List A)
     → numbered g n (map part xs) ≡ numbered (λ k x. g k (part x)) n xs
 numbered-map g part n [] = refl

@@ -9,7 +9,7 @@ use Rattle.paw_game.specs.Game.{GameLists}
 use Rattle.paw_game.specs.Valid.{has_word, is_verb_value, is_any, is_condact, is_entry, is_table, Valid}
 use Rattle.paw_print.specs.inner.Known.{IsKnown, IsKnownEntry, IsKnownTable}
 
--- what a test gives at each element
+-- What a test gives at each element.
 all_give : {A : Type 0} (p : A → Bool) (P : A → Type 0) → ((x : A) → p x ≡ true → P x) → (xs : List A) → list_all p xs ≡ true → AllByRecursion P xs
 all_give p P gives [] e = tt
 all_give p P gives (x ∷ xs) e = let both = and_parts (p x) (list_all p xs) e in (gives x both.0, all_give p P gives xs both.1)

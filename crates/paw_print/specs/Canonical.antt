@@ -9,42 +9,42 @@ use Rattle.paw_game.specs.Game.{GameLists}
 use Rattle.paw_print.specs.Lines.{spaced, spelled_letters, class_name, verb_token, value_token, item_token}
 use Rattle.paw_print.specs.Lines.{text_lines, object_tokens, condact_line}
 
--- the lines of rows that are numbered from n on
+-- The lines of all rows, which are numbered from n on.
 abbrev pub numbered : {A : Type 0} → (ℕ → A → List (List ℕ)) → ℕ → List A → List (List ℕ)
 numbered lines n [] = []
 numbered lines n (x ∷ xs) = lines n x ++ numbered lines (suc n) xs
 
--- the vocabulary: a line for each word, in order: its letters, its value and its class
+-- The vocabulary: for each word, in order, a line with its letters, its value and its class.
 abbrev pub words_lines : List Word → List (List ℕ)
 words_lines ws = codes "/VOC" ∷ map (λ w. spaced (spelled_letters w ∷ decimal w.value ∷ class_name w.class ∷ [])) ws
 
--- a section of texts: an item for each
+-- A section of texts: its header, and an item for each text.
 abbrev pub texts_lines : List ℕ → List (List ℕ) → List (List ℕ)
 texts_lines header texts = header ∷ numbered text_lines 0 texts
 
--- a location: an item, and for each exit a line with its verb and its location; nothing where it has no exit
+-- A location: an item, and for each exit a line with its verb and its location; nothing where it has no exit.
 abbrev pub location_lines : List Word → ℕ → List Exit → List (List ℕ)
 location_lines ws n [] = []
 location_lines ws n (x ∷ xs) = item_token n ∷ map (λ y. spaced (verb_token ws y.verb ∷ decimal y.to ∷ [])) (x ∷ xs)
 
--- the connections of the locations
+-- The section of connections: the exits of all locations.
 abbrev pub exits_lines : List Word → List (List Exit) → List (List ℕ)
 exits_lines ws exits = codes "/CON" ∷ numbered (location_lines ws) 0 exits
 
--- the objects: a line for each
+-- The section of objects: a line for each object.
 abbrev pub objects_lines : List Word → List ObjectRow → List (List ℕ)
 objects_lines ws objects = codes "/OBJ" ∷ numbered (λ n o. spaced (object_tokens ws n o.facts) ∷ []) 0 objects
 
--- an entry: its verb and its noun, and a line for each condact
+-- An entry: a line with its verb and its noun, and a line for each condact.
 abbrev pub entry_lines : List Word → Entry → List (List ℕ)
 entry_lines ws e =
     spaced (verb_token ws e.verb ∷ value_token ws NOUN_CLASS e.noun ∷ []) ∷ map (condact_line ws) e.condacts
 
--- a table: its header with its number, and its entries
+-- A table: its header with its number, and its entries.
 abbrev pub table_lines : List Word → ℕ → List Entry → List (List ℕ)
 table_lines ws n entries = spaced (codes "/PRO" ∷ decimal n ∷ []) ∷ flat_map (entry_lines ws) entries
 
--- the lines of the canonical source: all sections in their order, and all tables
+-- The lines of the canonical source: all sections in their order, and all tables.
 unfoldable pub canonical_lines : GameLists → List (List ℕ)
 canonical_lines g =
     words_lines g.words
@@ -56,14 +56,14 @@ canonical_lines g =
     ++ objects_lines g.words g.objects
     ++ numbered (table_lines g.words) 0 g.tables
 
--- a line and its end
+-- A line and its LF.
 abbrev pub with_line_end : List ℕ → List ℕ
 with_line_end line = line ++ 10 ∷ []
 
--- lines, each with its end
+-- Lines, each with its LF.
 abbrev pub written : List (List ℕ) → List ℕ
 written lines = flat_map with_line_end lines
 
--- the canonical source: its lines, each ended by LF
+-- The canonical source: its lines, each ended by LF.
 unfoldable pub canonical_of : GameLists → List ℕ
 canonical_of g = written (canonical_lines g)

@@ -1,5 +1,4 @@
--- The rows of a source, as the canonical source has them: each the tokens that it is made of, one space between each
--- two.
+-- The rows of a source as the canonical source has them: tokens, with one space between each two.
 use Rattle.std.specs.Prelude.{ℕ, ◌==◌, ◌&&◌, Bool, List, [], ◌∷◌, ◌++◌, codes, decimal}
 use Rattle.std.specs.Prelude.{flat_map, Option, if◌then◌else◌}
 use Rattle.std.specs.List.{before_first, find, slice_index_or, slice_split}
@@ -13,40 +12,40 @@ use Rattle.paw_base.specs.declared.rows.ParamKind.TheVariants as kind
 use Rattle.paw_base.specs.Condacts.{name_of, first_kind, second_kind, is_indirect}
 use Rattle.paw_game.specs.declared.parts.Word.{Word}
 
--- tokens, each behind one space
+-- Tokens, each after one space.
 abbrev pub behind_spaces : List (List ℕ) → List ℕ
 behind_spaces tokens = flat_map (λ t. 32 ∷ t) tokens
 
--- tokens in a row: the first, and the others each behind one space
+-- Tokens in a row: the first, and then the others, each after one space.
 abbrev pub spaced : List (List ℕ) → List ℕ
 spaced [] = []
 spaced (t ∷ ts) = t ++ behind_spaces ts
 
 -- ---- words ----
 
--- the letters of a word, without the spaces that fill them up
+-- The letters of a word, without the spaces that fill them up.
 abbrev pub spelled_letters : Word → List ℕ
 spelled_letters w = before_first (λ b. b == 32) w.letters
 
--- the first word in order of this class with this value
+-- The first word of this class with this value, in the order of the words, if there is one.
 abbrev pub first_word : List Word → ℕ → ℕ → Option Word
 first_word ws class value = find (λ w. (w.class == class) && (w.value == value)) ws
 
--- where a word stands, a value is `*`, `_` or its word; a game has a word for each of its other values
+-- The token of a value: `*`, `_`, or the letters of its word. A game has a word for each of its other values.
 abbrev pub word_token : ℕ → Option Word → List ℕ
 word_token value word =
     if value == ANY_WORD then codes "*"
     else (if value == NO_WORD then codes "_" else option_map_or spelled_letters word [])
 
--- the token of a value of this class
+-- The token of a value of this class.
 abbrev pub value_token : List Word → ℕ → ℕ → List ℕ
 value_token ws class value = word_token value (first_word ws class value)
 
--- the token of a verb value, which stands for the first verb with it, and where there is none for the first noun
+-- The token of a verb value: the first verb that has it, or else the first noun.
 abbrev pub verb_token : List Word → ℕ → List ℕ
 verb_token ws value = word_token value (option_or (first_word ws VERB_CLASS value) (first_word ws NOUN_CLASS value))
 
--- the name of a class, by its number
+-- The name of a class, by its number.
 abbrev pub class_name : ℕ → List ℕ
 class_name class =
     slice_index_or
@@ -55,27 +54,27 @@ class_name class =
 
 -- ---- texts ----
 
--- the number of an item behind its stroke
+-- The token of an item: a slash and its number.
 abbrev pub item_token : ℕ → List ℕ
 item_token n = 47 ∷ decimal n
 
--- the lines of a text: none where it is empty, and else the pieces between its line ends
+-- The lines of a text: none where it is empty, and otherwise the pieces between its line ends.
 abbrev pub lines_of_text : List ℕ → List (List ℕ)
 lines_of_text [] = []
 lines_of_text (b ∷ bs) = slice_split (λ c. c == 10) (b ∷ bs)
 
--- an item, and the lines of its text
+-- An item, and the lines of its text.
 abbrev pub text_lines : ℕ → List ℕ → List (List ℕ)
 text_lines n text = item_token n ∷ lines_of_text text
 
 -- ---- objects ----
 
--- C tells a container, W that it may be worn; where it is neither, `-`
+-- The kind of an object: C for a container, W for what may be worn, CW for both, `-` for neither.
 abbrev pub kind_token : Bool → Bool → List ℕ
 kind_token container wearable =
     if container then (if wearable then codes "CW" else codes "C") else (if wearable then codes "W" else codes "-")
 
--- number, place, weight, kind, noun, adjective
+-- The tokens of an object: its number, place, weight, kind, noun and adjective.
 abbrev pub object_tokens : List Word → ℕ → ObjectFacts → List (List ℕ)
 object_tokens ws n f =
     decimal n ∷ decimal f.start ∷ decimal f.weight ∷ kind_token f.container f.wearable
@@ -83,7 +82,7 @@ object_tokens ws n f =
 
 -- ---- tables ----
 
--- a parameter that the condact has is one token: a word, or a number
+-- The token of a parameter, a word or a number; none where the condact doesn't have it.
 abbrev pub parameter_tokens : List Word → ParamKind → ℕ → List (List ℕ)
 parameter_tokens ws kind.Absent x = []
 parameter_tokens ws kind.Adverb x = value_token ws ADVERB_CLASS x ∷ []
@@ -92,16 +91,16 @@ parameter_tokens ws kind.Adjective x = value_token ws ADJECTIVE_CLASS x ∷ []
 parameter_tokens ws kind.Preposition x = value_token ws PREPOSITION_CLASS x ∷ []
 parameter_tokens ws _ x = decimal x ∷ []
 
--- the number of a flag behind `@`
+-- The number of a flag after `@`.
 abbrev pub flag_token : ℕ → List ℕ
 flag_token flag = codes "@" ++ decimal flag
 
--- the first parameter: a flag where the condact is indirect
+-- The token of the first parameter: a flag after `@` where the condact is indirect.
 abbrev pub first_tokens : List Word → Condact → List (List ℕ)
 first_tokens ws c =
     if is_indirect c.code then flag_token c.a ∷ [] else parameter_tokens ws (first_kind c.code) c.a
 
--- a condact stands on a line of its own: its name and its parameters, each behind one space
+-- The line of a condact: its name and its parameters, each after one space.
 abbrev pub condact_line : List Word → Condact → List ℕ
 condact_line ws c =
     behind_spaces (name_of c.code ∷ (first_tokens ws c ++ parameter_tokens ws (second_kind c.code) c.b))

@@ -17,7 +17,7 @@ use paw_base::rows::{ParamKind, condact_row};
 use paw_base::words::{ADJECTIVE_CLASS, ADVERB_CLASS, NOUN_CLASS, PREPOSITION_CLASS};
 use paw_game::parts::{Entry, Table};
 
-/// Writes a parameter behind one space; nothing where the condact has none.
+/// Writes a parameter after one space; nothing where the condact has none.
 fn write_parameter(
     vocabulary: &Vocabulary,
     kind: ParamKind,

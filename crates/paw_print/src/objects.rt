@@ -22,7 +22,7 @@ fn kind_token(container: bool, wearable: bool) -> &'static [u8]
     }
 }
 
-/// Writes the place, the weight and the kind of an object, each behind one space.
+/// Writes the place, the weight and the kind of an object, each after one space.
 fn write_place_and_kind(facts: &ObjectFacts, out: &mut Vec<u8>) -> Written
     ensures writes { let kind = kind_token facts.now.container facts.now.wearable in
         let tokens = decimal facts.now.start ∷ decimal facts.now.weight ∷ kind ∷ [] in

@@ -36,7 +36,7 @@ fn write_game(parts: &GameParts, out: &mut Vec<u8>) -> Written
 /// calls with the same game give the same text.
 ///
 /// # Errors
-/// Only for want of memory.
+/// Only where there is no memory.
 pub fn canonical(alloc: Global, game: &Game) -> Result<Vec<u8>, NoRoom>
     ensures value { IfOk result (λ text. text.items ≡ canonical_of game.now) }
 {

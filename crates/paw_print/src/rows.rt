@@ -7,7 +7,7 @@ ghost use Rattle.paw_print.specs.Canonical.{with_line_end};
 use itoa::Buffer;
 use std::alloc::AllocError;
 
-/// What comes of writing; its one error is want of memory.
+/// The result of writing; its one error is lack of memory.
 pub(crate) type Written = Result<(), AllocError>;
 
 /// Ends a line.
@@ -26,7 +26,7 @@ pub(crate) fn write_header(token: &[u8], out: &mut Vec<u8>) -> Written
     end_line(out)
 }
 
-/// Writes a token behind one space.
+/// Writes a token after one space.
 pub(crate) fn write_token(token: &[u8], out: &mut Vec<u8>) -> Written
     ensures writes { OnOk result (out.new.items ≡ out.old.items ++ 32 ∷ token.now) }
 {
@@ -42,7 +42,7 @@ pub(crate) fn write_digits(number: usize, out: &mut Vec<u8>) -> Written
     out.extend_from_slice(digits.format(number).as_bytes())
 }
 
-/// Writes a number behind one space.
+/// Writes a number after one space.
 pub(crate) fn write_number(number: usize, out: &mut Vec<u8>) -> Written
     ensures writes { OnOk result (out.new.items ≡ out.old.items ++ 32 ∷ decimal number) }
 {
@@ -50,7 +50,7 @@ pub(crate) fn write_number(number: usize, out: &mut Vec<u8>) -> Written
     write_digits(number, out)
 }
 
-/// Writes `@` and the number of a flag behind one space.
+/// Writes `@` and the number of a flag after one space.
 pub(crate) fn write_flag(flag: u8, out: &mut Vec<u8>) -> Written
     ensures writes { OnOk result (out.new.items ≡ out.old.items ++ 32 ∷ flag_token flag) }
 {

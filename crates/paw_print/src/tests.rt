@@ -20,7 +20,7 @@ const LANTERN: &str = concat!(
     "/OBJ\n0 0 1 - LAMP _\n/PRO 0\nGET LAMP\n MESSAGE 0\n DONE\n/PRO 1\n/PRO 2\n",
 );
 
-/// The text that ends with a line end keeps an empty last line, and flags stand behind `@`.
+/// The text that ends with a line end keeps an empty last line, and flags stand after `@`.
 const TWO_ROOMS: &str = concat!(
     "/VOC\nN 2 noun\nS 3 noun\nSING 31 verb\n/STX\n/MTX\n/0\nLa la.\n\n/OTX\n",
     "/LTX\n/0\nHall.\n/1\nYard.\n/CON\n/0\nN 1\n/1\nS 0\n/OBJ\n",

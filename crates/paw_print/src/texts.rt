@@ -26,6 +26,7 @@ fn write_lines(text: &[u8], out: &mut Vec<u8>) -> Written
     write_header(text, out)
 }
 
+/// Writes a text: its item, and its lines.
 fn write_text(number: usize, text: &Text, out: &mut Vec<u8>) -> Written
     ensures writes { OnOk result (out.new.items ≡ out.old.items ++ written (text_lines number text.now)) }
 {

@@ -74,7 +74,7 @@ impl<'a> Vocabulary<'a> {
         Ok(())
     }
 
-    /// The first word of a class with a value, where the words of the class stand in lines: verbs, adverbs, nouns,
+    /// The first word of a class with a value, for the classes whose words stand in lines: verbs, adverbs, nouns,
     /// adjectives and prepositions.
     fn first_word(&self, class: u8, value: u8) -> Option<Word>
         requires class { class ≤ PREPOSITION_CLASS }
@@ -98,7 +98,7 @@ impl<'a> Vocabulary<'a> {
         write_value(value, verb.or(self.first_word(NOUN_CLASS, value)), out)
     }
 
-    /// Writes the token of a value of a class behind one space.
+    /// Writes the token of a value of a class after one space.
     pub(crate) fn write_value_of(&self, class: u8, value: u8, out: &mut Vec<u8>) -> Written
         requires class { class ≤ PREPOSITION_CLASS }
         ensures writes { OnOk result (out.new.items ≡ out.old.items ++ 32 ∷ value_token self.now class value) }
@@ -122,7 +122,7 @@ fn first_words(words: &[Word], class: u8) -> [Option<Word>; 256]
     first
 }
 
-/// Writes what stands for a value where words stand: `*` for 1, `_` for 255, and else its word.
+/// Writes a value where words stand: `*` for 1, `_` for 255, and otherwise its word.
 fn write_value(value: u8, word: Option<Word>, out: &mut Vec<u8>) -> Written
     ensures writes { OnOk result (out.new.items ≡ out.old.items ++ word_token value word) }
 {

@@ -2,17 +2,17 @@
 use Rattle.std.specs.Prelude.{◌≡◌, ℕ, ◌<◌, List, length, All, Option, None, Some, slice_get, slice_index}
 use Rattle.std.specs.Fn.{Shared}
 
--- the value at a number of a row, where there is a row
+-- The value of a row at an index, if there is a row.
 abbrev pub value_in : Option (List ℕ) → ℕ → Option ℕ
 value_in None x = None
 value_in (Some row) x = Some (slice_index row x)
 
--- the value of row n at x; nothing where there is no such row
+-- The value of row n at x; nothing where there is no such row.
 abbrev pub value_at : List (List ℕ) → ℕ → ℕ → Option ℕ
 value_at rows n x = value_in (slice_get rows n) x
 
--- rows stand for the first so many routines of f: there is one for each, of 256 bytes; f may be called for each of them
--- on each value from 0 to 255; and whatever byte it may answer there is the value of the row
+-- Rows stand for the first `count` routines of f, one row of 256 bytes for each. f may be called for each of these
+-- routines on each value from 0 to 255, and any byte that it may answer is in the row at that value.
 pub record StandFor {F : Type 0} (calls : Shared F (ℕ × (ℕ × Unit {0})) ℕ) (f : F) (count : ℕ)
     (rows : List (List ℕ)) : Type 0 where
   pub one_each : length rows ≡ count

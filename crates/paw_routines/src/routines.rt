@@ -7,7 +7,7 @@ ghost use Rattle.paw_routines.specs.Measure.{measure};
 
 use sha2::{Digest, Sha256};
 
-/// So many routines, numbered from 0, each of which gives a value for a value.
+/// A number of routines, numbered from 0, each of which gives a value for a value.
 #[derive(Drop)]
 pub struct Routines<F> {
     count: u8,
@@ -50,8 +50,8 @@ impl<F: Fn(u8, u8) -> u8> Routines<F> {
         row
     }
 
-    /// The measure of these routines: a digest of their number and of all the values that they give. Which routines a
-    /// session was played with can be told by it.
+    /// The measure of these routines: a digest of their number and of all the values that they give. It shows with
+    /// which routines a session was played.
     pub fn measure(&self) -> [u8; 32]
         requires rows { HaveRows F.Fn self.now }
         ensures value { (X : List (List ℕ)) → AreRowsOf F.Fn self.now X → result ≡ measure X }

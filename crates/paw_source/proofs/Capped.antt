@@ -38,7 +38,7 @@ new_text_capped s d n h =
     ap (λ (r : Result (List (List ℕ)) SourceKind). r >>= λ ts. Ok (with_texts s false ts d))
     (text_capped (text_limit s) n (texts_of s d) h)
 
--- past the locations there is no item of exits
+-- Past the locations there is no item of exits.
 past : (d : Spelt) (n : ℕ) → nat_lt n (length d.locations) ≡ false → new_exits d n ≡ Err kind.Range
 past d n h =
     rw h (elim (nat_lt n (length d.exits)) as
@@ -76,12 +76,12 @@ slash_capped d name None ts small = refl
 slash_capped d name (Some n) [] small = item_capped d.section d n small
 slash_capped d name (Some n) (t ∷ ts) small = refl
 
--- what comes after three tests that fail
+-- What comes after three tests that fail.
 past_three : {A : Type 0} (x y z rest : A) (a b c : Bool) → a ≡ false → b ≡ false → c ≡ false
     → cond a x (cond b y (cond c z rest)) ≡ rest
 past_three x y z rest a b c p q r = rw (p, q, r) refl
 
--- a line of tokens that begins with `/`, of which the first token was taken and its number read
+-- A line of tokens that begins with `/`, of which the first token was taken and its number read.
 pub slash_read : (p : ℕ) (d : Spelt) (l name rest : List ℕ) (left : List (List ℕ)) (o : Option ℕ) → IsSmall d
     → is_comment l ≡ false → has_forbidden_byte false l ≡ false → begins_with_slash l ≡ true → tokens_of l ≡ name ∷ left
     → rest ≡ drop 1 name → o ≡ capped (number rest) → slash_line d name o left ≡ step p d l

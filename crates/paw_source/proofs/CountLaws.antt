@@ -31,7 +31,7 @@ use Rattle.paw_source.specs.inner.Laws.{after_lines, CountsTables}
 use Rattle.paw_source.proofs.Faultless.{passes, holds, bound, ok_is, at_end}
 use Rattle.paw_source.proofs.Headers.{table_opened}
 
--- how many tables are spelled
+-- How many tables are spelled.
 abbrev tables : Spelt → ℕ
 tables d = length d.tables
 
@@ -75,7 +75,7 @@ item_same section.Pro n d e h = absurd cc
 
 -- ---- headers
 
--- a token has one name
+-- A token has one name.
 not_pro : (t name : List ℕ) → is_named t name ≡ true → is_named name (codes "/PRO") ≡ false → is_named t (codes "/PRO") ≡ false
 not_pro t name f other =
     ap (λ (x : List ℕ). bytes_eq x (str_to_ascii_lowercase (codes "/PRO")))
@@ -110,11 +110,11 @@ con_same d e ts h =
 pro_more : (d e : Spelt) (ts : List (List ℕ)) → pro_header d ts ≡ Ok e → tables e ≡ tables d + 1
 pro_more d e ts h = ap tables (sym (table_opened d e ts h).is) ∙ length-append d.tables ([] ∷ [])
 
--- the first of these tokens is the header of a table
+-- The first of these tokens is the header of a table.
 abbrev is_pro_token : List (List ℕ) → Bool
 is_pro_token ts = is_named (get_or ts 0 []) (codes "/PRO")
 
--- how many tables a line of these tokens begins
+-- How many tables a line of these tokens begins.
 abbrev begun : List (List ℕ) → ℕ
 begun ts = cond (is_pro_token ts) 1 0
 

@@ -44,7 +44,7 @@ pub record RowsKept {A : Type 0} (rule : A → Bool) (limit : ℕ) (rows : List 
 abbrev pub TextsKept : ℕ → List (List ℕ) → Type 0
 TextsKept limit ts = RowsKept is_text limit ts
 
--- no section of rows was reached
+-- No section of rows was reached.
 pub record AreNone (es : List (List Exit)) (fs : List ObjectFacts) (ts : List (List Entry)) : Type 0 where
   pub exits : es ≡ []
   pub facts : fs ≡ []
@@ -75,7 +75,7 @@ pub record WithRows (ns ls : List (List ℕ)) (fs : List ObjectFacts) : Type 0 w
 abbrev pub AtTables : Spelt → Type 0
 AtTables d = WithRows d.names d.locations d.facts
 
--- which lists have rows, by the section that is open
+-- Which lists have rows, by the section that is open.
 abbrev pub InOrder : Section → Spelt → Type 0
 InOrder section.Before d = NoRows d
 InOrder section.Voc d = NoRows d
@@ -87,14 +87,14 @@ InOrder section.Con d = AtExits d
 InOrder section.Obj d = AtObjects d
 InOrder section.Pro d = AtTables d
 
--- from the section that is open to its name, and back
+-- From the section that is open to its name, and back.
 at_section : (s : Section) (d : Spelt) → d.section ≡ s → InOrder d.section d → InOrder s d
 at_section s d here h = subst (λ (t : Section). InOrder t d) here h
 
 from_section : (s : Section) (d : Spelt) → d.section ≡ s → InOrder s d → InOrder d.section d
 from_section s d here h = subst (λ (t : Section). InOrder t d) (sym here) h
 
--- words and texts have rules of their own
+-- Words and texts have rules of their own.
 pub record HeadsKept (ws : List Word) (ss ms ns ls : List (List ℕ)) : Type 0 where
   pub words : words_kept ws ≡ true
   pub system : TextsKept 256 ss
@@ -219,7 +219,7 @@ or_false : (a b : Bool) → (a || b) ≡ false → (a ≡ false) × (b ≡ false
 or_false true b h = absurd cc
 or_false false b h = (refl, h)
 
--- other exits, that keep the rules too
+-- Other exits, that keep the rules too.
 exits_keep : (p : ℕ) (d : Spelt) (es : List (List Exit)) → d.section ≡ section.Con → Keeps p d
     → RowsKept (is_exits d.words (length d.locations)) (length d.locations) es → Keeps p (record d { exits = es })
 exits_keep p d es here k exits = record {
@@ -256,7 +256,7 @@ item_keeps p section.Pro n d e here k h = absurd cc
 
 -- ---- headers
 
--- another section opens, and the tables are others that keep the rules too
+-- Another section opens, and the tables are others that keep the rules too.
 tables_keep : (p : ℕ) (s : Section) (begun : Bool) (ts : List (List Entry)) (d : Spelt) → Keeps p d
     → ((g : GameLists) → Has (bounds_of p d) d.words g → list_all (is_table g) ts ≡ true) → length ts ≤ 256
     → InOrder s (record d { section = s; begun = begun; tables = ts })
@@ -270,7 +270,7 @@ tables_keep p s begun ts d k all few order = record {
   order = order;
 }
 
--- a section that opens adds no row
+-- A section that opens adds no row.
 open_keeps : (p : ℕ) (s : Section) (d : Spelt) → Keeps p d → InOrder s (section_opened s d) → Keeps p (section_opened s d)
 open_keeps p s d k order = tables_keep p s false d.tables d k k.tables k.few_tables order
 
@@ -286,7 +286,7 @@ con_keeps p d e ts k none h =
     let order : AtExits (section_opened section.Con d) = record { facts = none.facts; tables = none.tables; locations = omega (arith, some) } in
     subst (Keeps p) (ok_is (section_opened section.Con d) e b.1) (open_keeps p section.Con d k order)
 
--- what a section has to bring for a table to begin
+-- What a section has to bring for a table to begin.
 pub record Ready (d : Spelt) : Type 0 where
   pub locations : 1 ≤ length d.locations
   pub rows : lacks_rows d ≡ false → length d.names ≤ length d.facts

@@ -31,7 +31,7 @@ found p n d (l ∷ before) line behind e k none here =
       | Err j ↦ λ h. absurd cc
     ] none
 
--- a source that isn't too long is read line by line
+-- A source that isn't too long is read line by line.
 short : (source : List ℕ) → length source ≤ 8388608 → spelled source ≡ spelled_after (count_by begins_table (lines_of source)) 0 nothing_yet (lines_of source)
 unfolding spelled
 short source h =
@@ -53,7 +53,7 @@ err_is {A} {E} x y h = cc
 abbrev Named : ℕ → ℕ → Spelt → List (List ℕ) → SourceFault → Type 0
 Named p n d ls f = ((m : ℕ) × (f.line ≡ suc (n + m)) × HasFault p d ls m f.kind) ⊎ ((f.line ≡ suc (n + length ls)) × HasNone p d ls)
 
--- at the end no line had a fault
+-- At the end no line had a fault.
 ended : (n : ℕ) (d : Spelt) (f : SourceFault) → whole n d ≡ Err f → f.line ≡ suc n
 ended n d f h =
     elim (nat_lt (length d.tables) 3) as

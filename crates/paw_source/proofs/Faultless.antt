@@ -7,7 +7,7 @@ use Rattle.paw_faults.specs.Bind.{◌>>=◌}
 use Rattle.paw_grammar.specs.Tokens.{ended, read_by}
 use Rattle.paw_grammar.specs.Numbers.{number, in_range, number_with}
 
--- no fault at a test
+-- No fault at a test.
 pub passes : {A E : Type 0} (b : Bool) (k : E) (x : Result A E) (e : A) → cond b (Err k) x ≡ Ok e → (b ≡ false) × (x ≡ Ok e)
 passes {A} {E} true k x e h = absurd cc
 passes {A} {E} false k x e h = (refl, h)
@@ -16,12 +16,12 @@ pub holds : {A : Type 0} (b : Bool) (k : SourceKind) (x : Result A SourceKind) (
 holds {A} true k x e h = (refl, h)
 holds {A} false k x e h = absurd cc
 
--- no fault in what is read first, nor in what is read then
+-- No fault in what is read first, nor in what is read then.
 pub bound : {A B : Type 0} (r : Result A SourceKind) (f : A → Result B SourceKind) (e : B) → (r >>= f) ≡ Ok e → (x : A) × (r ≡ Ok x) × (f x ≡ Ok e)
 bound {A} {B} (Ok x) f e h = (x, refl, h)
 bound {A} {B} (Err k) f e h = absurd cc
 
--- what follows from what is read first
+-- What follows from what is read first.
 pub bound_then : {A B : Type 0} (P : Type 0) (r : Result A SourceKind) (f : A → Result B SourceKind) (e : B)
     → (r >>= f) ≡ Ok e → ((x : A) → r ≡ Ok x → f x ≡ Ok e → P) → P
 bound_then {A} {B} P r f e h go = let b = bound r f e h in go b.0 b.1 b.2
@@ -36,7 +36,7 @@ pub and_true : (a b : Bool) → (a && b) ≡ true → (a ≡ true) × (b ≡ tru
 and_true true b h = (refl, h)
 and_true false b h = absurd cc
 
--- the line ends
+-- The line ends.
 pub at_end : {A : Type 0} (ts : List (List ℕ)) (x : Result A SourceKind) (e : A) → (ended ts >>= λ _. x) ≡ Ok e → x ≡ Ok e
 at_end {A} [] x e h = h
 at_end {A} (t ∷ ts) x e h = absurd cc
@@ -46,7 +46,7 @@ means_ok : {A : Type 0} (k : SourceKind) (ts : List (List ℕ)) (o : Option A) (
 means_ok {A} k ts None x h = absurd cc
 means_ok {A} k ts (Some y) x h = ap (λ (z : A × List (List ℕ)). Some z.0) (ok_is (y, ts) x h)
 
--- the token that was read means what was read
+-- The token that was read means what was read.
 pub read_ok : {A : Type 0} (k : SourceKind) (f : List ℕ → Option A) (ts : List (List ℕ)) (x : A × List (List ℕ))
     → read_by k f ts ≡ Ok x → (t : List ℕ) × (f t ≡ Some x.0)
 read_ok {A} k f [] x h = absurd cc

@@ -13,7 +13,7 @@ use Rattle.paw_grammar.specs.GrammarState.{Spelt}
 use Rattle.paw_grammar.specs.GrammarHeads.{section_opened, lacks_rows, pro_header}
 use Rattle.paw_source.proofs.Faultless.{passes, bound, ok_is, at_end, number_ok}
 
--- one table more
+-- One table more.
 abbrev pub with_table : Spelt → Spelt
 with_table d = record (section_opened section.Pro d) { tables = d.tables ++ [] ∷ [] }
 

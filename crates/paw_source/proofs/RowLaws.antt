@@ -51,11 +51,11 @@ voc_row_ok ws vs ts kept h =
 
 -- ---- exits
 
--- an exit has this verb
+-- An exit has this verb.
 abbrev has_exit : ℕ → List Exit → Bool
 has_exit verb xs = list_any (λ x. eqb x.verb verb) xs
 
--- whether another exit has its verb
+-- Whether another exit has its verb.
 abbrev shares : Exit → List Exit → Bool
 shares x xs = list_any (λ y. eqb y.verb x.verb) xs
 
@@ -85,7 +85,7 @@ exits_more ws locations (y ∷ ys) x kept none verb to =
           rw (q.0, r.0, shares_more y x ys alone (turned y.verb x.verb e)) (exits_more ws locations ys x p.1 f verb to)
     ] refl none
 
--- no two exits of a location have the same verb
+-- No two exits of a location have the same verb.
 verbs_apart : (ws : List Word) (locations v : ℕ) (xs : List Exit) → list_any (λ y. eqb y.verb v) xs ≡ false
     → AllByRecursion (λ y. eqb v y ≡ false) (map (λ (x : Exit). x.verb) xs)
 verbs_apart ws locations v [] h = tt
@@ -106,7 +106,7 @@ verbs_distinct ws locations (y ∷ ys) kept =
     let alone : shares y ys ≡ false = elim (shares y ys) as (λ b. not b ≡ true → b ≡ false) [ true ↦ λ g. absurd cc | false ↦ λ g. refl ] r.1 in
     (verbs_apart ws locations y.verb ys alone, verbs_distinct ws locations ys p.1)
 
--- a word's value is at most 254
+-- A word's value is at most 254.
 value_low : (ws : List Word) (c v : ℕ) → list_all is_word ws ≡ true → has_word ws c v ≡ true → v < 255
 value_low [] c v all h = absurd cc
 value_low (w ∷ ws) c v all h =
@@ -136,7 +136,7 @@ verbs_low ws locations (y ∷ ys) q all kept h =
       | false ↦ λ e f. verbs_low ws locations ys q all p.1 f
     ] refl h
 
--- verb values that differ are at most 255
+-- Verb values that differ are at most 255.
 pub exits_few : (ws : List Word) (locations : ℕ) (xs : List Exit) → words_kept ws ≡ true → are_exits ws locations xs ≡ true → is_exits ws locations xs ≡ true
 exits_few ws locations xs words kept =
     let all = (and_parts (list_all is_word ws) _ (and_parts (nat_le (length ws) 2000) _ words).1).0 in
@@ -201,7 +201,7 @@ object_row_ok ws locations next count ts f h =
 
 -- ---- condacts
 
--- a game whose parts have these bounds
+-- A game whose parts have these bounds.
 pub record Has (bounds : Bounds) (ws : List Word) (g : GameLists) : Type 0 where
   pub words : g.words ≡ ws
   pub system : length g.system ≡ bounds.system
@@ -321,7 +321,7 @@ entry_row_ok bounds ws g es fs ts has kept h =
     (both (nat_le (length (es ++ made ∷ [])) 4000) (list_all (is_entry g) (es ++ made ∷ []))
     (grind (arith, nat_tests, long, room)) (all_pushed (is_entry g) es made old one))
 
--- an entry with other condacts
+-- An entry with other condacts.
 with_condacts : (g : GameLists) (e : Entry) (cs : List Condact) → is_entry g e ≡ true → nat_le (length cs) 255 ≡ true
     → list_all (is_condact g) cs ≡ true → is_entry g (record e { condacts = cs }) ≡ true
 with_condacts g e cs kept few all =

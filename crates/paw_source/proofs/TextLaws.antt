@@ -45,7 +45,7 @@ both false b p q = absurd cc
 
 -- ---- lines
 
--- bytes that a text line may hold
+-- Bytes that a text line may hold.
 abbrev plain : ℕ → Bool
 plain b = nat_le 0x20 b && nat_le b 0x7E
 
@@ -64,7 +64,7 @@ plain_line (b ∷ bs) h =
 plain_is_text : (b : ℕ) → plain b ≡ true → (is_text_byte b ≡ true) × (eqb b 10 ≡ false)
 plain_is_text b h = (grind (arith, nat_tests), grind (arith, nat_tests))
 
--- inside a line any of these bytes may stand
+-- Inside a line any of these bytes may stand.
 within_line : (l : List ℕ) → list_all plain l ≡ true → is_printed false l ≡ true
 within_line [] h = refl
 within_line (b ∷ bs) h =
@@ -75,7 +75,7 @@ within_line (b ∷ bs) h =
 not_slash : (b : ℕ) → eqb b 59 ≡ false → eqb b 47 ≡ false → begins_no_line b ≡ false
 not_slash b p q = rw (p, q) refl
 
--- a line that doesn't begin with `/` or `;` may stand anywhere
+-- A line that doesn't begin with `/` or `;` may stand anywhere.
 whole_line : (first : Bool) (l : List ℕ) → list_all plain l ≡ true → is_comment l ≡ false → begins_with_slash l ≡ false → is_printed first l ≡ true
 whole_line first [] h c s = refl
 whole_line first (b ∷ bs) h c s =
@@ -87,7 +87,7 @@ whole_line first (b ∷ bs) h c s =
       | false ↦ within_line bs p.1
     ])
 
--- what may stand anywhere may stand behind a text
+-- What may stand anywhere may stand after a text.
 behind : (first : Bool) (t l : List ℕ) → is_printed first t ≡ true → ((f : Bool) → is_printed f l ≡ true) → is_printed first (t ++ l) ≡ true
 behind first [] l h any = any first
 behind first (b ∷ bs) l h any =
@@ -102,7 +102,7 @@ allowed : (c a : Bool) → c ≡ false → (not c && a) ≡ false → a ≡ fals
 allowed true a e h = absurd cc
 allowed false a e h = h
 
--- a text line leaves texts that keep the rules
+-- A text line leaves texts that keep the rules.
 pub text_line_ok : (begun : Bool) (l : List ℕ) (ts us : List (List ℕ)) → list_all is_text ts ≡ true
     → is_comment l ≡ false → begins_with_slash l ≡ false → has_forbidden_byte true l ≡ false
     → text_line begun l ts ≡ Ok us → (list_all is_text us ≡ true) × (length us ≡ length ts)

@@ -35,7 +35,7 @@ filled_spaces : (n : ℕ) → is_filled (replicate n 32) ≡ true
 filled_spaces zero = refl
 filled_spaces (suc n) = all_spaces n
 
--- letters, and then spaces
+-- Letters, and then spaces.
 letters_filled : (cs : List ℕ) (n : ℕ) → list_all is_letter cs ≡ true → is_filled (cs ++ replicate n 32) ≡ true
 letters_filled [] n h = filled_spaces n
 letters_filled (c ∷ cs) n h =
@@ -93,7 +93,7 @@ class_ok ts x h =
 
 -- ---- order
 
--- of two texts that differ one stands above
+-- Of two texts that differ one stands above.
 other_way : (a b : List ℕ) → is_lt (slice_cmp nat_cmp a b) ≡ false → bytes_eq b a ≡ false → is_lt (slice_cmp nat_cmp b a) ≡ true
 other_way a b less same =
     let back = nat_list_cmp_total.antisymm a b in
@@ -104,7 +104,7 @@ other_way a b less same =
       | Greater ↦ λ e f. absurd (let g : true ≡ false = sym (ap is_lt e) ∙ less in cc)
     ] back eq
 
--- some word has these letters
+-- Some word has these letters.
 abbrev is_declared : List ℕ → List Word → Bool
 is_declared letters ws = is_some (word_of letters ws)
 
@@ -112,7 +112,7 @@ no_word : (o : Option Word) → is_some o ≡ false → o ≡ None
 no_word None h = refl
 no_word (Some w) h = absurd cc
 
--- letters that aren't declared are those of no word
+-- Letters that aren't declared are those of no word.
 undeclared : (l : List ℕ) (v : Word) (vs : List Word) → is_declared l (v ∷ vs) ≡ false → (bytes_eq v.letters l ≡ false) × (is_declared l vs ≡ false)
 undeclared l v vs h =
     elim (bytes_eq v.letters l) as (λ b. is_some (cond b (Some v) (word_of l vs)) ≡ false → (b ≡ false) × (is_declared l vs ≡ false)) [
@@ -164,7 +164,7 @@ put_words w (u ∷ us) one all =
       | false ↦ rw p.0 (put_words w us one p.1)
     ]
 
--- a word that is declared leaves the words in order, and no more than 2,000
+-- A word that is declared leaves the words in order, and no more than 2,000.
 pub declared_ok : (w : Word) (ws vs : List Word) → is_word w ≡ true → words_kept ws ≡ true → declared w ws ≡ Ok vs → words_kept vs ≡ true
 declared_ok w ws vs one kept h =
     let p = and_parts (nat_le (length ws) 2000) (list_all is_word ws && words_rise ws) kept in
@@ -177,7 +177,7 @@ declared_ok w ws vs one kept h =
 
 -- ---- looking up
 
--- a word that is found is one of the words
+-- A word that is found is one of the words.
 found_has : (l : List ℕ) (ws : List Word) (w : Word) → word_of l ws ≡ Some w → has_word ws w.class w.value ≡ true
 found_has l [] w h = absurd cc
 found_has l (u ∷ us) w h =
@@ -225,7 +225,7 @@ verb_word_ok ws ts x h =
     let r = read_ok kind.Word (λ t. as_verb (known ws t)) ts x h in
     verb_has ws x.0 (known ws r.0) (known_has ws r.0) r.1
 
--- `_` is 255, and anything else what it means
+-- `_` is 255, and anything else what it means.
 none_or : (f : List ℕ → Option ℕ) (t : List ℕ) (v : ℕ) (good : Bool) → (f t ≡ Some v → good ≡ true) → or_none f t ≡ Some v → (eqb v 255 || good) ≡ true
 none_or f t v good from h =
     elim (bytes_eq t (95 ∷ [])) as (λ b. cond b (Some 255) (f t) ≡ Some v → (eqb v 255 || good) ≡ true) [

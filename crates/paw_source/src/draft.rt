@@ -113,7 +113,7 @@ fn next_name(section: Section) -> &'static [u8]
 }
 
 impl Draft {
-    /// Nothing yet.
+    /// A draft of no lines.
     pub(crate) fn new(alloc: Global) -> Draft
         ensures { result ≡ nothing_yet }
     {
@@ -157,7 +157,7 @@ impl Draft {
 
     // ---- lines of texts ----
 
-    /// Whether an item of a section of texts stands above, so that a line that doesn't begin with `/` is a text line.
+    /// Whether a line that doesn't begin with `/` is a text line here, after an item of a section of texts.
     pub(crate) fn is_in_text(&self) -> bool
         ensures { result ≡ is_in_text self.now }
     {
@@ -206,6 +206,7 @@ impl Draft {
         self.header(alloc, name, tokens)
     }
 
+    /// Begins the item of this number in the section that is open.
     fn item(&mut self, alloc: Global, number: u32) -> Result<(), ReadError>
         ensures { Gives (λ _. self.new) result (item_in self.old.section self.old number) }
     {
@@ -220,6 +221,7 @@ impl Draft {
         }
     }
 
+    /// Begins the text of this number in the section that is open.
     fn new_text(&mut self, alloc: Global, number: u32) -> Result<(), ReadError>
         requires texts { 0 < text_limit self.old.section }
         ensures { Gives (λ _. self.new) result (new_text self.old.section self.old number) }
@@ -236,6 +238,7 @@ impl Draft {
         }
     }
 
+    /// Begins the exits of the location of this number; those passed over have none.
     fn new_exits(&mut self, alloc: Global, number: u32) -> Result<(), ReadError>
         ensures { Gives (λ _. self.new) result (new_exits self.old number) }
     {
@@ -247,6 +250,7 @@ impl Draft {
         Ok(())
     }
 
+    /// Reads a header, which has to be the next in order.
     fn header(&mut self, alloc: Global, name: &[u8], tokens: &mut Tokens) -> Result<(), ReadError>
         ensures { Gives (λ _. self.new) result (header self.old name.now tokens.old) }
     {
@@ -256,6 +260,7 @@ impl Draft {
         self.open(alloc, next_section(self.section), tokens)
     }
 
+    /// Opens the next section, by the tokens after the name of its header.
     fn open(&mut self, alloc: Global, next: Section, tokens: &mut Tokens) -> Result<(), ReadError>
         ensures { Gives (λ _. self.new) result (header_of next self.old tokens.old) }
     {
@@ -272,6 +277,7 @@ impl Draft {
         }
     }
 
+    /// Opens a section whose header has no further token.
     fn plain_header(&mut self, section: Section, tokens: &mut Tokens) -> Result<(), ReadError>
         requires { HasTable section 0 }
         ensures { Gives (λ _. self.new) result (plain_header section self.old tokens.old) }
@@ -282,6 +288,7 @@ impl Draft {
         Ok(())
     }
 
+    /// Opens the section of the exits, which needs a location.
     fn con_header(&mut self, tokens: &mut Tokens) -> Result<(), ReadError>
         ensures { Gives (λ _. self.new) result (con_header self.old tokens.old) }
     {
@@ -294,6 +301,7 @@ impl Draft {
         Ok(())
     }
 
+    /// Opens the next table, whose number the header has; the first one needs a row for each object.
     fn pro_header(&mut self, alloc: Global, tokens: &mut Tokens) -> Result<(), ReadError>
         ensures { Gives (λ _. self.new) result (pro_header self.old tokens.old) }
     {
@@ -315,8 +323,8 @@ impl Draft {
 
     // ---- rows ----
 
-    /// Reads a line of tokens that doesn't begin with `/`; `blank` tells that it begins with a space or a tab, `tables`
-    /// how many headers of tables the source has.
+    /// Reads a line of tokens that doesn't begin with `/`. `blank` says whether it begins with a space or a tab,
+    /// `tables` how many headers of tables the source has.
     pub(crate) fn row(
         &mut self,
         alloc: Global,
@@ -337,6 +345,7 @@ impl Draft {
         }
     }
 
+    /// Reads a row of `/CON`: an exit of the location of the last item.
     fn con_row(&mut self, tokens: &mut Tokens) -> Result<(), ReadError>
         ensures { Gives (λ _. self.new) result (con_row self.old tokens.old) }
     {
@@ -349,6 +358,7 @@ impl Draft {
         exit_row(&self.words, locations, exits, tokens)
     }
 
+    /// Reads a row of `/OBJ`: the facts of the next object.
     fn obj_row(&mut self, tokens: &mut Tokens) -> Result<(), ReadError>
         ensures { Gives (λ _. self.new) result (obj_row self.old tokens.old) }
     {
@@ -360,6 +370,7 @@ impl Draft {
         Ok(())
     }
 
+    /// How many rows of each sort parameters may name.
     fn bounds(&self, tables: u32) -> Bounds
         ensures value { result ≡ bounds_of tables self.now }
         ensures small { AreSmall result }
@@ -373,6 +384,7 @@ impl Draft {
         }
     }
 
+    /// Reads a row of the last table: an entry, or more condacts of its last entry.
     fn pro_row(
         &mut self,
         alloc: Global,

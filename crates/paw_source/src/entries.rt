@@ -46,8 +46,8 @@ pub(crate) fn entry_row(
 /// Adds the condacts of a line to the last entry of a table.
 ///
 /// # Errors
-/// Section where the table has no entry; else the first fault of the line, TooBig among them where the entry would have
-/// more than 255 condacts.
+/// Section where the table has no entry; otherwise the first fault of the line, TooBig among them where the entry would
+/// have more than 255 condacts.
 #[tactic(auto, unfolding(paw_grammar::specs::GrammarRows::more_row))]
 pub(crate) fn more_row(
     scope: &Scope,

@@ -14,7 +14,7 @@ use paw_grammar::tokens::Tokens;
 use paw_grammar::vocabulary::Vocabulary;
 use std::alloc::{AllocError, Global};
 
-/// Adds locations without exits, up to so many locations.
+/// Adds locations without exits, up to this number of locations.
 #[tactic(auto, using(crate::proofs::Made::one_filled, crate::proofs::Made::all_filled))]
 pub(crate) fn fill(alloc: Global, exits: &mut Vec<Exits>, count: usize) -> Result<(), AllocError>
     ensures { OnOk result (exits.new.items ≡ exits.old.items ++ replicate (count - length exits.old.items) []) }

@@ -279,7 +279,7 @@ const OF_ENTRIES: [Cases; 8] = [
     (Extra, &["/PRO 1 1\n"]),
 ];
 
-/// Faults in a line before the last, or behind it: what stands before, the lines, the number of the faulty one among
+/// Faults in a line before the last, or after it: what stands before, the lines, the number of the faulty one among
 /// them, and the kind.
 const ELSEWHERE: [(&[&str], &str, u32, SourceKind); 8] = [
     (&[], "", 1, Missing),
@@ -329,7 +329,7 @@ fn last_line(source: &[u8]) -> u32 {
     }
 }
 
-/// The first text whose last line hasn't the first fault, or has another kind of fault, behind what stands before.
+/// The first text, after what stands before it, whose last line hasn't the first fault or has one of another kind.
 fn wrong_case(
     alloc: Global,
     before: &[&str],
@@ -377,7 +377,7 @@ fn the_first_fault_is_named(rt: HostRuntime) -> Result<(), Fail> {
     Ok(())
 }
 
-/// What stands before, and then so many numbered items.
+/// What stands before, and then this number of items.
 fn with_items(alloc: Global, before: &str, count: u32) -> Result<Vec<u8>, AllocError> {
     let mut source = joined(alloc, &[before])?;
     for number in 0..count {
@@ -386,7 +386,7 @@ fn with_items(alloc: Global, before: &str, count: u32) -> Result<Vec<u8>, AllocE
     Ok(source)
 }
 
-/// So many words.
+/// This number of words.
 fn with_words(alloc: Global, count: u32) -> Result<Vec<u8>, AllocError> {
     let mut source = joined(alloc, &["/VOC\n"])?;
     for number in 0..count {
@@ -395,7 +395,7 @@ fn with_words(alloc: Global, count: u32) -> Result<Vec<u8>, AllocError> {
     Ok(source)
 }
 
-/// What stands before, and then a line so many times.
+/// What stands before, and then a line this number of times.
 fn with_lines(
     alloc: Global,
     before: &[&str],

@@ -30,7 +30,7 @@ impl Draft {
         requires { LiesIn source.now line.now }
         ensures { Gives (λ _. self.new) result (step tables self.old (bytes_of source.now line.now)) }
     {
-        // Tells the proof that the draft's lists are short.
+        // Shows the proof that the draft's lists are short.
         let _ = &self.section;
         let bytes = &source[line.from..line.to];
         if is_comment(bytes) {

@@ -9,7 +9,7 @@ pub enum SourceRefusal {
     /// The source has a fault; this is the first one.
     #[error("source fault in line {}", .0.line)]
     Fault(SourceFault),
-    /// Want of memory.
+    /// There is no memory.
     #[error("no memory for a source")]
     Memory,
 }

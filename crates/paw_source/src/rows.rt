@@ -36,7 +36,7 @@ pub(crate) fn voc_row(words: &mut Vocabulary, tokens: &mut Tokens) -> Result<(),
     })
 }
 
-/// The facts that a row of `/OBJ` tells, `row` rows standing before it, where there are `count` objects.
+/// The facts in a row of `/OBJ`, with `row` rows before it, where there are `count` objects.
 ///
 /// # Errors
 /// The first fault of the row: those of its six tokens, and Extra.

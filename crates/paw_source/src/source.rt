@@ -70,7 +70,7 @@ fn at_line(line: u32, refused: ReadError) -> SourceRefusal
     }
 }
 
-/// The game that a draft of so many lines is.
+/// The game of a draft that has read this number of lines.
 fn whole(alloc: Global, lines: u32, draft: Draft) -> Result<Game, SourceRefusal>
     requires count { lines ≤ SOURCE_LIMIT }
     requires valid { TABLE_LEAST ≤ length draft.tables → Valid (game_of draft) }
@@ -90,7 +90,7 @@ fn whole(alloc: Global, lines: u32, draft: Draft) -> Result<Game, SourceRefusal>
     Ok(game)
 }
 
-/// The game of the lines of a source, of which so many begin a table.
+/// The game of the lines of a source, of which `tables` begin a table.
 #[tactic(auto, unfolding(paw_grammar::specs::Spells::spelled_after, crate::specs::inner::Laws::after_lines))]
 fn read_lines(alloc: Global, tables: u32, source: &[u8]) -> Result<Game, SourceRefusal>
     requires short { length source.now ≤ SOURCE_LIMIT }
@@ -115,9 +115,9 @@ fn read_lines(alloc: Global, tables: u32, source: &[u8]) -> Result<Game, SourceR
 /// The game that a source spells.
 ///
 /// # Errors
-/// Fault exactly where the source spells none: the line and the kind of its first fault. Line 0 and TooBig tell of a
-/// source of more than 8,388,608 bytes; the number of lines plus one tells that table 2 is missing, or, by TooBig, that
-/// the image would have more than 4,194,304 bytes. Memory only for want of memory.
+/// Fault exactly where the source spells none: the line and the kind of its first fault. Line 0 and TooBig stand for a
+/// source of more than 8,388,608 bytes; the number of lines plus one says that table 2 is missing, or, with TooBig,
+/// that the image would have more than 4,194,304 bytes. Memory only where there is none.
 #[tactic(auto, unfolding(paw_grammar::specs::Spells::spelled))]
 pub fn read_source(alloc: Global, bytes: &[u8]) -> Result<Game, SourceRefusal>
     ensures value { ReadsSource result (spelled bytes.now) }

@@ -16,7 +16,7 @@ use std::alloc::Global;
 /// Begins a text after the others of its section, which may have `limit` texts.
 ///
 /// # Errors
-/// Range where this isn't the number of the next text, and else TooBig where the section is full.
+/// Range where this isn't the number of the next text, and otherwise TooBig where the section is full.
 pub(crate) fn text_item(
     alloc: Global,
     texts: &mut Vec<Text>,
@@ -38,7 +38,7 @@ pub(crate) fn text_item(
     Ok(())
 }
 
-/// Adds a line to the last text of a section; `begun` tells that the text has a line.
+/// Adds a line to the last text of a section; `begun` says whether the text has a line.
 ///
 /// # Errors
 /// TooBig where the text would pass 4,095 bytes.

@@ -3,7 +3,7 @@ use Rattle.std.proofs.Common.{◌≡◌, ◌⊎◌, ℕ, List, inl, inr, ap, ◌
 use Rattle.paw_stage.specs.Stage.{Standing, Unattached, made_if_missing, opened}
 use Rattle.paw_stage.specs.Moments.{Moment, moment_of, InAttach}
 
--- a missing file may be there already, and the store is that before the call or that after it
+-- A missing file may be there already, and the store is that before the call or that after it.
 pub record AttachParts (old new : Standing) (name : List ℕ) (m : Moment) : Type 0 where
   pub asked : m.asked ≡ old.asked
   pub shown : m.shown ≡ old.shown
@@ -37,7 +37,7 @@ at_new old new name m asked shown files e = record {
   store = inr (ap (λ (q : Moment). q.attached) e, ap (λ (q : Moment). q.disk) e);
 }
 
--- inside an attach that was done
+-- Inside an attach that was done.
 pub attach_parts : (old new : Standing) (name : List ℕ) (m : Moment) → new ≡ opened name old → InAttach old new name m →
     AttachParts old new name m
 attach_parts old new name m is (inl e) = at_old old new name m e
@@ -46,7 +46,7 @@ attach_parts old new name m is (inr (inr e)) =
     at_new old new name m (ap (λ (q : Standing). q.asked) is) (ap (λ (q : Standing). q.shown) is)
     (inr (ap (λ (q : Standing). q.files) is)) e
 
--- inside an attach that failed
+-- Inside an attach that failed.
 pub unattached_parts : (old new : Standing) (name : List ℕ) (m : Moment) → Unattached old new → InAttach old new name m →
     AttachParts old new name m
 unattached_parts old new name m is (inl e) = at_old old new name m e

@@ -19,11 +19,11 @@ use Rattle.paw_stage.proofs.Logs.{after-push}
 use Rattle.paw_stage.proofs.Replays.{passes}
 use Rattle.paw_stage.proofs.Disks.{IsDisk, after_disk, synced_leaves}
 
--- what stands at a stage that has these lines and had these calls
+-- What stands at a stage that has these lines and had these calls.
 standing_with : List (List ℕ) → List DoneCall → Standing
 standing_with lines ds = record (after fresh ds) { lines = lines }
 
--- what stands after a call that was recorded
+-- What stands after a call that was recorded.
 pub stood : (m n : Memory) (l : Logged) (d : DoneCall) → m.log ≡ l → n.log ≡ logged d l → n.lines ≡ m.lines →
     standing_of n ≡ record (step_done (after fresh m.log.calls) d) { lines = m.lines }
 unfolding standing_with
@@ -34,7 +34,7 @@ stood m n l d em en el =
     let last : after fresh (m.log.calls ++ d ∷ []) ≡ step_done (after fresh m.log.calls) d = after-push fresh m.log.calls d in
     a ∙ (b ∙ ap {A = Standing} (λ s. record s { lines = m.lines }) last)
 
--- the moments of a call that was recorded
+-- The moments of a call that was recorded.
 pub passed : (m n : Memory) (l : Logged) (d : DoneCall) → m.log ≡ l → n.log ≡ logged d l →
     Passes (clock_of m) (clock_of n) (moments_of m) (moments_of n) (StandsInside (after fresh m.log.calls) d)
 passed m n l d em en =
@@ -62,7 +62,7 @@ saves s new name bytes e =
       stands = e;
     }
 
--- what may stand inside each call is what the stage allows there
+-- What may stand inside each call is what the stage allows there.
 pub in_save : (old : Standing) (name bytes : List ℕ) (m : Moment) → StandsInside old (saved name bytes) m → InSave old name m
 in_save old name bytes m (inl e) =
     subst (λ x. InSave old name x) (sym e)
@@ -105,11 +105,11 @@ in_sync old m k (inr e) =
     subst (λ x. InSync old x) (sym e)
     (record { asked = refl; shown = refl; attached = refl; files = refl; disk = λ image l. synced_leaves old.disk k image l })
 
--- the disk that the calls of a stage leave
+-- The disk that the calls of a stage leave.
 pub is_disk : (m : Memory) → IsDisk (standing_of m).disk
 is_disk m = after_disk m.log.calls
 
--- an ask takes a line, or finds none left
+-- An ask takes a line, or finds none left.
 abbrev pub Takes : CallKind → Asked → Type 0
 Takes k answer = ((n : ℕ) × (k ≡ kind.Take) × (answer ≡ asked.Line n)) ⊎ ((k ≡ kind.End) × (answer ≡ asked.End))
 

@@ -5,12 +5,12 @@ use Rattle.std.specs.Prelude.{Option, Some, None}
 use Rattle.paw_stage.specs.declared.StageCall.{StageCall}
 use Rattle.paw_stage.specs.Stage.{Rose, Faulted}
 
--- a count that rose hasn't fallen
+-- A count that rose hasn't fallen.
 Rose_grows : (old new : ℕ) → Rose old new → old ≤ new
 Rose_grows old new (inl h) = omega (arith, h)
 Rose_grows old new (inr h) = omega (arith, h.0, h.1)
 
--- no count falls
+-- No count falls.
 pub Faulted_grows : (failed : Option StageCall) (old new : StageCall → ℕ) → Faulted failed old new → (c : StageCall) → old c ≤ new c
 Faulted_grows None old new f c = let same = f c in omega (arith, same)
 Faulted_grows (Some failed) old new f c = elim (cases_lt (new c) (old c)) [
@@ -20,16 +20,16 @@ Faulted_grows (Some failed) old new f c = elim (cases_lt (new c) (old c)) [
       let same = f.1 c other in omega (arith, same, lt)
 ]
 
--- no call
+-- No call.
 pub Faulted_same : (old : StageCall → ℕ) → Faulted None old old
 Faulted_same old = λ c. refl
 
--- calls none of which failed, and then others
+-- Calls none of which failed, and then others.
 pub Faulted_on : (failed : Option StageCall) (old mid new : StageCall → ℕ) → Faulted None old mid → Faulted failed mid new → Faulted failed old new
 Faulted_on None old mid new f g = λ c. g c ∙ f c
 Faulted_on (Some failed) old mid new f g = (subst (λ n. Rose n (new failed)) (f failed) g.0, λ c ne. g.1 c ne ∙ f c)
 
--- calls, and then others none of which failed
+-- Calls, and then others none of which failed.
 pub Faulted_still : (failed : Option StageCall) (old mid new : StageCall → ℕ) → Faulted failed old mid → Faulted None mid new → Faulted failed old new
 Faulted_still None old mid new f g = λ c. g c ∙ f c
 Faulted_still (Some failed) old mid new f g = (subst (λ n. Rose (old failed) n) (sym (g failed)) f.0, λ c ne. g c ∙ f.1 c ne)

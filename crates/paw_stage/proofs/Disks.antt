@@ -67,7 +67,7 @@ later_disk s (d ∷ ds) h = later_disk (step_done s d) ds (stepped_is d.kind d.n
 pub after_disk : (ds : List DoneCall) → IsDisk (after fresh ds).disk
 after_disk ds = later_disk fresh ds (stable_is [])
 
--- once the bytes are synced a crash leaves no more than before
+-- Once the bytes are synced a crash leaves no more than before.
 pub synced_leaves : (d : Disk) → IsDisk d → (image : List ℕ) → MayLeave (stable d.bytes) image → MayLeave d image
 synced_leaves d h image l =
     record {

@@ -41,7 +41,7 @@ and_false : (b : Bool) → (b && false) ≡ false
 and_false true = refl
 and_false false = refl
 
--- the last byte decides
+-- The last byte decides.
 pub ends_with_byte-push : (b : ℕ) (xs : List ℕ) (x : ℕ) → ends_with_byte b (xs ++ x ∷ []) ≡ (x == b)
 ends_with_byte-push b xs x =
     let n : length (xs ++ x ∷ []) - 1 ≡ length xs = omega (arith, length-append xs (x ∷ [])) in
@@ -67,7 +67,7 @@ not_ended (x ∷ xs) h =
     (not_same (get_or (x ∷ xs) (length (x ∷ xs) - 1) 0) 10 (get_plain (x ∷ xs) (length (x ∷ xs) - 1) h (omega arith)))
     ∙ and_false (nat_lt 0 (length (x ∷ xs)))
 
--- the line in the bytes up to the first LF, or in all of them
+-- The line in the bytes up to the first LF, or in all of them.
 line_in : List ℕ → List ℕ
 line_in t = if ends_with_byte 10 t then strip_last 13 (strip_last 10 t) else strip_last 10 t
 
@@ -82,17 +82,17 @@ unfolding line_in
 line_in-whole xs h =
     ap (λ t. if t then strip_last 13 (if t then take (length xs - 1) xs else xs) else (if t then take (length xs - 1) xs else xs)) (not_ended xs h)
 
--- a line up to its LF
+-- A line up to its LF.
 pub first_line-end : (xs rest : List ℕ) → HasNoEnd xs → first_line (xs ++ 10 ∷ rest) ≡ strip_last 13 xs
 unfolding line_in
 first_line-end xs rest h = ap line_in (take_through-end xs rest h) ∙ line_in-end xs
 
--- a line that has no end
+-- A line that has no end.
 pub first_line-whole : (xs : List ℕ) → HasNoEnd xs → first_line xs ≡ xs
 unfolding line_in
 first_line-whole xs h = ap line_in (take_through-whole xs h) ∙ line_in-whole xs h
 
--- no more than the last byte is left out
+-- No more than the last byte is left out.
 strip_last-length : (b : ℕ) (xs : List ℕ) → length xs ≤ length (strip_last b xs) + 1
 strip_last-length b xs = by_test (ends_with_byte b xs)
   where
@@ -104,7 +104,7 @@ take_through-more : (xs rest : List ℕ) → HasNoEnd xs → take_through 10 (xs
 take_through-more [] rest h = refl
 take_through-more (x ∷ xs) rest h = rw (not_same x 10 h.0) (ap (λ ys. x ∷ ys) (take_through-more xs rest h.1))
 
--- a line of bytes without an LF and more has all of them but a CR at their end
+-- A line of bytes without an LF and more has all of them but a CR at their end.
 line_in-long : (xs more : List ℕ) → HasNoEnd xs → length xs ≤ length (line_in (xs ++ more)) + 1
 unfolding line_in
 line_in-long xs [] h = rw (append-nil xs) (rw (line_in-whole xs h) (omega arith))

@@ -13,7 +13,7 @@ use Rattle.paw_stage.proofs.FirstLine.{HasNoEnd-push, ends_with_byte-push, drop_
 below_or : (k : ℕ) → (k < 255) ⊎ (255 ≤ k)
 below_or k = grind arith
 
--- the first bytes with one byte more
+-- The first bytes with one byte more.
 kept_more : (into taken : List ℕ) (len byte : ℕ) → length into ≡ 255 → length taken ≡ len →
     take (min len 255) into ≡ take 255 taken →
     take (min (len + 1) 255) (if nat_lt len 255 then set into len byte else into) ≡ take 255 (taken ++ byte ∷ [])
@@ -48,11 +48,11 @@ gathers_more first left now into into' len byte returned h k ne size e =
       last = sym (ends_with_byte-push 13 h.taken byte);
     }
 
--- a line of known length, which may be too long
+-- A line of known length, which may be too long.
 line_of : (bytes : List ℕ) (left : Option (List ℕ)) (len : ℕ) (into : List ℕ) → HasLine bytes left len into → GathersLine bytes left (Some len) into
 line_of bytes left len into h = (λ low. h, λ high. omega (arith, h.1))
 
--- more bytes than a line may have, and none is an LF
+-- More bytes than a line may have, and none is an LF.
 pub gathered_long : (first left now : Option (List ℕ)) (into : List ℕ) (len : ℕ) (returned : Bool) →
     Gathers first left into len returned → longest_line + 2 ≤ len → IfSome first (λ bytes. GathersLine bytes now (Some (longest_line + 1)) into)
 gathered_long None left now into len returned h many = tt
@@ -60,7 +60,7 @@ gathered_long (Some xs) None now into len returned h many = absurd h.consumed
 gathered_long (Some xs) (Some ys) now into len returned h many =
     (λ low. absurd (omega arith), λ high. omega (arith, h.count, ap (λ l. length (first_line l)) h.consumed, first_line-long h.taken ys h.plain))
 
--- the end of the bytes, with a line that has no end of its own
+-- The end of the bytes, with a line that has no end of its own.
 pub gathered_whole : (first left now : Option (List ℕ)) (into : List ℕ) (len : ℕ) (returned : Bool) →
     Gathers first left into len returned → Consumes left now [] → IsAtEnd now → 0 < len →
     IfSome first (λ bytes. GathersLine bytes now (Some len) into)
@@ -82,7 +82,7 @@ take_short m taken = elim (below_or m) [
   | inr high ↦ let is : min m 255 ≡ 255 = omega arith in ap (λ k. take k taken) is ∙ sym (take-take 255 m taken high)
 ]
 
--- without the last byte
+-- Without the last byte.
 cut_last : (into taken : List ℕ) (len : ℕ) → length taken ≡ len → take (min len 255) into ≡ take 255 taken →
     take (min (len - 1) 255) into ≡ take 255 (take (len - 1) taken)
 cut_last into taken len count kept =
@@ -96,7 +96,7 @@ without_return false into taken len count kept = (omega arith, kept)
 without_return true into taken len count kept =
     (omega (arith, length-take (length taken - 1) taken), cut_last into taken len count kept ∙ ap (λ n. take 255 (take (n - 1) taken)) (sym count))
 
--- the LF that ends the line
+-- The LF that ends the line.
 pub gathered_end : (first left now : Option (List ℕ)) (into : List ℕ) (len : ℕ) (returned : Bool) →
     Gathers first left into len returned → Consumes left now (10 ∷ []) →
     IfSome first (λ bytes. GathersLine bytes now (Some (if returned then len - 1 else len)) into)

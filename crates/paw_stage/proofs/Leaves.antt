@@ -20,7 +20,7 @@ spoiled_twice true false x = refl
 spoiled_twice false true x = refl
 spoiled_twice false false x = refl
 
--- a byte that is spoiled by one call more
+-- A byte that is spoiled by one call more.
 pub spoiled_more : (ds : List DoneCall) (d : DoneCall) (j x y z : ℕ) → z ≡ spoiled_if (writes d.kind (length d.bytes) j) y →
     y ≡ spoiled_if (is_written ds j) x → z ≡ spoiled_if (is_written (ds ++ d ∷ []) j) x
 spoiled_more ds d j x y z ez ey =
@@ -28,13 +28,13 @@ spoiled_more ds d j x y z ez ey =
     ∙ (spoiled_twice (is_written ds j) (writes d.kind (length d.bytes) j) x
     ∙ ap (λ b. spoiled_if b x) (sym (is_written-push ds d j))))
 
--- the file of the attached store has its bytes
+-- The file of the attached store has its bytes.
 pub store_file : (room : List ℕ) (ds : List DoneCall) (store : Store) → FindsStore room ds (Some store) →
     bytes_or_none ((after fresh ds).files (slice_range room store.opened.from store.opened.mid))
     ≡ (after fresh ds).disk.bytes
 store_file room ds store h = ap bytes_or_none (after_filed ds (slice_range room store.opened.from store.opened.mid) h.1.attached)
 
--- it had those at the last sync after the calls up to it
+-- It had those at the last sync after the calls up to it.
 pub synced_file : (room : List ℕ) (calls : List Call) (store : Store) →
     FindsStore room (all_done room calls) (Some store) →
     bytes_or_none ((after fresh (all_done room (take store.synced calls))).files
@@ -45,7 +45,7 @@ synced_file room calls store h =
     ap (λ ds. bytes_or_none ((after fresh ds).files name)) front
     ∙ (ap bytes_or_none (after_filed (take store.synced (all_done room calls)) name h.1.before) ∙ h.1.synced)
 
--- what is left of its bytes once those are spoiled that later calls wrote
+-- What is left of its bytes once those are spoiled that later calls wrote.
 pub spoiled_file : (room : List ℕ) (calls : List Call) (store : Store) (whole new : List ℕ) →
     FindsStore room (all_done room calls) (Some store) → whole ≡ (after fresh (all_done room calls)).disk.bytes →
     length new ≡ length whole
@@ -68,7 +68,7 @@ spoiled_file room calls store whole new h e size each =
     ∙ ((let z : j ≡ 0 + j = omega arith in ap (λ k. spoiled_if (is_dirty d.dirty k) (slice_index d.bytes j)) z)
     ∙ sym (index-spoiled d.dirty 0 d.bytes j (omega (arith, low, size, ap length e))))))))
 
--- which pick leaves which bytes
+-- Which pick leaves which bytes.
 pub crashed_synced : (d : Disk) (pick : ℕ) → pick ≡ 0 → crashed d pick ≡ d.synced
 crashed_synced d pick e = ap (crashed d) e
 

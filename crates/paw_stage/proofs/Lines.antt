@@ -4,7 +4,7 @@ use Rattle.std.proofs.lemmas.List.{length-take, take_all}
 use Rattle.std.proofs.Math.Seq.{take-append_seam}
 use Rattle.paw_stage.specs.Stage.{IsCut}
 
--- no more than 255 bytes are cut
+-- No more than 255 bytes are cut.
 take_cut : (line : List ℕ) (n : ℕ) → n ≡ min (length line) 255 → take n line ≡ take 255 line
 take_cut line n e = elim (below_or (length line)) [
   | inl low ↦ take_all n line (omega arith) ∙ sym (take_all 255 line low)

@@ -10,16 +10,16 @@ use Rattle.paw_stage.specs.inner.Done.{DoneCall, step_done, after}
 use Rattle.paw_stage.specs.inner.Log.{done_in, all_done, AreLaid}
 use Rattle.paw_stage.specs.declared.log.Call.{Call}
 
--- what stands after one call more
+-- What stands after one call more.
 pub after-push : (s : Standing) (ds : List DoneCall) (d : DoneCall) → after s (ds ++ d ∷ []) ≡ step_done (after s ds) d
 after-push s ds d = fold-append step_done s ds (d ∷ [])
 
--- a part of the room stays when the room grows
+-- A part of the room stays when the room grows.
 slice_range-append : (room extra : List ℕ) (a b : ℕ) → a ≤ b → b ≤ length room → slice_range (room ++ extra) a b ≡ slice_range room a b
 slice_range-append room extra a b ab h =
     ap (take (b - a)) (drop-append-le a room extra (omega arith)) ∙ take-append-le (b - a) (drop a room) extra (omega (arith, length-drop a room))
 
--- the part that was added in the middle
+-- The part that was added in the middle.
 slice_range-seam : (room bytes extra : List ℕ) (a b : ℕ) → a ≡ length room → b ≡ length room + length bytes → slice_range ((room ++ bytes) ++ extra) a b ≡ bytes
 slice_range-seam room bytes extra a b ea eb =
     let n : b - a ≡ length bytes = omega arith in
@@ -28,7 +28,7 @@ slice_range-seam room bytes extra a b ea eb =
     ∙ (ap (take (b - a)) (drop-append_seam room (bytes ++ extra))
     ∙ (ap (λ k. take k (bytes ++ extra)) n ∙ take-append_seam bytes extra)))
 
--- the part that was added last
+-- The part that was added last.
 slice_range-last : (room bytes : List ℕ) (a b : ℕ) → a ≡ length room → b ≡ length room + length bytes → slice_range (room ++ bytes) a b ≡ bytes
 slice_range-last room bytes a b ea eb =
     let n : b - a ≡ length bytes = omega arith in
@@ -38,7 +38,7 @@ pub laid_low : (calls : List Call) (start end : ℕ) → AreLaid calls start end
 laid_low [] start end h = omega arith
 laid_low (c ∷ calls) start end h = omega (arith, h.0, h.1, h.2, laid_low calls c.to end h.3)
 
--- a call's part of the room stays when the room grows
+-- A call's part of the room stays when the room grows.
 done_in-append : (room extra : List ℕ) (c : Call) → c.from ≤ c.mid → c.mid ≤ c.to → c.to ≤ length room → done_in (room ++ extra) c ≡ done_in room c
 done_in-append room extra c low high within =
     rw (slice_range-append room extra c.from c.mid low (omega arith), slice_range-append room extra c.mid c.to high within)
@@ -72,7 +72,7 @@ pub laid-push : (calls : List Call) (c : Call) (start mid end : ℕ) → AreLaid
 laid-push [] c start mid end h from low high to = (omega arith, low, high, omega arith)
 laid-push (x ∷ calls) c start mid end h from low high to = (h.0, h.1, h.2, laid-push calls c x.to mid end h.3 from low high to)
 
--- each of the calls lies in the room
+-- Each of the calls lies in the room.
 pub laid-at : (calls : List Call) (start end k : ℕ) (d : Call) → AreLaid calls start end → k < length calls →
     ((get_or calls k d).from ≤ (get_or calls k d).mid) × ((get_or calls k d).mid ≤ (get_or calls k d).to)
     × ((get_or calls k d).to ≤ end)
@@ -80,23 +80,23 @@ laid-at [] start end k d h low = absurd (omega arith)
 laid-at (c ∷ calls) start end zero d h low = (h.1, h.2, laid_low calls c.to end h.3)
 laid-at (c ∷ calls) start end (suc k) d h low = laid-at calls c.to end k d h.3 (omega arith)
 
--- one call more of those in the room
+-- One call more of those in the room.
 pub done-next : (room : List ℕ) (calls : List Call) (k : ℕ) (d : Call) → k < length calls →
     all_done room (take (k + 1) calls) ≡ all_done room (take k calls) ++ done_in room (get_or calls k d) ∷ []
 done-next room calls k d low =
     ap (all_done room) (take_more calls k d low) ∙ map-append (done_in room) (take k calls) (get_or calls k d ∷ [])
 
--- the next call lies behind those before it
+-- The next call lies after those before it.
 pub laid-next : (calls : List Call) (k start end : ℕ) (d : Call) → k < length calls → AreLaid (drop k calls) start end →
     AreLaid (get_or calls k d ∷ drop (k + 1) calls) start end
 laid-next calls k start end d low h = subst (λ l. AreLaid l start end) (drop_more calls k d low) h
 
--- the calls lie behind any earlier place too
+-- The calls lie after any earlier place too.
 pub laid-from : (calls : List Call) (start low end : ℕ) → low ≤ start → AreLaid calls start end → AreLaid calls low end
 laid-from [] start low end l h = omega arith
 laid-from (c ∷ calls) start low end l h = (omega (arith, h.0), h.1, h.2, h.3)
 
--- so do the first of them, and the last
+-- So do the first of them, and the last.
 pub laid-take : (calls : List Call) (n start end : ℕ) → AreLaid calls start end → AreLaid (take n calls) start end
 laid-take calls zero start end h = laid_low calls start end h
 laid-take [] (suc n) start end h = h

@@ -9,15 +9,15 @@ if_not : (b : Bool) (P : Type 0) (x y : Option (List ℕ)) → (b ≡ true → P
 if_not true P x y h n = absurd (n (h refl))
 if_not false P x y h n = refl
 
--- another file is as it was
+-- Another file is as it was.
 pub holds_other : (name n : List ℕ) (bytes : Option (List ℕ)) (files : Files) → n ≢ name → file_holding name bytes files n ≡ files n
 holds_other name n bytes files ne = if_not (bytes_eq n name) (n ≡ name) bytes (files n) (bytes_eq-Decides n name).0 ne
 
--- the file of this name is what it was made
+-- The file of this name is what it was made.
 pub holds_same : (name : List ℕ) (bytes : Option (List ℕ)) (files : Files) → file_holding name bytes files name ≡ bytes
 holds_same name bytes files = ap (λ b. if b then bytes else files name) ((bytes_eq-Decides name name).1 refl)
 
--- another file than the attached store's is as it was
+-- Another file than the attached store's is as it was.
 pub held_other : (attached : Option (List ℕ)) (n bytes : List ℕ) (files : Files) → attached ≢ Some n → store_holding attached bytes files n ≡ files n
 held_other None n bytes files ne = refl
 held_other (Some name) n bytes files ne = holds_other name n (Some bytes) files (λ e. ne (ap Some (sym e)))

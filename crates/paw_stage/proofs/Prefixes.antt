@@ -10,7 +10,7 @@ use Rattle.paw_stage.specs.inner.Log.{done_in, all_done, IsEndOf}
 use Rattle.paw_stage.specs.declared.log.Call.{Call}
 use Rattle.paw_stage.proofs.Logs.{done-next}
 
--- one more, where this is a call of the stage
+-- One more, where this is a call of the stage.
 abbrev pub one_if : Bool → ℕ
 one_if true = 1
 one_if false = 0
@@ -34,7 +34,7 @@ made-push ds d =
 
 -- ---- counting ----
 
--- so many of the first k calls are the stage's
+-- This number of the first k calls are the stage's.
 abbrev pub IsCounted : List Call → ℕ → ℕ → Type 0
 IsCounted calls k made = (made ≤ k) × ((room : List ℕ) → made ≡ calls_made (all_done room (take k calls)))
 
@@ -57,7 +57,7 @@ counted_all calls k made high h room = h.1 room ∙ ap (λ l. calls_made (all_do
 
 -- ---- the end of a call ----
 
--- The first k calls were passed, and so many calls of the stage stand before the one looked for.
+-- The first k calls were passed, and this number of calls of the stage stand before the one looked for.
 abbrev pub IsPassed : List Call → ℕ → ℕ → ℕ → Type 0
 IsPassed calls number k before =
     (room : List ℕ) → (before + calls_made (all_done room calls) ≡ number + calls_made (all_done room (drop k calls)))
@@ -67,7 +67,7 @@ IsPassed calls number k before =
 pub passed_none : (calls : List Call) (number : ℕ) → IsPassed calls number 0 number
 passed_none calls number room = (refl, refl)
 
--- the next call and those behind it
+-- The next call and those after it.
 rest : (room : List ℕ) (calls : List Call) (k : ℕ) (e : Call) → k < length calls →
     all_done room (drop k calls) ≡ done_in room (get_or calls k e) ∷ all_done room (drop (k + 1) calls)
 rest room calls k e low = ap (all_done room) (drop_more calls k e low)

@@ -11,7 +11,7 @@ use Rattle.paw_stage.specs.declared.log.CallKind.{CallKind}
 use Rattle.paw_stage.specs.declared.log.CallKind.TheVariants as kind
 use Rattle.paw_stage.proofs.Logs.{after-push}
 
--- what stands before a call is inside it
+-- What stands before a call is inside it.
 begins : (k : CallKind) (name bytes : List ℕ) (s : Standing) (m : Moment) → m ≡ moment_of s → MayStand k name bytes s m
 begins kind.Add name bytes s m e = inl e
 begins kind.Load name bytes s m e = e
@@ -24,7 +24,7 @@ begins kind.Take name bytes s m e = inl e
 begins kind.End name bytes s m e = e
 begins kind.Show name bytes s m e = (0, e ∙ ap (λ t. record (moment_of s) { shown = t }) (sym (append-nil s.shown)))
 
--- what stands after a call is inside it
+-- What stands after a call is inside it.
 ends : (k : CallKind) (name bytes : List ℕ) (s : Standing) (m : Moment) → m ≡ moment_of (stepped k name bytes s) → MayStand k name bytes s m
 ends kind.Add name bytes s m e = inr e
 ends kind.Load name bytes s m e = e
@@ -63,14 +63,14 @@ take_push (suc t) [] d h = absurd (omega arith)
 take_push (suc t) (x ∷ ds) d h =
     let k : (take t (ds ++ d ∷ []) ≡ take t ds) × (drop t (ds ++ d ∷ []) ≡ drop t ds ++ d ∷ []) = take_push t ds d (omega arith) in (ap (λ l. x ∷ l) k.0, k.1)
 
--- what stood inside the last call stood since each time up to it
+-- What stood inside the last call stood since each time up to it.
 since_each : (ds : List DoneCall) (d : DoneCall) (m : Moment) → StandsInside (after fresh ds) d m → (u : ℕ) → u ≤ length ds → since_of (ds ++ d ∷ []) u m
 since_each ds d m h u early = inr (let q = take_push u ds d early in
     subst (λ l. StoodInside (after fresh l) (drop u (ds ++ d ∷ [])) m) (sym q.0)
     (subst (λ l. StoodInside (after fresh (take u ds)) l m) (sym q.1)
     (last (after fresh (take u ds)) (drop u ds) d m (subst (λ s. StandsInside s d m) (sym (after_split fresh u ds)) h))))
 
--- one call more
+-- One call more.
 pub passes : (ds : List DoneCall) (d : DoneCall) → Passes (length ds) (length (ds ++ d ∷ [])) (since_of ds) (since_of (ds ++ d ∷ []))
     (StandsInside (after fresh ds) d)
 passes ds d =

@@ -16,7 +16,7 @@ attached_is : (a : Option (List ℕ)) (name : List ℕ) → is_attached a name �
 attached_is None name h = cc
 attached_is (Some n) name h = ap Some ((bytes_eq-Decides n name).0 h)
 
--- bytes of a store that was written to
+-- Bytes of a store that was written to.
 written_bytes : (place at : ℕ) (bytes old into new : List ℕ) (j : ℕ) → j < length into → at + j < max (length old) (min place (length old) + length bytes)
     → (at + j < length old → slice_index into j ≡ slice_index old (at + j))
     → slice_index new j ≡ laid_over (min place (length old)) bytes (at + j) (slice_index into j)
@@ -58,7 +58,7 @@ sees_written s name at place bytes into new seen now filed h on is same laid =
           ∙ sym (ap (λ o. slice_index (bytes_or_none o) (at + j)) g);
     }
 
--- a slice that the file's bytes fill
+-- A slice that the file's bytes fill.
 pub filled : (s : Standing) (name : List ℕ) (at n : ℕ) (seen : Seen) (into : List ℕ) → Sees s name at seen into →
     length into ≡ n → at + n ≤ length (bytes_or_none (s.files name)) →
     into ≡ take n (drop at (bytes_or_none (s.files name)))

@@ -36,7 +36,7 @@ is_written-push (x ∷ ds) d i =
     ap (λ b. writes x.kind (length x.bytes) i || b) (is_written-push ds d i)
     ∙ or_grouped (writes x.kind (length x.bytes) i) (is_written ds i) (writes d.kind (length d.bytes) i)
 
--- a call that neither attaches nor syncs
+-- A call that neither attaches nor syncs.
 kept_store : (ds : List DoneCall) (d : DoneCall) (name : List ℕ) (n : ℕ) → IsStore ds name n →
     (step_done (after fresh ds) d).attached ≡ (after fresh ds).attached →
     (step_done (after fresh ds) d).disk.synced ≡ (after fresh ds).disk.synced
@@ -57,7 +57,7 @@ kept_store ds d name n h ea es ed =
           ∙ (sym (is_written-push (drop n ds) d i) ∙ sym (ap (λ l. is_written l i) back)))));
     }
 
--- a call after which all of the store's bytes are synced
+-- A call after which all of the store's bytes are synced.
 settled_store : (ds : List DoneCall) (d : DoneCall) (name bytes : List ℕ) → (step_done (after fresh ds) d).attached ≡ Some name →
     (step_done (after fresh ds) d).disk ≡ stable bytes → IsStore (ds ++ d ∷ []) name (length ds + 1)
 settled_store ds d name bytes ea ed =
@@ -81,7 +81,7 @@ settled_store ds d name bytes ea ed =
         empty [] h = refl
         empty (x ∷ l) h = absurd (omega arith)
 
--- neither the name of the store nor what is synced changes
+-- Neither the name of the store nor what is synced changes.
 abbrev pub IsQuiet : CallKind → Type 0
 IsQuiet kind.Add = ⊥
 IsQuiet kind.Save = ⊥
@@ -112,13 +112,13 @@ quiet_finds room ds kind.Take name bytes store q h = kept_finds room ds (record 
 quiet_finds room ds kind.End name bytes store q h = kept_finds room ds (record { kind = kind.End; name = name; bytes = bytes }) store h refl refl (λ i. refl)
 quiet_finds room ds kind.Show name bytes store q h = kept_finds room ds (record { kind = kind.Show; name = name; bytes = bytes }) store h refl refl (λ i. refl)
 
--- so does a call that lies in this room
+-- So does a call that lies in this room.
 pub quiet_call_finds : (room : List ℕ) (ds : List DoneCall) (call : Call) (store : Option Store) → IsQuiet call.kind → FindsStore room ds store
     → FindsStore room (ds ++ done_in room call ∷ []) store
 quiet_call_finds room ds call store q h =
     quiet_finds room ds call.kind (slice_range room call.from call.mid) (slice_range room call.mid call.to) store q h
 
--- the store's bytes where its file, or another, was saved
+-- The store's bytes where its file, or another, was saved.
 same_disk : (s : Standing) (name bytes : List ℕ) → s.attached ≡ Some name → (if is_attached s.attached name then stable bytes else s.disk) ≡ stable bytes
 same_disk s name bytes e =
     ap (λ a. if is_attached a name then stable bytes else s.disk) e ∙ ap (λ b. if b then stable bytes else s.disk) ((bytes_eq-Decides name name).1 refl)
@@ -165,7 +165,7 @@ saved_other ds k name other bytes n w ne h =
           (kept_store ds (record { kind = kind.Save; name = other; bytes = bytes }) name n h refl synced dirty)
     ]
 
--- no store is attached by saving
+-- No store is attached by saving.
 pub saved_none : (ds : List DoneCall) (k : CallKind) (name bytes : List ℕ) → (k ≡ kind.Add) ⊎ (k ≡ kind.Save) →
     (after fresh ds).attached ≡ None → (after fresh
     (ds ++ record { kind = k; name = name; bytes = bytes } ∷ [])).attached ≡ None
@@ -178,7 +178,7 @@ saved_none ds k name bytes w h = elim w [
       (after-push fresh ds (record { kind = kind.Save; name = name; bytes = bytes })) ∙ h)
 ]
 
--- the name of the attached store stands in the room
+-- The name of the attached store stands in the room.
 pub found_named : (room : List ℕ) (ds : List DoneCall) (store : Option Store) → FindsStore room ds store → IsNamed room store
 found_named room ds None h = tt
 found_named room ds (Some store) h = h.0

@@ -2,7 +2,7 @@
 use Rattle.std.proofs.Common.{ℕ, inl, inr, arith}
 use Rattle.paw_stage.specs.Moments.{Moment, Passes}
 
--- a weaker word for what stands inside a call
+-- A weaker statement of what stands inside a call.
 pub Passes_map : (b n : ℕ) (past since : ℕ → Moment → Type 0) (P Q : Moment → Type 0) → Passes b n past since P →
     ((m : Moment) → P m → Q m) → Passes b n past since Q
 Passes_map b n past since P Q h f = record {
@@ -11,7 +11,7 @@ Passes_map b n past since P Q h f = record {
   keeps = h.keeps;
 }
 
--- two calls, one after the other
+-- Two calls, one after the other.
 pub Passes_on : (b n n' : ℕ) (past since since' : ℕ → Moment → Type 0) (P Q : Moment → Type 0) →
     Passes b n past since P → Passes n n' since since' Q → ((m : Moment) → Q m → P m) → Passes b n' past since' P
 Passes_on b n n' past since since' P Q h k f = record {
@@ -26,6 +26,6 @@ Passes_on b n n' past since since' P Q h k f = record {
   keeps = λ t m low past. k.keeps t m (omega (arith, h.later)) (h.keeps t m low past);
 }
 
--- no time passed
+-- No time passed.
 pub Passes_none : (b : ℕ) (since : ℕ → Moment → Type 0) (P : Moment → Type 0) → Passes b b since since P
 Passes_none b since P = record { later = omega arith; nothing_else = λ t m low now. inl now; keeps = λ t m low past. past }

@@ -17,11 +17,11 @@ length-put at new old =
     let b : length (take at old ++ new) ≡ length (take at old) + length new = length-append (take at old) new in
     omega (arith, a, b, length-take at old, length-drop (at + length new) old)
 
--- a place lies before n places from p on, among them or behind them
+-- A place lies before n places from p on, among them or after them.
 pub where_is : (i p n : ℕ) → (i < p) ⊎ ((p ≤ i) × (i < p + n)) ⊎ (p + n ≤ i)
 where_is i p n = grind arith
 
--- bytes that were laid over others, before, in and behind their places
+-- Bytes that were laid over others: before, in and after their places.
 pub laid_before : (p : ℕ) (bytes : List ℕ) (i old : ℕ) → i < p → laid_over p bytes i old ≡ old
 laid_before p bytes i old h =
     let t : (nat_le p i && nat_lt i (p + length bytes)) ≡ false = grind (arith, nat_tests) in ap (λ b. if b then slice_index bytes (i - p) else old) t
@@ -34,7 +34,7 @@ pub laid_behind : (p : ℕ) (bytes : List ℕ) (i old : ℕ) → p + length byte
 laid_behind p bytes i old h =
     let t : (nat_le p i && nat_lt i (p + length bytes)) ≡ false = grind (arith, nat_tests) in ap (λ b. if b then slice_index bytes (i - p) else old) t
 
--- the old bytes stay behind the new ones
+-- The old bytes after the new ones stay.
 behind : (at n : ℕ) (old : List ℕ) (i : ℕ) → min at (length old) + n ≤ i → get_or old (at + n + (i - (min at (length old) + n))) 0 ≡ get_or old i 0
 behind at n old i high =
     elim (near at (length old)) [
@@ -46,7 +46,7 @@ behind at n old i high =
     near : (a b : ℕ) → (a ≤ b) ⊎ (b ≤ a)
     near a b = grind arith
 
--- new bytes lie over the old ones, or right behind them where the place lies past their end
+-- New bytes lie over the old ones, or right after them where the place lies past their end.
 pub index-put : (at : ℕ) (new old : List ℕ) (i : ℕ) → slice_index (put at new old) i ≡ laid_over (min at (length old)) new i (slice_index old i)
 index-put at new old i =
     let t : length (take at old) ≡ min at (length old) = length-take at old in
@@ -68,7 +68,7 @@ index-put at new old i =
           ∙ sym (laid_behind (min at (length old)) new i (slice_index old i) high)))
     ]
 
--- bytes laid over those that stand from another place on
+-- Bytes laid over those that stand from another place on.
 pub lays : (place at from to : ℕ) (bytes into new : List ℕ) (j : ℕ) → from ≡ min (at - place) (length bytes) →
     to ≡ min (place - at) (length into) → new ≡ put to (take (length into - to) (drop from bytes)) into →
     j < length into → slice_index new j ≡ laid_over place bytes (at + j) (slice_index into j)
@@ -91,7 +91,7 @@ lays place at from to bytes into new j ef et e low =
           laid_behind to part j (slice_index into j) (omega (arith, n)) ∙ sym (laid_behind place bytes (at + j) (slice_index into j) h)
     ]))
 
--- another value laid over n bytes, as far as they go
+-- Another value laid over n bytes, as far as they go.
 pub spoils : (place p n : ℕ) (store new : List ℕ) (j : ℕ) → p ≡ min place (length store) →
     new ≡ put p (replicate (min n (length store - p)) 255) store → j < length store →
     slice_index new j ≡ spoiled_if (nat_le place j && nat_lt j (place + n)) (slice_index store j)

@@ -1,34 +1,34 @@
--- What happened at a stage across a call, or across several one after the other: `old` is the stage before, `new` the
--- stage after, and `g` has what a stage tells.
+-- What happened at a stage across a call, or across several in a row: `old` is the stage before, `new` the stage after,
+-- and `g` has what the stage reports.
 use Rattle.std.specs.Prelude.{◌≡◌, ◌↔◌, ◌⊎◌, ◌≤◌, ℕ, List, [], ◌∷◌, Option, IfSome}
 use Rattle.paw_stage.specs.declared.StageCall.{StageCall}
 use Rattle.paw_stage.specs.Stage.{Standing, Faulted}
 use Rattle.paw_stage.specs.Moments.{Moment, Moments}
 use Rattle.paw_stage.specs.declared.Stage.{Ghosts}
 
--- x is one of these
+-- The value x is one of these.
 abbrev pub IsOneOf : {A : Type 0} → List A → A → Type 0
 IsOneOf [] x = ⊥
 IsOneOf (y ∷ ys) x = (x ≡ y) ⊎ IsOneOf ys x
 
--- The stage tells after the calls exactly where it told before. Where one of them failed it is one of these, and its
--- count of faults rose, and no other.
+-- The stage reports what stands at it (`Tells`) after the calls exactly where it did before. If one of them failed it
+-- is one of these, and its count of faults rose, and no other.
 pub record Serves {S : Type 0} (g : Ghosts S) (calls : List StageCall) (failed : Option StageCall) (old new : S)
     : Type 0 where
   pub tells : g.Tells old ↔ g.Tells new
   pub faulted : Faulted failed (g.faults old) (g.faults new)
   pub among : IfSome failed (IsOneOf calls)
 
--- Where the stage tells what stands at it, this holds of what stood before and what stands after.
+-- Where the stage reports what stands at it, this holds between what stood before and what stands after.
 abbrev pub Across : {S : Type 0} → Ghosts S → S → S → (Standing → Standing → Type 0) → Type 0
 Across g old new Holds = g.Tells old → Holds (g.standing old) (g.standing new)
 
--- The moments of the calls are those before them, and besides only such ones.
+-- The moments of the calls are those before them, and others for which `Inside` holds.
 abbrev pub EachMoment : {S : Type 0} → Ghosts S → S → S → (Moment → Type 0) → Type 0
 EachMoment g old new Inside = Moments g.clock g.since old new Inside
 
--- The moments of the calls: at first only such ones as `Before` tells, and from some time on, once a store is attached,
--- only such ones as `After` tells. Where that time never came there are only the first.
+-- Calls in two parts, of which the second begins once a store is attached: `Before` holds for each moment of the calls,
+-- or it comes since the second part began, and `After` holds for all of those. There may be no second part.
 pub data InTwoParts {S : Type 0} (g : Ghosts S) (old new : S) (Before After : Moment → Type 0) : Type 0 where
   first_alone : EachMoment g old new Before → InTwoParts g old new Before After
   both : (turn : ℕ) → g.clock old ≤ turn → turn ≤ g.clock new → ((m : Moment) → g.since new turn m → After m) →

@@ -2,12 +2,12 @@
 use Rattle.std.specs.Prelude.{◌≡◌, ◌⊎◌, ℕ, ◌+◌, ◌<◌, ◌≤◌, max, List, [], ◌∷◌, ◌++◌, length, take, drop, slice_index}
 use Rattle.std.specs.Prelude.{Bool, false, ◌&&◌, ◌||◌, nat_le, nat_lt}
 
--- The places from one up to, but not with, another.
+-- The places from one number up to another, which isn't included.
 pub record Range : Type 0 where
   pub from : ℕ
   pub to : ℕ
 
--- What a read gives now, the bytes at the last sync, the greatest length since, and the ranges written since.
+-- The bytes that a read gives now, those at the last sync, and the greatest length and the ranges written since then.
 pub record Disk : Type 0 where
   pub bytes : List ℕ
   pub synced : List ℕ
@@ -19,18 +19,18 @@ abbrev pub is_dirty : List Range → ℕ → Bool
 is_dirty [] i = false
 is_dirty (r ∷ ranges) i = (nat_le r.from i && nat_lt i r.to) || is_dirty ranges i
 
--- A crash may leave these bytes: any where it was written since the last sync, and any past the length of that time.
--- All others stay.
+-- The bytes that a crash may leave: any where the disk was written since the last sync, and any past its length at that
+-- sync, up to the greatest since. All others stay.
 pub record MayLeave (d : Disk) (image : List ℕ) : Type 0 where
   pub no_shorter : length d.synced ≤ length image
   pub no_longer : length image ≤ d.longest
   pub clean : (i : ℕ) → i < length d.synced → is_dirty d.dirty i ≡ false → slice_index image i ≡ slice_index d.bytes i
 
--- The bytes, with new ones at a place.
+-- The bytes, with new ones put at a place.
 abbrev pub put : ℕ → List ℕ → List ℕ → List ℕ
 put at new old = take at old ++ new ++ drop (at + length new) old
 
--- The disk once n bytes at a place count as written, and these were.
+-- The disk once a write of n bytes at a place has put these bytes there: all n count as written.
 abbrev pub touched : ℕ → ℕ → List ℕ → Disk → Disk
 touched at n new d = record {
   bytes = put at new d.bytes;
@@ -39,11 +39,11 @@ touched at n new d = record {
   dirty = record { from = at; to = at + n } ∷ d.dirty;
 }
 
--- Inside a write of n bytes, or at its end: nothing was written yet, or so many bytes, which may be any.
+-- Inside a write of n bytes, or at its end: nothing was written yet, or at most n bytes were, which may be any.
 abbrev pub IsInWrite : ℕ → ℕ → Disk → Disk → Type 0
 IsInWrite at n old d = (d ≡ old) ⊎ ((new : List ℕ) × (length new ≤ n) × (d ≡ touched at n new old))
 
--- A disk of these bytes, of which a crash leaves just these.
+-- A disk with these bytes, of which a crash leaves exactly these.
 abbrev pub stable : List ℕ → Disk
 stable bytes = record { bytes = bytes; synced = bytes; longest = length bytes; dirty = [] }
 

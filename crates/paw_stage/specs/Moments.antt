@@ -5,7 +5,7 @@ use Rattle.paw_stage.specs.Stage.{Files, Standing, file_holding, store_holding, 
 use Rattle.paw_stage.specs.declared.Asked.{Asked}
 use Rattle.paw_stage.specs.declared.Asked.TheVariants as asked
 
--- What stands at one moment: all that a crash then leaves, and what was asked and shown by then.
+-- What stands at one moment: all that a crash then leaves, the number of lines asked for, and the text shown by then.
 pub record Moment : Type 0 where
   pub files : Files
   pub asked : ℕ
@@ -13,39 +13,39 @@ pub record Moment : Type 0 where
   pub attached : Option (List ℕ)
   pub disk : Disk
 
--- The moment between calls at which this stands.
+-- The moment at which this stands, between calls.
 abbrev pub moment_of : Standing → Moment
 moment_of s = record { files = s.files; asked = s.asked; shown = s.shown; attached = s.attached; disk = s.disk }
 
--- The time and the moments since a time, before a call and after it. The moments after it are those before and those
--- inside the call, which are moments since each time up to the call.
+-- What a call does to the time, which doesn't fall, and to the moments since each time up to the call: those before it
+-- stay, and only moments inside the call are added, which come since each of these times.
 pub record Passes (before now : ℕ) (past since : ℕ → Moment → Type 0) (Inside : Moment → Type 0) : Type 0 where
   pub later : before ≤ now
   pub nothing_else : (t : ℕ) (m : Moment) → t ≤ before → since t m →
       past t m ⊎ (((u : ℕ) → u ≤ before → since u m) × Inside m)
   pub keeps : (t : ℕ) (m : Moment) → t ≤ before → past t m → since t m
 
--- The moments of a call, or of several, are those before, and besides only such ones. `clock` and `since` tell the time
--- and the moments of what the calls make of `old`.
+-- The moments of a call, or of several, are those before, and others for which `Inside` holds. `clock` and `since` give
+-- the time and the moments of the stage `old`, and of what the calls make of it.
 abbrev pub Moments : {S : Type 0} → (S → ℕ) → (S → ℕ → Moment → Type 0) → S → S → (Moment → Type 0) → Type 0
 Moments clock since old new Inside = Passes (clock old) (clock new) (since old) (since new) Inside
 
--- Inside a call that changes nothing.
+-- A moment inside a call that changes nothing.
 abbrev pub Still : Standing → Moment → Type 0
 Still old m = m ≡ moment_of old
 
--- Inside an ask: one line more is asked only where it takes one.
+-- A moment inside an ask: one more line may count as asked for, but only where the ask takes one.
 abbrev pub InAsk : Standing → Asked → Moment → Type 0
 InAsk old (asked.Line n) m = (m ≡ moment_of old) ⊎ (m ≡ record (moment_of old) { asked = old.asked + 1 })
 InAsk old asked.End m = m ≡ moment_of old
 InAsk old asked.Failed m = m ≡ moment_of old
 
--- Inside a show: a first part of the text was shown.
+-- A moment inside a show: a first part of the text was shown.
 abbrev pub InShow : Standing → List ℕ → Moment → Type 0
 InShow old text m = (n : ℕ) × (m ≡ record (moment_of old) { shown = old.shown ++ take n text })
 
--- Inside a save: the named file may hold any bytes, or be missing. What a crash leaves of the store is open where it is
--- the store's file.
+-- A moment inside a save: the named file may hold any bytes, or be missing. What a crash leaves of the store is open
+-- where this is the store's file.
 pub record InSave (old : Standing) (name : List ℕ) (m : Moment) : Type 0 where
   pub asked : m.asked ≡ old.asked
   pub shown : m.shown ≡ old.shown
@@ -53,15 +53,15 @@ pub record InSave (old : Standing) (name : List ℕ) (m : Moment) : Type 0 where
   pub files : (m.files ≡ old.files) ⊎ ((bytes : Option (List ℕ)) × (m.files ≡ file_holding name bytes old.files))
   pub disk : old.attached ≢ Some name → m.disk ≡ old.disk
 
--- Inside an attach all stands as before it; or a missing file is there already, empty, and all else as before; or all
--- stands as after it.
+-- A moment inside an attach: all stands as before it, or as before it but with a missing file made, which is empty, or
+-- as after it.
 abbrev pub InAttach : Standing → Standing → List ℕ → Moment → Type 0
 InAttach old new name m =
     (m ≡ moment_of old) ⊎ (m ≡ record (moment_of old) { files = made_if_missing name (old.files name) old.files })
     ⊎ (m ≡ moment_of new)
 
--- Inside a write of n bytes: the store's file may hold any bytes, and a crash leaves what it left before, or any bytes
--- in the range.
+-- A moment inside a write of n bytes: the store's file may hold any bytes, and a crash leaves what it left before, or
+-- any bytes in the range.
 pub record InWrite (old : Standing) (at n : ℕ) (m : Moment) : Type 0 where
   pub asked : m.asked ≡ old.asked
   pub shown : m.shown ≡ old.shown
@@ -69,7 +69,7 @@ pub record InWrite (old : Standing) (at n : ℕ) (m : Moment) : Type 0 where
   pub files : (m.files ≡ old.files) ⊎ ((bytes : List ℕ) × (m.files ≡ store_holding old.attached bytes old.files))
   pub disk : IsInWrite at n old.disk m.disk
 
--- Inside a sync: a crash leaves no more than before it.
+-- A moment inside a sync: a crash leaves nothing that it couldn't leave before the sync.
 pub record InSync (old : Standing) (m : Moment) : Type 0 where
   pub asked : m.asked ≡ old.asked
   pub shown : m.shown ≡ old.shown

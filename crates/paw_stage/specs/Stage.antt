@@ -1,4 +1,4 @@
--- What a stage tells, and what its calls do to it.
+-- What a stage reports, and what its calls do to it.
 use Rattle.std.specs.Prelude.{◌≡◌, ◌≢◌, ◌⊎◌, ℕ, ◌+◌, ◌-◌, ◌<◌, ◌≤◌, ◌^◌, List, [], ◌∷◌, ◌++◌, length, take, drop}
 use Rattle.std.specs.Prelude.{Option, Some, None, Result, Ok, Err, if◌then◌else◌}
 use Rattle.std.specs.declared.vec.Vec.{Vec}
@@ -14,7 +14,7 @@ use Rattle.paw_stage.specs.declared.Failed.{Failed}
 use Rattle.paw_stage.specs.declared.Asked.{Asked}
 use Rattle.paw_stage.specs.declared.Asked.TheVariants as asked
 
--- The files by name: the bytes of the file of a name, or nothing where there is no such file.
+-- The files by name: the bytes of the file with a name, or nothing where there is no such file.
 abbrev pub Files : Type 0
 Files = List ℕ → Option (List ℕ)
 
@@ -27,19 +27,19 @@ abbrev pub bytes_or_none : Option (List ℕ) → List ℕ
 bytes_or_none None = []
 bytes_or_none (Some bytes) = bytes
 
--- The files, once the file of this name is there: it was made empty where it was missing.
+-- The files, once the file of this name is there: a missing one is made empty.
 abbrev pub made_if_missing : List ℕ → Option (List ℕ) → Files → Files
 made_if_missing name None files = file_holding name (Some []) files
 made_if_missing name (Some bytes) files = files
 
--- The files, once the attached store holds these bytes: they are those of its file.
+-- The files, once the attached store, if there is one, holds these bytes: they are those of its file.
 abbrev pub store_holding : Option (List ℕ) → List ℕ → Files → Files
 store_holding None bytes files = files
 store_holding (Some name) bytes files = file_holding name (Some bytes) files
 
--- What stands at a stage: the files, the lines that are left (the next one first), the number of lines that were
--- taken, the whole text shown, the name of the attached store, its bytes with what a crash may leave of them, and the
--- number of bytes written to stores.
+-- What stands at a stage: the files, the lines that are left (the next one first), the number of lines taken, all text
+-- shown, the name of the attached store, its bytes with what a crash may leave of them, and the number of bytes written
+-- to stores.
 pub record Standing : Type 0 where
   pub files : Files
   pub lines : List (List ℕ)
@@ -53,40 +53,40 @@ pub record Standing : Type 0 where
 abbrev pub file_bytes : Standing → List ℕ → List ℕ
 file_bytes s name = bytes_or_none (s.files name)
 
--- A count of faults rose in a call. At its last value it stays, and counts as having risen.
+-- A count of faults rose in a call. At its greatest value it stays, and counts as having risen.
 abbrev pub Rose : ℕ → ℕ → Type 0
 Rose old new = (old < new) ⊎ ((old ≡ 2 ^ 64 - 1) × (new ≡ 2 ^ 64 - 1))
 
--- What a call did to the counts, or several calls one after the other, by which one of them failed: its count rose, and
--- no other changed. Where none failed, none changed.
+-- What one call, or several in a row, did to the counts of faults: the count of the call that failed rose, and no other
+-- changed. Where none failed, none changed.
 abbrev pub Faulted : Option StageCall → (StageCall → ℕ) → (StageCall → ℕ) → Type 0
 Faulted None old new = (c : StageCall) → new c ≡ old c
 Faulted (Some failed) old new = Rose (old failed) (new failed) × ((c : StageCall) → c ≢ failed → new c ≡ old c)
 
--- Whether a call failed, by its answer.
+-- The call that failed, if it did, by its answer.
 abbrev pub failed_in : {A : Type 0} → StageCall → Result A Failed → Option StageCall
 failed_in call (Ok answer) = None
 failed_in call (Err e) = Some call
 
--- Whether a load failed, by its answer, and as which of its two calls that counts. Want of memory is no fault of it.
+-- The call that failed in a load, if any, by its answer; a missing file counts apart. Lack of memory is no fault.
 abbrev pub failed_load : {A : Type 0} → Result A LoadRefusal → Option StageCall
 failed_load (Ok bytes) = None
 failed_load (Err refusal.Absent) = Some call.LoadAbsent
 failed_load (Err refusal.Failed) = Some call.Load
 failed_load (Err refusal.Memory) = None
 
--- Whether an ask failed, by its answer.
+-- The call that failed in an ask, if any, by its answer.
 abbrev pub failed_ask : Asked → Option StageCall
 failed_ask (asked.Line n) = None
 failed_ask asked.End = None
 failed_ask asked.Failed = Some call.Ask
 
--- The first n bytes are a line's, at most 255 of them.
+-- The first n bytes are a line, cut to at most 255 bytes.
 pub record IsCut (line bytes : List ℕ) (n : ℕ) : Type 0 where
   pub short : n ≤ LINE_LIMIT
   pub same : take n bytes ≡ take LINE_LIMIT line
 
--- What an ask does. It takes the next line, or finds no line left, or failed; only the first changes anything.
+-- What an ask does: it takes the next line, finds no line left, or fails. Only the first changes anything.
 abbrev pub AsksTo : Standing → Standing → Asked → List ℕ → Type 0
 AsksTo old new (asked.Line n) into =
     (line : List ℕ) × (old.lines ≡ line ∷ new.lines) × IsCut line into n
@@ -94,15 +94,15 @@ AsksTo old new (asked.Line n) into =
 AsksTo old new asked.End into = (old.lines ≡ []) × (new ≡ old)
 AsksTo old new asked.Failed into = new ≡ old
 
--- What a load answers. Of the file of this name it gives the bytes, or the first `most + 1` of them where it has more.
--- Memory is never wanting for a file that is missing.
+-- What a load answers: the bytes of the file of this name, or the first `most + 1` of them where it has more. Memory is
+-- never lacking for a file that is missing.
 abbrev pub LoadsTo : Standing → List ℕ → ℕ → Result (Vec ℕ Global) LoadRefusal → Type 0
 LoadsTo s name most (Ok given) = (bytes : List ℕ) × (s.files name ≡ Some bytes) × (given.items ≡ take (most + 1) bytes)
 LoadsTo s name most (Err refusal.Absent) = s.files name ≡ None
 LoadsTo s name most (Err refusal.Failed) = Unit {0}
 LoadsTo s name most (Err refusal.Memory) = s.files name ≢ None
 
--- What a save does: the file of this name now holds these bytes, or is gone where there are none. Where it is that of
+-- What a save does: the file of this name now holds these bytes, or is gone where there are none. If it is the file of
 -- the attached store, the store has these bytes, and what a crash may leave of it is open.
 pub record Saves (old new : Standing) (name : List ℕ) (bytes : Option (List ℕ)) : Type 0 where
   pub disk : Disk
@@ -110,13 +110,13 @@ pub record Saves (old new : Standing) (name : List ℕ) (bytes : Option (List �
   pub store : old.attached ≡ Some name → disk.bytes ≡ bytes_or_none bytes
   pub stands : new ≡ record old { files = file_holding name bytes old.files; disk = disk }
 
--- What a save leaves. Where it failed nothing changed, or the file holds any bytes, or is gone.
+-- What a save leaves. Where it failed, nothing changed, or the file holds any bytes, or it is gone.
 abbrev pub SavesTo : {A : Type 0} → Standing → Standing → List ℕ → List ℕ → Result A Failed → Type 0
 SavesTo old new name bytes (Ok done) = Saves old new name (Some bytes)
 SavesTo old new name bytes (Err e) = (new ≡ old) ⊎ ((left : Option (List ℕ)) × Saves old new name left)
 
--- What stands once the file of this name is the attached store. It was made empty where it was missing; its bytes are
--- stable.
+-- What stands once the file of this name is the attached store. A missing file is made empty; the bytes of the store
+-- are stable.
 abbrev pub opened : List ℕ → Standing → Standing
 opened name s = record s {
   files = made_if_missing name (s.files name) s.files;
@@ -128,12 +128,12 @@ opened name s = record s {
 abbrev pub Unattached : Standing → Standing → Type 0
 Unattached old new = (new ≡ old) ⊎ (new ≡ record old { attached = None; disk = stable [] })
 
--- What an attach does. It answers the length of the store.
+-- What an attach does: it answers the length of the store, or leaves what a failed one may leave.
 abbrev pub AttachesTo : Standing → Standing → List ℕ → Result ℕ Failed → Type 0
 AttachesTo old new name (Ok n) = (n ≡ length (file_bytes old name)) × (new ≡ opened name old)
 AttachesTo old new name (Err e) = Unattached old new
 
--- What stands once the store's bytes are those of this disk, and n bytes more were written.
+-- What stands once the store's bytes are those of this disk, and n more bytes were written.
 abbrev pub wrote : Standing → Disk → ℕ → Standing
 wrote old d n = record old { files = store_holding old.attached d.bytes old.files; disk = d; written = old.written + n }
 
@@ -162,21 +162,21 @@ abbrev pub WritesTo : {A : Type 0} → Standing → Standing → ℕ → List �
 WritesTo old new at bytes (Ok done) = new ≡ with_written at bytes old
 WritesTo old new at bytes (Err e) = WritesSome old new at bytes
 
--- So many bytes of the store, from a place on.
+-- At most n bytes of the store, from a place on.
 abbrev pub part_of : Standing → ℕ → ℕ → List ℕ
 part_of s at n = take n (drop at s.disk.bytes)
 
--- What a read gives. Where it failed the bytes may be any.
+-- What a read gives. Where it failed, the bytes may be any.
 abbrev pub ReadsTo : {A : Type 0} → Standing → ℕ → ℕ → List ℕ → Result A Failed → Type 0
 ReadsTo s at n given (Ok done) = given ≡ part_of s at n
 ReadsTo s at n given (Err e) = Unit {0}
 
--- What a sync leaves. Where it failed nothing changed.
+-- What a sync leaves. Where it failed, nothing changed.
 abbrev pub SyncsTo : {A : Type 0} → Standing → Standing → Result A Failed → Type 0
 SyncsTo old new (Ok done) = new ≡ settled old
 SyncsTo old new (Err e) = new ≡ old
 
--- What stands once this text is shown behind the text that was.
+-- What stands once this text is shown after the text before it.
 abbrev pub with_shown : List ℕ → Standing → Standing
 with_shown text s = record s { shown = s.shown ++ text }
 

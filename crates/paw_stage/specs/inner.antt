@@ -1,4 +1,4 @@
--- Words of contracts between crates, and of proofs. What a reader must believe doesn't reach them.
+-- Definitions for contracts between crates, and for proofs. Nothing that a reader must believe rests on them.
 pub mod Stage
 pub mod Across
 pub mod Faults

@@ -12,7 +12,7 @@ use std::io::{self, ErrorKind, Read, Seek, SeekFrom, Write};
 use std::path::Path;
 use std::rt::Files;
 
-// What Linux tells of the limits of a program, and room for the first lines of that.
+// Where Linux lists the limits of a program, and room for the first lines of that.
 const LIMITS: &str = "/proc/self/limits";
 
 const LIMITS_ROOM: usize = 1024;
@@ -32,11 +32,11 @@ pub fn read_file<R: Files>(
 }
 
 /// Makes a file hold these bytes, and syncs it and its folder before it is closed, so that a fault of the disk that
-/// comes late fails too. Where there is no room for them a file that was there is left whole. No other file is made.
+/// comes late fails too. Where there is no room for them a file that was there stays whole. No other file is made.
 /// After any other fault the file may hold some of them.
 ///
-/// A file of more than `longest` bytes isn't written. What is no plain file, as a pipe or a device, takes the bytes as
-/// they come.
+/// A file of more than `longest` bytes isn't written. Anything that isn't a plain file, such as a pipe or a device,
+/// takes the bytes as they come.
 pub fn write_file<R: Files + Alloc>(
     rt: &R,
     name: &str,
@@ -60,9 +60,9 @@ pub fn write_file<R: Files + Alloc>(
 
 // Makes a plain file of this length hold these bytes.
 //
-// The part of them that lies behind the file's end is written first, and synced, since some file systems take the room
-// only then. So no byte is replaced before there is room for all; where there is none the file gets its length back. A
-// file system that takes new room for bytes that are written over may still be full then.
+// The part of them past the file's end is written first, and synced, since some file systems take the room only then.
+// So no byte is replaced before there is room for all; where there is none the file gets its length back. A file system
+// that takes new room for bytes that are written over may still be full then.
 fn replace<F: OpenFile + Write + Seek>(
     file: &mut F,
     length: u64,
@@ -78,7 +78,7 @@ fn replace<F: OpenFile + Write + Seek>(
     file.sync_all().map_err(|_| Failed)
 }
 
-// Writes bytes behind the end of a file of this length, and syncs them.
+// Writes bytes after the end of a file of this length, and syncs them.
 fn append<F: OpenFile + Write + Seek>(
     file: &mut F,
     length: u64,
@@ -108,7 +108,7 @@ fn sync_open<R: Files>(rt: &R, folder: Path<'_>) -> io::Result<()> {
     }
 }
 
-/// Whether an error says that the file system doesn't have the call, and not that the call failed.
+/// Whether an error says that the file system doesn't have the call, rather than that the call failed.
 pub fn has_no_such_call(error: &io::Error) -> bool {
     matches!(
         error.kind(),
@@ -126,7 +126,7 @@ fn folder_of(name: &str) -> Path<'_>
     }
 }
 
-/// Reads as many bytes as `into` has from a place on. It fails where the file ends before.
+/// Reads as many bytes as `into` has, from a place on. It fails where the file ends before that.
 pub fn read_part<F: Read + Seek>(file: &mut F, at: u64, into: &mut [u8]) -> Result<(), Failed>
     ensures read { OnOk result (GivesAt F.stream_position F.remaining file.old file.new at into.new) }
 {
@@ -134,7 +134,7 @@ pub fn read_part<F: Read + Seek>(file: &mut F, at: u64, into: &mut [u8]) -> Resu
     file.read_exact(into).map_err(|_| Failed)
 }
 
-/// Writes bytes from a place on. What lies between the end of the file and a place behind it becomes zeros.
+/// Writes bytes from a place on. What lies between the end of the file and a place past it becomes zeros.
 pub fn write_part<F: Write + Seek>(file: &mut F, at: u64, bytes: &[u8]) -> Result<(), Failed>
     ensures written { OnOk result (TakesAt F.stream_position F.contents file.old file.new at bytes.now) }
 {
@@ -142,9 +142,9 @@ pub fn write_part<F: Write + Seek>(file: &mut F, at: u64, bytes: &[u8]) -> Resul
     write_whole(file, bytes)
 }
 
-/// The greatest size that the system lets a file of this program have, in bytes (`ulimit -f` of a shell): a write past it
-/// would end the program by a signal, and nothing could be answered. Where there is no limit, or the system doesn't tell
-/// it, that is the greatest number.
+/// The greatest size that the system lets a file of this program have, in bytes (`ulimit -f` of a shell): a write past
+/// it would end the program by a signal, and nothing could be answered. Where there is no limit, or the system doesn't
+/// give it, that is the greatest number.
 pub fn longest_file<R: Files>(rt: &R) -> u64 {
     let mut told = [0; LIMITS_ROOM];
     match fs::open(rt, LIMITS).and_then(|mut file| file.read(&mut told)) {
@@ -153,7 +153,7 @@ pub fn longest_file<R: Files>(rt: &R) -> u64 {
     }
 }
 
-// The limit on a file's size, in a list of limits as Linux tells them: a line for each, with its name and two numbers,
+// The limit on a file's size, in a list of limits as Linux writes them: a line for each, with its name and two numbers,
 // of which the first holds.
 fn file_size_in(limits: &[u8]) -> Option<u64> {
     let limits = str::from_utf8(limits).ok()?;

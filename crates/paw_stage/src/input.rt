@@ -77,7 +77,7 @@ impl<R: Read + Drop> LineReader<R> {
     }
 
     // Takes the next line, keeps its first 255 bytes, and gives its length, or nothing where no byte is left. Of a line
-    // that is too long it may take a part alone, and gives any length that is too great.
+    // that is too long it may take only a part, and gives any length that is too great.
     fn gather(&mut self, into: &mut [u8; LINE_LIMIT]) -> Result<Option<u32>, Failed>
         ensures line { GathersOf R.remaining self.old self.new result into.new }
         ensures rest { self.new.broken ≡ self.old.broken }

@@ -26,8 +26,8 @@ pub use refusing::{Refusals, RefusingStage};
 use std::alloc::Global;
 pub use stopping::{StopStage, Stopping};
 
-/// The calls of a stage, by which faults are counted. A load has two: `LoadAbsent` counts the loads that found no
-/// file, and `Load` those that failed otherwise.
+/// The calls of a stage; faults are counted for each of them. A load has two: `LoadAbsent` counts the loads that found
+/// no file, and `Load` those that failed otherwise.
 #[derive(Clone, Copy, Drop, PartialEq, Eq, Debug)]
 pub enum StageCall {
     Load,
@@ -41,7 +41,7 @@ pub enum StageCall {
     Show,
 }
 
-/// Why a load gives no bytes: there is no such file, the call failed, or memory was wanting.
+/// Why a load gives no bytes: there is no such file, the call failed, or memory was lacking.
 #[derive(Clone, Copy, Drop, PartialEq, Eq, Debug)]
 pub enum LoadRefusal {
     Absent,
@@ -64,9 +64,9 @@ pub enum Asked {
 /// The outside: files by name, one of which may be attached as a store, the lines of a player and the text shown to
 /// them.
 ///
-/// A stage that *tells* says what stands at it, and what stood at each moment, inside its calls too; every stage tells
-/// how often each call has failed. A call that fails raises its own count and no other, and one that doesn't fail
-/// raises none. What a clause doesn't name stays as it was before the call.
+/// A stage may report what stands at it, and what stood at each moment, inside its calls too (`Tells`); every stage
+/// reports how often each call has failed. A call that fails raises its own count and no other, and one that doesn't
+/// fail raises none. What a clause doesn't name stays as it was before the call.
 ///
 /// A store is a file. What a crash leaves of it follows the disk of `specs/Disk.antt`: any bytes wherever it was
 /// written since the last sync, and all others as they were.
@@ -80,12 +80,12 @@ pub trait Stage {
     ghost use Rattle.paw_stage.specs.Moments.{Moment, Moments, moment_of, Still};
     ghost use Rattle.paw_stage.specs.Moments.{InAsk, InShow, InSave, InAttach, InWrite, InSync};
 
-    /// Whether the stage tells what stands at it. The clauses on what stands hold only of a stage that does; one
-    /// over a real system tells nothing but its counts. No call changes whether a stage tells.
+    /// Whether the stage reports what stands at it. The clauses on what stands hold only of a stage that does; one over
+    /// a real system reports nothing but its counts. No call changes whether a stage reports.
     ghost Tells: { Self → Type 0 };
 
     /// What stands now: the files by name, the lines that are left, the number of lines taken, the text shown, the
-    /// attached store and what a crash may leave of it. It means something only of a stage that tells.
+    /// attached store and what a crash may leave of it. It has a meaning only for a stage that reports it.
     ghost standing: { Self → Standing };
 
     /// How often each call has failed so far. A count never falls, and 2^64 - 1 is its last value.
@@ -100,8 +100,8 @@ pub trait Stage {
     /// Gives the whole file of a name, or its first `most + 1` bytes where it is longer, so that a caller sees that
     /// it is too long.
     ///
-    /// The answer is Absent exactly where there is no such file and the call didn't fail, and Memory only for want of
-    /// memory. Absent counts as a fault of `LoadAbsent`, and Failed as one of `Load`.
+    /// The answer is Absent exactly where there is no such file and the call didn't fail, and Memory only where there
+    /// is no memory. Absent counts as a fault of `LoadAbsent`, and Failed as one of `Load`.
     fn load(&mut self, alloc: Global, name: &str, most: usize) -> Result<Vec<u8>, LoadRefusal>
         ensures tells { Tells self.old ↔ Tells self.new }
         ensures faulted { Faulted (failed_load result) (faults self.old) (faults self.new) }
@@ -116,8 +116,8 @@ pub trait Stage {
         ensures answer { Tells self.old → SavesTo (standing self.old) (standing self.new) name.now bytes.now result }
         ensures time { Tells self.old → Moments clock since self.old self.new (InSave (standing self.old) name.now) };
 
-    /// Makes the file of a name the attached store, and answers its length in bytes. A missing file is made empty. It
-    /// is asked for only while all that was written to the store before is synced.
+    /// Makes the file of a name the attached store, and answers its length in bytes. A missing file is made empty. The
+    /// call is made only while all that was written to the store before is synced.
     ///
     /// After Failed the store attached before is still attached, or none is.
     fn attach(&mut self, name: &str) -> Result<u64, Failed>
@@ -129,7 +129,7 @@ pub trait Stage {
             Moments clock since self.old self.new (InAttach (standing self.old) (standing self.new) name.now) };
 
     /// Reads bytes of the attached store, as many as `into` has, from a place on. All of them lie in the store. After
-    /// Failed the bytes of `into` may be any.
+    /// Failed, `into` may hold any bytes.
     fn read_at(&mut self, at: u64, into: &mut [u8]) -> Result<(), Failed>
         requires attached { Tells self.old → IsSome (standing self.old).attached }
         requires within { Tells self.old → at + length into.old ≤ length (standing self.old).disk.bytes }
@@ -139,8 +139,8 @@ pub trait Stage {
         ensures answer { Tells self.old → ReadsTo (standing self.old) at (length into.old) into.new result }
         ensures time { Tells self.old → Moments clock since self.old self.new (Still (standing self.old)) };
 
-    /// Writes bytes to the attached store from a place on, which lies in the store or right behind it. After Failed any
-    /// part of the range may hold any bytes, and as many bytes as were handed in, or fewer, count as written.
+    /// Writes bytes to the attached store from a place on, which lies in the store or right at its end. After Failed
+    /// any part of the range may hold any bytes, and as many bytes as were handed in, or fewer, count as written.
     fn write_at(&mut self, at: u64, bytes: &[u8]) -> Result<(), Failed>
         requires attached { Tells self.old → IsSome (standing self.old).attached }
         requires within { Tells self.old → at ≤ length (standing self.old).disk.bytes }
@@ -150,7 +150,7 @@ pub trait Stage {
         ensures time { Tells self.old →
             Moments clock since self.old self.new (InWrite (standing self.old) at (length bytes.now)) };
 
-    /// Makes what was written to the attached store last: a crash leaves just what a read gives.
+    /// Makes all that was written to the attached store last: a crash then leaves exactly what a read gives.
     fn sync(&mut self) -> Result<(), Failed>
         ensures tells { Tells self.old ↔ Tells self.new }
         ensures faulted { Faulted (failed_in call.Sync result) (faults self.old) (faults self.new) }
@@ -167,14 +167,14 @@ pub trait Stage {
         ensures answer { Tells self.old → AsksTo (standing self.old) (standing self.new) result into.new }
         ensures time { Tells self.old → Moments clock since self.old self.new (InAsk (standing self.old) result) };
 
-    /// Shows a text after the text shown before. After Failed some first part of the text was shown, maybe nothing.
+    /// Shows a text after the text shown before. After Failed a first part of the text was shown, maybe nothing.
     fn show(&mut self, text: &[u8]) -> Result<(), Failed>
         ensures tells { Tells self.old ↔ Tells self.new }
         ensures faulted { Faulted (failed_in call.Show result) (faults self.old) (faults self.new) }
         ensures answer { Tells self.old → ShowsTo (standing self.old) (standing self.new) text.now result }
         ensures time { Tells self.old → Moments clock since self.old self.new (InShow (standing self.old) text.now) };
 
-    /// Since now there is no moment but this.
+    /// Since now there is no moment but this one.
     ghost only_now: { (s : Self) (m : Moment) → Tells s → since s (clock s) m → m ≡ moment_of (standing s) };
 
     /// This moment is one of those since any earlier time.

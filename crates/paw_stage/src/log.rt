@@ -68,7 +68,7 @@ impl Model for Log {
 }
 
 impl Log {
-    /// No calls yet, and room for so many calls and bytes.
+    /// No calls yet, and room for these numbers of calls and bytes.
     pub fn new(alloc: Global, calls: usize, bytes: usize) -> Result<Log, NoRoom>
         ensures { IfOk result (λ l. l ≡ record { calls = []; calls_left = calls; bytes_left = bytes }) }
     {
@@ -119,7 +119,7 @@ impl Log {
         call_at(self.calls.as_slice(), self.room.as_slice(), number)
     }
 
-    /// How many calls of the stage these are: a file that was put there beside them is none.
+    /// How many calls of the stage these are; a file that was put there between them isn't counted.
     pub fn calls_made(&self) -> usize
         ensures { result ≡ calls_made self.now.calls }
     {
@@ -148,7 +148,7 @@ impl Log {
         file_len(self.calls.as_slice(), self.room.as_slice(), name)
     }
 
-    /// The first bytes of a file, so many that it has them.
+    /// The first n bytes of a file, which has at least that number.
     pub fn first_bytes(&self, alloc: Global, name: &[u8], n: usize) -> Result<Vec<u8>, NoRoom>
         requires { n ≤ length (bytes_or_none ((after fresh self.now.calls).files name.now)) }
         ensures { IfOk result (λ v. v.items ≡ take n (bytes_or_none ((after fresh self.now.calls).files name.now))) }
@@ -203,7 +203,7 @@ impl Log {
     }
 }
 
-// Makes room for so many elements more than the spare ones.
+// Makes room for `more` elements besides the spare ones.
 fn reserve_beside<T>(v: &mut Vec<T>, spare: usize, more: usize) -> Result<(), NoRoom>
     ensures items { v.new.items ≡ v.old.items }
     ensures len { vec_len v.new ≡ vec_len v.old }

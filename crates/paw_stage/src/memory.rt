@@ -38,12 +38,12 @@ mod tests;
 // A line that is left.
 type Line = Rows<u8>;
 
-/// A stage in memory, which tells everything.
+/// A stage in memory, which reports everything.
 ///
 /// It keeps a record of its calls, and what stands at it is what that record, played again, makes of nothing. Its
-/// memory is taken in `new`, `add_file` and `add_line`, so of a stage's calls only `load` can want memory, for what it
+/// memory is taken in `new`, `add_file` and `add_line`, so of a stage's calls only `load` can lack memory, for what it
 /// gives. Each of them takes one of the spare calls, and the length of the name, the bytes and the text handed to it
-/// from the spare bytes. Exactly where either is too small the call is Failed, and then its own count alone changes.
+/// from the spare bytes. Exactly where either is too small the call is Failed, and then only its own count changes.
 #[derive(Drop)]
 pub struct MemoryStage {
     lines: VecDeque<Line>,
@@ -60,7 +60,7 @@ impl Model for MemoryStage {
 }
 
 impl MemoryStage {
-    /// A stage with no files, no lines and no text, with spare room for so many calls and bytes.
+    /// A stage with no files, no lines and no text, with spare room for these numbers of calls and bytes.
     pub fn new(alloc: Global, calls: u64, bytes: u64) -> Result<MemoryStage, NoRoom>
         ensures { IfOk result (λ s. s ≡ empty calls bytes) }
     {
@@ -122,8 +122,8 @@ impl MemoryStage {
         self.log.crash(alloc, pick)
     }
 
-    /// The number of stage calls that were made: those that took one of the spare calls. A call that was Failed is none
-    /// of them, and a load that was Absent is one.
+    /// The number of stage calls that were made: those that took one of the spare calls. A call that was Failed isn't
+    /// counted, and a load that was Absent is.
     pub fn calls(&self) -> u64
         ensures { result ≡ calls_made self.now.log.calls }
     {
@@ -131,7 +131,7 @@ impl MemoryStage {
     }
 
     /// The attached store as a crash right after the stage call of this number may leave it, by a pick as in `crash`.
-    /// The calls that `calls` tells are counted, from 0. None exactly where fewer were made, or where no store was
+    /// The calls counted by `calls` are numbered from 0. None exactly where fewer were made, or where no store was
     /// attached by then.
     pub fn crash_after(&self, alloc: Global, call: u64, pick: u8) -> Result<Option<Vec<u8>>, NoRoom>
         ensures made { IfOk result (λ left. IfSome left (λ v.
@@ -161,7 +161,7 @@ impl Stage for MemoryStage {
         ensures answer { LoadsTo (standing_of self.old) name.now most result }
         ensures time { Throughout self.old self.new Still }
 
-        // It fails exactly for want of room, and leaves no trace then but its count.
+        // It fails exactly where there is no room, and then leaves no trace but its count.
         ensures exact { (result ≡ Err refusal.Failed) ↔ IsFalse (can_note (loaded_file name.now) self.old) }
         ensures failed { result ≡ Err refusal.Failed → self.new ≡ failed call.Load self.old }
         ensures noted { OnOk result (self.new ≡ recorded (loaded_file name.now) self.old) }
@@ -258,7 +258,7 @@ impl Stage for MemoryStage {
         ensures answer { AsksTo (standing_of self.old) (standing_of self.new) result into.new }
         ensures time { Throughout self.old self.new (λ s. InAsk s result) }
 
-        // It fails exactly for want of room, and leaves no trace then but its count.
+        // It fails exactly where there is no room, and then leaves no trace but its count.
         ensures exact { (result ≡ asked.Failed) ↔ IsFalse (can_note took self.old) }
         ensures failed { result ≡ asked.Failed → self.new ≡ failed call.Ask self.old }
         ensures noted { (n : ℕ) → result ≡ asked.Line n → self.new ≡ line_taken self.old }

@@ -22,17 +22,17 @@ mod opening;
 #[cfg(test)]
 mod tests;
 
-/// Real files, standard input and standard output, which tell nothing but how often each call has failed.
+/// Real files, standard input and standard output, which report nothing but how often each call has failed.
 ///
 /// Standard input is read ahead through a buffer, so nothing else may read it. A line ends with LF or CR LF. One of
 /// more than 1,048,576 bytes, its end not counted, fails, and so does a fault of the system; once an ask has failed
 /// each later one fails, so that no rest of a line is taken for a line.
 ///
 /// The attached store is a file that is kept open. Its descriptor is none of those of the standard streams, though one
-/// of them was closed when the program started, and it is no file that a standard stream is too. While it is open it is
-/// locked, where its file system has locks, and an attach fails where another open of the file holds the lock: so one
-/// program at a time has it. An attach syncs the file and its folder, so that what it answers is there after a crash
-/// too; the store held before is let go first, so that the same file can be attached again.
+/// of them was closed when the program started, and it isn't a file that a standard stream is too. While it is open it
+/// is locked, where its file system has locks, and an attach fails where another open of the file holds the lock: so
+/// one program at a time has it. An attach syncs the file and its folder, so that what it answers is there after a
+/// crash too; the store held before is let go first, so that the same file can be attached again.
 ///
 /// No write and no save reaches past the greatest size that the system lets a file have: it fails.
 ///

@@ -56,7 +56,7 @@ pub fn file_len(calls: &[Call], room: &[u8], name: &[u8]) -> Option<usize>
     if seen.here { Some(seen.len) } else { None }
 }
 
-/// The first bytes of a file, so many that it has them.
+/// The first n bytes of a file, which has at least that number.
 pub fn first_bytes(
     calls: &[Call],
     room: &[u8],
@@ -110,7 +110,7 @@ pub fn crash(calls: &[Call], room: &[u8], alloc: Global, pick: u8) -> Result<Vec
     }
 }
 
-/// How many calls of the stage these are: a file that was put there beside them is none.
+/// How many calls of the stage these are; a file that was put there between them isn't counted.
 pub fn calls_made(calls: &[Call]) -> usize
     ensures { (room : List ℕ) → result ≡ calls_made (all_done room calls.now) }
 {
@@ -254,7 +254,7 @@ fn spoil_after(call: Call, room: &[u8], store: &mut [u8])
     }
 }
 
-// Gives another value to so many bytes of a store from a place on, as far as it goes.
+// Gives another value to n bytes of a store from a place on, as far as it goes.
 fn spoil_range(place: usize, n: usize, store: &mut [u8])
     requires { place ≤ length store.old }
     ensures { store.new ≡ put place (replicate (min n (length store.old - place)) SPOILED) store.old }
@@ -357,7 +357,7 @@ fn seen_opened(named: bool, seen: Seen) -> Seen
     }
 }
 
-// What is seen of the attached store once bytes were written to it, or behind it where the place lies past its end.
+// What is seen of the attached store once bytes were written to it, or after its end where the place lies past it.
 fn seen_written(place: u64, bytes: &[u8], at: usize, into: &mut [u8], seen: Seen) -> Seen
     requires { seen.len + length bytes.now < 2 ^ 64 }
     ensures seen { result ≡ record seen { len = max seen.len (min place seen.len + length bytes.now) } }
@@ -411,7 +411,7 @@ fn find_store(calls: &[Call], room: &[u8]) -> Option<Store>
     store
 }
 
-// The attached store after one call more, with which so many are done.
+// The attached store after one more call, with which `done` calls are done.
 #[tactic(auto, using(crate::proofs::Stores::quiet_call_finds))]
 fn store_after(call: Call, room: &[u8], done: usize, store: Option<Store>) -> Option<Store>
     requires order { (call.from ≤ call.mid) × (call.mid ≤ call.to) × (call.to ≤ length room.now) }
@@ -435,7 +435,7 @@ fn store_after(call: Call, room: &[u8], done: usize, store: Option<Store>) -> Op
     }
 }
 
-// The attached store once so many calls are done, and its bytes are synced.
+// The attached store once `done` calls are done, and its bytes are synced.
 fn store_synced(done: usize, store: Option<Store>) -> Option<Store>
     ensures none { store ≡ None → result ≡ None }
     ensures some { (s : Store) → store ≡ Some s → result ≡ Some (record { opened = s.opened; synced = done }) }
@@ -449,7 +449,7 @@ fn store_synced(done: usize, store: Option<Store>) -> Option<Store>
     }
 }
 
-// The attached store once so many calls are done, the last of which gave a file new bytes.
+// The attached store once `done` calls are done, the last of which gave a file new bytes.
 fn store_filed(call: Call, room: &[u8], done: usize, store: Option<Store>) -> Option<Store>
     requires order { (call.from ≤ call.mid) × (call.mid ≤ call.to) × (call.to ≤ length room.now) }
     requires named { IsNamed room.now store }

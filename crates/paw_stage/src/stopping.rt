@@ -1,4 +1,4 @@
-// A stage in memory that stops after so many calls.
+// A stage in memory that stops after a number of calls.
 
 ghost use Rattle.std.specs.Prelude.{◌≡◌, ◌-◌, ◌==◌};
 ghost use Rattle.paw_stage.specs.inner.Faults.{no_faults};
@@ -6,10 +6,10 @@ ghost use Rattle.paw_stage.specs.inner.Faults.{no_faults};
 use crate::MemoryStage;
 use crate::refusing::{Refusals, RefusingStage};
 
-/// A stage in memory that passes so many calls and then fails every one.
+/// A stage in memory that passes on a number of calls and then fails every one.
 pub type StopStage = RefusingStage<Stopping>;
 
-/// The rule that all calls fail once so many have passed.
+/// The rule that all calls fail once a number of them have passed.
 #[derive(Drop)]
 pub struct Stopping {
     passes: u64,
@@ -28,7 +28,7 @@ impl Refusals for Stopping {
 }
 
 impl RefusingStage<Stopping> {
-    /// A stage over this one, which passes so many calls and then fails every one.
+    /// A stage over this one, which passes on `passes` calls and then fails every one.
     pub fn new(inner: MemoryStage, passes: u64) -> StopStage
         ensures { result ≡ record { inner = inner; rule = record { passes = passes }; counts = no_faults } }
     {

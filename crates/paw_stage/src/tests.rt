@@ -136,7 +136,7 @@ fn the_listed_calls_fail(rt: HostRuntime) -> Result<(), Fail> {
     Ok(())
 }
 
-// The file is named through the folder that it lies in, and a path through the file itself is no missing name.
+// The file is named through its folder, and a path through the file itself isn't a missing name.
 #[test]
 fn real_files_are_loaded_and_saved(rt: HostRuntime) -> Result<(), Fail> {
     let mut stage = RealStage::new(&rt);
@@ -162,7 +162,7 @@ fn real_files_are_loaded_and_saved(rt: HostRuntime) -> Result<(), Fail> {
     Ok(())
 }
 
-// So many letters and then a text.
+// This number of letters and then a text.
 fn line_of(alloc: Global, length: usize, end: &str) -> Result<Vec<u8>, AllocError> {
     let mut bytes = vec![in alloc; b'x'; length]?;
     bytes.extend_from_slice(end.as_bytes())?;

@@ -10,7 +10,7 @@ use Rattle.std.proofs.lemmas.Nat.{pow-add}
 use Rattle.std.proofs.Math.Nat.{div-div-eq-div-mul, div-le_self}
 use Rattle.paw_world.specs.inner.ObjectSet.{member, Inserts, Removes, IsLeastFrom, found, IsLowestFrom, lowest, no_bit}
 
--- a word of a set is written: the members of other words stay
+-- A word of a set is written: the members of other words stay.
 member-set_other : (words : List ℕ) (i v k : ℕ) → k / 64 ≢ i → member (set words i v) k ≡ member words k
 member-set_other words i v k other = ap (λ (n : ℕ). bit_at n (k % 64)) (get_or-set_other words i (k / 64) v 0 other)
 
@@ -61,7 +61,7 @@ bit_at-shr : (n j i : ℕ) → bit_at (n / 2 ^ j) i ≡ bit_at n (j + i)
 bit_at-shr n j i =
     ap (λ (m : ℕ). m % 2) (div-div-eq-div-mul n (2 ^ j) (2 ^ i) ∙ ap (λ (m : ℕ). n / m) (sym (pow-add 2 j i)))
 
--- a number of word w is in the set exactly where the word has its bit
+-- A number of word w is in the set exactly where the word has its bit.
 member_at : (words : List ℕ) (w k : ℕ) → 64 * w ≤ k → k < 64 * w + 64 → member words k ≡ bit_at (get_or words w 0) (k - 64 * w)
 member_at words w k low high =
     let same : k / 64 ≡ w = omega arith in
@@ -81,7 +81,7 @@ lowest_at word from t small one before =
     (λ k low high. let same : from + (k - from) ≡ k = omega arith in
     ap (bit_at word) (sym same) ∙ (sym (bit_at-shr word from (k - from)) ∙ before (k - from) (omega arith)))
 
--- the trailing zeros of what is left of a word after a move to the right
+-- The trailing zeros of what is left of a word after a move to the right.
 pub lowest_by_zeros : (word from : ℕ) → word < 2 ^ 64 → ¬ (word / 2 ^ from ≡ 0)
     → IsLowestFrom word from (Some (from + trailing_zeros w64 (word / 2 ^ from)))
 lowest_by_zeros word from small some =
@@ -100,7 +100,7 @@ pub no_bit_left : (word from : ℕ) → word / 2 ^ from ≡ 0 → IsLowestFrom w
 no_bit_left word from empty = no_bit (λ k low high. let same : from + (k - from) ≡ k = omega arith in
     ap (bit_at word) (sym same) ∙ (sym (bit_at-shr word from (k - from)) ∙ (ap (λ (n : ℕ). bit_at n (k - from)) empty ∙ bit_at-zero (k - from))))
 
--- what a search in word w from bit b found is the least of the set, where none was passed
+-- What a search in word w from bit b found is the least of the set, where none was passed.
 pub least_in_word : (words : List ℕ) (from w b one : ℕ) → w < 4 → from ≤ 64 * w + b
     → ((k : ℕ) → from ≤ k → k < 64 * w + b → member words k ≡ 0)
     → IsLowestFrom (get_or words w 0) b (Some one) → IsLeastFrom words from (Some (64 * w + one))
@@ -116,7 +116,7 @@ least_in_word words from w b one within below passed (lowest _ low high here bef
 pub below_set : (word b one : ℕ) → IsLowestFrom word b (Some one) → one < 64
 below_set word b one (lowest _ low high here before) = high
 
--- a search that found nothing passes the rest of word w
+-- A search that found nothing passes the rest of word w.
 pub passed_word : (words : List ℕ) (from w b : ℕ) → ((k : ℕ) → from ≤ k → k < 64 * w + b → member words k ≡ 0)
     → IsLowestFrom (get_or words w 0) b None → (k : ℕ) → from ≤ k → k < 64 * (w + 1) + 0 → member words k ≡ 0
 passed_word words from w b passed (no_bit empty) k above less = elim (cases_lt k (64 * w + b)) [

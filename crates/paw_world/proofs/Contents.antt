@@ -15,7 +15,7 @@ use Rattle.paw_world.specs.inner.World.{first_at}
 use Rattle.paw_world.specs.Weight.{objects_at, weight_down}
 use Rattle.paw_world.proofs.Least.{least_at_here, least_at_pass, least_at_end, least_at_is}
 
--- the objects at a place from one number on
+-- The objects at a place from one number on.
 abbrev pub at_on : List ℕ → ℕ → ℕ → List ℕ
 at_on places p from = filter (λ o. slice_index places o == p) (drop from (range_with_len 0 (length places)))
 
@@ -50,7 +50,7 @@ later places p from found within other is =
     let same : length places - (from + 1) ≡ length places - suc from = omega arith in
     sym (least_at_pass places p from within other ∙ ap (least_at places p) same) ∙ is
 
--- where no least object is found there are none
+-- Where no least object is found there are none.
 at_on_none : (n : ℕ) (places : List ℕ) (p from : ℕ) → n ≡ length places - from → least_at places p (length places - from) ≡ None
     → at_on places p from ≡ []
 at_on_none zero places p from many is = at_on_past places p from (omega arith)
@@ -60,7 +60,7 @@ at_on_none (suc n) places p from many is = elim (cases_eq (get_or places from 0)
       ∙ at_on_none n places p (suc from) (omega arith) (later places p from None (omega arith) other is)
 ]
 
--- the least object is the first of them, and the others are those above it
+-- The least object is the first of them, and the others are those above it.
 at_on_some : (n : ℕ) (places : List ℕ) (p from o : ℕ) → n ≡ length places - from → least_at places p (length places - from) ≡ Some o
     → at_on places p from ≡ o ∷ at_on places p (suc o)
 at_on_some zero places p from o many is =
@@ -74,7 +74,7 @@ at_on_some (suc n) places p from o many is = elim (cases_eq (get_or places from 
       ∙ at_on_some n places p (suc from) o (omega arith) (later places p from (Some o) (omega arith) other is)
 ]
 
--- the first number above this one
+-- The first number above this one.
 abbrev pub start : Option ℕ → ℕ
 start None = 0
 start (Some o) = suc o
@@ -83,7 +83,7 @@ left_start : (places : List ℕ) (above : Option ℕ) → length places - start 
 left_start places None = omega arith
 left_start places (Some o) = refl
 
--- the objects at a place above this one
+-- The objects at a place above this one.
 abbrev pub above_at : World → ℕ → Option ℕ → List ℕ
 above_at w p above = at_on w.places p (start above)
 
@@ -98,7 +98,7 @@ above_at_some w p above o is =
 pub above_at_all : (w : World) (p : ℕ) → above_at w p None ≡ objects_at w p
 above_at_all w p = refl
 
--- a weight together with that of the objects at a place above this one
+-- A weight together with that of the objects at a place above this one.
 abbrev pub weights_above : World → ℕ → ℕ → Option ℕ → ℕ → ℕ
 weights_above w n p above total = min 255 (total + sum_by (weight_down w n) (above_at w p above))
 
@@ -117,13 +117,13 @@ pub weights_above-none : (w : World) (n p : ℕ) (above : Option ℕ) (total : �
 weights_above-none w n p above total fits is =
     ap (λ (os : List ℕ). min 255 (total + sum_by (weight_down w n) os)) (above_at_none w p above is) ∙ omega arith
 
--- fewer objects are left above one that stands above another
+-- Fewer objects are left above one that stands above another.
 pub fewer_left : (places : List ℕ) (above : Option ℕ) (o : ℕ) → o < length places → IfSome above (λ a. a < o)
     → left_above places (Some o) < left_above places above
 fewer_left places None o within higher = omega arith
 fewer_left places (Some a) o within higher = omega arith
 
--- what is found is an object that stands at the place, above the one that was given
+-- What is found is an object that stands at the place, above the one that was given.
 left_fits : (places : List ℕ) (above : Option ℕ) → left_above places above ≤ length places
 left_fits places None = omega arith
 left_fits places (Some o) = omega arith

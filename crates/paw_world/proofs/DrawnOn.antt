@@ -5,7 +5,7 @@ use Rattle.rand_pcg.specs.Pcg.{multiplier_64, pcg32}
 use Rattle.paw_world.specs.Draws.{random_word}
 use Rattle.paw_world.specs.inner.Draws.{generator_after}
 
--- n steps after k steps
+-- After k steps, n steps more.
 state_after-state_after : (w m p k n s : ℕ) → state_after w m p n (state_after w m p k s) ≡ state_after w m p (k + n) s
 unfolding state_after
 state_after-state_after w m p zero n s = ap (λ (j : ℕ). state_after w m p j s) (sym (zero-add n))
@@ -23,12 +23,12 @@ pub no_words : (seed : ℕ) (g : Lcg) → g ≡ started 64 multiplier_64 seed (i
 unfolding state_after
 no_words seed g fresh = fresh
 
--- n words after k words
+-- After k words, n words more.
 pub words_on : (seed k n : ℕ) (g : Lcg) → g ≡ generator_after seed k → advance 64 multiplier_64 n g ≡ generator_after seed (k + n)
 words_on seed k n g given =
     ap (advance 64 multiplier_64 n) given ∙ advance-advance 64 multiplier_64 k n (started 64 multiplier_64 seed (increment_of 64 0))
 
--- one word after k words
+-- One word after k words.
 pub word_on : (seed k : ℕ) (g : Lcg) → g ≡ generator_after seed k → next 64 multiplier_64 g ≡ generator_after seed (k + 1)
 word_on seed k g given = next-is_advance 64 multiplier_64 g ∙ words_on seed k 1 g given
 

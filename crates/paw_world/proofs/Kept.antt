@@ -4,7 +4,7 @@ use Rattle.std.proofs.lemmas.List.{length-set}
 use Rattle.std.proofs.lemmas.List.Elements.{All-set, All-get_or, All-replicate}
 use Rattle.paw_world.specs.World.{Position, IsPosition, IsSavedFor, AreSavedFor}
 
--- a position of the same size is put among them
+-- A position of the same size is put among them.
 pub kept_with : (objects : ℕ) (kept : List (Option Position)) (n : ℕ) (q : Position) → IsPosition objects q → AreSavedFor objects kept
     → AreSavedFor objects (set kept n (Some q))
 kept_with objects kept n q alike all = record {
@@ -12,11 +12,11 @@ kept_with objects kept n q alike all = record {
   each = All-set (IsSavedFor objects) kept n (Some q) alike all.each;
 }
 
--- each of them is of the same size
+-- Each of them is of the same size.
 pub kept_alike : (objects : ℕ) (kept : List (Option Position)) (n : ℕ) → n < 4 → AreSavedFor objects kept → IsSavedFor objects (get_or kept n None)
 kept_alike objects kept n few all = All-get_or (IsSavedFor objects) kept n None (rw all.four few) all.each
 
--- where none was kept
+-- Where none was kept.
 pub none_kept : (objects : ℕ) → AreSavedFor objects (replicate 4 None)
 none_kept objects = let none : Option Position = None in
     record { four = refl; each = All-replicate (IsSavedFor objects) 4 none tt }

@@ -19,7 +19,7 @@ pub least_at-suc : (places : List ℕ) (p n : ℕ)
 unfolding least_at
 least_at-suc places p n = refl
 
--- at object o: it, or the least of those above it
+-- At object o: it, or the least of those above it.
 pub least_at_step : (places : List ℕ) (p o : ℕ) → o < length places
     → least_at places p (length places - o) ≡ (if get_or places o 0 == p then Some o else least_at places p (length places - (o + 1)))
 least_at_step places p o within =
@@ -35,11 +35,11 @@ pub least_at_pass : (places : List ℕ) (p o : ℕ) → o < length places → ge
     → least_at places p (length places - o) ≡ least_at places p (length places - (o + 1))
 least_at_pass places p o within other = least_at_step places p o within ∙ grind (arith, nat_tests)
 
--- past the last object there is none
+-- Past the last object there is none.
 pub least_at_end : (places : List ℕ) (p o : ℕ) → length places ≤ o → least_at places p (length places - o) ≡ None
 least_at_end places p o past = let empty : length places - o ≡ 0 = omega arith in ap (least_at places p) empty ∙ least_at_none places p
 
--- j objects that stand elsewhere
+-- To skip j objects that stand elsewhere leaves the same least one.
 least_at_skip : (places : List ℕ) (p from j : ℕ) → from + j ≤ length places
     → ((k : ℕ) → from ≤ k → k < from + j → get_or places k 0 ≢ p)
     → least_at places p (length places - from) ≡ least_at places p (length places - (from + j))
@@ -70,7 +70,7 @@ module _ (sets : List (List ℕ)) (n : ℕ) (all places : List ℕ) (sound : Are
   count : length places ≡ n
   count = count_is n all places taken (omega (arith, sound.few, sound.room))
 
-  -- a member of the place's set is an object that stands there
+  -- A member of the place's set is an object that stands there.
   member_known : (o : ℕ) → o < 256 → stands_in sets p o ≡ 1 → o < length places
   member_known o fits one = elim (cases_lt o n) [
     | inl less ↦ omega (arith, count)
@@ -89,7 +89,7 @@ module _ (sets : List (List ℕ)) (n : ℕ) (all places : List ℕ) (sound : Are
       let same : get_or all o 0 ≡ p = sym (place_is n o all places taken less) ∙ here in
       absurd (omega (arith, sound.inside p o small less, at_place_same (get_or all o 0) p same))
 
-  -- the least of the set is the least object at the place
+  -- The least of the set is the least object at the place.
   pub least_of_set : (from : ℕ) (outcome : Option ℕ) → IsLeastFrom (get_or sets p []) from outcome → outcome ≡ least_at places p (length places - from)
   least_of_set from _ (found o low fits one before) =
       sym (least_at_found places p from o low (member_known o fits one) (member_stands o fits one)
@@ -97,7 +97,7 @@ module _ (sets : List (List ℕ)) (n : ℕ) (all places : List ℕ) (sound : Are
   least_of_set from _ (none empty) =
       sym (least_at_nowhere places p from (λ k above within. others_stand_elsewhere k within (empty k above (omega (arith, count, sound.few)))))
 
--- what is found among the last n objects is one of them, and stands at the place
+-- What is found among the last n objects is one of them, and stands at the place.
 pub record IsFoundAt (places : List ℕ) (p n o : ℕ) : Type 0 where
   pub above : length places - n ≤ o
   pub known : o < length places
@@ -114,7 +114,7 @@ least_at_is places p (suc n) o fits e = elim (cases_eq (get_or places (length pl
       record { above = omega arith; known = rest.known; stands = rest.stands }
 ]
 
--- the number of the first object that is looked at, and how many are left from there on
+-- The number of the first object that is looked at, and how many are left from there on.
 pub left_of_all : (places : List ℕ) (from : ℕ) (above : Option ℕ) → from ≡ 0 → above ≡ None → length places - from ≡ left_above places above
 left_of_all places from above start all =
     let whole : length places - from ≡ length places = omega arith in

@@ -3,11 +3,11 @@ use Rattle.std.proofs.Common.{◌≡◌, ℕ, ◌≤◌, ◌<◌, List, Some, le
 use Rattle.std.proofs.lemmas.List.{length-take-le, get_or-take}
 use Rattle.std.proofs.lemmas.Option.{slice_get-get_or}
 
--- so many as are taken
+-- There are as many as are taken.
 pub count_is : {X : Type 0} (n : ℕ) (all some : List X) → take n all ≡ some → n ≤ length all → length some ≡ n
 count_is n all some taken fits = ap length (sym taken) ∙ length-take-le n all fits
 
--- each of them is the one of the longer list
+-- Each of them is the one of the longer list.
 pub place_is : (n o : ℕ) (all places : List ℕ) → take n all ≡ places → o < n → get_or places o 0 ≡ get_or all o 0
 place_is n o all places taken less = ap (λ (l : List ℕ). get_or l o 0) (sym taken) ∙ get_or-take n all o 0 less
 

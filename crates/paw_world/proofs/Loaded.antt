@@ -9,7 +9,7 @@ use Rattle.paw_world.specs.inner.World.{IsStored}
 saved_for : (objects : ℕ) (saved : Option Position) (q : Position) → saved ≡ Some q → IsSavedFor objects saved → IsPosition objects q
 saved_for objects saved q is alike = rw is at alike
 
--- the position has as many places, and the flags are as many as before
+-- The position has as many places, and the flags are as many as before.
 pub parts_loaded : (facts : List ObjectFacts) (flags places : List ℕ) (saved : Option Position)
     (kept : List (Option Position)) (q : Position) (n : ℕ) (front moved : List ℕ) → IsStored facts flags places saved kept → saved ≡ Some q
     → n < 256 → front ≡ take (n + 1) q.flags → moved ≡ q.places

@@ -9,7 +9,7 @@ use Rattle.std.proofs.lemmas.Nat.Bits.{bit_at-zero}
 use Rattle.paw_world.specs.inner.ObjectSet.{member, Inserts, Removes}
 use Rattle.paw_world.specs.inner.PlaceSets.{stands_in, AreSetsOf}
 
--- 1 at the object's place, and 0 at every other
+-- 1 at the object's place, and 0 at every other.
 abbrev pub at_place : ℕ → ℕ → ℕ
 at_place q p = if q == p then 1 else 0
 
@@ -19,7 +19,7 @@ at_place_same q p e = grind (arith, nat_tests)
 pub at_place_other : (q p : ℕ) → q ≢ p → at_place q p ≡ 0
 at_place_other q p e = grind (arith, nat_tests)
 
--- a set is written, and the others stay
+-- A set is written, and the others stay.
 written_same : (sets : List (List ℕ)) (p q : ℕ) (words : List ℕ) (o : ℕ) → p < length sets → q ≡ p
     → stands_in (set sets p words) q o ≡ member words o
 written_same sets p q words o within same =
@@ -30,7 +30,7 @@ written_other : (sets : List (List ℕ)) (p q : ℕ) (words : List ℕ) (o : ℕ
 written_other sets p q words o other = ap (λ (ws : List ℕ). member ws o) (get_or-set_other sets p q words [] other)
 
 module _ (sets : List (List ℕ)) (n : ℕ) (places : List ℕ) (sound : AreSetsOf sets n places) where
-  -- one object more, number n, at place p
+  -- One object more, number n, at place p.
   module _ (p : ℕ) (words : List ℕ) (small : p < 256) (more : n < 255) (inserted : Inserts n (get_or sets p []) words) where
     here : n < length places
     here = omega (arith, sound.room)
@@ -61,11 +61,11 @@ module _ (sets : List (List ℕ)) (n : ℕ) (places : List ℕ) (sound : AreSets
       beyond = λ q o below past fits. older_object q o below fits (omega arith) ∙ sound.beyond q o below (omega arith) fits;
     }
 
-  -- object o moves from its place to p
+  -- Object o moves from its place to p.
   module _ (o p : ℕ) (without moved : List ℕ) (small : p < 256) (from : get_or places o 0 < 256) (known : o < n)
       (removed : Removes o (get_or sets (get_or places o 0) []) without)
       (inserted : Inserts o (get_or (set sets (get_or places o 0) without) p []) moved) where
-    -- between the two writes the object is in no set, and each other object where it was
+    -- Between the two writes the object is in no set, and each other object where it was.
     gone : (q : ℕ) → q < 256 → stands_in (set sets (get_or places o 0) without) q o ≡ 0
     gone q below = elim (cases_eq q (get_or places o 0)) [
       | inl same ↦ written_same sets _ q without o (omega arith) same ∙ removed.outside
@@ -111,7 +111,7 @@ module _ (sets : List (List ℕ)) (n : ℕ) (places : List ℕ) (sound : AreSets
       beyond = λ q k below past fits. stays q k below fits (omega arith) ∙ sound.beyond q k below past fits;
     }
 
--- with no objects all sets are empty
+-- With no objects all sets are empty.
 empty_word : (i : ℕ) → get_or (replicate {A = ℕ} 4 0) i 0 ≡ 0
 empty_word i = elim (cases_lt i 4) [
   | inl less ↦ get_or-replicate {A = ℕ} 4 i 0 0 less
@@ -130,7 +130,7 @@ no_sets places room = record {
   beyond = λ q o below past fits. ap (λ (ws : List ℕ). member ws o) (get_or-replicate 256 q (replicate {A = ℕ} 4 0) [] below) ∙ no_member o;
 }
 
--- the same where the set that is read comes at any default
+-- The same where the set that is read comes at any default.
 pub added_at : (sets : List (List ℕ)) (n : ℕ) (places : List ℕ) (p : ℕ) (d words : List ℕ) → AreSetsOf sets n places → p < 256 → n < 255
     → Inserts n (get_or sets p d) words → AreSetsOf (set sets p words) (n + 1) (set places n p)
 added_at sets n places p d words sound small more inserted =

@@ -146,7 +146,7 @@ taken_where_same a b v w same = grind (arith, nat_tests)
 taken_where_other : (a b : ℕ) (v w : World) → a ≢ b → (if a == b then v else w) ≡ w
 taken_where_other a b v w other = grind (arith, nat_tests)
 
--- whether it stood there before or not, the places are those with this one written
+-- Whether it stood there before or not, the places are those with this one written.
 pub places-moved : (w : World) (o p : ℕ) → (moved w o p).places ≡ set w.places o p
 places-moved w o p =
     let v = with_place (taken_up (let_go w (place w o)) p) o p in

@@ -1,4 +1,4 @@
--- The world of a game: what it changes while it is played.
+-- The world of a game: what play changes.
 use Rattle.std.specs.Prelude.{◌≡◌, ℕ, suc, ◌+◌, ◌-◌, ◌≤◌, ◌==◌, ◌&&◌, ◌||◌, Bool, not, List, ◌++◌, length}
 use Rattle.std.specs.Prelude.{map, take, drop, count_by, replicate, min, Option, None, Some, nat_lt}
 use Rattle.std.specs.Prelude.{slice_index, slice_index_or, slice_set, if◌then◌else◌, IfSome}
@@ -14,13 +14,13 @@ use Rattle.paw_base.specs.declared.limits.TheConstants.{OBJECT_LIMIT, FLAG_COUNT
 use Rattle.paw_base.specs.declared.limits.TheConstants.{STARTING_WEIGHT}
 use Rattle.paw_base.specs.declared.parts.ObjectFacts.{ObjectFacts}
 
--- flags and places, as they are saved or kept together
+-- The flags and places that are saved or kept together.
 pub record Position : Type 0 where
   pub flags : List ℕ
   pub places : List ℕ
 
--- the facts of the objects and the number of locations, which never change; the flags; the place of each object; the
--- saved position; the kept positions; the seed of the random words, and how many of them were drawn
+-- The facts of the objects and the number of locations, which never change; the flags; the place of each object; the
+-- saved position; the kept positions; the seed of the random words, and how many of them were drawn.
 pub record World : Type 0 where
   pub facts : List ObjectFacts
   pub locations : ℕ
@@ -31,28 +31,28 @@ pub record World : Type 0 where
   pub seed : ℕ
   pub draws : ℕ
 
--- the value of a flag
+-- The value of a flag.
 abbrev pub flag : World → ℕ → ℕ
 flag w f = slice_index w.flags f
 
--- a flag gets this value
+-- The world with a flag set to this value.
 abbrev pub with_flag : World → ℕ → ℕ → World
 with_flag w f x = record w { flags = slice_set w.flags f x }
 
--- the place of an object
+-- The place of an object.
 abbrev pub place : World → ℕ → ℕ
 place w o = slice_index w.places o
 
--- an object gets this place; no flag changes
+-- The world with an object at this place; no flag changes.
 abbrev pub with_place : World → ℕ → ℕ → World
 with_place w o p = record w { places = slice_set w.places o p }
 
--- how many objects begin carried
+-- How many objects begin carried.
 abbrev pub first_carried : List ObjectFacts → ℕ
 first_carried facts = count_by (λ f. f.start == CARRIED_PLACE) facts
 
--- the flags at the start of a game. All are 0 but these: one counts what is carried, the words of a sentence and the
--- object last referred to are none, four objects and a weight of ten may be carried
+-- The flags at the start of a game. They are 0 but for these: one counts the carried objects; the words of a sentence
+-- and the object last referred to are none; four objects and a weight of ten may be carried.
 unfoldable pub flags_with : ℕ → List ℕ
 flags_with carried =
     let none : List ℕ → ℕ → List ℕ = λ flags f. slice_set flags f NO_WORD in
@@ -62,11 +62,11 @@ flags_with carried =
     let more = none (none (none second PRONOUN_NOUN_FLAG) PRONOUN_ADJECTIVE_FLAG) REFERRED_FLAG in
     slice_set (slice_set more MOST_CARRIED_FLAG STARTING_CARRIED) MOST_WEIGHT_FLAG STARTING_WEIGHT
 
--- each object stands where it begins
+-- The places of the objects at the start of a game.
 abbrev pub opening_places : List ObjectFacts → List ℕ
 opening_places facts = map (λ f. f.start) facts
 
--- the world at the start of a game
+-- The world at the start of a game.
 abbrev pub starting_world : List ObjectFacts → ℕ → ℕ → World
 starting_world facts locations seed = record {
   facts = facts;
@@ -79,107 +79,107 @@ starting_world facts locations seed = record {
   draws = 0;
 }
 
--- the world of a game that starts anew: the draws, the saved position and the kept positions stay
+-- The world of a game that starts anew: the draws, the saved position and the kept positions stay.
 abbrev pub restarted : World → World
 restarted w = record w { flags = flags_with (first_carried w.facts); places = opening_places w.facts }
 
--- all objects go back to where they begin, and a flag counts those that begin carried; the other flags stay
+-- The world with all objects back where they begin. A flag counts those that begin carried; the other flags stay.
 abbrev pub with_objects_returned : World → World
 with_objects_returned w =
     record w { flags = slice_set w.flags CARRIED_FLAG (first_carried w.facts); places = opening_places w.facts }
 
--- the current location is one of the game's
+-- Whether the current location is one of the game's.
 abbrev pub is_somewhere : World → Bool
 is_somewhere w = nat_lt (flag w LOCATION_FLAG) w.locations
 
--- the current location, or not created where that is none of the game's
+-- The current location, or "not created" where it isn't one of the game's.
 abbrev pub here : World → ℕ
 here w = if is_somewhere w then flag w LOCATION_FLAG else NOT_CREATED_PLACE
 
--- an object stands at the current location
+-- Whether an object stands at the current location, and that is one of the game's.
 abbrev pub is_here : World → ℕ → Bool
 is_here w o = is_somewhere w && (place w o == flag w LOCATION_FLAG)
 
--- an object is worn, carried or here
+-- Whether an object is worn, carried or here.
 abbrev pub is_present : World → ℕ → Bool
 is_present w o = (place w o == WORN_PLACE) || ((place w o == CARRIED_PLACE) || is_here w o)
 
--- the light source, object 0, is present; with no objects it isn't
+-- Whether the light source, object 0, is present; where there are no objects it isn't.
 abbrev pub is_lit : World → Bool
 is_lit w = nat_lt 0 (length w.places) && is_present w 0
 
--- it is dark: its flag isn't 0
+-- Whether it is dark: the flag of darkness isn't 0.
 abbrev pub is_dark : World → Bool
 is_dark w = not (flag w DARK_FLAG == 0)
 
--- it is dark, and the light source isn't present
+-- Whether it is dark and the light source isn't present.
 abbrev pub is_unlit : World → Bool
 is_unlit w = is_dark w && not (is_lit w)
 
--- a flag loses one unless it is 0
+-- The world with a flag lower by one, unless it is 0.
 abbrev pub fallen : ℕ → World → World
 fallen f w = with_flag w f (flag w f - 1)
 
--- a flag loses one where this is so
+-- The world with a flag lower by one where this is so, and the same world otherwise.
 abbrev pub fallen_if : Bool → ℕ → World → World
 fallen_if b f w = if b then fallen f w else w
 
--- one object less is carried where one leaves the place of what is carried
+-- An object leaves a place: where it was carried, the count of carried objects falls by one.
 abbrev pub let_go : World → ℕ → World
 let_go w p = if p == CARRIED_PLACE then with_flag w CARRIED_FLAG (flag w CARRIED_FLAG - 1) else w
 
--- one object more is carried where one comes to that place; their count stays at most 255
+-- An object arrives at a place: where it is carried there, the count of carried objects rises by one, to at most 255.
 abbrev pub taken_up : World → ℕ → World
 taken_up w p = if p == CARRIED_PLACE then with_flag w CARRIED_FLAG (min 255 (flag w CARRIED_FLAG + 1)) else w
 
--- an object moves to a place; nothing happens where it stands there
+-- An object moves to a place; nothing happens where it stands there already.
 abbrev pub moved : World → ℕ → ℕ → World
 moved w o p = if place w o == p then w else with_place (taken_up (let_go w (place w o)) p) o p
 
--- the flags and places of a world
+-- The flags and places of a world.
 abbrev pub position_of : World → Position
 position_of w = record { flags = w.flags; places = w.places }
 
--- flags and places become the saved position
+-- The world with its flags and places as the saved position.
 abbrev pub ramsaved : World → World
 ramsaved w = record w { saved = Some (position_of w) }
 
--- flags 0 to n and all places become those of a position
+-- The world with flags 0 to n and all places taken from a position.
 abbrev pub at_position : World → ℕ → Position → World
 at_position w n q = record w { flags = take (suc n) q.flags ++ drop (suc n) w.flags; places = q.places }
 
--- the saved position's flags 0 to n and its places are taken; where nothing is saved nothing changes
+-- The world with flags 0 to n and all places taken from the saved position; the same world where nothing is saved.
 abbrev pub ramloaded : World → ℕ → World
 ramloaded w n = option_map_or (at_position w n) w.saved w
 
--- the kept position of a number below 4; nothing where none was kept
+-- The kept position with a number below 4; nothing where none was kept.
 abbrev pub kept_position : World → ℕ → Option Position
 kept_position w n = slice_index_or w.kept n None
 
--- flags and places become the kept position of this number
+-- The world with its flags and places as the kept position with this number.
 abbrev pub keeping : World → ℕ → World
 keeping w n = record w { kept = slice_set w.kept n (Some (position_of w)) }
 
--- n words more were drawn
+-- The world after n more random words were drawn.
 abbrev pub drawn_on : World → ℕ → World
 drawn_on w n = record w { draws = w.draws + n }
 
--- a position has all flags and a place for each of so many objects
+-- A position for this number of objects: it has all flags, and a place for each object.
 pub record IsPosition (objects : ℕ) (q : Position) : Type 0 where
   pub flags : length q.flags ≡ FLAG_COUNT
   pub places : length q.places ≡ objects
 
--- a saved position, where there is one, is one for so many objects
+-- A saved position, if there is one, is for this number of objects.
 abbrev pub IsSavedFor : ℕ → Option Position → Type 0
 IsSavedFor objects saved = IfSome saved (IsPosition objects)
 
--- all kept positions are there, each of them nothing or one for so many objects
+-- There are four kept positions, each of them empty or for this number of objects.
 pub record AreSavedFor (objects : ℕ) (kept : List (Option Position)) : Type 0 where
   pub four : length kept ≡ POSITION_COUNT
   pub each : All (IsSavedFor objects) kept
 
--- what holds of every world: not too many objects, with facts and a place for each, and its flags; so in the saved
--- position and in the kept ones
+-- What holds of every world: not too many objects, facts and a place for each, all flags, and saved and kept positions
+-- for this number of objects.
 pub record IsWorld (w : World) : Type 0 where
   pub objects : length w.places ≤ OBJECT_LIMIT
   pub facts : length w.facts ≡ length w.places

@@ -44,6 +44,7 @@ impl Draws {
         self.seed
     }
 
+    /// How many words were drawn.
     pub fn count(&self) -> u64
         ensures { result ≡ self.now.count }
     {

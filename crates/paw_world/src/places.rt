@@ -41,7 +41,7 @@ impl Places {
         all
     }
 
-    /// Each object stands at its place of these.
+    /// Each object stands at its place in this list.
     pub fn at(places: &[u8]) -> Places
         requires { length places.now ≤ OBJECT_LIMIT }
         ensures { result ≡ places.now }
@@ -53,6 +53,7 @@ impl Places {
         all
     }
 
+    /// The places of no objects.
     fn empty() -> Places
         ensures { result ≡ [] }
     {

@@ -27,7 +27,7 @@ use std::marker::Model;
 // How many levels below an object its contents count.
 const LEVELS: u8 = WEIGHT_LEVELS as u8;
 
-/// What stands for facts where there is no object.
+/// The facts that are given where there is no object.
 pub const NO_OBJECT: ObjectFacts = ObjectFacts {
     noun: NO_WORD,
     adjective: NO_WORD,
@@ -71,7 +71,7 @@ impl Model for World {
 }
 
 impl World {
-    /// The world at the start of a game with these objects, so many locations and this seed.
+    /// The world at the start of a game with these objects, this number of locations and this seed.
     pub fn new(facts: &[ObjectFacts], locations: u8, seed: u64) -> World
         requires few { length facts.now ≤ OBJECT_LIMIT }
         ensures value { result ≡ starting_world facts.now locations seed }
@@ -146,8 +146,7 @@ impl World {
         self.places.all()
     }
 
-    /// All flags and the places of all objects become these, as they were kept. No object is moved, so no flag counts
-    /// it.
+    /// All flags and the places of all objects become these, as they were kept. No object moves, so no flag counts it.
     pub fn set_position(&mut self, flags: &[u8; FLAG_COUNT], places: &[u8])
         requires each { length places.now ≡ length self.old.places }
         ensures change { self.new ≡ record self.old { flags = flags.now; places = places.now } }
@@ -156,8 +155,8 @@ impl World {
         self.places = Places::at(places);
     }
 
-    /// Moves an object to a place. Where it stands there nothing happens. Otherwise flag 1 falls by one, but not
-    /// below 0, where the object was carried (254), and rises by one, but not above 255, where it becomes so.
+    /// Moves an object to a place. Where it stands there already nothing happens. Otherwise flag 1 falls by one, but
+    /// not below 0, where the object was carried (254), and rises by one, but not above 255, where it is carried now.
     pub fn move_to(&mut self, o: u8, p: u8)
         requires known { o < length self.old.places }
         ensures change { self.new ≡ moved self.old o p }
@@ -257,7 +256,7 @@ impl World {
         self.kept[n as usize] = Some(Position::of(&self.flags, self.places.all()));
     }
 
-    /// Takes all flags and all places from the kept position of this number. No object is moved, so no flag counts it.
+    /// Takes all flags and all places from the kept position of this number. No object moves, so no flag counts it.
     /// False exactly where none was kept, and then nothing changes.
     pub fn recall(&mut self, n: u8) -> bool
         requires known { n < POSITION_COUNT }
@@ -352,7 +351,7 @@ impl World {
         self.draws.seed()
     }
 
-    /// Passes over n random words, in a time that doesn't grow with n but by its digits.
+    /// Passes over n random words, in a time that grows only with the number of digits of n.
     pub fn skip(&mut self, n: u64)
         requires room { self.old.draws + n < 2 ^ 64 }
         ensures change { self.new ≡ drawn_on self.old n }
@@ -381,7 +380,7 @@ impl World {
         self.places = Places::opening(facts);
     }
 
-    /// What an object weighs, at most 255: its own weight, and for a container whose own weight isn't 0 that of what
+    /// The weight of an object, at most 255: its own weight, and for a container whose own weight isn't 0 that of what
     /// stands in it, down to ten levels.
     pub fn weight(&self, o: u8) -> u8
         requires known { o < length self.now.places }
@@ -390,7 +389,7 @@ impl World {
         self.weight_down(o, LEVELS)
     }
 
-    /// What an object weighs where contents count down to so many levels below it, at most 255.
+    /// The weight of an object where contents count down to this number of levels below it, at most 255.
     #[cycle(weigh)]
     fn weight_down(&self, o: u8, levels: u8) -> u8
         requires { o < length self.now.places }
@@ -417,7 +416,7 @@ impl World {
         total
     }
 
-    /// What all objects weigh that are worn or carried, at most 255.
+    /// The weight of all objects that are worn or carried, at most 255.
     pub fn carried_weight(&self) -> u8
         ensures value { result ≡ carried_weight self.now }
     {

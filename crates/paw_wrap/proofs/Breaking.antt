@@ -11,7 +11,7 @@ pub breaks_from-empty : (w at before : ℕ) → breaks_from w at before [] ≡ [
 unfolding breaks_from
 breaks_from-empty w at before = refl
 
--- A byte ends its line, or a space is broken at, or the line goes on behind it.
+-- A byte ends its line, or a space is a break, or the line goes on after it.
 pub data Step (w at before b : ℕ) (bs : List ℕ) : Type 0 where
   ends_line : eqb b line_feed ≡ true → breaks_from w at before (b ∷ bs) ≡ breaks_from w (suc at) 0 bs
       → Step w at before b bs
@@ -34,7 +34,7 @@ step w at before b bs =
       ] refl
     ] refl
 
--- places move with the place at which the text begins
+-- Places move with the place at which the text begins.
 pub breaks_from-suc : (w at before : ℕ) (text : List ℕ) → breaks_from w (suc at) before text ≡ map suc (breaks_from w at before text)
 unfolding breaks_from
 breaks_from-suc w at before [] = refl
@@ -50,7 +50,7 @@ breaks_from-suc w at before (b ∷ bs) =
       ] refl
     ] refl
 
--- a byte that ends a word, or one more byte of it
+-- A byte that ends a word, or one more byte of it.
 pub word_length-cons : (b : ℕ) (bs : List ℕ) → (word_length (b ∷ bs) ≡ 0)
     ⊎ ((eqb b space ≡ false) × (eqb b line_feed ≡ false) × (word_length (b ∷ bs) ≡ suc (word_length bs)))
 word_length-cons b bs =
@@ -64,7 +64,7 @@ word_length-cons b bs =
           ]
     ] refl
 
--- no byte of a word is a break
+-- No byte of a word is a break.
 pub breaks_from-word : (w at before n at' before' : ℕ) (text : List ℕ) → at' ≡ at + n → before' ≡ before + n → n ≤ word_length text
     → breaks_from w at before text ≡ breaks_from w at' before' (drop n text)
 unfolding breaks_from

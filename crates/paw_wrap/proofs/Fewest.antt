@@ -7,7 +7,7 @@ use Rattle.paw_wrap.specs.FirstFit.{space, line_feed, word_length, breaks_from, 
 use Rattle.paw_wrap.proofs.Breaking.{Step, step, breaks_from-empty, word_length-cons}
 use Rattle.paw_wrap.proofs.LineWidths.{lines, has_space, first_line, lines-line_feed, lines-other, first_line-onto, drop-onto, FitsBehind, fits_behind}
 
--- the bytes are those of the text, but that at most so many spaces became LFs
+-- The bytes are those of the text, except that at most n spaces became LFs.
 abbrev pub Broken : List ℕ → List ℕ → ℕ → Type 0
 Broken [] [] n = ⊤
 Broken [] (c ∷ cs) n = ⊥
@@ -37,7 +37,7 @@ broken_at text bytes (at ∷ choice) n broken spaces =
     let count : n + suc (length choice) ≡ suc n + length choice = omega arith in
     rw count (broken_at text (set bytes at line_feed) choice (suc n) (broken_once text bytes n at broken spaces.0) spaces.1)
 
--- the first word of a text stands in the first line of what was broken
+-- The first word of a text stands in the first line of what was broken.
 word_kept : (text bytes : List ℕ) (n : ℕ) → Broken text bytes n → word_length text ≤ length (first_line (lines bytes))
 word_kept [] bytes n broken = omega arith
 word_kept (b ∷ bs) [] n broken = absurd broken
@@ -52,7 +52,7 @@ word_kept (b ∷ bs) (c ∷ cs) n broken =
       ]
     ]
 
--- what an LF or a further byte leaves of lines that fit
+-- What an LF or a further byte leaves of lines that fit.
 after_line_feed : (w before b : ℕ) (bs : List ℕ) → eqb b line_feed ≡ true → FitsBehind w before (lines (b ∷ bs)) → FitsBehind w 0 (lines bs)
 after_line_feed w before b bs e fit =
     let here : FitsBehind w before ([] ∷ lines bs) = rw (lines-line_feed b bs e) at fit in
@@ -69,7 +69,7 @@ after_other w before b bs e fit =
       rest = rw (lines-other b bs e, drop-onto b (lines bs)) at fit.rest;
     }
 
--- a space that first fit breaks at, in a line that begins no later, doesn't stay a space where lines fit
+-- A space that first fit breaks at, in a line that begins no later, doesn't stay a space where lines fit.
 too_long : (w before other c n : ℕ) (bs cs : List ℕ) → eqb c line_feed ≡ false → eqb c space ≡ true → before ≤ other
     → w < before + 1 + word_length bs → Broken bs cs n → FitsBehind w other (lines (c ∷ cs)) → ⊥
 too_long w before other c n bs cs e f begun long broken fit =
@@ -113,7 +113,7 @@ fewest w at before other ahead n (b ∷ bs) (c ∷ cs) (inr (m, less, was, lf, m
           rw r (omega (arith, less, fewest w (suc at) (suc before) 0 1 m bs cs more (inr (omega arith)) left))
     ]
 
--- first fit has the fewest breaks
+-- First fit has the fewest breaks.
 pub are_fewest : (w : ℕ) (text : List ℕ) → AreFewest w text (breaks_from w 0 0 text)
 are_fewest w text choice spaces fits =
     let broken : Broken text (with_byte line_feed choice text) (length choice) =

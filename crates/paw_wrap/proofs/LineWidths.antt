@@ -32,7 +32,7 @@ pub drop-onto : (b : ℕ) (ls : List (List ℕ)) → drop 1 (onto_first b ls) �
 drop-onto b [] = refl
 drop-onto b (l ∷ ls) = refl
 
--- each line fits, where so many bytes stand before the first
+-- Each line fits, where `before` bytes stand before the first.
 pub record FitsBehind (w before : ℕ) (ls : List (List ℕ)) : Type 0 where
   pub first : has_space (first_line ls) ≡ true → before + length (first_line ls) ≤ w
   pub rest : AllByRecursion (FitsLine w) (drop 1 ls)
@@ -52,11 +52,11 @@ fits_behind w [] f = record { first = λ never. absurd (cc); rest = tt }
 fits_behind w (l ∷ ls) (inl h, more) = record { first = λ _. omega (arith, h); rest = more }
 fits_behind w (l ∷ ls) (inr none, more) = record { first = λ some. absurd (cc); rest = more }
 
--- behind an LF a line begins
+-- A line begins after an LF.
 pub behind_line_feed : (w before b : ℕ) (bs : List ℕ) → eqb b line_feed ≡ true → FitsBehind w 0 (lines bs) → FitsBehind w before (lines (b ∷ bs))
 behind_line_feed w before b bs e f = rw (lines-line_feed b bs e) (record { first = λ never. absurd (cc); rest = fits_all w (lines bs) f })
 
--- one more byte of a line
+-- One more byte of a line.
 pub behind_other : (w before b n : ℕ) (bs : List ℕ) → eqb b line_feed ≡ false → FitsBehind w (suc before) (lines bs)
     → (eqb b space ≡ true → before + 1 + n ≤ w) → (has_space (first_line (lines bs)) ≡ false → length (first_line (lines bs)) ≤ n)
     → FitsBehind w before (lines (b ∷ bs))
@@ -71,7 +71,7 @@ behind_other w before b n bs e f short word =
       rest = rw (drop-onto b (lines bs)) f.rest;
     })
 
--- the first line of a wrapped text is its first word, where it has no space
+-- The first line of a wrapped text is its first word, where it has no space.
 first_word : (w before : ℕ) (text : List ℕ) → has_space (first_line (lines (wrapped w before text))) ≡ false
     → length (first_line (lines (wrapped w before text))) ≤ word_length text
 unfolding breaks_from
@@ -88,7 +88,7 @@ first_word w before (b ∷ bs) h =
           rw (more, no_space.0, e) (omega (arith, first_word w (suc before) bs no_space.1))
     ]
 
--- each line of a wrapped text fits
+-- Each line of a wrapped text fits.
 pub wrapped_fits : (w before : ℕ) (text : List ℕ) → FitsBehind w before (lines (wrapped w before text))
 unfolding breaks_from
 wrapped_fits w before [] = record { first = λ never. absurd (cc); rest = tt }

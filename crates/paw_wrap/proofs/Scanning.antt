@@ -28,7 +28,7 @@ pub record Reached (w : ℕ) (text breaks : List ℕ) (line at : ℕ) : Type 0 w
   pub word_end : at < length text → ends_word (get_or text at 0) ≡ true
   pub so_far : breaks ++ breaks_from w at (at - line) (drop at text) ≡ breaks_from w 0 0 text
 
--- so many bytes stand behind the place `at` before the next space or LF, or the end
+-- After the place `at` there are n bytes before the next space or LF, or before the end.
 pub record Word (text : List ℕ) (at n : ℕ) : Type 0 where
   pub size : n ≡ word_length (drop (suc at) text)
   pub within : suc at + n ≤ length text
@@ -48,14 +48,14 @@ word_ends text from n e h =
     ap ends_word (sym (get_or-drop from text n 0) ∙ ap (λ k. get_or (drop from text) k 0) e)
     ∙ passes_at_first ends_word (drop from text) 0 (omega (arith, e, length-drop from text))
 
--- what first fit does behind a word
+-- What first fit does after a word.
 next_word : (w before after at n : ℕ) (text : List ℕ) → Word text at n → after ≡ before + n
     → breaks_from w (suc at) before (drop (suc at) text) ≡ breaks_from w (at + 1 + n) after (drop (at + 1 + n) text)
 next_word w before after at n text word e =
     breaks_from-word w (suc at) before n (at + 1 + n) after (drop (suc at) text) (omega arith) e (omega (arith, word.size))
     ∙ ap (breaks_from w (at + 1 + n) after) (drop-drop n (suc at) text ∙ ap (λ k. drop k text) (omega arith))
 
--- the word behind the place is passed
+-- The word after the place is passed.
 passed : (w line next at n : ℕ) (text breaks more : List ℕ) → Reached w text breaks line at → at < length text → Word text at n → next ≤ at + 1
     → breaks_from w at (at - line) (get_or text at 0 ∷ drop (suc at) text) ≡ more ++ breaks_from w (suc at) (at + 1 - next) (drop (suc at) text)
     → Reached w text (breaks ++ more) next (at + 1 + n)
@@ -86,7 +86,7 @@ past_line_feed w line at n text breaks r h word e =
     rw (append-nil breaks) at (passed w line (at + 1) at n text breaks [] r h word (omega arith)
     (rw none (after_line_feed w at (at - line) (get_or text at 0) (drop (suc at) text) e)))
 
--- the byte at which a word ends is a space, where it is no LF
+-- The byte at which a word ends is a space, where it isn't an LF.
 space_at : (b : ℕ) → ends_word b ≡ true → b ≢ line_feed → b ≡ space
 space_at b e other = eqb-true b space (left_true (eqb b space) (eqb b line_feed) (ne_eqb b line_feed other) e)
 
@@ -125,6 +125,6 @@ inside_from w at before (b ∷ bs) i =
       | Step.goes_on e f r ↦ rw (r, more) (inside_from w (suc at) (suc before) bs i)
     ]
 
--- each break is a place of the text
+-- Each break is a place of the text.
 pub is_inside : (w : ℕ) (text places : List ℕ) (i : ℕ) → places ≡ breaks_from w 0 0 text → i < length places → get_or places i 0 < length text
 is_inside w text places i e h = rw e (omega (arith, inside_from w 0 0 text i (rw e at h)))

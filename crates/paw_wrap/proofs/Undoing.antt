@@ -8,11 +8,11 @@ with_byte-suc : (c x : ℕ) (places bytes : List ℕ) → with_byte c (map suc p
 with_byte-suc c x [] bytes = refl
 with_byte-suc c x (at ∷ places) bytes = with_byte-suc c x places (set bytes at c)
 
--- the text wrapped, with so many bytes before it in its line
+-- The text wrapped, with this number of bytes before it in its line.
 abbrev pub wrapped : ℕ → ℕ → List ℕ → List ℕ
 wrapped w before text = with_byte line_feed (breaks_from w 0 before text) text
 
--- the places of the breaks behind the first byte
+-- The places of the breaks after the first byte.
 moved : (w before after b : ℕ) (bs : List ℕ) → breaks_from w 0 before (b ∷ bs) ≡ breaks_from w 1 after bs
     → breaks_from w 0 before (b ∷ bs) ≡ map suc (breaks_from w 0 after bs)
 moved w before after b bs r = r ∙ breaks_from-suc w 0 after bs
@@ -48,7 +48,7 @@ undone-broken w before b bs e r again =
     (with_byte-suc space space (breaks_from w 0 0 bs) (wrapped w 0 bs)
     ∙ ap (λ (rest : List ℕ). space ∷ rest) again ∙ ap (λ c. c ∷ bs) (sym (eqb-true b space e)))
 
--- spaces at the breaks give the text back
+-- Spaces at the breaks give the text back.
 pub undone : (w before : ℕ) (text : List ℕ) → with_byte space (breaks_from w 0 before text) (wrapped w before text) ≡ text
 unfolding breaks_from
 undone w before [] = refl

@@ -14,8 +14,8 @@ const SPACE: u8 = b' ';
 
 const LINE_FEED: u8 = b'\n';
 
-/// A text that was wrapped: its bytes, with an LF in place of each space at which a line was broken, and the places of
-/// these spaces in rising order.
+/// A wrapped text: its bytes, with an LF in place of each space at which a line was broken, and the places of these
+/// spaces in rising order.
 #[derive(Drop)]
 pub struct Wrapped {
     pub bytes: Vec<u8>,
@@ -30,7 +30,7 @@ impl Model for Wrapped {
     ghost view = { λ w. record { bytes = w.bytes.items; breaks = w.breaks.items } };
 }
 
-/// How many bytes stand before the first space or LF, or the end.
+/// How many bytes stand before the first space or LF, or before the end where there is none.
 fn word_length(text: &[u8]) -> usize
     ensures value { result ≡ word_length text.now }
     ensures within { result ≤ length text.now }
@@ -63,12 +63,12 @@ fn first_fit_breaks(alloc: Global, width: u8, text: &[u8]) -> Result<Vec<u32>, N
 }
 
 /// Wraps a text: its lines are broken at spaces by first fit. A space is a break exactly where the line up to it, the
-/// space and the word behind it are together longer than the width, in bytes. An LF ends a line; CR and tab are bytes of
-/// a line. No word is cut, so a line of one long word may be longer than the width. The width is at least 1, and the
-/// text has at most 4,194,304 bytes.
+/// space and the next word are together longer than the width, in bytes. An LF ends a line; CR and tab are bytes of a
+/// line. No word is cut, so a line of one long word may be longer than the width. The width is at least 1, and the text
+/// has at most 4,194,304 bytes.
 ///
 /// # Errors
-/// Only for want of memory.
+/// Only where there is no memory.
 pub fn wrap(alloc: Global, width: u8, text: &[u8]) -> Result<Wrapped, NoRoom>
     requires wide { 0 < width }
     requires fits { length text.now ≤ WRAP_LIMIT }

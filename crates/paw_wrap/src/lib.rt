@@ -1,4 +1,4 @@
-//! A text in columns: its lines broken at spaces by first fit, so that each is as long as the width allows.
+//! A text in columns: its lines are broken at spaces by first fit, so that each is as long as the width allows.
 #![tactic(auto)]
 
 mod columns;

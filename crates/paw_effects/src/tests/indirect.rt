@@ -29,15 +29,15 @@ const EXTERN_FROM: u8 = INDIRECT + EXTERN;
 
 const PAUSE_FROM: u8 = INDIRECT + PAUSE;
 
-/// The game has two messages, 54 system messages, five objects, three locations and five routines. A value past the last
-/// of them makes a condition fail, and an action do nothing.
+/// The game has two messages, 54 system messages, five objects, three locations and five routines. A value past the
+/// last of them makes a condition fail, and an action do nothing.
 const FROM_FLAGS: &[Scene] = scenes! {
     MES_FROM 100 0 GO, LET 100 2 GO, MES_FROM 100 0 GO => "Taken";
     LET 100 53 GO, SYSMESS_FROM 100 0 GO, LET 100 54 GO, SYSMESS_FROM 100 0 GO => "v";
     GOTO 1 0 GO, LET 100 1 GO, AT_FROM 100 0 YES, NOTAT_FROM 100 0 NO => "";
     LET 100 2 GO, AT_FROM 100 0 NO, NOTAT_FROM 100 0 YES => "";
     LET 100 3 GO, AT_FROM 100 0 NO, NOTAT_FROM 100 0 NO, RESET_FROM 100 0 GO, AT 1 0 YES => "";
-    // Object 4 is here, and is taken; what it says is system message 36.
+    // Object 4 is here, and is taken; the message is 36.
     LET 100 4 GO, GET_FROM 100 0 GO, ISAT 4 254 YES => "e\n";
     LET 100 5 GO, GET_FROM 100 0 GO, CREATE_FROM 100 0 GO => "";
     LET 100 3 GO, CREATE_FROM 100 0 GO, ISAT 3 1 YES => "";

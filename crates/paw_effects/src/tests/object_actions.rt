@@ -38,7 +38,7 @@ const GETTING: &[Scene] = scenes! {
     LET 52 6 GO, LET 37 1 GO, GET 1 0 REFUSED => "43 sword\n";
     LET 52 7 GO, GET 1 0 LOOP_ENDED, EQ 51 1 YES, EQ 55 3 YES => "27 sword\n";
     LET 37 2 GO, GET 1 0 GO, EQ 54 0 YES => "36 sword\n";
-    // The current location is none of the game's, and the bag stands there.
+    // The current location isn't one of the game's, and the bag stands there.
     LET 52 255 GO, LET 37 255 GO, DESTROY 2 0 GO, LET 38 252 GO, GET 2 0 REFUSED, EQ 56 128 YES,
         ZERO 57 0 YES => "26 bag\n";
 };

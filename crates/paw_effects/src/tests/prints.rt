@@ -1,4 +1,4 @@
-// What the actions print that tell counts, marks and lists.
+// What the actions print that show counts, marks and lists.
 
 use super::{Case, GO, SPENT, Scene, parts, run, run_behind};
 use paw_base::codes::{
@@ -47,7 +47,7 @@ const LISTS: &[Scene] = scenes! {
     LISTOBJ 0 0 GO => "B\nbag_\n";
     LISTAT 1 0 GO, LISTAT 255 0 GO => "nail\nbag_\n";
     LISTAT 253 0 GO, LISTAT 2 0 GO => "coat\nv\n";
-    // Bit 6 of flag 53 alone, while object 2 is carried and object 3 at location 1.
+    // Only bit 6 of flag 53, while object 2 is carried and object 3 at location 1.
     LET 53 64 GO, LISTOBJ 0 0 GO => "B\nbag_.\n";
     PLACE 2 254 GO, PLACE 3 1 GO, INVEN 0 0 GO => "J\nlamp, coatK and bag_.\n";
     LISTAT 1 0 GO => "rock and nail.\n";
@@ -56,7 +56,7 @@ const LISTS: &[Scene] = scenes! {
     // All bits but that one, while nothing is worn or carried.
     LET 53 191 GO, LISTAT 1 0 GO => "rock\nnail\n";
     DESTROY 0 0 GO, DESTROY 1 0 GO, DESTROY 2 0 GO, INVEN 0 0 GO => "J\nL\n";
-    // The current location is none of the game's.
+    // The current location isn't one of the game's.
     LET 38 3 GO, LISTOBJ 0 0 GO => "";
     LISTAT 255 0 GO => "lamp\ncoat\nbag_\n";
     LET 38 255 GO, LISTOBJ 0 0 GO => "";

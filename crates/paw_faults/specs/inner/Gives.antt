@@ -3,12 +3,12 @@ use Rattle.std.specs.Prelude.{◌≡◌, Result, Ok, Err}
 use Rattle.paw_faults.specs.declared.unread.Unread.{Unread}
 use Rattle.paw_faults.specs.declared.unread.Unread.TheVariants as unread
 
--- a fault is the one that is read; want of memory says nothing
+-- A fault is the one that is read; lack of memory says nothing.
 abbrev pub Fails : {B F : Type 0} → Unread F → Result B F → Type 0
 Fails unread.Memory read = Unit {0}
 Fails (unread.Fault fault) read = read ≡ Err fault
 
--- what was answered, seen by view, is what is read
+-- What was answered, seen by `view`, is what is read.
 abbrev pub Gives : {A B F : Type 0} → (A → B) → Result A (Unread F) → Result B F → Type 0
 Gives view (Ok x) read = read ≡ Ok (view x)
 Gives view (Err e) read = Fails e read

@@ -15,23 +15,23 @@ use Rattle.paw_game.specs.declared.parts.GameFault.{GameFault}
 use Rattle.paw_game.specs.Game.{GameLists}
 use Rattle.paw_game.specs.Valid.{is_word, is_text, is_object, is_exits, is_table}
 
--- of a part with this many rows: the most that it may have where it has more, their number where it has fewer than the
--- least, and else the first bad row
+-- The row to name of a part with this many rows: the most that it may have where it has more, their number where it has
+-- fewer than the least, and otherwise the first bad row.
 abbrev pub part_row_fault : ℕ → ℕ → ℕ → Option ℕ → Option ℕ
 part_row_fault least most count bad =
     if nat_lt most count then Some most else (if nat_lt count least then Some count else bad)
 
--- the first row that breaks the rule
+-- The first row that breaks the rule.
 abbrev pub first_bad : {X : Type 0} → (X → Bool) → List X → Option ℕ
 first_bad rule rows = position (λ row. not (rule row)) rows
 
--- the first of these words, numbered from n on, that breaks a rule or doesn't stand above the letters before it
+-- The first of these words, numbered from n on, that breaks a rule or doesn't stand above the letters before it.
 abbrev pub bad_word : ℕ → List ℕ → List Word → Option ℕ
 bad_word n before [] = None
 bad_word n before (w ∷ ws) =
     if is_word w && is_lt (slice_cmp nat_cmp before w.letters) then bad_word (suc n) w.letters ws else Some n
 
--- no letters at all stand below all words, so the first word has only its own rule to keep
+-- No letters at all stand below all words, so the first word has only its own rule to keep.
 unfoldable pub words_fault : List Word → Option ℕ
 words_fault ws = part_row_fault 0 WORD_LIMIT (length ws) (bad_word 0 [] ws)
 
@@ -51,7 +51,7 @@ abbrev pub fault_in : GamePart → Option ℕ → Option GameFault
 fault_in p None = None
 fault_in p (Some row) = Some (record { part = p; row = row })
 
--- the first part that breaks a rule, and its row
+-- The first part that breaks a rule, and its row.
 unfoldable pub game_fault : GameLists → Option GameFault
 game_fault g =
     option_or (fault_in part.Words (words_fault g.words))

@@ -1,5 +1,4 @@
--- What a game's lists hold at a number: words that contracts between crates and proofs use beside those of
--- specs/Tables.antt.
+-- What a game's lists hold at a number: definitions for contracts and proofs, besides those of specs/Tables.antt.
 use Rattle.std.specs.Prelude.{ℕ, suc, Bool, false, List, [], ◌∷◌, Option}
 use Rattle.std.specs.Prelude.{Some, None, slice_get, drop, if◌then◌else◌}
 use Rattle.std.specs.Option.{option_map, option_map_or}
@@ -9,7 +8,7 @@ use Rattle.paw_game.specs.declared.parts.GamePart.TheVariants as part
 use Rattle.paw_game.specs.Game.{GameLists}
 use Rattle.paw_game.specs.Tables.{table_at, entry_at, matches}
 
--- a text of one of the parts that have texts
+-- A text of one of the parts that have texts.
 abbrev pub text_at : GameLists → GamePart → ℕ → Option (List ℕ)
 text_at g part.Words n = None
 text_at g part.System n = slice_get g.system n
@@ -19,15 +18,15 @@ text_at g part.Locations n = slice_get g.locations n
 text_at g part.Exits n = None
 text_at g part.Tables n = None
 
--- the table has this entry, and it matches
+-- Whether the table has this entry, and the entry matches.
 abbrev pub matches_at : GameLists → ℕ → ℕ → ℕ → ℕ → Bool
 matches_at g t e verb noun = option_map_or (matches verb noun) (entry_at g t e) false
 
--- of these entries, numbered from e on, the first that matches
+-- The first of these entries, numbered from e on, that matches.
 abbrev pub first_match : ℕ → ℕ → ℕ → List Entry → Option ℕ
 first_match verb noun e [] = None
 first_match verb noun e (en ∷ es) = if matches verb noun en then Some e else first_match verb noun (suc e) es
 
--- the least matching entry of a table that isn't below from
+-- The least matching entry of a table that isn't below `from`.
 abbrev pub match_at : GameLists → ℕ → ℕ → ℕ → ℕ → Option ℕ
 match_at g t from verb noun = first_match verb noun from (drop from (table_at g t))

@@ -1,10 +1,9 @@
--- The rules that a game's lists keep: words that contracts between crates and proofs use beside those of
--- specs/Valid.antt.
+-- The rules that a game's lists keep: definitions for contracts and proofs, besides those of specs/Valid.antt.
 use Rattle.std.specs.Prelude.{Bool}
 use Rattle.paw_base.specs.declared.parts.Condact.{Condact}
 use Rattle.paw_game.specs.Game.{GameLists}
 use Rattle.paw_game.specs.Valid.{keeps_kinds, is_argument}
 
--- a condact that can be carried out: a word in it may be any byte
+-- Whether a condact can be carried out: a word in it may be any byte.
 abbrev pub is_right : GameLists → Condact → Bool
 is_right g c = keeps_kinds (is_argument g) c

@@ -7,11 +7,11 @@ use Rattle.paw_game.specs.declared.rules.Lengths.{Lengths}
 use Rattle.paw_game.specs.Game.{counts_with}
 use Rattle.paw_game.specs.Valid.{has_word}
 
--- the table tells, for each value, whether a word of the class has it
+-- The table says for each value whether a word of the class has it.
 pub record Tells (table : List Bool) (ws : List Word) (class : ℕ) : Type 0 where
   pub long : length table ≡ 256
   pub each : (value : ℕ) → value < 256 → slice_index_or table value false ≡ has_word ws class value
 
--- as many rows as these lengths say
+-- The counts that are as large as these lengths.
 abbrev pub counts_in : Lengths → Counts
 counts_in l = counts_with l.words l.system l.messages l.objects l.locations l.tables

@@ -1,16 +1,16 @@
--- The condacts of a line: words that contracts between crates and proofs use beside those of specs/Condacts.antt.
+-- The condacts of a line: definitions for contracts and proofs, besides those of specs/Condacts.antt.
 use Rattle.std.specs.Prelude.{◌≤◌, List}
 use Rattle.paw_game.specs.declared.parts.Word.{Word}
 use Rattle.paw_grammar.specs.declared.bounds.Bounds.{Bounds}
 
 -- ---- parameters ----
 
--- what condacts may name: parts, by numbers below these bounds, and words
+-- What condacts may name: parts, by numbers below these bounds, and words.
 pub record InScope : Type 0 where
   pub bounds : Bounds
   pub words : List Word
 
--- a byte holds every number below these, but a table's
+-- A byte holds every number below these bounds, except a table's.
 pub record AreSmall (bounds : Bounds) : Type 0 where
   pub system : bounds.system ≤ 256
   pub messages : bounds.messages ≤ 256

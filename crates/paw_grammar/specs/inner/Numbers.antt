@@ -1,15 +1,15 @@
--- Numbers: words that contracts between crates and proofs use beside those of specs/Numbers.antt.
+-- Numbers: definitions for contracts and proofs, besides those of specs/Numbers.antt.
 use Rattle.std.specs.Prelude.{ℕ, List, min, Option, Some, None, Result}
 use Rattle.paw_base.specs.declared.fault.SourceKind.{SourceKind}
 use Rattle.paw_base.specs.declared.fault.SourceKind.TheVariants as kind
 use Rattle.paw_grammar.specs.Tokens.{read_by}
 use Rattle.paw_grammar.specs.Numbers.{number}
 
--- a number as four bytes hold it: 4,294,967,295 stands for every number above it too
+-- A number as four bytes hold it: 4,294,967,295 stands for every number above it too.
 abbrev pub capped : Option ℕ → Option ℕ
 capped None = None
 capped (Some n) = Some (min n 4294967295)
 
--- the next number, as four bytes hold it
+-- The next number, as four bytes hold it.
 abbrev pub capped_number : List (List ℕ) → Result (ℕ × List (List ℕ)) SourceKind
 capped_number ts = read_by kind.Number (λ t. capped (number t)) ts

@@ -1,19 +1,19 @@
--- Which bytes are an image, and what a refusal says of them: words that contracts between crates and proofs use beside
--- those of specs/Images.antt.
+-- Which bytes are an image, and what a refusal says of them: definitions for contracts and proofs, besides those of
+-- specs/Images.antt.
 use Rattle.std.specs.Prelude.{ℕ, ◌<◌, List, slice_index, Result, Ok, Err}
 use Rattle.paw_image.specs.declared.refusal.ImageRefusal.{ImageRefusal}
 use Rattle.paw_image.specs.declared.refusal.ImageRefusal.TheVariants as refusal
 
--- each number is one of a byte
+-- Each number is a byte.
 abbrev pub AreBytes : List ℕ → Type 0
 AreBytes bytes = (i : ℕ) → slice_index bytes i < 256
 
--- a fact of the place that a refusal names
+-- A fact of the place that a refusal names.
 abbrev pub AtDamage : ImageRefusal → (ℕ → Type 0) → Type 0
 AtDamage refusal.Memory P = Unit {0}
 AtDamage (refusal.Damaged at) P = P at
 
--- a fact for the answer Damaged, of its place
+-- A fact of the place in the answer Damaged.
 abbrev pub IfDamaged : {T : Type 0} → Result T ImageRefusal → (ℕ → Type 0) → Type 0
 IfDamaged (Ok x) P = Unit {0}
 IfDamaged (Err e) P = AtDamage e P

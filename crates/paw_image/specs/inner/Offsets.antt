@@ -13,24 +13,24 @@ use Rattle.paw_image.specs.Damage.{after_object, after_exits, after_entry, after
 use Rattle.paw_image.specs.inner.Orders.{IsOrder}
 use Rattle.paw_faults.specs.Bind.{◌>>=◌}
 
--- where rows begin of which the first begins at a place
+-- Where each row begins, the first of them at this place.
 abbrev pub offsets : {A : Type 0} → (A → List ℕ) → ℕ → List A → List ℕ
 offsets image at [] = []
 offsets image at (x ∷ xs) = at ∷ offsets image (at + length (image x)) xs
 
--- where the entries of tables begin of which the first begins at a place; a table begins with a number of two bytes
+-- Where the entries of each table begin, the first table at this place; a table begins with a number of two bytes.
 abbrev pub entry_offsets : ℕ → List (List Entry) → List (List ℕ)
 entry_offsets at [] = []
 entry_offsets at (es ∷ ess) = offsets entry_image (at + 2) es ∷ entry_offsets (at + length (table_image es)) ess
 
--- ---- as they are gone over ----
+-- ---- as they are passed over ----
 
--- what comes of the rest of the bytes; nothing after a fault
+-- The result for the rest of the bytes; nothing after a fault.
 abbrev pub on_rest : {A : Type 0} → (List ℕ → List A) → Passing → List A
 on_rest f (Ok rest) = f rest
 on_rest f (Err left) = []
 
--- where the rows at the front of the last bytes of so many begin
+-- Where the rows at the front of the last of `total` bytes begin.
 unfoldable pub begins : (List ℕ → Passing) → ℕ → ℕ → List ℕ → List ℕ
 begins row total zero bytes = []
 begins row total (suc n) bytes = (total - length bytes) ∷ on_rest (begins row total n) (row bytes)
@@ -39,17 +39,17 @@ abbrev pub entries_after : Preface → ℕ → Result (ℕ × List ℕ) ℕ → 
 entries_after d total (Ok count) = begins (after_entry d) total count.0 count.1
 entries_after d total (Err left) = []
 
--- where the entries of the table at the front begin
+-- Where the entries of the table at the front begin.
 unfoldable pub entries_begin : Preface → ℕ → List ℕ → List ℕ
 entries_begin d total bytes = entries_after d total (number_kept 0 ENTRY_LIMIT bytes)
 
--- the same of so many tables
+-- The same for a number of tables.
 unfoldable pub tables_begin : Preface → ℕ → ℕ → List ℕ → List (List ℕ)
 tables_begin d total zero bytes = []
 tables_begin d total (suc n) bytes =
     entries_begin d total bytes ∷ on_rest (tables_begin d total n) (after_table d bytes)
 
--- the bytes after the system messages, then after the lists up to each further one
+-- The bytes after the system messages, then after the lists up to each further one.
 abbrev pub to_messages : Preface → List ℕ → Passing
 to_messages d bytes = each after_text d.counts.system bytes
 
@@ -65,11 +65,11 @@ to_exits d bytes = to_locations d bytes >>= each after_text d.counts.locations
 abbrev pub to_tables : Preface → List ℕ → Passing
 to_tables d bytes = to_exits d bytes >>= each (after_exits d) d.counts.locations
 
--- where the entries of each table begin, as it is kept
+-- Where the entries of each table begin, as the index has it.
 abbrev pub entries_of : List TableIndex → List (List ℕ)
 entries_of ts = map (λ t. t.entries.items) ts
 
--- where the rows of each list begin, as the lists after the words are gone over
+-- Where the rows of each list begin, as the lists after the words are passed over.
 pub record AreGoneOver (d : Preface) (total : ℕ) (bytes : List ℕ) (p : Offsets) : Type 0 where
   pub system : p.system.items ≡ begins after_text total d.counts.system bytes
   pub messages : p.messages.items ≡ on_rest (begins after_text total d.counts.messages) (to_messages d bytes)
@@ -78,11 +78,11 @@ pub record AreGoneOver (d : Preface) (total : ℕ) (bytes : List ℕ) (p : Offse
   pub exits : p.exits.items ≡ on_rest (begins (after_exits d) total d.counts.locations) (to_exits d bytes)
   pub tables : entries_of p.tables.items ≡ on_rest (tables_begin d total d.counts.tables) (to_tables d bytes)
 
--- the front as the code has it
+-- The front as the code has it.
 abbrev pub preface_of : Front → Preface
 preface_of f = record { version = f.version; counts = f.counts; words = f.words.items }
 
--- the front, the bytes after it and the offsets that come of the bytes as they are gone over
+-- The front, the bytes after it and the offsets that result where the bytes are passed over.
 pub record IsPassed (bytes : List ℕ) (front_read : Front) (rest : List ℕ) (p : Offsets) : Type 0 where
   pub declared : front bytes ≡ Ok (preface_of front_read, rest)
   pub over : AreGoneOver (preface_of front_read) (length bytes) rest p

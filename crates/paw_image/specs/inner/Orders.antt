@@ -8,41 +8,41 @@ use Rattle.paw_game.specs.Tables.{is_for}
 use Rattle.paw_image.specs.declared.order.Head.{Head}
 use Rattle.paw_image.specs.declared.order.Order.{Order}
 
--- the verb and the noun at each of these offsets, numbered from n on
+-- The verb and the noun at each of these offsets, numbered from n on.
 abbrev pub heads_at : List ℕ → ℕ → List ℕ → List Head
 heads_at bytes n [] = []
 heads_at bytes n (p ∷ ps) =
     record { verb = slice_index bytes p; noun = slice_index bytes (p + 1); entry = n } ∷ heads_at bytes (suc n) ps
 
--- the same of entries
+-- The same for entries.
 abbrev pub heads_of : ℕ → List Entry → List Head
 heads_of n [] = []
 heads_of n (e ∷ es) = record { verb = e.verb; noun = e.noun; entry = n } ∷ heads_of (suc n) es
 
 -- ---- the order ----
 
--- a verb before a noun before a number of an entry
+-- A rank by verb, then by noun, then by the number of the entry.
 abbrev pub ranked : ℕ → ℕ → ℕ → ℕ
 ranked verb noun entry = (verb * 256 + noun) * 65536 + entry
 
 abbrev pub rank : Head → ℕ
 rank h = ranked h.verb h.noun h.entry
 
--- a noun is a byte, and a number of an entry two bytes: so a rank tells all three
+-- A noun is a byte, and the number of an entry two bytes, so that a rank gives all three.
 abbrev pub IsSmall : Head → Type 0
 IsSmall h = (h.noun < 256) × (h.entry < 65536)
 
--- heads in order of verb, noun and number
+-- The heads are in order of verb, noun and number.
 pub record Rises (heads : List Head) : Type 0 where
   pub small : All IsSmall heads
   pub rises : IsNonDecreasingBy rank heads
 
--- before this place stand the heads with a verb below this one, and no others
+-- Before this place stand the heads with a verb below this one, and no others.
 pub record IsStart (heads : List Head) (verb start : ℕ) : Type 0 where
   pub within : start ≤ length heads
   pub parts : IsPartitionPoint (λ h. h.verb < verb) (λ h. verb ≤ h.verb) heads start
 
--- such a place for each verb, and one behind the last
+-- There is such a place for each verb, and one after the last.
 pub record AreStarts (heads : List Head) (starts : List ℕ) : Type 0 where
   pub long : length starts ≡ 257
   pub each : (verb : ℕ) → verb ≤ 256 → IsStart heads verb (slice_index starts verb)
@@ -51,12 +51,12 @@ pub record IsSorted (order : Order) : Type 0 where
   pub heads : Rises order.heads.items
   pub starts : AreStarts order.heads.items order.starts.items
 
--- the heads at these offsets, sorted
+-- The heads at these offsets, sorted.
 pub record IsOrder (bytes offsets : List ℕ) (order : Order) : Type 0 where
   pub same : IsPermutation (heads_at bytes 0 offsets) order.heads.items
   pub sorted : IsSorted order
 
--- the heads with this verb, in order
+-- The heads with this verb, in order.
 pub record IsRun (heads : List Head) (verb : ℕ) (run : List Head) : Type 0 where
   pub rises : Rises run
   pub verbs : All (λ h. h.verb ≡ verb) run
@@ -65,16 +65,16 @@ pub record IsRun (heads : List Head) (verb : ℕ) (run : List Head) : Type 0 whe
 
 -- ---- what is looked up ----
 
--- the first number with a property; None where no number has it
+-- The first number with a property; None where no number has it.
 abbrev pub IsLeast : (ℕ → Type 0) → Option ℕ → Type 0
 IsLeast P None = (e : ℕ) → P e → ⊥
 IsLeast P (Some e) = P e × ((f : ℕ) → P f → e ≤ f)
 
--- the words of a head match this verb and noun
+-- Whether the words of a head match this verb and noun.
 abbrev pub is_match : ℕ → ℕ → Head → Bool
 is_match verb noun h = is_for h.verb verb && is_for h.noun noun
 
--- an entry not below from, of a head with a property
+-- An entry that isn't below `from`, of a head with a property.
 pub record IsMatch (heads : List Head) (has : Head → Bool) (from e : ℕ) : Type 0 where
   pub reached : from ≤ e
   pub head : Head
@@ -82,7 +82,7 @@ pub record IsMatch (heads : List Head) (has : Head → Bool) (from e : ℕ) : Ty
   pub number : head.entry ≡ e
   pub matching : IsTrue (has head)
 
--- the lower of two numbers, where there are two
+-- The lower of two numbers, where there are two.
 abbrev pub lower : Option ℕ → Option ℕ → Option ℕ
 lower None b = b
 lower (Some a) None = Some a

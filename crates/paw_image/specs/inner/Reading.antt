@@ -1,5 +1,4 @@
--- Reading an image from left to right: words that contracts between crates and proofs use beside those of
--- specs/Reading.antt.
+-- Reading an image from left to right: definitions for contracts and proofs, besides those of specs/Reading.antt.
 use Rattle.std.specs.Prelude.{ℕ, zero, suc, not, List, [], ◌∷◌, length, Result}
 use Rattle.std.specs.Prelude.{Ok, Err, ◌==◌, ◌&&◌, bit_and, if◌then◌else◌}
 use Rattle.paw_base.specs.declared.parts.Condact.{Condact}
@@ -21,21 +20,21 @@ use Rattle.paw_image.specs.Reading.{Reading, byte_at, bytes_at, number_at}
 
 -- ---- what a function of the code gives ----
 
--- there is no value
+-- There is no value.
 abbrev pub IsFault : {A : Type 0} → Result A ℕ → Type 0
 IsFault (Ok x) = ⊥
 IsFault (Err left) = Unit {0}
 
 -- ---- numbers and bytes ----
 
--- two bytes
+-- The first two bytes.
 unfoldable pub pair_at : List ℕ → Reading (ℕ × ℕ)
 pair_at bytes = do
   first ← byte_at bytes
   second ← byte_at first.1
   Ok ((first.0, second.0), second.1)
 
--- as many rows as are counted
+-- This number of rows.
 unfoldable pub leading_rows : {A : Type 0} → (List ℕ → Reading A) → ℕ → List ℕ → Reading (List A)
 leading_rows row zero bytes = Ok ([], bytes)
 leading_rows row (suc n) bytes = do
@@ -43,7 +42,7 @@ leading_rows row (suc n) bytes = do
   others ← leading_rows row n first.1
   Ok (first.0 ∷ others.0, others.1)
 
--- a count of one byte, and as many rows
+-- A count of one byte, and that number of rows.
 unfoldable pub few_at : {A : Type 0} → (List ℕ → Reading A) → List ℕ → Reading (List A)
 few_at row bytes = do
   count ← byte_at bytes
@@ -51,13 +50,13 @@ few_at row bytes = do
 
 -- ---- rows ----
 
--- a length of two bytes, and the text
+-- A length of two bytes, and the text.
 unfoldable pub text_at : List ℕ → Reading (List ℕ)
 text_at bytes = do
   len ← number_at bytes
   bytes_at len.0 len.1
 
--- bits 0 to 5 are the weight, bit 6 tells a container, bit 7 that it may be worn
+-- The facts of an object: bits 0 to 5 of its last byte are its weight, bit 6 marks a container, bit 7 what may be worn.
 abbrev pub facts_with : ℕ → ℕ → ℕ → ℕ → ObjectFacts
 facts_with noun adjective start weight = record {
   noun = noun;
@@ -68,7 +67,7 @@ facts_with noun adjective start weight = record {
   wearable = not (bit_and weight 128 == 0);
 }
 
--- noun, adjective, first place, and the byte of the weight
+-- A noun, an adjective, a first place, and the byte of the weight.
 unfoldable pub leading_facts : List ℕ → Reading ObjectFacts
 leading_facts bytes = do
   noun ← byte_at bytes
@@ -77,36 +76,36 @@ leading_facts bytes = do
   weight ← byte_at start.1
   Ok (facts_with noun.0 adjective.0 start.0 weight.0, weight.1)
 
--- a text, and what is said of the object
+-- A text, and the facts of the object.
 unfoldable pub object_at : List ℕ → Reading ObjectRow
 object_at bytes = do
   text ← text_at bytes
   facts ← leading_facts text.1
   Ok (record { text = text.0; facts = facts.0 }, facts.1)
 
--- a verb, and where it leads
+-- A verb, and where it leads.
 unfoldable pub leading_exit : List ℕ → Reading Exit
 leading_exit bytes = do
   pair ← pair_at bytes
   Ok (record { verb = pair.0.0; to = pair.0.1 }, pair.1)
 
--- how many exits, and each
+-- The number of exits, and each exit.
 abbrev pub exits_at : List ℕ → Reading (List Exit)
 exits_at bytes = few_at leading_exit bytes
 
 -- ---- tables ----
 
--- the code of a condact
+-- The code of a condact.
 abbrev pub code_at : List ℕ → Reading ℕ
 code_at [] = Err 0
 code_at (code ∷ bytes) = if is_code code then Ok (code, bytes) else Err (suc (length bytes))
 
--- a parameter of this kind; one that a code doesn't have is 0, and takes no byte
+-- A parameter of this kind; one that a code doesn't have is 0, and takes no byte.
 abbrev pub parameter_at : ParamKind → List ℕ → Reading ℕ
 parameter_at kind.Absent bytes = Ok (0, bytes)
 parameter_at _ bytes = byte_at bytes
 
--- a code, and the parameters that it has
+-- A code, and the parameters that it has.
 unfoldable pub leading_condact : List ℕ → Reading Condact
 leading_condact bytes = do
   code ← code_at bytes
@@ -114,14 +113,14 @@ leading_condact bytes = do
   b ← parameter_at (second_kind code.0) a.1
   Ok (record { code = code.0; a = a.0; b = b.0 }, b.1)
 
--- verb, noun, how many condacts, and each
+-- A verb, a noun, the number of condacts, and each condact.
 unfoldable pub leading_entry : List ℕ → Reading Entry
 leading_entry bytes = do
   head ← pair_at bytes
   condacts ← few_at leading_condact head.1
   Ok (record { verb = head.0.0; noun = head.0.1; condacts = condacts.0 }, condacts.1)
 
--- how many entries, and each
+-- The number of entries, and each entry.
 unfoldable pub leading_table : List ℕ → Reading (List Entry)
 leading_table bytes = do
   count ← number_at bytes
@@ -141,7 +140,7 @@ game_with words system messages objects locations exits tables = record {
   tables = tables;
 }
 
--- the lists after the words, with so many rows; each location has its exits
+-- The lists after the words, with these numbers of rows; each location has its exits.
 unfoldable pub lists_at : Preface → List ℕ → Reading GameLists
 lists_at d bytes = do
   system ← leading_rows text_at d.counts.system bytes
@@ -152,12 +151,12 @@ lists_at d bytes = do
   tables ← leading_rows leading_table d.counts.tables exits.1
   Ok (game_with d.words system.0 messages.0 objects.0 locations.0 exits.0 tables.0, tables.1)
 
--- the byte that a version is told by
+-- The byte that stands for a version.
 abbrev pub byte_of : Version → ℕ
 byte_of One = 1
 byte_of Two = 2
 
--- all of the bytes, with none after the lists, whose version is the one that they need
+-- All of the bytes, with none after the lists, whose version is the one that they need.
 unfoldable pub all_of : List ℕ → Result GameLists ℕ
 all_of bytes = do
   d ← front bytes

@@ -9,20 +9,20 @@ use Rattle.paw_faults.specs.Bind.{◌>>=◌}
 use Rattle.paw_image.specs.Reading.{Reading}
 use Rattle.paw_image.specs.inner.Reading.{text_at, leading_facts, leading_condact}
 
--- the value that was read, where there is one
+-- The value that was read, where there is one.
 abbrev pub value_of : {A : Type 0} → Reading A → Option A
 value_of (Ok x) = Some x.0
 value_of (Err left) = None
 
--- what is said of an object beside its text, which stands at the front
+-- The facts of an object whose text stands at the front.
 abbrev pub after_text_facts : List ℕ → Reading ObjectFacts
 after_text_facts bytes = text_at bytes >>= λ text. leading_facts text.1
 
--- what is said of the object at the front
+-- The facts of the object at the front.
 unfoldable pub facts_here : List ℕ → Option ObjectFacts
 facts_here bytes = value_of (after_text_facts bytes)
 
--- the exit at the front, and the bytes after it
+-- The exit at the front, and the bytes after it.
 abbrev pub exit_here : List ℕ → Option (Exit × List ℕ)
 exit_here [] = None
 exit_here (verb ∷ []) = None
@@ -32,47 +32,47 @@ abbrev pub led : ℕ → (List ℕ → Option ℕ) → Option (Exit × List ℕ)
 led verb others None = None
 led verb others (Some x) = if x.0.verb == verb then Some x.0.to else others x.1
 
--- of so many exits, where the first with this verb leads
+-- Where the first of n exits with this verb leads.
 unfoldable pub exit_in : ℕ → ℕ → List ℕ → Option ℕ
 exit_in verb zero bytes = None
 exit_in verb (suc n) bytes = led verb (exit_in verb n) (exit_here bytes)
 
--- where the exit for a verb leads, of the exits at the front
+-- Where the exit for a verb leads, among the exits at the front.
 unfoldable pub exits_here : ℕ → List ℕ → Option ℕ
 exits_here verb [] = None
 exits_here verb (count ∷ bytes) = exit_in verb count bytes
 
--- the verb and the noun of the entry at the front
+-- The verb and the noun of the entry at the front.
 unfoldable pub head_here : List ℕ → Option (ℕ × ℕ)
 head_here [] = None
 head_here (verb ∷ []) = None
 head_here (verb ∷ noun ∷ bytes) = Some (record { 0 = verb; 1 = noun })
 
--- the bytes after a condact
+-- The bytes after a condact.
 abbrev pub past_condact : List ℕ → Passing
 past_condact bytes = leading_condact bytes >>= λ x. Ok x.1
 
--- the condact after so many condacts
+-- The condact after this number of condacts.
 abbrev pub condact_after : ℕ → List ℕ → Reading Condact
 condact_after count bytes = each past_condact count bytes >>= leading_condact
 
--- one of so many condacts
+-- One of this number of condacts.
 abbrev pub condact_among : ℕ → ℕ → List ℕ → Option Condact
 condact_among at count bytes = if nat_lt at count then value_of (condact_after at bytes) else None
 
--- a condact of the entry at the front
+-- A condact of the entry at the front.
 unfoldable pub nth_condact : ℕ → List ℕ → Option Condact
 nth_condact at [] = None
 nth_condact at (verb ∷ []) = None
 nth_condact at (verb ∷ noun ∷ []) = None
 nth_condact at (verb ∷ noun ∷ count ∷ bytes) = condact_among at count bytes
 
--- a row up to its rest
+-- A row up to its rest.
 abbrev pub up_to : List ℕ → Passing → Option (List ℕ)
 up_to row (Ok after) = Some (take (length row - length after) row)
 up_to row (Err left) = None
 
--- the bytes of the entry at the front
+-- The bytes of the entry at the front.
 unfoldable pub entry_here : List ℕ → Option (List ℕ)
 entry_here [] = None
 entry_here (verb ∷ []) = None

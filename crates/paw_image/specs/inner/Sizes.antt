@@ -1,5 +1,5 @@
--- What an image can tell of a row: a number of one byte or two for each length, six bits for a weight, and no parameter
--- that a code doesn't have.
+-- What an image has room for in a row: a number of one byte or two for each length, six bits for a weight, and no
+-- parameter that a code doesn't have.
 use Rattle.std.specs.Prelude.{◌≡◌, ℕ, ◌^◌, ◌<◌, List, length}
 use Rattle.std.specs.List.{AllByRecursion}
 use Rattle.paw_base.specs.declared.limits.TheConstants.{WORD_LENGTH}
@@ -14,49 +14,49 @@ use Rattle.paw_game.specs.declared.parts.Exit.{Exit}
 use Rattle.paw_game.specs.declared.parts.Entry.{Entry}
 use Rattle.paw_game.specs.Game.{GameLists}
 
--- five letters
+-- There are five letters.
 abbrev pub FitsWord : Word → Type 0
 FitsWord w = length w.letters ≡ WORD_LENGTH
 
--- a length of two bytes
+-- The length fits into two bytes.
 abbrev pub FitsText : List ℕ → Type 0
 FitsText text = length text < 2 ^ 16
 
--- a weight of six bits beside two more
+-- The weight fits into six bits, which two more follow.
 pub record FitsObject (o : ObjectRow) : Type 0 where
   pub text : FitsText o.text
   pub weight : o.facts.weight < 64
 
--- two bytes, whatever they are
+-- An exit has two bytes, whatever they are.
 abbrev pub FitsExit : Exit → Type 0
 FitsExit x = Unit {0}
 
--- a length of one byte
+-- The length fits into one byte.
 abbrev pub FitsExits : List Exit → Type 0
 FitsExits xs = length xs < 256
 
--- a parameter that isn't there is 0
+-- A parameter that isn't there is 0.
 abbrev pub FitsParameter : ParamKind → ℕ → Type 0
 FitsParameter kind.Absent x = x ≡ 0
 FitsParameter _ x = Unit {0}
 
--- a code that has a row, and no more than its parameters
+-- The code has a row, and there are no more than its parameters.
 pub record FitsCondact (c : Condact) : Type 0 where
   pub code : IsCode c.code
   pub a : FitsParameter (first_kind c.code) c.a
   pub b : FitsParameter (second_kind c.code) c.b
 
--- a length of one byte, and condacts that fit
+-- The length fits into one byte, and the condacts fit.
 pub record FitsEntry (e : Entry) : Type 0 where
   pub count : length e.condacts < 256
   pub condacts : AllByRecursion FitsCondact e.condacts
 
--- a length of two bytes, and entries that fit
+-- The length fits into two bytes, and the entries fit.
 pub record FitsTable (es : List Entry) : Type 0 where
   pub count : length es < 2 ^ 16
   pub entries : AllByRecursion FitsEntry es
 
--- counts of two bytes; that of the locations stands for their exits too
+-- The counts fit into two bytes; that of the locations stands for their exits too.
 pub record FitsCounts (g : GameLists) : Type 0 where
   pub words : length g.words < 2 ^ 16
   pub system : length g.system < 2 ^ 16
@@ -66,7 +66,7 @@ pub record FitsCounts (g : GameLists) : Type 0 where
   pub exits : length g.exits ≡ length g.locations
   pub tables : length g.tables < 2 ^ 16
 
--- every row fits
+-- Every row fits.
 pub record FitsGame (g : GameLists) : Type 0 where
   pub counts : FitsCounts g
   pub words : AllByRecursion FitsWord g.words

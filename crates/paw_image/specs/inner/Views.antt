@@ -15,7 +15,7 @@ use Rattle.paw_image.specs.inner.Orders.{IsOrder}
 use Rattle.paw_image.specs.inner.Offsets.{offsets, entry_offsets, entries_of}
 use Rattle.paw_image.specs.inner.Reading.{all_of}
 
--- the game that was read; one with no rows where none was
+-- The game that was read; one with no rows where none was.
 abbrev pub or_no_game : Result GameLists ℕ → GameLists
 or_no_game (Ok g) = g
 or_no_game (Err left) = record {
@@ -28,13 +28,13 @@ or_no_game (Err left) = record {
   tables = [];
 }
 
--- the game whose image the bytes are
+-- The game whose image the bytes are.
 unfoldable pub game_read : List ℕ → GameLists
 game_read bytes = or_no_game (all_of bytes)
 
 -- ---- where the lists begin ----
 
--- after the mark, the version, six counts, and the words
+-- Where the system messages begin: after the mark, the version, six counts, and the words.
 abbrev pub system_begins : GameLists → ℕ
 system_begins g = 17 + length (flat_map word_image g.words)
 
@@ -53,7 +53,7 @@ exits_begin g = locations_begin g + length (flat_map text_image g.locations)
 abbrev pub tables_begin_at : GameLists → ℕ
 tables_begin_at g = exits_begin g + length (flat_map exits_image g.exits)
 
--- where the rows of the parts begin that have texts
+-- Where the rows of the parts begin that have texts.
 abbrev pub rows_begin : GameLists → GamePart → List ℕ
 rows_begin g part.Words = []
 rows_begin g part.System = offsets text_image (system_begins g) g.system
@@ -63,7 +63,7 @@ rows_begin g part.Locations = offsets text_image (locations_begin g) g.locations
 rows_begin g part.Exits = []
 rows_begin g part.Tables = []
 
--- between which places a text stands: its row begins with the two bytes of its length
+-- The two places between which a text stands: its row begins with the two bytes of its length.
 abbrev pub spanned : Option ℕ → Option (List ℕ) → Option (ℕ × ℕ)
 spanned None text = None
 spanned (Some at) None = None
@@ -74,15 +74,15 @@ span_at g p n = spanned (slice_get (rows_begin g p) n) (text_at g p n)
 
 -- ---- what a view keeps ----
 
--- each table's entries are in order of verb and noun
+-- The entries of each table are in order of verb and noun.
 abbrev pub AreOrdered : List ℕ → Offsets → Type 0
 AreOrdered bytes p = AllByRecursion (λ t. IsOrder bytes t.entries.items t.order) p.tables.items
 
--- each table's entries have their marks
+-- The entries of each table have their marks.
 abbrev pub AreMarked : List ℕ → Offsets → Type 0
 AreMarked bytes p = AllByRecursion (IsMarked bytes) p.tables.items
 
--- bytes that are the image of a game; its counts and words; where its rows begin; its entries in order, and their marks
+-- The bytes are the image of a game with these counts and words, rows at these places, entries in order, and marks.
 pub record IsIndex (bytes : List ℕ) (counts : Counts) (words : List Word) (p : Offsets) : Type 0 where
   pub image : IsImage bytes (game_read bytes)
   pub counted : counts ≡ counts_of (game_read bytes)

@@ -6,6 +6,6 @@ abbrev pub letters_if_word : Option Word → List ℕ
 letters_if_word None = []
 letters_if_word (Some w) = w.letters
 
--- the letters of the last word; none where there is no word
+-- The letters of the last word; none where there is no word.
 abbrev pub last_letters : List Word → List ℕ
 last_letters ws = letters_if_word (slice_get ws (length ws - 1))

@@ -1,4 +1,4 @@
--- The lines of a source: words that contracts between crates and proofs use beside those of specs/Lines.antt.
+-- The lines of a source: definitions for contracts and proofs, besides those of specs/Lines.antt.
 use Rattle.std.specs.Prelude.{◌≡◌, ℕ, ◌≤◌, ◌⊎◌, List, [], ◌∷◌, length, slice_range}
 use Rattle.std.specs.Str.Lines.{lines}
 use Rattle.paw_lex.specs.declared.lines.Line.{Line}
@@ -11,14 +11,14 @@ pub record Walk : Type 0 where
   pub at : ℕ
   pub left : List (List ℕ)
 
--- the bytes of a line of the source
+-- The bytes of a line of the source.
 abbrev pub bytes_of : List ℕ → Line → List ℕ
 bytes_of source line = slice_range source line.from line.to
 
--- the line's span lies in the source
+-- The span of a line lies in the source.
 abbrev pub LiesIn : List ℕ → Line → Type 0
 LiesIn source line = (line.from ≤ line.to) × (line.to ≤ length source)
 
--- LF, or CR and LF
+-- These bytes are LF, or CR and LF.
 abbrev pub IsLineEnd : List ℕ → Type 0
 IsLineEnd bytes = (bytes ≡ 10 ∷ []) ⊎ (bytes ≡ 13 ∷ 10 ∷ [])

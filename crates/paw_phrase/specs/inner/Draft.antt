@@ -1,4 +1,4 @@
--- A phrase as it is read, mark by mark. The contracts of private functions alone speak of this.
+-- A phrase as it is read, mark by mark. Only the contracts of private functions use this.
 use Rattle.std.specs.Prelude.{ℕ, ◌==◌, List, Option, Some, None, if◌then◌else◌}
 use Rattle.paw_base.specs.declared.words.TheConstants.{CONJUNCTION_CLASS}
 use Rattle.paw_game.specs.Game.{GameLists}
@@ -14,34 +14,34 @@ abbrev pub part_of_word : Option (ℕ × ℕ) → Part
 part_of_word None = part.Unknown
 part_of_word (Some word) = if word.1 == CONJUNCTION_CLASS then part.Break else part.Word word.0 word.1
 
--- what a token or a separator is in a phrase
+-- What a token or a separator is in a phrase.
 abbrev pub phrase_part_of : GameLists → Option (List ℕ) → Part
 phrase_part_of g None = part.Break
 phrase_part_of g (Some letters) = part_of_word (word_at g letters)
 
--- a phrase that has begun ends at a break
+-- A phrase that has begun ends at a break.
 abbrev pub past_break : Found → Draft → Option Draft
 past_break found.Empty d = Some d
 past_break found.Nothing d = None
 past_break found.Sentence d = None
 
--- an unknown token begins a phrase
+-- An unknown token begins a phrase.
 abbrev pub or_nothing : Found → Found
 or_nothing found.Empty = found.Nothing
 or_nothing found.Nothing = found.Nothing
 or_nothing found.Sentence = found.Sentence
 
--- the draft with one part more; None where the phrase ends
+-- The draft with one more part; None where the phrase ends.
 abbrev pub with_part : Part → Draft → Option Draft
 with_part part.Break d = past_break d.found d
 with_part part.Unknown d = Some (record d { found = or_nothing d.found })
 with_part (part.Word value class) d = Some (record { found = found.Sentence; words = with_word value class d.words })
 
--- nothing is read yet
+-- A draft of which nothing is read yet.
 abbrev pub started : ℕ → ℕ → Draft
 started noun adjective = record { found = found.Empty; words = blank noun adjective }
 
--- what a draft comes to where its phrase ends, with the bytes behind it
+-- What a draft is where its phrase ends, with the bytes after it.
 abbrev pub found_outcome : ℕ → Found → Draft → List ℕ → Parsed
 found_outcome earlier found.Sentence d rest = IsSentence (finished earlier d.words) rest
 found_outcome earlier found.Nothing d rest = IsUnknown rest

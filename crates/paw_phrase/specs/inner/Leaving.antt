@@ -3,17 +3,17 @@ use Rattle.std.specs.Prelude.{◌≡◌, ◌⊎◌, ◌+◌, ◌≤◌, ℕ, Lis
 use Rattle.paw_game.specs.Game.{GameLists}
 use Rattle.paw_phrase.specs.Sentence.{Parsed, IsSentence, IsUnknown, IsNoPhrase, parsed}
 
--- a fact of the bytes that a phrase leaves
+-- A fact of the bytes that a phrase leaves.
 abbrev pub Leaves : (List ℕ → Type 0) → Parsed → Type 0
 Leaves P (IsSentence s rest) = P rest
 Leaves P (IsUnknown rest) = P rest
 Leaves P IsNoPhrase = Unit {0}
 
--- nothing is left, or at least two bytes less
+-- Nothing is left, or at least two bytes less.
 abbrev pub IsTwoLess : List ℕ → List ℕ → Type 0
 IsTwoLess pending rest = (rest ≡ []) ⊎ (length rest + 2 ≤ length pending)
 
--- so is it behind each phrase that is taken
+-- So it is after each phrase that is taken.
 abbrev pub PhrasesTakeTwo : Type 0
 PhrasesTakeTwo = (g : GameLists) (pending : List ℕ) (earlier noun adjective : ℕ)
     → Leaves (IsTwoLess pending) (parsed g pending earlier noun adjective)

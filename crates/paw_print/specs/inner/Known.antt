@@ -8,10 +8,10 @@ use Rattle.paw_game.specs.declared.parts.Entry.{Entry}
 abbrev pub IsKnown : Condact → Type 0
 IsKnown c = IsCode c.code
 
--- an entry that has such condacts alone
+-- An entry has only such condacts.
 abbrev pub IsKnownEntry : Entry → Type 0
 IsKnownEntry e = AllByRecursion IsKnown e.condacts
 
--- a table that has such entries alone
+-- A table has only such entries.
 abbrev pub IsKnownTable : List Entry → Type 0
 IsKnownTable es = AllByRecursion IsKnownEntry es

@@ -8,7 +8,7 @@ use Rattle.paw_grammar.specs.declared.section.Section.{Section}
 use Rattle.paw_grammar.specs.declared.section.Section.TheVariants as section
 use Rattle.paw_grammar.specs.GrammarState.{Spelt}
 
--- a section of tables has a table
+-- A section of tables has a table.
 abbrev pub HasTable : Section → ℕ → Type 0
 HasTable section.Before tables = Unit {0}
 HasTable section.Voc tables = Unit {0}
@@ -20,7 +20,7 @@ HasTable section.Con tables = Unit {0}
 HasTable section.Obj tables = Unit {0}
 HasTable section.Pro tables = 0 < tables
 
--- how many rows each list has at most
+-- The most rows that each list has.
 pub record AreShort (opened : Section) (ss ms ns ls : List (List ℕ)) (fs : List ObjectFacts) (ts : List (List Entry))
     : Type 0 where
   pub system : length ss ≤ SYSTEM_LIMIT

@@ -11,12 +11,12 @@ use Rattle.paw_grammar.specs.GrammarState.{Spelt, nothing_yet, game_of}
 use Rattle.paw_base.specs.declared.fault.SourceFault.{SourceFault}
 use Rattle.paw_grammar.specs.Spells.{step, begins_table, fault, spelled, Spells}
 
--- what the lines spell after what is spelled already, where none of them has a fault
+-- What the lines spell after what is spelled already, where none of them has a fault.
 unfoldable pub after_lines : ℕ → Spelt → List (List ℕ) → Result Spelt SourceKind
 after_lines p d [] = Ok d
 after_lines p d (l ∷ ls) = step p d l >>= λ e. after_lines p e ls
 
--- a line with a fault of this kind comes after n lines with none
+-- A line with a fault of this kind comes after n lines with none.
 pub record HasFault (p : ℕ) (d : Spelt) (ls : List (List ℕ)) (n : ℕ) (k : SourceKind) : Type 0 where
   pub before : List (List ℕ)
   pub line : List ℕ
@@ -27,30 +27,30 @@ pub record HasFault (p : ℕ) (d : Spelt) (ls : List (List ℕ)) (n : ℕ) (k : 
   pub no_fault : after_lines p d before ≡ Ok draft
   pub fault : step p draft line ≡ Err k
 
--- no line has a fault
+-- No line has a fault.
 pub record HasNone (p : ℕ) (d : Spelt) (ls : List (List ℕ)) : Type 0 where
   pub draft : Spelt
   pub no_fault : after_lines p d ls ≡ Ok draft
 
--- the lines of a source, read from the first on
+-- The first fault of a source, whose lines are read from the first on.
 abbrev pub FirstFault : List ℕ → ℕ → SourceKind → Type 0
 FirstFault source n k = HasFault (count_by begins_table (lines_of source)) nothing_yet (lines_of source) n k
 
 abbrev pub HasNoFault : List ℕ → Type 0
 HasNoFault source = HasNone (count_by begins_table (lines_of source)) nothing_yet (lines_of source)
 
--- of a source that isn't too long the first line with a fault is named, by its number
+-- The first line with a fault is named, by its number, where the source isn't too long.
 abbrev pub NamesTheFirst : Type 0
 NamesTheFirst = (source : List ℕ) (n : ℕ) (k : SourceKind) → length source ≤ SOURCE_LIMIT → FirstFault source n k
     → spelled source ≡ Err (fault (suc n) k)
 
--- what is named is the first line with a fault, or, where no line has one, the line after the last
+-- The line that is named is the first with a fault, or, where no line has one, the line after the last.
 abbrev pub IsNamedRightly : Type 0
 IsNamedRightly = (source : List ℕ) (f : SourceFault) → length source ≤ SOURCE_LIMIT → spelled source ≡ Err f
     → ((n : ℕ) × (f.line ≡ suc n) × FirstFault source n f.kind)
     ⊎ ((f.line ≡ suc (length (lines_of source))) × HasNoFault source)
 
--- lines without a fault begin as many tables as were counted
+-- Lines without a fault begin as many tables as were counted.
 abbrev pub CountsTables : Type 0
 CountsTables = (p : ℕ) (d e : Spelt) (ls : List (List ℕ)) → after_lines p d ls ≡ Ok e
     → length e.tables ≡ length d.tables + count_by begins_table ls
@@ -61,6 +61,6 @@ DraftsAreValid = (source : List ℕ) (d : Spelt)
     → after_lines (count_by begins_table (lines_of source)) nothing_yet (lines_of source) ≡ Ok d
     → TABLE_LEAST ≤ length d.tables → Valid (game_of d)
 
--- what a source spells is a valid game
+-- What a source spells is a valid game.
 abbrev pub SpellsValidGames : Type 0
 SpellsValidGames = (source : List ℕ) (g : GameLists) → Spells source g → Valid g

@@ -9,17 +9,17 @@ use Rattle.paw_grammar.specs.Spells.{fault}
 use Rattle.paw_source.specs.declared.refusal.SourceRefusal.{SourceRefusal}
 use Rattle.paw_source.specs.declared.refusal.SourceRefusal.TheVariants as refusal
 
--- a fault is the one that the source has; want of memory says nothing
+-- A fault is the one that the source has; lack of memory says nothing.
 abbrev pub RefusesSource : SourceRefusal → Result GameLists SourceFault → Type 0
 RefusesSource (refusal.Fault f) spelled = spelled ≡ Err f
 RefusesSource refusal.Memory spelled = Unit {0}
 
--- the refusal of a source where a line is refused
+-- The refusal of a source where a line is refused.
 abbrev pub refused_at_line : ℕ → Unread SourceKind → SourceRefusal
 refused_at_line n unread.Memory = refusal.Memory
 refused_at_line n (unread.Fault kind) = refusal.Fault (fault n kind)
 
--- what was answered of a source is the game that it spells, or its fault
+-- What was answered about a source is the game that it spells, or its fault.
 abbrev pub ReadsSource : Result GameLists SourceRefusal → Result GameLists SourceFault → Type 0
 ReadsSource (Ok game) spelled = spelled ≡ Ok game
 ReadsSource (Err refused) spelled = RefusesSource refused spelled

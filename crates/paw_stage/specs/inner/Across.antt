@@ -1,15 +1,15 @@
--- What happened at a stage across a call, or across several one after the other: words that contracts between crates
--- and proofs use beside those of specs/Across.antt.
+-- What happened at a stage across a call, or across several in a row: definitions for contracts and proofs, besides
+-- those of specs/Across.antt.
 use Rattle.std.specs.Prelude.{Result, OnOk}
 use Rattle.paw_stage.specs.Stage.{Standing}
 use Rattle.paw_stage.specs.Moments.{Moment}
 use Rattle.paw_stage.specs.declared.Stage.{Ghosts}
 use Rattle.paw_stage.specs.Across.{Across, EachMoment}
 
--- Once the calls were done, the same.
+-- The same, but only where the calls were done.
 abbrev pub Once : {S A E : Type 0} → Ghosts S → S → S → Result A E → (Standing → Standing → Type 0) → Type 0
 Once g old new result Holds = Across g old new (λ before after. OnOk result (Holds before after))
 
--- Where the stage tells what stands at it, the moments of the calls are such ones, by what stood before.
+-- Where the stage reports what stands at it, `Inside` holds for each moment of the calls, by what stood before.
 abbrev pub Throughout : {S : Type 0} → Ghosts S → S → S → (Standing → Moment → Type 0) → Type 0
 Throughout g old new Inside = g.Tells old → EachMoment g old new (Inside (g.standing old))

@@ -16,11 +16,11 @@ spoiled dirty i (x ∷ xs) = spoiled_if (is_dirty dirty i) x ∷ spoiled dirty (
 abbrev pub all_spoiled : Disk → List ℕ
 all_spoiled d = spoiled d.dirty 0 d.bytes
 
--- By pick 0 the bytes at the last sync are left, by pick 1 those that a read gives, and by any other these, all
+-- What a pick leaves: pick 0 the bytes at the last sync, pick 1 those that a read gives, and any other pick these, all
 -- spoiled.
 abbrev pub crashed : Disk → ℕ → List ℕ
 crashed d pick = if pick == 0 then d.synced else if pick == 1 then d.bytes else all_spoiled d
 
--- Fewer calls were made than to the one of this number, counted from 0, or no store was attached by then.
+-- Fewer calls were made than up to this number, counted from 0, or no store was attached by then.
 abbrev pub HasNoStore : ℕ → List DoneCall → Type 0
 HasNoStore number ds = (calls_made ds ≤ number) ⊎ ((right_after number ds).attached ≡ None)

@@ -23,7 +23,7 @@ call_of kind name bytes = record { kind = kind; name = name; bytes = bytes }
 abbrev pub size_of : DoneCall → ℕ
 size_of d = length d.name + length d.bytes
 
--- A file was put there between the calls; a call loaded, saved, took a line, found no line left, showed a text.
+-- A file was put there between the calls; or a call loaded, saved, took a line, found no line left, or showed a text.
 abbrev pub added : List ℕ → List ℕ → DoneCall
 added name bytes = call_of kind.Add name bytes
 
@@ -42,7 +42,7 @@ end_done = call_of kind.End [] []
 abbrev pub showed : List ℕ → DoneCall
 showed text = call_of kind.Show [] text
 
--- A call attached a store, read it, wrote bytes to it from a place on, synced it.
+-- A call attached a store, read it, wrote bytes to it from a place on, or synced it.
 abbrev pub attached_store : List ℕ → DoneCall
 attached_store name = call_of kind.Attach name []
 
@@ -59,7 +59,7 @@ synced_store = call_of kind.Sync [] []
 abbrev pub call_at : List DoneCall → ℕ → Option (CallKind × List ℕ)
 call_at ds number = option_map (λ d. (d.kind, d.name)) (slice_get ds number)
 
--- With nothing there.
+-- A stage with nothing there.
 abbrev pub fresh : Standing
 fresh = record { files = λ n. None; lines = []; asked = 0; shown = []; attached = None; disk = stable []; written = 0 }
 
@@ -68,7 +68,7 @@ abbrev pub is_attached : Option (List ℕ) → List ℕ → Bool
 is_attached None name = false
 is_attached (Some n) name = bytes_eq n name
 
--- What stands once the file of this name holds these bytes, or is gone where there are none. Where it is that of the
+-- What stands once the file of this name holds these bytes, or is gone where there are none. If it is the file of the
 -- attached store, the store has these bytes, and all of them are synced.
 abbrev pub filed : List ℕ → Option (List ℕ) → Standing → Standing
 filed name bytes s = record s {
@@ -97,7 +97,7 @@ step_done s d = stepped d.kind d.name d.bytes s
 abbrev pub after : Standing → List DoneCall → Standing
 after s ds = fold step_done s ds
 
--- Whether this is a call of the stage: it is, unless a file was put there beside them.
+-- Whether this is a call of the stage, and not a file that was put there between them.
 abbrev pub is_call : CallKind → Bool
 is_call kind.Add = false
 is_call _ = true

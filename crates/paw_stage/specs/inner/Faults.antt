@@ -24,7 +24,7 @@ no_faults = record { load = 0; absent = 0; save = 0; attach = 0; read = 0; write
 abbrev pub one_more : ℕ → ℕ
 one_more n = min (n + 1) (2 ^ 64 - 1)
 
--- The counts after one more fault of a call: its own count alone rises.
+-- The counts after one more fault of a call: only its own count rises.
 abbrev pub raised : StageCall → FaultCounts → FaultCounts
 raised call.Load c = record c { load = one_more c.load }
 raised call.LoadAbsent c = record c { absent = one_more c.absent }

@@ -12,11 +12,11 @@ use Rattle.paw_stage.specs.inner.Memory.{Memory, standing_of}
 use Rattle.paw_stage.specs.declared.log.CallKind.{CallKind}
 use Rattle.paw_stage.specs.declared.log.CallKind.TheVariants as kind
 
--- the file of this name is what it was made
+-- The file of this name is what it was made.
 holds : (name : List ℕ) (bytes : Option (List ℕ)) (files : Files) → file_holding name bytes files name ≡ bytes
 holds name bytes files = ap (λ b. if b then bytes else files name) ((bytes_eq-Decides name name).1 refl)
 
--- the store's bytes stay those of its file
+-- The store's bytes stay those of its file.
 either_filed : (b : Bool) (o : Option (List ℕ)) (bytes : List ℕ) (d : Disk) → o ≡ Some d.bytes →
     (if b then Some bytes else o) ≡ Some (if b then stable bytes else d).bytes
 either_filed true o bytes d h = refl
@@ -59,7 +59,7 @@ later_filed s (d ∷ ds) h = later_filed (step_done s d) ds (stepped_filed d.kin
 pub after_filed : (ds : List DoneCall) → IsFiled (after fresh ds)
 after_filed ds = later_filed fresh ds (λ n e. cc)
 
--- what the stage in memory tells of it
+-- What the stage in memory reports of it.
 pub file_holds : (m : Memory) (name : List ℕ) → (standing_of m).attached ≡ Some name →
     file_bytes (standing_of m) name ≡ (standing_of m).disk.bytes
 file_holds m name h = ap bytes_or_none (after_filed m.log.calls name h)

@@ -7,7 +7,7 @@ use Rattle.std.specs.Path.{path_parent}
 abbrev pub StandsAt : Option ℕ → Option ℕ → ℕ → Type 0
 StandsAt old new at = IfSome old (λ _. new ≡ Some at)
 
--- From this place on a file gave these bytes, or took them, as far as it tells its place and its bytes.
+-- From this place on a file gave these bytes, or took them, as far as it shows its place and its bytes.
 module _ {F : Type 0} (place : F → Option ℕ) (known : F → Option (List ℕ)) (old new : F) (at : ℕ) (bytes : List ℕ) where
   abbrev pub GivesAt : Type 0
   GivesAt = (there : F) × StandsAt (place old) (place there) at × Consumes (known there) (known new) bytes

@@ -22,8 +22,8 @@ longest_line = 1048576
 abbrev pub IsLong : Option (List ℕ) → Type 0
 IsLong unread = IfSome unread (λ bytes. longest_line < length (first_line bytes))
 
--- What an ask takes from these bytes, and what it leaves of them. It takes all bytes up to the first LF, or all of
--- them where there is none, and gives the line without its LF or CR LF.
+-- What an ask takes from these bytes, and what it leaves of them. It takes all bytes up to the first LF, or all where
+-- there is none, and gives the line without its LF or CR LF.
 abbrev pub TakesLine : List ℕ → Option (List ℕ) → Asked → List ℕ → Type 0
 TakesLine bytes left (asked.Line n) into =
     (0 < length bytes) × (length (first_line bytes) ≤ longest_line) × IsCut (first_line bytes) into n
@@ -62,8 +62,8 @@ abbrev pub HasNoEnd : List ℕ → Type 0
 HasNoEnd [] = Unit {0}
 HasNoEnd (x ∷ xs) = (x ≢ 10) × HasNoEnd xs
 
--- Of the line in work so many bytes were taken from the first bytes, with no LF among them. Their first 255 stand in
--- a buffer, and returned says that the last of them is a CR.
+-- Of the line in work this number of bytes was taken from the first bytes, with no LF among them. Their first 255 stand
+-- in a buffer, and `returned` says that the last of them is a CR.
 pub record Gathers (first left : Option (List ℕ)) (into : List ℕ) (len : ℕ) (returned : Bool) : Type 0 where
   pub taken : List ℕ
   pub consumed : Consumes first left taken

@@ -12,7 +12,7 @@ pub record Logged : Type 0 where
   pub calls_left : ℕ
   pub bytes_left : ℕ
 
--- Whether there is room for one more call with so many bytes.
+-- Whether there is room for one more call with this number of bytes.
 abbrev pub has_room : Logged → ℕ → Bool
 has_room l n = nat_lt 0 l.calls_left && nat_le n l.bytes_left
 
@@ -24,7 +24,7 @@ logged d l = record {
   bytes_left = l.bytes_left - size_of d;
 }
 
--- One call more, for which room was made beside the spare room.
+-- One call more, for which room was made besides the spare room.
 abbrev pub call_logged : DoneCall → Logged → Logged
 call_logged d l = record l { calls = l.calls ++ d ∷ [] }
 

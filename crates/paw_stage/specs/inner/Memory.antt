@@ -16,7 +16,7 @@ pub record Memory : Type 0 where
   pub log : Logged
   pub counts : FaultCounts
 
--- With nothing in it, and spare room for so many calls and bytes.
+-- A stage with nothing in it, and spare room for these numbers of calls and bytes.
 abbrev pub empty : ℕ → ℕ → Memory
 empty calls bytes = record {
   lines = [];
@@ -39,41 +39,41 @@ moments_of m = since_of m.log.calls
 pub only_moment : (m : Memory) (x : Moment) → moments_of m (clock_of m) x → x ≡ moment_of (standing_of m)
 only_moment m x h = only_now m.log.calls x h
 
--- Whether there is room for a call with so many bytes.
+-- Whether there is room for a call with its bytes.
 abbrev pub can_note : DoneCall → Memory → Bool
 can_note d m = has_room m.log (size_of d)
 
--- With one call more in its record.
+-- The stage with one call more in its record.
 abbrev pub recorded : DoneCall → Memory → Memory
 recorded d m = record m { log = logged d m.log }
 
--- With a file put there, beside the spare room.
+-- The stage with a file put there, besides the spare room.
 abbrev pub with_file : List ℕ → List ℕ → Memory → Memory
 with_file name bytes m = record m { log = call_logged (added name bytes) m.log }
 
--- With one line more, after those that are left.
+-- The stage with one line more, after those that are left.
 abbrev pub with_line_left : List ℕ → Memory → Memory
 with_line_left line m = record m { lines = m.lines ++ line ∷ [] }
 
--- With one fault more of a call, and all else as it was.
+-- The stage with one fault more of a call, and all else as it was.
 abbrev pub failed : StageCall → Memory → Memory
 failed c m = record m { counts = raised c m.counts }
 
--- A call, of which its record keeps what it did. It fails exactly where there is no room for that, and leaves no trace
--- then but its count.
+-- A call is noted: the record keeps what it did. It fails exactly where there is no room for that, and then leaves no
+-- trace but its count.
 abbrev pub Notes : {A E : Type 0} → StageCall → DoneCall → Result A E → Memory → Memory → Type 0
 Notes c d result old new =
     (IsErr result ↔ IsFalse (can_note d old)) × OnErr result (new ≡ failed c old)
     × OnOk result (new ≡ recorded d old)
 
--- The moments of a call are those before it, and besides only such ones, by what stood before.
+-- The moments of a call are those before it, and others for which `Inside` holds, by what stood before.
 abbrev pub Throughout : Memory → Memory → (Standing → Moment → Type 0) → Type 0
 Throughout old new Inside = Moments clock_of moments_of old new (Inside (standing_of old))
 
--- After a load that found no file: it was recorded, and counts as a fault.
+-- The stage after a load that found no file: the load was recorded, and counts as a fault.
 abbrev pub found_none : List ℕ → Memory → Memory
 found_none name m = failed call.LoadAbsent (recorded (loaded_file name) m)
 
--- After an ask that took the next line.
+-- The stage after an ask that took the next line.
 abbrev pub line_taken : Memory → Memory
 line_taken m = record (recorded took m) { lines = drop 1 m.lines }

@@ -28,11 +28,11 @@ standing_of s = memory.standing_of s.inner
 abbrev pub Throughout : {R : Type 0} → Refusing R → Refusing R → (Standing → Moment → Type 0) → Type 0
 Throughout old new Inside = memory.Throughout old.inner new.inner Inside
 
--- After a call that was made to fail. It isn't passed on. Then the rule is the later one.
+-- The stage after a call that was made to fail. It isn't passed on. Then the rule is the later one.
 abbrev pub refused : {R : Type 0} → (R → R) → StageCall → Refusing R → Refusing R
 refused later c s = record { inner = s.inner; rule = later s.rule; counts = raised c s.counts }
 
--- After a call that was passed on and did this below.
+-- The stage after a call that was passed on and did this below.
 abbrev pub passed : {R : Type 0} → (R → R) → (Memory → Memory) → Refusing R → Refusing R
 passed later did s = record { inner = did s.inner; rule = later s.rule; counts = s.counts }
 

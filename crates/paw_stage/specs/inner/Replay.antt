@@ -1,4 +1,4 @@
--- The moments of a stage in memory, which its record of calls tells.
+-- The moments of a stage in memory, which its record of calls gives.
 use Rattle.std.specs.Prelude.{◌≡◌, ◌⊎◌, ℕ, ◌+◌, ◌≤◌, List, [], ◌∷◌, ◌++◌, length, take, drop, Option, Some}
 use Rattle.std.proofs.Common.{inl, inr}
 use Rattle.paw_stage.specs.Disk.{touched}
@@ -8,7 +8,7 @@ use Rattle.paw_stage.specs.inner.Done.{DoneCall, fresh, filed, step_done, after}
 use Rattle.paw_stage.specs.declared.log.CallKind.{CallKind}
 use Rattle.paw_stage.specs.declared.log.CallKind.TheVariants as kind
 
--- The one or the other stands.
+-- One of two standings stands at this moment.
 abbrev pub IsEither : Standing → Standing → Moment → Type 0
 IsEither s t m = (m ≡ moment_of s) ⊎ (m ≡ moment_of t)
 
@@ -39,7 +39,7 @@ abbrev pub StoodInside : Standing → List DoneCall → Moment → Type 0
 StoodInside s [] m = ⊥
 StoodInside s (d ∷ ds) m = StandsInside s d m ⊎ StoodInside (step_done s d) ds m
 
--- The moments since so many of these calls were done: what stands after all of them, and what stood inside the later
+-- The moments since this number of calls were done: what stands after all of them, and what stood inside the later
 -- ones.
 abbrev pub since_of : List DoneCall → ℕ → Moment → Type 0
 since_of ds t m = (m ≡ moment_of (after fresh ds)) ⊎ StoodInside (after fresh (take t ds)) (drop t ds) m

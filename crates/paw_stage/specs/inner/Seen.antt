@@ -42,7 +42,7 @@ LaysOver place bytes at old new =
 abbrev pub Spoils : (ℕ → Bool) → List ℕ → List ℕ → Type 0
 Spoils test old new = (j : ℕ) → j < length old → slice_index new j ≡ spoiled_if (test j) (slice_index old j)
 
--- Whether a call of this kind, with so many bytes, wrote at place i of the store.
+-- Whether a call of this kind, with this number of bytes, wrote at place i of the store.
 abbrev pub writes : CallKind → ℕ → ℕ → Bool
 writes (kind.Write at) n i = nat_le at i && nat_lt i (at + n)
 writes _ n i = false
@@ -72,7 +72,7 @@ FindsStore room ds None = (after fresh ds).attached ≡ None
 FindsStore room ds (Some store) =
     IsNamed room (Some store) × IsStore ds (slice_range room store.opened.from store.opened.mid) store.synced
 
--- A store is that of any calls, so many with this one, where the one before is that of the others.
+-- The store after any n calls, of which this is the last, where `old` is the store after the others.
 abbrev pub FindsNext : List ℕ → Call → ℕ → Option Store → Option Store → Type 0
 FindsNext room call n old new =
     (ds : List DoneCall) → n ≡ length ds + 1 → FindsStore room ds old →

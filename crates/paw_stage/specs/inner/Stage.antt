@@ -1,4 +1,4 @@
--- What a stage tells, and what its calls do to it: words that contracts between crates and proofs use beside those of
+-- What a stage reports, and what its calls do to it: definitions for contracts and proofs, besides those of
 -- specs/Stage.antt.
 use Rattle.std.specs.Prelude.{ℕ, ◌+◌, ◌≤◌}
 use Rattle.std.specs.Prelude.{IsSome}

@@ -8,7 +8,7 @@ use paw_base::fault::NoRoom;
 use std::alloc::Global;
 use std::test::Fail;
 
-// A stage with spare room for so many calls and bytes, and a file that may become its store.
+// A stage with spare room for these numbers of calls and bytes, and a file that may become its store.
 fn with_file(
     alloc: Global,
     calls: u64,

@@ -52,10 +52,10 @@ fn open_apart<R: Files<File = File>>(rt: &R, name: &str) -> io::Result<File> {
 }
 
 // Locks a file, without waiting, until it is closed, which the system does too where the program ends in any way. It
-// fails where another holds the lock. The lock keeps away those who ask for it alone, as every program of this stage.
+// fails where another holds the lock. It keeps away only those who ask for it, as every program of this stage does.
 //
-// Where the file system has no locks the game is played without: it can't be told whether another plays it, and most
-// often nobody does.
+// Where the file system has no locks the game is played without: nothing shows whether another has it, and most often
+// none has.
 fn lock(file: &File) -> io::Result<()> {
     match file.try_lock() {
         Ok(()) => Ok(()),
@@ -65,7 +65,7 @@ fn lock(file: &File) -> io::Result<()> {
     }
 }
 
-// Refuses a file that is a standard stream too: what is shown would be written into it. Where the system doesn't tell
+// Refuses a file that is a standard stream too: what is shown would be written into it. Where the system doesn't say
 // what the streams are, nothing is refused.
 fn refuse_streams<R: Files>(rt: &R, file: &File) -> io::Result<()> {
     let store = file.metadata()?;

@@ -4,12 +4,12 @@ use Rattle.std.specs.List.{slice_index_or}
 use Rattle.paw_base.specs.declared.limits.TheConstants.{OBJECT_LIMIT}
 use Rattle.paw_world.specs.inner.ObjectSet.{member}
 
--- whether object o is in the set of place p
+-- Whether object o is in the set of place p.
 abbrev pub stands_in : List (List ℕ) → ℕ → ℕ → ℕ
 stands_in sets p o = member (slice_index_or sets p []) o
 
--- room for all objects that a game may have, of which so many are there, and a set for each byte as a place: an object
--- is in the set of its own place and in no other, and no set has a number that isn't below the count
+-- There is room for all objects that a game may have, of which `count` are there, and a set for each byte as a place:
+-- an object is in the set of its own place and in no other, and no set has a number that isn't below the count.
 pub record AreSetsOf (sets : List (List ℕ)) (count : ℕ) (places : List ℕ) : Type 0 where
   pub few : count ≤ OBJECT_LIMIT
   pub room : length places ≡ OBJECT_LIMIT

@@ -1,13 +1,13 @@
 -- Objects by their place.
 use Rattle.std.specs.Prelude.{ℕ, zero, suc, ◌-◌, ◌==◌, List, length, Option, Some, None, slice_index, if◌then◌else◌}
 
--- of the last n objects, the least that stands at this place; nothing where none does
+-- The least of the last n objects that stands at this place; nothing where none does.
 unfoldable pub least_at : List ℕ → ℕ → ℕ → Option ℕ
 least_at places p zero = None
 least_at places p (suc n) =
     if slice_index places (length places - suc n) == p then Some (length places - suc n) else least_at places p n
 
--- how many objects are above this one, or all where none is given
+-- How many objects are above this one, or how many there are where none is given.
 abbrev pub left_above : List ℕ → Option ℕ → ℕ
 left_above places None = length places
 left_above places (Some o) = length places - suc o

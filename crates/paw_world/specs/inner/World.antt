@@ -1,4 +1,4 @@
--- The world of a game: words that contracts between crates and proofs use beside those of specs/World.antt.
+-- The world of a game: definitions for contracts and proofs, besides those of specs/World.antt.
 use Rattle.std.specs.Prelude.{◌≡◌, ℕ, ◌-◌, ◌≤◌, not, List, length, Option, None, Some, slice_index, slice_set}
 use Rattle.std.specs.Option.{option_map_or}
 use Rattle.paw_base.specs.declared.limits.TheConstants.{OBJECT_LIMIT, FLAG_COUNT}
@@ -7,54 +7,54 @@ use Rattle.paw_world.specs.inner.Places.{least_at, left_above}
 use Rattle.paw_world.specs.World.{Position, World, flag, place, first_carried, flags_with, kept_position}
 use Rattle.paw_world.specs.World.{IsSavedFor, AreSavedFor}
 
--- the flags at the start of a game with these objects
+-- The flags at the start of a game with these objects.
 abbrev pub opening_flags : List ObjectFacts → List ℕ
 opening_flags facts = flags_with (first_carried facts)
 
--- the least object above this one that stands at a place, or the least of all there; nothing where there is none
+-- The least object above this one that stands at a place, or the least of all there; nothing where there is none.
 abbrev pub first_at : World → ℕ → Option ℕ → Option ℕ
 first_at w p above = least_at w.places p (left_above w.places above)
 
--- a flag of a position; 0 where there is none
+-- A flag of a position; 0 where there is none.
 abbrev pub flag_in : Option Position → ℕ → ℕ
 flag_in None f = 0
 flag_in (Some q) f = slice_index q.flags f
 
--- the place of an object in a position; 0 where there is none
+-- The place of an object in a position; 0 where there is none.
 abbrev pub place_in_position : Option Position → ℕ → ℕ
 place_in_position None o = 0
 place_in_position (Some q) o = slice_index q.places o
 
--- a flag of the saved position; 0 where nothing is saved
+-- A flag of the saved position; 0 where nothing is saved.
 abbrev pub saved_flag : World → ℕ → ℕ
 saved_flag w f = flag_in w.saved f
 
--- the place of an object in the saved position; 0 where nothing is saved
+-- The place of an object in the saved position; 0 where nothing is saved.
 abbrev pub saved_place : World → ℕ → ℕ
 saved_place w o = place_in_position w.saved o
 
--- all flags and all places become those of a position
+-- The world with all flags and all places of a position.
 abbrev pub taken_back : World → Position → World
 taken_back w q = record w { flags = q.flags; places = q.places }
 
--- all flags and places are taken from the kept position of this number; where none was kept nothing changes
+-- The world with all flags and places of the kept position with this number; the same world where none was kept.
 abbrev pub recalled : World → ℕ → World
 recalled w n = option_map_or (taken_back w) (kept_position w n) w
 
--- a position becomes the kept one of this number
+-- The world with a position as the kept one with this number.
 abbrev pub with_kept : World → ℕ → Position → World
 with_kept w n q = record w { kept = slice_set w.kept n (Some q) }
 
--- a flag of a kept position; 0 where none was kept
+-- A flag of a kept position; 0 where none was kept.
 abbrev pub kept_flag : World → ℕ → ℕ → ℕ
 kept_flag w n f = flag_in (kept_position w n) f
 
--- the place of an object in a kept position; 0 where none was kept
+-- The place of an object in a kept position; 0 where none was kept.
 abbrev pub kept_place : World → ℕ → ℕ → ℕ
 kept_place w n o = place_in_position (kept_position w n) o
 
--- the parts of a world: its flags, not too many places, room for the facts of all objects, and positions of the same
--- size
+-- The parts of a world: its flags, not too many places, room for the facts of all objects, and positions of the same
+-- size.
 pub record IsStored (facts : List ObjectFacts) (flags places : List ℕ) (saved : Option Position)
     (kept : List (Option Position)) : Type 0 where
   pub objects : length places ≤ OBJECT_LIMIT

@@ -5,7 +5,7 @@ use Rattle.paw_world.proofs.Contents.{above_at}
 use Rattle.paw_effects.specs.ObjectSearch.{fits_sentence, least_fitting}
 use Rattle.paw_effects.proofs.object_search.least_fitting.Given as goal
 
--- what is looked for is still ahead
+-- What is looked for is still ahead.
 abbrev pub invariant-loop-o : goal.invariant-loop-o
 invariant-loop-o l = find (fits_sentence l.world) (above_at l.world l.place l.last) ≡ least_fitting l.world l.place
 

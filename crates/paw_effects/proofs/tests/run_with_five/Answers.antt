@@ -2,7 +2,7 @@ use Rattle.std.proofs.Common.{arith, ◌<◌, ◌+◌, ◌*◌, ◌%◌, rules, 
 use Rattle.paw_routines.proofs.FunctionRows.{rows_of, stand_for}
 use Rattle.paw_effects.proofs.tests.run_with_five.Goals as goal
 
--- what each routine gives
+-- What each routine gives.
 given : ℕ → ℕ → ℕ
 given n x = ((x * 2) % 256 + n) % 256
 

@@ -4,7 +4,7 @@ use Rattle.paw_phrase.specs.Sentence.{parsed}
 use Rattle.paw_phrase.proofs.Drafts.{along}
 use Rattle.paw_phrase.proofs.next.read_phrase.Given as goal
 
--- the draft, read on from here, comes to the phrase
+-- The draft, read on from here, gives the phrase.
 abbrev pub invariant-loop-mark : goal.invariant-loop-mark
 invariant-loop-mark g l =
     (l.end ≤ length l.bytes)

@@ -1,6 +1,6 @@
 use Rattle.paw_phrase.proofs.Marks.{IsToken}
 use Rattle.paw_phrase.proofs.tokens.first_token.Given as goal
 
--- the bytes so far are the token's
+-- The bytes so far are the token's.
 abbrev pub invariant-loop-i : goal.invariant-loop-i
 invariant-loop-i l = IsToken l.bytes l.i l.letters

@@ -2,7 +2,7 @@ use Rattle.std.proofs.Common.{arith, ◌<◌, ◌≡◌, ◌+◌, ◌%◌, ℕ}
 use Rattle.paw_routines.proofs.FunctionRows.{rows_of, stand_for}
 use Rattle.paw_routines.proofs.tests.an_answer_that_is_told_modulo_256.Goals as goal
 
--- what each routine gives
+-- What each routine gives.
 given : ℕ → ℕ → ℕ
 given n x = (x + 1) % 256
 

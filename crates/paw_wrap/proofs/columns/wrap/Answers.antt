@@ -7,7 +7,7 @@ use Rattle.paw_wrap.proofs.Scanning.{is_inside}
 use Rattle.paw_wrap.proofs.Undoing.{wrapped, undone}
 use Rattle.paw_wrap.proofs.columns.wrap.Goals as goal
 
--- with no break left, an LF stands at each
+-- With no break left, an LF stands at each.
 all_written : (w i : ℕ) (text bytes places : List ℕ) → places ≡ breaks_from w 0 0 text → length places ≤ i
     → with_byte line_feed (drop i places) bytes ≡ with_byte line_feed places text → bytes ≡ wrapped w 0 text
 all_written w i text bytes places e h left =

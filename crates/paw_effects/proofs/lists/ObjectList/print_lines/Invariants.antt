@@ -4,7 +4,7 @@ use Rattle.paw_effects.specs.Lists.{as_lines}
 use Rattle.paw_effects.specs.inner.Listing.{texts_above}
 use Rattle.paw_effects.proofs.lists.ObjectList.print_lines.Given as goal
 
--- what the piece holds, and the lines that are still to print, are the whole
+-- What the piece holds, and the lines that are still to print, are the whole.
 abbrev pub invariant-loop-o : goal.invariant-loop-o
 invariant-loop-o g l =
     l.piece ++ as_lines (texts_above l.self.game l.self.world l.self.listed l.last)

@@ -4,7 +4,7 @@ use Rattle.paw_effects.specs.Lists.{others_joined}
 use Rattle.paw_effects.specs.inner.Listing.{texts_above}
 use Rattle.paw_effects.proofs.lists.ObjectList.print_others.Given as goal
 
--- what the piece holds, and what is still to print of the sentence, are the whole
+-- What the piece holds, and what is still to print of the sentence, are the whole.
 abbrev pub invariant-loop-o : goal.invariant-loop-o
 invariant-loop-o g l =
     l.piece ++ others_joined (texts_above l.self.game l.self.world l.self.listed (Some l.last))

@@ -2,7 +2,7 @@ use Rattle.std.proofs.Common.{◌≡◌, ℕ, ◌+◌, ◌-◌, ◌*◌, ◌<◌
 use Rattle.paw_world.specs.inner.ObjectSet.{member}
 use Rattle.paw_world.proofs.set.ObjectSet.least_from.Given as goal
 
--- no number that was passed is in the set
+-- No number that was passed is in the set.
 abbrev pub invariant-loop-word : goal.invariant-loop-word
 invariant-loop-word l = record {
   below : l.from ≤ 64 * l.word + l.bit;

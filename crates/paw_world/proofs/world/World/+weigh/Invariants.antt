@@ -10,7 +10,7 @@ decreases-weight_down l = 2 * l.levels
 abbrev pub decreases-weight_with : goal.decreases-weight_with
 decreases-weight_with l = 2 * l.levels + 1
 
--- what is left is added to the total so far
+-- What is left is added to the total so far.
 abbrev pub invariant-weight_with-loop-o : goal.invariant-weight_with-loop-o
 invariant-weight_with-loop-o l = record {
   adds_up : weights_above l.self l.levels l.p l.last l.total ≡ weight_with l.self l.levels l.own l.p;
