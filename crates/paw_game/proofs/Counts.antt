@@ -27,11 +27,13 @@ some_location g v = leb-true LOCATION_LEAST (length g.locations) (first_of_and (
 
 pub few_tables : (g : GameLists) → Valid g → length g.tables ≤ TABLE_LIMIT
 few_tables g v =
-    leb-true (length g.tables) TABLE_LIMIT (second_of_and (nat_le TABLE_LEAST (length g.tables)) _ (first_of_and (is_within TABLE_LEAST TABLE_LIMIT (length g.tables)) _ v.tables))
+    leb-true (length g.tables) TABLE_LIMIT (second_of_and (nat_le TABLE_LEAST (length g.tables)) _
+    (first_of_and (is_within TABLE_LEAST TABLE_LIMIT (length g.tables)) _ v.tables))
 
 pub some_tables : (g : GameLists) → Valid g → TABLE_LEAST ≤ length g.tables
 some_tables g v =
-    leb-true TABLE_LEAST (length g.tables) (first_of_and (nat_le TABLE_LEAST (length g.tables)) _ (first_of_and (is_within TABLE_LEAST TABLE_LIMIT (length g.tables)) _ v.tables))
+    leb-true TABLE_LEAST (length g.tables) (first_of_and (nat_le TABLE_LEAST (length g.tables)) _
+    (first_of_and (is_within TABLE_LEAST TABLE_LIMIT (length g.tables)) _ v.tables))
 
 -- each location has a list of exits
 pub exits_each : (g : GameLists) → Valid g → length g.exits ≡ length g.locations

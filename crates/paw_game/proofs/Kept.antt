@@ -171,7 +171,8 @@ pub entry-small : (g : GameLists) → Valid g → (t e : ℕ) (en : Entry) → e
 entry-small g v t e en h = omega (arith, slice_get_within (table_at g t) e en h, table-short g v t)
 
 -- an entry's condacts keep their rules, and are few
-condacts_kept : (g : GameLists) (en : Entry) → IsTrue (is_entry g en) → IsTrue (nat_le (length en.condacts) CONDACT_LIMIT && list_all (is_condact g) en.condacts)
+condacts_kept : (g : GameLists) (en : Entry) → IsTrue (is_entry g en)
+    → IsTrue (nat_le (length en.condacts) CONDACT_LIMIT && list_all (is_condact g) en.condacts)
 condacts_kept g en h =
     second_of_and (is_any en.noun || has_word g.words NOUN_CLASS en.noun) _ (second_of_and (is_any en.verb || is_verb_value g.words en.verb) _ h)
 
