@@ -9,6 +9,7 @@ use Rattle.std.proofs.lemmas.Bool.{cases_lt, eqb-true, eq-eqb, ltb-true, ltb-fal
 use Rattle.std.proofs.lemmas.List.{get_or-take, get_or-drop, get_or_default}
 use Rattle.std.proofs.lemmas.List.Elements.{All-cons, All-contains, All-take, All-drop}
 use Rattle.std.proofs.lemmas.List.Sorted.{All-permutation, IsNonDecreasingBy-take, IsNonDecreasingBy-drop}
+use Rattle.paw_base.specs.declared.limits.TheConstants.{ENTRY_LIMIT}
 use Rattle.paw_game.specs.Tables.{is_for}
 use Rattle.paw_image.specs.declared.order.Head.{Head}
 use Rattle.paw_image.specs.declared.order.Order.{Order}
@@ -86,7 +87,7 @@ heads_long bytes n [] = refl
 heads_long bytes n (p ∷ ps) = ap suc (heads_long bytes (suc n) ps)
 
 -- the heads at these offsets, in order, rise
-pub sorted_rise : (bytes offsets : List ℕ) (heads : List Head) → IsBytes bytes → length offsets ≤ 4000
+pub sorted_rise : (bytes offsets : List ℕ) (heads : List Head) → IsBytes bytes → length offsets ≤ ENTRY_LIMIT
     → IsPermutation (heads_at bytes 0 offsets) heads → IsNonDecreasingBy rank heads → Rises heads
 sorted_rise bytes offsets heads fits few same rises =
     record { small = All-permutation IsSmall (heads_at bytes 0 offsets) heads same (heads_small bytes 0 offsets fits (omega arith)); rises = rises }

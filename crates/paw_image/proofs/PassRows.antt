@@ -7,6 +7,7 @@ use Rattle.paw_base.specs.declared.parts.ObjectFacts.{ObjectFacts}
 use Rattle.paw_base.specs.declared.rows.ParamKind.{ParamKind}
 use Rattle.paw_base.specs.declared.rows.ParamKind.TheVariants as kind
 use Rattle.paw_base.specs.Condacts.{first_kind, second_kind}
+use Rattle.paw_base.specs.declared.limits.TheConstants.{TEXT_LIMIT, ENTRY_LIMIT}
 use Rattle.paw_game.specs.declared.parts.Exit.{Exit}
 use Rattle.paw_game.specs.Image.{two_bytes, text_image, weight_byte, object_image, exit_image, exits_image}
 use Rattle.paw_game.specs.Image.{parameter_image, condact_image, entry_image, table_image}
@@ -37,10 +38,10 @@ up_to most n h = and_true (leb 0 n) (leb n most) (le-leb 0 n (omega arith)) h
 pub text_passes : PassesRow after_text text_image is_text
 unfolding after_text
 text_passes text rest h =
-    let both = and_parts (leb (length text) 4095) (is_printed true text) h in
+    let both = and_parts (leb (length text) TEXT_LIMIT) (is_printed true text) h in
     rw (
       append_assoc (two_bytes (length text)) text rest,
-      within_passes 0 4095 (length text) (text ++ rest) (lit< tt) (up_to 4095 (length text) both.0),
+      within_passes 0 TEXT_LIMIT (length text) (text ++ rest) (lit< tt) (up_to TEXT_LIMIT (length text) both.0),
       bytes_again (length text) text rest refl,
       both.1,
     ) refl
@@ -117,10 +118,10 @@ entry_passes d e rest h =
 pub table_passes : (d : Preface) → PassesRow (after_table d) table_image (keeps_table d)
 unfolding after_table
 table_passes d es rest h =
-    let both = and_parts (leb (length es) 4000) (list_all (keeps_entry d) es) h in
+    let both = and_parts (leb (length es) ENTRY_LIMIT) (list_all (keeps_entry d) es) h in
     let entries = flat_map entry_image es in
     rw (
       append_assoc (two_bytes (length es)) entries rest,
-      within_passes 0 4000 (length es) (entries ++ rest) (lit< tt) (up_to 4000 (length es) both.0),
+      within_passes 0 ENTRY_LIMIT (length es) (entries ++ rest) (lit< tt) (up_to ENTRY_LIMIT (length es) both.0),
     )
     (each_passes (after_entry d) entry_image (keeps_entry d) (entry_passes d) es rest both.1)

@@ -10,6 +10,7 @@ use Rattle.paw_base.specs.declared.parts.Condact.{Condact}
 use Rattle.paw_base.specs.declared.rows.ParamKind.{ParamKind}
 use Rattle.paw_base.specs.declared.rows.ParamKind.TheVariants as kind
 use Rattle.paw_base.specs.Condacts.{is_code, first_kind, second_kind}
+use Rattle.paw_base.specs.declared.limits.TheConstants.{TEXT_LIMIT, ENTRY_LIMIT}
 use Rattle.paw_game.specs.declared.parts.Exit.{Exit}
 use Rattle.paw_game.specs.declared.parts.Entry.{Entry}
 use Rattle.paw_game.specs.Game.{GameLists, counts_of}
@@ -41,14 +42,14 @@ declared_as v g = record { version = v; counts = counts_of g; words = g.words }
 pub text_sound : SoundRow after_text text_at is_text
 unfolding after_text text_at
 text_sound bytes rest fits e =
-    kept_then _ (is_within 0 4095) number_at bytes _ rest e (λ len len_ok len_kept e.
+    kept_then _ (is_within 0 TEXT_LIMIT) number_at bytes _ rest e (λ len len_ok len_kept e.
     kept_then _ (is_printed true) (bytes_at len.0) len.1 _ rest e (λ text text_ok text_kept e.
-    let few : leb (length text.0) 4095 ≡ true = ap (λ (n : ℕ). leb n 4095) (bytes_length len.0 len.1 text text_ok)
-    ∙ (and_parts (leb 0 len.0) (leb len.0 4095) len_kept).1 in
+    let few : leb (length text.0) TEXT_LIMIT ≡ true = ap (λ (n : ℕ). leb n TEXT_LIMIT) (bytes_length len.0 len.1 text text_ok)
+    ∙ (and_parts (leb 0 len.0) (leb len.0 TEXT_LIMIT) len_kept).1 in
     record {
       value = text.0;
       reads = at_ok (λ (r : List ℕ). text_at bytes ≡ Ok (text.0, r)) text.1 rest e (rw (len_ok, text_ok) refl);
-      keeps = and_true (leb (length text.0) 4095) _ few text_kept;
+      keeps = and_true (leb (length text.0) TEXT_LIMIT) _ few text_kept;
     }))
 
 -- ---- objects ----
@@ -167,7 +168,7 @@ keeps_entry d e =
     && (leb (length e.condacts) 255 && list_all (keeps_condact d) e.condacts))
 
 abbrev pub keeps_table : Preface → List Entry → Bool
-keeps_table d es = leb (length es) 4000 && list_all (keeps_entry d) es
+keeps_table d es = leb (length es) ENTRY_LIMIT && list_all (keeps_entry d) es
 
 byte_sound : (rule : ℕ → Bool) (bytes rest : List ℕ) → (field_kept rule byte_at bytes >>= λ x. Ok x.1) ≡ Ok rest → Stands (byte_at bytes) rule rest
 byte_sound rule bytes rest e =
@@ -235,15 +236,15 @@ pub record TablePlaced (d : Preface) (bytes rest : List ℕ) : Type 0 where
 pub table_placed : (d : Preface) (bytes rest : List ℕ) → IsBytes bytes → after_table d bytes ≡ Ok rest → TablePlaced d bytes rest
 unfolding after_table leading_table entries_begin
 table_placed d bytes rest fits e =
-    kept_then _ (is_within 0 4000) number_at bytes _ rest e (λ count count_ok count_kept e.
+    kept_then _ (is_within 0 ENTRY_LIMIT) number_at bytes _ rest e (λ count count_ok count_kept e.
     let count_taken = number_takes bytes count fits count_ok in
     let rows = each_sound (after_entry d) leading_entry entry_image (keeps_entry d) entry_takes (entry_sound d) count.0 count.1 rest count_taken.0.rest_fits e
     in
     record {
       value = rows.value;
       reads = rw (count_ok, rows.reads) refl;
-      keeps = and_true (leb (length rows.value) 4000) _ (ap (λ (n : ℕ). leb n 4000) rows.many
-          ∙ (and_parts (leb 0 count.0) (leb count.0 4000) count_kept).1) rows.keeps;
+      keeps = and_true (leb (length rows.value) ENTRY_LIMIT) _ (ap (λ (n : ℕ). leb n ENTRY_LIMIT) rows.many
+          ∙ (and_parts (leb 0 count.0) (leb count.0 ENTRY_LIMIT) count_kept).1) rows.keeps;
       begin = λ total start h.
           let after : start + 2 + length count.1 ≡ total = omega (arith, h, taken_length bytes (two_bytes count.0) count.1 count_taken.0) in
           rw (count_ok, count_kept) (rows.begin total (start + 2) after);

@@ -6,6 +6,7 @@ use Rattle.std.specs.List.{flat_map, list_all, list_any}
 use Rattle.std.proofs.lemmas.Bool.{and_parts, leb-true}
 use Rattle.paw_base.specs.Condacts.{is_plain_code, is_indirect}
 use Rattle.paw_base.specs.declared.codes.TheConstants.{INDIRECT}
+use Rattle.paw_base.specs.declared.limits.TheConstants.{ENTRY_LIMIT}
 use Rattle.paw_base.specs.declared.parts.Condact.{Condact}
 use Rattle.paw_base.specs.declared.rows.CondactRow.{CondactRow}
 use Rattle.paw_base.specs.inner.Condacts.{IsCode, IsPlainCode, condact_row_of}
@@ -86,9 +87,9 @@ module _ (g : GameLists) where
   split_table : (es : List Entry)
       → keeps_table (declared_as One g) es ≡ (is_table g es && not (list_any (λ e. any_indirect e.condacts) es))
   split_table es =
-      ap (λ (b : Bool). leb (length es) 4000 && b)
+      ap (λ (b : Bool). leb (length es) ENTRY_LIMIT && b)
       (split_all (keeps_entry (declared_as One g)) (is_entry g) (λ (e : Entry). any_indirect e.condacts) split_entry es)
-      ∙ move_out (leb (length es) 4000) (list_all (is_entry g) es) (not (list_any (λ (e : Entry). any_indirect e.condacts) es))
+      ∙ move_out (leb (length es) ENTRY_LIMIT) (list_all (is_entry g) es) (not (list_any (λ (e : Entry). any_indirect e.condacts) es))
 
   -- version 1 wants the rules of a game, and no indirect condact
   pub split_tables : (ts : List (List Entry))
@@ -164,11 +165,11 @@ module _ (g : GameLists) where
   table_stops : StopsRow (after_table (declared_as One g)) table_image (is_table g) (λ (es : List Entry). list_any (λ (e : Entry). any_indirect e.condacts) es)
   unfolding after_table
   table_stops es rest keeps indirect =
-      let both = and_parts (leb (length es) 4000) (list_all (is_entry g) es) keeps in
+      let both = and_parts (leb (length es) ENTRY_LIMIT) (list_all (is_entry g) es) keeps in
       let entries = flat_map entry_image es in
       rw (
         append_assoc (two_bytes (length es)) entries rest,
-        within_passes 0 4000 (length es) (entries ++ rest) (lit< tt) (up_to 4000 (length es) both.0),
+        within_passes 0 ENTRY_LIMIT (length es) (entries ++ rest) (lit< tt) (up_to ENTRY_LIMIT (length es) both.0),
       )
       (each_stops (after_entry (declared_as One g)) entry_image (keeps_entry (declared_as One g)) (is_entry g)
       (λ (e : Entry). any_indirect e.condacts) (split_entry g) (entry_passes (declared_as One g)) entry_stops es rest both.1 indirect)
@@ -178,7 +179,8 @@ module _ (g : GameLists) where
   unfolding has_indirect
   tables_stop ts rest keep indirect =
       each_stops (after_table (declared_as One g)) table_image (keeps_table (declared_as One g)) (is_table g)
-      (λ (es : List Entry). list_any (λ (e : Entry). any_indirect e.condacts) es) (split_table g) (table_passes (declared_as One g)) table_stops ts rest keep indirect
+      (λ (es : List Entry). list_any (λ (e : Entry). any_indirect e.condacts) es) (split_table g)
+      (table_passes (declared_as One g)) table_stops ts rest keep indirect
 
 -- ---- the version that a game needs ----
 
