@@ -8,6 +8,7 @@ use Rattle.std.proofs.lemmas.Bool.{eqb-false}
 use Rattle.std.proofs.lemmas.Bool.Decides.{nat_tests}
 use Rattle.std.proofs.lemmas.List.{length-append, length-set, length-replicate}
 use Rattle.std.proofs.lemmas.List.Folds.{list_all-append}
+use Rattle.paw_base.specs.declared.limits.TheConstants.{SYSTEM_LIMIT, MESSAGE_LIMIT, OBJECT_LIMIT, LOCATION_LIMIT}
 use Rattle.paw_base.specs.declared.fault.SourceKind.{SourceKind}
 use Rattle.paw_base.specs.declared.fault.SourceKind.TheVariants as kind
 use Rattle.paw_base.specs.declared.parts.ObjectFacts.{ObjectFacts}
@@ -97,10 +98,10 @@ from_section s d here h = subst (λ (t : Section). InOrder t d) (sym here) h
 -- words and texts have rules of their own
 pub record HeadsKept (ws : List Word) (ss ms ns ls : List (List ℕ)) : Type 0 where
   pub words : words_kept ws ≡ true
-  pub system : TextsKept 256 ss
-  pub messages : TextsKept 256 ms
-  pub names : TextsKept 255 ns
-  pub locations : TextsKept 252 ls
+  pub system : TextsKept SYSTEM_LIMIT ss
+  pub messages : TextsKept MESSAGE_LIMIT ms
+  pub names : TextsKept OBJECT_LIMIT ns
+  pub locations : TextsKept LOCATION_LIMIT ls
 
 abbrev pub Heads : Spelt → Type 0
 Heads d = HeadsKept d.words d.system d.messages d.names d.locations

@@ -16,6 +16,7 @@ use Rattle.std.proofs.lemmas.Cmp.{nat_list_cmp_total}
 use Rattle.std.proofs.lemmas.Map.Text.{is_eq-slice_cmp}
 use Rattle.paw_base.specs.declared.fault.SourceKind.TheVariants as kind
 use Rattle.paw_base.specs.Condacts.{capitals}
+use Rattle.paw_base.specs.declared.limits.TheConstants.{WORD_LIMIT}
 use Rattle.paw_game.specs.declared.parts.Word.{Word}
 use Rattle.paw_game.specs.Valid.{is_letter, is_filled, are_letters, is_word, words_rise, words_kept, has_word, is_verb_value, is_word_or_none, is_any}
 use Rattle.paw_game.specs.Tables.{word_of}
@@ -167,12 +168,13 @@ put_words w (u ∷ us) one all =
 -- a word that is declared leaves the words in order, and no more than 2,000
 pub declared_ok : (w : Word) (ws vs : List Word) → is_word w ≡ true → words_kept ws ≡ true → declared w ws ≡ Ok vs → words_kept vs ≡ true
 declared_ok w ws vs one kept h =
-    let p = and_parts (nat_le (length ws) 2000) (list_all is_word ws && words_rise ws) kept in
+    let p = and_parts (nat_le (length ws) WORD_LIMIT) (list_all is_word ws && words_rise ws) kept in
     let q = and_parts (list_all is_word ws) (words_rise ws) p.1 in
-    let a = passes (is_declared w.letters ws) kind.Duplicate (cond (eqb (length ws) 2000) (Err kind.TooBig) (Ok (words_with w ws))) vs h in
-    let b = passes (eqb (length ws) 2000) kind.TooBig (Ok (words_with w ws)) vs a.1 in
+    let a = passes (is_declared w.letters ws) kind.Duplicate (cond (eqb (length ws) WORD_LIMIT) (Err kind.TooBig) (Ok (words_with w ws))) vs h in
+    let b = passes (eqb (length ws) WORD_LIMIT) kind.TooBig (Ok (words_with w ws)) vs a.1 in
     let long = put_length w ws in
-    let few : nat_le (length (words_with w ws)) 2000 ≡ true = grind (arith, nat_tests, long, leb-true (length ws) 2000 p.0, eqb-false (length ws) 2000 b.0) in
+    let few : nat_le (length (words_with w ws)) WORD_LIMIT ≡ true =
+    grind (arith, nat_tests, long, leb-true (length ws) WORD_LIMIT p.0, eqb-false (length ws) WORD_LIMIT b.0) in
     rw (← ok_is (words_with w ws) vs b.1, few, put_words w ws one q.0, put_rises w ws q.1 a.0) refl
 
 -- ---- looking up
