@@ -10,7 +10,8 @@ use Rattle.paw_base.specs.declared.parts.Condact.{Condact}
 use Rattle.paw_base.specs.declared.rows.ParamKind.{ParamKind}
 use Rattle.paw_base.specs.declared.rows.ParamKind.TheVariants as kind
 use Rattle.paw_base.specs.Condacts.{is_code, first_kind, second_kind}
-use Rattle.paw_base.specs.declared.limits.TheConstants.{TEXT_LIMIT, ENTRY_LIMIT}
+use Rattle.paw_base.specs.declared.limits.TheConstants.{TEXT_LIMIT, EXIT_LIMIT, ENTRY_LIMIT, CONDACT_LIMIT}
+use Rattle.paw_base.specs.declared.words.TheConstants.{NOUN_CLASS, ADJECTIVE_CLASS}
 use Rattle.paw_game.specs.declared.parts.Exit.{Exit}
 use Rattle.paw_game.specs.declared.parts.Entry.{Entry}
 use Rattle.paw_game.specs.Game.{GameLists, counts_of}
@@ -60,8 +61,8 @@ light w = le-leb (bit_and w 63) 63 (rw (and_mask w 6) (omega arith))
 facts_sound : (d : Preface) → SoundRow (after_facts d) leading_facts (are_facts d.words d.counts.locations)
 unfolding after_facts leading_facts
 facts_sound d bytes rest fits e =
-    kept_then _ (is_word_or_none d.words 2) byte_at bytes _ rest e (λ noun noun_ok noun_kept e.
-    kept_then _ (is_word_or_none d.words 3) byte_at noun.1 _ rest e (λ adjective adjective_ok adjective_kept e.
+    kept_then _ (is_word_or_none d.words NOUN_CLASS) byte_at bytes _ rest e (λ noun noun_ok noun_kept e.
+    kept_then _ (is_word_or_none d.words ADJECTIVE_CLASS) byte_at noun.1 _ rest e (λ adjective adjective_ok adjective_kept e.
     kept_then _ (is_place d.counts.locations) byte_at adjective.1 _ rest e (λ start start_ok start_kept e.
     bind_then _ (byte_at start.1) _ rest e (λ weight weight_ok e.
     let facts = facts_with noun.0 adjective.0 start.0 weight.0 in
@@ -137,8 +138,8 @@ exits_sound_of d verbs (suc n) bytes rest e =
       keeps = rw (kept_verb.0, kept_verb.1, to_kept, none.0, none.1, kept_others.1) refl;
     })))
 
-few : (n : ℕ) → n < 256 → leb n 255 ≡ true
-few n lt = le-leb n 255 (omega arith)
+few : (n : ℕ) → n < 256 → leb n EXIT_LIMIT ≡ true
+few n lt = le-leb n EXIT_LIMIT (omega arith)
 
 pub exits_sound : (d : Preface) → SoundRow (after_exits d) exits_at (is_exits d.words d.counts.locations)
 unfolding after_exits few_at
@@ -152,7 +153,7 @@ exits_sound d bytes rest fits e =
     record {
       value = rows.value;
       reads = rw (count_ok, rows.reads) refl;
-      keeps = and_true (leb (length rows.value) 255) _ (few (length rows.value) (omega arith)) kept_rows.1;
+      keeps = and_true (leb (length rows.value) EXIT_LIMIT) _ (few (length rows.value) (omega arith)) kept_rows.1;
     })
 
 -- ---- tables ----
@@ -164,8 +165,8 @@ keeps_condact d c =
 
 abbrev pub keeps_entry : Preface → Entry → Bool
 keeps_entry d e =
-    (is_any e.verb || is_verb_value d.words e.verb) && ((is_any e.noun || has_word d.words 2 e.noun)
-    && (leb (length e.condacts) 255 && list_all (keeps_condact d) e.condacts))
+    (is_any e.verb || is_verb_value d.words e.verb) && ((is_any e.noun || has_word d.words NOUN_CLASS e.noun)
+    && (leb (length e.condacts) CONDACT_LIMIT && list_all (keeps_condact d) e.condacts))
 
 abbrev pub keeps_table : Preface → List Entry → Bool
 keeps_table d es = leb (length es) ENTRY_LIMIT && list_all (keeps_entry d) es
@@ -212,7 +213,7 @@ pub entry_sound : (d : Preface) → SoundRow (after_entry d) leading_entry (keep
 unfolding after_entry leading_entry pair_at few_at
 entry_sound d bytes rest fits e =
     kept_then _ (λ v. is_any v || is_verb_value d.words v) byte_at bytes _ rest e (λ verb verb_ok verb_kept e.
-    kept_then _ (λ n. is_any n || has_word d.words 2 n) byte_at verb.1 _ rest e (λ noun noun_ok noun_kept e.
+    kept_then _ (λ n. is_any n || has_word d.words NOUN_CLASS n) byte_at verb.1 _ rest e (λ noun noun_ok noun_kept e.
     bind_then _ (byte_at noun.1) _ rest e (λ count count_ok e.
     let verb_fits = (byte_takes bytes verb fits verb_ok).0.rest_fits in
     let noun_fits = (byte_takes verb.1 noun verb_fits noun_ok).0.rest_fits in

@@ -6,7 +6,8 @@ use Rattle.std.specs.List.{flat_map, list_all, list_any}
 use Rattle.std.proofs.lemmas.Bool.{and_parts, leb-true}
 use Rattle.paw_base.specs.Condacts.{is_plain_code, is_indirect}
 use Rattle.paw_base.specs.declared.codes.TheConstants.{INDIRECT}
-use Rattle.paw_base.specs.declared.limits.TheConstants.{ENTRY_LIMIT}
+use Rattle.paw_base.specs.declared.limits.TheConstants.{ENTRY_LIMIT, CONDACT_LIMIT}
+use Rattle.paw_base.specs.declared.words.TheConstants.{NOUN_CLASS}
 use Rattle.paw_base.specs.declared.parts.Condact.{Condact}
 use Rattle.paw_base.specs.declared.rows.CondactRow.{CondactRow}
 use Rattle.paw_base.specs.inner.Condacts.{IsCode, IsPlainCode, condact_row_of}
@@ -75,8 +76,8 @@ module _ (g : GameLists) where
   split_entry : (e : Entry) → keeps_entry (declared_as One g) e ≡ (is_entry g e && not (any_indirect e.condacts))
   split_entry e =
       let verb = is_any e.verb || is_verb_value g.words e.verb in
-      let noun = is_any e.noun || has_word g.words 2 e.noun in
-      let few = leb (length e.condacts) 255 in
+      let noun = is_any e.noun || has_word g.words NOUN_CLASS e.noun in
+      let few = leb (length e.condacts) CONDACT_LIMIT in
       let all = list_all (is_condact g) e.condacts in
       let none = not (any_indirect e.condacts) in
       ap (λ (b : Bool). verb && (noun && (few && b)))
@@ -156,8 +157,8 @@ module _ (g : GameLists) where
   unfolding after_entry
   entry_stops e rest keeps indirect =
       let verb = and_parts (is_any e.verb || is_verb_value g.words e.verb) _ keeps in
-      let noun = and_parts (is_any e.noun || has_word g.words 2 e.noun) _ verb.1 in
-      let condacts = and_parts (leb (length e.condacts) 255) _ noun.1 in
+      let noun = and_parts (is_any e.noun || has_word g.words NOUN_CLASS e.noun) _ verb.1 in
+      let condacts = and_parts (leb (length e.condacts) CONDACT_LIMIT) _ noun.1 in
       rw (verb.0, noun.0)
       (each_stops (after_condact (declared_as One g)) condact_image (keeps_condact (declared_as One g)) (is_condact g)
       (λ (c : Condact). is_indirect c.code) (split_condact g) (condact_passes (declared_as One g)) condact_stops e.condacts rest condacts.1 indirect)

@@ -11,7 +11,8 @@ use Rattle.paw_game.specs.Valid.{Valid, is_within, is_word, words_rise, is_text,
 use Rattle.paw_game.specs.Image.{word_image, text_image, object_image, exits_image, table_image, image, has_indirect, version_of}
 use Rattle.paw_game.proofs.Faults.{rise_after, rise_after-none}
 use Rattle.paw_base.specs.declared.limits.TheConstants.{IMAGE_LIMIT, WORD_LIMIT, SYSTEM_LIMIT, MESSAGE_LIMIT}
-use Rattle.paw_base.specs.declared.limits.TheConstants.{OBJECT_LIMIT, LOCATION_LEAST, LOCATION_LIMIT}
+use Rattle.paw_base.specs.declared.limits.TheConstants.{OBJECT_LIMIT, LOCATION_LEAST, LOCATION_LIMIT, TABLE_LEAST}
+use Rattle.paw_base.specs.declared.limits.TheConstants.{TABLE_LIMIT}
 use Rattle.paw_image.specs.inner.CondactMarks.{IsEnd}
 use Rattle.paw_image.specs.Images.{IsImage}
 use Rattle.paw_image.specs.declared.version.Version.{Version}
@@ -149,7 +150,7 @@ valid_from bytes x rest f r is =
           (and_true (leb (length g.locations) LOCATION_LIMIT) _ locations.1 r.locations);
       exits = and_true (eqb (length g.exits) (length g.locations)) _
           (eq-eqb (length g.exits) (length g.locations) as_many) kept_exits;
-      tables = and_true (is_within 3 256 (length g.tables)) _ few.tables (tables_valid g x.0.version g.tables kept_tables);
+      tables = and_true (is_within TABLE_LEAST TABLE_LIMIT (length g.tables)) _ few.tables (tables_valid g x.0.version g.tables kept_tables);
     }
 
 -- the lists of a valid game pass up to its tables
