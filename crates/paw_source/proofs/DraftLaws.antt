@@ -9,6 +9,7 @@ use Rattle.std.proofs.lemmas.Bool.Decides.{nat_tests}
 use Rattle.std.proofs.lemmas.List.{length-append, length-set, length-replicate}
 use Rattle.std.proofs.lemmas.List.Folds.{list_all-append}
 use Rattle.paw_base.specs.declared.limits.TheConstants.{SYSTEM_LIMIT, MESSAGE_LIMIT, OBJECT_LIMIT, LOCATION_LIMIT}
+use Rattle.paw_base.specs.declared.limits.TheConstants.{TABLE_LIMIT}
 use Rattle.paw_base.specs.declared.fault.SourceKind.{SourceKind}
 use Rattle.paw_base.specs.declared.fault.SourceKind.TheVariants as kind
 use Rattle.paw_base.specs.declared.parts.ObjectFacts.{ObjectFacts}
@@ -111,7 +112,7 @@ pub record Keeps (p : ℕ) (d : Spelt) : Type 0 where
   pub exits : RowsKept (is_exits d.words (length d.locations)) (length d.locations) d.exits
   pub facts : RowsKept (are_facts d.words (length d.locations)) (length d.names) d.facts
   pub tables : (g : GameLists) → Has (bounds_of p d) d.words g → list_all (is_table g) d.tables ≡ true
-  pub few_tables : length d.tables ≤ 256
+  pub few_tables : length d.tables ≤ TABLE_LIMIT
   pub order : InOrder d.section d
 
 no_rows : (p : ℕ) (d : Spelt) → Heads d → NoRows d → InOrder d.section d → Keeps p d
@@ -259,7 +260,7 @@ item_keeps p section.Pro n d e here k h = absurd cc
 
 -- another section opens, and the tables are others that keep the rules too
 tables_keep : (p : ℕ) (s : Section) (begun : Bool) (ts : List (List Entry)) (d : Spelt) → Keeps p d
-    → ((g : GameLists) → Has (bounds_of p d) d.words g → list_all (is_table g) ts ≡ true) → length ts ≤ 256
+    → ((g : GameLists) → Has (bounds_of p d) d.words g → list_all (is_table g) ts ≡ true) → length ts ≤ TABLE_LIMIT
     → InOrder s (record d { section = s; begun = begun; tables = ts })
     → Keeps p (record d { section = s; begun = begun; tables = ts })
 tables_keep p s begun ts d k all few order = record {

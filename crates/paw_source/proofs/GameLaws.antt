@@ -5,8 +5,9 @@ use Rattle.std.specs.List.{list_all, count_by}
 use Rattle.std.proofs.lemmas.Bool.{and_parts}
 use Rattle.std.proofs.lemmas.Bool.Decides.{nat_tests}
 use Rattle.std.proofs.lemmas.List.Sums.{sum_by-cons}
-use Rattle.paw_base.specs.declared.limits.TheConstants.{SOURCE_LIMIT, IMAGE_LIMIT, LOCATION_LEAST, LOCATION_LIMIT}
-use Rattle.paw_base.specs.declared.limits.TheConstants.{TABLE_LEAST}
+use Rattle.paw_base.specs.declared.limits.TheConstants.{SOURCE_LIMIT, IMAGE_LIMIT, SYSTEM_LIMIT, MESSAGE_LIMIT}
+use Rattle.paw_base.specs.declared.limits.TheConstants.{OBJECT_LIMIT, LOCATION_LEAST, LOCATION_LIMIT, TABLE_LEAST}
+use Rattle.paw_base.specs.declared.limits.TheConstants.{TABLE_LIMIT}
 use Rattle.paw_base.specs.declared.fault.SourceKind.TheVariants as kind
 use Rattle.paw_base.specs.declared.parts.ObjectFacts.{ObjectFacts}
 use Rattle.paw_game.specs.declared.parts.Word.{Word}
@@ -88,9 +89,9 @@ valid_game p d k three counted =
     } in
     record {
       words = k.heads.words;
-      system = texts_valid 256 d.system k.heads.system;
-      messages = texts_valid 256 d.messages k.heads.messages;
-      objects = both (nat_le (length (objects_of d.names d.facts)) 255)
+      system = texts_valid SYSTEM_LIMIT d.system k.heads.system;
+      messages = texts_valid MESSAGE_LIMIT d.messages k.heads.messages;
+      objects = both (nat_le (length (objects_of d.names d.facts)) OBJECT_LIMIT)
           (list_all (is_object d.words (length d.locations)) (objects_of d.names d.facts))
           (grind (arith, nat_tests, count, few_names))
           (objects_all d.words (length d.locations) d.names d.facts k.heads.names.all k.facts.all);
@@ -100,7 +101,7 @@ valid_game p d k three counted =
           (list_all (is_exits d.words (length d.locations)) (all_exits (length d.locations) d.exits))
           (grind (arith, nat_tests, long, few_exits))
           (filled_exits d.words (length d.locations) (length d.locations - length d.exits) d.exits k.exits.all);
-      tables = both (is_within 3 256 (length d.tables)) (list_all (is_table (game_of d)) d.tables)
+      tables = both (is_within TABLE_LEAST TABLE_LIMIT (length d.tables)) (list_all (is_table (game_of d)) d.tables)
           (grind (arith, nat_tests, three, few_tables)) (k.tables (game_of d) has);
     }
 
