@@ -10,7 +10,7 @@ use Rattle.paw_base.specs.declared.codes.TheConstants.{DOALL}
 use Rattle.paw_base.specs.declared.limits.TheConstants.{WORD_LIMIT, OBJECT_LIMIT, LOCATION_LEAST, LOCATION_LIMIT}
 use Rattle.paw_base.specs.declared.limits.TheConstants.{TABLE_LEAST, TABLE_LIMIT, WEIGHT_LIMIT}
 use Rattle.paw_base.specs.declared.places.TheConstants.{NOT_CREATED_PLACE, CARRIED_PLACE, HERE_PLACE}
-use Rattle.paw_base.specs.declared.words.TheConstants.{NOUN_CLASS, NO_WORD, FIRST_NAMED_NOUN}
+use Rattle.paw_base.specs.declared.words.TheConstants.{VERB_CLASS, NOUN_CLASS, NO_WORD, FIRST_NAMED_NOUN}
 use Rattle.paw_base.specs.Condacts.{condact_lines, plain_line, line_of, is_plain_code, is_indirect}
 use Rattle.paw_game.specs.declared.parts.Word.{Word}
 use Rattle.paw_game.specs.Game.{GameLists}
@@ -18,6 +18,7 @@ use Rattle.paw_game.specs.Valid.{Valid, is_within, is_word, is_text, words_rise,
 use Rattle.paw_game.specs.Valid.{is_exits, is_condact, is_table, rows_kept}
 use Rattle.paw_gen.specs.Trial.{rows, named_words, object_word, object_count, location_count, trial_object, trial_object_text, trial_location_text}
 use Rattle.paw_gen.specs.Trial.{ring_exits, condact_with, trial_game}
+use Rattle.paw_gen.specs.declared.vocabulary.TheConstants.{NORTH_WORD, SOUTH_WORD}
 use Rattle.paw_gen.proofs.Truths.{and_both, or_true, or_right, le_true, lt_true, eq_true}
 use Rattle.paw_gen.proofs.Rows.{length_rows, rows_fewer, all_rows, all_at, any_row}
 use Rattle.paw_gen.proofs.Computed.{all_words, all_rise, system_texts, location_texts, object_texts}
@@ -83,11 +84,11 @@ locations_fine n =
     (and_both (le_true (length (rows (location_count n) trial_location_text)) LOCATION_LIMIT (omega (arith, size)))
     (all_rows is_text trial_location_text (location_count n) (λ k low. all_at is_text trial_location_text 219 k location_texts (omega (arith, low)))))
 
-north_known : (n : ℕ) → is_verb_value (words_of n) 2 ≡ true
-north_known n = or_true (has_word (words_of n) 0 2)
+north_known : (n : ℕ) → is_verb_value (words_of n) NORTH_WORD ≡ true
+north_known n = or_true (has_word (words_of n) VERB_CLASS NORTH_WORD)
 
-south_known : (n : ℕ) → is_verb_value (words_of n) 3 ≡ true
-south_known n = or_true (has_word (words_of n) 0 3)
+south_known : (n : ℕ) → is_verb_value (words_of n) SOUTH_WORD ≡ true
+south_known n = or_true (has_word (words_of n) VERB_CLASS SOUTH_WORD)
 
 exits_of_one : (n k : ℕ) → is_exits (words_of n) (location_count n) (ring_exits (location_count n) k) ≡ true
 exits_of_one n k =
@@ -111,7 +112,8 @@ exits_fine n =
 -- ---- tables ----
 
 -- DOALL at HERE or CARRIED
-doall_fine : (g : GameLists) (p : ℕ) → is_within NOT_CREATED_PLACE HERE_PLACE p ≡ true → is_condact g (condact_with DOALL p) ≡ true
+doall_fine : (g : GameLists) (p : ℕ) → is_within NOT_CREATED_PLACE HERE_PLACE p ≡ true
+    → is_condact g (condact_with DOALL p) ≡ true
 unfolding condact_lines plain_line line_of is_plain_code is_indirect
 doall_fine g p h = and_both (or_right (nat_lt p (length g.locations)) h) refl
 
