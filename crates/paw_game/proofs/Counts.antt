@@ -23,7 +23,9 @@ pub few_locations : (g : GameLists) → Valid g → length g.locations ≤ LOCAT
 few_locations g v = leb-true (length g.locations) LOCATION_LIMIT (first_of_and _ _ (second_of_and (nat_le LOCATION_LEAST (length g.locations)) _ v.locations))
 
 pub some_location : (g : GameLists) → Valid g → LOCATION_LEAST ≤ length g.locations
-some_location g v = leb-true LOCATION_LEAST (length g.locations) (first_of_and (nat_le LOCATION_LEAST (length g.locations)) _ v.locations)
+some_location g v =
+    leb-true LOCATION_LEAST (length g.locations)
+    (first_of_and (nat_le LOCATION_LEAST (length g.locations)) _ v.locations)
 
 pub few_tables : (g : GameLists) → Valid g → length g.tables ≤ TABLE_LIMIT
 few_tables g v =

@@ -90,7 +90,8 @@ is_none-words_fault : (ws : List Word) → is_none (words_fault ws) ≡ words_ke
 unfolding words_fault
 is_none-words_fault ws =
     is_none-row_fault 0 WORD_LIMIT (length ws) (bad_word 0 [] ws)
-    ∙ (ap (λ b. nat_le 0 (length ws) && (nat_le (length ws) WORD_LIMIT && b)) (is_none-bad_word 0 [] ws ∙ rise_after-none ws)
+    ∙ (ap (λ b. nat_le 0 (length ws) && (nat_le (length ws) WORD_LIMIT && b))
+    (is_none-bad_word 0 [] ws ∙ rise_after-none ws)
     ∙ at_least_zero (length ws) _)
 
 -- ---- the other parts
@@ -106,7 +107,8 @@ is_none-objects_fault : (ws : List Word) (locations : ℕ) (os : List ObjectRow)
 unfolding objects_fault
 is_none-objects_fault ws locations os =
     is_none-row_fault 0 OBJECT_LIMIT (length os) (first_bad (is_object ws locations) os)
-    ∙ (ap (λ b. nat_le 0 (length os) && (nat_le (length os) OBJECT_LIMIT && b)) (is_none-first_bad (is_object ws locations) os)
+    ∙ (ap (λ b. nat_le 0 (length os) && (nat_le (length os) OBJECT_LIMIT && b))
+    (is_none-first_bad (is_object ws locations) os)
     ∙ at_least_zero (length os) _)
 
 is_none-exits_fault : (ws : List Word) (locations : ℕ) (es : List (List Exit))
@@ -181,7 +183,8 @@ pub no_fault-from_Valid : (g : GameLists) → Valid g → game_fault g ≡ None
 no_fault-from_Valid g h =
     none-from_AllNone g (record {
       words = fault_in-none _ _ (is_none-words_fault g.words ∙ h.words);
-      system = fault_in-none _ _ (is_none-texts_fault 0 SYSTEM_LIMIT g.system ∙ (at_least_zero (length g.system) _ ∙ h.system));
+      system = fault_in-none _ _
+          (is_none-texts_fault 0 SYSTEM_LIMIT g.system ∙ (at_least_zero (length g.system) _ ∙ h.system));
       messages = fault_in-none _ _ (is_none-texts_fault 0 MESSAGE_LIMIT g.messages ∙ (at_least_zero (length g.messages) _ ∙ h.messages));
       objects = fault_in-none _ _ (is_none-objects_fault g.words (length g.locations) g.objects ∙ h.objects);
       locations = fault_in-none _ _ (is_none-texts_fault LOCATION_LEAST LOCATION_LIMIT g.locations ∙ h.locations);
@@ -189,7 +192,9 @@ no_fault-from_Valid g h =
       tables = fault_in-none _ _ (is_none-tables_fault g ∙ h.tables);
     })
 
-pub few_locations : (ts : List (List ℕ)) → fault_in part.Locations (texts_fault LOCATION_LEAST LOCATION_LIMIT ts) ≡ None → length ts ≤ LOCATION_LIMIT
+pub few_locations : (ts : List (List ℕ))
+    → fault_in part.Locations (texts_fault LOCATION_LEAST LOCATION_LIMIT ts) ≡ None → length ts ≤ LOCATION_LIMIT
 few_locations ts h =
-    let kept = and_parts (nat_le LOCATION_LEAST (length ts)) _ (sym (is_none-texts_fault LOCATION_LEAST LOCATION_LIMIT ts) ∙ none_in _ _ h) in
+    let kept = and_parts (nat_le LOCATION_LEAST (length ts)) _
+    (sym (is_none-texts_fault LOCATION_LEAST LOCATION_LIMIT ts) ∙ none_in _ _ h) in
     leb-true (length ts) LOCATION_LIMIT (and_parts (nat_le (length ts) LOCATION_LIMIT) _ kept.1).0

@@ -80,13 +80,16 @@ pub facts-start : (g : GameLists) → Valid g → (o : ℕ) (f : ObjectFacts) �
 facts-start g v o f e =
     let kept = facts_kept g v o f e in
     first_of_and (is_place (length g.locations) f.start) _
-    (second_of_and (is_word_or_none g.words ADJECTIVE_CLASS f.adjective) _ (second_of_and (is_word_or_none g.words NOUN_CLASS f.noun) _ kept))
+    (second_of_and (is_word_or_none g.words ADJECTIVE_CLASS f.adjective) _
+    (second_of_and (is_word_or_none g.words NOUN_CLASS f.noun) _ kept))
 
-pub facts-weight : (g : GameLists) → Valid g → (o : ℕ) (f : ObjectFacts) → facts_at g o ≡ Some f → f.weight ≤ WEIGHT_LIMIT
+pub facts-weight : (g : GameLists) → Valid g → (o : ℕ) (f : ObjectFacts) → facts_at g o ≡ Some f
+    → f.weight ≤ WEIGHT_LIMIT
 facts-weight g v o f e =
     let kept = facts_kept g v o f e in
     leb-true f.weight WEIGHT_LIMIT (second_of_and (is_place (length g.locations) f.start) _
-    (second_of_and (is_word_or_none g.words ADJECTIVE_CLASS f.adjective) _ (second_of_and (is_word_or_none g.words NOUN_CLASS f.noun) _ kept)))
+    (second_of_and (is_word_or_none g.words ADJECTIVE_CLASS f.adjective) _
+    (second_of_and (is_word_or_none g.words NOUN_CLASS f.noun) _ kept)))
 
 -- ---- texts
 
@@ -99,7 +102,8 @@ text_kept g v part.Objects n t e =
     rw (← at.2) (first_of_and (is_text at.0.text) _ (object_kept g v n at.0 at.1))
 text_kept g v part.Locations n t e =
     list_all-at is_text g.locations n t
-    (second_of_and (nat_le (length g.locations) LOCATION_LIMIT) _ (second_of_and (nat_le LOCATION_LEAST (length g.locations)) _ v.locations)) e
+    (second_of_and (nat_le (length g.locations) LOCATION_LIMIT) _
+    (second_of_and (nat_le LOCATION_LEAST (length g.locations)) _ v.locations)) e
 text_kept g v part.Exits n t e = absurd (none-some t e)
 text_kept g v part.Tables n t e = absurd (none-some t e)
 
@@ -158,7 +162,8 @@ table_in g (Some es) h = h es refl
 pub table_kept : (g : GameLists) → Valid g → (t : ℕ) → IsTrue (is_table g (table_at g t))
 table_kept g v t =
     table_in g (slice_get g.tables t)
-    (λ es e. list_all-at (is_table g) g.tables t es (second_of_and (is_within TABLE_LEAST TABLE_LIMIT (length g.tables)) _ v.tables) e)
+    (λ es e. list_all-at (is_table g) g.tables t es
+    (second_of_and (is_within TABLE_LEAST TABLE_LIMIT (length g.tables)) _ v.tables) e)
 
 pub table-short : (g : GameLists) → Valid g → (t : ℕ) → length (table_at g t) ≤ ENTRY_LIMIT
 table-short g v t = leb-true (length (table_at g t)) ENTRY_LIMIT (first_of_and _ _ (table_kept g v t))
@@ -184,12 +189,14 @@ condacts_of-Some : (o : Option Entry) (k : ℕ) (c : Condact) → slice_get (con
 condacts_of-Some None k c e = absurd (none-some c e)
 condacts_of-Some (Some en) k c e = (en, refl, e)
 
-pub condact-small : (g : GameLists) → Valid g → (t e k : ℕ) (c : Condact) → condact_at g t e k ≡ Some c → e < ENTRY_LIMIT
+pub condact-small : (g : GameLists) → Valid g → (t e k : ℕ) (c : Condact) → condact_at g t e k ≡ Some c
+    → e < ENTRY_LIMIT
 condact-small g v t e k c h =
     let at = condacts_of-Some (entry_at g t e) k c h in
     entry-small g v t e at.0 at.1
 
-pub condact-early : (g : GameLists) → Valid g → (t e k : ℕ) (c : Condact) → condact_at g t e k ≡ Some c → k < CONDACT_LIMIT
+pub condact-early : (g : GameLists) → Valid g → (t e k : ℕ) (c : Condact) → condact_at g t e k ≡ Some c
+    → k < CONDACT_LIMIT
 condact-early g v t e k c h =
     let at = condacts_of-Some (entry_at g t e) k c h in
     omega (arith, slice_get_within at.0.condacts k c at.2, condacts-short g at.0 (entry_kept g v t e at.0 at.1))
@@ -198,7 +205,8 @@ pub condact_kept : (g : GameLists) → Valid g → (t e k : ℕ) (c : Condact) �
 condact_kept g v t e k c h =
     let at = condacts_of-Some (entry_at g t e) k c h in
     list_all-at (is_condact g) at.0.condacts k c
-    (second_of_and (nat_le (length at.0.condacts) CONDACT_LIMIT) _ (condacts_kept g at.0 (entry_kept g v t e at.0 at.1))) at.2
+    (second_of_and (nat_le (length at.0.condacts) CONDACT_LIMIT) _
+    (condacts_kept g at.0 (entry_kept g v t e at.0 at.1))) at.2
 
 -- an entry with a head stands there
 head_stands : (o : Option Entry) (h : ℕ × ℕ) → option_map {U = ℕ × ℕ} (λ (en : Entry). (en.verb, en.noun)) o ≡ Some h → (en : Entry) × (o ≡ Some en)

@@ -50,7 +50,8 @@ match-is g t from verb noun e h =
     let place : from + (e - from) ≡ e = omega (arith, f.reached) in
     (f.reached, (f.entry, (rw (slice_get-drop from (table_at g t) (e - from), place) at f.is), f.matching))
 
-pub match-small : (g : GameLists) → Valid g → (t from verb noun e : ℕ) → match_at g t from verb noun ≡ Some e → e < ENTRY_LIMIT
+pub match-small : (g : GameLists) → Valid g → (t from verb noun e : ℕ) → match_at g t from verb noun ≡ Some e
+    → e < ENTRY_LIMIT
 match-small g v t from verb noun e h =
     let f = match-is g t from verb noun e h in
     entry-small g v t e f.1.0 f.1.1

@@ -40,7 +40,8 @@ meaning_kept g v letters m e =
     record {
       low = rw (← at.2) (leb-true LEAST_WORD at.0.value (first_of_and (nat_le LEAST_WORD at.0.value) _ value));
       high = rw (← at.2) (leb-true at.0.value GREATEST_WORD (second_of_and (nat_le LEAST_WORD at.0.value) _ value));
-      class = rw (← at.2) (leb-true at.0.class PRONOUN_CLASS (second_of_and (is_within LEAST_WORD GREATEST_WORD at.0.value) _ kept));
+      class = rw (← at.2) (leb-true at.0.class PRONOUN_CLASS
+          (second_of_and (is_within LEAST_WORD GREATEST_WORD at.0.value) _ kept));
     }
 
 pub rising : (g : GameLists) → Valid g → IsTrue (words_rise g.words)

@@ -20,7 +20,8 @@ use Rattle.paw_game.proofs.Kept.{first_of_and, second_of_and, code_kept, first_k
 
 small_value : (w : Word) (class value : ℕ) → IsTrue (is_word w) → IsTrue ((w.class == class) && (w.value == value)) → value < 256
 small_value w class value kept same =
-    let within = first_of_and (is_within LEAST_WORD GREATEST_WORD w.value) _ (second_of_and (are_letters w.letters) _ kept) in
+    let within = first_of_and (is_within LEAST_WORD GREATEST_WORD w.value) _
+    (second_of_and (are_letters w.letters) _ kept) in
     let is = second_of_and (w.class == class) _ same in
     grind (arith, nat_tests)
 

@@ -42,7 +42,8 @@ back code = omega arith
 indirect_is : (code : ℕ) → may_be_indirect code ≡ true → is_indirect (code + INDIRECT) ≡ true
 unfolding is_indirect
 indirect_is code may =
-    and_from _ _ (le-leb INDIRECT (code + INDIRECT) (omega arith)) (subst (λ n. may_be_indirect n ≡ true) (sym (back code)) may)
+    and_from _ _ (le-leb INDIRECT (code + INDIRECT) (omega arith))
+    (subst (λ n. may_be_indirect n ≡ true) (sym (back code)) may)
 
 line_of-indirect : (code : ℕ) → may_be_indirect code ≡ true → line_of (code + INDIRECT) ≡ record (plain_line code) { first = Flag }
 unfolding line_of

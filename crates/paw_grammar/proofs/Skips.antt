@@ -58,8 +58,10 @@ takes bounds ws kind.Number ts rest x e = takes_number (λ n. nat_lt n 256) faul
 takes bounds ws kind.Message ts rest x e = takes_number (λ n. nat_lt n bounds.messages) fault.Number number ts rest x e
 takes bounds ws kind.System ts rest x e = takes_number (λ n. nat_lt n bounds.system) fault.Number number ts rest x e
 takes bounds ws kind.Table ts rest x e = takes_table bounds.tables ts rest x e
-takes bounds ws kind.Adverb ts rest x e = takes_meaning fault.Word (or_none (λ t. in_class ADVERB_CLASS (known ws t))) ts rest x e
-takes bounds ws kind.Noun ts rest x e = takes_meaning fault.Word (or_none (λ t. in_class NOUN_CLASS (known ws t))) ts rest x e
+takes bounds ws kind.Adverb ts rest x e =
+    takes_meaning fault.Word (or_none (λ t. in_class ADVERB_CLASS (known ws t))) ts rest x e
+takes bounds ws kind.Noun ts rest x e =
+    takes_meaning fault.Word (or_none (λ t. in_class NOUN_CLASS (known ws t))) ts rest x e
 takes bounds ws kind.Adjective ts rest x e = takes_meaning fault.Word (or_none (λ t. in_class ADJECTIVE_CLASS (known ws t))) ts rest x e
 takes bounds ws kind.Preposition ts rest x e = takes_meaning fault.Word (or_none (λ t. in_class PREPOSITION_CLASS (known ws t))) ts rest x e
 

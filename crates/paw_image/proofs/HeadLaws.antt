@@ -96,7 +96,8 @@ counts_take bytes x fits e =
     within_then _ 0 SYSTEM_LIMIT words.1 _ x words_taken.rest_fits e (λ system system_taken s e.
     within_then _ 0 MESSAGE_LIMIT system.1 _ x system_taken.rest_fits e (λ messages messages_taken m e.
     within_then _ 0 OBJECT_LIMIT messages.1 _ x messages_taken.rest_fits e (λ objects objects_taken o e.
-    within_then _ LOCATION_LEAST LOCATION_LIMIT objects.1 _ x objects_taken.rest_fits e (λ locations locations_taken l e.
+    within_then _ LOCATION_LEAST LOCATION_LIMIT objects.1 _ x objects_taken.rest_fits e
+    (λ locations locations_taken l e.
     within_then _ TABLE_LEAST TABLE_LIMIT locations.1 _ x locations_taken.rest_fits e (λ tables tables_taken t e.
     let four = Takes-then _ _ objects_taken (Takes-then _ _ locations_taken tables_taken) in
     let taken = Takes-then _ _ words_taken (Takes-then _ _ system_taken (Takes-then _ _ messages_taken four)) in

@@ -286,7 +286,8 @@ least_of_three heads verb noun from any none same a n s =
     let with = λ (w : ℕ) (h : Head). eqb h.verb w && is_for h.noun noun in
     let either = λ (h : Head). with ANY_WORD h || (with NO_WORD h || with verb h) in
     let whole = is_match verb noun in
-    let is = λ (h : Head). one_of_three (eqb h.verb ANY_WORD) (eqb h.verb NO_WORD) (eqb h.verb verb) (is_for h.noun noun) in
+    let is = λ (h : Head). one_of_three (eqb h.verb ANY_WORD) (eqb h.verb NO_WORD) (eqb h.verb verb)
+    (is_for h.noun noun) in
     IsLeast-same (IsMatch heads either from) (IsMatch heads whole from)
     (λ e m. IsMatch-other heads either whole (λ h t. sym (is h) ∙ t) from e m)
     (λ e m. IsMatch-other heads whole either (λ h t. is h ∙ t) from e m)

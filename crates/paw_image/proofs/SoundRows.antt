@@ -45,7 +45,8 @@ unfolding after_text text_at
 text_sound bytes rest fits e =
     kept_then _ (is_within 0 TEXT_LIMIT) number_at bytes _ rest e (λ len len_ok len_kept e.
     kept_then _ (is_printed true) (bytes_at len.0) len.1 _ rest e (λ text text_ok text_kept e.
-    let few : leb (length text.0) TEXT_LIMIT ≡ true = ap (λ (n : ℕ). leb n TEXT_LIMIT) (bytes_length len.0 len.1 text text_ok)
+    let few : leb (length text.0) TEXT_LIMIT ≡ true =
+    ap (λ (n : ℕ). leb n TEXT_LIMIT) (bytes_length len.0 len.1 text text_ok)
     ∙ (and_parts (leb 0 len.0) (leb len.0 TEXT_LIMIT) len_kept).1 in
     record {
       value = text.0;
@@ -62,7 +63,8 @@ facts_sound : (d : Preface) → SoundRow (after_facts d) leading_facts (are_fact
 unfolding after_facts leading_facts
 facts_sound d bytes rest fits e =
     kept_then _ (is_word_or_none d.words NOUN_CLASS) byte_at bytes _ rest e (λ noun noun_ok noun_kept e.
-    kept_then _ (is_word_or_none d.words ADJECTIVE_CLASS) byte_at noun.1 _ rest e (λ adjective adjective_ok adjective_kept e.
+    kept_then _ (is_word_or_none d.words ADJECTIVE_CLASS) byte_at noun.1 _ rest e
+    (λ adjective adjective_ok adjective_kept e.
     kept_then _ (is_place d.counts.locations) byte_at adjective.1 _ rest e (λ start start_ok start_kept e.
     bind_then _ (byte_at start.1) _ rest e (λ weight weight_ok e.
     let facts = facts_with noun.0 adjective.0 start.0 weight.0 in

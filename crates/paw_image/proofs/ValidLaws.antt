@@ -128,7 +128,8 @@ parts_of g valid =
     }
 
 pub tables_few : (g : GameLists) → ValidParts g → length g.tables ≤ TABLE_LIMIT
-tables_few g v = leb-true _ _ (and_parts (leb TABLE_LEAST (length g.tables)) (leb (length g.tables) TABLE_LIMIT) v.tables_within).1
+tables_few g v =
+    leb-true _ _ (and_parts (leb TABLE_LEAST (length g.tables)) (leb (length g.tables) TABLE_LIMIT) v.tables_within).1
 
 pub valid_fits : (g : GameLists) → Valid g → FitsGame g
 valid_fits g valid =

@@ -138,11 +138,15 @@ valid_from bytes x rest f r is =
     let kept_exits = subst (λ (d : Preface). list_all (is_exits d.words d.counts.locations) g.exits ≡ true) is r.exits in
     let as_many = subst (λ (d : Preface). length g.exits ≡ d.counts.locations) is r.as_many in
     let kept_tables = subst (λ (d : Preface). list_all (keeps_table d) g.tables ≡ true) is r.tables in
-    let locations = and_parts (leb LOCATION_LEAST (length g.locations)) (leb (length g.locations) LOCATION_LIMIT) few.locations in
+    let locations = and_parts (leb LOCATION_LEAST (length g.locations))
+    (leb (length g.locations) LOCATION_LIMIT) few.locations in
     record {
-      words = and_true (leb (length g.words) WORD_LIMIT) _ (and_parts (leb 0 (length g.words)) _ few.words).1 kept_words;
-      system = and_true (leb (length g.system) SYSTEM_LIMIT) _ (and_parts (leb 0 (length g.system)) _ few.system).1 r.system;
-      messages = and_true (leb (length g.messages) MESSAGE_LIMIT) _ (and_parts (leb 0 (length g.messages)) _ few.messages).1
+      words = and_true (leb (length g.words) WORD_LIMIT) _
+          (and_parts (leb 0 (length g.words)) _ few.words).1 kept_words;
+      system = and_true (leb (length g.system) SYSTEM_LIMIT) _
+          (and_parts (leb 0 (length g.system)) _ few.system).1 r.system;
+      messages = and_true (leb (length g.messages) MESSAGE_LIMIT) _
+          (and_parts (leb 0 (length g.messages)) _ few.messages).1
           r.messages;
       objects = and_true (leb (length g.objects) OBJECT_LIMIT) _ (and_parts (leb 0 (length g.objects)) _ few.objects).1
           kept_objects;

@@ -16,6 +16,6 @@ pub returns : goal.returns
 returns c =
     let found = c.binary_search_by_key.ensures.position (λ w. w.letters) (answers_always _ _ _ (λ f a r g h. search rules)) in
     record {
-      value = found_is c.args.letters.now c.args.words.now c.binary_search_by_key.result c.in_ok-at.at _ c.requires.sorted
-          c.binary_search_by_key.ensures.bound found c.in_ok-at.ensures.value;
+      value = found_is c.args.letters.now c.args.words.now c.binary_search_by_key.result c.in_ok-at.at _
+          c.requires.sorted c.binary_search_by_key.ensures.bound found c.in_ok-at.ensures.value;
     }
