@@ -49,7 +49,8 @@ past d n h =
       | false ↦ refl
     ])
 
-exits_capped : (d : Spelt) (n : ℕ) → length d.locations ≤ LOCATION_LIMIT → new_exits d (min n 4294967295) ≡ new_exits d n
+exits_capped : (d : Spelt) (n : ℕ) → length d.locations ≤ LOCATION_LIMIT
+    → new_exits d (min n 4294967295) ≡ new_exits d n
 exits_capped d n few =
     elim (nat_lt n (length d.locations)) as (λ b. nat_lt n (length d.locations) ≡ b → new_exits d (min n 4294967295) ≡ new_exits d n) [
       | true ↦ λ e.

@@ -109,7 +109,8 @@ whole_valid : (p n : ℕ) (d : Spelt) (g : GameLists) → Keeps p d → length d
 whole_valid p n d g k counted h =
     let a = passes (nat_lt (length d.tables) TABLE_LEAST) (fault (suc n) kind.Missing)
     (cond (nat_lt IMAGE_LIMIT (length (image (game_of d)))) (Err (fault (suc n) kind.TooBig)) (Ok (game_of d))) g h in
-    let b = passes (nat_lt IMAGE_LIMIT (length (image (game_of d)))) (fault (suc n) kind.TooBig) (Ok (game_of d)) g a.1 in
+    let b = passes (nat_lt IMAGE_LIMIT (length (image (game_of d)))) (fault (suc n) kind.TooBig)
+    (Ok (game_of d)) g a.1 in
     let three : 3 ≤ length d.tables = grind (arith, nat_tests, a.0) in
     subst Valid (ok_is (game_of d) g b.1) (valid_game p d k three counted)
 

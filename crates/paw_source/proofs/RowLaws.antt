@@ -121,13 +121,15 @@ value_low (w ∷ ws) c v all h =
     (and_parts _ (is_within LEAST_WORD GREATEST_WORD w.value && nat_le w.class PRONOUN_CLASS) p.0).1 in
     elim (eqb w.class c && eqb w.value v) as (λ b. (eqb w.class c && eqb w.value v) ≡ b → (b || has_word ws c v) ≡ true → v < 255) [
       | true ↦ λ e f. let same = eqb-true w.value v (and_parts (eqb w.class c) (eqb w.value v) e).1 in let low =
-          leb-true w.value GREATEST_WORD (and_parts (nat_le LEAST_WORD w.value) (nat_le w.value GREATEST_WORD) q.0).1 in omega (arith, same, low)
+          leb-true w.value GREATEST_WORD
+          (and_parts (nat_le LEAST_WORD w.value) (nat_le w.value GREATEST_WORD) q.0).1 in omega (arith, same, low)
       | false ↦ λ e f. value_low ws c v p.1 f
     ] refl h
 
 verb_low : (ws : List Word) (v : ℕ) → list_all is_word ws ≡ true → is_verb_value ws v ≡ true → v < 255
 verb_low ws v all h =
-    elim (has_word ws VERB_CLASS v) as (λ b. has_word ws VERB_CLASS v ≡ b → (b || (ltb v FIRST_PLAIN_NOUN && has_word ws NOUN_CLASS v)) ≡ true → v < 255) [
+    elim (has_word ws VERB_CLASS v) as
+    (λ b. has_word ws VERB_CLASS v ≡ b → (b || (ltb v FIRST_PLAIN_NOUN && has_word ws NOUN_CLASS v)) ≡ true → v < 255) [
       | true ↦ λ e f. value_low ws VERB_CLASS v all e
       | false ↦ λ e f. value_low ws NOUN_CLASS v all (and_parts (ltb v FIRST_PLAIN_NOUN) (has_word ws NOUN_CLASS v) f).1
     ] refl h
@@ -320,7 +322,8 @@ entry_row_ok bounds ws g es fs ts has kept h =
     let d = holds (nat_lt (length es) ENTRY_LIMIT) fault.TooBig (Ok (es ++ made ∷ [])) fs c.2 in
     let cs = more_condacts_ok bounds ws g [] b.0.1 c.0 has refl c.1 in
     let v : (is_any a.0.0 || is_verb_value g.words a.0.0) ≡ true = rw has.words (entry_verb_ok ws ts a.0 a.1) in
-    let n : (is_any b.0.0 || has_word g.words NOUN_CLASS b.0.0) ≡ true = rw has.words (entry_noun_ok ws a.0.1 b.0 b.1) in
+    let n : (is_any b.0.0 || has_word g.words NOUN_CLASS b.0.0) ≡ true =
+    rw has.words (entry_noun_ok ws a.0.1 b.0 b.1) in
     let one : is_entry g made ≡ true = rw (v, n, cs.0, cs.1) refl in
     let old = (and_parts (nat_le (length es) ENTRY_LIMIT) (list_all (is_entry g) es) kept).1 in
     let long = length-append es (made ∷ []) in
@@ -330,7 +333,8 @@ entry_row_ok bounds ws g es fs ts has kept h =
     (grind (arith, nat_tests, long, room)) (all_pushed (is_entry g) es made old one))
 
 -- an entry with other condacts
-with_condacts : (g : GameLists) (e : Entry) (cs : List Condact) → is_entry g e ≡ true → nat_le (length cs) CONDACT_LIMIT ≡ true
+with_condacts : (g : GameLists) (e : Entry) (cs : List Condact) → is_entry g e ≡ true
+    → nat_le (length cs) CONDACT_LIMIT ≡ true
     → list_all (is_condact g) cs ≡ true → is_entry g (record e { condacts = cs }) ≡ true
 with_condacts g e cs kept few all =
     let p = and_parts (is_any e.verb || is_verb_value g.words e.verb) ((is_any e.noun || has_word g.words NOUN_CLASS e.noun)

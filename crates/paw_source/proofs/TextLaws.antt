@@ -110,11 +110,13 @@ pub text_line_ok : (begun : Bool) (l : List ℕ) (ts us : List (List ℕ)) → l
 text_line_ok begun l ts us all comment slash bytes h =
     let b = bound (at_most TEXT_LIMIT (with_line begun (last_or [] ts) l)) (λ t. Ok (with_last t ts)) us h in
     let old = all_get is_text ts (length ts - 1) [] all refl in
-    let printed_old = (and_parts (nat_le (length (last_or [] ts)) TEXT_LIMIT) (is_printed true (last_or [] ts)) old).1 in
+    let printed_old = (and_parts (nat_le (length (last_or [] ts)) TEXT_LIMIT)
+    (is_printed true (last_or [] ts)) old).1 in
     let plain_l : list_all plain l ≡ true = plain_line l (allowed (is_comment l) (list_any (λ b. not (is_allowed true b)) l) comment bytes) in
     let printed_new = joined_printed begun (last_or [] ts) l printed_old (λ f. whole_line f l plain_l comment slash) in
     let short = passes (nat_lt TEXT_LIMIT (length (with_line begun (last_or [] ts) l))) kind.TooBig (Ok (with_line begun (last_or [] ts) l)) b.0 b.1 in
-    let few : nat_le (length (with_line begun (last_or [] ts) l)) TEXT_LIMIT ≡ true = grind (arith, nat_tests, short.0) in
+    let few : nat_le (length (with_line begun (last_or [] ts) l)) TEXT_LIMIT ≡ true =
+    grind (arith, nat_tests, short.0) in
     let good : is_text b.0 ≡ true =
     rw (← ok_is (with_line begun (last_or [] ts) l) b.0 short.1)
     (both (nat_le (length (with_line begun (last_or [] ts) l)) TEXT_LIMIT)

@@ -218,7 +218,8 @@ verb_has ws v (Some w) from h =
             | true ↦ λ e2 f2. elim (ltb w.value FIRST_PLAIN_NOUN) as
                 (λ b. ltb w.value FIRST_PLAIN_NOUN ≡ b → cond b (Some w.value) None ≡ Some v → is_verb_value ws v ≡ true) [
                   | true ↦ λ e3 f3.
-                      let one : has_word ws NOUN_CLASS v ≡ true = rw (← eqb-true w.class NOUN_CLASS e2, ← some_is w.value v f3) (from w refl) in
+                      let one : has_word ws NOUN_CLASS v ≡ true =
+                      rw (← eqb-true w.class NOUN_CLASS e2, ← some_is w.value v f3) (from w refl) in
                       let low : ltb v FIRST_PLAIN_NOUN ≡ true = rw (← some_is w.value v f3) e3 in
                       rw (one, low) (elim (has_word ws VERB_CLASS v) as (λ b. (b || true) ≡ true) [ true ↦ refl | false ↦ refl ])
                   | false ↦ λ e3 f3. absurd cc
