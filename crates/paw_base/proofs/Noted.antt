@@ -2,6 +2,7 @@
 use Rattle.std.proofs.Common.{arith, ℕ, zero, suc, ◌≡◌, ◌<◌, ◌≤◌, List, [], ◌∷◌, ◌++◌, length, take, slice_set, ap, sym, ◌∙◌, refl}
 use Rattle.std.proofs.Math.Seq.{take-suc-set}
 use Rattle.std.proofs.lemmas.List.{take_all, length-take-le, length-append}
+use Rattle.paw_base.specs.declared.limits.TheConstants.{STEP_LIMIT}
 use Rattle.paw_base.specs.declared.steps.StepRow.{StepRow}
 use Rattle.paw_base.specs.inner.Steps.{kept_steps, with_step_noted}
 
@@ -21,5 +22,5 @@ take_again (suc n) (x ∷ xs) ys = ap (λ zs. x ∷ zs) (take_again n xs ys)
 pub kept_noted : (steps : List StepRow) (step : StepRow) → with_step_noted step (kept_steps steps) ≡ kept_steps (steps ++ step ∷ [])
 kept_noted steps step =
     let count : suc (length steps) ≡ length (steps ++ step ∷ []) = rw (length-append steps (step ∷ [])) (omega arith) in
-    ap (λ rows. record { rows = rows; count = suc (length steps) }) (take_again 1000 steps (step ∷ []))
-    ∙ ap (λ n. record { rows = take 1000 (steps ++ step ∷ []); count = n }) count
+    ap (λ rows. record { rows = rows; count = suc (length steps) }) (take_again STEP_LIMIT steps (step ∷ []))
+    ∙ ap (λ n. record { rows = take STEP_LIMIT (steps ++ step ∷ []); count = n }) count

@@ -32,7 +32,7 @@ impl Piece {
     /// # Errors
     /// NoRoom where there is no memory for a whole piece.
     pub fn new(alloc: Global) -> Result<Piece, NoRoom>
-        ensures { IfOk result (λ piece. piece ≡ []) }
+        ensures value { IfOk result (λ piece. piece ≡ []) }
     {
         let text = Vec::with_capacity(alloc, PIECE_LIMIT)?;
         Ok(Piece { text })
@@ -54,7 +54,7 @@ impl Piece {
 
     /// Takes all bytes out.
     pub fn clear(&mut self)
-        ensures { self.new ≡ [] }
+        ensures value { self.new ≡ [] }
     {
         self.text.clear();
     }

@@ -44,7 +44,7 @@ pub struct CondactRow {
 impl CondactRow {
     /// How many parameters the condact has: 0 to 2.
     pub fn params(&self) -> usize
-        ensures { result ≡ param_count self.now.first + param_count self.now.second }
+        ensures value { result ≡ param_count self.now.first + param_count self.now.second }
     {
         usize::from(self.first != Absent) + usize::from(self.second != Absent)
     }
@@ -60,7 +60,7 @@ impl CondactRow {
 
 /// What stands before the first space.
 fn up_to_space(name: &[u8]) -> &[u8]
-    ensures { result.now ≡ before_space name.now }
+    ensures value { result.now ≡ before_space name.now }
 {
     match first_space(name) {
         Some(end) => &name[..end],
@@ -69,7 +69,7 @@ fn up_to_space(name: &[u8]) -> &[u8]
 }
 
 fn first_space(name: &[u8]) -> Option<usize>
-    ensures { result ≡ position (λ byte. byte == 32) name.now }
+    ensures value { result ≡ position (λ byte. byte == 32) name.now }
 {
     name.iter().position(|byte| *byte == b' ')
 }
@@ -188,7 +188,7 @@ static CONDACTS: [([u8; 8], ParamKind, ParamKind, bool); 108] = [
 
 /// What the table says of a code; None where it isn't the code of a condact.
 pub fn condact_row(code: u8) -> Option<CondactRow>
-    ensures { SomeIff result (IsCode code) (condact_row_of code) }
+    ensures value { SomeIff result (IsCode code) (condact_row_of code) }
 {
     if code < INDIRECT {
         plain_row(code)
@@ -199,7 +199,7 @@ pub fn condact_row(code: u8) -> Option<CondactRow>
 
 /// The row of a plain code.
 fn plain_row(code: u8) -> Option<CondactRow>
-    ensures { SomeIff result (IsPlainCode code) (row_of_line (plain_line code)) }
+    ensures value { SomeIff result (IsPlainCode code) (row_of_line (plain_line code)) }
 {
     let (name, first, second, acts) = *CONDACTS.get(code as usize)?;
     Some(CondactRow {
@@ -212,7 +212,7 @@ fn plain_row(code: u8) -> Option<CondactRow>
 
 /// The row of the indirect condact of a plain code: its first parameter is a flag. None where it can't be indirect.
 fn indirect_row(code: u8) -> Option<CondactRow>
-    ensures { SomeIff result (may_be_indirect code ≡ true) (row_of_line (indirect_line code)) }
+    ensures value { SomeIff result (may_be_indirect code ≡ true) (row_of_line (indirect_line code)) }
 {
     let row = plain_row(code)?;
     if row.first == Absent || code == PROCESS || code == DOALL {
@@ -261,7 +261,7 @@ pub fn condact_named(name: &[u8]) -> Option<u8>
 
 /// The index in the table of the condact with this name, in any case of letters.
 fn code_of(name: &[u8]) -> Option<usize>
-    ensures { result ≡ code_named name.now }
+    ensures value { result ≡ code_named name.now }
 {
     let wanted = filled_up_capitals(name)?;
     place_of(wanted)
@@ -269,7 +269,7 @@ fn code_of(name: &[u8]) -> Option<usize>
 
 /// The code of the condact with this name in capitals, filled up with spaces.
 fn place_of(name: [u8; 8]) -> Option<usize>
-    ensures { result ≡ position (λ row. bytes_eq row.0 name) CONDACTS }
+    ensures value { result ≡ position (λ row. bytes_eq row.0 name) CONDACTS }
 {
     CONDACTS.iter().position(|row| row.0 == name)
 }

@@ -46,7 +46,7 @@ impl Model for Steps {
 impl Steps {
     /// No steps.
     pub fn new() -> Steps
-        ensures { result ≡ no_steps }
+        ensures value { result ≡ no_steps }
     {
         Steps {
             rows: [NO_STEP; STEP_LIMIT],
@@ -56,15 +56,15 @@ impl Steps {
 
     /// Forgets all steps.
     pub fn clear(&mut self)
-        ensures { self.new ≡ no_steps }
+        ensures value { self.new ≡ no_steps }
     {
         self.count = 0;
     }
 
     /// Notes one step more. It is kept where fewer than 1,000 are.
     pub fn note(&mut self, row: StepRow)
-        requires { self.old.count < 4294967295 }
-        ensures { self.new ≡ with_step_noted row self.old }
+        requires count { self.old.count < 4294967295 }
+        ensures value { self.new ≡ with_step_noted row self.old }
     {
         keep(&mut self.rows, self.count as usize, row);
         self.count += 1;
@@ -72,14 +72,14 @@ impl Steps {
 
     /// The steps that are kept: the first 1,000.
     pub fn rows(&self) -> &[StepRow]
-        ensures { result.now ≡ self.now.rows }
+        ensures value { result.now ≡ self.now.rows }
     {
         up_to(&self.rows, self.count as usize)
     }
 
     /// How many steps there were.
     pub fn count(&self) -> u32
-        ensures { result ≡ self.now.count }
+        ensures value { result ≡ self.now.count }
     {
         self.count
     }
@@ -87,7 +87,7 @@ impl Steps {
 
 /// The first `count` rows, or all where there are fewer.
 fn up_to(rows: &[StepRow], count: usize) -> &[StepRow]
-    ensures { result.now ≡ take count rows.now }
+    ensures value { result.now ≡ take count rows.now }
 {
     &rows[..count.min(rows.len())]
 }

@@ -7,6 +7,8 @@ use Rattle.std.specs.Ordering.{is_lt, nat_cmp}
 use Rattle.std.specs.Cmp.Lexicographic.{slice_cmp}
 use Rattle.std.proofs.lemmas.Bool.{cases_Bool, and_parts, false≢true, leb-true}
 use Rattle.std.proofs.lemmas.Bool.Decides.{nat_tests}
+use Rattle.paw_base.specs.declared.limits.TheConstants.{WORD_LIMIT, SYSTEM_LIMIT, MESSAGE_LIMIT, OBJECT_LIMIT}
+use Rattle.paw_base.specs.declared.limits.TheConstants.{LOCATION_LEAST, LOCATION_LIMIT, TABLE_LEAST, TABLE_LIMIT}
 use Rattle.paw_game.specs.declared.parts.Word.{Word}
 use Rattle.paw_game.specs.declared.parts.ObjectRow.{ObjectRow}
 use Rattle.paw_game.specs.declared.parts.Exit.{Exit}
@@ -87,8 +89,9 @@ rise_after-none (w ∷ ws) =
 is_none-words_fault : (ws : List Word) → is_none (words_fault ws) ≡ words_kept ws
 unfolding words_fault
 is_none-words_fault ws =
-    is_none-row_fault 0 2000 (length ws) (bad_word 0 [] ws)
-    ∙ (ap (λ b. nat_le 0 (length ws) && (nat_le (length ws) 2000 && b)) (is_none-bad_word 0 [] ws ∙ rise_after-none ws)
+    is_none-row_fault 0 WORD_LIMIT (length ws) (bad_word 0 [] ws)
+    ∙ (ap (λ b. nat_le 0 (length ws) && (nat_le (length ws) WORD_LIMIT && b))
+    (is_none-bad_word 0 [] ws ∙ rise_after-none ws)
     ∙ at_least_zero (length ws) _)
 
 -- ---- the other parts
@@ -100,11 +103,12 @@ is_none-texts_fault least most ts =
     ∙ ap (λ b. nat_le least (length ts) && (nat_le (length ts) most && b)) (is_none-first_bad is_text ts)
 
 is_none-objects_fault : (ws : List Word) (locations : ℕ) (os : List ObjectRow)
-    → is_none (objects_fault ws locations os) ≡ rows_kept 255 (is_object ws locations) os
+    → is_none (objects_fault ws locations os) ≡ rows_kept OBJECT_LIMIT (is_object ws locations) os
 unfolding objects_fault
 is_none-objects_fault ws locations os =
-    is_none-row_fault 0 255 (length os) (first_bad (is_object ws locations) os)
-    ∙ (ap (λ b. nat_le 0 (length os) && (nat_le (length os) 255 && b)) (is_none-first_bad (is_object ws locations) os)
+    is_none-row_fault 0 OBJECT_LIMIT (length os) (first_bad (is_object ws locations) os)
+    ∙ (ap (λ b. nat_le 0 (length os) && (nat_le (length os) OBJECT_LIMIT && b))
+    (is_none-first_bad (is_object ws locations) os)
     ∙ at_least_zero (length os) _)
 
 is_none-exits_fault : (ws : List Word) (locations : ℕ) (es : List (List Exit))
@@ -116,12 +120,12 @@ is_none-exits_fault ws locations es =
     ∙ both_ends locations (length es) _)
 
 is_none-tables_fault : (g : GameLists) → is_none (tables_fault g)
-    ≡ (is_within 3 256 (length g.tables) && list_all (is_table g) g.tables)
+    ≡ (is_within TABLE_LEAST TABLE_LIMIT (length g.tables) && list_all (is_table g) g.tables)
 unfolding tables_fault
 is_none-tables_fault g =
-    is_none-row_fault 3 256 (length g.tables) (first_bad (is_table g) g.tables)
-    ∙ (ap (λ b. nat_le 3 (length g.tables) && (nat_le (length g.tables) 256 && b)) (is_none-first_bad (is_table g) g.tables)
-    ∙ and_assoc (nat_le 3 (length g.tables)) _ _)
+    is_none-row_fault TABLE_LEAST TABLE_LIMIT (length g.tables) (first_bad (is_table g) g.tables)
+    ∙ (ap (λ b. nat_le TABLE_LEAST (length g.tables) && (nat_le (length g.tables) TABLE_LIMIT && b)) (is_none-first_bad (is_table g) g.tables)
+    ∙ and_assoc (nat_le TABLE_LEAST (length g.tables)) _ _)
 
 -- ---- the whole game
 
@@ -140,10 +144,10 @@ fault_in-none p (Some row) h = absurd (false≢true h)
 -- What no fault in the whole says of the parts.
 record AllNone (g : GameLists) : Type 0 where
   words : fault_in part.Words (words_fault g.words) ≡ None
-  system : fault_in part.System (texts_fault 0 256 g.system) ≡ None
-  messages : fault_in part.Messages (texts_fault 0 256 g.messages) ≡ None
+  system : fault_in part.System (texts_fault 0 SYSTEM_LIMIT g.system) ≡ None
+  messages : fault_in part.Messages (texts_fault 0 MESSAGE_LIMIT g.messages) ≡ None
   objects : fault_in part.Objects (objects_fault g.words (length g.locations) g.objects) ≡ None
-  locations : fault_in part.Locations (texts_fault 1 252 g.locations) ≡ None
+  locations : fault_in part.Locations (texts_fault LOCATION_LEAST LOCATION_LIMIT g.locations) ≡ None
   exits : fault_in part.Exits (exits_fault g.words (length g.locations) g.exits) ≡ None
   tables : fault_in part.Tables (tables_fault g) ≡ None
 
@@ -151,10 +155,10 @@ AllNone-from : (g : GameLists) → game_fault g ≡ None → AllNone g
 unfolding game_fault
 AllNone-from g h =
     let a = none_first (fault_in part.Words (words_fault g.words)) _ h in
-    let b = none_first (fault_in part.System (texts_fault 0 256 g.system)) _ a.1 in
-    let c = none_first (fault_in part.Messages (texts_fault 0 256 g.messages)) _ b.1 in
+    let b = none_first (fault_in part.System (texts_fault 0 SYSTEM_LIMIT g.system)) _ a.1 in
+    let c = none_first (fault_in part.Messages (texts_fault 0 MESSAGE_LIMIT g.messages)) _ b.1 in
     let d = none_first (fault_in part.Objects (objects_fault g.words (length g.locations) g.objects)) _ c.1 in
-    let e = none_first (fault_in part.Locations (texts_fault 1 252 g.locations)) _ d.1 in
+    let e = none_first (fault_in part.Locations (texts_fault LOCATION_LEAST LOCATION_LIMIT g.locations)) _ d.1 in
     let f = none_first (fault_in part.Exits (exits_fault g.words (length g.locations) g.exits)) _ e.1 in
     record { words = a.0; system = b.0; messages = c.0; objects = d.0; locations = e.0; exits = f.0; tables = f.1 }
 
@@ -167,10 +171,10 @@ Valid-from_no_fault g h =
     let n = AllNone-from g h in
     record {
       words = sym (is_none-words_fault g.words) ∙ none_in _ _ n.words;
-      system = (and_parts (nat_le 0 (length g.system)) _ (sym (is_none-texts_fault 0 256 g.system) ∙ none_in _ _ n.system)).1;
-      messages = (and_parts (nat_le 0 (length g.messages)) _ (sym (is_none-texts_fault 0 256 g.messages) ∙ none_in _ _ n.messages)).1;
+      system = (and_parts (nat_le 0 (length g.system)) _ (sym (is_none-texts_fault 0 SYSTEM_LIMIT g.system) ∙ none_in _ _ n.system)).1;
+      messages = (and_parts (nat_le 0 (length g.messages)) _ (sym (is_none-texts_fault 0 MESSAGE_LIMIT g.messages) ∙ none_in _ _ n.messages)).1;
       objects = sym (is_none-objects_fault g.words (length g.locations) g.objects) ∙ none_in _ _ n.objects;
-      locations = sym (is_none-texts_fault 1 252 g.locations) ∙ none_in _ _ n.locations;
+      locations = sym (is_none-texts_fault LOCATION_LEAST LOCATION_LIMIT g.locations) ∙ none_in _ _ n.locations;
       exits = sym (is_none-exits_fault g.words (length g.locations) g.exits) ∙ none_in _ _ n.exits;
       tables = sym (is_none-tables_fault g) ∙ none_in _ _ n.tables;
     }
@@ -179,15 +183,18 @@ pub no_fault-from_Valid : (g : GameLists) → Valid g → game_fault g ≡ None
 no_fault-from_Valid g h =
     none-from_AllNone g (record {
       words = fault_in-none _ _ (is_none-words_fault g.words ∙ h.words);
-      system = fault_in-none _ _ (is_none-texts_fault 0 256 g.system ∙ (at_least_zero (length g.system) _ ∙ h.system));
-      messages = fault_in-none _ _ (is_none-texts_fault 0 256 g.messages ∙ (at_least_zero (length g.messages) _ ∙ h.messages));
+      system = fault_in-none _ _
+          (is_none-texts_fault 0 SYSTEM_LIMIT g.system ∙ (at_least_zero (length g.system) _ ∙ h.system));
+      messages = fault_in-none _ _ (is_none-texts_fault 0 MESSAGE_LIMIT g.messages ∙ (at_least_zero (length g.messages) _ ∙ h.messages));
       objects = fault_in-none _ _ (is_none-objects_fault g.words (length g.locations) g.objects ∙ h.objects);
-      locations = fault_in-none _ _ (is_none-texts_fault 1 252 g.locations ∙ h.locations);
+      locations = fault_in-none _ _ (is_none-texts_fault LOCATION_LEAST LOCATION_LIMIT g.locations ∙ h.locations);
       exits = fault_in-none _ _ (is_none-exits_fault g.words (length g.locations) g.exits ∙ h.exits);
       tables = fault_in-none _ _ (is_none-tables_fault g ∙ h.tables);
     })
 
-pub few_locations : (ts : List (List ℕ)) → fault_in part.Locations (texts_fault 1 252 ts) ≡ None → length ts ≤ 252
+pub few_locations : (ts : List (List ℕ))
+    → fault_in part.Locations (texts_fault LOCATION_LEAST LOCATION_LIMIT ts) ≡ None → length ts ≤ LOCATION_LIMIT
 few_locations ts h =
-    let kept = and_parts (nat_le 1 (length ts)) _ (sym (is_none-texts_fault 1 252 ts) ∙ none_in _ _ h) in
-    leb-true (length ts) 252 (and_parts (nat_le (length ts) 252) _ kept.1).0
+    let kept = and_parts (nat_le LOCATION_LEAST (length ts)) _
+    (sym (is_none-texts_fault LOCATION_LEAST LOCATION_LIMIT ts) ∙ none_in _ _ h) in
+    leb-true (length ts) LOCATION_LIMIT (and_parts (nat_le (length ts) LOCATION_LIMIT) _ kept.1).0

@@ -9,6 +9,10 @@ use Rattle.std.proofs.lemmas.Bool.{and_from, and_parts, cases_lt, leb-true, ltb-
 use Rattle.std.proofs.lemmas.Bool.Decides.{nat_tests}
 use Rattle.paw_base.specs.Condacts.{is_code, first_kind, second_kind}
 use Rattle.paw_base.specs.inner.Condacts.{IsCode}
+use Rattle.paw_base.specs.declared.limits.TheConstants.{SYSTEM_LIMIT, MESSAGE_LIMIT, OBJECT_LIMIT, LOCATION_LEAST}
+use Rattle.paw_base.specs.declared.limits.TheConstants.{LOCATION_LIMIT, TABLE_LEAST, TABLE_LIMIT, TEXT_LIMIT}
+use Rattle.paw_base.specs.declared.limits.TheConstants.{EXIT_LIMIT, ENTRY_LIMIT, CONDACT_LIMIT, WEIGHT_LIMIT}
+use Rattle.paw_base.specs.declared.words.TheConstants.{NOUN_CLASS, ADJECTIVE_CLASS}
 use Rattle.paw_base.specs.declared.parts.Condact.{Condact}
 use Rattle.paw_base.specs.declared.parts.ObjectFacts.{ObjectFacts}
 use Rattle.paw_base.specs.declared.rows.ParamKind.{ParamKind}
@@ -65,7 +69,7 @@ row_at (x ∷ xs) (suc i) h = row_at xs i (omega arith)
 
 pub object_kept : (g : GameLists) → Valid g → (o : ℕ) (row : ObjectRow) → slice_get g.objects o ≡ Some row → IsTrue (is_object g.words (length g.locations) row)
 object_kept g v o row e =
-    list_all-at (is_object g.words (length g.locations)) g.objects o row (second_of_and (nat_le (length g.objects) 255) _ v.objects) e
+    list_all-at (is_object g.words (length g.locations)) g.objects o row (second_of_and (nat_le (length g.objects) OBJECT_LIMIT) _ v.objects) e
 
 pub facts_kept : (g : GameLists) → Valid g → (o : ℕ) (f : ObjectFacts) → facts_at g o ≡ Some f → IsTrue (are_facts g.words (length g.locations) f)
 facts_kept g v o f e =
@@ -76,31 +80,35 @@ pub facts-start : (g : GameLists) → Valid g → (o : ℕ) (f : ObjectFacts) �
 facts-start g v o f e =
     let kept = facts_kept g v o f e in
     first_of_and (is_place (length g.locations) f.start) _
-    (second_of_and (is_word_or_none g.words 3 f.adjective) _ (second_of_and (is_word_or_none g.words 2 f.noun) _ kept))
+    (second_of_and (is_word_or_none g.words ADJECTIVE_CLASS f.adjective) _
+    (second_of_and (is_word_or_none g.words NOUN_CLASS f.noun) _ kept))
 
-pub facts-weight : (g : GameLists) → Valid g → (o : ℕ) (f : ObjectFacts) → facts_at g o ≡ Some f → f.weight ≤ 63
+pub facts-weight : (g : GameLists) → Valid g → (o : ℕ) (f : ObjectFacts) → facts_at g o ≡ Some f
+    → f.weight ≤ WEIGHT_LIMIT
 facts-weight g v o f e =
     let kept = facts_kept g v o f e in
-    leb-true f.weight 63 (second_of_and (is_place (length g.locations) f.start) _
-    (second_of_and (is_word_or_none g.words 3 f.adjective) _ (second_of_and (is_word_or_none g.words 2 f.noun) _ kept)))
+    leb-true f.weight WEIGHT_LIMIT (second_of_and (is_place (length g.locations) f.start) _
+    (second_of_and (is_word_or_none g.words ADJECTIVE_CLASS f.adjective) _
+    (second_of_and (is_word_or_none g.words NOUN_CLASS f.noun) _ kept)))
 
 -- ---- texts
 
 pub text_kept : (g : GameLists) → Valid g → (p : GamePart) (n : ℕ) (t : List ℕ) → text_at g p n ≡ Some t → IsTrue (is_text t)
 text_kept g v part.Words n t e = absurd (none-some t e)
-text_kept g v part.System n t e = list_all-at is_text g.system n t (second_of_and (nat_le (length g.system) 256) _ v.system) e
-text_kept g v part.Messages n t e = list_all-at is_text g.messages n t (second_of_and (nat_le (length g.messages) 256) _ v.messages) e
+text_kept g v part.System n t e = list_all-at is_text g.system n t (second_of_and (nat_le (length g.system) SYSTEM_LIMIT) _ v.system) e
+text_kept g v part.Messages n t e = list_all-at is_text g.messages n t (second_of_and (nat_le (length g.messages) MESSAGE_LIMIT) _ v.messages) e
 text_kept g v part.Objects n t e =
     let at = option_map-Some (λ (row : ObjectRow). row.text) (slice_get g.objects n) t e in
     rw (← at.2) (first_of_and (is_text at.0.text) _ (object_kept g v n at.0 at.1))
 text_kept g v part.Locations n t e =
     list_all-at is_text g.locations n t
-    (second_of_and (nat_le (length g.locations) 252) _ (second_of_and (nat_le 1 (length g.locations)) _ v.locations)) e
+    (second_of_and (nat_le (length g.locations) LOCATION_LIMIT) _
+    (second_of_and (nat_le LOCATION_LEAST (length g.locations)) _ v.locations)) e
 text_kept g v part.Exits n t e = absurd (none-some t e)
 text_kept g v part.Tables n t e = absurd (none-some t e)
 
-pub text-short : (t : List ℕ) → IsTrue (is_text t) → length t ≤ 4095
-text-short t h = leb-true (length t) 4095 (first_of_and _ _ h)
+pub text-short : (t : List ℕ) → IsTrue (is_text t) → length t ≤ TEXT_LIMIT
+text-short t h = leb-true (length t) TEXT_LIMIT (first_of_and _ _ h)
 
 printed_byte : (b : ℕ) → IsTrue (is_text_byte b) → b < 256
 printed_byte b h = grind (arith, nat_tests)
@@ -113,7 +121,7 @@ printed-bytes first (b ∷ bs) (suc k) d h l =
     printed-bytes (b == 10) bs k d (second_of_and (is_text_byte b && not (first && begins_no_line b)) _ h) (omega arith)
 
 pub text-bytes : (t : List ℕ) → IsTrue (is_text t) → All (λ b. b < 256) t
-text-bytes t h = λ k d high. printed-bytes true t k d (second_of_and (nat_le (length t) 4095) _ h) high
+text-bytes t h = λ k d high. printed-bytes true t k d (second_of_and (nat_le (length t) TEXT_LIMIT) _ h) high
 
 -- ---- exits
 
@@ -140,7 +148,7 @@ exit_in-leads : (ws : List Word) (locations : ℕ) (o : Option (List Exit)) (ver
     → ((xs : List Exit) → o ≡ Some xs → IsTrue (is_exits ws locations xs)) → exit_of (unwrap_or o []) verb ≡ Some to → to < locations
 exit_in-leads ws locations None verb to h e = absurd (none-some to e)
 exit_in-leads ws locations (Some xs) verb to h e =
-    exit_of-leads ws locations xs verb to (second_of_and (nat_le (length xs) 255) _ (h xs refl)) e
+    exit_of-leads ws locations xs verb to (second_of_and (nat_le (length xs) EXIT_LIMIT) _ (h xs refl)) e
 
 pub exit-leads : (g : GameLists) → Valid g → (l verb to : ℕ) → exit_at g l verb ≡ Some to → to < length g.locations
 exit-leads g v l verb to e = exit_in-leads g.words (length g.locations) (slice_get g.exits l) verb to (exits_kept_at g v l) e
@@ -154,37 +162,41 @@ table_in g (Some es) h = h es refl
 pub table_kept : (g : GameLists) → Valid g → (t : ℕ) → IsTrue (is_table g (table_at g t))
 table_kept g v t =
     table_in g (slice_get g.tables t)
-    (λ es e. list_all-at (is_table g) g.tables t es (second_of_and (is_within 3 256 (length g.tables)) _ v.tables) e)
+    (λ es e. list_all-at (is_table g) g.tables t es
+    (second_of_and (is_within TABLE_LEAST TABLE_LIMIT (length g.tables)) _ v.tables) e)
 
-pub table-short : (g : GameLists) → Valid g → (t : ℕ) → length (table_at g t) ≤ 4000
-table-short g v t = leb-true (length (table_at g t)) 4000 (first_of_and _ _ (table_kept g v t))
+pub table-short : (g : GameLists) → Valid g → (t : ℕ) → length (table_at g t) ≤ ENTRY_LIMIT
+table-short g v t = leb-true (length (table_at g t)) ENTRY_LIMIT (first_of_and _ _ (table_kept g v t))
 
 pub entry_kept : (g : GameLists) → Valid g → (t e : ℕ) (en : Entry) → entry_at g t e ≡ Some en → IsTrue (is_entry g en)
 entry_kept g v t e en h =
-    list_all-at (is_entry g) (table_at g t) e en (second_of_and (nat_le (length (table_at g t)) 4000) _ (table_kept g v t)) h
+    list_all-at (is_entry g) (table_at g t) e en (second_of_and (nat_le (length (table_at g t)) ENTRY_LIMIT) _ (table_kept g v t)) h
 
-pub entry-small : (g : GameLists) → Valid g → (t e : ℕ) (en : Entry) → entry_at g t e ≡ Some en → e < 4000
+pub entry-small : (g : GameLists) → Valid g → (t e : ℕ) (en : Entry) → entry_at g t e ≡ Some en → e < ENTRY_LIMIT
 entry-small g v t e en h = omega (arith, slice_get_within (table_at g t) e en h, table-short g v t)
 
 -- An entry's condacts keep their rules, and are few.
-condacts_kept : (g : GameLists) (en : Entry) → IsTrue (is_entry g en) → IsTrue (nat_le (length en.condacts) 255 && list_all (is_condact g) en.condacts)
+condacts_kept : (g : GameLists) (en : Entry) → IsTrue (is_entry g en)
+    → IsTrue (nat_le (length en.condacts) CONDACT_LIMIT && list_all (is_condact g) en.condacts)
 condacts_kept g en h =
-    second_of_and (is_any en.noun || has_word g.words 2 en.noun) _ (second_of_and (is_any en.verb || is_verb_value g.words en.verb) _ h)
+    second_of_and (is_any en.noun || has_word g.words NOUN_CLASS en.noun) _ (second_of_and (is_any en.verb || is_verb_value g.words en.verb) _ h)
 
-pub condacts-short : (g : GameLists) (en : Entry) → IsTrue (is_entry g en) → length en.condacts ≤ 255
-condacts-short g en h = leb-true (length en.condacts) 255 (first_of_and _ (list_all (is_condact g) en.condacts) (condacts_kept g en h))
+pub condacts-short : (g : GameLists) (en : Entry) → IsTrue (is_entry g en) → length en.condacts ≤ CONDACT_LIMIT
+condacts-short g en h = leb-true (length en.condacts) CONDACT_LIMIT (first_of_and _ (list_all (is_condact g) en.condacts) (condacts_kept g en h))
 
 condacts_of-Some : (o : Option Entry) (k : ℕ) (c : Condact) → slice_get (condacts_of o) k ≡ Some c
     → (en : Entry) × (o ≡ Some en) × (slice_get en.condacts k ≡ Some c)
 condacts_of-Some None k c e = absurd (none-some c e)
 condacts_of-Some (Some en) k c e = (en, refl, e)
 
-pub condact-small : (g : GameLists) → Valid g → (t e k : ℕ) (c : Condact) → condact_at g t e k ≡ Some c → e < 4000
+pub condact-small : (g : GameLists) → Valid g → (t e k : ℕ) (c : Condact) → condact_at g t e k ≡ Some c
+    → e < ENTRY_LIMIT
 condact-small g v t e k c h =
     let at = condacts_of-Some (entry_at g t e) k c h in
     entry-small g v t e at.0 at.1
 
-pub condact-early : (g : GameLists) → Valid g → (t e k : ℕ) (c : Condact) → condact_at g t e k ≡ Some c → k < 255
+pub condact-early : (g : GameLists) → Valid g → (t e k : ℕ) (c : Condact) → condact_at g t e k ≡ Some c
+    → k < CONDACT_LIMIT
 condact-early g v t e k c h =
     let at = condacts_of-Some (entry_at g t e) k c h in
     omega (arith, slice_get_within at.0.condacts k c at.2, condacts-short g at.0 (entry_kept g v t e at.0 at.1))
@@ -193,13 +205,14 @@ pub condact_kept : (g : GameLists) → Valid g → (t e k : ℕ) (c : Condact) �
 condact_kept g v t e k c h =
     let at = condacts_of-Some (entry_at g t e) k c h in
     list_all-at (is_condact g) at.0.condacts k c
-    (second_of_and (nat_le (length at.0.condacts) 255) _ (condacts_kept g at.0 (entry_kept g v t e at.0 at.1))) at.2
+    (second_of_and (nat_le (length at.0.condacts) CONDACT_LIMIT) _
+    (condacts_kept g at.0 (entry_kept g v t e at.0 at.1))) at.2
 
 -- An entry with a head stands there.
 head_stands : (o : Option Entry) (h : ℕ × ℕ) → option_map {U = ℕ × ℕ} (λ (en : Entry). (en.verb, en.noun)) o ≡ Some h → (en : Entry) × (o ≡ Some en)
 head_stands o h e = let at = option_map-Some {B = ℕ × ℕ} (λ (en : Entry). (en.verb, en.noun)) o h e in (at.0, at.1)
 
-pub head-small : (g : GameLists) → Valid g → (t e : ℕ) (h : ℕ × ℕ) → head_at g t e ≡ Some h → e < 4000
+pub head-small : (g : GameLists) → Valid g → (t e : ℕ) (h : ℕ × ℕ) → head_at g t e ≡ Some h → e < ENTRY_LIMIT
 head-small g v t e h i =
     let at = head_stands (entry_at g t e) h i in
     entry-small g v t e at.0 at.1

@@ -5,6 +5,7 @@ use Rattle.std.specs.Prelude.{slice_get}
 use Rattle.std.proofs.lemmas.Bool.{cases_Bool}
 use Rattle.std.proofs.lemmas.Option.{none-some, same_Some}
 use Rattle.std.proofs.lemmas.List.{drop_all}
+use Rattle.paw_base.specs.declared.limits.TheConstants.{ENTRY_LIMIT}
 use Rattle.paw_game.specs.declared.parts.Entry.{Entry}
 use Rattle.paw_game.specs.Game.{GameLists}
 use Rattle.paw_game.specs.Valid.{Valid}
@@ -49,7 +50,8 @@ match-is g t from verb noun e h =
     let place : from + (e - from) ≡ e = omega (arith, f.reached) in
     (f.reached, (f.entry, (rw (slice_get-drop from (table_at g t) (e - from), place) at f.is), f.matching))
 
-pub match-small : (g : GameLists) → Valid g → (t from verb noun e : ℕ) → match_at g t from verb noun ≡ Some e → e < 4000
+pub match-small : (g : GameLists) → Valid g → (t from verb noun e : ℕ) → match_at g t from verb noun ≡ Some e
+    → e < ENTRY_LIMIT
 match-small g v t from verb noun e h =
     let f = match-is g t from verb noun e h in
     entry-small g v t e f.1.0 f.1.1

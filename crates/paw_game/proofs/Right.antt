@@ -5,6 +5,9 @@ use Rattle.std.proofs.lemmas.Bool.{or_cases}
 use Rattle.std.proofs.lemmas.Bool.Decides.{nat_tests}
 use Rattle.paw_base.specs.Condacts.{first_kind, second_kind}
 use Rattle.paw_base.specs.inner.Condacts.{IsCode}
+use Rattle.paw_base.specs.declared.limits.TheConstants.{WORD_LIMIT}
+use Rattle.paw_base.specs.declared.words.TheConstants.{ADVERB_CLASS, NOUN_CLASS, ADJECTIVE_CLASS, PREPOSITION_CLASS}
+use Rattle.paw_base.specs.declared.words.TheConstants.{NO_WORD, LEAST_WORD, GREATEST_WORD}
 use Rattle.paw_base.specs.declared.parts.Condact.{Condact}
 use Rattle.paw_base.specs.declared.rows.ParamKind.{ParamKind}
 use Rattle.paw_base.specs.declared.rows.ParamKind.TheVariants as kind
@@ -17,7 +20,8 @@ use Rattle.paw_game.proofs.Kept.{first_of_and, second_of_and, code_kept, first_k
 
 small_value : (w : Word) (class value : ℕ) → IsTrue (is_word w) → IsTrue ((w.class == class) && (w.value == value)) → value < 256
 small_value w class value kept same =
-    let within = first_of_and (is_within 2 254 w.value) _ (second_of_and (are_letters w.letters) _ kept) in
+    let within = first_of_and (is_within LEAST_WORD GREATEST_WORD w.value) _
+    (second_of_and (are_letters w.letters) _ kept) in
     let is = second_of_and (w.class == class) _ same in
     grind (arith, nat_tests)
 
@@ -31,18 +35,18 @@ has_small (w ∷ ws) class value kept has =
 
 word_small : (words : List Word) (class x : ℕ) → IsTrue (words_kept words) → IsTrue (is_word_or_none words class x) → IsTrue (nat_lt x 256)
 word_small words class x kept h =
-    let each = first_of_and (list_all is_word words) _ (second_of_and (nat_le (length words) 2000) _ kept) in
-    let small : x < 256 = elim (or_cases (x == 255) (has_word words class x) h) [
+    let each = first_of_and (list_all is_word words) _ (second_of_and (nat_le (length words) WORD_LIMIT) _ kept) in
+    let small : x < 256 = elim (or_cases (x == NO_WORD) (has_word words class x) h) [
       | inl none ↦ grind (arith, nat_tests)
       | inr has ↦ has_small words class x each has
     ] in
     grind (arith, nat_tests)
 
 right_argument : (g : GameLists) (k : ParamKind) (x : ℕ) → Valid g → IsTrue (is_parameter (counts_of g) g.words k x) → IsTrue (is_argument g k x)
-right_argument g kind.Adverb x v h = word_small g.words 1 x v.words h
-right_argument g kind.Noun x v h = word_small g.words 2 x v.words h
-right_argument g kind.Adjective x v h = word_small g.words 3 x v.words h
-right_argument g kind.Preposition x v h = word_small g.words 4 x v.words h
+right_argument g kind.Adverb x v h = word_small g.words ADVERB_CLASS x v.words h
+right_argument g kind.Noun x v h = word_small g.words NOUN_CLASS x v.words h
+right_argument g kind.Adjective x v h = word_small g.words ADJECTIVE_CLASS x v.words h
+right_argument g kind.Preposition x v h = word_small g.words PREPOSITION_CLASS x v.words h
 right_argument g k x v h = h
 
 -- Each condact of a valid game can be carried out.

@@ -83,7 +83,7 @@ impl<'a> Inspector<'a> {
     /// The row to name of the exits, where one breaks a rule or there are too many or too few.
     #[tactic(auto, unfolding(crate::specs::inner::Fault::exits_fault))]
     pub(crate) fn exits_fault(&self) -> Option<u32>
-        requires { length self.now.locations < 2 ^ 32 }
+        requires locations { length self.now.locations < 2 ^ 32 }
         ensures value { result ≡ exits_fault self.now.words (length self.now.locations) self.now.exits }
     {
         let parts = self.parts;

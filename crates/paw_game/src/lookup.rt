@@ -122,7 +122,7 @@ pub fn is_for(word: u8, flag: u8) -> bool
 }
 
 pub(crate) fn word_at(parts: &GameParts, letters: &[u8; WORD_LENGTH]) -> Option<(u8, u8)>
-    requires { IsTrue (words_rise parts.now.words) }
+    requires sorted { IsTrue (words_rise parts.now.words) }
     ensures value { result ≡ word_at parts.now letters.now }
 {
     let word = word_of(letters, parts.words.as_slice())?;
@@ -131,11 +131,11 @@ pub(crate) fn word_at(parts: &GameParts, letters: &[u8; WORD_LENGTH]) -> Option<
 
 /// The word with these letters, of words that rise by their letters.
 pub fn word_of<'a>(letters: &[u8; WORD_LENGTH], words: &'a [Word]) -> Option<&'a Word>
-    requires { IsTrue (words_rise words.now) }
+    requires sorted { IsTrue (words_rise words.now) }
     ensures value { option_copied result ≡ word_of letters.now words.now }
 {
     let letters_of = |word: &Word| -> [u8; WORD_LENGTH]
-        ensures { result ≡ word.now.letters }
+        ensures value { result ≡ word.now.letters }
     { word.letters };
     let at = words.binary_search_by_key(letters, letters_of).ok()?;
     Some(&words[at])

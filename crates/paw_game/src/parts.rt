@@ -21,7 +21,7 @@ pub struct Word {
 impl Word {
     /// The word of these parts, whatever rules they keep.
     pub fn new(letters: [u8; WORD_LENGTH], value: u8, class: u8) -> Word
-        ensures { result ≡ record { letters = letters; value = value; class = class } }
+        ensures value { result ≡ record { letters = letters; value = value; class = class } }
     {
         Word {
             letters,

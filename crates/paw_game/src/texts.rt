@@ -11,7 +11,7 @@ use paw_base::limits::TEXT_LIMIT;
 /// The row to name of these texts, where one breaks a rule or there are too few or too many.
 #[tactic(auto, unfolding(crate::specs::inner::Fault::texts_fault))]
 pub(crate) fn texts_fault(least: usize, most: usize, texts: &[Text]) -> Option<u32>
-    requires { most < 2 ^ 32 }
+    requires limit { most < 2 ^ 32 }
     ensures value { result ≡ texts_fault least most texts.now }
 {
     row_fault(least, most, texts.len(), bad_text(texts))

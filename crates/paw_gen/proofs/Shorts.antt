@@ -4,6 +4,8 @@ use Rattle.std.specs.Prelude.{◌==◌, ◌&&◌, nat_le}
 use Rattle.std.specs.List.{list_all, flat_map}
 use Rattle.std.proofs.lemmas.Bool.{and_parts}
 use Rattle.paw_base.specs.Condacts.{condact_lines, plain_line, line_of, is_indirect}
+use Rattle.paw_base.specs.declared.limits.TheConstants.{IMAGE_LIMIT, WORD_LENGTH, TEXT_LIMIT}
+use Rattle.paw_base.specs.declared.words.TheConstants.{PRONOUN_CLASS, LEAST_WORD, GREATEST_WORD}
 use Rattle.paw_game.specs.declared.parts.Word.{Word}
 use Rattle.paw_game.specs.declared.parts.ObjectRow.{ObjectRow}
 use Rattle.paw_game.specs.Game.{GameLists}
@@ -27,19 +29,20 @@ flat_short bytes most (x ∷ xs) h =
     let joined : length (bytes x ++ flat_map bytes xs) ≡ length (bytes x) + length (flat_map bytes xs) = length-append (bytes x) (flat_map bytes xs) in
     grind arith
 
-letters_five : (letters : List ℕ) → are_letters letters ≡ true → length letters ≡ 5
+letters_five : (letters : List ℕ) → are_letters letters ≡ true → length letters ≡ WORD_LENGTH
 letters_five [] h = absurd cc
 letters_five (c ∷ cs) h =
-    eq_from (length (c ∷ cs)) 5 (and_parts (length (c ∷ cs) == 5) (is_letter c && is_filled cs) h).0
+    eq_from (length (c ∷ cs)) WORD_LENGTH (and_parts (length (c ∷ cs) == WORD_LENGTH) (is_letter c && is_filled cs) h).0
 
 word_short : (w : Word) → is_word w ≡ true → nat_le (length (word_image w)) 7 ≡ true
 word_short w h =
-    let five : length w.letters ≡ 5 = letters_five w.letters (and_parts (are_letters w.letters) (is_within 2 254 w.value && nat_le w.class 6) h).0 in
+    let kept = and_parts (are_letters w.letters) (is_within LEAST_WORD GREATEST_WORD w.value && nat_le w.class PRONOUN_CLASS) h in
+    let five : length w.letters ≡ WORD_LENGTH = letters_five w.letters kept.0 in
     le_true (length (word_image w)) 7 (omega (arith, five, length-append w.letters (w.value ∷ w.class ∷ [])))
 
 text_short : (bytes : List ℕ) → is_text bytes ≡ true → length (text_image bytes) ≤ 4097
 text_short bytes h =
-    let few : length bytes ≤ 4095 = le_from (length bytes) 4095 (and_parts (nat_le (length bytes) 4095) (is_printed true bytes) h).0 in
+    let few : length bytes ≤ TEXT_LIMIT = le_from (length bytes) TEXT_LIMIT (and_parts (nat_le (length bytes) TEXT_LIMIT) (is_printed true bytes) h).0 in
     omega (arith, few, length-append (two_bytes (length bytes)) bytes)
 
 object_short : (o : ObjectRow) → is_text o.text ≡ true → length (object_image o) ≤ 4101
@@ -70,7 +73,7 @@ all_words_short (w ∷ ws) h =
 -- The parts together, for at most 109 objects and 219 locations.
 limited : (all head words system none objects locations exits tables things places : ℕ)
     → all ≡ head + words + system + none + objects + locations + exits + tables → head ≡ 17 → words ≤ 7 * (8 + things) → system ≤ 4097 * 54 → none ≡ 0
-    → objects ≤ 4101 * things → locations ≤ 4097 * places → exits ≤ 5 * places → tables ≡ 39 → things ≤ 109 → places ≤ 219 → all ≤ 4194304
+    → objects ≤ 4101 * things → locations ≤ 4097 * places → exits ≤ 5 * places → tables ≡ 39 → things ≤ 109 → places ≤ 219 → all ≤ IMAGE_LIMIT
 limited all head words system none objects locations exits tables things places a b c d e f g h i j k = omega arith
 
 -- Rows of which each is that short.
@@ -103,14 +106,14 @@ limited_game : (g : GameLists) (things places : ℕ) → length (flat_map word_i
     → length (flat_map text_image g.system) ≤ 4097 * 54 → length (flat_map text_image g.messages) ≡ 0
     → length (flat_map object_image g.objects) ≤ 4101 * things → length (flat_map text_image g.locations) ≤ 4097 * places
     → length (flat_map exits_image g.exits) ≤ 5 * places → length (flat_map table_image g.tables) ≡ 39
-    → things ≤ 109 → places ≤ 219 → length (image g) ≤ 4194304
+    → things ≤ 109 → places ≤ 219 → length (image g) ≤ IMAGE_LIMIT
 limited_game g things places words system none objects locations exits tables few fewer =
     limited (length (image g)) (length (head_image g)) (length (flat_map word_image g.words)) (length (flat_map text_image g.system))
     (length (flat_map text_image g.messages)) (length (flat_map object_image g.objects))
     (length (flat_map text_image g.locations)) (length (flat_map exits_image g.exits))
     (length (flat_map table_image g.tables)) things places (parts_size g) (head_size g) words system none objects locations exits tables few fewer
 
-pub trial_short : (n : ℕ) → length (image (trial_game n)) ≤ 4194304
+pub trial_short : (n : ℕ) → length (image (trial_game n)) ≤ IMAGE_LIMIT
 unfolding trial_game
 trial_short n =
     let words : length (flat_map word_image (words_of n)) ≤ 7 * (8 + object_count n) = words_short n in

@@ -7,6 +7,10 @@ use Rattle.std.specs.Cmp.Lexicographic.{slice_cmp}
 use Rattle.std.proofs.lemmas.Bool.{and_parts}
 use Rattle.std.proofs.lemmas.List.Folds.{list_any-append, list_all-append}
 use Rattle.paw_base.specs.declared.codes.TheConstants.{DOALL}
+use Rattle.paw_base.specs.declared.limits.TheConstants.{WORD_LIMIT, OBJECT_LIMIT, LOCATION_LEAST, LOCATION_LIMIT}
+use Rattle.paw_base.specs.declared.limits.TheConstants.{TABLE_LEAST, TABLE_LIMIT, WEIGHT_LIMIT}
+use Rattle.paw_base.specs.declared.places.TheConstants.{NOT_CREATED_PLACE, CARRIED_PLACE, HERE_PLACE}
+use Rattle.paw_base.specs.declared.words.TheConstants.{VERB_CLASS, NOUN_CLASS, NO_WORD, FIRST_NAMED_NOUN}
 use Rattle.paw_base.specs.Condacts.{condact_lines, plain_line, line_of, is_plain_code, is_indirect}
 use Rattle.paw_game.specs.declared.parts.Word.{Word}
 use Rattle.paw_game.specs.Game.{GameLists}
@@ -14,6 +18,7 @@ use Rattle.paw_game.specs.Valid.{Valid, is_within, is_word, is_text, words_rise,
 use Rattle.paw_game.specs.Valid.{is_exits, is_condact, is_table, rows_kept}
 use Rattle.paw_gen.specs.Trial.{rows, named_words, object_word, object_count, location_count, trial_object, trial_object_text, trial_location_text}
 use Rattle.paw_gen.specs.Trial.{ring_exits, condact_with, trial_game}
+use Rattle.paw_gen.specs.declared.vocabulary.TheConstants.{NORTH_WORD, SOUTH_WORD}
 use Rattle.paw_gen.proofs.Truths.{and_both, or_true, or_right, le_true, lt_true, eq_true}
 use Rattle.paw_gen.proofs.Rows.{length_rows, rows_fewer, all_rows, all_at, any_row}
 use Rattle.paw_gen.proofs.Computed.{all_words, all_rise, system_texts, location_texts, object_texts}
@@ -44,46 +49,46 @@ each_word n = all_before (words_of n) (drop (object_count n) (rows 109 object_wo
 words_fine : (n : ℕ) → words_kept (words_of n) ≡ true
 words_fine n =
     let few : length (rows (object_count n) object_word) ≡ object_count n = length_rows object_word (object_count n) in
-    and_both (le_true (length (words_of n)) 2000 (omega (arith, few)))
+    and_both (le_true (length (words_of n)) WORD_LIMIT (omega (arith, few)))
     (and_both (each_word n)
     (rise_before (words_of n) (drop (object_count n) (rows 109 object_word)) (ap words_rise (all_of_them n) ∙ all_rise)))
 
 -- ---- objects ----
 
-noun_known : (n k : ℕ) → k < object_count n → is_word_or_none (words_of n) 2 (50 + k) ≡ true
+noun_known : (n k : ℕ) → k < object_count n → is_word_or_none (words_of n) NOUN_CLASS (FIRST_NAMED_NOUN + k) ≡ true
 noun_known n k low =
-    let rule = λ (w : Word). (w.class == 2) && (w.value == 50 + k) in
-    or_right (50 + k == 255) (list_any-append rule named_words (rows (object_count n) object_word)
-    ∙ or_right (list_any rule named_words) (any_row rule object_word (object_count n) k low (eq_true (50 + k) (50 + k) refl)))
+    let rule = λ (w : Word). (w.class == NOUN_CLASS) && (w.value == FIRST_NAMED_NOUN + k) in
+    or_right (FIRST_NAMED_NOUN + k == NO_WORD) (list_any-append rule named_words (rows (object_count n) object_word)
+    ∙ or_right (list_any rule named_words) (any_row rule object_word (object_count n) k low (eq_true (FIRST_NAMED_NOUN + k) (FIRST_NAMED_NOUN + k) refl)))
 
 object_fine : (n k : ℕ) → k < object_count n → is_object (words_of n) (location_count n) (trial_object (location_count n) k) ≡ true
 object_fine n k low =
     and_both (all_at is_text trial_object_text 109 k object_texts (omega (arith, low)))
-    (and_both (noun_known n k low) (and_both {b = nat_le (k % 4) 63}
-    (ap (λ b. b || is_within 252 254 (7 * k % location_count n)) (lt_true (7 * k % location_count n) (location_count n) (omega arith)))
-    (le_true (k % 4) 63 (omega arith))))
+    (and_both (noun_known n k low) (and_both {b = nat_le (k % 4) WEIGHT_LIMIT}
+    (ap (λ b. b || is_within NOT_CREATED_PLACE CARRIED_PLACE (7 * k % location_count n)) (lt_true (7 * k % location_count n) (location_count n) (omega arith)))
+    (le_true (k % 4) WEIGHT_LIMIT (omega arith))))
 
-objects_fine : (n : ℕ) → rows_kept 255 (is_object (words_of n) (location_count n)) (rows (object_count n) (trial_object (location_count n))) ≡ true
+objects_fine : (n : ℕ) → rows_kept OBJECT_LIMIT (is_object (words_of n) (location_count n)) (rows (object_count n) (trial_object (location_count n))) ≡ true
 objects_fine n =
-    and_both (le_true (length (rows (object_count n) (trial_object (location_count n)))) 255
+    and_both (le_true (length (rows (object_count n) (trial_object (location_count n)))) OBJECT_LIMIT
     (omega (arith, length_rows (trial_object (location_count n)) (object_count n))))
     (all_rows (is_object (words_of n) (location_count n)) (trial_object (location_count n)) (object_count n) (λ k low. object_fine n k low))
 
 -- ---- locations and exits ----
 
-locations_fine : (n : ℕ) → (nat_le 1 (length (rows (location_count n) trial_location_text))
-    && rows_kept 252 is_text (rows (location_count n) trial_location_text)) ≡ true
+locations_fine : (n : ℕ) → (nat_le LOCATION_LEAST (length (rows (location_count n) trial_location_text))
+    && rows_kept LOCATION_LIMIT is_text (rows (location_count n) trial_location_text)) ≡ true
 locations_fine n =
     let size : length (rows (location_count n) trial_location_text) ≡ location_count n = length_rows trial_location_text (location_count n) in
-    and_both (le_true 1 (length (rows (location_count n) trial_location_text)) (omega (arith, size)))
-    (and_both (le_true (length (rows (location_count n) trial_location_text)) 252 (omega (arith, size)))
+    and_both (le_true LOCATION_LEAST (length (rows (location_count n) trial_location_text)) (omega (arith, size)))
+    (and_both (le_true (length (rows (location_count n) trial_location_text)) LOCATION_LIMIT (omega (arith, size)))
     (all_rows is_text trial_location_text (location_count n) (λ k low. all_at is_text trial_location_text 219 k location_texts (omega (arith, low)))))
 
-north_known : (n : ℕ) → is_verb_value (words_of n) 2 ≡ true
-north_known n = or_true (has_word (words_of n) 0 2)
+north_known : (n : ℕ) → is_verb_value (words_of n) NORTH_WORD ≡ true
+north_known n = or_true (has_word (words_of n) VERB_CLASS NORTH_WORD)
 
-south_known : (n : ℕ) → is_verb_value (words_of n) 3 ≡ true
-south_known n = or_true (has_word (words_of n) 0 3)
+south_known : (n : ℕ) → is_verb_value (words_of n) SOUTH_WORD ≡ true
+south_known n = or_true (has_word (words_of n) VERB_CLASS SOUTH_WORD)
 
 exits_of_one : (n k : ℕ) → is_exits (words_of n) (location_count n) (ring_exits (location_count n) k) ≡ true
 exits_of_one n k =
@@ -107,18 +112,20 @@ exits_fine n =
 -- ---- tables ----
 
 -- DOALL at HERE or CARRIED.
-doall_fine : (g : GameLists) (p : ℕ) → is_within 252 255 p ≡ true → is_condact g (condact_with DOALL p) ≡ true
+doall_fine : (g : GameLists) (p : ℕ) → is_within NOT_CREATED_PLACE HERE_PLACE p ≡ true
+    → is_condact g (condact_with DOALL p) ≡ true
 unfolding condact_lines plain_line line_of is_plain_code is_indirect
 doall_fine g p h = and_both (or_right (nat_lt p (length g.locations)) h) refl
 
 -- Enough tables and not too many, each by its rule.
 abbrev tables_keep : GameLists → Bool
-tables_keep g = is_within 3 256 (length g.tables) && list_all (is_table g) g.tables
+tables_keep g = is_within TABLE_LEAST TABLE_LIMIT (length g.tables) && list_all (is_table g) g.tables
 
 tables_fine : (n : ℕ) → tables_keep (trial_game n) ≡ true
 unfolding condact_lines plain_line line_of is_plain_code is_indirect trial_game
 tables_fine n =
-    and_both (and_both (and_both (doall_fine (trial_game n) 255 refl) refl) (and_both (and_both (doall_fine (trial_game n) 254 refl) refl) refl)) refl
+    and_both (and_both (and_both (doall_fine (trial_game n) HERE_PLACE refl) refl)
+    (and_both (and_both (doall_fine (trial_game n) CARRIED_PLACE refl) refl) refl)) refl
 
 -- ---- the whole game ----
 
@@ -130,7 +137,7 @@ trial_valid n =
       words = words_fine n;
       system = system_texts;
       messages = refl;
-      objects = subst (λ m. rows_kept 255 (is_object (words_of n) m) (rows (object_count n) (trial_object (location_count n))) ≡ true)
+      objects = subst (λ m. rows_kept OBJECT_LIMIT (is_object (words_of n) m) (rows (object_count n) (trial_object (location_count n))) ≡ true)
           (sym size) (objects_fine n);
       locations = locations_fine n;
       exits = subst (AreExits n) (sym size) (exits_fine n);

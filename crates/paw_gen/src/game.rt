@@ -20,7 +20,7 @@ const SYSTEM_COUNT: u16 = 54;
 /// The lists of the game.
 #[tactic(auto, unfolding(crate::specs::Trial::trial_game))]
 fn parts_of(alloc: Global, n: u16) -> Result<GameParts, NoRoom>
-    ensures { IfOk result (λ parts. parts ≡ trial_game n) }
+    ensures value { IfOk result (λ parts. parts ≡ trial_game n) }
 {
     let places = location_count(n);
     let things = object_count(n);

@@ -8,10 +8,10 @@ ghost use Rattle.paw_gen.specs.Trial.{trial_game};
 
 /// The game of every trial is valid.
 pub fn trial_games_are_valid()
-    ensures { (n : ℕ) → Valid (trial_game n) }
+    ensures valid { (n : ℕ) → Valid (trial_game n) }
 {}
 
 /// The image of the game of a trial is within the limit of images.
 pub fn trial_images_are_short()
-    ensures { (n : ℕ) → length (image (trial_game n)) ≤ IMAGE_LIMIT }
+    ensures short { (n : ℕ) → length (image (trial_game n)) ≤ IMAGE_LIMIT }
 {}

@@ -10,7 +10,7 @@ use std::alloc::Global;
 
 /// A line, by its number.
 fn line_at(number: u16) -> &'static [u8]
-    ensures { result.now ≡ trial_line number }
+    ensures value { result.now ≡ trial_line number }
 {
     match number % 6 {
         0 => b"NORTH",
@@ -28,7 +28,7 @@ fn line_at(number: u16) -> &'static [u8]
 /// NoRoom where there is no memory.
 #[tactic(auto, unfolding(crate::specs::Trial::trial_lines))]
 pub fn lines_of(alloc: Global, n: u16) -> Result<Vec<Text>, NoRoom>
-    ensures { IfOk result (λ lines. lines.items ≡ trial_lines n) }
+    ensures value { IfOk result (λ lines. lines.items ≡ trial_lines n) }
 {
     let mut lines = Vec::new(alloc);
     for number in 0..line_count(n) {

@@ -17,7 +17,7 @@ use std::alloc::Global;
 
 /// The words other than the objects' nouns.
 fn named_words() -> [Word; 8]
-    ensures { result ≡ named_words }
+    ensures value { result ≡ named_words }
 {
     [
         Word::new(*b"ALL  ", ALL_WORD, NOUN_CLASS),
@@ -33,8 +33,8 @@ fn named_words() -> [Word; 8]
 
 /// The letters of an object's noun: T and three digits.
 fn object_letters(number: u16) -> [u8; 5]
-    requires { number < 1000 }
-    ensures { result ≡ object_letters number }
+    requires number { number < 1000 }
+    ensures value { result ≡ object_letters number }
 {
     let hundreds = b'0' + (number / 100) as u8;
     let tens = b'0' + (number / 10 % 10) as u8;
@@ -44,8 +44,8 @@ fn object_letters(number: u16) -> [u8; 5]
 
 /// An object's noun.
 fn object_word(number: u16) -> Word
-    requires { number < 200 }
-    ensures { result ≡ object_word number }
+    requires number { number < 200 }
+    ensures value { result ≡ object_word number }
 {
     Word::new(
         object_letters(number),
@@ -56,8 +56,8 @@ fn object_word(number: u16) -> Word
 
 /// The words, in the order of their letters.
 pub(crate) fn words(alloc: Global, objects: u16) -> Result<Vec<Word>, NoRoom>
-    requires { objects ≤ 200 }
-    ensures { IfOk result (λ words. words.items ≡ named_words ++ rows objects object_word) }
+    requires objects { objects ≤ 200 }
+    ensures value { IfOk result (λ words. words.items ≡ named_words ++ rows objects object_word) }
 {
     let mut words = Vec::from_slice(alloc, &named_words())?;
     for number in 0..objects {
@@ -71,7 +71,7 @@ fn object_facts(locations: u16, number: u16) -> ObjectFacts
     requires some { 0 < locations }
     requires places { locations ≤ LOCATION_LIMIT }
     requires number { number < 200 }
-    ensures { result ≡ object_facts locations number }
+    ensures value { result ≡ object_facts locations number }
 {
     ObjectFacts {
         noun: FIRST_NAMED_NOUN + number as u8,
@@ -88,7 +88,7 @@ pub(crate) fn objects(alloc: Global, locations: u16, objects: u16) -> Result<Vec
     requires some { 0 < locations }
     requires places { locations ≤ LOCATION_LIMIT }
     requires objects { objects ≤ 200 }
-    ensures { IfOk result (λ all. all.items ≡ rows objects (trial_object locations)) }
+    ensures value { IfOk result (λ all. all.items ≡ rows objects (trial_object locations)) }
 {
     let mut all = Vec::new(alloc);
     for number in 0..objects {
@@ -105,7 +105,7 @@ fn ring_exits(alloc: Global, locations: u16, number: u16) -> Result<Exits, NoRoo
     requires some { 0 < locations }
     requires places { locations ≤ LOCATION_LIMIT }
     requires number { number < locations }
-    ensures { IfOk result (λ exits. exits ≡ ring_exits locations number) }
+    ensures value { IfOk result (λ exits. exits ≡ ring_exits locations number) }
 {
     let north = Exit {
         verb: NORTH_WORD,
@@ -122,7 +122,7 @@ fn ring_exits(alloc: Global, locations: u16, number: u16) -> Result<Exits, NoRoo
 pub(crate) fn exits(alloc: Global, locations: u16) -> Result<Vec<Exits>, NoRoom>
     requires some { 0 < locations }
     requires places { locations ≤ LOCATION_LIMIT }
-    ensures { IfOk result (λ all. all.items ≡ rows locations (ring_exits locations)) }
+    ensures value { IfOk result (λ all. all.items ≡ rows locations (ring_exits locations)) }
 {
     let mut all = Vec::new(alloc);
     for number in 0..locations {

@@ -13,7 +13,7 @@ use std::alloc::Global;
 
 /// The table that answers lines.
 fn answers(alloc: Global) -> Result<Table, NoRoom>
-    ensures { IfOk result (λ table. table ≡ answer_entries) }
+    ensures value { IfOk result (λ table. table ≡ answer_entries) }
 {
     let entries = vec![in alloc;
         Entry::from_codes(alloc, GET_WORD, ALL_WORD, &[(DOALL, HERE_PLACE, 0)])?,
@@ -28,7 +28,7 @@ fn answers(alloc: Global) -> Result<Table, NoRoom>
 
 /// The table that lists the objects at a location after its text.
 fn listing(alloc: Global) -> Result<Table, NoRoom>
-    ensures { IfOk result (λ table. table ≡ listing) }
+    ensures value { IfOk result (λ table. table ≡ listing) }
 {
     let lists = Entry::from_codes(alloc, NO_WORD, NO_WORD, &[(LISTOBJ, 0, 0)])?;
     let entries = vec![in alloc; lists]?;
@@ -37,7 +37,7 @@ fn listing(alloc: Global) -> Result<Table, NoRoom>
 
 /// The three tables; the last has no entries.
 pub(crate) fn tables(alloc: Global) -> Result<Vec<Table>, NoRoom>
-    ensures { IfOk result (λ tables. tables.items ≡ answer_entries ∷ listing ∷ [] ∷ []) }
+    ensures value { IfOk result (λ tables. tables.items ≡ answer_entries ∷ listing ∷ [] ∷ []) }
 {
     Ok(vec![in alloc; answers(alloc)?, listing(alloc)?, Table::new(alloc)]?)
 }

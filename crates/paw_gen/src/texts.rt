@@ -15,7 +15,7 @@ pub(crate) fn numbered(
     number: u16,
     after: &[u8],
 ) -> Result<Text, NoRoom>
-    ensures { IfOk result (λ text. text ≡ number_between before.now after.now number) }
+    ensures value { IfOk result (λ text. text ≡ number_between before.now after.now number) }
 {
     let mut digits = Buffer::new();
     let mut bytes = Vec::from_slice(alloc, before)?;
@@ -31,7 +31,7 @@ pub(crate) fn numbered_texts(
     after: &[u8],
     count: u16,
 ) -> Result<Vec<Text>, NoRoom>
-    ensures { IfOk result (λ texts. texts.items ≡ rows count (number_between before.now after.now)) }
+    ensures value { IfOk result (λ texts. texts.items ≡ rows count (number_between before.now after.now)) }
 {
     let mut texts = Vec::new(alloc);
     for number in 0..count {

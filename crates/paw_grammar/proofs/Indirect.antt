@@ -8,6 +8,7 @@ use Rattle.paw_base.specs.declared.rows.ParamKind.TheVariants.{Flag}
 use Rattle.paw_base.specs.Condacts.{CondactLine, plain_line, line_of, code_named, name_of, first_kind, second_kind}
 use Rattle.paw_base.specs.Condacts.{is_plain_code, is_indirect, may_be_indirect}
 use Rattle.paw_base.specs.inner.Condacts.{IsCode, IsPlainCode}
+use Rattle.paw_base.specs.declared.codes.TheConstants.{INDIRECT}
 use Rattle.paw_base.proofs.Table.{code_within, plain_below}
 use Rattle.paw_base.proofs.Named.{code_named_found}
 use Rattle.paw_game.specs.declared.parts.Word.{Word}
@@ -35,15 +36,16 @@ condact_made bounds ws name ts plain indirect a b named told first second = rw (
 
 -- ---- the line of a plain code, and that of the indirect condact with it
 
-back : (code : ℕ) → code + 128 - 128 ≡ code
+back : (code : ℕ) → code + INDIRECT - INDIRECT ≡ code
 back code = omega arith
 
-indirect_is : (code : ℕ) → may_be_indirect code ≡ true → is_indirect (code + 128) ≡ true
+indirect_is : (code : ℕ) → may_be_indirect code ≡ true → is_indirect (code + INDIRECT) ≡ true
 unfolding is_indirect
 indirect_is code may =
-    and_from _ _ (le-leb 128 (code + 128) (omega arith)) (subst (λ n. may_be_indirect n ≡ true) (sym (back code)) may)
+    and_from _ _ (le-leb INDIRECT (code + INDIRECT) (omega arith))
+    (subst (λ n. may_be_indirect n ≡ true) (sym (back code)) may)
 
-line_of-indirect : (code : ℕ) → may_be_indirect code ≡ true → line_of (code + 128) ≡ record (plain_line code) { first = Flag }
+line_of-indirect : (code : ℕ) → may_be_indirect code ≡ true → line_of (code + INDIRECT) ≡ record (plain_line code) { first = Flag }
 unfolding line_of
 line_of-indirect code may = rw (indirect_is code may, back code) refl
 
@@ -57,11 +59,11 @@ line_of-plain code plain =
 
 pub read_code : (code : ℕ) (indirect : Bool) → IsPlainCode code → (indirect ≡ true → may_be_indirect code ≡ true)
     → IsCode (code_of indirect code)
-read_code code true plain may = or_right (is_plain_code (code + 128)) (is_indirect (code + 128)) (indirect_is code (may refl))
+read_code code true plain may = or_right (is_plain_code (code + INDIRECT)) (is_indirect (code + INDIRECT)) (indirect_is code (may refl))
 read_code code false plain may = or_left (is_plain_code code) (is_indirect code) plain
 
 -- The first parameter of an indirect condact is a flag.
-pub first_kind-indirect : (code : ℕ) → may_be_indirect code ≡ true → first_kind (code + 128) ≡ Flag
+pub first_kind-indirect : (code : ℕ) → may_be_indirect code ≡ true → first_kind (code + INDIRECT) ≡ Flag
 first_kind-indirect code may = ap (λ (l : CondactLine). l.first) (line_of-indirect code may)
 
 -- The second is of the same kind as that of the plain one.

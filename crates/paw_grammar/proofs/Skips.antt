@@ -10,6 +10,8 @@ use Rattle.paw_base.specs.declared.parts.Condact.{Condact}
 use Rattle.paw_base.specs.declared.rows.ParamKind.{ParamKind}
 use Rattle.paw_base.specs.declared.rows.ParamKind.TheVariants as kind
 use Rattle.paw_base.specs.Condacts.{code_named, first_kind, second_kind, param_count, params_of, may_be_indirect}
+use Rattle.paw_base.specs.declared.limits.TheConstants.{FLAG_COUNT}
+use Rattle.paw_base.specs.declared.words.TheConstants.{ADVERB_CLASS, NOUN_CLASS, ADJECTIVE_CLASS, PREPOSITION_CLASS}
 use Rattle.paw_game.specs.declared.parts.Word.{Word}
 use Rattle.paw_grammar.specs.declared.bounds.Bounds.{Bounds}
 use Rattle.paw_faults.specs.declared.unread.Unread.{Unread}
@@ -51,15 +53,17 @@ takes bounds ws kind.Absent ts rest x e = none refl (pair_parts 0 x ts rest e).1
 takes bounds ws kind.Location ts rest x e = takes_number (λ n. nat_lt n bounds.locations) fault.Number number ts rest x e
 takes bounds ws kind.Place ts rest x e = takes_number _ fault.Number _ ts rest x e
 takes bounds ws kind.Object ts rest x e = takes_number (λ n. nat_lt n bounds.objects) fault.Number number ts rest x e
-takes bounds ws kind.Flag ts rest x e = takes_number (λ n. nat_lt n 256) fault.Number number ts rest x e
+takes bounds ws kind.Flag ts rest x e = takes_number (λ n. nat_lt n FLAG_COUNT) fault.Number number ts rest x e
 takes bounds ws kind.Number ts rest x e = takes_number (λ n. nat_lt n 256) fault.Number number ts rest x e
 takes bounds ws kind.Message ts rest x e = takes_number (λ n. nat_lt n bounds.messages) fault.Number number ts rest x e
 takes bounds ws kind.System ts rest x e = takes_number (λ n. nat_lt n bounds.system) fault.Number number ts rest x e
 takes bounds ws kind.Table ts rest x e = takes_table bounds.tables ts rest x e
-takes bounds ws kind.Adverb ts rest x e = takes_meaning fault.Word (or_none (λ t. in_class 1 (known ws t))) ts rest x e
-takes bounds ws kind.Noun ts rest x e = takes_meaning fault.Word (or_none (λ t. in_class 2 (known ws t))) ts rest x e
-takes bounds ws kind.Adjective ts rest x e = takes_meaning fault.Word (or_none (λ t. in_class 3 (known ws t))) ts rest x e
-takes bounds ws kind.Preposition ts rest x e = takes_meaning fault.Word (or_none (λ t. in_class 4 (known ws t))) ts rest x e
+takes bounds ws kind.Adverb ts rest x e =
+    takes_meaning fault.Word (or_none (λ t. in_class ADVERB_CLASS (known ws t))) ts rest x e
+takes bounds ws kind.Noun ts rest x e =
+    takes_meaning fault.Word (or_none (λ t. in_class NOUN_CLASS (known ws t))) ts rest x e
+takes bounds ws kind.Adjective ts rest x e = takes_meaning fault.Word (or_none (λ t. in_class ADJECTIVE_CLASS (known ws t))) ts rest x e
+takes bounds ws kind.Preposition ts rest x e = takes_meaning fault.Word (or_none (λ t. in_class PREPOSITION_CLASS (known ws t))) ts rest x e
 
 takes_first : (bounds : Bounds) (ws : List Word) (code : ℕ) (indirect : Bool) (ts rest : List (List ℕ)) (x : ℕ)
     → (indirect ≡ true → may_be_indirect code ≡ true)
@@ -67,7 +71,7 @@ takes_first : (bounds : Bounds) (ws : List Word) (code : ℕ) (indirect : Bool) 
     → Takes (param_count (first_kind (code_of indirect code))) ts rest
 takes_first bounds ws code true ts rest x may e =
     subst (λ (k : ParamKind). Takes (param_count k) ts rest) (sym (first_kind-indirect code (may refl)))
-    (takes_number (λ n. nat_lt n 256) fault.Number (λ t. number (drop 1 t)) ts rest x e)
+    (takes_number (λ n. nat_lt n FLAG_COUNT) fault.Number (λ t. number (drop 1 t)) ts rest x e)
 takes_first bounds ws code false ts rest x may e = takes bounds ws (first_kind code) ts rest x e
 
 -- ---- a condact takes as many tokens as it has parameters

@@ -31,7 +31,7 @@ const BYTES: u16 = 256;
 
 /// Takes the number of a table; 255 stands for one that is above.
 fn table(tokens: &mut Tokens, tables: u32) -> Result<u8, ReadError>
-    ensures { Gives (λ n. (n, tokens.new)) result (table tables tokens.old) }
+    ensures gives { Gives (λ n. (n, tokens.new)) result (table tables tokens.old) }
 {
     let number = number_below(tokens, tables)?;
     Ok(number.min(u32::from(u8::MAX)) as u8)
@@ -39,7 +39,7 @@ fn table(tokens: &mut Tokens, tables: u32) -> Result<u8, ReadError>
 
 /// Takes a token that begins with `@`: the flag whose number follows.
 fn flag_behind_at(tokens: &mut Tokens) -> Result<u8, ReadError>
-    ensures { Gives (λ n. (n, tokens.new)) result (flag_behind_at tokens.old) }
+    ensures gives { Gives (λ n. (n, tokens.new)) result (flag_behind_at tokens.old) }
 {
     let token = tokens.token()?;
     match number(without_first(token)) {
@@ -56,7 +56,7 @@ fn flag_behind_at(tokens: &mut Tokens) -> Result<u8, ReadError>
 
 /// Whether the condact of a plain code is indirect: it may be, and `@` follows its name.
 fn is_indirect(plain: u8, tokens: &Tokens) -> bool
-    ensures { result ≡ (may_be_indirect plain && at_is_next tokens.now) }
+    ensures value { result ≡ (may_be_indirect plain && at_is_next tokens.now) }
 {
     may_be_indirect(plain) && tokens.at_is_next()
 }
@@ -101,7 +101,7 @@ impl<'a> Model for Scope<'a> {
 impl<'a> Scope<'a> {
     /// Takes a parameter of this kind.
     fn parameter(&self, kind: ParamKind, tokens: &mut Tokens) -> Result<u8, ReadError>
-        ensures { Gives (λ n. (n, tokens.new)) result (parameter self.now.bounds self.now.words kind tokens.old) }
+        ensures gives { Gives (λ n. (n, tokens.new)) result (parameter self.now.bounds self.now.words kind tokens.old) }
     {
         match kind {
             ParamKind::Absent => Ok(0),
@@ -127,7 +127,7 @@ impl<'a> Scope<'a> {
         kind: ParamKind,
         tokens: &mut Tokens,
     ) -> Result<u8, ReadError>
-        ensures { Gives (λ n. (n, tokens.new)) result
+        ensures gives { Gives (λ n. (n, tokens.new)) result
             (first_parameter self.now.bounds self.now.words indirect kind tokens.old) }
     {
         if indirect {
@@ -140,7 +140,8 @@ impl<'a> Scope<'a> {
     /// Takes the parameters of the condact with this name.
     #[tactic(auto, unfolding(crate::specs::Condacts::condact))]
     fn condact(&self, name: &[u8], tokens: &mut Tokens) -> Result<Condact, ReadError>
-        ensures { Gives (λ c. (c, tokens.new)) result (condact self.now.bounds self.now.words name.now tokens.old) }
+        ensures gives { Gives (λ c. (c, tokens.new)) result
+            (condact self.now.bounds self.now.words name.now tokens.old) }
     {
         let Some(plain) = condact_named(name) else {
             return Err(Unread::Fault(SourceKind::Condact));
@@ -157,7 +158,7 @@ impl<'a> Scope<'a> {
 
     /// Takes all condacts up to the end of the line, and adds them.
     fn add_condacts(&self, tokens: &mut Tokens, rows: &mut Vec<Condact>) -> Result<(), ReadError>
-        ensures { Gives (λ _. rows.new.items) result
+        ensures gives { Gives (λ _. rows.new.items) result
             (with_more_condacts rows.old.items (condacts_in self.now.bounds self.now.words 0 tokens.old)) }
     {
         while let Some(name) = tokens.next() {
@@ -182,7 +183,7 @@ impl<'a> Scope<'a> {
         tokens: &mut Tokens,
         rows: &mut Vec<Condact>,
     ) -> Result<(), ReadError>
-        ensures { Gives (λ _. rows.new.items) result
+        ensures gives { Gives (λ _. rows.new.items) result
             (more_condacts self.now.bounds self.now.words rows.old.items tokens.old) }
     {
         self.add_condacts(tokens, rows)?;

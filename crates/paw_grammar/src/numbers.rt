@@ -12,7 +12,7 @@ use paw_faults::unread::Unread;
 
 /// The number that a token of decimal digits is, or 4,294,967,295 where it is above that; None for any other token.
 pub fn number(token: &[u8]) -> Option<u32>
-    ensures { result ≡ capped (number token.now) }
+    ensures value { result ≡ capped (number token.now) }
 {
     if token.is_empty() {
         return None;
@@ -31,7 +31,7 @@ pub fn number(token: &[u8]) -> Option<u32>
 
 /// Takes a number, or 4,294,967,295 for one that is above that.
 fn next_number(tokens: &mut Tokens) -> Result<u32, ReadError>
-    ensures { Gives (λ n. (n, tokens.new)) result (capped_number tokens.old) }
+    ensures gives { Gives (λ n. (n, tokens.new)) result (capped_number tokens.old) }
 {
     let token = tokens.token()?;
     match number(token) {
@@ -46,7 +46,7 @@ fn next_number(tokens: &mut Tokens) -> Result<u32, ReadError>
 /// Missing, Number or Range, in this order, exactly where the line ends, the token isn't a number, or it is another
 /// number.
 pub fn number_within(tokens: &mut Tokens, low: u8, high: u8) -> Result<u8, ReadError>
-    ensures { Gives (λ n. (n, tokens.new)) result (number_within low high tokens.old) }
+    ensures gives { Gives (λ n. (n, tokens.new)) result (number_within low high tokens.old) }
 {
     let number = next_number(tokens)?;
     if u32::from(low) <= number && number <= u32::from(high) {
@@ -61,7 +61,7 @@ pub fn number_within(tokens: &mut Tokens, low: u8, high: u8) -> Result<u8, ReadE
 /// # Errors
 /// As `number_within`.
 pub fn number_below(tokens: &mut Tokens, limit: u32) -> Result<u32, ReadError>
-    ensures { Gives (λ n. (n, tokens.new)) result (number_below limit tokens.old) }
+    ensures gives { Gives (λ n. (n, tokens.new)) result (number_below limit tokens.old) }
 {
     let number = next_number(tokens)?;
     if number < limit {
@@ -76,8 +76,8 @@ pub fn number_below(tokens: &mut Tokens, limit: u32) -> Result<u32, ReadError>
 /// # Errors
 /// As `number_within`.
 pub fn byte_below(tokens: &mut Tokens, limit: u16) -> Result<u8, ReadError>
-    requires { limit ≤ 256 }
-    ensures { Gives (λ n. (n, tokens.new)) result (number_below limit tokens.old) }
+    requires limit { limit ≤ 256 }
+    ensures gives { Gives (λ n. (n, tokens.new)) result (number_below limit tokens.old) }
 {
     let number = number_below(tokens, u32::from(limit))?;
     Ok(number as u8)

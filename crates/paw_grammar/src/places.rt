@@ -29,8 +29,8 @@ const FIRST_NAMED: u32 = NOT_CREATED_PLACE as u32;
 
 /// The number that a token is, or the place with the name that it is.
 fn place_by(names: &[&[u8]], token: &[u8]) -> Option<u32>
-    requires { length names.now ≤ 4 }
-    ensures { let named = position (λ name. is_named token.now name.now) names.now in
+    requires names { length names.now ≤ 4 }
+    ensures value { let named = position (λ name. is_named token.now name.now) names.now in
         result ≡ capped (option_or (number token.now) (option_map (λ i. NOT_CREATED_PLACE + i) named)) }
 {
     match number(token) {
@@ -47,7 +47,7 @@ fn named_place(tokens: &mut Tokens, names: &[&[u8]], locations: u16) -> Result<u
     requires locations { locations ≤ 256 }
     requires names { length names.now ≤ 4 }
     requires some { 0 < length names.now }
-    ensures { Gives (λ place. (place, tokens.new)) result
+    ensures gives { Gives (λ place. (place, tokens.new)) result
         (place_up_to (NOT_CREATED_PLACE + length names.now - 1)
         (λ t. position (λ name. is_named t name.now) names.now) locations tokens.old) }
 {
@@ -72,8 +72,8 @@ fn named_place(tokens: &mut Tokens, names: &[&[u8]], locations: u16) -> Result<u
 /// Missing, Number or Range, in this order, exactly where the line ends, the token is neither a number nor such a name,
 /// or it is a number but not of such a place.
 pub fn first_place(tokens: &mut Tokens, locations: u16) -> Result<u8, ReadError>
-    requires { locations ≤ 256 }
-    ensures { Gives (λ place. (place, tokens.new)) result (first_place locations tokens.old) }
+    requires locations { locations ≤ 256 }
+    ensures gives { Gives (λ place. (place, tokens.new)) result (first_place locations tokens.old) }
 {
     named_place(tokens, &FIRST_PLACE_NAMES, locations)
 }
@@ -83,8 +83,8 @@ pub fn first_place(tokens: &mut Tokens, locations: u16) -> Result<u8, ReadError>
 /// # Errors
 /// As `first_place`.
 pub fn place(tokens: &mut Tokens, locations: u16) -> Result<u8, ReadError>
-    requires { locations ≤ 256 }
-    ensures { Gives (λ place. (place, tokens.new)) result (any_place locations tokens.old) }
+    requires locations { locations ≤ 256 }
+    ensures gives { Gives (λ place. (place, tokens.new)) result (any_place locations tokens.old) }
 {
     named_place(tokens, &PLACE_NAMES, locations)
 }

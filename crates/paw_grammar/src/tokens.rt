@@ -41,8 +41,8 @@ impl<'a> Model for Tokens<'a> {
 impl<'a> Tokens<'a> {
     /// All tokens of a line of the source.
     pub fn new(source: &'a [u8], line: &Line) -> Tokens<'a>
-        requires { LiesIn source.now line.now }
-        ensures { result ≡ tokens_of (bytes_of source.now line.now) }
+        requires span { LiesIn source.now line.now }
+        ensures value { result ≡ tokens_of (bytes_of source.now line.now) }
     {
         Tokens {
             source,
@@ -53,7 +53,7 @@ impl<'a> Tokens<'a> {
 
     /// Takes the next token, or answers `None` exactly where none is left.
     pub fn next(&mut self) -> Option<&'a [u8]>
-        ensures { MatchOption result ((self.old ≡ []) × (self.new ≡ [])) (λ t. self.old ≡ t.now ∷ self.new) }
+        ensures value { MatchOption result ((self.old ≡ []) × (self.new ≡ [])) (λ t. self.old ≡ t.now ∷ self.new) }
     {
         match next_token(self.source, &self.line, self.at) {
             None => None,
@@ -66,7 +66,7 @@ impl<'a> Tokens<'a> {
 
     /// Whether the next token begins with `@`. It isn't taken.
     pub(crate) fn at_is_next(&self) -> bool
-        ensures { result ≡ at_is_next self.now }
+        ensures value { result ≡ at_is_next self.now }
     {
         match next_token(self.source, &self.line, self.at) {
             None => false,
@@ -79,7 +79,7 @@ impl<'a> Tokens<'a> {
     /// # Errors
     /// Missing exactly where none is left.
     pub fn token(&mut self) -> Result<&'a [u8], ReadError>
-        ensures { Gives (λ t. (t.now, self.new)) result (token self.old) }
+        ensures gives { Gives (λ t. (t.now, self.new)) result (token self.old) }
     {
         match self.next() {
             None => Err(Unread::Fault(SourceKind::Missing)),
@@ -92,7 +92,7 @@ impl<'a> Tokens<'a> {
     /// # Errors
     /// Extra exactly where a token is left.
     pub fn ended(&mut self) -> Result<(), ReadError>
-        ensures { Gives (λ _. tt) result (ended self.old) }
+        ensures gives { Gives (λ _. tt) result (ended self.old) }
     {
         match self.next() {
             None => Ok(()),
@@ -102,14 +102,14 @@ impl<'a> Tokens<'a> {
 }
 
 fn begins_with_at(token: &[u8]) -> bool
-    ensures { result ≡ begins_with_at token.now }
+    ensures value { result ≡ begins_with_at token.now }
 {
     token.first() == Some(&b'@')
 }
 
 /// A token without its first byte.
 pub fn without_first(token: &[u8]) -> &[u8]
-    ensures { result.now ≡ drop 1 token.now }
+    ensures value { result.now ≡ drop 1 token.now }
 {
     match token {
         [_, rest @ ..] => rest,
@@ -119,7 +119,7 @@ pub fn without_first(token: &[u8]) -> &[u8]
 
 /// Whether a token is this name, in any case of letters.
 pub fn is_named(token: &[u8], name: &[u8]) -> bool
-    ensures { result ≡ is_named token.now name.now }
+    ensures value { result ≡ is_named token.now name.now }
 {
     token.eq_ignore_ascii_case(name)
 }

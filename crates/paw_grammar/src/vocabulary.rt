@@ -29,7 +29,7 @@ struct Meaning {
 
 /// The declared word with these letters.
 fn find(words: &BTreeMap<[u8; WORD_LENGTH], Meaning>, letters: [u8; WORD_LENGTH]) -> Option<Word>
-    ensures { result ≡ word_of letters (words_in words.now.entries) }
+    ensures value { result ≡ word_of letters (words_in words.now.entries) }
 {
     match words.get(&letters) {
         None => None,
@@ -43,15 +43,15 @@ fn find(words: &BTreeMap<[u8; WORD_LENGTH], Meaning>, letters: [u8; WORD_LENGTH]
 
 /// How many words are declared.
 fn count(words: &BTreeMap<[u8; WORD_LENGTH], Meaning>) -> usize
-    ensures { result ≡ length (words_in words.now.entries) }
+    ensures value { result ≡ length (words_in words.now.entries) }
 {
     words.len()
 }
 
 /// Puts a word that isn't among the words in its place.
 fn put(words: &mut BTreeMap<[u8; WORD_LENGTH], Meaning>, word: Word) -> Result<(), ReadError>
-    requires { word_of word.letters (words_in words.old.entries) ≡ None }
-    ensures { Gives (λ _. words_in words.new.entries) result (Ok (words_with word (words_in words.old.entries))) }
+    requires fresh { word_of word.letters (words_in words.old.entries) ≡ None }
+    ensures gives { Gives (λ _. words_in words.new.entries) result (Ok (words_with word (words_in words.old.entries))) }
 {
     let meaning = Meaning {
         value: word.value,
@@ -65,7 +65,7 @@ fn put(words: &mut BTreeMap<[u8; WORD_LENGTH], Meaning>, word: Word) -> Result<(
 
 /// The words in order of their letters.
 fn listed(alloc: Global, words: &BTreeMap<[u8; WORD_LENGTH], Meaning>) -> Result<Vec<Word>, NoRoom>
-    ensures { IfOk result (λ list. list.items ≡ words_in words.now.entries) }
+    ensures value { IfOk result (λ list. list.items ≡ words_in words.now.entries) }
 {
     let mut list = Vec::with_capacity(alloc, words.len())?;
     for (letters, meaning) in words {
@@ -80,7 +80,7 @@ fn listed(alloc: Global, words: &BTreeMap<[u8; WORD_LENGTH], Meaning>) -> Result
 
 /// The value of a word, where there is one and it has this class.
 fn in_class(class: u8, word: Option<Word>) -> Option<u8>
-    ensures { result ≡ in_class class word }
+    ensures value { result ≡ in_class class word }
 {
     match word {
         Some(word) if word.class == class => Some(word.value),
@@ -90,7 +90,7 @@ fn in_class(class: u8, word: Option<Word>) -> Option<u8>
 
 /// The value of a word, where there is one and it is a verb or a noun below 20.
 fn as_verb(word: Option<Word>) -> Option<u8>
-    ensures { result ≡ as_verb word }
+    ensures value { result ≡ as_verb word }
 {
     let word = word?;
     if word.class == VERB_CLASS || word.class == NOUN_CLASS && word.value < FIRST_PLAIN_NOUN {
@@ -102,7 +102,7 @@ fn as_verb(word: Option<Word>) -> Option<u8>
 
 /// 255 for `_`, and otherwise this value.
 fn or_none(token: &[u8], value: Option<u8>) -> Option<u8>
-    ensures { result ≡ or_none (λ _. value) token.now }
+    ensures value { result ≡ or_none (λ _. value) token.now }
 {
     match token {
         [b'_'] => Some(NO_WORD),
@@ -112,7 +112,7 @@ fn or_none(token: &[u8], value: Option<u8>) -> Option<u8>
 
 /// 1 for `*`, 255 for `_`, and otherwise this value.
 fn or_any(token: &[u8], value: Option<u8>) -> Option<u8>
-    ensures { result ≡ or_any (λ _. value) token.now }
+    ensures value { result ≡ or_any (λ _. value) token.now }
 {
     match token {
         [b'*'] => Some(ANY_WORD),
@@ -122,7 +122,7 @@ fn or_any(token: &[u8], value: Option<u8>) -> Option<u8>
 
 /// The value, or Word where there is none.
 fn or_word_fault(value: Option<u8>) -> Result<u8, ReadError>
-    ensures { result ≡ ok_or value (Unread.Fault SourceKind.Word) }
+    ensures value { result ≡ ok_or value (Unread.Fault SourceKind.Word) }
 {
     match value {
         Some(value) => Ok(value),
@@ -149,7 +149,7 @@ impl Model for Vocabulary {
 impl Vocabulary {
     /// No words.
     pub fn new(alloc: Global) -> Vocabulary
-        ensures { result ≡ [] }
+        ensures value { result ≡ [] }
     {
         Vocabulary {
             words: BTreeMap::new(alloc),
@@ -162,7 +162,7 @@ impl Vocabulary {
     /// Duplicate exactly where its letters are declared, with any class, and otherwise TooBig exactly where there are
     /// 2,000 words. Memory where there is none.
     pub fn declare(&mut self, word: Word) -> Result<(), ReadError>
-        ensures { Gives (λ _. self.new) result (declared word self.old) }
+        ensures gives { Gives (λ _. self.new) result (declared word self.old) }
     {
         if find(&self.words, word.letters).is_some() {
             return Err(Unread::Fault(SourceKind::Duplicate));
@@ -178,14 +178,14 @@ impl Vocabulary {
     /// # Errors
     /// NoRoom where there is no memory.
     pub fn into_words(self, alloc: Global) -> Result<Vec<Word>, NoRoom>
-        ensures { IfOk result (λ list. list.items ≡ self) }
+        ensures value { IfOk result (λ list. list.items ≡ self) }
     {
         listed(alloc, &self.words)
     }
 
     /// The declared word that a token spells.
     fn known(&self, token: &[u8]) -> Option<Word>
-        ensures { result ≡ known self.now token.now }
+        ensures value { result ≡ known self.now token.now }
     {
         let letters = letters_in(token)?;
         find(&self.words, letters)
@@ -193,14 +193,14 @@ impl Vocabulary {
 
     /// The value of the word that a token spells, where it has this class.
     fn word_value(&self, class: u8, token: &[u8]) -> Option<u8>
-        ensures { result ≡ in_class class (known self.now token.now) }
+        ensures value { result ≡ in_class class (known self.now token.now) }
     {
         in_class(class, self.known(token))
     }
 
     /// The verb value of the word that a token spells.
     fn verb_value(&self, token: &[u8]) -> Option<u8>
-        ensures { result ≡ as_verb (known self.now token.now) }
+        ensures value { result ≡ as_verb (known self.now token.now) }
     {
         as_verb(self.known(token))
     }
@@ -210,7 +210,7 @@ impl Vocabulary {
     /// # Errors
     /// Missing exactly where the line ends, and Word exactly where the token is no such word.
     pub fn word_or_none(&self, class: u8, tokens: &mut Tokens) -> Result<u8, ReadError>
-        ensures { Gives (λ value. (value, tokens.new)) result (word_or_none self.now class tokens.old) }
+        ensures gives { Gives (λ value. (value, tokens.new)) result (word_or_none self.now class tokens.old) }
     {
         let token = tokens.token()?;
         or_word_fault(or_none(token, self.word_value(class, token)))
@@ -221,7 +221,7 @@ impl Vocabulary {
     /// # Errors
     /// As `word_or_none`.
     pub fn verb_word(&self, tokens: &mut Tokens) -> Result<u8, ReadError>
-        ensures { Gives (λ value. (value, tokens.new)) result (verb_word self.now tokens.old) }
+        ensures gives { Gives (λ value. (value, tokens.new)) result (verb_word self.now tokens.old) }
     {
         let token = tokens.token()?;
         or_word_fault(self.verb_value(token))
@@ -232,7 +232,7 @@ impl Vocabulary {
     /// # Errors
     /// As `word_or_none`.
     pub fn entry_verb(&self, tokens: &mut Tokens) -> Result<u8, ReadError>
-        ensures { Gives (λ value. (value, tokens.new)) result (entry_verb self.now tokens.old) }
+        ensures gives { Gives (λ value. (value, tokens.new)) result (entry_verb self.now tokens.old) }
     {
         let token = tokens.token()?;
         or_word_fault(or_any(token, self.verb_value(token)))
@@ -243,7 +243,7 @@ impl Vocabulary {
     /// # Errors
     /// As `word_or_none`.
     pub fn entry_noun(&self, tokens: &mut Tokens) -> Result<u8, ReadError>
-        ensures { Gives (λ value. (value, tokens.new)) result (entry_noun self.now tokens.old) }
+        ensures gives { Gives (λ value. (value, tokens.new)) result (entry_noun self.now tokens.old) }
     {
         let token = tokens.token()?;
         or_word_fault(or_any(token, self.word_value(NOUN_CLASS, token)))

@@ -26,20 +26,20 @@ static CLASS_NAMES: [&[u8]; 7] = [
 ];
 
 fn are_letters(token: &[u8]) -> bool
-    ensures { result ≡ list_all is_ascii_alphanumeric token.now }
+    ensures value { result ≡ list_all is_ascii_alphanumeric token.now }
 {
     token.iter().all(|byte| byte.is_ascii_alphanumeric())
 }
 
 fn is_word_token(token: &[u8]) -> bool
-    ensures { result ≡ is_word_token token.now }
+    ensures value { result ≡ is_word_token token.now }
 {
     !token.is_empty() && are_letters(token)
 }
 
 /// The letters of a word: capitals, cut to five, filled up with spaces.
 fn letters_of(token: &[u8]) -> [u8; WORD_LENGTH]
-    ensures { result ≡ letters_of token.now }
+    ensures value { result ≡ letters_of token.now }
 {
     let mut letters = [b' '; WORD_LENGTH];
     let kept = token.len().min(WORD_LENGTH);
@@ -50,7 +50,7 @@ fn letters_of(token: &[u8]) -> [u8; WORD_LENGTH]
 
 /// The five letters of a token that spells a word.
 pub(crate) fn letters_in(token: &[u8]) -> Option<[u8; WORD_LENGTH]>
-    ensures { result ≡ letters_in token.now }
+    ensures value { result ≡ letters_in token.now }
 {
     if is_word_token(token) {
         Some(letters_of(token))
@@ -64,7 +64,7 @@ pub(crate) fn letters_in(token: &[u8]) -> Option<[u8; WORD_LENGTH]>
 /// # Errors
 /// Missing exactly where the line ends, and Word exactly where the token has another byte.
 pub fn word(tokens: &mut Tokens) -> Result<[u8; WORD_LENGTH], ReadError>
-    ensures { Gives (λ letters. (letters, tokens.new)) result (word tokens.old) }
+    ensures gives { Gives (λ letters. (letters, tokens.new)) result (word tokens.old) }
 {
     let token = tokens.token()?;
     match letters_in(token) {
@@ -75,14 +75,14 @@ pub fn word(tokens: &mut Tokens) -> Result<[u8; WORD_LENGTH], ReadError>
 
 /// The place of the name that a token is, in any case of letters.
 pub(crate) fn place_among(names: &[&[u8]], token: &[u8]) -> Option<usize>
-    ensures { result ≡ position (λ name. is_named token.now name.now) names.now }
+    ensures value { result ≡ position (λ name. is_named token.now name.now) names.now }
 {
     names.iter().position(|name| is_named(token, name))
 }
 
 /// The class that a token names, in any case of letters.
 fn class_named(token: &[u8]) -> Option<u8>
-    ensures { result ≡ place_among class_names token.now }
+    ensures value { result ≡ place_among class_names token.now }
 {
     let class = place_among(&CLASS_NAMES, token)?;
     Some(class as u8)
@@ -94,7 +94,7 @@ fn class_named(token: &[u8]) -> Option<u8>
 /// # Errors
 /// Missing exactly where the line ends, and Word exactly where the token isn't one of these names.
 pub fn class(tokens: &mut Tokens) -> Result<u8, ReadError>
-    ensures { Gives (λ class. (class, tokens.new)) result (class tokens.old) }
+    ensures gives { Gives (λ class. (class, tokens.new)) result (class tokens.old) }
 {
     let token = tokens.token()?;
     match class_named(token) {
@@ -105,7 +105,7 @@ pub fn class(tokens: &mut Tokens) -> Result<u8, ReadError>
 
 /// What a kind says of an object: whether it is a container, and whether it may be worn.
 fn kind_named(token: &[u8]) -> Option<(bool, bool)>
-    ensures { result ≡ kind_named token.now }
+    ensures value { result ≡ kind_named token.now }
 {
     if is_named(token, b"-") {
         Some((false, false))
@@ -125,7 +125,7 @@ fn kind_named(token: &[u8]) -> Option<(bool, bool)>
 /// # Errors
 /// Missing exactly where the line ends, and Word exactly where the token isn't one of these.
 pub fn object_kind(tokens: &mut Tokens) -> Result<(bool, bool), ReadError>
-    ensures { Gives (λ kind. (kind, tokens.new)) result (object_kind tokens.old) }
+    ensures gives { Gives (λ kind. (kind, tokens.new)) result (object_kind tokens.old) }
 {
     let token = tokens.token()?;
     match kind_named(token) {

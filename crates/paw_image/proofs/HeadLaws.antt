@@ -10,6 +10,10 @@ use Rattle.std.specs.Cmp.Lexicographic.{slice_cmp}
 use Rattle.std.proofs.lemmas.Bool.{and_parts, leb-true, le-leb}
 use Rattle.std.proofs.lemmas.List.{length-append}
 use Rattle.std.proofs.lemmas.Slice.Eq.{bytes_eq-Decides}
+use Rattle.paw_base.specs.declared.limits.TheConstants.{WORD_LENGTH, WORD_LIMIT, SYSTEM_LIMIT, MESSAGE_LIMIT}
+use Rattle.paw_base.specs.declared.limits.TheConstants.{OBJECT_LIMIT, LOCATION_LEAST, LOCATION_LIMIT, TABLE_LEAST}
+use Rattle.paw_base.specs.declared.limits.TheConstants.{TABLE_LIMIT}
+use Rattle.paw_base.specs.declared.words.TheConstants.{PRONOUN_CLASS, LEAST_WORD, GREATEST_WORD}
 use Rattle.paw_base.specs.declared.parts.Counts.{Counts}
 use Rattle.paw_game.specs.declared.parts.Word.{Word}
 use Rattle.paw_game.specs.Game.{GameLists, counts_of}
@@ -69,12 +73,12 @@ counts_image c =
 
 -- The counts keep their limits.
 pub record AreFew (c : Counts) : Type 0 where
-  pub words : is_within 0 2000 c.words ≡ true
-  pub system : is_within 0 256 c.system ≡ true
-  pub messages : is_within 0 256 c.messages ≡ true
-  pub objects : is_within 0 255 c.objects ≡ true
-  pub locations : is_within 1 252 c.locations ≡ true
-  pub tables : is_within 3 256 c.tables ≡ true
+  pub words : is_within 0 WORD_LIMIT c.words ≡ true
+  pub system : is_within 0 SYSTEM_LIMIT c.system ≡ true
+  pub messages : is_within 0 MESSAGE_LIMIT c.messages ≡ true
+  pub objects : is_within 0 OBJECT_LIMIT c.objects ≡ true
+  pub locations : is_within LOCATION_LEAST LOCATION_LIMIT c.locations ≡ true
+  pub tables : is_within TABLE_LEAST TABLE_LIMIT c.tables ≡ true
 
 -- What follows from a number that kept its limits.
 within_then : {B : Type 0} (P : Type 0) (least most : ℕ) (bytes : List ℕ) (f : ℕ × List ℕ → Result B ℕ) (y : B)
@@ -88,12 +92,13 @@ counts_take : (bytes : List ℕ) (x : Counts × List ℕ) → IsBytes bytes → 
     → Takes bytes (counts_image x.0) x.1 × AreFew x.0
 unfolding counts_kept
 counts_take bytes x fits e =
-    within_then _ 0 2000 bytes _ x fits e (λ words words_taken w e.
-    within_then _ 0 256 words.1 _ x words_taken.rest_fits e (λ system system_taken s e.
-    within_then _ 0 256 system.1 _ x system_taken.rest_fits e (λ messages messages_taken m e.
-    within_then _ 0 255 messages.1 _ x messages_taken.rest_fits e (λ objects objects_taken o e.
-    within_then _ 1 252 objects.1 _ x objects_taken.rest_fits e (λ locations locations_taken l e.
-    within_then _ 3 256 locations.1 _ x locations_taken.rest_fits e (λ tables tables_taken t e.
+    within_then _ 0 WORD_LIMIT bytes _ x fits e (λ words words_taken w e.
+    within_then _ 0 SYSTEM_LIMIT words.1 _ x words_taken.rest_fits e (λ system system_taken s e.
+    within_then _ 0 MESSAGE_LIMIT system.1 _ x system_taken.rest_fits e (λ messages messages_taken m e.
+    within_then _ 0 OBJECT_LIMIT messages.1 _ x messages_taken.rest_fits e (λ objects objects_taken o e.
+    within_then _ LOCATION_LEAST LOCATION_LIMIT objects.1 _ x objects_taken.rest_fits e
+    (λ locations locations_taken l e.
+    within_then _ TABLE_LEAST TABLE_LIMIT locations.1 _ x locations_taken.rest_fits e (λ tables tables_taken t e.
     let four = Takes-then _ _ objects_taken (Takes-then _ _ locations_taken tables_taken) in
     let taken = Takes-then _ _ words_taken (Takes-then _ _ system_taken (Takes-then _ _ messages_taken four)) in
     at_ok (λ (y : Counts × List ℕ). Takes bytes (counts_image y.0) y.1 × AreFew y.0) _ x e
@@ -109,12 +114,12 @@ counts_pass g rest h =
     let after_system = two_bytes (length g.messages) ++ after_messages in
     let after_words = two_bytes (length g.system) ++ after_system in
     rw (
-      within_passes 0 2000 (length g.words) after_words (lit< tt) h.words,
-      within_passes 0 256 (length g.system) after_system (lit< tt) h.system,
-      within_passes 0 256 (length g.messages) after_messages (lit< tt) h.messages,
-      within_passes 0 255 (length g.objects) after_objects (lit< tt) h.objects,
-      within_passes 1 252 (length g.locations) after_locations (lit< tt) h.locations,
-      within_passes 3 256 (length g.tables) rest (lit< tt) h.tables,
+      within_passes 0 WORD_LIMIT (length g.words) after_words (lit< tt) h.words,
+      within_passes 0 SYSTEM_LIMIT (length g.system) after_system (lit< tt) h.system,
+      within_passes 0 MESSAGE_LIMIT (length g.messages) after_messages (lit< tt) h.messages,
+      within_passes 0 OBJECT_LIMIT (length g.objects) after_objects (lit< tt) h.objects,
+      within_passes LOCATION_LEAST LOCATION_LIMIT (length g.locations) after_locations (lit< tt) h.locations,
+      within_passes TABLE_LEAST TABLE_LIMIT (length g.tables) rest (lit< tt) h.tables,
     ) refl
 
 few_counts : (g : GameLists) → ValidParts g → AreFew (counts_of g)
@@ -123,7 +128,7 @@ few_counts g v = record {
   system = and_true (leb 0 (length g.system)) _ (le-leb 0 _ (omega arith)) v.system_few;
   messages = and_true (leb 0 (length g.messages)) _ (le-leb 0 _ (omega arith)) v.messages_few;
   objects = and_true (leb 0 (length g.objects)) _ (le-leb 0 _ (omega arith)) v.objects_few;
-  locations = and_true (leb 1 (length g.locations)) _ v.locations_some v.locations_few;
+  locations = and_true (leb LOCATION_LEAST (length g.locations)) _ v.locations_some v.locations_few;
   tables = v.tables_within;
 }
 
@@ -138,12 +143,12 @@ word_takes : (before bytes : List ℕ) (x : Word × List ℕ) → IsBytes bytes 
     → IsNext before bytes x
 unfolding word_kept
 word_takes before bytes x fits e =
-    kept_then _ (λ l. are_letters l && is_lt (slice_cmp nat_cmp before l)) (bytes_at 5) bytes _ x e
+    kept_then _ (λ l. are_letters l && is_lt (slice_cmp nat_cmp before l)) (bytes_at WORD_LENGTH) bytes _ x e
     (λ letters letters_ok letters_kept e.
-    kept_then _ (is_within 2 254) byte_at letters.1 _ x e (λ value value_ok value_kept e.
-    kept_then _ (λ c. leb c 6) byte_at value.1 _ x e (λ class class_ok class_kept e.
+    kept_then _ (is_within LEAST_WORD GREATEST_WORD) byte_at letters.1 _ x e (λ value value_ok value_kept e.
+    kept_then _ (λ c. leb c PRONOUN_CLASS) byte_at value.1 _ x e (λ class class_ok class_kept e.
     let both = and_parts (are_letters letters.0) _ letters_kept in
-    let letters_taken = (bytes_take 5 bytes letters fits letters_ok).0 in
+    let letters_taken = (bytes_take WORD_LENGTH bytes letters fits letters_ok).0 in
     let value_taken = (byte_takes letters.1 value letters_taken.rest_fits value_ok).0 in
     let class_taken = (byte_takes value.1 class value_taken.rest_fits class_ok).0 in
     at_ok (λ (y : Word × List ℕ). IsNext before bytes y) _ x e (record {
@@ -182,10 +187,10 @@ word_passes : (before : List ℕ) (w : Word) (rest : List ℕ) → is_word w ≡
 unfolding word_kept
 word_passes before w rest h above =
     let letters = and_parts (are_letters w.letters) _ h in
-    let value = and_parts (is_within 2 254 w.value) (leb w.class 6) letters.1 in
+    let value = and_parts (is_within LEAST_WORD GREATEST_WORD w.value) (leb w.class PRONOUN_CLASS) letters.1 in
     let regrouped : word_image w ++ rest ≡ w.letters ++ (w.value ∷ w.class ∷ rest) =
     append_assoc w.letters (w.value ∷ w.class ∷ []) rest in
-    let again = bytes_again 5 w.letters (w.value ∷ w.class ∷ rest) (letters_fit w.letters letters.0) in
+    let again = bytes_again WORD_LENGTH w.letters (w.value ∷ w.class ∷ rest) (letters_fit w.letters letters.0) in
     ap (word_kept before) regrouped ∙ rw (again, letters.0, above, value.0, value.1) refl
 
 words_pass : (before : List ℕ) (ws : List Word) (rest : List ℕ) → list_all is_word ws ≡ true

@@ -7,6 +7,7 @@ use Rattle.paw_base.specs.declared.parts.Condact.{Condact}
 use Rattle.paw_base.specs.declared.rows.ParamKind.{ParamKind}
 use Rattle.paw_base.specs.declared.rows.ParamKind.TheVariants as kind
 use Rattle.paw_base.specs.Condacts.{first_kind, second_kind, param_count, params_of}
+use Rattle.paw_base.specs.declared.limits.TheConstants.{TEXT_LIMIT, EXIT_LIMIT, ENTRY_LIMIT, CONDACT_LIMIT}
 use Rattle.paw_game.specs.declared.parts.Word.{Word}
 use Rattle.paw_game.specs.declared.parts.ObjectRow.{ObjectRow}
 use Rattle.paw_game.specs.declared.parts.Exit.{Exit}
@@ -31,7 +32,7 @@ pub text_length : (text : List ℕ) → length (text_image text) ≡ 2 + length 
 text_length text = length-append (two_bytes (length text)) text
 
 text_most : (text : List ℕ) → is_text text ≡ true → length (text_image text) ≤ 4097
-text_most text h = omega (arith, text_length text, leb-true _ _ (and_parts (leb (length text) 4095) _ h).0)
+text_most text h = omega (arith, text_length text, leb-true _ _ (and_parts (leb (length text) TEXT_LIMIT) _ h).0)
 
 pub word_length : (w : Word) → FitsWord w → length (word_image w) ≡ 7
 word_length w fits = omega (arith, length-append w.letters (w.value ∷ w.class ∷ []), fits)
@@ -51,7 +52,7 @@ all_true (x ∷ xs) = all_true xs
 
 exits_most : (ws : List Word) (locations : ℕ) (xs : List Exit) → is_exits ws locations xs ≡ true → length (exits_image xs) ≤ 511
 exits_most ws locations xs h =
-    omega (arith, leb-true _ _ (and_parts (leb (length xs) 255) _ h).0, rows_at_most exit_image (λ _. true) 2 (λ x _. omega arith) xs (all_true xs))
+    omega (arith, leb-true _ _ (and_parts (leb (length xs) EXIT_LIMIT) _ h).0, rows_at_most exit_image (λ _. true) 2 (λ x _. omega arith) xs (all_true xs))
 
 parameter_length : (k : ParamKind) (x : ℕ) → length (parameter_image k x) ≡ param_count k
 parameter_length kind.Absent x = refl
@@ -73,12 +74,12 @@ condact_most g c h = omega (arith, condact_length c, param_count-most (first_kin
 entry_most : (g : GameLists) (e : Entry) → is_entry g e ≡ true → length (entry_image e) ≤ 768
 entry_most g e h =
     let noun = (and_parts _ _ h).1 in
-    let condacts = and_parts (leb (length e.condacts) 255) (list_all (is_condact g) e.condacts) (and_parts _ _ noun).1 in
+    let condacts = and_parts (leb (length e.condacts) CONDACT_LIMIT) (list_all (is_condact g) e.condacts) (and_parts _ _ noun).1 in
     omega (arith, leb-true _ _ condacts.0, rows_at_most condact_image (is_condact g) 3 (condact_most g) e.condacts condacts.1)
 
 table_most : (g : GameLists) (es : List Entry) → is_table g es ≡ true → length (table_image es) ≤ 3072002
 table_most g es h =
-    let both = and_parts (leb (length es) 4000) (list_all (is_entry g) es) h in
+    let both = and_parts (leb (length es) ENTRY_LIMIT) (list_all (is_entry g) es) h in
     omega (
       arith,
       leb-true _ _ both.0,

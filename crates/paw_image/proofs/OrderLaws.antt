@@ -9,6 +9,8 @@ use Rattle.std.proofs.lemmas.Bool.{cases_lt, eqb-true, eq-eqb, ltb-true, ltb-fal
 use Rattle.std.proofs.lemmas.List.{get_or-take, get_or-drop, get_or_default}
 use Rattle.std.proofs.lemmas.List.Elements.{All-cons, All-contains, All-take, All-drop}
 use Rattle.std.proofs.lemmas.List.Sorted.{All-permutation, IsNonDecreasingBy-take, IsNonDecreasingBy-drop}
+use Rattle.paw_base.specs.declared.limits.TheConstants.{ENTRY_LIMIT}
+use Rattle.paw_base.specs.declared.words.TheConstants.{ANY_WORD, NO_WORD}
 use Rattle.paw_game.specs.Tables.{is_for}
 use Rattle.paw_image.specs.declared.order.Head.{Head}
 use Rattle.paw_image.specs.declared.order.Order.{Order}
@@ -86,7 +88,7 @@ heads_long bytes n [] = refl
 heads_long bytes n (p ∷ ps) = ap suc (heads_long bytes (suc n) ps)
 
 -- The heads at these offsets, in order, rise.
-pub sorted_rise : (bytes offsets : List ℕ) (heads : List Head) → IsBytes bytes → length offsets ≤ 4000
+pub sorted_rise : (bytes offsets : List ℕ) (heads : List Head) → IsBytes bytes → length offsets ≤ ENTRY_LIMIT
     → IsPermutation (heads_at bytes 0 offsets) heads → IsNonDecreasingBy rank heads → Rises heads
 sorted_rise bytes offsets heads fits few same rises =
     record { small = All-permutation IsSmall (heads_at bytes 0 offsets) heads same (heads_small bytes 0 offsets fits (omega arith)); rises = rises }
@@ -277,19 +279,21 @@ one_of_three false false false m = refl
 -- An entry's verb matches where it is any verb, none, or this one.
 pub least_of_three : (heads : List Head) (verb noun from : ℕ) (any none same : Option ℕ)
     → IsLeast (IsMatch heads (λ h. eqb h.verb 1 && is_for h.noun noun) from) any
-    → IsLeast (IsMatch heads (λ h. eqb h.verb 255 && is_for h.noun noun) from) none
+    → IsLeast (IsMatch heads (λ h. eqb h.verb NO_WORD && is_for h.noun noun) from) none
     → IsLeast (IsMatch heads (λ h. eqb h.verb verb && is_for h.noun noun) from) same
     → IsLeast (IsMatch heads (is_match verb noun) from) (lower any (lower none same))
 least_of_three heads verb noun from any none same a n s =
     let with = λ (w : ℕ) (h : Head). eqb h.verb w && is_for h.noun noun in
-    let either = λ (h : Head). with 1 h || (with 255 h || with verb h) in
+    let either = λ (h : Head). with ANY_WORD h || (with NO_WORD h || with verb h) in
     let whole = is_match verb noun in
-    let is = λ (h : Head). one_of_three (eqb h.verb 1) (eqb h.verb 255) (eqb h.verb verb) (is_for h.noun noun) in
+    let is = λ (h : Head). one_of_three (eqb h.verb ANY_WORD) (eqb h.verb NO_WORD) (eqb h.verb verb)
+    (is_for h.noun noun) in
     IsLeast-same (IsMatch heads either from) (IsMatch heads whole from)
     (λ e m. IsMatch-other heads either whole (λ h t. sym (is h) ∙ t) from e m)
     (λ e m. IsMatch-other heads whole either (λ h t. is h ∙ t) from e m)
     (lower any (lower none same))
-    (either_least heads (with 1) (λ h. with 255 h || with verb h) from any (lower none same) a (either_least heads (with 255) (with verb) from none same n s))
+    (either_least heads (with ANY_WORD) (λ h. with NO_WORD h || with verb h) from any (lower none same) a
+    (either_least heads (with NO_WORD) (with verb) from none same n s))
 
 -- What was found of the entries not below a number is not below it.
 pub least_reached : (heads : List Head) (has : Head → Bool) (from : ℕ) (r : Option ℕ)

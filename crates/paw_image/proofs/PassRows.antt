@@ -7,6 +7,8 @@ use Rattle.paw_base.specs.declared.parts.ObjectFacts.{ObjectFacts}
 use Rattle.paw_base.specs.declared.rows.ParamKind.{ParamKind}
 use Rattle.paw_base.specs.declared.rows.ParamKind.TheVariants as kind
 use Rattle.paw_base.specs.Condacts.{first_kind, second_kind}
+use Rattle.paw_base.specs.declared.limits.TheConstants.{TEXT_LIMIT, EXIT_LIMIT, ENTRY_LIMIT, CONDACT_LIMIT}
+use Rattle.paw_base.specs.declared.words.TheConstants.{NOUN_CLASS, ADJECTIVE_CLASS}
 use Rattle.paw_game.specs.declared.parts.Exit.{Exit}
 use Rattle.paw_game.specs.Image.{two_bytes, text_image, weight_byte, object_image, exit_image, exits_image}
 use Rattle.paw_game.specs.Image.{parameter_image, condact_image, entry_image, table_image}
@@ -37,10 +39,10 @@ up_to most n h = and_true (leb 0 n) (leb n most) (le-leb 0 n (omega arith)) h
 pub text_passes : PassesRow after_text text_image is_text
 unfolding after_text
 text_passes text rest h =
-    let both = and_parts (leb (length text) 4095) (is_printed true text) h in
+    let both = and_parts (leb (length text) TEXT_LIMIT) (is_printed true text) h in
     rw (
       append_assoc (two_bytes (length text)) text rest,
-      within_passes 0 4095 (length text) (text ++ rest) (lit< tt) (up_to 4095 (length text) both.0),
+      within_passes 0 TEXT_LIMIT (length text) (text ++ rest) (lit< tt) (up_to TEXT_LIMIT (length text) both.0),
       bytes_again (length text) text rest refl,
       both.1,
     ) refl
@@ -52,8 +54,8 @@ facts_pass : (d : Preface) (f : ObjectFacts) (weight : ℕ) (rest : List ℕ)
     ≡ Ok rest
 unfolding after_facts
 facts_pass d f weight rest h =
-    let noun = and_parts (is_word_or_none d.words 2 f.noun) _ h in
-    let adjective = and_parts (is_word_or_none d.words 3 f.adjective) _ noun.1 in
+    let noun = and_parts (is_word_or_none d.words NOUN_CLASS f.noun) _ h in
+    let adjective = and_parts (is_word_or_none d.words ADJECTIVE_CLASS f.adjective) _ noun.1 in
     let start = and_parts (is_place d.counts.locations f.start) _ adjective.1 in
     rw (noun.0, adjective.0, start.0) refl
 
@@ -84,7 +86,7 @@ exits_pass_of d verbs (x ∷ xs) rest none h =
 
 pub exits_pass : (d : Preface) → PassesRow (after_exits d) exits_image (is_exits d.words d.counts.locations)
 unfolding after_exits
-exits_pass d xs rest h = exits_pass_of d [] xs rest (none_of-none xs) (and_parts (leb (length xs) 255) _ h).1
+exits_pass d xs rest h = exits_pass_of d [] xs rest (none_of-none xs) (and_parts (leb (length xs) EXIT_LIMIT) _ h).1
 
 -- ---- tables ----
 
@@ -110,17 +112,17 @@ pub entry_passes : (d : Preface) → PassesRow (after_entry d) entry_image (keep
 unfolding after_entry
 entry_passes d e rest h =
     let verb = and_parts (is_any e.verb || is_verb_value d.words e.verb) _ h in
-    let noun = and_parts (is_any e.noun || has_word d.words 2 e.noun) _ verb.1 in
-    let condacts = and_parts (leb (length e.condacts) 255) _ noun.1 in
+    let noun = and_parts (is_any e.noun || has_word d.words NOUN_CLASS e.noun) _ verb.1 in
+    let condacts = and_parts (leb (length e.condacts) CONDACT_LIMIT) _ noun.1 in
     rw (verb.0, noun.0) (each_passes (after_condact d) condact_image (keeps_condact d) (condact_passes d) e.condacts rest condacts.1)
 
 pub table_passes : (d : Preface) → PassesRow (after_table d) table_image (keeps_table d)
 unfolding after_table
 table_passes d es rest h =
-    let both = and_parts (leb (length es) 4000) (list_all (keeps_entry d) es) h in
+    let both = and_parts (leb (length es) ENTRY_LIMIT) (list_all (keeps_entry d) es) h in
     let entries = flat_map entry_image es in
     rw (
       append_assoc (two_bytes (length es)) entries rest,
-      within_passes 0 4000 (length es) (entries ++ rest) (lit< tt) (up_to 4000 (length es) both.0),
+      within_passes 0 ENTRY_LIMIT (length es) (entries ++ rest) (lit< tt) (up_to ENTRY_LIMIT (length es) both.0),
     )
     (each_passes (after_entry d) entry_image (keeps_entry d) (entry_passes d) es rest both.1)

@@ -10,6 +10,8 @@ use Rattle.paw_base.specs.declared.parts.Condact.{Condact}
 use Rattle.paw_base.specs.declared.rows.ParamKind.{ParamKind}
 use Rattle.paw_base.specs.declared.rows.ParamKind.TheVariants as kind
 use Rattle.paw_base.specs.Condacts.{is_code, first_kind, second_kind}
+use Rattle.paw_base.specs.declared.limits.TheConstants.{TEXT_LIMIT, EXIT_LIMIT, ENTRY_LIMIT, CONDACT_LIMIT}
+use Rattle.paw_base.specs.declared.words.TheConstants.{NOUN_CLASS, ADJECTIVE_CLASS}
 use Rattle.paw_game.specs.declared.parts.Exit.{Exit}
 use Rattle.paw_game.specs.declared.parts.Entry.{Entry}
 use Rattle.paw_game.specs.Game.{GameLists, counts_of}
@@ -41,14 +43,15 @@ declared_as v g = record { version = v; counts = counts_of g; words = g.words }
 pub text_sound : SoundRow after_text text_at is_text
 unfolding after_text text_at
 text_sound bytes rest fits e =
-    kept_then _ (is_within 0 4095) number_at bytes _ rest e (λ len len_ok len_kept e.
+    kept_then _ (is_within 0 TEXT_LIMIT) number_at bytes _ rest e (λ len len_ok len_kept e.
     kept_then _ (is_printed true) (bytes_at len.0) len.1 _ rest e (λ text text_ok text_kept e.
-    let few : leb (length text.0) 4095 ≡ true = ap (λ (n : ℕ). leb n 4095) (bytes_length len.0 len.1 text text_ok)
-    ∙ (and_parts (leb 0 len.0) (leb len.0 4095) len_kept).1 in
+    let few : leb (length text.0) TEXT_LIMIT ≡ true =
+    ap (λ (n : ℕ). leb n TEXT_LIMIT) (bytes_length len.0 len.1 text text_ok)
+    ∙ (and_parts (leb 0 len.0) (leb len.0 TEXT_LIMIT) len_kept).1 in
     record {
       value = text.0;
       reads = at_ok (λ (r : List ℕ). text_at bytes ≡ Ok (text.0, r)) text.1 rest e (rw (len_ok, text_ok) refl);
-      keeps = and_true (leb (length text.0) 4095) _ few text_kept;
+      keeps = and_true (leb (length text.0) TEXT_LIMIT) _ few text_kept;
     }))
 
 -- ---- objects ----
@@ -59,8 +62,9 @@ light w = le-leb (bit_and w 63) 63 (rw (and_mask w 6) (omega arith))
 facts_sound : (d : Preface) → SoundRow (after_facts d) leading_facts (are_facts d.words d.counts.locations)
 unfolding after_facts leading_facts
 facts_sound d bytes rest fits e =
-    kept_then _ (is_word_or_none d.words 2) byte_at bytes _ rest e (λ noun noun_ok noun_kept e.
-    kept_then _ (is_word_or_none d.words 3) byte_at noun.1 _ rest e (λ adjective adjective_ok adjective_kept e.
+    kept_then _ (is_word_or_none d.words NOUN_CLASS) byte_at bytes _ rest e (λ noun noun_ok noun_kept e.
+    kept_then _ (is_word_or_none d.words ADJECTIVE_CLASS) byte_at noun.1 _ rest e
+    (λ adjective adjective_ok adjective_kept e.
     kept_then _ (is_place d.counts.locations) byte_at adjective.1 _ rest e (λ start start_ok start_kept e.
     bind_then _ (byte_at start.1) _ rest e (λ weight weight_ok e.
     let facts = facts_with noun.0 adjective.0 start.0 weight.0 in
@@ -136,8 +140,8 @@ exits_sound_of d verbs (suc n) bytes rest e =
       keeps = rw (kept_verb.0, kept_verb.1, to_kept, none.0, none.1, kept_others.1) refl;
     })))
 
-few : (n : ℕ) → n < 256 → leb n 255 ≡ true
-few n lt = le-leb n 255 (omega arith)
+few : (n : ℕ) → n < 256 → leb n EXIT_LIMIT ≡ true
+few n lt = le-leb n EXIT_LIMIT (omega arith)
 
 pub exits_sound : (d : Preface) → SoundRow (after_exits d) exits_at (is_exits d.words d.counts.locations)
 unfolding after_exits few_at
@@ -151,7 +155,7 @@ exits_sound d bytes rest fits e =
     record {
       value = rows.value;
       reads = rw (count_ok, rows.reads) refl;
-      keeps = and_true (leb (length rows.value) 255) _ (few (length rows.value) (omega arith)) kept_rows.1;
+      keeps = and_true (leb (length rows.value) EXIT_LIMIT) _ (few (length rows.value) (omega arith)) kept_rows.1;
     })
 
 -- ---- tables ----
@@ -163,11 +167,11 @@ keeps_condact d c =
 
 abbrev pub keeps_entry : Preface → Entry → Bool
 keeps_entry d e =
-    (is_any e.verb || is_verb_value d.words e.verb) && ((is_any e.noun || has_word d.words 2 e.noun)
-    && (leb (length e.condacts) 255 && list_all (keeps_condact d) e.condacts))
+    (is_any e.verb || is_verb_value d.words e.verb) && ((is_any e.noun || has_word d.words NOUN_CLASS e.noun)
+    && (leb (length e.condacts) CONDACT_LIMIT && list_all (keeps_condact d) e.condacts))
 
 abbrev pub keeps_table : Preface → List Entry → Bool
-keeps_table d es = leb (length es) 4000 && list_all (keeps_entry d) es
+keeps_table d es = leb (length es) ENTRY_LIMIT && list_all (keeps_entry d) es
 
 byte_sound : (rule : ℕ → Bool) (bytes rest : List ℕ) → (field_kept rule byte_at bytes >>= λ x. Ok x.1) ≡ Ok rest → Stands (byte_at bytes) rule rest
 byte_sound rule bytes rest e =
@@ -211,7 +215,7 @@ pub entry_sound : (d : Preface) → SoundRow (after_entry d) leading_entry (keep
 unfolding after_entry leading_entry pair_at few_at
 entry_sound d bytes rest fits e =
     kept_then _ (λ v. is_any v || is_verb_value d.words v) byte_at bytes _ rest e (λ verb verb_ok verb_kept e.
-    kept_then _ (λ n. is_any n || has_word d.words 2 n) byte_at verb.1 _ rest e (λ noun noun_ok noun_kept e.
+    kept_then _ (λ n. is_any n || has_word d.words NOUN_CLASS n) byte_at verb.1 _ rest e (λ noun noun_ok noun_kept e.
     bind_then _ (byte_at noun.1) _ rest e (λ count count_ok e.
     let verb_fits = (byte_takes bytes verb fits verb_ok).0.rest_fits in
     let noun_fits = (byte_takes verb.1 noun verb_fits noun_ok).0.rest_fits in
@@ -235,15 +239,15 @@ pub record TablePlaced (d : Preface) (bytes rest : List ℕ) : Type 0 where
 pub table_placed : (d : Preface) (bytes rest : List ℕ) → IsBytes bytes → after_table d bytes ≡ Ok rest → TablePlaced d bytes rest
 unfolding after_table leading_table entries_begin
 table_placed d bytes rest fits e =
-    kept_then _ (is_within 0 4000) number_at bytes _ rest e (λ count count_ok count_kept e.
+    kept_then _ (is_within 0 ENTRY_LIMIT) number_at bytes _ rest e (λ count count_ok count_kept e.
     let count_taken = number_takes bytes count fits count_ok in
     let rows = each_sound (after_entry d) leading_entry entry_image (keeps_entry d) entry_takes (entry_sound d) count.0 count.1 rest count_taken.0.rest_fits e
     in
     record {
       value = rows.value;
       reads = rw (count_ok, rows.reads) refl;
-      keeps = and_true (leb (length rows.value) 4000) _ (ap (λ (n : ℕ). leb n 4000) rows.many
-          ∙ (and_parts (leb 0 count.0) (leb count.0 4000) count_kept).1) rows.keeps;
+      keeps = and_true (leb (length rows.value) ENTRY_LIMIT) _ (ap (λ (n : ℕ). leb n ENTRY_LIMIT) rows.many
+          ∙ (and_parts (leb 0 count.0) (leb count.0 ENTRY_LIMIT) count_kept).1) rows.keeps;
       begin = λ total start h.
           let after : start + 2 + length count.1 ≡ total = omega (arith, h, taken_length bytes (two_bytes count.0) count.1 count_taken.0) in
           rw (count_ok, count_kept) (rows.begin total (start + 2) after);

@@ -6,6 +6,11 @@ use Rattle.paw_base.specs.declared.parts.Condact.{Condact}
 use Rattle.paw_base.specs.declared.rows.ParamKind.{ParamKind}
 use Rattle.paw_base.specs.declared.rows.ParamKind.TheVariants as kind
 use Rattle.paw_base.specs.Condacts.{is_code, first_kind, second_kind}
+use Rattle.paw_base.specs.declared.limits.TheConstants.{WORD_LIMIT, SYSTEM_LIMIT, MESSAGE_LIMIT, OBJECT_LIMIT}
+use Rattle.paw_base.specs.declared.limits.TheConstants.{LOCATION_LEAST, LOCATION_LIMIT, TABLE_LEAST, TABLE_LIMIT}
+use Rattle.paw_base.specs.declared.limits.TheConstants.{TEXT_LIMIT, EXIT_LIMIT, ENTRY_LIMIT, CONDACT_LIMIT}
+use Rattle.paw_base.specs.declared.limits.TheConstants.{WEIGHT_LIMIT}
+use Rattle.paw_base.specs.declared.words.TheConstants.{NOUN_CLASS, ADJECTIVE_CLASS}
 use Rattle.paw_game.specs.declared.parts.Word.{Word}
 use Rattle.paw_game.specs.declared.parts.ObjectRow.{ObjectRow}
 use Rattle.paw_game.specs.declared.parts.Exit.{Exit}
@@ -29,18 +34,18 @@ pub word_fits : (w : Word) → is_word w ≡ true → FitsWord w
 word_fits w e = letters_fit w.letters (and_parts (are_letters w.letters) _ e).0
 
 text_fits : (text : List ℕ) → is_text text ≡ true → FitsText text
-text_fits text e = omega (arith, leb-true _ _ (and_parts (leb (length text) 4095) _ e).0)
+text_fits text e = omega (arith, leb-true _ _ (and_parts (leb (length text) TEXT_LIMIT) _ e).0)
 
 object_fits : (ws : List Word) (locations : ℕ) (o : ObjectRow) → is_object ws locations o ≡ true → FitsObject o
 object_fits ws locations o e =
     let text = and_parts (is_text o.text) _ e in
-    let noun = and_parts (is_word_or_none ws 2 o.facts.noun) _ text.1 in
-    let adjective = and_parts (is_word_or_none ws 3 o.facts.adjective) _ noun.1 in
-    let start = and_parts (is_place locations o.facts.start) (leb o.facts.weight 63) adjective.1 in
+    let noun = and_parts (is_word_or_none ws NOUN_CLASS o.facts.noun) _ text.1 in
+    let adjective = and_parts (is_word_or_none ws ADJECTIVE_CLASS o.facts.adjective) _ noun.1 in
+    let start = and_parts (is_place locations o.facts.start) (leb o.facts.weight WEIGHT_LIMIT) adjective.1 in
     record { text = text_fits o.text text.0; weight = omega (arith, leb-true _ _ start.1) }
 
 exits_fit : (ws : List Word) (locations : ℕ) (xs : List Exit) → is_exits ws locations xs ≡ true → FitsExits xs
-exits_fit ws locations xs e = omega (arith, leb-true _ _ (and_parts (leb (length xs) 255) _ e).0)
+exits_fit ws locations xs e = omega (arith, leb-true _ _ (and_parts (leb (length xs) EXIT_LIMIT) _ e).0)
 
 parameter_fits : (g : GameLists) (k : ParamKind) (x : ℕ) → is_parameter (counts_of g) g.words k x ≡ true → FitsParameter k x
 parameter_fits g kind.Absent x e = eqb-true x 0 e
@@ -61,33 +66,33 @@ condact_fits g c e =
 entry_fits : (g : GameLists) (en : Entry) → is_entry g en ≡ true → FitsEntry en
 entry_fits g en e =
     let verb = and_parts (is_any en.verb || is_verb_value g.words en.verb) _ e in
-    let noun = and_parts (is_any en.noun || has_word g.words 2 en.noun) _ verb.1 in
-    let condacts = and_parts (leb (length en.condacts) 255) (list_all (is_condact g) en.condacts) noun.1 in
+    let noun = and_parts (is_any en.noun || has_word g.words NOUN_CLASS en.noun) _ verb.1 in
+    let condacts = and_parts (leb (length en.condacts) CONDACT_LIMIT) (list_all (is_condact g) en.condacts) noun.1 in
     record { count = omega (arith, leb-true _ _ condacts.0); condacts = all_give (is_condact g) FitsCondact (condact_fits g) en.condacts condacts.1 }
 
 table_fits : (g : GameLists) (es : List Entry) → is_table g es ≡ true → FitsTable es
 table_fits g es e =
-    let both = and_parts (leb (length es) 4000) (list_all (is_entry g) es) e in
+    let both = and_parts (leb (length es) ENTRY_LIMIT) (list_all (is_entry g) es) e in
     record { count = omega (arith, leb-true _ _ both.0); entries = all_give (is_entry g) FitsEntry (entry_fits g) es both.1 }
 
 -- ---- the rules of a valid game, part by part ----
 
 pub record ValidParts (g : GameLists) : Type 0 where
-  pub words_few : leb (length g.words) 2000 ≡ true
+  pub words_few : leb (length g.words) WORD_LIMIT ≡ true
   pub words_keep : list_all is_word g.words ≡ true
   pub words_rise : rise_after [] g.words ≡ true
-  pub system_few : leb (length g.system) 256 ≡ true
+  pub system_few : leb (length g.system) SYSTEM_LIMIT ≡ true
   pub system_keep : list_all is_text g.system ≡ true
-  pub messages_few : leb (length g.messages) 256 ≡ true
+  pub messages_few : leb (length g.messages) MESSAGE_LIMIT ≡ true
   pub messages_keep : list_all is_text g.messages ≡ true
-  pub objects_few : leb (length g.objects) 255 ≡ true
+  pub objects_few : leb (length g.objects) OBJECT_LIMIT ≡ true
   pub objects_keep : list_all (is_object g.words (length g.locations)) g.objects ≡ true
-  pub locations_some : leb 1 (length g.locations) ≡ true
-  pub locations_few : leb (length g.locations) 252 ≡ true
+  pub locations_some : leb LOCATION_LEAST (length g.locations) ≡ true
+  pub locations_few : leb (length g.locations) LOCATION_LIMIT ≡ true
   pub locations_keep : list_all is_text g.locations ≡ true
   pub exits_many : length g.exits ≡ length g.locations
   pub exits_keep : list_all (is_exits g.words (length g.locations)) g.exits ≡ true
-  pub tables_within : is_within 3 256 (length g.tables) ≡ true
+  pub tables_within : is_within TABLE_LEAST TABLE_LIMIT (length g.tables) ≡ true
   pub tables_keep : list_all (is_table g) g.tables ≡ true
 
 -- The two parts of a rule.
@@ -99,31 +104,32 @@ keep_of a b h = (and_parts a b h).1
 
 pub parts_of : (g : GameLists) → Valid g → ValidParts g
 parts_of g valid =
-    let words = keep_of (leb (length g.words) 2000) _ valid.words in
+    let words = keep_of (leb (length g.words) WORD_LIMIT) _ valid.words in
     let rise = and_parts (list_all is_word g.words) (rise_after [] g.words) (rise_after-none g.words ∙ words) in
-    let some = and_parts (leb 1 (length g.locations)) _ valid.locations in
+    let some = and_parts (leb LOCATION_LEAST (length g.locations)) _ valid.locations in
     let exits = and_parts (eqb (length g.exits) (length g.locations)) _ valid.exits in
     record {
-      words_few = few_of (length g.words) 2000 _ valid.words;
+      words_few = few_of (length g.words) WORD_LIMIT _ valid.words;
       words_keep = rise.0;
       words_rise = rise.1;
-      system_few = few_of (length g.system) 256 _ valid.system;
-      system_keep = keep_of (leb (length g.system) 256) _ valid.system;
-      messages_few = few_of (length g.messages) 256 _ valid.messages;
-      messages_keep = keep_of (leb (length g.messages) 256) _ valid.messages;
-      objects_few = few_of (length g.objects) 255 _ valid.objects;
-      objects_keep = keep_of (leb (length g.objects) 255) _ valid.objects;
+      system_few = few_of (length g.system) SYSTEM_LIMIT _ valid.system;
+      system_keep = keep_of (leb (length g.system) SYSTEM_LIMIT) _ valid.system;
+      messages_few = few_of (length g.messages) MESSAGE_LIMIT _ valid.messages;
+      messages_keep = keep_of (leb (length g.messages) MESSAGE_LIMIT) _ valid.messages;
+      objects_few = few_of (length g.objects) OBJECT_LIMIT _ valid.objects;
+      objects_keep = keep_of (leb (length g.objects) OBJECT_LIMIT) _ valid.objects;
       locations_some = some.0;
-      locations_few = few_of (length g.locations) 252 _ some.1;
-      locations_keep = keep_of (leb (length g.locations) 252) _ some.1;
+      locations_few = few_of (length g.locations) LOCATION_LIMIT _ some.1;
+      locations_keep = keep_of (leb (length g.locations) LOCATION_LIMIT) _ some.1;
       exits_many = eqb-true (length g.exits) (length g.locations) exits.0;
       exits_keep = exits.1;
-      tables_within = (and_parts (is_within 3 256 (length g.tables)) _ valid.tables).0;
-      tables_keep = keep_of (is_within 3 256 (length g.tables)) _ valid.tables;
+      tables_within = (and_parts (is_within TABLE_LEAST TABLE_LIMIT (length g.tables)) _ valid.tables).0;
+      tables_keep = keep_of (is_within TABLE_LEAST TABLE_LIMIT (length g.tables)) _ valid.tables;
     }
 
-pub tables_few : (g : GameLists) → ValidParts g → length g.tables ≤ 256
-tables_few g v = leb-true _ _ (and_parts (leb 3 (length g.tables)) (leb (length g.tables) 256) v.tables_within).1
+pub tables_few : (g : GameLists) → ValidParts g → length g.tables ≤ TABLE_LIMIT
+tables_few g v =
+    leb-true _ _ (and_parts (leb TABLE_LEAST (length g.tables)) (leb (length g.tables) TABLE_LIMIT) v.tables_within).1
 
 pub valid_fits : (g : GameLists) → Valid g → FitsGame g
 valid_fits g valid =

@@ -6,6 +6,8 @@ use Rattle.std.specs.List.{flat_map, list_all, list_any}
 use Rattle.std.proofs.lemmas.Bool.{and_parts, leb-true}
 use Rattle.paw_base.specs.Condacts.{is_plain_code, is_indirect}
 use Rattle.paw_base.specs.declared.codes.TheConstants.{INDIRECT}
+use Rattle.paw_base.specs.declared.limits.TheConstants.{ENTRY_LIMIT, CONDACT_LIMIT}
+use Rattle.paw_base.specs.declared.words.TheConstants.{NOUN_CLASS}
 use Rattle.paw_base.specs.declared.parts.Condact.{Condact}
 use Rattle.paw_base.specs.declared.rows.CondactRow.{CondactRow}
 use Rattle.paw_base.specs.inner.Condacts.{IsCode, IsPlainCode, condact_row_of}
@@ -74,8 +76,8 @@ module _ (g : GameLists) where
   split_entry : (e : Entry) → keeps_entry (declared_as One g) e ≡ (is_entry g e && not (any_indirect e.condacts))
   split_entry e =
       let verb = is_any e.verb || is_verb_value g.words e.verb in
-      let noun = is_any e.noun || has_word g.words 2 e.noun in
-      let few = leb (length e.condacts) 255 in
+      let noun = is_any e.noun || has_word g.words NOUN_CLASS e.noun in
+      let few = leb (length e.condacts) CONDACT_LIMIT in
       let all = list_all (is_condact g) e.condacts in
       let none = not (any_indirect e.condacts) in
       ap (λ (b : Bool). verb && (noun && (few && b)))
@@ -86,9 +88,9 @@ module _ (g : GameLists) where
   split_table : (es : List Entry)
       → keeps_table (declared_as One g) es ≡ (is_table g es && not (list_any (λ e. any_indirect e.condacts) es))
   split_table es =
-      ap (λ (b : Bool). leb (length es) 4000 && b)
+      ap (λ (b : Bool). leb (length es) ENTRY_LIMIT && b)
       (split_all (keeps_entry (declared_as One g)) (is_entry g) (λ (e : Entry). any_indirect e.condacts) split_entry es)
-      ∙ move_out (leb (length es) 4000) (list_all (is_entry g) es) (not (list_any (λ (e : Entry). any_indirect e.condacts) es))
+      ∙ move_out (leb (length es) ENTRY_LIMIT) (list_all (is_entry g) es) (not (list_any (λ (e : Entry). any_indirect e.condacts) es))
 
   -- Version 1 needs the rules of a game, and no indirect condact.
   pub split_tables : (ts : List (List Entry))
@@ -155,8 +157,8 @@ module _ (g : GameLists) where
   unfolding after_entry
   entry_stops e rest keeps indirect =
       let verb = and_parts (is_any e.verb || is_verb_value g.words e.verb) _ keeps in
-      let noun = and_parts (is_any e.noun || has_word g.words 2 e.noun) _ verb.1 in
-      let condacts = and_parts (leb (length e.condacts) 255) _ noun.1 in
+      let noun = and_parts (is_any e.noun || has_word g.words NOUN_CLASS e.noun) _ verb.1 in
+      let condacts = and_parts (leb (length e.condacts) CONDACT_LIMIT) _ noun.1 in
       rw (verb.0, noun.0)
       (each_stops (after_condact (declared_as One g)) condact_image (keeps_condact (declared_as One g)) (is_condact g)
       (λ (c : Condact). is_indirect c.code) (split_condact g) (condact_passes (declared_as One g)) condact_stops e.condacts rest condacts.1 indirect)
@@ -164,11 +166,11 @@ module _ (g : GameLists) where
   table_stops : StopsRow (after_table (declared_as One g)) table_image (is_table g) (λ (es : List Entry). list_any (λ (e : Entry). any_indirect e.condacts) es)
   unfolding after_table
   table_stops es rest keeps indirect =
-      let both = and_parts (leb (length es) 4000) (list_all (is_entry g) es) keeps in
+      let both = and_parts (leb (length es) ENTRY_LIMIT) (list_all (is_entry g) es) keeps in
       let entries = flat_map entry_image es in
       rw (
         append_assoc (two_bytes (length es)) entries rest,
-        within_passes 0 4000 (length es) (entries ++ rest) (lit< tt) (up_to 4000 (length es) both.0),
+        within_passes 0 ENTRY_LIMIT (length es) (entries ++ rest) (lit< tt) (up_to ENTRY_LIMIT (length es) both.0),
       )
       (each_stops (after_entry (declared_as One g)) entry_image (keeps_entry (declared_as One g)) (is_entry g)
       (λ (e : Entry). any_indirect e.condacts) (split_entry g) (entry_passes (declared_as One g)) entry_stops es rest both.1 indirect)
@@ -178,7 +180,8 @@ module _ (g : GameLists) where
   unfolding has_indirect
   tables_stop ts rest keep indirect =
       each_stops (after_table (declared_as One g)) table_image (keeps_table (declared_as One g)) (is_table g)
-      (λ (es : List Entry). list_any (λ (e : Entry). any_indirect e.condacts) es) (split_table g) (table_passes (declared_as One g)) table_stops ts rest keep indirect
+      (λ (es : List Entry). list_any (λ (e : Entry). any_indirect e.condacts) es) (split_table g)
+      (table_passes (declared_as One g)) table_stops ts rest keep indirect
 
 -- ---- the version that a game needs ----
 

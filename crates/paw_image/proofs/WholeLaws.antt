@@ -10,7 +10,9 @@ use Rattle.paw_game.specs.Game.{GameLists}
 use Rattle.paw_game.specs.Valid.{Valid, is_within, is_word, words_rise, is_text, is_object, is_exits}
 use Rattle.paw_game.specs.Image.{word_image, text_image, object_image, exits_image, table_image, image, has_indirect, version_of}
 use Rattle.paw_game.proofs.Faults.{rise_after, rise_after-none}
-use Rattle.paw_base.specs.declared.limits.TheConstants.{IMAGE_LIMIT}
+use Rattle.paw_base.specs.declared.limits.TheConstants.{IMAGE_LIMIT, WORD_LIMIT, SYSTEM_LIMIT, MESSAGE_LIMIT}
+use Rattle.paw_base.specs.declared.limits.TheConstants.{OBJECT_LIMIT, LOCATION_LEAST, LOCATION_LIMIT, TABLE_LEAST}
+use Rattle.paw_base.specs.declared.limits.TheConstants.{TABLE_LIMIT}
 use Rattle.paw_image.specs.inner.CondactMarks.{IsEnd}
 use Rattle.paw_image.specs.Images.{IsImage}
 use Rattle.paw_image.specs.declared.version.Version.{Version}
@@ -136,19 +138,23 @@ valid_from bytes x rest f r is =
     let kept_exits = subst (λ (d : Preface). list_all (is_exits d.words d.counts.locations) g.exits ≡ true) is r.exits in
     let as_many = subst (λ (d : Preface). length g.exits ≡ d.counts.locations) is r.as_many in
     let kept_tables = subst (λ (d : Preface). list_all (keeps_table d) g.tables ≡ true) is r.tables in
-    let locations = and_parts (leb 1 (length g.locations)) (leb (length g.locations) 252) few.locations in
+    let locations = and_parts (leb LOCATION_LEAST (length g.locations))
+    (leb (length g.locations) LOCATION_LIMIT) few.locations in
     record {
-      words = and_true (leb (length g.words) 2000) _ (and_parts (leb 0 (length g.words)) _ few.words).1 kept_words;
-      system = and_true (leb (length g.system) 256) _ (and_parts (leb 0 (length g.system)) _ few.system).1 r.system;
-      messages = and_true (leb (length g.messages) 256) _ (and_parts (leb 0 (length g.messages)) _ few.messages).1
+      words = and_true (leb (length g.words) WORD_LIMIT) _
+          (and_parts (leb 0 (length g.words)) _ few.words).1 kept_words;
+      system = and_true (leb (length g.system) SYSTEM_LIMIT) _
+          (and_parts (leb 0 (length g.system)) _ few.system).1 r.system;
+      messages = and_true (leb (length g.messages) MESSAGE_LIMIT) _
+          (and_parts (leb 0 (length g.messages)) _ few.messages).1
           r.messages;
-      objects = and_true (leb (length g.objects) 255) _ (and_parts (leb 0 (length g.objects)) _ few.objects).1
+      objects = and_true (leb (length g.objects) OBJECT_LIMIT) _ (and_parts (leb 0 (length g.objects)) _ few.objects).1
           kept_objects;
-      locations = and_true (leb 1 (length g.locations)) _ locations.0
-          (and_true (leb (length g.locations) 252) _ locations.1 r.locations);
+      locations = and_true (leb LOCATION_LEAST (length g.locations)) _ locations.0
+          (and_true (leb (length g.locations) LOCATION_LIMIT) _ locations.1 r.locations);
       exits = and_true (eqb (length g.exits) (length g.locations)) _
           (eq-eqb (length g.exits) (length g.locations) as_many) kept_exits;
-      tables = and_true (is_within 3 256 (length g.tables)) _ few.tables (tables_valid g x.0.version g.tables kept_tables);
+      tables = and_true (is_within TABLE_LEAST TABLE_LIMIT (length g.tables)) _ few.tables (tables_valid g x.0.version g.tables kept_tables);
     }
 
 -- The lists of a valid game pass up to its tables.

@@ -82,7 +82,7 @@ fn sorted_heads(alloc: Global, bytes: &[u8], offsets: &[u32]) -> Result<Vec<Head
     let mut heads = heads_at(alloc, bytes, offsets)?;
     heads.sort_unstable_by_key(
         |head: &Head| -> u32
-            ensures { result ≡ rank head.now }
+            ensures value { result ≡ rank head.now }
         { rank(head) },
     );
     Ok(heads)
@@ -96,7 +96,7 @@ fn start_of(heads: &[Head], verb: u16) -> u16
 {
     let start = heads.partition_point(
         |head: &Head| -> bool
-            ensures { result ≡ nat_lt head.now.verb verb }
+            ensures value { result ≡ nat_lt head.now.verb verb }
         { (head.verb as u16) < verb },
     );
     start as u16
@@ -144,7 +144,7 @@ fn place_of(run: &[Head], least: u32) -> usize
 {
     run.partition_point(
         |head: &Head| -> bool
-            ensures { result ≡ nat_lt (rank head.now) least }
+            ensures value { result ≡ nat_lt (rank head.now) least }
         { rank(head) < least },
     )
 }

@@ -35,7 +35,7 @@ impl Version {
 
     /// What the table of condacts says of a code; None where it may not stand in an image of this version.
     pub fn row_of(self, code: u8) -> Option<CondactRow>
-        ensures { SomeIff result (may_stand self code ≡ true) (condact_row_of code) }
+        ensures value { SomeIff result (may_stand self code ≡ true) (condact_row_of code) }
     {
         match self {
             Version::One => plain_row(code),
@@ -46,7 +46,7 @@ impl Version {
 
 /// What the table of condacts says of a plain code.
 fn plain_row(code: u8) -> Option<CondactRow>
-    ensures { SomeIff result (IsPlainCode code) (condact_row_of code) }
+    ensures value { SomeIff result (IsPlainCode code) (condact_row_of code) }
 {
     if code < INDIRECT {
         condact_row(code)

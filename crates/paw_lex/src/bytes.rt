@@ -17,20 +17,20 @@ pub struct LexFault {
 
 /// Whether a line is a comment: it begins with `;`.
 pub fn is_comment(line: &[u8]) -> bool
-    ensures { result ≡ is_comment line.now }
+    ensures value { result ≡ is_comment line.now }
 {
     line.first() == Some(&b';')
 }
 
 fn is_allowed(text: bool, byte: u8) -> bool
-    ensures { result ≡ is_allowed text byte }
+    ensures value { result ≡ is_allowed text byte }
 {
     matches!(byte, b' '..=b'~') || !text && byte == b'\t'
 }
 
 /// Whether a byte of the line isn't allowed in it.
 fn any_is_forbidden(text: bool, line: &[u8]) -> bool
-    ensures { result ≡ list_any (λ b. not (is_allowed text b)) line.now }
+    ensures value { result ≡ list_any (λ b. not (is_allowed text b)) line.now }
 {
     let mut any = false;
     for byte in line {
@@ -40,7 +40,7 @@ fn any_is_forbidden(text: bool, line: &[u8]) -> bool
 }
 
 fn has_forbidden_byte(text: bool, line: &[u8]) -> bool
-    ensures { result ≡ has_forbidden_byte text line.now }
+    ensures value { result ≡ has_forbidden_byte text line.now }
 {
     !is_comment(line) && any_is_forbidden(text, line)
 }
@@ -48,8 +48,8 @@ fn has_forbidden_byte(text: bool, line: &[u8]) -> bool
 /// The fault of a line that holds a forbidden byte. A comment may hold any byte, a text line the bytes from the space
 /// to `~`, and any other line tabs too. `text` says whether it is a text line.
 pub fn byte_fault(source: &[u8], line: &Line, text: bool) -> Option<LexFault>
-    requires { LiesIn source.now line.now }
-    ensures { let forbidden = has_forbidden_byte text (bytes_of source.now line.now) in
+    requires span { LiesIn source.now line.now }
+    ensures value { let forbidden = has_forbidden_byte text (bytes_of source.now line.now) in
         MatchOption result (forbidden ≡ false)
         (λ fault. (forbidden ≡ true)
         × (fault ≡ record { line = line.now.number; kind = SourceKind.Text })) }

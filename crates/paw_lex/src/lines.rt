@@ -115,8 +115,8 @@ impl<'a> Model for Lines<'a> {
 impl<'a> Lines<'a> {
     /// A walk that stands before the first line. The source has at most 8,388,608 bytes.
     pub fn new(source: &'a [u8]) -> Lines<'a>
-        requires { length source.now ≤ SOURCE_LIMIT }
-        ensures { result ≡ record { source = source.now; given = 0; at = 0; left = lines_of source.now } }
+        requires short { length source.now ≤ SOURCE_LIMIT }
+        ensures value { result ≡ record { source = source.now; given = 0; at = 0; left = lines_of source.now } }
     {
         Lines {
             source,

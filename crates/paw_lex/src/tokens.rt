@@ -16,7 +16,7 @@ pub struct Token {
 }
 
 fn is_blank(byte: u8) -> bool
-    ensures { result ≡ is_blank byte }
+    ensures value { result ≡ is_blank byte }
 {
     byte == b' ' || byte == b'\t'
 }

@@ -3,12 +3,13 @@ use Rattle.std.proofs.Common.{◌≡◌, ℕ, leb, refl, sym, ◌∙◌, inl, in
 use Rattle.std.proofs.lemmas.Bool.{and_parts, or_cases, lt-leb}
 use Rattle.paw_base.specs.Condacts.{is_plain_code, is_indirect}
 use Rattle.paw_base.specs.inner.Condacts.{IsCode}
+use Rattle.paw_base.specs.declared.codes.TheConstants.{INDIRECT}
 use Rattle.paw_base.proofs.Table.{code_within}
 
-pub from_128 : (code : ℕ) → IsCode code → leb 128 code ≡ is_indirect code
+pub is_indirect_from : (code : ℕ) → IsCode code → leb INDIRECT code ≡ is_indirect code
 unfolding is_indirect
-from_128 code is =
+is_indirect_from code is =
     elim (or_cases (is_plain_code code) (is_indirect code) is) [
-      | inl plain ↦ let within = code_within code plain in rw (lt-leb 128 code (omega (arith, within))) refl
-      | inr indirect ↦ (and_parts (leb 128 code) _ indirect).0 ∙ sym indirect
+      | inl plain ↦ let within = code_within code plain in rw (lt-leb INDIRECT code (omega (arith, within))) refl
+      | inr indirect ↦ (and_parts (leb INDIRECT code) _ indirect).0 ∙ sym indirect
     ]

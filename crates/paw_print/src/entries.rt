@@ -40,7 +40,7 @@ fn write_parameter(
 /// Whether a condact is indirect.
 fn is_indirect(condact: Condact) -> bool
     requires known { IsKnown condact }
-    ensures { result ≡ is_indirect condact.code }
+    ensures value { result ≡ is_indirect condact.code }
 {
     INDIRECT <= condact.code
 }

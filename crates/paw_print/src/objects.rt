@@ -12,7 +12,7 @@ use paw_game::parts::ObjectRow;
 
 /// The kind of an object: whether it is a container, and whether it may be worn.
 fn kind_token(container: bool, wearable: bool) -> &'static [u8]
-    ensures { result.now ≡ kind_token container wearable }
+    ensures value { result.now ≡ kind_token container wearable }
 {
     match (container, wearable) {
         (true, true) => b"CW",

@@ -161,7 +161,7 @@ fn letter_count(letters: &[u8]) -> usize
 
 /// The name of a class of words.
 fn class_name(class: u8) -> &'static [u8]
-    ensures { result.now ≡ class_name class }
+    ensures value { result.now ≡ class_name class }
 {
     match class {
         VERB_CLASS => b"verb",

@@ -5,6 +5,7 @@ use Rattle.std.proofs.Common.{Some, None, Result, Ok, Err, refl, sym, ap, ◌∙
 use Rattle.std.specs.Prelude.{nat_lt}
 use Rattle.std.proofs.lemmas.Bool.{ltb-true}
 use Rattle.std.proofs.lemmas.Bool.Decides.{nat_tests}
+use Rattle.paw_base.specs.declared.limits.TheConstants.{LOCATION_LIMIT}
 use Rattle.paw_base.specs.declared.fault.SourceKind.{SourceKind}
 use Rattle.paw_base.specs.declared.fault.SourceKind.TheVariants as kind
 use Rattle.paw_lex.specs.Bytes.{is_comment, has_forbidden_byte}
@@ -48,7 +49,8 @@ past d n h =
       | false ↦ refl
     ])
 
-exits_capped : (d : Spelt) (n : ℕ) → length d.locations ≤ 252 → new_exits d (min n 4294967295) ≡ new_exits d n
+exits_capped : (d : Spelt) (n : ℕ) → length d.locations ≤ LOCATION_LIMIT
+    → new_exits d (min n 4294967295) ≡ new_exits d n
 exits_capped d n few =
     elim (nat_lt n (length d.locations)) as (λ b. nat_lt n (length d.locations) ≡ b → new_exits d (min n 4294967295) ≡ new_exits d n) [
       | true ↦ λ e.

@@ -8,6 +8,8 @@ use Rattle.std.proofs.lemmas.Bool.{eqb-false}
 use Rattle.std.proofs.lemmas.Bool.Decides.{nat_tests}
 use Rattle.std.proofs.lemmas.List.{length-append, length-set, length-replicate}
 use Rattle.std.proofs.lemmas.List.Folds.{list_all-append}
+use Rattle.paw_base.specs.declared.limits.TheConstants.{SYSTEM_LIMIT, MESSAGE_LIMIT, OBJECT_LIMIT, LOCATION_LIMIT}
+use Rattle.paw_base.specs.declared.limits.TheConstants.{TABLE_LIMIT}
 use Rattle.paw_base.specs.declared.fault.SourceKind.{SourceKind}
 use Rattle.paw_base.specs.declared.fault.SourceKind.TheVariants as kind
 use Rattle.paw_base.specs.declared.parts.ObjectFacts.{ObjectFacts}
@@ -97,10 +99,10 @@ from_section s d here h = subst (λ (t : Section). InOrder t d) (sym here) h
 -- Words and texts have rules of their own.
 pub record HeadsKept (ws : List Word) (ss ms ns ls : List (List ℕ)) : Type 0 where
   pub words : words_kept ws ≡ true
-  pub system : TextsKept 256 ss
-  pub messages : TextsKept 256 ms
-  pub names : TextsKept 255 ns
-  pub locations : TextsKept 252 ls
+  pub system : TextsKept SYSTEM_LIMIT ss
+  pub messages : TextsKept MESSAGE_LIMIT ms
+  pub names : TextsKept OBJECT_LIMIT ns
+  pub locations : TextsKept LOCATION_LIMIT ls
 
 abbrev pub Heads : Spelt → Type 0
 Heads d = HeadsKept d.words d.system d.messages d.names d.locations
@@ -110,7 +112,7 @@ pub record Keeps (p : ℕ) (d : Spelt) : Type 0 where
   pub exits : RowsKept (is_exits d.words (length d.locations)) (length d.locations) d.exits
   pub facts : RowsKept (are_facts d.words (length d.locations)) (length d.names) d.facts
   pub tables : (g : GameLists) → Has (bounds_of p d) d.words g → list_all (is_table g) d.tables ≡ true
-  pub few_tables : length d.tables ≤ 256
+  pub few_tables : length d.tables ≤ TABLE_LIMIT
   pub order : InOrder d.section d
 
 no_rows : (p : ℕ) (d : Spelt) → Heads d → NoRows d → InOrder d.section d → Keeps p d
@@ -258,7 +260,7 @@ item_keeps p section.Pro n d e here k h = absurd cc
 
 -- Another section opens, and the tables are others that keep the rules too.
 tables_keep : (p : ℕ) (s : Section) (begun : Bool) (ts : List (List Entry)) (d : Spelt) → Keeps p d
-    → ((g : GameLists) → Has (bounds_of p d) d.words g → list_all (is_table g) ts ≡ true) → length ts ≤ 256
+    → ((g : GameLists) → Has (bounds_of p d) d.words g → list_all (is_table g) ts ≡ true) → length ts ≤ TABLE_LIMIT
     → InOrder s (record d { section = s; begun = begun; tables = ts })
     → Keeps p (record d { section = s; begun = begun; tables = ts })
 tables_keep p s begun ts d k all few order = record {

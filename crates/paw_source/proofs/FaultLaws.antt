@@ -3,6 +3,7 @@ use Rattle.std.proofs.Common.{◌≡◌, ℕ, suc, ◌+◌, ◌≤◌, ◌⊎◌
 use Rattle.std.specs.Prelude.{nat_lt}
 use Rattle.std.specs.List.{count_by}
 use Rattle.std.proofs.lemmas.Bool.Decides.{nat_tests}
+use Rattle.paw_base.specs.declared.limits.TheConstants.{SOURCE_LIMIT, IMAGE_LIMIT, TABLE_LEAST}
 use Rattle.paw_base.specs.declared.fault.SourceKind.{SourceKind}
 use Rattle.paw_base.specs.declared.fault.SourceKind.TheVariants as kind
 use Rattle.paw_base.specs.declared.fault.SourceFault.{SourceFault}
@@ -32,10 +33,11 @@ found p n d (l ∷ before) line behind e k none here =
     ] none
 
 -- A source that isn't too long is read line by line.
-short : (source : List ℕ) → length source ≤ 8388608 → spelled source ≡ spelled_after (count_by begins_table (lines_of source)) 0 nothing_yet (lines_of source)
+short : (source : List ℕ) → length source ≤ SOURCE_LIMIT
+    → spelled source ≡ spelled_after (count_by begins_table (lines_of source)) 0 nothing_yet (lines_of source)
 unfolding spelled
 short source h =
-    let no : nat_lt 8388608 (length source) ≡ false = grind (arith, nat_tests, h) in
+    let no : nat_lt SOURCE_LIMIT (length source) ≡ false = grind (arith, nat_tests, h) in
     rw no refl
 
 pub names_the_first : NamesTheFirst
@@ -56,12 +58,12 @@ Named p n d ls f = ((m : ℕ) × (f.line ≡ suc (n + m)) × HasFault p d ls m f
 -- At the end no line had a fault.
 ended : (n : ℕ) (d : Spelt) (f : SourceFault) → whole n d ≡ Err f → f.line ≡ suc n
 ended n d f h =
-    elim (nat_lt (length d.tables) 3) as
+    elim (nat_lt (length d.tables) TABLE_LEAST) as
     (λ b. cond b (Err (fault (suc n) kind.Missing))
-    (cond (nat_lt 4194304 (length (image (game_of d)))) (Err (fault (suc n) kind.TooBig)) (Ok (game_of d)))
+    (cond (nat_lt IMAGE_LIMIT (length (image (game_of d)))) (Err (fault (suc n) kind.TooBig)) (Ok (game_of d)))
     ≡ Err f → f.line ≡ suc n) [
       | true ↦ λ g. ap (λ (x : SourceFault). x.line) (sym (err_is (fault (suc n) kind.Missing) f g))
-      | false ↦ λ g. elim (nat_lt 4194304 (length (image (game_of d)))) as
+      | false ↦ λ g. elim (nat_lt IMAGE_LIMIT (length (image (game_of d)))) as
           (λ b. cond b (Err (fault (suc n) kind.TooBig)) (Ok (game_of d)) ≡ Err f → f.line ≡ suc n) [
             | true ↦ λ i. ap (λ (x : SourceFault). x.line) (sym (err_is (fault (suc n) kind.TooBig) f i))
             | false ↦ λ i. absurd cc

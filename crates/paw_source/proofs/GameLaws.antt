@@ -5,6 +5,9 @@ use Rattle.std.specs.List.{list_all, count_by}
 use Rattle.std.proofs.lemmas.Bool.{and_parts}
 use Rattle.std.proofs.lemmas.Bool.Decides.{nat_tests}
 use Rattle.std.proofs.lemmas.List.Sums.{sum_by-cons}
+use Rattle.paw_base.specs.declared.limits.TheConstants.{SOURCE_LIMIT, IMAGE_LIMIT, SYSTEM_LIMIT, MESSAGE_LIMIT}
+use Rattle.paw_base.specs.declared.limits.TheConstants.{OBJECT_LIMIT, LOCATION_LEAST, LOCATION_LIMIT, TABLE_LEAST}
+use Rattle.paw_base.specs.declared.limits.TheConstants.{TABLE_LIMIT}
 use Rattle.paw_base.specs.declared.fault.SourceKind.TheVariants as kind
 use Rattle.paw_base.specs.declared.parts.ObjectFacts.{ObjectFacts}
 use Rattle.paw_game.specs.declared.parts.Word.{Word}
@@ -86,27 +89,28 @@ valid_game p d k three counted =
     } in
     record {
       words = k.heads.words;
-      system = texts_valid 256 d.system k.heads.system;
-      messages = texts_valid 256 d.messages k.heads.messages;
-      objects = both (nat_le (length (objects_of d.names d.facts)) 255)
+      system = texts_valid SYSTEM_LIMIT d.system k.heads.system;
+      messages = texts_valid MESSAGE_LIMIT d.messages k.heads.messages;
+      objects = both (nat_le (length (objects_of d.names d.facts)) OBJECT_LIMIT)
           (list_all (is_object d.words (length d.locations)) (objects_of d.names d.facts))
           (grind (arith, nat_tests, count, few_names))
           (objects_all d.words (length d.locations) d.names d.facts k.heads.names.all k.facts.all);
-      locations = both (nat_le 1 (length d.locations)) (rows_kept 252 is_text d.locations) (grind (arith, nat_tests, some))
-          (texts_valid 252 d.locations k.heads.locations);
+      locations = both (nat_le LOCATION_LEAST (length d.locations)) (rows_kept LOCATION_LIMIT is_text d.locations) (grind (arith, nat_tests, some))
+          (texts_valid LOCATION_LIMIT d.locations k.heads.locations);
       exits = both (eqb (length (all_exits (length d.locations) d.exits)) (length d.locations))
           (list_all (is_exits d.words (length d.locations)) (all_exits (length d.locations) d.exits))
           (grind (arith, nat_tests, long, few_exits))
           (filled_exits d.words (length d.locations) (length d.locations - length d.exits) d.exits k.exits.all);
-      tables = both (is_within 3 256 (length d.tables)) (list_all (is_table (game_of d)) d.tables)
+      tables = both (is_within TABLE_LEAST TABLE_LIMIT (length d.tables)) (list_all (is_table (game_of d)) d.tables)
           (grind (arith, nat_tests, three, few_tables)) (k.tables (game_of d) has);
     }
 
 whole_valid : (p n : ℕ) (d : Spelt) (g : GameLists) → Keeps p d → length d.tables ≡ p → whole n d ≡ Ok g → Valid g
 whole_valid p n d g k counted h =
-    let a = passes (nat_lt (length d.tables) 3) (fault (suc n) kind.Missing)
-    (cond (nat_lt 4194304 (length (image (game_of d)))) (Err (fault (suc n) kind.TooBig)) (Ok (game_of d))) g h in
-    let b = passes (nat_lt 4194304 (length (image (game_of d)))) (fault (suc n) kind.TooBig) (Ok (game_of d)) g a.1 in
+    let a = passes (nat_lt (length d.tables) TABLE_LEAST) (fault (suc n) kind.Missing)
+    (cond (nat_lt IMAGE_LIMIT (length (image (game_of d)))) (Err (fault (suc n) kind.TooBig)) (Ok (game_of d))) g h in
+    let b = passes (nat_lt IMAGE_LIMIT (length (image (game_of d)))) (fault (suc n) kind.TooBig)
+    (Ok (game_of d)) g a.1 in
     let three : 3 ≤ length d.tables = grind (arith, nat_tests, a.0) in
     subst Valid (ok_is (game_of d) g b.1) (valid_game p d k three counted)
 
@@ -159,7 +163,7 @@ drafts_are_valid source d h three =
 pub spells_valid_games : SpellsValidGames
 unfolding spelled
 spells_valid_games source g h =
-    let a = passes (nat_lt 8388608 (length source)) (fault 0 kind.TooBig)
+    let a = passes (nat_lt SOURCE_LIMIT (length source)) (fault 0 kind.TooBig)
     (spelled_after (count_by begins_table (lines_of source)) 0 nothing_yet (lines_of source)) g h in
     reading_valid (count_by begins_table (lines_of source)) 0 nothing_yet (lines_of source) g
     (nothing_keeps (count_by begins_table (lines_of source))) (omega arith) a.1

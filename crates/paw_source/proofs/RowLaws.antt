@@ -15,6 +15,12 @@ use Rattle.paw_base.specs.declared.parts.Condact.{Condact}
 use Rattle.paw_base.specs.declared.rows.ParamKind.{ParamKind}
 use Rattle.paw_base.specs.declared.rows.ParamKind.TheVariants as kind
 use Rattle.paw_base.specs.Condacts.{code_named, is_code, first_kind, second_kind, params_of, may_be_indirect}
+use Rattle.paw_base.specs.declared.limits.TheConstants.{WORD_LIMIT, EXIT_LIMIT, ENTRY_LIMIT, CONDACT_LIMIT}
+use Rattle.paw_base.specs.declared.limits.TheConstants.{WEIGHT_LIMIT, FLAG_COUNT}
+use Rattle.paw_base.specs.declared.places.TheConstants.{NOT_CREATED_PLACE, CARRIED_PLACE, HERE_PLACE}
+use Rattle.paw_base.specs.declared.words.TheConstants.{VERB_CLASS, ADVERB_CLASS, NOUN_CLASS, ADJECTIVE_CLASS}
+use Rattle.paw_base.specs.declared.words.TheConstants.{PREPOSITION_CLASS, PRONOUN_CLASS, LEAST_WORD, GREATEST_WORD}
+use Rattle.paw_base.specs.declared.words.TheConstants.{FIRST_PLAIN_NOUN}
 use Rattle.paw_game.specs.declared.parts.Word.{Word}
 use Rattle.paw_game.specs.declared.parts.Exit.{Exit}
 use Rattle.paw_game.specs.declared.parts.Entry.{Entry}
@@ -43,10 +49,10 @@ pub voc_row_ok : (ws vs : List Word) (ts : List (List ℕ)) → words_kept ws �
 unfolding voc_row
 voc_row_ok ws vs ts kept h =
     bound_then _ (word ts) _ vs h (λ a a_ok h.
-    bound_then _ (number_within 2 254 a.1) _ vs h (λ b b_ok h.
+    bound_then _ (number_within LEAST_WORD GREATEST_WORD a.1) _ vs h (λ b b_ok h.
     bound_then _ (class b.1) _ vs h (λ c c_ok h.
     let made : Word = record { letters = a.0; value = b.0; class = c.0 } in
-    let one : is_word made ≡ true = rw (word_ok ts a a_ok, number_ok (is_within 2 254) a.1 b b_ok, class_ok b.1 c c_ok) refl in
+    let one : is_word made ≡ true = rw (word_ok ts a a_ok, number_ok (is_within LEAST_WORD GREATEST_WORD) a.1 b b_ok, class_ok b.1 c c_ok) refl in
     declared_ok made ws vs one kept (at_end c.1 (declared made ws) vs h))))
 
 -- ---- exits
@@ -106,23 +112,26 @@ verbs_distinct ws locations (y ∷ ys) kept =
     let alone : shares y ys ≡ false = elim (shares y ys) as (λ b. not b ≡ true → b ≡ false) [ true ↦ λ g. absurd cc | false ↦ λ g. refl ] r.1 in
     (verbs_apart ws locations y.verb ys alone, verbs_distinct ws locations ys p.1)
 
--- A word's value is at most 254.
+-- A word's value is at most the greatest that a word may have.
 value_low : (ws : List Word) (c v : ℕ) → list_all is_word ws ≡ true → has_word ws c v ≡ true → v < 255
 value_low [] c v all h = absurd cc
 value_low (w ∷ ws) c v all h =
     let p = and_parts (is_word w) (list_all is_word ws) all in
-    let q = and_parts (is_within 2 254 w.value) (nat_le w.class 6) (and_parts _ (is_within 2 254 w.value && nat_le w.class 6) p.0).1 in
+    let q = and_parts (is_within LEAST_WORD GREATEST_WORD w.value) (nat_le w.class PRONOUN_CLASS)
+    (and_parts _ (is_within LEAST_WORD GREATEST_WORD w.value && nat_le w.class PRONOUN_CLASS) p.0).1 in
     elim (eqb w.class c && eqb w.value v) as (λ b. (eqb w.class c && eqb w.value v) ≡ b → (b || has_word ws c v) ≡ true → v < 255) [
       | true ↦ λ e f. let same = eqb-true w.value v (and_parts (eqb w.class c) (eqb w.value v) e).1 in let low =
-          leb-true w.value 254 (and_parts (nat_le 2 w.value) (nat_le w.value 254) q.0).1 in omega (arith, same, low)
+          leb-true w.value GREATEST_WORD
+          (and_parts (nat_le LEAST_WORD w.value) (nat_le w.value GREATEST_WORD) q.0).1 in omega (arith, same, low)
       | false ↦ λ e f. value_low ws c v p.1 f
     ] refl h
 
 verb_low : (ws : List Word) (v : ℕ) → list_all is_word ws ≡ true → is_verb_value ws v ≡ true → v < 255
 verb_low ws v all h =
-    elim (has_word ws 0 v) as (λ b. has_word ws 0 v ≡ b → (b || (ltb v 20 && has_word ws 2 v)) ≡ true → v < 255) [
-      | true ↦ λ e f. value_low ws 0 v all e
-      | false ↦ λ e f. value_low ws 2 v all (and_parts (ltb v 20) (has_word ws 2 v) f).1
+    elim (has_word ws VERB_CLASS v) as
+    (λ b. has_word ws VERB_CLASS v ≡ b → (b || (ltb v FIRST_PLAIN_NOUN && has_word ws NOUN_CLASS v)) ≡ true → v < 255) [
+      | true ↦ λ e f. value_low ws VERB_CLASS v all e
+      | false ↦ λ e f. value_low ws NOUN_CLASS v all (and_parts (ltb v FIRST_PLAIN_NOUN) (has_word ws NOUN_CLASS v) f).1
     ] refl h
 
 verbs_low : (ws : List Word) (locations : ℕ) (xs : List Exit) (q : ℕ) → list_all is_word ws ≡ true
@@ -139,11 +148,11 @@ verbs_low ws locations (y ∷ ys) q all kept h =
 -- Verb values that differ are at most 255.
 pub exits_few : (ws : List Word) (locations : ℕ) (xs : List Exit) → words_kept ws ≡ true → are_exits ws locations xs ≡ true → is_exits ws locations xs ≡ true
 exits_few ws locations xs words kept =
-    let all = (and_parts (list_all is_word ws) _ (and_parts (nat_le (length ws) 2000) _ words).1).0 in
+    let all = (and_parts (list_all is_word ws) _ (and_parts (nat_le (length ws) WORD_LIMIT) _ words).1).0 in
     let few = length-le_from_distinct_below (map (λ (x : Exit). x.verb) xs) 255 (verbs_distinct ws locations xs kept)
     (λ q h. verbs_low ws locations xs q all kept h) in
     let long = length-map xs (λ (x : Exit). x.verb) in
-    both (nat_le (length xs) 255) (are_exits ws locations xs) (grind (arith, nat_tests, few, long)) kept
+    both (nat_le (length xs) EXIT_LIMIT) (are_exits ws locations xs) (grind (arith, nat_tests, few, long)) kept
 
 pub exit_row_ok : (ws : List Word) (locations : ℕ) (xs ys : List Exit) (ts : List (List ℕ)) → words_kept ws ≡ true
     → is_exits ws locations xs ≡ true → exit_row ws locations xs ts ≡ Ok ys → is_exits ws locations ys ≡ true
@@ -154,7 +163,7 @@ exit_row_ok ws locations xs ys ts words kept h =
     let x : Exit = record { verb = a.0; to = b.0 } in
     let c = at_end b.1 (cond (has_exit a.0 xs) (Err fault.Duplicate) (Ok (xs ++ x ∷ []))) ys h in
     let d = passes (has_exit a.0 xs) fault.Duplicate (Ok (xs ++ x ∷ [])) ys c in
-    let old = (and_parts (nat_le (length xs) 255) (are_exits ws locations xs) kept).1 in
+    let old = (and_parts (nat_le (length xs) EXIT_LIMIT) (are_exits ws locations xs) kept).1 in
     let low = number_ok (λ n. nat_lt n locations) a.1 b b_ok in
     let new = exits_more ws locations xs x old d.0 (verb_word_ok ws ts a a_ok) low in
     rw (← ok_is (xs ++ x ∷ []) ys d.1) (exits_few ws locations (xs ++ x ∷ []) words new)))
@@ -162,14 +171,14 @@ exit_row_ok ws locations xs ys ts words kept h =
 -- ---- objects
 
 place_within : (last : ℕ) (named : List ℕ → Option ℕ) (locations : ℕ) (ts : List (List ℕ)) (x : ℕ × List (List ℕ))
-    → place_up_to last named locations ts ≡ Ok x → (nat_lt x.0 locations || is_within 252 last x.0) ≡ true
+    → place_up_to last named locations ts ≡ Ok x → (nat_lt x.0 locations || is_within NOT_CREATED_PLACE last x.0) ≡ true
 place_within last named locations ts x h =
-    let b = bound (read_by fault.Number (λ t. option_or (number t) (option_map (λ i. 252 + i) (named t))) ts)
-    (in_range (λ n. nat_lt n locations || is_within 252 last n)) x h in
-    in_range_ok (λ n. nat_lt n locations || is_within 252 last n) b.0 x b.2
+    let b = bound (read_by fault.Number (λ t. option_or (number t) (option_map (λ i. NOT_CREATED_PLACE + i) (named t))) ts)
+    (in_range (λ n. nat_lt n locations || is_within NOT_CREATED_PLACE last n)) x h in
+    in_range_ok (λ n. nat_lt n locations || is_within NOT_CREATED_PLACE last n) b.0 x b.2
 
 first_place_ok : (locations : ℕ) (ts : List (List ℕ)) (x : ℕ × List (List ℕ)) → first_place locations ts ≡ Ok x → is_place locations x.0 ≡ true
-first_place_ok locations ts x h = place_within 254 (place_among place_names) locations ts x h
+first_place_ok locations ts x h = place_within CARRIED_PLACE (place_among place_names) locations ts x h
 
 pub record ObjectRowKept (ws : List Word) (locations next count : ℕ) (f : ObjectFacts) : Type 0 where
   pub room : next < count
@@ -181,10 +190,10 @@ unfolding object_row
 object_row_ok ws locations next count ts f h =
     bound_then _ (row_number next count ts) _ f h (λ a a_ok h.
     bound_then _ (first_place locations a.1) _ f h (λ b b_ok h.
-    bound_then _ (number_within 0 63 b.1) _ f h (λ c c_ok h.
+    bound_then _ (number_within 0 WEIGHT_LIMIT b.1) _ f h (λ c c_ok h.
     bound_then _ (object_kind c.1) _ f h (λ d d_ok h.
-    bound_then _ (word_or_none ws 2 d.1) _ f h (λ e e_ok h.
-    bound_then _ (word_or_none ws 3 e.1) _ f h (λ g g_ok h.
+    bound_then _ (word_or_none ws NOUN_CLASS d.1) _ f h (λ e e_ok h.
+    bound_then _ (word_or_none ws ADJECTIVE_CLASS e.1) _ f h (λ g g_ok h.
     let made : ObjectFacts = record { noun = e.0; adjective = g.0; start = b.0; weight = c.0; container = d.0.0; wearable = d.0.1 } in
     let i = at_end g.1 (Ok made) f h in
     let room = number_ok (λ m. eqb m next && nat_lt next count) ts a a_ok in
@@ -192,10 +201,10 @@ object_row_ok ws locations next count ts f h =
       room = ltb-true next count (and_parts (eqb a.0 next) (nat_lt next count) room).1;
       facts = rw (← ok_is made f i)
           (rw (
-            word_or_none_ok ws 2 d.1 e e_ok,
-            word_or_none_ok ws 3 e.1 g g_ok,
+            word_or_none_ok ws NOUN_CLASS d.1 e e_ok,
+            word_or_none_ok ws ADJECTIVE_CLASS e.1 g g_ok,
             first_place_ok locations a.1 b b_ok,
-            (and_parts (nat_le 0 c.0) (nat_le c.0 63) (number_ok (is_within 0 63) b.1 c c_ok)).1,
+            (and_parts (nat_le 0 c.0) (nat_le c.0 WEIGHT_LIMIT) (number_ok (is_within 0 WEIGHT_LIMIT) b.1 c c_ok)).1,
           ) refl);
     }))))))
 
@@ -217,8 +226,9 @@ table_ok tables ts x h =
     let made : min b.0.0 255 ≡ x.0 = ap (λ (z : ℕ × List (List ℕ)). z.0) (ok_is (min b.0.0 255, b.0.1) x b.2) in
     rw (← made) (let below = ltb-true b.0.0 tables low in grind (arith, nat_tests, below))
 
-place_ok : (locations : ℕ) (ts : List (List ℕ)) (x : ℕ × List (List ℕ)) → any_place locations ts ≡ Ok x → (nat_lt x.0 locations || is_within 252 255 x.0) ≡ true
-place_ok locations ts x h = place_within 255 (place_among (place_names ++ codes "HERE" ∷ [])) locations ts x h
+place_ok : (locations : ℕ) (ts : List (List ℕ)) (x : ℕ × List (List ℕ)) → any_place locations ts ≡ Ok x
+    → (nat_lt x.0 locations || is_within NOT_CREATED_PLACE HERE_PLACE x.0) ≡ true
+place_ok locations ts x h = place_within HERE_PLACE (place_among (place_names ++ codes "HERE" ∷ [])) locations ts x h
 
 parameter_ok : (bounds : Bounds) (ws : List Word) (g : GameLists) (k : ParamKind) (ts : List (List ℕ))
     (x : ℕ × List (List ℕ)) → Has bounds ws g → parameter bounds ws k ts ≡ Ok x → is_parameter (counts_of g) g.words k x.0 ≡ true
@@ -226,20 +236,20 @@ parameter_ok bounds ws g kind.Absent ts x has h = rw (← ok_is (0, ts) x h) ref
 parameter_ok bounds ws g kind.Location ts x has h = rw has.locations (number_ok (λ n. nat_lt n bounds.locations) ts x h)
 parameter_ok bounds ws g kind.Place ts x has h = rw has.locations (place_ok bounds.locations ts x h)
 parameter_ok bounds ws g kind.Object ts x has h = rw has.objects (number_ok (λ n. nat_lt n bounds.objects) ts x h)
-parameter_ok bounds ws g kind.Flag ts x has h = number_ok (λ n. nat_lt n 256) ts x h
+parameter_ok bounds ws g kind.Flag ts x has h = number_ok (λ n. nat_lt n FLAG_COUNT) ts x h
 parameter_ok bounds ws g kind.Number ts x has h = number_ok (λ n. nat_lt n 256) ts x h
 parameter_ok bounds ws g kind.Message ts x has h = rw has.messages (number_ok (λ n. nat_lt n bounds.messages) ts x h)
 parameter_ok bounds ws g kind.System ts x has h = rw has.system (number_ok (λ n. nat_lt n bounds.system) ts x h)
 parameter_ok bounds ws g kind.Table ts x has h = rw has.tables (table_ok bounds.tables ts x h)
-parameter_ok bounds ws g kind.Adverb ts x has h = rw has.words (word_or_none_ok ws 1 ts x h)
-parameter_ok bounds ws g kind.Noun ts x has h = rw has.words (word_or_none_ok ws 2 ts x h)
-parameter_ok bounds ws g kind.Adjective ts x has h = rw has.words (word_or_none_ok ws 3 ts x h)
-parameter_ok bounds ws g kind.Preposition ts x has h = rw has.words (word_or_none_ok ws 4 ts x h)
+parameter_ok bounds ws g kind.Adverb ts x has h = rw has.words (word_or_none_ok ws ADVERB_CLASS ts x h)
+parameter_ok bounds ws g kind.Noun ts x has h = rw has.words (word_or_none_ok ws NOUN_CLASS ts x h)
+parameter_ok bounds ws g kind.Adjective ts x has h = rw has.words (word_or_none_ok ws ADJECTIVE_CLASS ts x h)
+parameter_ok bounds ws g kind.Preposition ts x has h = rw has.words (word_or_none_ok ws PREPOSITION_CLASS ts x h)
 
-flag_ok : (ts : List (List ℕ)) (x : ℕ × List (List ℕ)) → flag_behind_at ts ≡ Ok x → nat_lt x.0 256 ≡ true
+flag_ok : (ts : List (List ℕ)) (x : ℕ × List (List ℕ)) → flag_behind_at ts ≡ Ok x → nat_lt x.0 FLAG_COUNT ≡ true
 flag_ok ts x h =
-    let b = bound (read_by fault.Number (λ t. number (drop 1 t)) ts) (in_range (λ n. nat_lt n 256)) x h in
-    in_range_ok (λ n. nat_lt n 256) b.0 x b.2
+    let b = bound (read_by fault.Number (λ t. number (drop 1 t)) ts) (in_range (λ n. nat_lt n FLAG_COUNT)) x h in
+    in_range_ok (λ n. nat_lt n FLAG_COUNT) b.0 x b.2
 
 first_ok : (bounds : Bounds) (ws : List Word) (g : GameLists) (code : ℕ) (indirect : Bool) (ts : List (List ℕ))
     (x : ℕ × List (List ℕ)) → Has bounds ws g → (indirect ≡ true → may_be_indirect code ≡ true)
@@ -281,15 +291,15 @@ condacts_ok bounds ws g zero (t ∷ ts) cs has h =
 
 more_condacts_ok : (bounds : Bounds) (ws : List Word) (g : GameLists) (before : List Condact) (ts : List (List ℕ))
     (cs : List Condact) → Has bounds ws g → list_all (is_condact g) before ≡ true
-    → more_condacts bounds ws before ts ≡ Ok cs → (nat_le (length cs) 255 ≡ true)
+    → more_condacts bounds ws before ts ≡ Ok cs → (nat_le (length cs) CONDACT_LIMIT ≡ true)
     × (list_all (is_condact g) cs ≡ true)
 unfolding more_condacts
 more_condacts_ok bounds ws g before ts cs has old h =
-    let a = bound (with_more_condacts before (condacts_in bounds ws 0 ts)) (at_most 255) cs h in
+    let a = bound (with_more_condacts before (condacts_in bounds ws 0 ts)) (at_most CONDACT_LIMIT) cs h in
     let c = bound (condacts_in bounds ws 0 ts) (λ more. Ok (before ++ more)) a.0 a.1 in
     let same = ok_is (before ++ c.0) a.0 c.2 in
-    let b = passes (nat_lt 255 (length a.0)) fault.TooBig (Ok a.0) cs a.2 in
-    let few : nat_le (length a.0) 255 ≡ true = grind (arith, nat_tests, b.0) in
+    let b = passes (nat_lt CONDACT_LIMIT (length a.0)) fault.TooBig (Ok a.0) cs a.2 in
+    let few : nat_le (length a.0) CONDACT_LIMIT ≡ true = grind (arith, nat_tests, b.0) in
     let all : list_all (is_condact g) a.0 ≡ true = rw (← same, list_all-append (is_condact g) before c.0, old, condacts_ok bounds ws g 0 ts c.0 has c.1) refl in
     rw (← ok_is a.0 cs b.1) (few, all)
 
@@ -300,42 +310,46 @@ pub entry_row_ok : (bounds : Bounds) (ws : List Word) (g : GameLists) (es fs : L
 unfolding entry_row
 entry_row_ok bounds ws g es fs ts has kept h =
     let a = bound (entry_verb ws ts)
-    (λ v. entry_noun ws v.1 >>= λ n. more_condacts bounds ws [] n.1 >>= λ cs. cond (nat_lt (length es) 4000)
+    (λ v. entry_noun ws v.1 >>= λ n. more_condacts bounds ws [] n.1 >>= λ cs. cond (nat_lt (length es) ENTRY_LIMIT)
     (Ok (es ++ (record { verb = v.0; noun = n.0; condacts = cs }) ∷ [])) (Err fault.TooBig)) fs h in
     let b = bound (entry_noun ws a.0.1)
-    (λ n. more_condacts bounds ws [] n.1 >>= λ cs. cond (nat_lt (length es) 4000)
+    (λ n. more_condacts bounds ws [] n.1 >>= λ cs. cond (nat_lt (length es) ENTRY_LIMIT)
     (Ok (es ++ (record { verb = a.0.0; noun = n.0; condacts = cs }) ∷ [])) (Err fault.TooBig)) fs a.2 in
     let c = bound (more_condacts bounds ws [] b.0.1)
-    (λ cs. cond (nat_lt (length es) 4000) (Ok (es ++ (record { verb = a.0.0; noun = b.0.0; condacts = cs }) ∷ []))
+    (λ cs. cond (nat_lt (length es) ENTRY_LIMIT) (Ok (es ++ (record { verb = a.0.0; noun = b.0.0; condacts = cs }) ∷ []))
     (Err fault.TooBig)) fs b.2 in
     let made : Entry = record { verb = a.0.0; noun = b.0.0; condacts = c.0 } in
-    let d = holds (nat_lt (length es) 4000) fault.TooBig (Ok (es ++ made ∷ [])) fs c.2 in
+    let d = holds (nat_lt (length es) ENTRY_LIMIT) fault.TooBig (Ok (es ++ made ∷ [])) fs c.2 in
     let cs = more_condacts_ok bounds ws g [] b.0.1 c.0 has refl c.1 in
     let v : (is_any a.0.0 || is_verb_value g.words a.0.0) ≡ true = rw has.words (entry_verb_ok ws ts a.0 a.1) in
-    let n : (is_any b.0.0 || has_word g.words 2 b.0.0) ≡ true = rw has.words (entry_noun_ok ws a.0.1 b.0 b.1) in
+    let n : (is_any b.0.0 || has_word g.words NOUN_CLASS b.0.0) ≡ true =
+    rw has.words (entry_noun_ok ws a.0.1 b.0 b.1) in
     let one : is_entry g made ≡ true = rw (v, n, cs.0, cs.1) refl in
-    let old = (and_parts (nat_le (length es) 4000) (list_all (is_entry g) es) kept).1 in
+    let old = (and_parts (nat_le (length es) ENTRY_LIMIT) (list_all (is_entry g) es) kept).1 in
     let long = length-append es (made ∷ []) in
-    let room = ltb-true (length es) 4000 d.0 in
+    let room = ltb-true (length es) ENTRY_LIMIT d.0 in
     rw (← ok_is (es ++ made ∷ []) fs d.1)
-    (both (nat_le (length (es ++ made ∷ [])) 4000) (list_all (is_entry g) (es ++ made ∷ []))
+    (both (nat_le (length (es ++ made ∷ [])) ENTRY_LIMIT) (list_all (is_entry g) (es ++ made ∷ []))
     (grind (arith, nat_tests, long, room)) (all_pushed (is_entry g) es made old one))
 
 -- An entry with other condacts.
-with_condacts : (g : GameLists) (e : Entry) (cs : List Condact) → is_entry g e ≡ true → nat_le (length cs) 255 ≡ true
+with_condacts : (g : GameLists) (e : Entry) (cs : List Condact) → is_entry g e ≡ true
+    → nat_le (length cs) CONDACT_LIMIT ≡ true
     → list_all (is_condact g) cs ≡ true → is_entry g (record e { condacts = cs }) ≡ true
 with_condacts g e cs kept few all =
-    let p = and_parts (is_any e.verb || is_verb_value g.words e.verb) ((is_any e.noun || has_word g.words 2 e.noun)
-    && (nat_le (length e.condacts) 255 && list_all (is_condact g) e.condacts)) kept in
-    let q = and_parts (is_any e.noun || has_word g.words 2 e.noun) (nat_le (length e.condacts) 255 && list_all (is_condact g) e.condacts) p.1 in
+    let p = and_parts (is_any e.verb || is_verb_value g.words e.verb) ((is_any e.noun || has_word g.words NOUN_CLASS e.noun)
+    && (nat_le (length e.condacts) CONDACT_LIMIT && list_all (is_condact g) e.condacts)) kept in
+    let q = and_parts (is_any e.noun || has_word g.words NOUN_CLASS e.noun)
+    (nat_le (length e.condacts) CONDACT_LIMIT && list_all (is_condact g) e.condacts) p.1 in
     rw (p.0, q.0, few, all) refl
 
 its_condacts : (g : GameLists) (e : Entry) → is_entry g e ≡ true → list_all (is_condact g) e.condacts ≡ true
 its_condacts g e kept =
-    let p = and_parts (is_any e.verb || is_verb_value g.words e.verb) ((is_any e.noun || has_word g.words 2 e.noun)
-    && (nat_le (length e.condacts) 255 && list_all (is_condact g) e.condacts)) kept in
-    let q = and_parts (is_any e.noun || has_word g.words 2 e.noun) (nat_le (length e.condacts) 255 && list_all (is_condact g) e.condacts) p.1 in
-    (and_parts (nat_le (length e.condacts) 255) (list_all (is_condact g) e.condacts) q.1).1
+    let p = and_parts (is_any e.verb || is_verb_value g.words e.verb) ((is_any e.noun || has_word g.words NOUN_CLASS e.noun)
+    && (nat_le (length e.condacts) CONDACT_LIMIT && list_all (is_condact g) e.condacts)) kept in
+    let q = and_parts (is_any e.noun || has_word g.words NOUN_CLASS e.noun)
+    (nat_le (length e.condacts) CONDACT_LIMIT && list_all (is_condact g) e.condacts) p.1 in
+    (and_parts (nat_le (length e.condacts) CONDACT_LIMIT) (list_all (is_condact g) e.condacts) q.1).1
 
 pub more_row_ok : (bounds : Bounds) (ws : List Word) (g : GameLists) (es fs : List Entry) (ts : List (List ℕ))
     → Has bounds ws g → is_table g es ≡ true → more_row bounds ws es ts ≡ Ok fs → is_table g fs ≡ true
@@ -349,11 +363,11 @@ more_row_ok bounds ws g es fs ts has kept h =
     (λ cs. Ok (with_last (record (last_or no_entry es) { condacts = cs }) es)) fs a.1 in
     let made : Entry = record (last_or no_entry es) { condacts = b.0 } in
     let some = eqb-false (length es) 0 a.0 in
-    let p = and_parts (nat_le (length es) 4000) (list_all (is_entry g) es) kept in
+    let p = and_parts (nat_le (length es) ENTRY_LIMIT) (list_all (is_entry g) es) kept in
     let old : is_entry g (last_or no_entry es) ≡ true = all_at (is_entry g) es (length es - 1) no_entry (omega (arith, some)) p.1 in
     let cs = more_condacts_ok bounds ws g (last_or no_entry es).condacts ts b.0 has (its_condacts g (last_or no_entry es) old) b.1 in
     let one = with_condacts g (last_or no_entry es) b.0 old cs.0 cs.1 in
     let long = length-set es (length es - 1) made in
     rw (← ok_is (with_last made es) fs b.2)
-    (both (nat_le (length (with_last made es)) 4000) (list_all (is_entry g) (with_last made es))
-    (ap (λ (n : ℕ). nat_le n 4000) long ∙ p.0) (all_set (is_entry g) es (length es - 1) made p.1 one))
+    (both (nat_le (length (with_last made es)) ENTRY_LIMIT) (list_all (is_entry g) (with_last made es))
+    (ap (λ (n : ℕ). nat_le n ENTRY_LIMIT) long ∙ p.0) (all_set (is_entry g) es (length es - 1) made p.1 one))

@@ -7,6 +7,7 @@ use Rattle.std.proofs.lemmas.Bool.{and_parts}
 use Rattle.std.proofs.lemmas.Bool.Decides.{nat_tests}
 use Rattle.std.proofs.lemmas.List.{length-set, length-append}
 use Rattle.std.proofs.lemmas.List.Folds.{list_all-append}
+use Rattle.paw_base.specs.declared.limits.TheConstants.{TEXT_LIMIT}
 use Rattle.paw_base.specs.declared.fault.SourceKind.TheVariants as kind
 use Rattle.paw_game.specs.Valid.{is_text, is_text_byte, begins_no_line, is_printed}
 use Rattle.paw_lex.specs.Bytes.{is_comment, is_allowed, has_forbidden_byte}
@@ -107,16 +108,18 @@ pub text_line_ok : (begun : Bool) (l : List ℕ) (ts us : List (List ℕ)) → l
     → is_comment l ≡ false → begins_with_slash l ≡ false → has_forbidden_byte true l ≡ false
     → text_line begun l ts ≡ Ok us → (list_all is_text us ≡ true) × (length us ≡ length ts)
 text_line_ok begun l ts us all comment slash bytes h =
-    let b = bound (at_most 4095 (with_line begun (last_or [] ts) l)) (λ t. Ok (with_last t ts)) us h in
+    let b = bound (at_most TEXT_LIMIT (with_line begun (last_or [] ts) l)) (λ t. Ok (with_last t ts)) us h in
     let old = all_get is_text ts (length ts - 1) [] all refl in
-    let printed_old = (and_parts (nat_le (length (last_or [] ts)) 4095) (is_printed true (last_or [] ts)) old).1 in
+    let printed_old = (and_parts (nat_le (length (last_or [] ts)) TEXT_LIMIT)
+    (is_printed true (last_or [] ts)) old).1 in
     let plain_l : list_all plain l ≡ true = plain_line l (allowed (is_comment l) (list_any (λ b. not (is_allowed true b)) l) comment bytes) in
     let printed_new = joined_printed begun (last_or [] ts) l printed_old (λ f. whole_line f l plain_l comment slash) in
-    let short = passes (nat_lt 4095 (length (with_line begun (last_or [] ts) l))) kind.TooBig (Ok (with_line begun (last_or [] ts) l)) b.0 b.1 in
-    let few : nat_le (length (with_line begun (last_or [] ts) l)) 4095 ≡ true = grind (arith, nat_tests, short.0) in
+    let short = passes (nat_lt TEXT_LIMIT (length (with_line begun (last_or [] ts) l))) kind.TooBig (Ok (with_line begun (last_or [] ts) l)) b.0 b.1 in
+    let few : nat_le (length (with_line begun (last_or [] ts) l)) TEXT_LIMIT ≡ true =
+    grind (arith, nat_tests, short.0) in
     let good : is_text b.0 ≡ true =
     rw (← ok_is (with_line begun (last_or [] ts) l) b.0 short.1)
-    (both (nat_le (length (with_line begun (last_or [] ts) l)) 4095)
+    (both (nat_le (length (with_line begun (last_or [] ts) l)) TEXT_LIMIT)
     (is_printed true (with_line begun (last_or [] ts) l)) few printed_new) in
     let made = ok_is (with_last b.0 ts) us b.2 in
     rw (← made) (all_set is_text ts (length ts - 1) b.0 all good, length-set ts (length ts - 1) b.0)

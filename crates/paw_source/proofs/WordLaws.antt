@@ -16,6 +16,8 @@ use Rattle.std.proofs.lemmas.Cmp.{nat_list_cmp_total}
 use Rattle.std.proofs.lemmas.Map.Text.{is_eq-slice_cmp}
 use Rattle.paw_base.specs.declared.fault.SourceKind.TheVariants as kind
 use Rattle.paw_base.specs.Condacts.{capitals}
+use Rattle.paw_base.specs.declared.limits.TheConstants.{WORD_LIMIT}
+use Rattle.paw_base.specs.declared.words.TheConstants.{VERB_CLASS, NOUN_CLASS, ANY_WORD, NO_WORD, FIRST_PLAIN_NOUN}
 use Rattle.paw_game.specs.declared.parts.Word.{Word}
 use Rattle.paw_game.specs.Valid.{is_letter, is_filled, are_letters, is_word, words_rise, words_kept, has_word, is_verb_value, is_word_or_none, is_any}
 use Rattle.paw_game.specs.Tables.{word_of}
@@ -167,12 +169,13 @@ put_words w (u ∷ us) one all =
 -- A word that is declared leaves the words in order, and no more than 2,000.
 pub declared_ok : (w : Word) (ws vs : List Word) → is_word w ≡ true → words_kept ws ≡ true → declared w ws ≡ Ok vs → words_kept vs ≡ true
 declared_ok w ws vs one kept h =
-    let p = and_parts (nat_le (length ws) 2000) (list_all is_word ws && words_rise ws) kept in
+    let p = and_parts (nat_le (length ws) WORD_LIMIT) (list_all is_word ws && words_rise ws) kept in
     let q = and_parts (list_all is_word ws) (words_rise ws) p.1 in
-    let a = passes (is_declared w.letters ws) kind.Duplicate (cond (eqb (length ws) 2000) (Err kind.TooBig) (Ok (words_with w ws))) vs h in
-    let b = passes (eqb (length ws) 2000) kind.TooBig (Ok (words_with w ws)) vs a.1 in
+    let a = passes (is_declared w.letters ws) kind.Duplicate (cond (eqb (length ws) WORD_LIMIT) (Err kind.TooBig) (Ok (words_with w ws))) vs h in
+    let b = passes (eqb (length ws) WORD_LIMIT) kind.TooBig (Ok (words_with w ws)) vs a.1 in
     let long = put_length w ws in
-    let few : nat_le (length (words_with w ws)) 2000 ≡ true = grind (arith, nat_tests, long, leb-true (length ws) 2000 p.0, eqb-false (length ws) 2000 b.0) in
+    let few : nat_le (length (words_with w ws)) WORD_LIMIT ≡ true =
+    grind (arith, nat_tests, long, leb-true (length ws) WORD_LIMIT p.0, eqb-false (length ws) WORD_LIMIT b.0) in
     rw (← ok_is (words_with w ws) vs b.1, few, put_words w ws one q.0, put_rises w ws q.1 a.0) refl
 
 -- ---- looking up
@@ -206,18 +209,23 @@ verb_has : (ws : List Word) (v : ℕ) (o : Option Word) → ((w : Word) → o �
     → as_verb o ≡ Some v → is_verb_value ws v ≡ true
 verb_has ws v None from h = absurd cc
 verb_has ws v (Some w) from h =
-    elim (eqb w.class 0) as (λ b. eqb w.class 0 ≡ b → cond (b || (eqb w.class 2 && ltb w.value 20)) (Some w.value) None ≡ Some v → is_verb_value ws v ≡ true) [
-      | true ↦ λ e f. let one : has_word ws 0 v ≡ true = rw (← eqb-true w.class 0 e, ← some_is w.value v f) (from w refl) in rw one refl
-      | false ↦ λ e f. elim (eqb w.class 2) as (λ b. eqb w.class 2 ≡ b → cond (b && ltb w.value 20) (Some w.value) None ≡ Some v → is_verb_value ws v ≡ true) [
-        | true ↦ λ e2 f2. elim (ltb w.value 20) as (λ b. ltb w.value 20 ≡ b → cond b (Some w.value) None ≡ Some v → is_verb_value ws v ≡ true) [
-          | true ↦ λ e3 f3.
-              let one : has_word ws 2 v ≡ true = rw (← eqb-true w.class 2 e2, ← some_is w.value v f3) (from w refl) in
-              let low : ltb v 20 ≡ true = rw (← some_is w.value v f3) e3 in
-              rw (one, low) (elim (has_word ws 0 v) as (λ b. (b || true) ≡ true) [ true ↦ refl | false ↦ refl ])
-          | false ↦ λ e3 f3. absurd cc
-        ] refl f2
-        | false ↦ λ e2 f2. absurd cc
-      ] refl f
+    elim (eqb w.class VERB_CLASS) as
+    (λ b. eqb w.class VERB_CLASS ≡ b → cond (b || (eqb w.class NOUN_CLASS && ltb w.value FIRST_PLAIN_NOUN)) (Some w.value) None ≡ Some v
+    → is_verb_value ws v ≡ true) [
+      | true ↦ λ e f. let one : has_word ws VERB_CLASS v ≡ true = rw (← eqb-true w.class VERB_CLASS e, ← some_is w.value v f) (from w refl) in rw one refl
+      | false ↦ λ e f. elim (eqb w.class NOUN_CLASS) as
+          (λ b. eqb w.class NOUN_CLASS ≡ b → cond (b && ltb w.value FIRST_PLAIN_NOUN) (Some w.value) None ≡ Some v → is_verb_value ws v ≡ true) [
+            | true ↦ λ e2 f2. elim (ltb w.value FIRST_PLAIN_NOUN) as
+                (λ b. ltb w.value FIRST_PLAIN_NOUN ≡ b → cond b (Some w.value) None ≡ Some v → is_verb_value ws v ≡ true) [
+                  | true ↦ λ e3 f3.
+                      let one : has_word ws NOUN_CLASS v ≡ true =
+                      rw (← eqb-true w.class NOUN_CLASS e2, ← some_is w.value v f3) (from w refl) in
+                      let low : ltb v FIRST_PLAIN_NOUN ≡ true = rw (← some_is w.value v f3) e3 in
+                      rw (one, low) (elim (has_word ws VERB_CLASS v) as (λ b. (b || true) ≡ true) [ true ↦ refl | false ↦ refl ])
+                  | false ↦ λ e3 f3. absurd cc
+                ] refl f2
+            | false ↦ λ e2 f2. absurd cc
+          ] refl f
     ] refl h
 
 pub verb_word_ok : (ws : List Word) (ts : List (List ℕ)) (x : ℕ × List (List ℕ)) → verb_word ws ts ≡ Ok x → is_verb_value ws x.0 ≡ true
@@ -225,19 +233,19 @@ verb_word_ok ws ts x h =
     let r = read_ok kind.Word (λ t. as_verb (known ws t)) ts x h in
     verb_has ws x.0 (known ws r.0) (known_has ws r.0) r.1
 
--- `_` is 255, and anything else what it means.
-none_or : (f : List ℕ → Option ℕ) (t : List ℕ) (v : ℕ) (good : Bool) → (f t ≡ Some v → good ≡ true) → or_none f t ≡ Some v → (eqb v 255 || good) ≡ true
+-- `_` is no word, and anything else what it means.
+none_or : (f : List ℕ → Option ℕ) (t : List ℕ) (v : ℕ) (good : Bool) → (f t ≡ Some v → good ≡ true) → or_none f t ≡ Some v → (eqb v NO_WORD || good) ≡ true
 none_or f t v good from h =
-    elim (bytes_eq t (95 ∷ [])) as (λ b. cond b (Some 255) (f t) ≡ Some v → (eqb v 255 || good) ≡ true) [
-      | true ↦ λ e. rw (← some_is 255 v e) refl
-      | false ↦ λ e. rw (from e) (elim (eqb v 255) as (λ b. (b || true) ≡ true) [ true ↦ refl | false ↦ refl ])
+    elim (bytes_eq t (95 ∷ [])) as (λ b. cond b (Some NO_WORD) (f t) ≡ Some v → (eqb v NO_WORD || good) ≡ true) [
+      | true ↦ λ e. rw (← some_is NO_WORD v e) refl
+      | false ↦ λ e. rw (from e) (elim (eqb v NO_WORD) as (λ b. (b || true) ≡ true) [ true ↦ refl | false ↦ refl ])
     ] h
 
 any_or : (f : List ℕ → Option ℕ) (t : List ℕ) (v : ℕ) (good : Bool) → (f t ≡ Some v → good ≡ true) → or_any f t ≡ Some v → (is_any v || good) ≡ true
 any_or f t v good from h =
-    elim (bytes_eq t (42 ∷ [])) as (λ b. cond b (Some 1) (or_none f t) ≡ Some v → (is_any v || good) ≡ true) [
-      | true ↦ λ e. rw (← some_is 1 v e) refl
-      | false ↦ λ e. let n = none_or f t v good from e in elim (eqb v 1) as (λ b. ((b || eqb v 255) || good) ≡ true) [ true ↦ refl | false ↦ n ]
+    elim (bytes_eq t (42 ∷ [])) as (λ b. cond b (Some ANY_WORD) (or_none f t) ≡ Some v → (is_any v || good) ≡ true) [
+      | true ↦ λ e. rw (← some_is ANY_WORD v e) refl
+      | false ↦ λ e. let n = none_or f t v good from e in elim (eqb v ANY_WORD) as (λ b. ((b || eqb v NO_WORD) || good) ≡ true) [ true ↦ refl | false ↦ n ]
     ] h
 
 pub word_or_none_ok : (ws : List Word) (c : ℕ) (ts : List (List ℕ)) (x : ℕ × List (List ℕ)) → word_or_none ws c ts ≡ Ok x → is_word_or_none ws c x.0 ≡ true
@@ -250,7 +258,7 @@ entry_verb_ok ws ts x h =
     let r = read_ok kind.Word (or_any (λ t. as_verb (known ws t))) ts x h in
     any_or (λ t. as_verb (known ws t)) r.0 x.0 (is_verb_value ws x.0) (verb_has ws x.0 (known ws r.0) (known_has ws r.0)) r.1
 
-pub entry_noun_ok : (ws : List Word) (ts : List (List ℕ)) (x : ℕ × List (List ℕ)) → entry_noun ws ts ≡ Ok x → (is_any x.0 || has_word ws 2 x.0) ≡ true
+pub entry_noun_ok : (ws : List Word) (ts : List (List ℕ)) (x : ℕ × List (List ℕ)) → entry_noun ws ts ≡ Ok x → (is_any x.0 || has_word ws NOUN_CLASS x.0) ≡ true
 entry_noun_ok ws ts x h =
-    let r = read_ok kind.Word (or_any (λ t. in_class 2 (known ws t))) ts x h in
-    any_or (λ t. in_class 2 (known ws t)) r.0 x.0 (has_word ws 2 x.0) (class_has ws 2 x.0 (known ws r.0) (known_has ws r.0)) r.1
+    let r = read_ok kind.Word (or_any (λ t. in_class NOUN_CLASS (known ws t))) ts x h in
+    any_or (λ t. in_class NOUN_CLASS (known ws t)) r.0 x.0 (has_word ws NOUN_CLASS x.0) (class_has ws NOUN_CLASS x.0 (known ws r.0) (known_has ws r.0)) r.1

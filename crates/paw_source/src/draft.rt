@@ -75,14 +75,14 @@ impl Model for Draft {
 
 /// A fault of a line.
 fn fault(kind: SourceKind) -> Result<(), ReadError>
-    ensures { result ≡ Err (Fault kind) }
+    ensures value { result ≡ Err (Fault kind) }
 {
     Err(Unread::Fault(kind))
 }
 
 /// The section whose header comes next.
 fn next_section(section: Section) -> Section
-    ensures { result ≡ (next_header section).1 }
+    ensures value { result ≡ (next_header section).1 }
 {
     match section {
         Section::Before => Section::Voc,
@@ -98,7 +98,7 @@ fn next_section(section: Section) -> Section
 
 /// The name of the header that comes next.
 fn next_name(section: Section) -> &'static [u8]
-    ensures { result.now ≡ (next_header section).0 }
+    ensures value { result.now ≡ (next_header section).0 }
 {
     match section {
         Section::Before => b"/VOC",
@@ -115,7 +115,7 @@ fn next_name(section: Section) -> &'static [u8]
 impl Draft {
     /// A draft of no lines.
     pub(crate) fn new(alloc: Global) -> Draft
-        ensures { result ≡ nothing_yet }
+        ensures value { result ≡ nothing_yet }
     {
         Draft {
             section: Section::Before,
@@ -133,14 +133,14 @@ impl Draft {
 
     /// How many tables have begun.
     pub(crate) fn tables(&self) -> usize
-        ensures { result ≡ length self.now.tables }
+        ensures value { result ≡ length self.now.tables }
     {
         self.tables.len()
     }
 
     /// The game that the lines spell.
     pub(crate) fn into_parts(self, alloc: Global) -> Result<GameParts, NoRoom>
-        ensures { IfOk result (λ parts. parts ≡ game_of self) }
+        ensures value { IfOk result (λ parts. parts ≡ game_of self) }
     {
         let mut exits = self.exits;
         fill(alloc, &mut exits, self.locations.len())?;
@@ -159,7 +159,7 @@ impl Draft {
 
     /// Whether a line that doesn't begin with `/` is a text line here, after an item of a section of texts.
     pub(crate) fn is_in_text(&self) -> bool
-        ensures { result ≡ is_in_text self.now }
+        ensures value { result ≡ is_in_text self.now }
     {
         match self.section {
             Section::Stx => !self.system.is_empty(),
@@ -172,8 +172,8 @@ impl Draft {
 
     /// Adds a text line.
     pub(crate) fn text(&mut self, line: &[u8]) -> Result<(), ReadError>
-        requires { is_in_text self.old ≡ true }
-        ensures { Gives (λ _. self.new) result (text_added self.old line.now) }
+        requires in_text { is_in_text self.old ≡ true }
+        ensures gives { Gives (λ _. self.new) result (text_added self.old line.now) }
     {
         let begun = self.begun;
         self.begun = true;
@@ -197,7 +197,7 @@ impl Draft {
         item: Option<u32>,
         tokens: &mut Tokens,
     ) -> Result<(), ReadError>
-        ensures { Gives (λ _. self.new) result (slash_line self.old name.now item tokens.old) }
+        ensures gives { Gives (λ _. self.new) result (slash_line self.old name.now item tokens.old) }
     {
         if let Some(number) = item {
             tokens.ended()?;
@@ -208,7 +208,7 @@ impl Draft {
 
     /// Begins the item of this number in the section that is open.
     fn item(&mut self, alloc: Global, number: u32) -> Result<(), ReadError>
-        ensures { Gives (λ _. self.new) result (item_in self.old.section self.old number) }
+        ensures gives { Gives (λ _. self.new) result (item_in self.old.section self.old number) }
     {
         match self.section {
             Section::Stx | Section::Mtx | Section::Otx | Section::Ltx => {
@@ -224,7 +224,7 @@ impl Draft {
     /// Begins the text of this number in the section that is open.
     fn new_text(&mut self, alloc: Global, number: u32) -> Result<(), ReadError>
         requires texts { 0 < text_limit self.old.section }
-        ensures { Gives (λ _. self.new) result (new_text self.old.section self.old number) }
+        ensures gives { Gives (λ _. self.new) result (new_text self.old.section self.old number) }
     {
         self.begun = false;
         match self.section {
@@ -240,7 +240,7 @@ impl Draft {
 
     /// Begins the exits of the location of this number; those passed over have none.
     fn new_exits(&mut self, alloc: Global, number: u32) -> Result<(), ReadError>
-        ensures { Gives (λ _. self.new) result (new_exits self.old number) }
+        ensures gives { Gives (λ _. self.new) result (new_exits self.old number) }
     {
         let number = number as usize;
         if number < self.exits.len() || number >= self.locations.len() {
@@ -252,7 +252,7 @@ impl Draft {
 
     /// Reads a header, which has to be the next in order.
     fn header(&mut self, alloc: Global, name: &[u8], tokens: &mut Tokens) -> Result<(), ReadError>
-        ensures { Gives (λ _. self.new) result (header self.old name.now tokens.old) }
+        ensures gives { Gives (λ _. self.new) result (header self.old name.now tokens.old) }
     {
         if !is_named(name, next_name(self.section)) {
             return fault(SourceKind::Section);
@@ -262,7 +262,7 @@ impl Draft {
 
     /// Opens the next section, by the tokens after the name of its header.
     fn open(&mut self, alloc: Global, next: Section, tokens: &mut Tokens) -> Result<(), ReadError>
-        ensures { Gives (λ _. self.new) result (header_of next self.old tokens.old) }
+        ensures gives { Gives (λ _. self.new) result (header_of next self.old tokens.old) }
     {
         match next {
             Section::Before => fault(SourceKind::Section),
@@ -279,8 +279,8 @@ impl Draft {
 
     /// Opens a section whose header has no further token.
     fn plain_header(&mut self, section: Section, tokens: &mut Tokens) -> Result<(), ReadError>
-        requires { HasTable section 0 }
-        ensures { Gives (λ _. self.new) result (plain_header section self.old tokens.old) }
+        requires table { HasTable section 0 }
+        ensures gives { Gives (λ _. self.new) result (plain_header section self.old tokens.old) }
     {
         tokens.ended()?;
         self.section = section;
@@ -290,7 +290,7 @@ impl Draft {
 
     /// Opens the section of the exits, which needs a location.
     fn con_header(&mut self, tokens: &mut Tokens) -> Result<(), ReadError>
-        ensures { Gives (λ _. self.new) result (con_header self.old tokens.old) }
+        ensures gives { Gives (λ _. self.new) result (con_header self.old tokens.old) }
     {
         tokens.ended()?;
         if self.locations.is_empty() {
@@ -303,7 +303,7 @@ impl Draft {
 
     /// Opens the next table, whose number the header has; the first one needs a row for each object.
     fn pro_header(&mut self, alloc: Global, tokens: &mut Tokens) -> Result<(), ReadError>
-        ensures { Gives (λ _. self.new) result (pro_header self.old tokens.old) }
+        ensures gives { Gives (λ _. self.new) result (pro_header self.old tokens.old) }
     {
         let number = byte_below(tokens, TABLE_NUMBERS)?;
         if number as usize != self.tables.len() {
@@ -332,7 +332,7 @@ impl Draft {
         blank: bool,
         tokens: &mut Tokens,
     ) -> Result<(), ReadError>
-        ensures { Gives (λ _. self.new) result (row_in self.old.section tables self.old blank tokens.old) }
+        ensures gives { Gives (λ _. self.new) result (row_in self.old.section tables self.old blank tokens.old) }
     {
         match self.section {
             Section::Voc => voc_row(&mut self.words, tokens),
@@ -347,7 +347,7 @@ impl Draft {
 
     /// Reads a row of `/CON`: an exit of the location of the last item.
     fn con_row(&mut self, tokens: &mut Tokens) -> Result<(), ReadError>
-        ensures { Gives (λ _. self.new) result (con_row self.old tokens.old) }
+        ensures gives { Gives (λ _. self.new) result (con_row self.old tokens.old) }
     {
         if self.exits.is_empty() {
             return fault(SourceKind::Section);
@@ -360,7 +360,7 @@ impl Draft {
 
     /// Reads a row of `/OBJ`: the facts of the next object.
     fn obj_row(&mut self, tokens: &mut Tokens) -> Result<(), ReadError>
-        ensures { Gives (λ _. self.new) result (obj_row self.old tokens.old) }
+        ensures gives { Gives (λ _. self.new) result (obj_row self.old tokens.old) }
     {
         let locations = self.locations.len() as u16;
         let row = self.facts.len() as u16;
@@ -392,8 +392,8 @@ impl Draft {
         more: bool,
         tokens: &mut Tokens,
     ) -> Result<(), ReadError>
-        requires { 0 < length self.old.tables }
-        ensures { Gives (λ _. self.new) result (pro_row tables self.old more tokens.old) }
+        requires some { 0 < length self.old.tables }
+        ensures gives { Gives (λ _. self.new) result (pro_row tables self.old more tokens.old) }
     {
         let bounds = self.bounds(tables);
         let last = self.tables.len() - 1;

@@ -26,7 +26,7 @@ pub(crate) fn entry_row(
     table: &mut Table,
     tokens: &mut Tokens,
 ) -> Result<(), ReadError>
-    ensures { Gives (λ _. table.new) result (entry_row scope.now.bounds scope.now.words table.old tokens.old) }
+    ensures gives { Gives (λ _. table.new) result (entry_row scope.now.bounds scope.now.words table.old tokens.old) }
 {
     let verb = scope.words.entry_verb(tokens)?;
     let noun = scope.words.entry_noun(tokens)?;
@@ -54,7 +54,7 @@ pub(crate) fn more_row(
     table: &mut Table,
     tokens: &mut Tokens,
 ) -> Result<(), ReadError>
-    ensures { Gives (λ _. table.new) result (more_row scope.now.bounds scope.now.words table.old tokens.old) }
+    ensures gives { Gives (λ _. table.new) result (more_row scope.now.bounds scope.now.words table.old tokens.old) }
 {
     if table.rows.is_empty() {
         return Err(Unread::Fault(SourceKind::Section));
@@ -70,7 +70,7 @@ fn add_condacts(
     condacts: &mut Condacts,
     tokens: &mut Tokens,
 ) -> Result<(), ReadError>
-    ensures { Gives (λ _. condacts.new) result
+    ensures gives { Gives (λ _. condacts.new) result
         (more_condacts scope.now.bounds scope.now.words condacts.old tokens.old) }
 {
     scope.more_condacts(tokens, &mut condacts.rows)

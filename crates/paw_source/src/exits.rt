@@ -17,7 +17,7 @@ use std::alloc::{AllocError, Global};
 /// Adds locations without exits, up to this number of locations.
 #[tactic(auto, using(crate::proofs::Made::one_filled, crate::proofs::Made::all_filled))]
 pub(crate) fn fill(alloc: Global, exits: &mut Vec<Exits>, count: usize) -> Result<(), AllocError>
-    ensures { OnOk result (exits.new.items ≡ exits.old.items ++ replicate (count - length exits.old.items) []) }
+    ensures value { OnOk result (exits.new.items ≡ exits.old.items ++ replicate (count - length exits.old.items) []) }
 {
     while exits.len() < count {
         exits.push(Exits {
@@ -28,7 +28,7 @@ pub(crate) fn fill(alloc: Global, exits: &mut Vec<Exits>, count: usize) -> Resul
 }
 
 fn has_exit(exits: &[Exit], verb: u8) -> bool
-    ensures { result ≡ list_any (λ x. x.verb == verb) exits.now }
+    ensures value { result ≡ list_any (λ x. x.verb == verb) exits.now }
 {
     exits.iter().any(|exit| exit.verb == verb)
 }
@@ -45,8 +45,8 @@ pub(crate) fn exit_row(
     exits: &mut Exits,
     tokens: &mut Tokens,
 ) -> Result<(), ReadError>
-    requires { locations ≤ 256 }
-    ensures { Gives (λ _. exits.new) result (exit_row words.now locations exits.old tokens.old) }
+    requires locations { locations ≤ 256 }
+    ensures gives { Gives (λ _. exits.new) result (exit_row words.now locations exits.old tokens.old) }
 {
     let verb = words.verb_word(tokens)?;
     let to = byte_below(tokens, locations)?;

@@ -27,8 +27,8 @@ impl Draft {
         source: &[u8],
         line: &Line,
     ) -> Result<(), ReadError>
-        requires { LiesIn source.now line.now }
-        ensures { Gives (λ _. self.new) result (step tables self.old (bytes_of source.now line.now)) }
+        requires span { LiesIn source.now line.now }
+        ensures gives { Gives (λ _. self.new) result (step tables self.old (bytes_of source.now line.now)) }
     {
         // Shows the proof that the draft's lists are short.
         let _ = &self.section;

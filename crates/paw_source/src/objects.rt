@@ -13,7 +13,7 @@ pub(crate) fn objects_of(
     texts: Vec<Text>,
     facts: &[ObjectFacts],
 ) -> Result<Vec<ObjectRow>, AllocError>
-    ensures { IfOk result (λ objects. objects.items ≡ objects_of texts.items facts.now) }
+    ensures value { IfOk result (λ objects. objects.items ≡ objects_of texts.items facts.now) }
 {
     let mut objects = Vec::with_capacity(alloc, texts.len())?;
     let mut rest = facts;

@@ -23,7 +23,7 @@ use paw_grammar::words::{class, object_kind, word};
 /// where there are 2,000 words.
 #[tactic(auto, unfolding(paw_grammar::specs::GrammarRows::voc_row))]
 pub(crate) fn voc_row(words: &mut Vocabulary, tokens: &mut Tokens) -> Result<(), ReadError>
-    ensures { Gives (λ _. words.new) result (voc_row words.old tokens.old) }
+    ensures gives { Gives (λ _. words.new) result (voc_row words.old tokens.old) }
 {
     let letters = word(tokens)?;
     let value = number_within(tokens, LEAST_WORD, GREATEST_WORD)?;
@@ -48,7 +48,7 @@ pub(crate) fn object_row(
     count: u16,
     tokens: &mut Tokens,
 ) -> Result<ObjectFacts, ReadError>
-    requires { locations ≤ LOCATION_LIMIT }
+    requires locations { locations ≤ LOCATION_LIMIT }
     ensures value { Gives (λ facts. facts) result (object_row words.now locations row count tokens.old) }
     ensures room { OnOk result (row < count) }
 {

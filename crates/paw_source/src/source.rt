@@ -29,7 +29,7 @@ use std::alloc::Global;
 
 /// Whether the first token is the header of a table.
 fn is_pro(tokens: &mut Tokens) -> bool
-    ensures { result ≡ is_named (slice_index_or tokens.old 0 []) (codes "/PRO") }
+    ensures value { result ≡ is_named (slice_index_or tokens.old 0 []) (codes "/PRO") }
 {
     match tokens.next() {
         None => false,
@@ -39,16 +39,16 @@ fn is_pro(tokens: &mut Tokens) -> bool
 
 /// Whether a line begins with `/` and its first token is `/PRO`.
 fn begins_table(source: &[u8], line: &Line) -> bool
-    requires { LiesIn source.now line.now }
-    ensures { result ≡ begins_table (bytes_of source.now line.now) }
+    requires span { LiesIn source.now line.now }
+    ensures value { result ≡ begins_table (bytes_of source.now line.now) }
 {
     begins_with_slash(&source[line.from..line.to]) && is_pro(&mut Tokens::new(source, line))
 }
 
 /// How many lines begin a table.
 fn count_tables(source: &[u8]) -> u32
-    requires { length source.now ≤ SOURCE_LIMIT }
-    ensures { result ≡ count_by begins_table (lines_of source.now) }
+    requires short { length source.now ≤ SOURCE_LIMIT }
+    ensures value { result ≡ count_by begins_table (lines_of source.now) }
 {
     let mut lines = Lines::new(source);
     let mut tables: u32 = 0;
@@ -62,7 +62,7 @@ fn count_tables(source: &[u8]) -> u32
 
 /// The refusal of a source for a line that is refused.
 fn at_line(line: u32, refused: ReadError) -> SourceRefusal
-    ensures { result ≡ refused_at_line line refused }
+    ensures value { result ≡ refused_at_line line refused }
 {
     match refused {
         Unread::Memory => SourceRefusal::Memory,

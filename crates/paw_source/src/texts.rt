@@ -43,7 +43,7 @@ pub(crate) fn text_item(
 /// # Errors
 /// TooBig where the text would pass 4,095 bytes.
 pub(crate) fn text_line(texts: &mut Vec<Text>, begun: bool, line: &[u8]) -> Result<(), ReadError>
-    requires { 0 < length texts.old.items }
+    requires some { 0 < length texts.old.items }
     ensures meaning { Gives (λ _. texts.new.items) result (text_line begun line.now texts.old.items) }
     ensures kept { length texts.new.items ≡ length texts.old.items }
 {
@@ -54,7 +54,7 @@ pub(crate) fn text_line(texts: &mut Vec<Text>, begun: bool, line: &[u8]) -> Resu
 
 /// Adds a line to a text.
 fn join(text: &mut Text, begun: bool, line: &[u8]) -> Result<(), ReadError>
-    ensures { Gives (λ _. text.new) result (at_most TEXT_LIMIT (with_line begun text.old line.now)) }
+    ensures gives { Gives (λ _. text.new) result (at_most TEXT_LIMIT (with_line begun text.old line.now)) }
 {
     if !has_room(text.rows.len(), begun, line.len()) {
         return Err(Unread::Fault(SourceKind::TooBig));
@@ -68,7 +68,7 @@ fn join(text: &mut Text, begun: bool, line: &[u8]) -> Result<(), ReadError>
 
 /// Whether a line of this length fits after a text of this length.
 fn has_room(text: usize, begun: bool, line: usize) -> bool
-    ensures { result ≡ nat_le (text + (if begun then suc line else line)) TEXT_LIMIT }
+    ensures value { result ≡ nat_le (text + (if begun then suc line else line)) TEXT_LIMIT }
 {
     // The lengths and the newline are compared with the limit apart: their sum may overflow.
     let room = TEXT_LIMIT.saturating_sub(text);

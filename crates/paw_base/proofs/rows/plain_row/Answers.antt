@@ -12,9 +12,9 @@ pub returns : goal.returns
 returns c =
     let h : IsItemAt CONDACTS c.args.code (Some c.in_ok-name.field-0) = c.in_ok-name.ensures.lookup in
     let within : c.args.code < length CONDACTS = h.3.0 in
-    (within_code c.args.code within, row_is c.args.code c.in_ok-name.field-0.now within h.1)
+    record { value = (within_code c.args.code within, row_is c.args.code c.in_ok-name.field-0.now within h.1) }
 
 pub returns-in_err-name : goal.returns-in_err-name
 returns-in_err-name c =
     let h : IsItemAt CONDACTS c.args.code None = c.in_err-name.ensures.lookup in
-    rw c.from_residual.ensures (no_row c.args.code h.3)
+    record { value = rw c.from_residual.ensures (no_row c.args.code h.3) }

@@ -9,13 +9,13 @@ returns-in_err-at c =
     let found = c.binary_search_by_key.ensures.position (λ w. w.letters) (answers_always _ _ _ (λ f a r g h. search rules)) in
     record {
       value = ap option_copied c.from_residual.ensures
-          ∙ sym (missing_is c.args.letters.now c.args.words.now c.binary_search_by_key.result c.requires found c.in_err-at.ensures.value);
+          ∙ sym (missing_is c.args.letters.now c.args.words.now c.binary_search_by_key.result c.requires.sorted found c.in_err-at.ensures.value);
     }
 
 pub returns : goal.returns
 returns c =
     let found = c.binary_search_by_key.ensures.position (λ w. w.letters) (answers_always _ _ _ (λ f a r g h. search rules)) in
     record {
-      value = found_is c.args.letters.now c.args.words.now c.binary_search_by_key.result c.in_ok-at.at _ c.requires
-          c.binary_search_by_key.ensures.bound found c.in_ok-at.ensures.value;
+      value = found_is c.args.letters.now c.args.words.now c.binary_search_by_key.result c.in_ok-at.at _
+          c.requires.sorted c.binary_search_by_key.ensures.bound found c.in_ok-at.ensures.value;
     }

@@ -1,4 +1,5 @@
 use Rattle.std.proofs.Common.{◌≤◌, length, subst, sym, ◌∙◌}
+use Rattle.paw_base.specs.declared.limits.TheConstants.{IMAGE_LIMIT}
 use Rattle.paw_game.specs.Game.{GameLists}
 use Rattle.paw_game.specs.Image.{image}
 use Rattle.paw_game.specs.Valid.{Valid}
@@ -7,7 +8,9 @@ use Rattle.paw_gen.proofs.Shorts.{trial_short}
 use Rattle.paw_gen.proofs.game.game_of.Goals as goal
 
 pub unreachable-requires : goal.unreachable-requires
-unreachable-requires c = c.in-Err.ensures.refused (subst Valid (sym c.in_ok-parts.ensures) (trial_valid c.args.n))
+unreachable-requires c = c.in-Err.ensures.refused (subst Valid (sym c.in_ok-parts.ensures.value) (trial_valid c.args.n))
 
 pub returns-clause-short : goal.returns-clause-short
-returns-clause-short c = subst (λ (g : GameLists). length (image g) ≤ 4194304) (sym (c.in-Ok.ensures.game ∙ c.in_ok-parts.ensures)) (trial_short c.args.n)
+returns-clause-short c =
+    subst (λ (g : GameLists). length (image g) ≤ IMAGE_LIMIT)
+    (sym (c.in-Ok.ensures.game ∙ c.in_ok-parts.ensures.value)) (trial_short c.args.n)

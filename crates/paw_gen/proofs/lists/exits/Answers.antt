@@ -6,4 +6,4 @@ use Rattle.paw_gen.proofs.lists.exits.Goals as goal
 pub loop-number-preserved : goal.loop-number-preserved
 loop-number-preserved c =
     pushed (ring_exits c.args.locations) [] c.loop-number.number c.loop-number.all.items c.push.new.self.items c.in_ok-ring_exits.field-0
-    c.loop-number.invariant c.in_ok-ring_exits.ensures c.in_ok-push.ensures.items
+    c.loop-number.invariant c.in_ok-ring_exits.ensures.value c.in_ok-push.ensures.items

@@ -6,8 +6,12 @@ use Rattle.paw_grammar.proofs.vocabulary.find.Goals as goal
 
 pub returns-in-None : goal.returns-in-None
 returns-in-None c =
-    ap (option_map (λ (m : Meaning). word_from (c.args.letters, m))) c.in-None.ensures.value ∙ found c.args.words.now.entries c.args.letters
+    record {
+      value = ap (option_map (λ (m : Meaning). word_from (c.args.letters, m))) c.in-None.ensures.value ∙ found c.args.words.now.entries c.args.letters;
+    }
 
 pub returns-in-Some : goal.returns-in-Some
 returns-in-Some c =
-    ap (option_map (λ (m : Meaning). word_from (c.args.letters, m))) c.in-Some.ensures.value ∙ found c.args.words.now.entries c.args.letters
+    record {
+      value = ap (option_map (λ (m : Meaning). word_from (c.args.letters, m))) c.in-Some.ensures.value ∙ found c.args.words.now.entries c.args.letters;
+    }

@@ -1,5 +1,6 @@
 use Rattle.std.proofs.Common.{eqb, ◌||◌, ◌∙◌, sym, length, None, arith}
 use Rattle.std.proofs.lemmas.Bool.Decides.{Decides-eqb}
+use Rattle.paw_base.specs.declared.words.TheConstants.{ANY_WORD, NO_WORD}
 use Rattle.paw_image.proofs.OrderLaws.{either_least, least_in_run}
 use Rattle.paw_image.proofs.order.first_for.Goals as goal
 
@@ -7,8 +8,9 @@ pub returns : goal.returns
 returns c =
     let run = c.run_of-run.result.now in
     let from = c.args.from in
-    let two = either_least run (λ h. eqb h.noun 255) (λ h. eqb h.noun c.args.noun) from _ _ c.first_with-none.ensures.least c.first_with-same.ensures.least in
-    let three = either_least run (λ h. eqb h.noun 1) (λ h. eqb h.noun 255 || eqb h.noun c.args.noun) from _ _ c.first_with-any.ensures.least two in
+    let two = either_least run (λ h. eqb h.noun NO_WORD) (λ h. eqb h.noun c.args.noun) from _ _
+    c.first_with-none.ensures.least c.first_with-same.ensures.least in
+    let three = either_least run (λ h. eqb h.noun ANY_WORD) (λ h. eqb h.noun NO_WORD || eqb h.noun c.args.noun) from _ _ c.first_with-any.ensures.least two in
     record {
       least =
           rw (c.lower-2.ensures.value, c.lower.ensures.value)

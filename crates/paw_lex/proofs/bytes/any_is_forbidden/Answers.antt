@@ -9,10 +9,10 @@ pub loop-byte-preserved : goal.loop-byte-preserved
 loop-byte-preserved c =
     let forbidden : ℕ → Bool = λ b. not (is_allowed c.args.text b) in
     let more = list_any_more forbidden c.args.line.now c.loop-byte.byte-index 0 c.loop-byte-test.true in
-    rw (c.loop-byte.invariant, c.is_allowed.ensures) (sym more)
+    rw (c.loop-byte.invariant, c.is_allowed.ensures.value) (sym more)
 
 pub returns : goal.returns
 returns c =
     let forbidden : ℕ → Bool = λ b. not (is_allowed c.args.text b) in
     let all = take_all c.loop-byte.byte-index c.args.line.now c.loop-byte-test.false in
-    c.loop-byte.invariant ∙ ap (λ (bs : List ℕ). list_any forbidden bs) all
+    record { value = c.loop-byte.invariant ∙ ap (λ (bs : List ℕ). list_any forbidden bs) all }

@@ -7,5 +7,5 @@ pub returns-in-None : goal.returns-in-None
 returns-in-None c =
     record {
       puts = subst (λ (t : List ℕ). Puts c.args.text.now c.push-in-None.new.self c.push-in-None.result t)
-          (sym (no_name c.args.code c.in-None.ensures)) c.push-in-None.ensures.puts;
+          (sym (no_name c.args.code c.in-None.ensures.value)) c.push-in-None.ensures.puts;
     }

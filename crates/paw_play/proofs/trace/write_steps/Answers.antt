@@ -16,8 +16,10 @@ returns c =
     omega (arith, loop.short, c.loop-step.auto.step-index-end, c.told_steps-step-items.ensures.few, short) in
     let whole = put_whole c.put_more-fits.result c.loop-step.text c.put_more-fits.new.text (more_line more) c.put_more-fits.ensures.puts fits in
     let all : take c.loop-step.step-index items ≡ take 1000 c.args.steps.now.rows =
-    take_all c.loop-step.step-index items c.loop-step-test.false ∙ c.told_steps-step-items.ensures.value ∙ ap (take 1000) c.rows.ensures in
-    let count : more ≡ c.args.steps.now.count - 1000 = c.saturating_sub.ensures ∙ ap (λ n. n - 1000) c.count.ensures in
+    take_all c.loop-step.step-index items c.loop-step-test.false ∙ c.told_steps-step-items.ensures.value
+    ∙ ap (take 1000) c.rows.ensures.value in
+    let count : more ≡ c.args.steps.now.count - 1000 =
+    c.saturating_sub.ensures ∙ ap (λ n. n - 1000) c.count.ensures.value in
     record {
       text = whole ∙ ap (λ t. t ++ more_line more) (loop.lines ∙ ap (flat_map step_line) all)
           ∙ ap (λ n. flat_map step_line (take 1000 c.args.steps.now.rows) ++ more_line n) count;

@@ -9,5 +9,7 @@ unfolding exit_row
 returns-then-has_exit c =
     let rows = c.deref.ensures.value ∙ c.exits.view_is in
     let has : list_any (λ (x : Exit). eqb x.verb c.in_ok-verb.verb) c.args.exits.now ≡ true =
-    ap (list_any (λ (x : Exit). eqb x.verb c.in_ok-verb.verb)) (sym rows) ∙ sym c.has_exit.ensures ∙ c.if-has_exit.true in
-    rw (c.in_ok-verb.ensures, c.in_ok-to.ensures, c.in_ok-ended.ensures, has) refl
+    ap (list_any (λ (x : Exit). eqb x.verb c.in_ok-verb.verb)) (sym rows) ∙ sym c.has_exit.ensures.value ∙ c.if-has_exit.true in
+    record {
+      gives = rw (c.in_ok-verb.ensures.gives, c.in_ok-to.ensures.gives, c.in_ok-ended.ensures.gives, has) refl;
+    }

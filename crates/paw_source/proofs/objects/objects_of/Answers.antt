@@ -6,8 +6,10 @@ use Rattle.paw_source.proofs.objects.objects_of.Goals as goal
 
 pub returns-in-None-split_first : goal.returns-in-None-split_first
 returns-in-None-split_first c =
-    objects_cut c.loop-text.objects.items (into_iter_items c.loop-text.text-iterator) c.loop-text.rest.now
-    (objects_of c.args.texts.items c.args.facts.now) c.in-None-split_first.ensures.cases c.loop-text.invariant.3
+    record {
+      value = objects_cut c.loop-text.objects.items (into_iter_items c.loop-text.text-iterator) c.loop-text.rest.now
+          (objects_of c.args.texts.items c.args.facts.now) c.in-None-split_first.ensures.cases c.loop-text.invariant.3;
+    }
 
 pub loop-text-preserved : goal.loop-text-preserved
 loop-text-preserved c =
@@ -28,5 +30,7 @@ pub returns : goal.returns
 returns c =
     let none = c.in-None.ensures.steps.0 in
     let long = c.loop-text.invariant.2 in
-    objects_end c.loop-text.objects.items (into_iter_items c.loop-text.text-iterator) c.loop-text.rest.now
-    (objects_of c.args.texts.items c.args.facts.now) (omega (arith, none, long)) c.loop-text.invariant.3
+    record {
+      value = objects_end c.loop-text.objects.items (into_iter_items c.loop-text.text-iterator) c.loop-text.rest.now
+          (objects_of c.args.texts.items c.args.facts.now) (omega (arith, none, long)) c.loop-text.invariant.3;
+    }

@@ -1,4 +1,5 @@
 use Rattle.std.proofs.Common.{◌≡◌, ◌≤◌, length}
+use Rattle.paw_base.specs.declared.limits.TheConstants.{SOURCE_LIMIT}
 use Rattle.paw_lex.specs.Lines.{lines_of}
 use Rattle.paw_grammar.specs.GrammarState.{nothing_yet}
 use Rattle.paw_grammar.specs.Spells.{spelled_after}
@@ -10,7 +11,7 @@ invariant-loop-line l =
     (spelled_after l.tables l.number l.draft l.lines.left ≡ spelled_after l.tables 0 nothing_yet (lines_of l.source))
     × (after_lines l.tables l.draft l.lines.left ≡ after_lines l.tables nothing_yet (lines_of l.source))
     × (l.number ≡ l.lines.given)
-    × (l.number ≤ 8388608)
+    × (l.number ≤ SOURCE_LIMIT)
     × (l.lines.source ≡ l.source)
 
 abbrev pub decreases-loop-line : goal.decreases-loop-line

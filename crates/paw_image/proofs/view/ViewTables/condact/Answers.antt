@@ -1,5 +1,6 @@
 use Rattle.std.proofs.Common.{◌<◌, List, ℕ, Option, IsTrue, sym, ap, ◌∙◌}
 use Rattle.std.specs.Prelude.{slice_get}
+use Rattle.paw_base.specs.declared.limits.TheConstants.{ENTRY_LIMIT, CONDACT_LIMIT}
 use Rattle.paw_base.specs.declared.parts.Condact.{Condact}
 use Rattle.paw_game.specs.declared.parts.Entry.{Entry}
 use Rattle.paw_game.specs.Tables.{condacts_of}
@@ -52,9 +53,9 @@ returns c =
     let image = rw c.self.view_is at c.self.invariant.image in
     record {
       value = is;
-      small = IfSome-from (λ (_ : Condact). c.args.entry < 4000) c.condact_in.result _ is
+      small = IfSome-from (λ (_ : Condact). c.args.entry < ENTRY_LIMIT) c.condact_in.result _ is
           (condact-small g image.valid c.args.table c.args.entry c.args.at);
-      early = IfSome-from (λ (_ : Condact). c.args.at < 255) c.condact_in.result _ is
+      early = IfSome-from (λ (_ : Condact). c.args.at < CONDACT_LIMIT) c.condact_in.result _ is
           (condact-early g image.valid c.args.table c.args.entry c.args.at);
       kept = IfSome-from (λ (x : Condact). IsTrue (is_condact g x)) c.condact_in.result _ is
           (condact_kept g image.valid c.args.table c.args.entry c.args.at);

@@ -1,4 +1,5 @@
 use Rattle.std.proofs.Common.{◌≤◌, IsTrue, length, sym, ◌∙◌}
+use Rattle.paw_base.specs.declared.limits.TheConstants.{WEIGHT_LIMIT}
 use Rattle.paw_base.specs.declared.parts.ObjectFacts.{ObjectFacts}
 use Rattle.paw_game.specs.Valid.{is_place}
 use Rattle.paw_game.proofs.Kept.{IfSome-from, facts-start, facts-weight}
@@ -20,7 +21,7 @@ returns c =
     let is = read ∙ facts_there bytes g (lists_of bytes image) (fits_of bytes image) c.args.object c.in_ok-offset.offset offset in
     record {
       value = is;
-      weight = IfSome-from (λ (f : ObjectFacts). f.weight ≤ 63) c.facts_in.result _ is
+      weight = IfSome-from (λ (f : ObjectFacts). f.weight ≤ WEIGHT_LIMIT) c.facts_in.result _ is
           (facts-weight g image.valid c.args.object);
       start = IfSome-from (λ (f : ObjectFacts). IsTrue (is_place (length g.locations) f.start)) c.facts_in.result _ is
           (facts-start g image.valid c.args.object);

@@ -1,6 +1,7 @@
 use Rattle.std.proofs.Common.{◌<◌, List, [], ℕ, sym, ap, ◌∙◌}
 use Rattle.std.specs.Prelude.{slice_get}
 use Rattle.std.specs.Option.{option_map, unwrap_or}
+use Rattle.paw_base.specs.declared.limits.TheConstants.{ENTRY_LIMIT}
 use Rattle.paw_game.specs.declared.parts.Entry.{Entry}
 use Rattle.paw_game.proofs.Kept.{IfSome-from, head-small}
 use Rattle.paw_image.specs.inner.Offsets.{entries_of}
@@ -24,6 +25,6 @@ returns c =
     let found = c.head_in.ensures.value ∙ head_read bytes image c.args.table c.args.entry c.in_ok-offset.offset at in
     record {
       value = rw c.self.view_is at found;
-      small = IfSome-from (λ (_ : ℕ × ℕ). c.args.entry < 4000) c.head_in.result _ found
+      small = IfSome-from (λ (_ : ℕ × ℕ). c.args.entry < ENTRY_LIMIT) c.head_in.result _ found
           (head-small (game_read bytes) image.valid c.args.table c.args.entry);
     }

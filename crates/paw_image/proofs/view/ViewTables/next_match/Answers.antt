@@ -1,5 +1,6 @@
 use Rattle.std.proofs.Common.{◌<◌, ℕ, List, IsTrue, ap, sym, ◌∙◌}
 use Rattle.std.specs.Prelude.{slice_get}
+use Rattle.paw_base.specs.declared.limits.TheConstants.{ENTRY_LIMIT}
 use Rattle.paw_game.specs.inner.Tables.{matches_at}
 use Rattle.paw_game.proofs.Kept.{IfSome-from}
 use Rattle.paw_game.proofs.Matches.{match-matches, match-small}
@@ -50,7 +51,7 @@ returns c =
     record {
       value = is;
       reached = least_reached _ _ _ c.next_in.result c.next_in.ensures.least;
-      small = IfSome-from (λ (e : ℕ). e < 4000) c.next_in.result _ is
+      small = IfSome-from (λ (e : ℕ). e < ENTRY_LIMIT) c.next_in.result _ is
           (match-small g image.valid c.args.table c.args.from c.args.verb c.args.noun);
       matching = IfSome-from (λ (e : ℕ). IsTrue (matches_at g c.args.table e c.args.verb c.args.noun)) c.next_in.result _
           is (match-matches g c.args.table c.args.from c.args.verb c.args.noun);

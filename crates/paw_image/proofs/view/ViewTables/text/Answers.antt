@@ -1,5 +1,6 @@
 use Rattle.std.proofs.Common.{◌≤◌, List, ℕ, length, sym, ap, ◌∙◌}
 use Rattle.std.specs.Option.{option_copied}
+use Rattle.paw_base.specs.declared.limits.TheConstants.{TEXT_LIMIT}
 use Rattle.paw_game.proofs.Kept.{IfSome-copied, text-short, text_kept}
 use Rattle.paw_image.specs.inner.Views.{game_read}
 use Rattle.paw_image.proofs.PlaceLaws.{no_text_of_part}
@@ -18,6 +19,6 @@ returns c =
     let is = read ∙ text_read bytes image c.args.part c.args.number c.in_ok-offset.offset (sym c.in_ok-offset.ensures.value) in
     record {
       value = is;
-      short = IfSome-copied (λ (text : List ℕ). length text ≤ 4095) c.text_in.result _ is
+      short = IfSome-copied (λ (text : List ℕ). length text ≤ TEXT_LIMIT) c.text_in.result _ is
           (λ text e. text-short text (text_kept (game_read bytes) image.valid c.args.part c.args.number text e));
     }

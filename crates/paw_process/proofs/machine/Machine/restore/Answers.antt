@@ -7,7 +7,7 @@ use Rattle.paw_process.proofs.machine.Machine.restore.Goals as goal
 
 pub returns-clause-stands : goal.returns-clause-stands
 returns-clause-stands g c =
-    rw (c.waiting_at.ensures.value, c.new.ensures)
+    rw (c.waiting_at.ensures.value, c.new.ensures.value)
     (stands_at (g.T.Tables.game c.args.tables.now) c.args.prompt c.args.kept.now c.counts-counts.ensures.valid (omega arith)
     (sym c.frames_fault.ensures.value ∙ c.in_default.is))
 

@@ -8,11 +8,15 @@ use Rattle.paw_source.proofs.draft.Draft.line.Goals as goal
 pub returns-then-slash : goal.returns-then-slash
 returns-then-slash c =
     let bytes = bytes_of c.args.source.now c.args.line.now in
-    let allowed = ap (λ (b : Bool). has_forbidden_byte b bytes) (sym c.if-text.false) ∙ sym c.has_forbidden_byte.ensures
+    let allowed = ap (λ (b : Bool). has_forbidden_byte b bytes) (sym c.if-text.false)
+    ∙ sym c.has_forbidden_byte.ensures.value
     ∙ c.if-has_forbidden_byte.false in
-    rw (← slash_read c.args.tables c.args.self.now bytes c.in-Some.name.now c.without_first.result.now
-    c.next.new.self c.number.result (subst IsSmall c.self.view_is c.self.invariant)
-    (sym c.is_comment.ensures ∙ c.if-is_comment.false) allowed
-    (sym c.begins_with_slash-slash.ensures ∙ c.if-slash.true) (sym c.new-tokens.ensures ∙ c.in-Some.ensures)
-    c.without_first.ensures c.number.ensures)
-    c.slash.ensures
+    record {
+      gives = rw (← slash_read c.args.tables c.args.self.now bytes c.in-Some.name.now c.without_first.result.now
+          c.next.new.self c.number.result (subst IsSmall c.self.view_is c.self.invariant)
+          (sym c.is_comment.ensures.value ∙ c.if-is_comment.false) allowed
+          (sym c.begins_with_slash-slash.ensures.value ∙ c.if-slash.true)
+          (sym c.new-tokens.ensures.value ∙ c.in-Some.ensures.value)
+          c.without_first.ensures.value c.number.ensures.value)
+          c.slash.ensures.gives;
+    }
