@@ -64,7 +64,7 @@ pub(crate) fn kept_in(slot: &[u8]) -> Option<SlotState>
 /// A state of the first version in the form of today: it keeps no positions, whatever stood behind it.
 #[tactic(auto, unfolding(paw_base::specs::Bytes::zeros))]
 pub(crate) fn brought_up(state: &[u8; 4096]) -> [u8; 4096]
-    ensures { result ≡ take first_length state.now ++ zeros 2725 }
+    ensures value { result ≡ take first_length state.now ++ zeros 2725 }
 {
     let mut now = [0; BASE_LENGTH];
     now[..FIRST_LENGTH].copy_from_slice(&state[..FIRST_LENGTH]);

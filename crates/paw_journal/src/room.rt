@@ -87,7 +87,7 @@ impl Room {
 
     /// Holds this state and this piece from now on.
     pub(crate) fn hold(&mut self, state: &[u8; 4096], piece: &[u8])
-        requires { length piece.now ≤ PIECE_LIMIT }
+        requires short { length piece.now ≤ PIECE_LIMIT }
         ensures value { self.new ≡ record self.old { state = state.now; piece = piece.now } }
     {
         self.state = *state;
@@ -96,7 +96,7 @@ impl Room {
 
     // Holds this piece from now on.
     fn hold_piece(&mut self, piece: &[u8])
-        requires { length piece.now ≤ PIECE_LIMIT }
+        requires short { length piece.now ≤ PIECE_LIMIT }
         ensures value { self.new ≡ record self.old { piece = piece.now } }
     {
         self.piece.clear();
@@ -148,7 +148,7 @@ impl Room {
 
     /// Puts a whole slot together, as it is made.
     pub(crate) fn lay_slot(&mut self)
-        requires { length self.old.piece ≤ PIECE_LIMIT }
+        requires short { length self.old.piece ≤ PIECE_LIMIT }
         ensures value { self.new ≡ record self.old { slot = made_slot self.old.state self.old.piece } }
     {
         let behind = SLOT_LENGTH - PIECE_AT - self.piece.len();
@@ -161,7 +161,7 @@ impl Room {
 
     // Adds the first bytes of a slot with no change records.
     fn add_head(&mut self)
-        requires { self.old.slot ≡ [] }
+        requires empty { self.old.slot ≡ [] }
         ensures value { self.new ≡ record self.old { slot = 0 ∷ 0 ∷ 2 ∷ [] } }
     {
         // The memory was taken by `new`.
@@ -170,7 +170,7 @@ impl Room {
 
     // Adds so many zeros to the slot.
     fn add_zeros(&mut self, count: usize)
-        requires { length self.old.slot + count ≤ slot_length }
+        requires fits { length self.old.slot + count ≤ slot_length }
         ensures value { self.new ≡ record self.old { slot = self.old.slot ++ zeros count } }
     {
         let size = self.slot.len() + count;
@@ -180,7 +180,7 @@ impl Room {
 
     // Adds state and piece to the slot.
     fn add_body(&mut self)
-        requires { length self.old.slot + 4096 + length self.old.piece ≤ slot_length }
+        requires fits { length self.old.slot + 4096 + length self.old.piece ≤ slot_length }
         ensures value { self.new ≡ record self.old { slot = self.old.slot ++ self.old.state ++ self.old.piece } }
     {
         // The memory was taken by `new`.
