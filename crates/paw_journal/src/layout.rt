@@ -47,6 +47,9 @@ pub(crate) const MOST_CHANGES: usize = 4_096;
 
 pub(crate) const CHANGE_LENGTH: usize = 4;
 
+/// The bytes of a state.
+pub(crate) const STATE_LENGTH: usize = 3_419;
+
 /// How many bytes a state has in a slot of the first version.
 pub(crate) const FIRST_LENGTH: usize = 1_371;
 
