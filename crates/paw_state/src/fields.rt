@@ -211,7 +211,7 @@ impl Fields {
     #[tactic(auto, unfolding(crate::specs::inner::Fields::world_bytes))]
     fn put_world(&self, writer: &mut Writer)
         requires room { length writer.old + 1023 ≤ STATE_ROOM }
-        ensures { Writes (world_bytes self.now) 1023 writer.old writer.new }
+        ensures writes { Writes (world_bytes self.now) 1023 writer.old writer.new }
     {
         writer.put(&self.flags);
         writer.put(&self.places);
@@ -222,7 +222,7 @@ impl Fields {
     #[tactic(auto, unfolding(crate::specs::inner::Fields::number_bytes))]
     fn put_numbers(&self, writer: &mut Writer)
         requires room { length writer.old + 24 ≤ STATE_ROOM }
-        ensures { Writes (number_bytes self.now) 24 writer.old writer.new }
+        ensures writes { Writes (number_bytes self.now) 24 writer.old writer.new }
     {
         writer.put(&self.seed.to_le_bytes());
         writer.put(&self.draws.to_le_bytes());
@@ -233,7 +233,7 @@ impl Fields {
     #[tactic(auto, unfolding(crate::specs::inner::Fields::table_bytes))]
     fn put_tables(&self, writer: &mut Writer)
         requires room { length writer.old + 65 ≤ STATE_ROOM }
-        ensures { Writes (table_bytes self.now) 65 writer.old writer.new }
+        ensures writes { Writes (table_bytes self.now) 65 writer.old writer.new }
     {
         writer.put(&[self.prompt, self.count]);
         self.put_rows(writer);
@@ -244,7 +244,7 @@ impl Fields {
     /// The rows of the open tables.
     fn put_rows(&self, writer: &mut Writer)
         requires room { length writer.old + 55 ≤ STATE_ROOM }
-        ensures { Writes (flat_map row_bytes self.now.rows) 55 writer.old writer.new }
+        ensures writes { Writes (flat_map row_bytes self.now.rows) 55 writer.old writer.new }
     {
         for row in &self.rows {
             let [low, high] = row.entry.to_le_bytes();
@@ -255,7 +255,7 @@ impl Fields {
     /// The open loop.
     fn put_loop(&self, writer: &mut Writer)
         requires room { length writer.old + 7 ≤ STATE_ROOM }
-        ensures { Writes (loop_bytes self.now.turning) 7 writer.old writer.new }
+        ensures writes { Writes (loop_bytes self.now.turning) 7 writer.old writer.new }
     {
         let turning = &self.turning;
         writer.put(&[turning.level, turning.table]);
@@ -267,7 +267,7 @@ impl Fields {
     #[tactic(auto, unfolding(crate::specs::inner::Fields::pending_bytes))]
     fn put_pending(&self, writer: &mut Writer)
         requires room { length writer.old + 259 ≤ STATE_ROOM }
-        ensures { Writes (pending_bytes self.now) 259 writer.old writer.new }
+        ensures writes { Writes (pending_bytes self.now) 259 writer.old writer.new }
     {
         writer.put(&[self.earlier, self.pending]);
         writer.put(&self.line);
@@ -278,7 +278,7 @@ impl Fields {
     #[tactic(auto, unfolding(crate::specs::inner::Fields::kept_position_bytes))]
     fn put_kept(&self, writer: &mut Writer)
         requires room { length writer.old + POSITION_COUNT * HELD_LENGTH ≤ STATE_ROOM }
-        ensures { Writes (kept_position_bytes self.now) (POSITION_COUNT * HELD_LENGTH) writer.old writer.new }
+        ensures writes { Writes (kept_position_bytes self.now) (POSITION_COUNT * HELD_LENGTH) writer.old writer.new }
     {
         for held in &self.kept {
             held.put(writer);
