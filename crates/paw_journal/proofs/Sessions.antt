@@ -5,6 +5,7 @@ use Rattle.std.specs.Prelude.{Bool, true, false, not, replicate, Option, Some, I
 use Rattle.std.specs.Str.{bytes_eq}
 use Rattle.std.proofs.lemmas.List.{length-append, take_at, take_all, drop_at}
 use Rattle.std.proofs.lemmas.Slice.Eq.{bytes_eq-Decides}
+use Rattle.paw_base.specs.declared.layout.TheConstants.{PIECE_LENGTH_AT}
 use Rattle.paw_stage.specs.Disk.{Disk, IsStable, stable}
 use Rattle.paw_stage.specs.Stage.{Standing}
 use Rattle.paw_stage.specs.Moments.{Moment, Passes, Still, moment_of}
@@ -19,7 +20,7 @@ use Rattle.paw_journal.specs.Session.{session_length, slot_length, zeros, made_m
 use Rattle.paw_journal.specs.Session.{made_header, made_slot, made_session}
 use Rattle.paw_journal.specs.inner.Store.{IsBeside, InStore, Leaves, IsEither}
 use Rattle.paw_journal.specs.inner.Steps.{Introduces}
-use Rattle.paw_journal.specs.declared.layout.TheConstants.{BASE_AT, PIECE_AT, PIECE_LENGTH_AT}
+use Rattle.paw_journal.specs.declared.layout.TheConstants.{BASE_AT, PIECE_AT}
 use Rattle.paw_journal.specs.Session.{base_length}
 use Rattle.paw_journal.proofs.Recovers.{recover_is, recover_made, both_digests}
 use Rattle.paw_journal.proofs.Makes.{AreLong, length_zeros, length_header}

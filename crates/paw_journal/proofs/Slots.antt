@@ -5,6 +5,7 @@ use Rattle.std.specs.Prelude.{slice_set, Bool, ◌&&◌, Option, Some, None, is_
 use Rattle.std.proofs.lemmas.Bool.Decides.{nat_tests}
 use Rattle.std.proofs.lemmas.List.{length-append, take-replicate, length-take-le, length-set, get_or-take, get_or_append_left, take_all, take_at}
 use Rattle.std.proofs.Math.Seq.{take-append-add}
+use Rattle.paw_base.specs.declared.layout.TheConstants.{PIECE_LENGTH_AT}
 use Rattle.paw_journal.specs.declared.layout.Slot.{Slot}
 use Rattle.paw_journal.specs.declared.layout.Slot.TheVariants as which
 use Rattle.paw_journal.specs.declared.drafting.SlotState.{SlotState}
@@ -14,7 +15,7 @@ use Rattle.paw_journal.specs.Session.{changes, changed, first_unsound, slot_chan
 use Rattle.paw_journal.specs.Session.{has_state}
 use Rattle.paw_journal.specs.Session.{slot_length, header_length, session_length, zeros}
 use Rattle.paw_journal.specs.inner.Room.{Room, kept_slot, with_slot_kept}
-use Rattle.paw_journal.specs.declared.layout.TheConstants.{BASE_AT, CHANGES_AT, PIECE_AT, PIECE_LENGTH_AT}
+use Rattle.paw_journal.specs.declared.layout.TheConstants.{BASE_AT, CHANGES_AT, PIECE_AT}
 use Rattle.paw_journal.specs.Session.{base_length}
 use Rattle.paw_journal.proofs.Kept.{has_state_is, state_has, kept_shows, sound_shows, kept_of_both, kept_of_first, kept_of_broken}
 use Rattle.paw_journal.proofs.Puts.{stretch_long}

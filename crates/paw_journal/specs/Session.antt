@@ -3,11 +3,11 @@ use Rattle.std.specs.Prelude.{◌≡◌, ◌⊎◌, ◌==◌, ◌&&◌, ◌||◌
 use Rattle.std.specs.Prelude.{[], suc}
 use Rattle.std.specs.Prelude.{◌∷◌, ◌++◌, length, take, drop, slice_index, slice_set, position, Option, Some}
 use Rattle.std.specs.Prelude.{None, is_none, if◌then◌else◌}
+use Rattle.paw_base.specs.declared.layout.TheConstants.{STATE_LENGTH, FIRST_LENGTH, PIECE_LENGTH_AT}
 unfoldable pub use Rattle.paw_base.specs.Bytes.{zeros}
 use Rattle.paw_stage.specs.Disk.{put}
 use Rattle.paw_journal.specs.declared.layout.TheConstants.{HEADER_LENGTH, SLOT_LENGTH, SESSION_LENGTH, BASE_AT}
 use Rattle.paw_journal.specs.declared.layout.TheConstants.{BASE_LENGTH, PIECE_AT, CHANGES_AT, MOST_CHANGES}
-use Rattle.paw_journal.specs.declared.layout.TheConstants.{STATE_LENGTH, FIRST_LENGTH, PIECE_LENGTH_AT}
 use Rattle.paw_journal.specs.declared.refusal.SessionPart.{SessionPart}
 use Rattle.paw_journal.specs.declared.refusal.SessionPart.TheVariants as part
 

@@ -47,15 +47,6 @@ pub(crate) const MOST_CHANGES: usize = 4_096;
 
 pub(crate) const CHANGE_LENGTH: usize = 4;
 
-/// The bytes of a state.
-pub(crate) const STATE_LENGTH: usize = 3_419;
-
-/// How many bytes a state has in a slot of the first version.
-pub(crate) const FIRST_LENGTH: usize = 1_371;
-
-/// Where a state tells the length of its piece.
-pub(crate) const PIECE_LENGTH_AT: usize = 1_369;
-
 /// The number of 16 bits at a place, its low byte first.
 pub(crate) fn number_at(bytes: &[u8], at: usize) -> usize
     requires within { at + 1 < length bytes.now }

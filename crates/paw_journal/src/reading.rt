@@ -8,9 +8,10 @@ ghost use Rattle.paw_journal.specs.inner.Room.{kept_slot, state_in};
 use crate::changes::apply;
 use crate::drafting::SlotState;
 use crate::layout::{
-    BASE_AT, BASE_LENGTH, CHANGE_LENGTH, CHANGES_AT, FIRST_LENGTH, MOST_CHANGES, SLOT_VERSION_AT,
-    VERSION, number_at,
+    BASE_AT, BASE_LENGTH, CHANGE_LENGTH, CHANGES_AT, MOST_CHANGES, SLOT_VERSION_AT, VERSION,
+    number_at,
 };
+use paw_base::layout::FIRST_LENGTH;
 
 /// The state of a slot with these bytes: its base with its change records applied.
 ///

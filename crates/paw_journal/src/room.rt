@@ -14,12 +14,11 @@ ghost use Rattle.paw_journal.specs.inner.Steps.{Drafts};
 ghost use Rattle.paw_journal.specs.inner.Journal.{failed_stage_call};
 
 use crate::drafting::{Draft, SlotState, draft_over};
-use crate::layout::{
-    BASE_AT, PIECE_AT, PIECE_LENGTH_AT, SLOT_LENGTH, SLOT_VERSION_AT, Slot, VERSION, number_at,
-};
+use crate::layout::{BASE_AT, PIECE_AT, SLOT_LENGTH, SLOT_VERSION_AT, Slot, VERSION, number_at};
 use crate::reading::{brought_up, is_current, kept_in, state_in};
 use crate::store::read;
 use paw_base::fault::NoRoom;
+use paw_base::layout::PIECE_LENGTH_AT;
 use paw_base::piece::PIECE_LIMIT;
 use paw_stage::{Stage, StageCall};
 use std::alloc::Global;

@@ -6,9 +6,10 @@ ghost use Rattle.paw_stage.specs.inner.Memory.{standing_of};
 ghost use Rattle.paw_journal.specs.Session.{piece_length};
 ghost use Rattle.paw_journal.specs.inner.Journal.{KeptIn};
 
-use crate::layout::{FIRST_LENGTH, PIECE_LENGTH_AT, number_at};
+use crate::layout::number_at;
 use crate::{Journal, JournalRefusal, Room, SessionPart, attach, digest};
 use paw_base::fault::NoRoom;
+use paw_base::layout::{FIRST_LENGTH, PIECE_LENGTH_AT};
 use paw_stage::{MemoryStage, Stage, StageCall, StopStage};
 use std::alloc::Global;
 use std::test::Fail;

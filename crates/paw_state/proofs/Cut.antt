@@ -4,12 +4,13 @@ use Rattle.std.specs.Prelude.{All, flat_map, slice_index, slice_range}
 use Rattle.std.specs.Int.{w16, w64, from_le_bytes}
 use Rattle.std.proofs.lemmas.Nat.{from_le_bytes-to_le_bytes_2, from_le_bytes-to_le_bytes_8}
 use Rattle.std.proofs.lemmas.List.{append_assoc, length-append}
+use Rattle.paw_base.specs.declared.layout.TheConstants.{STATE_LENGTH}
 use Rattle.paw_game.specs.Image.{two_bytes}
 use Rattle.paw_reading.specs.declared.places.OpenLoop.{OpenLoop}
 use Rattle.paw_state.specs.declared.layout.TheConstants.{FLAGS, PLACES, SAVED, HELD_LENGTH, SEED, DRAWS, EVENTS, PROMPT}
 use Rattle.paw_state.specs.declared.layout.TheConstants.{COUNT, ROWS, LOOPING, LOOP_LEVEL, LOOP_TABLE, LOOP_ENTRY}
 use Rattle.paw_state.specs.declared.layout.TheConstants.{LOOP_AT, LOOP_PLACE, LOOP_LAST, EARLIER, PENDING, LINE, PIECE}
-use Rattle.paw_state.specs.declared.layout.TheConstants.{KEPT, STATE_LENGTH}
+use Rattle.paw_state.specs.declared.layout.TheConstants.{KEPT}
 use Rattle.paw_state.specs.declared.fields.Row.{Row}
 use Rattle.paw_state.specs.declared.fields.Fields.{Fields}
 use Rattle.paw_state.specs.declared.held.Held.{Held}

@@ -4,11 +4,12 @@ use Rattle.std.specs.Prelude.{flat_map, slice_range}
 use Rattle.std.proofs.lemmas.Nat.{le_bytes_2, le_bytes_8}
 use Rattle.std.proofs.lemmas.List.{length-drop}
 use Rattle.std.proofs.Math.Seq.{take-add}
+use Rattle.paw_base.specs.declared.layout.TheConstants.{STATE_LENGTH}
 use Rattle.paw_game.specs.Image.{two_bytes}
 use Rattle.paw_state.specs.declared.layout.TheConstants.{FLAGS, PLACES, SAVED, HELD_FLAGS, HELD_PLACES, HELD_LENGTH}
 use Rattle.paw_state.specs.declared.layout.TheConstants.{SEED, DRAWS, EVENTS, PROMPT, COUNT, ROWS, LOOPING, LOOP_LEVEL}
 use Rattle.paw_state.specs.declared.layout.TheConstants.{LOOP_TABLE, LOOP_ENTRY, LOOP_AT, LOOP_PLACE, LOOP_LAST}
-use Rattle.paw_state.specs.declared.layout.TheConstants.{EARLIER, PENDING, LINE, PIECE, KEPT, STATE_LENGTH}
+use Rattle.paw_state.specs.declared.layout.TheConstants.{EARLIER, PENDING, LINE, PIECE, KEPT}
 use Rattle.paw_state.specs.State.{AreBytes}
 use Rattle.paw_state.specs.inner.Fields.{eight_bytes, row_bytes, loop_bytes, held_bytes}
 use Rattle.paw_state.specs.inner.Fields.{two_at, eight_at, row_at, rows_at, held_at, fields_at}

@@ -6,6 +6,7 @@ use Rattle.std.specs.Option.{unwrap_or}
 use Rattle.std.proofs.lemmas.List.{length-map, length-drop}
 use Rattle.std.proofs.lemmas.List.Elements.{All-cons, All-nil, All-take, All-map}
 use Rattle.std.proofs.lemmas.Bool.{eqb-true}
+use Rattle.paw_base.specs.declared.layout.TheConstants.{STATE_LENGTH}
 use Rattle.paw_base.specs.declared.parts.Condact.{Condact}
 use Rattle.paw_game.specs.Game.{GameLists}
 use Rattle.paw_game.specs.Valid.{Valid}
@@ -26,7 +27,7 @@ use Rattle.paw_process.specs.inner.Kept.{rows_fault as machine_rows, loop_fault 
 use Rattle.paw_process.proofs.Restored.{first_of, second}
 use Rattle.paw_state.specs.declared.layout.TheConstants.{FLAGS, PLACES, SAVED, HELD_FLAGS, HELD_PLACES, HELD_LENGTH}
 use Rattle.paw_state.specs.declared.layout.TheConstants.{SEED, DRAWS, EVENTS, ROWS, LOOP_ENTRY, EARLIER, PENDING, LINE}
-use Rattle.paw_state.specs.declared.layout.TheConstants.{PIECE, KEPT, STATE_LENGTH}
+use Rattle.paw_state.specs.declared.layout.TheConstants.{PIECE, KEPT}
 use Rattle.paw_state.specs.declared.fields.Row.{Row}
 use Rattle.paw_state.specs.declared.held.Held.{Held}
 use Rattle.paw_state.specs.State.{State, AreBytes, HoldsBytes, FitsFields}

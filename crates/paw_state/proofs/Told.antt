@@ -1,10 +1,11 @@
 -- The two bytes of a state that tell the length of the piece.
 use Rattle.std.proofs.Common.{◌≡◌, ℕ, ◌+◌, ◌*◌, ◌<◌, ◌^◌, List, [], ◌∷◌, ◌++◌, length, take, drop, get_or, sym, ap, ◌∙◌, arith, append_assoc, length-append}
 use Rattle.std.proofs.lemmas.List.{append-nil, get_or_append_left, get_or-append-add, take-append-drop}
+use Rattle.paw_base.specs.declared.layout.TheConstants.{STATE_LENGTH}
 use Rattle.paw_state.proofs.Found.{length-zeros}
 use Rattle.paw_state.proofs.Listed.{state_same}
 use Rattle.paw_game.specs.Image.{two_bytes}
-use Rattle.paw_state.specs.declared.layout.TheConstants.{PIECE, STATE_LENGTH, STATE_ROOM}
+use Rattle.paw_state.specs.declared.layout.TheConstants.{PIECE, STATE_ROOM}
 use Rattle.paw_state.specs.declared.fields.Fields.{Fields}
 use Rattle.paw_state.specs.State.{State}
 use Rattle.paw_state.specs.State.{fields_of, state_bytes, zeros}

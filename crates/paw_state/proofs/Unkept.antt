@@ -2,8 +2,9 @@
 use Rattle.std.proofs.Common.{◌≡◌, ℕ, List, [], ◌++◌, None, replicate, length, map, take, refl, sym, ap, ◌∙◌, arith, append_assoc, append-nil, length-append}
 use Rattle.std.specs.Prelude.{flat_map, Option}
 use Rattle.std.proofs.lemmas.List.{take_at}
+use Rattle.paw_base.specs.declared.layout.TheConstants.{STATE_LENGTH}
 use Rattle.paw_world.specs.World.{Position}
-use Rattle.paw_state.specs.declared.layout.TheConstants.{KEPT, STATE_LENGTH}
+use Rattle.paw_state.specs.declared.layout.TheConstants.{KEPT}
 use Rattle.paw_state.specs.State.{State}
 use Rattle.paw_state.specs.declared.fields.Fields.{Fields}
 use Rattle.paw_state.specs.State.{zeros}

@@ -6,7 +6,8 @@ use Rattle.std.proofs.Math.Seq.{take-suc, take-suc-set}
 use Rattle.std.proofs.lemmas.List.{append_assoc, append-nil, take_all, length-append, length-map, get_or-map, drop-drop, drop-replicate, length-take}
 use Rattle.std.proofs.lemmas.Slice.{take-put_mid, drop-put_mid}
 use borrow.Rule.Slice.PartMut.{put_mid}
-use Rattle.paw_state.specs.declared.layout.TheConstants.{STATE_LENGTH, STATE_ROOM}
+use Rattle.paw_base.specs.declared.layout.TheConstants.{STATE_LENGTH}
+use Rattle.paw_state.specs.declared.layout.TheConstants.{STATE_ROOM}
 use Rattle.paw_state.specs.declared.fields.Row.{Row}
 use Rattle.std.specs.List.{concat}
 use Rattle.paw_state.specs.State.{zeros, filled}

@@ -1,10 +1,11 @@
 // The fields of a state, as they stand in its bytes.
 
 ghost use Rattle.std.specs.Prelude.{◌≡◌, ◌+◌, ◌-◌, ◌*◌, ◌≤◌, ◌++◌, length, drop, flat_map, slice_range};
+ghost use Rattle.paw_base.specs.declared.layout.TheConstants.{STATE_LENGTH};
 ghost use Rattle.paw_base.specs.declared.limits.TheConstants.{POSITION_COUNT};
 ghost use Rattle.paw_process.specs.declared.machine.TheConstants.{MOST_FRAMES};
 ghost use Rattle.paw_state.specs.declared.layout.TheConstants.{HELD_LENGTH, ROW_LENGTH, ROWS};
-ghost use Rattle.paw_state.specs.declared.layout.TheConstants.{STATE_LENGTH, STATE_ROOM};
+ghost use Rattle.paw_state.specs.declared.layout.TheConstants.{STATE_ROOM};
 ghost use Rattle.paw_state.specs.inner.Parts.{frame_in};
 ghost use Rattle.paw_state.specs.inner.Writer.{Writes};
 ghost use Rattle.paw_state.specs.State.{AreBytes};

@@ -1,8 +1,8 @@
 use Rattle.std.proofs.Common.{◌≡◌, ℕ, ◌≤◌, List, length, refl, sym, ap, ◌∙◌, Some, None}
 use Rattle.std.specs.Prelude.{Result, Ok, Err, IsOk, IsErr, IfErr}
 use Rattle.std.proofs.lemmas.Result.{err_from_is_err_and}
+use Rattle.paw_base.specs.declared.layout.TheConstants.{STATE_LENGTH}
 use Rattle.paw_game.specs.Game.{GameLists}
-use Rattle.paw_state.specs.declared.layout.TheConstants.{STATE_LENGTH}
 use Rattle.paw_state.specs.declared.StateFault.{StateFault}
 use Rattle.paw_state.specs.declared.fields.Fields.{Fields}
 use Rattle.paw_state.specs.inner.Fields.{fields_at}
