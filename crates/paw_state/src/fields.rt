@@ -4,7 +4,8 @@ ghost use Rattle.std.specs.Prelude.{◌≡◌, ◌+◌, ◌-◌, ◌*◌, ◌≤
 ghost use Rattle.paw_base.specs.declared.layout.TheConstants.{STATE_LENGTH};
 ghost use Rattle.paw_base.specs.declared.limits.TheConstants.{POSITION_COUNT};
 ghost use Rattle.paw_process.specs.declared.machine.TheConstants.{MOST_FRAMES};
-ghost use Rattle.paw_state.specs.declared.layout.TheConstants.{HELD_LENGTH, ROW_LENGTH, ROWS};
+ghost use Rattle.paw_state.specs.declared.layout.TheConstants.{HELD_LENGTH, SEED, PROMPT, ROWS, ROW_LENGTH, LOOPING};
+ghost use Rattle.paw_state.specs.declared.layout.TheConstants.{LOOP_LEVEL, EARLIER, KEPT};
 ghost use Rattle.paw_state.specs.declared.layout.TheConstants.{STATE_ROOM};
 ghost use Rattle.paw_state.specs.inner.Parts.{frame_in};
 ghost use Rattle.paw_state.specs.inner.Writer.{Writes};
@@ -211,8 +212,8 @@ impl Fields {
     /// Flags and places, now and in the saved position.
     #[tactic(auto, unfolding(crate::specs::inner::Fields::world_bytes))]
     fn put_world(&self, writer: &mut Writer)
-        requires room { length writer.old + 1023 ≤ STATE_ROOM }
-        ensures writes { Writes (world_bytes self.now) 1023 writer.old writer.new }
+        requires room { length writer.old + SEED ≤ STATE_ROOM }
+        ensures writes { Writes (world_bytes self.now) SEED writer.old writer.new }
     {
         writer.put(&self.flags);
         writer.put(&self.places);
@@ -222,8 +223,8 @@ impl Fields {
     /// The seed, the draws and the lines.
     #[tactic(auto, unfolding(crate::specs::inner::Fields::number_bytes))]
     fn put_numbers(&self, writer: &mut Writer)
-        requires room { length writer.old + 24 ≤ STATE_ROOM }
-        ensures writes { Writes (number_bytes self.now) 24 writer.old writer.new }
+        requires room { length writer.old + (PROMPT - SEED) ≤ STATE_ROOM }
+        ensures writes { Writes (number_bytes self.now) (PROMPT - SEED) writer.old writer.new }
     {
         writer.put(&self.seed.to_le_bytes());
         writer.put(&self.draws.to_le_bytes());
@@ -233,8 +234,8 @@ impl Fields {
     /// The prompt, the rows of the open tables, and the open loop.
     #[tactic(auto, unfolding(crate::specs::inner::Fields::table_bytes))]
     fn put_tables(&self, writer: &mut Writer)
-        requires room { length writer.old + 65 ≤ STATE_ROOM }
-        ensures writes { Writes (table_bytes self.now) 65 writer.old writer.new }
+        requires room { length writer.old + (EARLIER - PROMPT) ≤ STATE_ROOM }
+        ensures writes { Writes (table_bytes self.now) (EARLIER - PROMPT) writer.old writer.new }
     {
         writer.put(&[self.prompt, self.count]);
         self.put_rows(writer);
@@ -244,8 +245,8 @@ impl Fields {
 
     /// The rows of the open tables.
     fn put_rows(&self, writer: &mut Writer)
-        requires room { length writer.old + 55 ≤ STATE_ROOM }
-        ensures writes { Writes (flat_map row_bytes self.now.rows) 55 writer.old writer.new }
+        requires room { length writer.old + (LOOPING - ROWS) ≤ STATE_ROOM }
+        ensures writes { Writes (flat_map row_bytes self.now.rows) (LOOPING - ROWS) writer.old writer.new }
     {
         for row in &self.rows {
             let [low, high] = row.entry.to_le_bytes();
@@ -255,8 +256,8 @@ impl Fields {
 
     /// The open loop.
     fn put_loop(&self, writer: &mut Writer)
-        requires room { length writer.old + 7 ≤ STATE_ROOM }
-        ensures writes { Writes (loop_bytes self.now.turning) 7 writer.old writer.new }
+        requires room { length writer.old + (EARLIER - LOOP_LEVEL) ≤ STATE_ROOM }
+        ensures writes { Writes (loop_bytes self.now.turning) (EARLIER - LOOP_LEVEL) writer.old writer.new }
     {
         let turning = &self.turning;
         writer.put(&[turning.level, turning.table]);
@@ -267,8 +268,8 @@ impl Fields {
     /// What is pending, and how many bytes the last piece has.
     #[tactic(auto, unfolding(crate::specs::inner::Fields::pending_bytes))]
     fn put_pending(&self, writer: &mut Writer)
-        requires room { length writer.old + 259 ≤ STATE_ROOM }
-        ensures writes { Writes (pending_bytes self.now) 259 writer.old writer.new }
+        requires room { length writer.old + (KEPT - EARLIER) ≤ STATE_ROOM }
+        ensures writes { Writes (pending_bytes self.now) (KEPT - EARLIER) writer.old writer.new }
     {
         writer.put(&[self.earlier, self.pending]);
         writer.put(&self.line);
