@@ -5,6 +5,7 @@
 pub mod codes;
 pub mod fault;
 pub mod flags;
+pub mod layout;
 pub mod limits;
 pub mod lists;
 pub mod messages;

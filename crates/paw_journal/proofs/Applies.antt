@@ -5,6 +5,7 @@ use Rattle.std.specs.List.{position_from}
 use Rattle.std.proofs.lemmas.Iterator.Adapters.{position_from-zero}
 use Rattle.std.proofs.lemmas.Bool.Decides.{nat_tests}
 use Rattle.paw_journal.specs.Session.{Change, changes, changed, is_sound, first_unsound}
+use Rattle.paw_journal.specs.Session.{base_length}
 
 -- So many records were sound and are applied, and these bytes hold the others.
 pub record Applies (all old : List ℕ) (number : ℕ) (rest now : List ℕ) : Type 0 where
@@ -35,7 +36,7 @@ unsound_here all old number a b c d rest now h e =
     ∙ ap (λ t. if not t then Some number else position_from (λ c. not (is_sound c)) (number + 1) (changes rest)) e))
 
 pub unsound_place : (all old : List ℕ) (number : ℕ) (rest now : List ℕ) → Applies all old number rest now →
-    4 ≤ length rest → 4096 ≤ get_or rest 0 0 + 256 * get_or rest 1 0 → Some number ≡ first_unsound (changes all)
+    4 ≤ length rest → base_length ≤ get_or rest 0 0 + 256 * get_or rest 1 0 → Some number ≡ first_unsound (changes all)
 unsound_place all old number (a ∷ b ∷ c ∷ d ∷ rest) now h low e = unsound_here all old number a b c d rest now h (grind (arith, nat_tests))
 unsound_place all old number [] now h low e = absurd (omega arith)
 unsound_place all old number (a ∷ []) now h low e = absurd (omega arith)

@@ -15,6 +15,8 @@ use Rattle.paw_journal.specs.inner.Written.{most_written}
 use Rattle.paw_journal.specs.inner.Steps.{IsSpare, IsFilling, Drafts, start_of, written_slot, written_session, chosen_session}
 use Rattle.paw_journal.specs.inner.Store.{IsBeside}
 use Rattle.paw_journal.specs.inner.Journal.{IsAtRest, KeptIn}
+use Rattle.paw_journal.specs.declared.layout.TheConstants.{PIECE_AT}
+use Rattle.paw_journal.specs.Session.{header_length}
 use Rattle.paw_journal.proofs.Disks.{stable_is}
 use Rattle.paw_journal.proofs.Puts.{put_long, rewritten_long, stretch_written}
 use Rattle.paw_journal.proofs.Chooses.{slot_small}
@@ -37,7 +39,7 @@ module _ (k : ℕ) (draft : Draft) (kept : Option SlotState) (state bytes piece 
     (f : IsFilling k s t) (d : Drafts kept state bytes draft) (e : kept ≡ kept_slot (slot k s.disk.bytes))
     (w : slot k t.disk.bytes ≡ written_slot draft bytes piece (slot k s.disk.bytes)) (short : length piece ≤ 65535)
   where
-    long : length (slot k s.disk.bytes) ≡ 86080
+    long : length (slot k s.disk.bytes) ≡ slot_length
     long = slot_long k s.disk.bytes f.low f.made.long
 
     -- the slot has the new state
@@ -48,9 +50,10 @@ module _ (k : ℕ) (draft : Draft) (kept : Option SlotState) (state bytes piece 
     pub committed_shows : piece_length state ≡ length piece → recover_by k t.disk.bytes ≡ Shown (kept_digests s.disk.bytes) (take state_length state) piece
     committed_shows names =
         let h : IsKept (slot k t.disk.bytes) draft.records state = is_kept (slot k t.disk.bytes) draft.records state committed_kept in
-        let p : stretch 4160 (piece_length state) (slot k t.disk.bytes) ≡ piece =
-        ap (λ n. stretch 4160 n (slot k t.disk.bytes)) names
-        ∙ (ap (stretch 4160 (length piece)) w ∙ written_piece draft.records draft.at bytes piece (slot k s.disk.bytes) long d.inside short h.few) in
+        let p : stretch PIECE_AT (piece_length state) (slot k t.disk.bytes) ≡ piece =
+        ap (λ n. stretch PIECE_AT n (slot k t.disk.bytes)) names
+        ∙ (ap (stretch PIECE_AT (length piece)) w
+        ∙ written_piece draft.records draft.at bytes piece (slot k s.disk.bytes) long d.inside short h.few) in
         recover_made k t.disk.bytes (filled_made k s t f)
         ∙ (ap (λ x. slot_shows x (slot k t.disk.bytes)) (filled_digests k s t f)
         ∙ (kept_shows (kept_digests s.disk.bytes) (slot k t.disk.bytes) draft.records state h
@@ -91,7 +94,7 @@ module _ (w : Slot) (draft : Draft) (kept : Option SlotState) (state bytes piece
         ∙ (ap (λ n. stretch (start_of (slot_number w)) n (put (start_of (slot_number w)) new s.disk.bytes)) (sym slot_as)
         ∙ stretch_written (start_of (slot_number w)) new s.disk.bytes (low (slot_number w) (length s.disk.bytes) (slot_small w) spare.made.long))
       where
-        low : (k n : ℕ) → k < 2 → n ≡ 172288 → 128 + 86080 * k ≤ n
+        low : (k n : ℕ) → k < 2 → n ≡ session_length → header_length + slot_length * k ≤ n
         low k n h long = omega arith
 
     pub written_long : length t.disk.bytes ≡ session_length
@@ -101,7 +104,7 @@ module _ (w : Slot) (draft : Draft) (kept : Option SlotState) (state bytes piece
         ∙ (put_long (start_of (slot_number w)) new s.disk.bytes (fits (slot_number w) (length new) (length s.disk.bytes) (slot_small w) slot_as spare.made.long)
         ∙ spare.made.long)
       where
-        fits : (k m n : ℕ) → k < 2 → m ≡ 86080 → n ≡ 172288 → 128 + 86080 * k + m ≤ n
+        fits : (k m n : ℕ) → k < 2 → m ≡ slot_length → n ≡ session_length → header_length + slot_length * k + m ≤ n
         fits k m n h l long = omega arith
 
 -- once that slot is chosen, all is as a commit leaves it

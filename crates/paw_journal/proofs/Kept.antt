@@ -12,6 +12,8 @@ use Rattle.paw_journal.specs.Session.{shown_state, first_length, zeros, slot_pie
 use Rattle.paw_journal.specs.inner.Room.{kept_slot}
 use Rattle.paw_journal.specs.inner.Written.{most_written}
 use Rattle.paw_journal.specs.inner.Steps.{Turns, Drafts}
+use Rattle.paw_journal.specs.declared.layout.TheConstants.{BASE_AT, CHANGES_AT, PIECE_AT}
+use Rattle.paw_journal.specs.Session.{base_length, slot_length}
 use Rattle.paw_journal.proofs.Puts.{stretch_long, put_long, stretch_past, stretch_before, stretch_written, stretch_behind}
 use Rattle.paw_journal.proofs.Turning.{changes-append, changed-append, sound-append}
 
@@ -19,14 +21,16 @@ use Rattle.paw_journal.proofs.Turning.{changes-append, changed-append, sound-app
 pub record IsKept (bytes : List ℕ) (records : ℕ) (state : List ℕ) : Type 0 where
   pub second : is_second bytes ≡ true
   pub number : two_byte_number 0 bytes ≡ records
-  pub few : records ≤ 4096
-  pub sound : first_unsound (changes (stretch 69696 (4 * records) bytes)) ≡ None
-  pub told : changed (changes (stretch 69696 (4 * records) bytes)) (base bytes) ≡ state
+  pub few : records ≤ most_changes
+  pub sound : first_unsound (changes (stretch CHANGES_AT (4 * records) bytes)) ≡ None
+  pub told : changed (changes (stretch CHANGES_AT (4 * records) bytes)) (base bytes) ≡ state
 
-holds_state : (bytes : List ℕ) (n : ℕ) (unsound : Option ℕ) → n ≤ 4096 → unsound ≡ None → (nat_le n most_changes && is_none unsound) ≡ true
+holds_state : (bytes : List ℕ) (n : ℕ) (unsound : Option ℕ) → n ≤ most_changes → unsound ≡ None →
+    (nat_le n most_changes && is_none unsound) ≡ true
 holds_state bytes n unsound low e = ap (λ o. nat_le n most_changes && is_none o) e ∙ grind (arith, nat_tests)
 
-pub has_state_is : (bytes : List ℕ) → two_byte_number 0 bytes ≤ 4096 → first_unsound (slot_changes bytes) ≡ None → has_state bytes ≡ true
+pub has_state_is : (bytes : List ℕ) → two_byte_number 0 bytes ≤ most_changes →
+    first_unsound (slot_changes bytes) ≡ None → has_state bytes ≡ true
 has_state_is bytes low e = holds_state bytes (two_byte_number 0 bytes) (first_unsound (slot_changes bytes)) low e
 
 pub kept_of_both : (bytes : List ℕ) → is_second bytes ≡ true → has_state bytes ≡ true →
@@ -49,13 +53,15 @@ kept_of_broken bytes e = neither (is_second bytes) (has_state bytes) (Some (reco
 pub kept_is : (bytes : List ℕ) (records : ℕ) (state : List ℕ) → IsKept bytes records state →
     kept_slot bytes ≡ Some (record { records = records; state = state })
 kept_is bytes records state h =
-    let r : stretch 69696 (4 * two_byte_number 0 bytes) bytes ≡ stretch 69696 (4 * records) bytes = ap (λ n. stretch 69696 (4 * n) bytes) h.number in
+    let r : stretch CHANGES_AT (4 * two_byte_number 0 bytes) bytes ≡ stretch CHANGES_AT (4 * records) bytes =
+    ap (λ n. stretch CHANGES_AT (4 * n) bytes) h.number in
     let t : has_state bytes ≡ true = has_state_is bytes (omega (arith, h.number, h.few)) (ap (λ l. first_unsound (changes l)) r ∙ h.sound) in
     let s : slot_state bytes ≡ state = ap (λ l. changed (changes l) (base bytes)) r ∙ h.told in
     kept_of_both bytes h.second t
     ∙ (ap (λ n. Some (record { records = n; state = slot_state bytes })) h.number ∙ ap (λ l. Some (record { records = records; state = l })) s)
 
-tests : (n : ℕ) (unsound : Option ℕ) → (nat_le n most_changes && is_none unsound) ≡ true → (n ≤ 4096) × (unsound ≡ None)
+tests : (n : ℕ) (unsound : Option ℕ) → (nat_le n most_changes && is_none unsound) ≡ true →
+    (n ≤ most_changes) × (unsound ≡ None)
 tests n None e = (grind (arith, nat_tests), refl)
 tests n (Some k) e = absurd (never (nat_le n most_changes) e)
   where
@@ -80,7 +86,8 @@ pub is_kept : (bytes : List ℕ) (records : ℕ) (state : List ℕ) →
 is_kept bytes records state e =
     let k = kept_some (is_second bytes) (has_state bytes) (record { records = two_byte_number 0 bytes; state = slot_state bytes }) records state e in
     let h = state_has bytes k.0 k.1 in
-    let r : stretch 69696 (4 * records) bytes ≡ stretch 69696 (4 * two_byte_number 0 bytes) bytes = ap (λ n. stretch 69696 (4 * n) bytes) (sym k.2) in
+    let r : stretch CHANGES_AT (4 * records) bytes ≡ stretch CHANGES_AT (4 * two_byte_number 0 bytes) bytes =
+    ap (λ n. stretch CHANGES_AT (4 * n) bytes) (sym k.2) in
     record {
       second = k.0;
       number = k.2;
@@ -97,19 +104,20 @@ sound_shows digests bytes e =
     ap (λ b. if b then shown_unless digests bytes (first_unsound (slot_changes bytes)) else Damaged part.Slot 0) (low (two_byte_number 0 bytes) t.0)
     ∙ ap (shown_unless digests bytes) t.1
   where
-    low : (n : ℕ) → n ≤ 4096 → nat_le n most_changes ≡ true
+    low : (n : ℕ) → n ≤ most_changes → nat_le n most_changes ≡ true
     low n h = grind (arith, nat_tests)
 
 pub kept_shows : (digests : Digests) (bytes : List ℕ) (records : ℕ) (state : List ℕ) → IsKept bytes records state →
-    slot_shows digests bytes ≡ Shown digests (take state_length state) (stretch 4160 (piece_length state) bytes)
+    slot_shows digests bytes ≡ Shown digests (take state_length state) (stretch PIECE_AT (piece_length state) bytes)
 kept_shows digests bytes records state h =
-    let r : stretch 69696 (4 * two_byte_number 0 bytes) bytes ≡ stretch 69696 (4 * records) bytes = ap (λ n. stretch 69696 (4 * n) bytes) h.number in
+    let r : stretch CHANGES_AT (4 * two_byte_number 0 bytes) bytes ≡ stretch CHANGES_AT (4 * records) bytes =
+    ap (λ n. stretch CHANGES_AT (4 * n) bytes) h.number in
     let t : has_state bytes ≡ true = has_state_is bytes (omega (arith, h.number, h.few)) (ap (λ l. first_unsound (changes l)) r ∙ h.sound) in
     let s : slot_state bytes ≡ state = ap (λ l. changed (changes l) (base bytes)) r ∙ h.told in
     sound_shows digests bytes t
     ∙ (ap (λ b. Shown digests (if b then take state_length (slot_state bytes) else take first_length (slot_state bytes)
     ++ zeros 2048) (slot_piece bytes)) h.second
-    ∙ ap (λ l. Shown digests (take state_length l) (stretch 4160 (piece_length l) bytes)) s)
+    ∙ ap (λ l. Shown digests (take state_length l) (stretch PIECE_AT (piece_length l) bytes)) s)
 
 -- ---- a slot that was written ----
 
@@ -119,74 +127,81 @@ head_number records bytes low = whole records (records % 256) (records / 256) re
     whole : (n a b : ℕ) → a ≡ n % 256 → b ≡ n / 256 → a + 256 * b ≡ n
     whole n a b e f = omega arith
 
-module _ (records at : ℕ) (bytes piece old : List ℕ) (long : length old ≡ 86080) (fits : at + length bytes ≤ 86080)
-    (short : length piece ≤ 65535) (few : records ≤ 4096) where
-  one : length (put at bytes old) ≡ 86080
+module _ (records at : ℕ) (bytes piece old : List ℕ) (long : length old ≡ slot_length) (fits : at + length bytes ≤ slot_length)
+    (short : length piece ≤ 65535) (few : records ≤ most_changes) where
+  one : length (put at bytes old) ≡ slot_length
   one = put_long at bytes old (omega arith) ∙ long
 
-  two : length (put 4160 piece (put at bytes old)) ≡ 86080
-  two = put_long 4160 piece (put at bytes old) (omega (arith, one)) ∙ one
+  two : length (put PIECE_AT piece (put at bytes old)) ≡ slot_length
+  two = put_long PIECE_AT piece (put at bytes old) (omega (arith, one)) ∙ one
 
   now : List ℕ
-  now = put 0 (slot_head records) (put 4160 piece (put at bytes old))
+  now = put 0 (slot_head records) (put PIECE_AT piece (put at bytes old))
 
-  pub written_number : two_byte_number 0 (put 0 (slot_head records) (put 4160 piece (put at bytes old))) ≡ records
-  written_number = head_number records (put 4160 piece (put at bytes old)) (omega arith)
+  pub written_number : two_byte_number 0 (put 0 (slot_head records) (put PIECE_AT piece (put at bytes old))) ≡ records
+  written_number = head_number records (put PIECE_AT piece (put at bytes old)) (omega arith)
 
   -- the piece of a slot that was written
-  pub written_piece : stretch 4160 (length piece) (put 0 (slot_head records) (put 4160 piece (put at bytes old))) ≡ piece
+  pub written_piece : stretch PIECE_AT (length piece) (put 0 (slot_head records) (put PIECE_AT piece (put at bytes old))) ≡ piece
   written_piece =
-      stretch_past 4160 (length piece) 0 (slot_head records) (put 4160 piece (put at bytes old)) (omega arith) (omega (arith, two))
-      ∙ stretch_written 4160 piece (put at bytes old) (omega (arith, one))
+      stretch_past PIECE_AT (length piece) 0 (slot_head records) (put PIECE_AT piece (put at bytes old)) (omega arith) (omega (arith, two))
+      ∙ stretch_written PIECE_AT piece (put at bytes old) (omega (arith, one))
 
-  pub written_base : stretch 64 4096 (put 0 (slot_head records) (put 4160 piece (put at bytes old))) ≡ stretch 64 4096 (put at bytes old)
+  pub written_base : stretch BASE_AT base_length (put 0 (slot_head records) (put PIECE_AT piece (put at bytes old)))
+      ≡ stretch BASE_AT base_length (put at bytes old)
   written_base =
-      stretch_past 64 4096 0 (slot_head records) (put 4160 piece (put at bytes old)) (omega arith) (omega (arith, two))
-      ∙ stretch_before 64 4096 4160 piece (put at bytes old) (omega arith) (omega (arith, one))
+      stretch_past BASE_AT base_length 0 (slot_head records) (put PIECE_AT piece (put at bytes old)) (omega arith) (omega (arith, two))
+      ∙ stretch_before BASE_AT base_length PIECE_AT piece (put at bytes old) (omega arith) (omega (arith, one))
 
-  pub written_records : (n : ℕ) → stretch 69696 n (put 0 (slot_head records) (put 4160 piece (put at bytes old))) ≡ stretch 69696 n (put at bytes old)
+  pub written_records : (n : ℕ) →
+      stretch CHANGES_AT n (put 0 (slot_head records) (put PIECE_AT piece (put at bytes old))) ≡ stretch CHANGES_AT n (put at bytes old)
   written_records n =
-      stretch_past 69696 n 0 (slot_head records) (put 4160 piece (put at bytes old)) (omega arith) (omega (arith, two))
-      ∙ stretch_past 69696 n 4160 piece (put at bytes old) (omega arith) (omega (arith, one))
+      stretch_past CHANGES_AT n 0 (slot_head records) (put PIECE_AT piece (put at bytes old)) (omega arith) (omega (arith, two))
+      ∙ stretch_past CHANGES_AT n PIECE_AT piece (put at bytes old) (omega arith) (omega (arith, one))
 
 -- the base whole
-whole_gives : (state piece old : List ℕ) → length state ≡ 4096 → length old ≡ 86080 → length piece ≤ 65535 →
-    IsKept (put 0 (slot_head 0) (put 4160 piece (put 64 state old))) 0 state
+whole_gives : (state piece old : List ℕ) → length state ≡ base_length → length old ≡ slot_length →
+    length piece ≤ 65535 →
+    IsKept (put 0 (slot_head 0) (put PIECE_AT piece (put BASE_AT state old))) 0 state
 whole_gives state piece old n long short = record {
   second = refl;
-  number = written_number 0 64 state piece old long (omega arith) short (omega arith);
+  number = written_number 0 BASE_AT state piece old long (omega arith) short (omega arith);
   few = omega arith;
   sound = refl;
-  told = written_base 0 64 state piece old long (omega arith) short (omega arith)
-      ∙ (ap (λ k. stretch 64 k (put 64 state old)) (sym n) ∙ stretch_written 64 state old (omega arith));
+  told = written_base 0 BASE_AT state piece old long (omega arith) short (omega arith)
+      ∙ (ap (λ k. stretch BASE_AT k (put BASE_AT state old)) (sym n) ∙ stretch_written BASE_AT state old (omega arith));
 }
 
 -- change records behind those that stand
 behind_gives : (n c : ℕ) (was state records piece old : List ℕ) → IsKept old n was → Turns was state records →
-    length records ≡ 4 * c → n + c ≤ 4096 → length old ≡ 86080 → length piece ≤ 65535 →
-    IsKept (put 0 (slot_head (n + c)) (put 4160 piece (put (69696 + 4 * n) records old))) (n + c) state
+    length records ≡ 4 * c → n + c ≤ most_changes → length old ≡ slot_length → length piece ≤ 65535 →
+    IsKept (put 0 (slot_head (n + c)) (put PIECE_AT piece (put (CHANGES_AT + 4 * n) records old))) (n + c) state
 behind_gives n c was state records piece old h t l few long short =
-    let at = 69696 + 4 * n in
-    let fits : at + length records ≤ 86080 = omega (arith, l) in
+    let at = CHANGES_AT + 4 * n in
+    let fits : at + length records ≤ slot_length = omega (arith, l) in
     let m : 4 * (n + c) ≡ 4 * n + length records = omega (arith, l) in
-    let r : stretch 69696 (4 * (n + c)) (put 0 (slot_head (n + c)) (put 4160 piece (put at records old))) ≡ stretch 69696 (4 * n) old ++ records =
+    let r : stretch CHANGES_AT (4 * (n + c)) (put 0 (slot_head (n + c)) (put PIECE_AT piece (put at records old))) ≡ stretch CHANGES_AT (4 * n) old ++ records =
     written_records (n + c) at records piece old long fits short few (4 * (n + c))
-    ∙ (ap (λ k. stretch 69696 k (put at records old)) m ∙ stretch_behind 69696 (4 * n) at records old refl (omega (arith, long))) in
-    let q : length (stretch 69696 (4 * n) old) ≡ 4 * n = stretch_long 69696 (4 * n) old (omega (arith, h.few, long)) in
-    let all : changes (stretch 69696 (4 * (n + c)) (put 0 (slot_head (n + c)) (put 4160 piece (put at records old))))
-    ≡ changes (stretch 69696 (4 * n) old) ++ changes records =
-    ap changes r ∙ changes-append n (stretch 69696 (4 * n) old) records q in
-    let b : base (put 0 (slot_head (n + c)) (put 4160 piece (put at records old))) ≡ base old =
-    written_base (n + c) at records piece old long fits short few ∙ stretch_before 64 4096 at records old (omega arith) (omega (arith, long)) in
+    ∙ (ap (λ k. stretch CHANGES_AT k (put at records old)) m
+    ∙ stretch_behind CHANGES_AT (4 * n) at records old refl (omega (arith, long))) in
+    let q : length (stretch CHANGES_AT (4 * n) old) ≡ 4 * n =
+    stretch_long CHANGES_AT (4 * n) old (omega (arith, h.few, long)) in
+    let all : changes (stretch CHANGES_AT (4 * (n + c)) (put 0 (slot_head (n + c)) (put PIECE_AT piece (put at records old))))
+    ≡ changes (stretch CHANGES_AT (4 * n) old) ++ changes records =
+    ap changes r ∙ changes-append n (stretch CHANGES_AT (4 * n) old) records q in
+    let b : base (put 0 (slot_head (n + c)) (put PIECE_AT piece (put at records old))) ≡ base old =
+    written_base (n + c) at records piece old long fits short few
+    ∙ stretch_before BASE_AT base_length at records old (omega arith) (omega (arith, long)) in
     record {
       second = refl;
       number = written_number (n + c) at records piece old long fits short few;
       few = few;
-      sound = ap first_unsound all ∙ sound-append (changes (stretch 69696 (4 * n) old)) (changes records) h.sound t.sound;
+      sound = ap first_unsound all
+          ∙ sound-append (changes (stretch CHANGES_AT (4 * n) old)) (changes records) h.sound t.sound;
       told =
-          ap (λ cs. changed cs (base (put 0 (slot_head (n + c)) (put 4160 piece (put at records old))))) all
-          ∙ (ap (changed (changes (stretch 69696 (4 * n) old) ++ changes records)) b
-          ∙ (changed-append (changes (stretch 69696 (4 * n) old)) (changes records) (base old)
+          ap (λ cs. changed cs (base (put 0 (slot_head (n + c)) (put PIECE_AT piece (put at records old))))) all
+          ∙ (ap (changed (changes (stretch CHANGES_AT (4 * n) old) ++ changes records)) b
+          ∙ (changed-append (changes (stretch CHANGES_AT (4 * n) old)) (changes records) (base old)
           ∙ (ap (changed (changes records)) h.told ∙ t.turned)));
     }
 
@@ -208,84 +223,88 @@ takes_as n was state old is =
     ∙ ap (λ l. nat_le (n + differing l state) most_changes) k.3))
 
 exact_base : (state bytes piece old : List ℕ) → bytes ≡ state → takes_changes state old ≡ false →
-    rewritten 64 bytes 0 piece old ≡ committed_slot state piece old
+    rewritten BASE_AT bytes 0 piece old ≡ committed_slot state piece old
 unfolding committed_slot
 exact_base state bytes piece old e t =
-    ap (λ b. rewritten 64 b 0 piece old) e
-    ∙ sym (ap (λ b. if b then rewritten (69696 + 4 * two_byte_number 0 old) (differences (slot_state old) state) (records_with state old) piece old
-    else rewritten 64 state 0 piece old) t)
+    ap (λ b. rewritten BASE_AT b 0 piece old) e
+    ∙ sym (ap (λ b. if b then rewritten (CHANGES_AT + 4 * two_byte_number 0 old) (differences (slot_state old) state) (records_with state old) piece old
+    else rewritten BASE_AT state 0 piece old) t)
 
 exact_behind : (n c : ℕ) (was state bytes piece old : List ℕ) → bytes ≡ differences was state → differing was state ≡ c →
-    n + c ≤ 4096 → kept_slot old ≡ Some (record { records = n; state = was }) →
-    rewritten (69696 + 4 * n) bytes (n + c) piece old ≡ committed_slot state piece old
+    n + c ≤ most_changes → kept_slot old ≡ Some (record { records = n; state = was }) →
+    rewritten (CHANGES_AT + 4 * n) bytes (n + c) piece old ≡ committed_slot state piece old
 unfolding committed_slot
 exact_behind n c was state bytes piece old e d few is =
     let k = kept_some (is_second old) (has_state old) (record { records = two_byte_number 0 old; state = slot_state old }) n was is in
     let t = takes_as n was state old is ∙ low n c (differing was state) d few in
-    sym (ap (λ b. if b then rewritten (69696 + 4 * two_byte_number 0 old) (differences (slot_state old) state) (records_with state old) piece old
-    else rewritten 64 state 0 piece old) t
-    ∙ (ap (λ m. rewritten (69696 + 4 * m) (differences (slot_state old) state) (m + differing (slot_state old) state) piece old) k.2
-    ∙ (ap (λ l. rewritten (69696 + 4 * n) (differences l state) (n + differing l state) piece old) k.3
-    ∙ (ap (λ m. rewritten (69696 + 4 * n) (differences was state) (n + m) piece old) d
-    ∙ ap (λ b. rewritten (69696 + 4 * n) b (n + c) piece old) (sym e)))))
+    sym (ap (λ b. if b then rewritten (CHANGES_AT + 4 * two_byte_number 0 old) (differences (slot_state old) state) (records_with state old) piece old
+    else rewritten BASE_AT state 0 piece old) t
+    ∙ (ap (λ m. rewritten (CHANGES_AT + 4 * m) (differences (slot_state old) state) (m + differing (slot_state old) state) piece old) k.2
+    ∙ (ap (λ l. rewritten (CHANGES_AT + 4 * n) (differences l state) (n + differing l state) piece old) k.3
+    ∙ (ap (λ m. rewritten (CHANGES_AT + 4 * n) (differences was state) (n + m) piece old) d
+    ∙ ap (λ b. rewritten (CHANGES_AT + 4 * n) b (n + c) piece old) (sym e)))))
   where
-    low : (n c d : ℕ) → d ≡ c → n + c ≤ 4096 → nat_le (n + d) most_changes ≡ true
+    low : (n c d : ℕ) → d ≡ c → n + c ≤ most_changes → nat_le (n + d) most_changes ≡ true
     low n c d e few = grind (arith, nat_tests)
 
 -- what a commit writes
-pub drafts_whole : (kept : Option SlotState) (state bytes : List ℕ) → bytes ≡ state → length state ≡ 4096 →
+pub drafts_whole : (kept : Option SlotState) (state bytes : List ℕ) → bytes ≡ state → length state ≡ base_length →
     ((piece : List ℕ) → 4224 + length piece ≤ most_written kept state piece) →
     ((old : List ℕ) → kept_slot old ≡ kept → takes_changes state old ≡ false) →
     Drafts kept state bytes (record { at = 64; records = 0 })
 drafts_whole kept state bytes e n most takes = record {
   inside = omega (arith, ap length e);
   exact = λ old piece is. exact_base state bytes piece old e (takes old is);
-  gives = λ old piece long is short. kept_is (put 0 (slot_head 0) (put 4160 piece (put 64 bytes old))) 0 state
+  gives = λ old piece long is short. kept_is (put 0 (slot_head 0) (put PIECE_AT piece (put BASE_AT bytes old))) 0 state
       (let h = whole_gives state piece old n long short in rw e h);
   few = λ piece. omega (arith, most piece, ap length e);
 }
 
-pub drafts_behind : (n c : ℕ) (was state bytes : List ℕ) → Turns was state bytes → length bytes ≡ 4 * c → n + c ≤ 4096 →
-    Drafts (Some (record { records = n; state = was })) state bytes (record { at = 69696 + 4 * n; records = n + c })
+pub drafts_behind : (n c : ℕ) (was state bytes : List ℕ) → Turns was state bytes → length bytes ≡ 4 * c →
+    n + c ≤ most_changes →
+    Drafts (Some (record { records = n; state = was })) state bytes (record { at = CHANGES_AT + 4 * n; records = n + c })
 drafts_behind n c was state bytes t l few = record {
   inside = omega (arith, l);
   exact = λ old piece is. exact_behind n c was state bytes piece old t.exact (omega (arith, l, t.many)) few is;
   gives = λ old piece long is short. kept_is
-      (put 0 (slot_head (n + c)) (put 4160 piece (put (69696 + 4 * n) bytes old))) (n + c) state
+      (put 0 (slot_head (n + c)) (put PIECE_AT piece (put (CHANGES_AT + 4 * n) bytes old))) (n + c) state
       (behind_gives n c was state bytes piece old (is_kept old n was is) t l few long short);
   few = λ piece. let d : differing was state ≡ c = omega (arith, l, t.many) in most n c (differing was state) (length bytes) (length piece) d l few;
 }
   where
-    most : (n c d b p : ℕ) → d ≡ c → b ≡ 4 * c → n + c ≤ 4096 → b + p + 4 ≤ (if nat_le (n + d) most_changes then 128 + p + 4 * d else 4224 + p)
+    most : (n c d b p : ℕ) → d ≡ c → b ≡ 4 * c → n + c ≤ most_changes →
+        b + p + 4 ≤ (if nat_le (n + d) most_changes then 128 + p + 4 * d else 4224 + p)
     most n c d b p e l few = let h : nat_le (n + d) most_changes ≡ true = grind (arith, nat_tests) in rw h (omega arith)
 
 -- where there is no state, or there are too many changes, the base is written whole
-pub drafts_base : (state bytes : List ℕ) → bytes ≡ state → length state ≡ 4096 → Drafts None state bytes (record { at = 64; records = 0 })
+pub drafts_base : (state bytes : List ℕ) → bytes ≡ state → length state ≡ base_length →
+    Drafts None state bytes (record { at = 64; records = 0 })
 drafts_base state bytes e n = drafts_whole None state bytes e n (λ piece. omega arith)
     (λ old is. takes_none (is_second old) (has_state old) (nat_le (records_with state old) most_changes)
     (record { records = two_byte_number 0 old; state = slot_state old }) is)
 
 pub drafts_whole_as : (state bytes : List ℕ) (kept : Option SlotState) (draft : Draft) → bytes ≡ state →
-    length state ≡ 4096 → kept ≡ None → draft ≡ record { at = 64; records = 0 } → Drafts kept state bytes draft
+    length state ≡ base_length → kept ≡ None → draft ≡ record { at = 64; records = 0 } → Drafts kept state bytes draft
 drafts_whole_as state bytes kept draft e n is at = rw (is, at) (drafts_base state bytes e n)
 
 pub drafts_many : (kept : SlotState) (s m : ℕ) (state records bytes : List ℕ) (draft : Draft) →
-    Turns kept.state state records → s ≡ kept.records → m ≡ length records → 4096 < s + m / 4 → bytes ≡ state →
-    length state ≡ 4096 → draft ≡ record { at = 64; records = 0 } → Drafts (Some kept) state bytes draft
+    Turns kept.state state records → s ≡ kept.records → m ≡ length records → base_length < s + m / 4 → bytes ≡ state →
+    length state ≡ base_length → draft ≡ record { at = 64; records = 0 } → Drafts (Some kept) state bytes draft
 drafts_many kept s m state records bytes draft t e f many b l at =
     let d : differing kept.state state ≡ m / 4 = omega (arith, t.many) in
     rw at (drafts_whole (Some kept) state bytes b l (λ piece. most kept.records s (m / 4) (differing kept.state state) (length piece) d e many)
     (λ old is. takes_as kept.records kept.state state old is ∙ above kept.records s (m / 4) (differing kept.state state) d e many))
   where
-    above : (n s c d : ℕ) → d ≡ c → s ≡ n → 4096 < s + c → nat_le (n + d) most_changes ≡ false
+    above : (n s c d : ℕ) → d ≡ c → s ≡ n → base_length < s + c → nat_le (n + d) most_changes ≡ false
     above n s c d e f many = grind (arith, nat_tests)
 
-    most : (n s c d p : ℕ) → d ≡ c → s ≡ n → 4096 < s + c → 4224 + p ≤ (if nat_le (n + d) most_changes then 128 + p + 4 * d else 4224 + p)
+    most : (n s c d p : ℕ) → d ≡ c → s ≡ n → most_changes < s + c →
+        4224 + p ≤ (if nat_le (n + d) most_changes then 128 + p + 4 * d else 4224 + p)
     most n s c d p e f many = let h : nat_le (n + d) most_changes ≡ false = grind (arith, nat_tests) in rw h (omega arith)
 
 pub drafts_few : (kept : SlotState) (s m : ℕ) (state bytes : List ℕ) → Turns kept.state state bytes → s ≡ kept.records →
-    m ≡ length bytes → s + m / 4 ≤ 4096 →
-    Drafts (Some kept) state bytes (record { at = 69696 + 4 * s; records = s + m / 4 })
+    m ≡ length bytes → s + m / 4 ≤ base_length →
+    Drafts (Some kept) state bytes (record { at = CHANGES_AT + 4 * s; records = s + m / 4 })
 drafts_few kept s m state bytes t e f few =
-    subst (λ n. Drafts (Some kept) state bytes (record { at = 69696 + 4 * n; records = n + m / 4 })) (sym e)
+    subst (λ n. Drafts (Some kept) state bytes (record { at = CHANGES_AT + 4 * n; records = n + m / 4 })) (sym e)
     (drafts_behind kept.records (m / 4) kept.state state bytes t (omega (arith, t.many)) (omega arith))

@@ -4,6 +4,8 @@ use Rattle.std.proofs.lemmas.List.{get_or-drop, get_or_append_left, ext_get_or, 
 use Rattle.std.proofs.Math.Seq.{take-add}
 use Rattle.paw_stage.specs.Disk.{put}
 use Rattle.paw_journal.specs.Session.{stretch, slot_head, rewritten}
+use Rattle.paw_journal.specs.declared.layout.TheConstants.{PIECE_AT}
+use Rattle.paw_journal.specs.Session.{slot_length}
 use Rattle.paw_journal.proofs.Parts.{stretch_at, length_stretch, stretch_same, length_put, put_below, put_above, drop_put}
 
 pub stretch_long : (at n : ℕ) (bytes : List ℕ) → at + n ≤ length bytes → length (stretch at n bytes) ≡ n
@@ -84,12 +86,14 @@ put_nothing at new old none low = ext_get_or 0 old (put at new old) (sym (put_lo
     each at new old i none low = elim (order i at) [ inl h ↦ put_below at new old i low h | inr h ↦ put_above at new old i low (omega arith) ]
 
 -- a slot that was written is as long as it was
-pub rewritten_long : (at records : ℕ) (new piece bytes : List ℕ) → at + length new ≤ 86080 → length piece ≤ 65535 →
-    length bytes ≡ 86080 → length (rewritten at new records piece bytes) ≡ 86080
+pub rewritten_long : (at records : ℕ) (new piece bytes : List ℕ) → at + length new ≤ slot_length →
+    length piece ≤ 65535 →
+    length bytes ≡ slot_length → length (rewritten at new records piece bytes) ≡ slot_length
 rewritten_long at records new piece bytes fits short long =
-    let one : length (put at new bytes) ≡ 86080 = put_long at new bytes (omega arith) ∙ long in
-    let two : length (put 4160 piece (put at new bytes)) ≡ 86080 = put_long 4160 piece (put at new bytes) (omega (arith, one)) ∙ one in
-    put_long 0 (slot_head records) (put 4160 piece (put at new bytes)) (omega (arith, two)) ∙ two
+    let one : length (put at new bytes) ≡ slot_length = put_long at new bytes (omega arith) ∙ long in
+    let two : length (put PIECE_AT piece (put at new bytes)) ≡ slot_length =
+    put_long PIECE_AT piece (put at new bytes) (omega (arith, one)) ∙ one in
+    put_long 0 (slot_head records) (put PIECE_AT piece (put at new bytes)) (omega (arith, two)) ∙ two
 
 -- bytes of which only a stretch isn't as it was were written there
 pub put_between : (at n : ℕ) (new old now : List ℕ) → length new ≡ n → at + n ≤ length old → length now ≡ length old →

@@ -5,6 +5,7 @@ use Rattle.std.specs.Prelude.{Bool, true, false, not, replicate, Option, Some, I
 use Rattle.std.specs.Str.{bytes_eq}
 use Rattle.std.proofs.lemmas.List.{length-append, take_at, take_all, drop_at}
 use Rattle.std.proofs.lemmas.Slice.Eq.{bytes_eq-Decides}
+use Rattle.paw_base.specs.declared.layout.TheConstants.{PIECE_LENGTH_AT}
 use Rattle.paw_stage.specs.Disk.{Disk, IsStable, stable}
 use Rattle.paw_stage.specs.Stage.{Standing}
 use Rattle.paw_stage.specs.Moments.{Moment, Passes, Still, moment_of}
@@ -19,6 +20,8 @@ use Rattle.paw_journal.specs.Session.{session_length, slot_length, zeros, made_m
 use Rattle.paw_journal.specs.Session.{made_header, made_slot, made_session}
 use Rattle.paw_journal.specs.inner.Store.{IsBeside, InStore, Leaves, IsEither}
 use Rattle.paw_journal.specs.inner.Steps.{Introduces}
+use Rattle.paw_journal.specs.declared.layout.TheConstants.{BASE_AT, PIECE_AT}
+use Rattle.paw_journal.specs.Session.{base_length}
 use Rattle.paw_journal.proofs.Recovers.{recover_is, recover_made, both_digests}
 use Rattle.paw_journal.proofs.Makes.{AreLong, length_zeros, length_header}
 use Rattle.paw_journal.proofs.Kept.{IsKept, kept_is, kept_shows}
@@ -29,11 +32,12 @@ use Rattle.paw_journal.proofs.Moved.{in_later}
 length_head : length (0 ∷ 0 ∷ 2 ∷ zeros 61) ≡ 64
 length_head = omega (arith, length_zeros 61)
 
-pub length_slot : (state piece : List ℕ) → length state ≡ 4096 → length piece ≤ 65535 → length (made_slot state piece) ≡ slot_length
+pub length_slot : (state piece : List ℕ) → length state ≡ base_length → length piece ≤ 65535 →
+    length (made_slot state piece) ≡ slot_length
 length_slot state piece n few = slots (0 ∷ 0 ∷ 2 ∷ zeros 61) state piece (zeros (81920 - length piece)) length_head n few (length_zeros (81920 - length piece))
   where
-    slots : (head state piece behind : List ℕ) → length head ≡ 64 → length state ≡ 4096 → length piece ≤ 65535 →
-        length behind ≡ 81920 - length piece → length (head ++ state ++ piece ++ behind) ≡ 86080
+    slots : (head state piece behind : List ℕ) → length head ≡ 64 → length state ≡ base_length → length piece ≤ 65535 →
+        length behind ≡ 81920 - length piece → length (head ++ state ++ piece ++ behind) ≡ slot_length
     slots head state piece behind h n few b =
         omega (
           arith,
@@ -50,29 +54,32 @@ no_changes state piece = refl
 regroup : (a b c d : List ℕ) → a ++ b ++ c ++ d ≡ a ++ (b ++ (c ++ d))
 regroup a b c d = simp append_assoc
 
-made_base : (state piece : List ℕ) → length state ≡ 4096 → base (made_slot state piece) ≡ state
+made_base : (state piece : List ℕ) → length state ≡ base_length → base (made_slot state piece) ≡ state
 made_base state piece n =
-    ap (λ l. take 4096 (drop 64 l)) (regroup (0 ∷ 0 ∷ 2 ∷ zeros 61) state piece (zeros (81920 - length piece)))
-    ∙ (ap (take 4096) (drop_at (0 ∷ 0 ∷ 2 ∷ zeros 61) _ 64 length_head) ∙ take_at state _ 4096 n)
+    ap (λ l. take base_length (drop BASE_AT l)) (regroup (0 ∷ 0 ∷ 2 ∷ zeros 61) state piece (zeros (81920 - length piece)))
+    ∙ (ap (take base_length) (drop_at (0 ∷ 0 ∷ 2 ∷ zeros 61) _ 64 length_head) ∙ take_at state _ base_length n)
 
-made_piece : (state piece : List ℕ) → length state ≡ 4096 → stretch 4160 (length piece) (made_slot state piece) ≡ piece
+made_piece : (state piece : List ℕ) → length state ≡ base_length →
+    stretch PIECE_AT (length piece) (made_slot state piece) ≡ piece
 made_piece state piece n =
-    ap (λ l. take (length piece) (drop 4160 l)) (append_assoc (0 ∷ 0 ∷ 2 ∷ zeros 61 ++ state) piece (zeros (81920 - length piece)))
-    ∙ (ap (take (length piece)) (drop_at (0 ∷ 0 ∷ 2 ∷ zeros 61 ++ state) _ 4160
+    ap (λ l. take (length piece) (drop PIECE_AT l)) (append_assoc (0 ∷ 0 ∷ 2 ∷ zeros 61 ++ state) piece (zeros (81920 - length piece)))
+    ∙ (ap (take (length piece)) (drop_at (0 ∷ 0 ∷ 2 ∷ zeros 61 ++ state) _ PIECE_AT
     (head (0 ∷ 0 ∷ 2 ∷ zeros 61) state length_head n)) ∙ take_at piece _ (length piece) refl)
   where
-    head : (z state : List ℕ) → length z ≡ 64 → length state ≡ 4096 → length (z ++ state) ≡ 4160
+    head : (z state : List ℕ) → length z ≡ 64 → length state ≡ base_length → length (z ++ state) ≡ PIECE_AT
     head z state h n = omega (arith, length-append z state)
 
 -- a slot that is made has its state, and shows it with its piece
-made_slot_kept : (state piece : List ℕ) → length state ≡ 4096 → IsKept (made_slot state piece) 0 state
+made_slot_kept : (state piece : List ℕ) → length state ≡ base_length → IsKept (made_slot state piece) 0 state
 made_slot_kept state piece n = record { second = refl; number = no_changes state piece; few = omega arith; sound = refl; told = made_base state piece n }
 
-made_slot_shows : (digests : Digests) (state piece : List ℕ) → length state ≡ 4096 → piece_length state ≡ length piece →
+made_slot_shows : (digests : Digests) (state piece : List ℕ) → length state ≡ base_length →
+    piece_length state ≡ length piece →
     slot_shows digests (made_slot state piece) ≡ Shown digests (take state_length state) piece
 made_slot_shows digests state piece n names =
     kept_shows digests (made_slot state piece) 0 state (made_slot_kept state piece n)
-    ∙ ap (Shown digests (take state_length state)) (ap (λ k. stretch 4160 k (made_slot state piece)) names ∙ made_piece state piece n)
+    ∙ ap (Shown digests (take state_length state)) (ap (λ k. stretch PIECE_AT k (made_slot state piece)) names
+    ∙ made_piece state piece n)
 
 made_slot_zero : (digests : Digests) (slots behind : List ℕ) → AreLong digests → length slots ≡ slot_length →
     slot 0 (made_header made_mark digests ++ slots ++ behind) ≡ slots
@@ -133,7 +140,8 @@ laid_long digests slots n l = omega (
 pub session_digests : (digests : Digests) (state piece : List ℕ) → AreLong digests → kept_digests (made_session digests state piece) ≡ digests
 session_digests digests state piece n = made_digests digests (made_slot state piece) (made_slot state piece) n
 
-pub session_shows : (digests : Digests) (state piece : List ℕ) → AreLong digests → length state ≡ 4096 → length piece ≤ 65535 →
+pub session_shows : (digests : Digests) (state piece : List ℕ) → AreLong digests → length state ≡ base_length →
+    length piece ≤ 65535 →
     piece_length state ≡ length piece → recover (made_session digests state piece)
     ≡ Shown digests (take state_length state) piece
 session_shows digests state piece n m few names =
@@ -237,7 +245,7 @@ shown_stays digests r o kept two three four s e f =
 
 -- a piece whose length a state tells is short
 pub short_piece : (state piece : List ℕ) → ((i : ℕ) → get_or state i 0 < 256) → piece_length state ≡ length piece → length piece ≤ 65535
-short_piece state piece bytes e = omega (arith, bytes 1369, bytes 1370)
+short_piece state piece bytes e = omega (arith, bytes PIECE_LENGTH_AT, bytes (PIECE_LENGTH_AT + 1))
 
 -- what is laid out, once it is marked, is the session
 pub marked_session : (digests : Digests) (slots state piece : List ℕ) (d : Disk) →
@@ -246,7 +254,7 @@ pub marked_session : (digests : Digests) (slots state piece : List ℕ) (d : Dis
 marked_session digests slots state piece d e f = ap (λ x. made_mark ∷ drop 1 x.bytes) e ∙ ap (λ x. made_mark ∷ drop 1 (made_header 0 digests ++ x ++ x)) f
 
 made_slots : (digests : Digests) (state piece : List ℕ) (room : Room) → room.first ≡ Some (record { records = 0; state = state }) →
-    room.second ≡ Some (record { records = 0; state = state }) → AreLong digests → length state ≡ 4096 →
+    room.second ≡ Some (record { records = 0; state = state }) → AreLong digests → length state ≡ base_length →
     length piece ≤ 65535 → KeepsSlots room (made_session digests state piece)
 made_slots digests state piece room f g n m few =
     let l : length (made_slot state piece) ≡ slot_length = length_slot state piece m few in
@@ -261,7 +269,7 @@ made_slots digests state piece room f g n m few =
 pub made_keeps : (digests : Digests) (state piece bytes : List ℕ) (room : Room) (s t : Standing) → IsAtRest s →
     t.attached ≡ s.attached → t.disk ≡ stable bytes → bytes ≡ made_session digests state piece → room.state ≡ state →
     room.piece ≡ piece → room.first ≡ Some (record { records = 0; state = state }) →
-    room.second ≡ Some (record { records = 0; state = state }) → AreLong digests → length state ≡ 4096 →
+    room.second ≡ Some (record { records = 0; state = state }) → AreLong digests → length state ≡ base_length →
     length piece ≤ 65535 → piece_length state ≡ length piece → KeptIn (record { slot = which.First }) room t
 made_keeps digests state piece bytes room s t r a d b e f one two n m few names =
     let h : t.disk.bytes ≡ made_session digests state piece = ap (λ x. x.bytes) d ∙ b in

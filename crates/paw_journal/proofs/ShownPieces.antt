@@ -1,27 +1,36 @@
 -- How long a state and a piece are that bytes show, and whose session they are of.
-use Rattle.std.proofs.Common.{◌≡◌, ℕ, ◌-◌, ◌≤◌, Bool, true, false, List, ◌++◌, Option, Some, None, length, take, drop, refl, sym, ap, ◌∙◌, arith, get_or}
+use Rattle.std.proofs.Common.{◌≡◌, ℕ, ◌+◌, ◌-◌, ◌≤◌, Bool, true, false, List, ◌++◌, Option, Some, None, length, take}
+use Rattle.std.proofs.Common.{drop, refl, sym, ap, ◌∙◌, arith, get_or}
 use Rattle.std.specs.Prelude.{if◌then◌else◌, nat_le}
 use Rattle.std.proofs.lemmas.List.{length-append, length-take-le, length-drop, get_or-take}
+use Rattle.paw_base.specs.declared.layout.TheConstants.{PIECE_LENGTH_AT}
 use Rattle.paw_journal.specs.declared.refusal.SessionPart.TheVariants as part
 use Rattle.paw_journal.specs.Session.{Digests, Damaged, Shown, recover, chosen, kept_digests, slot, slot_shows, shown_unless, first_unsound, slot_changes, slot_state}
 use Rattle.paw_journal.specs.Session.{slot_piece, shown_state, is_second, two_byte_number, piece_length, most_changes, state_length, first_length, zeros}
+use Rattle.paw_journal.specs.declared.layout.TheConstants.{PIECE_AT}
+use Rattle.paw_journal.specs.Session.{base_length, slot_length}
 use Rattle.paw_journal.proofs.Makes.{length_zeros}
 use Rattle.paw_journal.proofs.Recovers.{shown_made, recover_is, recover_made}
 use Rattle.paw_journal.proofs.Fills.{slot_long}
 use Rattle.paw_journal.proofs.Slots.{state_long, first_names}
 
 -- both forms of a state tell the piece's length where the slot's state tells it, and have as many bytes
-form_names : (b : Bool) (state : List ℕ) → length state ≡ 4096 →
+form_names : (b : Bool) (state : List ℕ) → length state ≡ base_length →
     piece_length (if b then take state_length state else take first_length state ++ zeros 2048) ≡ piece_length state
 form_names true state n =
-    let a : get_or (take state_length state) 1369 0 ≡ get_or state 1369 0 = get_or-take 3419 state 1369 0 (omega arith) in
-    let b : get_or (take state_length state) 1370 0 ≡ get_or state 1370 0 = get_or-take 3419 state 1370 0 (omega arith) in
+    let a : get_or (take state_length state) PIECE_LENGTH_AT 0 ≡ get_or state PIECE_LENGTH_AT 0 =
+    get_or-take state_length state PIECE_LENGTH_AT 0 (omega arith) in
+    let b : get_or (take state_length state) (PIECE_LENGTH_AT + 1) 0 ≡ get_or state (PIECE_LENGTH_AT + 1) 0 =
+    get_or-take state_length state (PIECE_LENGTH_AT + 1) 0 (omega arith) in
     omega (arith, a, b)
 form_names false state n = first_names 2048 state n
 
-form_long : (b : Bool) (state : List ℕ) → length state ≡ 4096 → length (if b then take state_length state else take first_length state ++ zeros 2048) ≡ 3419
-form_long true state n = length-take-le 3419 state (omega arith)
-form_long false state n = omega (arith, length-append (take first_length state) (zeros 2048), length-take-le 1371 state (omega arith), length_zeros 2048)
+form_long : (b : Bool) (state : List ℕ) → length state ≡ base_length →
+    length (if b then take state_length state else take first_length state ++ zeros 2048) ≡ state_length
+form_long true state n = length-take-le state_length state (omega arith)
+form_long false state n =
+    let l = length-take-le first_length state (omega arith) in
+    omega (arith, length-append (take first_length state) (zeros 2048), l, length_zeros 2048)
 
 same_shown : (d : Digests) (a p : List ℕ) (e : Digests) (b q : List ℕ) → Shown d a p ≡ Shown e b q → (d ≡ e) × (a ≡ b) × (p ≡ q)
 same_shown d a p e b q h = (cc, cc, cc)
@@ -44,7 +53,7 @@ by_slot digests s d st p e = by_count digests s d st p (nat_le (two_byte_number 
 
 of_chosen : (bytes : List ℕ) (digests : Digests) (state piece : List ℕ) → recover bytes ≡ Shown digests state piece →
     (kept_digests bytes ≡ digests) × (shown_state (slot (chosen bytes) bytes) ≡ state) × (slot_piece (slot (chosen bytes) bytes) ≡ piece)
-    × (length (slot (chosen bytes) bytes) ≡ 86080)
+    × (length (slot (chosen bytes) bytes) ≡ slot_length)
 of_chosen bytes digests state piece e =
     let made = shown_made bytes digests state piece e in
     let p = by_slot (kept_digests bytes) (slot (chosen bytes) bytes) digests state piece
@@ -56,7 +65,8 @@ pub shown_digests : (bytes : List ℕ) (digests : Digests) (state piece : List �
 shown_digests bytes digests state piece e = (of_chosen bytes digests state piece e).0
 
 -- a state that is shown has 3,419 bytes
-pub shown_whole : (bytes : List ℕ) (digests : Digests) (state piece : List ℕ) → recover bytes ≡ Shown digests state piece → length state ≡ 3419
+pub shown_whole : (bytes : List ℕ) (digests : Digests) (state piece : List ℕ) →
+    recover bytes ≡ Shown digests state piece → length state ≡ state_length
 shown_whole bytes digests state piece e =
     let h = of_chosen bytes digests state piece e in
     let s = slot (chosen bytes) bytes in
@@ -68,7 +78,8 @@ shown_long bytes digests state piece e few =
     let h = of_chosen bytes digests state piece e in
     let s = slot (chosen bytes) bytes in
     let n : piece_length state ≡ piece_length (slot_state s) = ap piece_length (sym h.1) ∙ form_names (is_second s) (slot_state s) (state_long s h.3) in
-    ap length (sym h.2) ∙ (length-take-le (piece_length (slot_state s)) (drop 4160 s) (there _ _ _ _ (length-drop 4160 s) h.3 n few) ∙ sym n)
+    ap length (sym h.2) ∙ (length-take-le (piece_length (slot_state s)) (drop PIECE_AT s) (there _ _ _ _ (length-drop PIECE_AT s) h.3 n few)
+    ∙ sym n)
   where
-    there : (k d l m : ℕ) → d ≡ l - 4160 → l ≡ 86080 → m ≡ k → m ≤ 81920 → k ≤ d
+    there : (k d l m : ℕ) → d ≡ l - PIECE_AT → l ≡ slot_length → m ≡ k → m ≤ 81920 → k ≤ d
     there k d l m e f n few = omega arith

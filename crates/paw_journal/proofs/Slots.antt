@@ -5,6 +5,7 @@ use Rattle.std.specs.Prelude.{slice_set, Bool, ◌&&◌, Option, Some, None, is_
 use Rattle.std.proofs.lemmas.Bool.Decides.{nat_tests}
 use Rattle.std.proofs.lemmas.List.{length-append, take-replicate, length-take-le, length-set, get_or-take, get_or_append_left, take_all, take_at}
 use Rattle.std.proofs.Math.Seq.{take-append-add}
+use Rattle.paw_base.specs.declared.layout.TheConstants.{PIECE_LENGTH_AT}
 use Rattle.paw_journal.specs.declared.layout.Slot.{Slot}
 use Rattle.paw_journal.specs.declared.layout.Slot.TheVariants as which
 use Rattle.paw_journal.specs.declared.drafting.SlotState.{SlotState}
@@ -14,6 +15,8 @@ use Rattle.paw_journal.specs.Session.{changes, changed, first_unsound, slot_chan
 use Rattle.paw_journal.specs.Session.{has_state}
 use Rattle.paw_journal.specs.Session.{slot_length, header_length, session_length, zeros}
 use Rattle.paw_journal.specs.inner.Room.{Room, kept_slot, with_slot_kept}
+use Rattle.paw_journal.specs.declared.layout.TheConstants.{BASE_AT, CHANGES_AT, PIECE_AT}
+use Rattle.paw_journal.specs.Session.{base_length}
 use Rattle.paw_journal.proofs.Kept.{has_state_is, state_has, kept_shows, sound_shows, kept_of_both, kept_of_first, kept_of_broken}
 use Rattle.paw_journal.proofs.Puts.{stretch_long}
 use Rattle.paw_journal.proofs.Makes.{length_zeros}
@@ -53,22 +56,24 @@ too_many digests bytes count e h =
     above n count e h = grind (arith, nat_tests)
 
 pub few_changes : (digests : Digests) (bytes records : List ℕ) (count : ℕ) (first : Option ℕ) → count ≡ two_byte_number 0 bytes →
-    count ≤ most_changes → records ≡ stretch 69696 (4 * count) bytes → first ≡ first_unsound (changes records) →
+    count ≤ most_changes → records ≡ stretch CHANGES_AT (4 * count) bytes → first ≡ first_unsound (changes records) →
     slot_shows digests bytes ≡ shown_unless digests bytes first
 unfolding slot_shows
 few_changes digests bytes records count first e h r u =
     let f : nat_le (two_byte_number 0 bytes) most_changes ≡ true = below (two_byte_number 0 bytes) count e h in
     ap (λ b. if b then shown_unless digests bytes (first_unsound (slot_changes bytes)) else Damaged part.Slot 0) f
-    ∙ ap (shown_unless digests bytes) (sym (u ∙ (ap (λ l. first_unsound (changes l)) r ∙ ap (λ n. first_unsound (changes (stretch 69696 (4 * n) bytes))) e)))
+    ∙ ap (shown_unless digests bytes) (sym (u ∙ (ap (λ l. first_unsound (changes l)) r
+    ∙ ap (λ n. first_unsound (changes (stretch CHANGES_AT (4 * n) bytes))) e)))
   where
     below : (n count : ℕ) → count ≡ n → count ≤ most_changes → nat_le n most_changes ≡ true
     below n count e h = grind (arith, nat_tests)
 
 pub state_is : (bytes records old now : List ℕ) (count : ℕ) → count ≡ two_byte_number 0 bytes →
-    records ≡ stretch 69696 (4 * count) bytes → old ≡ base bytes → now ≡ changed (changes records) old →
+    records ≡ stretch CHANGES_AT (4 * count) bytes → old ≡ base bytes → now ≡ changed (changes records) old →
     now ≡ slot_state bytes
 state_is bytes records old now count e r b n =
-    n ∙ (ap (λ l. changed (changes l) old) (r ∙ ap (λ n. stretch 69696 (4 * n) bytes) e) ∙ ap (changed (slot_changes bytes)) b)
+    n ∙ (ap (λ l. changed (changes l) old) (r ∙ ap (λ n. stretch CHANGES_AT (4 * n) bytes) e)
+    ∙ ap (changed (slot_changes bytes)) b)
 
 pub broken_many : (bytes : List ℕ) (count : ℕ) → count ≡ two_byte_number 0 bytes → most_changes < count → has_state bytes ≡ false
 broken_many bytes count e h = above (two_byte_number 0 bytes) count (is_none (first_unsound (slot_changes bytes))) e h
@@ -77,14 +82,15 @@ broken_many bytes count e h = above (two_byte_number 0 bytes) count (is_none (fi
     above n count b e h = let f : nat_le n most_changes ≡ false = grind (arith, nat_tests) in ap (λ t. t && b) f
 
 same_unsound : (bytes records : List ℕ) (count : ℕ) (first : Option ℕ) → count ≡ two_byte_number 0 bytes →
-    records ≡ stretch 69696 (4 * count) bytes → first ≡ first_unsound (changes records) →
+    records ≡ stretch CHANGES_AT (4 * count) bytes → first ≡ first_unsound (changes records) →
     first_unsound (slot_changes bytes) ≡ first
 same_unsound bytes records count first e r u =
     sym (u ∙ (ap (λ l. first_unsound (changes l)) r
-    ∙ ap (λ n. first_unsound (changes (stretch 69696 (4 * n) bytes))) e))
+    ∙ ap (λ n. first_unsound (changes (stretch CHANGES_AT (4 * n) bytes))) e))
 
 pub broken_record : (bytes records : List ℕ) (count number : ℕ) → count ≡ two_byte_number 0 bytes →
-    records ≡ stretch 69696 (4 * count) bytes → Some number ≡ first_unsound (changes records) → has_state bytes ≡ false
+    records ≡ stretch CHANGES_AT (4 * count) bytes → Some number ≡ first_unsound (changes records) →
+    has_state bytes ≡ false
 broken_record bytes records count number e r u =
     ap (λ o. nat_le (two_byte_number 0 bytes) most_changes && is_none o)
     (same_unsound bytes records count (Some number) e r u) ∙ never (nat_le (two_byte_number 0 bytes) most_changes)
@@ -94,23 +100,24 @@ broken_record bytes records count number e r u =
     never false = refl
 
 pub whole_slot : (bytes records : List ℕ) (count : ℕ) → count ≡ two_byte_number 0 bytes → count ≤ most_changes →
-    records ≡ stretch 69696 (4 * count) bytes → None ≡ first_unsound (changes records) → has_state bytes ≡ true
+    records ≡ stretch CHANGES_AT (4 * count) bytes → None ≡ first_unsound (changes records) → has_state bytes ≡ true
 whole_slot bytes records count e low r u = has_state_is bytes (omega (arith, e)) (same_unsound bytes records count None e r u)
 
 pub whole_state : (bytes records old now : List ℕ) (count : ℕ) → count ≡ two_byte_number 0 bytes →
-    records ≡ stretch 69696 (4 * count) bytes → old ≡ base bytes → now ≡ changed (changes records) old →
+    records ≡ stretch CHANGES_AT (4 * count) bytes → old ≡ base bytes → now ≡ changed (changes records) old →
     ◌≡◌ {A = SlotState} (record { records = count; state = now })
     (record { records = two_byte_number 0 bytes; state = slot_state bytes })
 whole_state bytes records old now count e r b n = let s = state_is bytes records old now count e r b n in cc (e, s)
 
-pub records_are : (count : ℕ) (held bytes : List ℕ) → held ≡ bytes → take (69696 + 4 * count - 69696) (drop 69696 held) ≡ stretch 69696 (4 * count) bytes
-records_are count held bytes e = let n : 69696 + 4 * count - 69696 ≡ 4 * count = omega arith in
-    ap (λ k. take k (drop 69696 held)) n ∙ ap (stretch 69696 (4 * count)) e
+pub records_are : (count : ℕ) (held bytes : List ℕ) → held ≡ bytes →
+    take (CHANGES_AT + 4 * count - CHANGES_AT) (drop CHANGES_AT held) ≡ stretch CHANGES_AT (4 * count) bytes
+records_are count held bytes e = let n : CHANGES_AT + 4 * count - CHANGES_AT ≡ 4 * count = omega arith in
+    ap (λ k. take k (drop CHANGES_AT held)) n ∙ ap (stretch CHANGES_AT (4 * count)) e
 
 -- there is room for state and piece behind the head of a slot, and for as many zeros behind these
 pub room_for_body : (r s : Room) (piece : List ℕ) → s.slot ≡ 0 ∷ 0 ∷ 2 ∷ [] → s.piece ≡ piece →
     r ≡ record s { slot = s.slot ++ zeros 61 } → length piece ≤ 65535 →
-    length r.slot + 4096 + length r.piece ≤ slot_length
+    length r.slot + base_length + length r.piece ≤ slot_length
 room_for_body r s piece f g e few = omega (
   arith,
   ap (λ x. length x.slot) e,
@@ -123,7 +130,7 @@ room_for_body r s piece f g e few = omega (
 )
 
 pub room_behind : (q r s : Room) (state piece : List ℕ) (n : ℕ) → s.slot ≡ 0 ∷ 0 ∷ 2 ∷ [] → s.state ≡ state →
-    s.piece ≡ piece → r ≡ record s { slot = s.slot ++ zeros 61 } → length state ≡ 4096 → length piece ≤ 65535 →
+    s.piece ≡ piece → r ≡ record s { slot = s.slot ++ zeros 61 } → length state ≡ base_length → length piece ≤ 65535 →
     q ≡ record r { slot = r.slot ++ r.state ++ r.piece } → n ≡ length piece → length q.slot + (81920 - n) ≤ slot_length
 room_behind q r s state piece n a b d e long few f k =
     omega (
@@ -156,31 +163,35 @@ length-changed : (all : List Change) (bytes : List ℕ) → length (changed all 
 length-changed [] bytes = refl
 length-changed (c ∷ all) bytes = length-changed all (slice_set bytes c.at c.byte) ∙ length-set bytes c.at c.byte
 
-pub state_long : (bytes : List ℕ) → length bytes ≡ 86080 → length (slot_state bytes) ≡ 4096
-state_long bytes n = length-changed (slot_changes bytes) (base bytes) ∙ stretch_long 64 4096 bytes (omega arith)
+pub state_long : (bytes : List ℕ) → length bytes ≡ slot_length → length (slot_state bytes) ≡ base_length
+state_long bytes n =
+    length-changed (slot_changes bytes) (base bytes)
+    ∙ stretch_long BASE_AT base_length bytes (omega arith)
 
 -- a state of version 1 in the form of version 2
-brought_shown : (state : List ℕ) → length state ≡ 4096 → take state_length (take first_length state ++ zeros 2725) ≡ take first_length state ++ zeros 2048
+brought_shown : (state : List ℕ) → length state ≡ base_length →
+    take state_length (take first_length state ++ zeros 2725) ≡ take first_length state ++ zeros 2048
 unfolding zeros
 brought_shown state n =
-    let l : length (take first_length state) ≡ 1371 = length-take-le 1371 state (omega arith) in
+    let l : length (take first_length state) ≡ first_length = length-take-le first_length state (omega arith) in
     ap (λ k. take (k + 2048) (take first_length state ++ replicate 2725 0)) (sym l)
     ∙ (take-append-add (take first_length state) (replicate 2725 0) 2048 ∙ ap (λ z. take first_length state ++ z) (take-replicate 2048 2725 0 (omega arith)))
 
 -- it tells the piece's length, whatever number of zeros stands behind it
-pub first_names : (count : ℕ) (state : List ℕ) → length state ≡ 4096 → piece_length (take first_length state ++ zeros count) ≡ piece_length state
+pub first_names : (count : ℕ) (state : List ℕ) → length state ≡ base_length →
+    piece_length (take first_length state ++ zeros count) ≡ piece_length state
 first_names count state n =
-    let l : length (take first_length state) ≡ 1371 = length-take-le 1371 state (omega arith) in
-    let a : get_or (take first_length state ++ zeros count) 1369 0 ≡ get_or state 1369 0 =
-    get_or_append_left (take first_length state) (zeros count) 0 1369 (omega arith)
-    ∙ get_or-take 1371 state 1369 0 (omega arith) in
-    let b : get_or (take first_length state ++ zeros count) 1370 0 ≡ get_or state 1370 0 =
-    get_or_append_left (take first_length state) (zeros count) 0 1370 (omega arith)
-    ∙ get_or-take 1371 state 1370 0 (omega arith) in
+    let l : length (take first_length state) ≡ first_length = length-take-le first_length state (omega arith) in
+    let a : get_or (take first_length state ++ zeros count) PIECE_LENGTH_AT 0 ≡ get_or state PIECE_LENGTH_AT 0 =
+    get_or_append_left (take first_length state) (zeros count) 0 PIECE_LENGTH_AT (omega arith)
+    ∙ get_or-take first_length state PIECE_LENGTH_AT 0 (omega arith) in
+    let b : get_or (take first_length state ++ zeros count) (PIECE_LENGTH_AT + 1) 0 ≡ get_or state (PIECE_LENGTH_AT + 1) 0 =
+    get_or_append_left (take first_length state) (zeros count) 0 (PIECE_LENGTH_AT + 1) (omega arith)
+    ∙ get_or-take first_length state (PIECE_LENGTH_AT + 1) 0 (omega arith) in
     omega (arith, a, b)
 
 -- a slot that was read, and the state that was taken out of it
-module _ (w : Slot) (kept : SlotState) (old shown now : Room) (n : length old.slot ≡ 86080)
+module _ (w : Slot) (kept : SlotState) (old shown now : Room) (n : length old.slot ≡ slot_length)
     (t : has_state old.slot ≡ true) (k : kept ≡ record { records = two_byte_number 0 old.slot; state = slot_state old.slot })
   where
     told : kept.state ≡ slot_state old.slot
@@ -188,58 +199,62 @@ module _ (w : Slot) (kept : SlotState) (old shown now : Room) (n : length old.sl
 
     -- of version 2
     pub taken_shows : (digests : Digests) → is_second old.slot ≡ true →
-        shown ≡ record old { state = kept.state; piece = stretch 4160 (piece_length kept.state) old.slot } →
+        shown ≡ record old { state = kept.state; piece = stretch PIECE_AT (piece_length kept.state) old.slot } →
         now ≡ with_slot_kept w (Some kept) shown →
         slot_shows digests old.slot ≡ Shown digests (take state_length now.state) now.piece
     taken_shows digests e s f =
         let a : now.state ≡ slot_state old.slot = ap (λ r. r.state) f ∙ (state_stays w (Some kept) shown ∙ (ap (λ r. r.state) s ∙ told)) in
-        let b : now.piece ≡ stretch 4160 (piece_length (slot_state old.slot)) old.slot =
+        let b : now.piece ≡ stretch PIECE_AT (piece_length (slot_state old.slot)) old.slot =
         ap (λ r. r.piece) f ∙ (piece_stays w (Some kept) shown
-        ∙ (ap (λ r. r.piece) s ∙ ap (λ l. stretch 4160 (piece_length l) old.slot) told)) in
+        ∙ (ap (λ r. r.piece) s ∙ ap (λ l. stretch PIECE_AT (piece_length l) old.slot) told)) in
         kept_shows digests old.slot (two_byte_number 0 old.slot) (slot_state old.slot) (state_has old.slot e t)
-        ∙ (ap (λ l. Shown digests (take state_length l) (stretch 4160 (piece_length (slot_state old.slot)) old.slot))
+        ∙ (ap (λ l. Shown digests (take state_length l) (stretch PIECE_AT (piece_length (slot_state old.slot)) old.slot))
         (sym a) ∙ ap (Shown digests (take state_length now.state)) (sym b))
 
     pub taken_kept : is_second old.slot ≡ true →
-        shown ≡ record old { state = kept.state; piece = stretch 4160 (piece_length kept.state) old.slot } →
+        shown ≡ record old { state = kept.state; piece = stretch PIECE_AT (piece_length kept.state) old.slot } →
         now ≡ with_slot_kept w (Some kept) shown →
         now ≡ with_slot_kept w (kept_slot old.slot) (record old { state = now.state; piece = now.piece })
     taken_kept e s f =
         let a : now.state ≡ kept.state = ap (λ r. r.state) f ∙ (state_stays w (Some kept) shown ∙ ap (λ r. r.state) s) in
-        let b : now.piece ≡ stretch 4160 (piece_length kept.state) old.slot = ap (λ r. r.piece) f ∙ (piece_stays w (Some kept) shown ∙ ap (λ r. r.piece) s) in
+        let b : now.piece ≡ stretch PIECE_AT (piece_length kept.state) old.slot =
+        ap (λ r. r.piece) f ∙ (piece_stays w (Some kept) shown ∙ ap (λ r. r.piece) s) in
         let q : Some kept ≡ kept_slot old.slot = ap Some k ∙ sym (kept_of_both old.slot e t) in
         let r : shown ≡ record old { state = now.state; piece = now.piece } =
-        s ∙ (ap (λ l. record old { state = l; piece = stretch 4160 (piece_length kept.state) old.slot }) (sym a)
+        s ∙ (ap (λ l. record old { state = l; piece = stretch PIECE_AT (piece_length kept.state) old.slot }) (sym a)
         ∙ ap (λ l. record old { state = now.state; piece = l }) (sym b)) in
         f ∙ (ap (λ x. with_slot_kept w x shown) q ∙ ap (with_slot_kept w (kept_slot old.slot)) r)
 
     -- of version 1
     pub brought_shows : (digests : Digests) (state : List ℕ) → is_second old.slot ≡ false →
         state ≡ take first_length kept.state ++ zeros 2725 →
-        shown ≡ record old { state = state; piece = stretch 4160 (piece_length state) old.slot } →
+        shown ≡ record old { state = state; piece = stretch PIECE_AT (piece_length state) old.slot } →
         now ≡ with_slot_kept w None shown → slot_shows digests old.slot ≡ Shown digests (take state_length now.state) now.piece
     brought_shows digests state e i s f =
-        let long : length (slot_state old.slot) ≡ 4096 = state_long old.slot n in
+        let long : length (slot_state old.slot) ≡ base_length = state_long old.slot n in
         let st : state ≡ take first_length (slot_state old.slot) ++ zeros 2725 = i ∙ ap (λ l. take first_length l ++ zeros 2725) told in
         let a : now.state ≡ state = ap (λ r. r.state) f ∙ (state_stays w None shown ∙ ap (λ r. r.state) s) in
-        let b : now.piece ≡ stretch 4160 (piece_length state) old.slot = ap (λ r. r.piece) f ∙ (piece_stays w None shown ∙ ap (λ r. r.piece) s) in
+        let b : now.piece ≡ stretch PIECE_AT (piece_length state) old.slot =
+        ap (λ r. r.piece) f ∙ (piece_stays w None shown ∙ ap (λ r. r.piece) s) in
         let c : take state_length now.state ≡ take first_length (slot_state old.slot) ++ zeros 2048 =
         ap (take state_length) (a ∙ st) ∙ brought_shown (slot_state old.slot) long in
-        let p : now.piece ≡ slot_piece old.slot = b ∙ ap (λ m. stretch 4160 m old.slot) (ap piece_length st ∙ first_names 2725 (slot_state old.slot) long) in
+        let p : now.piece ≡ slot_piece old.slot =
+        b ∙ ap (λ m. stretch PIECE_AT m old.slot) (ap piece_length st ∙ first_names 2725 (slot_state old.slot) long) in
         sound_shows digests old.slot t
         ∙ (ap (λ x. Shown digests (if x then take state_length (slot_state old.slot) else take first_length
         (slot_state old.slot) ++ zeros 2048) (slot_piece old.slot)) e
         ∙ (ap (λ l. Shown digests l (slot_piece old.slot)) (sym c) ∙ ap (Shown digests (take state_length now.state)) (sym p)))
 
     pub brought_kept : (state : List ℕ) → is_second old.slot ≡ false →
-        shown ≡ record old { state = state; piece = stretch 4160 (piece_length state) old.slot } →
+        shown ≡ record old { state = state; piece = stretch PIECE_AT (piece_length state) old.slot } →
         now ≡ with_slot_kept w None shown → now
         ≡ with_slot_kept w (kept_slot old.slot) (record old { state = now.state; piece = now.piece })
     brought_kept state e s f =
         let a : now.state ≡ state = ap (λ r. r.state) f ∙ (state_stays w None shown ∙ ap (λ r. r.state) s) in
-        let b : now.piece ≡ stretch 4160 (piece_length state) old.slot = ap (λ r. r.piece) f ∙ (piece_stays w None shown ∙ ap (λ r. r.piece) s) in
+        let b : now.piece ≡ stretch PIECE_AT (piece_length state) old.slot =
+        ap (λ r. r.piece) f ∙ (piece_stays w None shown ∙ ap (λ r. r.piece) s) in
         let r : shown ≡ record old { state = now.state; piece = now.piece } =
-        s ∙ (ap (λ l. record old { state = l; piece = stretch 4160 (piece_length state) old.slot }) (sym a)
+        s ∙ (ap (λ l. record old { state = l; piece = stretch PIECE_AT (piece_length state) old.slot }) (sym a)
         ∙ ap (λ l. record old { state = now.state; piece = l }) (sym b)) in
         f ∙ (ap (λ x. with_slot_kept w x shown) (sym (kept_of_first old.slot e)) ∙ ap (with_slot_kept w (kept_slot old.slot)) r)
 

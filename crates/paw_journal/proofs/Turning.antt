@@ -11,6 +11,7 @@ use Rattle.std.proofs.Math.Seq.{take-suc, drop-cons, set-append_seam}
 use Rattle.paw_journal.specs.Session.{Change, changes, changed, is_sound, first_unsound}
 use Rattle.paw_journal.specs.Session.{differing, change_bytes, differences_from, differences}
 use Rattle.paw_journal.specs.inner.Steps.{Turns}
+use Rattle.paw_journal.specs.Session.{base_length}
 
 pub changes-append : (n : ℕ) (a b : List ℕ) → length a ≡ 4 * n → changes (a ++ b) ≡ changes a ++ changes b
 changes-append zero [] b e = refl
@@ -47,7 +48,7 @@ sound-append a b e f =
     let p : Change → Bool = λ c. not (is_sound c) in
     position_from-zero p (a ++ b) ∙ from-append p 0 a b (sym (position_from-zero p a) ∙ e) (sym (position_from-zero p b) ∙ f)
 
-sound_one : (c : Change) → c.at < 4096 → c.last ≡ 0 → first_unsound (c ∷ []) ≡ None
+sound_one : (c : Change) → c.at < base_length → c.last ≡ 0 → first_unsound (c ∷ []) ≡ None
 sound_one c low e =
     let h : is_sound c ≡ true = grind (arith, nat_tests) in
     position_from-zero (λ d. not (is_sound d)) (c ∷ []) ∙ first (is_sound c) h
@@ -127,7 +128,7 @@ one_change : (x y z i : ℕ) → x + 256 * y ≡ i → changes (x ∷ y ∷ z �
 one_change x y z i e = ap (λ k. record { at = k; byte = z; last = 0 } ∷ []) e
 
 pub turns_other : (old new records now : List ℕ) (i z : ℕ) → TurnsTo old new i records → length old ≡ length new →
-    i < length old → i < 4096 → get_or old i 0 ≢ get_or new i 0 → z ≡ get_or new i 0 →
+    i < length old → i < base_length → get_or old i 0 ≢ get_or new i 0 → z ≡ get_or new i 0 →
     now ≡ records ++ change_bytes i z → TurnsTo old new (suc i) now
 turns_other old new records now i z h n low short ne q e =
     let p : i % 256 + 256 * (i / 256) ≡ i = omega arith in

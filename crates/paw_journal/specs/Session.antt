@@ -3,22 +3,25 @@ use Rattle.std.specs.Prelude.{◌≡◌, ◌⊎◌, ◌==◌, ◌&&◌, ◌||◌
 use Rattle.std.specs.Prelude.{[], suc}
 use Rattle.std.specs.Prelude.{◌∷◌, ◌++◌, length, take, drop, slice_index, slice_set, position, Option, Some}
 use Rattle.std.specs.Prelude.{None, is_none, if◌then◌else◌}
+use Rattle.paw_base.specs.declared.layout.TheConstants.{STATE_LENGTH, FIRST_LENGTH, PIECE_LENGTH_AT}
 unfoldable pub use Rattle.paw_base.specs.Bytes.{zeros}
 use Rattle.paw_stage.specs.Disk.{put}
+use Rattle.paw_journal.specs.declared.layout.TheConstants.{HEADER_LENGTH, SLOT_LENGTH, SESSION_LENGTH, BASE_AT}
+use Rattle.paw_journal.specs.declared.layout.TheConstants.{BASE_LENGTH, PIECE_AT, CHANGES_AT, MOST_CHANGES}
 use Rattle.paw_journal.specs.declared.refusal.SessionPart.{SessionPart}
 use Rattle.paw_journal.specs.declared.refusal.SessionPart.TheVariants as part
 
 -- A session is a header and then two slots, 0 and 1.
 abbrev pub header_length : ℕ
-header_length = 128
+header_length = HEADER_LENGTH
 
 -- The bytes of a slot.
 abbrev pub slot_length : ℕ
-slot_length = 86080
+slot_length = SLOT_LENGTH
 
 -- The bytes of a session: its header and two slots.
 abbrev pub session_length : ℕ
-session_length = 172288
+session_length = SESSION_LENGTH
 
 -- So many bytes from a place on.
 abbrev pub stretch : ℕ → ℕ → List ℕ → List ℕ
@@ -70,11 +73,11 @@ slot k bytes = stretch (header_length + slot_length * k) slot_length bytes
 
 -- The bytes of a slot's base.
 abbrev pub base_length : ℕ
-base_length = 4096
+base_length = BASE_LENGTH
 
 -- The most change records of a slot.
 abbrev pub most_changes : ℕ
-most_changes = 4096
+most_changes = MOST_CHANGES
 
 -- A slot is of version 2 where its byte 2 is 2, and of version 1 otherwise.
 abbrev pub is_second : List ℕ → Bool
@@ -82,7 +85,7 @@ is_second bytes = slice_index bytes 2 == 2
 
 -- The base of a slot.
 abbrev pub base : List ℕ → List ℕ
-base bytes = stretch 64 base_length bytes
+base bytes = stretch BASE_AT base_length bytes
 
 -- A change record: the place of a byte of the base, the byte that stands there from then on, and a byte that is 0.
 pub record Change : Type 0 where
@@ -101,7 +104,7 @@ changes bytes = []
 
 -- The change records of a slot.
 abbrev pub slot_changes : List ℕ → List Change
-slot_changes bytes = changes (stretch 69696 (4 * two_byte_number 0 bytes) bytes)
+slot_changes bytes = changes (stretch CHANGES_AT (4 * two_byte_number 0 bytes) bytes)
 
 -- The number of the first change that isn't sound.
 abbrev pub first_unsound : List Change → Option ℕ
@@ -123,11 +126,11 @@ has_state bytes = nat_le (two_byte_number 0 bytes) most_changes && is_none (firs
 -- The bytes of a state, and how many of them version 1 has. Bytes 1,369 and 1,370 tell the length of the piece; behind
 -- them stand the positions that are kept, which version 1 has not.
 abbrev pub state_length : ℕ
-state_length = 3419
+state_length = STATE_LENGTH
 
 -- The bytes of a state in version 1.
 abbrev pub first_length : ℕ
-first_length = 1371
+first_length = FIRST_LENGTH
 
 -- The state that a slot shows. Where it is of version 1, no position is kept, whatever stands behind its state.
 abbrev pub shown_state : List ℕ → List ℕ
@@ -136,11 +139,11 @@ shown_state bytes =
 
 -- How many bytes the piece of a state has.
 abbrev pub piece_length : List ℕ → ℕ
-piece_length state = two_byte_number 1369 state
+piece_length state = two_byte_number PIECE_LENGTH_AT state
 
 -- The piece of a slot.
 abbrev pub slot_piece : List ℕ → List ℕ
-slot_piece bytes = stretch 4160 (piece_length (slot_state bytes)) bytes
+slot_piece bytes = stretch PIECE_AT (piece_length (slot_state bytes)) bytes
 
 -- What the bytes of a store stand for: no session, with their length and mark; one that is damaged, with the place of
 -- the first broken rule; or one that shows a state and a piece, with the digests of whose session it is.
@@ -152,7 +155,7 @@ pub data Recovered : Type 0 where
 -- What a slot shows where this is its first change that isn't sound: it is damaged there. With none it shows its state
 -- and its piece.
 abbrev pub shown_unless : Digests → List ℕ → Option ℕ → Recovered
-shown_unless digests bytes (Some n) = Damaged part.Slot (69696 + 4 * n)
+shown_unless digests bytes (Some n) = Damaged part.Slot (CHANGES_AT + 4 * n)
 shown_unless digests bytes None = Shown digests (shown_state bytes) (slot_piece bytes)
 
 -- What a slot shows. One with too many change records is damaged at its first byte.
@@ -220,7 +223,7 @@ slot_head records = (records % 256) ∷ (records / 256) ∷ 2 ∷ []
 -- A slot that is of version 2 from now on, with so many change records, this piece, and these bytes from a place on.
 -- All its other bytes are as they were.
 abbrev pub rewritten : ℕ → List ℕ → ℕ → List ℕ → List ℕ → List ℕ
-rewritten at new records piece bytes = put 0 (slot_head records) (put 4160 piece (put at new bytes))
+rewritten at new records piece bytes = put 0 (slot_head records) (put PIECE_AT piece (put at new bytes))
 
 -- How many change records a slot would have, once those are added that give it this state.
 abbrev pub records_with : List ℕ → List ℕ → ℕ
@@ -235,9 +238,9 @@ takes_changes state bytes = is_second bytes && has_state bytes && nat_le (record
 unfoldable pub committed_slot : List ℕ → List ℕ → List ℕ → List ℕ
 committed_slot state piece bytes =
     if takes_changes state bytes
-    then rewritten (69696 + 4 * two_byte_number 0 bytes) (differences (slot_state bytes) state)
+    then rewritten (CHANGES_AT + 4 * two_byte_number 0 bytes) (differences (slot_state bytes) state)
     (records_with state bytes) piece bytes
-    else rewritten 64 state 0 piece bytes
+    else rewritten BASE_AT state 0 piece bytes
 
 -- The bytes of a session once this slot is written by a commit, and in use. All other bytes are as they were.
 unfoldable pub committed_in : ℕ → List ℕ → List ℕ → List ℕ → List ℕ

@@ -47,7 +47,7 @@ pub(crate) fn write_slot<S: Stage>(
 
 // The first bytes of a slot with so many change records, which tell its version too.
 fn head_of(records: u16) -> [u8; 3]
-    ensures { result ≡ slot_head records }
+    ensures value { result ≡ slot_head records }
 {
     [(records % 256) as u8, (records / 256) as u8, VERSION]
 }

@@ -23,7 +23,7 @@ pub(crate) struct Draft {
 
 /// Puts together what makes a slot, of which this is kept, have a new state.
 pub(crate) fn draft_over(kept: &Option<SlotState>, state: &[u8; 4096], into: &mut Vec<u8>) -> Draft
-    requires { slot_length ≤ vec_capacity into.old }
+    requires room { slot_length ≤ vec_capacity into.old }
     ensures drafts { Drafts kept.now state.now into.new.items result }
     ensures capacity { slot_length ≤ vec_capacity into.new }
 {
@@ -35,7 +35,7 @@ pub(crate) fn draft_over(kept: &Option<SlotState>, state: &[u8; 4096], into: &mu
 
 // Change records to stand behind those that the slot has; where these are too many, its base.
 fn draft_changes(kept: &SlotState, state: &[u8; 4096], into: &mut Vec<u8>) -> Draft
-    requires { slot_length ≤ vec_capacity into.old }
+    requires room { slot_length ≤ vec_capacity into.old }
     ensures drafts { Drafts (Some kept.now) state.now into.new.items result }
     ensures capacity { slot_length ≤ vec_capacity into.new }
 {
@@ -54,7 +54,7 @@ fn draft_changes(kept: &SlotState, state: &[u8; 4096], into: &mut Vec<u8>) -> Dr
 
 // The base of the slot, whole.
 fn draft_base(state: &[u8; 4096], into: &mut Vec<u8>) -> Draft
-    requires { slot_length ≤ vec_capacity into.old }
+    requires room { slot_length ≤ vec_capacity into.old }
     ensures bytes { into.new.items ≡ state.now }
     ensures value { result ≡ record { at = 64; records = 0 } }
     ensures capacity { slot_length ≤ vec_capacity into.new }

@@ -145,7 +145,7 @@ fn digest_at(bytes: &[u8; HEADER_LENGTH], at: usize) -> [u8; DIGEST_LENGTH]
 
 // Whether a session may have this version.
 fn is_known_version(version: u8) -> bool
-    ensures { result ≡ is_version version }
+    ensures value { result ≡ is_version version }
 {
     version == FIRST_VERSION || version == VERSION
 }

@@ -47,15 +47,9 @@ pub(crate) const MOST_CHANGES: usize = 4_096;
 
 pub(crate) const CHANGE_LENGTH: usize = 4;
 
-/// How many bytes a state has in a slot of the first version.
-pub(crate) const FIRST_LENGTH: usize = 1_371;
-
-/// Where a state tells the length of its piece.
-pub(crate) const PIECE_LENGTH_AT: usize = 1_369;
-
 /// The number of 16 bits at a place, its low byte first.
 pub(crate) fn number_at(bytes: &[u8], at: usize) -> usize
-    requires { at + 1 < length bytes.now }
+    requires within { at + 1 < length bytes.now }
     ensures value { result ≡ two_byte_number at bytes.now }
     ensures small { result ≤ 65535 }
 {
@@ -72,7 +66,7 @@ pub enum Slot {
 impl Slot {
     /// The slot that a selector chooses: its low bit alone tells.
     pub(crate) fn chosen_by(selector: u8) -> Slot
-        ensures { slot_number result ≡ selector % 2 }
+        ensures value { slot_number result ≡ selector % 2 }
     {
         if selector % 2 == 0 {
             Slot::First
@@ -83,7 +77,7 @@ impl Slot {
 
     /// The selector that chooses it: 0 or 1.
     pub(crate) fn selector(self) -> u8
-        ensures { result ≡ slot_number self }
+        ensures value { result ≡ slot_number self }
     {
         match self {
             Slot::First => 0,
@@ -93,7 +87,7 @@ impl Slot {
 
     /// The slot beside it.
     pub(crate) fn other(self) -> Slot
-        ensures { slot_number result ≡ 1 - slot_number self }
+        ensures value { slot_number result ≡ 1 - slot_number self }
     {
         match self {
             Slot::First => Slot::Second,
@@ -103,7 +97,7 @@ impl Slot {
 
     /// Its first byte in the session.
     pub(crate) fn start(self) -> u64
-        ensures { result ≡ header_length + slot_length * slot_number self }
+        ensures value { result ≡ header_length + slot_length * slot_number self }
     {
         HEADER_LENGTH as u64 + SLOT_LENGTH as u64 * u64::from(self.selector())
     }

@@ -8,9 +8,10 @@ ghost use Rattle.paw_journal.specs.inner.Room.{kept_slot, state_in};
 use crate::changes::apply;
 use crate::drafting::SlotState;
 use crate::layout::{
-    BASE_AT, BASE_LENGTH, CHANGE_LENGTH, CHANGES_AT, FIRST_LENGTH, MOST_CHANGES, SLOT_VERSION_AT,
-    VERSION, number_at,
+    BASE_AT, BASE_LENGTH, CHANGE_LENGTH, CHANGES_AT, MOST_CHANGES, SLOT_VERSION_AT, VERSION,
+    number_at,
 };
+use paw_base::layout::FIRST_LENGTH;
 
 /// The state of a slot with these bytes: its base with its change records applied.
 ///
@@ -64,7 +65,7 @@ pub(crate) fn kept_in(slot: &[u8]) -> Option<SlotState>
 /// A state of the first version in the form of today: it keeps no positions, whatever stood behind it.
 #[tactic(auto, unfolding(paw_base::specs::Bytes::zeros))]
 pub(crate) fn brought_up(state: &[u8; 4096]) -> [u8; 4096]
-    ensures { result ≡ take first_length state.now ++ zeros 2725 }
+    ensures value { result ≡ take first_length state.now ++ zeros 2725 }
 {
     let mut now = [0; BASE_LENGTH];
     now[..FIRST_LENGTH].copy_from_slice(&state[..FIRST_LENGTH]);

@@ -14,12 +14,11 @@ ghost use Rattle.paw_journal.specs.inner.Steps.{Drafts};
 ghost use Rattle.paw_journal.specs.inner.Journal.{failed_stage_call};
 
 use crate::drafting::{Draft, SlotState, draft_over};
-use crate::layout::{
-    BASE_AT, PIECE_AT, PIECE_LENGTH_AT, SLOT_LENGTH, SLOT_VERSION_AT, Slot, VERSION, number_at,
-};
+use crate::layout::{BASE_AT, PIECE_AT, SLOT_LENGTH, SLOT_VERSION_AT, Slot, VERSION, number_at};
 use crate::reading::{brought_up, is_current, kept_in, state_in};
 use crate::store::read;
 use paw_base::fault::NoRoom;
+use paw_base::layout::PIECE_LENGTH_AT;
 use paw_base::piece::PIECE_LIMIT;
 use paw_stage::{Stage, StageCall};
 use std::alloc::Global;
@@ -87,7 +86,7 @@ impl Room {
 
     /// Holds this state and this piece from now on.
     pub(crate) fn hold(&mut self, state: &[u8; 4096], piece: &[u8])
-        requires { length piece.now ≤ PIECE_LIMIT }
+        requires short { length piece.now ≤ PIECE_LIMIT }
         ensures value { self.new ≡ record self.old { state = state.now; piece = piece.now } }
     {
         self.state = *state;
@@ -96,7 +95,7 @@ impl Room {
 
     // Holds this piece from now on.
     fn hold_piece(&mut self, piece: &[u8])
-        requires { length piece.now ≤ PIECE_LIMIT }
+        requires short { length piece.now ≤ PIECE_LIMIT }
         ensures value { self.new ≡ record self.old { piece = piece.now } }
     {
         self.piece.clear();
@@ -148,7 +147,7 @@ impl Room {
 
     /// Puts a whole slot together, as it is made.
     pub(crate) fn lay_slot(&mut self)
-        requires { length self.old.piece ≤ PIECE_LIMIT }
+        requires short { length self.old.piece ≤ PIECE_LIMIT }
         ensures value { self.new ≡ record self.old { slot = made_slot self.old.state self.old.piece } }
     {
         let behind = SLOT_LENGTH - PIECE_AT - self.piece.len();
@@ -161,7 +160,7 @@ impl Room {
 
     // Adds the first bytes of a slot with no change records.
     fn add_head(&mut self)
-        requires { self.old.slot ≡ [] }
+        requires empty { self.old.slot ≡ [] }
         ensures value { self.new ≡ record self.old { slot = 0 ∷ 0 ∷ 2 ∷ [] } }
     {
         // The memory was taken by `new`.
@@ -170,7 +169,7 @@ impl Room {
 
     // Adds so many zeros to the slot.
     fn add_zeros(&mut self, count: usize)
-        requires { length self.old.slot + count ≤ slot_length }
+        requires fits { length self.old.slot + count ≤ slot_length }
         ensures value { self.new ≡ record self.old { slot = self.old.slot ++ zeros count } }
     {
         let size = self.slot.len() + count;
@@ -180,7 +179,7 @@ impl Room {
 
     // Adds state and piece to the slot.
     fn add_body(&mut self)
-        requires { length self.old.slot + 4096 + length self.old.piece ≤ slot_length }
+        requires fits { length self.old.slot + 4096 + length self.old.piece ≤ slot_length }
         ensures value { self.new ≡ record self.old { slot = self.old.slot ++ self.old.state ++ self.old.piece } }
     {
         // The memory was taken by `new`.

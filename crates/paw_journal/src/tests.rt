@@ -6,9 +6,10 @@ ghost use Rattle.paw_stage.specs.inner.Memory.{standing_of};
 ghost use Rattle.paw_journal.specs.Session.{piece_length};
 ghost use Rattle.paw_journal.specs.inner.Journal.{KeptIn};
 
-use crate::layout::{PIECE_LENGTH_AT, number_at};
+use crate::layout::number_at;
 use crate::{Journal, JournalRefusal, Room, SessionPart, attach, digest};
 use paw_base::fault::NoRoom;
+use paw_base::layout::{FIRST_LENGTH, PIECE_LENGTH_AT};
 use paw_stage::{MemoryStage, Stage, StageCall, StopStage};
 use std::alloc::Global;
 use std::test::Fail;
@@ -29,7 +30,7 @@ fn the_digest_is_that_of_the_standard(rt: HostRuntime) {
 
 // A state that begins with this byte, and tells the length of this piece.
 fn state_of(first: u8, piece: &[u8]) -> [u8; 4096]
-    requires { length piece.now < 256 }
+    requires short { length piece.now < 256 }
 {
     let mut state = [0; 4096];
     state[0] = first;
@@ -39,13 +40,13 @@ fn state_of(first: u8, piece: &[u8]) -> [u8; 4096]
 
 // Whether a state tells the length of this piece.
 fn tells(state: &[u8; 4096], piece: &[u8]) -> bool
-    ensures { result ≡ true → piece_length state.now ≡ length piece.now }
+    ensures piece { result ≡ true → piece_length state.now ≡ length piece.now }
 {
     number_at(state, PIECE_LENGTH_AT) == piece.len()
 }
 
 fn memory(alloc: Global, bytes: &[u8]) -> Result<MemoryStage, NoRoom>
-    ensures { IfOk result (λ s. IsStable (standing_of s).disk) }
+    ensures stable { IfOk result (λ s. IsStable (standing_of s).disk) }
 {
     let mut stage = MemoryStage::new(alloc, 20_000, 2_000_000)?;
     if !bytes.is_empty() {
@@ -56,7 +57,7 @@ fn memory(alloc: Global, bytes: &[u8]) -> Result<MemoryStage, NoRoom>
 
 // How many of these are done: a session is made, and committed to twice.
 fn sessions<S: Stage>(stage: &mut S, room: &mut Room) -> u8
-    requires { S.Tells stage.old → IsStable (S.standing stage.old).disk }
+    requires stable { S.Tells stage.old → IsStable (S.standing stage.old).disk }
 {
     let (first, second, third) = (
         state_of(0, b"Hall."),
@@ -447,7 +448,7 @@ fn a_session_of_version_1_goes_on(rt: HostRuntime) -> Result<(), Fail> {
             let bytes = stage.inner().crash(rt.alloc(), pick)?;
             let seen = found(rt.alloc(), bytes.as_slice(), &mut room, &GAME)?;
             assert_eq!(rt; seen, left[pick as usize], "{passes} {pick}");
-            assert_eq!(rt; room.state()[1_371], 0, "{passes} {pick}");
+            assert_eq!(rt; room.state()[FIRST_LENGTH], 0, "{passes} {pick}");
         }
     }
     // Each slot is moved over by the first commit into it.
@@ -471,7 +472,7 @@ fn a_session_of_version_1_goes_on(rt: HostRuntime) -> Result<(), Fail> {
 // Whether the session in the store is found, and committed to: these bytes of its state are changed, and it gets this
 // piece.
 fn changes<S: Stage>(stage: &mut S, room: &mut Room, changes: &[(usize, u8)], piece: &[u8]) -> bool
-    requires { S.Tells stage.old → IsStable (S.standing stage.old).disk }
+    requires stable { S.Tells stage.old → IsStable (S.standing stage.old).disk }
 {
     let Ok(at) = attach(stage, "S") else {
         return false;

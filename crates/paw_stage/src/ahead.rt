@@ -30,7 +30,7 @@ impl Model for Ahead {
 impl Ahead {
     /// No bytes yet.
     pub fn new() -> Ahead
-        ensures { result ≡ [] }
+        ensures empty { result ≡ [] }
     {
         Ahead {
             buffer: [0; 4096],
@@ -54,7 +54,7 @@ impl Ahead {
 
     /// Reads more bytes, which are none only at the reader's end. Nothing is taken from the reader where it fails.
     pub fn fill<R: Read>(&mut self, reader: &mut R) -> Result<(), Failed>
-        requires { self.old ≡ [] }
+        requires empty { self.old ≡ [] }
         ensures filled { OnOk result (Consumes (R.remaining reader.old) (R.remaining reader.new) self.new) }
         ensures end { OnOk result (self.new ≡ [] → IsAtEnd (R.remaining reader.new)) }
         ensures same { OnErr result (self.new ≡ []) }

@@ -42,7 +42,7 @@ impl Refusals for Listed {
 impl RefusingStage<Listed> {
     /// A stage over this one, of which the calls with these numbers fail. They need not be in order.
     pub fn new(inner: MemoryStage, calls: Vec<u64>) -> FailStage
-        ensures { result ≡ record { inner = inner; rule = listing_of calls.items; counts = no_faults } }
+        ensures value { result ≡ record { inner = inner; rule = listing_of calls.items; counts = no_faults } }
     {
         RefusingStage::over(inner, Listed { calls, next: 0 })
     }

@@ -23,7 +23,7 @@ pub struct FaultCounts {
 impl FaultCounts {
     /// No call has failed yet.
     pub fn none() -> FaultCounts
-        ensures { result ≡ no_faults }
+        ensures value { result ≡ no_faults }
     {
         FaultCounts {
             load: 0,

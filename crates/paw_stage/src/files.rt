@@ -118,7 +118,7 @@ pub fn has_no_such_call(error: &io::Error) -> bool {
 
 // The folder that the file of a name lies in.
 fn folder_of(name: &str) -> Path<'_>
-    ensures { path_bytes result ≡ folder_of name.now }
+    ensures value { path_bytes result ≡ folder_of name.now }
 {
     match Path::new(name).parent() {
         Some(folder) if !folder.as_str().is_empty() => folder,
@@ -167,7 +167,7 @@ fn file_size_in(limits: &[u8]) -> Option<u64> {
 
 // Goes to a place of a file.
 fn seek_to<F: Seek>(file: &mut F, at: u64) -> Result<(), Failed>
-    ensures { OnOk result (StandsAt (F.stream_position file.old) (F.stream_position file.new) at) }
+    ensures stands { OnOk result (StandsAt (F.stream_position file.old) (F.stream_position file.new) at) }
 {
     match file.seek(SeekFrom::Start(at)) {
         Ok(_) => Ok(()),

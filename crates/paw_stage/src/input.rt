@@ -38,7 +38,7 @@ impl<R: Read + Drop> LineReader<R> {
 
     /// The lines of a reader, of which nothing was read yet.
     pub fn new(reader: R) -> LineReader<R>
-        ensures { unread R.remaining result ≡ R.remaining reader }
+        ensures unread { unread R.remaining result ≡ R.remaining reader }
     {
         LineReader {
             reader,
@@ -114,15 +114,15 @@ impl<R: Read + Drop> LineReader<R> {
 
 // The length of a line without the CR before its LF.
 fn without_return(len: u32, returned: bool) -> u32
-    requires { IsTrue returned → 0 < len }
-    ensures { result ≡ (if returned then len - 1 else len) }
+    requires nonempty { IsTrue returned → 0 < len }
+    ensures value { result ≡ (if returned then len - 1 else len) }
 {
     if returned { len - 1 } else { len }
 }
 
 // Keeps a byte of the line, if it is one of the first 255.
 fn keep(into: &mut [u8; LINE_LIMIT], at: u32, byte: u8)
-    ensures { into.new ≡ (if nat_lt at LINE_LIMIT then slice_set into.old at byte else into.old) }
+    ensures kept { into.new ≡ (if nat_lt at LINE_LIMIT then slice_set into.old at byte else into.old) }
 {
     if at < LINE_LIMIT as u32 {
         into[at as usize] = byte;

@@ -70,7 +70,7 @@ impl Model for Log {
 impl Log {
     /// No calls yet, and room for these numbers of calls and bytes.
     pub fn new(alloc: Global, calls: usize, bytes: usize) -> Result<Log, NoRoom>
-        ensures { IfOk result (λ l. l ≡ record { calls = []; calls_left = calls; bytes_left = bytes }) }
+        ensures value { IfOk result (λ l. l ≡ record { calls = []; calls_left = calls; bytes_left = bytes }) }
     {
         Ok(Log {
             calls: Vec::with_capacity(alloc, calls)?,
@@ -114,28 +114,28 @@ impl Log {
 
     /// The kind of the call of this number, counted from 0, and the name handed to it.
     pub fn call(&self, number: usize) -> Option<(CallKind, &[u8])>
-        ensures { option_map (λ c. (c.0, c.1.now)) result ≡ call_at self.now.calls number }
+        ensures value { option_map (λ c. (c.0, c.1.now)) result ≡ call_at self.now.calls number }
     {
         call_at(self.calls.as_slice(), self.room.as_slice(), number)
     }
 
     /// How many calls of the stage these are; a file that was put there between them isn't counted.
     pub fn calls_made(&self) -> usize
-        ensures { result ≡ calls_made self.now.calls }
+        ensures value { result ≡ calls_made self.now.calls }
     {
         calls_made(self.calls.as_slice())
     }
 
     /// The text shown.
     pub fn shown(&self) -> &[u8]
-        ensures { result.now ≡ (after fresh self.now.calls).shown }
+        ensures value { result.now ≡ (after fresh self.now.calls).shown }
     {
         self.text.as_slice()
     }
 
     /// The number of bytes that were written to stores.
     pub fn written(&self) -> usize
-        ensures { result ≡ (after fresh self.now.calls).written }
+        ensures value { result ≡ (after fresh self.now.calls).written }
     {
         self.written
     }
@@ -150,16 +150,16 @@ impl Log {
 
     /// The first n bytes of a file, which has at least that number.
     pub fn first_bytes(&self, alloc: Global, name: &[u8], n: usize) -> Result<Vec<u8>, NoRoom>
-        requires { n ≤ length (bytes_or_none ((after fresh self.now.calls).files name.now)) }
-        ensures { IfOk result (λ v. v.items ≡ take n (bytes_or_none ((after fresh self.now.calls).files name.now))) }
+        requires within { n ≤ length (bytes_or_none ((after fresh self.now.calls).files name.now)) }
+        ensures value { IfOk result (λ v. v.items ≡ take n (bytes_or_none ((after fresh self.now.calls).files name.now))) }
     {
         first_bytes(self.calls.as_slice(), self.room.as_slice(), alloc, name, n)
     }
 
     /// The length of the attached store.
     pub fn store_len(&self) -> usize
-        requires { IsSome (after fresh self.now.calls).attached }
-        ensures { result ≡ length (after fresh self.now.calls).disk.bytes }
+        requires attached { IsSome (after fresh self.now.calls).attached }
+        ensures value { result ≡ length (after fresh self.now.calls).disk.bytes }
     {
         store_len(self.calls.as_slice(), self.room.as_slice())
     }
@@ -168,7 +168,7 @@ impl Log {
     pub fn read_store(&self, at: usize, into: &mut [u8])
         requires attached { IsSome (after fresh self.now.calls).attached }
         requires within { at + length into.old ≤ length (after fresh self.now.calls).disk.bytes }
-        ensures { into.new ≡ take (length into.old) (drop at (after fresh self.now.calls).disk.bytes) }
+        ensures read { into.new ≡ take (length into.old) (drop at (after fresh self.now.calls).disk.bytes) }
     {
         read_store(self.calls.as_slice(), self.room.as_slice(), at, into)
     }
@@ -217,7 +217,7 @@ fn reserve_beside<T>(v: &mut Vec<T>, spare: usize, more: usize) -> Result<(), No
 
 // Adds bytes for which there is room.
 fn append(v: &mut Vec<u8>, bytes: &[u8])
-    requires { vec_len v.old + length bytes.now ≤ vec_capacity v.old }
+    requires fits { vec_len v.old + length bytes.now ≤ vec_capacity v.old }
     ensures items { v.new.items ≡ v.old.items ++ bytes.now }
     ensures len { vec_len v.new ≡ vec_len v.old + length bytes.now }
     ensures capacity { vec_capacity v.old ≤ vec_capacity v.new }
@@ -227,7 +227,7 @@ fn append(v: &mut Vec<u8>, bytes: &[u8])
 
 // Adds a call for which there is room.
 fn append_call(calls: &mut Vec<Call>, call: Call)
-    requires { vec_len calls.old < vec_capacity calls.old }
+    requires fits { vec_len calls.old < vec_capacity calls.old }
     ensures items { calls.new.items ≡ calls.old.items ++ call ∷ [] }
     ensures len { vec_len calls.new ≡ vec_len calls.old + 1 }
     ensures capacity { vec_capacity calls.old ≤ vec_capacity calls.new }
@@ -266,7 +266,7 @@ fn record_call(calls: &mut Vec<Call>, room: &mut Vec<u8>, kind: CallKind, name: 
 
 // Adds to the text what a call showed.
 fn show_text(text: &mut Vec<u8>, kind: CallKind, bytes: &[u8])
-    requires { vec_len text.old + length bytes.now ≤ vec_capacity text.old }
+    requires fits { vec_len text.old + length bytes.now ≤ vec_capacity text.old }
     ensures shown { KeepsText kind bytes.now text.old.items text.new.items }
     ensures len { vec_len text.new ≤ vec_len text.old + length bytes.now }
     ensures capacity { vec_capacity text.old ≤ vec_capacity text.new }

@@ -62,7 +62,7 @@ impl Model for MemoryStage {
 impl MemoryStage {
     /// A stage with no files, no lines and no text, with spare room for these numbers of calls and bytes.
     pub fn new(alloc: Global, calls: u64, bytes: u64) -> Result<MemoryStage, NoRoom>
-        ensures { IfOk result (λ s. s ≡ empty calls bytes) }
+        ensures value { IfOk result (λ s. s ≡ empty calls bytes) }
     {
         Ok(MemoryStage {
             lines: VecDeque::new(alloc),
@@ -92,21 +92,21 @@ impl MemoryStage {
     /// where a call takes none; None where there are no more calls. Each file that `add_file` put there stands in the
     /// record too, and no call that was Failed does.
     pub fn call(&self, number: usize) -> Option<(CallKind, &[u8])>
-        ensures { option_map (λ c. (c.0, c.1.now)) result ≡ call_at self.now.log.calls number }
+        ensures value { option_map (λ c. (c.0, c.1.now)) result ≡ call_at self.now.log.calls number }
     {
         self.log.call(number)
     }
 
     /// The text shown.
     pub fn shown(&self) -> &[u8]
-        ensures { result.now ≡ (standing_of self.now).shown }
+        ensures value { result.now ≡ (standing_of self.now).shown }
     {
         self.log.shown()
     }
 
     /// The number of bytes that were written to stores.
     pub fn written(&self) -> u64
-        ensures { result ≡ (standing_of self.now).written }
+        ensures value { result ≡ (standing_of self.now).written }
     {
         self.log.written() as u64
     }
@@ -125,7 +125,7 @@ impl MemoryStage {
     /// The number of stage calls that were made: those that took one of the spare calls. A call that was Failed isn't
     /// counted, and a load that was Absent is.
     pub fn calls(&self) -> u64
-        ensures { result ≡ calls_made self.now.log.calls }
+        ensures value { result ≡ calls_made self.now.log.calls }
     {
         self.log.calls_made() as u64
     }
@@ -301,14 +301,14 @@ impl Stage for MemoryStage {
 
 // How many bytes a load gives of a file of this length.
 fn first_len(len: usize, most: usize) -> usize
-    ensures { result ≡ min (most + 1) len }
+    ensures value { result ≡ min (most + 1) len }
 {
     if most < len { most + 1 } else { len }
 }
 
 // Gives the first 255 bytes of a line, and how many they are.
 fn copy_cut(line: &[u8], into: &mut [u8; LINE_LIMIT]) -> u8
-    ensures { IsCut line.now into.new result }
+    ensures cut { IsCut line.now into.new result }
 {
     let n = line.len().min(LINE_LIMIT);
     into[..n].copy_from_slice(&line[..n]);

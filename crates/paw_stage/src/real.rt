@@ -58,7 +58,7 @@ impl<R: Files<File = File> + Input + Print + Alloc + Drop> Model for RealStage<R
 impl<R: Files<File = File> + Input + Print + Alloc + Drop> RealStage<R> {
     /// The files and standard streams of this runtime. No call has failed yet.
     pub fn new(rt: R) -> RealStage<R>
-        ensures { result ≡ no_faults }
+        ensures value { result ≡ no_faults }
     {
         let input = LineReader::new(rt.reader());
         let longest = longest_file(&rt);

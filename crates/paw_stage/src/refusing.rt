@@ -64,7 +64,7 @@ impl<R: Drop> Model for RefusingStage<R> {
 impl<R: Refusals + Drop> RefusingStage<R> {
     /// A stage over this one, of which a rule makes some calls fail. No call has failed here yet.
     pub(crate) fn over(inner: MemoryStage, rule: R) -> RefusingStage<R>
-        ensures { result ≡ record { inner = inner; rule = rule; counts = no_faults } }
+        ensures value { result ≡ record { inner = inner; rule = rule; counts = no_faults } }
     {
         RefusingStage {
             inner,
@@ -75,7 +75,7 @@ impl<R: Refusals + Drop> RefusingStage<R> {
 
     /// The stage below.
     pub fn inner(&self) -> &MemoryStage
-        ensures { result.now ≡ self.now.inner }
+        ensures value { result.now ≡ self.now.inner }
     {
         &self.inner
     }

@@ -39,8 +39,8 @@ pub struct Store {
 
 /// The kind of the call of this number, counted from 0, and the name handed to it.
 pub fn call_at<'a>(calls: &[Call], room: &'a [u8], number: usize) -> Option<(CallKind, &'a [u8])>
-    requires { AreLaid calls.now 0 (length room.now) }
-    ensures { option_map (λ c. (c.0, c.1.now)) result ≡ call_at (all_done room.now calls.now) number }
+    requires laid { AreLaid calls.now 0 (length room.now) }
+    ensures value { option_map (λ c. (c.0, c.1.now)) result ≡ call_at (all_done room.now calls.now) number }
 {
     let call = calls.get(number)?;
     Some((call.kind, part(room, call.from, call.mid)))
@@ -48,7 +48,7 @@ pub fn call_at<'a>(calls: &[Call], room: &'a [u8], number: usize) -> Option<(Cal
 
 /// The length of a file, where it is there.
 pub fn file_len(calls: &[Call], room: &[u8], name: &[u8]) -> Option<usize>
-    requires { AreLaid calls.now 0 (length room.now) }
+    requires laid { AreLaid calls.now 0 (length room.now) }
     ensures some { IfSome result (HasLength ((replayed room.now calls.now).files name.now)) }
     ensures none { IfNone result ((replayed room.now calls.now).files name.now ≡ None) }
 {
@@ -66,7 +66,7 @@ pub fn first_bytes(
 ) -> Result<Vec<u8>, NoRoom>
     requires laid { AreLaid calls.now 0 (length room.now) }
     requires within { n ≤ length (file_bytes (replayed room.now calls.now) name.now) }
-    ensures { IfOk result (λ v. v.items ≡ take n (file_bytes (replayed room.now calls.now) name.now)) }
+    ensures value { IfOk result (λ v. v.items ≡ take n (file_bytes (replayed room.now calls.now) name.now)) }
 {
     let mut bytes = vec![in alloc; 0u8; n]?;
     read_file(calls, room, name, 0, bytes.as_mut_slice());
@@ -77,7 +77,7 @@ pub fn first_bytes(
 pub fn store_len(calls: &[Call], room: &[u8]) -> usize
     requires laid { AreLaid calls.now 0 (length room.now) }
     requires attached { IsSome (replayed room.now calls.now).attached }
-    ensures { result ≡ length (replayed room.now calls.now).disk.bytes }
+    ensures value { result ≡ length (replayed room.now calls.now).disk.bytes }
 {
     match find_store(calls, room) {
         None => 0,
@@ -90,7 +90,7 @@ pub fn read_store(calls: &[Call], room: &[u8], at: usize, into: &mut [u8])
     requires laid { AreLaid calls.now 0 (length room.now) }
     requires attached { IsSome (replayed room.now calls.now).attached }
     requires within { at + length into.old ≤ length (replayed room.now calls.now).disk.bytes }
-    ensures { into.new ≡ take (length into.old) (drop at (replayed room.now calls.now).disk.bytes) }
+    ensures read { into.new ≡ take (length into.old) (drop at (replayed room.now calls.now).disk.bytes) }
 {
     match find_store(calls, room) {
         None => {}
@@ -100,7 +100,7 @@ pub fn read_store(calls: &[Call], room: &[u8], at: usize, into: &mut [u8])
 
 /// The attached store as a crash may leave it, by a pick, and no bytes where none is attached.
 pub fn crash(calls: &[Call], room: &[u8], alloc: Global, pick: u8) -> Result<Vec<u8>, NoRoom>
-    requires { AreLaid calls.now 0 (length room.now) }
+    requires laid { AreLaid calls.now 0 (length room.now) }
     ensures made { IfAttached (replayed room.now calls.now) (λ d. IfOk result (λ v. v.items ≡ crashed d pick)) }
     ensures none { (replayed room.now calls.now).attached ≡ None → IfOk result (λ v. v.items ≡ []) }
 {
@@ -112,7 +112,7 @@ pub fn crash(calls: &[Call], room: &[u8], alloc: Global, pick: u8) -> Result<Vec
 
 /// How many calls of the stage these are; a file that was put there between them isn't counted.
 pub fn calls_made(calls: &[Call]) -> usize
-    ensures { (room : List ℕ) → result ≡ calls_made (all_done room calls.now) }
+    ensures value { (room : List ℕ) → result ≡ calls_made (all_done room calls.now) }
 {
     let mut made = 0;
     for k in 0..calls.len() {
@@ -132,7 +132,7 @@ pub fn crash_after(
     number: u64,
     pick: u8,
 ) -> Result<Option<Vec<u8>>, NoRoom>
-    requires { AreLaid calls.now 0 (length room.now) }
+    requires laid { AreLaid calls.now 0 (length room.now) }
     ensures made { IfOk result (λ left. IfSome left (λ v.
         v.items ≡ crashed (right_after number (all_done room.now calls.now)).disk pick)) }
     ensures none { IfOk result (λ left. (left ≡ None) ↔ HasNoStore number (all_done room.now calls.now)) }
@@ -150,7 +150,7 @@ fn crash_attached(
     alloc: Global,
     pick: u8,
 ) -> Result<Option<Vec<u8>>, NoRoom>
-    requires { AreLaid calls.now 0 (length room.now) }
+    requires laid { AreLaid calls.now 0 (length room.now) }
     ensures made { IfOk result (λ left. IfSome left (λ v. v.items ≡ crashed (replayed room.now calls.now).disk pick)) }
     ensures none { IfOk result (λ left. (left ≡ None) ↔ ((replayed room.now calls.now).attached ≡ None)) }
 {
@@ -162,7 +162,7 @@ fn crash_attached(
 
 // How many of these calls there are up to the call of the stage of this number, with it; None where fewer were made.
 fn end_of(calls: &[Call], number: u64) -> Option<usize>
-    ensures { IsEndOf calls.now number result }
+    ensures end { IsEndOf calls.now number result }
 {
     let mut before = number;
     for k in 0..calls.len() {
@@ -178,7 +178,7 @@ fn end_of(calls: &[Call], number: u64) -> Option<usize>
 
 // Whether this is a call of the stage.
 fn is_call(kind: CallKind) -> bool
-    ensures { result ≡ is_call kind }
+    ensures value { result ≡ is_call kind }
 {
     match kind {
         CallKind::Add => false,
@@ -204,7 +204,7 @@ fn leave(
 ) -> Result<Vec<u8>, NoRoom>
     requires laid { AreLaid calls.now 0 (length room.now) }
     requires found { FindsStore room.now (all_done room.now calls.now) (Some store) }
-    ensures { IfOk result (λ v. v.items ≡ crashed (replayed room.now calls.now).disk pick) }
+    ensures value { IfOk result (λ v. v.items ≡ crashed (replayed room.now calls.now).disk pick) }
 {
     let name = name_of(room, store);
     if pick == 0 {
@@ -225,7 +225,7 @@ fn spoiled_store(
 ) -> Result<Vec<u8>, NoRoom>
     requires laid { AreLaid calls.now 0 (length room.now) }
     requires found { FindsStore room.now (all_done room.now calls.now) (Some store) }
-    ensures { IfOk result (λ v. v.items ≡ all_spoiled (replayed room.now calls.now).disk) }
+    ensures value { IfOk result (λ v. v.items ≡ all_spoiled (replayed room.now calls.now).disk) }
 {
     let mut bytes = whole_file(calls, room, alloc, name_of(room, store))?;
     spoil(&calls[store.synced..], room, bytes.as_mut_slice());
@@ -234,8 +234,8 @@ fn spoiled_store(
 
 // Gives another value to each byte of a store that one of these calls wrote.
 fn spoil(calls: &[Call], room: &[u8], store: &mut [u8])
-    requires { AreLaid calls.now 0 (length room.now) }
-    ensures { Spoils (is_written (all_done room.now calls.now)) store.old store.new }
+    requires laid { AreLaid calls.now 0 (length room.now) }
+    ensures spoiled { Spoils (is_written (all_done room.now calls.now)) store.old store.new }
 {
     for call in calls {
         spoil_after(*call, room, store);
@@ -244,8 +244,8 @@ fn spoil(calls: &[Call], room: &[u8], store: &mut [u8])
 
 // Gives another value to each byte of a store that a call wrote.
 fn spoil_after(call: Call, room: &[u8], store: &mut [u8])
-    requires { (call.from ≤ call.mid) × (call.mid ≤ call.to) × (call.to ≤ length room.now) }
-    ensures { Spoils (writes call.kind (length (done_in room.now call).bytes)) store.old store.new }
+    requires order { (call.from ≤ call.mid) × (call.mid ≤ call.to) × (call.to ≤ length room.now) }
+    ensures spoiled { Spoils (writes call.kind (length (done_in room.now call).bytes)) store.old store.new }
 {
     let bytes = part(room, call.mid, call.to);
     if let CallKind::Write(place) = call.kind {
@@ -256,8 +256,8 @@ fn spoil_after(call: Call, room: &[u8], store: &mut [u8])
 
 // Gives another value to n bytes of a store from a place on, as far as it goes.
 fn spoil_range(place: usize, n: usize, store: &mut [u8])
-    requires { place ≤ length store.old }
-    ensures { store.new ≡ put place (replicate (min n (length store.old - place)) SPOILED) store.old }
+    requires within { place ≤ length store.old }
+    ensures spoiled { store.new ≡ put place (replicate (min n (length store.old - place)) SPOILED) store.old }
 {
     let to = place + n.min(store.len() - place);
     store[place..to].fill(SPOILED);
@@ -265,8 +265,8 @@ fn spoil_range(place: usize, n: usize, store: &mut [u8])
 
 // All bytes of a file; none where it is missing.
 fn whole_file(calls: &[Call], room: &[u8], alloc: Global, name: &[u8]) -> Result<Vec<u8>, NoRoom>
-    requires { AreLaid calls.now 0 (length room.now) }
-    ensures { IfOk result (λ v. v.items ≡ file_bytes (replayed room.now calls.now) name.now) }
+    requires laid { AreLaid calls.now 0 (length room.now) }
+    ensures value { IfOk result (λ v. v.items ≡ file_bytes (replayed room.now calls.now) name.now) }
 {
     let n = see(calls, room, name, 0, &mut []).len;
     first_bytes(calls, room, alloc, name, n)
@@ -276,15 +276,15 @@ fn whole_file(calls: &[Call], room: &[u8], alloc: Global, name: &[u8]) -> Result
 fn read_file(calls: &[Call], room: &[u8], name: &[u8], at: usize, into: &mut [u8])
     requires laid { AreLaid calls.now 0 (length room.now) }
     requires within { at + length into.old ≤ length (file_bytes (replayed room.now calls.now) name.now) }
-    ensures { into.new ≡ take (length into.old) (drop at (file_bytes (replayed room.now calls.now) name.now)) }
+    ensures read { into.new ≡ take (length into.old) (drop at (file_bytes (replayed room.now calls.now) name.now)) }
 {
     let _ = see(calls, room, name, at, into);
 }
 
 // What is seen of a file. A slice is filled with its bytes from a place on, as far as they go.
 fn see(calls: &[Call], room: &[u8], name: &[u8], at: usize, into: &mut [u8]) -> Seen
-    requires { AreLaid calls.now 0 (length room.now) }
-    ensures { Sees (replayed room.now calls.now) name.now at result into.new }
+    requires laid { AreLaid calls.now 0 (length room.now) }
+    ensures sees { Sees (replayed room.now calls.now) name.now at result into.new }
 {
     let mut seen = Seen {
         here: false,
@@ -348,7 +348,7 @@ fn seen_filed(bytes: &[u8], at: usize, into: &mut [u8], seen: Seen) -> Seen
 
 // What is seen of a file once it, or another, was attached.
 fn seen_opened(named: bool, seen: Seen) -> Seen
-    ensures { result ≡ record { here = named || seen.here; attached = named; len = seen.len } }
+    ensures seen { result ≡ record { here = named || seen.here; attached = named; len = seen.len } }
 {
     Seen {
         here: named || seen.here,
@@ -359,7 +359,7 @@ fn seen_opened(named: bool, seen: Seen) -> Seen
 
 // What is seen of the attached store once bytes were written to it, or after its end where the place lies past it.
 fn seen_written(place: u64, bytes: &[u8], at: usize, into: &mut [u8], seen: Seen) -> Seen
-    requires { seen.len + length bytes.now < 2 ^ 64 }
+    requires fits { seen.len + length bytes.now < 2 ^ 64 }
     ensures seen { result ≡ record seen { len = max seen.len (min place seen.len + length bytes.now) } }
     ensures laid { LaysOver (min place seen.len) bytes.now at into.old into.new }
 {
@@ -374,7 +374,7 @@ fn seen_written(place: u64, bytes: &[u8], at: usize, into: &mut [u8], seen: Seen
 
 // Lays bytes that stand from a place on over those in a slice, which stand from `at` on.
 fn lay_over(place: usize, bytes: &[u8], at: usize, into: &mut [u8])
-    ensures { LaysOver place bytes.now at into.old into.new }
+    ensures laid { LaysOver place bytes.now at into.old into.new }
 {
     let from = at.saturating_sub(place).min(bytes.len());
     let to = place.saturating_sub(at).min(into.len());
@@ -383,8 +383,8 @@ fn lay_over(place: usize, bytes: &[u8], at: usize, into: &mut [u8])
 
 // Copies bytes over those of a slice from a place on, as many as it has.
 fn copy_over(bytes: &[u8], into: &mut [u8], to: usize)
-    requires { to ≤ length into.old }
-    ensures { into.new ≡ put to (take (length into.old - to) bytes.now) into.old }
+    requires within { to ≤ length into.old }
+    ensures laid { into.new ≡ put to (take (length into.old - to) bytes.now) into.old }
 {
     let n = bytes.len().min(into.len() - to);
     into[to..to + n].copy_from_slice(&bytes[..n]);
@@ -394,15 +394,15 @@ fn copy_over(bytes: &[u8], into: &mut [u8], to: usize)
 fn name_of(room: &[u8], store: Store) -> &[u8]
     requires order { store.opened.from ≤ store.opened.mid }
     requires within { store.opened.mid ≤ length room.now }
-    ensures { result.now ≡ slice_range room.now store.opened.from store.opened.mid }
+    ensures value { result.now ≡ slice_range room.now store.opened.from store.opened.mid }
 {
     part(room, store.opened.from, store.opened.mid)
 }
 
 // The attached store, where one is attached.
 fn find_store(calls: &[Call], room: &[u8]) -> Option<Store>
-    requires { AreLaid calls.now 0 (length room.now) }
-    ensures { FindsStore room.now (all_done room.now calls.now) result }
+    requires laid { AreLaid calls.now 0 (length room.now) }
+    ensures found { FindsStore room.now (all_done room.now calls.now) result }
 {
     let mut store = None;
     for k in 0..calls.len() {
@@ -416,7 +416,7 @@ fn find_store(calls: &[Call], room: &[u8]) -> Option<Store>
 fn store_after(call: Call, room: &[u8], done: usize, store: Option<Store>) -> Option<Store>
     requires order { (call.from ≤ call.mid) × (call.mid ≤ call.to) × (call.to ≤ length room.now) }
     requires named { IsNamed room.now store }
-    ensures { FindsNext room.now call done store result }
+    ensures found { FindsNext room.now call done store result }
 {
     match call.kind {
         CallKind::Add => store_filed(call, room, done, store),
@@ -453,7 +453,7 @@ fn store_synced(done: usize, store: Option<Store>) -> Option<Store>
 fn store_filed(call: Call, room: &[u8], done: usize, store: Option<Store>) -> Option<Store>
     requires order { (call.from ≤ call.mid) × (call.mid ≤ call.to) × (call.to ≤ length room.now) }
     requires named { IsNamed room.now store }
-    ensures { (ds : List DoneCall) → done ≡ length ds + 1 → FindsStore room.now ds store →
+    ensures found { (ds : List DoneCall) → done ≡ length ds + 1 → FindsStore room.now ds store →
         (call.kind ≡ kind.Add) ⊎ (call.kind ≡ kind.Save) →
         FindsStore room.now (ds ++ done_in room.now call ∷ []) result }
 {
@@ -471,7 +471,7 @@ fn store_filed(call: Call, room: &[u8], done: usize, store: Option<Store>) -> Op
 fn part(room: &[u8], from: usize, to: usize) -> &[u8]
     requires order { from ≤ to }
     requires within { to ≤ length room.now }
-    ensures { result.now ≡ slice_range room.now from to }
+    ensures value { result.now ≡ slice_range room.now from to }
 {
     &room[from..to]
 }

@@ -30,7 +30,7 @@ impl Refusals for Stopping {
 impl RefusingStage<Stopping> {
     /// A stage over this one, which passes on `passes` calls and then fails every one.
     pub fn new(inner: MemoryStage, passes: u64) -> StopStage
-        ensures { result ≡ record { inner = inner; rule = record { passes = passes }; counts = no_faults } }
+        ensures value { result ≡ record { inner = inner; rule = record { passes = passes }; counts = no_faults } }
     {
         RefusingStage::over(inner, Stopping { passes })
     }

@@ -15,6 +15,7 @@ use Rattle.paw_effects.specs.declared.act.Prompt.TheVariants as prompt
 use Rattle.paw_reading.specs.declared.places.OpenLoop.{OpenLoop}
 use Rattle.paw_process.specs.declared.kept.Frames.{Frames}
 use Rattle.paw_process.specs.Kept.{waiting_code}
+use Rattle.paw_state.specs.declared.layout.TheConstants.{SAVED, HELD_LENGTH, ROWS, LINE, KEPT}
 use Rattle.paw_state.specs.declared.fields.Fields.{Fields}
 use Rattle.paw_state.specs.declared.held.Held.{Held}
 use Rattle.paw_state.specs.State.{State}
@@ -72,9 +73,9 @@ kept_back : (g : GameLists) (at : ℕ) (kept : List Held) → Valid g → All Is
 unfolding kept_fault
 kept_back g at [] v z h = refl
 kept_back g at (k ∷ ks) v z h =
-    let p = no_first (held_fault g at k) (kept_fault g (at + 512) ks) h in
+    let p = no_first (held_fault g at k) (kept_fault g (at + HELD_LENGTH) ks) h in
     let e : held_of (held_in (length g.objects) k) ≡ k = held_back g at k v (z 0 k (omega arith)) p.0 in
-    let q = kept_back g (at + 512) ks v (λ i d low. z (suc i) d (omega (arith, low))) p.1 in
+    let q = kept_back g (at + HELD_LENGTH) ks v (λ i d low. z (suc i) d (omega (arith, low))) p.1 in
     cc
 
 code_back : (n : ℕ) → n ≤ 4 → prompt_code (prompt_of n) ≡ n
@@ -93,17 +94,17 @@ state_back g f v z s =
     let n : length (take f.pending f.line) ≡ f.pending = line_length f.pending f.line z.line z.pending in
     same_fields (fields_of (state_in g f)) f refl
     (places_back g 256 f.places v z.places s.places)
-    (held_back g 511 f.saved v z.saved s.saved)
+    (held_back g SAVED f.saved v z.saved s.saved)
     refl refl refl
     (code_back f.prompt (leb-true f.prompt 4 s.prompt))
     refl
-    (rows_back g (unwrap_or (waiting_code (prompt_of f.prompt)) 0) None f.count 1049 f.rows s.frames)
+    (rows_back g (unwrap_or (waiting_code (prompt_of f.prompt)) 0) None f.count ROWS f.rows s.frames)
     (presence_back f.turning f.looping (looping_low f.looping f.count s.looping))
     (turning_back g f s.turning)
     refl n
-    (filled_take (1114 + f.pending) f.pending f.line z.line (omega (arith, z.pending)) s.line)
+    (filled_take (LINE + f.pending) f.pending f.line z.line (omega (arith, z.pending)) s.line)
     refl
-    (kept_back g 1371 f.kept v z.kept s.kept)
+    (kept_back g KEPT f.kept v z.kept s.kept)
 
 -- ---- from a state ----
 

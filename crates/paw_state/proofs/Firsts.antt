@@ -5,12 +5,16 @@ use Rattle.std.specs.Prelude.{All, flat_map, nat_le, nat_lt, is_some, not, slice
 use Rattle.std.specs.Option.{option_map, option_map_or, option_or, unwrap_or}
 use Rattle.std.proofs.lemmas.List.{length-append}
 use Rattle.std.proofs.lemmas.Bool.Decides.{nat_tests}
+use Rattle.paw_base.specs.declared.limits.TheConstants.{EVENT_LIMIT, READ_LIMIT}
 use Rattle.paw_game.specs.Game.{GameLists}
 use Rattle.paw_game.specs.Tables.{head_at, condact_at}
 use Rattle.paw_game.specs.Valid.{is_place}
 use Rattle.paw_reading.specs.declared.places.OpenLoop.{OpenLoop}
 use Rattle.paw_process.specs.Kept.{waiting_code, may_open, has_code, parameter_of, count_fits}
 use Rattle.paw_process.specs.inner.Kept.{is_that_table}
+use Rattle.paw_state.specs.declared.layout.TheConstants.{PLACES, SAVED, HELD_LENGTH, SEED, DRAWS, EVENTS, PROMPT, COUNT}
+use Rattle.paw_state.specs.declared.layout.TheConstants.{ROWS, LOOPING, LOOP_LEVEL, LOOP_TABLE, LOOP_ENTRY, LOOP_AT}
+use Rattle.paw_state.specs.declared.layout.TheConstants.{LOOP_PLACE, LOOP_LAST, EARLIER, PENDING, LINE, PIECE, KEPT}
 use Rattle.paw_state.specs.declared.fields.Row.{Row}
 use Rattle.paw_state.specs.declared.fields.Fields.{Fields}
 use Rattle.paw_state.specs.declared.held.Held.{Held}
@@ -183,9 +187,9 @@ unfolding fault_from kept_fault
 kept_faults g at [] s = refl
 kept_faults g at (h ∷ hs) s =
     let own = s 0 h (omega arith) in
-    step g at 512 (held_fields h) (flat_map held_fields hs) (held_fault g at h) (kept_fault g (at + 512) hs) (held_faults g at h own)
+    step g at HELD_LENGTH (held_fields h) (flat_map held_fields hs) (held_fault g at h) (kept_fault g (at + HELD_LENGTH) hs) (held_faults g at h own)
     (ap length (held_same h) ∙ length-held h own)
-    (kept_faults g (at + 512) hs (λ i d low. s (suc i) d (omega (arith, low))))
+    (kept_faults g (at + HELD_LENGTH) hs (λ i d low. s (suc i) d (omega (arith, low))))
 
 -- ---- rows ----
 
@@ -235,9 +239,9 @@ rows_faults g code caller n at (r ∷ rs) =
 -- ---- the open loop ----
 
 six_rules : (a b c d e h : Bool) →
-    ◌≡◌ {A = Option ℕ} (if a then (if b then (if c then (if d then (if e then (if h then None else Some 1111) else Some 1110) else Some 1109)
-    else Some 1107) else Some 1106) else Some 1105)
-    (first (rule 1105 a ∷ rule 1106 b ∷ rule 1107 c ∷ rule 1109 d ∷ rule 1110 e ∷ rule 1111 h ∷ []))
+    ◌≡◌ {A = Option ℕ} (if a then (if b then (if c then (if d then (if e then (if h then None else Some LOOP_LAST) else Some LOOP_PLACE) else Some LOOP_AT)
+    else Some LOOP_ENTRY) else Some LOOP_TABLE) else Some LOOP_LEVEL)
+    (first (rule LOOP_LEVEL a ∷ rule LOOP_TABLE b ∷ rule LOOP_ENTRY c ∷ rule LOOP_AT d ∷ rule LOOP_PLACE e ∷ rule LOOP_LAST h ∷ []))
 six_rules false b c d e h = refl
 six_rules true false c d e h = refl
 six_rules true true false d e h = refl
@@ -252,7 +256,7 @@ table_same t None = refl
 table_same t (Some r) = refl
 
 loop_faults : (g : GameLists) (f : Fields) (l : OpenLoop)
-    → fault_from g 1105 (loop_fields f l) ≡ (if f.looping == 0 then no_loop_fault l else loop_fields_fault g f l)
+    → fault_from g LOOP_LEVEL (loop_fields f l) ≡ (if f.looping == 0 then no_loop_fault l else loop_fields_fault g f l)
 unfolding fault_from if_there
 loop_faults g f l = go (f.looping == 0)
   where
@@ -262,16 +266,16 @@ loop_faults g f l = go (f.looping == 0)
         then (if (if b then l.entry == 0 else is_some (head_at g l.table l.entry))
         then (if (if b then l.at == 0 else has_code 86 (condact_at g l.table l.entry l.at))
         then (if (if b then l.place == 0 else is_place (length g.locations) l.place)
-        then (if (if b then l.last == 0 else nat_lt l.last (length g.objects)) then None else Some 1111) else Some 1110) else Some 1109)
-        else Some 1107) else Some 1106) else Some 1105)
+        then (if (if b then l.last == 0 else nat_lt l.last (length g.objects)) then None else Some LOOP_LAST) else Some LOOP_PLACE) else Some LOOP_AT)
+        else Some LOOP_ENTRY) else Some LOOP_TABLE) else Some LOOP_LEVEL)
         (if b then no_loop_fault l else loop_fields_fault g f l)
     go true = six_rules (l.level == 0) (l.table == 0) (l.entry == 0) (l.at == 0) (l.place == 0) (l.last == 0)
     go false = six_rules (nat_lt l.level f.count) (option_map_or (λ r. l.table == r.table) (slice_get f.rows l.level) false)
         (is_some (head_at g l.table l.entry)) (has_code 86 (condact_at g l.table l.entry l.at))
         (is_place (length g.locations) l.place) (nat_lt l.last (length g.objects))
-        ∙ ap (λ (b : Bool). first (rule 1105 (nat_lt l.level f.count) ∷ rule 1106 b ∷ rule 1107 (is_some (head_at g l.table l.entry))
-        ∷ rule 1109 (has_code 86 (condact_at g l.table l.entry l.at)) ∷ rule 1110 (is_place (length g.locations) l.place)
-        ∷ rule 1111 (nat_lt l.last (length g.objects)) ∷ [])) (table_same l.table (slice_get f.rows l.level))
+        ∙ ap (λ (b : Bool). first (rule LOOP_LEVEL (nat_lt l.level f.count) ∷ rule LOOP_TABLE b ∷ rule LOOP_ENTRY (is_some (head_at g l.table l.entry))
+        ∷ rule LOOP_AT (has_code 86 (condact_at g l.table l.entry l.at)) ∷ rule LOOP_PLACE (is_place (length g.locations) l.place)
+        ∷ rule LOOP_LAST (nat_lt l.last (length g.objects)) ∷ [])) (table_same l.table (slice_get f.rows l.level))
 
 -- ---- the prompt ----
 
@@ -301,77 +305,82 @@ pub record HasLengths (f : Fields) : Type 0 where
   pub line : length f.line ≡ 255
   pub kept : All IsSizedHeld f.kept
 
-piece_faults : (g : GameLists) (f : Fields) → HasLengths f → fault_from g 1369 (from_piece f) ≡ kept_fault g 1371 f.kept
+piece_faults : (g : GameLists) (f : Fields) → HasLengths f → fault_from g PIECE (from_piece f) ≡ kept_fault g KEPT f.kept
 unfolding fault_from
-piece_faults g f s = kept_faults g 1371 f.kept s.kept
+piece_faults g f s = kept_faults g KEPT f.kept s.kept
 
-earlier_faults : (g : GameLists) (f : Fields) → HasLengths f → fault_from g 1112 (from_earlier f) ≡ option_or (pending_fault f) (kept_fault g 1371 f.kept)
+earlier_faults : (g : GameLists) (f : Fields) → HasLengths f →
+    fault_from g EARLIER (from_earlier f) ≡ option_or (pending_fault f) (kept_fault g KEPT f.kept)
 unfolding fault_from
 earlier_faults g f s =
     let code = waiting_code (prompt_of f.prompt) in
-    let zeros_from = first_not is_zero (1114 + f.pending) (drop f.pending f.line) in
-    let kept = kept_fault g 1371 f.kept in
-    let behind_it = step g 1114 255 (line_fields f) (from_piece f) zeros_from kept (line_same g 1114 f) (ap length (each_bytes _ 0 f.line) ∙ s.line) (piece_faults g f s) in
-    ruled 1113 (is_some (inside f) || (f.pending == 0)) _ _ behind_it
-    ∙ (ap (λ (o : Option ℕ). option_or (rule 1113 (is_some o || (f.pending == 0))) (option_or zeros_from kept)) (inside_same f)
-    ∙ (sym (or_assoc (rule 1113 (is_some code || (f.pending == 0))) zeros_from kept)
-    ∙ ap (λ (o : Option ℕ). option_or (option_or (rule 1113 (is_some code || (f.pending == 0))) o) kept) (sym (or_none zeros_from))))
+    let zeros_from = first_not is_zero (LINE + f.pending) (drop f.pending f.line) in
+    let kept = kept_fault g KEPT f.kept in
+    let behind_it =
+    step g LINE 255 (line_fields f) (from_piece f) zeros_from kept (line_same g LINE f) (ap length (each_bytes _ 0 f.line)
+    ∙ s.line) (piece_faults g f s) in
+    ruled PENDING (is_some (inside f) || (f.pending == 0)) _ _ behind_it
+    ∙ (ap (λ (o : Option ℕ). option_or (rule PENDING (is_some o || (f.pending == 0))) (option_or zeros_from kept)) (inside_same f)
+    ∙ (sym (or_assoc (rule PENDING (is_some code || (f.pending == 0))) zeros_from kept)
+    ∙ ap (λ (o : Option ℕ). option_or (option_or (rule PENDING (is_some code || (f.pending == 0))) o) kept) (sym (or_none zeros_from))))
 
 looping_faults : (g : GameLists) (f : Fields) → HasLengths f
-    → fault_from g 1104 (from_looping f) ≡ option_or (turning_fault g f) (option_or (pending_fault f) (kept_fault g 1371 f.kept))
+    → fault_from g LOOPING (from_looping f) ≡ option_or (turning_fault g f) (option_or (pending_fault f) (kept_fault g KEPT f.kept))
 unfolding fault_from
 looping_faults g f s =
     let low = nat_le f.looping (if f.count == 0 then 0 else 1) in
     let turns = if f.looping == 0 then no_loop_fault f.turning else loop_fields_fault g f f.turning in
-    let later = option_or (pending_fault f) (kept_fault g 1371 f.kept) in
-    let behind_it = step g 1105 7 (loop_fields f f.turning) (from_earlier f) turns later (loop_faults g f f.turning) (ap length (loop_same f f.turning))
+    let later = option_or (pending_fault f) (kept_fault g KEPT f.kept) in
+    let behind_it =
+    step g LOOP_LEVEL 7 (loop_fields f f.turning) (from_earlier f) turns later (loop_faults g f f.turning) (ap length (loop_same f f.turning))
     (earlier_faults g f s) in
-    ruled 1104 low _ _ behind_it
-    ∙ (sym (or_assoc (rule 1104 low) turns later) ∙ ap (λ (o : Option ℕ). option_or (option_or (rule 1104 low) o) later) (sym (or_none turns)))
+    ruled LOOPING low _ _ behind_it
+    ∙ (sym (or_assoc (rule LOOPING low) turns later) ∙ ap (λ (o : Option ℕ). option_or (option_or (rule LOOPING low) o) later) (sym (or_none turns)))
 
-rows_then : (g : GameLists) (f : Fields) → HasLengths f → fault_from g 1049 (table_rows f ++ from_looping f)
-    ≡ option_or (frame_fields_fault g f) (option_or (turning_fault g f) (option_or (pending_fault f) (kept_fault g 1371 f.kept)))
+rows_then : (g : GameLists) (f : Fields) → HasLengths f → fault_from g ROWS (table_rows f ++ from_looping f)
+    ≡ option_or (frame_fields_fault g f) (option_or (turning_fault g f) (option_or (pending_fault f) (kept_fault g KEPT f.kept)))
 rows_then g f s =
-    step g 1049 55 (table_rows f) (from_looping f) (frame_fields_fault g f) _
-    (rows_faults g (unwrap_or (inside f) 0) (λ g. None) f.count 1049 f.rows
-    ∙ ap (λ (o : Option ℕ). row_fields_fault g (unwrap_or o 0) None f.count 1049 f.rows) (inside_same f))
+    step g ROWS 55 (table_rows f) (from_looping f) (frame_fields_fault g f) _
+    (rows_faults g (unwrap_or (inside f) 0) (λ g. None) f.count ROWS f.rows
+    ∙ ap (λ (o : Option ℕ). row_fields_fault g (unwrap_or o 0) None f.count ROWS f.rows) (inside_same f))
     (ap length (rows_same (unwrap_or (inside f) 0) (λ g. None) f.count f.rows) ∙ (length-rows f.rows ∙ ap (λ n. 5 * n) s.rows))
     (looping_faults g f s)
 
 -- too many lines are looked at before the draws: their rule holds then
 five_rules : (few drawn at count : Bool) (x : Option ℕ) →
-    ◌≡◌ {A = Option ℕ} (if not few || drawn then (if few then (if at then (if count then x else Some 1048) else Some 1047) else Some 1039) else Some 1031)
-    (option_or (first (rule 1039 few ∷ rule 1031 drawn ∷ [])) (option_or (first (rule 1047 at ∷ rule 1048 count ∷ [])) x))
+    ◌≡◌ {A = Option ℕ} (if not few || drawn then (if few then (if at then (if count then x else Some COUNT) else Some PROMPT) else Some EVENTS) else Some DRAWS)
+    (option_or (first (rule EVENTS few ∷ rule DRAWS drawn ∷ [])) (option_or (first (rule PROMPT at ∷ rule COUNT count ∷ [])) x))
 five_rules false drawn at count x = refl
 five_rules true false at count x = refl
 five_rules true true false count x = refl
 five_rules true true true false x = refl
 five_rules true true true true x = refl
 
-seed_faults : (g : GameLists) (f : Fields) → HasLengths f → fault_from g 1023 (from_seed f)
+seed_faults : (g : GameLists) (f : Fields) → HasLengths f → fault_from g SEED (from_seed f)
     ≡ option_or (numbers_fault f) (option_or (prompt_fault f) (option_or (frame_fields_fault g f)
-    (option_or (turning_fault g f) (option_or (pending_fault f) (kept_fault g 1371 f.kept)))))
+    (option_or (turning_fault g f) (option_or (pending_fault f) (kept_fault g KEPT f.kept)))))
 unfolding fault_from
 seed_faults g f s =
-    let few = nat_le f.events 1000000000 in
-    let drawn = nat_le f.draws (200000 * (f.events + 1)) in
-    let later = option_or (frame_fields_fault g f) (option_or (turning_fault g f) (option_or (pending_fault f) (kept_fault g 1371 f.kept))) in
-    five_rules few drawn (nat_le f.prompt 4) (count_fits (inside f) f.count) (fault_from g 1049 (table_rows f ++ from_looping f))
-    ∙ (ap (λ (o : Option ℕ). option_or (numbers_fault f) (option_or (first (rule 1047 (nat_le f.prompt 4) ∷ rule 1048 (count_fits (inside f) f.count) ∷ [])) o))
+    let few = nat_le f.events EVENT_LIMIT in
+    let drawn = nat_le f.draws (READ_LIMIT * (f.events + 1)) in
+    let later = option_or (frame_fields_fault g f) (option_or (turning_fault g f) (option_or (pending_fault f) (kept_fault g KEPT f.kept))) in
+    five_rules few drawn (nat_le f.prompt 4) (count_fits (inside f) f.count) (fault_from g ROWS (table_rows f ++ from_looping f))
+    ∙ (ap (λ (o : Option ℕ). option_or (numbers_fault f) (option_or (first
+    (rule PROMPT (nat_le f.prompt 4) ∷ rule COUNT (count_fits (inside f) f.count) ∷ [])) o))
     (rows_then g f s)
-    ∙ ap (λ (o : Option ℕ). option_or (numbers_fault f) (option_or (first (rule 1047 (nat_le f.prompt 4) ∷ rule 1048 (count_fits o f.count) ∷ [])) later))
+    ∙ ap (λ (o : Option ℕ). option_or (numbers_fault f) (option_or (first (rule PROMPT (nat_le f.prompt 4) ∷ rule COUNT (count_fits o f.count) ∷ [])) later))
     (inside_same f))
 
 -- ---- all fields ----
 
 pub faults_same : (g : GameLists) (f : Fields) → HasLengths f → fields_fault g f ≡ parts_fault g f
 faults_same g f s =
-    let kept = kept_fault g 1371 f.kept in
-    let places = places_fault g 256 f.places in
-    let saved = held_fault g 511 f.saved in
+    let kept = kept_fault g KEPT f.kept in
+    let places = places_fault g PLACES f.places in
+    let saved = held_fault g SAVED f.saved in
     let later = option_or (numbers_fault f) (option_or (prompt_fault f) (option_or (frame_fields_fault g f)
     (option_or (turning_fault g f) (option_or (pending_fault f) kept)))) in
-    let from_saved = step g 511 512 (held_fields f.saved) (from_seed f) saved later (held_faults g 511 f.saved s.saved)
+    let from_saved = step g SAVED HELD_LENGTH (held_fields f.saved) (from_seed f) saved later (held_faults g SAVED f.saved s.saved)
     (ap length (held_same f.saved) ∙ length-held f.saved s.saved) (seed_faults g f s) in
     let from_places = step g 256 255 (place_fields f.places) (held_fields f.saved ++ from_seed f) places (option_or saved later) (places_same g 256 f.places)
     (ap length (each_bytes _ 0 f.places) ∙ s.places) from_saved in

@@ -6,6 +6,7 @@ use Rattle.std.specs.Option.{option_or, unwrap_or}
 use Rattle.std.proofs.lemmas.List.{length-map, length-take}
 use Rattle.std.proofs.lemmas.List.Elements.{All-cons}
 use Rattle.std.proofs.lemmas.Bool.{eqb-true, le-leb, leb-true}
+use Rattle.paw_base.specs.declared.limits.TheConstants.{EVENT_LIMIT, READ_LIMIT}
 use Rattle.paw_game.specs.Game.{GameLists}
 use Rattle.paw_game.specs.Valid.{Valid, is_place}
 use Rattle.paw_game.specs.declared.parts.ObjectRow.{ObjectRow}
@@ -18,6 +19,7 @@ use Rattle.paw_process.specs.Kept.{waiting_code, count_fits}
 use Rattle.paw_process.specs.inner.Kept.{fault_at}
 use Rattle.paw_process.specs.inner.Kept.{rows_fault as machine_rows, loop_fault as machine_loop}
 use Rattle.paw_process.proofs.Restored.{no_first as no_machine_first}
+use Rattle.paw_state.specs.declared.layout.TheConstants.{SAVED, HELD_LENGTH, ROWS, LINE, KEPT}
 use Rattle.paw_state.specs.declared.fields.Fields.{Fields}
 use Rattle.paw_state.specs.declared.held.Held.{Held}
 use Rattle.paw_effects.specs.inner.Worlds.{ArePlacesOf}
@@ -80,9 +82,9 @@ kept_kept : (g : GameLists) (at : ℕ) (kept : List Held) → Valid g → All Is
 unfolding kept_fault
 kept_kept g at [] v z h = λ k d low. absurd (omega (arith, low))
 kept_kept g at (k ∷ ks) v z h =
-    let p = no_first (held_fault g at k) (kept_fault g (at + 512) ks) h in
+    let p = no_first (held_fault g at k) (kept_fault g (at + HELD_LENGTH) ks) h in
     All-cons (IsHeldOf g) (held_in (length g.objects) k) (map (held_in (length g.objects)) ks) (held_kept g at k v (z 0 k (omega arith)) p.0)
-    (kept_kept g (at + 512) ks v (λ i d low. z (suc i) d (omega (arith, low))) p.1)
+    (kept_kept g (at + HELD_LENGTH) ks v (λ i d low. z (suc i) d (omega (arith, low))) p.1)
 
 pub line_kept : (code : Option ℕ) (n : ℕ) (line : List ℕ) → (is_some code || (n == 0)) ≡ true → IfNone code (take n line ≡ [])
 line_kept None n line h = let z : n ≡ 0 = eqb-true n 0 h in rw z refl
@@ -91,7 +93,7 @@ line_kept (Some code) n line h = tt
 pub frames_kept : (g : GameLists) (f : Fields) → AreSound g f → fault_at g (waiting_code (prompt_of f.prompt)) (frames_in f) ≡ None
 frames_kept g f s =
     no_machine_fault g (waiting_code (prompt_of f.prompt)) (frames_in f) s.count
-    (rows_sound g (unwrap_or (waiting_code (prompt_of f.prompt)) 0) None f.count 1049 0 f.rows s.frames) (loop_sound g f s.turning)
+    (rows_sound g (unwrap_or (waiting_code (prompt_of f.prompt)) 0) None f.count ROWS 0 f.rows s.frames) (loop_sound g f s.turning)
 
 -- the world that the fields say is a world
 sound_in : (g : GameLists) (f : Fields) → Valid g → AreSized f → AreSound g f → IsWorld (state_in g f).world
@@ -104,10 +106,10 @@ sound_in g f v z s =
       objects = omega (arith, each, few_objects g v);
       facts = length-map g.objects (λ (o : ObjectRow). o.facts) ∙ each;
       flags = z.flags;
-      saved = alike (held_in (length g.objects) f.saved) (held_kept g 511 f.saved v z.saved s.saved);
+      saved = alike (held_in (length g.objects) f.saved) (held_kept g SAVED f.saved v z.saved s.saved);
       kept = record {
         four = length-map f.kept (held_in (length g.objects)) ∙ z.four;
-        each = λ i d low. alike (get_or kept i d) (kept_kept g 1371 f.kept v z.kept s.kept i d low);
+        each = λ i d low. alike (get_or kept i d) (kept_kept g KEPT f.kept v z.kept s.kept i d low);
       };
     }
 
@@ -118,12 +120,12 @@ keeps_in g f v z s = record {
   places = (
     all_so (is_place (length g.locations)) 256 (take (length g.objects) f.places) (objects_stand g 256 f.places s.places),
     (
-      held_placed g (held_in (length g.objects) f.saved) (held_kept g 511 f.saved v z.saved s.saved),
-      λ i d low. held_placed g (get_or (map (held_in (length g.objects)) f.kept) i d) (kept_kept g 1371 f.kept v z.kept s.kept i d low),
+      held_placed g (held_in (length g.objects) f.saved) (held_kept g SAVED f.saved v z.saved s.saved),
+      λ i d low. held_placed g (get_or (map (held_in (length g.objects)) f.kept) i d) (kept_kept g KEPT f.kept v z.kept s.kept i d low),
     ),
   );
-  events = leb-true f.events 1000000000 s.events;
-  draws = leb-true f.draws (200000 * (f.events + 1)) s.draws;
+  events = leb-true f.events EVENT_LIMIT s.events;
+  draws = leb-true f.draws (READ_LIMIT * (f.events + 1)) s.draws;
   rows = length-map f.rows frame_in ∙ z.rows;
   frames = frames_kept g f s;
   line = omega (arith, length-take f.pending f.line, z.line);
@@ -151,8 +153,8 @@ kept_sound : (g : GameLists) (at : ℕ) (kept : List (Option Position)) → All 
 unfolding kept_fault
 kept_sound g at [] h = refl
 kept_sound g at (k ∷ ks) h =
-    none_first (held_fault g at (held_of k)) (kept_fault g (at + 512) (map held_of ks)) (held_sound g at k (h 0 k (omega arith)))
-    (kept_sound g (at + 512) ks (λ i d low. h (suc i) d (omega (arith, low))))
+    none_first (held_fault g at (held_of k)) (kept_fault g (at + HELD_LENGTH) (map held_of ks)) (held_sound g at k (h 0 k (omega arith)))
+    (kept_sound g (at + HELD_LENGTH) ks (λ i d low. h (suc i) d (omega (arith, low))))
 
 code_low : (p : Prompt) → nat_le (prompt_code p) 4 ≡ true
 code_low prompt.Main = refl
@@ -171,18 +173,19 @@ sound_fields g s k =
     let again = sym (prompt_again s.prompt) in
     record {
       places = places_sound g 256 s.world.places k.world.places k.places.0;
-      saved = held_sound g 511 s.world.saved (saved_held g s k);
-      events = le-leb s.events 1000000000 k.events;
-      draws = le-leb s.world.draws (200000 * (s.events + 1)) k.draws;
+      saved = held_sound g SAVED s.world.saved (saved_held g s k);
+      events = le-leb s.events EVENT_LIMIT k.events;
+      draws = le-leb s.world.draws (READ_LIMIT * (s.events + 1)) k.draws;
       prompt = code_low s.prompt;
       count = subst (λ (p : Prompt). count_fits (waiting_code p) s.frames.count ≡ true) again m.count;
-      frames = subst (λ (p : Prompt). row_fields_fault g (unwrap_or (waiting_code p) 0) None s.frames.count 1049 (map row_of s.frames.rows) ≡ None) again
-          (frames_sound g (unwrap_or (waiting_code s.prompt) 0) None s.frames.count 1049 0 s.frames.rows m.rows);
+      frames =
+          subst (λ (p : Prompt). row_fields_fault g (unwrap_or (waiting_code p) 0) None s.frames.count ROWS (map row_of s.frames.rows) ≡ None) again
+          (frames_sound g (unwrap_or (waiting_code s.prompt) 0) None s.frames.count ROWS 0 s.frames.rows m.rows);
       looping = loop_counted g s.frames m.turning;
       turning = loop_found g s.frames (fields_of s) refl refl m.turning;
       pending = subst (λ (p : Prompt). (is_some (waiting_code p) || (length s.pending.bytes == 0)) ≡ true) again
           (line_sound (waiting_code s.prompt) s.pending.bytes k.pending);
-      line = ap (first_not is_zero (1114 + length s.pending.bytes)) (drop_filled (length s.pending.bytes) s.pending.bytes refl)
-          ∙ none_in_zeros (1114 + length s.pending.bytes) (255 - length s.pending.bytes);
-      kept = kept_sound g 1371 s.world.kept (kept_held g s k);
+      line = ap (first_not is_zero (LINE + length s.pending.bytes)) (drop_filled (length s.pending.bytes) s.pending.bytes refl)
+          ∙ none_in_zeros (LINE + length s.pending.bytes) (255 - length s.pending.bytes);
+      kept = kept_sound g KEPT s.world.kept (kept_held g s k);
     }

@@ -1,6 +1,7 @@
 -- The laws of a state's bytes, proved.
 use Rattle.std.proofs.Common.{◌≡◌, ℕ, ◌≤◌, List, [], ◌++◌, Some, None, length, take, drop, sym, ap, ◌∙◌, subst}
 use Rattle.std.proofs.lemmas.List.{take-append-drop, take_at}
+use Rattle.paw_base.specs.declared.layout.TheConstants.{STATE_LENGTH}
 use Rattle.paw_game.specs.Game.{GameLists}
 use Rattle.paw_game.specs.Valid.{Valid}
 use Rattle.paw_process.specs.inner.Kept.{kept}
@@ -34,45 +35,45 @@ fields_stand f rest s = ap (λ (l : List ℕ). fields_at (l ++ rest)) (bytes_sam
 
 pub one_fault : OneFault
 one_fault g bytes at u =
-    let split : bytes ≡ field_bytes u.fields ++ drop 3419 bytes =
-    sym (take-append-drop 3419 bytes) ∙ ap (λ (l : List ℕ). l ++ drop 3419 bytes) (u.are ∙ bytes_same u.fields) in
-    ap (fields_fault g) (ap fields_at split ∙ fields_cut u.fields (drop 3419 bytes) u.sized) ∙ u.fault
+    let split : bytes ≡ field_bytes u.fields ++ drop STATE_LENGTH bytes =
+    sym (take-append-drop STATE_LENGTH bytes) ∙ ap (λ (l : List ℕ). l ++ drop STATE_LENGTH bytes) (u.are ∙ bytes_same u.fields) in
+    ap (fields_fault g) (ap fields_at split ∙ fields_cut u.fields (drop STATE_LENGTH bytes) u.sized) ∙ u.fault
 
 -- a fault of the fields at their places is the one of the bytes
-pub is_unfit : (g : GameLists) (bytes : List ℕ) (at : ℕ) → 3419 ≤ length bytes → AreBytes bytes → unfit g bytes ≡ Some at → Unfit g bytes at
+pub is_unfit : (g : GameLists) (bytes : List ℕ) (at : ℕ) → STATE_LENGTH ≤ length bytes → AreBytes bytes → unfit g bytes ≡ Some at → Unfit g bytes at
 is_unfit g bytes at n b h = record { fields = fields_at bytes; sized = sized_at bytes n b; are = sym (fields_join bytes n b) ∙ sym (bytes_same (fields_at bytes)); fault = h }
 
 -- the fields that stand in bytes of which the first are a state's
-fields_there : (g : GameLists) (s : State) (bytes : List ℕ) → Valid g → KeepsEach g s → FitsFields s → take 3419 bytes ≡ state_bytes s
+fields_there : (g : GameLists) (s : State) (bytes : List ℕ) → Valid g → KeepsEach g s → FitsFields s → take STATE_LENGTH bytes ≡ state_bytes s
     → fields_at bytes ≡ fields_of s
 fields_there g s bytes v k h e =
-    let split : bytes ≡ field_bytes (fields_of s) ++ drop 3419 bytes =
-    sym (take-append-drop 3419 bytes) ∙ ap (λ (l : List ℕ). l ++ drop 3419 bytes) (e ∙ state_same s) in
-    ap fields_at split ∙ fields_cut (fields_of s) (drop 3419 bytes) (sized_of g s v k h)
+    let split : bytes ≡ field_bytes (fields_of s) ++ drop STATE_LENGTH bytes =
+    sym (take-append-drop STATE_LENGTH bytes) ∙ ap (λ (l : List ℕ). l ++ drop STATE_LENGTH bytes) (e ∙ state_same s) in
+    ap fields_at split ∙ fields_cut (fields_of s) (drop STATE_LENGTH bytes) (sized_of g s v k h)
 
 pub fit_has_none : (g : GameLists) (bytes : List ℕ) → Valid g → Fit g bytes → unfit g bytes ≡ None
 fit_has_none g bytes v h = ap (fields_fault g) (fields_there g h.state bytes v (each_of g h.state h.keeps) h.fits h.are) ∙ h.keeps.fields
 
 -- the fault that is found part by part
-pub unfit_parts : (g : GameLists) (bytes : List ℕ) → 3419 ≤ length bytes → AreBytes bytes → unfit g bytes ≡ parts_fault g (fields_at bytes)
+pub unfit_parts : (g : GameLists) (bytes : List ℕ) → STATE_LENGTH ≤ length bytes → AreBytes bytes → unfit g bytes ≡ parts_fault g (fields_at bytes)
 unfit_parts g bytes n b = faults_same g (fields_at bytes) (lengths_sized (fields_at bytes) (sized_at bytes n b))
 
-sound_at : (g : GameLists) (bytes : List ℕ) → 3419 ≤ length bytes → AreBytes bytes → unfit g bytes ≡ None → AreSound g (fields_at bytes)
+sound_at : (g : GameLists) (bytes : List ℕ) → STATE_LENGTH ≤ length bytes → AreBytes bytes → unfit g bytes ≡ None → AreSound g (fields_at bytes)
 sound_at g bytes n b h = sound_of g (fields_at bytes) (sym (unfit_parts g bytes n b) ∙ h)
 
 -- bytes without a fault are those of the state that their fields say
-pub bytes_are : (g : GameLists) (bytes : List ℕ) → Valid g → 3419 ≤ length bytes → AreBytes bytes → unfit g bytes ≡ None
-    → take 3419 bytes ≡ state_bytes (state_in g (fields_at bytes))
+pub bytes_are : (g : GameLists) (bytes : List ℕ) → Valid g → STATE_LENGTH ≤ length bytes → AreBytes bytes → unfit g bytes ≡ None
+    → take STATE_LENGTH bytes ≡ state_bytes (state_in g (fields_at bytes))
 bytes_are g bytes v n b h =
     sym (state_same (state_in g (fields_at bytes))
     ∙ (ap field_bytes (state_back g (fields_at bytes) v (sized_at bytes n b) (sound_at g bytes n b h)) ∙ fields_join bytes n b))
 
-pub state_kept : (g : GameLists) (bytes : List ℕ) → Valid g → 3419 ≤ length bytes → AreBytes bytes → unfit g bytes ≡ None
+pub state_kept : (g : GameLists) (bytes : List ℕ) → Valid g → STATE_LENGTH ≤ length bytes → AreBytes bytes → unfit g bytes ≡ None
     → Keeps g (state_in g (fields_at bytes))
 state_kept g bytes v n b h =
     keeps_of g (state_in g (fields_at bytes)) (keeps_in g (fields_at bytes) v (sized_at bytes n b) (sound_at g bytes n b h))
 
-pub none_is_fit : (g : GameLists) (bytes : List ℕ) → Valid g → 3419 ≤ length bytes → AreBytes bytes → unfit g bytes ≡ None → Fit g bytes
+pub none_is_fit : (g : GameLists) (bytes : List ℕ) → Valid g → STATE_LENGTH ≤ length bytes → AreBytes bytes → unfit g bytes ≡ None → Fit g bytes
 none_is_fit g bytes v n b h = record {
   state = state_in g (fields_at bytes);
   keeps = state_kept g bytes v n b h;
@@ -103,11 +104,11 @@ long_state g s v k h =
 pub written_is_fit : WrittenIsFit
 written_is_fit g s rest v k h =
     let n = (long_state g s v k h).all in
-    (n, record { state = s; keeps = k; fits = h; are = take_at (state_bytes s) rest 3419 n })
+    (n, record { state = s; keeps = k; fits = h; are = take_at (state_bytes s) rest STATE_LENGTH n })
 
 -- ---- what is read ----
 
-pub is_read : (g : GameLists) (bytes : List ℕ) (r : Restored) → Valid g → 3419 ≤ length bytes → AreBytes bytes → unfit g bytes ≡ None
+pub is_read : (g : GameLists) (bytes : List ℕ) (r : Restored) → Valid g → STATE_LENGTH ≤ length bytes → AreBytes bytes → unfit g bytes ≡ None
     → state_read r ≡ state_in g (fields_at bytes) → r.machine ≡ restored (kept r.machine) (waiting_at r.prompt) → StandsAt r.prompt r.machine → IsRead g bytes r
 is_read g bytes r v n b h e machine at = record {
   are = bytes_are g bytes v n b h ∙ ap state_bytes (sym e);

@@ -4,6 +4,7 @@ use Rattle.std.specs.Prelude.{flat_map, nat_le, nat_lt, is_some, not, if◌then�
 use Rattle.std.specs.Option.{unwrap_or}
 use Rattle.std.proofs.lemmas.List.{append_assoc, append-nil}
 use Rattle.std.proofs.lemmas.Grind.{flat_map-append}
+use Rattle.paw_base.specs.declared.limits.TheConstants.{EVENT_LIMIT, READ_LIMIT}
 use Rattle.paw_game.specs.Game.{GameLists}
 use Rattle.paw_game.specs.Image.{two_bytes}
 use Rattle.paw_game.specs.Tables.{condact_at}
@@ -93,8 +94,8 @@ table_rows f = rows_fields (unwrap_or (inside f) 0) (λ g. None) f.count f.rows
 abbrev pub from_seed : Fields → List Field
 from_seed f =
     eight f.seed (λ g. true)
-    ∷ eight f.draws (λ g. not (nat_le f.events 1000000000) || nat_le f.draws (200000 * (f.events + 1)))
-    ∷ eight f.events (λ g. nat_le f.events 1000000000)
+    ∷ eight f.draws (λ g. not (nat_le f.events EVENT_LIMIT) || nat_le f.draws (READ_LIMIT * (f.events + 1)))
+    ∷ eight f.events (λ g. nat_le f.events EVENT_LIMIT)
     ∷ byte f.prompt (λ g. nat_le f.prompt 4)
     ∷ byte f.count (λ g. count_fits (inside f) f.count)
     ∷ (table_rows f ++ from_looping f)
@@ -113,8 +114,8 @@ unfolding state_fields
 listed f =
     grouped (flag_fields f.flags) (place_fields f.places) (held_fields f.saved)
     (eight f.seed (λ g. true)
-    ∷ eight f.draws (λ g. not (nat_le f.events 1000000000) || nat_le f.draws (200000 * (f.events + 1)))
-    ∷ eight f.events (λ g. nat_le f.events 1000000000)
+    ∷ eight f.draws (λ g. not (nat_le f.events EVENT_LIMIT) || nat_le f.draws (READ_LIMIT * (f.events + 1)))
+    ∷ eight f.events (λ g. nat_le f.events EVENT_LIMIT)
     ∷ byte f.prompt (λ g. nat_le f.prompt 4)
     ∷ byte f.count (λ g. count_fits (inside f) f.count)
     ∷ table_rows f)

@@ -18,6 +18,8 @@ use Rattle.paw_process.specs.inner.Kept.{loop_stands}
 use Rattle.paw_process.specs.inner.Kept.{loop_fault as machine_fault}
 use Rattle.paw_process.proofs.Restored.{first_of, second}
 use Rattle.paw_process.proofs.Rows.{table_of}
+use Rattle.paw_state.specs.declared.layout.TheConstants.{LOOP_LEVEL, LOOP_TABLE, LOOP_ENTRY, LOOP_AT, LOOP_PLACE}
+use Rattle.paw_state.specs.declared.layout.TheConstants.{LOOP_LAST}
 use Rattle.paw_state.specs.declared.fields.Row.{Row}
 use Rattle.paw_state.specs.declared.fields.Fields.{Fields}
 use Rattle.paw_state.specs.State.{row_of}
@@ -51,14 +53,16 @@ six_none a b c d e f ka kb kc kd ke kf =
 
 zeros_loop : (l : OpenLoop) → no_loop_fault l ≡ None → loop_or_zeros None ≡ l
 zeros_loop l h =
-    let p = six (rule 1105 (l.level == 0)) (rule 1106 (l.table == 0)) (rule 1107 (l.entry == 0)) (rule 1109 (l.at == 0)) (rule 1110 (l.place == 0))
-    (rule 1111 (l.last == 0)) h in
-    let level : l.level ≡ 0 = eqb-true l.level 0 (rule_holds 1105 _ p.0) in
-    let table : l.table ≡ 0 = eqb-true l.table 0 (rule_holds 1106 _ p.1) in
-    let entry : l.entry ≡ 0 = eqb-true l.entry 0 (rule_holds 1107 _ p.2) in
-    let at : l.at ≡ 0 = eqb-true l.at 0 (rule_holds 1109 _ p.3) in
-    let place : l.place ≡ 0 = eqb-true l.place 0 (rule_holds 1110 _ p.4) in
-    let last : l.last ≡ 0 = eqb-true l.last 0 (rule_holds 1111 _ p.5) in
+    let p =
+    six (rule LOOP_LEVEL (l.level == 0)) (rule LOOP_TABLE (l.table == 0)) (rule LOOP_ENTRY (l.entry == 0))
+    (rule LOOP_AT (l.at == 0)) (rule LOOP_PLACE (l.place == 0))
+    (rule LOOP_LAST (l.last == 0)) h in
+    let level : l.level ≡ 0 = eqb-true l.level 0 (rule_holds LOOP_LEVEL _ p.0) in
+    let table : l.table ≡ 0 = eqb-true l.table 0 (rule_holds LOOP_TABLE _ p.1) in
+    let entry : l.entry ≡ 0 = eqb-true l.entry 0 (rule_holds LOOP_ENTRY _ p.2) in
+    let at : l.at ≡ 0 = eqb-true l.at 0 (rule_holds LOOP_AT _ p.3) in
+    let place : l.place ≡ 0 = eqb-true l.place 0 (rule_holds LOOP_PLACE _ p.4) in
+    let last : l.last ≡ 0 = eqb-true l.last 0 (rule_holds LOOP_LAST _ p.5) in
     let e : ◌≡◌ {A = OpenLoop} (record { level = 0; table = 0; entry = 0; at = 0; place = 0; last = 0 })
     (record { level = l.level; table = l.table; entry = l.entry; at = l.at; place = l.place; last = l.last }) = cc in e
 
@@ -93,16 +97,16 @@ row_of_level rows i = same_table (slice_get rows i) ∙ ap table_of (sym (slice_
 stands : (g : GameLists) (f : Fields) (l : OpenLoop) → loop_fields_fault g f l ≡ None → loop_stands g (frames_in f) l ≡ true
 stands g f l h =
     let table = is_that_table (row_table (slice_get f.rows l.level)) l.table in
-    let p = six (rule 1105 (nat_lt l.level f.count)) (rule 1106 table) (rule 1107 (is_some (head_at g l.table l.entry)))
-    (rule 1109 (has_code 86 (condact_at g l.table l.entry l.at))) (rule 1110 (is_place (length g.locations) l.place))
-    (rule 1111 (nat_lt l.last (length g.objects))) h in
+    let p = six (rule LOOP_LEVEL (nat_lt l.level f.count)) (rule LOOP_TABLE table) (rule LOOP_ENTRY (is_some (head_at g l.table l.entry)))
+    (rule LOOP_AT (has_code 86 (condact_at g l.table l.entry l.at))) (rule LOOP_PLACE (is_place (length g.locations) l.place))
+    (rule LOOP_LAST (nat_lt l.last (length g.objects))) h in
     let t : is_that_table (table_of (slice_get (map frame_in f.rows) l.level)) l.table ≡ true =
-    ap (λ (o : Option ℕ). is_that_table o l.table) (sym (row_of_level f.rows l.level)) ∙ rule_holds 1106 table p.1 in
-    both (nat_lt l.level f.count) _ (rule_holds 1105 (nat_lt l.level f.count) p.0)
+    ap (λ (o : Option ℕ). is_that_table o l.table) (sym (row_of_level f.rows l.level)) ∙ rule_holds LOOP_TABLE table p.1 in
+    both (nat_lt l.level f.count) _ (rule_holds LOOP_LEVEL (nat_lt l.level f.count) p.0)
     (both (is_that_table (table_of (slice_get (map frame_in f.rows) l.level)) l.table) _ t
-    (both (has_code 86 (condact_at g l.table l.entry l.at)) _ (rule_holds 1109 (has_code 86 (condact_at g l.table l.entry l.at)) p.3)
+    (both (has_code 86 (condact_at g l.table l.entry l.at)) _ (rule_holds LOOP_AT (has_code 86 (condact_at g l.table l.entry l.at)) p.3)
     (both (is_place (length g.locations) l.place) (nat_lt l.last (length g.objects))
-    (rule_holds 1110 (is_place (length g.locations) l.place) p.4) (rule_holds 1111 (nat_lt l.last (length g.objects)) p.5))))
+    (rule_holds LOOP_PLACE (is_place (length g.locations) l.place) p.4) (rule_holds LOOP_LAST (nat_lt l.last (length g.objects)) p.5))))
 
 pub loop_sound : (g : GameLists) (f : Fields) → turning_rest g f ≡ None → machine_fault g (frames_in f) (turning_in f) ≡ None
 loop_sound g f h = go (f.looping == 0) h
@@ -136,12 +140,13 @@ loop_found g k f count rows h = go k.turning h
         ap (λ (rs : List Row). is_that_table (row_table (slice_get rs l.level)) l.table) rows
         ∙ (ap (λ (o : Option ℕ). is_that_table o l.table) (sym (frame_of_level k.rows l.level))
         ∙ first_of (is_that_table (table_of (slice_get k.rows l.level)) l.table) _ s1) in
-        six_none (rule 1105 (nat_lt l.level f.count)) (rule 1106 (is_that_table (row_table (slice_get f.rows l.level)) l.table))
-        (rule 1107 (is_some (head_at g l.table l.entry)))
-        (rule 1109 (has_code 86 (condact_at g l.table l.entry l.at))) (rule 1110 (is_place (length g.locations) l.place))
-        (rule 1111 (nat_lt l.last (length g.objects)))
-        (no_rule 1105 _ low) (no_rule 1106 _ table) (no_rule 1107 _ (head_there g 86 l.table l.entry l.at code)) (no_rule 1109 _ code)
-        (no_rule 1110 _ (first_of (is_place (length g.locations) l.place) _ s3)) (no_rule 1111 _ (second (is_place (length g.locations) l.place) _ s3))
+        six_none (rule LOOP_LEVEL (nat_lt l.level f.count)) (rule LOOP_TABLE (is_that_table (row_table (slice_get f.rows l.level)) l.table))
+        (rule LOOP_ENTRY (is_some (head_at g l.table l.entry)))
+        (rule LOOP_AT (has_code 86 (condact_at g l.table l.entry l.at))) (rule LOOP_PLACE (is_place (length g.locations) l.place))
+        (rule LOOP_LAST (nat_lt l.last (length g.objects)))
+        (no_rule LOOP_LEVEL _ low) (no_rule LOOP_TABLE _ table) (no_rule LOOP_ENTRY _ (head_there g 86 l.table l.entry l.at code)) (no_rule LOOP_AT _ code)
+        (no_rule LOOP_PLACE _ (first_of (is_place (length g.locations) l.place) _ s3))
+        (no_rule LOOP_LAST _ (second (is_place (length g.locations) l.place) _ s3))
 
     tested : (l : OpenLoop) (b : Bool) → loop_stands g k l ≡ b → ◌≡◌ {A = Option ℕ} (if b then None else Some 11) None → loop_fields_fault g f l ≡ None
     tested l true e q = kept l e

@@ -1,10 +1,16 @@
 -- Ranges of bytes, one after the other.
-use Rattle.std.proofs.Common.{◌≡◌, ℕ, zero, suc, ◌+◌, ◌-◌, ◌<◌, ◌≤◌, List, [], ◌∷◌, ◌++◌, length, take, drop, get_or, sym, ap, ◌∙◌, add-zero, lit<, arith}
+use Rattle.std.proofs.Common.{◌≡◌, ℕ, zero, suc, ◌+◌, ◌*◌, ◌-◌, ◌<◌, ◌≤◌, List, [], ◌∷◌, ◌++◌, length, take, drop}
+use Rattle.std.proofs.Common.{get_or, sym, ap, ◌∙◌, add-zero, lit<, arith}
 use Rattle.std.specs.Prelude.{slice_index, slice_range}
 use Rattle.std.proofs.Math.Seq.{take-add, drop-cons}
 use Rattle.std.proofs.lemmas.List.{drop-drop, drop_at, take_at, get_or-drop, length-take, length-drop}
 use Rattle.std.proofs.lemmas.List.Elements.{All-take}
+use Rattle.paw_state.specs.declared.layout.TheConstants.{HELD_LENGTH, KEPT}
 use Rattle.paw_state.specs.State.{AreBytes}
+
+-- Where a kept position stands, by its number.
+abbrev pub kept_place : ℕ → ℕ
+kept_place n = KEPT + HELD_LENGTH * n
 
 -- ---- what stands at a place of bytes ----
 

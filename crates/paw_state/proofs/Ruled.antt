@@ -4,6 +4,7 @@ use Rattle.std.specs.Prelude.{All, IfNone, if◌then◌else◌}
 use Rattle.std.proofs.lemmas.List.{length-map}
 use Rattle.std.proofs.lemmas.List.Elements.{All-cons, All-map}
 use Rattle.std.proofs.lemmas.Bool.{leb-true}
+use Rattle.paw_base.specs.declared.limits.TheConstants.{EVENT_LIMIT, READ_LIMIT}
 use Rattle.paw_game.specs.Game.{GameLists}
 use Rattle.paw_game.specs.Valid.{is_place}
 use Rattle.paw_world.specs.World.{Position, IsSavedFor, IsWorld}
@@ -13,6 +14,7 @@ use Rattle.paw_effects.specs.inner.Worlds.{ArePlacesOf, StandsIn}
 use Rattle.paw_process.specs.declared.kept.Frames.{Frames}
 use Rattle.paw_process.specs.Kept.{waiting_code}
 use Rattle.paw_process.specs.inner.Kept.{fault_at}
+use Rattle.paw_state.specs.declared.layout.TheConstants.{SAVED, HELD_LENGTH, KEPT}
 use Rattle.paw_state.specs.Fields.{IsSizedHeld}
 use Rattle.paw_state.specs.State.{State, Keeps, filled, held_of, row_of, fields_of}
 use Rattle.paw_state.specs.inner.State.{KeepsEach}
@@ -61,9 +63,9 @@ kept_from : (g : GameLists) (at n : ℕ) (kept : List (Option Position)) → n �
 unfolding kept_fault
 kept_from g at n [] same alike h = λ k d low. absurd (omega (arith, low))
 kept_from g at n (o ∷ os) same alike h =
-    let p = no_first (held_fault g at (held_of o)) (kept_fault g (at + 512) (map held_of os)) h in
+    let p = no_first (held_fault g at (held_of o)) (kept_fault g (at + HELD_LENGTH) (map held_of os)) h in
     All-cons (StandsIn g) o os (saved_from g at n o same (alike 0 o (omega arith)) p.0)
-    (kept_from g (at + 512) n os same (λ i d low. alike (suc i) d (omega (arith, low))) p.1)
+    (kept_from g (at + HELD_LENGTH) n os same (λ i d low. alike (suc i) d (omega (arith, low))) p.1)
 
 pub each_of : (g : GameLists) (s : State) → Keeps g s → KeepsEach g s
 each_of g s k =
@@ -77,12 +79,12 @@ each_of g s k =
       places = (
         places_from g 256 s.world.places k.world.places sound.places,
         (
-          saved_from g 511 (length s.world.places) s.world.saved k.world.places k.sound.saved sound.saved,
-          kept_from g 1371 (length s.world.places) s.world.kept k.world.places k.sound.kept.each sound.kept,
+          saved_from g SAVED (length s.world.places) s.world.saved k.world.places k.sound.saved sound.saved,
+          kept_from g KEPT (length s.world.places) s.world.kept k.world.places k.sound.kept.each sound.kept,
         ),
       );
-      events = leb-true s.events 1000000000 sound.events;
-      draws = leb-true s.world.draws (200000 * (s.events + 1)) sound.draws;
+      events = leb-true s.events EVENT_LIMIT sound.events;
+      draws = leb-true s.world.draws (READ_LIMIT * (s.events + 1)) sound.draws;
       rows = k.rows;
       frames = subst (λ (x : Frames). fault_at g (waiting_code s.prompt) x ≡ None) frames
           (subst (λ (p : Prompt). fault_at g (waiting_code p) (frames_in f) ≡ None) (prompt_again s.prompt) (frames_kept g f sound));

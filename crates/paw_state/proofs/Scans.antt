@@ -5,6 +5,7 @@ use Rattle.std.specs.Prelude.{if◌then◌else◌}
 use Rattle.std.proofs.Math.Seq.{drop-cons, take-suc-set}
 use Rattle.std.proofs.lemmas.List.{drop-drop, drop_all, take_all}
 use Rattle.paw_game.specs.Game.{GameLists}
+use Rattle.paw_state.specs.declared.layout.TheConstants.{HELD_LENGTH, ROWS}
 use Rattle.paw_state.specs.declared.fields.Row.{Row}
 use Rattle.paw_state.specs.declared.held.Held.{Held}
 use Rattle.paw_state.specs.inner.Fields.{row_at, rows_at}
@@ -82,17 +83,17 @@ kept_none g at [] h = refl
 kept_none g at (k ∷ ks) h = absurd (omega arith)
 
 first_kept : (g : GameLists) (at : ℕ) (kept : List Held) (k : Held) (ks : List Held) → kept ≡ k ∷ ks
-    → option_or (held_fault g at k) (kept_fault g (at + 512) ks) ≡ kept_fault g at kept
+    → option_or (held_fault g at k) (kept_fault g (at + HELD_LENGTH) ks) ≡ kept_fault g at kept
 unfolding kept_fault
 first_kept g at kept k ks e = rw e refl
 
 pub kept_stops : (g : GameLists) (at x : ℕ) (kept : List Held) (k : Held) (ks : List Held) → kept ≡ k ∷ ks → Some x ≡ held_fault g at k
     → Some x ≡ kept_fault g at kept
-kept_stops g at x kept k ks e h = ap (λ (o : Option ℕ). option_or o (kept_fault g (at + 512) ks)) h ∙ first_kept g at kept k ks e
+kept_stops g at x kept k ks e h = ap (λ (o : Option ℕ). option_or o (kept_fault g (at + HELD_LENGTH) ks)) h ∙ first_kept g at kept k ks e
 
 pub kept_passes : (g : GameLists) (at : ℕ) (kept : List Held) (k : Held) (ks : List Held) → kept ≡ k ∷ ks → None ≡ held_fault g at k
-    → kept_fault g (at + 512) ks ≡ kept_fault g at kept
-kept_passes g at kept k ks e h = ap (λ (o : Option ℕ). option_or o (kept_fault g (at + 512) ks)) h ∙ first_kept g at kept k ks e
+    → kept_fault g (at + HELD_LENGTH) ks ≡ kept_fault g at kept
+kept_passes g at kept k ks e h = ap (λ (o : Option ℕ). option_or o (kept_fault g (at + HELD_LENGTH) ks)) h ∙ first_kept g at kept k ks e
 
 -- ---- rows that are read ----
 
@@ -109,13 +110,13 @@ rows_more (suc n) bytes =
     ap (λ (rs : List Row). row_at bytes ∷ rs) (rows_more n (drop 5 bytes) ∙ ap (λ (l : List ℕ). rows_at n (drop 5 bytes) ++ row_at l ∷ []) e)
 
 -- one row more is read
-pub row_read : (rows : List Row) (n : ℕ) (r : Row) (bytes : List ℕ) → n < length rows → take n rows ≡ rows_at n (drop 1049 bytes)
-    → r ≡ row_at (drop (1049 + 5 * n) bytes) → take (n + 1) (set rows n r) ≡ rows_at (n + 1) (drop 1049 bytes)
+pub row_read : (rows : List Row) (n : ℕ) (r : Row) (bytes : List ℕ) → n < length rows → take n rows ≡ rows_at n (drop ROWS bytes)
+    → r ≡ row_at (drop (ROWS + 5 * n) bytes) → take (n + 1) (set rows n r) ≡ rows_at (n + 1) (drop ROWS bytes)
 row_read rows n r bytes low h e =
-    let d : drop (5 * n) (drop 1049 bytes) ≡ drop (1049 + 5 * n) bytes = drop-drop (5 * n) 1049 bytes in
-    rw (add-one, e, sym d) (take-suc-set rows n (row_at (drop (5 * n) (drop 1049 bytes))) low
-    ∙ (ap (λ (rs : List Row). rs ++ row_at (drop (5 * n) (drop 1049 bytes)) ∷ []) h ∙ sym (rows_more n (drop 1049 bytes))))
+    let d : drop (5 * n) (drop ROWS bytes) ≡ drop (ROWS + 5 * n) bytes = drop-drop (5 * n) ROWS bytes in
+    rw (add-one, e, sym d) (take-suc-set rows n (row_at (drop (5 * n) (drop ROWS bytes))) low
+    ∙ (ap (λ (rs : List Row). rs ++ row_at (drop (5 * n) (drop ROWS bytes)) ∷ []) h ∙ sym (rows_more n (drop ROWS bytes))))
 
-pub rows_read : (rows : List Row) (n : ℕ) (bytes : List ℕ) → length rows ≡ 11 → n ≡ 11 → take n rows ≡ rows_at n (drop 1049 bytes)
-    → rows ≡ rows_at 11 (drop 1049 bytes)
-rows_read rows n bytes k e h = sym (take_all 11 rows (omega arith)) ∙ subst (λ (i : ℕ). take i rows ≡ rows_at i (drop 1049 bytes)) e h
+pub rows_read : (rows : List Row) (n : ℕ) (bytes : List ℕ) → length rows ≡ 11 → n ≡ 11 → take n rows ≡ rows_at n (drop ROWS bytes)
+    → rows ≡ rows_at 11 (drop ROWS bytes)
+rows_read rows n bytes k e h = sym (take_all 11 rows (omega arith)) ∙ subst (λ (i : ℕ). take i rows ≡ rows_at i (drop ROWS bytes)) e h

@@ -6,6 +6,7 @@ use Rattle.std.specs.Option.{unwrap_or}
 use Rattle.std.proofs.lemmas.List.{length-map, length-drop}
 use Rattle.std.proofs.lemmas.List.Elements.{All-cons, All-nil, All-take, All-map}
 use Rattle.std.proofs.lemmas.Bool.{eqb-true}
+use Rattle.paw_base.specs.declared.layout.TheConstants.{STATE_LENGTH}
 use Rattle.paw_base.specs.declared.parts.Condact.{Condact}
 use Rattle.paw_game.specs.Game.{GameLists}
 use Rattle.paw_game.specs.Valid.{Valid}
@@ -24,6 +25,9 @@ use Rattle.paw_process.specs.inner.Kept.{loop_stands}
 use Rattle.paw_process.proofs.Rows.{table_of}
 use Rattle.paw_process.specs.inner.Kept.{rows_fault as machine_rows, loop_fault as machine_loop}
 use Rattle.paw_process.proofs.Restored.{first_of, second}
+use Rattle.paw_state.specs.declared.layout.TheConstants.{FLAGS, PLACES, SAVED, HELD_FLAGS, HELD_PLACES, HELD_LENGTH}
+use Rattle.paw_state.specs.declared.layout.TheConstants.{SEED, DRAWS, EVENTS, ROWS, LOOP_ENTRY, EARLIER, PENDING, LINE}
+use Rattle.paw_state.specs.declared.layout.TheConstants.{PIECE, KEPT}
 use Rattle.paw_state.specs.declared.fields.Row.{Row}
 use Rattle.paw_state.specs.declared.held.Held.{Held}
 use Rattle.paw_state.specs.State.{State, AreBytes, HoldsBytes, FitsFields}
@@ -32,7 +36,7 @@ use Rattle.paw_state.specs.State.{held_of, row_of, fields_of}
 use Rattle.paw_state.specs.inner.State.{loop_or_zeros}
 use Rattle.paw_state.specs.inner.Fields.{two_at, eight_at, row_at, rows_at, held_at, fields_at}
 use Rattle.paw_state.specs.inner.Parts.{held_in, state_in}
-use Rattle.paw_state.proofs.Pieces.{length_range, range_bytes, drop_bytes, each_byte}
+use Rattle.paw_state.proofs.Pieces.{kept_place, length_range, range_bytes, drop_bytes, each_byte}
 use Rattle.paw_state.proofs.Positions.{IsHeldOf, saved_held, kept_held}
 use Rattle.paw_state.specs.Fields.{IsSizedHeld, AreSized}
 use Rattle.paw_state.proofs.Found.{length-zeros, length-filled}
@@ -61,34 +65,34 @@ entries_low zero bytes h = λ k d low. absurd (omega (arith, low))
 entries_low (suc n) bytes h =
     All-cons (λ (r : Row). r.entry < 2 ^ 16) (row_at bytes) (rows_at n (drop 5 bytes)) (two_low bytes 1 h) (entries_low n (drop 5 bytes) (drop_bytes 5 bytes h))
 
-held_sized : (bytes : List ℕ) (at : ℕ) → at + 512 ≤ length bytes → IsSizedHeld (held_at (drop at bytes))
+held_sized : (bytes : List ℕ) (at : ℕ) → at + HELD_LENGTH ≤ length bytes → IsSizedHeld (held_at (drop at bytes))
 held_sized bytes at n = record {
-  flags = length_range (drop at bytes) 1 257 (omega arith) (omega (arith, length-drop at bytes));
-  places = length_range (drop at bytes) 257 512 (omega arith) (omega (arith, length-drop at bytes));
+  flags = length_range (drop at bytes) HELD_FLAGS HELD_PLACES (omega arith) (omega (arith, length-drop at bytes));
+  places = length_range (drop at bytes) HELD_PLACES HELD_LENGTH (omega arith) (omega (arith, length-drop at bytes));
 }
 
-kept_sized : (bytes : List ℕ) → 3419 ≤ length bytes → All IsSizedHeld (fields_at bytes).kept
+kept_sized : (bytes : List ℕ) → STATE_LENGTH ≤ length bytes → All IsSizedHeld (fields_at bytes).kept
 kept_sized bytes n =
     let held : ℕ → Held = λ at. held_at (drop at bytes) in
-    All-cons IsSizedHeld (held 1371) (held 1883 ∷ held 2395 ∷ held 2907 ∷ []) (held_sized bytes 1371 (omega arith))
-    (All-cons IsSizedHeld (held 1883) (held 2395 ∷ held 2907 ∷ []) (held_sized bytes 1883 (omega arith))
-    (All-cons IsSizedHeld (held 2395) (held 2907 ∷ []) (held_sized bytes 2395 (omega arith))
-    (All-cons IsSizedHeld (held 2907) [] (held_sized bytes 2907 (omega arith)) (All-nil IsSizedHeld))))
+    All-cons IsSizedHeld (held KEPT) (held (kept_place 1) ∷ held (kept_place 2) ∷ held (kept_place 3) ∷ []) (held_sized bytes KEPT (omega arith))
+    (All-cons IsSizedHeld (held (kept_place 1)) (held (kept_place 2) ∷ held (kept_place 3) ∷ []) (held_sized bytes (kept_place 1) (omega arith))
+    (All-cons IsSizedHeld (held (kept_place 2)) (held (kept_place 3) ∷ []) (held_sized bytes (kept_place 2) (omega arith))
+    (All-cons IsSizedHeld (held (kept_place 3)) [] (held_sized bytes (kept_place 3) (omega arith)) (All-nil IsSizedHeld))))
 
-pub sized_at : (bytes : List ℕ) → 3419 ≤ length bytes → AreBytes bytes → AreSized (fields_at bytes)
+pub sized_at : (bytes : List ℕ) → STATE_LENGTH ≤ length bytes → AreBytes bytes → AreSized (fields_at bytes)
 sized_at bytes n h = record {
-  flags = length_range bytes 0 256 (omega arith) (omega arith);
-  places = length_range bytes 256 511 (omega arith) (omega arith);
-  saved = held_sized bytes 511 (omega arith);
-  seed = eight_low bytes 1023 h;
-  draws = eight_low bytes 1031 h;
-  events = eight_low bytes 1039 h;
-  rows = length-rows_at 11 (drop 1049 bytes);
-  entries = entries_low 11 (drop 1049 bytes) (drop_bytes 1049 bytes h);
-  loop_entry = two_low bytes 1107 h;
-  pending = each_byte bytes h 1113;
-  line = length_range bytes 1114 1369 (omega arith) (omega arith);
-  piece = two_low bytes 1369 h;
+  flags = length_range bytes FLAGS PLACES (omega arith) (omega arith);
+  places = length_range bytes PLACES SAVED (omega arith) (omega arith);
+  saved = held_sized bytes SAVED (omega arith);
+  seed = eight_low bytes SEED h;
+  draws = eight_low bytes DRAWS h;
+  events = eight_low bytes EVENTS h;
+  rows = length-rows_at 11 (drop ROWS bytes);
+  entries = entries_low 11 (drop ROWS bytes) (drop_bytes ROWS bytes h);
+  loop_entry = two_low bytes LOOP_ENTRY h;
+  pending = each_byte bytes h PENDING;
+  line = length_range bytes LINE PIECE (omega arith) (omega arith);
+  piece = two_low bytes PIECE h;
   four = refl;
   kept = kept_sized bytes n;
 }
@@ -104,29 +108,29 @@ held_fits n h flags places = go (h.there == 0)
 
 held_at_fits : (n at : ℕ) (bytes : List ℕ) → AreBytes bytes → HoldsBytes (held_in n (held_at (drop at bytes)))
 held_at_fits n at bytes h =
-    held_fits n (held_at (drop at bytes)) (range_bytes (drop at bytes) 1 257 (drop_bytes at bytes h))
-    (range_bytes (drop at bytes) 257 512 (drop_bytes at bytes h))
+    held_fits n (held_at (drop at bytes)) (range_bytes (drop at bytes) HELD_FLAGS HELD_PLACES (drop_bytes at bytes h))
+    (range_bytes (drop at bytes) HELD_PLACES HELD_LENGTH (drop_bytes at bytes h))
 
 kept_at_fits : (n : ℕ) (bytes : List ℕ) → AreBytes bytes → All HoldsBytes (map (held_in n) (fields_at bytes).kept)
 kept_at_fits n bytes h =
     let held : ℕ → Option Position = λ at. held_in n (held_at (drop at bytes)) in
-    All-cons HoldsBytes (held 1371) (held 1883 ∷ held 2395 ∷ held 2907 ∷ []) (held_at_fits n 1371 bytes h)
-    (All-cons HoldsBytes (held 1883) (held 2395 ∷ held 2907 ∷ []) (held_at_fits n 1883 bytes h)
-    (All-cons HoldsBytes (held 2395) (held 2907 ∷ []) (held_at_fits n 2395 bytes h)
-    (All-cons HoldsBytes (held 2907) [] (held_at_fits n 2907 bytes h) (All-nil HoldsBytes))))
+    All-cons HoldsBytes (held KEPT) (held (kept_place 1) ∷ held (kept_place 2) ∷ held (kept_place 3) ∷ []) (held_at_fits n KEPT bytes h)
+    (All-cons HoldsBytes (held (kept_place 1)) (held (kept_place 2) ∷ held (kept_place 3) ∷ []) (held_at_fits n (kept_place 1) bytes h)
+    (All-cons HoldsBytes (held (kept_place 2)) (held (kept_place 3) ∷ []) (held_at_fits n (kept_place 2) bytes h)
+    (All-cons HoldsBytes (held (kept_place 3)) [] (held_at_fits n (kept_place 3) bytes h) (All-nil HoldsBytes))))
 
-pub fits_at : (g : GameLists) (bytes : List ℕ) → 3419 ≤ length bytes → AreBytes bytes → FitsFields (state_in g (fields_at bytes))
+pub fits_at : (g : GameLists) (bytes : List ℕ) → STATE_LENGTH ≤ length bytes → AreBytes bytes → FitsFields (state_in g (fields_at bytes))
 fits_at g bytes n h = record {
-  flags = range_bytes bytes 0 256 h;
-  places = All-take (λ (b : ℕ). b < 256) (length g.objects) (slice_range bytes 256 511) (range_bytes bytes 256 511 h);
-  saved = held_at_fits (length g.objects) 511 bytes h;
+  flags = range_bytes bytes FLAGS PLACES h;
+  places = All-take (λ (b : ℕ). b < 256) (length g.objects) (slice_range bytes PLACES SAVED) (range_bytes bytes PLACES SAVED h);
+  saved = held_at_fits (length g.objects) SAVED bytes h;
   kept = kept_at_fits (length g.objects) bytes h;
-  seed = eight_low bytes 1023 h;
-  draws = eight_low bytes 1031 h;
-  events = eight_low bytes 1039 h;
-  earlier = each_byte bytes h 1112;
-  line = All-take (λ (b : ℕ). b < 256) (slice_index bytes 1113) (slice_range bytes 1114 1369) (range_bytes bytes 1114 1369 h);
-  piece = two_low bytes 1369 h;
+  seed = eight_low bytes SEED h;
+  draws = eight_low bytes DRAWS h;
+  events = eight_low bytes EVENTS h;
+  earlier = each_byte bytes h EARLIER;
+  line = All-take (λ (b : ℕ). b < 256) (slice_index bytes PENDING) (slice_range bytes LINE PIECE) (range_bytes bytes LINE PIECE h);
+  piece = two_low bytes PIECE h;
 }
 
 -- ---- the fields of a state ----

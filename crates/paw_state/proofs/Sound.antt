@@ -1,8 +1,11 @@
 -- Fields in which no fault is found, part by part.
 use Rattle.std.proofs.Common.{◌≡◌, ℕ, ◌+◌, ◌*◌, ◌||◌, ◌==◌, true, [], ◌∷◌, Option, None, drop, is_some, nat_le, refl}
 use Rattle.std.specs.Prelude.{if◌then◌else◌}
+use Rattle.paw_base.specs.declared.limits.TheConstants.{EVENT_LIMIT, READ_LIMIT}
 use Rattle.paw_game.specs.Game.{GameLists}
 use Rattle.paw_process.specs.Kept.{waiting_code, count_fits}
+use Rattle.paw_state.specs.declared.layout.TheConstants.{PLACES, SAVED, DRAWS, EVENTS, PROMPT, COUNT, LOOPING, PENDING}
+use Rattle.paw_state.specs.declared.layout.TheConstants.{LINE, KEPT}
 use Rattle.paw_state.specs.declared.fields.Fields.{Fields}
 use Rattle.std.specs.Option.{option_or}
 use Rattle.paw_state.specs.inner.Faults.{rule, first, first_not, is_zero, places_fault, held_fault, kept_fault, numbers_fault, prompt_of, prompt_fault}
@@ -15,18 +18,18 @@ turning_rest g f = if f.looping == 0 then no_loop_fault f.turning else loop_fiel
 
 -- each part keeps its rules
 pub record AreSound (g : GameLists) (f : Fields) : Type 0 where
-  pub places : places_fault g 256 f.places ≡ None
-  pub saved : held_fault g 511 f.saved ≡ None
-  pub events : nat_le f.events 1000000000 ≡ true
-  pub draws : nat_le f.draws (200000 * (f.events + 1)) ≡ true
+  pub places : places_fault g PLACES f.places ≡ None
+  pub saved : held_fault g SAVED f.saved ≡ None
+  pub events : nat_le f.events EVENT_LIMIT ≡ true
+  pub draws : nat_le f.draws (READ_LIMIT * (f.events + 1)) ≡ true
   pub prompt : nat_le f.prompt 4 ≡ true
   pub count : count_fits (waiting_code (prompt_of f.prompt)) f.count ≡ true
   pub frames : frame_fields_fault g f ≡ None
   pub looping : nat_le f.looping (if f.count == 0 then 0 else 1) ≡ true
   pub turning : turning_rest g f ≡ None
   pub pending : (is_some (waiting_code (prompt_of f.prompt)) || (f.pending == 0)) ≡ true
-  pub line : first_not is_zero (1114 + f.pending) (drop f.pending f.line) ≡ None
-  pub kept : kept_fault g 1371 f.kept ≡ None
+  pub line : first_not is_zero (LINE + f.pending) (drop f.pending f.line) ≡ None
+  pub kept : kept_fault g KEPT f.kept ≡ None
 
 pub two : (a b : Option ℕ) → first (a ∷ b ∷ []) ≡ None → (a ≡ None) × (b ≡ None)
 two a b h = let p = no_first a (option_or b None) h in (p.0, (no_first b None p.1).0)
@@ -58,39 +61,40 @@ eight_none a b c d e f g h ka kb kc kd ke kf kg kh =
 
 pub sound_of : (g : GameLists) (f : Fields) → parts_fault g f ≡ None → AreSound g f
 sound_of g f h =
-    let p = eight (places_fault g 256 f.places) (held_fault g 511 f.saved) (numbers_fault f) (prompt_fault f) (frame_fields_fault g f) (turning_fault g f)
-    (pending_fault f) (kept_fault g 1371 f.kept) h in
-    let n = two (rule 1039 (nat_le f.events 1000000000)) (rule 1031 (nat_le f.draws (200000 * (f.events + 1)))) p.2 in
-    let q = two (rule 1047 (nat_le f.prompt 4)) (rule 1048 (count_fits (waiting_code (prompt_of f.prompt)) f.count)) p.3 in
-    let t = two (rule 1104 (nat_le f.looping (if f.count == 0 then 0 else 1))) (turning_rest g f) p.5 in
-    let l = two (rule 1113 (is_some (waiting_code (prompt_of f.prompt)) || (f.pending == 0)))
-    (first_not is_zero (1114 + f.pending) (drop f.pending f.line)) p.6 in
+    let p =
+    eight (places_fault g PLACES f.places) (held_fault g SAVED f.saved) (numbers_fault f) (prompt_fault f) (frame_fields_fault g f) (turning_fault g f)
+    (pending_fault f) (kept_fault g KEPT f.kept) h in
+    let n = two (rule EVENTS (nat_le f.events EVENT_LIMIT)) (rule DRAWS (nat_le f.draws (READ_LIMIT * (f.events + 1)))) p.2 in
+    let q = two (rule PROMPT (nat_le f.prompt 4)) (rule COUNT (count_fits (waiting_code (prompt_of f.prompt)) f.count)) p.3 in
+    let t = two (rule LOOPING (nat_le f.looping (if f.count == 0 then 0 else 1))) (turning_rest g f) p.5 in
+    let l = two (rule PENDING (is_some (waiting_code (prompt_of f.prompt)) || (f.pending == 0)))
+    (first_not is_zero (LINE + f.pending) (drop f.pending f.line)) p.6 in
     record {
       places = p.0;
       saved = p.1;
-      events = rule_holds 1039 (nat_le f.events 1000000000) n.0;
-      draws = rule_holds 1031 (nat_le f.draws (200000 * (f.events + 1))) n.1;
-      prompt = rule_holds 1047 (nat_le f.prompt 4) q.0;
-      count = rule_holds 1048 (count_fits (waiting_code (prompt_of f.prompt)) f.count) q.1;
+      events = rule_holds EVENTS (nat_le f.events EVENT_LIMIT) n.0;
+      draws = rule_holds DRAWS (nat_le f.draws (READ_LIMIT * (f.events + 1))) n.1;
+      prompt = rule_holds PROMPT (nat_le f.prompt 4) q.0;
+      count = rule_holds COUNT (count_fits (waiting_code (prompt_of f.prompt)) f.count) q.1;
       frames = p.4;
-      looping = rule_holds 1104 (nat_le f.looping (if f.count == 0 then 0 else 1)) t.0;
+      looping = rule_holds LOOPING (nat_le f.looping (if f.count == 0 then 0 else 1)) t.0;
       turning = t.1;
-      pending = rule_holds 1113 (is_some (waiting_code (prompt_of f.prompt)) || (f.pending == 0)) l.0;
+      pending = rule_holds PENDING (is_some (waiting_code (prompt_of f.prompt)) || (f.pending == 0)) l.0;
       line = l.1;
       kept = p.7;
     }
 
 pub none_of : (g : GameLists) (f : Fields) → AreSound g f → parts_fault g f ≡ None
 none_of g f s =
-    eight_none (places_fault g 256 f.places) (held_fault g 511 f.saved) (numbers_fault f) (prompt_fault f) (frame_fields_fault g f) (turning_fault g f)
-    (pending_fault f) (kept_fault g 1371 f.kept) s.places s.saved
-    (two_none (rule 1039 (nat_le f.events 1000000000)) (rule 1031 (nat_le f.draws (200000 * (f.events + 1))))
-    (no_rule 1039 (nat_le f.events 1000000000) s.events) (no_rule 1031 (nat_le f.draws (200000 * (f.events + 1))) s.draws))
-    (two_none (rule 1047 (nat_le f.prompt 4)) (rule 1048 (count_fits (waiting_code (prompt_of f.prompt)) f.count))
-    (no_rule 1047 (nat_le f.prompt 4) s.prompt) (no_rule 1048 (count_fits (waiting_code (prompt_of f.prompt)) f.count) s.count))
+    eight_none (places_fault g PLACES f.places) (held_fault g SAVED f.saved) (numbers_fault f) (prompt_fault f) (frame_fields_fault g f) (turning_fault g f)
+    (pending_fault f) (kept_fault g KEPT f.kept) s.places s.saved
+    (two_none (rule EVENTS (nat_le f.events EVENT_LIMIT)) (rule DRAWS (nat_le f.draws (READ_LIMIT * (f.events + 1))))
+    (no_rule EVENTS (nat_le f.events EVENT_LIMIT) s.events) (no_rule DRAWS (nat_le f.draws (READ_LIMIT * (f.events + 1))) s.draws))
+    (two_none (rule PROMPT (nat_le f.prompt 4)) (rule COUNT (count_fits (waiting_code (prompt_of f.prompt)) f.count))
+    (no_rule PROMPT (nat_le f.prompt 4) s.prompt) (no_rule COUNT (count_fits (waiting_code (prompt_of f.prompt)) f.count) s.count))
     s.frames
-    (two_none (rule 1104 (nat_le f.looping (if f.count == 0 then 0 else 1))) (turning_rest g f)
-    (no_rule 1104 (nat_le f.looping (if f.count == 0 then 0 else 1)) s.looping) s.turning)
-    (two_none (rule 1113 (is_some (waiting_code (prompt_of f.prompt)) || (f.pending == 0))) (first_not is_zero (1114 + f.pending) (drop f.pending f.line))
-    (no_rule 1113 (is_some (waiting_code (prompt_of f.prompt)) || (f.pending == 0)) s.pending) s.line)
+    (two_none (rule LOOPING (nat_le f.looping (if f.count == 0 then 0 else 1))) (turning_rest g f)
+    (no_rule LOOPING (nat_le f.looping (if f.count == 0 then 0 else 1)) s.looping) s.turning)
+    (two_none (rule PENDING (is_some (waiting_code (prompt_of f.prompt)) || (f.pending == 0))) (first_not is_zero (LINE + f.pending) (drop f.pending f.line))
+    (no_rule PENDING (is_some (waiting_code (prompt_of f.prompt)) || (f.pending == 0)) s.pending) s.line)
     s.kept

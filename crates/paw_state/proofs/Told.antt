@@ -1,9 +1,11 @@
 -- The two bytes of a state that tell the length of the piece.
 use Rattle.std.proofs.Common.{◌≡◌, ℕ, ◌+◌, ◌*◌, ◌<◌, ◌^◌, List, [], ◌∷◌, ◌++◌, length, take, drop, get_or, sym, ap, ◌∙◌, arith, append_assoc, length-append}
 use Rattle.std.proofs.lemmas.List.{append-nil, get_or_append_left, get_or-append-add, take-append-drop}
+use Rattle.paw_base.specs.declared.layout.TheConstants.{STATE_LENGTH}
 use Rattle.paw_state.proofs.Found.{length-zeros}
 use Rattle.paw_state.proofs.Listed.{state_same}
 use Rattle.paw_game.specs.Image.{two_bytes}
+use Rattle.paw_state.specs.declared.layout.TheConstants.{PIECE, STATE_ROOM}
 use Rattle.paw_state.specs.declared.fields.Fields.{Fields}
 use Rattle.paw_state.specs.State.{State}
 use Rattle.paw_state.specs.State.{fields_of, state_bytes, zeros}
@@ -28,15 +30,17 @@ state_ends f =
     ∙ outer_join (world_bytes f) (number_bytes f) (table_bytes f) ((f.earlier ∷ f.pending ∷ []) ++ f.line) (two_bytes f.piece ++ kept_position_bytes f)
 
 -- two bytes behind 1,369
-two_there : (front : List ℕ) (n : ℕ) (q : List ℕ) → length front ≡ 1369 → n < 2 ^ 16
-    → get_or (front ++ (two_bytes n ++ q)) 1369 0 + 256 * get_or (front ++ (two_bytes n ++ q)) 1370 0 ≡ n
+two_there : (front : List ℕ) (n : ℕ) (q : List ℕ) → length front ≡ PIECE → n < 2 ^ 16
+    → get_or (front ++ (two_bytes n ++ q)) PIECE 0 + 256 * get_or (front ++ (two_bytes n ++ q)) (PIECE + 1) 0 ≡ n
 two_there front n q l h =
     let bytes = front ++ (two_bytes n ++ q) in
-    let a : get_or bytes 1369 0 ≡ get_or (two_bytes n) 0 0 = ap (λ k. get_or bytes k 0) (omega (arith, l)) ∙ get_or-append-add front (two_bytes n ++ q) 0 0 in
-    let b : get_or bytes 1370 0 ≡ get_or (two_bytes n) 1 0 = ap (λ k. get_or bytes k 0) (omega (arith, l)) ∙ get_or-append-add front (two_bytes n ++ q) 1 0 in
+    let a : get_or bytes PIECE 0 ≡ get_or (two_bytes n) 0 0 =
+    ap (λ k. get_or bytes k 0) (omega (arith, l)) ∙ get_or-append-add front (two_bytes n ++ q) 0 0 in
+    let b : get_or bytes (PIECE + 1) 0 ≡ get_or (two_bytes n) 1 0 =
+    ap (λ k. get_or bytes k 0) (omega (arith, l)) ∙ get_or-append-add front (two_bytes n ++ q) 1 0 in
     rw (a, b) (grind (arith))
 
-front_long : (front : List ℕ) (n : ℕ) (q : List ℕ) → length (front ++ (two_bytes n ++ q)) ≡ 3419 → length q ≡ 2048 → length front ≡ 1369
+front_long : (front : List ℕ) (n : ℕ) (q : List ℕ) → length (front ++ (two_bytes n ++ q)) ≡ STATE_LENGTH → length q ≡ 2048 → length front ≡ PIECE
 front_long front n q l k =
     let m = length-append front (two_bytes n ++ q) in
     let r = length-append (two_bytes n) q in
@@ -44,10 +48,10 @@ front_long front n q l k =
 
 -- the bytes of a state, and of its kept positions
 pub record AreLong (s : State) : Type 0 where
-  pub all : length (state_bytes s) ≡ 3419
+  pub all : length (state_bytes s) ≡ STATE_LENGTH
   pub kept : length (kept_position_bytes (fields_of s)) ≡ 2048
 
-pub piece_told : (s : State) → AreLong s → s.piece < 2 ^ 16 → get_or (state_bytes s) 1369 0 + 256 * get_or (state_bytes s) 1370 0 ≡ s.piece
+pub piece_told : (s : State) → AreLong s → s.piece < 2 ^ 16 → get_or (state_bytes s) PIECE 0 + 256 * get_or (state_bytes s) (PIECE + 1) 0 ≡ s.piece
 piece_told s l h =
     let f = fields_of s in
     let e = state_same s ∙ state_ends f in
@@ -55,21 +59,22 @@ piece_told s l h =
 
 -- as it stands in a buffer
 pub piece_in : (s : State) (rest into : List ℕ) → into ≡ state_bytes s ++ rest → AreLong s → s.piece < 2 ^ 16
-    → get_or into 1369 0 + 256 * get_or into 1370 0 ≡ s.piece
+    → get_or into PIECE 0 + 256 * get_or into (PIECE + 1) 0 ≡ s.piece
 piece_in s rest into e l h =
-    let a : get_or into 1369 0 ≡ get_or (state_bytes s) 1369 0 = ap (λ x. get_or x 1369 0) e
-    ∙ get_or_append_left (state_bytes s) rest 0 1369 (omega (arith, l.all)) in
-    let b : get_or into 1370 0 ≡ get_or (state_bytes s) 1370 0 = ap (λ x. get_or x 1370 0) e
-    ∙ get_or_append_left (state_bytes s) rest 0 1370 (omega (arith, l.all)) in
+    let a : get_or into PIECE 0 ≡ get_or (state_bytes s) PIECE 0 = ap (λ x. get_or x PIECE 0) e
+    ∙ get_or_append_left (state_bytes s) rest 0 PIECE (omega (arith, l.all)) in
+    let b : get_or into (PIECE + 1) 0 ≡ get_or (state_bytes s) (PIECE + 1) 0 = ap (λ x. get_or x (PIECE + 1) 0) e
+    ∙ get_or_append_left (state_bytes s) rest 0 (PIECE + 1) (omega (arith, l.all)) in
     rw (a, b) (piece_told s l h)
 
 -- what stands before the zeros of a buffer
-pub buffer_long : (bytes into : List ℕ) → into ≡ bytes ++ zeros 677 → length into ≡ 4096 → length bytes ≡ 3419
+pub buffer_long : (bytes into : List ℕ) → into ≡ bytes ++ zeros 677 → length into ≡ STATE_ROOM → length bytes ≡ STATE_LENGTH
 buffer_long bytes into e l = let m = length-append bytes (zeros 677) in omega (arith, ap length (sym e) ∙ l, m, length-zeros 677)
 
 -- as it is read from a buffer
-pub piece_read : (s : State) (bytes : List ℕ) → take 3419 bytes ≡ state_bytes s → AreLong s → s.piece < 2 ^ 16
-    → get_or bytes 1369 0 + 256 * get_or bytes 1370 0 ≡ s.piece
+pub piece_read : (s : State) (bytes : List ℕ) → take STATE_LENGTH bytes ≡ state_bytes s → AreLong s → s.piece < 2 ^ 16
+    → get_or bytes PIECE 0 + 256 * get_or bytes (PIECE + 1) 0 ≡ s.piece
 piece_read s bytes e l h =
-    let whole : bytes ≡ state_bytes s ++ drop 3419 bytes = sym (take-append-drop 3419 bytes) ∙ ap (λ x. x ++ drop 3419 bytes) e in
-    piece_in s (drop 3419 bytes) bytes whole l h
+    let whole : bytes ≡ state_bytes s ++ drop STATE_LENGTH bytes =
+    sym (take-append-drop STATE_LENGTH bytes) ∙ ap (λ x. x ++ drop STATE_LENGTH bytes) e in
+    piece_in s (drop STATE_LENGTH bytes) bytes whole l h

@@ -2,7 +2,9 @@
 use Rattle.std.proofs.Common.{◌≡◌, ℕ, List, [], ◌++◌, None, replicate, length, map, take, refl, sym, ap, ◌∙◌, arith, append_assoc, append-nil, length-append}
 use Rattle.std.specs.Prelude.{flat_map, Option}
 use Rattle.std.proofs.lemmas.List.{take_at}
+use Rattle.paw_base.specs.declared.layout.TheConstants.{STATE_LENGTH}
 use Rattle.paw_world.specs.World.{Position}
+use Rattle.paw_state.specs.declared.layout.TheConstants.{KEPT}
 use Rattle.paw_state.specs.State.{State}
 use Rattle.paw_state.specs.declared.fields.Fields.{Fields}
 use Rattle.paw_state.specs.State.{zeros}
@@ -33,14 +35,15 @@ unfolding before_kept
 state_splits s =
     let f = fields_of s in state_same s ∙ joined (world_bytes f) (number_bytes f) (table_bytes f) (pending_bytes f) (kept_position_bytes f)
 
-cut_back : (bytes front back : List ℕ) → bytes ≡ front ++ back → length bytes ≡ 3419 → back ≡ zeros 2048 → take 1371 bytes ++ zeros 2048 ≡ bytes
+cut_back : (bytes front back : List ℕ) → bytes ≡ front ++ back → length bytes ≡ STATE_LENGTH → back ≡ zeros 2048 →
+    take KEPT bytes ++ zeros 2048 ≡ bytes
 cut_back bytes front back e n z =
-    let all : length (front ++ back) ≡ 3419 = ap length (sym e) ∙ n in
+    let all : length (front ++ back) ≡ STATE_LENGTH = ap length (sym e) ∙ n in
     let behind : length back ≡ 2048 = ap length z ∙ length-zeros 2048 in
-    let m : length front ≡ 1371 = omega (arith, all, behind, length-append front back) in
-    ap (λ (l : List ℕ). l ++ zeros 2048) (ap (take 1371) e ∙ take_at front back 1371 m) ∙ (ap (λ (l : List ℕ). front ++ l) (sym z) ∙ sym e)
+    let m : length front ≡ KEPT = omega (arith, all, behind, length-append front back) in
+    ap (λ (l : List ℕ). l ++ zeros 2048) (ap (take KEPT) e ∙ take_at front back KEPT m) ∙ (ap (λ (l : List ℕ). front ++ l) (sym z) ∙ sym e)
 
 -- so its first 1,371 bytes and 2,048 zeros are the state
-pub ends_in_zeros : (s : State) → AreLong s → s.world.kept ≡ replicate 4 None → take 1371 (state_bytes s) ++ zeros 2048 ≡ state_bytes s
+pub ends_in_zeros : (s : State) → AreLong s → s.world.kept ≡ replicate 4 None → take KEPT (state_bytes s) ++ zeros 2048 ≡ state_bytes s
 ends_in_zeros s long none =
     cut_back (state_bytes s) (before_kept (fields_of s)) (kept_position_bytes (fields_of s)) (state_splits s) long.all (unkept_bytes s none)

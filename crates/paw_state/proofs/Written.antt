@@ -6,6 +6,8 @@ use Rattle.std.proofs.Math.Seq.{take-suc, take-suc-set}
 use Rattle.std.proofs.lemmas.List.{append_assoc, append-nil, take_all, length-append, length-map, get_or-map, drop-drop, drop-replicate, length-take}
 use Rattle.std.proofs.lemmas.Slice.{take-put_mid, drop-put_mid}
 use borrow.Rule.Slice.PartMut.{put_mid}
+use Rattle.paw_base.specs.declared.layout.TheConstants.{STATE_LENGTH}
+use Rattle.paw_state.specs.declared.layout.TheConstants.{STATE_ROOM}
 use Rattle.paw_state.specs.declared.fields.Row.{Row}
 use Rattle.std.specs.List.{concat}
 use Rattle.paw_state.specs.State.{zeros, filled}
@@ -23,23 +25,24 @@ drop-zeros n m = drop-replicate n m 0
 
 -- ---- a field more ----
 
-pub zeros_behind : (bytes field : List ℕ) (count : ℕ) → count + length field ≤ 4096 → length bytes ≡ 4096 → drop count bytes ≡ zeros (4096 - count)
-    → drop (count + length field) (put_mid count (count + length field - count) bytes field) ≡ zeros (4096 - (count + length field))
+pub zeros_behind : (bytes field : List ℕ) (count : ℕ) → count + length field ≤ STATE_ROOM → length bytes ≡ STATE_ROOM →
+    drop count bytes ≡ zeros (STATE_ROOM - count)
+    → drop (count + length field) (put_mid count (count + length field - count) bytes field) ≡ zeros (STATE_ROOM - (count + length field))
 zeros_behind bytes field count room size behind =
     let k : count + length field - count ≡ length field = omega arith in
-    let n : 4096 - count - length field ≡ 4096 - (count + length field) = omega arith in
+    let n : STATE_ROOM - count - length field ≡ STATE_ROOM - (count + length field) = omega arith in
     drop-put_mid count (count + length field - count) bytes field (count + length field) (omega arith) (omega arith) (sym k)
     ∙ (sym (drop-drop (length field) count bytes)
-    ∙ (ap (drop (length field)) behind ∙ (drop-zeros (length field) (4096 - count) ∙ ap zeros n)))
+    ∙ (ap (drop (length field)) behind ∙ (drop-zeros (length field) (STATE_ROOM - count) ∙ ap zeros n)))
 
-pub one_more : (bytes field old : List ℕ) (count : ℕ) → count + length field ≤ 4096 → length bytes ≡ 4096 → take count bytes ≡ old
+pub one_more : (bytes field old : List ℕ) (count : ℕ) → count + length field ≤ STATE_ROOM → length bytes ≡ STATE_ROOM → take count bytes ≡ old
     → take (count + length field) (put_mid count (count + length field - count) bytes field) ≡ old ++ field
 one_more bytes field old count room size h =
     take-put_mid count (count + length field - count) bytes field (count + length field) refl (omega arith)
     ∙ ap (λ (l : List ℕ). l ++ field) h
 
 -- what was written has its count of bytes
-pub count_of : (bytes old : List ℕ) (count : ℕ) → count ≤ 4096 → length bytes ≡ 4096 → take count bytes ≡ old → length old ≡ count
+pub count_of : (bytes old : List ℕ) (count : ℕ) → count ≤ STATE_ROOM → length bytes ≡ STATE_ROOM → take count bytes ≡ old → length old ≡ count
 count_of bytes old count low size h = ap length (sym h) ∙ omega (arith, length-take count bytes)
 
 -- ---- three fields, and more ----
@@ -58,7 +61,7 @@ length-rows [] = refl
 length-rows (r ∷ rs) = length-append (row_bytes r) (flat_map row_bytes rs) ∙ (ap (λ n. 5 + n) (length-rows rs) ∙ omega arith)
 
 pub room_for_row : (rows : List Row) (old new : List ℕ) (i : ℕ) → i < length rows → length rows ≡ 11 → new ≡ old ++ flat_map row_bytes (take i rows)
-    → length old + 55 ≤ 4096 → length new + 5 ≤ 4096
+    → length old + 55 ≤ STATE_ROOM → length new + 5 ≤ STATE_ROOM
 room_for_row rows old new i low size h room =
     let n : length new ≡ length old + 5 * length (take i rows) =
     ap length h ∙ (length-append old (flat_map row_bytes (take i rows)) ∙ ap (λ k. length old + k) (length-rows (take i rows))) in
@@ -81,7 +84,7 @@ mapped_all f xs ys i kx ky low h =
 -- ---- all fields ----
 
 pub all_written : (w0 w1 w2 w3 w4 w5 last x y z t k : List ℕ) → w0 ≡ [] → w1 ≡ w0 ++ x → w2 ≡ w1 ++ y → w3 ≡ w2 ++ z → w4 ≡ w3 ++ t → w5 ≡ w4 ++ k
-    → length w5 ≡ 3419 → last ≡ w5 ++ zeros (4096 - length w5) → last ≡ concat (x ∷ y ∷ z ∷ t ∷ k ∷ []) ++ zeros 677
+    → length w5 ≡ STATE_LENGTH → last ≡ w5 ++ zeros (STATE_ROOM - length w5) → last ≡ concat (x ∷ y ∷ z ∷ t ∷ k ∷ []) ++ zeros 677
 all_written w0 w1 w2 w3 w4 w5 last x y z t k e0 e1 e2 e3 e4 e5 n e =
     let all : w5 ≡ concat (x ∷ y ∷ z ∷ t ∷ k ∷ []) = rw (e5, e4, e3, e2, e1, e0) (simp (append_assoc, append-nil)) in
-    e ∙ (ap (λ (i : ℕ). w5 ++ zeros (4096 - i)) n ∙ ap (λ (l : List ℕ). l ++ zeros 677) all)
+    e ∙ (ap (λ (i : ℕ). w5 ++ zeros (STATE_ROOM - i)) n ∙ ap (λ (l : List ℕ). l ++ zeros 677) all)

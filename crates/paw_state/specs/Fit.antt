@@ -1,7 +1,7 @@
 -- Bytes that are a state of a game.
 use Rattle.std.specs.Prelude.{◌≡◌, ℕ, List, Some, take}
+use Rattle.paw_base.specs.declared.layout.TheConstants.{STATE_LENGTH}
 use Rattle.paw_game.specs.Game.{GameLists}
-use Rattle.paw_state.specs.declared.layout.TheConstants.{STATE_LENGTH}
 use Rattle.paw_state.specs.declared.fields.Fields.{Fields}
 use Rattle.paw_state.specs.Fields.{AreSized, bytes_of, state_fields, fault_from}
 use Rattle.paw_state.specs.State.{State, Keeps, FitsFields, state_bytes}

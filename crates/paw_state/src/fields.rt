@@ -1,10 +1,12 @@
 // The fields of a state, as they stand in its bytes.
 
 ghost use Rattle.std.specs.Prelude.{◌≡◌, ◌+◌, ◌-◌, ◌*◌, ◌≤◌, ◌++◌, length, drop, flat_map, slice_range};
+ghost use Rattle.paw_base.specs.declared.layout.TheConstants.{STATE_LENGTH};
 ghost use Rattle.paw_base.specs.declared.limits.TheConstants.{POSITION_COUNT};
 ghost use Rattle.paw_process.specs.declared.machine.TheConstants.{MOST_FRAMES};
-ghost use Rattle.paw_state.specs.declared.layout.TheConstants.{HELD_LENGTH, ROW_LENGTH, ROWS};
-ghost use Rattle.paw_state.specs.declared.layout.TheConstants.{STATE_LENGTH, STATE_ROOM};
+ghost use Rattle.paw_state.specs.declared.layout.TheConstants.{HELD_LENGTH, SEED, PROMPT, ROWS, ROW_LENGTH, LOOPING};
+ghost use Rattle.paw_state.specs.declared.layout.TheConstants.{LOOP_LEVEL, EARLIER, KEPT};
+ghost use Rattle.paw_state.specs.declared.layout.TheConstants.{STATE_ROOM};
 ghost use Rattle.paw_state.specs.inner.Parts.{frame_in};
 ghost use Rattle.paw_state.specs.inner.Writer.{Writes};
 ghost use Rattle.paw_state.specs.State.{AreBytes};
@@ -210,8 +212,8 @@ impl Fields {
     /// Flags and places, now and in the saved position.
     #[tactic(auto, unfolding(crate::specs::inner::Fields::world_bytes))]
     fn put_world(&self, writer: &mut Writer)
-        requires room { length writer.old + 1023 ≤ STATE_ROOM }
-        ensures { Writes (world_bytes self.now) 1023 writer.old writer.new }
+        requires room { length writer.old + SEED ≤ STATE_ROOM }
+        ensures writes { Writes (world_bytes self.now) SEED writer.old writer.new }
     {
         writer.put(&self.flags);
         writer.put(&self.places);
@@ -221,8 +223,8 @@ impl Fields {
     /// The seed, the draws and the lines.
     #[tactic(auto, unfolding(crate::specs::inner::Fields::number_bytes))]
     fn put_numbers(&self, writer: &mut Writer)
-        requires room { length writer.old + 24 ≤ STATE_ROOM }
-        ensures { Writes (number_bytes self.now) 24 writer.old writer.new }
+        requires room { length writer.old + (PROMPT - SEED) ≤ STATE_ROOM }
+        ensures writes { Writes (number_bytes self.now) (PROMPT - SEED) writer.old writer.new }
     {
         writer.put(&self.seed.to_le_bytes());
         writer.put(&self.draws.to_le_bytes());
@@ -232,8 +234,8 @@ impl Fields {
     /// The prompt, the rows of the open tables, and the open loop.
     #[tactic(auto, unfolding(crate::specs::inner::Fields::table_bytes))]
     fn put_tables(&self, writer: &mut Writer)
-        requires room { length writer.old + 65 ≤ STATE_ROOM }
-        ensures { Writes (table_bytes self.now) 65 writer.old writer.new }
+        requires room { length writer.old + (EARLIER - PROMPT) ≤ STATE_ROOM }
+        ensures writes { Writes (table_bytes self.now) (EARLIER - PROMPT) writer.old writer.new }
     {
         writer.put(&[self.prompt, self.count]);
         self.put_rows(writer);
@@ -243,8 +245,8 @@ impl Fields {
 
     /// The rows of the open tables.
     fn put_rows(&self, writer: &mut Writer)
-        requires room { length writer.old + 55 ≤ STATE_ROOM }
-        ensures { Writes (flat_map row_bytes self.now.rows) 55 writer.old writer.new }
+        requires room { length writer.old + (LOOPING - ROWS) ≤ STATE_ROOM }
+        ensures writes { Writes (flat_map row_bytes self.now.rows) (LOOPING - ROWS) writer.old writer.new }
     {
         for row in &self.rows {
             let [low, high] = row.entry.to_le_bytes();
@@ -254,8 +256,8 @@ impl Fields {
 
     /// The open loop.
     fn put_loop(&self, writer: &mut Writer)
-        requires room { length writer.old + 7 ≤ STATE_ROOM }
-        ensures { Writes (loop_bytes self.now.turning) 7 writer.old writer.new }
+        requires room { length writer.old + (EARLIER - LOOP_LEVEL) ≤ STATE_ROOM }
+        ensures writes { Writes (loop_bytes self.now.turning) (EARLIER - LOOP_LEVEL) writer.old writer.new }
     {
         let turning = &self.turning;
         writer.put(&[turning.level, turning.table]);
@@ -266,8 +268,8 @@ impl Fields {
     /// What is pending, and how many bytes the last piece has.
     #[tactic(auto, unfolding(crate::specs::inner::Fields::pending_bytes))]
     fn put_pending(&self, writer: &mut Writer)
-        requires room { length writer.old + 259 ≤ STATE_ROOM }
-        ensures { Writes (pending_bytes self.now) 259 writer.old writer.new }
+        requires room { length writer.old + (KEPT - EARLIER) ≤ STATE_ROOM }
+        ensures writes { Writes (pending_bytes self.now) (KEPT - EARLIER) writer.old writer.new }
     {
         writer.put(&[self.earlier, self.pending]);
         writer.put(&self.line);
@@ -278,7 +280,7 @@ impl Fields {
     #[tactic(auto, unfolding(crate::specs::inner::Fields::kept_position_bytes))]
     fn put_kept(&self, writer: &mut Writer)
         requires room { length writer.old + POSITION_COUNT * HELD_LENGTH ≤ STATE_ROOM }
-        ensures { Writes (kept_position_bytes self.now) (POSITION_COUNT * HELD_LENGTH) writer.old writer.new }
+        ensures writes { Writes (kept_position_bytes self.now) (POSITION_COUNT * HELD_LENGTH) writer.old writer.new }
     {
         for held in &self.kept {
             held.put(writer);

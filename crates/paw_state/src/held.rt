@@ -42,7 +42,7 @@ impl Held {
     #[tactic(auto, unfolding(crate::specs::inner::Fields::held_bytes))]
     pub(crate) fn put(&self, writer: &mut Writer)
         requires room { length writer.old + HELD_LENGTH ≤ STATE_ROOM }
-        ensures { Writes (held_bytes self.now) HELD_LENGTH writer.old writer.new }
+        ensures writes { Writes (held_bytes self.now) HELD_LENGTH writer.old writer.new }
     {
         writer.put(&[self.there]);
         writer.put(&self.flags);

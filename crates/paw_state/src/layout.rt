@@ -1,7 +1,6 @@
 // Where the fields of a state stand, from its first byte on.
 
-/// The bytes of a state.
-pub const STATE_LENGTH: usize = 3419;
+use paw_base::layout::{FIRST_LENGTH, PIECE_LENGTH_AT};
 
 /// The room in which a state is kept. The bytes behind the state are 0.
 pub const STATE_ROOM: usize = 4096;
@@ -78,7 +77,7 @@ pub const PENDING: usize = 1113;
 pub const LINE: usize = 1114;
 
 /// How many bytes the last piece has: two bytes.
-pub const PIECE: usize = 1369;
+pub const PIECE: usize = PIECE_LENGTH_AT;
 
 /// The kept positions, one after the other.
-pub const KEPT: usize = 1371;
+pub const KEPT: usize = FIRST_LENGTH;

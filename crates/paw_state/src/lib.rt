@@ -12,7 +12,8 @@ mod tests;
 mod write;
 mod writer;
 
-pub use layout::{STATE_LENGTH, STATE_ROOM};
+pub use layout::STATE_ROOM;
+pub use paw_base::layout::STATE_LENGTH;
 use paw_effects::act::Prompt;
 use paw_phrase::Pending;
 use paw_process::Machine;

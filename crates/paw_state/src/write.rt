@@ -2,9 +2,10 @@
 
 ghost use Rattle.std.specs.Prelude.{◌+◌, ◌-◌, ◌*◌, slice_index, ◌≡◌, ◌≤◌, ◌<◌, ◌++◌, length};
 ghost use Rattle.std.specs.Prelude.{map, All, Some, None};
+ghost use Rattle.paw_base.specs.declared.layout.TheConstants.{STATE_LENGTH};
 ghost use Rattle.paw_base.specs.declared.limits.TheConstants.{POSITION_COUNT};
 ghost use Rattle.paw_world.specs.World.{kept_position, IsWorld};
-ghost use Rattle.paw_state.specs.declared.layout.TheConstants.{PIECE, STATE_LENGTH, STATE_ROOM};
+ghost use Rattle.paw_state.specs.declared.layout.TheConstants.{PIECE, STATE_ROOM};
 ghost use Rattle.paw_state.specs.State.{AreBytes, HoldsBytes, FitsFields};
 ghost use Rattle.paw_state.specs.inner.State.{state_of, state_with};
 ghost use Rattle.paw_state.specs.State.{zeros, filled, held_of, prompt_code, row_of};

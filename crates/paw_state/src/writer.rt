@@ -41,7 +41,7 @@ impl Writer {
     /// Writes a field behind the others.
     pub(crate) fn put(&mut self, field: &[u8])
         requires room { length self.old + length field.now ≤ STATE_ROOM }
-        ensures { Writes field.now (length field.now) self.old self.new }
+        ensures writes { Writes field.now (length field.now) self.old self.new }
     {
         let end = self.count + field.len();
         self.bytes[self.count..end].copy_from_slice(field);

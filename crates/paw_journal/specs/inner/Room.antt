@@ -1,5 +1,6 @@
 -- The buffers of a journal, and what it keeps of the slots of its store.
 use Rattle.std.specs.Prelude.{◌≡◌, ◌&&◌, ℕ, List, Option, Some, None, if◌then◌else◌}
+use Rattle.paw_journal.specs.declared.layout.TheConstants.{PIECE_AT}
 use Rattle.paw_journal.specs.declared.layout.Slot.{Slot}
 use Rattle.paw_journal.specs.declared.layout.Slot.TheVariants as which
 use Rattle.paw_journal.specs.declared.drafting.SlotState.{SlotState}
@@ -44,7 +45,7 @@ with_slot_kept which.Second kept room = record room { second = kept }
 
 -- A room that shows this state of the slot that was read, and the slot's piece, whose length the state tells.
 abbrev pub with_state : List ℕ → Room → Room
-with_state state room = record room { state = state; piece = stretch 4160 (piece_length state) room.slot }
+with_state state room = record room { state = state; piece = stretch PIECE_AT (piece_length state) room.slot }
 
 -- A room that keeps this state of both slots, which are made with it.
 abbrev pub with_made : List ℕ → Room → Room

@@ -16,7 +16,7 @@ fn with_file(
     name: &str,
     held: &[u8],
 ) -> Result<MemoryStage, NoRoom>
-    ensures { IfOk result (λ s. s ≡ with_file name.now held.now (empty calls bytes)) }
+    ensures value { IfOk result (λ s. s ≡ with_file name.now held.now (empty calls bytes)) }
 {
     let mut stage = MemoryStage::new(alloc, calls, bytes)?;
     stage.add_file(name, held)?;

@@ -11,7 +11,7 @@ use std::test::Fail;
 
 // How many of these calls in a row are answered well: attach a store, write three bytes to it, sync it, and read them.
 fn calls_done<S: Stage>(stage: &mut S) -> u64
-    requires { S.Tells stage.old → IsStable (S.standing stage.old).disk }
+    requires stable { S.Tells stage.old → IsStable (S.standing stage.old).disk }
 {
     if stage.attach("store").is_err() {
         return 0;
@@ -40,7 +40,7 @@ fn others_done<S: Stage>(stage: &mut S, alloc: Global) -> u64 {
 }
 
 fn with_line(alloc: Global) -> Result<MemoryStage, NoRoom>
-    ensures { IfOk result (λ s. IsStable (standing_of s).disk) }
+    ensures stable { IfOk result (λ s. IsStable (standing_of s).disk) }
 {
     let mut stage = MemoryStage::new(alloc, 20, 100)?;
     stage.add_line(alloc, b"look")?;

@@ -1,9 +1,9 @@
 -- Bytes that are a state of a game: words that contracts between crates and proofs use beside those of specs/Fit.antt.
 use Rattle.std.specs.Prelude.{◌≡◌, ℕ, List, Option, take}
+use Rattle.paw_base.specs.declared.layout.TheConstants.{STATE_LENGTH}
 use Rattle.paw_game.specs.Game.{GameLists}
 use Rattle.paw_process.specs.inner.Kept.{kept}
 use Rattle.paw_process.specs.inner.Kept.{restored, waiting_at, StandsAt}
-use Rattle.paw_state.specs.declared.layout.TheConstants.{STATE_LENGTH}
 use Rattle.paw_state.specs.declared.Restored.{Restored}
 use Rattle.paw_state.specs.State.{State, Keeps, FitsFields}
 use Rattle.paw_state.specs.inner.State.{state_of}

@@ -1,8 +1,8 @@
 -- The laws of a state's bytes.
 use Rattle.std.specs.Prelude.{◌≡◌, ℕ, ◌≤◌, List, ◌++◌, Some, None, length, ◌↔◌}
+use Rattle.paw_base.specs.declared.layout.TheConstants.{STATE_LENGTH}
 use Rattle.paw_game.specs.Game.{GameLists}
 use Rattle.paw_game.specs.Valid.{Valid}
-use Rattle.paw_state.specs.declared.layout.TheConstants.{STATE_LENGTH}
 use Rattle.paw_state.specs.State.{State, Keeps, FitsFields, AreBytes}
 use Rattle.paw_state.specs.declared.fields.Fields.{Fields}
 use Rattle.paw_state.specs.Fields.{AreSized, bytes_of, state_fields}

@@ -12,7 +12,7 @@ returns-in_err-write-clause-any_moment g c tells =
 pub returns-clause-chosen : goal.returns-clause-chosen
 returns-clause-chosen g c tells =
     on_ok_weaker c.sync.result (chose_all _ _ _ (g.S.Stage.standing c.args.stage.now) (g.S.Stage.standing c.write.new.stage)
-    (g.S.Stage.standing c.sync.new.stage) c.selector.ensures (c.in_ok-write.ensures.written tells))
+    (g.S.Stage.standing c.sync.new.stage) c.selector.ensures.value (c.in_ok-write.ensures.written tells))
     (c.sync.ensures.synced (c.write.ensures.serves.tells.0 tells))
 
 pub returns-clause-any_moment : goal.returns-clause-any_moment

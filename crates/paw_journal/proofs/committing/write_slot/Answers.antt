@@ -8,6 +8,7 @@ use Rattle.paw_journal.specs.Session.{slot, slot_head}
 use Rattle.paw_journal.specs.inner.Journal.{IsAtRest}
 use Rattle.paw_journal.specs.inner.Steps.{IsSpare, IsFilling}
 use Rattle.paw_journal.specs.inner.Room.{slot_number}
+use Rattle.paw_journal.specs.declared.layout.TheConstants.{PIECE_AT}
 use Rattle.paw_journal.proofs.Moved.{beside_on}
 use Rattle.paw_journal.proofs.Chooses.{slot_small}
 use Rattle.paw_journal.proofs.Fills.{filling_none, in_filling_sync, parts_on, filled_stable, slot_long}
@@ -41,9 +42,9 @@ returns-clause-written g c tells =
     let full = c.in_ok-write_part-3.ensures.filling last s (c.in_ok-write_part-2.ensures.filling later s
     (c.in_ok-write_part.ensures.filling tells s (begins c.args.which s (c.requires.rests tells) (c.requires.spare tells)))) in
     let one = c.in_ok-write_part.ensures.written tells in
-    let two = c.in_ok-write_part-2.ensures.written later ∙ ap (put 4160 c.args.piece.now) one in
+    let two = c.in_ok-write_part-2.ensures.written later ∙ ap (put PIECE_AT c.args.piece.now) one in
     let three = c.in_ok-write_part-3.ensures.written last
-    ∙ (ap (λ h. put 0 h (slot k (g.S.Stage.standing c.write_part-2.new.stage).disk.bytes)) c.head_of.ensures
+    ∙ (ap (λ h. put 0 h (slot k (g.S.Stage.standing c.write_part-2.new.stage).disk.bytes)) c.head_of.ensures.value
     ∙ ap (put 0 (slot_head c.args.draft.records)) two) in
     on_ok_weaker c.sync.result (filled_stable k _ s (g.S.Stage.standing c.write_part-3.new.stage)
     (g.S.Stage.standing c.sync.new.stage) full

@@ -7,10 +7,10 @@ use Rattle.paw_journal.proofs.making.write_slots.Goals as goal
 pub returns-in_err-write-clause-any_moment : goal.returns-in_err-write-clause-any_moment
 returns-in_err-write-clause-any_moment g c tells =
     let s = g.S.Stage.standing c.args.stage.now in
-    let at : c.start.result ≡ length s.disk.bytes = c.start.ensures ∙ sym (c.requires.header tells) in
+    let at : c.start.result ≡ length s.disk.bytes = c.start.ensures.value ∙ sym (c.requires.header tells) in
     (Passes_map _ _ _ _ _ _ (c.write.ensures.time tells)
     (λ m. in_blank_write c.start.result _ s s m (beside_none s) (c.requires.blank tells)
-    (omega (arith, c.start.ensures)) (omega (arith, at))))
+    (omega (arith, c.start.ensures.value)) (omega (arith, at))))
 
 pub returns-in_err-write-2-clause-beside : goal.returns-in_err-write-2-clause-beside
 returns-in_err-write-2-clause-beside g c tells =
@@ -20,19 +20,20 @@ returns-in_err-write-2-clause-beside g c tells =
 pub returns-in_err-write-2-clause-any_moment : goal.returns-in_err-write-2-clause-any_moment
 returns-in_err-write-2-clause-any_moment g c tells =
     in_both_writes c.start.result c.start-2.result c.args.bytes.now (g.S.Stage.standing c.args.stage.now)
-    (g.S.Stage.standing c.write.new.stage) (c.requires.blank tells) (omega (arith, c.start.ensures))
-    (c.start.ensures ∙ sym (c.requires.header tells)) (c.in_ok-write.ensures.written tells)
-    (omega (arith, c.start.ensures, c.start-2.ensures, c.requires.slot)) _ _ _ _ _ _ (c.write.ensures.time tells)
+    (g.S.Stage.standing c.write.new.stage) (c.requires.blank tells) (omega (arith, c.start.ensures.value))
+    (c.start.ensures.value ∙ sym (c.requires.header tells)) (c.in_ok-write.ensures.written tells)
+    (omega (arith, c.start.ensures.value, c.start-2.ensures.value, c.requires.slot)) _ _ _ _ _ _ (c.write.ensures.time tells)
     (c.write-2.ensures.time (c.write.ensures.serves.tells.0 tells))
 
 pub returns-clause-any_moment : goal.returns-clause-any_moment
 returns-clause-any_moment g c tells =
     let s = g.S.Stage.standing c.args.stage.now in
     let t = g.S.Stage.standing c.write.new.stage in
-    let low : 1 ≤ c.start.result = omega (arith, c.start.ensures) in
-    let at : c.start.result ≡ length s.disk.bytes = c.start.ensures ∙ sym (c.requires.header tells) in
+    let low : 1 ≤ c.start.result = omega (arith, c.start.ensures.value) in
+    let at : c.start.result ≡ length s.disk.bytes = c.start.ensures.value ∙ sym (c.requires.header tells) in
     let first = c.in_ok-write.ensures.written tells in
-    let next : c.start-2.result ≡ c.start.result + length c.args.bytes.now = omega (arith, c.start.ensures, c.start-2.ensures, c.requires.slot) in
+    let next : c.start-2.result ≡ c.start.result + length c.args.bytes.now =
+    omega (arith, c.start.ensures.value, c.start-2.ensures.value, c.requires.slot) in
     let later = c.write.ensures.serves.tells.0 tells in
     Passes_on _ _ _ _ _ _ _ _
     (in_both_writes c.start.result c.start-2.result c.args.bytes.now s t (c.requires.blank tells) low at first next

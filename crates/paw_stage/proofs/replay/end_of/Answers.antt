@@ -8,8 +8,8 @@ loop-k-preserved c =
     elim c.if-is_call.branch [
       | then-is_call+else-before-eq0 w ↦
           passed_call calls c.args.number c.loop-k.k c.loop-k.before c.if-is_call.before _ c.is_call.result
-          c.loop-k-test.true c.is_call.ensures w.if-is_call.true w.if-before-eq0.false w.before-is c.loop-k.invariant
+          c.loop-k-test.true c.is_call.ensures.value w.if-is_call.true w.if-before-eq0.false w.before-is c.loop-k.invariant
       | else-is_call w ↦
           passed_file calls c.args.number c.loop-k.k c.loop-k.before c.if-is_call.before _ c.is_call.result
-          c.loop-k-test.true c.is_call.ensures w.if-is_call.false w.before-is c.loop-k.invariant
+          c.loop-k-test.true c.is_call.ensures.value w.if-is_call.false w.before-is c.loop-k.invariant
     ]

@@ -14,10 +14,11 @@ loop-k-preserved c =
     let count : k + 1 ≡ length (all_done room (take k calls)) + 1 =
     omega (arith, c.loop-k-test.true, length-map (take k calls) (done_in room), length-take k calls) in
     subst (λ ds. FindsStore room ds c.store_after-store.result) (sym (done-next room calls k _ c.loop-k-test.true))
-    (c.store_after-store.ensures (all_done room (take k calls)) count c.loop-k.invariant)
+    (c.store_after-store.ensures.found (all_done room (take k calls)) count c.loop-k.invariant)
 
 pub store_after-store-requires-clause-order : goal.store_after-store-requires-clause-order
-store_after-store-requires-clause-order c = laid-at c.args.calls.now 0 (length c.args.room.now) c.loop-k.k _ c.requires c.loop-k-test.true
+store_after-store-requires-clause-order c =
+    laid-at c.args.calls.now 0 (length c.args.room.now) c.loop-k.k _ c.requires.laid c.loop-k-test.true
 
 pub store_after-store-requires-clause-named : goal.store_after-store-requires-clause-named
 store_after-store-requires-clause-named c =

@@ -5,12 +5,14 @@ use Rattle.paw_stage.proofs.Writes.{lays}
 use Rattle.paw_stage.proofs.replay.lay_over.Goals as goal
 
 pub returns : goal.returns
-returns c j low =
-    let from = c.min-from.result in
-    let to = c.min-to.result in
-    let bytes = c.args.bytes.now in
-    let into = c.args.into.now in
-    let all : take (length bytes - from) (drop from bytes) ≡ drop from bytes =
-    take_all (length bytes - from) (drop from bytes) (omega (arith, length-drop from bytes)) in
-    lays c.args.place c.args.at from to bytes into c.copy_over.new.into j (omega arith) (omega arith)
-    (c.copy_over.ensures ∙ ap (λ b. put to (take (length into - to) b) into) all) low
+returns c = record {
+  laid = λ j low.
+      let from = c.min-from.result in
+      let to = c.min-to.result in
+      let bytes = c.args.bytes.now in
+      let into = c.args.into.now in
+      let all : take (length bytes - from) (drop from bytes) ≡ drop from bytes =
+      take_all (length bytes - from) (drop from bytes) (omega (arith, length-drop from bytes)) in
+      lays c.args.place c.args.at from to bytes into c.copy_over.new.into j (omega arith) (omega arith)
+      (c.copy_over.ensures.laid ∙ ap (λ b. put to (take (length into - to) b) into) all) low;
+}

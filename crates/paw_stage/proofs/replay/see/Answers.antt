@@ -21,7 +21,8 @@ loop-call-preserved c =
     }
 
 pub seen_after-seen-requires-clause-order : goal.seen_after-seen-requires-clause-order
-seen_after-seen-requires-clause-order c = laid-at c.args.calls.now 0 (length c.args.room.now) c.loop-call.call-index _ c.requires c.loop-call-test.true
+seen_after-seen-requires-clause-order c =
+    laid-at c.args.calls.now 0 (length c.args.room.now) c.loop-call.call-index _ c.requires.laid c.loop-call-test.true
 
 pub seen_after-seen-requires-clause-small : goal.seen_after-seen-requires-clause-small
 seen_after-seen-requires-clause-small c =

@@ -1,6 +1,7 @@
 use Rattle.std.proofs.Common.{◌≡◌, ℕ, ◌≤◌, List, length, refl, sym, ap, ◌∙◌, Some, None}
 use Rattle.std.specs.Prelude.{Result, Ok, Err, IsOk, IsErr, IfErr}
 use Rattle.std.proofs.lemmas.Result.{err_from_is_err_and}
+use Rattle.paw_base.specs.declared.layout.TheConstants.{STATE_LENGTH}
 use Rattle.paw_game.specs.Game.{GameLists}
 use Rattle.paw_state.specs.declared.StateFault.{StateFault}
 use Rattle.paw_state.specs.declared.fields.Fields.{Fields}
@@ -23,7 +24,8 @@ named : {A : Type 0} → (g : GameLists) (bytes : List ℕ) (r : Result A StateF
     → IfErr r (λ f. Unfit g bytes f.at)
 named g bytes r e is h = rw is h
 
-none_from : (g : GameLists) (f : Fields) (bytes : List ℕ) → 3419 ≤ length bytes → AreBytes bytes → None ≡ parts_fault g f → f ≡ fields_at bytes
+none_from : (g : GameLists) (f : Fields) (bytes : List ℕ) → STATE_LENGTH ≤ length bytes → AreBytes bytes → None ≡ parts_fault g f →
+    f ≡ fields_at bytes
     → unfit g bytes ≡ None
 none_from g f bytes n b h e = unfit_parts g bytes n b ∙ sym (h ∙ ap (parts_fault g) e)
 

@@ -37,7 +37,7 @@ module _ (g : Over) (c : After-choose g) (tells : g.S.Stage.Tells c.args.stage.n
   short = short_piece c.args.state.now c.args.piece.now c.fits-state c.requires.piece_length
 
   spare : IsSpare (slot_number c.other-slot.result) old.disk.bytes
-  spare = spare_of c.args.self c.args.room.now old c.other-slot.result (c.requires.kept tells) c.other-slot.ensures
+  spare = spare_of c.args.self c.args.room.now old c.other-slot.result (c.requires.kept tells) c.other-slot.ensures.value
 
   filled : IsFilling (slot_number c.other-slot.result) old written
   filled = written_filling c.other-slot.result c.draft-draft.result (kept_of c.other-slot.result c.args.room.now)
@@ -76,7 +76,7 @@ module _ (g : Over) (c : After-choose g) (tells : g.S.Stage.Tells c.args.stage.n
   little = committed_all _ _ _ _ _ _ (c.write_slot.ensures.few tells)
       (c.choose.ensures.few (c.write_slot.ensures.serves.tells.0 tells))
       (committed_few c.other-slot.result (1 - slot_number c.args.self.slot) c.args.room.now old.disk.bytes c.slot.result.now
-      c.args.state.now c.args.piece.now c.draft-draft.result (c.requires.kept tells).slots c.other-slot.ensures drafts)
+      c.args.state.now c.args.piece.now c.draft-draft.result (c.requires.kept tells).slots c.other-slot.ensures.value drafts)
 
   moments : EachMoment g.S.Stage c.args.stage.now c.choose.new.stage (LeavesOldOr c.args.state.now c.args.piece.now old)
   moments = Passes_on _ _ _ _ _ _ _ _
@@ -91,7 +91,7 @@ write_slot-requires-clause-rests g c tells =
 
 pub write_slot-requires-clause-spare : goal.write_slot-requires-clause-spare
 write_slot-requires-clause-spare g c tells =
-    spare_of c.args.self c.args.room.now _ c.other-slot.result (c.requires.kept tells) c.other-slot.ensures
+    spare_of c.args.self c.args.room.now _ c.other-slot.result (c.requires.kept tells) c.other-slot.ensures.value
 
 pub choose-requires-clause-rests : goal.choose-requires-clause-rests
 choose-requires-clause-rests g c later =
@@ -103,7 +103,7 @@ choose-requires-clause-long g c later =
     let tells = c.write_slot.ensures.serves.tells.1 later in
     written_long c.other-slot.result c.draft-draft.result (kept_of c.other-slot.result c.args.room.now) c.args.state.now
     c.slot.result.now c.args.piece.now (g.S.Stage.standing c.args.stage.now) (g.S.Stage.standing c.write_slot.new.stage)
-    (spare_of c.args.self c.args.room.now _ c.other-slot.result (c.requires.kept tells) c.other-slot.ensures)
+    (spare_of c.args.self c.args.room.now _ c.other-slot.result (c.requires.kept tells) c.other-slot.ensures.value)
     (drafts_as _ _ _ _ _ c.slot.ensures.value c.draft-draft.ensures.drafts)
     (short_piece c.args.state.now c.args.piece.now c.fits-state c.requires.piece_length)
     (c.in_ok-write_slot.ensures.written tells)
@@ -113,7 +113,7 @@ returns-in_err-write_slot-clause-few g c tells =
     committed_part _ _ _ _ _ (c.write_slot.ensures.few tells)
     (committed_few c.other-slot.result (1 - slot_number c.args.self.slot) c.args.room.now
     (g.S.Stage.standing c.args.stage.now).disk.bytes c.slot.result.now c.args.state.now c.args.piece.now
-    c.draft-draft.result (c.requires.kept tells).slots c.other-slot.ensures
+    c.draft-draft.result (c.requires.kept tells).slots c.other-slot.ensures.value
     (drafts_as _ _ _ _ _ c.slot.ensures.value c.draft-draft.ensures.drafts))
 
 pub returns-in_err-write_slot-clause-any_moment : goal.returns-in_err-write_slot-clause-any_moment
@@ -155,7 +155,7 @@ returns-clause-exact g c tells =
     let at = (goal.at.returns-clause-exact g c).After-choose in
     committed_exact c.other-slot.result c.args.self.slot c.draft-draft.result (kept_of c.other-slot.result c.args.room.now)
     c.args.state.now c.slot.result.now c.args.piece.now (g.S.Stage.standing c.args.stage.now)
-    (g.S.Stage.standing c.write_slot.new.stage) (g.S.Stage.standing c.choose.new.stage) (drafts g at tells) (keeps g at tells) c.other-slot.ensures
+    (g.S.Stage.standing c.write_slot.new.stage) (g.S.Stage.standing c.choose.new.stage) (drafts g at tells) (keeps g at tells) c.other-slot.ensures.value
     (c.requires.kept tells).chosen (c.in_ok-write_slot.ensures.written tells)
     (c.in_ok-choose.ensures.chosen (c.write_slot.ensures.serves.tells.0 tells))
 

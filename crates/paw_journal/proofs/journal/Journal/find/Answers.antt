@@ -87,7 +87,7 @@ returns-clause-kept g c tells =
     let other = c.in-Ok-read_slot.ensures.read last
     ∙ ap (λ s. slot (slot_number c.other-other.result) s.disk.bytes) first in
     let slots = found_slots c.in_ok-header.header.slot c.other-other.result _ _ _ c.read_slot.new.self c.unpack.new.self
-    c.read_slot-2.new.self c.look.new.self _ _ c.other-other.ensures c.in-Ok-unpack.ensures.kept
+    c.read_slot-2.new.self c.look.new.self _ _ c.other-other.ensures.value c.in-Ok-unpack.ensures.kept
     c.in-Ok-read_slot.ensures.same c.look.ensures.kept (held g at.After-unpack tells) other in
     found_keeps _ _ _ _ _ (c.requires.rests tells) (still g at.After-look tells first)
     (c.in_ok-header.ensures.introduced tells) (shown g at.After-look tells first (shows g at.After-unpack tells)) slots

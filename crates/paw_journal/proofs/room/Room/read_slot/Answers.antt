@@ -10,6 +10,6 @@ pub returns-clause-read : goal.returns-clause-read
 returns-clause-read g c tells =
     let whole : vec_len c.resize.new.self ≡ slot_length = rw c.unwrap.ensures at c.resize.ensures.len in
     on_ok_weaker c.read.result
-    (read_slot _ c.start.result _ _ c.read.new.into _ _ (slot_small c.args.which) c.start.ensures whole
+    (read_slot _ c.start.result _ _ c.read.new.into _ _ (slot_small c.args.which) c.start.ensures.value whole
     (c.as_mut_slice.ensures.len ∙ whole) (c.requires.whole tells))
     (c.read.ensures.read tells)

@@ -14,7 +14,7 @@ returns-else-is_current-clause-shown c digests =
     let first = ap is_second (sym c.slot.ensures.value) ∙ (sym c.is_current.ensures.value ∙ c.if-is_current.false) in
     brought_shows c.args.which c.args.kept c.args.self.now c.show-else-is_current.new.self
     c.keep-else-is_current.new.self c.requires.whole c.requires.sound c.requires.taken digests c.brought_up.result first
-    c.brought_up.ensures c.show-else-is_current.ensures.value c.keep-else-is_current.ensures.value
+    c.brought_up.ensures.value c.show-else-is_current.ensures.value c.keep-else-is_current.ensures.value
 
 pub returns-else-is_current-clause-kept : goal.returns-else-is_current-clause-kept
 returns-else-is_current-clause-kept c =

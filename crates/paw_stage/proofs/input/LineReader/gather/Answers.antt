@@ -11,7 +11,7 @@ returns-else-len-eq0-clause-line g c =
 pub returns-in-Some-eq10-clause-line : goal.returns-in-Some-eq10-clause-line
 returns-in-Some-eq10-clause-line g c =
     let taken = rw (c.in-Some-eq10.is, c.in-Some-eq10.field-0-test) at c.in_ok-next_byte.ensures.taken in
-    rw c.without_return.ensures (gathered_end _ _ _ c.loop-len.into c.loop-len.len c.loop-len.returned c.loop-len.invariant.gathered taken)
+    rw c.without_return.ensures.value (gathered_end _ _ _ c.loop-len.into c.loop-len.len c.loop-len.returned c.loop-len.invariant.gathered taken)
 
 pub returns-clause-line : goal.returns-clause-line
 returns-clause-line g c =
@@ -24,5 +24,5 @@ loop-len-preserved g c =
       rest = c.in_ok-next_byte.ensures.rest ∙ c.loop-len.invariant.rest;
       size = c.keep.array_long;
       gathered = gathers_more _ _ _ c.loop-len.into c.keep.new.into c.loop-len.len c.in-Some.byte c.loop-len.returned
-          c.loop-len.invariant.gathered taken c.in-Some.byte-test.1 c.loop-len.invariant.size c.keep.ensures;
+          c.loop-len.invariant.gathered taken c.in-Some.byte-test.1 c.loop-len.invariant.size c.keep.ensures.kept;
     }

@@ -6,13 +6,13 @@ use Rattle.paw_state.proofs.fields.Fields.bytes.Goals as goal
 
 pub returns : goal.returns
 returns c = record {
-  value = all_written _ _ _ _ _ _ _ _ _ _ _ _ c.new-writer.ensures.value c.put_world.ensures.puts c.put_numbers.ensures.puts c.put_tables.ensures.puts
-      c.put_pending.ensures.puts c.put_kept.ensures.puts (omega (arith, ap length c.new-writer.ensures.value)) c.finish.ensures.value;
+  value = all_written _ _ _ _ _ _ _ _ _ _ _ _ c.new-writer.ensures.value c.put_world.ensures.writes.puts c.put_numbers.ensures.writes.puts c.put_tables.ensures.writes.puts
+      c.put_pending.ensures.writes.puts c.put_kept.ensures.writes.puts (omega (arith, ap length c.new-writer.ensures.value)) c.finish.ensures.value;
   kept = omega (
     arith,
-    ap length c.put_kept.ensures.puts,
+    ap length c.put_kept.ensures.writes.puts,
     length-append c.put_pending.new.writer (kept_position_bytes c.args.self.now),
-    c.put_kept.ensures.long,
+    c.put_kept.ensures.writes.long,
   );
   room = c.finish.ensures.room;
 }

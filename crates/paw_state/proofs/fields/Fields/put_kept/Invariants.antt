@@ -1,5 +1,6 @@
 use Rattle.std.proofs.Common.{◌≡◌, ◌+◌, ◌*◌, ◌++◌, length, take}
 use Rattle.std.specs.Prelude.{flat_map}
+use Rattle.paw_state.specs.declared.layout.TheConstants.{HELD_LENGTH}
 use Rattle.paw_state.specs.inner.Fields.{held_bytes}
 use Rattle.paw_state.proofs.fields.Fields.put_kept.Given as goal
 
@@ -7,5 +8,5 @@ use Rattle.paw_state.proofs.fields.Fields.put_kept.Given as goal
 abbrev pub invariant-loop-held : goal.invariant-loop-held
 invariant-loop-held l = record {
   written : l.writer ≡ l.initial.writer ++ flat_map held_bytes (take l.held-index l.held-items);
-  long : length l.writer ≡ length l.initial.writer + 512 * l.held-index;
+  long : length l.writer ≡ length l.initial.writer + HELD_LENGTH * l.held-index;
 }

@@ -5,15 +5,17 @@ use Rattle.paw_state.proofs.fields.Fields.put_numbers.Goals as goal
 
 pub returns : goal.returns
 unfolding number_bytes
-returns c =
-    let seed : length c.to_le_bytes.result ≡ 8 = ap length c.to_le_bytes.ensures in
-    let draws : length c.to_le_bytes-2.result ≡ 8 = ap length c.to_le_bytes-2.ensures in
-    let events : length c.to_le_bytes-3.result ≡ 8 = ap length c.to_le_bytes-3.ensures in
-    record {
-      puts = three c.args.writer.now c.put.new.self c.put-2.new.self c.put-3.new.self
-          (eight_bytes c.args.self.now.seed) (eight_bytes c.args.self.now.draws) (eight_bytes c.args.self.now.events)
-          (c.put.ensures.puts ∙ ap (λ (l : List ℕ). c.args.writer.now ++ l) c.to_le_bytes.ensures)
-          (c.put-2.ensures.puts ∙ ap (λ (l : List ℕ). c.put.new.self ++ l) c.to_le_bytes-2.ensures)
-          (c.put-3.ensures.puts ∙ ap (λ (l : List ℕ). c.put-2.new.self ++ l) c.to_le_bytes-3.ensures);
-      long = omega (arith, c.put.ensures.long, c.put-2.ensures.long, c.put-3.ensures.long);
-    }
+returns c = record {
+  writes =
+      let seed : length c.to_le_bytes.result ≡ 8 = ap length c.to_le_bytes.ensures in
+      let draws : length c.to_le_bytes-2.result ≡ 8 = ap length c.to_le_bytes-2.ensures in
+      let events : length c.to_le_bytes-3.result ≡ 8 = ap length c.to_le_bytes-3.ensures in
+      record {
+        puts = three c.args.writer.now c.put.new.self c.put-2.new.self c.put-3.new.self
+            (eight_bytes c.args.self.now.seed) (eight_bytes c.args.self.now.draws) (eight_bytes c.args.self.now.events)
+            (c.put.ensures.writes.puts ∙ ap (λ (l : List ℕ). c.args.writer.now ++ l) c.to_le_bytes.ensures)
+            (c.put-2.ensures.writes.puts ∙ ap (λ (l : List ℕ). c.put.new.self ++ l) c.to_le_bytes-2.ensures)
+            (c.put-3.ensures.writes.puts ∙ ap (λ (l : List ℕ). c.put-2.new.self ++ l) c.to_le_bytes-3.ensures);
+        long = omega (arith, c.put.ensures.writes.long, c.put-2.ensures.writes.long, c.put-3.ensures.writes.long);
+      };
+}
