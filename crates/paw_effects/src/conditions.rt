@@ -28,7 +28,7 @@ use paw_world::world::World;
 
 // A condition's answer by whether it holds.
 fn truth(holds: bool) -> Truth
-    ensures { result ≡ truth_of holds }
+    ensures value { result ≡ truth_of holds }
 {
     if holds { Truth::Yes } else { Truth::No }
 }
