@@ -6,7 +6,7 @@ use Rattle.std.specs.Option.{unwrap_or, option_map_or}
 use Rattle.std.proofs.Math.Nat.{mul_comm}
 use Rattle.std.proofs.lemmas.Bool.{lt-ltb, le-ltb, leb-true}
 use Rattle.std.proofs.lemmas.List.Sums.{AllPass-from_list_all}
-use Rattle.paw_base.specs.declared.limits.TheConstants.{READ_LIMIT, PIECE_LIMIT, LEVEL_LIMIT}
+use Rattle.paw_base.specs.declared.limits.TheConstants.{READ_LIMIT, PIECE_LIMIT, LEVEL_LIMIT, ENTRY_LIMIT}
 use Rattle.paw_base.specs.declared.parts.Condact.{Condact}
 use Rattle.paw_game.specs.declared.parts.Entry.{Entry}
 use Rattle.paw_game.specs.Game.{GameLists}
@@ -37,10 +37,10 @@ use Rattle.paw_check.proofs.TextLaws.{text_alike}
 -- ---- places ----
 
 -- the tables of a valid game have at most 4,000 entries
-pub short_tables : (g : GameLists) → Valid g → All (λ table. length table ≤ 4000) g.tables
+pub short_tables : (g : GameLists) → Valid g → All (λ table. length table ≤ ENTRY_LIMIT) g.tables
 short_tables g v = λ i d low.
-    leb-true (length (get_or g.tables i d)) 4000
-    (first_of_and (nat_le (length (get_or g.tables i d)) 4000) _
+    leb-true (length (get_or g.tables i d)) ENTRY_LIMIT
+    (first_of_and (nat_le (length (get_or g.tables i d)) ENTRY_LIMIT) _
     (AllPass-from_list_all (is_table g) g.tables (second_of_and (is_within 3 256 (length g.tables)) _ v.tables) i d low))
 
 pub place_is : (g : GameLists) (w : Wanted) (ts : List ℕ) → place_wanted w g.tables ts ≡ first_with g (is_wanted w) ts
