@@ -1,14 +1,11 @@
 -- Which condacts take a phrase of the line, and which describe the location again; none is ever spent.
-use Rattle.std.proofs.Common.{◌≡◌, ℕ, zero, suc, ◌-◌, rules, Bool, true, false, List, [], ◌∷◌, Option, Some, None, refl, sym, ap, ◌∙◌}
-use Rattle.std.specs.Prelude.{if◌then◌else◌}
+use Rattle.std.proofs.Common.{◌≡◌, ℕ, true, List, [], ◌∷◌, Option, Some, None, refl}
 use Rattle.std.specs.List.{slice_index_or}
-use Rattle.std.specs.Option.{option_map_or}
-use Rattle.std.proofs.lemmas.Option.{none-some, same_Some}
 use Rattle.paw_base.specs.declared.codes.TheConstants.{CHANCE, QUIT, MOVE, PARSE, DESC, SAVE, LOAD, RESET}
 use Rattle.paw_base.specs.declared.parts.Condact.{Condact}
 use Rattle.paw_base.specs.Condacts.{plain_code}
 use Rattle.paw_game.specs.Game.{GameLists}
-use Rattle.paw_world.specs.World.{World, Position, flag, kept_position}
+use Rattle.paw_world.specs.World.{World, Position, kept_position}
 use Rattle.paw_effects.specs.declared.act.Effect.{Effect}
 use Rattle.paw_effects.specs.declared.act.Effect.TheVariants as effect
 use Rattle.paw_effects.specs.Story.{Story}

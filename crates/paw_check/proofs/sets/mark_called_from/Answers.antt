@@ -1,9 +1,3 @@
-use Rattle.std.proofs.Common.{refl, ◌∙◌, ap, take, ◌+◌, get_or, []}
-use Rattle.std.specs.Prelude.{slice_get}
-use Rattle.std.specs.List.{list_any}
-use Rattle.std.specs.Option.{unwrap_or}
-use Rattle.paw_check.specs.Calls.{is_call_of}
-use Rattle.paw_check.specs.inner.Capped.{Marks, condacts_of_entries}
 use Rattle.paw_check.proofs.SetLaws.{marks_table_more}
 use Rattle.paw_check.proofs.sets.mark_called_from.Goals as goal
 
