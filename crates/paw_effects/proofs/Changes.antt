@@ -11,7 +11,8 @@ use Rattle.std.proofs.lemmas.List.{length-map, length-append, length-take, lengt
 use Rattle.std.proofs.lemmas.List.Elements.{All-take, All-drop, All-append, All-set}
 use Rattle.paw_base.specs.declared.words.TheConstants.{NO_WORD}
 use Rattle.paw_base.specs.declared.places.TheConstants.{WORN_PLACE, CARRIED_PLACE, NOT_CREATED_PLACE, HERE_PLACE}
-use Rattle.paw_base.specs.declared.flags.TheConstants.{REFERRED_FLAG, REFERRED_PLACE_FLAG, REFERRED_WEIGHT_FLAG, REFERRED_CONTAINER_FLAG, REFERRED_WEARABLE_FLAG}
+use Rattle.paw_base.specs.declared.flags.TheConstants.{REFERRED_FLAG, REFERRED_PLACE_FLAG, REFERRED_WEIGHT_FLAG}
+use Rattle.paw_base.specs.declared.flags.TheConstants.{REFERRED_CONTAINER_FLAG, REFERRED_WEARABLE_FLAG}
 use Rattle.paw_base.specs.declared.codes.TheConstants.{PLACE, PUTO, AUTOP, PUTIN}
 use Rattle.paw_base.specs.declared.parts.Condact.{Condact}
 use Rattle.paw_base.specs.declared.parts.ObjectFacts.{ObjectFacts}
@@ -241,7 +242,8 @@ module _ (g : GameLists) (v : Valid g) (seed n : ℕ) where
   none_so : (w : World) → Is w → Is (referred_to_none w)
   none_so w k =
       let set : (u : World) → Is u → (f x : ℕ) → x < 256 → Is (with_flag u f x) = λ u. flagged g v seed n u in
-      set _ (set _ (set _ (set _ (set w k REFERRED_FLAG NO_WORD (omega arith)) REFERRED_PLACE_FLAG NOT_CREATED_PLACE (omega arith)) REFERRED_WEIGHT_FLAG 0 (omega arith))
+      set _ (set _ (set _ (set _ (set w k REFERRED_FLAG NO_WORD (omega arith)) REFERRED_PLACE_FLAG NOT_CREATED_PLACE (omega arith))
+      REFERRED_WEIGHT_FLAG 0 (omega arith))
       REFERRED_CONTAINER_FLAG 0 (omega arith)) REFERRED_WEARABLE_FLAG 0 (omega arith)
 
   -- a container of an action is a place

@@ -106,7 +106,8 @@ found_on zero w from a b many worn carried =
 found_on (suc n) w from a b many worn carried = elim (cases_eq (get_or w.places from 0) WORN_PLACE) [
   | inl here ↦
       let is : a ≡ Some from = worn ∙ least_at_here w.places WORN_PLACE from (omega arith) here in
-      let least : lesser a b ≡ Some from = ap (λ (x : Option ℕ). lesser x b) is ∙ lesser_first from b (not_before w.places CARRIED_PLACE from b (omega arith) carried) in
+      let least : lesser a b ≡ Some from = ap (λ (x : Option ℕ). lesser x b) is
+      ∙ lesser_first from b (not_before w.places CARRIED_PLACE from b (omega arith) carried) in
       subst (λ (x : Option ℕ). Found w from x) (sym least) (object from (worn_here w from (omega arith) here))
   | inr not_worn ↦ elim (cases_eq (get_or w.places from 0) CARRIED_PLACE) [
     | inl here ↦

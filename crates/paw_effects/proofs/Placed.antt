@@ -76,7 +76,8 @@ here_at locations f = grind (arith, nat_tests)
 
 pub here_place : (g : GameLists) (w : World) → w.locations ≡ length g.locations → is_place (length g.locations) (here w) ≡ true
 here_place g w of =
-    subst (λ n. is_place (length g.locations) (if nat_lt (flag w 38) n then flag w 38 else NOT_CREATED_PLACE) ≡ true) (sym of) (here_at (length g.locations) (flag w 38))
+    subst (λ n. is_place (length g.locations) (if nat_lt (flag w 38) n then flag w 38 else NOT_CREATED_PLACE) ≡ true) (sym of)
+    (here_at (length g.locations) (flag w 38))
 
 place_of : (locations here p : ℕ) → is_place locations here ≡ true → (nat_lt p locations || is_within NOT_CREATED_PLACE HERE_PLACE p) ≡ true →
     is_place locations (if p == 255 then here else p) ≡ true
@@ -171,7 +172,8 @@ dropped g p (o ∷ os) w at k = dropped g p os (moved w o p) at (moved_placed g 
 pub if_place : (g : GameLists) (w : World) (o p : ℕ) → IsPlaced g w → IsPlaced g (moved_if_place w o p)
 if_place g w o p k =
     by_test g (names_place w p) (moved w o (named_place w p)) w
-    (λ names. moved_placed g w o (named_place w p) (named_is_place g w p k.1.0 (subst (λ n. (nat_lt p n || is_within NOT_CREATED_PLACE HERE_PLACE p) ≡ true) k.1.0 names)) k)
+    (λ names. moved_placed g w o (named_place w p)
+    (named_is_place g w p k.1.0 (subst (λ n. (nat_lt p n || is_within NOT_CREATED_PLACE HERE_PLACE p) ≡ true) k.1.0 names)) k)
     (λ none. k)
 
 pub not_created : (g : GameLists) → is_place (length g.locations) NOT_CREATED_PLACE ≡ true

@@ -44,7 +44,8 @@ module _ (ks : List (Option Position)) where
   pub moved_kept : (w : World) (o p : ℕ) → AreKept w → AreKept (moved w o p)
   moved_kept w o p k =
       let left : World = let_go w (place w o) in
-      one_kept (place w o == p) w (with_place (taken_up left p) o p) k (flag_kept (p == CARRIED_PLACE) left 1 _ (flag_kept (place w o == CARRIED_PLACE) w 1 _ k))
+      one_kept (place w o == p) w (with_place (taken_up left p) o p) k
+      (flag_kept (p == CARRIED_PLACE) left 1 _ (flag_kept (place w o == CARRIED_PLACE) w 1 _ k))
 
   pub dropped_kept : (p : ℕ) (os : List ℕ) (w : World) → AreKept w → AreKept (fold (λ v o. moved v o p) w os)
   dropped_kept p [] w k = k

@@ -66,7 +66,8 @@ byte_set xs i x small all = All-set (λ b. b < 256) xs i x small all
 pub few_locations : (g : GameLists) → Valid g → (1 ≤ length g.locations) × (length g.locations ≤ LOCATION_LIMIT)
 few_locations g v = (
   leb-true 1 (length g.locations) (first_of_and (nat_le 1 (length g.locations)) _ v.locations),
-  leb-true (length g.locations) LOCATION_LIMIT (first_of_and (nat_le (length g.locations) LOCATION_LIMIT) _ (second_of_and (nat_le 1 (length g.locations)) _ v.locations)),
+  leb-true (length g.locations) LOCATION_LIMIT
+      (first_of_and (nat_le (length g.locations) LOCATION_LIMIT) _ (second_of_and (nat_le 1 (length g.locations)) _ v.locations)),
 )
 
 pub few_objects : (g : GameLists) → Valid g → length g.objects ≤ 255
@@ -224,7 +225,9 @@ module _ (g : GameLists) (v : Valid g) (seed : ℕ) where
         go false e = grind (arith, nat_tests)
 
     let_go_so : (w : World) → IsWorldAt g seed n w → (p : ℕ) → IsWorldAt g seed n (let_go w p)
-    let_go_so w k p = let small = flag_small w k 1 in world_of (p == CARRIED_PLACE) (with_flag w 1 (flag w 1 - 1)) w (flagged w k 1 (flag w 1 - 1) (omega arith)) k
+    let_go_so w k p =
+        let small = flag_small w k 1 in
+        world_of (p == CARRIED_PLACE) (with_flag w 1 (flag w 1 - 1)) w (flagged w k 1 (flag w 1 - 1) (omega arith)) k
 
     taken_up_so : (w : World) → IsWorldAt g seed n w → (p : ℕ) → IsWorldAt g seed n (taken_up w p)
     taken_up_so w k p =

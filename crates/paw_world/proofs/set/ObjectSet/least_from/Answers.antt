@@ -13,7 +13,8 @@ pub loop-word-preserved : goal.loop-word-preserved
 loop-word-preserved c = record {
   below = omega arith;
   in_word = omega arith;
-  passed = passed_word c.args.self.now c.args.from c.loop-word.word c.loop-word.bit c.loop-word.invariant.passed (rw c.self.view_is at c.in-None.ensures.lowest);
+  passed = passed_word c.args.self.now c.args.from c.loop-word.word c.loop-word.bit c.loop-word.invariant.passed
+      (rw c.self.view_is at c.in-None.ensures.lowest);
 }
 
 pub returns : goal.returns
