@@ -7,7 +7,8 @@ use Rattle.std.proofs.lemmas.Bool.{eqb-false, leb-false}
 use Rattle.std.proofs.lemmas.List.{get_or-set_other, get_or-append_right, get_or-drop, length-take-le}
 use Rattle.paw_base.specs.declared.words.TheConstants.{NO_WORD}
 use Rattle.paw_base.specs.declared.places.TheConstants.{CARRIED_PLACE, NOT_CREATED_PLACE}
-use Rattle.paw_base.specs.declared.flags.TheConstants.{VERB_FLAG, REFERRED_PLACE_FLAG, REFERRED_FLAG, REFERRED_WEIGHT_FLAG, REFERRED_CONTAINER_FLAG, REFERRED_WEARABLE_FLAG}
+use Rattle.paw_base.specs.declared.flags.TheConstants.{VERB_FLAG, REFERRED_FLAG, REFERRED_PLACE_FLAG, REFERRED_WEIGHT_FLAG}
+use Rattle.paw_base.specs.declared.flags.TheConstants.{REFERRED_CONTAINER_FLAG, REFERRED_WEARABLE_FLAG}
 use Rattle.paw_base.specs.declared.parts.ObjectFacts.{ObjectFacts}
 use Rattle.paw_game.specs.Game.{GameLists}
 use Rattle.paw_world.specs.World.{World, Position, flag, with_flag, place, with_place, let_go, taken_up, moved, at_position}

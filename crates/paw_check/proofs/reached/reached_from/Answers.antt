@@ -23,7 +23,8 @@ loop-preserved c =
     let ts = c.args.from.now in
     let i = c.loop.counter in
     let next : c.in_ok-level.level.items ≡ below g ts (suc i) =
-    c.in_ok-level.ensures.value ∙ ap (λ xs. called_among xs c.as_slice.result.now) (c.as_slice-tables.ensures.value ∙ ap (λ (h : GameLists). h.tables) c.parts.view_is)
+    c.in_ok-level.ensures.value
+    ∙ ap (λ xs. called_among xs c.as_slice.result.now) (c.as_slice-tables.ensures.value ∙ ap (λ (h : GameLists). h.tables) c.parts.view_is)
     ∙ ap (called_among g.tables) (c.as_slice.ensures.value ∙ c.loop.invariant.deepest) ∙ sym (below_more g ts i) in
     record {
       deepest = next ∙ ap (below g ts) (sym (add-one i));
