@@ -20,7 +20,8 @@ use Rattle.paw_host.specs.inner.Opens.{LoadsSome, LoadsNone, GivesNone}
 -- ---- what loading cuts off ----
 
 -- bytes of which at most the limit and one more were taken, and of these no more than the limit
-short_enough : (bytes : List ℕ) → length (take (IMAGE_LIMIT + 1) bytes) ≤ IMAGE_LIMIT → (length bytes ≤ IMAGE_LIMIT) ⊎ (IMAGE_LIMIT + 1 ≤ length bytes) → length bytes ≤ IMAGE_LIMIT
+short_enough : (bytes : List ℕ) → length (take (IMAGE_LIMIT + 1) bytes) ≤ IMAGE_LIMIT
+    → (length bytes ≤ IMAGE_LIMIT) ⊎ (IMAGE_LIMIT + 1 ≤ length bytes) → length bytes ≤ IMAGE_LIMIT
 short_enough bytes h (inl k) = k
 short_enough bytes h (inr k) = absurd (omega (arith, h, length-take-le (IMAGE_LIMIT + 1) bytes k))
 
@@ -38,9 +39,12 @@ loaded_image given bytes g e h =
 loaded_none : (given bytes : List ℕ) → given ≡ take (IMAGE_LIMIT + 1) bytes → ((g : GameLists) → ¬ IsImage given g) → (g : GameLists) → ¬ IsImage bytes g
 loaded_none given bytes e none g h = none g (subst (λ b. IsImage b g) (sym (e ∙ take_all (IMAGE_LIMIT + 1) bytes (omega (arith, h.short)))) h)
 
-bad_whole : (bytes : List ℕ) (at : ℕ) → bad (take (IMAGE_LIMIT + 1) bytes) ≡ Some at → (length bytes ≤ IMAGE_LIMIT) ⊎ (IMAGE_LIMIT + 1 ≤ length bytes) → bad bytes ≡ Some at
+bad_whole : (bytes : List ℕ) (at : ℕ) → bad (take (IMAGE_LIMIT + 1) bytes) ≡ Some at
+    → (length bytes ≤ IMAGE_LIMIT) ⊎ (IMAGE_LIMIT + 1 ≤ length bytes) → bad bytes ≡ Some at
 bad_whole bytes at h (inl k) = subst (λ b. bad b ≡ Some at) (take_all (IMAGE_LIMIT + 1) bytes (omega (arith, k))) h
-bad_whole bytes at h (inr k) = over_is_bad bytes (omega (arith, k)) ∙ sym (over_is_bad (take (IMAGE_LIMIT + 1) bytes) (omega (arith, length-take-le (IMAGE_LIMIT + 1) bytes k))) ∙ h
+bad_whole bytes at h (inr k) =
+    over_is_bad bytes (omega (arith, k))
+    ∙ sym (over_is_bad (take (IMAGE_LIMIT + 1) bytes) (omega (arith, length-take-le (IMAGE_LIMIT + 1) bytes k))) ∙ h
 
 -- the first damage of what was loaded is that of the file
 loaded_bad : (given bytes : List ℕ) (at : ℕ) → given ≡ take (IMAGE_LIMIT + 1) bytes → bad given ≡ Some at → bad bytes ≡ Some at
