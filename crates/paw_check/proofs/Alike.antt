@@ -5,6 +5,7 @@ use Rattle.std.specs.Prelude.{if◌then◌else◌, nat_lt}
 use Rattle.std.specs.List.{AllByRecursion}
 use Rattle.std.specs.Option.{option_map_or}
 use Rattle.std.proofs.lemmas.Bool.Decides.{nat_tests}
+use Rattle.paw_base.specs.declared.limits.TheConstants.{READ_LIMIT}
 use Rattle.paw_base.specs.declared.parts.Condact.{Condact}
 use Rattle.paw_base.specs.declared.fault.SpentKind.TheVariants as spent
 use Rattle.paw_game.specs.declared.parts.Entry.{Entry}
@@ -202,7 +203,7 @@ module _ (g : Story) (Describes : Type 0) (lv : ℕ) where
       unfolding condacts
       condacts_alike t e next on h k [] all a r j = h a r j
       condacts_alike t e next on h k (c ∷ cs) all a r j =
-          both Same (nat_lt (length r.read) 200000) _ _ _ _
+          both Same (nat_lt (length r.read) READ_LIMIT) _ _ _ _
           (reads_one_alike (record { table = t; entry = e; at = k; acted = a })
           (record { next = next; on_next = on; go = _; on_go = _; nexts = h; goes = condacts_alike t e next on h (suc k) cs all.1 }) c all.0 r j)
           (itself (halts (RunsOut spent.Condacts) r) tt)

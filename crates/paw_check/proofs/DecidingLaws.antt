@@ -1,17 +1,18 @@
 -- The verdict, from what is found one after the other.
-use Rattle.std.proofs.Common.{◌≡◌, ◌≤◌, ◌<◌, ℕ, zero, suc, ◌+◌, ◌*◌, ◌-◌, ◌^◌, min, Bool, true, false, cond, List, [], ◌∷◌, ◌++◌, length, map, Some, None, refl, sym, ap, ◌∙◌, arith, get_or}
-use Rattle.std.specs.Prelude.{◌||◌, Option, All, nat_lt, nat_le, flat_map, slice_get, sum_by}
-use Rattle.std.specs.List.{list_any, slice_index_or, range_with_len}
-use Rattle.std.specs.Option.{unwrap_or, option_map_or}
+use Rattle.std.proofs.Common.{◌≡◌, ◌≤◌, ◌<◌, ℕ, ◌+◌, ◌*◌, ◌-◌, ◌^◌, min, Bool, true, false, List, [], ◌∷◌, length, Some, None, refl, sym}
+use Rattle.std.proofs.Common.{ap, ◌∙◌, arith, get_or}
+use Rattle.std.specs.Prelude.{◌||◌, Option, All, nat_lt, nat_le, flat_map}
+use Rattle.std.specs.List.{list_any}
+use Rattle.std.specs.Option.{option_map_or}
 use Rattle.std.proofs.Math.Nat.{mul_comm}
 use Rattle.std.proofs.lemmas.Bool.{lt-ltb, le-ltb, leb-true}
 use Rattle.std.proofs.lemmas.List.Sums.{AllPass-from_list_all}
-use Rattle.paw_base.specs.declared.limits.TheConstants.{READ_LIMIT, PIECE_LIMIT, LEVEL_LIMIT}
+use Rattle.paw_base.specs.declared.limits.TheConstants.{READ_LIMIT, PIECE_LIMIT, ENTRY_LIMIT}
 use Rattle.paw_base.specs.declared.parts.Condact.{Condact}
 use Rattle.paw_game.specs.declared.parts.Entry.{Entry}
 use Rattle.paw_game.specs.Game.{GameLists}
 use Rattle.paw_game.specs.Tables.{table_at}
-use Rattle.paw_game.specs.Valid.{Valid, is_within, is_table, is_entry}
+use Rattle.paw_game.specs.Valid.{Valid, is_within, is_table}
 use Rattle.paw_game.proofs.Kept.{first_of_and, second_of_and}
 use Rattle.paw_check.specs.declared.own.Own.TheVariants as own
 use Rattle.paw_check.specs.declared.places.Wanted.{Wanted}
@@ -19,14 +20,14 @@ use Rattle.paw_check.specs.declared.prints.Prints.{Prints}
 use Rattle.paw_check.specs.declared.verdict.Cause.TheVariants as cause
 use Rattle.paw_check.specs.declared.verdict.Verdict.TheVariants as verdict
 use Rattle.paw_check.specs.Bounds.{most_condacts, most_piece}
-use Rattle.paw_check.specs.Calls.{condacts_in, below, turn_tables, reached_from, most_levels}
+use Rattle.paw_check.specs.Calls.{condacts_in, most_levels}
 use Rattle.paw_check.specs.Costs.{round_cost, verb_may_change}
 use Rattle.paw_check.specs.Prints.{most_text}
 use Rattle.paw_check.specs.Verdicts.{bounds, first_with, call_too_deep, circle_of_descriptions}
 use Rattle.paw_check.specs.inner.Capped.{capped}
 use Rattle.paw_check.specs.inner.Levels.{round_taken}
 use Rattle.paw_check.specs.inner.Own.{own_in}
-use Rattle.paw_check.specs.inner.Places.{is_wanted, place_wanted, entry_wanted, any_in_table, any_in_entries}
+use Rattle.paw_check.specs.inner.Places.{is_wanted, place_wanted, entry_wanted, any_in_table}
 use Rattle.paw_check.specs.inner.Texts.{ArePrints, most_outside, most_end}
 use Rattle.paw_check.specs.inner.Verdicts.{counted}
 use Rattle.paw_check.proofs.Capped.{add_alike, product_alike, from_capped}
@@ -37,10 +38,10 @@ use Rattle.paw_check.proofs.TextLaws.{text_alike}
 -- ---- places ----
 
 -- the tables of a valid game have at most 4,000 entries
-pub short_tables : (g : GameLists) → Valid g → All (λ table. length table ≤ 4000) g.tables
+pub short_tables : (g : GameLists) → Valid g → All (λ table. length table ≤ ENTRY_LIMIT) g.tables
 short_tables g v = λ i d low.
-    leb-true (length (get_or g.tables i d)) 4000
-    (first_of_and (nat_le (length (get_or g.tables i d)) 4000) _
+    leb-true (length (get_or g.tables i d)) ENTRY_LIMIT
+    (first_of_and (nat_le (length (get_or g.tables i d)) ENTRY_LIMIT) _
     (AllPass-from_list_all (is_table g) g.tables (second_of_and (is_within 3 256 (length g.tables)) _ v.tables) i d low))
 
 pub place_is : (g : GameLists) (w : Wanted) (ts : List ℕ) → place_wanted w g.tables ts ≡ first_with g (is_wanted w) ts

@@ -2,6 +2,7 @@
 use Rattle.std.proofs.Common.{◌≡◌, ℕ, zero, suc, ◌+◌, ◌*◌, ◌≤◌, Bool, true, false, List, [], ◌∷◌, Option, Some, None, refl, arith}
 use Rattle.std.specs.Prelude.{if◌then◌else◌, nat_lt, sum_by, All}
 use Rattle.std.proofs.lemmas.Bool.{ltb-false}
+use Rattle.paw_base.specs.declared.limits.TheConstants.{READ_LIMIT, PIECE_LIMIT}
 use Rattle.paw_game.specs.Game.{GameLists}
 use Rattle.paw_effects.specs.Story.{Story}
 use Rattle.paw_reading.specs.Bounds.{IsLine, ValidStory}
@@ -50,7 +51,7 @@ says_of g = record {
 three_tables : (f : ℕ → ℕ) → sum_by f turn_tables ≡ f 0 + (f 1 + f 2)
 three_tables f = omega arith
 
-enough : (k : Takes) (goodbye : ℕ) → 129 * (sum_by k.prints turn_tables + (k.view + k.refusal)) + (goodbye + (k.timeout + k.prompt)) ≤ 65535 →
+enough : (k : Takes) (goodbye : ℕ) → 129 * (sum_by k.prints turn_tables + (k.view + k.refusal)) + (goodbye + (k.timeout + k.prompt)) ≤ PIECE_LIMIT →
     IsEnough (129 * sum_by k.reads turn_tables) (129 * (sum_by k.prints turn_tables + (k.view + k.refusal)) + (goodbye + (k.timeout + k.prompt))) k
 enough k goodbye low = record {
   reads = omega (arith, three_tables k.reads);
@@ -58,7 +59,7 @@ enough k goodbye low = record {
   limit = low;
 }
 
-enough_of : (g : GameLists) → most_piece g ≤ 65535 → IsEnough (most_condacts g) (most_piece g) (takes_of g)
+enough_of : (g : GameLists) → most_piece g ≤ PIECE_LIMIT → IsEnough (most_condacts g) (most_piece g) (takes_of g)
 unfolding takes_of
 enough_of g low = enough (takes_of g) (most_said g 14) low
 
@@ -66,7 +67,7 @@ enough_of g low = enough (takes_of g) (most_said g 14) low
 has_goodbye : (a goodbye b : ℕ) → goodbye ≤ a + (goodbye + b)
 has_goodbye a goodbye b = omega arith
 
-bound_of : (g : GameLists) → most_condacts g ≤ 200000 → most_piece g ≤ 65535 → IsBound (most_condacts g) (most_piece g) g
+bound_of : (g : GameLists) → most_condacts g ≤ READ_LIMIT → most_piece g ≤ PIECE_LIMIT → IsBound (most_condacts g) (most_piece g) g
 bound_of g few short = record { reads = few; bytes = short; goodbye = has_goodbye _ (most_said g 14) _ }
 
 -- ---- readings ----
@@ -79,12 +80,12 @@ module _ (tables : TablesWithin) (g : Story) (valid : ValidStory g) (calm : call
   only (suc (suc zero)) r low none = tables_leave_described g 2 r valid quiet refl none
   only (suc (suc (suc t))) r low none = absurd (omega arith)
 
-  tables_take : most_condacts g.game ≤ 200000 → most_piece g.game ≤ 65535 → TablesTake g (most_condacts g.game) (most_piece g.game) (takes_of g.game)
+  tables_take : most_condacts g.game ≤ READ_LIMIT → most_piece g.game ≤ PIECE_LIMIT → TablesTake g (most_condacts g.game) (most_piece g.game) (takes_of g.game)
   unfolding takes_of
   tables_take few short pending m n t r low ready used reads bytes =
       tables g (most_condacts g.game) (most_piece g.game) pending m n t r valid calm (bound_of g.game few short) low ready used reads bytes
 
-  within : most_condacts g.game ≤ 200000 → most_piece g.game ≤ 65535 → (seed : ℕ) (es : List (List ℕ)) → All IsLine es →
+  within : most_condacts g.game ≤ READ_LIMIT → most_piece g.game ≤ PIECE_LIMIT → (seed : ℕ) (es : List (List ℕ)) → All IsLine es →
       EndsWithin (most_condacts g.game) (most_piece g.game) (reading g seed es)
   within few short =
       readings_stay g valid (most_condacts g.game) (most_piece g.game) (takes_of g.game) (enough_of g.game short) (says_of g) (tables_take few short) only
@@ -108,20 +109,20 @@ pub bounds_hold : TablesWithin → BoundsHold
 unfolding bounds
 bounds_hold tables g valid =
     let bound : Verdict = verdict.Bound (most_levels g.game) (most_condacts g.game) (most_piece g.game) in
-    let texts : List (Cause × Option (ℕ × ℕ)) = (cause.Text, above 65535 (most_piece g.game)) ∷ [] in
-    let numbers : List (Cause × Option (ℕ × ℕ)) = (cause.Condacts, above 200000 (most_condacts g.game)) ∷ texts in
+    let texts : List (Cause × Option (ℕ × ℕ)) = (cause.Text, above PIECE_LIMIT (most_piece g.game)) ∷ [] in
+    let numbers : List (Cause × Option (ℕ × ℕ)) = (cause.Condacts, above READ_LIMIT (most_condacts g.game)) ∷ texts in
     let places : List (Cause × Option (ℕ × ℕ)) = (cause.Redescribe, circle_of_descriptions g.game) ∷ numbers in
     first_keeps g bound cause.Calls (call_too_deep g.game) places
     (λ calm. first_keeps g bound cause.Redescribe (circle_of_descriptions g.game) numbers
-    (λ quiet. first_keeps g bound cause.Condacts (above 200000 (most_condacts g.game)) texts
-    (λ few. first_keeps g bound cause.Text (above 65535 (most_piece g.game)) []
+    (λ quiet. first_keeps g bound cause.Condacts (above READ_LIMIT (most_condacts g.game)) texts
+    (λ few. first_keeps g bound cause.Text (above PIECE_LIMIT (most_piece g.game)) []
     (λ short. stays g valid calm quiet few short))))
   where
     stays : (g : Story) → ValidStory g → call_too_deep g.game ≡ None → circle_of_descriptions g.game ≡ None →
-        above 200000 (most_condacts g.game) ≡ None → above 65535 (most_piece g.game) ≡ None →
+        above READ_LIMIT (most_condacts g.game) ≡ None → above PIECE_LIMIT (most_piece g.game) ≡ None →
         StaysWithin (most_levels g.game) (most_condacts g.game) (most_piece g.game) g
     stays g valid calm quiet few short = record {
       readings =
-          within tables g valid calm quiet (within_limit 200000 (most_condacts g.game) few) (within_limit 65535 (most_piece g.game) short);
+          within tables g valid calm quiet (within_limit READ_LIMIT (most_condacts g.game) few) (within_limit PIECE_LIMIT (most_piece g.game) short);
       calls = levels_hold g valid calm;
     }

@@ -1,15 +1,11 @@
 -- Which condacts take a phrase of the line, and which describe the location again; none is ever spent.
-use Rattle.std.proofs.Common.{◌≡◌, ℕ, zero, suc, ◌-◌, rules, Bool, true, false, List, [], ◌∷◌, Option, Some, None, refl, sym, ap, ◌∙◌}
-use Rattle.std.specs.Prelude.{if◌then◌else◌}
+use Rattle.std.proofs.Common.{◌≡◌, ℕ, true, List, [], ◌∷◌, Option, Some, None, refl}
 use Rattle.std.specs.List.{slice_index_or}
-use Rattle.std.specs.Option.{option_map_or}
-use Rattle.std.proofs.lemmas.Option.{none-some, same_Some}
-use Rattle.paw_base.specs.declared.codes.TheConstants.{PARSE, DESC, SAVE, LOAD, RESET}
+use Rattle.paw_base.specs.declared.codes.TheConstants.{CHANCE, QUIT, MOVE, PARSE, DESC, SAVE, LOAD, RESET}
 use Rattle.paw_base.specs.declared.parts.Condact.{Condact}
-use Rattle.paw_base.specs.Condacts.{first_kind, is_indirect, plain_code}
+use Rattle.paw_base.specs.Condacts.{plain_code}
 use Rattle.paw_game.specs.Game.{GameLists}
-use Rattle.paw_game.specs.Valid.{is_argument}
-use Rattle.paw_world.specs.World.{World, Position, flag, kept_position}
+use Rattle.paw_world.specs.World.{World, Position, kept_position}
 use Rattle.paw_effects.specs.declared.act.Effect.{Effect}
 use Rattle.paw_effects.specs.declared.act.Effect.TheVariants as effect
 use Rattle.paw_effects.specs.Story.{Story}
@@ -18,10 +14,16 @@ use Rattle.paw_effects.specs.Referring.{referred}
 use Rattle.paw_effects.specs.ObjectSearch.{first_fitting}
 use Rattle.paw_effects.specs.ObjectActions.{first_that_holds, hindrances, tried, acted_on}
 use Rattle.paw_effects.specs.AutoActions.{looks_at, acted_on_found, acted_by_name}
-use Rattle.paw_effects.specs.Meanings.{Meaning, Tests, Acts, meanings, meaning_of}
-use Rattle.paw_effects.specs.Indirect.{as_plain, plain_with}
+use Rattle.paw_effects.specs.Meanings.{Meaning, Tests, Acts, doing, meanings, meaning_of}
+use Rattle.paw_effects.specs.Indirect.{as_plain}
+use Rattle.paw_effects.specs.Done.{plainly}
 use Rattle.paw_effects.specs.Effects.{Done, makes, done_by, effect_of, plain_effect}
+use Rattle.paw_effects.specs.Holds.{Tested}
+use Rattle.paw_effects.proofs.Actions.{get, drop, wear, remove, put_in, take_out}
 use Rattle.paw_check.specs.Verbs.{is_among}
+use Rattle.paw_check.specs.Prints.{silent, most_printed}
+use Rattle.paw_check.proofs.EachPlain.{Most, Each, ◌&◌, each_plain, with_conditions, with_marks}
+use Rattle.paw_check.proofs.Carried.{of_carried, carried_code}
 
 -- what a plain condact of this code may lead to
 abbrev pub MayLead : ℕ → Effect → Type 0
@@ -54,23 +56,7 @@ loaded_goes : (g : GameLists) (w : World) (kept : Option Position) → MayLead L
 loaded_goes g w None = refl
 loaded_goes g w (Some q) = refl
 
--- ---- each row ----
-
--- a fact of each row of a list, by the row's place
-abbrev Each : (ℕ → Meaning → Type 0) → List Meaning → Type 0
-Each P [] = Unit {0}
-Each P (m ∷ ms) = P 0 m × Each (λ n. P (suc n)) ms
-
-infixr 10 ◌&◌
--- the fact of a row, and those of the rows after it
-abbrev ◌&◌ : {A B : Type 0} → A → B → A × B
-one & others = (one, others)
-
-each_at : (P : ℕ → Meaning → Type 0) (ms : List Meaning) (past : Meaning) → Each P ms → ((n : ℕ) → P n past) → (n : ℕ) →
-    P n (slice_index_or ms n past)
-each_at P [] past rows beyond n = beyond n
-each_at P (m ∷ ms) past rows beyond zero = rows.0
-each_at P (m ∷ ms) past rows beyond (suc n) = each_at (λ k. P (suc k)) ms past rows.1 (λ k. beyond (suc k)) n
+-- ---- what is shown of a row ----
 
 -- a condition leads to nothing
 abbrev Ways : ℕ → Meaning → Type 0
@@ -81,42 +67,35 @@ ways_by : (code : ℕ) (m : Meaning) (s : Story) (w : World) (c : Condact) → W
 ways_by code (Tests tested) s w c h = tt
 ways_by code (Acts done) s w c h = h s w c
 
-record Way (code : ℕ) (m : Meaning) : Type 0 where
+record Way (code : ℕ) (most : Most) (m : Meaning) : Type 0 where
   leads : Ways code m
 
-each_way : Each Way meanings
-unfolding meanings
+-- ---- kinds of rows ----
+
+-- a condition leads to nothing
+asks : (most : Most) (code : ℕ) (test : GameLists → World → Condact → Tested) → Way code most (Tests test)
+asks most code test = record { leads = tt }
+
+-- an action after which the next condact is read
+going : (most : Most) (code : ℕ) (text : Story → World → Condact → List ℕ) (world : Story → World → Condact → World)
+    → Way code most (Acts (λ s w c. record { text = text s w c; world = world s w c; act = plainly effect.Go }))
+going most code text world = record { leads = λ s w c. tt }
+
+-- one on the object that it names, or that the sentence names
+on_object : (most : Most) (code : ℕ) (a : Condact → _) → Way code most (doing (λ g w c. acted_on g w c.a (a c)))
+on_object most code a = record { leads = λ s w c. acted_goes code s.game w c.a (a c) }
+
+by_name : (most : Most) (code : ℕ) (a : Condact → _) → Way code most (doing (λ g w c. acted_by_name g w (a c)))
+by_name most code a = record { leads = λ s w c. named_goes code s.game w (a c) }
+
+-- ---- each row ----
+
+each_way : Each Way most_printed meanings
+unfolding most_printed meanings
 each_way =
-    (record { leads = tt }) &  -- AT
-    (record { leads = tt }) &  -- NOTAT
-    (record { leads = tt }) &  -- ATGT
-    (record { leads = tt }) &  -- ATLT
-    (record { leads = tt }) &  -- PRESENT
-    (record { leads = tt }) &  -- ABSENT
-    (record { leads = tt }) &  -- WORN
-    (record { leads = tt }) &  -- NOTWORN
-    (record { leads = tt }) &  -- CARRIED
-    (record { leads = tt }) &  -- NOTCARR
-    (record { leads = tt }) &  -- CHANCE
-    (record { leads = tt }) &  -- ZERO
-    (record { leads = tt }) &  -- NOTZERO
-    (record { leads = tt }) &  -- EQ
-    (record { leads = tt }) &  -- NOTEQ
-    (record { leads = tt }) &  -- GT
-    (record { leads = tt }) &  -- LT
-    (record { leads = tt }) &  -- SAME
-    (record { leads = tt }) &  -- NOTSAME
-    (record { leads = tt }) &  -- ADJECT1
-    (record { leads = tt }) &  -- ADVERB
-    (record { leads = tt }) &  -- PREP
-    (record { leads = tt }) &  -- NOUN2
-    (record { leads = tt }) &  -- ADJECT2
-    (record { leads = tt }) &  -- ISAT
-    (record { leads = tt }) &  -- ISNOTAT
-    (record { leads = tt }) &  -- TIMEOUT
-    (record { leads = tt }) &  -- QUIT
-    (record { leads = tt }) &  -- MOVE
-    (record { leads = λ s w c. tt }) &  -- INVEN
+    with_conditions Way (λ most code so. asks most code _) (asks _ CHANCE _) (asks _ QUIT _)
+    (asks _ MOVE _) (
+    going _ _ _ _ &  -- INVEN
     (record { leads = λ s w c. refl }) &  -- DESC
     (record { leads = λ s w c. tt }) &  -- END
     (record { leads = λ s w c. tt }) &  -- DONE
@@ -125,81 +104,64 @@ each_way =
     (record { leads = λ s w c. tt }) &  -- ANYKEY
     (record { leads = λ s w c. refl }) &  -- SAVE
     (record { leads = λ s w c. loaded_goes s.game w (kept_position w (position_number w)) }) &  -- LOAD
-    (record { leads = λ s w c. tt }) &  -- RAMSAVE
-    (record { leads = λ s w c. tt }) &  -- RAMLOAD
-    (record { leads = λ s w c. tt }) &  -- TURNS
-    (record { leads = λ s w c. tt }) &  -- SCORE
-    (record { leads = λ s w c. tt }) &  -- DROPALL
-    (record { leads = λ s w c. search (rules, named_goes) }) &  -- AUTOG
-    (record { leads = λ s w c. search (rules, named_goes) }) &  -- AUTOD
-    (record { leads = λ s w c. search (rules, named_goes) }) &  -- AUTOW
-    (record { leads = λ s w c. search (rules, named_goes) }) &  -- AUTOR
-    (record { leads = λ s w c. search (rules, named_goes) }) &  -- AUTOP
-    (record { leads = λ s w c. search (rules, named_goes) }) &  -- AUTOT
-    (record { leads = λ s w c. tt }) &  -- GOTO
-    (record { leads = λ s w c. tt }) &  -- MES
-    (record { leads = λ s w c. tt }) &  -- MESSAGE
-    (record { leads = λ s w c. tt }) &  -- SYSMESS
-    (record { leads = λ s w c. tt }) &  -- NEWLINE
-    (record { leads = λ s w c. tt }) &  -- PRINT
-    (record { leads = λ s w c. search (rules, acted_goes) }) &  -- GET
-    (record { leads = λ s w c. search (rules, acted_goes) }) &  -- DROP
-    (record { leads = λ s w c. search (rules, acted_goes) }) &  -- WEAR
-    (record { leads = λ s w c. search (rules, acted_goes) }) &  -- REMOVE
-    (record { leads = λ s w c. search (rules, acted_goes) }) &  -- PUTIN
-    (record { leads = λ s w c. search (rules, acted_goes) }) &  -- TAKEOUT
-    (record { leads = λ s w c. tt }) &  -- CREATE
-    (record { leads = λ s w c. tt }) &  -- DESTROY
-    (record { leads = λ s w c. tt }) &  -- SWAP
-    (record { leads = λ s w c. tt }) &  -- PLACE
-    (record { leads = λ s w c. tt }) &  -- PUTO
-    (record { leads = λ s w c. tt }) &  -- SET
-    (record { leads = λ s w c. tt }) &  -- CLEAR
-    (record { leads = λ s w c. tt }) &  -- PLUS
-    (record { leads = λ s w c. tt }) &  -- MINUS
-    (record { leads = λ s w c. tt }) &  -- LET
-    (record { leads = λ s w c. tt }) &  -- ADD
-    (record { leads = λ s w c. tt }) &  -- SUB
-    (record { leads = λ s w c. tt }) &  -- RANDOM
-    (record { leads = λ s w c. tt }) &  -- COPYOO
-    (record { leads = λ s w c. tt }) &  -- COPYOF
-    (record { leads = λ s w c. tt }) &  -- COPYFO
-    (record { leads = λ s w c. tt }) &  -- COPYFF
-    (record { leads = λ s w c. tt }) &  -- LISTOBJ
-    (record { leads = λ s w c. tt }) &  -- LISTAT
-    (record { leads = λ s w c. tt }) &  -- WHATO
-    (record { leads = λ s w c. tt }) &  -- WEIGH
-    (record { leads = λ s w c. tt }) &  -- WEIGHT
-    (record { leads = λ s w c. tt }) &  -- ABILITY
+    going _ _ _ _ &  -- RAMSAVE
+    going _ _ _ _ &  -- RAMLOAD
+    going _ _ _ _ &  -- TURNS
+    going _ _ _ _ &  -- SCORE
+    going _ _ _ _ &  -- DROPALL
+    by_name _ _ (λ c. get) &  -- AUTOG
+    by_name _ _ (λ c. drop) &  -- AUTOD
+    by_name _ _ (λ c. wear) &  -- AUTOW
+    by_name _ _ (λ c. remove) &  -- AUTOR
+    by_name _ _ (λ c. put_in c.a) &  -- AUTOP
+    by_name _ _ (λ c. take_out c.a) &  -- AUTOT
+    going _ _ _ _ &  -- GOTO
+    going _ _ _ _ &  -- MES
+    going _ _ _ _ &  -- MESSAGE
+    going _ _ _ _ &  -- SYSMESS
+    going _ _ _ _ &  -- NEWLINE
+    going _ _ _ _ &  -- PRINT
+    on_object _ _ (λ c. get) &  -- GET
+    on_object _ _ (λ c. drop) &  -- DROP
+    on_object _ _ (λ c. wear) &  -- WEAR
+    on_object _ _ (λ c. remove) &  -- REMOVE
+    on_object _ _ (λ c. put_in c.b) &  -- PUTIN
+    on_object _ _ (λ c. take_out c.b) &  -- TAKEOUT
+    going _ _ _ _ &  -- CREATE
+    going _ _ _ _ &  -- DESTROY
+    going _ _ _ _ &  -- SWAP
+    going _ _ _ _ &  -- PLACE
+    going _ _ _ _ &  -- PUTO
+    going _ _ _ _ &  -- SET
+    going _ _ _ _ &  -- CLEAR
+    going _ _ _ _ &  -- PLUS
+    going _ _ _ _ &  -- MINUS
+    going _ _ _ _ &  -- LET
+    going _ _ _ _ &  -- ADD
+    going _ _ _ _ &  -- SUB
+    going _ _ _ _ &  -- RANDOM
+    going _ _ _ _ &  -- COPYOO
+    going _ _ _ _ &  -- COPYOF
+    going _ _ _ _ &  -- COPYFO
+    going _ _ _ _ &  -- COPYFF
+    going _ _ _ _ &  -- LISTOBJ
+    going _ _ _ _ &  -- LISTAT
+    going _ _ _ _ &  -- WHATO
+    going _ _ _ _ &  -- WEIGH
+    going _ _ _ _ &  -- WEIGHT
+    going _ _ _ _ &  -- ABILITY
     (record { leads = λ s w c. refl }) &  -- PARSE
     (record { leads = λ s w c. tt }) &  -- PROCESS
     (record { leads = λ s w c. tt }) &  -- DOALL
-    (record { leads = λ s w c. tt }) &  -- PROMPT
-    (record { leads = λ s w c. tt }) &  -- TIME
+    going _ _ _ _ &  -- PROMPT
+    going _ _ _ _ &  -- TIME
     (record { leads = λ s w c. tt }) &  -- NEWTEXT
     (record { leads = λ s w c. refl }) &  -- RESET
-    (record { leads = λ s w c. tt }) &  -- EXTERN
-    (record { leads = λ s w c. tt }) &  -- PICTURE
-    (record { leads = λ s w c. tt }) &  -- GRAPHIC
-    (record { leads = λ s w c. tt }) &  -- BEEP
-    (record { leads = λ s w c. tt }) &  -- CLS
-    (record { leads = λ s w c. tt }) &  -- PAPER
-    (record { leads = λ s w c. tt }) &  -- INK
-    (record { leads = λ s w c. tt }) &  -- BORDER
-    (record { leads = λ s w c. tt }) &  -- CHARSET
-    (record { leads = λ s w c. tt }) &  -- PROTECT
-    (record { leads = λ s w c. tt }) &  -- SAVEAT
-    (record { leads = λ s w c. tt }) &  -- BACKAT
-    (record { leads = λ s w c. tt }) &  -- PRINTAT
-    (record { leads = λ s w c. tt }) &  -- PAUSE
-    (record { leads = λ s w c. tt }) &  -- MODE
-    (record { leads = λ s w c. tt }) &  -- LINE
-    (record { leads = λ s w c. tt }) &  -- INPUT
-    tt
+    going _ _ _ _ &  -- EXTERN
+    with_marks Way (λ code. going _ code _ _) tt)
 
-ways : (code : ℕ) → Way code (meaning_of code)
-unfolding meaning_of
-ways code = each_at Way meanings _ each_way (λ code. record { leads = λ s w c. tt }) code
+ways : (code : ℕ) → Way code (slice_index_or most_printed code silent) (meaning_of code)
+ways = each_plain Way each_way (λ code. going _ code _ _)
 
 -- ---- each condact ----
 
@@ -207,30 +169,9 @@ plain_goes : (s : Story) (w : World) (c : Condact) → MayLead c.code (plain_eff
 unfolding plain_effect
 plain_goes s w c = ways_by c.code (meaning_of c.code) s w c (ways c.code).leads
 
--- what is carried out has the plain code
-plain_is : (g : GameLists) (w : World) (c d : Condact) → as_plain g w c ≡ Some d → d.code ≡ plain_code c.code
-unfolding as_plain
-plain_is g w c d is = go (is_indirect c.code) refl is
-  where
-    given : (b : Bool) → ◌≡◌ {A = Option Condact} (if b then Some (record { code = plain_code c.code; a = flag w c.a; b = c.b }) else None) (Some d) →
-        d.code ≡ plain_code c.code
-    given true h = ap (λ (x : Condact). x.code) (sym (same_Some (record { code = plain_code c.code; a = flag w c.a; b = c.b }) d h))
-    given false h = absurd (none-some d h)
-
-    go : (b : Bool) → is_indirect c.code ≡ b → ◌≡◌ {A = Option Condact} (if b then plain_with g c (flag w c.a) else Some c) (Some d) →
-        d.code ≡ plain_code c.code
-    go true e h = given (is_argument g (first_kind (plain_code c.code)) (flag w c.a)) h
-    go false e h =
-        ap (λ (x : Condact). x.code) (sym (same_Some c d h)) ∙ sym (ap (λ (b : Bool). if b then c.code - 128 else c.code) e)
-
-of_carried : (P : Done → Type 0) (f : Condact → Done) (o : Option Condact) (past : Done) → ((c : Condact) → o ≡ Some c → P (f c)) → P past →
-    P (option_map_or f o past)
-of_carried P f None past found none = none
-of_carried P f (Some c) past found none = found c refl
-
 -- an action leads on as the plain code of its condact may
 pub effect_goes : (s : Story) (w : World) (c : Condact) → MayLead (plain_code c.code) (effect_of s w c).act.effect
 unfolding effect_of
 effect_goes s w c =
     of_carried (λ (d : Done). MayLead (plain_code c.code) d.act.effect) (plain_effect s w) (as_plain s.game w c) (makes w)
-    (λ d is. rw (← plain_is s.game w c d is) (plain_goes s w d)) tt
+    (λ d is. rw (← carried_code s.game w c d is) (plain_goes s w d)) tt

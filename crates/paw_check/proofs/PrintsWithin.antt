@@ -2,7 +2,7 @@
 use Rattle.std.proofs.Common.{◌≡◌, ℕ, ◌<◌, ◌≤◌, List, [], ◌∷◌, Option, Some, None, refl, subst, length, IsTrue}
 use Rattle.std.proofs.Common.{arith, length-append}
 use Rattle.std.specs.List.{slice_index_or}
-use Rattle.paw_base.specs.declared.codes.TheConstants.{QUIT}
+use Rattle.paw_base.specs.declared.codes.TheConstants.{CHANCE, QUIT, MOVE}
 use Rattle.paw_base.specs.declared.messages.TheConstants.{QUIT_MESSAGE, AGAIN_MESSAGE, OK_MESSAGE, KEY_MESSAGE, IMPOSSIBLE_MESSAGE}
 use Rattle.paw_base.specs.declared.messages.TheConstants.{NOTHING_THERE_MESSAGE, NOT_HERE_MESSAGE, NOT_WORN_MESSAGE, NOT_CARRIED_MESSAGE}
 use Rattle.paw_base.specs.declared.messages.TheConstants.{NOT_INSIDE_MESSAGE, TAKEN_MESSAGE, DROPPED_MESSAGE, PUT_ON_MESSAGE}
@@ -34,7 +34,7 @@ use Rattle.paw_effects.proofs.Actions.{get, drop, wear, remove, put_in, take_out
 use Rattle.paw_check.specs.Measures.{most_at, most_put, most_said}
 use Rattle.paw_check.specs.Prints.{most_named, most_of_action, most_printed, most_text, silent}
 use Rattle.paw_check.specs.inner.Condacts.{ActionsPrintWithin, QuestionsPrintWithin}
-use Rattle.paw_check.proofs.EachPlain.{Most, Each, ◌&◌, each_plain}
+use Rattle.paw_check.proofs.EachPlain.{Most, Each, ◌&◌, each_plain, with_conditions, with_marks}
 use Rattle.paw_check.proofs.Carried.{of_carried, carried, carried_code}
 use Rattle.paw_check.proofs.Lengths.{put_most, say_most, message_most, at_most, byte_digits}
 use Rattle.paw_check.proofs.Listed.{inventory_most, place_list_most, here_list_most}
@@ -101,35 +101,8 @@ loaded_most g w (Some q) = omega arith
 each_row : Each Prints most_printed meanings
 unfolding most_printed meanings
 each_row =
-    tested _ _ _ &  -- AT
-    tested _ _ _ &  -- NOTAT
-    tested _ _ _ &  -- ATGT
-    tested _ _ _ &  -- ATLT
-    tested _ _ _ &  -- PRESENT
-    tested _ _ _ &  -- ABSENT
-    tested _ _ _ &  -- WORN
-    tested _ _ _ &  -- NOTWORN
-    tested _ _ _ &  -- CARRIED
-    tested _ _ _ &  -- NOTCARR
-    tested _ _ _ &  -- CHANCE
-    tested _ _ _ &  -- ZERO
-    tested _ _ _ &  -- NOTZERO
-    tested _ _ _ &  -- EQ
-    tested _ _ _ &  -- NOTEQ
-    tested _ _ _ &  -- GT
-    tested _ _ _ &  -- LT
-    tested _ _ _ &  -- SAME
-    tested _ _ _ &  -- NOTSAME
-    tested _ _ _ &  -- ADJECT1
-    tested _ _ _ &  -- ADVERB
-    tested _ _ _ &  -- PREP
-    tested _ _ _ &  -- NOUN2
-    tested _ _ _ &  -- ADJECT2
-    tested _ _ _ &  -- ISAT
-    tested _ _ _ &  -- ISNOTAT
-    tested _ _ _ &  -- TIMEOUT
-    tested _ _ _ &  -- QUIT
-    tested _ _ _ &  -- MOVE
+    with_conditions Prints (λ most code so. tested code most _) (tested CHANCE _ _) (tested QUIT _ _)
+    (tested MOVE _ _) (
     (record { within = λ s w c d of k. inventory_most s.game w of.of }) &  -- INVEN
     quiet _ _ _ &  -- DESC
     (record { within = λ s w c d of k. put_most s.game w AGAIN_MESSAGE }) &  -- END
@@ -198,23 +171,7 @@ each_row =
     quiet _ _ _ &  -- NEWTEXT
     quiet _ _ _ &  -- RESET
     quiet _ _ _ &  -- EXTERN
-    marked _ &  -- PICTURE
-    marked _ &  -- GRAPHIC
-    marked _ &  -- BEEP
-    marked _ &  -- CLS
-    marked _ &  -- PAPER
-    marked _ &  -- INK
-    marked _ &  -- BORDER
-    marked _ &  -- CHARSET
-    marked _ &  -- PROTECT
-    marked _ &  -- SAVEAT
-    marked _ &  -- BACKAT
-    marked _ &  -- PRINTAT
-    marked _ &  -- PAUSE
-    marked _ &  -- MODE
-    marked _ &  -- LINE
-    marked _ &  -- INPUT
-    tt
+    with_marks Prints marked tt)
 
 prints : (code : ℕ) → Prints code (slice_index_or most_printed code silent) (meaning_of code)
 prints = each_plain Prints each_row (λ code. quiet code _ _)

@@ -7,6 +7,7 @@ use Rattle.std.specs.Option.{option_map_or}
 use Rattle.std.proofs.lemmas.Bool.{or_cases, eqb-true, ltb-true, ltb-false}
 use Rattle.std.proofs.lemmas.Bool.Decides.{nat_tests}
 use Rattle.std.proofs.lemmas.List.Sums.{sum_by-cons}
+use Rattle.paw_base.specs.declared.limits.TheConstants.{ENTRY_LIMIT}
 use Rattle.paw_base.specs.declared.codes.TheConstants.{PROCESS}
 use Rattle.paw_base.specs.declared.parts.Condact.{Condact}
 use Rattle.paw_base.specs.declared.rows.ParamKind.TheVariants as kind
@@ -61,7 +62,7 @@ module _ (g : GameLists) (all : List Condact) (Q : Condact → Type 0) (holds : 
 pub each_of_table : (g : GameLists) (v : Valid g) (t : ℕ) (Q : Condact → Type 0) →
     ((c : Condact) → Member (condacts_in g t) c → IsTrue (is_condact g c) → Q c) → AllByRecursion (λ en. AllByRecursion Q en.condacts) (table_at g t)
 each_of_table g v t Q holds =
-    each_entry g (condacts_in g t) Q holds (table_at g t) (second_of_and (nat_le (length (table_at g t)) 4000) _ (table_kept g v t)) (λ p e. e)
+    each_entry g (condacts_in g t) Q holds (table_at g t) (second_of_and (nat_le (length (table_at g t)) ENTRY_LIMIT) _ (table_kept g v t)) (λ p e. e)
 
 -- ---- places of condacts ----
 

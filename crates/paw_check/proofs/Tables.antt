@@ -7,6 +7,7 @@ use Rattle.std.proofs.lemmas.Bool.{and_parts}
 use Rattle.std.proofs.lemmas.List.Elements.{All-tail}
 use Rattle.std.proofs.lemmas.List.Sums.{sum_by-cons, sum_by-append}
 use Rattle.std.proofs.lemmas.Option.{none-some}
+use Rattle.paw_base.specs.declared.limits.TheConstants.{READ_LIMIT, PIECE_LIMIT}
 use Rattle.paw_base.specs.declared.codes.TheConstants.{PROCESS, DOALL, PARSE}
 use Rattle.paw_base.specs.declared.parts.Condact.{Condact}
 use Rattle.paw_base.specs.Condacts.{plain_code}
@@ -101,7 +102,7 @@ shorter_if true line n k = omega arith
 shorter_if false line n k = k
 
 module _ (g : Story) (valid : ValidStory g) (kind : SpentKind) (limit pending : ℕ) (changing : Bool) (verb : ℕ)
-    (low : limit ≤ of_kind kind 200000 65535)
+    (low : limit ≤ of_kind kind READ_LIMIT PIECE_LIMIT)
     (bye : (w : World) → IsWorldOf g.game w → of_kind kind 0 (length (say_text g.game w 14)) ≤ limit) where
   abbrev pub Is : ℕ → Run → Type 0
   Is lv r = Steady g.game kind limit pending changing verb lv r.world r.earlier r.pending r.turning r.events r.traces r.pieces

@@ -3,6 +3,7 @@ use Rattle.std.proofs.Common.{◌≡◌, ℕ, zero, suc, ◌+◌, ◌≤◌, Boo
 use Rattle.std.specs.Prelude.{if◌then◌else◌, nat_lt, All}
 use Rattle.std.proofs.lemmas.Bool.{ltb-false, leb-false}
 use Rattle.std.proofs.lemmas.List.Elements.{All-append}
+use Rattle.paw_base.specs.declared.limits.TheConstants.{READ_LIMIT, PIECE_LIMIT}
 use Rattle.paw_base.specs.declared.parts.Condact.{Condact}
 use Rattle.paw_base.specs.declared.fault.SpentKind.{SpentKind}
 use Rattle.paw_base.specs.declared.fault.SpentKind.TheVariants as spent
@@ -77,26 +78,26 @@ passes : (P : Out → Type 0) (b : Bool) (x y : Out) → P x → (b ≡ false �
 passes P true x y h k = h
 passes P false x y h k = k refl
 
-unread : (kind : SpentKind) (g : GameLists) (c : Condact) (r : Run) → used kind r + own_of kind g c ≤ of_kind kind 200000 65535 →
-    nat_lt (length r.read) 200000 ≡ false → Another kind spent.Condacts
-unread spent.Condacts g c r h e = absurd (omega (arith, ltb-false (length r.read) 200000 e))
+unread : (kind : SpentKind) (g : GameLists) (c : Condact) (r : Run) → used kind r + own_of kind g c ≤ of_kind kind READ_LIMIT PIECE_LIMIT →
+    nat_lt (length r.read) READ_LIMIT ≡ false → Another kind spent.Condacts
+unread spent.Condacts g c r h e = absurd (omega (arith, ltb-false (length r.read) READ_LIMIT e))
 unread spent.Text g c r h e = tt
 
 -- a condact may be read where what it uses is within the limit
 pub may_read : (P : Out → Type 0) (kind : SpentKind) (g : GameLists) (c : Condact) (r : Run) (x : Out) →
-    used kind r + own_of kind g c ≤ of_kind kind 200000 65535 → P x →
+    used kind r + own_of kind g c ≤ of_kind kind READ_LIMIT PIECE_LIMIT → P x →
     (Another kind spent.Condacts → P (halts (RunsOut spent.Condacts) r)) → P (within r x)
 may_read P kind g c r x h k spends =
-    passes P (nat_lt (length r.read) 200000) x (halts (RunsOut spent.Condacts) r) k (λ e. spends (unread kind g c r h e))
+    passes P (nat_lt (length r.read) READ_LIMIT) x (halts (RunsOut spent.Condacts) r) k (λ e. spends (unread kind g c r h e))
 
-unfit : (kind : SpentKind) (r : Run) (text : List ℕ) → used kind (printed text r) ≤ of_kind kind 200000 65535 → fits r text ≡ false →
+unfit : (kind : SpentKind) (r : Run) (text : List ℕ) → used kind (printed text r) ≤ of_kind kind READ_LIMIT PIECE_LIMIT → fits r text ≡ false →
     Another kind spent.Text
 unfit spent.Condacts r text h e = tt
-unfit spent.Text r text h e = absurd (omega (arith, length-append r.current text, leb-false (length r.current + length text) 65535 e))
+unfit spent.Text r text h e = absurd (omega (arith, length-append r.current text, leb-false (length r.current + length text) PIECE_LIMIT e))
 
 -- a text may be printed where the piece with it is within the limit
 pub may_print : (P : Out → Type 0) (kind : SpentKind) (text : List ℕ) (go : Run → Out) (r : Run) →
-    used kind (printed text r) ≤ of_kind kind 200000 65535 → P (go (printed text r)) →
+    used kind (printed text r) ≤ of_kind kind READ_LIMIT PIECE_LIMIT → P (go (printed text r)) →
     (Another kind spent.Text → P (halts (RunsOut spent.Text) r)) → P (printing text go r)
 may_print P kind text go r h k spends =
     passes P (fits r text) (go (printed text r)) (halts (RunsOut spent.Text) r) k (λ e. spends (unfit kind r text h e))

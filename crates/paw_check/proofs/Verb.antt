@@ -5,7 +5,10 @@ use Rattle.std.specs.Prelude.{if◌then◌else◌, fold, nat_le, slice_index}
 use Rattle.std.specs.Option.{option_map_or}
 use Rattle.std.proofs.lemmas.Bool.{eqb-false, leb-false}
 use Rattle.std.proofs.lemmas.List.{get_or-set_other, get_or-append_right, get_or-drop, length-take-le}
-use Rattle.paw_base.specs.declared.flags.TheConstants.{VERB_FLAG}
+use Rattle.paw_base.specs.declared.words.TheConstants.{NO_WORD}
+use Rattle.paw_base.specs.declared.places.TheConstants.{CARRIED_PLACE, NOT_CREATED_PLACE}
+use Rattle.paw_base.specs.declared.flags.TheConstants.{VERB_FLAG, REFERRED_FLAG, REFERRED_PLACE_FLAG, REFERRED_WEIGHT_FLAG}
+use Rattle.paw_base.specs.declared.flags.TheConstants.{REFERRED_CONTAINER_FLAG, REFERRED_WEARABLE_FLAG}
 use Rattle.paw_base.specs.declared.parts.ObjectFacts.{ObjectFacts}
 use Rattle.paw_game.specs.Game.{GameLists}
 use Rattle.paw_world.specs.World.{World, Position, flag, with_flag, place, with_place, let_go, taken_up, moved, at_position}
@@ -59,7 +62,7 @@ module _ (n : ℕ) where
   moved_has w o p k =
       let left : World = let_go w (place w o) in
       one_has (place w o == p) w (with_place (taken_up left p) o p) k
-      (flag_has (p == 254) left 1 _ refl (flag_has (place w o == 254) w 1 _ refl k))
+      (flag_has (p == CARRIED_PLACE) left 1 _ refl (flag_has (place w o == CARRIED_PLACE) w 1 _ refl k))
 
   pub dropped_has : (p : ℕ) (os : List ℕ) (w : World) → HasVerb w → HasVerb (fold (λ v o. moved v o p) w os)
   dropped_has p [] w k = k
@@ -70,25 +73,25 @@ module _ (n : ℕ) where
   facts_has : (w : World) (o : ℕ) (f : Option ObjectFacts) → HasVerb w → HasVerb (facts_written w o f)
   facts_has w o None k = k
   facts_has w o (Some f) k =
-      let weighed : World = with_flag w 55 (weight w o) in
-      let held : World = with_flag weighed 56 (weight_class f.container) in
-      other_has held 57 (weight_class f.wearable) refl
-      (other_has weighed 56 (weight_class f.container) refl (other_has w 55 (weight w o) refl k))
+      let weighed : World = with_flag w REFERRED_WEIGHT_FLAG (weight w o) in
+      let held : World = with_flag weighed REFERRED_CONTAINER_FLAG (weight_class f.container) in
+      other_has held REFERRED_WEARABLE_FLAG (weight_class f.wearable) refl
+      (other_has weighed REFERRED_CONTAINER_FLAG (weight_class f.container) refl (other_has w REFERRED_WEIGHT_FLAG (weight w o) refl k))
 
   pub referred_has : (w : World) (o : ℕ) → HasVerb w → HasVerb (referred w o)
   referred_has w o k =
-      let numbered : World = with_flag w 51 o in
-      facts_has (with_flag numbered 54 (place w o)) o (slice_get w.facts o)
-      (other_has numbered 54 (place w o) refl (other_has w 51 o refl k))
+      let numbered : World = with_flag w REFERRED_FLAG o in
+      facts_has (with_flag numbered REFERRED_PLACE_FLAG (place w o)) o (slice_get w.facts o)
+      (other_has numbered REFERRED_PLACE_FLAG (place w o) refl (other_has w REFERRED_FLAG o refl k))
 
   none_has : (w : World) → HasVerb w → HasVerb (referred_to_none w)
   none_has w k =
-      let numbered : World = with_flag w 51 255 in
-      let placed : World = with_flag numbered 54 252 in
-      let weighed : World = with_flag placed 55 0 in
-      let held : World = with_flag weighed 56 0 in
-      other_has held 57 0 refl (other_has weighed 56 0 refl (other_has placed 55 0 refl
-      (other_has numbered 54 252 refl (other_has w 51 255 refl k))))
+      let numbered : World = with_flag w REFERRED_FLAG NO_WORD in
+      let placed : World = with_flag numbered REFERRED_PLACE_FLAG NOT_CREATED_PLACE in
+      let weighed : World = with_flag placed REFERRED_WEIGHT_FLAG 0 in
+      let held : World = with_flag weighed REFERRED_CONTAINER_FLAG 0 in
+      other_has held REFERRED_WEARABLE_FLAG 0 refl (other_has weighed REFERRED_CONTAINER_FLAG 0 refl (other_has placed REFERRED_WEIGHT_FLAG 0 refl
+      (other_has numbered REFERRED_PLACE_FLAG NOT_CREATED_PLACE refl (other_has w REFERRED_FLAG NO_WORD refl k))))
 
   pub referred_found_has : (w : World) (found : Option ℕ) → HasVerb w → HasVerb (option_map_or (referred w) found (referred_to_none w))
   referred_found_has w None k = none_has w k

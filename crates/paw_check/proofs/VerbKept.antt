@@ -27,7 +27,7 @@ use Rattle.paw_effects.proofs.Actions.{get, drop, wear, remove, put_in, take_out
 use Rattle.paw_check.specs.Verbs.{is_among, writes_first, writes_second}
 use Rattle.paw_check.specs.inner.Condacts.{ConditionsKeepVerb, ActionsKeepVerb}
 use Rattle.paw_check.specs.Prints.{silent, most_printed}
-use Rattle.paw_check.proofs.EachPlain.{Most, Each, ◌&◌, each_plain}
+use Rattle.paw_check.proofs.EachPlain.{Most, Each, ◌&◌, each_plain, with_conditions, with_marks}
 use Rattle.paw_check.proofs.Carried.{SparesVerb, of_carried, carried_spares}
 use Rattle.paw_check.proofs.Verb.{HasVerb, LeavesVerb, one_has, other_has, answered_has, moves_has, moved_has, dropped_has, referred_found_has}
 use Rattle.paw_check.proofs.Verb.{acted_has, found_has, loaded_leaves, ramloaded_has}
@@ -97,38 +97,11 @@ by_name most code a = record { verb = λ n s w c is spares of k. inl (found_has 
 each_row : Each Keeps most_printed meanings
 unfolding most_printed meanings
 each_row =
-    tested _ _ _ &  -- AT
-    tested _ _ _ &  -- NOTAT
-    tested _ _ _ &  -- ATGT
-    tested _ _ _ &  -- ATLT
-    tested _ _ _ &  -- PRESENT
-    tested _ _ _ &  -- ABSENT
-    tested _ _ _ &  -- WORN
-    tested _ _ _ &  -- NOTWORN
-    tested _ _ _ &  -- CARRIED
-    tested _ _ _ &  -- NOTCARR
-    (record { verb = λ n g w c is spares k. k }) &  -- CHANCE
-    tested _ _ _ &  -- ZERO
-    tested _ _ _ &  -- NOTZERO
-    tested _ _ _ &  -- EQ
-    tested _ _ _ &  -- NOTEQ
-    tested _ _ _ &  -- GT
-    tested _ _ _ &  -- LT
-    tested _ _ _ &  -- SAME
-    tested _ _ _ &  -- NOTSAME
-    tested _ _ _ &  -- ADJECT1
-    tested _ _ _ &  -- ADVERB
-    tested _ _ _ &  -- PREP
-    tested _ _ _ &  -- NOUN2
-    tested _ _ _ &  -- ADJECT2
-    tested _ _ _ &  -- ISAT
-    tested _ _ _ &  -- ISNOTAT
-    tested _ _ _ &  -- TIMEOUT
-    (record { verb = λ n g w c is spares k. k }) &  -- QUIT
+    with_conditions Keeps tested (record { verb = λ n g w c is spares k. k }) (record { verb = λ n g w c is spares k. k })
     (record {
       verb = λ n g w c is spares k.
           moves_has n w c.a (exit_at g (flag w c.a) (flag w VERB_FLAG)) (spares.first (writes_one writes_first MOVE c refl is)) k;
-    }) &  -- MOVE
+    }) (
     still _ _ _ _ &  -- INVEN
     still _ _ _ _ &  -- DESC
     still _ _ _ _ &  -- END
@@ -211,23 +184,7 @@ each_row =
       verb = λ n s w c is spares of k.
           inl (answered_has n w c.b (value_at s.rows c.a (flag w c.b)) (spares.second (writes_one writes_second EXTERN c refl is)) k);
     }) &  -- EXTERN
-    still _ _ _ _ &  -- PICTURE
-    still _ _ _ _ &  -- GRAPHIC
-    still _ _ _ _ &  -- BEEP
-    still _ _ _ _ &  -- CLS
-    still _ _ _ _ &  -- PAPER
-    still _ _ _ _ &  -- INK
-    still _ _ _ _ &  -- BORDER
-    still _ _ _ _ &  -- CHARSET
-    still _ _ _ _ &  -- PROTECT
-    still _ _ _ _ &  -- SAVEAT
-    still _ _ _ _ &  -- BACKAT
-    still _ _ _ _ &  -- PRINTAT
-    still _ _ _ _ &  -- PAUSE
-    still _ _ _ _ &  -- MODE
-    still _ _ _ _ &  -- LINE
-    still _ _ _ _ &  -- INPUT
-    tt
+    with_marks Keeps (λ code. still _ code _ _) tt)
 
 keeps : (code : ℕ) → Keeps code (slice_index_or most_printed code silent) (meaning_of code)
 keeps = each_plain Keeps each_row (λ code. still _ code _ _)

@@ -4,6 +4,7 @@ use Rattle.std.proofs.Common.{subst, length, arith, IsTrue}
 use Rattle.std.specs.Prelude.{IfSome, sum_by}
 use Rattle.std.specs.List.{flat_map, list_any}
 use Rattle.std.proofs.lemmas.Bool.Decides.{nat_tests}
+use Rattle.paw_base.specs.declared.limits.TheConstants.{READ_LIMIT, PIECE_LIMIT}
 use Rattle.paw_base.specs.declared.codes.TheConstants.{PROCESS, DOALL}
 use Rattle.paw_base.specs.declared.parts.Condact.{Condact}
 use Rattle.paw_base.specs.declared.fault.SpentKind.{SpentKind}
@@ -27,13 +28,13 @@ use Rattle.paw_check.specs.Verbs.{may_write_verb}
 use Rattle.paw_check.specs.Calls.{turn_tables, is_call, condacts_in, below, reached_from}
 use Rattle.paw_check.specs.Costs.{counting, cost, verb_may_change}
 use Rattle.paw_check.specs.Verdicts.{call_too_deep}
-use Rattle.paw_check.specs.inner.Within.{TableWithin, TablesWithin, reads_of, text_of}
+use Rattle.paw_check.specs.inner.Within.{IsReady, TableWithin, TablesWithin, reads_of, text_of}
 use Rattle.paw_check.proofs.Lengths.{say_most}
 use Rattle.paw_check.proofs.Members.{In, any_within}
 use Rattle.paw_check.proofs.Reaching.{Member, each_of_table, calls_below, of_game, in_reached, no_first}
 use Rattle.paw_check.proofs.Levels.{some_tables, one_of_three, in_three}
-use Rattle.paw_check.proofs.Uses.{of_kind, used, own_of}
-use Rattle.paw_check.proofs.Tables.{Is, Ends, Outside, Anyhow, ends_up, reads_end}
+use Rattle.paw_check.proofs.Uses.{of_kind, used, own_of, Closed}
+use Rattle.paw_check.proofs.Tables.{Steady, Is, Ends, Outside, Anyhow, ends_up, reads_end}
 use Rattle.paw_check.proofs.TableCosts.{if_opens, takes_at, own_takes, turned_most, cost_is, verb_most}
 
 -- ---- loops and levels ----
@@ -69,7 +70,7 @@ none_such p cs h c member = go (p c) refl
 -- ---- what is used, in one way ----
 
 module _ (g : Story) (valid : ValidStory g) (flat : call_too_deep g.game ≡ None) (kind : SpentKind) (limit pending verb : ℕ)
-    (low : limit ≤ of_kind kind 200000 65535)
+    (low : limit ≤ of_kind kind READ_LIMIT PIECE_LIMIT)
     (bye : (w : World) → IsWorldOf g.game w → of_kind kind 0 (length (say_text g.game w 14)) ≤ limit) where
   abbrev changing : Bool
   changing = verb_may_change g.game
@@ -180,9 +181,27 @@ module _ (g : Story) (valid : ValidStory g) (flat : call_too_deep g.game ≡ Non
   turn_table_end t m r at k none u fits =
       table_end 10 0 t (omega arith) at (calls_end 10 0 t refl at) m r k (rw none refl) u fits
 
+  -- the same for a run outside tables, where the table costs at most this
+  pub ready_table_end : (t m most condacts text : ℕ) (r : Run) → In t turn_tables → IsReady condacts text pending g.game r →
+      (changing ≡ false → flag r.world 33 ≡ verb) → Closed kind limit r.traces r.pieces → used kind r ≤ m →
+      cost g.game own count 10 t ≤ most → m + most ≤ limit → EndsSo (Shut 0 (m + most)) (m + most) (table_read g t r)
+  ready_table_end t m most condacts text r at ready speaks closed u least fits =
+      ends_up g valid kind limit pending changing verb low bye _ (Shut 0 (m + most)) _ (m + most) (omega (arith, least))
+      (λ s i. (i.0, (i.1.0, omega (arith, i.1.1, least)))) (table_read g t r)
+      (turn_table_end t m r at
+      (record {
+        world = ready.world;
+        small = ready.earlier;
+        short = ready.line;
+        speaks = speaks;
+        loop = rw ready.loop tt;
+        lines = ready.lines;
+        closed = closed;
+      }) ready.loop u (omega (arith, least, fits)))
+
 -- ---- both ways ----
 
-module _ (g : Story) (valid : ValidStory g) (condacts text pending verb reads bytes : ℕ) (few : condacts ≤ 200000) (short : text ≤ 65535)
+module _ (g : Story) (valid : ValidStory g) (condacts text pending verb reads bytes : ℕ) (few : condacts ≤ READ_LIMIT) (short : text ≤ PIECE_LIMIT)
     (no_bye : (w : World) → IsWorldOf g.game w → 0 ≤ condacts) (bye : (w : World) → IsWorldOf g.game w → length (say_text g.game w 14) ≤ text) where
   abbrev changes : Bool
   changes = verb_may_change g.game
@@ -196,41 +215,26 @@ module _ (g : Story) (valid : ValidStory g) (condacts text pending verb reads by
   Printed x =
       Ends g valid spent.Text text pending changes verb short bye (Outside g valid spent.Text text pending changes verb short bye 0 bytes) bytes x
 
+  -- a run that is steady by both counts is ready, where no loop is open
+  ready : (left lv : ℕ) (loose : Bool) (r : Run)
+      → Steady g.game spent.Condacts condacts left loose verb lv r.world r.earlier r.pending r.turning r.events r.traces r.pieces
+      → Steady g.game spent.Text text left loose verb lv r.world r.earlier r.pending r.turning r.events r.traces r.pieces
+      → r.turning ≡ None → IsReady condacts text left g.game r
+  ready left lv loose r h k none = record {
+    world = h.world;
+    earlier = h.small;
+    line = h.short;
+    loop = none;
+    lines = h.lines;
+    closed = record { pieces = k.closed; traces = h.closed };
+  }
+
   both : (x : Out) → Read x → Printed x → TableWithin condacts text pending g.game reads bytes x
-  both (Left acted r) h k = (
-    record {
-      world = h.0.world;
-      earlier = h.0.small;
-      line = h.0.short;
-      loop = no_loop_left r.turning h.0.loop h.1.0;
-      lines = h.0.lines;
-      closed = record { pieces = k.0.closed; traces = h.0.closed };
-    },
-    record { read = h.1.1; current = k.1.1 },
-  )
+  both (Left acted r) h k =
+      (ready pending 0 changes r h.0 k.0 (no_loop_left r.turning h.0.loop h.1.0), record { read = h.1.1; current = k.1.1 })
   both (Waits p path r) h k = record { pieces = k; traces = h }
-  both (Stopped Redescribes r) h k = (
-    record {
-      world = h.0.world;
-      earlier = h.0.small;
-      line = h.0.short;
-      loop = h.1.0;
-      lines = h.0.lines;
-      closed = record { pieces = k.0.closed; traces = h.0.closed };
-    },
-    record { read = h.1.1; current = k.1.1 },
-  )
-  both (Stopped Restarts r) h k = (
-    record {
-      world = h.0.world;
-      earlier = h.0.small;
-      line = h.0.short;
-      loop = h.1.0;
-      lines = h.0.lines;
-      closed = record { pieces = k.0.closed; traces = h.0.closed };
-    },
-    record { read = h.1.1; current = k.1.1 },
-  )
+  both (Stopped Redescribes r) h k = (ready pending 0 true r h.0 k.0 h.1.0, record { read = h.1.1; current = k.1.1 })
+  both (Stopped Restarts r) h k = (ready 0 0 true r h.0 k.0 h.1.0, record { read = h.1.1; current = k.1.1 })
   both (Stopped (Halts IsOver) r) h k = record { pieces = k; traces = h }
   both (Stopped (Halts (RunsOut spent.Condacts)) r) h k = h
   both (Stopped (Halts (RunsOut spent.Text)) r) h k = k
@@ -248,29 +252,7 @@ tables_within g condacts text pending reads bytes t r valid flat bound low ready
     let text_most : cost g.game (most_text g.game) (counting (verb_may_change g.game) verb) 10 t ≤ text_of g.game t =
     verb_most g.game (most_text g.game) t verb small in
     both g valid condacts text pending verb (reads + reads_of g.game t) (bytes + text_of g.game t) bound.reads bound.bytes no_bye bye (table_read g t r)
-    (ends_up g valid spent.Condacts condacts pending (verb_may_change g.game) verb bound.reads no_bye _
-    (Outside g valid spent.Condacts condacts pending (verb_may_change g.game) verb bound.reads no_bye 0 (reads + reads_of g.game t)) _
-    (reads + reads_of g.game t) (omega (arith, reads_most)) (λ s i. (i.0, (i.1.0, omega (arith, i.1.1, reads_most)))) (table_read g t r)
-    (turn_table_end g valid flat spent.Condacts condacts pending verb bound.reads no_bye t reads r at
-    (record {
-      world = ready.world;
-      small = ready.earlier;
-      short = ready.line;
-      speaks = λ e. refl;
-      loop = rw ready.loop tt;
-      lines = ready.lines;
-      closed = ready.closed.traces;
-    }) ready.loop uses.read (omega (arith, reads_most, fit_reads))))
-    (ends_up g valid spent.Text text pending (verb_may_change g.game) verb bound.bytes bye _
-    (Outside g valid spent.Text text pending (verb_may_change g.game) verb bound.bytes bye 0 (bytes + text_of g.game t)) _
-    (bytes + text_of g.game t) (omega (arith, text_most)) (λ s i. (i.0, (i.1.0, omega (arith, i.1.1, text_most)))) (table_read g t r)
-    (turn_table_end g valid flat spent.Text text pending verb bound.bytes bye t bytes r at
-    (record {
-      world = ready.world;
-      small = ready.earlier;
-      short = ready.line;
-      speaks = λ e. refl;
-      loop = rw ready.loop tt;
-      lines = ready.lines;
-      closed = ready.closed.pieces;
-    }) ready.loop uses.current (omega (arith, text_most, fit_bytes))))
+    (ready_table_end g valid flat spent.Condacts condacts pending verb bound.reads no_bye t reads (reads_of g.game t) condacts text r at ready
+    (λ e. refl) ready.closed.traces uses.read reads_most fit_reads)
+    (ready_table_end g valid flat spent.Text text pending verb bound.bytes bye t bytes (text_of g.game t) condacts text r at ready
+    (λ e. refl) ready.closed.pieces uses.current text_most fit_bytes)

@@ -24,7 +24,7 @@ pub(crate) fn entries_of(tables: &[Table], number: u8) -> &[Entry]
 
 /// Marks the tables that these condacts call.
 fn mark_called(condacts: &[Condact], marks: &mut [bool; 256])
-    ensures { Marks marks.old marks.new (λ u. list_any (is_call_of u) condacts.now) }
+    ensures marks { Marks marks.old marks.new (λ u. list_any (is_call_of u) condacts.now) }
 {
     for condact in condacts {
         if condact.code == PROCESS {
@@ -35,7 +35,7 @@ fn mark_called(condacts: &[Condact], marks: &mut [bool; 256])
 
 /// Marks the tables that the condacts of these entries call.
 fn mark_called_in(entries: &[Entry], marks: &mut [bool; 256])
-    ensures { Marks marks.old marks.new (λ u. list_any (is_call_of u) (condacts_of_entries entries.now)) }
+    ensures marks { Marks marks.old marks.new (λ u. list_any (is_call_of u) (condacts_of_entries entries.now)) }
 {
     for entry in entries {
         mark_called(entry.condacts.rows.as_slice(), marks);
@@ -44,7 +44,7 @@ fn mark_called_in(entries: &[Entry], marks: &mut [bool; 256])
 
 /// Marks the tables that the condacts of the tables with these numbers call.
 fn mark_called_from(tables: &[Table], from: &[u8], marks: &mut [bool; 256])
-    ensures { Marks marks.old marks.new (λ u. list_any (is_call_of u) (condacts_of_tables tables.now from.now)) }
+    ensures marks { Marks marks.old marks.new (λ u. list_any (is_call_of u) (condacts_of_tables tables.now from.now)) }
 {
     for table in from {
         mark_called_in(entries_of(tables, *table), marks);
@@ -53,8 +53,8 @@ fn mark_called_from(tables: &[Table], from: &[u8], marks: &mut [bool; 256])
 
 /// The numbers below a count that are marked.
 pub(crate) fn marked(alloc: Global, count: usize, marks: &[bool; 256]) -> Result<Vec<u8>, NoRoom>
-    requires { count ≤ 256 }
-    ensures { IfOk result (λ numbers. numbers.items ≡ filter (λ u. slice_index_or marks.now u false) (range_with_len 0 count)) }
+    requires few { count ≤ 256 }
+    ensures value { IfOk result (λ numbers. numbers.items ≡ filter (λ u. slice_index_or marks.now u false) (range_with_len 0 count)) }
 {
     let mut numbers = Vec::new(alloc);
     for number in 0..count {
@@ -67,8 +67,8 @@ pub(crate) fn marked(alloc: Global, count: usize, marks: &[bool; 256]) -> Result
 
 /// The tables that those with these numbers call.
 pub(crate) fn called_from(alloc: Global, tables: &[Table], from: &[u8]) -> Result<Vec<u8>, NoRoom>
-    requires { length tables.now ≤ 256 }
-    ensures { IfOk result (λ numbers. numbers.items ≡ called_among tables.now from.now) }
+    requires few { length tables.now ≤ 256 }
+    ensures value { IfOk result (λ numbers. numbers.items ≡ called_among tables.now from.now) }
 {
     let mut marks = [false; 256];
     mark_called_from(tables, from, &mut marks);

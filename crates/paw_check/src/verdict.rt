@@ -19,7 +19,7 @@ pub enum Cause {
 impl Cause {
     /// Its name.
     fn name(self) -> &'static str
-        ensures { result.now ≡ cause_name self }
+        ensures value { result.now ≡ cause_name self }
     {
         match self {
             Cause::Calls => "Calls",

@@ -9,6 +9,10 @@ use Rattle.std.proofs.lemmas.Option.{slice_get_within, get_or_from_slice_get, sa
 use Rattle.std.proofs.lemmas.Bool.Decides.{nat_tests}
 use Rattle.std.proofs.lemmas.List.{length-map, length-append, length-take, length-drop, length-set, get_or_past}
 use Rattle.std.proofs.lemmas.List.Elements.{All-take, All-drop, All-append, All-set}
+use Rattle.paw_base.specs.declared.words.TheConstants.{NO_WORD}
+use Rattle.paw_base.specs.declared.places.TheConstants.{WORN_PLACE, CARRIED_PLACE, NOT_CREATED_PLACE, HERE_PLACE}
+use Rattle.paw_base.specs.declared.flags.TheConstants.{REFERRED_FLAG, REFERRED_PLACE_FLAG, REFERRED_WEIGHT_FLAG}
+use Rattle.paw_base.specs.declared.flags.TheConstants.{REFERRED_CONTAINER_FLAG, REFERRED_WEARABLE_FLAG}
 use Rattle.paw_base.specs.declared.codes.TheConstants.{PLACE, PUTO, AUTOP, PUTIN}
 use Rattle.paw_base.specs.declared.parts.Condact.{Condact}
 use Rattle.paw_base.specs.declared.parts.ObjectFacts.{ObjectFacts}
@@ -166,7 +170,7 @@ module _ (g : GameLists) (v : Valid g) (seed n : ℕ) where
   flags_so w k f x h y small little = flagged g v seed (suc n) (with_flag w f x) (flag_so w k f x small) h y little
 
   pub carried_small : (w : World) → carried_weight w < 256
-  carried_small w = omega (arith, min-le_left 255 (sum_by (weight w) (objects_at w 253) + sum_by (weight w) (objects_at w 254)))
+  carried_small w = omega (arith, min-le_left 255 (sum_by (weight w) (objects_at w WORN_PLACE) + sum_by (weight w) (objects_at w CARRIED_PLACE)))
 
   -- ---- moves ----
 
@@ -200,11 +204,11 @@ module _ (g : GameLists) (v : Valid g) (seed n : ℕ) where
   unfolding condact_lines line_of plain_line is_indirect
   putin_is c is kept = location_place c.b (second_of c PUTIN is kept)
 
-  pub not_created : IsPlace g v seed 252
+  pub not_created : IsPlace g v seed NOT_CREATED_PLACE
   not_created = let few = (few_locations g v).1 in grind (arith, nat_tests)
 
   pub names : (w : World) → Is w → (p : ℕ) → names_place w p ≡ true → IsPlace g v seed (named_place w p)
-  names w k p h = named g v seed n w k p (subst (λ l. (nat_lt p l || is_within 252 255 p) ≡ true) k.of.locations h)
+  names w k p h = named g v seed n w k p (subst (λ l. (nat_lt p l || is_within NOT_CREATED_PLACE HERE_PLACE p) ≡ true) k.of.locations h)
 
   pub to : (w : World) → Is w → (o p : ℕ) → IsPlace g v seed p → IsNext (moved w o p)
   to w k o p at = next _ (moved_so g v seed n w k o p at)
@@ -238,7 +242,9 @@ module _ (g : GameLists) (v : Valid g) (seed n : ℕ) where
   none_so : (w : World) → Is w → Is (referred_to_none w)
   none_so w k =
       let set : (u : World) → Is u → (f x : ℕ) → x < 256 → Is (with_flag u f x) = λ u. flagged g v seed n u in
-      set _ (set _ (set _ (set _ (set w k 51 255 (omega arith)) 54 252 (omega arith)) 55 0 (omega arith)) 56 0 (omega arith)) 57 0 (omega arith)
+      set _ (set _ (set _ (set _ (set w k REFERRED_FLAG NO_WORD (omega arith)) REFERRED_PLACE_FLAG NOT_CREATED_PLACE (omega arith))
+      REFERRED_WEIGHT_FLAG 0 (omega arith))
+      REFERRED_CONTAINER_FLAG 0 (omega arith)) REFERRED_WEARABLE_FLAG 0 (omega arith)
 
   -- A container of an action is a place.
   abbrev pub PutsAt : Action → Type 0
@@ -252,16 +258,16 @@ module _ (g : GameLists) (v : Valid g) (seed n : ℕ) where
   pub record Puts (a : Action) : Type 0 where
     pub at : PutsAt a
 
-  held_place : (p : ℕ) → is_within 252 254 p ≡ true → IsPlace g v seed p
+  held_place : (p : ℕ) → is_within NOT_CREATED_PLACE CARRIED_PLACE p ≡ true → IsPlace g v seed p
   held_place p h = let few = (few_locations g v).1 in grind (arith, nat_tests)
 
   destination_place : (w : World) → Is w → (a : Action) → PutsAt a → IsPlace g v seed (destination w a)
-  destination_place w k action.Get p = held_place 254 refl
+  destination_place w k action.Get p = held_place CARRIED_PLACE refl
   destination_place w k action.Drop p = here_place g v seed n w k
-  destination_place w k action.Wear p = held_place 253 refl
-  destination_place w k action.Remove p = held_place 254 refl
+  destination_place w k action.Wear p = held_place WORN_PLACE refl
+  destination_place w k action.Remove p = held_place CARRIED_PLACE refl
   destination_place w k (action.PutIn l) p = p
-  destination_place w k (action.TakeOut l) p = held_place 254 refl
+  destination_place w k (action.TakeOut l) p = held_place CARRIED_PLACE refl
 
   tried_so : (w : World) → Is w → (o : ℕ) (a : Action) (said : Option Words) → Puts a → Is (tried g w o a said).world
   tried_so w k o a (Some said) p = k

@@ -1,5 +1,6 @@
 mod Printing
 mod Parameters
+mod KnownCodes
 mod Meant
 mod Rows
 mod Carried

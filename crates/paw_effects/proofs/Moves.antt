@@ -5,6 +5,7 @@ use Rattle.std.specs.List.{range_with_len}
 use Rattle.std.proofs.lemmas.List.{length-set}
 use Rattle.std.proofs.lemmas.List.Elements.{filter-append}
 use Rattle.std.proofs.lemmas.List.Sums.{fold-append}
+use Rattle.paw_base.specs.declared.places.TheConstants.{CARRIED_PLACE, WORN_PLACE}
 use Rattle.paw_world.proofs.WorldLemmas.{place-moved_other, length-moved}
 use Rattle.paw_game.specs.Game.{GameLists}
 use Rattle.paw_world.specs.World.{World, with_flag, place, with_place, let_go, taken_up, moved, here}
@@ -43,10 +44,10 @@ Alike-with_place : (w : World) (o p : ℕ) → Alike w (with_place w o p)
 Alike-with_place w o p = record { facts = refl; locations = refl; flags = refl; places = length-set w.places o p; draws = refl }
 
 Alike-let_go : (w : World) (p : ℕ) → Alike w (let_go w p)
-Alike-let_go w p = Alike-either (p == 254) w _ w (Alike-with_flag w 1 _) (Alike-same w)
+Alike-let_go w p = Alike-either (p == CARRIED_PLACE) w _ w (Alike-with_flag w 1 _) (Alike-same w)
 
 Alike-taken_up : (w : World) (p : ℕ) → Alike w (taken_up w p)
-Alike-taken_up w p = Alike-either (p == 254) w _ w (Alike-with_flag w 1 _) (Alike-same w)
+Alike-taken_up w p = Alike-either (p == CARRIED_PLACE) w _ w (Alike-with_flag w 1 _) (Alike-same w)
 
 pub Alike-moved : (w : World) (o p : ℕ) → Alike w (moved w o p)
 Alike-moved w o p =
@@ -112,7 +113,7 @@ pub none_dropped : (w : World) → AreDropped w 0 w
 none_dropped w = record { dropped = refl; others = λ k h. refl; count = refl }
 
 same_held : (w v : World) (n : ℕ) → AreDropped w n v → is_held v n ≡ is_held w n
-same_held w v n so_far = ap (λ (p : ℕ). (p == 253) || (p == 254)) (so_far.others n (omega arith))
+same_held w v n so_far = ap (λ (p : ℕ). (p == WORN_PLACE) || (p == CARRIED_PLACE)) (so_far.others n (omega arith))
 
 pub one_dropped : (w v u : World) (n to : ℕ) → AreDropped w n v → is_held v n ≡ true → to ≡ here w → u ≡ moved v n to → AreDropped w (n + 1) u
 one_dropped w v u n to so_far held place_is is =

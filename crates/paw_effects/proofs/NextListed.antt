@@ -8,6 +8,7 @@ use Rattle.std.proofs.lemmas.List.{drop_all}
 use Rattle.std.proofs.lemmas.List.FromFn.{length-range_with_len, get_or-range_with_len}
 use Rattle.std.proofs.lemmas.Bool.{cases_eq}
 use Rattle.std.proofs.lemmas.Bool.Decides.{nat_tests}
+use Rattle.paw_base.specs.declared.places.TheConstants.{WORN_PLACE, CARRIED_PLACE}
 use Rattle.paw_world.specs.inner.Places.{least_at, left_above}
 use Rattle.paw_world.specs.World.{World}
 use Rattle.paw_world.specs.inner.World.{first_at}
@@ -46,13 +47,13 @@ at_first w from within =
     ap (filter (is_held w)) (drop-cons all from 0 (omega (arith, many)) ∙ ap (λ (o : ℕ). o ∷ drop (suc from) all) number)
     ∙ filter-cons (is_held w) from (drop (suc from) all)
 
-worn_here : (w : World) (from : ℕ) → from < length w.places → get_or w.places from 0 ≡ 253 → held_on w from ≡ from ∷ held_on w (suc from)
+worn_here : (w : World) (from : ℕ) → from < length w.places → get_or w.places from 0 ≡ WORN_PLACE → held_on w from ≡ from ∷ held_on w (suc from)
 worn_here w from within here = at_first w from within ∙ grind (arith, nat_tests)
 
-carried_here : (w : World) (from : ℕ) → from < length w.places → get_or w.places from 0 ≡ 254 → held_on w from ≡ from ∷ held_on w (suc from)
+carried_here : (w : World) (from : ℕ) → from < length w.places → get_or w.places from 0 ≡ CARRIED_PLACE → held_on w from ≡ from ∷ held_on w (suc from)
 carried_here w from within here = at_first w from within ∙ grind (arith, nat_tests)
 
-neither_here : (w : World) (from : ℕ) → from < length w.places → get_or w.places from 0 ≢ 253 → get_or w.places from 0 ≢ 254
+neither_here : (w : World) (from : ℕ) → from < length w.places → get_or w.places from 0 ≢ WORN_PLACE → get_or w.places from 0 ≢ CARRIED_PLACE
     → held_on w from ≡ held_on w (suc from)
 neither_here w from within worn carried = at_first w from within ∙ grind (arith, nat_tests)
 
@@ -96,26 +97,27 @@ passed w from _ same (object o e) = object o (same ∙ e)
 
 -- There are n objects left to look at.
 found_on : (n : ℕ) (w : World) (from : ℕ) (a b : Option ℕ) → n ≡ length w.places - from
-    → a ≡ least_at w.places 253 (length w.places - from) → b ≡ least_at w.places 254 (length w.places - from) → Found w from (lesser a b)
+    → a ≡ least_at w.places WORN_PLACE (length w.places - from) → b ≡ least_at w.places CARRIED_PLACE (length w.places - from) → Found w from (lesser a b)
 found_on zero w from a b many worn carried =
-    let no_worn : None ≡ a = sym (worn ∙ least_at_end w.places 253 from (omega arith)) in
-    let no_carried : None ≡ b = sym (carried ∙ least_at_end w.places 254 from (omega arith)) in
+    let no_worn : None ≡ a = sym (worn ∙ least_at_end w.places WORN_PLACE from (omega arith)) in
+    let no_carried : None ≡ b = sym (carried ∙ least_at_end w.places CARRIED_PLACE from (omega arith)) in
     subst (λ (x : Option ℕ). Found w from (lesser x b)) no_worn
     (subst (λ (x : Option ℕ). Found w from x) no_carried (nothing (held_past w from (omega arith))))
-found_on (suc n) w from a b many worn carried = elim (cases_eq (get_or w.places from 0) 253) [
+found_on (suc n) w from a b many worn carried = elim (cases_eq (get_or w.places from 0) WORN_PLACE) [
   | inl here ↦
-      let is : a ≡ Some from = worn ∙ least_at_here w.places 253 from (omega arith) here in
-      let least : lesser a b ≡ Some from = ap (λ (x : Option ℕ). lesser x b) is ∙ lesser_first from b (not_before w.places 254 from b (omega arith) carried) in
+      let is : a ≡ Some from = worn ∙ least_at_here w.places WORN_PLACE from (omega arith) here in
+      let least : lesser a b ≡ Some from = ap (λ (x : Option ℕ). lesser x b) is
+      ∙ lesser_first from b (not_before w.places CARRIED_PLACE from b (omega arith) carried) in
       subst (λ (x : Option ℕ). Found w from x) (sym least) (object from (worn_here w from (omega arith) here))
-  | inr not_worn ↦ elim (cases_eq (get_or w.places from 0) 254) [
+  | inr not_worn ↦ elim (cases_eq (get_or w.places from 0) CARRIED_PLACE) [
     | inl here ↦
-        let is : b ≡ Some from = carried ∙ least_at_here w.places 254 from (omega arith) here in
-        let least : lesser a b ≡ Some from = ap (lesser a) is ∙ lesser_second from a (not_before w.places 253 from a (omega arith) worn) in
+        let is : b ≡ Some from = carried ∙ least_at_here w.places CARRIED_PLACE from (omega arith) here in
+        let least : lesser a b ≡ Some from = ap (lesser a) is ∙ lesser_second from a (not_before w.places WORN_PLACE from a (omega arith) worn) in
         subst (λ (x : Option ℕ). Found w from x) (sym least) (object from (carried_here w from (omega arith) here))
     | inr not_carried ↦
         passed w from (lesser a b) (neither_here w from (omega arith) not_worn not_carried)
-        (found_on n w (suc from) a b (omega arith) (later w.places 253 from a (omega arith) not_worn worn)
-        (later w.places 254 from b (omega arith) not_carried carried))
+        (found_on n w (suc from) a b (omega arith) (later w.places WORN_PLACE from a (omega arith) not_worn worn)
+        (later w.places CARRIED_PLACE from b (omega arith) not_carried carried))
   ]
 ]
 
@@ -131,19 +133,19 @@ left_on : (places : List ℕ) (above : Option ℕ) → left_above places above �
 left_on places None = omega arith
 left_on places (Some o) = refl
 
-found_held : (w : World) (above a b found : Option ℕ) → a ≡ first_at w 253 above → b ≡ first_at w 254 above → found ≡ lesser a b
+found_held : (w : World) (above a b found : Option ℕ) → a ≡ first_at w WORN_PLACE above → b ≡ first_at w CARRIED_PLACE above → found ≡ lesser a b
     → Found w (first_above above) found
 found_held w above a b found worn carried is =
     subst (λ (x : Option ℕ). Found w (first_above above) x) (sym is)
     (found_on (length w.places - first_above above) w (first_above above) a b refl
-    (worn ∙ ap (least_at w.places 253) (left_on w.places above)) (carried ∙ ap (least_at w.places 254) (left_on w.places above)))
+    (worn ∙ ap (least_at w.places WORN_PLACE) (left_on w.places above)) (carried ∙ ap (least_at w.places CARRIED_PLACE) (left_on w.places above)))
 
 -- What is worn or carried above an object, where none is found.
-pub held_ends : (w : World) (above a b found : Option ℕ) → a ≡ first_at w 253 above → b ≡ first_at w 254 above → found ≡ lesser a b
+pub held_ends : (w : World) (above a b found : Option ℕ) → a ≡ first_at w WORN_PLACE above → b ≡ first_at w CARRIED_PLACE above → found ≡ lesser a b
     → IfNone found (listed_above w listed.Held above ≡ [])
 held_ends w above a b found worn carried is = found_ends w (first_above above) found (found_held w above a b found worn carried is)
 
 -- The same, where one is found.
-pub held_goes_on : (w : World) (above a b found : Option ℕ) → a ≡ first_at w 253 above → b ≡ first_at w 254 above → found ≡ lesser a b
+pub held_goes_on : (w : World) (above a b found : Option ℕ) → a ≡ first_at w WORN_PLACE above → b ≡ first_at w CARRIED_PLACE above → found ≡ lesser a b
     → IfSome found (λ o. listed_above w listed.Held above ≡ o ∷ listed_above w listed.Held (Some o))
 held_goes_on w above a b found worn carried is = found_goes_on w (first_above above) found (found_held w above a b found worn carried is)

@@ -26,3 +26,6 @@ pub second_object_stands : (g : GameLists) (w : World) (c : Condact) → IsOf g 
     IsTrue (takes_second_object c.code) → c.b < length w.places
 second_object_stands g w c of kept taken =
     subst (λ n. c.b < n) (sym of.places) (object_below g (second_kind c.code) c.b taken (right-second g c kept))
+
+-- Both, for a search.
+pub ruleset objects_stand = (object_stands, second_object_stands)

@@ -8,6 +8,8 @@ use Rattle.std.proofs.lemmas.Bool.Decides.{nat_tests}
 use Rattle.std.proofs.lemmas.List.{get_or_past}
 use Rattle.std.proofs.lemmas.List.Elements.{All-set, All-map, All-replicate}
 use Rattle.std.proofs.lemmas.Option.{slice_get-get_or}
+use Rattle.paw_base.specs.declared.places.TheConstants.{NOT_CREATED_PLACE, HERE_PLACE, CARRIED_PLACE}
+use Rattle.paw_base.specs.declared.limits.TheConstants.{LOCATION_LIMIT}
 use Rattle.paw_base.specs.declared.codes.TheConstants.{AUTOP, PUTIN, PLACE, PUTO, DOALL}
 use Rattle.paw_base.specs.declared.parts.Condact.{Condact}
 use Rattle.paw_base.specs.declared.parts.ObjectFacts.{ObjectFacts}
@@ -59,7 +61,7 @@ by_test g false x y h k = k refl
 -- A game has a location.
 first_place : (g : GameLists) → Valid g → is_place (length g.locations) 0 ≡ true
 first_place g v =
-    let some = leb-true 1 (length g.locations) (first_of_and _ (rows_kept 252 is_text g.locations) v.locations) in
+    let some = leb-true 1 (length g.locations) (first_of_and _ (rows_kept LOCATION_LIMIT is_text g.locations) v.locations) in
     grind (arith, nat_tests)
 
 pub at_place : (g : GameLists) → Valid g → (places : List ℕ) (o : ℕ) → ArePlacesOf g places → is_place (length g.locations) (slice_index places o) ≡ true
@@ -69,14 +71,15 @@ at_place g v places o all =
       | inr past ↦ rw (get_or_past places o 0 past) (first_place g v)
     ]
 
-here_at : (locations f : ℕ) → is_place locations (if nat_lt f locations then f else 252) ≡ true
+here_at : (locations f : ℕ) → is_place locations (if nat_lt f locations then f else NOT_CREATED_PLACE) ≡ true
 here_at locations f = grind (arith, nat_tests)
 
 pub here_place : (g : GameLists) (w : World) → w.locations ≡ length g.locations → is_place (length g.locations) (here w) ≡ true
 here_place g w of =
-    subst (λ n. is_place (length g.locations) (if nat_lt (flag w 38) n then flag w 38 else 252) ≡ true) (sym of) (here_at (length g.locations) (flag w 38))
+    subst (λ n. is_place (length g.locations) (if nat_lt (flag w 38) n then flag w 38 else NOT_CREATED_PLACE) ≡ true) (sym of)
+    (here_at (length g.locations) (flag w 38))
 
-place_of : (locations here p : ℕ) → is_place locations here ≡ true → (nat_lt p locations || is_within 252 255 p) ≡ true →
+place_of : (locations here p : ℕ) → is_place locations here ≡ true → (nat_lt p locations || is_within NOT_CREATED_PLACE HERE_PLACE p) ≡ true →
     is_place locations (if p == 255 then here else p) ≡ true
 place_of locations here p h k = grind (arith, nat_tests)
 
@@ -95,7 +98,7 @@ pub moved_placed : (g : GameLists) (w : World) (o p : ℕ) → is_place (length 
 moved_placed g w o p at k =
     let left : World = let_go w (place w o) in
     let come : World = taken_up left p in
-    let h = flag_placed g (p == 254) left 1 _ (flag_placed g (place w o == 254) w 1 _ k) in
+    let h = flag_placed g (p == CARRIED_PLACE) left 1 _ (flag_placed g (place w o == CARRIED_PLACE) w 1 _ k) in
     one_placed g (place w o == p) w (with_place come o p) k
     (h.0, (h.1.0, (All-set (λ x. IsTrue (is_place (length g.locations) x)) come.places o p at h.1.1.0, h.1.1.1)))
 
@@ -169,10 +172,11 @@ dropped g p (o ∷ os) w at k = dropped g p os (moved w o p) at (moved_placed g 
 pub if_place : (g : GameLists) (w : World) (o p : ℕ) → IsPlaced g w → IsPlaced g (moved_if_place w o p)
 if_place g w o p k =
     by_test g (names_place w p) (moved w o (named_place w p)) w
-    (λ names. moved_placed g w o (named_place w p) (named_is_place g w p k.1.0 (subst (λ n. (nat_lt p n || is_within 252 255 p) ≡ true) k.1.0 names)) k)
+    (λ names. moved_placed g w o (named_place w p)
+    (named_is_place g w p k.1.0 (subst (λ n. (nat_lt p n || is_within NOT_CREATED_PLACE HERE_PLACE p) ≡ true) k.1.0 names)) k)
     (λ none. k)
 
-pub not_created : (g : GameLists) → is_place (length g.locations) 252 ≡ true
+pub not_created : (g : GameLists) → is_place (length g.locations) NOT_CREATED_PLACE ≡ true
 not_created g = grind (arith, nat_tests)
 
 pub swapped_placed : (g : GameLists) → Valid g → (w : World) (o k : ℕ) → IsPlaced g w → IsPlaced g (moved (moved w o (place w k)) k (place w o))

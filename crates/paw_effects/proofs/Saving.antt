@@ -2,6 +2,7 @@
 use Rattle.std.proofs.Common.{◌≡◌, ◌≢◌, ℕ, ◌==◌, Bool, true, false, List, [], ◌∷◌, Option, Some, None, refl}
 use Rattle.std.specs.Prelude.{if◌then◌else◌, fold, slice_get}
 use Rattle.std.specs.Option.{option_map_or}
+use Rattle.paw_base.specs.declared.places.TheConstants.{CARRIED_PLACE}
 use Rattle.paw_base.specs.declared.codes.TheConstants.{SAVE}
 use Rattle.paw_base.specs.declared.parts.Condact.{Condact}
 use Rattle.paw_base.specs.declared.parts.ObjectFacts.{ObjectFacts}
@@ -43,7 +44,8 @@ module _ (ks : List (Option Position)) where
   pub moved_kept : (w : World) (o p : ℕ) → AreKept w → AreKept (moved w o p)
   moved_kept w o p k =
       let left : World = let_go w (place w o) in
-      one_kept (place w o == p) w (with_place (taken_up left p) o p) k (flag_kept (p == 254) left 1 _ (flag_kept (place w o == 254) w 1 _ k))
+      one_kept (place w o == p) w (with_place (taken_up left p) o p) k
+      (flag_kept (p == CARRIED_PLACE) left 1 _ (flag_kept (place w o == CARRIED_PLACE) w 1 _ k))
 
   pub dropped_kept : (p : ℕ) (os : List ℕ) (w : World) → AreKept w → AreKept (fold (λ v o. moved v o p) w os)
   dropped_kept p [] w k = k

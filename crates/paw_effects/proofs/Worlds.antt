@@ -11,6 +11,9 @@ use Rattle.std.proofs.lemmas.List.{length-set, length-map, get_or_past}
 use Rattle.std.proofs.lemmas.List.Elements.{All-set, All-replicate}
 use Rattle.std.proofs.lemmas.List.Sums.{count_by-le-length}
 use Rattle.std.proofs.lemmas.Option.{slice_get-map}
+use Rattle.paw_base.specs.declared.words.TheConstants.{LEAST_WORD, GREATEST_WORD}
+use Rattle.paw_base.specs.declared.places.TheConstants.{NOT_CREATED_PLACE, CARRIED_PLACE}
+use Rattle.paw_base.specs.declared.limits.TheConstants.{LOCATION_LIMIT, WORD_LIMIT}
 use Rattle.paw_base.specs.declared.parts.ObjectFacts.{ObjectFacts}
 use Rattle.paw_base.specs.declared.rows.ParamKind.{ParamKind}
 use Rattle.paw_base.specs.declared.rows.ParamKind.TheVariants as kind
@@ -60,10 +63,11 @@ byte_set xs i x small all = All-set (λ b. b < 256) xs i x small all
 
 -- ---- what the rules of a game say of numbers ----
 
-pub few_locations : (g : GameLists) → Valid g → (1 ≤ length g.locations) × (length g.locations ≤ 252)
+pub few_locations : (g : GameLists) → Valid g → (1 ≤ length g.locations) × (length g.locations ≤ LOCATION_LIMIT)
 few_locations g v = (
   leb-true 1 (length g.locations) (first_of_and (nat_le 1 (length g.locations)) _ v.locations),
-  leb-true (length g.locations) 252 (first_of_and (nat_le (length g.locations) 252) _ (second_of_and (nat_le 1 (length g.locations)) _ v.locations)),
+  leb-true (length g.locations) LOCATION_LIMIT
+      (first_of_and (nat_le (length g.locations) LOCATION_LIMIT) _ (second_of_and (nat_le 1 (length g.locations)) _ v.locations)),
 )
 
 pub few_objects : (g : GameLists) → Valid g → length g.objects ≤ 255
@@ -80,8 +84,8 @@ few_tables g v = leb-true (length g.tables) 256 (second_of_and (nat_le 3 (length
 
 value_small : (w : Word) → IsTrue (is_word w) → w.value < 256
 value_small w h =
-    let range = first_of_and (is_within 2 254 w.value) _ (second_of_and (are_letters w.letters) _ h) in
-    omega (arith, leb-true w.value 254 (second_of_and (nat_le 2 w.value) _ range))
+    let range = first_of_and (is_within LEAST_WORD GREATEST_WORD w.value) _ (second_of_and (are_letters w.letters) _ h) in
+    omega (arith, leb-true w.value GREATEST_WORD (second_of_and (nat_le LEAST_WORD w.value) _ range))
 
 word_small : (ws : List Word) (class value : ℕ) → IsTrue (list_all is_word ws) → IsTrue (has_word ws class value) → value < 256
 word_small [] class value all has = cc
@@ -95,7 +99,7 @@ word_small (w ∷ ws) class value all has = go ((w.class == class) && (w.value =
     go false e h later = later h
 
 words_kept : (g : GameLists) → Valid g → IsTrue (list_all is_word g.words)
-words_kept g v = first_of_and _ (words_rise g.words) (second_of_and (nat_le (length g.words) 2000) _ v.words)
+words_kept g v = first_of_and _ (words_rise g.words) (second_of_and (nat_le (length g.words) WORD_LIMIT) _ v.words)
 
 pub word_or_none_small : (g : GameLists) → Valid g → (class value : ℕ) → IsTrue (is_word_or_none g.words class value) → value < 256
 word_or_none_small g v class value h = go (value == 255) refl h
@@ -207,7 +211,7 @@ module _ (g : GameLists) (v : Valid g) (seed : ℕ) where
     pub here_place : (w : World) → IsWorldAt g seed n w → IsPlace (here w)
     here_place w k = go (nat_lt (flag w 38) w.locations) refl
       where
-        go : (b : Bool) → nat_lt (flag w 38) w.locations ≡ b → IsPlace (if b then flag w 38 else 252)
+        go : (b : Bool) → nat_lt (flag w 38) w.locations ≡ b → IsPlace (if b then flag w 38 else NOT_CREATED_PLACE)
         go true e =
             let low : flag w 38 < length g.locations = subst (λ l. flag w 38 < l) k.of.locations (ltb-true (flag w 38) w.locations e) in
             grind (arith, nat_tests)
@@ -221,12 +225,14 @@ module _ (g : GameLists) (v : Valid g) (seed : ℕ) where
         go false e = grind (arith, nat_tests)
 
     let_go_so : (w : World) → IsWorldAt g seed n w → (p : ℕ) → IsWorldAt g seed n (let_go w p)
-    let_go_so w k p = let small = flag_small w k 1 in world_of (p == 254) (with_flag w 1 (flag w 1 - 1)) w (flagged w k 1 (flag w 1 - 1) (omega arith)) k
+    let_go_so w k p =
+        let small = flag_small w k 1 in
+        world_of (p == CARRIED_PLACE) (with_flag w 1 (flag w 1 - 1)) w (flagged w k 1 (flag w 1 - 1) (omega arith)) k
 
     taken_up_so : (w : World) → IsWorldAt g seed n w → (p : ℕ) → IsWorldAt g seed n (taken_up w p)
     taken_up_so w k p =
         let most = min-le_left 255 (flag w 1 + 1) in
-        world_of (p == 254) (with_flag w 1 (min 255 (flag w 1 + 1))) w (flagged w k 1 (min 255 (flag w 1 + 1)) (omega arith)) k
+        world_of (p == CARRIED_PLACE) (with_flag w 1 (min 255 (flag w 1 + 1))) w (flagged w k 1 (min 255 (flag w 1 + 1)) (omega arith)) k
 
     pub moved_so : (w : World) → IsWorldAt g seed n w → (o p : ℕ) → IsPlace p → IsWorldAt g seed n (moved w o p)
     moved_so w k o p at =
@@ -266,7 +272,7 @@ module _ (g : GameLists) (v : Valid g) (seed : ℕ) where
   carried_small =
       omega (
         arith,
-        count_by-le-length (λ (f : ObjectFacts). f.start == 254) (map (λ o. o.facts) g.objects),
+        count_by-le-length (λ (f : ObjectFacts). f.start == CARRIED_PLACE) (map (λ o. o.facts) g.objects),
         length-map g.objects (λ (o : ObjectRow). o.facts),
         few_objects g v,
       )

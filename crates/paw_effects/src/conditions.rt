@@ -28,7 +28,7 @@ use paw_world::world::World;
 
 // A condition's answer by whether it holds.
 fn truth(holds: bool) -> Truth
-    ensures { result ≡ truth_of holds }
+    ensures value { result ≡ truth_of holds }
 {
     if holds { Truth::Yes } else { Truth::No }
 }
@@ -79,7 +79,7 @@ pub fn test<T: Tables>(tables: &T, world: &mut World, c: Condact) -> Truth
 }
 
 /// What a plain condition answers.
-#[tactic(auto, using(crate::proofs::Parameters::object_stands), unfolding(crate::specs::Holds::plain_holds, crate::specs::Meanings::meaning_of, crate::specs::Meanings::meanings, paw_base::specs::Condacts::line_of, paw_base::specs::Condacts::plain_line, paw_base::specs::Condacts::is_indirect, paw_base::specs::Condacts::condact_lines))]
+#[tactic(auto, using(crate::proofs::Parameters::object_stands), unfolding(crate::proofs::KnownCodes::known_condition))]
 fn test_plain<T: Tables>(tables: &T, world: &mut World, c: Condact) -> Truth
     requires kind { is_condition c ≡ true }
     requires code { IsPlainCode c.code }

@@ -121,7 +121,7 @@ pub fn act<T: Tables, F: Fn(u8, u8) -> u8>(
 }
 
 /// Does a plain action.
-#[tactic(auto, using(crate::proofs::Parameters::object_stands, crate::proofs::Parameters::second_object_stands), unfolding(crate::specs::Effects::plain_effect, crate::specs::Meanings::meaning_of, crate::specs::Meanings::meanings, paw_base::specs::Condacts::line_of, paw_base::specs::Condacts::plain_line, paw_base::specs::Condacts::is_indirect, paw_base::specs::Condacts::condact_lines))]
+#[tactic(auto, using(crate::proofs::Parameters::objects_stand), unfolding(crate::proofs::KnownCodes::known_action))]
 fn act_plain<T: Tables, F: Fn(u8, u8) -> u8>(
     tables: &T,
     world: &mut World,

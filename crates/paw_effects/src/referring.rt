@@ -36,7 +36,7 @@ pub fn refer<T: Tables>(tables: &T, world: &mut World, o: u8)
 
 // The flag for whether an object is of a class.
 fn class(member: bool) -> u8
-    ensures { result ≡ weight_class member }
+    ensures value { result ≡ weight_class member }
 {
     if member { REFERRED_SO } else { 0 }
 }

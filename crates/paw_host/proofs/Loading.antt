@@ -1,6 +1,7 @@
 -- The game of an image file, and why there is none.
 use Rattle.std.proofs.Common.{◌≡◌, ◌⊎◌, inl, inr, ℕ, ◌+◌, ◌≤◌, List, Option, Some, length, take, sym, ap, ◌∙◌, subst, arith}
 use Rattle.std.proofs.lemmas.List.{take_all, length-take-le}
+use Rattle.paw_base.specs.declared.limits.TheConstants.{IMAGE_LIMIT}
 use Rattle.paw_game.specs.Game.{GameLists}
 use Rattle.paw_image.specs.Damage.{bad}
 use Rattle.paw_image.specs.Images.{IsImage}
@@ -19,31 +20,35 @@ use Rattle.paw_host.specs.inner.Opens.{LoadsSome, LoadsNone, GivesNone}
 -- ---- what loading cuts off ----
 
 -- bytes of which at most the limit and one more were taken, and of these no more than the limit
-short_enough : (bytes : List ℕ) → length (take 4194305 bytes) ≤ 4194304 → (length bytes ≤ 4194304) ⊎ (4194305 ≤ length bytes) → length bytes ≤ 4194304
+short_enough : (bytes : List ℕ) → length (take (IMAGE_LIMIT + 1) bytes) ≤ IMAGE_LIMIT
+    → (length bytes ≤ IMAGE_LIMIT) ⊎ (IMAGE_LIMIT + 1 ≤ length bytes) → length bytes ≤ IMAGE_LIMIT
 short_enough bytes h (inl k) = k
-short_enough bytes h (inr k) = absurd (omega (arith, h, length-take-le 4194305 bytes k))
+short_enough bytes h (inr k) = absurd (omega (arith, h, length-take-le (IMAGE_LIMIT + 1) bytes k))
 
 -- a number is at most another, or above it
 in_order : (n m : ℕ) → (n ≤ m) ⊎ (m + 1 ≤ n)
 in_order n m = grind arith
 
 -- the image that was loaded is the file
-loaded_image : (given bytes : List ℕ) (g : GameLists) → given ≡ take 4194305 bytes → IsImage given g → IsImage bytes g
+loaded_image : (given bytes : List ℕ) (g : GameLists) → given ≡ take (IMAGE_LIMIT + 1) bytes → IsImage given g → IsImage bytes g
 loaded_image given bytes g e h =
-    let short : length bytes ≤ 4194304 = short_enough bytes (subst (λ b. length b ≤ 4194304) e h.short) (in_order (length bytes) 4194304) in
-    subst (λ b. IsImage b g) (e ∙ take_all 4194305 bytes (omega (arith, short))) h
+    let short : length bytes ≤ IMAGE_LIMIT = short_enough bytes (subst (λ b. length b ≤ IMAGE_LIMIT) e h.short) (in_order (length bytes) IMAGE_LIMIT) in
+    subst (λ b. IsImage b g) (e ∙ take_all (IMAGE_LIMIT + 1) bytes (omega (arith, short))) h
 
 -- what was loaded is no image, and so the file is none
-loaded_none : (given bytes : List ℕ) → given ≡ take 4194305 bytes → ((g : GameLists) → ¬ IsImage given g) → (g : GameLists) → ¬ IsImage bytes g
-loaded_none given bytes e none g h = none g (subst (λ b. IsImage b g) (sym (e ∙ take_all 4194305 bytes (omega (arith, h.short)))) h)
+loaded_none : (given bytes : List ℕ) → given ≡ take (IMAGE_LIMIT + 1) bytes → ((g : GameLists) → ¬ IsImage given g) → (g : GameLists) → ¬ IsImage bytes g
+loaded_none given bytes e none g h = none g (subst (λ b. IsImage b g) (sym (e ∙ take_all (IMAGE_LIMIT + 1) bytes (omega (arith, h.short)))) h)
 
-bad_whole : (bytes : List ℕ) (at : ℕ) → bad (take 4194305 bytes) ≡ Some at → (length bytes ≤ 4194304) ⊎ (4194305 ≤ length bytes) → bad bytes ≡ Some at
-bad_whole bytes at h (inl k) = subst (λ b. bad b ≡ Some at) (take_all 4194305 bytes (omega (arith, k))) h
-bad_whole bytes at h (inr k) = over_is_bad bytes (omega (arith, k)) ∙ sym (over_is_bad (take 4194305 bytes) (omega (arith, length-take-le 4194305 bytes k))) ∙ h
+bad_whole : (bytes : List ℕ) (at : ℕ) → bad (take (IMAGE_LIMIT + 1) bytes) ≡ Some at
+    → (length bytes ≤ IMAGE_LIMIT) ⊎ (IMAGE_LIMIT + 1 ≤ length bytes) → bad bytes ≡ Some at
+bad_whole bytes at h (inl k) = subst (λ b. bad b ≡ Some at) (take_all (IMAGE_LIMIT + 1) bytes (omega (arith, k))) h
+bad_whole bytes at h (inr k) =
+    over_is_bad bytes (omega (arith, k))
+    ∙ sym (over_is_bad (take (IMAGE_LIMIT + 1) bytes) (omega (arith, length-take-le (IMAGE_LIMIT + 1) bytes k))) ∙ h
 
 -- the first damage of what was loaded is that of the file
-loaded_bad : (given bytes : List ℕ) (at : ℕ) → given ≡ take 4194305 bytes → bad given ≡ Some at → bad bytes ≡ Some at
-loaded_bad given bytes at e h = bad_whole bytes at (subst (λ b. bad b ≡ Some at) e h) (in_order (length bytes) 4194304)
+loaded_bad : (given bytes : List ℕ) (at : ℕ) → given ≡ take (IMAGE_LIMIT + 1) bytes → bad given ≡ Some at → bad bytes ≡ Some at
+loaded_bad given bytes at e h = bad_whole bytes at (subst (λ b. bad b ≡ Some at) e h) (in_order (length bytes) IMAGE_LIMIT)
 
 -- ---- the file ----
 

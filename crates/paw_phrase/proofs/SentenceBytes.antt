@@ -4,6 +4,8 @@ use Rattle.std.specs.List.{list_all}
 use Rattle.std.specs.Option.{option_map, option_map_or}
 use Rattle.std.specs.Str.{bytes_eq}
 use Rattle.std.proofs.lemmas.Bool.{and_parts, leb-true}
+use Rattle.paw_base.specs.declared.limits.TheConstants.{WORD_LIMIT}
+use Rattle.paw_base.specs.declared.words.TheConstants.{LEAST_WORD, GREATEST_WORD, PRONOUN_CLASS}
 use Rattle.paw_game.specs.declared.parts.Word.{Word}
 use Rattle.paw_game.specs.Game.{GameLists}
 use Rattle.paw_game.specs.Valid.{are_letters, is_within, is_word, words_rise, Valid}
@@ -92,10 +94,10 @@ with_meaning-bytes s k =
 -- The value of a valid word.
 value-byte : (w : Word) → IsTrue (is_word w) → w.value < 256
 value-byte w h =
-    let parts = and_parts (are_letters w.letters) (is_within 2 254 w.value && leb w.class 6) h in
-    let range = and_parts (is_within 2 254 w.value) (leb w.class 6) parts.1 in
-    let bounds = and_parts (leb 2 w.value) (leb w.value 254) range.0 in
-    omega (arith, leb-true w.value 254 bounds.1)
+    let parts = and_parts (are_letters w.letters) (is_within LEAST_WORD GREATEST_WORD w.value && leb w.class PRONOUN_CLASS) h in
+    let range = and_parts (is_within LEAST_WORD GREATEST_WORD w.value) (leb w.class PRONOUN_CLASS) parts.1 in
+    let bounds = and_parts (leb LEAST_WORD w.value) (leb w.value GREATEST_WORD) range.0 in
+    omega (arith, leb-true w.value GREATEST_WORD bounds.1)
 
 -- A known word has a value.
 abbrev HasByte : Option (ℕ × ℕ) → Type 0
@@ -114,7 +116,7 @@ word_of-byte letters (w ∷ ws) h =
 
 word_at-byte : (g : GameLists) (letters : List ℕ) → Valid g → HasByte (word_at g letters)
 word_at-byte g letters valid =
-    let few = and_parts (leb (length g.words) 2000) (list_all is_word g.words && words_rise g.words) valid.words in
+    let few = and_parts (leb (length g.words) WORD_LIMIT) (list_all is_word g.words && words_rise g.words) valid.words in
     word_of-byte letters g.words (and_parts (list_all is_word g.words) (words_rise g.words) few.1).0
 
 with_known-bytes : (word : Option (ℕ × ℕ)) (s : Sentence) → HasByte word → AreBytes s

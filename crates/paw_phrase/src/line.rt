@@ -44,7 +44,7 @@ impl Pending {
 
     /// This line is pending, after a sentence with this verb (255: none).
     pub fn of(line: &[u8], earlier: u8) -> Pending
-        requires { length line.now ≤ LINE_LIMIT }
+        requires short { length line.now ≤ LINE_LIMIT }
         ensures value { result ≡ record { bytes = line.now; earlier = earlier } }
     {
         let mut kept = [0; LINE_LIMIT];
@@ -59,7 +59,7 @@ impl Pending {
 
     /// A new line becomes pending, and there is no earlier verb.
     pub fn set(&mut self, line: &[u8])
-        requires { length line.now ≤ LINE_LIMIT }
+        requires short { length line.now ≤ LINE_LIMIT }
         ensures value { self.new ≡ record { bytes = line.now; earlier = NO_WORD } }
     {
         *self = Pending::of(line, NO_WORD);
@@ -89,7 +89,7 @@ impl Pending {
 
     /// A phrase with this verb was taken, and the first `count` bytes are gone.
     pub(crate) fn pass(&mut self, count: usize, verb: u8)
-        requires { count ≤ length self.old.bytes }
+        requires within { count ≤ length self.old.bytes }
         ensures value { self.new ≡ record { bytes = drop count self.old.bytes; earlier = verb } }
     {
         self.from += count;

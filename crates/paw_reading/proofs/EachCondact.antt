@@ -2,6 +2,7 @@
 use Rattle.std.proofs.Common.{◌≡◌, ℕ, zero, suc, ◌<◌, Bool, true, false, List, [], ◌∷◌, refl, length, drop}
 use Rattle.std.specs.Prelude.{if◌then◌else◌, nat_lt}
 use Rattle.std.proofs.lemmas.Bool.{ltb-true}
+use Rattle.paw_base.specs.declared.limits.TheConstants.{READ_LIMIT}
 use Rattle.paw_base.specs.declared.parts.Condact.{Condact}
 use Rattle.paw_base.specs.declared.fault.SpentKind.TheVariants as spent
 use Rattle.paw_game.specs.declared.parts.Entry.{Entry}
@@ -23,7 +24,7 @@ Goes P go = (a : Bool) (r : Run) → P r (go a r)
 -- it stands so at a condact of this frame, wherever it does at the next entry and at the next condact
 abbrev pub ReadsOne : (Run → Out → Type 0) → Story → (ℕ → Run → Out) → ℕ → Frame → Type 0
 ReadsOne P g sub lv f =
-    (next go : Bool → Run → Out) → Goes P next → Goes P go → (c : Condact) (r : Run) → length r.read < 200000 → P r (reads_one g sub lv f next go c r)
+    (next go : Bool → Run → Out) → Goes P next → Goes P go → (c : Condact) (r : Run) → length r.read < READ_LIMIT → P r (reads_one g sub lv f next go c r)
 
 module _ (P : Run → Out → Type 0) (g : Story) (sub : ℕ → Run → Out) (lv t : ℕ) (left : (a : Bool) (r : Run) → P r (Left a r))
     (spends : (r : Run) → P r (halts (RunsOut spent.Condacts) r))
@@ -32,8 +33,8 @@ module _ (P : Run → Out → Type 0) (g : Story) (sub : ℕ → Run → Out) (l
   unfolding condacts
   condacts_go e next hn k [] a r = hn a r
   condacts_go e next hn k (c ∷ cs) a r =
-      by_test (P r) (nat_lt (length r.read) 200000) _ (halts (RunsOut spent.Condacts) r)
-      (λ few. one e k a next _ hn (condacts_go e next hn (suc k) cs) c r (ltb-true (length r.read) 200000 few)) (spends r)
+      by_test (P r) (nat_lt (length r.read) READ_LIMIT) _ (halts (RunsOut spent.Condacts) r)
+      (λ few. one e k a next _ hn (condacts_go e next hn (suc k) cs) c r (ltb-true (length r.read) READ_LIMIT few)) (spends r)
 
   entries_go : (e : ℕ) (es : List Entry) → Goes P (entries g sub lv t e es)
   unfolding entries

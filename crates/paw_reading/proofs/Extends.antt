@@ -4,6 +4,7 @@ use Rattle.std.proofs.Common.{None, refl, sym, ap, ◌∙◌, length, arith, app
 use Rattle.std.specs.Prelude.{if◌then◌else◌, nat_lt}
 use Rattle.std.specs.Option.{option_map_or}
 use Rattle.std.proofs.lemmas.Option.{slice_get_past}
+use Rattle.paw_base.specs.declared.limits.TheConstants.{READ_LIMIT}
 use Rattle.paw_base.specs.declared.parts.Condact.{Condact}
 use Rattle.paw_base.specs.declared.fault.SpentKind.TheVariants as spent
 use Rattle.paw_game.specs.declared.parts.Entry.{Entry}
@@ -232,7 +233,7 @@ module _ (g : Story) (ps : List (List ℕ)) (ts : List (List Step)) (lines : Lis
           at_condact None n ih = rw (inside_end g (deeper g lv) lv t e k a (around ps ts lines r) n, inside_end g (deeper g lv) lv t e k a r n) (hn a r)
           at_condact (Some c) n ih =
               rw (inside_condact g (deeper g lv) lv t e k a (around ps ts lines r) c n, inside_condact g (deeper g lv) lv t e k a r c n)
-              (settles_or (nat_lt (length r.read) 200000) _ (halts (RunsOut spent.Condacts) (around ps ts lines r)) _
+              (settles_or (nat_lt (length r.read) READ_LIMIT) _ (halts (RunsOut spent.Condacts) (around ps ts lines r)) _
               (halts (RunsOut spent.Condacts) r)
               (settles_one (record { table = t; entry = e; at = k; acted = a }) hn ih c r) refl)
 

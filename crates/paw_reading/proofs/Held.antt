@@ -4,7 +4,8 @@ use Rattle.std.proofs.Common.{sym, ap, ◌∙◌, subst, length, drop, slice_get
 use Rattle.std.specs.Prelude.{if◌then◌else◌, nat_lt, IfSome}
 use Rattle.std.proofs.lemmas.Bool.Decides.{nat_tests}
 use Rattle.std.proofs.lemmas.Option.{same_Some}
-use Rattle.paw_base.specs.declared.codes.TheConstants.{PROCESS, DOALL}
+use Rattle.paw_base.specs.declared.limits.TheConstants.{READ_LIMIT}
+use Rattle.paw_base.specs.declared.codes.TheConstants.{QUIT, PROCESS, DOALL}
 use Rattle.paw_base.specs.declared.parts.Condact.{Condact}
 use Rattle.paw_base.specs.declared.parts.ObjectFacts.{ObjectFacts}
 use Rattle.paw_base.specs.declared.fault.SpentKind.TheVariants as spent
@@ -256,7 +257,7 @@ module _ (g : Story) (v : Valid g.game) (ts : List ℕ) (lv : ℕ) (deep : lengt
 
   module _ (sub : ℕ → Run → Out) (calls : CallsHeld sub) where
     after_test_held : (f : Frame) (next go : Bool → Run → Out) (c : Condact) → f.table ≡ u → condact_at g.game f.table f.entry f.at ≡ Some c
-        → GoesHeld (ts ++ u ∷ []) next → GoesHeld (ts ++ u ∷ []) go → (r : Run) (x : Truth) → (x ≡ truth.Ask → c.code ≡ 27) → IsSound r
+        → GoesHeld (ts ++ u ∷ []) next → GoesHeld (ts ++ u ∷ []) go → (r : Run) (x : Truth) → (x ≡ truth.Ask → c.code ≡ QUIT) → IsSound r
         → Inside (after_test g f next go c r x)
     after_test_held f next go c own at hn hg r truth.Yes asks k = hg f.acted (noted f c true r) k
     after_test_held f next go c own at hn hg r truth.No asks k = hn f.acted (noted f c false r) k
@@ -316,7 +317,7 @@ module _ (g : Story) (v : Valid g.game) (ts : List ℕ) (lv : ℕ) (deep : lengt
     condacts_held e next hn k [] d a r h = hn a r h
     condacts_held e next hn k (c ∷ cs) d a r h =
         let at = drop_more (condacts_of (entry_at g.game u e)) cs k c d in
-        either Inside (nat_lt (length r.read) 200000) _ (halts (RunsOut spent.Condacts) r)
+        either Inside (nat_lt (length r.read) READ_LIMIT) _ (halts (RunsOut spent.Condacts) r)
         (reads_one_held (record { table = u; entry = e; at = k; acted = a }) next _ c refl at.0 hn (condacts_held e next hn (suc k) cs at.1) r h) tt
 
     entries_held : (e : ℕ) (es : List Entry) → drop e (table_at g.game u) ≡ es → GoesHeld (ts ++ u ∷ []) (entries g sub lv u e es)

@@ -3,6 +3,7 @@ use Rattle.std.proofs.Common.{◌≡◌, ◌≢◌, ℕ, zero, suc, ◌+◌, ◌
 use Rattle.std.proofs.Common.{subst, length, arith, append-nil}
 use Rattle.std.specs.Prelude.{All}
 use Rattle.std.proofs.Math.ListN.{get_or}
+use Rattle.paw_base.specs.declared.limits.TheConstants.{READ_LIMIT}
 use Rattle.paw_base.specs.declared.fault.SpentKind.TheVariants as spent
 use Rattle.paw_game.specs.Game.{GameLists}
 use Rattle.paw_game.specs.Tables.{exit_at}
@@ -191,7 +192,7 @@ stands : (g : Story) (valid : ValidStory g) (seed n : ℕ) (p : Prompt) (path : 
     IsResting g.game seed n r
     → StandsRightly g.game p path r
 stands g valid seed n p path r at k = record {
-  world = world_is g.game seed (n + 200000 * length r.pieces + length r.read) r.world k.sound.world;
+  world = world_is g.game seed (n + READ_LIMIT * length r.pieces + length r.read) r.world k.sound.world;
   places = at.places;
   line = at.line;
   pending = k.sound.line;
@@ -234,7 +235,7 @@ rests : (g : GameLists) (seed n : ℕ) (p : Prompt) (path : List Frame) (r : Run
     IsResting g seed n r
 rests g seed n p path r k bound lines = record {
   sound = record {
-    world = world_at g seed (n + 200000 * length r.pieces + length r.read) r.world k.world bound.seeded (omega (arith, bound.draws));
+    world = world_at g seed (n + READ_LIMIT * length r.pieces + length r.read) r.world k.world bound.seeded (omega (arith, bound.draws));
     few = let none : length r.read ≡ 0 = ap length k.read in omega (arith, none);
     line = k.pending;
     earlier = k.earlier;

@@ -5,6 +5,7 @@ use Rattle.std.specs.Option.{option_map_or}
 use Rattle.std.proofs.lemmas.Bool.Decides.{nat_tests}
 use Rattle.std.proofs.lemmas.List.{length-drop}
 use Rattle.std.proofs.lemmas.Option.{slice_get_past}
+use Rattle.paw_base.specs.declared.limits.TheConstants.{READ_LIMIT}
 use Rattle.paw_base.specs.declared.parts.Condact.{Condact}
 use Rattle.paw_base.specs.declared.fault.SpentKind.TheVariants as spent
 use Rattle.paw_game.specs.declared.parts.Entry.{Entry}
@@ -22,11 +23,11 @@ use Rattle.paw_reading.proofs.Lists.{drop_none, drop_some, drop_more}
 use Rattle.paw_reading.proofs.Keeps.{Keeps, CallsKeeping, at_level_is, looped_closes}
 
 -- the budget holds, or is used up
-pub within_budget : (r : Run) (x : Out) → length r.read < 200000 → within r x ≡ x
-within_budget r x h = let t : nat_lt (length r.read) 200000 ≡ true = grind (arith, nat_tests) in rw t refl
+pub within_budget : (r : Run) (x : Out) → length r.read < READ_LIMIT → within r x ≡ x
+within_budget r x h = let t : nat_lt (length r.read) READ_LIMIT ≡ true = grind (arith, nat_tests) in rw t refl
 
-pub within_none : (r : Run) (x : Out) → 200000 ≤ length r.read → within r x ≡ halts (RunsOut spent.Condacts) r
-within_none r x h = let t : nat_lt (length r.read) 200000 ≡ false = grind (arith, nat_tests) in rw t refl
+pub within_none : (r : Run) (x : Out) → READ_LIMIT ≤ length r.read → within r x ≡ halts (RunsOut spent.Condacts) r
+within_none r x h = let t : nat_lt (length r.read) READ_LIMIT ≡ false = grind (arith, nat_tests) in rw t refl
 
 module _ (g : Story) (sub : ℕ → Run → Out) (lv : ℕ) where
   -- past the last condact of an entry

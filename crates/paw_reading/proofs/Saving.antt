@@ -1,6 +1,7 @@
 -- Reading a game that never saves leaves the kept positions as they are.
 use Rattle.std.proofs.Common.{◌≡◌, ℕ, zero, suc, ◌-◌, Bool, true, false, ◌||◌, List, [], ◌∷◌, Option, Some, None, refl, ap, ◌∙◌, length, drop}
 use Rattle.std.specs.Prelude.{nat_lt}
+use Rattle.paw_base.specs.declared.limits.TheConstants.{READ_LIMIT}
 use Rattle.paw_base.specs.declared.parts.Condact.{Condact}
 use Rattle.paw_base.specs.declared.parts.ObjectFacts.{ObjectFacts}
 use Rattle.paw_base.specs.declared.fault.SpentKind.TheVariants as spent
@@ -152,7 +153,7 @@ module _ (g : Story) (never : NeverSaves g.game) (ks : List (Option Position)) w
     condacts_keep t e next hn k [] d a r h = hn a r h
     condacts_keep t e next hn k (c ∷ cs) d a r h =
         let at = drop_more (condacts_of (entry_at g.game t e)) cs k c d in
-        either Keeps (nat_lt (length r.read) 200000) _ (halts (RunsOut spent.Condacts) r)
+        either Keeps (nat_lt (length r.read) READ_LIMIT) _ (halts (RunsOut spent.Condacts) r)
         (reads_one_keeps (record { table = t; entry = e; at = k; acted = a }) next _ hn (condacts_keep t e next hn (suc k) cs at.1) c at.0 r h) h
 
     entries_keep : (t e : ℕ) (es : List Entry) → drop e (table_at g.game t) ≡ es → GoesKeeping (entries g sub lv t e es)

@@ -6,6 +6,7 @@ use Rattle.std.specs.List.{list_all}
 use Rattle.std.proofs.Math.Nat.{min-le_left}
 use Rattle.std.proofs.lemmas.Bool.{ltb-true, leb-true}
 use Rattle.std.proofs.lemmas.List.Elements.{All-append}
+use Rattle.paw_base.specs.declared.limits.TheConstants.{READ_LIMIT, ENTRY_LIMIT}
 use Rattle.paw_base.specs.declared.parts.Condact.{Condact}
 use Rattle.paw_base.specs.declared.parts.ObjectFacts.{ObjectFacts}
 use Rattle.paw_base.specs.declared.fault.SpentKind.TheVariants as spent
@@ -63,8 +64,8 @@ no_line = record { short = omega arith; bytes = λ k d low. absurd (omega arith)
 
 -- a run of a game that is played: each piece drew at most 200,000 words, and what is kept of the run are bytes
 pub record IsSound (g : GameLists) (seed base : ℕ) (r : Run) : Type 0 where
-  pub world : IsWorldAt g seed (base + 200000 * length r.pieces + length r.read) r.world
-  pub few : length r.read ≤ 200000
+  pub world : IsWorldAt g seed (base + READ_LIMIT * length r.pieces + length r.read) r.world
+  pub few : length r.read ≤ READ_LIMIT
   pub line : IsLine r.pending
   pub earlier : r.earlier < 256
   pub text : length r.current ≤ 65535
@@ -111,7 +112,7 @@ module _ (g : Story) (valid : ValidStory g) (seed base : ℕ) where
   CallsSound sub = (u : ℕ) (r : Run) → Is r → Sounds (sub u r)
 
   abbrev bound : Run → ℕ
-  bound r = base + 200000 * length r.pieces + length r.read
+  bound r = base + READ_LIMIT * length r.pieces + length r.read
 
   -- ---- changes of a run ----
 
@@ -152,7 +153,7 @@ module _ (g : Story) (valid : ValidStory g) (seed base : ℕ) where
     traced = k.traced;
   }
 
-  noted_so : (r : Run) (f : Frame) (c : Condact) (b : Bool) (w : World) → Is r → length r.read < 200000 → IsWorldAt g.game seed (suc (bound r)) w →
+  noted_so : (r : Run) (f : Frame) (c : Condact) (b : Bool) (w : World) → Is r → length r.read < READ_LIMIT → IsWorldAt g.game seed (suc (bound r)) w →
       Is (noted f c b (with_world w r))
   noted_so r f c b w k few world =
       let size : length (noted f c b r).read ≡ length r.read + 1 = length-append r.read _ in
@@ -343,7 +344,7 @@ module _ (g : Story) (valid : ValidStory g) (seed base : ℕ) where
         (carried_so d (printed d.text r) (printed_so r d.text k fit) world)) tt
 
     reads_one_sounds : (f : Frame) (next go : Bool → Run → Out) → GoesSound next → GoesSound go → (c : Condact) (r : Run) → is_condact g.game c ≡ true →
-        length r.read < 200000 → Is r →
+        length r.read < READ_LIMIT → Is r →
         Sounds (reads_one g sub lv f next go c r)
     reads_one_sounds f next go hn hg c r kept few k =
         let d : Done = effect_of g r.world c in
@@ -362,10 +363,10 @@ module _ (g : Story) (valid : ValidStory g) (seed base : ℕ) where
     unfolding condacts
     condacts_sound t e next hn k [] all a r h = hn a r h
     condacts_sound t e next hn k (c ∷ cs) all a r h =
-        by_test Sounds (nat_lt (length r.read) 200000) _ (halts (RunsOut spent.Condacts) r)
+        by_test Sounds (nat_lt (length r.read) READ_LIMIT) _ (halts (RunsOut spent.Condacts) r)
         (λ few. reads_one_sounds (record { table = t; entry = e; at = k; acted = a }) next _ hn
         (condacts_sound t e next hn (suc k) cs (second_of_and (is_condact g.game c) _ all)) c r
-        (first_of_and (is_condact g.game c) _ all) (ltb-true (length r.read) 200000 few) h) tt
+        (first_of_and (is_condact g.game c) _ all) (ltb-true (length r.read) READ_LIMIT few) h) tt
 
     entry_condacts : (en : Entry) → IsTrue (is_entry g.game en) → IsTrue (list_all (is_condact g.game) en.condacts)
     entry_condacts en h =
@@ -383,7 +384,7 @@ module _ (g : Story) (valid : ValidStory g) (seed base : ℕ) where
         (entries_sound t (suc e) es later_ones a r h)
 
     table_entries : (t : ℕ) → IsTrue (list_all (is_entry g.game) (table_at g.game t))
-    table_entries t = second_of_and (nat_le (length (table_at g.game t)) 4000) _ (table_kept g.game v t)
+    table_entries t = second_of_and (nat_le (length (table_at g.game t)) ENTRY_LIMIT) _ (table_kept g.game v t)
 
     all_condacts : (o : Option Entry) → ((en : Entry) → o ≡ Some en → IsTrue (is_entry g.game en)) → IsTrue (list_all (is_condact g.game) (condacts_of o))
     all_condacts None h = refl

@@ -2,6 +2,7 @@
 use Rattle.std.proofs.Common.{◌≡◌, ℕ, zero, suc, ◌+◌, ◌-◌, ◌≤◌, ◌<◌, Bool, true, false, ◌||◌, List, [], ◌∷◌, length, arith, length-append}
 use Rattle.std.specs.Prelude.{if◌then◌else◌, sum_by}
 use Rattle.std.proofs.lemmas.List.Sums.{sum_by-cons}
+use Rattle.paw_base.specs.declared.limits.TheConstants.{READ_LIMIT}
 use Rattle.paw_base.specs.declared.parts.Condact.{Condact}
 use Rattle.paw_base.specs.declared.fault.SpentKind.TheVariants as spent
 use Rattle.paw_effects.specs.Story.{Story}
@@ -88,7 +89,7 @@ over_spends : (g : Story) (v : ℕ) (r : Run) → Spends v (over g r)
 over_spends g v r = prints (Spends v) (goodbye g r) game_over r tt tt
 
 answered_spends : (g : Story) (p : Prompt) (f : Frame) (go : Bool → Run → Out) → AreSpending go → (line : List ℕ) (r : Run) (v : ℕ) →
-    left_to_read r < v → brought r.events + 200000 < v → Spends v (answered g p f go line r)
+    left_to_read r < v → brought r.events + READ_LIMIT < v → Spends v (answered g p f go line r)
 answered_spends g prompt.Quit f go h line r v k n =
     either (Spends v) (is_yes line) _ (Left true r) (Spends_up (left_to_read r) v (omega arith) _ (h f.acted r)) (omega arith)
 answered_spends g prompt.Again f go h line r v k n =
@@ -156,7 +157,7 @@ module _ (g : Story) (sub : ℕ → Run → Out) (lv : ℕ) (calls : CallsSpendi
       either (Spends (suc (left_to_read r))) (fits r d.text) _ (halts (RunsOut spent.Text) r)
       (Spends_up (suc (left_to_read s)) _ (omega (arith, less)) _ (after_action_spends f next go hn hg d.act.effect s)) tt
 
-  reads_one_spends : (f : Frame) (next go : Bool → Run → Out) → AreSpending next → AreSpending go → (c : Condact) (r : Run) → length r.read < 200000 →
+  reads_one_spends : (f : Frame) (next go : Bool → Run → Out) → AreSpending next → AreSpending go → (c : Condact) (r : Run) → length r.read < READ_LIMIT →
       Spends (left_to_read r) (reads_one g sub lv f next go c r)
   reads_one_spends f next go hn hg c r low =
       let more : (b : Bool) → length (noted f c b r).read ≡ length r.read + 1 = λ b. length-append r.read _ in

@@ -29,7 +29,7 @@ impl Model for Draws {
 impl Draws {
     /// No word is drawn yet.
     pub fn new(seed: u64) -> Draws
-        ensures { result ≡ record { seed = seed; count = 0 } }
+        ensures value { result ≡ record { seed = seed; count = 0 } }
     {
         Draws {
             generator: Lcg64Xsh32::new(seed, 0),
@@ -39,21 +39,21 @@ impl Draws {
     }
 
     pub fn seed(&self) -> u64
-        ensures { result ≡ self.now.seed }
+        ensures value { result ≡ self.now.seed }
     {
         self.seed
     }
 
     /// How many words were drawn.
     pub fn count(&self) -> u64
-        ensures { result ≡ self.now.count }
+        ensures value { result ≡ self.now.count }
     {
         self.count
     }
 
     /// The next word.
     pub fn draw(&mut self) -> u32
-        requires { self.old.count < 2 ^ 64 - 1 }
+        requires room { self.old.count < 2 ^ 64 - 1 }
         ensures word { result ≡ random_word self.old.seed self.old.count }
         ensures counts { self.new ≡ record self.old { count = self.old.count + 1 } }
     {
@@ -63,8 +63,8 @@ impl Draws {
 
     /// Passes over n words.
     pub fn skip(&mut self, n: u64)
-        requires { self.old.count + n < 2 ^ 64 }
-        ensures { self.new ≡ record self.old { count = self.old.count + n } }
+        requires room { self.old.count + n < 2 ^ 64 }
+        ensures counts { self.new ≡ record self.old { count = self.old.count + n } }
     {
         self.count += n;
         self.generator.advance(n);

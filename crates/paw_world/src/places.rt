@@ -31,8 +31,8 @@ impl Model for Places {
 impl Places {
     /// Each object stands where it begins.
     pub fn opening(facts: &[ObjectFacts]) -> Places
-        requires { length facts.now ≤ OBJECT_LIMIT }
-        ensures { result ≡ map (λ f. f.start) facts.now }
+        requires few { length facts.now ≤ OBJECT_LIMIT }
+        ensures value { result ≡ map (λ f. f.start) facts.now }
     {
         let mut all = Places::empty();
         for f in facts {
@@ -43,8 +43,8 @@ impl Places {
 
     /// Each object stands at its place in this list.
     pub fn at(places: &[u8]) -> Places
-        requires { length places.now ≤ OBJECT_LIMIT }
-        ensures { result ≡ places.now }
+        requires few { length places.now ≤ OBJECT_LIMIT }
+        ensures value { result ≡ places.now }
     {
         let mut all = Places::empty();
         for p in places {
@@ -55,7 +55,7 @@ impl Places {
 
     /// The places of no objects.
     fn empty() -> Places
-        ensures { result ≡ [] }
+        ensures value { result ≡ [] }
     {
         Places {
             places: [0; OBJECT_LIMIT],
@@ -66,8 +66,8 @@ impl Places {
 
     /// One object more, at this place.
     fn add(&mut self, p: u8)
-        requires { length self.old < OBJECT_LIMIT }
-        ensures { self.new ≡ self.old ++ p ∷ [] }
+        requires room { length self.old < OBJECT_LIMIT }
+        ensures adds { self.new ≡ self.old ++ p ∷ [] }
     {
         self.places[self.count as usize] = p;
         self.sets[p as usize] = self.sets[p as usize].with(self.count);
@@ -76,28 +76,28 @@ impl Places {
 
     /// The places of all objects, in the order of their numbers.
     pub fn all(&self) -> &[u8]
-        ensures { result.now ≡ self.now }
+        ensures value { result.now ≡ self.now }
     {
         &self.places[..self.count as usize]
     }
 
     /// How many objects there are.
     pub fn count(&self) -> u8
-        ensures { result ≡ length self.now }
+        ensures value { result ≡ length self.now }
     {
         self.count
     }
 
     pub fn place(&self, o: u8) -> u8
-        requires { o < length self.now }
-        ensures { result ≡ slice_index self.now o }
+        requires known { o < length self.now }
+        ensures value { result ≡ slice_index self.now o }
     {
         self.places[o as usize]
     }
 
     pub fn set_place(&mut self, o: u8, p: u8)
-        requires { o < length self.old }
-        ensures { self.new ≡ slice_set self.old o p }
+        requires known { o < length self.old }
+        ensures sets { self.new ≡ slice_set self.old o p }
     {
         let old = self.places[o as usize];
         self.sets[old as usize] = self.sets[old as usize].without(o);
@@ -107,7 +107,7 @@ impl Places {
 
     /// The least object above this one that stands at the place, or the least of all there.
     pub fn first_at(&self, p: u8, above: Option<u8>) -> Option<u8>
-        ensures { result ≡ least_at self.now p (left_above self.now above) }
+        ensures least { result ≡ least_at self.now p (left_above self.now above) }
     {
         let from = match above {
             None => 0,

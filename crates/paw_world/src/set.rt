@@ -26,7 +26,7 @@ impl ObjectSet {
 
     /// The set with this member too.
     pub fn with(&self, o: u8) -> ObjectSet
-        ensures { Inserts o self.now result }
+        ensures inserts { Inserts o self.now result }
     {
         let mut words = self.words;
         words[(o / 64) as usize] |= 1 << (o % 64);
@@ -35,7 +35,7 @@ impl ObjectSet {
 
     /// The set without this member.
     pub fn without(&self, o: u8) -> ObjectSet
-        ensures { Removes o self.now result }
+        ensures removes { Removes o self.now result }
     {
         let mut words = self.words;
         words[(o / 64) as usize] &= !(1 << (o % 64));
@@ -44,8 +44,8 @@ impl ObjectSet {
 
     /// The least member that isn't below `from`.
     pub fn least_from(&self, from: usize) -> Option<u8>
-        requires { from ≤ 256 }
-        ensures { IsLeastFrom self.now from result }
+        requires bound { from ≤ 256 }
+        ensures least { IsLeastFrom self.now from result }
     {
         let mut word = from / 64;
         let mut bit = (from % 64) as u8;
@@ -64,8 +64,8 @@ impl ObjectSet {
 
 /// The lowest bit of a word that is 1 and isn't below `from`.
 fn lowest_from(word: u64, from: u8) -> Option<u8>
-    requires { from < 64 }
-    ensures { IsLowestFrom word from result }
+    requires bound { from < 64 }
+    ensures lowest { IsLowestFrom word from result }
 {
     let left = word >> from;
     if left == 0 {

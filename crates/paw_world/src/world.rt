@@ -392,8 +392,8 @@ impl World {
     /// The weight of an object where contents count down to this number of levels below it, at most 255.
     #[cycle(weigh)]
     fn weight_down(&self, o: u8, levels: u8) -> u8
-        requires { o < length self.now.places }
-        ensures { result ≡ weight_down self.now levels o }
+        requires known { o < length self.now.places }
+        ensures value { result ≡ weight_down self.now levels o }
     {
         let facts = self.facts(o);
         if levels == 0 || !facts.container || facts.weight == 0 {
@@ -405,7 +405,7 @@ impl World {
     /// A weight together with that of all objects at a place, at most 255.
     #[cycle(weigh)]
     fn weight_with(&self, own: u8, p: u8, levels: u8) -> u8
-        ensures { result ≡ weight_with self.now levels own p }
+        ensures value { result ≡ weight_with self.now levels own p }
     {
         let mut total = own;
         let mut last = None;
@@ -427,8 +427,8 @@ impl World {
 
 /// These facts, followed by others up to the greatest number of objects.
 fn filled(facts: &[ObjectFacts]) -> [ObjectFacts; OBJECT_LIMIT]
-    requires { length facts.now ≤ OBJECT_LIMIT }
-    ensures { take (length facts.now) result ≡ facts.now }
+    requires few { length facts.now ≤ OBJECT_LIMIT }
+    ensures begins { take (length facts.now) result ≡ facts.now }
 {
     let mut all = [NO_OBJECT; OBJECT_LIMIT];
     all[..facts.len()].copy_from_slice(facts);
@@ -437,16 +437,16 @@ fn filled(facts: &[ObjectFacts]) -> [ObjectFacts; OBJECT_LIMIT]
 
 /// How many objects begin carried.
 fn first_carried(facts: &[ObjectFacts]) -> u8
-    requires { length facts.now ≤ OBJECT_LIMIT }
-    ensures { result ≡ first_carried facts.now }
+    requires few { length facts.now ≤ OBJECT_LIMIT }
+    ensures value { result ≡ first_carried facts.now }
 {
     facts.iter().filter(|f| f.start == CARRIED_PLACE).count() as u8
 }
 
 /// The flags at the start of a game.
 fn opening_flags(facts: &[ObjectFacts]) -> [u8; FLAG_COUNT]
-    requires { length facts.now ≤ OBJECT_LIMIT }
-    ensures { result ≡ opening_flags facts.now }
+    requires few { length facts.now ≤ OBJECT_LIMIT }
+    ensures value { result ≡ opening_flags facts.now }
 {
     let mut all = [0; FLAG_COUNT];
     all[flags::CARRIED_FLAG as usize] = first_carried(facts);

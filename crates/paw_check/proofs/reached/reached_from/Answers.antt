@@ -23,7 +23,8 @@ loop-preserved c =
     let ts = c.args.from.now in
     let i = c.loop.counter in
     let next : c.in_ok-level.level.items ≡ below g ts (suc i) =
-    c.in_ok-level.ensures ∙ ap (λ xs. called_among xs c.as_slice.result.now) (c.as_slice-tables.ensures.value ∙ ap (λ (h : GameLists). h.tables) c.parts.view_is)
+    c.in_ok-level.ensures.value
+    ∙ ap (λ xs. called_among xs c.as_slice.result.now) (c.as_slice-tables.ensures.value ∙ ap (λ (h : GameLists). h.tables) c.parts.view_is)
     ∙ ap (called_among g.tables) (c.as_slice.ensures.value ∙ c.loop.invariant.deepest) ∙ sym (below_more g ts i) in
     record {
       deepest = next ∙ ap (below g ts) (sym (add-one i));
@@ -39,6 +40,6 @@ pub returns-clause-all : goal.returns-clause-all
 returns-clause-all c =
     let last : c.loop.counter ≡ 10 = omega (arith, c.loop-test.false, c.loop.auto.counter-end) in
     let marks = rw last at c.loop.invariant.marks in
-    c.in_ok-all.ensures
+    c.in_ok-all.ensures.value
     ∙ ap (λ (n : ℕ). filter (λ u. slice_index_or c.loop.marks u false) (range_with_len 0 n)) (search rules)
     ∙ marked_filter c.args.parts.now c.args.from.now 11 c.loop.marks (length c.args.parts.now.tables) c.requires.few marks

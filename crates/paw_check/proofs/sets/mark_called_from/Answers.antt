@@ -1,13 +1,7 @@
-use Rattle.std.proofs.Common.{refl, ◌∙◌, ap, take, ◌+◌, get_or, []}
-use Rattle.std.specs.Prelude.{slice_get}
-use Rattle.std.specs.List.{list_any}
-use Rattle.std.specs.Option.{unwrap_or}
-use Rattle.paw_check.specs.Calls.{is_call_of}
-use Rattle.paw_check.specs.inner.Capped.{Marks, condacts_of_entries}
 use Rattle.paw_check.proofs.SetLaws.{marks_table_more}
 use Rattle.paw_check.proofs.sets.mark_called_from.Goals as goal
 
 pub loop-table-preserved : goal.loop-table-preserved
 loop-table-preserved c =
     marks_table_more _ c.loop-table.marks c.mark_called_in.new.marks c.args.tables.now c.args.from.now c.loop-table.table-index 0
-    c.loop-table-test.true c.entries_of.result.now c.entries_of.ensures.value c.loop-table.invariant c.mark_called_in.ensures
+    c.loop-table-test.true c.entries_of.result.now c.entries_of.ensures.value c.loop-table.invariant c.mark_called_in.ensures.marks

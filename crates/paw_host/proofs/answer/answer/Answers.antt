@@ -1,7 +1,8 @@
-use Rattle.std.proofs.Common.{◌∙◌, sym, subst, inl, inr, Some}
+use Rattle.std.proofs.Common.{◌≡◌, ◌⊎◌, ◌∙◌, ℕ, List, sym, subst, inl, inr, Some}
 use Rattle.std.proofs.lemmas.Result.{on_ok_weaker}
 use Rattle.std.specs.Option.{option_copied}
-use Rattle.paw_stage.specs.Stage.{Standing, file_bytes}
+use Rattle.paw_stage.specs.Stage.{Standing, Unattached, file_bytes, opened}
+use Rattle.paw_stage.specs.Across.{EachMoment}
 use Rattle.paw_stage.proofs.Time.{Passes_map, Passes_on}
 use Rattle.paw_journal.specs.inner.Journal.{failed_stage_call}
 use Rattle.paw_journal.proofs.Serving.{serves_among, serves_then}
@@ -11,7 +12,27 @@ use Rattle.paw_host.specs.Promise.{Stores}
 use Rattle.paw_host.specs.inner.Answers.{Answers, InAnswer, InFile, LeftOf}
 use Rattle.paw_host.proofs.Calls.{writes_answer, reads_answer, attaches_answer}
 use Rattle.paw_host.proofs.Reaching.{in_attach, answer_before, answer_in_new, answer_in_kept, none_stored, no_bytes, attached_still, on_ok, aside_beside, aside_unattached}
+use Rattle.paw_host.proofs.answer.answer.Given.{Over}
+use Rattle.paw_host.proofs.answer.answer.Goals.{After-attach}
 use Rattle.paw_host.proofs.answer.answer.Goals as goal
+
+-- ---- the attach ----
+
+-- nothing is answered while the store is attached
+attaches : (g : Over) (c : After-attach g) (tells : g.S.Stage.Tells c.args.stage.now) (X : List (List ℕ)) (before after : Session)
+    → Stores (story_of c.args.player.now.game X) before (file_bytes (g.S.Stage.standing c.args.stage.now) c.args.store.now)
+    → (g.S.Stage.standing c.attach.new.stage ≡ opened c.args.store.now (g.S.Stage.standing c.args.stage.now))
+    ⊎ Unattached (g.S.Stage.standing c.args.stage.now) (g.S.Stage.standing c.attach.new.stage)
+    → EachMoment g.S.Stage c.args.stage.now c.attach.new.stage
+    (InAnswer (story_of c.args.player.now.game X) c.args.hosted.now.seed c.args.store.now before after (g.S.Stage.standing c.args.stage.now))
+attaches g c tells X before after stores how =
+    let story : Story = story_of c.args.player.now.game X in
+    let old : Standing = g.S.Stage.standing c.args.stage.now in
+    let name = c.args.store.now in
+    Passes_map _ _ _ _ _ (InAnswer story c.args.hosted.now.seed name before after old) (c.attach.ensures.time tells)
+    (λ m i. answer_before story c.args.hosted.now.seed name before after old stores m
+    (in_attach old (g.S.Stage.standing c.attach.new.stage) name (c.requires.synced tells)
+    (λ n e. g.met.S.Stage.files_hold c.args.stage.now n tells e) how m i))
 
 -- ---- the attach failed ----
 
@@ -23,14 +44,7 @@ returns-in-Err-clause-aside g c = λ tells. aside_unattached c.args.store.now _ 
 
 pub returns-in-Err-clause-any_moment : goal.returns-in-Err-clause-any_moment
 returns-in-Err-clause-any_moment g c = λ tells X rows before may stores.
-    let story : Story = story_of c.args.player.now.game X in
-    let old : Standing = g.S.Stage.standing c.args.stage.now in
-    let name = c.args.store.now in
-    Passes_map _ _ _ _ _ (InAnswer story c.args.hosted.now.seed name before (answer story c.args.hosted.now.seed before (option_copied c.args.text)).session old)
-    (c.attach.ensures.time tells)
-    (λ m i. answer_before story c.args.hosted.now.seed name before _ old stores m
-    (in_attach old (g.S.Stage.standing c.attach.new.stage) name (c.requires.synced tells)
-    (λ n e. g.met.S.Stage.files_hold c.args.stage.now n tells e) (inr (c.in-Err.ensures.left tells)) m i))
+    attaches g (goal.at.returns-in-Err-clause-any_moment g c).After-attach tells X before _ stores (inr (c.in-Err.ensures.left tells))
 
 -- ---- a new session ----
 
@@ -85,9 +99,7 @@ returns-then-at-eq0-clause-any_moment g c = λ tells X rows before may stores.
     let none = none_stored story before (file_bytes old name) (no_bytes (file_bytes old name) (sym a.0 ∙ c.if-at-eq0.true)) stores in
     let after : Session = (answer story seed before text).session in
     Passes_on _ _ _ _ _ _ (InAnswer story seed name before after old) _
-    (Passes_map _ _ _ _ _ (InAnswer story seed name before after old) (c.in-Ok.ensures.time tells)
-    (λ m i. answer_before story seed name before after old stores m
-    (in_attach old mid name (c.requires.synced tells) (λ n e. g.met.S.Stage.files_hold c.args.stage.now n tells e) (inl a.1) m i)))
+    (attaches g (goal.at.returns-then-at-eq0-clause-any_moment g c).After-attach tells X before after stores (inl a.1))
     (c.answer_new.ensures.any_moment now X rows)
     (λ m i. answer_in_new story seed name before after old mid m stores none a.1
     (subst (λ s. InFile (LeftOf story seed Absent (answer story seed s text).session) mid m) (sym none) i))
@@ -141,8 +153,6 @@ returns-else-at-eq0-clause-any_moment g c = λ tells X rows before may stores.
     let after : Session = (answer story seed before (option_copied c.args.text)).session in
     let here = subst (λ (q : Standing). Stores story before q.disk.bytes) (sym a.1) stores in
     Passes_on _ _ _ _ _ _ (InAnswer story seed name before after old) _
-    (Passes_map _ _ _ _ _ (InAnswer story seed name before after old) (c.in-Ok.ensures.time tells)
-    (λ m i. answer_before story seed name before after old stores m
-    (in_attach old mid name (c.requires.synced tells) (λ n e. g.met.S.Stage.files_hold c.args.stage.now n tells e) (inl a.1) m i)))
+    (attaches g (goal.at.returns-else-at-eq0-clause-any_moment g c).After-attach tells X before after stores (inl a.1))
     (c.answer_kept.ensures.any_moment now X rows before may here)
     (λ m i. answer_in_kept story seed name before after old mid m stores a.1 i)

@@ -1,16 +1,22 @@
-use Rattle.std.proofs.Common.{◌+◌, ◌++◌, ◌∙◌, ◌<◌, ap, arith, length}
+use Rattle.std.proofs.Common.{◌≡◌, ◌+◌, ◌++◌, ◌∙◌, ◌<◌, ℕ, List, ap, arith, length}
+use Rattle.paw_base.specs.declared.limits.TheConstants.{EVENT_LIMIT}
 use Rattle.paw_stage.specs.Stage.{Standing}
+use Rattle.paw_stage.specs.Across.{EachMoment}
 use Rattle.paw_stage.proofs.Time.{Passes_map, Passes_none}
 use Rattle.paw_journal.proofs.Moved.{beside_none}
 use Rattle.paw_journal.proofs.Serving.{serves_none}
 use Rattle.paw_journal.specs.Session.{Shown}
+use Rattle.paw_routines.specs.Routines.{AreRowsOf}
 use Rattle.paw_effects.specs.Story.{Story, story_of}
 use Rattle.paw_turn.specs.inner.Parts.{prompt_at}
+use Rattle.paw_play.specs.Stands.{Stands}
 use Rattle.paw_play.specs.inner.OnTheWay.{seat_state}
 use Rattle.paw_host.specs.Replies.{At, taken}
-use Rattle.paw_host.specs.inner.Answers.{InFile, StoresEither}
+use Rattle.paw_host.specs.inner.Answers.{InFile, SitsAt, StoresEither}
 use Rattle.paw_host.proofs.Sitting.{shows_by}
 use Rattle.paw_host.proofs.Taking.{over_answer, full_answer, refused_answer, took, in_taking, digests_are}
+use Rattle.paw_host.proofs.answer.take_text.Given.{Over}
+use Rattle.paw_host.proofs.answer.take_text.Goals.{After-commit}
 use Rattle.paw_host.proofs.answer.take_text.Goals as goal
 
 pub returns-then-is_over-clause-serves : goal.returns-then-is_over-clause-serves
@@ -50,7 +56,7 @@ pub returns-in-Some-clause-meaning : goal.returns-in-Some-clause-meaning
 returns-in-Some-clause-meaning g c = λ tells X rows seed es s count stands.
     let p = prompt_at c.args.player.now.last in
     let last = c.if-is_over.ensures.cases in
-    let few : length es < 1000000000 = omega (arith, c.if-is_full.ensures.cases, count) in
+    let few : length es < EVENT_LIMIT = omega (arith, c.if-is_full.ensures.cases, count) in
     rw (refused_answer s c.requires.seated c.args.text.now p last few c.take-step.result c.take-step.new.self c.take-step.ensures.last c.take-step.ensures.seated
     (c.take-step.ensures.meaning X rows p last s.pieces s.traces) c.in-Some.word.now c.in-Some.ensures.value)
     (record { body = c.push-in-Some.ensures.value; stores = stands })
@@ -58,24 +64,34 @@ returns-in-Some-clause-meaning g c = λ tells X rows seed es s count stands.
 pub returns-in-Some-clause-any_moment : goal.returns-in-Some-clause-any_moment
 returns-in-Some-clause-any_moment g c = λ tells X rows seed es s count stands. Passes_none _ _ _
 
-pub returns-in-Err-clause-any_moment : goal.returns-in-Err-clause-any_moment
-returns-in-Err-clause-any_moment g c = λ tells X rows seed es s count stands.
+-- whether the commit was done or failed, its moments are of the line that was taken
+commits : (g : Over) (c : After-commit g) (tells : g.S.Stage.Tells c.args.stage.now) (X : List (List ℕ))
+    → AreRowsOf g.F.Fn c.args.player.now.routines X → (seed : ℕ) (es : List (List ℕ))
+    → SitsAt (story_of c.args.player.now.game X) seed es c.args.player.now → c.args.opened.events ≡ length es
+    → Stands (story_of c.args.player.now.game X) seed es (g.S.Stage.standing c.args.stage.now).disk.bytes
+    → EachMoment g.S.Stage c.args.stage.now c.commit.new.stage (InFile (StoresEither (story_of c.args.player.now.game X) (At seed es)
+    (taken (story_of c.args.player.now.game X) seed es c.args.text.now).session) (g.S.Stage.standing c.args.stage.now))
+commits g c tells X rows seed es s count stands =
     let story : Story = story_of c.args.player.now.game X in
     let old : Standing = g.S.Stage.standing c.args.stage.now in
     let p = prompt_at c.args.player.now.last in
     let last = c.if-is_over.ensures.cases in
-    let few : length es < 1000000000 = omega (arith, c.if-is_full.ensures.cases, count) in
+    let few : length es < EVENT_LIMIT = omega (arith, c.if-is_full.ensures.cases, count) in
     let plays = c.take-step.ensures.meaning X rows p last s.pieces s.traces in
     let shows = shows_by c.take-step.result c.in_default.ensures.value in
     Passes_map _ _ _ _ _ (InFile (StoresEither story (At seed es) (taken story seed es c.args.text.now).session) old) (c.commit.ensures.any_moment tells)
     (λ m i. in_taking s c.requires.seated c.args.text.now p last few c.take-step.result c.take-step.new.self c.take-step.ensures.last c.take-step.ensures.seated plays
     (c.args.opened.events + 1) old m shows (omega (arith, count)) stands _ _ (c.requires.kept tells).shown i)
 
+pub returns-in-Err-clause-any_moment : goal.returns-in-Err-clause-any_moment
+returns-in-Err-clause-any_moment g c = λ tells X rows seed es s count stands.
+    commits g (goal.at.returns-in-Err-clause-any_moment g c).After-commit tells X rows seed es s count stands
+
 pub returns-clause-meaning : goal.returns-clause-meaning
 returns-clause-meaning g c = λ tells X rows seed es s count stands.
     let p = prompt_at c.args.player.now.last in
     let last = c.if-is_over.ensures.cases in
-    let few : length es < 1000000000 = omega (arith, c.if-is_full.ensures.cases, count) in
+    let few : length es < EVENT_LIMIT = omega (arith, c.if-is_full.ensures.cases, count) in
     let plays = c.take-step.ensures.meaning X rows p last s.pieces s.traces in
     let shows = shows_by c.take-step.result c.in_default.ensures.value in
     let next = c.take-step.new.self in
@@ -86,16 +102,7 @@ returns-clause-meaning g c = λ tells X rows seed es s count stands.
 
 pub returns-clause-any_moment : goal.returns-clause-any_moment
 returns-clause-any_moment g c = λ tells X rows seed es s count stands.
-    let story : Story = story_of c.args.player.now.game X in
-    let old : Standing = g.S.Stage.standing c.args.stage.now in
-    let p = prompt_at c.args.player.now.last in
-    let last = c.if-is_over.ensures.cases in
-    let few : length es < 1000000000 = omega (arith, c.if-is_full.ensures.cases, count) in
-    let plays = c.take-step.ensures.meaning X rows p last s.pieces s.traces in
-    let shows = shows_by c.take-step.result c.in_default.ensures.value in
-    Passes_map _ _ _ _ _ (InFile (StoresEither story (At seed es) (taken story seed es c.args.text.now).session) old) (c.commit.ensures.any_moment tells)
-    (λ m i. in_taking s c.requires.seated c.args.text.now p last few c.take-step.result c.take-step.new.self c.take-step.ensures.last c.take-step.ensures.seated plays
-    (c.args.opened.events + 1) old m shows (omega (arith, count)) stands _ _ (c.requires.kept tells).shown i)
+    commits g (goal.at.returns-clause-any_moment g c).After-commit tells X rows seed es s count stands
 
 pub returns-then-is_over-clause-rests : goal.returns-then-is_over-clause-rests
 returns-then-is_over-clause-rests g c = λ tells. (c.requires.kept tells).rests

@@ -4,4 +4,4 @@ use Rattle.paw_world.proofs.world.opening_flags.Goals as goal
 
 pub returns : goal.returns
 unfolding flags_with
-returns c = ap flags_with c.first_carried.ensures
+returns c = record { value = ap flags_with c.first_carried.ensures.value }

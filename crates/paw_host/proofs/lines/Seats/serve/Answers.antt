@@ -1,15 +1,22 @@
-use Rattle.std.proofs.Common.{refl, sym, subst, inl, inr, Some, None}
+use Rattle.std.proofs.Common.{◌≡◌, ℕ, List, refl, sym, subst, inl, inr, Some, None}
 use Rattle.paw_stage.specs.declared.StageCall.TheVariants as call
+use Rattle.paw_stage.specs.Stage.{Standing}
+use Rattle.paw_stage.specs.Moments.{moment_of}
+use Rattle.paw_stage.specs.Across.{EachMoment}
 use Rattle.paw_stage.proofs.Time.{Passes_map, Passes_on}
+use Rattle.paw_routines.specs.Routines.{AreRowsOf}
 use Rattle.paw_effects.specs.Story.{story_of}
 use Rattle.paw_turn.proofs.Standing.{valid_story}
 use Rattle.paw_journal.proofs.Serving.{serves_done, serves_among, serves_then}
+use Rattle.paw_host.specs.Replies.{Sessions}
 use Rattle.paw_host.specs.Promise.{InHost}
 use Rattle.paw_host.specs.inner.Lines.{IsServing}
 use Rattle.paw_host.proofs.Calls.{answers_serve, shows_serve}
 use Rattle.paw_host.proofs.Reaching.{FilesHold}
 use Rattle.paw_host.proofs.Hosting.{asked_settled, shown_settled, all_answered, still_at_prompt, cut_request, took_one}
 use Rattle.paw_host.proofs.Hosting.{mid_stores, in_ask, in_doing, in_show, serves_next}
+use Rattle.paw_host.proofs.lines.Seats.serve.Given.{Over}
+use Rattle.paw_host.proofs.lines.Seats.serve.Goals.{After-ask, After-reply, After-show}
 use Rattle.paw_host.proofs.lines.Seats.serve.Goals as goal
 
 pub returns-in-End-clause-serves : goal.returns-in-End-clause-serves
@@ -74,24 +81,26 @@ returns-in-Ok-show-clause-meaning g c = λ tells X rows first start n small byte
     _ _ c.bytes.ensures.value (c.in-Ok-show.ensures.shown (c.reply.ensures.serves.tells.0 asked))
     (valid_story g.F.Fn c.args.self.now.player.routines c.args.self.now.player.game X c.requires.hosted.seated.valid rows) small bytes
 
-pub returns-in-End-clause-any_moment : goal.returns-in-End-clause-any_moment
-returns-in-End-clause-any_moment g c = λ tells X rows first start n small bytes s.
+-- ---- the moments ----
+
+-- no line came, and nothing changed
+waits : (g : Over) (c : After-ask g) (tells : g.S.Stage.Tells c.args.stage.now) (X : List (List ℕ)) (first : Sessions) (start : Standing) (n : ℕ)
+    → IsServing (story_of c.args.self.now.player.game X) c.args.hosted.now.seed first start (g.S.Stage.standing c.args.stage.now) n
+    → EachMoment g.S.Stage c.args.stage.now c.ask.new.self (λ m. m ≡ moment_of (g.S.Stage.standing c.args.stage.now))
+    → EachMoment g.S.Stage c.args.stage.now c.ask.new.self (InHost (story_of c.args.self.now.player.game X) c.args.hosted.now.seed first start)
+waits g c tells X first start n s time =
     let story = story_of c.args.self.now.player.game X in
     let seed = c.args.hosted.now.seed in
     let old = g.S.Stage.standing c.args.stage.now in
     let holds : FilesHold old = λ name e. g.met.S.Stage.files_hold c.args.stage.now name tells e in
-    Passes_map _ _ _ _ _ (InHost story seed first start) (c.in-End.ensures.time tells) (λ m e. still_at_prompt story seed first start old n s holds m e)
+    Passes_map _ _ _ _ _ (InHost story seed first start) time (λ m e. still_at_prompt story seed first start old n s holds m e)
 
-pub returns-in-Failed-clause-any_moment : goal.returns-in-Failed-clause-any_moment
-returns-in-Failed-clause-any_moment g c = λ tells X rows first start n small bytes s.
-    let story = story_of c.args.self.now.player.game X in
-    let seed = c.args.hosted.now.seed in
-    let old = g.S.Stage.standing c.args.stage.now in
-    let holds : FilesHold old = λ name e. g.met.S.Stage.files_hold c.args.stage.now name tells e in
-    Passes_map _ _ _ _ _ (InHost story seed first start) (c.in-Failed.ensures.time tells) (λ m e. still_at_prompt story seed first start old n s holds m e)
-
-pub returns-in-Err-clause-any_moment : goal.returns-in-Err-clause-any_moment
-returns-in-Err-clause-any_moment g c = λ tells X rows first start n small bytes s.
+-- a line came, and what it asks for is done
+works : (g : Over) (c : After-reply g) (tells : g.S.Stage.Tells c.args.stage.now) (X : List (List ℕ))
+    → AreRowsOf g.F.Fn c.args.self.now.player.routines X → (first : Sessions) (start : Standing) (n : ℕ)
+    → IsServing (story_of c.args.self.now.player.game X) c.args.hosted.now.seed first start (g.S.Stage.standing c.args.stage.now) n
+    → EachMoment g.S.Stage c.args.stage.now c.reply.new.stage (InHost (story_of c.args.self.now.player.game X) c.args.hosted.now.seed first start)
+works g c tells X rows first start n s =
     let story = story_of c.args.self.now.player.game X in
     let seed = c.args.hosted.now.seed in
     let old = g.S.Stage.standing c.args.stage.now in
@@ -104,8 +113,13 @@ returns-in-Err-clause-any_moment g c = λ tells X rows first start n small bytes
     (c.reply.ensures.any_moment asked X rows _ s.may (mid_stores story seed first start old mid n a.0 s holds a.1 a.3))
     (in_doing story seed first start old mid n a.0 s holds a.1 a.3 _ (cut_request a.0 _ _ _ a.2 refl))
 
-pub returns-in-Ok-show-clause-any_moment : goal.returns-in-Ok-show-clause-any_moment
-returns-in-Ok-show-clause-any_moment g c = λ tells X rows first start n small bytes s.
+-- and then the reply is shown
+shows : (g : Over) (c : After-show g) (tells : g.S.Stage.Tells c.args.stage.now) (X : List (List ℕ))
+    → AreRowsOf g.F.Fn c.args.self.now.player.routines X → (first : Sessions) (start : Standing) (n : ℕ)
+    → IsServing (story_of c.args.self.now.player.game X) c.args.hosted.now.seed first start (g.S.Stage.standing c.args.stage.now) n
+    → EachMoment g.S.Stage c.args.stage.now c.reply.new.stage (InHost (story_of c.args.self.now.player.game X) c.args.hosted.now.seed first start)
+    → EachMoment g.S.Stage c.args.stage.now c.show.new.stage (InHost (story_of c.args.self.now.player.game X) c.args.hosted.now.seed first start)
+shows g c tells X rows first start n s worked =
     let story = story_of c.args.self.now.player.game X in
     let seed = c.args.hosted.now.seed in
     let old = g.S.Stage.standing c.args.stage.now in
@@ -115,35 +129,29 @@ returns-in-Ok-show-clause-any_moment g c = λ tells X rows first start n small b
     let replied = c.reply.ensures.serves.tells.0 asked in
     let holds : FilesHold old = λ name e. g.met.S.Stage.files_hold c.args.stage.now name tells e in
     let done_holds : FilesHold (g.S.Stage.standing c.reply.new.stage) = λ name e. g.met.S.Stage.files_hold c.reply.new.stage name replied e in
-    let same = cut_request a.0 _ _ _ a.2 refl in
     let stores = mid_stores story seed first start old mid n a.0 s holds a.1 a.3 in
-    Passes_on _ _ _ _ _ _ (InHost story seed first start) _
-    (Passes_on _ _ _ _ _ _ (InHost story seed first start) _
-    (Passes_map _ _ _ _ _ (InHost story seed first start) (c.in-Line.ensures.time tells) (in_ask story seed first start old mid n a.0 s holds a.1 a.3 c.in-Line.n))
-    (c.reply.ensures.any_moment asked X rows _ s.may stores)
-    (in_doing story seed first start old mid n a.0 s holds a.1 a.3 _ same))
-    (c.show.ensures.time replied)
-    (in_show story seed first start old mid n a.0 s holds a.1 a.3 _ _ _ same (c.in-Ok.ensures.done asked X rows _ s.may stores) (c.in-Ok.ensures.synced asked)
-    done_holds _ c.bytes.ensures.value)
+    Passes_on _ _ _ _ _ _ (InHost story seed first start) _ worked (c.show.ensures.time replied)
+    (in_show story seed first start old mid n a.0 s holds a.1 a.3 _ _ _ (cut_request a.0 _ _ _ a.2 refl) (c.in-Ok.ensures.done asked X rows _ s.may stores)
+    (c.in-Ok.ensures.synced asked) done_holds _ c.bytes.ensures.value)
+
+pub returns-in-End-clause-any_moment : goal.returns-in-End-clause-any_moment
+returns-in-End-clause-any_moment g c = λ tells X rows first start n small bytes s.
+    waits g (goal.at.returns-in-End-clause-any_moment g c).After-ask tells X first start n s (c.in-End.ensures.time tells)
+
+pub returns-in-Failed-clause-any_moment : goal.returns-in-Failed-clause-any_moment
+returns-in-Failed-clause-any_moment g c = λ tells X rows first start n small bytes s.
+    waits g (goal.at.returns-in-Failed-clause-any_moment g c).After-ask tells X first start n s (c.in-Failed.ensures.time tells)
+
+pub returns-in-Err-clause-any_moment : goal.returns-in-Err-clause-any_moment
+returns-in-Err-clause-any_moment g c = λ tells X rows first start n small bytes s.
+    works g (goal.at.returns-in-Err-clause-any_moment g c).After-reply tells X rows first start n s
+
+pub returns-in-Ok-show-clause-any_moment : goal.returns-in-Ok-show-clause-any_moment
+returns-in-Ok-show-clause-any_moment g c = λ tells X rows first start n small bytes s.
+    let at = goal.at.returns-in-Ok-show-clause-any_moment g c in
+    shows g at.After-show tells X rows first start n s (works g at.After-reply tells X rows first start n s)
 
 pub returns-in-Err-show-clause-any_moment : goal.returns-in-Err-show-clause-any_moment
 returns-in-Err-show-clause-any_moment g c = λ tells X rows first start n small bytes s.
-    let story = story_of c.args.self.now.player.game X in
-    let seed = c.args.hosted.now.seed in
-    let old = g.S.Stage.standing c.args.stage.now in
-    let mid = g.S.Stage.standing c.ask.new.self in
-    let a = c.in-Line.ensures.answer tells in
-    let asked = c.ask.ensures.tells.0 tells in
-    let replied = c.reply.ensures.serves.tells.0 asked in
-    let holds : FilesHold old = λ name e. g.met.S.Stage.files_hold c.args.stage.now name tells e in
-    let done_holds : FilesHold (g.S.Stage.standing c.reply.new.stage) = λ name e. g.met.S.Stage.files_hold c.reply.new.stage name replied e in
-    let same = cut_request a.0 _ _ _ a.2 refl in
-    let stores = mid_stores story seed first start old mid n a.0 s holds a.1 a.3 in
-    Passes_on _ _ _ _ _ _ (InHost story seed first start) _
-    (Passes_on _ _ _ _ _ _ (InHost story seed first start) _
-    (Passes_map _ _ _ _ _ (InHost story seed first start) (c.in-Line.ensures.time tells) (in_ask story seed first start old mid n a.0 s holds a.1 a.3 c.in-Line.n))
-    (c.reply.ensures.any_moment asked X rows _ s.may stores)
-    (in_doing story seed first start old mid n a.0 s holds a.1 a.3 _ same))
-    (c.show.ensures.time replied)
-    (in_show story seed first start old mid n a.0 s holds a.1 a.3 _ _ _ same (c.in-Ok.ensures.done asked X rows _ s.may stores) (c.in-Ok.ensures.synced asked)
-    done_holds _ c.bytes.ensures.value)
+    let at = goal.at.returns-in-Err-show-clause-any_moment g c in
+    shows g at.After-show tells X rows first start n s (works g at.After-reply tells X rows first start n s)

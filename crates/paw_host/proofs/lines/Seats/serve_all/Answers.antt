@@ -1,4 +1,5 @@
 use Rattle.std.proofs.Common.{◌≡◌, ◌+◌, ◌∙◌, suc, None, Some, refl, sym, subst, arith}
+use Rattle.paw_base.specs.declared.limits.TheConstants.{EVENT_LIMIT}
 use Rattle.paw_stage.proofs.Time.{Passes_on, Passes_none}
 use Rattle.paw_stage.specs.Moments.{moment_of}
 use Rattle.paw_journal.proofs.Serving.{serves_none, serves_then}
@@ -36,7 +37,7 @@ returns-in-Some-clause-ends g c = λ tells.
 pub returns-clause-ends : goal.returns-clause-ends
 returns-clause-ends g c = λ tells.
     let i = c.loop.invariant in
-    let all : c.loop.counter ≡ 1000000000 = omega (arith, i.few, c.loop-test.false) in
+    let all : c.loop.counter ≡ EVENT_LIMIT = omega (arith, i.few, c.loop-test.false) in
     (refl, subst (HasTaken (g.S.Stage.standing c.args.stage.now) (g.S.Stage.standing c.loop.stage)) all (i.taken tells))
 
 pub returns-in-Some-clause-any_moment : goal.returns-in-Some-clause-any_moment
@@ -78,7 +79,7 @@ returns-clause-meaning g c = λ tells X rows first b.
     let i = c.loop.invariant in
     let story = story_of c.args.self.now.player.game X in
     let start = g.S.Stage.standing c.args.stage.now in
-    let all : c.loop.counter ≡ 1000000000 = omega (arith, i.few, c.loop-test.false) in
+    let all : c.loop.counter ≡ EVENT_LIMIT = omega (arith, i.few, c.loop-test.false) in
     (refl, subst (Answered story c.args.hosted.now.seed first start (g.S.Stage.standing c.loop.stage)) all (i.serving tells X rows first b).answered)
 
 pub loop-preserved : goal.loop-preserved

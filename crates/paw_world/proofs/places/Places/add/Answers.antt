@@ -11,4 +11,4 @@ invariant_of-self c =
       count_is c.self.inside.count c.self.inside.places c.args.self.now c.self.view_is
           (omega (arith, c.self.invariant.few, c.self.invariant.room)),
     ))
-    c.with.ensures
+    c.with.ensures.inserts

@@ -13,7 +13,7 @@ invariant_of-self c =
       count_is c.self.inside.count c.self.inside.places c.args.self.now c.self.view_is
           (omega (arith, c.self.invariant.few, c.self.invariant.room)),
     ))
-    c.without.ensures c.with.ensures
+    c.without.ensures.removes c.with.ensures.inserts
 
 pub returns : goal.returns
 returns c =
@@ -22,4 +22,7 @@ returns c =
       count_is c.self.inside.count c.self.inside.places c.args.self.now
           c.self.view_is (omega (arith, c.self.invariant.few, c.self.invariant.room)),
     )) in
-    take-set-lt c.self.inside.count c.self.inside.places c.args.o c.args.p less ∙ ap (λ l. set l c.args.o c.args.p) c.self.view_is
+    record {
+      sets = take-set-lt c.self.inside.count c.self.inside.places c.args.o c.args.p less
+          ∙ ap (λ l. set l c.args.o c.args.p) c.self.view_is;
+    }

@@ -3,4 +3,4 @@ use Rattle.paw_world.proofs.Bits.{inserts}
 use Rattle.paw_world.proofs.set.ObjectSet.with.Goals as goal
 
 pub returns : goal.returns
-returns c = rw (← c.self.view_is) (inserts c.self.inside.words c.args.o c.self.told (omega arith))
+returns c = record { inserts = rw (← c.self.view_is) (inserts c.self.inside.words c.args.o c.self.told (omega arith)) }

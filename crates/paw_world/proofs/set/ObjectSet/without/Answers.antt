@@ -3,4 +3,4 @@ use Rattle.paw_world.proofs.Bits.{removes}
 use Rattle.paw_world.proofs.set.ObjectSet.without.Goals as goal
 
 pub returns : goal.returns
-returns c = rw (← c.self.view_is) (removes c.self.inside.words c.args.o c.self.told (omega arith))
+returns c = record { removes = rw (← c.self.view_is) (removes c.self.inside.words c.args.o c.self.told (omega arith)) }

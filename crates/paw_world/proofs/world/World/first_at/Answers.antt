@@ -5,7 +5,7 @@ use Rattle.paw_world.proofs.Contents.{found_known, found_stands, found_above}
 use Rattle.paw_world.proofs.world.World.first_at.Goals as goal
 
 value : (c : goal.After-first_at) → c.first_at.result ≡ first_at c.args.self.now c.args.p c.args.above
-value c = c.first_at.ensures ∙ ap (λ (w : World). first_at w c.args.p c.args.above) c.self.view_is
+value c = c.first_at.ensures.least ∙ ap (λ (w : World). first_at w c.args.p c.args.above) c.self.view_is
 
 pub returns-clause-bound : goal.returns-clause-bound
 returns-clause-bound c = found_known c.args.self.now.places c.args.p c.args.above c.first_at.result (value c)

@@ -10,7 +10,7 @@ returns c =
           c.self.inside.kept c.self.inside.draws.seed
           c.self.inside.draws.count c.in-Some.saved c.args.n _ _ c.self.invariant.saved_alike c.in-Some.is
           (c.copy_from_slice.ensures.after ∙ ap (take (c.args.n + 1)) c.flags.ensures.value)
-          (c.at-self-inside.ensures ∙ c.places.ensures.value)
+          (c.at-self-inside.ensures.value ∙ c.places.ensures.value)
           ∙ ap (λ (w : World). ramloaded w c.args.n) c.self.view_is;
     }
 
@@ -19,4 +19,4 @@ invariant_of-self c =
     parts_loaded c.self.inside.facts c.self.inside.flags c.self.inside.places c.self.inside.saved c.self.inside.kept c.in-Some.saved
     c.args.n _ _ c.self.invariant c.in-Some.is
     (omega arith) (c.copy_from_slice.ensures.after ∙ ap (take (c.args.n + 1)) c.flags.ensures.value)
-    (c.at-self-inside.ensures ∙ c.places.ensures.value)
+    (c.at-self-inside.ensures.value ∙ c.places.ensures.value)
