@@ -1,6 +1,54 @@
--- Bytes in a row.
+-- Words for lists of bytes, by what the bytes are. Each is another name for a list of numbers, and unfolds by itself.
 use Rattle.std.specs.Prelude.{ℕ, List, replicate}
 
+-- Bytes in a row, each below 256.
+abbrev pub Bytes : Type 0
+Bytes = List ℕ
+
+-- The bytes of one line, without its line end.
+abbrev pub Line : Type 0
+Line = Bytes
+
+-- Lines in their order.
+abbrev pub Lines : Type 0
+Lines = List Line
+
+-- The bytes of a text that is printed or read.
+abbrev pub Text : Type 0
+Text = Bytes
+
+-- Texts in their order.
+abbrev pub Texts : Type 0
+Texts = List Text
+
+-- The bytes of a name: of a file, a player or a word of the language.
+abbrev pub Name : Type 0
+Name = Bytes
+
+-- Names in their order.
+abbrev pub Names : Type 0
+Names = List Name
+
+-- The letters of a word of a game: five bytes, filled up with spaces.
+abbrev pub Letters : Type 0
+Letters = Bytes
+
+-- The bytes of one token of a line.
+abbrev pub Token : Type 0
+Token = Bytes
+
+-- Tokens in their order.
+abbrev pub Tokens : Type 0
+Tokens = List Token
+
+-- The rows of routines: for each routine the byte that it answers for each byte.
+abbrev pub RoutineRows : Type 0
+RoutineRows = List Bytes
+
+-- The number from which a play draws its random words, below 2^64.
+abbrev pub Seed : Type 0
+Seed = ℕ
+
 -- so many bytes that are 0
-unfoldable pub zeros : ℕ → List ℕ
+unfoldable pub zeros : ℕ → Bytes
 zeros n = replicate n 0
