@@ -2,6 +2,7 @@
 use Rattle.std.specs.Prelude.{ℕ, zero, suc, ◌+◌, ◌&&◌, ◌||◌, Bool, List, [], ◌∷◌, ◌++◌, drop, min, nat_lt}
 use Rattle.std.specs.Prelude.{if◌then◌else◌, Option, Result, Ok, codes}
 use Rattle.std.specs.Option.{option_map, option_or, ok_or}
+use Rattle.paw_base.specs.Bytes.{Name, Names, Token, Tokens}
 use Rattle.paw_base.specs.declared.codes.TheConstants.{INDIRECT}
 use Rattle.paw_base.specs.declared.places.TheConstants.{NOT_CREATED_PLACE, CARRIED_PLACE, HERE_PLACE}
 use Rattle.paw_base.specs.declared.words.TheConstants.{ADVERB_CLASS, NOUN_CLASS, ADJECTIVE_CLASS, PREPOSITION_CLASS}
@@ -16,40 +17,40 @@ use Rattle.paw_game.specs.declared.parts.Word.{Word}
 use Rattle.paw_game.specs.Valid.{is_within}
 use Rattle.paw_grammar.specs.declared.bounds.Bounds.{Bounds}
 use Rattle.paw_faults.specs.Bind.{◌>>=◌}
-use Rattle.paw_grammar.specs.Tokens.{read_by, at_most, at_is_next}
+use Rattle.paw_grammar.specs.Tokens.{Reads, read_by, at_most, at_is_next}
 use Rattle.paw_grammar.specs.Numbers.{number, in_range, number_below}
 use Rattle.paw_grammar.specs.Vocabulary.{place_among, word_or_none}
 
 -- ---- places ----
 
 -- the places where an object may be at first beside the locations, by their numbers from the first on
-abbrev pub place_names : List (List ℕ)
+abbrev pub place_names : Names
 place_names = codes "NOTCREATED" ∷ codes "WORN" ∷ codes "CARRIED" ∷ []
 
 -- A place, by its number or by its name: a location, or one of the others up to the last that may stand here. The names
 -- count from the first place that is no location.
-abbrev pub place_up_to : ℕ → (List ℕ → Option ℕ) → ℕ → List (List ℕ) → Result (ℕ × List (List ℕ)) SourceKind
+abbrev pub place_up_to : ℕ → (Token → Option ℕ) → ℕ → Reads ℕ
 place_up_to last named locations ts =
     read_by fault.Number (λ t. option_or (number t) (option_map (λ i. NOT_CREATED_PLACE + i) (named t))) ts
     >>= in_range (λ n. nat_lt n locations || is_within NOT_CREATED_PLACE last n)
 
 -- the first place of an object
-abbrev pub first_place : ℕ → List (List ℕ) → Result (ℕ × List (List ℕ)) SourceKind
+abbrev pub first_place : ℕ → Reads ℕ
 first_place locations ts = place_up_to CARRIED_PLACE (place_among place_names) locations ts
 
 -- a place that is a parameter
-abbrev pub any_place : ℕ → List (List ℕ) → Result (ℕ × List (List ℕ)) SourceKind
+abbrev pub any_place : ℕ → Reads ℕ
 any_place locations ts = place_up_to HERE_PLACE (place_among (place_names ++ codes "HERE" ∷ [])) locations ts
 
 -- ---- parameters ----
 
 -- A table's number is below the number of headers of tables. 255 stands for one that no byte holds: there are then more
 -- than 256 headers, and one of them has a fault.
-abbrev pub table : ℕ → List (List ℕ) → Result (ℕ × List (List ℕ)) SourceKind
+abbrev pub table : ℕ → Reads ℕ
 table tables ts = number_below tables ts >>= λ n. Ok (min n.0 255, n.1)
 
 -- a parameter of each kind; one that isn't there takes no token, and is 0
-abbrev pub parameter : Bounds → List Word → ParamKind → List (List ℕ) → Result (ℕ × List (List ℕ)) SourceKind
+abbrev pub parameter : Bounds → List Word → ParamKind → Reads ℕ
 parameter bounds ws kind.Absent ts = Ok (0, ts)
 parameter bounds ws kind.Location ts = number_below bounds.locations ts
 parameter bounds ws kind.Place ts = any_place bounds.locations ts
@@ -67,16 +68,15 @@ parameter bounds ws kind.Preposition ts = word_or_none ws PREPOSITION_CLASS ts
 -- ---- indirect parameters ----
 
 -- the condact with this plain code is indirect: it may be, and `@` follows its name
-abbrev pub is_indirect_before : ℕ → List (List ℕ) → Bool
+abbrev pub is_indirect_before : ℕ → Tokens → Bool
 is_indirect_before plain ts = may_be_indirect plain && at_is_next ts
 
 -- the number of a flag behind the first byte of a token, which is `@`
-abbrev pub flag_behind_at : List (List ℕ) → Result (ℕ × List (List ℕ)) SourceKind
+abbrev pub flag_behind_at : Reads ℕ
 flag_behind_at ts = read_by fault.Number (λ t. number (drop 1 t)) ts >>= in_range (λ n. nat_lt n FLAG_COUNT)
 
 -- the first parameter: a flag behind `@` where the condact is indirect
-abbrev pub first_parameter : Bounds → List Word → Bool → ParamKind → List (List ℕ)
-    → Result (ℕ × List (List ℕ)) SourceKind
+abbrev pub first_parameter : Bounds → List Word → Bool → ParamKind → Reads ℕ
 first_parameter bounds ws indirect k ts = if indirect then flag_behind_at ts else parameter bounds ws k ts
 
 -- the code of a condact: where it is indirect, that of the plain one and 128
@@ -87,7 +87,7 @@ code_of indirect plain = if indirect then plain + INDIRECT else plain
 
 -- A condact: its name, which is Condact where none has it, and its parameters, which the next tokens are. `@` and a
 -- number stand for the first one where that may come from a flag.
-unfoldable pub condact : Bounds → List Word → List ℕ → List (List ℕ) → Result (Condact × List (List ℕ)) SourceKind
+unfoldable pub condact : Bounds → List Word → Name → Reads Condact
 condact bounds ws name ts = do
   plain ← ok_or (code_named name) fault.Condact
   a ← first_parameter bounds ws (is_indirect_before plain ts) (first_kind plain) ts
@@ -95,7 +95,7 @@ condact bounds ws name ts = do
   Ok (record { code = code_of (is_indirect_before plain ts) plain; a = a.0; b = b.0 }, b.1)
 
 -- the condacts from here to the end of the line, where the next skip tokens are parameters of the one before
-unfoldable pub condacts_in : Bounds → List Word → ℕ → List (List ℕ) → Result (List Condact) SourceKind
+unfoldable pub condacts_in : Bounds → List Word → ℕ → Tokens → Result (List Condact) SourceKind
 condacts_in bounds ws skip [] = Ok []
 condacts_in bounds ws (suc skip) (t ∷ ts) = condacts_in bounds ws skip ts
 condacts_in bounds ws zero (t ∷ ts) = do
@@ -108,5 +108,5 @@ abbrev pub with_more_condacts : List Condact → Result (List Condact) SourceKin
 with_more_condacts before cs = cs >>= λ more. Ok (before ++ more)
 
 -- an entry's condacts after a line of it: 255 at most
-unfoldable pub more_condacts : Bounds → List Word → List Condact → List (List ℕ) → Result (List Condact) SourceKind
+unfoldable pub more_condacts : Bounds → List Word → List Condact → Tokens → Result (List Condact) SourceKind
 more_condacts bounds ws before ts = with_more_condacts before (condacts_in bounds ws 0 ts) >>= at_most CONDACT_LIMIT
