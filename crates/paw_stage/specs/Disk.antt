@@ -1,6 +1,7 @@
 -- A store's bytes, and what a crash may leave of them.
 use Rattle.std.specs.Prelude.{◌≡◌, ◌⊎◌, ℕ, ◌+◌, ◌<◌, ◌≤◌, max, List, [], ◌∷◌, ◌++◌, length, take, drop, slice_index}
 use Rattle.std.specs.Prelude.{Bool, false, ◌&&◌, ◌||◌, nat_le, nat_lt}
+use Rattle.paw_base.specs.Bytes.{Bytes}
 
 -- The places from one up to, but not with, another.
 pub record Range : Type 0 where
@@ -9,8 +10,8 @@ pub record Range : Type 0 where
 
 -- What a read gives now, the bytes at the last sync, the greatest length since, and the ranges written since.
 pub record Disk : Type 0 where
-  pub bytes : List ℕ
-  pub synced : List ℕ
+  pub bytes : Bytes
+  pub synced : Bytes
   pub longest : ℕ
   pub dirty : List Range
 
@@ -21,17 +22,17 @@ is_dirty (r ∷ ranges) i = (nat_le r.from i && nat_lt i r.to) || is_dirty range
 
 -- A crash may leave these bytes: any where it was written since the last sync, and any past the length of that time.
 -- All others stay.
-pub record MayLeave (d : Disk) (image : List ℕ) : Type 0 where
+pub record MayLeave (d : Disk) (image : Bytes) : Type 0 where
   pub no_shorter : length d.synced ≤ length image
   pub no_longer : length image ≤ d.longest
   pub clean : (i : ℕ) → i < length d.synced → is_dirty d.dirty i ≡ false → slice_index image i ≡ slice_index d.bytes i
 
 -- The bytes, with new ones at a place.
-abbrev pub put : ℕ → List ℕ → List ℕ → List ℕ
+abbrev pub put : ℕ → Bytes → Bytes → Bytes
 put at new old = take at old ++ new ++ drop (at + length new) old
 
 -- The disk once n bytes at a place count as written, and these were.
-abbrev pub touched : ℕ → ℕ → List ℕ → Disk → Disk
+abbrev pub touched : ℕ → ℕ → Bytes → Disk → Disk
 touched at n new d = record {
   bytes = put at new d.bytes;
   synced = d.synced;
@@ -41,10 +42,10 @@ touched at n new d = record {
 
 -- Inside a write of n bytes, or at its end: nothing was written yet, or so many bytes, which may be any.
 abbrev pub IsInWrite : ℕ → ℕ → Disk → Disk → Type 0
-IsInWrite at n old d = (d ≡ old) ⊎ ((new : List ℕ) × (length new ≤ n) × (d ≡ touched at n new old))
+IsInWrite at n old d = (d ≡ old) ⊎ ((new : Bytes) × (length new ≤ n) × (d ≡ touched at n new old))
 
 -- A disk of these bytes, of which a crash leaves just these.
-abbrev pub stable : List ℕ → Disk
+abbrev pub stable : Bytes → Disk
 stable bytes = record { bytes = bytes; synced = bytes; longest = length bytes; dirty = [] }
 
 -- Nothing was written since the last sync.
