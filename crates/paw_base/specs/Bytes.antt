@@ -1,7 +1,8 @@
--- Words for lists of bytes, by what the bytes are. Each is another name for a list of numbers, and unfolds by itself.
+-- Words for bytes and lists of them, by what they are. Each is another name for a list of numbers, and proofs see through
+-- it. That a byte is below 256 is said where it matters.
 use Rattle.std.specs.Prelude.{ℕ, List, replicate}
 
--- Bytes in a row, each below 256.
+-- Bytes in a row.
 abbrev pub Bytes : Type 0
 Bytes = List ℕ
 
@@ -13,7 +14,7 @@ Line = Bytes
 abbrev pub Lines : Type 0
 Lines = List Line
 
--- The bytes of a text that is printed or read.
+-- The bytes of a text that is shown, or that stands in a game.
 abbrev pub Text : Type 0
 Text = Bytes
 
@@ -21,7 +22,7 @@ Text = Bytes
 abbrev pub Texts : Type 0
 Texts = List Text
 
--- The bytes of a name: of a file, a player or a word of the language.
+-- The bytes of a name: of a file, a player, a command or a condact.
 abbrev pub Name : Type 0
 Name = Bytes
 
@@ -29,11 +30,11 @@ Name = Bytes
 abbrev pub Names : Type 0
 Names = List Name
 
--- The letters of a word of a game: five bytes, filled up with spaces.
+-- The letters of a word of a game: five bytes, of which the last may be spaces.
 abbrev pub Letters : Type 0
 Letters = Bytes
 
--- The bytes of one token of a line.
+-- The bytes of one token of a line, which is a line of a source or one that was typed.
 abbrev pub Token : Type 0
 Token = Bytes
 
@@ -41,11 +42,11 @@ Token = Bytes
 abbrev pub Tokens : Type 0
 Tokens = List Token
 
--- The rows of routines: for each routine the byte that it answers for each byte.
+-- The rows of routines: a row for each routine, with its answer to each byte.
 abbrev pub RoutineRows : Type 0
 RoutineRows = List Bytes
 
--- The number from which a play draws its random words, below 2^64.
+-- The number from which a play draws its random words. A play has one below 2^64.
 abbrev pub Seed : Type 0
 Seed = ℕ
 
