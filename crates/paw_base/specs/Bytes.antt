@@ -1,6 +1,55 @@
--- Bytes in a row.
+-- Words for bytes and lists of them, by what they are. Each is another name for a list of numbers, and proofs see through
+-- it. That a byte is below 256 is said where it matters.
 use Rattle.std.specs.Prelude.{ℕ, List, replicate}
 
+-- Bytes in a row.
+abbrev pub Bytes : Type 0
+Bytes = List ℕ
+
+-- The bytes of one line, without its line end.
+abbrev pub Line : Type 0
+Line = Bytes
+
+-- Lines in their order.
+abbrev pub Lines : Type 0
+Lines = List Line
+
+-- The bytes of a text that is shown, or that stands in a game.
+abbrev pub Text : Type 0
+Text = Bytes
+
+-- Texts in their order.
+abbrev pub Texts : Type 0
+Texts = List Text
+
+-- The bytes of a name: of a file, a player, a command or a condact.
+abbrev pub Name : Type 0
+Name = Bytes
+
+-- Names in their order.
+abbrev pub Names : Type 0
+Names = List Name
+
+-- The letters of a word of a game: five bytes, of which the last may be spaces.
+abbrev pub Letters : Type 0
+Letters = Bytes
+
+-- The bytes of one token of a line, which is a line of a source or one that was typed.
+abbrev pub Token : Type 0
+Token = Bytes
+
+-- Tokens in their order.
+abbrev pub Tokens : Type 0
+Tokens = List Token
+
+-- The rows of routines: a row for each routine, with its answer to each byte.
+abbrev pub RoutineRows : Type 0
+RoutineRows = List Bytes
+
+-- The number from which a play draws its random words. A play has one below 2^64.
+abbrev pub Seed : Type 0
+Seed = ℕ
+
 -- A list of n bytes that are 0.
-unfoldable pub zeros : ℕ → List ℕ
+unfoldable pub zeros : ℕ → Bytes
 zeros n = replicate n 0

@@ -2,6 +2,7 @@
 use Rattle.std.specs.Prelude.{ℕ, ◌+◌, ◌-◌, ◌==◌, ◌&&◌, ◌||◌, if◌then◌else◌, Bool, true, false, List, [], ◌∷◌, length, map, Option, codes, bytes_eq, nat_lt, nat_le, not}
 use Rattle.std.specs.List.{slice_index_or, position}
 use Rattle.std.specs.Char.{to_ascii_uppercase}
+use Rattle.paw_base.specs.Bytes.{Bytes, Name}
 use Rattle.paw_base.specs.declared.codes.TheConstants.{INDIRECT, PROCESS, DOALL}
 use Rattle.paw_base.specs.declared.rows.ParamKind.{ParamKind}
 use Rattle.paw_base.specs.declared.rows.ParamKind.TheVariants.{Absent, Location, Place, Object, Flag}
@@ -10,16 +11,16 @@ use Rattle.paw_base.specs.declared.rows.ParamKind.TheVariants.{Noun, Adjective, 
 
 -- A line of the table: its name, what its first and its second parameter name, and whether the condact acts or tests.
 pub record CondactLine : Type 0 where
-  pub name : List ℕ
+  pub name : Name
   pub first : ParamKind
   pub second : ParamKind
   pub acts : Bool
 
 -- The line of a condition, and below it that of an action.
-abbrev pub condition : List ℕ → ParamKind → ParamKind → CondactLine
+abbrev pub condition : Name → ParamKind → ParamKind → CondactLine
 condition name first second = record { name = name; first = first; second = second; acts = false }
 
-abbrev pub action : List ℕ → ParamKind → ParamKind → CondactLine
+abbrev pub action : Name → ParamKind → ParamKind → CondactLine
 action name first second = record { name = name; first = first; second = second; acts = true }
 
 -- The lines of the codes from 0 on, in their order.
@@ -177,7 +178,7 @@ unfoldable pub line_of : ℕ → CondactLine
 line_of code = if is_indirect code then indirect_line (code - INDIRECT) else plain_line code
 
 -- The name of a code.
-abbrev pub name_of : ℕ → List ℕ
+abbrev pub name_of : ℕ → Name
 name_of code = (line_of code).name
 
 -- What the first parameter of a code names.
@@ -193,9 +194,9 @@ abbrev pub params_of : ℕ → ℕ
 params_of code = param_count (first_kind code) + param_count (second_kind code)
 
 -- A name with the letters a to z as capitals.
-abbrev pub capitals : List ℕ → List ℕ
+abbrev pub capitals : Bytes → Bytes
 capitals name = map to_ascii_uppercase name
 
 -- The least code with this name, in any case of letters, if there is one.
-abbrev pub code_named : List ℕ → Option ℕ
+abbrev pub code_named : Name → Option ℕ
 code_named name = position (λ line. bytes_eq line.name (capitals name)) condact_lines

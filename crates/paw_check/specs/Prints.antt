@@ -2,6 +2,7 @@
 -- meanings has them.
 use Rattle.std.specs.Prelude.{ℕ, ◌+◌, ◌*◌, max, List, [], ◌∷◌, length, map, sum_by, if◌then◌else◌}
 use Rattle.std.specs.List.{slice_index_or}
+use Rattle.paw_base.specs.Bytes.{Texts}
 use Rattle.paw_base.specs.declared.messages.TheConstants.{SEEN_MESSAGE, IMPOSSIBLE_MESSAGE, INVENTORY_MESSAGE}
 use Rattle.paw_base.specs.declared.messages.TheConstants.{IS_WORN_MESSAGE, EMPTY_HANDED_MESSAGE, QUIT_MESSAGE}
 use Rattle.paw_base.specs.declared.messages.TheConstants.{AGAIN_MESSAGE, OK_MESSAGE, KEY_MESSAGE, TURNS_MESSAGE}
@@ -69,7 +70,7 @@ most_of_action g =
     greatest (map (most_put g) said_of_objects) + longest_name g + most_said g NAME_END_MESSAGE
 
 -- the text that a condact's first parameter names; where the number comes from a flag it may be the longest of all
-abbrev pub most_named : GameLists → List (List ℕ) → Condact → ℕ
+abbrev pub most_named : GameLists → Texts → Condact → ℕ
 most_named g texts c = if is_indirect c.code then most_of g texts else most_at g texts c.a
 
 -- ---- rows ----

@@ -1,5 +1,6 @@
 -- What a bound promises of every play.
-use Rattle.std.specs.Prelude.{◌≡◌, ℕ, ◌≤◌, false, List, None, length, All}
+use Rattle.std.specs.Prelude.{◌≡◌, ℕ, ◌≤◌, false, None, length, All}
+use Rattle.paw_base.specs.Bytes.{Lines, Seed}
 use Rattle.paw_base.specs.declared.tables.TheConstants.{FRAME_TABLE}
 use Rattle.paw_effects.specs.Story.{Story}
 use Rattle.paw_reading.specs.Bounds.{IsLine, ValidStory}
@@ -29,7 +30,7 @@ CallsWithin levels g = (t : ℕ) (r : Run) → t ≤ FRAME_TABLE → r.turning �
 
 -- what a bound promises of a story, for all seeds and lines
 pub record StaysWithin (levels condacts text : ℕ) (g : Story) : Type 0 where
-  pub readings : (seed : ℕ) (es : List (List ℕ)) → All IsLine es → EndsWithin condacts text (reading g seed es)
+  pub readings : (seed : Seed) (es : Lines) → All IsLine es → EndsWithin condacts text (reading g seed es)
   pub calls : CallsWithin levels g
 
 -- what a verdict promises of a story: nothing where no bound is known

@@ -1,5 +1,6 @@
 -- What an action does.
-use Rattle.std.specs.Prelude.{ℕ, true, false, List, []}
+use Rattle.std.specs.Prelude.{true, false, []}
+use Rattle.paw_base.specs.Bytes.{Text}
 use Rattle.paw_world.specs.World.{World}
 use Rattle.paw_effects.specs.declared.act.Effect.{Effect}
 use Rattle.paw_effects.specs.declared.act.Effect.TheVariants as effect
@@ -7,7 +8,7 @@ use Rattle.paw_effects.specs.declared.act.Act.{Act}
 
 -- What an action prints, the world after it, and what it answers.
 pub record Done : Type 0 where
-  pub text : List ℕ
+  pub text : Text
   pub world : World
   pub act : Act
 
@@ -20,7 +21,7 @@ abbrev pub dropping : Effect → Act
 dropping e = record { effect = e; drop_line = true; cancel_loop = false }
 
 -- Prints this text, and reading goes on with this effect.
-abbrev pub tells : World → List ℕ → Effect → Done
+abbrev pub tells : World → Text → Effect → Done
 tells w text e = record { text = text; world = w; act = plainly e }
 
 -- Prints nothing, and reading goes on with this effect.
@@ -28,7 +29,7 @@ abbrev pub leads : World → Effect → Done
 leads w e = tells w [] e
 
 -- Prints this text, and reading goes on at the next condact.
-abbrev pub prints : World → List ℕ → Done
+abbrev pub prints : World → Text → Done
 prints w text = tells w text effect.Go
 
 -- Leaves this world and prints nothing, and reading goes on at the next condact.

@@ -3,6 +3,7 @@ use Rattle.std.specs.Prelude.{ℕ, ◌+◌, ◌-◌, ◌==◌, Bool, true, false
 use Rattle.std.specs.Prelude.{decimal}
 use Rattle.std.specs.List.{slice_index_or}
 use Rattle.std.specs.Option.{option_map_or}
+use Rattle.paw_base.specs.Bytes.{RoutineRows, Text}
 use Rattle.paw_base.specs.declared.flags.TheConstants.{LOCATION_FLAG, ADJECTIVE_FLAG, ADVERB_FLAG, PREPOSITION_FLAG}
 use Rattle.paw_base.specs.declared.flags.TheConstants.{SECOND_NOUN_FLAG, SECOND_ADJECTIVE_FLAG}
 use Rattle.paw_base.specs.declared.flags.TheConstants.{TIMED_OUT_FLAG, TIMED_OUT_BIT, MOST_CARRIED_FLAG, PROMPT_FLAG}
@@ -48,7 +49,7 @@ abbrev pub doing : (GameLists → World → Condact → Done) → Meaning
 doing done = Acts (λ s w c. done s.game w c)
 
 -- An action that prints, and changes nothing.
-abbrev pub printing : (GameLists → World → Condact → List ℕ) → Meaning
+abbrev pub printing : (GameLists → World → Condact → Text) → Meaning
 printing text = doing (λ g w c. prints w (text g w c))
 
 -- An action that changes the world, and prints nothing.
@@ -60,7 +61,7 @@ abbrev pub mark : Meaning
 mark = printing (λ g w c. mark_text c)
 
 -- EXTERN: a flag becomes the answer of a routine to its value, if there is such a routine.
-abbrev pub answered_by : List (List ℕ) → World → ℕ → ℕ → World
+abbrev pub answered_by : RoutineRows → World → ℕ → ℕ → World
 answered_by rows w n f = option_map_or (with_flag w f) (value_at rows n (flag w f)) w
 
 -- The meanings of the plain codes from 0 on, in their order.

@@ -1,6 +1,7 @@
 // What the actions do.
 
-ghost use Rattle.std.specs.Prelude.{◌≡◌, ◌+◌, ◌-◌, ◌<◌, ◌≤◌, ◌^◌, ℕ, List, true, false, if◌then◌else◌};
+ghost use Rattle.std.specs.Prelude.{◌≡◌, ◌+◌, ◌-◌, ◌<◌, ◌≤◌, ◌^◌, true, false, if◌then◌else◌};
+ghost use Rattle.paw_base.specs.Bytes.{RoutineRows};
 ghost use Rattle.paw_base.specs.inner.Condacts.{IsPlainCode};
 ghost use Rattle.paw_game.specs.inner.Valid.{is_right};
 ghost use Rattle.paw_effects.specs.Worlds.{IsOf};
@@ -70,7 +71,7 @@ fn set_both(world: &mut World, first: (u8, u8), second: (u8, u8))
 /// EXTERN sets a flag to the answer of a routine to the flag's value. Nothing changes where there is no such routine.
 fn answer_by_routine<F: Fn(u8, u8) -> u8>(world: &mut World, routines: &Routines<F>, n: u8, f: u8)
     requires rows { HaveRows F.Fn routines.now }
-    ensures value { (X : List (List ℕ)) → AreRowsOf F.Fn routines.now X → world.new ≡ answered_by X world.old n f }
+    ensures value { (X : RoutineRows) → AreRowsOf F.Fn routines.now X → world.new ≡ answered_by X world.old n f }
     ensures game { (g : GameLists) → IsOf g world.old → IsOf g world.new }
     ensures draws { world.new.draws ≡ world.old.draws }
 {
@@ -109,7 +110,7 @@ pub fn act<T: Tables, F: Fn(u8, u8) -> u8>(
     requires condact { is_right (T.game tables.now) c ≡ true }
     requires rows { HaveRows F.Fn routines.now }
     requires draws { world.old.draws < 2 ^ 64 - 1 }
-    ensures does { (X : List (List ℕ)) → AreRowsOf F.Fn routines.now X →
+    ensures does { (X : RoutineRows) → AreRowsOf F.Fn routines.now X →
         Does (effect_of (story_of (T.game tables.now) X) world.old c) piece.old piece.new world.new result }
     ensures game { IsOf (T.game tables.now) world.new }
     ensures draws { world.new.draws ≤ world.old.draws + 1 }
@@ -135,7 +136,7 @@ fn act_plain<T: Tables, F: Fn(u8, u8) -> u8>(
     requires condact { is_right (T.game tables.now) c ≡ true }
     requires rows { HaveRows F.Fn routines.now }
     requires draws { world.old.draws < 2 ^ 64 - 1 }
-    ensures does { (X : List (List ℕ)) → AreRowsOf F.Fn routines.now X →
+    ensures does { (X : RoutineRows) → AreRowsOf F.Fn routines.now X →
         Does (plain_effect (story_of (T.game tables.now) X) world.old c) piece.old piece.new world.new result }
     ensures game { IsOf (T.game tables.now) world.new }
     ensures draws { world.new.draws ≤ world.old.draws + 1 }

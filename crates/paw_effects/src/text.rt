@@ -1,8 +1,9 @@
 // The texts that a game prints into a piece. A function that prints nothing in some case pushes the empty text there:
 // the clause of the push says what the clause of the whole has to, that the piece is as it was and fits.
 
-ghost use Rattle.std.specs.Prelude.{◌≡◌, ◌+◌, ◌++◌, ◌<◌, ◌≤◌, List, [], ℕ, length, IfSome, IfNone, ◌==◌, Some, decimal};
+ghost use Rattle.std.specs.Prelude.{◌≡◌, ◌+◌, ◌++◌, ◌<◌, ◌≤◌, [], length, IfSome, IfNone, ◌==◌, Some, decimal};
 ghost use Rattle.std.specs.Option.{unwrap_or};
+ghost use Rattle.paw_base.specs.Bytes.{Text};
 ghost use Rattle.paw_base.specs.declared.limits.TheConstants.{PIECE_LIMIT};
 ghost use Rattle.paw_base.specs.inner.Piece.{Puts};
 ghost use Rattle.paw_game.specs.inner.Tables.{text_at};
@@ -18,8 +19,8 @@ use paw_world::world::World;
 
 /// The text before the first underscore, and the text after it; None where there is no underscore.
 fn parted(text: &[u8]) -> Option<(&[u8], &[u8])>
-    ensures none { IfNone result ((name : List ℕ) → with_name name text.now ≡ text.now) }
-    ensures some { IfSome result (λ p. (name : List ℕ) →
+    ensures none { IfNone result ((name : Text) → with_name name text.now ≡ text.now) }
+    ensures some { IfSome result (λ p. (name : Text) →
         with_name name text.now ≡ (p.0.now ++ name) ++ with_name name p.1.now) }
     ensures shorter { IfSome result (λ p. length p.1.now < length text.now) }
 {

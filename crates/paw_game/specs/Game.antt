@@ -1,5 +1,6 @@
 -- A game as seven lists.
 use Rattle.std.specs.Prelude.{ℕ, List, length}
+use Rattle.paw_base.specs.Bytes.{Texts}
 use Rattle.paw_base.specs.declared.parts.Counts.{Counts}
 use Rattle.paw_game.specs.declared.parts.Word.{Word}
 use Rattle.paw_game.specs.declared.parts.ObjectRow.{ObjectRow}
@@ -9,10 +10,10 @@ use Rattle.paw_game.specs.declared.parts.Entry.{Entry}
 -- A game: its words, system messages, messages, objects, locations, the exits of each location, and tables of entries.
 pub record GameLists : Type 0 where
   pub words : List Word
-  pub system : List (List ℕ)
-  pub messages : List (List ℕ)
+  pub system : Texts
+  pub messages : Texts
   pub objects : List ObjectRow
-  pub locations : List (List ℕ)
+  pub locations : Texts
   pub exits : List (List Exit)
   pub tables : List (List Entry)
 

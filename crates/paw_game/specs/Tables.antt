@@ -2,6 +2,7 @@
 use Rattle.std.specs.Prelude.{ℕ, ◌==◌, ◌&&◌, ◌||◌, Bool, List, [], Option, find, slice_get}
 use Rattle.std.specs.Option.{option_map, option_map_or, unwrap_or}
 use Rattle.std.specs.Str.{bytes_eq}
+use Rattle.paw_base.specs.Bytes.{Letters}
 use Rattle.paw_base.specs.declared.words.TheConstants.{ANY_WORD, NO_WORD}
 use Rattle.paw_base.specs.declared.parts.Condact.{Condact}
 use Rattle.paw_base.specs.declared.parts.ObjectFacts.{ObjectFacts}
@@ -51,9 +52,9 @@ abbrev pub matches : ℕ → ℕ → Entry → Bool
 matches verb noun e = is_for e.verb verb && is_for e.noun noun
 
 -- The word with these letters, if there is one. In a valid game there are never two.
-abbrev pub word_of : List ℕ → List Word → Option Word
+abbrev pub word_of : Letters → List Word → Option Word
 word_of letters ws = find (λ w. bytes_eq w.letters letters) ws
 
 -- The value and the class of the word with these letters, if there is one.
-abbrev pub word_at : GameLists → List ℕ → Option (ℕ × ℕ)
+abbrev pub word_at : GameLists → Letters → Option (ℕ × ℕ)
 word_at g letters = option_map (λ w. (w.value, w.class)) (word_of letters g.words)

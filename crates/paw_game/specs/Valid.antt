@@ -4,6 +4,7 @@ use Rattle.std.specs.Prelude.{◌∷◌, length, nat_lt, nat_le, IsTrue, if◌th
 use Rattle.std.specs.List.{list_all, list_any}
 use Rattle.std.specs.Ordering.{is_lt, nat_cmp}
 use Rattle.std.specs.Cmp.Lexicographic.{slice_cmp}
+use Rattle.paw_base.specs.Bytes.{Bytes}
 use Rattle.paw_base.specs.declared.places.TheConstants.{NOT_CREATED_PLACE, CARRIED_PLACE, HERE_PLACE}
 use Rattle.paw_base.specs.declared.words.TheConstants.{VERB_CLASS, ADVERB_CLASS, NOUN_CLASS, ADJECTIVE_CLASS}
 use Rattle.paw_base.specs.declared.words.TheConstants.{PREPOSITION_CLASS, PRONOUN_CLASS, ANY_WORD, NO_WORD, LEAST_WORD}
@@ -39,12 +40,12 @@ abbrev pub is_letter : ℕ → Bool
 is_letter c = is_within 65 90 c || is_within 48 57 c
 
 -- Whether bytes are capitals and digits, with nothing but spaces after them.
-abbrev pub is_filled : List ℕ → Bool
+abbrev pub is_filled : Bytes → Bool
 is_filled [] = true
 is_filled (c ∷ cs) = if is_letter c then is_filled cs else list_all (λ d. d == 32) (c ∷ cs)
 
 -- Whether bytes are the letters of a word: five, of which the first is a capital or a digit, filled up with spaces.
-abbrev pub are_letters : List ℕ → Bool
+abbrev pub are_letters : Bytes → Bool
 are_letters [] = false
 are_letters (c ∷ cs) = (length (c ∷ cs) == WORD_LENGTH) && (is_letter c && is_filled cs)
 
@@ -81,12 +82,12 @@ abbrev pub begins_no_line : ℕ → Bool
 begins_no_line b = (b == 47) || (b == 59)
 
 -- Whether bytes may stand in a text, where `first` says whether a line begins with them.
-abbrev pub is_printed : Bool → List ℕ → Bool
+abbrev pub is_printed : Bool → Bytes → Bool
 is_printed first [] = true
 is_printed first (b ∷ bs) = (is_text_byte b && not (first && begins_no_line b)) && is_printed (b == 10) bs
 
 -- Whether a text isn't too long, and each of its bytes may stand in it.
-abbrev pub is_text : List ℕ → Bool
+abbrev pub is_text : Bytes → Bool
 is_text bytes = nat_le (length bytes) TEXT_LIMIT && is_printed true bytes
 
 -- ---- places, objects, exits ----

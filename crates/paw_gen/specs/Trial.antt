@@ -2,6 +2,7 @@
 use Rattle.std.specs.Prelude.{ℕ, ◌+◌, ◌-◌, ◌*◌, ◌/◌, ◌%◌, ◌==◌, false, List, []}
 use Rattle.std.specs.Prelude.{◌∷◌, ◌++◌, map, codes, decimal, if◌then◌else◌}
 use Rattle.std.specs.List.{range_with_len}
+use Rattle.paw_base.specs.Bytes.{Letters, Line, Lines, Text}
 use Rattle.paw_base.specs.declared.codes.TheConstants.{INVEN, DESC, DONE, AUTOG, AUTOD, LISTOBJ, DOALL}
 use Rattle.paw_base.specs.declared.places.TheConstants.{CARRIED_PLACE, HERE_PLACE}
 use Rattle.paw_base.specs.declared.words.TheConstants.{VERB_CLASS, NOUN_CLASS, CONJUNCTION_CLASS, NO_WORD}
@@ -37,25 +38,25 @@ rows count row = map row (range_with_len 0 count)
 -- ---- texts ----
 
 -- A number between two texts.
-abbrev pub number_between : List ℕ → List ℕ → ℕ → List ℕ
+abbrev pub number_between : Text → Text → ℕ → Text
 number_between before after k = before ++ (decimal k ++ after)
 
 -- The text of a system message: `s` and its number.
-abbrev pub system_text : ℕ → List ℕ
+abbrev pub system_text : ℕ → Text
 system_text k = number_between (codes "s") [] k
 
 -- The text of a location, such as `Place 7.`.
-abbrev pub trial_location_text : ℕ → List ℕ
+abbrev pub trial_location_text : ℕ → Text
 trial_location_text k = number_between (codes "Place ") (codes ".") k
 
 -- The text of an object, such as `thing 7`.
-abbrev pub trial_object_text : ℕ → List ℕ
+abbrev pub trial_object_text : ℕ → Text
 trial_object_text k = number_between (codes "thing ") [] k
 
 -- ---- words ----
 
 -- A word with these letters, this value and this class.
-abbrev pub word_with : List ℕ → ℕ → ℕ → Word
+abbrev pub word_with : Letters → ℕ → ℕ → Word
 word_with letters value class = record { letters = letters; value = value; class = class }
 
 -- The words that all these games have.
@@ -67,7 +68,7 @@ named_words =
     ∷ word_with (codes "NORTH") NORTH_WORD NOUN_CLASS ∷ word_with (codes "SOUTH") SOUTH_WORD NOUN_CLASS ∷ []
 
 -- The letters of the noun of an object: T and the object's number in three digits, such as `T007 `.
-abbrev pub object_letters : ℕ → List ℕ
+abbrev pub object_letters : ℕ → Letters
 object_letters k = 84 ∷ (48 + k / 100) ∷ (48 + k / 10 % 10) ∷ (48 + k % 10) ∷ 32 ∷ []
 
 -- The noun of an object.
@@ -137,7 +138,7 @@ trial_game n = record {
 }
 
 -- Line j of a trial; six lines come in turn, again and again.
-abbrev pub trial_line : ℕ → List ℕ
+abbrev pub trial_line : ℕ → Line
 trial_line j =
     if j % 6 == 0 then codes "NORTH"
     else if j % 6 == 1 then codes "GET ALL"
@@ -147,5 +148,5 @@ trial_line j =
     else codes "SOUTH AND GET ALL"
 
 -- The lines of a trial, by its number.
-unfoldable pub trial_lines : ℕ → List (List ℕ)
+unfoldable pub trial_lines : ℕ → Lines
 trial_lines n = rows (line_count n) trial_line

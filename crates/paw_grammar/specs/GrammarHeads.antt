@@ -1,6 +1,7 @@
 -- Lines that begin with `/`: headers and items.
-use Rattle.std.specs.Prelude.{ℕ, suc, ◌==◌, ◌&&◌, ◌||◌, Bool, false, not, List, [], ◌∷◌, ◌++◌, length}
+use Rattle.std.specs.Prelude.{ℕ, suc, ◌==◌, ◌&&◌, ◌||◌, Bool, false, not, [], ◌∷◌, ◌++◌, length}
 use Rattle.std.specs.Prelude.{nat_lt, if◌then◌else◌, Option, Some, None, Result, Ok, Err, codes}
+use Rattle.paw_base.specs.Bytes.{Name, Token, Tokens}
 use Rattle.paw_base.specs.declared.limits.TheConstants.{TABLE_LIMIT}
 use Rattle.paw_base.specs.declared.fault.SourceKind.{SourceKind}
 use Rattle.paw_base.specs.declared.fault.SourceKind.TheVariants as kind
@@ -15,7 +16,7 @@ use Rattle.paw_grammar.specs.GrammarTexts.{text_item, text_limit, texts_of, with
 -- ---- headers ----
 
 -- The header that follows a section, and the section that it opens. A table follows objects or another table.
-abbrev pub next_header : Section → List ℕ × Section
+abbrev pub next_header : Section → Name × Section
 next_header section.Before = (codes "/VOC", section.Voc)
 next_header section.Voc = (codes "/STX", section.Stx)
 next_header section.Stx = (codes "/MTX", section.Mtx)
@@ -30,11 +31,11 @@ abbrev pub section_opened : Section → Spelt → Spelt
 section_opened s d = record d { section = s; begun = false }
 
 -- A header of one token opens its section.
-abbrev pub plain_header : Section → Spelt → List (List ℕ) → Result Spelt SourceKind
+abbrev pub plain_header : Section → Spelt → Tokens → Result Spelt SourceKind
 plain_header s d ts = ended ts >>= λ _. Ok (section_opened s d)
 
 -- The header of exits: they lead from location to location, so there has to be a location.
-abbrev pub con_header : Spelt → List (List ℕ) → Result Spelt SourceKind
+abbrev pub con_header : Spelt → Tokens → Result Spelt SourceKind
 con_header d ts = ended ts >>= λ _.
     if length d.locations == 0 then Err kind.Missing else Ok (section_opened section.Con d)
 
@@ -43,7 +44,7 @@ abbrev pub lacks_rows : Spelt → Bool
 lacks_rows d = (length d.tables == 0) && nat_lt (length d.facts) (length d.names)
 
 -- The header of a table: two tokens, of which the second is the number of the next table.
-abbrev pub pro_header : Spelt → List (List ℕ) → Result Spelt SourceKind
+abbrev pub pro_header : Spelt → Tokens → Result Spelt SourceKind
 pro_header d ts =
     number_below TABLE_LIMIT ts >>= λ n.
     if not (n.0 == length d.tables) then Err kind.Section
@@ -52,14 +53,14 @@ pro_header d ts =
     else Ok (record (section_opened section.Pro d) { tables = d.tables ++ [] ∷ [] })
 
 -- What is spelled after a section's header, by the tokens after its name.
-abbrev pub header_of : Section → Spelt → List (List ℕ) → Result Spelt SourceKind
+abbrev pub header_of : Section → Spelt → Tokens → Result Spelt SourceKind
 header_of section.Before d ts = Err kind.Section
 header_of section.Con d ts = con_header d ts
 header_of section.Pro d ts = pro_header d ts
 header_of s d ts = plain_header s d ts
 
 -- What is spelled after a header, which has to be the next in order.
-abbrev pub header : Spelt → List ℕ → List (List ℕ) → Result Spelt SourceKind
+abbrev pub header : Spelt → Name → Tokens → Result Spelt SourceKind
 header d name ts =
     if is_named name (next_header d.section).0 then header_of (next_header d.section).1 d ts else Err kind.Section
 
@@ -83,6 +84,6 @@ item_in s d n = if nat_lt 0 (text_limit s) then new_text s d n else Err kind.Sec
 -- ---- the line ----
 
 -- A line that begins with `/`. Where a number follows, the line is an item and ends there; otherwise it is a header.
-abbrev pub slash_line : Spelt → List ℕ → Option ℕ → List (List ℕ) → Result Spelt SourceKind
+abbrev pub slash_line : Spelt → Token → Option ℕ → Tokens → Result Spelt SourceKind
 slash_line d name (Some n) ts = ended ts >>= λ _. item_in d.section d n
 slash_line d name None ts = header d name ts

@@ -1,6 +1,7 @@
 -- The rows of the sections that have rows.
 use Rattle.std.specs.Prelude.{ℕ, ◌==◌, Bool, List, [], ◌∷◌, ◌++◌, length, nat_lt, if◌then◌else◌, Result, Ok, Err}
 use Rattle.std.specs.List.{list_any}
+use Rattle.paw_base.specs.Bytes.{Tokens}
 use Rattle.paw_base.specs.declared.words.TheConstants.{NOUN_CLASS, ADJECTIVE_CLASS, LEAST_WORD, GREATEST_WORD}
 use Rattle.paw_base.specs.declared.limits.TheConstants.{ENTRY_LIMIT, WEIGHT_LIMIT}
 use Rattle.paw_base.specs.declared.fault.SourceKind.{SourceKind}
@@ -23,7 +24,7 @@ use Rattle.paw_grammar.specs.GrammarState.{Spelt, last_or, with_last}
 -- ---- /VOC ----
 
 -- `word value class`: the words, with this one in its place.
-unfoldable pub voc_row : List Word → List (List ℕ) → Result (List Word) SourceKind
+unfoldable pub voc_row : List Word → Tokens → Result (List Word) SourceKind
 voc_row ws ts = do
   w ← word ts
   v ← number_within LEAST_WORD GREATEST_WORD w.1
@@ -34,7 +35,7 @@ voc_row ws ts = do
 -- ---- /CON ----
 
 -- `word location`: the exits of a location, with this one added, whose verb no other has.
-unfoldable pub exit_row : List Word → ℕ → List Exit → List (List ℕ) → Result (List Exit) SourceKind
+unfoldable pub exit_row : List Word → ℕ → List Exit → Tokens → Result (List Exit) SourceKind
 exit_row ws locations xs ts = do
   v ← verb_word ws ts
   to ← number_below locations v.1
@@ -43,7 +44,7 @@ exit_row ws locations xs ts = do
       else Ok (xs ++ (record { verb = v.0; to = to.0 }) ∷ [])
 
 -- A row of /CON adds an exit to the location of the last item.
-abbrev pub con_row : Spelt → List (List ℕ) → Result Spelt SourceKind
+abbrev pub con_row : Spelt → Tokens → Result Spelt SourceKind
 con_row d ts =
     if length d.exits == 0 then Err fault.Section
     else exit_row d.words (length d.locations) (last_or [] d.exits) ts >>= λ xs.
@@ -52,7 +53,7 @@ con_row d ts =
 -- ---- /OBJ ----
 
 -- `n place weight kind noun adjective`: the facts of the next object.
-unfoldable pub object_row : List Word → ℕ → ℕ → ℕ → List (List ℕ) → Result ObjectFacts SourceKind
+unfoldable pub object_row : List Word → ℕ → ℕ → ℕ → Tokens → Result ObjectFacts SourceKind
 object_row ws locations next count ts = do
   n ← row_number next count ts
   place ← first_place locations n.1
@@ -71,7 +72,7 @@ object_row ws locations next count ts = do
   })
 
 -- A row of /OBJ adds the facts of one more object.
-abbrev pub obj_row : Spelt → List (List ℕ) → Result Spelt SourceKind
+abbrev pub obj_row : Spelt → Tokens → Result Spelt SourceKind
 obj_row d ts =
     object_row d.words (length d.locations) (length d.facts) (length d.names) ts
     >>= λ f. Ok (record d { facts = d.facts ++ f ∷ [] })
@@ -89,7 +90,7 @@ bounds_of p d = record {
 }
 
 -- `verb noun condacts`: the entries of a table with one more. An entry has at most 255 condacts, a table 4,000 entries.
-unfoldable pub entry_row : Bounds → List Word → List Entry → List (List ℕ) → Result (List Entry) SourceKind
+unfoldable pub entry_row : Bounds → List Word → List Entry → Tokens → Result (List Entry) SourceKind
 entry_row bounds ws es ts = do
   v ← entry_verb ws ts
   n ← entry_noun ws v.1
@@ -102,14 +103,14 @@ abbrev pub no_entry : Entry
 no_entry = record { verb = 0; noun = 0; condacts = [] }
 
 -- ` condacts`: more condacts of the last entry, which has to be there.
-unfoldable pub more_row : Bounds → List Word → List Entry → List (List ℕ) → Result (List Entry) SourceKind
+unfoldable pub more_row : Bounds → List Word → List Entry → Tokens → Result (List Entry) SourceKind
 more_row bounds ws es ts =
     if length es == 0 then Err fault.Section
     else more_condacts bounds ws (last_or no_entry es).condacts ts
     >>= λ cs. Ok (with_last (record (last_or no_entry es) { condacts = cs }) es)
 
 -- A line of the last table: more condacts where it begins with a blank, and otherwise an entry.
-abbrev pub pro_row : ℕ → Spelt → Bool → List (List ℕ) → Result Spelt SourceKind
+abbrev pub pro_row : ℕ → Spelt → Bool → Tokens → Result Spelt SourceKind
 pro_row p d more ts =
     (if more then more_row (bounds_of p d) d.words (last_or [] d.tables) ts
     else entry_row (bounds_of p d) d.words (last_or [] d.tables) ts)
@@ -118,7 +119,7 @@ pro_row p d more ts =
 -- ---- a row ----
 
 -- A row of a section; no other section has rows.
-abbrev pub row_in : Section → ℕ → Spelt → Bool → List (List ℕ) → Result Spelt SourceKind
+abbrev pub row_in : Section → ℕ → Spelt → Bool → Tokens → Result Spelt SourceKind
 row_in section.Voc p d more ts = voc_row d.words ts >>= λ ws. Ok (record d { words = ws })
 row_in section.Con p d more ts = con_row d ts
 row_in section.Obj p d more ts = obj_row d ts

@@ -2,6 +2,7 @@
 use Rattle.std.specs.Prelude.{ℕ, ◌-◌, Bool, false, List, [], ◌++◌, length, replicate}
 use Rattle.std.specs.Prelude.{map, slice_set}
 use Rattle.std.specs.List.{slice_index_or, zip}
+use Rattle.paw_base.specs.Bytes.{Text, Texts}
 use Rattle.paw_base.specs.declared.parts.ObjectFacts.{ObjectFacts}
 use Rattle.paw_game.specs.declared.parts.Word.{Word}
 use Rattle.paw_game.specs.declared.parts.ObjectRow.{ObjectRow}
@@ -15,10 +16,10 @@ use Rattle.paw_grammar.specs.declared.section.Section.TheVariants as section
 pub record Spelt : Type 0 where
   pub section : Section
   pub words : List Word  -- in the order of their letters
-  pub system : List (List ℕ)
-  pub messages : List (List ℕ)
-  pub names : List (List ℕ)  -- the texts of the objects
-  pub locations : List (List ℕ)
+  pub system : Texts
+  pub messages : Texts
+  pub names : Texts  -- the texts of the objects
+  pub locations : Texts
   pub begun : Bool  -- the last text has a line
   pub exits : List (List Exit)  -- of the locations up to the last item of /CON
   pub facts : List ObjectFacts  -- of the objects up to the last row of /OBJ
@@ -48,8 +49,8 @@ abbrev pub with_last : {A : Type 0} → A → List A → List A
 with_last x xs = slice_set xs (length xs - 1) x
 
 -- Each text with the facts of its row.
-unfoldable pub objects_of : List (List ℕ) → List ObjectFacts → List ObjectRow
-objects_of texts facts = map (λ (o : List ℕ × ObjectFacts). record { text = o.0; facts = o.1 }) (zip texts facts)
+unfoldable pub objects_of : Texts → List ObjectFacts → List ObjectRow
+objects_of texts facts = map (λ (o : Text × ObjectFacts). record { text = o.0; facts = o.1 }) (zip texts facts)
 
 -- A list of exits for each location; those that have no item of /CON have no exits.
 abbrev pub all_exits : ℕ → List (List Exit) → List (List Exit)

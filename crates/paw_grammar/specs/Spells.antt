@@ -1,7 +1,8 @@
 -- Which game a source spells, and which fault it has.
-use Rattle.std.specs.Prelude.{◌≡◌, ℕ, suc, ◌==◌, ◌&&◌, Bool, true, false, not, List, [], ◌∷◌}
+use Rattle.std.specs.Prelude.{◌≡◌, ℕ, suc, ◌==◌, ◌&&◌, Bool, true, false, not, [], ◌∷◌}
 use Rattle.std.specs.Prelude.{length, drop, nat_lt, if◌then◌else◌, Result, Ok, Err, codes}
 use Rattle.std.specs.List.{count_by, slice_index_or}
+use Rattle.paw_base.specs.Bytes.{Bytes, Line, Lines, Tokens}
 use Rattle.paw_base.specs.declared.limits.TheConstants.{SOURCE_LIMIT, IMAGE_LIMIT, TABLE_LEAST}
 use Rattle.paw_base.specs.declared.fault.SourceKind.{SourceKind}
 use Rattle.paw_base.specs.declared.fault.SourceKind.TheVariants as kind
@@ -22,32 +23,32 @@ use Rattle.paw_grammar.specs.GrammarRows.{row_in}
 -- ---- one line ----
 
 -- Whether a line begins with `/`.
-abbrev pub begins_with_slash : List ℕ → Bool
+abbrev pub begins_with_slash : Line → Bool
 begins_with_slash [] = false
 begins_with_slash (b ∷ bs) = b == 47
 
 -- Whether a line begins with a space or a tab.
-abbrev pub begins_with_blank : List ℕ → Bool
+abbrev pub begins_with_blank : Line → Bool
 begins_with_blank [] = false
 begins_with_blank (b ∷ bs) = is_blank b
 
 -- Whether a line belongs to a text; one that begins with `/` never does.
-abbrev pub is_text_line : Spelt → List ℕ → Bool
+abbrev pub is_text_line : Spelt → Line → Bool
 is_text_line d l = is_in_text d && not (begins_with_slash l)
 
 -- What is spelled once a line is added to a text.
-abbrev pub text_added : Spelt → List ℕ → Result Spelt SourceKind
+abbrev pub text_added : Spelt → Line → Result Spelt SourceKind
 text_added d l = text_line d.begun l (texts_of d.section d) >>= λ ts. Ok (with_texts d.section true ts d)
 
 -- What is spelled after the tokens of a line; a line without tokens is skipped.
-abbrev pub tokens_added : ℕ → Spelt → Bool → Bool → List (List ℕ) → Result Spelt SourceKind
+abbrev pub tokens_added : ℕ → Spelt → Bool → Bool → Tokens → Result Spelt SourceKind
 tokens_added p d slash blank [] = Ok d
 tokens_added p d slash blank (t ∷ ts) =
     if slash then slash_line d t (number (drop 1 t)) ts else row_in d.section p d blank (t ∷ ts)
 
 -- What is spelled after one line more, or the line's first fault; a forbidden byte counts before all others. A comment
 -- spells nothing.
-unfoldable pub step : ℕ → Spelt → List ℕ → Result Spelt SourceKind
+unfoldable pub step : ℕ → Spelt → Line → Result Spelt SourceKind
 step p d l =
     if is_comment l then Ok d
     else if has_forbidden_byte (is_text_line d l) l then Err kind.Text
@@ -57,7 +58,7 @@ step p d l =
 -- ---- all lines ----
 
 -- Whether a line begins with `/` and its first token is `/PRO`.
-abbrev pub begins_table : List ℕ → Bool
+abbrev pub begins_table : Line → Bool
 begins_table l = begins_with_slash l && is_named (slice_index_or (tokens_of l) 0 []) (codes "/PRO")
 
 -- A fault with this line and this kind.
@@ -77,17 +78,17 @@ whole n d =
     else Ok (game_of d)
 
 -- The game that a source spells, by what its first n lines spell and the lines after them.
-unfoldable pub spelled_after : ℕ → ℕ → Spelt → List (List ℕ) → Result GameLists SourceFault
+unfoldable pub spelled_after : ℕ → ℕ → Spelt → Lines → Result GameLists SourceFault
 spelled_after p n d [] = whole n d
 spelled_after p n d (l ∷ ls) = at_line (suc n) (step p d l) (λ e. spelled_after p (suc n) e ls)
 
 -- The game that a source spells, or the line and the kind of its first fault. Parameters may name as many tables as
 -- there are lines that begin one.
-unfoldable pub spelled : List ℕ → Result GameLists SourceFault
+unfoldable pub spelled : Bytes → Result GameLists SourceFault
 spelled source =
     if nat_lt SOURCE_LIMIT (length source) then Err (fault 0 kind.TooBig)
     else spelled_after (count_by begins_table (lines_of source)) 0 nothing_yet (lines_of source)
 
 -- A source spells this game.
-abbrev pub Spells : List ℕ → GameLists → Type 0
+abbrev pub Spells : Bytes → GameLists → Type 0
 Spells source g = spelled source ≡ Ok g

@@ -1,5 +1,6 @@
 -- How hosting ends, and what it leaves.
 use Rattle.std.specs.Prelude.{◌≡◌, ℕ, ◌+◌, ◌<◌, ◌≤◌, List, [], ◌∷◌, length, drop, Some, None}
+use Rattle.paw_base.specs.Bytes.{Bytes, Name, RoutineRows, Seed}
 use Rattle.paw_game.specs.Game.{GameLists}
 use Rattle.paw_image.specs.Damage.{bad}
 use Rattle.paw_image.specs.Images.{IsImage}
@@ -33,7 +34,7 @@ Ends old new outcome.Memory = new ≡ old
 Ends old new _ = ⊥
 
 -- How taking lines ends, and what it leaves. Where a call failed, what stands then is a moment of the host.
-abbrev pub Hosts : Story → ℕ → Sessions → Standing → Standing → HostOutcome → Type 0
+abbrev pub Hosts : Story → Seed → Sessions → Standing → Standing → HostOutcome → Type 0
 Hosts g seed first old new outcome.InputEnded = Answered g seed first old new (length old.lines)
 Hosts g seed first old new (outcome.Long lines) = (lines ≡ HOST_LIMIT) × Answered g seed first old new HOST_LIMIT
 Hosts g seed first old new (outcome.Outside c) = InHost g seed first old (moment_of new)
@@ -41,17 +42,17 @@ Hosts g seed first old new outcome.Memory = new ≡ old
 Hosts g seed first old new _ = ⊥
 
 -- the file of this name holds the image of this game
-abbrev pub Holds : Standing → List ℕ → GameLists → Type 0
-Holds s name g = (bytes : List ℕ) × (s.files name ≡ Some bytes) × IsImage bytes g
+abbrev pub Holds : Standing → Name → GameLists → Type 0
+Holds s name g = (bytes : Bytes) × (s.files name ≡ Some bytes) × IsImage bytes g
 
 -- the file of this name holds no image of a valid game: the first rule that its bytes break is broken at this place
-abbrev pub HoldsDamage : Standing → List ℕ → ℕ → Type 0
-HoldsDamage s name at = (bytes : List ℕ) × (s.files name ≡ Some bytes) × ((g : GameLists) → ¬ IsImage bytes g)
+abbrev pub HoldsDamage : Standing → Name → ℕ → Type 0
+HoldsDamage s name at = (bytes : Bytes) × (s.files name ≡ Some bytes) × ((g : GameLists) → ¬ IsImage bytes g)
     × (bad bytes ≡ Some at)
 
 -- How hosting the game of an image file ends, with these rows of routines, whatever sessions there are; or why it
 -- isn't hosted, with nothing changed.
-pub data HostsFile (rows : List (List ℕ)) (name : List ℕ) (seed : ℕ) (old new : Standing) : HostOutcome → Type 0 where
+pub data HostsFile (rows : RoutineRows) (name : Name) (seed : Seed) (old new : Standing) : HostOutcome → Type 0 where
   hosts : (g : GameLists) (o : HostOutcome) → Holds old name g → Ends old new o →
       ((first : Sessions) → BeginsWith (story_of g rows) first old → Hosts (story_of g rows) seed first old new o) →
       HostsFile rows name seed old new o
@@ -61,7 +62,7 @@ pub data HostsFile (rows : List (List ℕ)) (name : List ℕ) (seed : ℕ) (old 
   wanting : new ≡ old → HostsFile rows name seed old new outcome.Memory
 
 -- what stands at each moment of it: that the moments are such ones is what `Come` says
-abbrev pub HostsAtEachMoment : ((Moment → Type 0) → Type 0) → List (List ℕ) → List ℕ → ℕ → Standing → Type 0
+abbrev pub HostsAtEachMoment : ((Moment → Type 0) → Type 0) → RoutineRows → Name → Seed → Standing → Type 0
 HostsAtEachMoment Come rows name seed old = (g : GameLists) (first : Sessions) → Holds old name g →
     BeginsWith (story_of g rows) first old → Come (InHost (story_of g rows) seed first old)
 

@@ -2,6 +2,7 @@
 use Rattle.std.specs.Prelude.{◌≡◌, ℕ, zero, suc, ◌<◌, ◌^◌, true, List, [], ◌∷◌, ◌++◌, map, take, All}
 use Rattle.std.specs.Prelude.{Option, Some, None, if◌then◌else◌}
 use Rattle.std.specs.Str.{bytes_eq}
+use Rattle.paw_base.specs.Bytes.{Bytes, Lines, Name, Seed, Text, Texts}
 use Rattle.paw_effects.specs.Story.{Story}
 use Rattle.paw_effects.specs.Standing.{AreBytes}
 use Rattle.paw_effects.specs.declared.act.Prompt.{Prompt}
@@ -19,23 +20,23 @@ use Rattle.paw_host.specs.Promise.{BeginsWith, InHost}
 -- ---- one name among others ----
 
 -- what a line asks of this name, if it does, and then what comes later
-abbrev pub asked_first : List ℕ → Option Request → List (Option (List ℕ)) → List (Option (List ℕ))
+abbrev pub asked_first : Name → Option Request → List (Option Text) → List (Option Text)
 asked_first name None later = later
 asked_first name (Some r) later = if bytes_eq name r.name then r.text ∷ later else later
 
 -- what these lines ask of this name, in order: no text, or this one
-unfoldable pub asked_of : List ℕ → List (List ℕ) → List (Option (List ℕ))
+unfoldable pub asked_of : Name → Lines → List (Option Text)
 asked_of name [] = []
 asked_of name (line ∷ lines) = asked_first name (request_of line) (asked_of name lines)
 
 -- the answer to a line that asks something of this name, if it does, and then what comes later
-abbrev pub answered_first : Story → ℕ → Sessions → List ℕ → Option Request → List (List ℕ) → List (List ℕ)
+abbrev pub answered_first : Story → Seed → Sessions → Name → Option Request → Texts → Texts
 answered_first g seed sessions name None later = later
 answered_first g seed sessions name (Some r) later =
     if bytes_eq name r.name then (answer g seed (sessions r.name) r.text).body ∷ later else later
 
 -- the answers in the replies to these lines that are to this name, in order
-unfoldable pub answered_to : Story → ℕ → Sessions → List ℕ → List (List ℕ) → List (List ℕ)
+unfoldable pub answered_to : Story → Seed → Sessions → Name → Lines → Texts
 answered_to g seed sessions name [] = []
 answered_to g seed sessions name (line ∷ lines) =
     answered_first g seed sessions name (request_of line)
@@ -44,12 +45,12 @@ answered_to g seed sessions name (line ∷ lines) =
 -- ---- one session alone ----
 
 -- a session, once all this was asked of it
-unfoldable pub session_after : Story → ℕ → Session → List (Option (List ℕ)) → Session
+unfoldable pub session_after : Story → Seed → Session → List (Option Text) → Session
 session_after g seed session [] = session
 session_after g seed session (text ∷ texts) = session_after g seed (answer g seed session text).session texts
 
 -- its answers, in order
-unfoldable pub answers_of : Story → ℕ → Session → List (Option (List ℕ)) → List (List ℕ)
+unfoldable pub answers_of : Story → Seed → Session → List (Option Text) → Texts
 answers_of g seed session [] = []
 answers_of g seed session (text ∷ texts) =
     (answer g seed session text).body ∷ answers_of g seed (answer g seed session text).session texts
@@ -58,20 +59,20 @@ answers_of g seed session (text ∷ texts) =
 
 -- The session of a name, and what the name is answered, come of that session and of what is asked of that name alone.
 pub record EachPlaysAlone : Type 0 where
-  pub session : (g : Story) (seed : ℕ) (sessions : Sessions) (name : List ℕ) (lines : List (List ℕ)) →
+  pub session : (g : Story) (seed : Seed) (sessions : Sessions) (name : Name) (lines : Lines) →
       sessions_after g seed sessions lines name ≡ session_after g seed (sessions name) (asked_of name lines)
-  pub answers : (g : Story) (seed : ℕ) (sessions : Sessions) (name : List ℕ) (lines : List (List ℕ)) →
+  pub answers : (g : Story) (seed : Seed) (sessions : Sessions) (name : Name) (lines : Lines) →
       answered_to g seed sessions name lines ≡ answers_of g seed (sessions name) (asked_of name lines)
 
 -- Where a session took all texts that were asked of it, and its reading then waits, it answered them with the pieces of
 -- that reading, one for each. One that was begun by the name alone was answered with all pieces of its reading.
 pub record PiecesAreAnswered : Type 0 where
-  pub later : (g : Story) (seed : ℕ) (es texts : List (List ℕ)) (p : Prompt) (path : List Frame) (r : Run) →
+  pub later : (g : Story) (seed : Seed) (es texts : Lines) (p : Prompt) (path : List Frame) (r : Run) →
       session_after g seed (At seed es) (map Some texts) ≡ At seed (es ++ texts) →
       reading g seed (es ++ texts) ≡ WaitsAt p path r →
       pieces_of (reading g seed (es ++ texts))
       ≡ pieces_of (reading g seed es) ++ answers_of g seed (At seed es) (map Some texts)
-  pub first : (g : Story) (seed : ℕ) (texts : List (List ℕ)) (p : Prompt) (path : List Frame) (r : Run) →
+  pub first : (g : Story) (seed : Seed) (texts : Texts) (p : Prompt) (path : List Frame) (r : Run) →
       session_after g seed Absent (None ∷ map Some texts) ≡ At seed texts →
       reading g seed texts ≡ WaitsAt p path r →
       answers_of g seed Absent (None ∷ map Some texts) ≡ pieces_of (reading g seed texts)
@@ -79,7 +80,7 @@ pub record PiecesAreAnswered : Type 0 where
 -- ---- after a crash ----
 
 -- the lines before the last of the first n
-abbrev pub before_last : List (List ℕ) → ℕ → List (List ℕ)
+abbrev pub before_last : Lines → ℕ → Lines
 before_last lines zero = []
 before_last lines (suc n) = take n lines
 
@@ -90,23 +91,23 @@ IsBegun _ = ⊥
 
 -- What there may be of a name after a crash: its session before a line, or after it; or, where its first session was being
 -- made, one that stands at no lines, or a file that is refused.
-pub data AfterCrash (seed : ℕ) (before after : Session) : Session → Type 0 where
+pub data AfterCrash (seed : Seed) (before after : Session) : Session → Type 0 where
   as_before : AfterCrash seed before after before
   as_after : AfterCrash seed before after after
   at_no_lines : before ≡ Absent → IsBegun after → AfterCrash seed before after (At seed [])
-  half_made : (bytes : List ℕ) → before ≡ Absent → IsBegun after → AfterCrash seed before after (Refused bytes)
+  half_made : (bytes : Bytes) → before ≡ Absent → IsBegun after → AfterCrash seed before after (Refused bytes)
 
 -- a crash at this moment may leave what then stands: the files of all names
 abbrev pub CrashLeaves : Moment → Standing → Type 0
-CrashLeaves m next = (name : List ℕ) → is_name name ≡ true →
+CrashLeaves m next = (name : Name) → is_name name ≡ true →
     MayBeLeft (store_name name) m (file_bytes next (store_name name))
 
 -- Hosting that is cut off by a crash at any of its moments may be begun again over what is left, with such a session of
 -- each name. The line that was at work is the last one that was taken.
 abbrev pub MayBeBegunAgain : Type 0
 MayBeBegunAgain =
-    (g : Story) (seed : ℕ) (first : Sessions) (old next : Standing) (m : Moment) → ValidStory g → seed < 2 ^ 64 →
+    (g : Story) (seed : Seed) (first : Sessions) (old next : Standing) (m : Moment) → ValidStory g → seed < 2 ^ 64 →
     BeginsWith g first old → (i : InHost g seed first old m) → CrashLeaves m next → All AreBytes next.lines →
-    (again : Sessions) × BeginsWith g again next × ((name : List ℕ) → is_name name ≡ true →
+    (again : Sessions) × BeginsWith g again next × ((name : Name) → is_name name ≡ true →
     AfterCrash seed (sessions_after g seed first (before_last old.lines i.taken) name)
     (sessions_after g seed first (take i.taken old.lines) name) (again name))

@@ -1,7 +1,8 @@
 -- The promise of the host over the files of all names: what was shown, and what a crash leaves of each file, at each
 -- moment and at the end.
-use Rattle.std.specs.Prelude.{◌≡◌, ◌≢◌, ◌⊎◌, ℕ, zero, suc, ◌+◌, ◌≤◌, true, List, [], ◌∷◌, ◌++◌, length, take, drop, All, Option, Some, None}
+use Rattle.std.specs.Prelude.{◌≡◌, ◌≢◌, ◌⊎◌, ℕ, zero, suc, ◌+◌, ◌≤◌, true, [], ◌∷◌, ◌++◌, length, take, drop, All, Option, Some, None}
 use Rattle.std.specs.List.{AllByRecursion}
+use Rattle.paw_base.specs.Bytes.{Bytes, Lines, Name, Seed, Text}
 use Rattle.paw_effects.specs.Story.{Story}
 use Rattle.paw_effects.specs.Standing.{AreBytes}
 use Rattle.paw_stage.specs.Stage.{Standing, file_bytes}
@@ -13,12 +14,12 @@ use Rattle.paw_host.specs.Names.{Request, request_of, is_name, store_name}
 use Rattle.paw_host.specs.Replies.{Session, Absent, At, Refused, Sessions, replies, sessions_after}
 
 -- A file with these bytes is refused: it isn't empty, and it shows no session of the game and its routines.
-abbrev pub IsRefused : Story → List ℕ → Type 0
+abbrev pub IsRefused : Story → Bytes → Type 0
 IsRefused g bytes = (bytes ≢ []) × ¬ ShowsSome g bytes
 
 -- The bytes of a name's file, by what there is of the name: none; those of a store that stands for its lines; or those
 -- that are refused.
-abbrev pub Stores : Story → Session → List ℕ → Type 0
+abbrev pub Stores : Story → Session → Bytes → Type 0
 Stores g Absent bytes = bytes ≡ []
 Stores g (At seed lines) bytes = Stands g seed lines bytes
 Stores g (Refused kept) bytes = (bytes ≡ kept) × IsRefused g kept
@@ -31,36 +32,36 @@ MayBe g _ = Unit {0}
 -- The files of all names are those of these sessions.
 abbrev pub AllStore : Story → Sessions → Standing → Type 0
 AllStore g sessions s =
-    (name : List ℕ) → is_name name ≡ true → Stores g (sessions name) (file_bytes s (store_name name))
+    (name : Name) → is_name name ≡ true → Stores g (sessions name) (file_bytes s (store_name name))
 
 -- Whatever a crash leaves at this moment of the file of a name, it is that of its session.
 abbrev pub AllLeft : Story → Sessions → Moment → Type 0
-AllLeft g sessions m = (name : List ℕ) → is_name name ≡ true → (bytes : List ℕ) →
+AllLeft g sessions m = (name : Name) → is_name name ≡ true → (bytes : Bytes) →
     MayBeLeft (store_name name) m bytes → Stores g (sessions name) bytes
 
 -- A crash may leave these bytes while a name's first session is made: no session, or one that stands at no lines.
-abbrev pub LeftOfMaking : Story → ℕ → Session → Session → List ℕ → Type 0
+abbrev pub LeftOfMaking : Story → Seed → Session → Session → Bytes → Type 0
 LeftOfMaking g seed Absent (At own lines) bytes = IsUnmade (recover bytes) ⊎ Stands g seed [] bytes
 LeftOfMaking g seed _ _ bytes = ⊥
 
 -- Whatever a crash leaves at this moment of the file of a name, it is that of its session before a line; or its store is
 -- attached, and it is that of its session after the line, or the session is being made. Where the line isn't about the
 -- name, both sessions are the same.
-abbrev pub EachLeft : Story → ℕ → Sessions → Sessions → Moment → Type 0
-EachLeft g seed before after m = (name : List ℕ) → is_name name ≡ true → (bytes : List ℕ) →
+abbrev pub EachLeft : Story → Seed → Sessions → Sessions → Moment → Type 0
+EachLeft g seed before after m = (name : Name) → is_name name ≡ true → (bytes : Bytes) →
     MayBeLeft (store_name name) m bytes →
     Stores g (before name) bytes
     ⊎ ((m.attached ≡ Some (store_name name))
     × (Stores g (after name) bytes ⊎ LeftOfMaking g seed (before name) (after name) bytes))
 
 -- the text begins with this one, and is a first part of that one
-abbrev pub IsBetween : List ℕ → List ℕ → List ℕ → Type 0
-IsBetween from to text = ((more : List ℕ) × (text ≡ from ++ more)) × ((rest : List ℕ) × (text ++ rest ≡ to))
+abbrev pub IsBetween : Text → Text → Text → Type 0
+IsBetween from to text = ((more : Text) × (text ≡ from ++ more)) × ((rest : Text) × (text ++ rest ≡ to))
 
 -- This number of lines was taken, and this text was shown for them. The last one is at work, and the file of each name
 -- is as before it, or as after it where its store is attached. The replies to those before it were shown; its own is being
 -- shown only once the file of each name is as after it.
-abbrev pub KeepsUp : Story → ℕ → Sessions → List (List ℕ) → ℕ → List ℕ → Moment → Type 0
+abbrev pub KeepsUp : Story → Seed → Sessions → Lines → ℕ → Text → Moment → Type 0
 KeepsUp g seed first lines zero text m = (text ≡ []) × AllLeft g first m
 KeepsUp g seed first lines (suc n) text m =
     EachLeft g seed (sessions_after g seed first (take n lines)) (sessions_after g seed first (take (suc n) lines)) m
@@ -69,57 +70,57 @@ KeepsUp g seed first lines (suc n) text m =
     × AllLeft g (sessions_after g seed first (take (suc n) lines)) m))
 
 -- the store that is attached once what a line asks for is done: that of the name that it asks for, if it does
-abbrev pub attached_with : Option Request → Option (List ℕ) → Option (List ℕ)
+abbrev pub attached_with : Option Request → Option Name → Option Name
 attached_with None attached = attached
 attached_with (Some r) attached = Some (store_name r.name)
 
 -- the store that is attached after these lines
-unfoldable pub attached_after : Option (List ℕ) → List (List ℕ) → Option (List ℕ)
+unfoldable pub attached_after : Option Name → Lines → Option Name
 attached_after attached [] = attached
 attached_after attached (line ∷ lines) = attached_after (attached_with (request_of line) attached) lines
 
 -- While it is done this store may be attached, or none: a line that asks for no name attaches none.
-abbrev pub MayAttach : Option Request → Option (List ℕ) → Option (List ℕ) → Type 0
+abbrev pub MayAttach : Option Request → Option Name → Option Name → Type 0
 MayAttach None before attached = attached ≡ before
 MayAttach (Some r) before attached = (attached ≡ before) ⊎ (attached ≡ Some (store_name r.name)) ⊎ (attached ≡ None)
 
 -- while the last of these lines is at work
-unfoldable pub AttachedIn : Option (List ℕ) → List (List ℕ) → Option (List ℕ) → Type 0
+unfoldable pub AttachedIn : Option Name → Lines → Option Name → Type 0
 AttachedIn before [] attached = attached ≡ before
 AttachedIn before (line ∷ []) attached = MayAttach (request_of line) before attached
 AttachedIn before (line ∷ next ∷ lines) attached =
     AttachedIn (attached_with (request_of line) before) (next ∷ lines) attached
 
 -- This file is that of no name which these lines ask for.
-abbrev pub IsNotOf : List (List ℕ) → List ℕ → Type 0
+abbrev pub IsNotOf : Lines → Name → Type 0
 IsNotOf lines file = AllByRecursion (λ line. (r : Request) → request_of line ≡ Some r → file ≢ store_name r.name) lines
 
 -- A moment of the host. Since the call began lines were taken, and a text was shown, with which the files keep
 -- up. The attached store is that of a line. No file has changed that isn't that of a name which these lines ask for.
-pub record InHost (g : Story) (seed : ℕ) (first : Sessions) (old : Standing) (m : Moment) : Type 0 where
+pub record InHost (g : Story) (seed : Seed) (first : Sessions) (old : Standing) (m : Moment) : Type 0 where
   pub taken : ℕ
-  pub text : List ℕ
+  pub text : Text
   pub there : taken ≤ length old.lines
   pub asked : m.asked ≡ old.asked + taken
   pub shown : m.shown ≡ old.shown ++ text
   pub keeps : KeepsUp g seed first old.lines taken text m
   pub attached : AttachedIn old.attached (take taken old.lines) m.attached
-  pub others : (file : List ℕ) → IsNotOf (take taken old.lines) file → m.files file ≡ old.files file
+  pub others : (file : Name) → IsNotOf (take taken old.lines) file → m.files file ≡ old.files file
 
 -- The first n lines were taken, and each got its reply. The file of each name is that of its session after them, and the store
 -- of the last name that was asked for is attached. No other file has changed.
-pub record Answered (g : Story) (seed : ℕ) (first : Sessions) (old new : Standing) (n : ℕ) : Type 0 where
+pub record Answered (g : Story) (seed : Seed) (first : Sessions) (old new : Standing) (n : ℕ) : Type 0 where
   pub there : n ≤ length old.lines
   pub lines : new.lines ≡ drop n old.lines
   pub asked : new.asked ≡ old.asked + n
   pub shown : new.shown ≡ old.shown ++ replies g seed first (take n old.lines)
   pub files : AllStore g (sessions_after g seed first (take n old.lines)) new
   pub attached : new.attached ≡ attached_after old.attached (take n old.lines)
-  pub others : (file : List ℕ) → IsNotOf (take n old.lines) file → new.files file ≡ old.files file
+  pub others : (file : Name) → IsNotOf (take n old.lines) file → new.files file ≡ old.files file
 
 -- The host may begin with these sessions: each may be, the file of each name is that of its session, and the lines are
 -- bytes.
 pub record BeginsWith (g : Story) (first : Sessions) (old : Standing) : Type 0 where
-  pub may : (name : List ℕ) → is_name name ≡ true → MayBe g (first name)
+  pub may : (name : Name) → is_name name ≡ true → MayBe g (first name)
   pub files : AllStore g first old
   pub lines : All AreBytes old.lines

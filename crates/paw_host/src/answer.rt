@@ -1,8 +1,9 @@
 // The answer to what a line asks of one session: what its store is made to keep, and the body of the reply.
 
-ghost use Rattle.std.specs.Prelude.{◌≡◌, ◌+◌, ◌*◌, ◌<◌, ◌≤◌, ◌⊎◌, ℕ, List, [], ◌∷◌, ◌++◌, length, take, None, Some};
+ghost use Rattle.std.specs.Prelude.{◌≡◌, ◌+◌, ◌*◌, ◌<◌, ◌≤◌, ◌⊎◌, [], ◌∷◌, ◌++◌, length, take, None, Some};
 ghost use Rattle.std.specs.Prelude.{IfOk, OnOk, IfSome, IfNone, MatchOption, MatchBool};
 ghost use Rattle.std.specs.Option.{option_copied};
+ghost use Rattle.paw_base.specs.Bytes.{Lines, Seed};
 ghost use Rattle.paw_base.specs.declared.limits.TheConstants.{EVENT_LIMIT, LINE_LIMIT, PIECE_LIMIT};
 ghost use Rattle.paw_stage.specs.Disk.{IsStable};
 ghost use Rattle.paw_stage.specs.Moments.{Still};
@@ -219,11 +220,11 @@ fn take_text<S: Stage, T: Tables, F: Fn(u8, u8) -> u8>(
     ensures rests { S.Tells stage.old → OnOk result (IsAtRest (S.standing stage.new)) }
     ensures beside { Across S.Stage stage.old stage.new IsBeside }
     ensures meaning { Across S.Stage stage.old stage.new (λ old new.
-        EachStory F.Fn player.old.routines player.old.game (λ g. (seed : ℕ) (es : List (List ℕ)) →
+        EachStory F.Fn player.old.routines player.old.game (λ g. (seed : Seed) (es : Lines) →
         SitsAt g seed es player.old → opened.events ≡ length es → Stands g seed es old.disk.bytes →
         OnOk result (Answers g (taken g seed es text.now) reply.old reply.new new.disk.bytes))) }
     ensures any_moment { Across S.Stage stage.old stage.new (λ old new.
-        EachStory F.Fn player.old.routines player.old.game (λ g. (seed : ℕ) (es : List (List ℕ)) →
+        EachStory F.Fn player.old.routines player.old.game (λ g. (seed : Seed) (es : Lines) →
         SitsAt g seed es player.old → opened.events ≡ length es → Stands g seed es old.disk.bytes →
         EachMoment S.Stage stage.old stage.new
         (InFile (StoresEither g (At seed es) (taken g seed es text.now).session) old))) }

@@ -1,6 +1,7 @@
 // The top call.
 
-ghost use Rattle.std.specs.Prelude.{◌≡◌, ◌↔◌, ◌≢◌, ◌++◌, ℕ, List, None, IfSome};
+ghost use Rattle.std.specs.Prelude.{◌≡◌, ◌↔◌, ◌≢◌, ◌++◌, None, IfSome};
+ghost use Rattle.paw_base.specs.Bytes.{RoutineRows};
 ghost use Rattle.paw_stage.specs.Across.{Across, EachMoment, Serves};
 ghost use Rattle.paw_stage.specs.Disk.{IsStable};
 ghost use Rattle.paw_routines.specs.Routines.{AreRowsOf, HaveRows};
@@ -75,9 +76,9 @@ pub fn host<S: Stage, F: Fn(u8, u8) -> u8>(
     ensures idle { asked_for words.now ≡ None → stage.new ≡ stage.old }
     ensures serves { Serves S.Stage (load_calls ++ session_calls) (failed_call result) stage.old stage.new }
     ensures comes { Across S.Stage stage.old stage.new (λ old new. IfSome (asked_for words.now) (λ c.
-        (X : List (List ℕ)) → AreRowsOf F.Fn routines.now X → HostsFile X c.image c.seed old new result)) }
+        (X : RoutineRows) → AreRowsOf F.Fn routines.now X → HostsFile X c.image c.seed old new result)) }
     ensures moments { Across S.Stage stage.old stage.new (λ old new. IfSome (asked_for words.now) (λ c.
-        (X : List (List ℕ)) → AreRowsOf F.Fn routines.now X →
+        (X : RoutineRows) → AreRowsOf F.Fn routines.now X →
         HostsAtEachMoment (EachMoment S.Stage stage.old stage.new) X c.image c.seed old)) }
 {
     let call = match call_of(words) {

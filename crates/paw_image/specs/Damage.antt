@@ -8,6 +8,7 @@ use Rattle.std.specs.Option.{option_or}
 use Rattle.std.specs.Str.{bytes_eq}
 use Rattle.std.specs.Ordering.{is_lt, nat_cmp}
 use Rattle.std.specs.Cmp.Lexicographic.{slice_cmp}
+use Rattle.paw_base.specs.Bytes.{Bytes}
 use Rattle.paw_base.specs.declared.limits.TheConstants.{IMAGE_LIMIT, WORD_LENGTH, WORD_LIMIT, SYSTEM_LIMIT}
 use Rattle.paw_base.specs.declared.limits.TheConstants.{MESSAGE_LIMIT, OBJECT_LIMIT}
 use Rattle.paw_base.specs.declared.limits.TheConstants.{LOCATION_LEAST, LOCATION_LIMIT, TABLE_LEAST}
@@ -28,15 +29,15 @@ use Rattle.paw_image.specs.declared.version.Version.TheVariants.{One, Two}
 use Rattle.paw_image.specs.Reading.{Reading, byte_at, bytes_at, number_at}
 
 -- A field that keeps a rule; where it breaks the rule, a fault at its first byte.
-abbrev pub field_kept : {A : Type 0} → (A → Bool) → (List ℕ → Reading A) → List ℕ → Reading A
+abbrev pub field_kept : {A : Type 0} → (A → Bool) → (Bytes → Reading A) → Bytes → Reading A
 field_kept rule field bytes = field bytes >>= λ x. if rule x.0 then Ok x else Err (length bytes)
 
 -- The bytes after what was read, or a fault in it.
 abbrev pub Passing : Type 0
-Passing = Result (List ℕ) ℕ
+Passing = Result Bytes ℕ
 
 -- The bytes after n rows, or the first fault in them.
-unfoldable pub each : (List ℕ → Passing) → ℕ → List ℕ → Passing
+unfoldable pub each : (Bytes → Passing) → ℕ → Bytes → Passing
 each row zero bytes = Ok bytes
 each row (suc n) bytes = row bytes >>= each row n
 
@@ -53,18 +54,18 @@ abbrev pub version_told : ℕ → Version
 version_told byte = if byte == 1 then One else Two
 
 -- The mark PAWI, and a version that is 1 or 2; the version is what is read.
-unfoldable pub version_kept : List ℕ → Reading Version
+unfoldable pub version_kept : Bytes → Reading Version
 version_kept bytes = do
   mark ← field_kept (λ m. bytes_eq m (codes "PAWI")) (bytes_at 4) bytes
   byte ← field_kept (is_within 1 2) byte_at mark.1
   Ok (version_told byte.0, byte.1)
 
 -- A number of two bytes within a range, both ends included.
-abbrev pub number_kept : ℕ → ℕ → List ℕ → Reading ℕ
+abbrev pub number_kept : ℕ → ℕ → Bytes → Reading ℕ
 number_kept least most = field_kept (is_within least most) number_at
 
 -- How many words, system messages, messages, objects, locations and tables follow.
-unfoldable pub counts_kept : List ℕ → Reading Counts
+unfoldable pub counts_kept : Bytes → Reading Counts
 counts_kept bytes = do
   words ← number_kept 0 WORD_LIMIT bytes
   system ← number_kept 0 SYSTEM_LIMIT words.1
@@ -77,7 +78,7 @@ counts_kept bytes = do
 -- ---- words ----
 
 -- A word: letters that are above the letters before, a value, and a class.
-unfoldable pub word_kept : List ℕ → List ℕ → Reading Word
+unfoldable pub word_kept : Bytes → Bytes → Reading Word
 word_kept before bytes = do
   letters ← field_kept (λ l. are_letters l && is_lt (slice_cmp nat_cmp before l)) (bytes_at WORD_LENGTH) bytes
   value ← field_kept (is_within LEAST_WORD GREATEST_WORD) byte_at letters.1
@@ -85,7 +86,7 @@ word_kept before bytes = do
   Ok (record { letters = letters.0; value = value.0; class = class.0 }, class.1)
 
 -- A list of n words, each above the one before.
-unfoldable pub words_above : List ℕ → ℕ → List ℕ → Reading (List Word)
+unfoldable pub words_above : Bytes → ℕ → Bytes → Reading (List Word)
 words_above before zero bytes = Ok ([], bytes)
 words_above before (suc n) bytes = do
   first ← word_kept before bytes
@@ -95,14 +96,14 @@ words_above before (suc n) bytes = do
 -- ---- texts, objects, exits ----
 
 -- The bytes after a text: a length of at most 4,095, and bytes that may stand in a text.
-unfoldable pub after_text : List ℕ → Passing
+unfoldable pub after_text : Bytes → Passing
 after_text bytes = do
   len ← number_kept 0 TEXT_LIMIT bytes
   text ← field_kept (is_printed true) (bytes_at len.0) len.1
   Ok text.1
 
 -- The bytes after an object's facts: its noun, its adjective, where it begins, and any byte for its weight.
-unfoldable pub after_facts : Preface → List ℕ → Passing
+unfoldable pub after_facts : Preface → Bytes → Passing
 after_facts d bytes = do
   noun ← field_kept (is_word_or_none d.words NOUN_CLASS) byte_at bytes
   adjective ← field_kept (is_word_or_none d.words ADJECTIVE_CLASS) byte_at noun.1
@@ -111,29 +112,29 @@ after_facts d bytes = do
   Ok weight.1
 
 -- The bytes after an object: its text, and its facts.
-abbrev pub after_object : Preface → List ℕ → Passing
+abbrev pub after_object : Preface → Bytes → Passing
 after_object d bytes = after_text bytes >>= after_facts d
 
 -- The verb of an exit after exits with these verbs: a verb value that is none of them. A location follows it.
-unfoldable pub exit_kept : Preface → List ℕ → List ℕ → Reading ℕ
+unfoldable pub exit_kept : Preface → List ℕ → Bytes → Reading ℕ
 exit_kept d verbs bytes = do
   verb ← field_kept (λ v. is_verb_value d.words v && not (list_any (λ earlier. earlier == v) verbs)) byte_at bytes
   to ← field_kept (λ l. nat_lt l d.counts.locations) byte_at verb.1
   Ok (verb.0, to.1)
 
 -- The bytes after n exits that follow exits with these verbs.
-unfoldable pub after_exits_of : Preface → List ℕ → ℕ → List ℕ → Passing
+unfoldable pub after_exits_of : Preface → List ℕ → ℕ → Bytes → Passing
 after_exits_of d verbs zero bytes = Ok bytes
 after_exits_of d verbs (suc n) bytes = exit_kept d verbs bytes >>= λ x. after_exits_of d (x.0 ∷ verbs) n x.1
 
 -- The bytes after the exits of a location: how many there are, and each of them.
-unfoldable pub after_exits : Preface → List ℕ → Passing
+unfoldable pub after_exits : Preface → Bytes → Passing
 after_exits d bytes = byte_at bytes >>= λ count. after_exits_of d [] count.0 count.1
 
 -- ---- tables ----
 
 -- The bytes after a parameter of this kind; one that a code doesn't have takes no byte.
-abbrev pub after_parameter : Preface → ParamKind → List ℕ → Passing
+abbrev pub after_parameter : Preface → ParamKind → Bytes → Passing
 after_parameter d kind.Absent bytes = Ok bytes
 after_parameter d k bytes = field_kept (is_parameter d.counts d.words k) byte_at bytes >>= λ x. Ok x.1
 
@@ -143,14 +144,14 @@ may_stand One code = is_plain_code code
 may_stand Two code = is_code code
 
 -- The bytes after a condact: a code that may stand, and the parameters that it has.
-unfoldable pub after_condact : Preface → List ℕ → Passing
+unfoldable pub after_condact : Preface → Bytes → Passing
 after_condact d bytes = do
   code ← field_kept (may_stand d.version) byte_at bytes
   a ← after_parameter d (first_kind code.0) code.1
   after_parameter d (second_kind code.0) a
 
 -- The bytes after an entry: its verb, its noun, how many condacts it has, and each of them.
-unfoldable pub after_entry : Preface → List ℕ → Passing
+unfoldable pub after_entry : Preface → Bytes → Passing
 after_entry d bytes = do
   verb ← field_kept (λ v. is_any v || is_verb_value d.words v) byte_at bytes
   noun ← field_kept (λ n. is_any n || has_word d.words NOUN_CLASS n) byte_at verb.1
@@ -158,13 +159,13 @@ after_entry d bytes = do
   each (after_condact d) count.0 count.1
 
 -- The bytes after a table: how many entries it has, at most 4,000, and each of them.
-unfoldable pub after_table : Preface → List ℕ → Passing
+unfoldable pub after_table : Preface → Bytes → Passing
 after_table d bytes = number_kept 0 ENTRY_LIMIT bytes >>= λ count. each (after_entry d) count.0 count.1
 
 -- ---- the whole image ----
 
 -- The bytes after all lists that follow the words; there are as many lists of exits as locations.
-unfoldable pub after_lists : Preface → List ℕ → Passing
+unfoldable pub after_lists : Preface → Bytes → Passing
 after_lists d bytes = do
   system ← each after_text d.counts.system bytes
   messages ← each after_text d.counts.messages system
@@ -174,7 +175,7 @@ after_lists d bytes = do
   each (after_table d) d.counts.tables exits
 
 -- The front of an image: its mark, version, counts and words.
-unfoldable pub front : List ℕ → Reading Preface
+unfoldable pub front : Bytes → Reading Preface
 front bytes = do
   version ← version_kept bytes
   counts ← counts_kept version.1
@@ -182,7 +183,7 @@ front bytes = do
   Ok (record { version = version.0; counts = counts.0; words = words.0 }, words.1)
 
 -- The bytes after the last field.
-unfoldable pub after_all : List ℕ → Passing
+unfoldable pub after_all : Bytes → Passing
 after_all bytes = front bytes >>= λ d. after_lists d.0 d.1
 
 -- The same front with version 1.
@@ -204,7 +205,7 @@ is_needless_after (Ok d) = needs_no_2 d.0.version (after_lists (as_version_1 d.0
 is_needless_after (Err left) = false
 
 -- Whether the version is 2 though no code needs it.
-unfoldable pub is_needless : List ℕ → Bool
+unfoldable pub is_needless : Bytes → Bool
 is_needless bytes = is_needless_after (front bytes)
 
 -- The place of a fault, or of the first byte after the last field, in `total` bytes; nothing where all is well.
@@ -215,7 +216,7 @@ place_in total (Ok (b ∷ bytes)) = Some (total - length (b ∷ bytes))
 
 -- The place of the first broken rule, or nothing. The first rule is that there aren't too many bytes, where the place
 -- is their limit; the last is that the version, byte 4, is needed.
-unfoldable pub bad : List ℕ → Option ℕ
+unfoldable pub bad : Bytes → Option ℕ
 bad bytes =
     if nat_lt IMAGE_LIMIT (length bytes) then Some IMAGE_LIMIT
     else option_or (place_in (length bytes) (after_all bytes)) (if is_needless bytes then Some 4 else None)

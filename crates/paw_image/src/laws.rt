@@ -1,6 +1,7 @@
 // Laws of images.
 
-ghost use Rattle.std.specs.Prelude.{◌≡◌, ℕ, List, None};
+ghost use Rattle.std.specs.Prelude.{◌≡◌, None};
+ghost use Rattle.paw_base.specs.Bytes.{Bytes};
 ghost use Rattle.paw_game.specs.Game.{GameLists};
 ghost use Rattle.paw_game.specs.Valid.{Valid};
 ghost use Rattle.paw_game.specs.Image.{image};
@@ -15,6 +16,6 @@ pub fn image_tells_the_game()
 
 /// Bytes break no rule exactly where they are the image of a valid game, and no more than an image may have.
 pub fn bad_tells_images()
-    ensures whole { (bytes : List ℕ) → AreBytes bytes → bad bytes ≡ None → (g : GameLists) × IsImage bytes g }
-    ensures image { (bytes : List ℕ) (g : GameLists) → IsImage bytes g → bad bytes ≡ None }
+    ensures whole { (bytes : Bytes) → AreBytes bytes → bad bytes ≡ None → (g : GameLists) × IsImage bytes g }
+    ensures image { (bytes : Bytes) (g : GameLists) → IsImage bytes g → bad bytes ≡ None }
 {}

@@ -5,6 +5,7 @@ use Rattle.std.specs.Prelude.{◌∷◌, ◌++◌, length, take, drop, slice_ind
 use Rattle.std.specs.Prelude.{None, is_none, if◌then◌else◌}
 use Rattle.paw_base.specs.declared.layout.TheConstants.{STATE_LENGTH, FIRST_LENGTH, PIECE_LENGTH_AT}
 unfoldable pub use Rattle.paw_base.specs.Bytes.{zeros}
+use Rattle.paw_base.specs.Bytes.{Bytes, Text}
 use Rattle.paw_stage.specs.Disk.{put}
 use Rattle.paw_journal.specs.declared.layout.TheConstants.{HEADER_LENGTH, SLOT_LENGTH, SESSION_LENGTH, BASE_AT}
 use Rattle.paw_journal.specs.declared.layout.TheConstants.{BASE_LENGTH, PIECE_AT, CHANGES_AT, MOST_CHANGES}
@@ -24,11 +25,11 @@ abbrev pub session_length : ℕ
 session_length = SESSION_LENGTH
 
 -- So many bytes from a place on.
-abbrev pub stretch : ℕ → ℕ → List ℕ → List ℕ
+abbrev pub stretch : ℕ → ℕ → Bytes → Bytes
 stretch at n bytes = take n (drop at bytes)
 
 -- The number of 16 bits at a place, its low byte first.
-abbrev pub two_byte_number : ℕ → List ℕ → ℕ
+abbrev pub two_byte_number : ℕ → Bytes → ℕ
 two_byte_number at bytes = slice_index bytes at + 256 * slice_index bytes (at + 1)
 
 -- The header. The session is made where byte 0 is the mark; the low bit of byte 1 chooses a slot.
@@ -36,15 +37,15 @@ abbrev pub made_mark : ℕ
 made_mark = 80
 
 -- Byte 0.
-abbrev pub mark : List ℕ → ℕ
+abbrev pub mark : Bytes → ℕ
 mark bytes = slice_index bytes 0
 
 -- Which slot is in use: 0 or 1.
-abbrev pub chosen : List ℕ → ℕ
+abbrev pub chosen : Bytes → ℕ
 chosen bytes = slice_index bytes 1 % 2
 
 -- Byte 2: the version of the session.
-abbrev pub version : List ℕ → ℕ
+abbrev pub version : Bytes → ℕ
 version bytes = slice_index bytes 2
 
 -- The versions of a session. Each slot has one of its own, and the session's decides nothing else.
@@ -53,22 +54,22 @@ is_version n = (n == 1) || (n == 2)
 
 -- Whose session it is: the digests of its game, and of the routines that it is played with.
 pub record Digests : Type 0 where
-  pub game : List ℕ
-  pub routines : List ℕ
+  pub game : Bytes
+  pub routines : Bytes
 
 -- The digests that the header keeps.
-abbrev pub kept_digests : List ℕ → Digests
+abbrev pub kept_digests : Bytes → Digests
 kept_digests bytes = record { game = stretch 32 32 bytes; routines = stretch 64 32 bytes }
 
 -- A session belongs to a game and to routines, which have these digests. One that keeps 32 zeros in place of a digest
 -- of its routines isn't measured: it belongs to all routines.
-pub record BelongsTo (game routines : List ℕ) (kept : Digests) : Type 0 where
+pub record BelongsTo (game routines : Bytes) (kept : Digests) : Type 0 where
   pub of_game : kept.game ≡ game
   pub of_routines : (kept.routines ≡ zeros 32) ⊎ (kept.routines ≡ routines)
 
 -- The bytes of a slot: the number of its change records (at 0), its version (at 2), its base (at 64), a piece (at
 -- 4,160) and the change records (at 69,696).
-abbrev pub slot : ℕ → List ℕ → List ℕ
+abbrev pub slot : ℕ → Bytes → Bytes
 slot k bytes = stretch (header_length + slot_length * k) slot_length bytes
 
 -- The bytes of a slot's base.
@@ -80,11 +81,11 @@ abbrev pub most_changes : ℕ
 most_changes = MOST_CHANGES
 
 -- A slot is of version 2 where its byte 2 is 2, and of version 1 otherwise.
-abbrev pub is_second : List ℕ → Bool
+abbrev pub is_second : Bytes → Bool
 is_second bytes = slice_index bytes 2 == 2
 
 -- The base of a slot.
-abbrev pub base : List ℕ → List ℕ
+abbrev pub base : Bytes → Bytes
 base bytes = stretch BASE_AT base_length bytes
 
 -- A change record: the place of a byte of the base, the byte that stands there from then on, and a byte that is 0.
@@ -98,12 +99,12 @@ abbrev pub is_sound : Change → Bool
 is_sound c = nat_lt c.at base_length && (c.last == 0)
 
 -- The change records that stand one after the other, each in four bytes.
-abbrev pub changes : List ℕ → List Change
+abbrev pub changes : Bytes → List Change
 changes (a ∷ b ∷ c ∷ d ∷ bytes) = record { at = a + 256 * b; byte = c; last = d } ∷ changes bytes
 changes bytes = []
 
 -- The change records of a slot.
-abbrev pub slot_changes : List ℕ → List Change
+abbrev pub slot_changes : Bytes → List Change
 slot_changes bytes = changes (stretch CHANGES_AT (4 * two_byte_number 0 bytes) bytes)
 
 -- The number of the first change that isn't sound.
@@ -111,16 +112,16 @@ abbrev pub first_unsound : List Change → Option ℕ
 first_unsound all = position (λ c. not (is_sound c)) all
 
 -- The bytes with changes applied in order.
-abbrev pub changed : List Change → List ℕ → List ℕ
+abbrev pub changed : List Change → Bytes → Bytes
 changed [] bytes = bytes
 changed (c ∷ more) bytes = changed more (slice_set bytes c.at c.byte)
 
 -- The state of a slot: its base with its change records applied.
-abbrev pub slot_state : List ℕ → List ℕ
+abbrev pub slot_state : Bytes → Bytes
 slot_state bytes = changed (slot_changes bytes) (base bytes)
 
 -- A slot has a state where its change records aren't too many, and each is sound.
-abbrev pub has_state : List ℕ → Bool
+abbrev pub has_state : Bytes → Bool
 has_state bytes = nat_le (two_byte_number 0 bytes) most_changes && is_none (first_unsound (slot_changes bytes))
 
 -- The bytes of a state, and how many of them version 1 has. Bytes 1,369 and 1,370 tell the length of the piece; behind
@@ -133,16 +134,16 @@ abbrev pub first_length : ℕ
 first_length = FIRST_LENGTH
 
 -- The state that a slot shows. Where it is of version 1, no position is kept, whatever stands behind its state.
-abbrev pub shown_state : List ℕ → List ℕ
+abbrev pub shown_state : Bytes → Bytes
 shown_state bytes =
     if is_second bytes then take state_length (slot_state bytes) else take first_length (slot_state bytes) ++ zeros 2048
 
 -- How many bytes the piece of a state has.
-abbrev pub piece_length : List ℕ → ℕ
+abbrev pub piece_length : Bytes → ℕ
 piece_length state = two_byte_number PIECE_LENGTH_AT state
 
 -- The piece of a slot.
-abbrev pub slot_piece : List ℕ → List ℕ
+abbrev pub slot_piece : Bytes → Text
 slot_piece bytes = stretch PIECE_AT (piece_length (slot_state bytes)) bytes
 
 -- What the bytes of a store stand for: no session, with their length and mark; one that is damaged, with the place of
@@ -150,30 +151,30 @@ slot_piece bytes = stretch PIECE_AT (piece_length (slot_state bytes)) bytes
 pub data Recovered : Type 0 where
   Unmade : (length mark : ℕ) → Recovered
   Damaged : (part : SessionPart) (at : ℕ) → Recovered
-  Shown : (digests : Digests) (state piece : List ℕ) → Recovered
+  Shown : (digests : Digests) (state piece : Bytes) → Recovered
 
 -- What a slot shows where this is its first change that isn't sound: it is damaged there. With none it shows its state
 -- and its piece.
-abbrev pub shown_unless : Digests → List ℕ → Option ℕ → Recovered
+abbrev pub shown_unless : Digests → Bytes → Option ℕ → Recovered
 shown_unless digests bytes (Some n) = Damaged part.Slot (CHANGES_AT + 4 * n)
 shown_unless digests bytes None = Shown digests (shown_state bytes) (slot_piece bytes)
 
 -- What a slot shows. One with too many change records is damaged at its first byte.
-unfoldable pub slot_shows : Digests → List ℕ → Recovered
+unfoldable pub slot_shows : Digests → Bytes → Recovered
 slot_shows digests bytes =
     if nat_le (two_byte_number 0 bytes) most_changes
     then shown_unless digests bytes (first_unsound (slot_changes bytes))
     else Damaged part.Slot 0
 
 -- What the bytes stand for if they choose this slot.
-unfoldable pub recover_by : ℕ → List ℕ → Recovered
+unfoldable pub recover_by : ℕ → Bytes → Recovered
 recover_by k bytes =
     if (length bytes == session_length) && (mark bytes == made_mark)
     then (if is_version (version bytes) then slot_shows (kept_digests bytes) (slot k bytes) else Damaged part.Header 2)
     else Unmade (length bytes) (mark bytes)
 
 -- What the bytes stand for, by the slot that they choose.
-unfoldable pub recover : List ℕ → Recovered
+unfoldable pub recover : Bytes → Recovered
 recover bytes = recover_by (chosen bytes) bytes
 
 -- The bytes do not hold a session.
@@ -185,57 +186,57 @@ IsUnmade (Shown d s p) = ⊥
 -- ---- what is written ----
 
 -- A slot as it is made: no change records, version 2, this state as its base, and this piece.
-abbrev pub made_slot : List ℕ → List ℕ → List ℕ
+abbrev pub made_slot : Bytes → Text → Bytes
 made_slot state piece = 0 ∷ 0 ∷ 2 ∷ zeros 61 ++ state ++ piece ++ zeros (81920 - length piece)
 
 -- A header as it is made, with this mark and these digests: slot 0 is in use, and the version is 2.
-abbrev pub made_header : ℕ → Digests → List ℕ
+abbrev pub made_header : ℕ → Digests → Bytes
 made_header mark digests = mark ∷ 0 ∷ 2 ∷ zeros 29 ++ digests.game ++ digests.routines ++ zeros 32
 
 -- A session as it is made: both slots have this state and this piece.
-abbrev pub made_session : Digests → List ℕ → List ℕ → List ℕ
+abbrev pub made_session : Digests → Bytes → Text → Bytes
 made_session digests state piece = made_header made_mark digests ++ made_slot state piece ++ made_slot state piece
 
 -- The number of places at which two states differ.
-unfoldable pub differing : List ℕ → List ℕ → ℕ
+unfoldable pub differing : Bytes → Bytes → ℕ
 differing (x ∷ old) (y ∷ new) = (if x == y then 0 else 1) + differing old new
 differing old new = 0
 
 -- A change record in its four bytes: from now on this byte stands at this place.
-abbrev pub change_bytes : ℕ → ℕ → List ℕ
+abbrev pub change_bytes : ℕ → ℕ → Bytes
 change_bytes at byte = (at % 256) ∷ (at / 256) ∷ byte ∷ 0 ∷ []
 
 -- The change records by which one state becomes another, as bytes: one for each place at which they differ, in rising
 -- order. These are the states from this place on.
-unfoldable pub differences_from : ℕ → List ℕ → List ℕ → List ℕ
+unfoldable pub differences_from : ℕ → Bytes → Bytes → Bytes
 differences_from at (x ∷ old) (y ∷ new) =
     (if x == y then [] else change_bytes at y) ++ differences_from (suc at) old new
 differences_from at old new = []
 
 -- The same of whole states.
-abbrev pub differences : List ℕ → List ℕ → List ℕ
+abbrev pub differences : Bytes → Bytes → Bytes
 differences old new = differences_from 0 old new
 
 -- The first bytes of a slot of version 2 with so many change records.
-abbrev pub slot_head : ℕ → List ℕ
+abbrev pub slot_head : ℕ → Bytes
 slot_head records = (records % 256) ∷ (records / 256) ∷ 2 ∷ []
 
 -- A slot that is of version 2 from now on, with so many change records, this piece, and these bytes from a place on.
 -- All its other bytes are as they were.
-abbrev pub rewritten : ℕ → List ℕ → ℕ → List ℕ → List ℕ → List ℕ
+abbrev pub rewritten : ℕ → Bytes → ℕ → Text → Bytes → Bytes
 rewritten at new records piece bytes = put 0 (slot_head records) (put PIECE_AT piece (put at new bytes))
 
 -- How many change records a slot would have, once those are added that give it this state.
-abbrev pub records_with : List ℕ → List ℕ → ℕ
+abbrev pub records_with : Bytes → Bytes → ℕ
 records_with state bytes = two_byte_number 0 bytes + differing (slot_state bytes) state
 
 -- A commit adds change records to a slot that is of version 2, has a state, and has room for them.
-abbrev pub takes_changes : List ℕ → List ℕ → Bool
+abbrev pub takes_changes : Bytes → Bytes → Bool
 takes_changes state bytes = is_second bytes && has_state bytes && nat_le (records_with state bytes) most_changes
 
 -- A slot once a commit gave it this state and this piece: by change records behind those that it has, or by its base,
 -- written whole.
-unfoldable pub committed_slot : List ℕ → List ℕ → List ℕ → List ℕ
+unfoldable pub committed_slot : Bytes → Text → Bytes → Bytes
 committed_slot state piece bytes =
     if takes_changes state bytes
     then rewritten (CHANGES_AT + 4 * two_byte_number 0 bytes) (differences (slot_state bytes) state)
@@ -243,10 +244,10 @@ committed_slot state piece bytes =
     else rewritten BASE_AT state 0 piece bytes
 
 -- The bytes of a session once this slot is written by a commit, and in use. All other bytes are as they were.
-unfoldable pub committed_in : ℕ → List ℕ → List ℕ → List ℕ → List ℕ
+unfoldable pub committed_in : ℕ → Bytes → Text → Bytes → Bytes
 committed_in k state piece bytes =
     put 1 (k ∷ []) (put (header_length + slot_length * k) (committed_slot state piece (slot k bytes)) bytes)
 
 -- The bytes of a session once a commit gave it this state and this piece: in the slot that isn't in use.
-unfoldable pub committed : List ℕ → List ℕ → List ℕ → List ℕ
+unfoldable pub committed : Bytes → Text → Bytes → Bytes
 committed state piece bytes = committed_in (1 - chosen bytes) state piece bytes

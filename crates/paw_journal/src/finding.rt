@@ -1,6 +1,7 @@
 // What the header of a session tells.
 
-ghost use Rattle.std.specs.Prelude.{◌≡◌, ◌≢◌, ℕ, ◌+◌, ◌≤◌, None, List, [], ◌∷◌, length, take, OnOk, IfOk, IfErr, IsSome};
+ghost use Rattle.std.specs.Prelude.{◌≡◌, ◌≢◌, ◌+◌, ◌≤◌, None, [], ◌∷◌, length, take, OnOk, IfOk, IfErr, IsSome};
+ghost use Rattle.paw_base.specs.Bytes.{Bytes};
 ghost use Rattle.paw_stage.specs.declared.StageCall.TheVariants as call;
 ghost use Rattle.paw_stage.specs.Moments.{Still};
 ghost use Rattle.paw_stage.specs.Across.{Serves};
@@ -37,7 +38,7 @@ impl Header {
     /// other routines.
     pub(crate) fn belongs_to(&self, game: &[u8; 32], rules: &[u8; 32]) -> Result<(), JournalRefusal>
         ensures belongs { OnOk result (BelongsTo game.now rules.now (header_digests self.now)) }
-        ensures refused { (r : Recovered) (state piece : List ℕ) → r ≡ Shown (header_digests self.now) state piece →
+        ensures refused { (r : Recovered) (state piece : Bytes) → r ≡ Shown (header_digests self.now) state piece →
             IfErr result (IsSessionRefused r game.now rules.now) }
         ensures inside { refused_call result ≡ None }
     {
@@ -67,7 +68,7 @@ pub(crate) fn read_header<S: Stage>(stage: &mut S, size: u64) -> Result<Header, 
     ensures serves { Serves S.Stage (call.Read ∷ []) (refused_call result) stage.old stage.new }
     ensures still { S.Tells stage.old → S.standing stage.new ≡ S.standing stage.old }
     ensures introduced { S.Tells stage.old → IfOk result (IsHeaderOf (S.standing stage.old).disk.bytes) }
-    ensures refused { S.Tells stage.old → (game rules : List ℕ) →
+    ensures refused { S.Tells stage.old → (game rules : Bytes) →
         IfErr result (IsSessionRefused (recover (S.standing stage.old).disk.bytes) game rules) }
     ensures time { Throughout S.Stage stage.old stage.new Still }
 {
@@ -88,7 +89,7 @@ fn unmade<S: Stage>(stage: &mut S, size: u64) -> JournalRefusal
     requires other { size ≢ session_length }
     ensures serves { Serves S.Stage (call.Read ∷ []) (outside result) stage.old stage.new }
     ensures still { S.Tells stage.old → S.standing stage.new ≡ S.standing stage.old }
-    ensures refused { S.Tells stage.old → (game rules : List ℕ) →
+    ensures refused { S.Tells stage.old → (game rules : Bytes) →
         IsSessionRefused (recover (S.standing stage.old).disk.bytes) game rules result }
     ensures time { Throughout S.Stage stage.old stage.new Still }
 {
@@ -107,9 +108,9 @@ fn unmade<S: Stage>(stage: &mut S, size: u64) -> JournalRefusal
 
 // What these bytes tell of each session whose header they are.
 fn header_in(bytes: &[u8; HEADER_LENGTH]) -> Result<Header, JournalRefusal>
-    ensures introduced { (whole : List ℕ) → length whole ≡ session_length → bytes.now ≡ take header_length whole →
+    ensures introduced { (whole : Bytes) → length whole ≡ session_length → bytes.now ≡ take header_length whole →
         IfOk result (IsHeaderOf whole) }
-    ensures refused { (whole game rules : List ℕ) → length whole ≡ session_length →
+    ensures refused { (whole game rules : Bytes) → length whole ≡ session_length →
         bytes.now ≡ take header_length whole → IfErr result (IsSessionRefused (recover whole) game rules) }
     ensures inside { refused_call result ≡ None }
 {

@@ -4,6 +4,7 @@ use Rattle.std.specs.Prelude.{Some, None, length, take, replicate, codes, if◌t
 use Rattle.std.specs.Char.{to_ascii_uppercase, is_ascii_alphanumeric}
 use Rattle.std.specs.List.{list_any}
 use Rattle.std.specs.Option.{option_map_or, option_to_list}
+use Rattle.paw_base.specs.Bytes.{Bytes, Letters, Token}
 use Rattle.paw_base.specs.declared.words.TheConstants.{CONJUNCTION_CLASS}
 use Rattle.paw_base.specs.declared.limits.TheConstants.{WORD_LENGTH}
 use Rattle.paw_game.specs.Game.{GameLists}
@@ -14,25 +15,25 @@ abbrev pub is_separator : ℕ → Bool
 is_separator b = list_any (λ s. s == b) (codes ".,;:!?\"")
 
 -- A token cut to five letters, filled up with spaces.
-abbrev pub five_letters : List ℕ → List ℕ
+abbrev pub five_letters : Token → Letters
 five_letters token = take WORD_LENGTH token ++ replicate (WORD_LENGTH - length token) 32
 
 -- A token, or a separator (which has no token), and the bytes after it.
 pub record Mark : Type 0 where
-  pub token : Option (List ℕ)
-  pub after : List ℕ
+  pub token : Option Letters
+  pub after : Bytes
 
 -- The mark of a token with these bytes; none where there are no bytes.
-abbrev pub token_mark : List ℕ → List ℕ → List Mark
+abbrev pub token_mark : Token → Bytes → List Mark
 token_mark [] after = []
 token_mark (b ∷ bs) after = record { token = Some (five_letters (b ∷ bs)); after = after } ∷ []
 
 -- The mark of a separator, where this byte is one.
-abbrev pub separator_mark : ℕ → List ℕ → List Mark
+abbrev pub separator_mark : ℕ → Bytes → List Mark
 separator_mark b after = if is_separator b then record { token = None; after = after } ∷ [] else []
 
 -- The tokens and separators of bytes, in order, where the token bytes in `run` stand right before them.
-unfoldable pub marks_from : List ℕ → List ℕ → List Mark
+unfoldable pub marks_from : Token → Bytes → List Mark
 marks_from run [] = token_mark run []
 marks_from run (b ∷ bs) =
     if is_ascii_alphanumeric b then marks_from (run ++ to_ascii_uppercase b ∷ []) bs
@@ -40,11 +41,11 @@ marks_from run (b ∷ bs) =
 
 -- The tokens and separators of bytes, in order. A token is a longest run of letters and digits, with small letters read
 -- as capitals; a byte that is neither in a token nor a separator is a blank.
-abbrev pub marks : List ℕ → List Mark
+abbrev pub marks : Bytes → List Mark
 marks bytes = marks_from [] bytes
 
 -- Whether a mark separates phrases: it is a separator, or a token whose letters are those of a conjunction.
-abbrev pub is_parting : GameLists → Option (List ℕ) → Bool
+abbrev pub is_parting : GameLists → Option Letters → Bool
 is_parting g None = true
 is_parting g (Some letters) = option_map_or (λ word. word.1 == CONJUNCTION_CLASS) (word_at g letters) false
 
@@ -54,11 +55,11 @@ from_phrase g [] = []
 from_phrase g (m ∷ ms) = if is_parting g m.token then from_phrase g ms else m ∷ ms
 
 -- The tokens up to the next mark that separates phrases.
-abbrev pub phrase_tokens : GameLists → List Mark → List (List ℕ)
+abbrev pub phrase_tokens : GameLists → List Mark → List Letters
 phrase_tokens g [] = []
 phrase_tokens g (m ∷ ms) = if is_parting g m.token then [] else option_to_list m.token ++ phrase_tokens g ms
 
 -- The bytes after the next mark that separates phrases; none where there is no such mark.
-abbrev pub bytes_after : GameLists → List Mark → List ℕ
+abbrev pub bytes_after : GameLists → List Mark → Bytes
 bytes_after g [] = []
 bytes_after g (m ∷ ms) = if is_parting g m.token then m.after else bytes_after g ms

@@ -2,6 +2,7 @@
 use Rattle.std.specs.Prelude.{ℕ, ◌==◌, ◌&&◌, List, [], ◌∷◌, nat_lt, nat_le, fold, if◌then◌else◌}
 use Rattle.std.specs.List.{list_any}
 use Rattle.std.specs.Option.{is_some, option_map_or}
+use Rattle.paw_base.specs.Bytes.{Bytes, Letters}
 use Rattle.paw_base.specs.declared.words.TheConstants.{VERB_CLASS, ADVERB_CLASS, NOUN_CLASS, ADJECTIVE_CLASS}
 use Rattle.paw_base.specs.declared.words.TheConstants.{PREPOSITION_CLASS, PRONOUN_CLASS, NO_WORD, GREATEST_WORD}
 use Rattle.paw_base.specs.declared.words.TheConstants.{FIRST_PLAIN_NOUN, FIRST_NAMED_NOUN}
@@ -59,7 +60,7 @@ with_word value class s =
     if class == PRONOUN_CLASS then with_pronoun s else s
 
 -- The words of the tokens are added from left to right; an unknown token is skipped.
-abbrev pub with_tokens : GameLists → List (List ℕ) → Sentence → Sentence
+abbrev pub with_tokens : GameLists → List Letters → Sentence → Sentence
 with_tokens g tokens s =
     fold (λ filled token. option_map_or (λ word. with_word word.0 word.1 filled) (word_at g token) filled) s tokens
 
@@ -80,8 +81,8 @@ finished earlier s = with_meaning (with_verb earlier s)
 -- What the next phrase of the pending bytes is: a sentence, or a phrase with no known word, each with the bytes that
 -- stay pending; or no phrase.
 pub data Parsed : Type 0 where
-  IsSentence : (s : Sentence) (rest : List ℕ) → Parsed
-  IsUnknown : (rest : List ℕ) → Parsed
+  IsSentence : (s : Sentence) (rest : Bytes) → Parsed
+  IsUnknown : (rest : Bytes) → Parsed
   IsNoPhrase : Parsed
 
 -- The phrase that begins these marks: its tokens are a sentence where one of them is a word of the game, and the bytes
@@ -95,5 +96,5 @@ parsed_marks g earlier noun adjective (m ∷ ms) =
     else IsUnknown (bytes_after g (m ∷ ms))
 
 -- The next phrase of the pending bytes, after this verb, where a pronoun stands for this noun and adjective.
-unfoldable pub parsed : GameLists → List ℕ → ℕ → ℕ → ℕ → Parsed
+unfoldable pub parsed : GameLists → Bytes → ℕ → ℕ → ℕ → Parsed
 parsed g pending earlier noun adjective = parsed_marks g earlier noun adjective (from_phrase g (marks pending))

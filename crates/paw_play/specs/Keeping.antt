@@ -1,7 +1,8 @@
 -- What the store of a session keeps, moment by moment and at its end.
 --
 -- The lines are those that are left when a call begins.
-use Rattle.std.specs.Prelude.{◌≡◌, ◌≢◌, ◌⊎◌, ℕ, zero, suc, ◌+◌, ◌≤◌, List, ◌++◌, length, Some}
+use Rattle.std.specs.Prelude.{◌≡◌, ◌≢◌, ◌⊎◌, ℕ, zero, suc, ◌+◌, ◌≤◌, ◌++◌, length, Some}
+use Rattle.paw_base.specs.Bytes.{Bytes, Lines, Name, Text}
 use Rattle.paw_base.specs.declared.limits.TheConstants.{EVENT_LIMIT}
 use Rattle.paw_stage.specs.Disk.{MayLeave, IsStable}
 use Rattle.paw_stage.specs.Stage.{Standing}
@@ -16,15 +17,15 @@ use Rattle.paw_play.specs.Played.{PlayedSession}
 use Rattle.paw_play.specs.Written.{bytes_before, bytes_after}
 
 -- the bytes of a store keep the session's reading of the first n lines
-abbrev pub KeptBy : PlayedSession → List (List ℕ) → ℕ → List ℕ → Type 0
+abbrev pub KeptBy : PlayedSession → Lines → ℕ → Bytes → Type 0
 KeptBy s lines n bytes = IsKept s.digests (s.before + n) (s.whole (first_lines n lines)) (recover bytes)
 
 -- the bytes keep n lines, and this text is a first part of theirs
-abbrev pub AgreesWith : PlayedSession → List (List ℕ) → ℕ → List ℕ → List ℕ → Type 0
-AgreesWith s lines n text bytes = KeptBy s lines n bytes × ((rest : List ℕ) × (text ++ rest ≡ text_for s.whole lines n))
+abbrev pub AgreesWith : PlayedSession → Lines → ℕ → Text → Bytes → Type 0
+AgreesWith s lines n text bytes = KeptBy s lines n bytes × ((rest : Text) × (text ++ rest ≡ text_for s.whole lines n))
 
 -- the bytes keep the n lines that were taken, or all but the last
-abbrev pub KeepsUpWith : PlayedSession → List (List ℕ) → ℕ → List ℕ → List ℕ → Type 0
+abbrev pub KeepsUpWith : PlayedSession → Lines → ℕ → Text → Bytes → Type 0
 KeepsUpWith s lines zero text bytes = AgreesWith s lines zero text bytes
 KeepsUpWith s lines (suc n) text bytes = AgreesWith s lines (suc n) text bytes ⊎ AgreesWith s lines n text bytes
 
@@ -33,16 +34,16 @@ KeepsUpWith s lines (suc n) text bytes = AgreesWith s lines (suc n) text bytes �
 -- of what it keeps. No other file has changed.
 pub record InPlay (s : PlayedSession) (old : Standing) (m : Moment) : Type 0 where
   pub taken : ℕ
-  pub text : List ℕ
-  pub last : List ℕ
+  pub text : Text
+  pub last : Text
   pub there : taken ≤ length old.lines
   pub few : s.before + taken ≤ EVENT_LIMIT
   pub asked : m.asked ≡ old.asked + taken
   pub shown : m.shown ≡ old.shown ++ text
   pub before : text ≡ text_before s.whole old.lines taken ++ last
   pub attached : m.attached ≡ Some s.name
-  pub files : (n : List ℕ) → n ≢ s.name → m.files n ≡ old.files n
-  pub leaves : (image : List ℕ) → MayLeave m.disk image → KeepsUpWith s old.lines taken text image
+  pub files : (n : Name) → n ≢ s.name → m.files n ≡ old.files n
+  pub leaves : (image : Bytes) → MayLeave m.disk image → KeepsUpWith s old.lines taken text image
 
 -- A moment at which a session is made: whatever a crash leaves of the store is no session, or keeps no lines yet.
 -- Nothing was asked or shown, and no other file has changed.
@@ -50,18 +51,18 @@ pub record InMaking (s : PlayedSession) (old : Standing) (m : Moment) : Type 0 w
   pub asked : m.asked ≡ old.asked
   pub shown : m.shown ≡ old.shown
   pub attached : m.attached ≡ Some s.name
-  pub files : (n : List ℕ) → n ≢ s.name → m.files n ≡ old.files n
-  pub leaves : (image : List ℕ) → MayLeave m.disk image → IsUnmade (recover image) ⊎ KeptBy s old.lines 0 image
+  pub files : (n : Name) → n ≢ s.name → m.files n ≡ old.files n
+  pub leaves : (image : Bytes) → MayLeave m.disk image → IsUnmade (recover image) ⊎ KeptBy s old.lines 0 image
 
 -- a moment of a new session once its store is attached: it is being made, or it is played
 abbrev pub InNewSession : PlayedSession → Standing → Moment → Type 0
 InNewSession s old m = InMaking s old m ⊎ InPlay s old m
 
 -- The store is attached, its file has its bytes, and no other file has changed.
-pub record StaysAttached (name : List ℕ) (old new : Standing) : Type 0 where
+pub record StaysAttached (name : Name) (old new : Standing) : Type 0 where
   pub attached : new.attached ≡ Some name
   pub file : new.files name ≡ Some new.disk.bytes
-  pub others : (f : List ℕ) → f ≢ name → new.files f ≡ old.files f
+  pub others : (f : Name) → f ≢ name → new.files f ≡ old.files f
 
 -- The store is attached and at rest: a crash leaves just its bytes, which are those of its file. They keep n lines, and
 -- are those that as many commits make of the bytes before the first line. No other file has changed.
@@ -71,7 +72,7 @@ pub record RestsWith (s : PlayedSession) (old new : Standing) (n : ℕ) : Type 0
   pub attached : new.attached ≡ Some s.name
   pub stable : IsStable new.disk
   pub file : new.files s.name ≡ Some new.disk.bytes
-  pub others : (f : List ℕ) → f ≢ s.name → new.files f ≡ old.files f
+  pub others : (f : Name) → f ≢ s.name → new.files f ≡ old.files f
   pub keeps : KeptBy s old.lines n new.disk.bytes
   pub bytes : new.disk.bytes ≡ bytes_after s old.lines n (bytes_before s old.disk.bytes)
 

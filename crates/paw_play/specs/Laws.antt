@@ -1,5 +1,6 @@
 -- The laws of sessions.
 use Rattle.std.specs.Prelude.{◌≡◌, ◌≢◌, ◌⊎◌, ℕ, suc, ◌+◌, ◌^◌, ◌<◌, ◌≤◌, List, [], ◌∷◌, ◌++◌, length, drop, All, Some}
+use Rattle.paw_base.specs.Bytes.{Bytes, Lines, Name, Seed, Text}
 use Rattle.paw_effects.specs.Story.{Story}
 use Rattle.paw_base.specs.declared.limits.TheConstants.{EVENT_LIMIT}
 use Rattle.paw_stage.specs.Disk.{MayLeave}
@@ -25,33 +26,33 @@ use Rattle.paw_play.specs.Keeping.{KeptBy, InPlay, InNewSession}
 use Rattle.paw_play.specs.Play.{store_bytes, NotYet, NewSession, GoesOn}
 
 -- the bytes hold a session of the story, which shows a state of the game that keeps all its rules, and a piece
-pub record ShowsSome (g : Story) (bytes : List ℕ) : Type 0 where
+pub record ShowsSome (g : Story) (bytes : Bytes) : Type 0 where
   pub digests : Digests
   pub belongs : IsOfStory g digests
   pub state : State
-  pub piece : List ℕ
+  pub piece : Text
   pub shows : ShowsState g.game digests bytes state piece
 
 -- a store that stands for some lines shows a state of the game that keeps all its rules
 abbrev pub StandingShows : Type 0
-StandingShows = (g : Story) (seed : ℕ) (es : List (List ℕ)) (bytes : List ℕ) → IsPlayedWith g seed es →
+StandingShows = (g : Story) (seed : Seed) (es : Lines) (bytes : Bytes) → IsPlayedWith g seed es →
     Stands g seed es bytes → ShowsSome g bytes
 
 -- going on from the state that it shows is reading the longer list of lines, from the last piece of the former on
 abbrev pub StandingGoesOn : Type 0
 StandingGoesOn =
-    (g : Story) (seed : ℕ) (es fs : List (List ℕ)) (bytes : List ℕ) (digests : Digests) (st : State)
-    (piece : List ℕ) → IsPlayedWith g seed es → Stands g seed es bytes → ShowsState g.game digests bytes st piece →
+    (g : Story) (seed : Seed) (es fs : Lines) (bytes : Bytes) (digests : Digests) (st : State)
+    (piece : Text) → IsPlayedWith g seed es → Stands g seed es bytes → ShowsState g.game digests bytes st piece →
     (st.events ≡ length es) × (going_on g st piece fs ≡ reading_since g seed es fs)
 
 -- Bytes that keep the first n lines of a session stand for them: where it was begun for just these, and where it went on
 -- behind others for those and these.
 pub record KeptLinesStand : Type 0 where
-  pub first : (g : Story) (seed : ℕ) (lines : List (List ℕ)) (name : List ℕ) (n : ℕ) (bytes : List ℕ) →
+  pub first : (g : Story) (seed : Seed) (lines : Lines) (name : Name) (n : ℕ) (bytes : Bytes) →
       n ≤ length lines → n ≤ EVENT_LIMIT → KeptBy (begun g seed name) lines n bytes →
       Stands g seed (first_lines n lines) bytes
-  pub later : (g : Story) (seed : ℕ) (es lines : List (List ℕ)) (digests : Digests) (name : List ℕ) (n : ℕ)
-      (bytes : List ℕ) → IsOfStory g digests → n ≤ length lines → length es + n ≤ EVENT_LIMIT →
+  pub later : (g : Story) (seed : Seed) (es lines : Lines) (digests : Digests) (name : Name) (n : ℕ)
+      (bytes : Bytes) → IsOfStory g digests → n ≤ length lines → length es + n ≤ EVENT_LIMIT →
       KeptBy (from_lines g seed es digests name) lines n bytes → Stands g seed (es ++ first_lines n lines) bytes
 
 -- ---- going on ----
@@ -59,7 +60,7 @@ pub record KeptLinesStand : Type 0 where
 -- Going on with more lines from a state of a reading, behind its last piece, is reading them all. The state keeps all
 -- rules of the game; going on ends as that reading does, at the same prompt and in the same world; and the pieces of
 -- that reading are those before, and then those that going on adds.
-pub record GoesOnAsRead (g : Story) (seed : ℕ) (es fs : List (List ℕ)) (st : State) (piece : List ℕ) : Type 0 where
+pub record GoesOnAsRead (g : Story) (seed : Seed) (es fs : Lines) (st : State) (piece : Text) : Type 0 where
   pub keeps : Keeps g.game st
   pub fits : FitsFields st
   pub ends : going_on g st piece fs ≡ reading_since g seed es fs
@@ -69,7 +70,7 @@ pub record GoesOnAsRead (g : Story) (seed : ℕ) (es fs : List (List ℕ)) (st :
 -- it is so wherever the reading of some lines waits, for any lines that follow
 abbrev pub GoingOnIsTheReading : Type 0
 GoingOnIsTheReading =
-    (g : Story) (seed : ℕ) (es fs : List (List ℕ)) (p : Prompt) (path : List Frame) (r : Run) →
+    (g : Story) (seed : Seed) (es fs : Lines) (p : Prompt) (path : List Frame) (r : Run) →
     IsPlayedWith g seed es → length es ≤ EVENT_LIMIT → reading g seed es ≡ WaitsAt p path r →
     GoesOnAsRead g seed es fs (state_at (length es) p path r) (last_piece r.pieces)
 
@@ -84,21 +85,21 @@ pub data RoundStop : Type 0 where
 -- A round: a session is played in the file of this name, from what stood at first until it stops; these bytes are then
 -- left of the file
 pub record Round : Type 0 where
-  pub name : List ℕ
+  pub name : Name
   pub old : Standing
   pub stop : RoundStop
-  pub left : List ℕ
+  pub left : Bytes
 
 -- A crash at this moment may leave these bytes of a file: any that it may leave of the store where the file is the
 -- attached one, and otherwise those that the file has
-abbrev pub MayBeLeft : List ℕ → Moment → List ℕ → Type 0
+abbrev pub MayBeLeft : Name → Moment → Bytes → Type 0
 MayBeLeft name m bytes = ((m.attached ≡ Some name) × MayLeave m.disk bytes)
     ⊎ ((m.attached ≢ Some name) × (bytes ≡ bytes_or_none (m.files name)))
 
 -- A round begins over these bytes: its file has them, and a crash before it would leave no others. Its lines are bytes
-pub record BeginsOver (bytes : List ℕ) (r : Round) : Type 0 where
+pub record BeginsOver (bytes : Bytes) (r : Round) : Type 0 where
   pub has : store_bytes r.old r.name ≡ bytes
-  pub settled : (image : List ℕ) → MayBeLeft r.name (moment_of r.old) image → image ≡ bytes
+  pub settled : (image : Bytes) → MayBeLeft r.name (moment_of r.old) image → image ≡ bytes
   pub lines : All AreBytes r.old.lines
 
 -- play came to this end with the store at rest: no write and no sync of it failed
@@ -109,7 +110,7 @@ AtRest o = Unit {0}
 
 -- It is cut off at one of these moments, and a crash there may leave these bytes of the file; or it comes to one of
 -- these ends with the store at rest, and these are the bytes of the file
-abbrev pub StopsWith : (Moment → Type 0) → (Standing → PlayEnd → Type 0) → List ℕ → List ℕ → RoundStop → Type 0
+abbrev pub StopsWith : (Moment → Type 0) → (Standing → PlayEnd → Type 0) → Name → Bytes → RoundStop → Type 0
 StopsWith Inside Comes name left (cut_at m) = Inside m × MayBeLeft name m left
 StopsWith Inside Comes name left (came_to new o) = Comes new o × AtRest o × (left ≡ store_bytes new name)
 
@@ -122,23 +123,23 @@ abbrev pub GoesOnUntil : PlayedSession → Round → Type 0
 GoesOnUntil s r = PlaysUntil (InPlay s r.old) (GoesOn s r.old) r
 
 -- the first round: the game is played from its start, over a file that is missing or empty
-abbrev pub IsFirstRound : Story → ℕ → Round → Type 0
+abbrev pub IsFirstRound : Story → Seed → Round → Type 0
 IsFirstRound g seed r = BeginsOver [] r
     × PlaysUntil (InNewSession (begun g seed r.name) r.old) (NewSession (begun g seed r.name) r.old) r
 
 -- a later round: the session of these bytes is taken up again, and goes on behind whatever lines they stand for
-abbrev pub IsLaterRound : Story → ℕ → List ℕ → Round → Type 0
+abbrev pub IsLaterRound : Story → Seed → Bytes → Round → Type 0
 IsLaterRound g seed bytes r = BeginsOver bytes r
-    × ((es : List (List ℕ)) → IsPlayedWith g seed es → (stands : Stands g seed es bytes) →
+    × ((es : Lines) → IsPlayedWith g seed es → (stands : Stands g seed es bytes) →
     GoesOnUntil (from_lines g seed es stands.digests r.name) r)
 
 -- later rounds one after the other, each over what the one before left
-abbrev pub AreRounds : Story → ℕ → List ℕ → List Round → Type 0
+abbrev pub AreRounds : Story → Seed → Bytes → List Round → Type 0
 AreRounds g seed bytes [] = Unit {0}
 AreRounds g seed bytes (r ∷ rounds) = IsLaterRound g seed bytes r × AreRounds g seed r.left rounds
 
 -- what the last of these rounds left
-abbrev pub left_after : List ℕ → List Round → List ℕ
+abbrev pub left_after : Bytes → List Round → Bytes
 left_after bytes [] = bytes
 left_after bytes (r ∷ rounds) = left_after r.left rounds
 
@@ -156,14 +157,14 @@ AreKept old (cut_at m) n = (m.asked ≡ old.asked + n) ⊎ (m.asked ≡ old.aske
 AreKept old (came_to new o) n = new.asked ≡ old.asked + n + lines_lost o
 
 -- the lines that are kept of rounds, one round after the other
-abbrev pub AreKeptOf : List Round → List (List ℕ) → Type 0
+abbrev pub AreKeptOf : List Round → Lines → Type 0
 AreKeptOf [] lines = lines ≡ []
-AreKeptOf (r ∷ rounds) lines = (n : ℕ) × (more : List (List ℕ)) × AreKept r.old r.stop n
+AreKeptOf (r ∷ rounds) lines = (n : ℕ) × (more : Lines) × AreKept r.old r.stop n
     × (lines ≡ first_lines n r.old.lines ++ more) × AreKeptOf rounds more
 
 -- After any rounds, the first of which left a session, the store stands for the lines that are kept of all of them
 abbrev pub RoundsStand : Type 0
 RoundsStand =
-    (g : Story) (seed : ℕ) (first : Round) (rounds : List Round) → ValidStory g → seed < 2 ^ 64 →
+    (g : Story) (seed : Seed) (first : Round) (rounds : List Round) → ValidStory g → seed < 2 ^ 64 →
     IsFirstRound g seed first → ¬ IsUnmade (recover first.left) → AreRounds g seed first.left rounds →
-    (lines : List (List ℕ)) × AreKeptOf (first ∷ rounds) lines × Stands g seed lines (left_after first.left rounds)
+    (lines : Lines) × AreKeptOf (first ∷ rounds) lines × Stands g seed lines (left_after first.left rounds)

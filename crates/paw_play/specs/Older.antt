@@ -1,5 +1,6 @@
 -- Sessions of version 1, of which the states have no kept positions.
-use Rattle.std.specs.Prelude.{◌≡◌, ℕ, ◌≤◌, false, List, length, take}
+use Rattle.std.specs.Prelude.{◌≡◌, ℕ, ◌≤◌, false, length, take}
+use Rattle.paw_base.specs.Bytes.{Bytes, Lines, Seed}
 use Rattle.paw_base.specs.declared.limits.TheConstants.{EVENT_LIMIT}
 use Rattle.paw_effects.specs.Story.{Story}
 use Rattle.paw_reading.specs.Turn.{Ending, reading, pieces_of}
@@ -11,16 +12,16 @@ use Rattle.paw_play.specs.Stands.{Stands, IsPlayedWith}
 
 -- The slot in use is of version 1. It shows a state in a session with these digests, whose first 1,371 bytes are those
 -- of the state where a reading ended after so many lines, and the last piece of the reading.
-pub record KeepsAsOlder (digests : Digests) (events : ℕ) (e : Ending) (bytes : List ℕ) : Type 0 where
+pub record KeepsAsOlder (digests : Digests) (events : ℕ) (e : Ending) (bytes : Bytes) : Type 0 where
   pub played : IsPlayed e
   pub first : is_second (slot (chosen bytes) bytes) ≡ false
-  pub state : List ℕ
+  pub state : Bytes
   pub shown : recover bytes ≡ Shown digests state (last_piece (pieces_of e))
   pub same : take first_length state ≡ take first_length (state_after events e)
 
 -- The bytes of a store are those of an older session for these lines of a story that was begun with this seed: a session
 -- has room for them, and it is one of the story that keeps the reading of them all, but for positions.
-pub record IsOlderSession (g : Story) (seed : ℕ) (es : List (List ℕ)) (bytes : List ℕ) : Type 0 where
+pub record IsOlderSession (g : Story) (seed : Seed) (es : Lines) (bytes : Bytes) : Type 0 where
   pub few : length es ≤ EVENT_LIMIT
   pub digests : Digests
   pub belongs : IsOfStory g digests
@@ -29,5 +30,5 @@ pub record IsOlderSession (g : Story) (seed : ℕ) (es : List (List ℕ)) (bytes
 -- In a game that never saves an older session stands for its lines: no position is missing.
 abbrev pub OlderSessionsStand : Type 0
 OlderSessionsStand =
-    (g : Story) (seed : ℕ) (es : List (List ℕ)) (bytes : List ℕ) → IsPlayedWith g seed es → NeverSaves g.game →
+    (g : Story) (seed : Seed) (es : Lines) (bytes : Bytes) → IsPlayedWith g seed es → NeverSaves g.game →
     IsOlderSession g seed es bytes → Stands g seed es bytes

@@ -1,6 +1,6 @@
 -- What playing with a session comes to, and what stands at each moment of it.
-use Rattle.std.specs.Prelude.{take, ◌-◌, ◌≡◌, ◌≢◌, ◌⊎◌, ℕ, suc, ◌<◌, ◌≤◌, List, [], length, None}
-use Rattle.paw_base.specs.Bytes.{zeros}
+use Rattle.std.specs.Prelude.{take, ◌-◌, ◌≡◌, ◌≢◌, ◌⊎◌, ℕ, suc, ◌<◌, ◌≤◌, [], length, None}
+use Rattle.paw_base.specs.Bytes.{Bytes, Name, Text, zeros}
 use Rattle.paw_stage.specs.Stage.{Standing, Unattached, file_bytes, made_if_missing, opened}
 use Rattle.paw_stage.specs.Moments.{Moment}
 use Rattle.paw_stage.specs.Across.{IsOneOf}
@@ -53,16 +53,16 @@ pub record PlaysOn (s : PlayedSession) (most : ℕ) (old new : Standing) (o : Pl
 -- ---- a store from its attach on ----
 
 -- the bytes of the store of this name
-abbrev pub store_bytes : Standing → List ℕ → List ℕ
+abbrev pub store_bytes : Standing → Name → Bytes
 store_bytes s name = file_bytes s name
 
 -- what stands once the store of this name is attached
-abbrev pub attached_to : Standing → List ℕ → Standing
+abbrev pub attached_to : Standing → Name → Standing
 attached_to old name = opened name old
 
 -- A moment at which the store isn't attached yet: nothing was asked or shown, and no file has changed, but that the
 -- store's may be there, empty.
-pub record NotYet (name : List ℕ) (old : Standing) (m : Moment) : Type 0 where
+pub record NotYet (name : Name) (old : Standing) (m : Moment) : Type 0 where
   pub asked : m.asked ≡ old.asked
   pub shown : m.shown ≡ old.shown
   pub files : (m.files ≡ old.files) ⊎ (m.files ≡ made_if_missing name (old.files name) old.files)
@@ -105,30 +105,30 @@ pub data GoesOn (s : PlayedSession) (old new : Standing) : PlayEnd → Type 0 wh
 
 -- Why bytes of a store give no session of a story with these digests. Those of its game come before those of its
 -- routines.
-abbrev pub Refuses : Digests → List ℕ → JournalRefusal → Type 0
+abbrev pub Refuses : Digests → Bytes → JournalRefusal → Type 0
 Refuses own bytes (refusal.Unmade n mark) = recover bytes ≡ Unmade n mark
 Refuses own bytes (refusal.Damaged part at) = recover bytes ≡ Damaged part at
 Refuses own bytes (refusal.WrongGame kept found) =
-    (d : Digests) × (state : List ℕ) × (piece : List ℕ) × (recover bytes ≡ Shown d state piece)
+    (d : Digests) × (state : Bytes) × (piece : Text) × (recover bytes ≡ Shown d state piece)
     × (kept ≡ d.game) × (kept ≢ own.game) × (found ≡ own.game)
 Refuses own bytes (refusal.WrongRoutines kept found) =
-    (d : Digests) × (state : List ℕ) × (piece : List ℕ) × (recover bytes ≡ Shown d state piece) × (d.game ≡ own.game)
+    (d : Digests) × (state : Bytes) × (piece : Text) × (recover bytes ≡ Shown d state piece) × (d.game ≡ own.game)
     × (kept ≡ d.routines) × (kept ≢ zeros 32) × (kept ≢ own.routines) × (found ≡ own.routines)
 Refuses own bytes (refusal.Outside c) = ⊥
 
 -- What taking up the session with these digests that the attached store holds comes to. Where it shows a state of the
 -- game, its piece is shown again and it is played on.
-pub data Resumed (g : Story) (digests : Digests) (name : List ℕ) (old new : Standing) : PlayEnd → Type 0 where
+pub data Resumed (g : Story) (digests : Digests) (name : Name) (old new : Standing) : PlayEnd → Type 0 where
   memory : new ≡ old → Resumed g digests name old new end.Memory
   -- the bytes that the session shows, and any behind them, are no state of the game
-  no_state : (at : ℕ) (state piece : List ℕ) → recover old.disk.bytes ≡ Shown digests (take state_length state) piece →
+  no_state : (at : ℕ) (state piece : Bytes) → recover old.disk.bytes ≡ Shown digests (take state_length state) piece →
       ¬ Fit g.game state → Unfit g.game state at → new ≡ old → Resumed g digests name old new (end.State at)
-  plays_on : (o : PlayEnd) (st : State) (piece : List ℕ) → ShowsState g.game digests old.disk.bytes st piece →
+  plays_on : (o : PlayEnd) (st : State) (piece : Text) → ShowsState g.game digests old.disk.bytes st piece →
       PlaysOn (from_state g st piece digests name) (EVENT_LIMIT - st.events) old new o →
       Resumed g digests name old new o
 
 -- what taking up a session of a story again comes to
-pub data PlaysAgain (g : Story) (name : List ℕ) (old new : Standing) : PlayEnd → Type 0 where
+pub data PlaysAgain (g : Story) (name : Name) (old new : Standing) : PlayEnd → Type 0 where
   unattached : Unattached old new → PlaysAgain g name old new (end.Outside call.Attach)
   unread : new ≡ attached_to old name → PlaysAgain g name old new (end.Outside call.Read)
   wanting : new ≡ attached_to old name → PlaysAgain g name old new end.Memory

@@ -1,5 +1,6 @@
 -- The session that is played, and the three ways in which there is one.
-use Rattle.std.specs.Prelude.{◌≡◌, ℕ, List, [], ◌∷◌, length, take}
+use Rattle.std.specs.Prelude.{◌≡◌, ℕ, [], ◌∷◌, length, take}
+use Rattle.paw_base.specs.Bytes.{Bytes, Lines, Name, Seed, Text}
 use Rattle.paw_game.specs.Game.{GameLists}
 use Rattle.paw_effects.specs.Story.{Story}
 use Rattle.paw_reading.specs.Run.{Run}
@@ -16,19 +17,19 @@ pub record PlayedSession : Type 0 where
   pub whole : EndingOf
   pub before : ℕ
   pub digests : Digests
-  pub name : List ℕ
+  pub name : Name
 
 -- the session of a story that is begun with this seed
-abbrev pub begun : Story → ℕ → List ℕ → PlayedSession
+abbrev pub begun : Story → Seed → Name → PlayedSession
 begun g seed name = record { whole = reading g seed; before = 0; digests = story_digests g; name = name }
 
 -- the session of a story that goes on behind these lines: its reading is told from their last piece on
-abbrev pub from_lines : Story → ℕ → List (List ℕ) → Digests → List ℕ → PlayedSession
+abbrev pub from_lines : Story → Seed → Lines → Digests → Name → PlayedSession
 from_lines g seed es digests name =
     record { whole = reading_since g seed es; before = length es; digests = digests; name = name }
 
 -- the run that a state gives whose last piece was this, with these lines to come
-abbrev pub resumed_run : State → List ℕ → List (List ℕ) → Run
+abbrev pub resumed_run : State → Text → Lines → Run
 resumed_run st piece lines = record {
   world = st.world;
   pending = st.pending.bytes;
@@ -42,25 +43,24 @@ resumed_run st piece lines = record {
 }
 
 -- going on from a state whose last piece was this
-abbrev pub going_on : Story → State → List ℕ → EndingOf
+abbrev pub going_on : Story → State → Text → EndingOf
 going_on g st piece lines = on g st.prompt (take st.frames.count st.frames.rows) (resumed_run st piece lines)
 
 -- the session of a story that goes on from a state whose last piece was this
-abbrev pub from_state : Story → State → List ℕ → Digests → List ℕ → PlayedSession
+abbrev pub from_state : Story → State → Text → Digests → Name → PlayedSession
 from_state g st piece digests name =
     record { whole = going_on g st piece; before = st.events; digests = digests; name = name }
 
 -- the bytes of a store hold a session with these digests, which shows this state of the game and this piece
-pub record ShowsState (g : GameLists) (digests : Digests) (bytes : List ℕ) (st : State) (piece : List ℕ)
-    : Type 0 where
+pub record ShowsState (g : GameLists) (digests : Digests) (bytes : Bytes) (st : State) (piece : Text) : Type 0 where
   pub keeps : Keeps g st
   pub fits : FitsFields st
   pub shown : recover bytes ≡ Shown digests (kept_bytes st) piece
 
 -- a session of a story goes on from these bytes of its store: from the state that they show, or behind the lines of the
 -- story that they stand for
-pub data GoesOnFrom (g : Story) (name bytes : List ℕ) : PlayedSession → Type 0 where
-  from_shown : (st : State) (piece : List ℕ) (digests : Digests) → IsOfStory g digests →
+pub data GoesOnFrom (g : Story) (name : Name) (bytes : Bytes) : PlayedSession → Type 0 where
+  from_shown : (st : State) (piece : Text) (digests : Digests) → IsOfStory g digests →
       ShowsState g.game digests bytes st piece → GoesOnFrom g name bytes (from_state g st piece digests name)
-  behind : (seed : ℕ) (es : List (List ℕ)) → IsPlayedWith g seed es → (stands : Stands g seed es bytes) →
+  behind : (seed : Seed) (es : Lines) → IsPlayedWith g seed es → (stands : Stands g seed es bytes) →
       GoesOnFrom g name bytes (from_lines g seed es stands.digests name)

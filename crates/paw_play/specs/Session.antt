@@ -1,6 +1,7 @@
 -- What a session keeps of a reading.
-use Rattle.std.specs.Prelude.{◌≡◌, ℕ, List, []}
+use Rattle.std.specs.Prelude.{◌≡◌, ℕ, []}
 use Rattle.sha2.specs.Sha256.{sha256}
+use Rattle.paw_base.specs.Bytes.{Bytes}
 use Rattle.paw_game.specs.Image.{image}
 use Rattle.paw_routines.specs.Measure.{measure}
 use Rattle.paw_effects.specs.Story.{Story}
@@ -21,11 +22,11 @@ abbrev pub IsOfStory : Story → Digests → Type 0
 IsOfStory g d = BelongsTo (sha256 (image g.game)) (measure g.rows) d
 
 -- the bytes by which a session keeps a state
-unfoldable pub kept_bytes : State → List ℕ
+unfoldable pub kept_bytes : State → Bytes
 kept_bytes s = state_bytes s
 
 -- the bytes of the state where a reading ended; none where it is spent or too deep
-abbrev pub state_after : ℕ → Ending → List ℕ
+abbrev pub state_after : ℕ → Ending → Bytes
 state_after events (WaitsAt p path r) = kept_bytes (state_at events p path r)
 state_after events (Halted IsOver r) = kept_bytes (state_at events prompt.Over [] r)
 state_after events _ = []

@@ -1,5 +1,6 @@
 -- What the bytes of a store stand for, and a reading told from one of its pieces on.
-use Rattle.std.specs.Prelude.{ℕ, suc, ◌^◌, ◌<◌, ◌≤◌, List, ◌++◌, length, drop, All}
+use Rattle.std.specs.Prelude.{ℕ, suc, ◌^◌, ◌<◌, ◌≤◌, ◌++◌, length, drop, All}
+use Rattle.paw_base.specs.Bytes.{Bytes, Lines, Seed}
 use Rattle.paw_base.specs.declared.limits.TheConstants.{EVENT_LIMIT}
 use Rattle.paw_effects.specs.Story.{Story}
 use Rattle.paw_reading.specs.Run.{Run}
@@ -11,14 +12,14 @@ use Rattle.paw_play.specs.Walk.{EndingOf}
 
 -- The bytes of a store stand for these lines of a story that was begun with this seed: a session has room for them, and
 -- the bytes hold one of the story, with these digests, that keeps the reading of them all.
-pub record Stands (g : Story) (seed : ℕ) (es : List (List ℕ)) (bytes : List ℕ) : Type 0 where
+pub record Stands (g : Story) (seed : Seed) (es : Lines) (bytes : Bytes) : Type 0 where
   pub few : length es ≤ EVENT_LIMIT
   pub digests : Digests
   pub belongs : IsOfStory g digests
   pub keeps : IsKept digests (length es) (reading g seed es) (recover bytes)
 
 -- a valid story is played with a seed of 64 bits and these lines, each of at most 255 bytes
-pub record IsPlayedWith (g : Story) (seed : ℕ) (es : List (List ℕ)) : Type 0 where
+pub record IsPlayedWith (g : Story) (seed : Seed) (es : Lines) : Type 0 where
   pub valid : ValidStory g
   pub fits : seed < 2 ^ 64
   pub lines : All IsLine es
@@ -36,5 +37,5 @@ ending_since n (Halted halt r) = Halted halt (since_piece n r)
 ending_since n Unended = Unended
 
 -- the reading of the lines es and others, from the last piece of es on
-abbrev pub reading_since : Story → ℕ → List (List ℕ) → EndingOf
+abbrev pub reading_since : Story → Seed → Lines → EndingOf
 reading_since g seed es lines = ending_since (length es) (reading g seed (es ++ lines))

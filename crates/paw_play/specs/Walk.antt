@@ -1,5 +1,6 @@
 -- What taking lines and showing pieces comes to.
 use Rattle.std.specs.Prelude.{◌≡◌, ℕ, zero, suc, ◌+◌, ◌<◌, ◌≤◌, List, [], ◌++◌, length, take, drop, map}
+use Rattle.paw_base.specs.Bytes.{Lines, Text}
 use Rattle.paw_base.specs.declared.limits.TheConstants.{EVENT_LIMIT, LINE_LIMIT}
 use Rattle.paw_stage.specs.Stage.{Standing}
 use Rattle.paw_stage.specs.declared.StageCall.TheVariants as call
@@ -13,14 +14,14 @@ use Rattle.paw_play.specs.declared.PlayEnd.TheVariants as end
 
 -- how the reading of some lines ends: that of a game from its start, or going on from a state
 abbrev pub EndingOf : Type 0
-EndingOf = List (List ℕ) → Ending
+EndingOf = Lines → Ending
 
 -- the first n lines, each cut to its first 255 bytes
-abbrev pub first_lines : ℕ → List (List ℕ) → List (List ℕ)
+abbrev pub first_lines : ℕ → Lines → Lines
 first_lines n lines = map (take LINE_LIMIT) (take n lines)
 
 -- n lines more were taken, and this text was shown besides; all else stands as it was
-abbrev pub advanced : Standing → ℕ → List ℕ → Standing
+abbrev pub advanced : Standing → ℕ → Text → Standing
 advanced old n text = record old { lines = drop n old.lines; asked = old.asked + n; shown = old.shown ++ text }
 
 -- n lines were taken, the reading of them ends so, and the text of its closed pieces was shown
@@ -30,21 +31,21 @@ pub record TakesLines (whole : EndingOf) (old new : Standing) (n : ℕ) (e : End
   pub stands : new ≡ advanced old n (text_of e)
 
 -- the text for the first n lines
-abbrev pub text_for : EndingOf → List (List ℕ) → ℕ → List ℕ
+abbrev pub text_for : EndingOf → Lines → ℕ → Text
 text_for whole lines n = text_of (whole (first_lines n lines))
 
 -- the text for all but the last of n lines. Before the first line no text was shown
-abbrev pub text_before : EndingOf → List (List ℕ) → ℕ → List ℕ
+abbrev pub text_before : EndingOf → Lines → ℕ → Text
 text_before whole lines zero = []
 text_before whole lines (suc n) = text_for whole lines n
 
 -- n lines were taken, and a first part of the text of their reading was shown: the text for all but the last, and a
 -- part of the piece that the last one brings, which isn't empty
 pub record PartShown (whole : EndingOf) (old new : Standing) (n : ℕ) : Type 0 where
-  pub shown : List ℕ
-  pub rest : List ℕ
+  pub shown : Text
+  pub rest : Text
   pub part : shown ++ rest ≡ text_for whole old.lines n
-  pub last : List ℕ
+  pub last : Text
   pub before : shown ≡ text_before whole old.lines n ++ last
   pub grows : length (text_before whole old.lines n) < length (text_for whole old.lines n)
   pub there : n ≤ length old.lines

@@ -1,6 +1,6 @@
 -- The bytes of a session's store, exactly.
-use Rattle.std.specs.Prelude.{ℕ, zero, suc, ◌+◌, ◌-◌, List, [], ◌∷◌, ◌++◌}
-use Rattle.paw_base.specs.Bytes.{zeros}
+use Rattle.std.specs.Prelude.{ℕ, zero, suc, ◌+◌, ◌-◌, [], ◌∷◌, ◌++◌}
+use Rattle.paw_base.specs.Bytes.{Bytes, Lines, zeros}
 use Rattle.paw_reading.specs.Turn.{Ending, pieces_of}
 use Rattle.paw_journal.specs.Session.{base_length, state_length, made_session, committed}
 use Rattle.paw_state.specs.Record.{last_piece}
@@ -9,18 +9,18 @@ use Rattle.paw_play.specs.Walk.{first_lines}
 use Rattle.paw_play.specs.Played.{PlayedSession}
 
 -- the state where a reading ended, after so many lines, as it is written: zeros stand behind it
-abbrev pub base_after : ℕ → Ending → List ℕ
+abbrev pub base_after : ℕ → Ending → Bytes
 base_after events e = state_after events e ++ zeros (base_length - state_length)
 
 -- the bytes of a session's store before the first line: those that it had; where it had none, those of the session as
 -- it is made
-abbrev pub bytes_before : PlayedSession → List ℕ → List ℕ
+abbrev pub bytes_before : PlayedSession → Bytes → Bytes
 bytes_before s [] = made_session s.digests (base_after 0 (s.whole [])) (last_piece (pieces_of (s.whole [])))
 bytes_before s (b ∷ bytes) = b ∷ bytes
 
 -- what these bytes of a store become with the first n lines of the session: by one commit for each, of the state where
 -- the reading of the lines up to it ends, and of its last piece
-abbrev pub bytes_after : PlayedSession → List (List ℕ) → ℕ → List ℕ → List ℕ
+abbrev pub bytes_after : PlayedSession → Lines → ℕ → Bytes → Bytes
 bytes_after s lines zero bytes = bytes
 bytes_after s lines (suc n) bytes =
     committed (base_after (s.before + suc n) (s.whole (first_lines (suc n) lines)))

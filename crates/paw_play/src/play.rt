@@ -1,7 +1,8 @@
 // Playing a new session.
 
-ghost use Rattle.std.specs.Prelude.{◌≡◌, ◌+◌, ◌-◌, ◌*◌, ◌≤◌, ℕ, [], List, length, IfOk, IfErr};
+ghost use Rattle.std.specs.Prelude.{◌≡◌, ◌+◌, ◌-◌, ◌*◌, ◌≤◌, [], length, IfOk, IfErr};
 ghost use Rattle.sha2.specs.Sha256.{sha256};
+ghost use Rattle.paw_base.specs.Bytes.{Name};
 ghost use Rattle.paw_base.specs.declared.limits.TheConstants.{EVENT_LIMIT, READ_LIMIT};
 ghost use Rattle.paw_game.specs.Image.{image};
 ghost use Rattle.paw_stage.specs.Disk.{IsStable};
@@ -81,10 +82,10 @@ fn begin<S: Stage, T: Tables, F: Fn(u8, u8) -> u8>(
     ensures refused { IfErr result IsNotForCall }
     ensures session { IfOk result (HoldsSession (S.Tells stage.old) 0 room.new (S.standing stage.new)) }
     ensures meaning { Across S.Stage stage.old stage.new (λ old new.
-        EachStory F.Fn player.old.routines player.old.game (λ g. (name : List ℕ) → IsStore name old →
+        EachStory F.Fn player.old.routines player.old.game (λ g. (name : Name) → IsStore name old →
         Begins g (begun_with g player.old.world.seed (digests_of game.now rules.now) name) old new player.new result)) }
     ensures any_moment { Across S.Stage stage.old stage.new (λ old new.
-        EachStory F.Fn player.old.routines player.old.game (λ g. (name : List ℕ) → IsStore name old →
+        EachStory F.Fn player.old.routines player.old.game (λ g. (name : Name) → IsStore name old →
         EachMoment S.Stage stage.old stage.new
         (InNewSession (begun_with g player.old.world.seed (digests_of game.now rules.now) name) old))) }
 {
@@ -121,10 +122,10 @@ fn play_in<S: Stage, T: Tables, F: Fn(u8, u8) -> u8>(
     ensures serves { Serves S.Stage play_calls (call_of_end result) stage.old stage.new }
     ensures refused { IsNotForCall result }
     ensures plays { Across S.Stage stage.old stage.new (λ old new.
-        EachStory F.Fn routines.now (T.game tables.now) (λ g. (name : List ℕ) → IsStore name old →
+        EachStory F.Fn routines.now (T.game tables.now) (λ g. (name : Name) → IsStore name old →
         MadeAndPlayed (begun_with g seed (digests_of game.now (measure g.rows)) name) old new result)) }
     ensures any_moment { Across S.Stage stage.old stage.new (λ old new.
-        EachStory F.Fn routines.now (T.game tables.now) (λ g. (name : List ℕ) → IsStore name old →
+        EachStory F.Fn routines.now (T.game tables.now) (λ g. (name : Name) → IsStore name old →
         EachMoment S.Stage stage.old stage.new
         (InNewSession (begun_with g seed (digests_of game.now (measure g.rows)) name) old))) }
 {

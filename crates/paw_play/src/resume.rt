@@ -1,7 +1,8 @@
 // Taking up a session again.
 
-ghost use Rattle.std.specs.Prelude.{◌≡◌, ℕ, List, IfSome};
+ghost use Rattle.std.specs.Prelude.{◌≡◌, IfSome};
 ghost use Rattle.sha2.specs.Sha256.{sha256};
+ghost use Rattle.paw_base.specs.Bytes.{Name, Text};
 ghost use Rattle.paw_game.specs.Image.{image};
 ghost use Rattle.paw_stage.specs.Disk.{IsStable};
 ghost use Rattle.paw_stage.specs.Across.{Across, EachMoment, InTwoParts, Serves};
@@ -75,11 +76,11 @@ fn take_up<S: Stage, T: Tables, F: Fn(u8, u8) -> u8>(
     ensures serves { Serves S.Stage play_calls (call_of_end result) stage.old stage.new }
     ensures refused { IsNotForCall result }
     ensures plays { Across S.Stage stage.old stage.new (λ old new.
-        EachStory F.Fn routines.now (T.game tables.now) (λ g. (name : List ℕ) → IsStore name old →
+        EachStory F.Fn routines.now (T.game tables.now) (λ g. (name : Name) → IsStore name old →
         Resumed g (kept_digests old.disk.bytes) name old new result)) }
     ensures any_moment { Across S.Stage stage.old stage.new (λ old new.
-        EachStory F.Fn routines.now (T.game tables.now) (λ g. (name : List ℕ) → IsStore name old →
-        (d : Digests) (st : State) (piece : List ℕ) → ShowsState g.game d old.disk.bytes st piece →
+        EachStory F.Fn routines.now (T.game tables.now) (λ g. (name : Name) → IsStore name old →
+        (d : Digests) (st : State) (piece : Text) → ShowsState g.game d old.disk.bytes st piece →
         EachMoment S.Stage stage.old stage.new (InPlay (from_state g st piece d name) old))) }
 {
     let restored = match read_state(tables, room.state()) {

@@ -1,7 +1,8 @@
 // One step of reading.
 
-ghost use Rattle.std.specs.Prelude.{◌≡◌, ℕ, ◌+◌, ◌-◌, ◌<◌, List, [], ◌∷◌, length};
+ghost use Rattle.std.specs.Prelude.{◌≡◌, ◌+◌, ◌-◌, ◌<◌, [], ◌∷◌, length};
 ghost use Rattle.std.specs.Prelude.{true, false, Some, None, IfNone, IfSome, IsNone, if◌then◌else◌};
+ghost use Rattle.paw_base.specs.Bytes.{RoutineRows};
 ghost use Rattle.paw_base.specs.declared.limits.TheConstants.{ENTRY_LIMIT};
 ghost use Rattle.paw_base.specs.declared.messages.TheConstants.{QUIT_MESSAGE};
 ghost use Rattle.paw_game.specs.Valid.{Valid};
@@ -146,7 +147,7 @@ impl<T: Tables, F: Fn(u8, u8) -> u8> Rulebook<'_, T, F> {
         requires ready { IsReady (T.game self.now.tables.now) machine.old world.old }
         requires own { IsLoopWithin (length machine.old.frames) l }
         requires level { l.level ≡ length (below machine.old.frames) }
-        ensures meaning { (X : List (List ℕ)) (r : Run) → let g = story_of (T.game self.now.tables.now) X in
+        ensures meaning { (X : RoutineRows) (r : Run) → let g = story_of (T.game self.now.tables.now) X in
             Continues g (turning_at g (below machine.old.frames) l (left_above world.old.places above)
             (looping world.old machine.old.turning r))
             result machine.new.frames (looping world.new machine.new.turning r) }
@@ -182,7 +183,7 @@ impl<T: Tables, F: Fn(u8, u8) -> u8> Rulebook<'_, T, F> {
     /// The innermost table is left; where its level's loop is open, the next object is taken instead.
     fn leave_level(&self, machine: &mut Machine, world: &mut World, acted: bool) -> Option<Turned>
         requires ready { IsReady (T.game self.now.tables.now) machine.old world.old }
-        ensures meaning { (X : List (List ℕ)) (r : Run) → let g = story_of (T.game self.now.tables.now) X in
+        ensures meaning { (X : RoutineRows) (r : Run) → let g = story_of (T.game self.now.tables.now) X in
             Continues g (resolved g (below machine.old.frames) (Left acted (looping world.old machine.old.turning r)))
             result machine.new.frames (looping world.new machine.new.turning r) }
         ensures after { HasMoved (T.game self.now.tables.now) machine.old world.old result machine.new world.new }
@@ -204,7 +205,7 @@ impl<T: Tables, F: Fn(u8, u8) -> u8> Rulebook<'_, T, F> {
     fn parse(&self, machine: &mut Machine, situation: &mut Situation, f: Frame)
         requires ready { IsReady (T.game self.now.tables.now) machine.old situation.old.world }
         requires at { IsInnermost f machine.old }
-        ensures meaning { (X : List (List ℕ)) (r : Run) → let g = story_of (T.game self.now.tables.now) X in
+        ensures meaning { (X : RoutineRows) (r : Run) → let g = story_of (T.game self.now.tables.now) X in
             resolved g (below machine.old.frames)
             (parses g f (next_of g (below machine.old.frames) f) (past_of g (below machine.old.frames) f)
             (run_held (having situation.old machine.old) r))
@@ -227,7 +228,7 @@ impl<T: Tables, F: Fn(u8, u8) -> u8> Rulebook<'_, T, F> {
     ) -> Option<Turned>
         requires ready { IsReady (T.game self.now.tables.now) machine.old situation.old.world }
         requires at { IsInnermost f machine.old }
-        ensures meaning { (X : List (List ℕ)) (r : Run) → let g = story_of (T.game self.now.tables.now) X in
+        ensures meaning { (X : RoutineRows) (r : Run) → let g = story_of (T.game self.now.tables.now) X in
             Continues g (acted_at g (below machine.old.frames) f effect (run_held (having situation.old machine.old) r))
             result machine.new.frames (run_held (having situation.new machine.new) r) }
         ensures after { HasMoved (T.game self.now.tables.now) machine.old situation.old.world result
@@ -267,7 +268,7 @@ impl<T: Tables, F: Fn(u8, u8) -> u8> Rulebook<'_, T, F> {
     ) -> Option<Turned>
         requires may { MayReadOne (T.game self.now.tables.now) f c machine.old situation.old.world }
         requires kind { is_condition c ≡ true }
-        ensures meaning { (X : List (List ℕ)) → let g = story_of (T.game self.now.tables.now) X in
+        ensures meaning { (X : RoutineRows) → let g = story_of (T.game self.now.tables.now) X in
             ReadsOne g (below machine.old.frames) f c (having situation.old machine.old) result
             (having situation.new machine.new) }
         ensures after { HasStepped (T.game self.now.tables.now) (having situation.old machine.old) result
@@ -295,7 +296,7 @@ impl<T: Tables, F: Fn(u8, u8) -> u8> Rulebook<'_, T, F> {
     fn ask(&self, machine: &mut Machine, situation: &mut Situation) -> Option<Turned>
         requires ready { IsReady (T.game self.now.tables.now) machine.old situation.old.world }
         requires place { AtCondacts machine.old.frames }
-        ensures meaning { (X : List (List ℕ)) (f : Frame) (r : Run) →
+        ensures meaning { (X : RoutineRows) (f : Frame) (r : Run) →
             machine.old.frames ≡ f ∷ below machine.old.frames →
             let g = story_of (T.game self.now.tables.now) X in
             Continues g (resolved g (below machine.old.frames)

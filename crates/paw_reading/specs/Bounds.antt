@@ -1,12 +1,13 @@
 -- The bounds that each reading keeps.
-use Rattle.std.specs.Prelude.{◌≡◌, ℕ, ◌≤◌, List, length, All}
+use Rattle.std.specs.Prelude.{◌≡◌, ◌≤◌, length, All}
+use Rattle.paw_base.specs.Bytes.{Line}
 use Rattle.paw_base.specs.declared.limits.TheConstants.{LINE_LIMIT}
 use Rattle.paw_game.specs.Valid.{Valid}
 use Rattle.paw_effects.specs.Standing.{AreBytes}
 use Rattle.paw_effects.specs.Story.{Story}
 
 -- a line: at most 255 bytes
-pub record IsLine (line : List ℕ) : Type 0 where
+pub record IsLine (line : Line) : Type 0 where
   pub short : length line ≤ LINE_LIMIT
   pub bytes : AreBytes line
 

@@ -2,6 +2,7 @@
 use Rattle.std.specs.Prelude.{ℕ, zero, suc, ◌-◌, ◌==◌, ◌&&◌, ◌||◌, Bool, true, false, not, List, []}
 use Rattle.std.specs.Prelude.{◌∷◌, ◌++◌, Option, Some, None, length, drop, nat_lt, if◌then◌else◌}
 use Rattle.std.specs.Option.{option_map_or}
+use Rattle.paw_base.specs.Bytes.{Line, Lines, Text}
 use Rattle.paw_base.specs.declared.flags.TheConstants.{VERB_FLAG, NOUN_FLAG, ADJECTIVE_FLAG, SECOND_NOUN_FLAG}
 use Rattle.paw_base.specs.declared.flags.TheConstants.{SECOND_ADJECTIVE_FLAG, PRONOUN_NOUN_FLAG}
 use Rattle.paw_base.specs.declared.flags.TheConstants.{PRONOUN_ADJECTIVE_FLAG, LOOP_FLAG}
@@ -79,7 +80,7 @@ abbrev pub noted : Frame → Condact → Bool → Run → Run
 noted f c passed r = record r { read = r.read ++ step_at f c passed ∷ [] }
 
 -- the text is printed where it fits, and then reading goes on
-abbrev pub printing : List ℕ → (Run → Out) → Run → Out
+abbrev pub printing : Text → (Run → Out) → Run → Out
 printing text go r = if fits r text then go (printed text r) else halts (RunsOut spent.Text) r
 
 -- ---- calls ----
@@ -153,14 +154,14 @@ over g r = printing (say_text g.game r.world GOODBYE_MESSAGE) game_over r
 -- the answer to a prompt in a table: QUIT goes on at yes, and at no leaves the table with an action carried out; END
 -- ends the game at no and starts it anew otherwise; a key, the only other prompt there, goes on with an action carried
 -- out
-abbrev pub answered : Story → Prompt → Frame → Onward → List ℕ → Run → Out
+abbrev pub answered : Story → Prompt → Frame → Onward → Line → Run → Out
 answered g prompt.Quit f go line r = if is_yes line then go f.acted r else Left true r
 answered g prompt.Again f go line r = if is_no line then over g r else Stopped Restarts (anew r)
 answered g _ f go line r = go true r  -- Key
 
 -- at a prompt in a table, the piece closed: with no line left the run waits; an ignored line closes an empty piece, and
 -- the run waits on; any other is heard and answers
-unfoldable pub asked : Story → Prompt → Frame → Onward → Run → List (List ℕ) → Out
+unfoldable pub asked : Story → Prompt → Frame → Onward → Run → Lines → Out
 asked g p f go r [] = Waits p (f ∷ []) (record r { events = [] })
 asked g p f go r (line ∷ lines) =
     if is_ignored r.world line then asked g p f go (closed (record r { events = lines })) lines

@@ -3,6 +3,7 @@ use Rattle.std.specs.Prelude.{ℕ, ◌+◌, ◌%◌, ◌==◌, ◌&&◌, ◌||�
 use Rattle.std.specs.Prelude.{◌++◌, Option, None, length, find, nat_le, if◌then◌else◌}
 use Rattle.std.specs.Option.{option_map_or}
 use Rattle.std.specs.Str.{bytes_eq}
+use Rattle.paw_base.specs.Bytes.{Bytes, Line, Lines, Text, Texts}
 use Rattle.paw_base.specs.declared.flags.TheConstants.{VERB_FLAG, NOUN_FLAG, ADJECTIVE_FLAG, ADVERB_FLAG}
 use Rattle.paw_base.specs.declared.flags.TheConstants.{PREPOSITION_FLAG, SECOND_NOUN_FLAG, SECOND_ADJECTIVE_FLAG}
 use Rattle.paw_base.specs.declared.flags.TheConstants.{PRONOUN_NOUN_FLAG, PRONOUN_ADJECTIVE_FLAG, TIMEOUT_FLAG}
@@ -19,25 +20,25 @@ use Rattle.paw_reading.specs.declared.places.OpenLoop.{OpenLoop}
 -- failed; the texts and the steps of the closed pieces; the lines not yet taken
 pub record Run : Type 0 where
   pub world : World
-  pub pending : List ℕ
+  pub pending : Bytes
   pub earlier : ℕ
   pub turning : Option OpenLoop
-  pub current : List ℕ
+  pub current : Text
   pub read : List Step
-  pub pieces : List (List ℕ)
+  pub pieces : Texts
   pub traces : List (List Step)
-  pub events : List (List ℕ)
+  pub events : Lines
 
 -- the open piece is closed, and the next one begins
 abbrev pub closed : Run → Run
 closed r = record r { current = []; read = []; pieces = r.pieces ++ r.current ∷ []; traces = r.traces ++ r.read ∷ [] }
 
 -- a piece holds at most 65,535 bytes
-abbrev pub fits : Run → List ℕ → Bool
+abbrev pub fits : Run → Text → Bool
 fits r text = nat_le (length r.current + length text) PIECE_LIMIT
 
 -- the text is printed
-abbrev pub printed : List ℕ → Run → Run
+abbrev pub printed : Text → Run → Run
 printed text r = record r { current = r.current ++ text }
 
 -- the world is this one
@@ -60,11 +61,11 @@ anew r = record r { world = restarted r.world; pending = []; earlier = NO_WORD; 
 -- ---- lines ----
 
 -- the line ~ stands for a timeout
-abbrev pub is_timeout : List ℕ → Bool
+abbrev pub is_timeout : Line → Bool
 is_timeout line = bytes_eq line (126 ∷ [])
 
 -- a timeout changes nothing where the flag that lets prompts run out of time is 0
-abbrev pub is_ignored : World → List ℕ → Bool
+abbrev pub is_ignored : World → Line → Bool
 is_ignored w line = is_timeout line && (flag w TIMEOUT_FLAG == 0)
 
 -- bit 7 of a flag tells whether the last line was a timeout; its other bits stay
@@ -74,24 +75,24 @@ with_timeout b w =
     with_flag w TIMED_OUT_FLAG (if b then TIMED_OUT_BIT + rest else rest)
 
 -- the line is heard: a flag tells whether it is a timeout
-abbrev pub heard : List ℕ → Run → Run
+abbrev pub heard : Line → Run → Run
 heard line r = with_world (with_timeout (is_timeout line) r.world) r
 
 -- a timeout answers a question with an empty line
-abbrev pub reply : List ℕ → List ℕ
+abbrev pub reply : Line → Line
 reply line = if is_timeout line then [] else line
 
 -- the first byte that isn't a space is this letter, as a capital or a small one
-abbrev pub begins_with : ℕ → List ℕ → Bool
+abbrev pub begins_with : ℕ → Line → Bool
 begins_with capital line =
     option_map_or (λ b. (b == capital) || (b == capital + 32)) (find (λ b. not (b == 32)) line) false
 
 -- Y answers yes
-abbrev pub is_yes : List ℕ → Bool
+abbrev pub is_yes : Line → Bool
 is_yes line = begins_with 89 line
 
 -- N answers no
-abbrev pub is_no : List ℕ → Bool
+abbrev pub is_no : Line → Bool
 is_no line = begins_with 78 line
 
 -- ---- sentences ----
@@ -105,5 +106,5 @@ spoken s w =
     with_flag (with_flag second PRONOUN_NOUN_FLAG s.pronoun_noun) PRONOUN_ADJECTIVE_FLAG s.pronoun_adjective
 
 -- the phrase is taken: its sentence stands in the flags, and its verb is the earlier one for the next
-abbrev pub taken_phrase : Sentence → List ℕ → Run → Run
+abbrev pub taken_phrase : Sentence → Bytes → Run → Run
 taken_phrase s rest r = record r { world = spoken s r.world; pending = rest; earlier = s.verb }

@@ -2,6 +2,7 @@
 use Rattle.std.specs.Prelude.{ℕ, zero, suc, ◌+◌, ◌-◌, ◌*◌, ◌/◌, ◌%◌, ◌==◌, Bool, true, false, List, [], ◌∷◌, ◌++◌}
 use Rattle.std.specs.Prelude.{Option, Some, None, length, map, sum_by, nat_lt, min, if◌then◌else◌}
 use Rattle.std.specs.List.{concat}
+use Rattle.paw_base.specs.Bytes.{Lines, Seed, Text, Texts}
 use Rattle.paw_base.specs.declared.flags.TheConstants.{VIEW_FLAG, DARK_VIEW_FLAG, UNLIT_VIEW_FLAG, FIRST_FRAME_FLAG}
 use Rattle.paw_base.specs.declared.flags.TheConstants.{LAST_FRAME_FLAG, DARK_FRAME_FLAG, UNLIT_FRAME_FLAG}
 use Rattle.paw_base.specs.declared.flags.TheConstants.{LOW_TURNS_FLAG, HIGH_TURNS_FLAG, VERB_FLAG, LOCATION_FLAG}
@@ -49,7 +50,7 @@ abbrev pub Sequel : Type 0
 Sequel = Run → Ending
 
 -- the text is printed where it fits, and then the turn goes on
-abbrev pub saying : List ℕ → Sequel → Run → Ending
+abbrev pub saying : Text → Sequel → Run → Ending
 saying text go r = if fits r text then go (printed text r) else Halted (RunsOut spent.Text) r
 
 -- flags that fall when a location is described: one always, one in the dark, one without light
@@ -64,7 +65,7 @@ time_frame_passed w =
     fallen_if (is_unlit w) UNLIT_FRAME_FLAG (fallen_if (is_dark w) DARK_FRAME_FLAG always)
 
 -- in the dark without light a message is said; else the location is described
-abbrev pub view_text : GameLists → World → List ℕ
+abbrev pub view_text : GameLists → World → Text
 view_text g w = if is_unlit w then say_text g w DARK_MESSAGE else location_text g w (flag w LOCATION_FLAG)
 
 -- one more turn, up to 65,535: the number stands in two flags, the low byte and the high one
@@ -74,18 +75,18 @@ counted w =
 
 -- the prompt, which is the message that a flag names, or the usual one where that is 0, and the mark at which a line is
 -- typed
-abbrev pub prompt_text : GameLists → World → List ℕ
+abbrev pub prompt_text : GameLists → World → Text
 prompt_text g w =
     say_text g w (if flag w PROMPT_FLAG == 0 then PROMPT_MESSAGE else flag w PROMPT_FLAG) ++ put_text g w LINE_MESSAGE
 
 -- what a timeout at the main prompt says, once it is heard
-abbrev pub timeout_text : GameLists → World → List ℕ
+abbrev pub timeout_text : GameLists → World → Text
 timeout_text g w = say_text g (with_timeout true w) TIMEOUT_MESSAGE
 
 -- at the main prompt: with no line left the run waits; an ignored line closes an empty piece, and the run waits on; a
 -- timeout says its message and leads to the time frame; any other line becomes the pending bytes, with no verb before,
 -- and leads to its first phrase
-unfoldable pub at_main : Story → (TurnPhase → Sequel) → Run → List (List ℕ) → Ending
+unfoldable pub at_main : Story → (TurnPhase → Sequel) → Run → Lines → Ending
 at_main g go r [] = WaitsAt prompt.Main [] (record r { events = [] })
 at_main g go r (line ∷ lines) =
     let s = record r { events = lines } in
@@ -103,7 +104,7 @@ after_phrase g go r IsNoPhrase =
     saying (prompt_text g.game r.world) (λ s. at_main g go (closed s) s.events) (line_dropped r)
 
 -- no entry answered and there is no exit: there is no way for a direction, and else the verb is impossible
-abbrev pub refusal_text : GameLists → World → List ℕ
+abbrev pub refusal_text : GameLists → World → Text
 refusal_text g w =
     say_text g w (if nat_lt (flag w VERB_FLAG) FIRST_PLAIN_VERB then NO_WAY_MESSAGE else IMPOSSIBLE_MESSAGE)
 
@@ -158,7 +159,7 @@ turns_from g s r = turn g (phases_left r) s r
 -- ---- the reading ----
 
 -- the run at the start of a game, with these lines to come
-abbrev pub opening : Story → ℕ → List (List ℕ) → Run
+abbrev pub opening : Story → Seed → Lines → Run
 opening g seed es = record {
   world = starting_world (map (λ o. o.facts) g.game.objects) (length g.game.locations) seed;
   pending = [];
@@ -172,17 +173,17 @@ opening g seed es = record {
 }
 
 -- the reading of a game with these lines, each of at most 255 bytes
-abbrev pub reading : Story → ℕ → List (List ℕ) → Ending
+abbrev pub reading : Story → Seed → Lines → Ending
 reading g seed es = turns_from g AtDescribe (opening g seed es)
 
 -- the closed pieces of a reading, the first one first
-abbrev pub pieces_of : Ending → List (List ℕ)
+abbrev pub pieces_of : Ending → Texts
 pieces_of (WaitsAt p path r) = r.pieces
 pieces_of (Halted halt r) = r.pieces
 pieces_of Unended = []
 
 -- the text of a reading: its closed pieces, one after the other
-abbrev pub text_of : Ending → List ℕ
+abbrev pub text_of : Ending → Text
 text_of e = concat (pieces_of e)
 
 -- ---- going on ----

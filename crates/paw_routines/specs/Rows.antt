@@ -1,20 +1,21 @@
 -- The values that routines give, as rows.
-use Rattle.std.specs.Prelude.{◌≡◌, ℕ, ◌<◌, List, length, All, Option, None, Some, slice_get, slice_index}
+use Rattle.std.specs.Prelude.{◌≡◌, ℕ, ◌<◌, length, All, Option, None, Some, slice_get, slice_index}
 use Rattle.std.specs.Fn.{Shared}
+use Rattle.paw_base.specs.Bytes.{Bytes, RoutineRows}
 
 -- The value of a row at an index, if there is a row.
-abbrev pub value_in : Option (List ℕ) → ℕ → Option ℕ
+abbrev pub value_in : Option Bytes → ℕ → Option ℕ
 value_in None x = None
 value_in (Some row) x = Some (slice_index row x)
 
 -- The value of row n at x; nothing where there is no such row.
-abbrev pub value_at : List (List ℕ) → ℕ → ℕ → Option ℕ
+abbrev pub value_at : RoutineRows → ℕ → ℕ → Option ℕ
 value_at rows n x = value_in (slice_get rows n) x
 
 -- Rows stand for the first `count` routines of f, one row of 256 bytes for each. f may be called for each of these
 -- routines on each value from 0 to 255, and any byte that it may answer is in the row at that value.
 pub record StandFor {F : Type 0} (calls : Shared F (ℕ × (ℕ × Unit {0})) ℕ) (f : F) (count : ℕ)
-    (rows : List (List ℕ)) : Type 0 where
+    (rows : RoutineRows) : Type 0 where
   pub one_each : length rows ≡ count
   pub whole : All (λ row. length row ≡ 256) rows
   pub bytes : All (λ row. All (λ y. y < 256) row) rows

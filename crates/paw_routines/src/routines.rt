@@ -1,6 +1,7 @@
 // Routines: code from outside that gives a value for a value.
 
-ghost use Rattle.std.specs.Prelude.{◌≡◌, ◌<◌, ℕ, List, Some, nat_lt, is_some, slice_get};
+ghost use Rattle.std.specs.Prelude.{◌≡◌, ◌<◌, Some, nat_lt, is_some, slice_get};
+ghost use Rattle.paw_base.specs.Bytes.{RoutineRows};
 ghost use Rattle.paw_routines.specs.Rows.{StandFor, value_at};
 ghost use Rattle.paw_routines.specs.Routines.{AreRowsOf, HaveRows};
 ghost use Rattle.paw_routines.specs.Measure.{measure};
@@ -17,8 +18,8 @@ pub struct Routines<F> {
 impl<F: Fn(u8, u8) -> u8> Routines<F> {
     /// The routines below `count`, where routine n gives for x what the closure gives for n and x.
     pub fn new(count: u8, f: F) -> Routines<F>
-        requires rows { (X : List (List ℕ)) × StandFor F.Fn f count X }
-        ensures rows { (X : List (List ℕ)) → StandFor F.Fn f count X → AreRowsOf F.Fn result X }
+        requires rows { (X : RoutineRows) × StandFor F.Fn f count X }
+        ensures rows { (X : RoutineRows) → StandFor F.Fn f count X → AreRowsOf F.Fn result X }
         ensures some { HaveRows F.Fn result }
     {
         Routines { count, f }
@@ -27,7 +28,7 @@ impl<F: Fn(u8, u8) -> u8> Routines<F> {
     /// What routine n gives for x. None exactly where there is no routine n.
     pub fn call(&self, n: u8, x: u8) -> Option<u8>
         requires rows { HaveRows F.Fn self.now }
-        ensures value { (X : List (List ℕ)) → AreRowsOf F.Fn self.now X → result ≡ value_at X n x }
+        ensures value { (X : RoutineRows) → AreRowsOf F.Fn self.now X → result ≡ value_at X n x }
         ensures none { is_some result ≡ nat_lt n self.now.count }
     {
         if n < self.count {
@@ -41,7 +42,7 @@ impl<F: Fn(u8, u8) -> u8> Routines<F> {
     fn row(&self, n: u8) -> [u8; 256]
         requires rows { HaveRows F.Fn self.now }
         requires is_routine { n < self.now.count }
-        ensures value { (X : List (List ℕ)) → AreRowsOf F.Fn self.now X → slice_get X n ≡ Some result }
+        ensures value { (X : RoutineRows) → AreRowsOf F.Fn self.now X → slice_get X n ≡ Some result }
     {
         let mut row = [0; 256];
         for x in 0..=u8::MAX {
@@ -54,7 +55,7 @@ impl<F: Fn(u8, u8) -> u8> Routines<F> {
     /// which routines a session was played.
     pub fn measure(&self) -> [u8; 32]
         requires rows { HaveRows F.Fn self.now }
-        ensures value { (X : List (List ℕ)) → AreRowsOf F.Fn self.now X → result ≡ measure X }
+        ensures value { (X : RoutineRows) → AreRowsOf F.Fn self.now X → result ≡ measure X }
     {
         let mut hasher = Sha256::new();
         hasher.update([self.count]);

@@ -1,6 +1,7 @@
 -- A store's bytes, and what a crash may leave of them.
 use Rattle.std.specs.Prelude.{◌≡◌, ◌⊎◌, ℕ, ◌+◌, ◌<◌, ◌≤◌, max, List, [], ◌∷◌, ◌++◌, length, take, drop, slice_index}
 use Rattle.std.specs.Prelude.{Bool, false, ◌&&◌, ◌||◌, nat_le, nat_lt}
+use Rattle.paw_base.specs.Bytes.{Bytes}
 
 -- The places from one number up to another, which isn't included.
 pub record Range : Type 0 where
@@ -9,8 +10,8 @@ pub record Range : Type 0 where
 
 -- The bytes that a read gives now, those at the last sync, and the greatest length and the ranges written since then.
 pub record Disk : Type 0 where
-  pub bytes : List ℕ
-  pub synced : List ℕ
+  pub bytes : Bytes
+  pub synced : Bytes
   pub longest : ℕ
   pub dirty : List Range
 
@@ -21,17 +22,17 @@ is_dirty (r ∷ ranges) i = (nat_le r.from i && nat_lt i r.to) || is_dirty range
 
 -- The bytes that a crash may leave: any where the disk was written since the last sync, and any past its length at that
 -- sync, up to the greatest since. All others stay.
-pub record MayLeave (d : Disk) (image : List ℕ) : Type 0 where
+pub record MayLeave (d : Disk) (image : Bytes) : Type 0 where
   pub no_shorter : length d.synced ≤ length image
   pub no_longer : length image ≤ d.longest
   pub clean : (i : ℕ) → i < length d.synced → is_dirty d.dirty i ≡ false → slice_index image i ≡ slice_index d.bytes i
 
 -- The bytes, with new ones put at a place.
-abbrev pub put : ℕ → List ℕ → List ℕ → List ℕ
+abbrev pub put : ℕ → Bytes → Bytes → Bytes
 put at new old = take at old ++ new ++ drop (at + length new) old
 
 -- The disk once a write of n bytes at a place has put these bytes there: all n count as written.
-abbrev pub touched : ℕ → ℕ → List ℕ → Disk → Disk
+abbrev pub touched : ℕ → ℕ → Bytes → Disk → Disk
 touched at n new d = record {
   bytes = put at new d.bytes;
   synced = d.synced;
@@ -41,10 +42,10 @@ touched at n new d = record {
 
 -- Inside a write of n bytes, or at its end: nothing was written yet, or at most n bytes were, which may be any.
 abbrev pub IsInWrite : ℕ → ℕ → Disk → Disk → Type 0
-IsInWrite at n old d = (d ≡ old) ⊎ ((new : List ℕ) × (length new ≤ n) × (d ≡ touched at n new old))
+IsInWrite at n old d = (d ≡ old) ⊎ ((new : Bytes) × (length new ≤ n) × (d ≡ touched at n new old))
 
 -- A disk with these bytes, of which a crash leaves exactly these.
-abbrev pub stable : List ℕ → Disk
+abbrev pub stable : Bytes → Disk
 stable bytes = record { bytes = bytes; synced = bytes; longest = length bytes; dirty = [] }
 
 -- Nothing was written since the last sync.

@@ -1,5 +1,6 @@
 -- What may stand at each moment inside the calls of a stage.
-use Rattle.std.specs.Prelude.{◌≡◌, ◌≢◌, ◌⊎◌, ℕ, ◌+◌, ◌≤◌, List, ◌++◌, take, Option, Some}
+use Rattle.std.specs.Prelude.{◌≡◌, ◌≢◌, ◌⊎◌, ℕ, ◌+◌, ◌≤◌, ◌++◌, take, Option, Some}
+use Rattle.paw_base.specs.Bytes.{Bytes, Name, Text}
 use Rattle.paw_stage.specs.Disk.{Disk, MayLeave, IsInWrite}
 use Rattle.paw_stage.specs.Stage.{Files, Standing, file_holding, store_holding, made_if_missing}
 use Rattle.paw_stage.specs.declared.Asked.{Asked}
@@ -9,8 +10,8 @@ use Rattle.paw_stage.specs.declared.Asked.TheVariants as asked
 pub record Moment : Type 0 where
   pub files : Files
   pub asked : ℕ
-  pub shown : List ℕ
-  pub attached : Option (List ℕ)
+  pub shown : Text
+  pub attached : Option Name
   pub disk : Disk
 
 -- The moment at which this stands, between calls.
@@ -41,21 +42,21 @@ InAsk old asked.End m = m ≡ moment_of old
 InAsk old asked.Failed m = m ≡ moment_of old
 
 -- A moment inside a show: a first part of the text was shown.
-abbrev pub InShow : Standing → List ℕ → Moment → Type 0
+abbrev pub InShow : Standing → Text → Moment → Type 0
 InShow old text m = (n : ℕ) × (m ≡ record (moment_of old) { shown = old.shown ++ take n text })
 
 -- A moment inside a save: the named file may hold any bytes, or be missing. What a crash leaves of the store is open
 -- where this is the store's file.
-pub record InSave (old : Standing) (name : List ℕ) (m : Moment) : Type 0 where
+pub record InSave (old : Standing) (name : Name) (m : Moment) : Type 0 where
   pub asked : m.asked ≡ old.asked
   pub shown : m.shown ≡ old.shown
   pub attached : m.attached ≡ old.attached
-  pub files : (m.files ≡ old.files) ⊎ ((bytes : Option (List ℕ)) × (m.files ≡ file_holding name bytes old.files))
+  pub files : (m.files ≡ old.files) ⊎ ((bytes : Option Bytes) × (m.files ≡ file_holding name bytes old.files))
   pub disk : old.attached ≢ Some name → m.disk ≡ old.disk
 
 -- A moment inside an attach: all stands as before it, or as before it but with a missing file made, which is empty, or
 -- as after it.
-abbrev pub InAttach : Standing → Standing → List ℕ → Moment → Type 0
+abbrev pub InAttach : Standing → Standing → Name → Moment → Type 0
 InAttach old new name m =
     (m ≡ moment_of old) ⊎ (m ≡ record (moment_of old) { files = made_if_missing name (old.files name) old.files })
     ⊎ (m ≡ moment_of new)
@@ -66,7 +67,7 @@ pub record InWrite (old : Standing) (at n : ℕ) (m : Moment) : Type 0 where
   pub asked : m.asked ≡ old.asked
   pub shown : m.shown ≡ old.shown
   pub attached : m.attached ≡ old.attached
-  pub files : (m.files ≡ old.files) ⊎ ((bytes : List ℕ) × (m.files ≡ store_holding old.attached bytes old.files))
+  pub files : (m.files ≡ old.files) ⊎ ((bytes : Bytes) × (m.files ≡ store_holding old.attached bytes old.files))
   pub disk : IsInWrite at n old.disk m.disk
 
 -- A moment inside a sync: a crash leaves nothing that it couldn't leave before the sync.
@@ -75,4 +76,4 @@ pub record InSync (old : Standing) (m : Moment) : Type 0 where
   pub shown : m.shown ≡ old.shown
   pub attached : m.attached ≡ old.attached
   pub files : m.files ≡ old.files
-  pub disk : (image : List ℕ) → MayLeave m.disk image → MayLeave old.disk image
+  pub disk : (image : Bytes) → MayLeave m.disk image → MayLeave old.disk image

@@ -1,9 +1,10 @@
 -- What a stage reports, and what its calls do to it.
-use Rattle.std.specs.Prelude.{◌≡◌, ◌≢◌, ◌⊎◌, ℕ, ◌+◌, ◌-◌, ◌<◌, ◌≤◌, ◌^◌, List, [], ◌∷◌, ◌++◌, length, take, drop}
+use Rattle.std.specs.Prelude.{◌≡◌, ◌≢◌, ◌⊎◌, ℕ, ◌+◌, ◌-◌, ◌<◌, ◌≤◌, ◌^◌, [], ◌∷◌, ◌++◌, length, take, drop}
 use Rattle.std.specs.Prelude.{Option, Some, None, Result, Ok, Err, if◌then◌else◌}
 use Rattle.std.specs.declared.vec.Vec.{Vec}
 use Rattle.std.specs.declared.alloc.Global.{Global}
 use Rattle.std.specs.Str.{bytes_eq}
+use Rattle.paw_base.specs.Bytes.{Bytes, Line, Lines, Name, Text}
 use Rattle.paw_base.specs.declared.limits.TheConstants.{LINE_LIMIT}
 use Rattle.paw_stage.specs.Disk.{Disk, stable, touched, IsInWrite}
 use Rattle.paw_stage.specs.declared.StageCall.{StageCall}
@@ -16,24 +17,24 @@ use Rattle.paw_stage.specs.declared.Asked.TheVariants as asked
 
 -- The files by name: the bytes of the file with a name, or nothing where there is no such file.
 abbrev pub Files : Type 0
-Files = List ℕ → Option (List ℕ)
+Files = Name → Option Bytes
 
 -- The files, once the file of this name holds these bytes, or is gone where there are none.
-abbrev pub file_holding : List ℕ → Option (List ℕ) → Files → Files
+abbrev pub file_holding : Name → Option Bytes → Files → Files
 file_holding name bytes files = λ n. if bytes_eq n name then bytes else files n
 
 -- The bytes of a file; none where it is missing.
-abbrev pub bytes_or_none : Option (List ℕ) → List ℕ
+abbrev pub bytes_or_none : Option Bytes → Bytes
 bytes_or_none None = []
 bytes_or_none (Some bytes) = bytes
 
 -- The files, once the file of this name is there: a missing one is made empty.
-abbrev pub made_if_missing : List ℕ → Option (List ℕ) → Files → Files
+abbrev pub made_if_missing : Name → Option Bytes → Files → Files
 made_if_missing name None files = file_holding name (Some []) files
 made_if_missing name (Some bytes) files = files
 
 -- The files, once the attached store, if there is one, holds these bytes: they are those of its file.
-abbrev pub store_holding : Option (List ℕ) → List ℕ → Files → Files
+abbrev pub store_holding : Option Name → Bytes → Files → Files
 store_holding None bytes files = files
 store_holding (Some name) bytes files = file_holding name (Some bytes) files
 
@@ -42,15 +43,15 @@ store_holding (Some name) bytes files = file_holding name (Some bytes) files
 -- to stores.
 pub record Standing : Type 0 where
   pub files : Files
-  pub lines : List (List ℕ)
+  pub lines : Lines
   pub asked : ℕ
-  pub shown : List ℕ
-  pub attached : Option (List ℕ)
+  pub shown : Text
+  pub attached : Option Name
   pub disk : Disk
   pub written : ℕ
 
 -- The bytes of the file of a name; none where it is missing.
-abbrev pub file_bytes : Standing → List ℕ → List ℕ
+abbrev pub file_bytes : Standing → Name → Bytes
 file_bytes s name = bytes_or_none (s.files name)
 
 -- A count of faults rose in a call. At its greatest value it stays, and counts as having risen.
@@ -82,42 +83,42 @@ failed_ask asked.End = None
 failed_ask asked.Failed = Some call.Ask
 
 -- The first n bytes are a line, cut to at most 255 bytes.
-pub record IsCut (line bytes : List ℕ) (n : ℕ) : Type 0 where
+pub record IsCut (line : Line) (bytes : Bytes) (n : ℕ) : Type 0 where
   pub short : n ≤ LINE_LIMIT
   pub same : take n bytes ≡ take LINE_LIMIT line
 
 -- What an ask does: it takes the next line, finds no line left, or fails. Only the first changes anything.
-abbrev pub AsksTo : Standing → Standing → Asked → List ℕ → Type 0
+abbrev pub AsksTo : Standing → Standing → Asked → Bytes → Type 0
 AsksTo old new (asked.Line n) into =
-    (line : List ℕ) × (old.lines ≡ line ∷ new.lines) × IsCut line into n
+    (line : Line) × (old.lines ≡ line ∷ new.lines) × IsCut line into n
     × (new ≡ record old { lines = new.lines; asked = old.asked + 1 })
 AsksTo old new asked.End into = (old.lines ≡ []) × (new ≡ old)
 AsksTo old new asked.Failed into = new ≡ old
 
 -- What a load answers: the bytes of the file of this name, or the first `most + 1` of them where it has more. Memory is
 -- never lacking for a file that is missing.
-abbrev pub LoadsTo : Standing → List ℕ → ℕ → Result (Vec ℕ Global) LoadRefusal → Type 0
-LoadsTo s name most (Ok given) = (bytes : List ℕ) × (s.files name ≡ Some bytes) × (given.items ≡ take (most + 1) bytes)
+abbrev pub LoadsTo : Standing → Name → ℕ → Result (Vec ℕ Global) LoadRefusal → Type 0
+LoadsTo s name most (Ok given) = (bytes : Bytes) × (s.files name ≡ Some bytes) × (given.items ≡ take (most + 1) bytes)
 LoadsTo s name most (Err refusal.Absent) = s.files name ≡ None
 LoadsTo s name most (Err refusal.Failed) = Unit {0}
 LoadsTo s name most (Err refusal.Memory) = s.files name ≢ None
 
 -- What a save does: the file of this name now holds these bytes, or is gone where there are none. If it is the file of
 -- the attached store, the store has these bytes, and what a crash may leave of it is open.
-pub record Saves (old new : Standing) (name : List ℕ) (bytes : Option (List ℕ)) : Type 0 where
+pub record Saves (old new : Standing) (name : Name) (bytes : Option Bytes) : Type 0 where
   pub disk : Disk
   pub apart : old.attached ≢ Some name → disk ≡ old.disk
   pub store : old.attached ≡ Some name → disk.bytes ≡ bytes_or_none bytes
   pub stands : new ≡ record old { files = file_holding name bytes old.files; disk = disk }
 
 -- What a save leaves. Where it failed, nothing changed, or the file holds any bytes, or it is gone.
-abbrev pub SavesTo : {A : Type 0} → Standing → Standing → List ℕ → List ℕ → Result A Failed → Type 0
+abbrev pub SavesTo : {A : Type 0} → Standing → Standing → Name → Bytes → Result A Failed → Type 0
 SavesTo old new name bytes (Ok done) = Saves old new name (Some bytes)
-SavesTo old new name bytes (Err e) = (new ≡ old) ⊎ ((left : Option (List ℕ)) × Saves old new name left)
+SavesTo old new name bytes (Err e) = (new ≡ old) ⊎ ((left : Option Bytes) × Saves old new name left)
 
 -- What stands once the file of this name is the attached store. A missing file is made empty; the bytes of the store
 -- are stable.
-abbrev pub opened : List ℕ → Standing → Standing
+abbrev pub opened : Name → Standing → Standing
 opened name s = record s {
   files = made_if_missing name (s.files name) s.files;
   attached = Some name;
@@ -129,7 +130,7 @@ abbrev pub Unattached : Standing → Standing → Type 0
 Unattached old new = (new ≡ old) ⊎ (new ≡ record old { attached = None; disk = stable [] })
 
 -- What an attach does: it answers the length of the store, or leaves what a failed one may leave.
-abbrev pub AttachesTo : Standing → Standing → List ℕ → Result ℕ Failed → Type 0
+abbrev pub AttachesTo : Standing → Standing → Name → Result ℕ Failed → Type 0
 AttachesTo old new name (Ok n) = (n ≡ length (file_bytes old name)) × (new ≡ opened name old)
 AttachesTo old new name (Err e) = Unattached old new
 
@@ -138,7 +139,7 @@ abbrev pub wrote : Standing → Disk → ℕ → Standing
 wrote old d n = record old { files = store_holding old.attached d.bytes old.files; disk = d; written = old.written + n }
 
 -- What stands once these bytes were written to the store from a place on.
-abbrev pub with_written : ℕ → List ℕ → Standing → Standing
+abbrev pub with_written : ℕ → Bytes → Standing → Standing
 with_written at bytes s = wrote s (touched at (length bytes) bytes s.disk) (length bytes)
 
 -- What stands once the store is synced.
@@ -154,20 +155,20 @@ pub record WritesPart (old new : Standing) (at n : ℕ) : Type 0 where
   pub stands : new ≡ wrote old disk count
 
 -- What a write of these bytes that failed leaves: nothing changed, or it failed in the middle.
-abbrev pub WritesSome : Standing → Standing → ℕ → List ℕ → Type 0
+abbrev pub WritesSome : Standing → Standing → ℕ → Bytes → Type 0
 WritesSome old new at bytes = (new ≡ old) ⊎ WritesPart old new at (length bytes)
 
 -- What a write of these bytes leaves.
-abbrev pub WritesTo : {A : Type 0} → Standing → Standing → ℕ → List ℕ → Result A Failed → Type 0
+abbrev pub WritesTo : {A : Type 0} → Standing → Standing → ℕ → Bytes → Result A Failed → Type 0
 WritesTo old new at bytes (Ok done) = new ≡ with_written at bytes old
 WritesTo old new at bytes (Err e) = WritesSome old new at bytes
 
 -- At most n bytes of the store, from a place on.
-abbrev pub part_of : Standing → ℕ → ℕ → List ℕ
+abbrev pub part_of : Standing → ℕ → ℕ → Bytes
 part_of s at n = take n (drop at s.disk.bytes)
 
 -- What a read gives. Where it failed, the bytes may be any.
-abbrev pub ReadsTo : {A : Type 0} → Standing → ℕ → ℕ → List ℕ → Result A Failed → Type 0
+abbrev pub ReadsTo : {A : Type 0} → Standing → ℕ → ℕ → Bytes → Result A Failed → Type 0
 ReadsTo s at n given (Ok done) = given ≡ part_of s at n
 ReadsTo s at n given (Err e) = Unit {0}
 
@@ -177,14 +178,14 @@ SyncsTo old new (Ok done) = new ≡ settled old
 SyncsTo old new (Err e) = new ≡ old
 
 -- What stands once this text is shown after the text before it.
-abbrev pub with_shown : List ℕ → Standing → Standing
+abbrev pub with_shown : Text → Standing → Standing
 with_shown text s = record s { shown = s.shown ++ text }
 
 -- A first part of this text was shown.
-abbrev pub ShowsPart : List ℕ → Standing → Standing → Type 0
+abbrev pub ShowsPart : Text → Standing → Standing → Type 0
 ShowsPart text old new = (n : ℕ) × (new ≡ with_shown (take n text) old)
 
 -- What a show leaves.
-abbrev pub ShowsTo : {A : Type 0} → Standing → Standing → List ℕ → Result A Failed → Type 0
+abbrev pub ShowsTo : {A : Type 0} → Standing → Standing → Text → Result A Failed → Type 0
 ShowsTo old new text (Ok done) = new ≡ with_shown text old
 ShowsTo old new text (Err e) = ShowsPart text old new

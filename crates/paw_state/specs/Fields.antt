@@ -4,6 +4,7 @@ use Rattle.std.specs.Prelude.{Option, Some, None, All, length, flat_map, is_some
 use Rattle.std.specs.Prelude.{slice_index_or, if◌then◌else◌}
 use Rattle.std.specs.Option.{option_map_or, unwrap_or}
 use Rattle.std.specs.Int.{w64, to_le_bytes}
+use Rattle.paw_base.specs.Bytes.{Bytes}
 use Rattle.paw_base.specs.declared.codes.TheConstants.{PROCESS, DOALL}
 use Rattle.paw_base.specs.declared.limits.TheConstants.{READ_LIMIT, EVENT_LIMIT, OBJECT_LIMIT, FLAG_COUNT, LINE_LIMIT}
 use Rattle.paw_base.specs.declared.limits.TheConstants.{POSITION_COUNT}
@@ -25,7 +26,7 @@ use Rattle.paw_state.specs.declared.held.Held.{Held}
 -- a field: its value, its bytes, and whether its rule holds in a game
 pub record Field : Type 0 where
   pub value : ℕ
-  pub bytes : List ℕ
+  pub bytes : Bytes
   pub holds : GameLists → Bool
 
 -- a number of one byte, with its rule
@@ -41,7 +42,7 @@ abbrev pub eight : ℕ → (GameLists → Bool) → Field
 eight n holds = record { value = n; bytes = to_le_bytes w64 n; holds = holds }
 
 -- bytes that are fields, one by one: the rule of each takes its number, counted from i on, and the byte
-unfoldable pub one_by_one : (ℕ → ℕ → GameLists → Bool) → ℕ → List ℕ → List Field
+unfoldable pub one_by_one : (ℕ → ℕ → GameLists → Bool) → ℕ → Bytes → List Field
 one_by_one holds i [] = []
 one_by_one holds i (b ∷ bs) = byte b (holds i b) ∷ one_by_one holds (suc i) bs
 
@@ -52,7 +53,7 @@ if_there there (f ∷ fs) =
     record f { holds = λ g. if there == 0 then f.value == 0 else f.holds g } ∷ if_there there fs
 
 -- the bytes of fields
-abbrev pub bytes_of : List Field → List ℕ
+abbrev pub bytes_of : List Field → Bytes
 bytes_of fields = flat_map (λ f. f.bytes) fields
 
 -- the place of the first field whose rule doesn't hold in a game; the bytes of the fields stand from this place on

@@ -1,5 +1,6 @@
 -- What a session keeps of a reading.
 use Rattle.std.specs.Prelude.{ℕ, List, [], ◌∷◌, length}
+use Rattle.paw_base.specs.Bytes.{Text, Texts}
 use Rattle.paw_effects.specs.declared.act.Prompt.{Prompt}
 use Rattle.paw_reading.specs.declared.places.Frame.{Frame}
 use Rattle.paw_reading.specs.Run.{Run}
@@ -7,7 +8,7 @@ use Rattle.paw_process.specs.Kept.{frames_at}
 use Rattle.paw_state.specs.State.{State}
 
 -- the piece that was closed last; empty where none was closed
-abbrev pub last_piece : List (List ℕ) → List ℕ
+abbrev pub last_piece : Texts → Text
 last_piece [] = []
 last_piece (piece ∷ []) = piece
 last_piece (piece ∷ next ∷ pieces) = last_piece (next ∷ pieces)

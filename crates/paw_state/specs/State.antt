@@ -1,8 +1,9 @@
 -- What a session keeps of a game that is played, its fields and bytes, and the rules that it keeps.
-use Rattle.std.specs.Prelude.{◌≡◌, ℕ, ◌-◌, ◌^◌, ◌<◌, ◌≤◌, List, ◌++◌, Option, Some, None, length, map, is_some, All, IfSome}
+use Rattle.std.specs.Prelude.{◌≡◌, ℕ, ◌-◌, ◌^◌, ◌<◌, ◌≤◌, ◌++◌, Option, Some, None, length, map, is_some, All, IfSome}
 use Rattle.std.specs.Prelude.{if◌then◌else◌}
 use Rattle.std.specs.Option.{unwrap_or}
 unfoldable pub use Rattle.paw_base.specs.Bytes.{zeros}
+use Rattle.paw_base.specs.Bytes.{Bytes}
 use Rattle.paw_base.specs.declared.limits.TheConstants.{LINE_LIMIT, OBJECT_LIMIT, FLAG_COUNT}
 use Rattle.paw_game.specs.Game.{GameLists}
 use Rattle.paw_world.specs.World.{World, Position, IsWorld}
@@ -32,7 +33,7 @@ pub record State : Type 0 where
 -- ---- its fields ----
 
 -- these bytes, filled up with zeros to n of them
-abbrev pub filled : ℕ → List ℕ → List ℕ
+abbrev pub filled : ℕ → Bytes → Bytes
 filled n bytes = bytes ++ zeros (n - length bytes)
 
 -- a position that is there, with its flags and places; all 0 where there is none
@@ -74,7 +75,7 @@ fields_of s = record {
 }
 
 -- the bytes of a state
-abbrev pub state_bytes : State → List ℕ
+abbrev pub state_bytes : State → Bytes
 state_bytes s = bytes_of (state_fields (fields_of s))
 
 -- ---- its rules ----

@@ -1,5 +1,5 @@
 -- What checking a game comes to.
-use Rattle.std.specs.Prelude.{ℕ, List}
+use Rattle.paw_base.specs.Bytes.{Name}
 use Rattle.paw_check.specs.Shown.{verdict_text}
 use Rattle.paw_check.specs.Verdicts.{bounds}
 use Rattle.paw_stage.specs.Stage.{Standing}
@@ -8,5 +8,5 @@ use Rattle.paw_top.specs.declared.outcome.Outcome.{Outcome}
 use Rattle.paw_top.specs.declared.outcome.MemoryAt.TheVariants as memory
 
 -- a check shows the bound of what any play of the game takes, or the first cause why none is known
-abbrev pub Checks : List ℕ → Standing → Standing → Outcome → Type 0
+abbrev pub Checks : Name → Standing → Standing → Outcome → Type 0
 Checks = TellsOf (λ g. verdict_text (bounds g)) memory.Check

@@ -4,6 +4,7 @@ use Rattle.std.specs.Prelude.{nat_lt, nat_le, codes, map, string_bytes, if◌the
 use Rattle.std.specs.declared.string.String.{String}
 use Rattle.std.specs.Option.{option_map, option_and_then}
 use Rattle.std.specs.Str.{bytes_eq}
+use Rattle.paw_base.specs.Bytes.{Bytes, Name, RoutineRows, Seed, Text}
 use Rattle.paw_grammar.specs.Numbers.{number}
 use Rattle.paw_reading.specs.Turn.{reading}
 use Rattle.paw_stage.specs.Stage.{Standing}
@@ -27,15 +28,15 @@ use Rattle.paw_top.specs.declared.outcome.MemoryAt.TheVariants as place
 -- to play the trial of a number; to show what any play of the game of an image takes at most; to show a text in columns
 -- of a width
 pub data Command : Type 0 where
-  Compile : (source image : List ℕ) → Command
-  Decompile : (image : List ℕ) → Command
-  Walk : (image : List ℕ) (seed : ℕ) → Command
-  Play : (image store : List ℕ) (seed : ℕ) → Command
-  Resume : (image store : List ℕ) → Command
-  Trace : (image : List ℕ) (seed : ℕ) → Command
+  Compile : (source image : Name) → Command
+  Decompile : (image : Name) → Command
+  Walk : (image : Name) (seed : Seed) → Command
+  Play : (image store : Name) (seed : Seed) → Command
+  Resume : (image store : Name) → Command
+  Trace : (image : Name) (seed : Seed) → Command
   Trial : (n : ℕ) → Command
-  Check : (image : List ℕ) → Command
-  Wrap : (width : ℕ) (text : List ℕ) → Command
+  Check : (image : Name) → Command
+  Wrap : (width : ℕ) (text : Name) → Command
 
 -- ---- words ----
 
@@ -43,39 +44,39 @@ pub data Command : Type 0 where
 -- usage shows by these letters, and then others
 pub data Form : Type 0 where
   End : Form
-  File : (shown : List ℕ) (others : Form) → Form
-  Number : (shown : List ℕ) (read : List ℕ → Option ℕ) (others : Form) → Form
+  File : (shown : Text) (others : Form) → Form
+  Number : (shown : Text) (read : Bytes → Option ℕ) (others : Form) → Form
 
 -- what a command is made of, by its form
 abbrev pub Makes : Form → Type 0
 Makes End = Command
-Makes (File shown others) = List ℕ → Makes others
+Makes (File shown others) = Name → Makes others
 Makes (Number shown read others) = ℕ → Makes others
 
 -- a command: its name, the form of the words behind that, and what these make
 pub record CommandRow : Type 0 where
-  pub name : List ℕ
+  pub name : Name
   pub form : Form
   pub makes : Makes form
 
 -- the number that a word of at most so many decimal digits spells
-abbrev pub number_of : ℕ → List ℕ → Option ℕ
+abbrev pub number_of : ℕ → Bytes → Option ℕ
 number_of most word = if nat_le (length word) most then number word else None
 
 -- a seed has 1 to 20 decimal digits, and a value below 2^64
-abbrev pub seed_of : List ℕ → Option ℕ
+abbrev pub seed_of : Bytes → Option Seed
 seed_of word = option_and_then (λ n. if nat_lt n (2 ^ 64) then Some n else None) (number_of 20 word)
 
 -- the number of a trial has 1 to 4 decimal digits
-abbrev pub trial_of : List ℕ → Option ℕ
+abbrev pub trial_of : Bytes → Option ℕ
 trial_of word = number_of 4 word
 
 -- a byte has 1 to 3 decimal digits, and a value below 256
-abbrev pub byte_of : List ℕ → Option ℕ
+abbrev pub byte_of : Bytes → Option ℕ
 byte_of word = option_and_then (λ n. if nat_lt n 256 then Some n else None) (number_of 3 word)
 
 -- a width is spelt as a byte, and isn't 0
-abbrev pub width_of : List ℕ → Option ℕ
+abbrev pub width_of : Bytes → Option ℕ
 width_of word = option_and_then (λ n. if nat_lt 0 n then Some n else None) (byte_of word)
 
 -- all commands
@@ -103,11 +104,11 @@ commands =
 pub record CommandMeaning : Type 1 where
   pub calls : List StageCall
   pub memory : List MemoryAt
-  pub comes : List (List ℕ) → Standing → Standing → Outcome → Type 0
-  pub moments : TwoParts → List (List ℕ) → Standing → Type 0
+  pub comes : RoutineRows → Standing → Standing → Outcome → Type 0
+  pub moments : TwoParts → RoutineRows → Standing → Type 0
 
 -- a command that attaches no store: of it only what stands afterwards is said
-abbrev pub storeless : List StageCall → List MemoryAt → (List (List ℕ) → Standing → Standing → Outcome → Type 0) → CommandMeaning
+abbrev pub storeless : List StageCall → List MemoryAt → (RoutineRows → Standing → Standing → Outcome → Type 0) → CommandMeaning
 storeless calls memory comes = record {
   calls = calls;
   memory = memory;
@@ -116,8 +117,8 @@ storeless calls memory comes = record {
 }
 
 -- one that plays with a session
-abbrev pub with_session : (List (List ℕ) → Standing → Standing → Outcome → Type 0)
-    → (TwoParts → List (List ℕ) → Standing → Type 0) → CommandMeaning
+abbrev pub with_session : (RoutineRows → Standing → Standing → Outcome → Type 0)
+    → (TwoParts → RoutineRows → Standing → Type 0) → CommandMeaning
 with_session comes moments = record {
   calls = load_calls ++ session_calls;
   memory = place.Play ∷ load_memory;
@@ -145,22 +146,22 @@ meaning (Wrap width text) = storeless (call.Show ∷ load_calls) (place.Wrap ∷
 -- ---- from words to a command ----
 
 -- no word more comes
-abbrev pub no_more : List (List ℕ) → Bool
+abbrev pub no_more : List Bytes → Bool
 no_more [] = true
 no_more (word ∷ words) = false
 
 -- the name of a file comes next, which has at least one byte, and then other words
-abbrev pub next_file : List (List ℕ) → Option (List ℕ × List (List ℕ))
+abbrev pub next_file : List Bytes → Option (Name × List Bytes)
 next_file [] = None
 next_file (name ∷ words) = if nat_lt 0 (length name) then Some (name, words) else None
 
 -- a number comes next, which is read so, and then other words
-abbrev pub next_number : (List ℕ → Option ℕ) → List (List ℕ) → Option (ℕ × List (List ℕ))
+abbrev pub next_number : (Bytes → Option ℕ) → List Bytes → Option (ℕ × List Bytes)
 next_number read [] = None
 next_number read (word ∷ words) = option_map (λ n. (n, words)) (read word)
 
 -- the command that these words make in this form
-abbrev pub made_in : (form : Form) → Makes form → List (List ℕ) → Option Command
+abbrev pub made_in : (form : Form) → Makes form → List Bytes → Option Command
 made_in End command words = if no_more words then Some command else None
 made_in (File shown others) makes words =
     option_and_then (λ next. made_in others (makes next.0) next.1) (next_file words)
@@ -168,13 +169,13 @@ made_in (Number shown read others) makes words =
     option_and_then (λ next. made_in others (makes next.0) next.1) (next_number read words)
 
 -- the command with this name that the words behind it make
-abbrev pub command_named : List CommandRow → List ℕ → List (List ℕ) → Option Command
+abbrev pub command_named : List CommandRow → Name → List Bytes → Option Command
 command_named [] name words = None
 command_named (r ∷ rows) name words =
     if bytes_eq name r.name then made_in r.form r.makes words else command_named rows name words
 
 -- the first word is the name of a command
-abbrev pub command_of : List (List ℕ) → Option Command
+abbrev pub command_of : List Bytes → Option Command
 command_of [] = None
 command_of (name ∷ words) = command_named commands name words
 
@@ -185,16 +186,16 @@ asked_for words = command_of (map string_bytes words)
 -- ---- usage ----
 
 -- the words behind the name of a command, as usage shows them
-abbrev pub form_shown : Form → List ℕ
+abbrev pub form_shown : Form → Text
 form_shown End = []
 form_shown (File shown others) = codes " " ++ (shown ++ form_shown others)
 form_shown (Number shown read others) = codes " " ++ (shown ++ form_shown others)
 
 -- the commands, each as usage shows it: this stands before the first, and a bar before each other
-abbrev pub rows_shown : List ℕ → List CommandRow → List ℕ
+abbrev pub rows_shown : Text → List CommandRow → Text
 rows_shown mark [] = codes "\n"
 rows_shown mark (r ∷ rows) = mark ++ (r.name ++ (form_shown r.form ++ rows_shown (codes " | ") rows))
 
 -- the line that shows every command
-unfoldable pub usage : List ℕ
+unfoldable pub usage : Text
 usage = rows_shown (codes "usage: paw ") commands

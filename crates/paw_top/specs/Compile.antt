@@ -1,6 +1,7 @@
 -- What compiling a source comes to.
-use Rattle.std.specs.Prelude.{◌≡◌, ◌⊎◌, ℕ, List, ◌++◌, length, take, Result, Ok, Err, Option, Some, None, codes}
+use Rattle.std.specs.Prelude.{◌≡◌, ◌⊎◌, ℕ, ◌++◌, length, take, Result, Ok, Err, Option, Some, None, codes}
 use Rattle.std.specs.Fmt.{decimal}
+use Rattle.paw_base.specs.Bytes.{Bytes, Name, Text}
 use Rattle.paw_base.specs.declared.fault.SourceFault.{SourceFault}
 use Rattle.paw_game.specs.Game.{GameLists}
 use Rattle.paw_game.specs.Image.{image}
@@ -12,19 +13,19 @@ use Rattle.paw_top.specs.declared.outcome.Outcome.TheVariants as outcome
 use Rattle.paw_top.specs.declared.outcome.MemoryAt.{MemoryAt}
 
 -- the file of this name holds a source that spells this game, or whose first fault is this one
-abbrev pub HoldsSource : Standing → List ℕ → Result GameLists SourceFault → Type 0
-HoldsSource s name read = (bytes : List ℕ) × (s.files name ≡ Some bytes) × (spelled bytes ≡ read)
+abbrev pub HoldsSource : Standing → Name → Result GameLists SourceFault → Type 0
+HoldsSource s name read = (bytes : Bytes) × (s.files name ≡ Some bytes) × (spelled bytes ≡ read)
 
 -- the line that tells how many bytes an image has
-abbrev pub image_line : ℕ → List ℕ
+abbrev pub image_line : ℕ → Text
 image_line size = codes "IMAGE " ++ (decimal size ++ codes " BYTES\n")
 
 -- the file of this name now holds these bytes, and then this text was shown; all else stands as it was
-abbrev pub Kept : Standing → Standing → List ℕ → List ℕ → List ℕ → Type 0
+abbrev pub Kept : Standing → Standing → Name → Bytes → Text → Type 0
 Kept old new name bytes text = (mid : Standing) × Saves old mid name (Some bytes) × (new ≡ with_shown text mid)
 
 -- how a compiler leaves what stands, by its answer
-pub data Compiles (source target : List ℕ) (old new : Standing) : Outcome → Type 0 where
+pub data Compiles (source target : Name) (old new : Standing) : Outcome → Type 0 where
   -- the source spells a game, the target holds its image, and the line was shown
   done : (g : GameLists) → HoldsSource old source (Ok g) →
       Kept old new target (image g) (image_line (length (image g))) → Compiles source target old new outcome.Done
@@ -37,7 +38,7 @@ pub data Compiles (source target : List ℕ) (old new : Standing) : Outcome → 
   unloaded : new ≡ old → Compiles source target old new (outcome.Outside call.Load)
   -- the image of the game couldn't be saved: the target alone may hold any bytes, or be gone; nothing was shown
   unsaved : (g : GameLists) → HoldsSource old source (Ok g) →
-      (new ≡ old) ⊎ ((left : Option (List ℕ)) × Saves old new target left) →
+      (new ≡ old) ⊎ ((left : Option Bytes) × Saves old new target left) →
       Compiles source target old new (outcome.Outside call.Save)
   -- the line couldn't be shown: the target holds the image, and a first part of the line was shown
   unshown : (g : GameLists) (n : ℕ) → HoldsSource old source (Ok g) →

@@ -1,5 +1,6 @@
 -- What showing a text of the game of an image comes to, and decompiling it.
-use Rattle.std.specs.Prelude.{◌≡◌, ℕ, List}
+use Rattle.std.specs.Prelude.{◌≡◌}
+use Rattle.paw_base.specs.Bytes.{Name, Text}
 use Rattle.paw_game.specs.Game.{GameLists}
 use Rattle.paw_print.specs.Canonical.{canonical_of}
 use Rattle.paw_stage.specs.Stage.{Standing, with_shown, ShowsPart}
@@ -13,7 +14,7 @@ use Rattle.paw_top.specs.declared.outcome.MemoryAt.TheVariants as memory
 
 -- How a command that shows a text of a game leaves what stands, by its answer. The text is told by the game, and memory
 -- may be wanting for it.
-pub data TellsOf (told : GameLists → List ℕ) (at : MemoryAt) (name : List ℕ) (old new : Standing) : Outcome → Type 0 where
+pub data TellsOf (told : GameLists → Text) (at : MemoryAt) (name : Name) (old new : Standing) : Outcome → Type 0 where
   -- the file is the image of a game, and its text was shown
   done : (g : GameLists) → Holds old name g → new ≡ with_shown (told g) old →
       TellsOf told at name old new outcome.Done
@@ -26,5 +27,5 @@ pub data TellsOf (told : GameLists → List ℕ) (at : MemoryAt) (name : List �
   untold : new ≡ old → TellsOf told at name old new (outcome.Memory at)
 
 -- a decompiler shows the canonical source
-abbrev pub Decompiles : List ℕ → Standing → Standing → Outcome → Type 0
+abbrev pub Decompiles : Name → Standing → Standing → Outcome → Type 0
 Decompiles = TellsOf canonical_of memory.Print

@@ -1,5 +1,5 @@
 -- The answer for what playing comes to.
-use Rattle.std.specs.Prelude.{ℕ, List}
+use Rattle.paw_base.specs.Bytes.{Name}
 use Rattle.paw_game.specs.Game.{GameLists}
 use Rattle.paw_stage.specs.Stage.{Standing}
 use Rattle.paw_journal.specs.declared.refusal.JournalRefusal.{JournalRefusal}
@@ -35,7 +35,7 @@ outcome_of (end.Outside c) = outcome.Outside c
 outcome_of end.Memory = outcome.Memory memory.Play
 
 -- the game that this file holds is played, and comes to such an end; or it isn't played, with nothing changed
-pub data PlaysFile (Comes : GameLists → PlayEnd → Type 0) (name : List ℕ) (old new : Standing) : Outcome → Type 0 where
+pub data PlaysFile (Comes : GameLists → PlayEnd → Type 0) (name : Name) (old new : Standing) : Outcome → Type 0 where
   plays : (g : GameLists) (end : PlayEnd) → Holds old name g → Comes g end →
       PlaysFile Comes name old new (outcome_of end)
   unopened : (o : Outcome) → Unopened name old new o → PlaysFile Comes name old new o

@@ -1,15 +1,16 @@
 -- What loading a file comes to.
-use Rattle.std.specs.Prelude.{◌≡◌, ℕ, List, Some}
+use Rattle.std.specs.Prelude.{◌≡◌, ℕ, Some}
+use Rattle.paw_base.specs.Bytes.{Bytes, Name}
 use Rattle.paw_game.specs.Game.{GameLists}
 use Rattle.paw_image.specs.Damage.{bad}
 use Rattle.paw_image.specs.Images.{IsImage}
 use Rattle.paw_stage.specs.Stage.{Standing}
 
 -- the file of this name holds the image of this game
-abbrev pub Holds : Standing → List ℕ → GameLists → Type 0
-Holds s name g = (bytes : List ℕ) × (s.files name ≡ Some bytes) × IsImage bytes g
+abbrev pub Holds : Standing → Name → GameLists → Type 0
+Holds s name g = (bytes : Bytes) × (s.files name ≡ Some bytes) × IsImage bytes g
 
 -- the file of this name holds no image of a valid game: the first rule that its bytes break is broken at this place
-abbrev pub HoldsDamage : Standing → List ℕ → ℕ → Type 0
-HoldsDamage s name at = (bytes : List ℕ) × (s.files name ≡ Some bytes) × ((g : GameLists) → ¬ IsImage bytes g)
+abbrev pub HoldsDamage : Standing → Name → ℕ → Type 0
+HoldsDamage s name at = (bytes : Bytes) × (s.files name ≡ Some bytes) × ((g : GameLists) → ¬ IsImage bytes g)
     × (bad bytes ≡ Some at)

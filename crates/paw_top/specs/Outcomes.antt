@@ -1,7 +1,8 @@
 -- What an outcome says to the system and to a person.
-use Rattle.std.specs.Prelude.{ℕ, List, [], ◌++◌, codes}
+use Rattle.std.specs.Prelude.{ℕ, [], ◌++◌, codes}
 use Rattle.std.specs.Fmt.{decimal}
 use Rattle.hex.specs.Hex.{encode_lower}
+use Rattle.paw_base.specs.Bytes.{Bytes, Name, Text}
 use Rattle.paw_base.specs.declared.fault.SourceKind.{SourceKind}
 use Rattle.paw_base.specs.declared.fault.SourceKind.TheVariants as kind
 use Rattle.paw_base.specs.declared.fault.SpentKind.{SpentKind}
@@ -35,7 +36,7 @@ status_of (outcome.Long events) = 9
 status_of _ = 0
 
 -- the name of a kind of fault that a source may have
-abbrev pub kind_name : SourceKind → List ℕ
+abbrev pub kind_name : SourceKind → Name
 kind_name kind.Section = codes "Section"
 kind_name kind.Word = codes "Word"
 kind_name kind.Number = codes "Number"
@@ -48,18 +49,18 @@ kind_name kind.Text = codes "Text"
 kind_name kind.TooBig = codes "TooBig"
 
 -- the name of a part of a session that may be damaged
-abbrev pub part_name : SessionPart → List ℕ
+abbrev pub part_name : SessionPart → Name
 part_name part.Header = codes "Header"
 part_name part.Slot = codes "Slot"
 part_name part.State = codes "State"
 
 -- the name of what a piece may spend
-abbrev pub spent_name : SpentKind → List ℕ
+abbrev pub spent_name : SpentKind → Name
 spent_name spent.Condacts = codes "condacts"
 spent_name spent.Text = codes "text"
 
 -- the name of a call of the stage
-abbrev pub call_name : StageCall → List ℕ
+abbrev pub call_name : StageCall → Name
 call_name call.Load = codes "Load"
 call_name call.LoadAbsent = codes "LoadAbsent"
 call_name call.Save = codes "Save"
@@ -71,7 +72,7 @@ call_name call.Ask = codes "Ask"
 call_name call.Show = codes "Show"
 
 -- the name of a place where memory may be wanting
-abbrev pub memory_name : MemoryAt → List ℕ
+abbrev pub memory_name : MemoryAt → Name
 memory_name memory.Load = codes "Load"
 memory_name memory.Source = codes "Source"
 memory_name memory.Print = codes "Print"
@@ -82,12 +83,12 @@ memory_name memory.Check = codes "Check"
 memory_name memory.Wrap = codes "Wrap"
 
 -- the line that names the digest that a session keeps and the one that was found, in hexadecimal digits
-abbrev pub digests_line : List ℕ → List ℕ → List ℕ → List ℕ
+abbrev pub digests_line : Text → Bytes → Bytes → Text
 digests_line said kept found =
     said ++ (codes ": kept " ++ (encode_lower kept ++ (codes " found " ++ (encode_lower found ++ codes "\n"))))
 
 -- what is written to standard error; nothing for Done, Ended and InputEnded
-abbrev pub error_text : Outcome → List ℕ
+abbrev pub error_text : Outcome → Text
 error_text outcome.Usage = usage
 error_text (outcome.SourceRefused fault) = codes "source line "
     ++ (decimal fault.line ++ (codes ": " ++ (kind_name fault.kind ++ codes "\n")))

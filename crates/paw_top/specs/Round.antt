@@ -1,5 +1,6 @@
 -- What the canonical source of a game spells.
-use Rattle.std.specs.Prelude.{◌≡◌, ◌≤◌, ◌<◌, ℕ, List, ◌++◌, length, Some, Err}
+use Rattle.std.specs.Prelude.{◌≡◌, ◌≤◌, ◌<◌, ◌++◌, length, Some, Err}
+use Rattle.paw_base.specs.Bytes.{Bytes, Name, Text}
 use Rattle.paw_base.specs.declared.fault.SourceKind.TheVariants as kind
 use Rattle.paw_base.specs.declared.limits.TheConstants.{IMAGE_LIMIT, SOURCE_LIMIT}
 use Rattle.paw_game.specs.Game.{GameLists}
@@ -22,7 +23,7 @@ SpellsItself = (g : GameLists) → Valid g → length (image g) ≤ IMAGE_LIMIT 
 -- longer than a source may be, compiling that file saves the very bytes that were decompiled.
 abbrev pub ComesBack : Type 0
 ComesBack =
-    (image_name source target bytes text : List ℕ) (old shown before after : Standing) →
+    (image_name source target : Name) (bytes : Bytes) (text : Text) (old shown before after : Standing) →
     old.files image_name ≡ Some bytes
     → Decompiles image_name old shown outcome.Done → shown.shown ≡ old.shown ++ text → before.files source ≡ Some text
     → length text ≤ SOURCE_LIMIT → Compiles source target before after outcome.Done

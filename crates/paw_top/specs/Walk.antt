@@ -1,5 +1,5 @@
 -- What walking through the game of an image comes to.
-use Rattle.std.specs.Prelude.{ℕ, List}
+use Rattle.paw_base.specs.Bytes.{Name, RoutineRows, Seed}
 use Rattle.paw_base.specs.declared.limits.TheConstants.{EVENT_LIMIT}
 use Rattle.paw_effects.specs.Story.{Story, story_of}
 use Rattle.paw_reading.specs.Turn.{reading}
@@ -10,10 +10,10 @@ use Rattle.paw_top.specs.Ends.{PlaysFile}
 use Rattle.paw_top.specs.declared.outcome.Outcome.{Outcome}
 
 -- a walk through the game that this file holds, with these rows of routines, told so, or why there is none
-abbrev pub WalksAs : (Story → ℕ → EndingOf) → List (List ℕ) → List ℕ → ℕ → Standing → Standing → Outcome → Type 0
+abbrev pub WalksAs : (Story → Seed → EndingOf) → RoutineRows → Name → Seed → Standing → Standing → Outcome → Type 0
 WalksAs told rows name seed old new o =
     PlaysFile (λ g end. Walks (told (story_of g rows) seed) EVENT_LIMIT old new end) name old new o
 
 -- a trace shows the steps of each piece before it
-abbrev pub reading_traced : Story → ℕ → EndingOf
+abbrev pub reading_traced : Story → Seed → EndingOf
 reading_traced s seed lines = traced_ending (reading s seed lines)

@@ -1,10 +1,11 @@
 // The commands: how their words are read, and what does each. Words and usage are held to the rows of
 // specs/Commands.antt, and what is done to what these mean.
 
-ghost use Rattle.std.specs.Prelude.{◌≡◌, ◌≢◌, ◌&&◌, ℕ, List, length, map, nat_le, string_bytes};
+ghost use Rattle.std.specs.Prelude.{◌≡◌, ◌≢◌, ◌&&◌, length, map, nat_le, string_bytes};
 ghost use Rattle.std.specs.Prelude.{Some, None, true, false, MatchOption};
 ghost use Rattle.std.specs.Char.{is_ascii_digit};
 ghost use Rattle.std.specs.List.{list_all};
+ghost use Rattle.paw_base.specs.Bytes.{RoutineRows};
 ghost use Rattle.paw_routines.specs.Routines.{AreRowsOf, HaveRows};
 ghost use Rattle.paw_stage.specs.Across.{Across, InTwoParts, Serves, IsOneOf};
 ghost use Rattle.paw_stage.specs.Disk.{IsStable};
@@ -267,9 +268,9 @@ impl<'a> Command<'a> {
         ensures form { result ≢ outcome.Usage }
         ensures serves { Serves S.Stage (meaning (meant self.now)).calls (failed_call result) stage.old stage.new }
         ensures memory { IfMemory result (IsOneOf (meaning (meant self.now)).memory) }
-        ensures comes { Across S.Stage stage.old stage.new (λ old new. (X : List (List ℕ)) →
+        ensures comes { Across S.Stage stage.old stage.new (λ old new. (X : RoutineRows) →
             AreRowsOf F.Fn routines.now X → (meaning (meant self.now)).comes X old new result) }
-        ensures moments { Across S.Stage stage.old stage.new (λ old new. (X : List (List ℕ)) →
+        ensures moments { Across S.Stage stage.old stage.new (λ old new. (X : RoutineRows) →
             AreRowsOf F.Fn routines.now X →
             (meaning (meant self.now)).moments (InTwoParts S.Stage stage.old stage.new) X old) }
     {

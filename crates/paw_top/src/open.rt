@@ -1,6 +1,7 @@
 // The game in the bytes of an image file.
 
-ghost use Rattle.std.specs.Prelude.{◌≡◌, ◌≢◌, ℕ, List, Some, None, IfOk, IfErr};
+ghost use Rattle.std.specs.Prelude.{◌≡◌, ◌≢◌, Some, None, IfOk, IfErr};
+ghost use Rattle.paw_base.specs.Bytes.{Bytes};
 ghost use Rattle.paw_game.specs.Game.{GameLists};
 ghost use Rattle.paw_stage.specs.Across.{IsOneOf};
 ghost use Rattle.paw_image.specs.Damage.{bad};
@@ -21,7 +22,7 @@ use std::alloc::Global;
 
 /// The answer for bytes that give no game.
 fn refused_as(refusal: ImageRefusal) -> Outcome
-    ensures none { (bytes : List ℕ) → AtDamage refusal (λ _. (g : GameLists) → ¬ IsImage bytes g) →
+    ensures none { (bytes : Bytes) → AtDamage refusal (λ _. (g : GameLists) → ¬ IsImage bytes g) →
         AtDamage refusal (λ at. bad bytes ≡ Some at) → GivesNone bytes result }
     ensures form { result ≢ outcome.Usage }
     ensures memory { IfMemory result (IsOneOf load_memory) }

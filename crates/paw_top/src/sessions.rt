@@ -1,6 +1,7 @@
 // Playing the game of an image file: a walk, a new session, and one that is taken up again.
 
-ghost use Rattle.std.specs.Prelude.{◌≡◌, ◌≢◌, ℕ, List, [], ◌∷◌, ◌++◌};
+ghost use Rattle.std.specs.Prelude.{◌≡◌, ◌≢◌, [], ◌∷◌, ◌++◌};
+ghost use Rattle.paw_base.specs.Bytes.{RoutineRows};
 ghost use Rattle.paw_effects.specs.Story.{Story};
 ghost use Rattle.paw_play.specs.inner.Telling.{told_as};
 ghost use Rattle.paw_play.specs.Calls.{walk_calls, session_calls};
@@ -41,7 +42,7 @@ pub(crate) fn walk<P: Preface, S: Stage, F: Fn(u8, u8) -> u8>(
 ) -> Outcome
     requires rows { HaveRows F.Fn routines.now }
     ensures serves { Serves S.Stage (load_calls ++ walk_calls) (failed_call result) stage.old stage.new }
-    ensures walks { Across S.Stage stage.old stage.new (λ old new. (X : List (List ℕ)) →
+    ensures walks { Across S.Stage stage.old stage.new (λ old new. (X : RoutineRows) →
         AreRowsOf F.Fn routines.now X →
         WalksAs (λ s n. told_as P.telling (reading s n)) X image.now seed old new result) }
     ensures form { result ≢ outcome.Usage }
@@ -66,7 +67,7 @@ pub(crate) fn play<S: Stage, F: Fn(u8, u8) -> u8>(
     ensures serves { Serves S.Stage (load_calls ++ session_calls) (failed_call result) stage.old stage.new }
     ensures form { result ≢ outcome.Usage }
     ensures memory { IfMemory result (IsOneOf (memory.Play ∷ load_memory)) }
-    ensures plays { Across S.Stage stage.old stage.new (λ old new. (X : List (List ℕ)) →
+    ensures plays { Across S.Stage stage.old stage.new (λ old new. (X : RoutineRows) →
         AreRowsOf F.Fn routines.now X → PlaysNewIn X image.now store.now seed old new result) }
     ensures any_moment { Across S.Stage stage.old stage.new (λ old new. (s : Story) →
         AreRowsOf F.Fn routines.now s.rows → Holds old image.now s.game → store_bytes old store.now ≡ [] →
@@ -91,7 +92,7 @@ pub(crate) fn resume<S: Stage, F: Fn(u8, u8) -> u8>(
     ensures serves { Serves S.Stage (load_calls ++ session_calls) (failed_call result) stage.old stage.new }
     ensures form { result ≢ outcome.Usage }
     ensures memory { IfMemory result (IsOneOf (memory.Play ∷ load_memory)) }
-    ensures plays { Across S.Stage stage.old stage.new (λ old new. (X : List (List ℕ)) →
+    ensures plays { Across S.Stage stage.old stage.new (λ old new. (X : RoutineRows) →
         AreRowsOf F.Fn routines.now X → PlaysAgainIn X image.now store.now old new result) }
     ensures goes_on { Across S.Stage stage.old stage.new (λ old new. (g : Story) (s : PlayedSession) →
         AreRowsOf F.Fn routines.now g.rows → Holds old image.now g.game →

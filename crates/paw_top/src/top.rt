@@ -1,6 +1,7 @@
 // The top call.
 
-ghost use Rattle.std.specs.Prelude.{◌≡◌, ◌↔◌, ℕ, List, None, IfSome};
+ghost use Rattle.std.specs.Prelude.{◌≡◌, ◌↔◌, None, IfSome};
+ghost use Rattle.paw_base.specs.Bytes.{RoutineRows};
 ghost use Rattle.paw_routines.specs.Routines.{AreRowsOf, HaveRows};
 ghost use Rattle.paw_stage.specs.Across.{Across, InTwoParts, Serves, IsOneOf};
 ghost use Rattle.paw_stage.specs.Disk.{IsStable};
@@ -53,9 +54,9 @@ pub fn paw<S: Stage, F: Fn(u8, u8) -> u8>(
         Serves S.Stage (meaning c).calls (failed_call result) stage.old stage.new) }
     ensures memory { IfSome (asked_for words.now) (λ c. IfMemory result (IsOneOf (meaning c).memory)) }
     ensures comes { Across S.Stage stage.old stage.new (λ old new. IfSome (asked_for words.now) (λ c.
-        (X : List (List ℕ)) → AreRowsOf F.Fn routines.now X → (meaning c).comes X old new result)) }
+        (X : RoutineRows) → AreRowsOf F.Fn routines.now X → (meaning c).comes X old new result)) }
     ensures moments { Across S.Stage stage.old stage.new (λ old new. IfSome (asked_for words.now) (λ c.
-        (X : List (List ℕ)) → AreRowsOf F.Fn routines.now X →
+        (X : RoutineRows) → AreRowsOf F.Fn routines.now X →
         (meaning c).moments (InTwoParts S.Stage stage.old stage.new) X old)) }
     ensures completes { NoFault (S.faults stage.old) (S.faults stage.new) → IsUnhindered result }
 {

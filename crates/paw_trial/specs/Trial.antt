@@ -1,5 +1,6 @@
 -- What a trial tells.
-use Rattle.std.specs.Prelude.{ℕ, List, [], ◌++◌, codes, decimal}
+use Rattle.std.specs.Prelude.{ℕ, [], ◌++◌, codes, decimal}
+use Rattle.paw_base.specs.Bytes.{Text}
 use Rattle.paw_base.specs.declared.flags.TheConstants.{CARRIED_FLAG, LOCATION_FLAG}
 use Rattle.paw_world.specs.World.{World, flag}
 use Rattle.paw_effects.specs.Counts.{turns_taken}
@@ -17,7 +18,7 @@ trial_reading n = reading (trial_story n) n (trial_lines n)
 
 -- How large the game of a trial is, how many lines were taken and how many turns counted; and of the world at the end
 -- the player's location, and how many objects they carry.
-abbrev pub trial_text : ℕ → World → List ℕ
+abbrev pub trial_text : ℕ → World → Text
 trial_text n w =
     codes "TRIAL " ++ (decimal n ++ (codes ": "
     ++ (decimal (location_count n) ++ (codes " locations, "

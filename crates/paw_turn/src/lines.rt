@@ -1,6 +1,7 @@
 // The lines that a player takes.
 
-ghost use Rattle.std.specs.Prelude.{◌≡◌, ◌+◌, ◌<◌, ◌≤◌, ℕ, List, false, length, reverse};
+ghost use Rattle.std.specs.Prelude.{◌≡◌, ◌+◌, ◌<◌, ◌≤◌, false, length, reverse};
+ghost use Rattle.paw_base.specs.Bytes.{RoutineRows};
 ghost use Rattle.paw_base.specs.declared.limits.TheConstants.{LINE_LIMIT};
 ghost use Rattle.paw_routines.specs.Routines.{HaveRows};
 ghost use Rattle.paw_effects.specs.Story.{story_of};
@@ -67,7 +68,7 @@ impl Turn {
         requires heard { is_ignored self.old.situation.world line.now ≡ false }
         requires playable { IsPlayable (T.game tables.now) self.old }
         requires closed { IsClosed self.old.machine }
-        ensures meaning { (X : List (List ℕ)) → let g = story_of (T.game tables.now) X in
+        ensures meaning { (X : RoutineRows) → let g = story_of (T.game tables.now) X in
             PlaysAs g (from_prompt g prompt.Main self.old line.now) self.old result self.new }
         ensures keeps { KeepsGame (T.game tables.now) self.old result self.new }
     {
@@ -86,7 +87,7 @@ impl Turn {
         requires heard { is_ignored self.old.situation.world line.now ≡ false }
         requires playable { IsPlayable (T.game tables.now) self.old }
         requires waits { WaitsIn prompt.Again self.old.machine }
-        ensures meaning { (X : List (List ℕ)) → let g = story_of (T.game tables.now) X in
+        ensures meaning { (X : RoutineRows) → let g = story_of (T.game tables.now) X in
             PlaysAs g (from_prompt g prompt.Again self.old line.now) self.old result self.new }
         ensures keeps { KeepsGame (T.game tables.now) self.old result self.new }
     {

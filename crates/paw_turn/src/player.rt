@@ -1,6 +1,7 @@
 // A player of a game.
 
-ghost use Rattle.std.specs.Prelude.{◌≡◌, ℕ, ◌+◌, ◌<◌, ◌≤◌, ◌^◌, List, [], ◌∷◌, None, length, reverse, IfOk};
+ghost use Rattle.std.specs.Prelude.{◌≡◌, ◌+◌, ◌<◌, ◌≤◌, ◌^◌, List, [], ◌∷◌, None, length, reverse, IfOk};
+ghost use Rattle.paw_base.specs.Bytes.{RoutineRows, Texts};
 ghost use Rattle.paw_base.specs.declared.limits.TheConstants.{LINE_LIMIT, PIECE_LIMIT, READ_LIMIT};
 ghost use Rattle.paw_routines.specs.Routines.{AreRowsOf, HaveRows};
 ghost use Rattle.paw_effects.specs.Story.{story_of};
@@ -151,7 +152,7 @@ impl<'a, T: Tables, F: Fn(u8, u8) -> u8> Player<'a, T, F> {
         ensures last { self.new.last ≡ result }
         ensures game { self.new.game ≡ self.old.game }
         ensures routines { self.new.routines ≡ self.old.routines }
-        ensures meaning { (X : List (List ℕ)) → AreRowsOf F.Fn self.old.routines X →
+        ensures meaning { (X : RoutineRows) → AreRowsOf F.Fn self.old.routines X →
             let g = story_of self.old.game X in
             PlaysTo g (reading g self.old.world.seed) result self.new [] [] }
         ensures seated { IsSeated self.new }
@@ -173,8 +174,8 @@ impl<'a, T: Tables, F: Fn(u8, u8) -> u8> Player<'a, T, F> {
         ensures last { self.new.last ≡ result }
         ensures game { self.new.game ≡ self.old.game }
         ensures routines { self.new.routines ≡ self.old.routines }
-        ensures meaning { (X : List (List ℕ)) → AreRowsOf F.Fn self.old.routines X →
-            (p : AtPrompt) → self.old.last ≡ step.Waits p → (pieces : List (List ℕ)) (traces : List (List Read)) →
+        ensures meaning { (X : RoutineRows) → AreRowsOf F.Fn self.old.routines X →
+            (p : AtPrompt) → self.old.last ≡ step.Waits p → (pieces : Texts) (traces : List (List Read)) →
             let g = story_of self.old.game X in
             let frames = self.old.machine.frames in
             PlaysTo g (λ lines. on g p (reverse frames) (run_at self.old pieces traces (line.now ∷ lines)))

@@ -1,7 +1,8 @@
 // A turn in work, and its phases.
 
-ghost use Rattle.std.specs.Prelude.{◌≡◌, suc, ◌+◌, ◌*◌, ◌<◌, ◌≤◌, ℕ, List, [], length, None};
+ghost use Rattle.std.specs.Prelude.{◌≡◌, suc, ◌+◌, ◌*◌, ◌<◌, ◌≤◌, ℕ, [], length, None};
 ghost use Rattle.std.specs.Prelude.{false};
+ghost use Rattle.paw_base.specs.Bytes.{RoutineRows};
 ghost use Rattle.paw_base.specs.declared.limits.TheConstants.{PIECE_LIMIT};
 ghost use Rattle.paw_base.specs.declared.words.TheConstants.{NO_WORD};
 ghost use Rattle.paw_base.specs.inner.Piece.{Puts};
@@ -162,7 +163,7 @@ impl Turn {
     /// Says a system message, and goes on with a phase.
     pub(crate) fn say<T: Tables>(&mut self, tables: &T, message: u8, phase: Phase) -> Next
         requires ready { MayGoOn (T.game tables.now) self.old }
-        ensures meaning { (X : List (List ℕ)) → let g = story_of (T.game tables.now) X in
+        ensures meaning { (X : RoutineRows) → let g = story_of (T.game tables.now) X in
             Moves g
             (λ n r. saying (say_text (T.game tables.now) self.old.situation.world message)
             (turn g n (at_phase phase)) r)
@@ -214,7 +215,7 @@ impl Turn {
     /// With no phrase left the prompt is shown, and the game waits for a line.
     fn prompt<T: Tables>(&mut self, tables: &T) -> Next
         requires ready { MayGoOn (T.game tables.now) self.old }
-        ensures meaning { (X : List (List ℕ)) → let g = story_of (T.game tables.now) X in
+        ensures meaning { (X : RoutineRows) → let g = story_of (T.game tables.now) X in
             Moves g (λ n r. after_phrase g (turn g n) r IsNoPhrase) self.old result self.new }
         ensures keeps { KeepsGame (T.game tables.now) self.old result self.new }
         ensures falls { (most : ℕ) → Falls most result self.new }
@@ -232,7 +233,7 @@ impl Turn {
     /// frame.
     fn refuse<T: Tables>(&mut self, tables: &T) -> Next
         requires ready { MayGoOn (T.game tables.now) self.old }
-        ensures meaning { (X : List (List ℕ)) → let g = story_of (T.game tables.now) X in
+        ensures meaning { (X : RoutineRows) → let g = story_of (T.game tables.now) X in
             Moves g (λ n r. saying (refusal_text (T.game tables.now) r.world) (turn g n AtTimeFrame) (line_dropped r))
             self.old result self.new }
         ensures keeps { KeepsGame (T.game tables.now) self.old result self.new }
@@ -251,7 +252,7 @@ impl Turn {
     /// Takes the exit for the verb, where the location has one.
     fn connect<T: Tables>(&mut self, tables: &T) -> Next
         requires ready { MayGoOn (T.game tables.now) self.old }
-        ensures meaning { (X : List (List ℕ)) → let g = story_of (T.game tables.now) X in
+        ensures meaning { (X : RoutineRows) → let g = story_of (T.game tables.now) X in
             Moves g (λ n r. after_left g (turn g n) 0 false r) self.old result self.new }
         ensures keeps { KeepsGame (T.game tables.now) self.old result self.new }
         ensures falls { Falls (work phase.Response self.old) result self.new }
@@ -270,7 +271,7 @@ impl Turn {
     /// Goes on after table 0, 1 or 2, which was left with an action carried out or not.
     fn after_left<T: Tables>(&mut self, tables: &T, table: u8, acted: bool) -> Next
         requires ready { MayGoOn (T.game tables.now) self.old }
-        ensures meaning { (X : List (List ℕ)) → let g = story_of (T.game tables.now) X in
+        ensures meaning { (X : RoutineRows) → let g = story_of (T.game tables.now) X in
             Moves g (λ n r. after_left g (turn g n) table acted r) self.old result self.new }
         ensures keeps { KeepsGame (T.game tables.now) self.old result self.new }
         ensures falls { Falls (4 * left_of self.old + table_rank table) result self.new }
@@ -291,7 +292,7 @@ impl Turn {
     pub(crate) fn after_table<T: Tables>(&mut self, tables: &T, table: u8, turned: Turned) -> Next
         requires playable { IsPlayable (T.game tables.now) self.old }
         requires stops { StopsInTable table turned self.old.machine }
-        ensures meaning { (X : List (List ℕ)) →
+        ensures meaning { (X : RoutineRows) →
             MovesAfter (story_of (T.game tables.now) X) table turned self.old result self.new }
         ensures left { ReadsNone self.old.machine self.new.machine }
         ensures keeps { KeepsGame (T.game tables.now) self.old result self.new }
@@ -310,7 +311,7 @@ impl Turn {
     /// of the line is dropped; with none left comes the prompt.
     fn phrase<T: Tables>(&mut self, tables: &T) -> Next
         requires ready { MayGoOn (T.game tables.now) self.old }
-        ensures meaning { (X : List (List ℕ)) → let g = story_of (T.game tables.now) X in
+        ensures meaning { (X : RoutineRows) → let g = story_of (T.game tables.now) X in
             Moves g (λ n r. turn g (suc n) AtPhrase r) self.old result self.new }
         ensures keeps { KeepsGame (T.game tables.now) self.old result self.new }
         ensures falls { Falls (work phase.Phrase self.old) result self.new }

@@ -4,6 +4,7 @@ use Rattle.std.specs.Prelude.{map, take, drop, count_by, replicate, min, Option,
 use Rattle.std.specs.Prelude.{slice_index, slice_index_or, slice_set, if◌then◌else◌, IfSome}
 use Rattle.std.specs.List.{All}
 use Rattle.std.specs.Option.{option_map_or}
+use Rattle.paw_base.specs.Bytes.{Seed}
 use Rattle.paw_base.specs.declared.flags.TheConstants.{DARK_FLAG, CARRIED_FLAG, VERB_FLAG, NOUN_FLAG, ADJECTIVE_FLAG}
 use Rattle.paw_base.specs.declared.flags.TheConstants.{ADVERB_FLAG, MOST_CARRIED_FLAG, LOCATION_FLAG, PREPOSITION_FLAG}
 use Rattle.paw_base.specs.declared.flags.TheConstants.{SECOND_NOUN_FLAG, SECOND_ADJECTIVE_FLAG, PRONOUN_NOUN_FLAG}
@@ -28,7 +29,7 @@ pub record World : Type 0 where
   pub places : List ℕ
   pub saved : Option Position
   pub kept : List (Option Position)
-  pub seed : ℕ
+  pub seed : Seed
   pub draws : ℕ
 
 -- The value of a flag.
@@ -67,7 +68,7 @@ abbrev pub opening_places : List ObjectFacts → List ℕ
 opening_places facts = map (λ f. f.start) facts
 
 -- The world at the start of a game.
-abbrev pub starting_world : List ObjectFacts → ℕ → ℕ → World
+abbrev pub starting_world : List ObjectFacts → ℕ → Seed → World
 starting_world facts locations seed = record {
   facts = facts;
   locations = locations;

@@ -2,6 +2,7 @@
 use Rattle.std.specs.Prelude.{◌≡◌, ℕ, ◌+◌, ◌==◌, List, [], sum_by, slice_get, if◌then◌else◌}
 use Rattle.std.specs.List.{slice_index_or}
 use Rattle.std.specs.Option.{unwrap_or}
+use Rattle.paw_base.specs.Bytes.{Text, Texts}
 use Rattle.paw_base.specs.declared.parts.Condact.{Condact}
 use Rattle.paw_base.specs.Condacts.{is_indirect, plain_code}
 use Rattle.paw_game.specs.Game.{GameLists}
@@ -20,11 +21,11 @@ abbrev pub byte_in : ℕ → ℕ → ℕ
 byte_in name b = if b == 95 then name else 1
 
 -- the most bytes that a text prints, where a name has so many
-abbrev pub measure_in : ℕ → List ℕ → ℕ
+abbrev pub measure_in : ℕ → Text → ℕ
 measure_in name text = sum_by (byte_in name) text
 
 -- the same for the text with this number
-abbrev pub measure_at : ℕ → List (List ℕ) → ℕ → ℕ
+abbrev pub measure_at : ℕ → Texts → ℕ → ℕ
 measure_at name texts n = measure_in name (unwrap_or (slice_get texts n) [])
 
 -- ---- condacts ----

@@ -1,6 +1,7 @@
 -- How the code of lists goes from object to object.
 use Rattle.std.specs.Prelude.{ℕ, suc, ◌==◌, min, List, length, drop, filter, map, Option, Some, None}
 use Rattle.std.specs.List.{range_with_len}
+use Rattle.paw_base.specs.Bytes.{Text, Texts}
 use Rattle.paw_base.specs.declared.messages.TheConstants.{NOTHING_THERE_MESSAGE}
 use Rattle.paw_game.specs.Game.{GameLists}
 use Rattle.paw_world.specs.World.{World, place}
@@ -37,14 +38,14 @@ pub record ListedObjects : Type 0 where
   pub listed : Listed
 
 -- The text of an object in a list.
-abbrev pub listed_text : GameLists → World → Listed → ℕ → List ℕ
+abbrev pub listed_text : GameLists → World → Listed → ℕ → Text
 listed_text g w (listed.At p) = object_text g
 listed_text g w listed.Held = held_text g w
 
 -- The texts of the objects of a list above this one, or of all.
-abbrev pub texts_above : GameLists → World → Listed → Option ℕ → List (List ℕ)
+abbrev pub texts_above : GameLists → World → Listed → Option ℕ → Texts
 texts_above g w l above = map (listed_text g w l) (listed_above w l above)
 
 -- LISTAT: what stands at a place, or a message that nothing does.
-abbrev pub place_list_text : GameLists → World → ℕ → List ℕ
+abbrev pub place_list_text : GameLists → World → ℕ → Text
 place_list_text g w p = list_or_say g w NOTHING_THERE_MESSAGE (texts_at g w p)

@@ -4,6 +4,7 @@ use Rattle.std.specs.List.{position}
 use Rattle.std.specs.Option.{option_or}
 use Rattle.std.specs.Ordering.{is_lt, nat_cmp}
 use Rattle.std.specs.Cmp.Lexicographic.{slice_cmp}
+use Rattle.paw_base.specs.Bytes.{Bytes, Texts}
 use Rattle.paw_base.specs.declared.limits.TheConstants.{WORD_LIMIT, SYSTEM_LIMIT, MESSAGE_LIMIT, OBJECT_LIMIT}
 use Rattle.paw_base.specs.declared.limits.TheConstants.{LOCATION_LEAST, LOCATION_LIMIT, TABLE_LEAST, TABLE_LIMIT}
 use Rattle.paw_game.specs.declared.parts.Word.{Word}
@@ -26,7 +27,7 @@ abbrev pub first_bad : {X : Type 0} → (X → Bool) → List X → Option ℕ
 first_bad rule rows = position (λ row. not (rule row)) rows
 
 -- The first of these words, numbered from n on, that breaks a rule or doesn't stand above the letters before it.
-abbrev pub bad_word : ℕ → List ℕ → List Word → Option ℕ
+abbrev pub bad_word : ℕ → Bytes → List Word → Option ℕ
 bad_word n before [] = None
 bad_word n before (w ∷ ws) =
     if is_word w && is_lt (slice_cmp nat_cmp before w.letters) then bad_word (suc n) w.letters ws else Some n
@@ -35,7 +36,7 @@ bad_word n before (w ∷ ws) =
 unfoldable pub words_fault : List Word → Option ℕ
 words_fault ws = part_row_fault 0 WORD_LIMIT (length ws) (bad_word 0 [] ws)
 
-unfoldable pub texts_fault : ℕ → ℕ → List (List ℕ) → Option ℕ
+unfoldable pub texts_fault : ℕ → ℕ → Texts → Option ℕ
 texts_fault least most texts = part_row_fault least most (length texts) (first_bad is_text texts)
 
 unfoldable pub objects_fault : List Word → ℕ → List ObjectRow → Option ℕ

@@ -2,6 +2,7 @@
 use Rattle.std.specs.Prelude.{ℕ, suc, Bool, false, List, [], ◌∷◌, Option}
 use Rattle.std.specs.Prelude.{Some, None, slice_get, drop, if◌then◌else◌}
 use Rattle.std.specs.Option.{option_map, option_map_or}
+use Rattle.paw_base.specs.Bytes.{Text}
 use Rattle.paw_game.specs.declared.parts.Entry.{Entry}
 use Rattle.paw_game.specs.declared.parts.GamePart.{GamePart}
 use Rattle.paw_game.specs.declared.parts.GamePart.TheVariants as part
@@ -9,7 +10,7 @@ use Rattle.paw_game.specs.Game.{GameLists}
 use Rattle.paw_game.specs.Tables.{table_at, entry_at, matches}
 
 -- A text of one of the parts that have texts.
-abbrev pub text_at : GameLists → GamePart → ℕ → Option (List ℕ)
+abbrev pub text_at : GameLists → GamePart → ℕ → Option Text
 text_at g part.Words n = None
 text_at g part.System n = slice_get g.system n
 text_at g part.Messages n = slice_get g.messages n

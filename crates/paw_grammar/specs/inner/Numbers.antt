@@ -1,8 +1,7 @@
 -- Numbers: definitions for contracts and proofs, besides those of specs/Numbers.antt.
-use Rattle.std.specs.Prelude.{ℕ, List, min, Option, Some, None, Result}
-use Rattle.paw_base.specs.declared.fault.SourceKind.{SourceKind}
+use Rattle.std.specs.Prelude.{ℕ, min, Option, Some, None}
 use Rattle.paw_base.specs.declared.fault.SourceKind.TheVariants as kind
-use Rattle.paw_grammar.specs.Tokens.{read_by}
+use Rattle.paw_grammar.specs.Tokens.{Reads, read_by}
 use Rattle.paw_grammar.specs.Numbers.{number}
 
 -- A number as four bytes hold it: 4,294,967,295 stands for every number above it too.
@@ -11,5 +10,5 @@ capped None = None
 capped (Some n) = Some (min n 4294967295)
 
 -- The next number, as four bytes hold it.
-abbrev pub capped_number : List (List ℕ) → Result (ℕ × List (List ℕ)) SourceKind
+abbrev pub capped_number : Reads ℕ
 capped_number ts = read_by kind.Number (λ t. capped (number t)) ts

@@ -1,10 +1,11 @@
 -- The words that a map from letters to meanings holds.
-use Rattle.std.specs.Prelude.{ℕ, List, map}
+use Rattle.std.specs.Prelude.{List, map}
+use Rattle.paw_base.specs.Bytes.{Letters}
 use Rattle.paw_game.specs.declared.parts.Word.{Word}
 use Rattle.paw_grammar.specs.declared.vocabulary.Meaning.{Meaning}
 
-abbrev pub word_from : List ℕ × Meaning → Word
+abbrev pub word_from : Letters × Meaning → Word
 word_from e = record { letters = e.0; value = e.1.value; class = e.1.class }
 
-abbrev pub words_in : List (List ℕ × Meaning) → List Word
+abbrev pub words_in : List (Letters × Meaning) → List Word
 words_in entries = map word_from entries

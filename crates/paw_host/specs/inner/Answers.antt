@@ -1,5 +1,6 @@
 -- What an answer stands on, inside a call.
-use Rattle.std.specs.Prelude.{◌≡◌, ◌≢◌, ◌⊎◌, ℕ, List, [], ◌∷◌, ◌++◌, length, take, true, reverse, codes, Option, Some, None}
+use Rattle.std.specs.Prelude.{◌≡◌, ◌≢◌, ◌⊎◌, List, [], ◌∷◌, ◌++◌, length, take, true, reverse, codes, Option, Some, None}
+use Rattle.paw_base.specs.Bytes.{Bytes, Lines, Name, Seed, Text, Texts}
 use Rattle.paw_base.specs.declared.limits.TheConstants.{PIECE_LIMIT}
 use Rattle.paw_stage.specs.Disk.{Disk, MayLeave}
 use Rattle.paw_stage.specs.Stage.{Standing, file_bytes}
@@ -27,7 +28,7 @@ use Rattle.paw_host.specs.Promise.{Stores, LeftOfMaking}
 use Rattle.paw_host.specs.declared.answer.Opened.{Opened}
 
 -- the word for a step that brings no piece
-abbrev pub word_of : Step → Option (List ℕ)
+abbrev pub word_of : Step → Option Text
 word_of (step.Waits p) = None
 word_of step.Ended = None
 word_of (step.Spent kind) = Some (codes "spent")
@@ -35,24 +36,24 @@ word_of (step.TooDeep table) = Some (codes "too deep")
 
 -- A player sits where the reading of these lines ended: whatever lines follow, their reading, from some piece on, goes
 -- on from the player's prompt; or the player has ended, and the reading is over.
-pub record SitsAt {F : Type 0} (g : Story) (seed : ℕ) (es : List (List ℕ)) (seat : Seat F) : Type 0 where
+pub record SitsAt {F : Type 0} (g : Story) (seed : Seed) (es : Lines) (seat : Seat F) : Type 0 where
   pub whole : EndingOf
-  pub follows : ((fs : List (List ℕ)) → whole fs ≡ reading g seed (es ++ fs))
-      ⊎ ((fs : List (List ℕ)) → whole fs ≡ reading_since g seed es fs)
-  pub pieces : List (List ℕ)
+  pub follows : ((fs : Lines) → whole fs ≡ reading g seed (es ++ fs))
+      ⊎ ((fs : Lines) → whole fs ≡ reading_since g seed es fs)
+  pub pieces : Texts
   pub traces : List (List Read)
-  pub waits : (p : Prompt) → seat.last ≡ step.Waits p → (fs : List (List ℕ)) →
+  pub waits : (p : Prompt) → seat.last ≡ step.Waits p → (fs : Lines) →
       whole fs ≡ on g p (reverse seat.machine.frames) (run_at seat pieces traces fs)
   pub over : seat.last ≡ step.Ended → is_over (reading g seed es) ≡ true
 
 -- the reply grew by the body of an answer, and the store keeps the answer's session
-pub record Answers (g : Story) (a : Answer) (before after bytes : List ℕ) : Type 0 where
+pub record Answers (g : Story) (a : Answer) (before after : Text) (bytes : Bytes) : Type 0 where
   pub body : after ≡ before ++ a.body
   pub stores : Stores g a.session bytes
 
 -- what beginning the game in the attached store leaves: the piece before the first line is spent or calls too deep, as
 -- the reply says; or the player sits at the first prompt, the store keeps it, and the reply has the piece
-abbrev pub BeginsTo : {F : Type 0} → Story → ℕ → List ℕ → List ℕ → Seat F → List ℕ → Option Opened → Type 0
+abbrev pub BeginsTo : {F : Type 0} → Story → Seed → Text → Text → Seat F → Bytes → Option Opened → Type 0
 BeginsTo g seed before after seat bytes None = (begun g seed).session ≡ Absent × (after ≡ before ++ (begun g seed).body)
 BeginsTo g seed before after seat bytes (Some s) =
     SitsAt g seed [] seat × Stands g seed [] bytes × ((begun g seed).session ≡ At seed [])
@@ -64,48 +65,48 @@ LeavesBegun room old new None = new ≡ old
 LeavesBegun room old new (Some s) = KeptIn s.journal room new
 
 -- what taking up the session of these bytes leaves, and where they stand for lines, those
-abbrev pub TakesUp : {F : Type 0} → Story → Room → Seat F → List ℕ → Option Opened → Type 0
+abbrev pub TakesUp : {F : Type 0} → Story → Room → Seat F → Bytes → Option Opened → Type 0
 TakesUp g room seat bytes None = ¬ ShowsSome g bytes
-TakesUp g room seat bytes (Some s) = ShowsSome g bytes × ((seed : ℕ) (es : List (List ℕ)) → IsPlayedWith g seed es →
+TakesUp g room seat bytes (Some s) = ShowsSome g bytes × ((seed : Seed) (es : Lines) → IsPlayedWith g seed es →
     Stands g seed es bytes →
     SitsAt g seed es seat × (s.events ≡ length es)
     × (take PIECE_LIMIT room.piece ≡ last_piece (pieces_of (reading g seed es))))
 
 -- at a moment only the attached store may differ from what stood, and whatever a crash leaves of it is such
-abbrev pub InFile : (List ℕ → Type 0) → Standing → Moment → Type 0
-InFile Left old m = InStore old (λ (d : Disk). (image : List ℕ) → MayLeave d image → Left image) m
+abbrev pub InFile : (Bytes → Type 0) → Standing → Moment → Type 0
+InFile Left old m = InStore old (λ (d : Disk). (image : Bytes) → MayLeave d image → Left image) m
 
 -- the bytes are those of one session or of another
-abbrev pub StoresEither : Story → Session → Session → List ℕ → Type 0
+abbrev pub StoresEither : Story → Session → Session → Bytes → Type 0
 StoresEither g before after bytes = Stores g before bytes ⊎ Stores g after bytes
 
 -- the bytes are none, or those of a session that is made, which then is one that stands at no lines
-abbrev pub LeftOfBeginning : Story → ℕ → List ℕ → Type 0
+abbrev pub LeftOfBeginning : Story → Seed → Bytes → Type 0
 LeftOfBeginning g seed bytes =
     (bytes ≡ []) ⊎ (((begun g seed).session ≡ At seed []) × (IsUnmade (recover bytes) ⊎ Stands g seed [] bytes))
 
 -- all stands as it did, but the file of this name, and which store is attached
-pub record IsAside (name : List ℕ) (old new : Standing) : Type 0 where
+pub record IsAside (name : Name) (old new : Standing) : Type 0 where
   pub lines : new.lines ≡ old.lines
   pub asked : new.asked ≡ old.asked
   pub shown : new.shown ≡ old.shown
-  pub files : (f : List ℕ) → f ≢ name → new.files f ≡ old.files f
+  pub files : (f : Name) → f ≢ name → new.files f ≡ old.files f
 
 -- A moment at which a session is asked for something: only the file of its name may differ from what stood, and whatever a
 -- crash leaves of that is of the session before; or the store is attached, and it is of the session after, or of one that
 -- is made.
-pub record InAnswer (g : Story) (seed : ℕ) (name : List ℕ) (before after : Session) (old : Standing) (m : Moment)
+pub record InAnswer (g : Story) (seed : Seed) (name : Name) (before after : Session) (old : Standing) (m : Moment)
     : Type 0 where
   pub asked : m.asked ≡ old.asked
   pub shown : m.shown ≡ old.shown
-  pub files : (f : List ℕ) → f ≢ name → m.files f ≡ old.files f
-  pub others : (f : List ℕ) → f ≢ name → (bytes : List ℕ) → MayBeLeft f m bytes → bytes ≡ file_bytes old f
+  pub files : (f : Name) → f ≢ name → m.files f ≡ old.files f
+  pub others : (f : Name) → f ≢ name → (bytes : Bytes) → MayBeLeft f m bytes → bytes ≡ file_bytes old f
   pub attached : (m.attached ≡ old.attached) ⊎ (m.attached ≡ Some name) ⊎ (m.attached ≡ None)
-  pub left : (bytes : List ℕ) → MayBeLeft name m bytes → Stores g before bytes
+  pub left : (bytes : Bytes) → MayBeLeft name m bytes → Stores g before bytes
       ⊎ ((m.attached ≡ Some name) × (Stores g after bytes ⊎ LeftOfMaking g seed before after bytes))
 
 -- the bytes are of one session or of another, or of one that is made
-abbrev pub LeftOf : Story → ℕ → Session → Session → List ℕ → Type 0
+abbrev pub LeftOf : Story → Seed → Session → Session → Bytes → Type 0
 LeftOf g seed before after bytes = Stores g before bytes ⊎ Stores g after bytes ⊎ LeftOfMaking g seed before after bytes
 
 -- the calls by which a session is asked for something

@@ -1,5 +1,6 @@
 -- What stands on the way from line to line.
-use Rattle.std.specs.Prelude.{◌≡◌, ◌≢◌, ℕ, suc, ◌+◌, ◌<◌, ◌^◌, true, List, [], ◌∷◌, length, take, All, Option, Some, None}
+use Rattle.std.specs.Prelude.{◌≡◌, ◌≢◌, ℕ, suc, ◌+◌, ◌<◌, ◌^◌, true, [], ◌∷◌, length, take, All, Option, Some, None}
+use Rattle.paw_base.specs.Bytes.{Line, Name, Seed, Text}
 use Rattle.paw_effects.specs.Story.{Story}
 use Rattle.paw_effects.specs.Standing.{AreBytes}
 use Rattle.paw_stage.specs.Disk.{IsStable}
@@ -20,7 +21,7 @@ failed_so_far (Some o) = failed_call o
 
 -- each of the sessions may be
 abbrev pub AllMay : Story → Sessions → Type 0
-AllMay g sessions = (name : List ℕ) → is_name name ≡ true → MayBe g (sessions name)
+AllMay g sessions = (name : Name) → is_name name ≡ true → MayBe g (sessions name)
 
 -- no line is taken
 pub record SameLines (old new : Standing) : Type 0 where
@@ -29,13 +30,13 @@ pub record SameLines (old new : Standing) : Type 0 where
 
 -- One line is taken; or none was left. Where a call failed nothing is said.
 abbrev pub TakesTo : Standing → Standing → Option HostOutcome → Type 0
-TakesTo old new None = (line : List ℕ) × (old.lines ≡ line ∷ new.lines) × (new.asked ≡ old.asked + 1)
+TakesTo old new None = (line : Line) × (old.lines ≡ line ∷ new.lines) × (new.asked ≡ old.asked + 1)
 TakesTo old new (Some outcome.InputEnded) = (old.lines ≡ []) × (new ≡ old)
 TakesTo old new (Some (outcome.Outside c)) = Unit {0}
 TakesTo old new (Some _) = ⊥
 
 -- this file isn't the one of the name that is asked for
-abbrev pub IsNotFor : Option Request → List ℕ → Type 0
+abbrev pub IsNotFor : Option Request → Name → Type 0
 IsNotFor request file = (r : Request) → request ≡ Some r → file ≢ store_name r.name
 
 -- what a line asks for is done: the files are those of the sessions after it, and no other file has changed
@@ -43,28 +44,28 @@ pub record IsDone (g : Story) (after : Sessions) (request : Option Request) (old
   pub lines : new.lines ≡ old.lines
   pub asked : new.asked ≡ old.asked
   pub shown : new.shown ≡ old.shown
-  pub files : (f : List ℕ) → IsNotFor request f → new.files f ≡ old.files f
+  pub files : (f : Name) → IsNotFor request f → new.files f ≡ old.files f
   pub stores : AllStore g after new
   pub attached : new.attached ≡ attached_with request old.attached
 
 -- a moment at which it is being done
-pub record InWork (g : Story) (seed : ℕ) (before after : Sessions) (request : Option Request) (old : Standing)
+pub record InWork (g : Story) (seed : Seed) (before after : Sessions) (request : Option Request) (old : Standing)
     (m : Moment) : Type 0 where
   pub asked : m.asked ≡ old.asked
   pub shown : m.shown ≡ old.shown
-  pub files : (f : List ℕ) → IsNotFor request f → m.files f ≡ old.files f
+  pub files : (f : Name) → IsNotFor request f → m.files f ≡ old.files f
   pub left : EachLeft g seed before after m
   pub attached : MayAttach request old.attached m.attached
 
 -- n lines were answered, and the host waits for the next one
-pub record IsServing (g : Story) (seed : ℕ) (first : Sessions) (old now : Standing) (n : ℕ) : Type 0 where
+pub record IsServing (g : Story) (seed : Seed) (first : Sessions) (old now : Standing) (n : ℕ) : Type 0 where
   pub answered : Answered g seed first old now n
   pub may : AllMay g (sessions_after g seed first (take n old.lines))
   pub settled : IsStable now.disk
 
 -- After one line more the host waits for the next one; or no line was left. Where a call failed the moments say what
 -- stands.
-abbrev pub ServesTo : Story → ℕ → Sessions → Standing → Standing → ℕ → Option HostOutcome → Type 0
+abbrev pub ServesTo : Story → Seed → Sessions → Standing → Standing → ℕ → Option HostOutcome → Type 0
 ServesTo g seed first old new n None = IsServing g seed first old new (suc n)
 ServesTo g seed first old new n (Some outcome.InputEnded) =
     (n ≡ length old.lines) × IsServing g seed first old new n
@@ -72,16 +73,16 @@ ServesTo g seed first old new n (Some (outcome.Outside c)) = Unit {0}
 ServesTo g seed first old new n (Some _) = ⊥
 
 -- what is asked for is done, and the reply is made
-abbrev pub Does : Story → ℕ → Sessions → Option Request → List ℕ → Standing → Standing → Type 0
+abbrev pub Does : Story → Seed → Sessions → Option Request → Text → Standing → Standing → Type 0
 Does g seed sessions request text old new =
     (text ≡ reply_to g seed sessions request) × IsDone g (sessions_with g seed sessions request) request old new
 
 -- a moment at which it is being done
-abbrev pub Doing : Story → ℕ → Sessions → Option Request → Standing → Moment → Type 0
+abbrev pub Doing : Story → Seed → Sessions → Option Request → Standing → Moment → Type 0
 Doing g seed sessions request old m = InWork g seed sessions (sessions_with g seed sessions request) request old m
 
 -- a fact of each host that waits for a line, n of the lines that there were when it started being answered
-abbrev pub EachServing : Story → ℕ → Standing → (Sessions → Standing → ℕ → Type 0) → Type 0
+abbrev pub EachServing : Story → Seed → Standing → (Sessions → Standing → ℕ → Type 0) → Type 0
 EachServing g seed now Holds =
     (first : Sessions) (start : Standing) (n : ℕ) → seed < 2 ^ 64 → All AreBytes start.lines →
     IsServing g seed first start now n → Holds first start n

@@ -1,5 +1,6 @@
 -- What loading an image file gives.
-use Rattle.std.specs.Prelude.{◌≡◌, ℕ, ◌+◌, List, take, Option, Some, None, Result, Ok, Err}
+use Rattle.std.specs.Prelude.{◌≡◌, ◌+◌, take, Option, Some, None, Result, Ok, Err}
+use Rattle.paw_base.specs.Bytes.{Bytes, Name}
 use Rattle.paw_base.specs.declared.limits.TheConstants.{IMAGE_LIMIT}
 use Rattle.paw_game.specs.Game.{GameLists}
 use Rattle.paw_image.specs.Damage.{bad}
@@ -17,19 +18,19 @@ failed_or (Ok a) = None
 failed_or (Err o) = failed_call o
 
 -- a load that gave these bytes: the whole file, or one byte more than an image may have; nothing is changed
-abbrev pub LoadsSome : List ℕ → Standing → Standing → List ℕ → Type 0
+abbrev pub LoadsSome : Name → Standing → Standing → Bytes → Type 0
 LoadsSome name old new given =
-    (bytes : List ℕ) × (old.files name ≡ Some bytes) × (given ≡ take (IMAGE_LIMIT + 1) bytes) × (new ≡ old)
+    (bytes : Bytes) × (old.files name ≡ Some bytes) × (given ≡ take (IMAGE_LIMIT + 1) bytes) × (new ≡ old)
 
 -- a load that gave nothing, by its answer; nothing is changed
-abbrev pub LoadsNone : List ℕ → Standing → Standing → HostOutcome → Type 0
+abbrev pub LoadsNone : Name → Standing → Standing → HostOutcome → Type 0
 LoadsNone name old new (outcome.Outside call.LoadAbsent) = (old.files name ≡ None) × (new ≡ old)
 LoadsNone name old new (outcome.Outside call.Load) = new ≡ old
 LoadsNone name old new outcome.Memory = new ≡ old
 LoadsNone name old new _ = ⊥
 
 -- why bytes give no game: they are no image of a valid one, or memory was lacking
-abbrev pub GivesNone : List ℕ → HostOutcome → Type 0
+abbrev pub GivesNone : Bytes → HostOutcome → Type 0
 GivesNone bytes (outcome.ImageDamaged at) = ((g : GameLists) → ¬ IsImage bytes g) × (bad bytes ≡ Some at)
 GivesNone bytes outcome.Memory = Unit {0}
 GivesNone bytes _ = ⊥

@@ -1,7 +1,8 @@
 -- The player of a hosted game, inside a call.
-use Rattle.std.specs.Prelude.{◌≡◌, ℕ, ◌+◌, ◌*◌, ◌≤◌, List}
+use Rattle.std.specs.Prelude.{◌≡◌, ℕ, ◌+◌, ◌*◌, ◌≤◌}
 use Rattle.std.specs.Fn.{Shared}
 use Rattle.sha2.specs.Sha256.{sha256}
+use Rattle.paw_base.specs.Bytes.{Bytes, RoutineRows}
 use Rattle.paw_base.specs.declared.limits.TheConstants.{EVENT_LIMIT, READ_LIMIT}
 use Rattle.paw_game.specs.Game.{GameLists}
 use Rattle.paw_game.specs.Image.{image}
@@ -29,17 +30,17 @@ pub record StandsAfter {F : Type 0} (events : ℕ) (seat : Seat F) : Type 0 wher
   pub draws : seat.world.draws ≤ READ_LIMIT * (events + 1)
 
 -- these are the digest of the routines
-abbrev pub IsMeasureOf : {F : Type 0} → Shared F (ℕ × (ℕ × Unit {0})) ℕ → Routines F → List ℕ → Type 0
-IsMeasureOf calls routines rules = (X : List (List ℕ)) → AreRowsOf calls routines X → rules ≡ measure X
+abbrev pub IsMeasureOf : {F : Type 0} → Shared F (ℕ × (ℕ × Unit {0})) ℕ → Routines F → Bytes → Type 0
+IsMeasureOf calls routines rules = (X : RoutineRows) → AreRowsOf calls routines X → rules ≡ measure X
 
 -- these are the digests of a game's image and of the routines
 pub record AreDigestsOf {F : Type 0} (calls : Shared F (ℕ × (ℕ × Unit {0})) ℕ) (g : GameLists) (routines : Routines F)
-    (game rules : List ℕ) : Type 0 where
+    (game rules : Bytes) : Type 0 where
   pub digest : game ≡ sha256 (image g)
   pub measured : IsMeasureOf calls routines rules
 
 -- a player of the hosted game: it is seated at the game of these tables, and these are the digests of what it plays with
-pub record IsHosted {F : Type 0} (calls : Shared F (ℕ × (ℕ × Unit {0})) ℕ) (tables : GameLists) (game rules : List ℕ)
+pub record IsHosted {F : Type 0} (calls : Shared F (ℕ × (ℕ × Unit {0})) ℕ) (tables : GameLists) (game rules : Bytes)
     (seat : Seat F) : Type 0 where
   pub seated : IsSeated seat
   pub rows : HaveRows calls seat.routines

@@ -1,6 +1,7 @@
 -- Where rows begin.
 use Rattle.std.specs.Prelude.{◌≡◌, ℕ, zero, suc, ◌+◌, ◌-◌, List, [], ◌∷◌, length, map, Result, Ok, Err}
 use Rattle.std.specs.List.{AllByRecursion}
+use Rattle.paw_base.specs.Bytes.{Bytes}
 use Rattle.paw_base.specs.declared.limits.TheConstants.{ENTRY_LIMIT}
 use Rattle.paw_game.specs.declared.parts.Entry.{Entry}
 use Rattle.paw_game.specs.Image.{entry_image, table_image}
@@ -14,7 +15,7 @@ use Rattle.paw_image.specs.inner.Orders.{IsOrder}
 use Rattle.paw_faults.specs.Bind.{◌>>=◌}
 
 -- Where each row begins, the first of them at this place.
-abbrev pub offsets : {A : Type 0} → (A → List ℕ) → ℕ → List A → List ℕ
+abbrev pub offsets : {A : Type 0} → (A → Bytes) → ℕ → List A → List ℕ
 offsets image at [] = []
 offsets image at (x ∷ xs) = at ∷ offsets image (at + length (image x)) xs
 
@@ -26,43 +27,43 @@ entry_offsets at (es ∷ ess) = offsets entry_image (at + 2) es ∷ entry_offset
 -- ---- as they are passed over ----
 
 -- The result for the rest of the bytes; nothing after a fault.
-abbrev pub on_rest : {A : Type 0} → (List ℕ → List A) → Passing → List A
+abbrev pub on_rest : {A : Type 0} → (Bytes → List A) → Passing → List A
 on_rest f (Ok rest) = f rest
 on_rest f (Err left) = []
 
 -- Where the rows at the front of the last of `total` bytes begin.
-unfoldable pub begins : (List ℕ → Passing) → ℕ → ℕ → List ℕ → List ℕ
+unfoldable pub begins : (Bytes → Passing) → ℕ → ℕ → Bytes → List ℕ
 begins row total zero bytes = []
 begins row total (suc n) bytes = (total - length bytes) ∷ on_rest (begins row total n) (row bytes)
 
-abbrev pub entries_after : Preface → ℕ → Result (ℕ × List ℕ) ℕ → List ℕ
+abbrev pub entries_after : Preface → ℕ → Result (ℕ × Bytes) ℕ → List ℕ
 entries_after d total (Ok count) = begins (after_entry d) total count.0 count.1
 entries_after d total (Err left) = []
 
 -- Where the entries of the table at the front begin.
-unfoldable pub entries_begin : Preface → ℕ → List ℕ → List ℕ
+unfoldable pub entries_begin : Preface → ℕ → Bytes → List ℕ
 entries_begin d total bytes = entries_after d total (number_kept 0 ENTRY_LIMIT bytes)
 
 -- The same for a number of tables.
-unfoldable pub tables_begin : Preface → ℕ → ℕ → List ℕ → List (List ℕ)
+unfoldable pub tables_begin : Preface → ℕ → ℕ → Bytes → List (List ℕ)
 tables_begin d total zero bytes = []
 tables_begin d total (suc n) bytes =
     entries_begin d total bytes ∷ on_rest (tables_begin d total n) (after_table d bytes)
 
 -- The bytes after the system messages, then after the lists up to each further one.
-abbrev pub to_messages : Preface → List ℕ → Passing
+abbrev pub to_messages : Preface → Bytes → Passing
 to_messages d bytes = each after_text d.counts.system bytes
 
-abbrev pub to_objects : Preface → List ℕ → Passing
+abbrev pub to_objects : Preface → Bytes → Passing
 to_objects d bytes = to_messages d bytes >>= each after_text d.counts.messages
 
-abbrev pub to_locations : Preface → List ℕ → Passing
+abbrev pub to_locations : Preface → Bytes → Passing
 to_locations d bytes = to_objects d bytes >>= each (after_object d) d.counts.objects
 
-abbrev pub to_exits : Preface → List ℕ → Passing
+abbrev pub to_exits : Preface → Bytes → Passing
 to_exits d bytes = to_locations d bytes >>= each after_text d.counts.locations
 
-abbrev pub to_tables : Preface → List ℕ → Passing
+abbrev pub to_tables : Preface → Bytes → Passing
 to_tables d bytes = to_exits d bytes >>= each (after_exits d) d.counts.locations
 
 -- Where the entries of each table begin, as the index has it.
@@ -70,7 +71,7 @@ abbrev pub entries_of : List TableIndex → List (List ℕ)
 entries_of ts = map (λ t. t.entries.items) ts
 
 -- Where the rows of each list begin, as the lists after the words are passed over.
-pub record AreGoneOver (d : Preface) (total : ℕ) (bytes : List ℕ) (p : Offsets) : Type 0 where
+pub record AreGoneOver (d : Preface) (total : ℕ) (bytes : Bytes) (p : Offsets) : Type 0 where
   pub system : p.system.items ≡ begins after_text total d.counts.system bytes
   pub messages : p.messages.items ≡ on_rest (begins after_text total d.counts.messages) (to_messages d bytes)
   pub objects : p.objects.items ≡ on_rest (begins (after_object d) total d.counts.objects) (to_objects d bytes)
@@ -83,7 +84,7 @@ abbrev pub preface_of : Front → Preface
 preface_of f = record { version = f.version; counts = f.counts; words = f.words.items }
 
 -- The front, the bytes after it and the offsets that result where the bytes are passed over.
-pub record IsPassed (bytes : List ℕ) (front_read : Front) (rest : List ℕ) (p : Offsets) : Type 0 where
+pub record IsPassed (bytes : Bytes) (front_read : Front) (rest : Bytes) (p : Offsets) : Type 0 where
   pub declared : front bytes ≡ Ok (preface_of front_read, rest)
   pub over : AreGoneOver (preface_of front_read) (length bytes) rest p
   pub order : AllByRecursion (λ t. IsOrder bytes t.entries.items t.order) p.tables.items

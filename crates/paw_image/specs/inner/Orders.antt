@@ -3,13 +3,14 @@ use Rattle.std.specs.Prelude.{◌≡◌, ℕ, suc, ◌+◌, ◌*◌, ◌≤◌, 
 use Rattle.std.specs.Prelude.{length, Option, Some, None, IsTrue, slice_index, min}
 use Rattle.std.specs.List.{All, Contains}
 use Rattle.std.specs.List.Sorted.{IsPermutation, IsNonDecreasingBy, IsPartitionPoint}
+use Rattle.paw_base.specs.Bytes.{Bytes}
 use Rattle.paw_game.specs.declared.parts.Entry.{Entry}
 use Rattle.paw_game.specs.Tables.{is_for}
 use Rattle.paw_image.specs.declared.order.Head.{Head}
 use Rattle.paw_image.specs.declared.order.Order.{Order}
 
 -- The verb and the noun at each of these offsets, numbered from n on.
-abbrev pub heads_at : List ℕ → ℕ → List ℕ → List Head
+abbrev pub heads_at : Bytes → ℕ → List ℕ → List Head
 heads_at bytes n [] = []
 heads_at bytes n (p ∷ ps) =
     record { verb = slice_index bytes p; noun = slice_index bytes (p + 1); entry = n } ∷ heads_at bytes (suc n) ps

@@ -1,6 +1,7 @@
 -- Reading an image from left to right: definitions for contracts and proofs, besides those of specs/Reading.antt.
 use Rattle.std.specs.Prelude.{ℕ, zero, suc, not, List, [], ◌∷◌, length, Result}
 use Rattle.std.specs.Prelude.{Ok, Err, ◌==◌, ◌&&◌, bit_and, if◌then◌else◌}
+use Rattle.paw_base.specs.Bytes.{Bytes, Text, Texts}
 use Rattle.paw_base.specs.declared.parts.Condact.{Condact}
 use Rattle.paw_base.specs.declared.parts.ObjectFacts.{ObjectFacts}
 use Rattle.paw_base.specs.declared.rows.ParamKind.{ParamKind}
@@ -28,14 +29,14 @@ IsFault (Err left) = Unit {0}
 -- ---- numbers and bytes ----
 
 -- The first two bytes.
-unfoldable pub pair_at : List ℕ → Reading (ℕ × ℕ)
+unfoldable pub pair_at : Bytes → Reading (ℕ × ℕ)
 pair_at bytes = do
   first ← byte_at bytes
   second ← byte_at first.1
   Ok ((first.0, second.0), second.1)
 
 -- This number of rows.
-unfoldable pub leading_rows : {A : Type 0} → (List ℕ → Reading A) → ℕ → List ℕ → Reading (List A)
+unfoldable pub leading_rows : {A : Type 0} → (Bytes → Reading A) → ℕ → Bytes → Reading (List A)
 leading_rows row zero bytes = Ok ([], bytes)
 leading_rows row (suc n) bytes = do
   first ← row bytes
@@ -43,7 +44,7 @@ leading_rows row (suc n) bytes = do
   Ok (first.0 ∷ others.0, others.1)
 
 -- A count of one byte, and that number of rows.
-unfoldable pub few_at : {A : Type 0} → (List ℕ → Reading A) → List ℕ → Reading (List A)
+unfoldable pub few_at : {A : Type 0} → (Bytes → Reading A) → Bytes → Reading (List A)
 few_at row bytes = do
   count ← byte_at bytes
   leading_rows row count.0 count.1
@@ -51,7 +52,7 @@ few_at row bytes = do
 -- ---- rows ----
 
 -- A length of two bytes, and the text.
-unfoldable pub text_at : List ℕ → Reading (List ℕ)
+unfoldable pub text_at : Bytes → Reading Text
 text_at bytes = do
   len ← number_at bytes
   bytes_at len.0 len.1
@@ -68,7 +69,7 @@ facts_with noun adjective start weight = record {
 }
 
 -- A noun, an adjective, a first place, and the byte of the weight.
-unfoldable pub leading_facts : List ℕ → Reading ObjectFacts
+unfoldable pub leading_facts : Bytes → Reading ObjectFacts
 leading_facts bytes = do
   noun ← byte_at bytes
   adjective ← byte_at noun.1
@@ -77,36 +78,36 @@ leading_facts bytes = do
   Ok (facts_with noun.0 adjective.0 start.0 weight.0, weight.1)
 
 -- A text, and the facts of the object.
-unfoldable pub object_at : List ℕ → Reading ObjectRow
+unfoldable pub object_at : Bytes → Reading ObjectRow
 object_at bytes = do
   text ← text_at bytes
   facts ← leading_facts text.1
   Ok (record { text = text.0; facts = facts.0 }, facts.1)
 
 -- A verb, and where it leads.
-unfoldable pub leading_exit : List ℕ → Reading Exit
+unfoldable pub leading_exit : Bytes → Reading Exit
 leading_exit bytes = do
   pair ← pair_at bytes
   Ok (record { verb = pair.0.0; to = pair.0.1 }, pair.1)
 
 -- The number of exits, and each exit.
-abbrev pub exits_at : List ℕ → Reading (List Exit)
+abbrev pub exits_at : Bytes → Reading (List Exit)
 exits_at bytes = few_at leading_exit bytes
 
 -- ---- tables ----
 
 -- The code of a condact.
-abbrev pub code_at : List ℕ → Reading ℕ
+abbrev pub code_at : Bytes → Reading ℕ
 code_at [] = Err 0
 code_at (code ∷ bytes) = if is_code code then Ok (code, bytes) else Err (suc (length bytes))
 
 -- A parameter of this kind; one that a code doesn't have is 0, and takes no byte.
-abbrev pub parameter_at : ParamKind → List ℕ → Reading ℕ
+abbrev pub parameter_at : ParamKind → Bytes → Reading ℕ
 parameter_at kind.Absent bytes = Ok (0, bytes)
 parameter_at _ bytes = byte_at bytes
 
 -- A code, and the parameters that it has.
-unfoldable pub leading_condact : List ℕ → Reading Condact
+unfoldable pub leading_condact : Bytes → Reading Condact
 leading_condact bytes = do
   code ← code_at bytes
   a ← parameter_at (first_kind code.0) code.1
@@ -114,21 +115,21 @@ leading_condact bytes = do
   Ok (record { code = code.0; a = a.0; b = b.0 }, b.1)
 
 -- A verb, a noun, the number of condacts, and each condact.
-unfoldable pub leading_entry : List ℕ → Reading Entry
+unfoldable pub leading_entry : Bytes → Reading Entry
 leading_entry bytes = do
   head ← pair_at bytes
   condacts ← few_at leading_condact head.1
   Ok (record { verb = head.0.0; noun = head.0.1; condacts = condacts.0 }, condacts.1)
 
 -- The number of entries, and each entry.
-unfoldable pub leading_table : List ℕ → Reading (List Entry)
+unfoldable pub leading_table : Bytes → Reading (List Entry)
 leading_table bytes = do
   count ← number_at bytes
   leading_rows leading_entry count.0 count.1
 
 -- ---- the whole image ----
 
-abbrev pub game_with : List Word → List (List ℕ) → List (List ℕ) → List ObjectRow → List (List ℕ) → List (List Exit)
+abbrev pub game_with : List Word → Texts → Texts → List ObjectRow → Texts → List (List Exit)
     → List (List Entry) → GameLists
 game_with words system messages objects locations exits tables = record {
   words = words;
@@ -141,7 +142,7 @@ game_with words system messages objects locations exits tables = record {
 }
 
 -- The lists after the words, with these numbers of rows; each location has its exits.
-unfoldable pub lists_at : Preface → List ℕ → Reading GameLists
+unfoldable pub lists_at : Preface → Bytes → Reading GameLists
 lists_at d bytes = do
   system ← leading_rows text_at d.counts.system bytes
   messages ← leading_rows text_at d.counts.messages system.1
@@ -157,7 +158,7 @@ byte_of One = 1
 byte_of Two = 2
 
 -- All of the bytes, with none after the lists, whose version is the one that they need.
-unfoldable pub all_of : List ℕ → Result GameLists ℕ
+unfoldable pub all_of : Bytes → Result GameLists ℕ
 all_of bytes = do
   d ← front bytes
   lists ← lists_at d.0 d.1

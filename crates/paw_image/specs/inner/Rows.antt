@@ -1,6 +1,7 @@
 -- One row, read where it stands at the front of some bytes.
-use Rattle.std.specs.Prelude.{ℕ, zero, suc, ◌-◌, ◌==◌, List, [], ◌∷◌, length, take}
+use Rattle.std.specs.Prelude.{ℕ, zero, suc, ◌-◌, ◌==◌, [], ◌∷◌, length, take}
 use Rattle.std.specs.Prelude.{Option, Some, None, Ok, Err, nat_lt, if◌then◌else◌}
+use Rattle.paw_base.specs.Bytes.{Bytes}
 use Rattle.paw_base.specs.declared.parts.Condact.{Condact}
 use Rattle.paw_base.specs.declared.parts.ObjectFacts.{ObjectFacts}
 use Rattle.paw_game.specs.declared.parts.Exit.{Exit}
@@ -15,65 +16,65 @@ value_of (Ok x) = Some x.0
 value_of (Err left) = None
 
 -- The facts of an object whose text stands at the front.
-abbrev pub after_text_facts : List ℕ → Reading ObjectFacts
+abbrev pub after_text_facts : Bytes → Reading ObjectFacts
 after_text_facts bytes = text_at bytes >>= λ text. leading_facts text.1
 
 -- The facts of the object at the front.
-unfoldable pub facts_here : List ℕ → Option ObjectFacts
+unfoldable pub facts_here : Bytes → Option ObjectFacts
 facts_here bytes = value_of (after_text_facts bytes)
 
 -- The exit at the front, and the bytes after it.
-abbrev pub exit_here : List ℕ → Option (Exit × List ℕ)
+abbrev pub exit_here : Bytes → Option (Exit × Bytes)
 exit_here [] = None
 exit_here (verb ∷ []) = None
 exit_here (verb ∷ to ∷ bytes) = Some (record { verb = verb; to = to }, bytes)
 
-abbrev pub led : ℕ → (List ℕ → Option ℕ) → Option (Exit × List ℕ) → Option ℕ
+abbrev pub led : ℕ → (Bytes → Option ℕ) → Option (Exit × Bytes) → Option ℕ
 led verb others None = None
 led verb others (Some x) = if x.0.verb == verb then Some x.0.to else others x.1
 
 -- Where the first of n exits with this verb leads.
-unfoldable pub exit_in : ℕ → ℕ → List ℕ → Option ℕ
+unfoldable pub exit_in : ℕ → ℕ → Bytes → Option ℕ
 exit_in verb zero bytes = None
 exit_in verb (suc n) bytes = led verb (exit_in verb n) (exit_here bytes)
 
 -- Where the exit for a verb leads, among the exits at the front.
-unfoldable pub exits_here : ℕ → List ℕ → Option ℕ
+unfoldable pub exits_here : ℕ → Bytes → Option ℕ
 exits_here verb [] = None
 exits_here verb (count ∷ bytes) = exit_in verb count bytes
 
 -- The verb and the noun of the entry at the front.
-unfoldable pub head_here : List ℕ → Option (ℕ × ℕ)
+unfoldable pub head_here : Bytes → Option (ℕ × ℕ)
 head_here [] = None
 head_here (verb ∷ []) = None
 head_here (verb ∷ noun ∷ bytes) = Some (record { 0 = verb; 1 = noun })
 
 -- The bytes after a condact.
-abbrev pub past_condact : List ℕ → Passing
+abbrev pub past_condact : Bytes → Passing
 past_condact bytes = leading_condact bytes >>= λ x. Ok x.1
 
 -- The condact after this number of condacts.
-abbrev pub condact_after : ℕ → List ℕ → Reading Condact
+abbrev pub condact_after : ℕ → Bytes → Reading Condact
 condact_after count bytes = each past_condact count bytes >>= leading_condact
 
 -- One of this number of condacts.
-abbrev pub condact_among : ℕ → ℕ → List ℕ → Option Condact
+abbrev pub condact_among : ℕ → ℕ → Bytes → Option Condact
 condact_among at count bytes = if nat_lt at count then value_of (condact_after at bytes) else None
 
 -- A condact of the entry at the front.
-unfoldable pub nth_condact : ℕ → List ℕ → Option Condact
+unfoldable pub nth_condact : ℕ → Bytes → Option Condact
 nth_condact at [] = None
 nth_condact at (verb ∷ []) = None
 nth_condact at (verb ∷ noun ∷ []) = None
 nth_condact at (verb ∷ noun ∷ count ∷ bytes) = condact_among at count bytes
 
 -- A row up to its rest.
-abbrev pub up_to : List ℕ → Passing → Option (List ℕ)
+abbrev pub up_to : Bytes → Passing → Option Bytes
 up_to row (Ok after) = Some (take (length row - length after) row)
 up_to row (Err left) = None
 
 -- The bytes of the entry at the front.
-unfoldable pub entry_here : List ℕ → Option (List ℕ)
+unfoldable pub entry_here : Bytes → Option Bytes
 entry_here [] = None
 entry_here (verb ∷ []) = None
 entry_here (verb ∷ noun ∷ []) = None

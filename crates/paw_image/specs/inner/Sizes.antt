@@ -2,6 +2,7 @@
 -- parameter that a code doesn't have.
 use Rattle.std.specs.Prelude.{◌≡◌, ℕ, ◌^◌, ◌<◌, List, length}
 use Rattle.std.specs.List.{AllByRecursion}
+use Rattle.paw_base.specs.Bytes.{Text}
 use Rattle.paw_base.specs.declared.limits.TheConstants.{WORD_LENGTH}
 use Rattle.paw_base.specs.declared.parts.Condact.{Condact}
 use Rattle.paw_base.specs.declared.rows.ParamKind.{ParamKind}
@@ -19,7 +20,7 @@ abbrev pub FitsWord : Word → Type 0
 FitsWord w = length w.letters ≡ WORD_LENGTH
 
 -- The length fits into two bytes.
-abbrev pub FitsText : List ℕ → Type 0
+abbrev pub FitsText : Text → Type 0
 FitsText text = length text < 2 ^ 16
 
 -- The weight fits into six bits, which two more follow.

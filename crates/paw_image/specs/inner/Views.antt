@@ -1,6 +1,7 @@
 -- The game whose image some bytes are, where its rows stand in them, and what a view keeps of it.
 use Rattle.std.specs.Prelude.{◌≡◌, ℕ, ◌+◌, List, [], length, Option, Some, None, Result, Ok, Err, flat_map, slice_get}
 use Rattle.std.specs.List.{AllByRecursion}
+use Rattle.paw_base.specs.Bytes.{Bytes, Text}
 use Rattle.paw_base.specs.declared.parts.Counts.{Counts}
 use Rattle.paw_game.specs.declared.parts.Word.{Word}
 use Rattle.paw_game.specs.declared.parts.GamePart.{GamePart}
@@ -29,7 +30,7 @@ or_no_game (Err left) = record {
 }
 
 -- The game whose image the bytes are.
-unfoldable pub game_read : List ℕ → GameLists
+unfoldable pub game_read : Bytes → GameLists
 game_read bytes = or_no_game (all_of bytes)
 
 -- ---- where the lists begin ----
@@ -64,7 +65,7 @@ rows_begin g part.Exits = []
 rows_begin g part.Tables = []
 
 -- The two places between which a text stands: its row begins with the two bytes of its length.
-abbrev pub spanned : Option ℕ → Option (List ℕ) → Option (ℕ × ℕ)
+abbrev pub spanned : Option ℕ → Option Text → Option (ℕ × ℕ)
 spanned None text = None
 spanned (Some at) None = None
 spanned (Some at) (Some text) = Some (record { 0 = at + 2; 1 = at + 2 + length text })
@@ -75,15 +76,15 @@ span_at g p n = spanned (slice_get (rows_begin g p) n) (text_at g p n)
 -- ---- what a view keeps ----
 
 -- The entries of each table are in order of verb and noun.
-abbrev pub AreOrdered : List ℕ → Offsets → Type 0
+abbrev pub AreOrdered : Bytes → Offsets → Type 0
 AreOrdered bytes p = AllByRecursion (λ t. IsOrder bytes t.entries.items t.order) p.tables.items
 
 -- The entries of each table have their marks.
-abbrev pub AreMarked : List ℕ → Offsets → Type 0
+abbrev pub AreMarked : Bytes → Offsets → Type 0
 AreMarked bytes p = AllByRecursion (IsMarked bytes) p.tables.items
 
 -- The bytes are the image of a game with these counts and words, rows at these places, entries in order, and marks.
-pub record IsIndex (bytes : List ℕ) (counts : Counts) (words : List Word) (p : Offsets) : Type 0 where
+pub record IsIndex (bytes : Bytes) (counts : Counts) (words : List Word) (p : Offsets) : Type 0 where
   pub image : IsImage bytes (game_read bytes)
   pub counted : counts ≡ counts_of (game_read bytes)
   pub spelled : words ≡ (game_read bytes).words

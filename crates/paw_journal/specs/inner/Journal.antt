@@ -1,6 +1,7 @@
 -- What the calls of a journal answer, and what they leave: words that contracts between crates and proofs use beside
 -- those of specs/Journal.antt.
-use Rattle.std.specs.Prelude.{◌≡◌, ◌≢◌, ℕ, List, Option, Some, None, Result, Ok, Err, IsSome}
+use Rattle.std.specs.Prelude.{◌≡◌, ◌≢◌, Option, Some, None, Result, Ok, Err, IsSome}
+use Rattle.paw_base.specs.Bytes.{Bytes, Text}
 use Rattle.paw_stage.specs.declared.StageCall.{StageCall}
 use Rattle.paw_stage.specs.Disk.{IsStable}
 use Rattle.paw_stage.specs.Stage.{Standing}
@@ -26,14 +27,14 @@ pub record KeptIn (journal : Journal) (room : Room) (s : Standing) : Type 0 wher
 
 -- Why the store has no session of this game to go on with by these routines, by what its bytes stand for. A stage call
 -- that failed tells nothing of the store.
-abbrev pub IsSessionRefused : Recovered → List ℕ → List ℕ → JournalRefusal → Type 0
+abbrev pub IsSessionRefused : Recovered → Bytes → Bytes → JournalRefusal → Type 0
 IsSessionRefused r game rules (refusal.Unmade n mark) = r ≡ Unmade n mark
 IsSessionRefused r game rules (refusal.Damaged part at) = r ≡ Damaged part at
 IsSessionRefused r game rules (refusal.WrongGame kept found) =
-    (routines : List ℕ) × (state : List ℕ) × (piece : List ℕ) × (r ≡ Shown (digests_of kept routines) state piece)
+    (routines : Bytes) × (state : Bytes) × (piece : Text) × (r ≡ Shown (digests_of kept routines) state piece)
     × (kept ≢ game) × (found ≡ game)
 IsSessionRefused r game rules (refusal.WrongRoutines kept found) =
-    (state : List ℕ) × (piece : List ℕ) × (r ≡ Shown (digests_of game kept) state piece)
+    (state : Bytes) × (piece : Text) × (r ≡ Shown (digests_of game kept) state piece)
     × (kept ≢ zeros 32) × (kept ≢ rules) × (found ≡ rules)
 IsSessionRefused r game rules (refusal.Outside c) = Unit {0}
 

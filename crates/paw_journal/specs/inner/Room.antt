@@ -1,6 +1,7 @@
 -- The buffers of a journal, and what it keeps of the slots of its store.
-use Rattle.std.specs.Prelude.{◌≡◌, ◌&&◌, ℕ, List, Option, Some, None, if◌then◌else◌}
 use Rattle.paw_journal.specs.declared.layout.TheConstants.{PIECE_AT}
+use Rattle.std.specs.Prelude.{◌≡◌, ◌&&◌, ℕ, Option, Some, None, if◌then◌else◌}
+use Rattle.paw_base.specs.Bytes.{Bytes, Text}
 use Rattle.paw_journal.specs.declared.layout.Slot.{Slot}
 use Rattle.paw_journal.specs.declared.layout.Slot.TheVariants as which
 use Rattle.paw_journal.specs.declared.drafting.SlotState.{SlotState}
@@ -16,20 +17,20 @@ slot_number which.First = 0
 slot_number which.Second = 1
 
 -- The state of a slot, with the number of its change records.
-abbrev pub state_in : List ℕ → SlotState
+abbrev pub state_in : Bytes → SlotState
 state_in bytes = record { records = two_byte_number 0 bytes; state = slot_state bytes }
 
 -- The same, for a commit to go on from; none where it has no state, or is
 -- of version 1.
-abbrev pub kept_slot : List ℕ → Option SlotState
+abbrev pub kept_slot : Bytes → Option SlotState
 kept_slot bytes = if is_second bytes && has_state bytes then Some (state_in bytes) else None
 
 -- The bytes on their way to the store or from it, the state and the piece that the session shows, and the states of
 -- both slots.
 pub record Room : Type 0 where
-  pub slot : List ℕ
-  pub state : List ℕ
-  pub piece : List ℕ
+  pub slot : Bytes
+  pub state : Bytes
+  pub piece : Text
   pub first : Option SlotState
   pub second : Option SlotState
 
@@ -44,11 +45,11 @@ with_slot_kept which.First kept room = record room { first = kept }
 with_slot_kept which.Second kept room = record room { second = kept }
 
 -- A room that shows this state of the slot that was read, and the slot's piece, whose length the state tells.
-abbrev pub with_state : List ℕ → Room → Room
+abbrev pub with_state : Bytes → Room → Room
 with_state state room = record room { state = state; piece = stretch PIECE_AT (piece_length state) room.slot }
 
 -- A room that keeps this state of both slots, which are made with it.
-abbrev pub with_made : List ℕ → Room → Room
+abbrev pub with_made : Bytes → Room → Room
 with_made state room = record room {
   first = Some (record { records = 0; state = state });
   second = Some (record { records = 0; state = state });
@@ -68,6 +69,6 @@ KeepsRead which old new =
     new ≡ with_slot_kept which (kept_slot old.slot) (record old { state = new.state; piece = new.piece })
 
 -- A room keeps the states of both slots of a store.
-pub record KeepsSlots (room : Room) (bytes : List ℕ) : Type 0 where
+pub record KeepsSlots (room : Room) (bytes : Bytes) : Type 0 where
   pub first : room.first ≡ kept_slot (slot 0 bytes)
   pub second : room.second ≡ kept_slot (slot 1 bytes)

@@ -1,6 +1,7 @@
 -- What the steps of a journal's calls leave.
-use Rattle.std.specs.Prelude.{◌≡◌, ◌⊎◌, ℕ, ◌+◌, ◌-◌, ◌*◌, ◌<◌, ◌≤◌, List, [], ◌∷◌, length, slice_index, true}
+use Rattle.std.specs.Prelude.{◌≡◌, ◌⊎◌, ℕ, ◌+◌, ◌-◌, ◌*◌, ◌<◌, ◌≤◌, [], ◌∷◌, length, slice_index, true}
 use Rattle.std.specs.Prelude.{false, Option, Some, None}
+use Rattle.paw_base.specs.Bytes.{Bytes, Text}
 use Rattle.paw_base.specs.declared.limits.TheConstants.{PIECE_LIMIT}
 use Rattle.paw_stage.specs.Disk.{Disk, is_dirty, put}
 use Rattle.paw_stage.specs.Stage.{Standing}
@@ -18,26 +19,26 @@ use Rattle.paw_journal.specs.inner.Written.{most_written}
 use Rattle.paw_journal.specs.inner.Store.{IsBeside, HoldsStable}
 
 -- A session is made of these bytes.
-pub record IsMade (bytes : List ℕ) : Type 0 where
+pub record IsMade (bytes : Bytes) : Type 0 where
   pub long : length bytes ≡ session_length
   pub marked : mark bytes ≡ made_mark
   pub versioned : is_version (version bytes) ≡ true
 
 -- The store has these bytes, and no crash leaves the mark of a session: byte 0 is stable, and it is 0.
-pub record IsBlank (held : List ℕ) (d : Disk) : Type 0 where
+pub record IsBlank (held : Bytes) (d : Disk) : Type 0 where
   pub bytes : d.bytes ≡ held
   pub long : 1 ≤ length d.synced
   pub blank : mark d.bytes ≡ 0
   pub clean : is_dirty d.dirty 0 ≡ false
 
 -- What a header tells of a session that is made of these bytes: the slot in use, and whose session it is.
-pub record Introduces (number : ℕ) (whose : Digests) (bytes : List ℕ) : Type 0 where
+pub record Introduces (number : ℕ) (whose : Digests) (bytes : Bytes) : Type 0 where
   pub made : IsMade bytes
   pub slot : number ≡ chosen bytes
   pub digests : whose ≡ kept_digests bytes
 
 -- The store is as long as it was, and of its bytes only those from one place up to another may differ.
-pub record IsWithin (lo hi : ℕ) (old : List ℕ) (d : Disk) : Type 0 where
+pub record IsWithin (lo hi : ℕ) (old : Bytes) (d : Disk) : Type 0 where
   pub long : length d.bytes ≡ length old
   pub synced : length d.synced ≡ length old
   pub longest : d.longest ≡ length old
@@ -61,12 +62,12 @@ abbrev pub KeepsFilling : ℕ → Standing → Standing → Type 0
 KeepsFilling k old new = (first : Standing) → IsFilling k first old → IsFilling k first new
 
 -- A session is made of the store's bytes, and this slot isn't in use.
-pub record IsSpare (k : ℕ) (bytes : List ℕ) : Type 0 where
+pub record IsSpare (k : ℕ) (bytes : Bytes) : Type 0 where
   pub made : IsMade bytes
   pub other : chosen bytes ≡ 1 - k
 
 -- A slot is what this makes of it.
-abbrev pub Fills : Slot → (List ℕ → List ℕ) → Standing → Standing → Type 0
+abbrev pub Fills : Slot → (Bytes → Bytes) → Standing → Standing → Type 0
 Fills which filled old new = slot (slot_number which) new.disk.bytes ≡ filled (slot (slot_number which) old.disk.bytes)
 
 -- The session is of the game and of the routines that it was of.
@@ -74,19 +75,19 @@ abbrev pub SameDigests : Standing → Standing → Type 0
 SameDigests old new = kept_digests new.disk.bytes ≡ kept_digests old.disk.bytes
 
 -- The session has these digests, and shows this state and this piece.
-abbrev pub ShowsIn : Digests → List ℕ → List ℕ → Standing → Type 0
+abbrev pub ShowsIn : Digests → Bytes → Text → Standing → Type 0
 ShowsIn digests state piece s = recover s.disk.bytes ≡ session_shown digests state piece
 
 -- The session has the digests that it had, and shows this state and this piece.
-abbrev pub ShowsNext : List ℕ → List ℕ → Standing → Standing → Type 0
+abbrev pub ShowsNext : Bytes → Text → Standing → Standing → Type 0
 ShowsNext state piece old new = ShowsIn (kept_digests old.disk.bytes) state piece new
 
 -- The store holds the session as a commit of this state and this piece leaves it.
-abbrev pub HoldsCommitted : List ℕ → List ℕ → Standing → Standing → Type 0
+abbrev pub HoldsCommitted : Bytes → Text → Standing → Standing → Type 0
 HoldsCommitted state piece old new = new.disk.bytes ≡ committed state piece old.disk.bytes
 
 -- The store holds the session as it is made.
-abbrev pub HoldsMade : Digests → List ℕ → List ℕ → Standing → Type 0
+abbrev pub HoldsMade : Digests → Bytes → Text → Standing → Type 0
 HoldsMade digests state piece s = s.disk.bytes ≡ made_session digests state piece
 
 -- The digests that a header has.
@@ -94,30 +95,30 @@ abbrev pub header_digests : Header → Digests
 header_digests header = digests_of header.game header.routines
 
 -- What a header tells of a session with these bytes.
-abbrev pub IsHeaderOf : List ℕ → Header → Type 0
+abbrev pub IsHeaderOf : Bytes → Header → Type 0
 IsHeaderOf bytes header = Introduces (slot_number header.slot) (header_digests header) bytes
 
 -- Change records that make one state of another, one for each position that differs.
-pub record Turns (old new records : List ℕ) : Type 0 where
+pub record Turns (old new records : Bytes) : Type 0 where
   pub exact : records ≡ differences old new
   pub many : length records ≡ 4 * differing old new
   pub sound : first_unsound (changes records) ≡ None
   pub turned : changed (changes records) old ≡ new
 
 -- The bytes of a slot once a commit has written it.
-abbrev pub written_slot : Draft → List ℕ → List ℕ → List ℕ → List ℕ
+abbrev pub written_slot : Draft → Bytes → Text → Bytes → Bytes
 written_slot draft bytes piece old = rewritten draft.at bytes draft.records piece old
 
 -- The bytes of a session once a commit has written this slot, and not chosen it yet.
-abbrev pub written_session : ℕ → Draft → List ℕ → List ℕ → List ℕ → List ℕ
+abbrev pub written_session : ℕ → Draft → Bytes → Text → Bytes → Bytes
 written_session k draft bytes piece old = put (start_of k) (written_slot draft bytes piece (slot k old)) old
 
 -- The bytes of a session once this slot is chosen.
-abbrev pub chosen_session : ℕ → List ℕ → List ℕ
+abbrev pub chosen_session : ℕ → Bytes → Bytes
 chosen_session k old = put 1 (k ∷ []) old
 
 -- A commit has written this slot, and not chosen it yet: a crash leaves just the bytes of such a session.
-abbrev pub WritesSlot : Slot → Draft → List ℕ → List ℕ → Standing → Standing → Type 0
+abbrev pub WritesSlot : Slot → Draft → Bytes → Text → Standing → Standing → Type 0
 WritesSlot which draft bytes piece old new =
     HoldsStable (written_session (slot_number which) draft bytes piece old.disk.bytes) new
 
@@ -127,10 +128,10 @@ Chooses which old new = HoldsStable (chosen_session (slot_number which) old.disk
 
 -- What a commit writes into a slot beside its head and the piece: so that the slot is what a commit makes of it, has
 -- this state, and no more bytes are written than a commit may write.
-pub record Drafts (kept : Option SlotState) (state bytes : List ℕ) (draft : Draft) : Type 0 where
+pub record Drafts (kept : Option SlotState) (state bytes : Bytes) (draft : Draft) : Type 0 where
   pub inside : draft.at + length bytes ≤ slot_length
-  pub exact : (old piece : List ℕ) → kept_slot old ≡ kept →
+  pub exact : (old piece : Bytes) → kept_slot old ≡ kept →
       written_slot draft bytes piece old ≡ committed_slot state piece old
-  pub gives : (old piece : List ℕ) → length old ≡ slot_length → kept_slot old ≡ kept → length piece ≤ PIECE_LIMIT →
+  pub gives : (old piece : Bytes) → length old ≡ slot_length → kept_slot old ≡ kept → length piece ≤ PIECE_LIMIT →
       kept_slot (written_slot draft bytes piece old) ≡ Some (record { records = draft.records; state = state })
-  pub few : (piece : List ℕ) → length bytes + length piece + 4 ≤ most_written kept state piece
+  pub few : (piece : Text) → length bytes + length piece + 4 ≤ most_written kept state piece

@@ -1,5 +1,6 @@
 -- Calls that move the attached store alone.
-use Rattle.std.specs.Prelude.{◌≡◌, ◌≢◌, ◌⊎◌, ℕ, ◌-◌, List, ◌++◌, length, Some}
+use Rattle.std.specs.Prelude.{◌≡◌, ◌≢◌, ◌⊎◌, ℕ, ◌-◌, ◌++◌, length, Some}
+use Rattle.paw_base.specs.Bytes.{Bytes, Name, Text}
 use Rattle.paw_stage.specs.Disk.{Disk, MayLeave, stable}
 use Rattle.paw_stage.specs.Stage.{Standing, file_bytes, opened}
 use Rattle.paw_stage.specs.Moments.{Moment}
@@ -15,8 +16,8 @@ pub record IsBeside (old new : Standing) : Type 0 where
   pub asked : new.asked ≡ old.asked
   pub shown : new.shown ≡ old.shown
   pub attached : new.attached ≡ old.attached
-  pub files : (n : List ℕ) → old.attached ≢ Some n → new.files n ≡ old.files n
-  pub file : (n : List ℕ) → old.attached ≡ Some n → old.files n ≡ Some old.disk.bytes →
+  pub files : (n : Name) → old.attached ≢ Some n → new.files n ≡ old.files n
+  pub file : (n : Name) → old.attached ≡ Some n → old.files n ≡ Some old.disk.bytes →
       new.files n ≡ Some new.disk.bytes
 
 -- At a moment inside a call that moves the attached store alone: all else is as it was, and the disk is such.
@@ -24,12 +25,12 @@ pub record InStore (old : Standing) (Inside : Disk → Type 0) (m : Moment) : Ty
   pub asked : m.asked ≡ old.asked
   pub shown : m.shown ≡ old.shown
   pub attached : m.attached ≡ old.attached
-  pub files : (n : List ℕ) → old.attached ≢ Some n → m.files n ≡ old.files n
+  pub files : (n : Name) → old.attached ≢ Some n → m.files n ≡ old.files n
   pub disk : Inside m.disk
 
 -- Whatever a crash leaves of the disk stands for such a session.
 abbrev pub Leaves : (Recovered → Type 0) → Disk → Type 0
-Leaves Such d = (image : List ℕ) → MayLeave d image → Such (recover image)
+Leaves Such d = (image : Bytes) → MayLeave d image → Such (recover image)
 
 -- What the store stands for if it chooses this slot.
 abbrev pub shown_by : ℕ → Standing → Recovered
@@ -44,15 +45,15 @@ abbrev pub IsUnmadeOr : Recovered → Recovered → Type 0
 IsUnmadeOr made r = IsUnmade r ⊎ (r ≡ made)
 
 -- What attaching the store of this name did, which then has this length.
-abbrev pub Opens : Standing → Standing → List ℕ → Attached → Type 0
+abbrev pub Opens : Standing → Standing → Name → Attached → Type 0
 Opens old new name at = (at.length ≡ length (file_bytes old name)) × (new ≡ opened name old)
 
 -- The store holds these bytes, and a crash leaves just these.
-abbrev pub HoldsStable : List ℕ → Standing → Type 0
+abbrev pub HoldsStable : Bytes → Standing → Type 0
 HoldsStable bytes s = s.disk ≡ stable bytes
 
 -- Both slots were written with these bytes, behind all that stood.
-abbrev pub LaysSlots : List ℕ → Standing → Standing → Type 0
+abbrev pub LaysSlots : Bytes → Standing → Standing → Type 0
 LaysSlots bytes old new = HoldsStable (old.disk.bytes ++ bytes ++ bytes) new
 
 -- ---- at a moment inside a call that moves the attached store alone ----
@@ -66,7 +67,7 @@ abbrev pub LeavesUnmadeOr : Recovered → Standing → Moment → Type 0
 LeavesUnmadeOr made old m = InStore old (Leaves (IsUnmadeOr made)) m
 
 -- A crash leaves no session, or the one that is made with these digests, this state and this piece.
-abbrev pub LeavesMade : Digests → List ℕ → List ℕ → Standing → Moment → Type 0
+abbrev pub LeavesMade : Digests → Bytes → Text → Standing → Moment → Type 0
 LeavesMade digests state piece old m = LeavesUnmadeOr (session_shown digests state piece) old m
 
 -- A crash leaves no session, or the one that stands there once it is marked.
@@ -83,6 +84,6 @@ LeavesSlot which old m =
     InStore old (Leaves (IsEither (shown_by (1 - slot_number which) old) (shown_by (slot_number which) old))) m
 
 -- A crash leaves what the session showed before, or this state and this piece, with the digests that it has.
-abbrev pub LeavesOldOr : List ℕ → List ℕ → Standing → Moment → Type 0
+abbrev pub LeavesOldOr : Bytes → Text → Standing → Moment → Type 0
 LeavesOldOr state piece old m =
     InStore old (Leaves (IsEither (recover old.disk.bytes) (session_shown (kept_digests old.disk.bytes) state piece))) m

@@ -1,24 +1,25 @@
 -- The lines of a source: definitions for contracts and proofs, besides those of specs/Lines.antt.
-use Rattle.std.specs.Prelude.{◌≡◌, ℕ, ◌≤◌, ◌⊎◌, List, [], ◌∷◌, length, slice_range}
+use Rattle.std.specs.Prelude.{◌≡◌, ℕ, ◌≤◌, ◌⊎◌, [], ◌∷◌, length, slice_range}
 use Rattle.std.specs.Str.Lines.{lines}
+use Rattle.paw_base.specs.Bytes.{Bytes, Lines}
 use Rattle.paw_lex.specs.declared.lines.Line.{Line}
 
 -- Where a walk over the lines of a source stands: how many lines it has given, the place where the next one begins, and
 -- the lines that are left.
 pub record Walk : Type 0 where
-  pub source : List ℕ
+  pub source : Bytes
   pub given : ℕ
   pub at : ℕ
-  pub left : List (List ℕ)
+  pub left : Lines
 
 -- The bytes of a line of the source.
-abbrev pub bytes_of : List ℕ → Line → List ℕ
+abbrev pub bytes_of : Bytes → Line → Bytes
 bytes_of source line = slice_range source line.from line.to
 
 -- The span of a line lies in the source.
-abbrev pub LiesIn : List ℕ → Line → Type 0
+abbrev pub LiesIn : Bytes → Line → Type 0
 LiesIn source line = (line.from ≤ line.to) × (line.to ≤ length source)
 
 -- These bytes are LF, or CR and LF.
-abbrev pub IsLineEnd : List ℕ → Type 0
+abbrev pub IsLineEnd : Bytes → Type 0
 IsLineEnd bytes = (bytes ≡ 10 ∷ []) ⊎ (bytes ≡ 13 ∷ 10 ∷ [])

@@ -1,5 +1,6 @@
 -- A phrase as it is read, mark by mark. Only the contracts of private functions use this.
-use Rattle.std.specs.Prelude.{ℕ, ◌==◌, List, Option, Some, None, if◌then◌else◌}
+use Rattle.std.specs.Prelude.{ℕ, ◌==◌, Option, Some, None, if◌then◌else◌}
+use Rattle.paw_base.specs.Bytes.{Bytes, Letters}
 use Rattle.paw_base.specs.declared.words.TheConstants.{CONJUNCTION_CLASS}
 use Rattle.paw_game.specs.Game.{GameLists}
 use Rattle.paw_game.specs.Tables.{word_at}
@@ -15,7 +16,7 @@ part_of_word None = part.Unknown
 part_of_word (Some word) = if word.1 == CONJUNCTION_CLASS then part.Break else part.Word word.0 word.1
 
 -- What a token or a separator is in a phrase.
-abbrev pub phrase_part_of : GameLists → Option (List ℕ) → Part
+abbrev pub phrase_part_of : GameLists → Option Letters → Part
 phrase_part_of g None = part.Break
 phrase_part_of g (Some letters) = part_of_word (word_at g letters)
 
@@ -42,10 +43,10 @@ abbrev pub started : ℕ → ℕ → Draft
 started noun adjective = record { found = found.Empty; words = blank noun adjective }
 
 -- What a draft is where its phrase ends, with the bytes after it.
-abbrev pub found_outcome : ℕ → Found → Draft → List ℕ → Parsed
+abbrev pub found_outcome : ℕ → Found → Draft → Bytes → Parsed
 found_outcome earlier found.Sentence d rest = IsSentence (finished earlier d.words) rest
 found_outcome earlier found.Nothing d rest = IsUnknown rest
 found_outcome earlier found.Empty d rest = IsNoPhrase
 
-abbrev pub draft_outcome : ℕ → Draft → List ℕ → Parsed
+abbrev pub draft_outcome : ℕ → Draft → Bytes → Parsed
 draft_outcome earlier d rest = found_outcome earlier d.found d rest

@@ -21,7 +21,7 @@ use Rattle.paw_turn.specs.inner.Player.{Seat, run_at, IsSeated, IsNew}
 use Rattle.paw_turn.specs.inner.Parts.{prompt_at}
 use Rattle.paw_turn.specs.declared.Step.{Step}
 use Rattle.paw_turn.specs.declared.Step.TheVariants as step
-use Rattle.paw_base.specs.Bytes.{zeros}
+use Rattle.paw_base.specs.Bytes.{Bytes, Lines, Name, RoutineRows, Seed, Text, Texts, zeros}
 use Rattle.paw_journal.specs.Session.{Digests, Recovered, Shown, recover, kept_digests, base_length, state_length, committed}
 use Rattle.paw_journal.specs.inner.Store.{InStore, Leaves, IsEither}
 use Rattle.paw_journal.specs.inner.Room.{Room}
@@ -43,11 +43,11 @@ use Rattle.paw_play.specs.inner.Telling.{Telling, Plain, HaveSteps, told_pieces,
 -- ---- a walk ----
 
 -- the bytes of the state of a player, after so many lines of its session
-abbrev pub seat_state : {F : Type 0} → ℕ → Seat F → List ℕ
+abbrev pub seat_state : {F : Type 0} → ℕ → Seat F → Bytes
 seat_state events p = kept_bytes (state_of p.world p.machine p.pending (prompt_at p.last) events (length p.piece))
 
 -- the same as they are written: zeros stand behind them
-abbrev pub seat_base : {F : Type 0} → ℕ → Seat F → List ℕ
+abbrev pub seat_base : {F : Type 0} → ℕ → Seat F → Bytes
 seat_base events p = seat_state events p ++ zeros (base_length - state_length)
 
 -- the walk is at a prompt: n lines were taken, these pieces were shown as they are told, and whatever lines come, the
@@ -57,10 +57,10 @@ pub record IsWalking {F : Type 0} (telling : Telling) (g : Story) (whole : Endin
     (n : ℕ) : Type 0 where
   pub prompt : Prompt
   pub waits : seat.last ≡ step.Waits prompt
-  pub pieces : List (List ℕ)
+  pub pieces : Texts
   pub traces : List (List Read)
   pub each : HaveSteps telling pieces traces
-  pub goes_on : (more : List (List ℕ)) →
+  pub goes_on : (more : Lines) →
       whole (first_lines n old.lines ++ more)
       ≡ on g prompt (reverse seat.machine.frames) (run_at seat pieces traces more)
   pub there : n ≤ length old.lines
@@ -83,7 +83,7 @@ refusal_of (step.TooDeep table) = Some (end.TooDeep table)
 -- what showing a step's piece does: it is shown where the player waits or is over, and then no other line may be asked
 -- for where it is over; nothing is shown of a piece that is spent or of a call too deep; or a part is shown of a piece
 -- that isn't empty, and the call failed
-abbrev pub Told : Standing → Standing → List ℕ → Step → Option PlayEnd → Type 0
+abbrev pub Told : Standing → Standing → Text → Step → Option PlayEnd → Type 0
 Told old new piece s None = (p : Prompt) × (s ≡ step.Waits p) × (new ≡ record old { shown = old.shown ++ piece })
 Told old new piece s (Some end.Ended) = (s ≡ step.Ended) × (new ≡ record old { shown = old.shown ++ piece })
 Told old new piece s (Some (end.Spent kind)) = (s ≡ step.Spent kind) × (new ≡ old)
@@ -101,7 +101,7 @@ WalksTo telling g whole most first now seat n (Some o) = Walks (told_as telling 
 -- ---- a session ----
 
 -- the session of a story that is begun with this seed, whatever its digests
-abbrev pub begun_with : Story → ℕ → Digests → List ℕ → PlayedSession
+abbrev pub begun_with : Story → Seed → Digests → Name → PlayedSession
 begun_with g seed digests name = record { whole = reading g seed; before = 0; digests = digests; name = name }
 
 -- The session is at a prompt: the walk is, the store keeps all lines that were taken, and the text of the last piece
@@ -111,7 +111,7 @@ pub record IsPlaying {F : Type 0} (g : Story) (s : PlayedSession) (first now : S
   pub walking : IsWalking Plain g s.whole (with_store now first) now seat n
   pub rests : RestsWith s first now n
   pub digests : kept_digests now.disk.bytes ≡ s.digests
-  pub last : List ℕ
+  pub last : Text
   pub grown : text_for s.whole first.lines n ≡ text_before s.whole first.lines n ++ last
 
 -- after one line more: the session is at the next prompt, or playing on has come to this
@@ -121,7 +121,7 @@ PlaysTo g s most first now seat n (Ok a) = IsPlaying g s first now seat (suc n)
 PlaysTo g s most first now seat n (Err o) = PlaysOn s most first now o
 
 -- the store of this name is attached and at rest, and its file holds its bytes
-pub record IsStore (name : List ℕ) (s : Standing) : Type 0 where
+pub record IsStore (name : Name) (s : Standing) : Type 0 where
   pub attached : s.attached ≡ Some name
   pub stable : IsStable s.disk
   pub file : s.files name ≡ Some s.disk.bytes
@@ -140,7 +140,7 @@ Begins g s first now seat (Ok a) = IsPlaying g s first now seat 0
 Begins g s first now seat (Err o) = BegunAs s first now o
 
 -- what showing a piece again does: the session waits at its prompt, or is over, or a part was shown and the call failed
-abbrev pub ShowsAgain : Standing → Standing → List ℕ → Prompt → Option PlayEnd → Type 0
+abbrev pub ShowsAgain : Standing → Standing → Text → Prompt → Option PlayEnd → Type 0
 ShowsAgain old new piece p None = (p ≢ prompt.Over) × (new ≡ record old { shown = old.shown ++ piece })
 ShowsAgain old new piece p (Some end.Ended) = (p ≡ prompt.Over) × (new ≡ record old { shown = old.shown ++ piece })
 ShowsAgain old new piece p (Some (end.Outside call.Show)) =
@@ -191,7 +191,7 @@ pub record HoldsSession (tells : Type 0) (n : ℕ) (room : Room) (now : Standing
 -- a fact of the game's story, whatever rows stand for its routines
 abbrev pub EachStory : {F : Type 0} → Shared F (ℕ × (ℕ × Unit {0})) ℕ → Routines F → GameLists →
     (Story → Type 0) → Type 0
-EachStory calls routines game Holds = (X : List (List ℕ)) → AreRowsOf calls routines X → Holds (story_of game X)
+EachStory calls routines game Holds = (X : RoutineRows) → AreRowsOf calls routines X → Holds (story_of game X)
 
 -- a fact of each session that is at its prompt with this player, after so many lines in all: n were taken since `first`
 -- stood, of at most `most`

@@ -1,5 +1,6 @@
 -- How a walk tells the pieces of a game: words that contracts and proofs use.
-use Rattle.std.specs.Prelude.{◌≡◌, ◌-◌, List, ℕ, [], ◌++◌, length, take, flat_map}
+use Rattle.std.specs.Prelude.{◌≡◌, ◌-◌, List, [], ◌++◌, length, take, flat_map}
+use Rattle.paw_base.specs.Bytes.{Text, Texts}
 use Rattle.paw_base.specs.inner.Steps.{KeptSteps}
 use Rattle.paw_base.specs.declared.limits.TheConstants.{STEP_LIMIT}
 use Rattle.paw_reading.specs.Run.{Run, Step as Read}
@@ -14,25 +15,25 @@ pub data Telling : Type 0 where
   Stepped : Telling
 
 -- the text of the steps that are kept
-abbrev pub kept_text : KeptSteps → List ℕ
+abbrev pub kept_text : KeptSteps → Text
 kept_text kept = flat_map step_line (take STEP_LIMIT kept.rows) ++ more_line (kept.count - STEP_LIMIT)
 
 -- what is told before a piece, by what is kept of its steps
-abbrev pub preface : Telling → KeptSteps → List ℕ
+abbrev pub preface : Telling → KeptSteps → Text
 preface Plain kept = []
 preface Stepped kept = kept_text kept
 
 -- what is told of a player's last piece
-abbrev pub seat_text : {F : Type 0} → Telling → Seat F → List ℕ
+abbrev pub seat_text : {F : Type 0} → Telling → Seat F → Text
 seat_text telling p = preface telling p.machine.steps ++ p.piece
 
 -- closed pieces with their steps, as they are told
-abbrev pub told_pieces : Telling → List (List ℕ) → List (List Read) → List (List ℕ)
+abbrev pub told_pieces : Telling → Texts → List (List Read) → Texts
 told_pieces Plain pieces traces = pieces
 told_pieces Stepped pieces traces = traced_pieces pieces traces
 
 -- where pieces are told behind their steps, each has its own
-abbrev pub HaveSteps : Telling → List (List ℕ) → List (List Read) → Type 0
+abbrev pub HaveSteps : Telling → Texts → List (List Read) → Type 0
 HaveSteps Plain pieces traces = Unit {0}
 HaveSteps Stepped pieces traces = length traces ≡ length pieces
 

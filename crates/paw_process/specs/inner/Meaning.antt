@@ -1,6 +1,7 @@
 -- What a machine's answers mean in the reading.
 use Rattle.std.specs.Prelude.{◌≡◌, ◌⊎◌, ℕ, Bool, false, List, [], ◌∷◌, ◌++◌, length, reverse}
 use Rattle.std.specs.Fn.{Shared}
+use Rattle.paw_base.specs.Bytes.{Line, Lines, RoutineRows}
 use Rattle.paw_game.specs.Game.{GameLists}
 use Rattle.paw_game.specs.Valid.{Valid}
 use Rattle.paw_routines.specs.declared.routines.Routines.{Routines}
@@ -23,7 +24,7 @@ use Rattle.paw_process.specs.declared.Turned.TheVariants as turned
 -- whatever rows stand for the routines, this holds of the story that the game is with them
 abbrev pub InStories :
     {F : Type 0} → Shared F (ℕ × (ℕ × Unit {0})) ℕ → Routines F → GameLists → (Story → Type 0) → Type 0
-InStories calls routines g P = (X : List (List ℕ)) → AreRowsOf calls routines X → P (story_of g X)
+InStories calls routines g P = (X : RoutineRows) → AreRowsOf calls routines X → P (story_of g X)
 
 -- ---- what is held ----
 
@@ -59,7 +60,7 @@ abbrev pub with_steps : List Step → Run → Run
 with_steps steps r = record r { read = r.read ++ steps }
 
 -- the run with these lines to come
-abbrev pub to_come : List (List ℕ) → Run → Run
+abbrev pub to_come : Lines → Run → Run
 to_come lines r = record r { events = lines }
 
 -- ---- going on ----
@@ -94,7 +95,7 @@ ComesTo g (turned.TooDeep u) fs r x = TableHalts (CallsTooDeep u) r x
 abbrev pub RunsTo : Story → Held → Turned → Held → Type 0
 RunsTo g old t new =
     (r : Run) → ShowsHeld r old → (steps : List Step) × HasRead (r.read ++ steps) new.machine
-    × ((lines : List (List ℕ)) →
+    × ((lines : Lines) →
     ComesTo g t new.machine.frames (to_come lines (run_held new (with_steps steps r)))
     (going_in g old.machine.frames (to_come lines r)))
 
@@ -116,13 +117,13 @@ AwaitsAnswer m = IsWaiting prompt.Quit m ⊎ IsWaiting prompt.Key m
 -- new frames once the line is heard
 abbrev pub AnswersQuit : Bool → List Frame → List Frame → Type 0
 AnswersQuit agrees old new =
-    (g : Story) (line : List ℕ) (lines : List (List ℕ)) (r : Run) →
+    (g : Story) (line : Line) (lines : Lines) (r : Run) →
     Valid g.game → is_ignored r.world line ≡ false → is_yes (reply line) ≡ agrees →
     on_path g prompt.Quit 0 (reverse old) (to_come (line ∷ lines) r) ≡ going_in g new (heard line (to_come lines r))
 
 -- so is going on from a key with any line
 abbrev pub AnswersKey : List Frame → List Frame → Type 0
 AnswersKey old new =
-    (g : Story) (line : List ℕ) (lines : List (List ℕ)) (r : Run) →
+    (g : Story) (line : Line) (lines : Lines) (r : Run) →
     is_ignored r.world line ≡ false →
     on_path g prompt.Key 0 (reverse old) (to_come (line ∷ lines) r) ≡ going_in g new (heard line (to_come lines r))

@@ -1,5 +1,6 @@
 -- What each move of the machine makes of the reading.
 use Rattle.std.specs.Prelude.{◌≡◌, ℕ, suc, ◌+◌, ◌<◌, ◌≤◌, ◌++◌, Bool, true, false, List, ◌∷◌, Option, Some, None, length}
+use Rattle.paw_base.specs.Bytes.{Lines, RoutineRows}
 use Rattle.paw_base.specs.declared.limits.TheConstants.{ENTRY_LIMIT}
 use Rattle.paw_base.specs.declared.parts.Condact.{Condact}
 use Rattle.paw_game.specs.Game.{GameLists}
@@ -70,7 +71,7 @@ turning_at g fs l n r =
 abbrev pub ReadsTable : Story → (Run → Out) → Held → Option Turned → Held → Type 0
 ReadsTable g x old t new =
     (r : Run) → HasRead r.read old.machine → (steps : List Step) × HasRead (r.read ++ steps) new.machine
-    × ((lines : List (List ℕ)) →
+    × ((lines : Lines) →
     Continues g (x (to_come lines (run_held old r))) t new.machine.frames
     (to_come lines (run_held new (with_steps steps r))))
 
@@ -78,13 +79,13 @@ ReadsTable g x old t new =
 pub record Enters (g : GameLists) (w : World) (f e : Frame) : Type 0 where
   pub entry : e.entry < ENTRY_LIMIT
   pub low : f.entry ≤ e.entry
-  pub goes : (X : List (List ℕ)) (fs : List Frame) (r : Run) → r.world ≡ w →
+  pub goes : (X : RoutineRows) (fs : List Frame) (r : Run) → r.world ≡ w →
       going_in (story_of g X) (f ∷ fs) r ≡ reading_at (story_of g X) fs e r
 
 -- from this frame reading goes on at none: the innermost table is left
 abbrev pub EntersNone : GameLists → World → Frame → Type 0
 EntersNone g w f =
-    (X : List (List ℕ)) (fs : List Frame) (r : Run) → r.world ≡ w →
+    (X : RoutineRows) (fs : List Frame) (r : Run) → r.world ≡ w →
     going_in (story_of g X) (f ∷ fs) r ≡ resolved (story_of g X) fs (Left f.acted r)
 
 -- reading one condact of this frame

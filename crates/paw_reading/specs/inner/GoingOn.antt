@@ -1,6 +1,7 @@
 -- Going on from where a run waits inside tables: words that contracts between crates and proofs use beside those of
 -- specs/GoingOn.antt.
 use Rattle.std.specs.Prelude.{ℕ, suc, List, [], ◌∷◌, ◌++◌, length}
+use Rattle.paw_base.specs.Bytes.{Lines}
 use Rattle.paw_effects.specs.Story.{Story}
 use Rattle.paw_reading.specs.declared.places.Frame.{Frame}
 use Rattle.paw_reading.specs.Run.{Run}
@@ -13,11 +14,11 @@ along g [] x = x
 along g (f ∷ fs) x = along g fs (after_call f (rest g (length fs) f.table f.entry (suc f.at)) x)
 
 -- the run with these lines after those that are left
-abbrev pub with_lines : List (List ℕ) → Run → Run
+abbrev pub with_lines : Lines → Run → Run
 with_lines lines r = record r { events = r.events ++ lines }
 
 -- what reading at a level comes to where these lines follow
-abbrev pub extended : Story → List (List ℕ) → ℕ → Out → Out
+abbrev pub extended : Story → Lines → ℕ → Out → Out
 extended g lines lv (Left a r) = Left a (with_lines lines r)
 extended g lines lv (Waits p path r) = on_path g p lv path (with_lines lines r)
 extended g lines lv (Stopped stop r) = Stopped stop (with_lines lines r)

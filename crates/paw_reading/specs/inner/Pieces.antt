@@ -1,5 +1,6 @@
 -- Pieces and lines.
-use Rattle.std.specs.Prelude.{◌≡◌, ℕ, suc, ◌+◌, List, [], length}
+use Rattle.std.specs.Prelude.{◌≡◌, ℕ, suc, ◌+◌, [], length}
+use Rattle.paw_base.specs.Bytes.{Lines, Seed}
 use Rattle.paw_effects.specs.Story.{Story}
 use Rattle.paw_reading.specs.Run.{Run}
 use Rattle.paw_reading.specs.Reading.{IsOver}
@@ -19,4 +20,4 @@ Counted n Unended = Unit {0}
 
 -- a reading has one piece for each line, and one before them
 abbrev pub PiecesOfLines : Type 0
-PiecesOfLines = (g : Story) (seed : ℕ) (es : List (List ℕ)) → Counted (length es) (reading g seed es)
+PiecesOfLines = (g : Story) (seed : Seed) (es : Lines) → Counted (length es) (reading g seed es)

@@ -1,6 +1,7 @@
 -- Where a run may wait: words that contracts between crates and proofs use beside those of specs/Places.antt.
 use Rattle.std.specs.Prelude.{◌≡◌, ◌≢◌, ℕ, suc, ◌<◌, ◌≤◌, List, [], ◌∷◌, Option, Some}
 use Rattle.std.specs.Prelude.{None, length, map, slice_get, IfSome, IsTrue, All}
+use Rattle.paw_base.specs.Bytes.{Lines, Seed}
 use Rattle.paw_base.specs.declared.codes.TheConstants.{PROCESS, DOALL}
 use Rattle.paw_base.specs.declared.limits.TheConstants.{LEVEL_LIMIT}
 use Rattle.paw_base.specs.declared.parts.Condact.{Condact}
@@ -97,7 +98,7 @@ StopsRightly g _ = Unit {0}
 -- each reading of a valid story stops rightly
 abbrev pub ReadingsStopRightly : Type 0
 ReadingsStopRightly =
-    (g : Story) (seed : ℕ) (es : List (List ℕ)) → ValidStory g → All IsLine es → StopsRightly g.game (reading g seed es)
+    (g : Story) (seed : Seed) (es : Lines) → ValidStory g → All IsLine es → StopsRightly g.game (reading g seed es)
 
 -- so does going on from where a run stands as it may
 abbrev pub GoingOnStopsRightly : Type 0
@@ -106,7 +107,7 @@ GoingOnStopsRightly =
     StandsRightly g.game p path r → StopsRightly g.game (on g p path r)
 
 -- a reading that waits, or is over, keeps the bounds
-abbrev pub StopsBounded : ℕ → ℕ → Ending → Type 0
+abbrev pub StopsBounded : Seed → ℕ → Ending → Type 0
 StopsBounded seed n (WaitsAt p path r) = IsBounded seed n r
 StopsBounded seed n (Halted IsOver r) = IsBounded seed n r
 StopsBounded seed n _ = Unit {0}
@@ -114,7 +115,7 @@ StopsBounded seed n _ = Unit {0}
 -- each reading of a valid story keeps the bounds
 abbrev pub ReadingsAreBounded : Type 0
 ReadingsAreBounded =
-    (g : Story) (seed : ℕ) (es : List (List ℕ)) → ValidStory g → All IsLine es → StopsBounded seed 0 (reading g seed es)
+    (g : Story) (seed : Seed) (es : Lines) → ValidStory g → All IsLine es → StopsBounded seed 0 (reading g seed es)
 
 -- so does going on from where a run stands as it may, and keeps them
 abbrev pub GoingOnIsBounded : Type 0

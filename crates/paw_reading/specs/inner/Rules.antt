@@ -1,5 +1,6 @@
 -- The rules of reading on in written order, as equations.
 use Rattle.std.specs.Prelude.{◌≡◌, ℕ, suc, ◌-◌, ◌<◌, ◌≤◌, Bool, true, false, List, [], ◌∷◌, Some, None, length}
+use Rattle.paw_base.specs.Bytes.{Bytes, Line, Lines, Text}
 use Rattle.paw_base.specs.declared.limits.TheConstants.{READ_LIMIT, LEVEL_LIMIT}
 use Rattle.paw_base.specs.declared.parts.Condact.{Condact}
 use Rattle.paw_base.specs.declared.fault.SpentKind.TheVariants as spent
@@ -74,7 +75,7 @@ abbrev pub passed : Story → Frame → Condact → Run → Run
 passed g f c r = noted f c true (tested g c r)
 
 -- the question of QUIT after its test
-abbrev pub question : Story → Condact → Run → List ℕ
+abbrev pub question : Story → Condact → Run → Text
 question g c r = quit_question g (tested g c r)
 
 -- the run after an action: its text is printed, and it is carried out
@@ -101,12 +102,12 @@ pub record IsActing (g : Story) (f : Frame) (c : Condact) (r : Run) (fit : Bool)
   pub room : fits r (effect_of g r.world c).text ≡ fit
 
 -- this line is the next, and it is heard
-pub record Hears (line : List ℕ) (lines : List (List ℕ)) (r : Run) : Type 0 where
+pub record Hears (line : Line) (lines : Lines) (r : Run) : Type 0 where
   pub comes : r.events ≡ line ∷ lines
   pub counts : is_ignored r.world line ≡ false
 
 -- the run once this line is heard, with these to come
-abbrev pub hearing : List ℕ → List (List ℕ) → Run → Run
+abbrev pub hearing : Line → Lines → Run → Run
 hearing line lines r = heard line (record r { events = lines })
 
 -- ---- rules ----
@@ -153,9 +154,9 @@ pub record FollowsActions (g : Story) (lv : ℕ) : Type 0 where
   pub deep : (f : Frame) (u : ℕ) (r : Run) → LEVEL_LIMIT ≤ lv → goes g lv f (effect.Call u) r ≡ halts (CallsTooDeep u) r
   pub loop : (f : Frame) (p : ℕ) (r : Run) → goes g lv f (effect.Loop p) r ≡ looks g lv (loop_of lv f p) 0 r
   pub ask : (f : Frame) (p : Prompt) (r : Run) → goes g lv f (effect.Ask p) r ≡ on_path g p lv (f ∷ []) (closed r)
-  pub sentence : (f : Frame) (s : Sentence) (bytes : List ℕ) (r : Run) → coming_phrase g r ≡ IsSentence s bytes →
+  pub sentence : (f : Frame) (s : Sentence) (bytes : Bytes) (r : Run) → coming_phrase g r ≡ IsSentence s bytes →
       goes g lv f effect.Parse r ≡ next g lv f f.acted (taken_phrase s bytes r)
-  pub unknown : (f : Frame) (bytes : List ℕ) (r : Run) → coming_phrase g r ≡ IsUnknown bytes →
+  pub unknown : (f : Frame) (bytes : Bytes) (r : Run) → coming_phrase g r ≡ IsUnknown bytes →
       goes g lv f effect.Parse r ≡ past g lv f f.acted (record r { pending = bytes })
   pub no_phrase : (f : Frame) (r : Run) → coming_phrase g r ≡ IsNoPhrase →
       goes g lv f effect.Parse r ≡ past g lv f f.acted r
@@ -183,19 +184,19 @@ pub record AnswersPrompts (g : Story) (lv : ℕ) : Type 0 where
   pub above : (p : Prompt) (f h : Frame) (path : List Frame) (r : Run) →
       on_path g p lv (f ∷ h ∷ path) r ≡ after_call f (past g lv f) (on_path g p (suc lv) (h ∷ path) r)
   pub no_line : (p : Prompt) (f : Frame) (r : Run) → r.events ≡ [] → on_path g p lv (f ∷ []) r ≡ Waits p (f ∷ []) r
-  pub ignored : (p : Prompt) (f : Frame) (line : List ℕ) (lines : List (List ℕ)) (r : Run) →
+  pub ignored : (p : Prompt) (f : Frame) (line : Line) (lines : Lines) (r : Run) →
       r.events ≡ line ∷ lines → is_ignored r.world line ≡ true →
       on_path g p lv (f ∷ []) r ≡ on_path g p lv (f ∷ []) (closed (record r { events = lines }))
-  pub quit_yes : (f : Frame) (line : List ℕ) (lines : List (List ℕ)) (r : Run) → Hears line lines r →
+  pub quit_yes : (f : Frame) (line : Line) (lines : Lines) (r : Run) → Hears line lines r →
       is_yes (reply line) ≡ true →
       on_path g prompt.Quit lv (f ∷ []) r ≡ past g lv f f.acted (hearing line lines r)
-  pub quit_no : (f : Frame) (line : List ℕ) (lines : List (List ℕ)) (r : Run) → Hears line lines r →
+  pub quit_no : (f : Frame) (line : Line) (lines : Lines) (r : Run) → Hears line lines r →
       is_yes (reply line) ≡ false → on_path g prompt.Quit lv (f ∷ []) r ≡ leaves g lv true (hearing line lines r)
-  pub key : (f : Frame) (line : List ℕ) (lines : List (List ℕ)) (r : Run) → Hears line lines r →
+  pub key : (f : Frame) (line : Line) (lines : Lines) (r : Run) → Hears line lines r →
       on_path g prompt.Key lv (f ∷ []) r ≡ past g lv f true (hearing line lines r)
-  pub end_no : (f : Frame) (line : List ℕ) (lines : List (List ℕ)) (r : Run) → Hears line lines r →
+  pub end_no : (f : Frame) (line : Line) (lines : Lines) (r : Run) → Hears line lines r →
       is_no (reply line) ≡ true → on_path g prompt.Again lv (f ∷ []) r ≡ over g (hearing line lines r)
-  pub end_anew : (f : Frame) (line : List ℕ) (lines : List (List ℕ)) (r : Run) → Hears line lines r →
+  pub end_anew : (f : Frame) (line : Line) (lines : Lines) (r : Run) → Hears line lines r →
       is_no (reply line) ≡ false →
       on_path g prompt.Again lv (f ∷ []) r ≡ Stopped Restarts (anew (hearing line lines r))
 

@@ -1,6 +1,7 @@
 -- The positions that a game keeps: words that contracts between crates and proofs use beside those of
 -- specs/Saving.antt.
-use Rattle.std.specs.Prelude.{◌≡◌, ℕ, List, replicate, Option, None}
+use Rattle.std.specs.Prelude.{◌≡◌, List, replicate, Option, None}
+use Rattle.paw_base.specs.Bytes.{Lines, Seed}
 use Rattle.paw_base.specs.declared.limits.TheConstants.{POSITION_COUNT}
 use Rattle.paw_world.specs.World.{Position}
 use Rattle.paw_effects.specs.Story.{Story}
@@ -25,7 +26,7 @@ EndsKeeping kept Unended = Unit {0}
 -- no reading of a game that never saves keeps a position
 abbrev pub ReadingsKeepNoPosition : Type 0
 ReadingsKeepNoPosition =
-    (g : Story) (seed : ℕ) (es : List (List ℕ)) → NeverSaves g.game → EndsKeeping no_positions (reading g seed es)
+    (g : Story) (seed : Seed) (es : Lines) → NeverSaves g.game → EndsKeeping no_positions (reading g seed es)
 
 -- going on in it leaves the kept positions as they are
 abbrev pub GoingOnKeepsPositions : Type 0

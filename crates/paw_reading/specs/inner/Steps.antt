@@ -1,6 +1,7 @@
 -- Steps of reading and of the turn that specs/Reading.antt and specs/Turn.antt say in place, by names: words that
 -- contracts between crates and proofs use.
 use Rattle.std.specs.Prelude.{ℕ, false, List}
+use Rattle.paw_base.specs.Bytes.{Line, Text}
 use Rattle.paw_base.specs.declared.messages.TheConstants.{QUIT_MESSAGE, GOODBYE_MESSAGE, UNKNOWN_MESSAGE}
 use Rattle.paw_base.specs.declared.words.TheConstants.{NO_WORD}
 use Rattle.paw_base.specs.declared.parts.Condact.{Condact}
@@ -19,11 +20,11 @@ use Rattle.paw_reading.specs.Turn.{Ending, first_table, table_done, turn}
 -- ---- tables ----
 
 -- what a game says last
-abbrev pub goodbye : Story → Run → List ℕ
+abbrev pub goodbye : Story → Run → Text
 goodbye g r = say_text g.game r.world GOODBYE_MESSAGE
 
 -- the question of QUIT
-abbrev pub quit_question : Story → Run → List ℕ
+abbrev pub quit_question : Story → Run → Text
 quit_question g r = put_text g.game r.world QUIT_MESSAGE
 
 -- a condition is tested, in the world that its test leaves
@@ -37,11 +38,11 @@ parses g f next go r = after_parse f next go r (coming_phrase g r)
 -- ---- the turn ----
 
 -- a line becomes the pending bytes, with no verb before
-abbrev pub line_set : List ℕ → Run → Run
+abbrev pub line_set : Line → Run → Run
 line_set line r = record r { world = with_timeout false r.world; pending = line; earlier = NO_WORD }
 
 -- what is said to a phrase with no known word
-abbrev pub unknown_text : GameLists → World → List ℕ
+abbrev pub unknown_text : GameLists → World → Text
 unknown_text g w = say_text g w UNKNOWN_MESSAGE
 
 -- going on from a prompt inside tables, in at most n phases more

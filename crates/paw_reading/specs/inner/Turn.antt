@@ -1,6 +1,7 @@
 -- The turn, and the reading of a list of lines: words that contracts between crates and proofs use beside those of
 -- specs/Turn.antt.
 use Rattle.std.specs.Prelude.{◌≡◌, ◌≢◌, ℕ, ◌<◌, List, [], ◌++◌, length}
+use Rattle.paw_base.specs.Bytes.{Lines, Seed}
 use Rattle.paw_effects.specs.Story.{Story}
 use Rattle.paw_effects.specs.declared.act.Prompt.{Prompt}
 use Rattle.paw_effects.specs.declared.act.Prompt.TheVariants as prompt
@@ -12,7 +13,7 @@ use Rattle.paw_reading.specs.Turn.{TurnPhase, Ending, WaitsAt, Halted, Unended, 
 -- ---- going on ----
 
 -- a reading that waits goes on with these lines; another stays as it ended, with the lines untaken
-abbrev pub followed : Story → List (List ℕ) → Ending → Ending
+abbrev pub followed : Story → Lines → Ending → Ending
 followed g lines (WaitsAt p path r) = on g p path (with_lines lines r)
 followed g lines (Halted halt r) = Halted halt (with_lines lines r)
 followed g lines Unended = Unended
@@ -52,5 +53,5 @@ WaitsOn = (g : Story) (p : Prompt) (path : List Frame) (r : Run) → MayWaitAlon
 
 -- reading more lines is reading some, and going on with the others
 abbrev pub GoingOnIsReading : Type 0
-GoingOnIsReading = (g : Story) (seed : ℕ) (es fs : List (List ℕ)) →
+GoingOnIsReading = (g : Story) (seed : Seed) (es fs : Lines) →
     reading g seed (es ++ fs) ≡ followed g fs (reading g seed es)

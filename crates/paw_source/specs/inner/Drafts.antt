@@ -1,5 +1,6 @@
 -- What holds of a draft while a source is read.
 use Rattle.std.specs.Prelude.{ℕ, ◌≤◌, ◌<◌, List, length}
+use Rattle.paw_base.specs.Bytes.{Texts}
 use Rattle.paw_base.specs.declared.limits.TheConstants.{SYSTEM_LIMIT, MESSAGE_LIMIT, OBJECT_LIMIT, LOCATION_LIMIT}
 use Rattle.paw_base.specs.declared.limits.TheConstants.{TABLE_LIMIT}
 use Rattle.paw_base.specs.declared.parts.ObjectFacts.{ObjectFacts}
@@ -21,7 +22,7 @@ HasTable section.Obj tables = Unit {0}
 HasTable section.Pro tables = 0 < tables
 
 -- The most rows that each list has.
-pub record AreShort (opened : Section) (ss ms ns ls : List (List ℕ)) (fs : List ObjectFacts) (ts : List (List Entry))
+pub record AreShort (opened : Section) (ss ms ns ls : Texts) (fs : List ObjectFacts) (ts : List (List Entry))
     : Type 0 where
   pub system : length ss ≤ SYSTEM_LIMIT
   pub messages : length ms ≤ MESSAGE_LIMIT

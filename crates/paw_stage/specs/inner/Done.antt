@@ -4,6 +4,7 @@ use Rattle.std.specs.Prelude.{if◌then◌else◌}
 use Rattle.std.specs.Option.{option_map}
 use Rattle.std.specs.List.{slice_get, filter}
 use Rattle.std.specs.Str.{bytes_eq}
+use Rattle.paw_base.specs.Bytes.{Bytes, Name, Text}
 use Rattle.paw_stage.specs.Disk.{stable}
 use Rattle.paw_stage.specs.Stage.{Standing, file_holding, bytes_or_none, with_shown, opened, with_written, settled}
 use Rattle.paw_stage.specs.declared.log.CallKind.{CallKind}
@@ -12,11 +13,11 @@ use Rattle.paw_stage.specs.declared.log.CallKind.TheVariants as kind
 -- A call that was done, with the name and the bytes that were handed to it.
 pub record DoneCall : Type 0 where
   pub kind : CallKind
-  pub name : List ℕ
-  pub bytes : List ℕ
+  pub name : Name
+  pub bytes : Bytes
 
 -- A call of this kind, to which this name and these bytes were handed.
-abbrev pub call_of : CallKind → List ℕ → List ℕ → DoneCall
+abbrev pub call_of : CallKind → Name → Bytes → DoneCall
 call_of kind name bytes = record { kind = kind; name = name; bytes = bytes }
 
 -- How many bytes were handed to a call.
@@ -24,13 +25,13 @@ abbrev pub size_of : DoneCall → ℕ
 size_of d = length d.name + length d.bytes
 
 -- A file was put there between the calls; or a call loaded, saved, took a line, found no line left, or showed a text.
-abbrev pub added : List ℕ → List ℕ → DoneCall
+abbrev pub added : Name → Bytes → DoneCall
 added name bytes = call_of kind.Add name bytes
 
-abbrev pub loaded_file : List ℕ → DoneCall
+abbrev pub loaded_file : Name → DoneCall
 loaded_file name = call_of kind.Load name []
 
-abbrev pub saved : List ℕ → List ℕ → DoneCall
+abbrev pub saved : Name → Bytes → DoneCall
 saved name bytes = call_of kind.Save name bytes
 
 abbrev pub took : DoneCall
@@ -39,24 +40,24 @@ took = call_of kind.Take [] []
 abbrev pub end_done : DoneCall
 end_done = call_of kind.End [] []
 
-abbrev pub showed : List ℕ → DoneCall
+abbrev pub showed : Text → DoneCall
 showed text = call_of kind.Show [] text
 
 -- A call attached a store, read it, wrote bytes to it from a place on, or synced it.
-abbrev pub attached_store : List ℕ → DoneCall
+abbrev pub attached_store : Name → DoneCall
 attached_store name = call_of kind.Attach name []
 
 abbrev pub read_store : DoneCall
 read_store = call_of kind.Read [] []
 
-abbrev pub wrote_store : ℕ → List ℕ → DoneCall
+abbrev pub wrote_store : ℕ → Bytes → DoneCall
 wrote_store at bytes = call_of (kind.Write at) [] bytes
 
 abbrev pub synced_store : DoneCall
 synced_store = call_of kind.Sync [] []
 
 -- The kind of the call of this number, counted from 0, and the name handed to it; None where there are no more calls.
-abbrev pub call_at : List DoneCall → ℕ → Option (CallKind × List ℕ)
+abbrev pub call_at : List DoneCall → ℕ → Option (CallKind × Name)
 call_at ds number = option_map (λ d. (d.kind, d.name)) (slice_get ds number)
 
 -- A stage with nothing there.
@@ -64,20 +65,20 @@ abbrev pub fresh : Standing
 fresh = record { files = λ n. None; lines = []; asked = 0; shown = []; attached = None; disk = stable []; written = 0 }
 
 -- Whether the attached store is the file of this name.
-abbrev pub is_attached : Option (List ℕ) → List ℕ → Bool
+abbrev pub is_attached : Option Name → Name → Bool
 is_attached None name = false
 is_attached (Some n) name = bytes_eq n name
 
 -- What stands once the file of this name holds these bytes, or is gone where there are none. If it is the file of the
 -- attached store, the store has these bytes, and all of them are synced.
-abbrev pub filed : List ℕ → Option (List ℕ) → Standing → Standing
+abbrev pub filed : Name → Option Bytes → Standing → Standing
 filed name bytes s = record s {
   files = file_holding name bytes s.files;
   disk = if is_attached s.attached name then stable (bytes_or_none bytes) else s.disk;
 }
 
 -- What a call of a kind makes of what stands. The lines that are left stand elsewhere.
-abbrev pub stepped : CallKind → List ℕ → List ℕ → Standing → Standing
+abbrev pub stepped : CallKind → Name → Bytes → Standing → Standing
 stepped kind.Add name bytes s = filed name (Some bytes) s
 stepped kind.Load name bytes s = s
 stepped kind.Save name bytes s = filed name (Some bytes) s

@@ -2,6 +2,7 @@
 use Rattle.std.proofs.Common.{◌≡◌, ℕ, Bool, true, false, List, [], ◌∷◌, refl, sym, ap, ◌∙◌, subst}
 use Rattle.std.specs.Prelude.{Option, Some, None, if◌then◌else◌}
 use Rattle.std.specs.Str.{bytes_eq}
+use Rattle.paw_base.specs.Bytes.{Bytes, Name}
 use Rattle.paw_stage.specs.Disk.{Disk, put, stable}
 use Rattle.std.proofs.lemmas.Slice.Eq.{bytes_eq-Decides}
 use Rattle.paw_stage.specs.Stage.{Standing, Files, file_holding, store_holding, made_if_missing}
@@ -13,11 +14,11 @@ use Rattle.paw_stage.specs.declared.log.CallKind.{CallKind}
 use Rattle.paw_stage.specs.declared.log.CallKind.TheVariants as kind
 
 -- The file of this name is what it was made.
-holds : (name : List ℕ) (bytes : Option (List ℕ)) (files : Files) → file_holding name bytes files name ≡ bytes
+holds : (name : Name) (bytes : Option Bytes) (files : Files) → file_holding name bytes files name ≡ bytes
 holds name bytes files = ap (λ b. if b then bytes else files name) ((bytes_eq-Decides name name).1 refl)
 
 -- The store's bytes stay those of its file.
-either_filed : (b : Bool) (o : Option (List ℕ)) (bytes : List ℕ) (d : Disk) → o ≡ Some d.bytes →
+either_filed : (b : Bool) (o : Option Bytes) (bytes : Bytes) (d : Disk) → o ≡ Some d.bytes →
     (if b then Some bytes else o) ≡ Some (if b then stable bytes else d).bytes
 either_filed true o bytes d h = refl
 either_filed false o bytes d h = h
@@ -28,12 +29,12 @@ saved_filed s name bytes h n e =
     either_filed (bytes_eq n name) (s.files n) bytes s.disk (h n e)
     ∙ sym (ap (λ b. Some (if b then stable bytes else s.disk).bytes) k)
 
-made_gives : (o : Option (List ℕ)) (files : Files) (name : List ℕ) → files name ≡ o →
+made_gives : (o : Option Bytes) (files : Files) (name : Name) → files name ≡ o →
     made_if_missing name o files name ≡ Some (bytes_or_none o)
 made_gives None files name h = holds name (Some []) files
 made_gives (Some b) files name h = h
 
-some_same : (a b : List ℕ) → Some a ≡ Some b → a ≡ b
+some_same : (a b : Bytes) → Some a ≡ Some b → a ≡ b
 some_same a b e = cc
 
 stepped_filed : (k : CallKind) (name bytes : List ℕ) (s : Standing) → IsFiled s → IsFiled (stepped k name bytes s)
@@ -60,6 +61,6 @@ pub after_filed : (ds : List DoneCall) → IsFiled (after fresh ds)
 after_filed ds = later_filed fresh ds (λ n e. cc)
 
 -- What the stage in memory reports of it.
-pub file_holds : (m : Memory) (name : List ℕ) → (standing_of m).attached ≡ Some name →
+pub file_holds : (m : Memory) (name : Name) → (standing_of m).attached ≡ Some name →
     file_bytes (standing_of m) name ≡ (standing_of m).disk.bytes
 file_holds m name h = ap bytes_or_none (after_filed m.log.calls name h)

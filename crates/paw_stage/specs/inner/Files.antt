@@ -2,13 +2,14 @@
 use Rattle.std.specs.Prelude.{◌≡◌, ℕ, List, [], ◌∷◌, take, Option, Some, IfSome, unwrap_or}
 use Rattle.std.specs.Io.KnownBytes.{Consumes, Appends}
 use Rattle.std.specs.Path.{path_parent}
+use Rattle.paw_base.specs.Bytes.{Bytes, Name}
 
 -- A file whose place was known before stands at this one.
 abbrev pub StandsAt : Option ℕ → Option ℕ → ℕ → Type 0
 StandsAt old new at = IfSome old (λ _. new ≡ Some at)
 
 -- From this place on a file gave these bytes, or took them, as far as it shows its place and its bytes.
-module _ {F : Type 0} (place : F → Option ℕ) (known : F → Option (List ℕ)) (old new : F) (at : ℕ) (bytes : List ℕ) where
+module _ {F : Type 0} (place : F → Option ℕ) (known : F → Option (List ℕ)) (old new : F) (at : ℕ) (bytes : Bytes) where
   abbrev pub GivesAt : Type 0
   GivesAt = (there : F) × StandsAt (place old) (place there) at × Consumes (known there) (known new) bytes
 
@@ -16,14 +17,14 @@ module _ {F : Type 0} (place : F → Option ℕ) (known : F → Option (List ℕ
   TakesAt = (there : F) × StandsAt (place old) (place there) at × Appends (known there) (known new) bytes
 
 -- A reader that gives these bytes gave the first n of them.
-abbrev pub GivesFirst : Option (List ℕ) → ℕ → List ℕ → Type 0
+abbrev pub GivesFirst : Option Bytes → ℕ → Bytes → Type 0
 GivesFirst known n given = IfSome known (λ bytes. given ≡ take n bytes)
 
 -- The folder of this name; no name is the folder that a program runs in, whose name is a dot.
-abbrev pub named_folder : List ℕ → List ℕ
+abbrev pub named_folder : Name → Name
 named_folder [] = 46 ∷ []
 named_folder (x ∷ xs) = x ∷ xs
 
 -- The folder that the file of a name lies in.
-abbrev pub folder_of : List ℕ → List ℕ
+abbrev pub folder_of : Name → Name
 folder_of name = named_folder (unwrap_or (path_parent name) [])

@@ -1,6 +1,7 @@
 -- A record of calls, kept in rooms that were taken beforehand.
 use Rattle.std.specs.Prelude.{◌≡◌, ℕ, suc, ◌-◌, ◌≤◌, ◌<◌, nat_lt, nat_le, ◌&&◌, Bool, List, [], ◌∷◌, ◌++◌}
 use Rattle.std.specs.Prelude.{map, length, take, slice_range, Option, Some, None}
+use Rattle.paw_base.specs.Bytes.{Bytes, Name, Text}
 use Rattle.paw_stage.specs.Stage.{Standing}
 use Rattle.paw_stage.specs.inner.Done.{DoneCall, size_of, fresh, stepped, after, calls_made, first_calls}
 use Rattle.paw_stage.specs.declared.log.CallKind.{CallKind}
@@ -29,20 +30,20 @@ abbrev pub call_logged : DoneCall → Logged → Logged
 call_logged d l = record l { calls = l.calls ++ d ∷ [] }
 
 -- What a call did, with its name and bytes read from the room.
-abbrev pub done_in : List ℕ → Call → DoneCall
+abbrev pub done_in : Bytes → Call → DoneCall
 done_in room c = record { kind = c.kind; name = slice_range room c.from c.mid; bytes = slice_range room c.mid c.to }
 
-abbrev pub all_done : List ℕ → List Call → List DoneCall
+abbrev pub all_done : Bytes → List Call → List DoneCall
 all_done room calls = map (done_in room) calls
 
 -- What stands once calls that lie in this room are played again.
-abbrev pub replayed : List ℕ → List Call → Standing
+abbrev pub replayed : Bytes → List Call → Standing
 replayed room calls = after fresh (all_done room calls)
 
 -- A text is what was shown before a call of this kind, and another is that after it.
-abbrev pub KeepsText : CallKind → List ℕ → List ℕ → List ℕ → Type 0
+abbrev pub KeepsText : CallKind → Bytes → Text → Text → Type 0
 KeepsText kind bytes old new =
-    (s : Standing) (name : List ℕ) → s.shown ≡ old → (stepped kind name bytes s).shown ≡ new
+    (s : Standing) (name : Name) → s.shown ≡ old → (stepped kind name bytes s).shown ≡ new
 
 -- The places of calls that lie one after the other, between start and end.
 abbrev pub AreLaid : List Call → ℕ → ℕ → Type 0
@@ -52,8 +53,8 @@ AreLaid (c ∷ cs) start end = (start ≤ c.from) × (c.from ≤ c.mid) × (c.mi
 -- The first n of these calls end with the call of the stage of this number, counted from 0; there is no such n where
 -- fewer were made. That doesn't depend on the room they lie in.
 abbrev pub IsEndOf : List Call → ℕ → Option ℕ → Type 0
-IsEndOf calls number None = (room : List ℕ) → calls_made (all_done room calls) ≤ number
+IsEndOf calls number None = (room : Bytes) → calls_made (all_done room calls) ≤ number
 IsEndOf calls number (Some n) =
     (n ≤ length calls)
-    × ((room : List ℕ) → (number < calls_made (all_done room calls))
+    × ((room : Bytes) → (number < calls_made (all_done room calls))
     × (first_calls (suc number) (all_done room calls) ≡ all_done room (take n calls)))

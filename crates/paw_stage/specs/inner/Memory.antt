@@ -1,6 +1,7 @@
 -- A stage in memory: the lines that are left, its record of calls, and its counts of faults.
-use Rattle.std.specs.Prelude.{◌≡◌, ◌↔◌, ℕ, Bool, IsFalse, List, [], ◌∷◌, ◌++◌, length, drop}
+use Rattle.std.specs.Prelude.{◌≡◌, ◌↔◌, ℕ, Bool, IsFalse, [], ◌∷◌, ◌++◌, length, drop}
 use Rattle.std.specs.Prelude.{Result, OnOk, OnErr, IsErr}
+use Rattle.paw_base.specs.Bytes.{Bytes, Line, Lines, Name}
 use Rattle.paw_stage.specs.declared.StageCall.{StageCall}
 use Rattle.paw_stage.specs.declared.StageCall.TheVariants as call
 use Rattle.paw_stage.specs.declared.faults.FaultCounts.{FaultCounts}
@@ -12,7 +13,7 @@ use Rattle.paw_stage.specs.inner.Replay.{since_of, only_now}
 use Rattle.paw_stage.specs.inner.Log.{Logged, has_room, logged, call_logged}
 
 pub record Memory : Type 0 where
-  pub lines : List (List ℕ)
+  pub lines : Lines
   pub log : Logged
   pub counts : FaultCounts
 
@@ -48,11 +49,11 @@ abbrev pub recorded : DoneCall → Memory → Memory
 recorded d m = record m { log = logged d m.log }
 
 -- The stage with a file put there, besides the spare room.
-abbrev pub with_file : List ℕ → List ℕ → Memory → Memory
+abbrev pub with_file : Name → Bytes → Memory → Memory
 with_file name bytes m = record m { log = call_logged (added name bytes) m.log }
 
 -- The stage with one line more, after those that are left.
-abbrev pub with_line_left : List ℕ → Memory → Memory
+abbrev pub with_line_left : Line → Memory → Memory
 with_line_left line m = record m { lines = m.lines ++ line ∷ [] }
 
 -- The stage with one fault more of a call, and all else as it was.
@@ -71,7 +72,7 @@ abbrev pub Throughout : Memory → Memory → (Standing → Moment → Type 0) �
 Throughout old new Inside = Moments clock_of moments_of old new (Inside (standing_of old))
 
 -- The stage after a load that found no file: the load was recorded, and counts as a fault.
-abbrev pub found_none : List ℕ → Memory → Memory
+abbrev pub found_none : Name → Memory → Memory
 found_none name m = failed call.LoadAbsent (recorded (loaded_file name) m)
 
 -- The stage after an ask that took the next line.

@@ -1,6 +1,7 @@
 -- The moments of a stage in memory, which its record of calls gives.
 use Rattle.std.specs.Prelude.{◌≡◌, ◌⊎◌, ℕ, ◌+◌, ◌≤◌, List, [], ◌∷◌, ◌++◌, length, take, drop, Option, Some}
 use Rattle.std.proofs.Common.{inl, inr}
+use Rattle.paw_base.specs.Bytes.{Bytes, Name}
 use Rattle.paw_stage.specs.Disk.{touched}
 use Rattle.paw_stage.specs.Stage.{Standing, made_if_missing, opened, wrote, settled}
 use Rattle.paw_stage.specs.Moments.{Moment, moment_of}
@@ -14,16 +15,16 @@ IsEither s t m = (m ≡ moment_of s) ⊎ (m ≡ moment_of t)
 
 -- What may stand at the moments inside a call, its start and its end among them. Inside a save the file may hold any
 -- bytes or be gone, and inside a write any bytes may stand in the range that is written, or in a first part of it.
-abbrev pub MayStand : CallKind → List ℕ → List ℕ → Standing → Moment → Type 0
+abbrev pub MayStand : CallKind → Name → Bytes → Standing → Moment → Type 0
 MayStand kind.Add name bytes s m = IsEither s (filed name (Some bytes) s) m
 MayStand kind.Load name bytes s m = m ≡ moment_of s
-MayStand kind.Save name bytes s m = (m ≡ moment_of s) ⊎ ((left : Option (List ℕ)) × (m ≡ moment_of (filed name left s)))
+MayStand kind.Save name bytes s m = (m ≡ moment_of s) ⊎ ((left : Option Bytes) × (m ≡ moment_of (filed name left s)))
 MayStand kind.Attach name bytes s m =
     (m ≡ record (moment_of s) { files = made_if_missing name (s.files name) s.files }) ⊎ IsEither s (opened name s) m
 MayStand kind.Read name bytes s m = m ≡ moment_of s
 MayStand (kind.Write at) name bytes s m =
     (m ≡ moment_of s)
-    ⊎ ((new : List ℕ) × (length new ≤ length bytes)
+    ⊎ ((new : Bytes) × (length new ≤ length bytes)
     × (m ≡ moment_of (wrote s (touched at (length bytes) new s.disk) 0)))
 MayStand kind.Sync name bytes s m = IsEither s (settled s) m
 MayStand kind.Take name bytes s m = IsEither s (record s { asked = s.asked + 1 }) m

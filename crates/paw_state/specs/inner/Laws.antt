@@ -1,6 +1,7 @@
 -- The laws of a state's bytes.
-use Rattle.std.specs.Prelude.{◌≡◌, ℕ, ◌≤◌, List, ◌++◌, Some, None, length, ◌↔◌}
 use Rattle.paw_base.specs.declared.layout.TheConstants.{STATE_LENGTH}
+use Rattle.std.specs.Prelude.{◌≡◌, ℕ, ◌≤◌, ◌++◌, Some, None, length, ◌↔◌}
+use Rattle.paw_base.specs.Bytes.{Bytes}
 use Rattle.paw_game.specs.Game.{GameLists}
 use Rattle.paw_game.specs.Valid.{Valid}
 use Rattle.paw_state.specs.State.{State, Keeps, FitsFields, AreBytes}
@@ -13,16 +14,16 @@ use Rattle.paw_state.specs.inner.Fit.{unfit}
 
 -- fields stand at their places in the bytes that they are written to
 abbrev pub FieldsStand : Type 0
-FieldsStand = (f : Fields) (rest : List ℕ) → AreSized f → fields_at (bytes_of (state_fields f) ++ rest) ≡ f
+FieldsStand = (f : Fields) (rest : Bytes) → AreSized f → fields_at (bytes_of (state_fields f) ++ rest) ≡ f
 
 -- so bytes have one fault at most, which is that of the fields at these places
 abbrev pub OneFault : Type 0
-OneFault = (g : GameLists) (bytes : List ℕ) (at : ℕ) → Unfit g bytes at → unfit g bytes ≡ Some at
+OneFault = (g : GameLists) (bytes : Bytes) (at : ℕ) → Unfit g bytes at → unfit g bytes ≡ Some at
 
 -- bytes have a fault exactly where they are not fit
 abbrev pub FitOrUnfit : Type 0
 FitOrUnfit =
-    (g : GameLists) (bytes : List ℕ) → Valid g → STATE_LENGTH ≤ length bytes → AreBytes bytes →
+    (g : GameLists) (bytes : Bytes) → Valid g → STATE_LENGTH ≤ length bytes → AreBytes bytes →
     (unfit g bytes ≡ None) ↔ Fit g bytes
 
 -- two states of a game with the same bytes are the same
@@ -34,5 +35,5 @@ BytesTellTheState =
 -- a state has so many bytes, which are fit for the game, whatever follows them
 abbrev pub WrittenIsFit : Type 0
 WrittenIsFit =
-    (g : GameLists) (s : State) (rest : List ℕ) → Valid g → Keeps g s → FitsFields s →
+    (g : GameLists) (s : State) (rest : Bytes) → Valid g → Keeps g s → FitsFields s →
     (length (state_bytes s) ≡ STATE_LENGTH) × Fit g (state_bytes s ++ rest)

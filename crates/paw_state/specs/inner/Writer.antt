@@ -1,7 +1,8 @@
 -- Fields that are written one after the other.
-use Rattle.std.specs.Prelude.{◌≡◌, ℕ, ◌+◌, List, ◌++◌, length}
+use Rattle.std.specs.Prelude.{◌≡◌, ℕ, ◌+◌, ◌++◌, length}
+use Rattle.paw_base.specs.Bytes.{Bytes}
 
 -- these bytes, so many, were written behind the others
-pub record Writes (field : List ℕ) (count : ℕ) (old new : List ℕ) : Type 0 where
+pub record Writes (field : Bytes) (count : ℕ) (old new : Bytes) : Type 0 where
   pub puts : new ≡ old ++ field
   pub long : length new ≡ length old + count

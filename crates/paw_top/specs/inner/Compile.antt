@@ -1,6 +1,7 @@
 -- What compiling a source comes to: words that contracts between crates and proofs use beside those of
 -- specs/Compile.antt.
-use Rattle.std.specs.Prelude.{◌≡◌, ◌⊎◌, ℕ, List, Result, Err, Option, Some}
+use Rattle.std.specs.Prelude.{◌≡◌, ◌⊎◌, Result, Err, Option, Some}
+use Rattle.paw_base.specs.Bytes.{Bytes, Name, Text}
 use Rattle.paw_base.specs.declared.fault.SourceFault.{SourceFault}
 use Rattle.paw_game.specs.Game.{GameLists}
 use Rattle.paw_stage.specs.Stage.{Standing, Saves}
@@ -18,7 +19,7 @@ IsRefusal read (outcome.Memory at) = Unit {0}
 IsRefusal read _ = ⊥
 
 -- how saving a file and then showing a line leave what stands, by the answer
-abbrev pub SavesSo : List ℕ → List ℕ → List ℕ → Standing → Standing → Outcome → Type 0
+abbrev pub SavesSo : Name → Bytes → Text → Standing → Standing → Outcome → Type 0
 SavesSo name bytes line old new (outcome.Outside call.Save) =
-    (new ≡ old) ⊎ ((left : Option (List ℕ)) × Saves old new name left)
+    (new ≡ old) ⊎ ((left : Option Bytes) × Saves old new name left)
 SavesSo name bytes line old new o = (mid : Standing) × Saves old mid name (Some bytes) × Shows line mid new o

@@ -1,5 +1,6 @@
 -- What a command comes to where nothing outside fails: words of a law that follows from what each command comes to.
-use Rattle.std.specs.Prelude.{◌≡◌, ◌≢◌, ℕ, List, [], ◌∷◌, length, Result, Ok, Err, Some, nat_le, if◌then◌else◌}
+use Rattle.std.specs.Prelude.{◌≡◌, ◌≢◌, ℕ, [], ◌∷◌, length, Result, Ok, Err, Some, nat_le, if◌then◌else◌}
+use Rattle.paw_base.specs.Bytes.{Bytes, Name, RoutineRows, Seed, Text}
 use Rattle.paw_base.specs.declared.fault.SourceFault.{SourceFault}
 use Rattle.paw_game.specs.Game.{GameLists}
 use Rattle.paw_effects.specs.Story.{Story, story_of}
@@ -36,7 +37,7 @@ Comes due (outcome.Memory at) = Unit {0}
 Comes due o = o ≡ due
 
 -- the file was refused as no image, by the place of its first damage, or memory was wanting
-abbrev pub IsDamaged : Standing → List ℕ → Outcome → Type 0
+abbrev pub IsDamaged : Standing → Name → Outcome → Type 0
 IsDamaged old name (outcome.ImageDamaged at) = HoldsDamage old name at
 IsDamaged old name (outcome.Memory at) = Unit {0}
 IsDamaged old name _ = ⊥
@@ -47,8 +48,8 @@ CompletesSource (Ok g) o = Comes outcome.Done o
 CompletesSource (Err fault) o = Comes (outcome.SourceRefused fault) o
 
 -- where the source is there, it is compiled or refused
-abbrev pub CompletesCompile : List ℕ → Standing → Outcome → Type 0
-CompletesCompile source old o = (bytes : List ℕ) → old.files source ≡ Some bytes → CompletesSource (spelled bytes) o
+abbrev pub CompletesCompile : Name → Standing → Outcome → Type 0
+CompletesCompile source old o = (bytes : Bytes) → old.files source ≡ Some bytes → CompletesSource (spelled bytes) o
 
 -- playing came to its end, or memory was wanting
 abbrev pub IsWalked : Outcome → Type 0
@@ -61,21 +62,21 @@ IsWalked (outcome.Memory at) = Unit {0}
 IsWalked _ = ⊥
 
 -- a new session is played in an empty store, and a store with bytes is refused
-abbrev pub CompletesNew : List ℕ → Outcome → Type 0
+abbrev pub CompletesNew : Bytes → Outcome → Type 0
 CompletesNew [] o = IsWalked o
 CompletesNew (b ∷ bytes) o = Comes (outcome.Occupied (length (b ∷ bytes))) o
 
 -- a session of the story that shows a state of its game is played on, and any other store is refused
-pub record CompletesAgain (g : Story) (bytes : List ℕ) (o : Outcome) : Type 0 where
-  pub shown : (d : Digests) (st : State) (piece : List ℕ) → IsOfStory g d → ShowsState g.game d bytes st piece →
+pub record CompletesAgain (g : Story) (bytes : Bytes) (o : Outcome) : Type 0 where
+  pub shown : (d : Digests) (st : State) (piece : Text) → IsOfStory g d → ShowsState g.game d bytes st piece →
       IsWalked o
   pub refused : (r : JournalRefusal) → Refuses (story_digests g) bytes r → Comes (refused_as r) o
-  pub no_state : (d : Digests) (state piece : List ℕ) → IsOfStory g d → recover bytes ≡ Shown d state piece →
+  pub no_state : (d : Digests) (state piece : Bytes) → IsOfStory g d → recover bytes ≡ Shown d state piece →
       ((st : State) → ¬ ShowsState g.game d bytes st piece) →
       (at : ℕ) × Comes (outcome.SessionDamaged part.State at) o
 
 -- where the image is there, such an answer comes of its game; where the file is no image, it is refused
-pub record CompletesImage (name : List ℕ) (Such : GameLists → Outcome → Type 0) (old : Standing)
+pub record CompletesImage (name : Name) (Such : GameLists → Outcome → Type 0) (old : Standing)
     (o : Outcome) : Type 0 where
   pub image : (g : GameLists) → Holds old name g → Such g o
   pub other : HoldsNone old name → IsDamaged old name o
@@ -89,30 +90,30 @@ due (Halted (CallsTooDeep table) r) = outcome.TooDeep table
 due Unended = outcome.Done
 
 -- where the text is there, it is shown, or refused where it is too long
-abbrev pub CompletesWrap : List ℕ → Standing → Outcome → Type 0
-CompletesWrap name old o = (bytes : List ℕ) → old.files name ≡ Some bytes →
+abbrev pub CompletesWrap : Name → Standing → Outcome → Type 0
+CompletesWrap name old o = (bytes : Bytes) → old.files name ≡ Some bytes →
     Comes (if nat_le (length bytes) WRAP_LIMIT then outcome.Done else outcome.TextTooLong) o
 
 -- What a command comes to where nothing outside fails and the file that it loads is there: it does its work, or refuses
 -- the file or the store, or memory was wanting.
 pub record EachCompletes : Type 0 where
-  pub compile : (source target : List ℕ) (old new : Standing) (o : Outcome) → Compiles source target old new o →
+  pub compile : (source target : Name) (old new : Standing) (o : Outcome) → Compiles source target old new o →
       IsUnhindered o → CompletesCompile source old o
-  pub decompile : (image : List ℕ) (old new : Standing) (o : Outcome) → Decompiles image old new o →
+  pub decompile : (image : Name) (old new : Standing) (o : Outcome) → Decompiles image old new o →
       IsUnhindered o → CompletesImage image (λ g. Comes outcome.Done) old o
-  pub walk : (rows : List (List ℕ)) (image : List ℕ) (seed : ℕ) (old new : Standing) (o : Outcome) →
+  pub walk : (rows : RoutineRows) (image : Name) (seed : Seed) (old new : Standing) (o : Outcome) →
       WalksAs reading rows image seed old new o → IsUnhindered o → CompletesImage image (λ g. IsWalked) old o
-  pub play : (rows : List (List ℕ)) (image store : List ℕ) (seed : ℕ) (old new : Standing) (o : Outcome) →
+  pub play : (rows : RoutineRows) (image store : Name) (seed : Seed) (old new : Standing) (o : Outcome) →
       PlaysNewIn rows image store seed old new o →
       IsUnhindered o → CompletesImage image (λ g. CompletesNew (store_bytes old store)) old o
-  pub resume : (rows : List (List ℕ)) (image store : List ℕ) (old new : Standing) (o : Outcome) →
+  pub resume : (rows : RoutineRows) (image store : Name) (old new : Standing) (o : Outcome) →
       PlaysAgainIn rows image store old new o →
       IsUnhindered o → CompletesImage image (λ g. CompletesAgain (story_of g rows) (store_bytes old store)) old o
-  pub trace : (rows : List (List ℕ)) (image : List ℕ) (seed : ℕ) (old new : Standing) (o : Outcome) →
+  pub trace : (rows : RoutineRows) (image : Name) (seed : Seed) (old new : Standing) (o : Outcome) →
       WalksAs reading_traced rows image seed old new o → IsUnhindered o → CompletesImage image (λ g. IsWalked) old o
   pub trial : (n : ℕ) (old new : Standing) (o : Outcome) → Tries n old new o →
       IsUnhindered o → Comes (due (trial_reading n)) o
-  pub check : (image : List ℕ) (old new : Standing) (o : Outcome) → Checks image old new o →
+  pub check : (image : Name) (old new : Standing) (o : Outcome) → Checks image old new o →
       IsUnhindered o → CompletesImage image (λ g. Comes outcome.Done) old o
-  pub wrap : (width : ℕ) (text : List ℕ) (old new : Standing) (o : Outcome) → Wraps width text old new o →
+  pub wrap : (width : ℕ) (text : Name) (old new : Standing) (o : Outcome) → Wraps width text old new o →
       IsUnhindered o → CompletesWrap text old o

@@ -1,6 +1,7 @@
 -- The session of a trial, on the way.
-use Rattle.std.specs.Prelude.{◌≡◌, ℕ, ◌+◌, ◌*◌, ◌/◌, List, [], length, take}
+use Rattle.std.specs.Prelude.{◌≡◌, ℕ, ◌+◌, ◌*◌, ◌/◌, [], length, take}
 use Rattle.std.specs.Prelude.{drop, codes, slice_index, Option, Some, None}
+use Rattle.paw_base.specs.Bytes.{Bytes, Lines, Name}
 use Rattle.paw_base.specs.declared.flags.TheConstants.{CARRIED_FLAG, LOW_TURNS_FLAG, HIGH_TURNS_FLAG, LOCATION_FLAG}
 use Rattle.paw_stage.specs.Disk.{IsStable}
 use Rattle.paw_stage.specs.Stage.{Standing}
@@ -23,23 +24,23 @@ use Rattle.paw_trial.specs.declared.TrialEnd.TheVariants as end
 use Rattle.paw_trial.specs.declared.Tally.{Tally}
 
 -- the name of the store
-abbrev pub store_name : List ℕ
+abbrev pub store_name : Name
 store_name = codes "trial"
 
 -- the lines are played in two halves
-abbrev pub first_half : ℕ → List (List ℕ)
+abbrev pub first_half : ℕ → Lines
 first_half n = take (length (trial_lines n) / 2) (trial_lines n)
 
-abbrev pub second_half : ℕ → List (List ℕ)
+abbrev pub second_half : ℕ → Lines
 second_half n = drop (length (trial_lines n) / 2) (trial_lines n)
 
 -- the lines of a half
-abbrev pub lines_of : Half → ℕ → List (List ℕ)
+abbrev pub lines_of : Half → ℕ → Lines
 lines_of half.First n = first_half n
 lines_of half.Second n = second_half n
 
 -- the lines that are played once a half is
-abbrev pub lines_by : Half → ℕ → List (List ℕ)
+abbrev pub lines_by : Half → ℕ → Lines
 lines_by half.First n = first_half n
 lines_by half.Second n = trial_lines n
 
@@ -50,7 +51,7 @@ Waits _ = ⊥
 
 -- Nothing is unsynced at the stage, and no line is left. Its store stands for these lines of the trial's game, whose
 -- reading waits for another.
-pub record HoldsLines (n : ℕ) (es : List (List ℕ)) (s : Standing) : Type 0 where
+pub record HoldsLines (n : ℕ) (es : Lines) (s : Standing) : Type 0 where
   pub stable : IsStable s.disk
   pub none : s.lines ≡ []
   pub waits : Waits (reading (trial_story n) n es)
@@ -67,7 +68,7 @@ PlaysHalf half.First n old new end = NewSession (begun (trial_story n) n store_n
 PlaysHalf half.Second n old new end = PlaysAgain (trial_story n) store_name old new end
 
 -- The session holds these lines, or the trial stops.
-abbrev pub ComesTo : ℕ → List (List ℕ) → Standing → Option TrialEnd → Type 0
+abbrev pub ComesTo : ℕ → Lines → Standing → Option TrialEnd → Type 0
 ComesTo n es new None = HoldsLines n es new
 ComesTo n es new (Some stop) = StopsAs stop (trial_reading n)
 
@@ -88,7 +89,7 @@ IsTallyOf (WaitsAt p path r) t = t ≡ tally_of r.world
 IsTallyOf _ t = ⊥
 
 -- what the bytes of a state count; they begin with the flags
-abbrev pub tally_in : List ℕ → Tally
+abbrev pub tally_in : Bytes → Tally
 tally_in state = record {
   turns = slice_index state LOW_TURNS_FLAG + 256 * slice_index state HIGH_TURNS_FLAG;
   at = slice_index state LOCATION_FLAG;

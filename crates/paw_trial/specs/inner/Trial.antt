@@ -1,5 +1,6 @@
 -- What a trial tells: words that contracts between crates and proofs use beside those of specs/Trial.antt.
-use Rattle.std.specs.Prelude.{◌≡◌, ℕ, List}
+use Rattle.std.specs.Prelude.{◌≡◌, ℕ}
+use Rattle.paw_base.specs.Bytes.{Text}
 use Rattle.paw_reading.specs.Reading.{IsOver, RunsOut, CallsTooDeep}
 use Rattle.paw_reading.specs.Turn.{Ending, WaitsAt, Halted, reading}
 use Rattle.paw_trial.specs.declared.TrialEnd.{TrialEnd}
@@ -7,7 +8,7 @@ use Rattle.paw_trial.specs.declared.TrialEnd.TheVariants as end
 use Rattle.paw_trial.specs.Trial.{trial_text}
 
 -- the text of a reading that waits for another line
-abbrev pub IsTextOf : ℕ → Ending → List ℕ → Type 0
+abbrev pub IsTextOf : ℕ → Ending → Text → Type 0
 IsTextOf n (WaitsAt p path r) text = text ≡ trial_text n r.world
 IsTextOf n _ text = ⊥
 

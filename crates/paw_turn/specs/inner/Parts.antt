@@ -1,5 +1,6 @@
 -- The parts of a player: what is lent of it, and a player that stands with such parts.
 use Rattle.std.specs.Prelude.{◌≡◌, ℕ, ◌<◌, List, [], None, length, reverse}
+use Rattle.paw_base.specs.Bytes.{Lines, Text, Texts}
 use Rattle.paw_base.specs.inner.Steps.{KeptSteps}
 use Rattle.paw_game.specs.Game.{GameLists}
 use Rattle.paw_world.specs.World.{World}
@@ -87,8 +88,8 @@ SeatedAgain F =
 -- piece of its own
 abbrev pub GoesOnAlike : Type 0 → Type 0
 GoesOnAlike F =
-    (g : Story) (p : Seat F) (at : Prompt) (piece : List ℕ) (left : ℕ) (steps : KeptSteps)
-    (pieces : List (List ℕ)) (traces : List (List Read)) (lines : List (List ℕ)) →
+    (g : Story) (p : Seat F) (at : Prompt) (piece : Text) (left : ℕ) (steps : KeptSteps)
+    (pieces : Texts) (traces : List (List Read)) (lines : Lines) →
     let other : Seat F = record p { piece = piece; machine = record p.machine { left = left; steps = steps } } in
     on g at (reverse p.machine.frames) (run_at other pieces traces lines)
     ≡ on g at (reverse p.machine.frames) (run_at p pieces traces lines)

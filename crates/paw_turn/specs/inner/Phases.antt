@@ -2,6 +2,7 @@
 use Rattle.std.specs.Prelude.{◌≡◌, ℕ, zero, suc, ◌+◌, ◌*◌, ◌<◌, ◌≤◌, ◌^◌, Bool, false, List, Option}
 use Rattle.std.specs.Prelude.{[], ◌∷◌, ◌++◌, length, reverse, if◌then◌else◌}
 use Rattle.std.specs.Fn.{Shared}
+use Rattle.paw_base.specs.Bytes.{Bytes, Line, Lines, Text, Texts}
 use Rattle.paw_base.specs.declared.limits.TheConstants.{READ_LIMIT}
 use Rattle.paw_base.specs.declared.fault.SpentKind.TheVariants as spent
 use Rattle.paw_game.specs.Game.{GameLists}
@@ -40,12 +41,12 @@ use Rattle.paw_turn.specs.inner.Player.{Seat, WaitsIn, StandsAt, StandsClosed}
 -- what was read in the open piece, and the closed pieces with what was read in them
 pub record Past : Type 0 where
   pub read : List Read
-  pub pieces : List (List ℕ)
+  pub pieces : Texts
   pub traces : List (List Read)
 
 -- the run with this world, this pending line and its earlier verb, this open loop, this text in the open piece, this
 -- past, and these lines to come
-abbrev pub run_from : World → List ℕ → ℕ → Option OpenLoop → List ℕ → Past → List (List ℕ) → Run
+abbrev pub run_from : World → Bytes → ℕ → Option OpenLoop → Text → Past → Lines → Run
 run_from w bytes earlier turning text past lines = record {
   world = w;
   pending = bytes;
@@ -59,7 +60,7 @@ run_from w bytes earlier turning text past lines = record {
 }
 
 -- the run that shows what is held, with this past and these lines to come
-abbrev pub run_now : Turn → Past → List (List ℕ) → Run
+abbrev pub run_now : Turn → Past → Lines → Run
 run_now h past lines =
     let s = h.situation in
     run_from s.world s.pending.bytes s.pending.earlier h.machine.turning s.piece past lines
@@ -99,29 +100,29 @@ GoesOnAs g n (next.Stop step) fs r x = StopsAs g n step fs r x
 -- what x says leads from what was held to what is held now, and no condact is read
 abbrev pub Moves : Story → (ℕ → Run → Ending) → Turn → Next → Turn → Type 0
 Moves g x old next new =
-    (past : Past) (n : ℕ) (lines : List (List ℕ)) →
+    (past : Past) (n : ℕ) (lines : Lines) →
     GoesOnAs g n next new.machine.frames (run_now new past lines) (x n (run_now old past lines))
 
 -- what x says leads from what was held to what is held now: there is what the open piece has read by then
 abbrev pub ReadsTurn : Story → (ℕ → Run → Ending) → Turn → Next → Turn → Type 0
 ReadsTurn g x old next new =
     (past : Past) → HasRead past.read old.machine → (read : List Read) × (HasRead read new.machine
-    × ((n : ℕ) (lines : List (List ℕ)) →
+    × ((n : ℕ) (lines : Lines) →
     GoesOnAs g n next new.machine.frames (run_now new (having_read read past) lines) (x n (run_now old past lines))))
 
 -- a whole, of which more may be granted, leads from what was held to what is held now
-abbrev pub PlaysAs : Story → (ℕ → Past → List (List ℕ) → Ending) → Turn → Next → Turn → Type 0
+abbrev pub PlaysAs : Story → (ℕ → Past → Lines → Ending) → Turn → Next → Turn → Type 0
 PlaysAs g whole old next new =
     (past : Past) → HasRead past.read old.machine → (read : List Read) × (HasRead read new.machine
-    × ((n : ℕ) (lines : List (List ℕ)) →
+    × ((n : ℕ) (lines : Lines) →
     (m : ℕ) × GoesOnAs g n next new.machine.frames (run_now new (having_read read past) lines) (whole m past lines)))
 
 -- the turn from a phase on
-abbrev pub from_phase : Story → Phase → Turn → ℕ → Past → List (List ℕ) → Ending
+abbrev pub from_phase : Story → Phase → Turn → ℕ → Past → Lines → Ending
 from_phase g s h m past lines = turn g m (at_phase s) (run_now h past lines)
 
 -- going on from a prompt with a line
-abbrev pub from_prompt : Story → Prompt → Turn → List ℕ → ℕ → Past → List (List ℕ) → Ending
+abbrev pub from_prompt : Story → Prompt → Turn → Line → ℕ → Past → Lines → Ending
 from_prompt g p h line m past lines = goes_on g m p (reverse h.machine.frames) (run_now h past (line ∷ lines))
 
 -- some phases from the first on lead from what was held to what is held now
@@ -129,24 +130,24 @@ abbrev pub Plays : Story → Phase → Turn → Next → Turn → Type 0
 Plays g first old next new = PlaysAs g (from_phase g first old) old next new
 
 -- the machine has read what x says, from what was held to a stop
-abbrev pub RunsAs : Story → (Past → List (List ℕ) → Out) → Turn → Turned → Turn → Type 0
+abbrev pub RunsAs : Story → (Past → Lines → Out) → Turn → Turned → Turn → Type 0
 RunsAs g x old turned new =
     (past : Past) → HasRead past.read old.machine → (steps : List Read) × (HasRead (past.read ++ steps) new.machine
-    × ((lines : List (List ℕ)) →
+    × ((lines : Lines) →
     ComesTo g turned new.machine.frames (run_now new (having_read (past.read ++ steps) past) lines) (x past lines)))
 
 -- a table from its start
-abbrev pub from_table : Story → ℕ → Turn → Past → List (List ℕ) → Out
+abbrev pub from_table : Story → ℕ → Turn → Past → Lines → Out
 from_table g t h past lines = table_read g t (run_now h past lines)
 
 -- going on in the tables that are open, with a line
-abbrev pub from_path : Story → Prompt → Turn → List ℕ → Past → List (List ℕ) → Out
+abbrev pub from_path : Story → Prompt → Turn → Line → Past → Lines → Out
 from_path g p h line past lines = on_path g p 0 (reverse h.machine.frames) (run_now h past (line ∷ lines))
 
 -- a table at level 0 came to what the machine turned out; the turn goes on from there, and no condact is read
 abbrev pub MovesAfter : Story → ℕ → Turned → Turn → Next → Turn → Type 0
 MovesAfter g t turned old next new =
-    (past : Past) (n : ℕ) (lines : List (List ℕ)) (x : Out) →
+    (past : Past) (n : ℕ) (lines : Lines) (x : Out) →
     ComesTo g turned old.machine.frames (run_now old past lines) x →
     GoesOnAs g n next new.machine.frames (run_now new past lines) (table_done g (turn g n) t x)
 
@@ -286,7 +287,7 @@ AwaitsAt prompt.Key m = WaitsIn prompt.Key m
 AwaitsAt prompt.Over m = ⊥
 
 -- this line answers the prompt: it isn't ignored, and the machine waits for it
-pub record MayAnswer (g : GameLists) (p : Prompt) (line : List ℕ) (h : Turn) : Type 0 where
+pub record MayAnswer (g : GameLists) (p : Prompt) (line : Line) (h : Turn) : Type 0 where
   pub heard : is_ignored h.situation.world line ≡ false
   pub valid : Valid g
   pub read : HasReadSome h.machine
@@ -316,11 +317,11 @@ abbrev pub with_line : World → PendingLine → Turn → Turn
 with_line w p h = record h { situation = record h.situation { world = w; pending = p } }
 
 -- with this piece
-abbrev pub with_piece : List ℕ → Turn → Turn
+abbrev pub with_piece : Text → Turn → Turn
 with_piece piece h = record h { situation = record h.situation { piece = piece } }
 
 -- nothing is shown of a piece that is spent, or in which a call is too deep
-abbrev pub shown : Step → List ℕ → List ℕ
+abbrev pub shown : Step → Text → Text
 shown (step.Waits p) piece = piece
 shown step.Ended piece = piece
 shown (step.Spent kind) piece = []

@@ -1,5 +1,6 @@
 -- What a player's answers mean in the reading.
-use Rattle.std.specs.Prelude.{◌≡◌, ℕ, List, [], ◌∷◌, ◌++◌, reverse}
+use Rattle.std.specs.Prelude.{◌≡◌, List, [], ◌∷◌, ◌++◌, reverse}
+use Rattle.paw_base.specs.Bytes.{Lines, Seed, Text, Texts}
 use Rattle.paw_base.specs.declared.words.TheConstants.{NO_WORD}
 use Rattle.paw_base.specs.inner.Steps.{kept_steps}
 use Rattle.paw_game.specs.Game.{GameLists}
@@ -28,11 +29,11 @@ pub record Seat (F : Type 0) : Type 0 where
   pub world : World
   pub pending : PendingLine
   pub machine : OpenTables
-  pub piece : List ℕ
+  pub piece : Text
   pub last : Step
 
 -- the run that these parts stand for, with these closed pieces, what was read in them, and these lines to come
-abbrev pub run_with : World → OpenTables → PendingLine → List (List ℕ) → List (List Read) → List (List ℕ) → Run
+abbrev pub run_with : World → OpenTables → PendingLine → Texts → List (List Read) → Lines → Run
 run_with w m p pieces traces lines = record {
   world = w;
   pending = p.bytes;
@@ -46,27 +47,25 @@ run_with w m p pieces traces lines = record {
 }
 
 -- the run that a player stands for
-abbrev pub run_at : {F : Type 0} → Seat F → List (List ℕ) → List (List Read) → List (List ℕ) → Run
+abbrev pub run_at : {F : Type 0} → Seat F → Texts → List (List Read) → Lines → Run
 run_at p pieces traces lines = run_with p.world p.machine p.pending pieces traces lines
 
 -- whatever lines come after, the whole reading of them ends so, with no piece more and none to show
-abbrev pub PlayHalts : {F : Type 0} → (List (List ℕ) → Ending) → Halt → Seat F → List (List ℕ) → List (List Read) →
-    Type 0
+abbrev pub PlayHalts : {F : Type 0} → (Lines → Ending) → Halt → Seat F → Texts → List (List Read) → Type 0
 PlayHalts whole halt new pieces traces =
-    (new.piece ≡ []) × ((lines : List (List ℕ)) → (r : Run) × (whole lines ≡ Halted halt r)
+    (new.piece ≡ []) × ((lines : Lines) → (r : Run) × (whole lines ≡ Halted halt r)
     × (r.pieces ≡ pieces) × (r.traces ≡ traces) × (r.events ≡ lines))
 
 -- Playing on in a story comes to this: whatever lines come after, the whole reading of them goes on from the player's
 -- prompt with one piece more; or is over with one piece more, as the player stands; or is spent, or a call is too deep,
 -- with no piece more and none to show. Of what was read in the piece that was closed the player keeps the steps
-abbrev pub PlaysTo : {F : Type 0} → Story → (List (List ℕ) → Ending) → Step → Seat F → List (List ℕ) →
-    List (List Read) → Type 0
+abbrev pub PlaysTo : {F : Type 0} → Story → (Lines → Ending) → Step → Seat F → Texts → List (List Read) → Type 0
 PlaysTo g whole (step.Waits p) new pieces traces =
-    (read : List Read) × ((new.machine.steps ≡ kept_steps read) × ((lines : List (List ℕ)) →
+    (read : List Read) × ((new.machine.steps ≡ kept_steps read) × ((lines : Lines) →
     whole lines
     ≡ on g p (reverse new.machine.frames) (run_at new (pieces ++ new.piece ∷ []) (traces ++ read ∷ []) lines)))
 PlaysTo g whole step.Ended new pieces traces =
-    (read : List Read) × ((new.machine.steps ≡ kept_steps read) × ((lines : List (List ℕ)) →
+    (read : List Read) × ((new.machine.steps ≡ kept_steps read) × ((lines : Lines) →
     whole lines ≡ Halted IsOver (run_at new (pieces ++ new.piece ∷ []) (traces ++ read ∷ []) lines)))
 PlaysTo g whole (step.Spent kind) new pieces traces = PlayHalts whole (RunsOut kind) new pieces traces
 PlaysTo g whole (step.TooDeep u) new pieces traces = PlayHalts whole (CallsTooDeep u) new pieces traces
@@ -123,7 +122,7 @@ pub record IsSeated {F : Type 0} (p : Seat F) : Type 0 where
   pub rightly : IsStanding p.last → StandRightly p.game (prompt_at p.last) p.world p.machine p.pending
 
 -- a player that is new: the game is at its start, and no piece was made
-pub record IsNew {F : Type 0} (p : Seat F) (seed : ℕ) : Type 0 where
+pub record IsNew {F : Type 0} (p : Seat F) (seed : Seed) : Type 0 where
   pub world : p.world ≡ opening_world p.game seed
   pub pending : p.pending ≡ record { bytes = []; earlier = NO_WORD }
   pub machine : p.machine ≡ new_machine
