@@ -16,19 +16,19 @@ use Rattle.paw_host.specs.Replies.{Session, Absent, At, Refused, Sessions, repli
 abbrev pub IsRefused : Story → List ℕ → Type 0
 IsRefused g bytes = (bytes ≢ []) × ¬ ShowsSome g bytes
 
--- The bytes of a name's file, by what there is of the name: none; those of a store that stands for its lines; or those
+-- What a name's file holds, by the session of the name: nothing; bytes of a store that stands for its lines; or bytes
 -- that are refused.
 abbrev pub Stores : Story → Session → List ℕ → Type 0
 Stores g Absent bytes = bytes ≡ []
 Stores g (At seed lines) bytes = Stands g seed lines bytes
 Stores g (Refused kept) bytes = (bytes ≡ kept) × IsRefused g kept
 
--- A session may be: it stands at lines that the game may be played with.
+-- A session is possible: the lines that it stands at are ones that the game may be played with.
 abbrev pub MayBe : Story → Session → Type 0
 MayBe g (At seed lines) = IsPlayedWith g seed lines
 MayBe g _ = Unit {0}
 
--- The files of all names are those of these sessions.
+-- The file of each name is that of its session.
 abbrev pub AllStore : Story → Sessions → Standing → Type 0
 AllStore g sessions s =
     (name : List ℕ) → is_name name ≡ true → Stores g (sessions name) (file_bytes s (store_name name))
@@ -53,7 +53,7 @@ EachLeft g seed before after m = (name : List ℕ) → is_name name ≡ true →
     ⊎ ((m.attached ≡ Some (store_name name))
     × (Stores g (after name) bytes ⊎ LeftOfMaking g seed (before name) (after name) bytes))
 
--- the text begins with this one, and is a first part of that one
+-- The text begins with the first of these, and is a first part of the second.
 abbrev pub IsBetween : List ℕ → List ℕ → List ℕ → Type 0
 IsBetween from to text = ((more : List ℕ) × (text ≡ from ++ more)) × ((rest : List ℕ) × (text ++ rest ≡ to))
 
@@ -68,29 +68,29 @@ KeepsUp g seed first lines (suc n) text m =
     ⊎ (IsBetween (replies g seed first (take n lines)) (replies g seed first (take (suc n) lines)) text
     × AllLeft g (sessions_after g seed first (take (suc n) lines)) m))
 
--- the store that is attached once what a line asks for is done: that of the name that it asks for, if it does
+-- The store that is attached once a line was answered: that of the name that it asks for, if any, or the one before.
 abbrev pub attached_with : Option Request → Option (List ℕ) → Option (List ℕ)
 attached_with None attached = attached
 attached_with (Some r) attached = Some (store_name r.name)
 
--- the store that is attached after these lines
+-- The store that is attached after these lines.
 unfoldable pub attached_after : Option (List ℕ) → List (List ℕ) → Option (List ℕ)
 attached_after attached [] = attached
 attached_after attached (line ∷ lines) = attached_after (attached_with (request_of line) attached) lines
 
--- While it is done this store may be attached, or none: a line that asks for no name attaches none.
+-- What may be attached while a line is at work: what was before, its name's store, or none. No name: what was before.
 abbrev pub MayAttach : Option Request → Option (List ℕ) → Option (List ℕ) → Type 0
 MayAttach None before attached = attached ≡ before
 MayAttach (Some r) before attached = (attached ≡ before) ⊎ (attached ≡ Some (store_name r.name)) ⊎ (attached ≡ None)
 
--- while the last of these lines is at work
+-- What may be attached while the last of these lines is at work.
 unfoldable pub AttachedIn : Option (List ℕ) → List (List ℕ) → Option (List ℕ) → Type 0
 AttachedIn before [] attached = attached ≡ before
 AttachedIn before (line ∷ []) attached = MayAttach (request_of line) before attached
 AttachedIn before (line ∷ next ∷ lines) attached =
     AttachedIn (attached_with (request_of line) before) (next ∷ lines) attached
 
--- This file is that of no name which these lines ask for.
+-- This file is that of no name that these lines ask for.
 abbrev pub IsNotOf : List (List ℕ) → List ℕ → Type 0
 IsNotOf lines file = AllByRecursion (λ line. (r : Request) → request_of line ≡ Some r → file ≢ store_name r.name) lines
 
