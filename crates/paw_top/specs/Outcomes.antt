@@ -16,7 +16,7 @@ use Rattle.paw_top.specs.declared.outcome.Outcome.TheVariants as outcome
 use Rattle.paw_top.specs.declared.outcome.MemoryAt.{MemoryAt}
 use Rattle.paw_top.specs.declared.outcome.MemoryAt.TheVariants as memory
 
--- the exit status of the program; Done, Ended and InputEnded are 0
+-- The exit status of the program; Done, Ended and InputEnded are 0.
 abbrev pub status_of : Outcome → ℕ
 status_of outcome.Usage = 1
 status_of (outcome.SourceRefused fault) = 2
@@ -34,7 +34,7 @@ status_of (outcome.Memory at) = 8
 status_of (outcome.Long events) = 9
 status_of _ = 0
 
--- the name of a kind of fault that a source may have
+-- The name of a kind of fault that a source may have.
 abbrev pub kind_name : SourceKind → List ℕ
 kind_name kind.Section = codes "Section"
 kind_name kind.Word = codes "Word"
@@ -47,18 +47,18 @@ kind_name kind.Condact = codes "Condact"
 kind_name kind.Text = codes "Text"
 kind_name kind.TooBig = codes "TooBig"
 
--- the name of a part of a session that may be damaged
+-- The name of a part of a session that may be damaged.
 abbrev pub part_name : SessionPart → List ℕ
 part_name part.Header = codes "Header"
 part_name part.Slot = codes "Slot"
 part_name part.State = codes "State"
 
--- the name of what a piece may spend
+-- The name of what a piece may spend.
 abbrev pub spent_name : SpentKind → List ℕ
 spent_name spent.Condacts = codes "condacts"
 spent_name spent.Text = codes "text"
 
--- the name of a call of the stage
+-- The name of a call of the stage.
 abbrev pub call_name : StageCall → List ℕ
 call_name call.Load = codes "Load"
 call_name call.LoadAbsent = codes "LoadAbsent"
@@ -70,7 +70,7 @@ call_name call.Sync = codes "Sync"
 call_name call.Ask = codes "Ask"
 call_name call.Show = codes "Show"
 
--- the name of a place where memory may be wanting
+-- The name of a place where memory may be lacking.
 abbrev pub memory_name : MemoryAt → List ℕ
 memory_name memory.Load = codes "Load"
 memory_name memory.Source = codes "Source"
@@ -81,12 +81,12 @@ memory_name memory.Trial = codes "Trial"
 memory_name memory.Check = codes "Check"
 memory_name memory.Wrap = codes "Wrap"
 
--- the line that names the digest that a session keeps and the one that was found, in hexadecimal digits
+-- The line that names the digest that a session keeps and the one that was found, in hexadecimal digits.
 abbrev pub digests_line : List ℕ → List ℕ → List ℕ → List ℕ
 digests_line said kept found =
     said ++ (codes ": kept " ++ (encode_lower kept ++ (codes " found " ++ (encode_lower found ++ codes "\n"))))
 
--- what is written to standard error; nothing for Done, Ended and InputEnded
+-- What is written to standard error; nothing for Done, Ended and InputEnded.
 abbrev pub error_text : Outcome → List ℕ
 error_text outcome.Usage = usage
 error_text (outcome.SourceRefused fault) = codes "source line "
