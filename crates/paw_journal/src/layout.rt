@@ -47,10 +47,10 @@ pub(crate) const MOST_CHANGES: usize = 4_096;
 
 pub(crate) const CHANGE_LENGTH: usize = 4;
 
-/// How many bytes a state has in a slot of the first version.
+/// The length of a state in a slot of the first version.
 pub(crate) const FIRST_LENGTH: usize = 1_371;
 
-/// Where a state tells the length of its piece.
+/// Where the length of its piece stands in a state.
 pub(crate) const PIECE_LENGTH_AT: usize = 1_369;
 
 /// The number of 16 bits at a place, its low byte first.
@@ -70,7 +70,7 @@ pub enum Slot {
 }
 
 impl Slot {
-    /// The slot that a selector chooses: its low bit alone tells.
+    /// The slot that a selector chooses, by its low bit alone.
     pub(crate) fn chosen_by(selector: u8) -> Slot
         ensures { slot_number result ≡ selector % 2 }
     {
@@ -91,7 +91,7 @@ impl Slot {
         }
     }
 
-    /// The slot beside it.
+    /// The other slot.
     pub(crate) fn other(self) -> Slot
         ensures { slot_number result ≡ 1 - slot_number self }
     {
