@@ -1,4 +1,4 @@
--- What the calls of a journal answer, and what they leave: words that contracts between crates and proofs use beside
+-- What the calls of a journal answer, and what they leave: words that contracts between crates and proofs use besides
 -- those of specs/Journal.antt.
 use Rattle.std.specs.Prelude.{◌≡◌, ◌≢◌, ℕ, List, Option, Some, None, Result, Ok, Err, IsSome}
 use Rattle.paw_stage.specs.declared.StageCall.{StageCall}
@@ -25,7 +25,7 @@ pub record KeptIn (journal : Journal) (room : Room) (s : Standing) : Type 0 wher
   pub slots : KeepsSlots room s.disk.bytes
 
 -- Why the store has no session of this game to go on with by these routines, by what its bytes stand for. A stage call
--- that failed tells nothing of the store.
+-- that failed says nothing of the store.
 abbrev pub IsSessionRefused : Recovered → List ℕ → List ℕ → JournalRefusal → Type 0
 IsSessionRefused r game rules (refusal.Unmade n mark) = r ≡ Unmade n mark
 IsSessionRefused r game rules (refusal.Damaged part at) = r ≡ Damaged part at
