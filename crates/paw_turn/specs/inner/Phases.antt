@@ -109,7 +109,7 @@ ReadsTurn g x old next new =
     × ((n : ℕ) (lines : List (List ℕ)) →
     GoesOnAs g n next new.machine.frames (run_now new (having_read read past) lines) (x n (run_now old past lines))))
 
--- An ending that is the same with more phases granted leads from what stood to what stands now.
+-- A reading, with enough phases granted, leads from what stood to what stands now.
 abbrev pub PlaysAs : Story → (ℕ → Past → List (List ℕ) → Ending) → Turn → Next → Turn → Type 0
 PlaysAs g whole old next new =
     (past : Past) → HasRead past.read old.machine → (read : List Read) × (HasRead read new.machine
