@@ -55,7 +55,7 @@ taken g seed lines text =
     else if nat_le EVENT_LIMIT (length lines) then record { body = codes "full"; session = At seed lines }
     else gone_on (At seed lines) (At seed (lines ++ text ∷ [])) (reading g seed (lines ++ text ∷ []))
 
--- The answer of a session that stands at these lines: to its name alone, its last piece.
+-- The answer of a session that stands at these lines to its name alone, which is its last piece, or to a text.
 abbrev pub told : Story → ℕ → List (List ℕ) → Option (List ℕ) → Answer
 told g seed lines None = record { body = last_piece (pieces_of (reading g seed lines)); session = At seed lines }
 told g seed lines (Some text) = taken g seed lines text
