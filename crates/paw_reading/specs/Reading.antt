@@ -56,7 +56,7 @@ pub data Out : Type 0 where
 abbrev pub halts : Halt → Run → Out
 halts halt r = Stopped (Halts halt) r
 
--- How reading goes on in a table, from whether an action was carried out there so far, and a run.
+-- How reading goes on in a table, as a function of whether an action was carried out there so far, and of the run.
 abbrev pub Onward : Type 0
 Onward = Bool → Run → Out
 
@@ -84,7 +84,7 @@ printing text go r = if fits r text then go (printed text r) else halts (RunsOut
 
 -- ---- calls ----
 
--- After a call: reading goes on once the called table was left; a wait gets the caller's frame put first; a stop stays.
+-- After a call: reading goes on once the called table was left; a wait gets the caller's frame in front; a stop stays.
 abbrev pub after_call : Frame → Onward → Out → Out
 after_call f go (Left b r) = go (f.acted || b) r
 after_call f go (Waits p path r) = Waits p (f ∷ path) r
