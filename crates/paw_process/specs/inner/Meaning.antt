@@ -32,6 +32,7 @@ pub record Held : Type 0 where
   pub situation : Situation
   pub machine : OpenTables
 
+-- This situation and this machine.
 abbrev pub having : Situation → OpenTables → Held
 having s m = record { situation = s; machine = m }
 

@@ -59,6 +59,7 @@ pub record IsLoopWithin (levels : ℕ) (l : OpenLoop) : Type 0 where
   pub entry : l.entry < ENTRY_LIMIT
   pub level : l.level < levels
 
+-- The open loop, if any, stands at a condact, and is one of these levels'.
 abbrev pub LoopFits : ℕ → Option OpenLoop → Type 0
 LoopFits levels o = IfSome o (IsLoopWithin levels)
 

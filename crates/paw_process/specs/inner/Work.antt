@@ -15,6 +15,7 @@ abbrev pub loop_work : Option OpenLoop → ℕ
 loop_work None = 0
 loop_work (Some l) = (256 - l.last) * 5000
 
+-- What is left to do between two condacts that are read.
 abbrev pub work : OpenTables → ℕ
 work m = frames_work m.frames + loop_work m.turning
 
