@@ -68,11 +68,13 @@ run_now h past lines =
 abbrev pub HasReadSome : OpenTables → Type 0
 HasReadSome m = (read : List Read) × HasRead read m
 
+-- The past with these steps of the open piece.
 abbrev pub having_read : List Read → Past → Past
 having_read read past = record past { read = read }
 
 -- ---- phases ----
 
+-- The phase of the reading that is the code's phase.
 abbrev pub at_phase : Phase → TurnPhase
 at_phase phase.Describe = AtDescribe
 at_phase phase.TimeFrame = AtTimeFrame
@@ -215,12 +217,14 @@ StopsInTable t (turned.TooDeep u) m = IsClosed m
 abbrev pub left_of : Turn → ℕ
 left_of h = length h.situation.pending.bytes + h.machine.left
 
+-- The rank of a phase: each leads to one of a lower rank, unless something was read.
 abbrev pub rank : Phase → ℕ
 rank phase.Phrase = 1
 rank phase.TimeFrame = 2
 rank phase.Describe = 3
 rank phase.Response = 4
 
+-- A measure of what is left to do: four for each thing that may still be read, and the rank of the phase.
 abbrev pub work : Phase → Turn → ℕ
 work s h = 4 * left_of h + rank s
 
@@ -326,6 +330,7 @@ shown step.Ended piece = piece
 shown (step.Spent kind) piece = []
 shown (step.TooDeep u) piece = []
 
+-- The turn with the piece that is shown after this end of a line.
 abbrev pub turn_settled : Step → Turn → Turn
 turn_settled step h = with_piece (shown step h.situation.piece) h
 
