@@ -55,7 +55,7 @@ if_there there (f ∷ fs) =
 abbrev pub bytes_of : List Field → List ℕ
 bytes_of fields = flat_map (λ f. f.bytes) fields
 
--- The place of the first field whose rule doesn't hold in a game, where the first field stands at this place.
+-- The place of the first field whose rule doesn't hold in a game; the first of the fields stands at this place.
 unfoldable pub fault_from : GameLists → ℕ → List Field → Option ℕ
 fault_from g at [] = None
 fault_from g at (f ∷ fs) = if f.holds g then fault_from g (at + length f.bytes) fs else Some at
@@ -72,9 +72,9 @@ held_fields h =
     byte h.there (λ g. nat_le h.there 1)
     ∷ if_there h.there (one_by_one (λ i flag g. true) 0 h.flags ++ one_by_one place_holds 0 h.places)
 
--- The fields of a row, from which on n are used: table, entry, condact, 1 where an action was carried out. The table is
--- the one called, or 0, 1 or 2 for the outermost; the last row is at the condact with this code, each other at a
--- PROCESS.
+-- The fields of the first of n used rows (0 where it is unused): table, entry, condact, 1 where an action was carried
+-- out. Its table is the one called, or 0, 1 or 2 for the outermost. The last row is at the condact with this code, each
+-- other at a PROCESS.
 abbrev pub row_fields : ℕ → (GameLists → Option ℕ) → ℕ → Row → List Field
 row_fields code caller n r = if_there n (
     byte r.table (λ g. may_open (caller g) r.table)

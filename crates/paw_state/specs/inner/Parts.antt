@@ -29,15 +29,19 @@ world_in g f = record {
   draws = f.draws;
 }
 
+-- The frame of a row.
 abbrev pub frame_in : Row → Frame
 frame_in r = record { table = r.table; entry = r.entry; at = r.at; acted = (r.acted == 1) }
 
+-- The open loop, if there is one.
 abbrev pub turning_in : Fields → Option OpenLoop
 turning_in f = if f.looping == 0 then None else Some f.turning
 
+-- The frames of the open tables, and the open loop.
 abbrev pub frames_in : Fields → Frames
 frames_in f = record { count = f.count; rows = map frame_in f.rows; turning = turning_in f }
 
+-- The pending bytes, and the earlier verb.
 abbrev pub pending_in : Fields → PendingLine
 pending_in f = record { bytes = take f.pending f.line; earlier = f.earlier }
 
