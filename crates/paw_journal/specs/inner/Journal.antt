@@ -42,6 +42,7 @@ abbrev pub failed_stage_call : {A : Type 0} → Result A StageCall → Option St
 failed_stage_call (Ok answer) = None
 failed_stage_call (Err c) = Some c
 
+-- The stage call that failed, if that is why a store gives no session.
 abbrev pub outside : JournalRefusal → Option StageCall
 outside (refusal.Outside c) = Some c
 outside (refusal.Unmade n mark) = None
@@ -49,6 +50,7 @@ outside (refusal.Damaged part at) = None
 outside (refusal.WrongGame kept found) = None
 outside (refusal.WrongRoutines kept found) = None
 
+-- The stage call that failed, by what a call that may refuse the store answers.
 abbrev pub refused_call : {A : Type 0} → Result A JournalRefusal → Option StageCall
 refused_call (Ok answer) = None
 refused_call (Err e) = outside e
