@@ -44,8 +44,8 @@ StandingGoesOn =
     (piece : List ℕ) → IsPlayedWith g seed es → Stands g seed es bytes → ShowsState g.game digests bytes st piece →
     (st.events ≡ length es) × (going_on g st piece fs ≡ reading_since g seed es fs)
 
--- Bytes that keep the first n lines of a session stand for them: for just these where it was begun, and for others and
--- these where it went on after those others.
+-- Bytes that keep the first n lines of a session stand for these lines; where the session went on after others, they
+-- stand for those and these.
 pub record KeptLinesStand : Type 0 where
   pub first : (g : Story) (seed : ℕ) (lines : List (List ℕ)) (name : List ℕ) (n : ℕ) (bytes : List ℕ) →
       n ≤ length lines → n ≤ EVENT_LIMIT → KeptBy (begun g seed name) lines n bytes →

@@ -11,7 +11,7 @@ use Rattle.paw_reading.specs.Turn.{Ending, WaitsAt, Halted, text_of}
 use Rattle.paw_play.specs.declared.PlayEnd.{PlayEnd}
 use Rattle.paw_play.specs.declared.PlayEnd.TheVariants as end
 
--- The reading of some lines, as how it ends with them: from the start of a game, or going on from a state.
+-- How a reading ends, as a function of its lines: one from the start of a game, or one that goes on from a state.
 abbrev pub EndingOf : Type 0
 EndingOf = List (List ℕ) → Ending
 

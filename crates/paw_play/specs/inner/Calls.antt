@@ -22,6 +22,7 @@ abbrev pub failed_so_far : Option PlayEnd → Option StageCall
 failed_so_far None = None
 failed_so_far (Some o) = call_of_end o
 
+-- The call that failed, where playing has ended only if there is no answer.
 abbrev pub failed_or : {A : Type 0} → Result A PlayEnd → Option StageCall
 failed_or (Ok a) = None
 failed_or (Err o) = call_of_end o

@@ -36,10 +36,12 @@ abbrev pub HaveSteps : Telling → List (List ℕ) → List (List Read) → Type
 HaveSteps Plain pieces traces = Unit {0}
 HaveSteps Stepped pieces traces = length traces ≡ length pieces
 
+-- The run, with its pieces shown this way.
 abbrev pub told_run : Telling → Run → Run
 told_run Plain r = r
 told_run Stepped r = traced_run r
 
+-- The ending, with its pieces shown this way.
 abbrev pub told_ending : Telling → Ending → Ending
 told_ending Plain e = e
 told_ending Stepped e = traced_ending e
