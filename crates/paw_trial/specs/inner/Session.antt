@@ -26,10 +26,11 @@ use Rattle.paw_trial.specs.declared.Tally.{Tally}
 abbrev pub store_name : List ℕ
 store_name = codes "trial"
 
--- The lines are played in two halves.
+-- The first half of the lines of a trial, rounded down.
 abbrev pub first_half : ℕ → List (List ℕ)
 first_half n = take (length (trial_lines n) / 2) (trial_lines n)
 
+-- The second half of the lines.
 abbrev pub second_half : ℕ → List (List ℕ)
 second_half n = drop (length (trial_lines n) / 2) (trial_lines n)
 
@@ -83,6 +84,7 @@ stop_of _ = Some end.Memory
 abbrev pub tally_of : World → Tally
 tally_of w = record { turns = turns_taken w; at = flag w LOCATION_FLAG; carried = flag w CARRIED_FLAG }
 
+-- The reading waits, and this is what its world counts.
 abbrev pub IsTallyOf : Ending → Tally → Type 0
 IsTallyOf (WaitsAt p path r) t = t ≡ tally_of r.world
 IsTallyOf _ t = ⊥
