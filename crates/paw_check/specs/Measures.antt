@@ -12,7 +12,7 @@ greatest (n ∷ ns) = max n (greatest ns)
 abbrev pub longest_name : GameLists → ℕ
 longest_name g = greatest (map (λ o. length o.text) g.objects)
 
--- The most bytes that a byte of a text prints: one, but for an underscore (95) those of any object's text.
+-- The most bytes that a byte of a text prints: one, or for an underscore (95) as many as the longest object's text has.
 abbrev pub most_of_byte : GameLists → ℕ → ℕ
 most_of_byte g b = if b == 95 then longest_name g else 1
 

@@ -42,10 +42,11 @@ pub record HasUsed (reads bytes : ℕ) (r : Run) : Type 0 where
 
 -- ---- how a table ends ----
 
--- The most condacts that are read while a table is, and the most bytes that are printed.
+-- The most condacts that are read while a table is.
 abbrev pub reads_of : GameLists → ℕ → ℕ
 reads_of g t = most_cost g (λ c. 1) t
 
+-- The most bytes that are printed while a table is read.
 abbrev pub text_of : GameLists → ℕ → ℕ
 text_of g t = most_cost g (most_text g) t
 
