@@ -65,6 +65,6 @@ abbrev pub HostsAtEachMoment : ((Moment → Type 0) → Type 0) → List (List �
 HostsAtEachMoment Come rows name seed old = (g : GameLists) (first : Sessions) → Holds old name g →
     BeginsWith (story_of g rows) first old → Come (InHost (story_of g rows) seed first old)
 
--- The two calls that count how a load fails: the load itself, and one that finds no file.
+-- The two counts of a load: of loads that failed, and of loads that found no file.
 abbrev pub load_calls : List StageCall
 load_calls = call.Load ∷ call.LoadAbsent ∷ []

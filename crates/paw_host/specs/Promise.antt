@@ -33,7 +33,7 @@ abbrev pub AllStore : Story → Sessions → Standing → Type 0
 AllStore g sessions s =
     (name : List ℕ) → is_name name ≡ true → Stores g (sessions name) (file_bytes s (store_name name))
 
--- Whatever a crash leaves at this moment of the file of a name, it is that of its session.
+-- Whatever a crash at this moment leaves of the file of a name is that of its session.
 abbrev pub AllLeft : Story → Sessions → Moment → Type 0
 AllLeft g sessions m = (name : List ℕ) → is_name name ≡ true → (bytes : List ℕ) →
     MayBeLeft (store_name name) m bytes → Stores g (sessions name) bytes
@@ -43,8 +43,8 @@ abbrev pub LeftOfMaking : Story → ℕ → Session → Session → List ℕ →
 LeftOfMaking g seed Absent (At own lines) bytes = IsUnmade (recover bytes) ⊎ Stands g seed [] bytes
 LeftOfMaking g seed _ _ bytes = ⊥
 
--- Whatever a crash leaves at this moment of the file of a name, it is that of its session before a line; or its store is
--- attached, and it is that of its session after the line, or the session is being made. Where the line isn't about the
+-- Whatever a crash at this moment leaves of the file of a name is that of its session before a line; or its store is
+-- attached, and it is that of its session after the line, or that session is being made. Where the line isn't about the
 -- name, both sessions are the same.
 abbrev pub EachLeft : Story → ℕ → Sessions → Sessions → Moment → Type 0
 EachLeft g seed before after m = (name : List ℕ) → is_name name ≡ true → (bytes : List ℕ) →
@@ -53,7 +53,7 @@ EachLeft g seed before after m = (name : List ℕ) → is_name name ≡ true →
     ⊎ ((m.attached ≡ Some (store_name name))
     × (Stores g (after name) bytes ⊎ LeftOfMaking g seed (before name) (after name) bytes))
 
--- The text begins with the first of these, and is a first part of the second.
+-- The text begins with `from`, and is a first part of `to`.
 abbrev pub IsBetween : List ℕ → List ℕ → List ℕ → Type 0
 IsBetween from to text = ((more : List ℕ) × (text ≡ from ++ more)) × ((rest : List ℕ) × (text ++ rest ≡ to))
 
@@ -78,7 +78,7 @@ unfoldable pub attached_after : Option (List ℕ) → List (List ℕ) → Option
 attached_after attached [] = attached
 attached_after attached (line ∷ lines) = attached_after (attached_with (request_of line) attached) lines
 
--- What may be attached while a line is at work: what was before, its name's store, or none. No name: what was before.
+-- What may be attached while a line is at work: the store before, its name's, or none; without a name, that before.
 abbrev pub MayAttach : Option Request → Option (List ℕ) → Option (List ℕ) → Type 0
 MayAttach None before attached = attached ≡ before
 MayAttach (Some r) before attached = (attached ≡ before) ⊎ (attached ≡ Some (store_name r.name)) ⊎ (attached ≡ None)

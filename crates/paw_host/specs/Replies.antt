@@ -60,7 +60,7 @@ abbrev pub told : Story → ℕ → List (List ℕ) → Option (List ℕ) → An
 told g seed lines None = record { body = last_piece (pieces_of (reading g seed lines)); session = At seed lines }
 told g seed lines (Some text) = taken g seed lines text
 
--- This text, and then an answer.
+-- An answer with this text put in front.
 abbrev pub behind : List ℕ → Answer → Answer
 behind text a = record { body = text ++ a.body; session = a.session }
 
