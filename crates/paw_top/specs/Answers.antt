@@ -12,7 +12,7 @@ abbrev pub failed_call : Outcome → Option StageCall
 failed_call (outcome.Outside c) = Some c
 failed_call _ = None
 
--- The two calls that count how a load fails: the load itself, and one that finds no file.
+-- The two counts of a load: of loads that failed, and of loads that found no file.
 abbrev pub load_calls : List StageCall
 load_calls = call.Load ∷ call.LoadAbsent ∷ []
 
