@@ -23,7 +23,7 @@ Stores g Absent bytes = bytes ≡ []
 Stores g (At seed lines) bytes = Stands g seed lines bytes
 Stores g (Refused kept) bytes = (bytes ≡ kept) × IsRefused g kept
 
--- A session is possible: the lines that it stands at are ones that the game may be played with.
+-- A session is possible where the game may be played with the lines that it stands at.
 abbrev pub MayBe : Story → Session → Type 0
 MayBe g (At seed lines) = IsPlayedWith g seed lines
 MayBe g _ = Unit {0}

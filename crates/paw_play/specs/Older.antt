@@ -19,7 +19,7 @@ pub record KeepsAsOlder (digests : Digests) (events : ℕ) (e : Ending) (bytes :
   pub same : take first_length state ≡ take first_length (state_after events e)
 
 -- The bytes of a store are an older session for these lines of a story that was begun with this seed: the lines aren't
--- too many for a session, and it is one of the story that keeps the reading of them all, except for positions.
+-- too many for a session, and the session is one of the story that keeps the reading of them all, except for positions.
 pub record IsOlderSession (g : Story) (seed : ℕ) (es : List (List ℕ)) (bytes : List ℕ) : Type 0 where
   pub few : length es ≤ EVENT_LIMIT
   pub digests : Digests

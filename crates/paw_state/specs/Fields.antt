@@ -72,9 +72,9 @@ held_fields h =
     byte h.there (λ g. nat_le h.there 1)
     ∷ if_there h.there (one_by_one (λ i flag g. true) 0 h.flags ++ one_by_one place_holds 0 h.places)
 
--- The fields of the first of n used rows (0 where it is unused): table, entry, condact, 1 where an action was carried
--- out. Its table is the one called, or 0, 1 or 2 for the outermost. The last row is at the condact with this code, each
--- other at a PROCESS.
+-- The fields of a row, the first of n used ones (all 0 where n is 0): table, entry, condact, 1 where an action was
+-- carried out. Its table is the one called, or 0, 1 or 2 for the outermost. The last used row is at the condact with
+-- this code, each other at a PROCESS.
 abbrev pub row_fields : ℕ → (GameLists → Option ℕ) → ℕ → Row → List Field
 row_fields code caller n r = if_there n (
     byte r.table (λ g. may_open (caller g) r.table)
