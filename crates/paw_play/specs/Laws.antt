@@ -107,8 +107,8 @@ AtRest (end.Outside call.Write) = ⊥
 AtRest (end.Outside call.Sync) = ⊥
 AtRest o = Unit {0}
 
--- The round is cut off at one of these moments, and a crash there may leave these bytes of the file; or it ends in one
--- of these ways with the store at rest, and these are the bytes of the file.
+-- A round stops: it is cut off at one of these moments, where a crash may leave these bytes of the file; or it ends in
+-- one of these ways, with the store at rest and these bytes in the file.
 abbrev pub StopsWith : (Moment → Type 0) → (Standing → PlayEnd → Type 0) → List ℕ → List ℕ → RoundStop → Type 0
 StopsWith Inside Comes name left (cut_at m) = Inside m × MayBeLeft name m left
 StopsWith Inside Comes name left (came_to new o) = Comes new o × AtRest o × (left ≡ store_bytes new name)

@@ -36,7 +36,7 @@ IsPlayed (WaitsAt p path r) = Unit {0}
 IsPlayed (Halted IsOver r) = r.events ≡ []
 IsPlayed _ = ⊥
 
--- A session with these digests keeps where a reading ended, after this number of lines: it shows the state there, and
+-- A session with these digests keeps where a reading ended: it shows the state there, after this number of lines, and
 -- the last piece.
 pub record IsKept (digests : Digests) (events : ℕ) (e : Ending) (r : Recovered) : Type 0 where
   pub played : IsPlayed e
