@@ -25,7 +25,7 @@ counting changing verb entries = filter (λ e. changing || is_for e.verb verb) e
 
 -- ---- one table ----
 
--- How often a reading of a table may pass over its condacts: once, and once more per object for each DOALL, which is
+-- How often a reading of a table may pass over its condacts: once, and for each DOALL once more per object. A DOALL is
 -- opened at most once, since reading goes on after it, and takes each object at most once.
 abbrev pub most_passes : GameLists → List Condact → ℕ
 most_passes g cs = 1 + length g.objects * count_by (λ c. c.code == DOALL) cs

@@ -22,7 +22,7 @@ EndsWithin condacts text (WaitsAt p path r) = PiecesWithin condacts text r
 EndsWithin condacts text (Halted IsOver r) = PiecesWithin condacts text r
 EndsWithin condacts text _ = ⊥
 
--- A turn's tables read the same with only this many levels of calls granted. So none is read at a deeper level.
+-- A turn's tables read the same with this number of levels of calls as with all ten. So none is read at a deeper one.
 abbrev pub CallsWithin : ℕ → Story → Type 0
 CallsWithin levels g = (t : ℕ) (r : Run) → t ≤ FRAME_TABLE → r.turning ≡ None →
     reads g (called g levels 0) 0 t 0 0 false r ≡ table_read g t r
