@@ -101,8 +101,8 @@ abbrev pub CrashLeaves : Moment → Standing → Type 0
 CrashLeaves m next = (name : List ℕ) → is_name name ≡ true →
     MayBeLeft (store_name name) m (file_bytes next (store_name name))
 
--- Hosting that a crash cut off at any of its moments may be begun again over what is left, where each name has such a
--- session. The line that was at work is the last one that was taken.
+-- Hosting that a crash cut off at any of its moments may be begun again over what is left: each name has a session as a
+-- crash may leave it. The line that was at work is the last one that was taken.
 abbrev pub MayBeBegunAgain : Type 0
 MayBeBegunAgain =
     (g : Story) (seed : ℕ) (first : Sessions) (old next : Standing) (m : Moment) → ValidStory g → seed < 2 ^ 64 →

@@ -57,8 +57,8 @@ EachLeft g seed before after m = (name : List ℕ) → is_name name ≡ true →
 abbrev pub IsBetween : List ℕ → List ℕ → List ℕ → Type 0
 IsBetween from to text = ((more : List ℕ) × (text ≡ from ++ more)) × ((rest : List ℕ) × (text ++ rest ≡ to))
 
--- This number of lines was taken, and this text was shown for them. The last one is at work, and the file of each name
--- is as before it, or as after it where its store is attached. The replies to those before it were shown; its own is being
+-- This number of lines was taken, and this text was shown for them. The last one is at work, and the file of each name is
+-- as before it, or as after it where its store is attached. The replies to the lines before it were shown. Its own is
 -- shown only once the file of each name is as after it.
 abbrev pub KeepsUp : Story → ℕ → Sessions → List (List ℕ) → ℕ → List ℕ → Moment → Type 0
 KeepsUp g seed first lines zero text m = (text ≡ []) × AllLeft g first m
