@@ -35,7 +35,7 @@ pub record ResumesIn (rows : List (List ℕ)) (name store : List ℕ) (old new :
 
 -- ---- what stands at each moment ----
 
--- A claim that moments come in two parts: at first only of one kind, and from some time on only of another.
+-- A way to say that moments come in two parts: of the first kind until some time, and of the second from then on.
 abbrev pub TwoParts : Type 1
 TwoParts = (Moment → Type 0) → (Moment → Type 0) → Type 0
 
