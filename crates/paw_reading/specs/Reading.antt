@@ -193,8 +193,8 @@ coming_phrase g r =
     parsed g.game r.pending r.earlier (flag r.world PRONOUN_NOUN_FLAG) (flag r.world PRONOUN_ADJECTIVE_FLAG)
 
 -- How reading goes on after an action: go reads on at the next condact, next at the next entry, and sub reads a table
--- one level deeper. The last row is never used: the program's actions answer Spent where a text doesn't fit, and here
--- play ends before such an action is carried out.
+-- one level deeper. The last row is never used: an action of the program answers Spent where its text doesn't fit, and
+-- here play has ended before that.
 abbrev pub after_action : Story → Called → ℕ → Frame → Onward → Onward → Effect → Run → Out
 after_action g sub lv f next go effect.Go r = go true r
 after_action g sub lv f next go (effect.Exit a) r = Left a r

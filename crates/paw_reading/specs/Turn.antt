@@ -113,9 +113,9 @@ abbrev pub connected : Story → (TurnPhase → Sequel) → Run → Option ℕ �
 connected g go r None = saying (refusal_text g.game r.world) (go AtTimeFrame) (line_dropped r)
 connected g go r (Some to) = go AtDescribe (with_world (with_flag r.world LOCATION_FLAG to) r)
 
--- What follows a table of level 0 that was left. After RESPONSE_TABLE, 0, it is the time frame if an action was carried
--- out, and otherwise the location's exit for the verb; after DESCRIBED_TABLE, 1, the time frame; after FRAME_TABLE, 2,
--- the fall of flags and the next phrase.
+-- What follows a table of level 0 that was left. After table 0, of responses: the time frame if an action was carried
+-- out, and otherwise the location's exit for the verb. After table 1, of descriptions: the time frame. After table 2,
+-- of the time frame: the fall of flags and the next phrase.
 abbrev pub after_left : Story → (TurnPhase → Sequel) → ℕ → Bool → Run → Ending
 after_left g go zero false r = connected g go r (exit_at g.game (flag r.world LOCATION_FLAG) (flag r.world VERB_FLAG))
 after_left g go (suc (suc t)) acted r = go AtPhrase (with_world (time_frame_passed r.world) r)
