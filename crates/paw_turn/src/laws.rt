@@ -2,8 +2,7 @@
 
 ghost use Rattle.paw_turn.specs.inner.Parts.{RestoredFits, SeatedAgain, GoesOnAlike};
 
-/// What a player is seated with: a world of the game, a machine that was restored for it, and what may be pending
-/// there.
+/// A player may be seated with a world of the game, a machine that was restored for it, and what may be pending there.
 pub fn restored_fits()
     ensures fits { RestoredFits }
 {}
