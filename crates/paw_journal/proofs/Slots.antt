@@ -167,7 +167,7 @@ brought_shown state n =
     ap (λ k. take (k + 2048) (take first_length state ++ replicate 2725 0)) (sym l)
     ∙ (take-append-add (take first_length state) (replicate 2725 0) 2048 ∙ ap (λ z. take first_length state ++ z) (take-replicate 2048 2725 0 (omega arith)))
 
--- It gives the piece's length, whatever number of zeros follows it.
+-- A state of version 1 gives the piece's length, whatever number of zeros follows it.
 pub first_names : (count : ℕ) (state : List ℕ) → length state ≡ 4096 → piece_length (take first_length state ++ zeros count) ≡ piece_length state
 first_names count state n =
     let l : length (take first_length state) ≡ 1371 = length-take-le 1371 state (omega arith) in

@@ -73,7 +73,7 @@ impl Journal {
     }
 
     /// Finds the session of the game with this digest in the attached store, and writes nothing. Its state and its
-    /// piece are then in the room. It goes on with the routines with this digest, unless it isn't measured.
+    /// piece are then in the room. It belongs to the routines with this digest, or isn't measured.
     ///
     /// # Errors
     /// Unmade where there is no session, Damaged at its first broken rule, WrongGame where it is of another game,
