@@ -110,7 +110,7 @@ begun_stands g seed lines name n bytes there few kept =
       keeps = subst (λ k. IsKept (story_digests g) k (reading g seed (first_lines n lines)) (recover bytes)) all kept;
     }
 
--- And those that it went on after.
+-- Bytes that keep lines of a session stand for those that it went on after, and for these.
 pub later_stands : (g : Story) (seed : ℕ) (es lines : List (List ℕ)) (digests : Digests) (name : List ℕ) (n : ℕ) (bytes : List ℕ) → IsOfStory g digests →
     n ≤ length lines → length es + n ≤ EVENT_LIMIT → KeptBy (from_lines g seed es digests name) lines n bytes → Stands g seed (es ++ first_lines n lines) bytes
 later_stands g seed es lines digests name n bytes belongs there few kept =

@@ -81,7 +81,7 @@ pub halts_told : (telling : Telling) (halt : Halt) (r : Run) → told_ending tel
 halts_told Plain halt r = refl
 halts_told Stepped halt r = refl
 
--- The lines to come stay.
+-- How pieces are shown changes nothing of the lines to come.
 pub same_lines : (telling : Telling) (r : Run) → (told_run telling r).events ≡ r.events
 same_lines Plain r = refl
 same_lines Stepped r = refl
