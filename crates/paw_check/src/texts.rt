@@ -73,7 +73,7 @@ fn list_of(parts: &GameParts) -> u32
         .saturating_add(2)
 }
 
-/// The most bytes of any of these messages, as an object's texts may stand in them.
+/// The most bytes of any of these messages, as the definition gives them for the game.
 fn most_put_of(parts: &GameParts, system: &Row, messages: &[u8]) -> u32
     requires valid { Valid parts.now }
     requires system { Holds system.now (most_put parts.now) }
