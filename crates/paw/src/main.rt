@@ -15,7 +15,7 @@ use std::env::{self, Env};
 use std::io::{self, ErrorKind};
 use std::process::ExitCode;
 
-// The words behind the program's name; none of them where one isn't text.
+// The words after the program's name; none of them where one isn't text.
 fn words_of<R: Env + AllocGlobal>(rt: &R) -> io::Result<Vec<String>> {
     match env::args(rt) {
         Ok(words) => Ok(words.skip(1).collect(rt.alloc())?),
@@ -25,7 +25,7 @@ fn words_of<R: Env + AllocGlobal>(rt: &R) -> io::Result<Vec<String>> {
 }
 
 // Writes the outcome's text to standard error, and gives its status. Where there is no memory for the text, or standard
-// error doesn't take it, the status alone tells.
+// error doesn't take it, there is the status alone.
 fn tell<R: Eprint>(rt: &R, alloc: Global, outcome: Outcome) -> ExitCode
     ensures status { exit_status result ≡ status_of outcome }
 {

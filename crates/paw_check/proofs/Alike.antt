@@ -36,15 +36,15 @@ abbrev pub AtMost : ℕ → Option OpenLoop → Type 0
 AtMost lv None = Unit {0}
 AtMost lv (Some l) = l.level ≤ lv
 
--- what reading comes to: a loop that is open then is at this level at most, and the location is described again only where
--- that may be
+-- How reading ends: a loop that is open then is at this level at most, and the location is described again only where that
+-- may be.
 abbrev pub Settled : Type 0 → ℕ → Out → Type 0
 Settled Describes lv (Left a r) = AtMost lv r.turning
 Settled Describes lv (Waits p path r) = Unit {0}
 Settled Describes lv (Stopped Redescribes r) = Describes
 Settled Describes lv (Stopped _ r) = Unit {0}
 
--- two readings come to the same, and that is settled
+-- Two readings end in the same way, and that is settled.
 abbrev pub Alike : Type 0 → ℕ → Out → Out → Type 0
 Alike Describes lv x y = (x ≡ y) × Settled Describes lv x
 

@@ -3,7 +3,7 @@ use Rattle.std.proofs.Common.{◌≡◌, ℕ, suc, ◌+◌, ◌*◌, ◌/◌, �
 use Rattle.std.proofs.lemmas.Nat.{mul-le}
 use Rattle.paw_phrase.specs.inner.Leaving.{IsTwoLess}
 
--- so many phrases at most are in so many bytes
+-- The most phrases in a number of bytes.
 phrases_in : ℕ → ℕ
 phrases_in p = (p + 1) / 2
 
@@ -22,7 +22,7 @@ fewer_bytes w p q h = rounds_le w ((p + 1) / 2) ((q + 1) / 2) (omega arith)
 one_more : (w a b : ℕ) → suc a ≤ b → a * w + w ≤ b * w
 one_more w a b h = let more : suc a * w ≡ a * w + w = omega arith in omega (arith, rounds_le w (suc a) b h)
 
--- a phrase takes its own of it, and leaves what the phrases behind it take
+-- A phrase takes its share of the allowance, and leaves what the phrases after it take.
 pub phrase_less : (w : ℕ) (pending rest : List ℕ) → 1 ≤ length pending → IsTwoLess pending rest →
     for_phrases w (length rest) + w ≤ for_phrases w (length pending)
 unfolding for_phrases phrases_in

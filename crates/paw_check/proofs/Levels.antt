@@ -1,4 +1,4 @@
--- Tables read the same with as many levels of calls as there are, and those behind a description never describe again.
+-- Tables read the same with as many levels of calls as there are, and those after a description never describe again.
 use Rattle.std.proofs.Common.{◌≡◌, ℕ, zero, suc, ◌+◌, ◌≤◌, ◌<◌, true, false, List, [], ◌∷◌, ◌⊎◌, inl, inr, Option, Some, None, refl, sym}
 use Rattle.std.proofs.Common.{subst, length, arith}
 use Rattle.std.specs.Prelude.{nat_le}

@@ -57,7 +57,7 @@ module _ (g : Story) (valid : ValidStory g) (condacts text : ℕ) (k : Takes) (e
   saying_stays words go r within h =
       let fit : fits r words ≡ true = le-leb (length r.current + length words) 65535 (omega (arith, enough.limit)) in rw fit h
 
-  -- what is said takes no more than it may, and what comes behind it stays within the bound
+  -- What is said takes no more than it may, and what follows it stays within the bound.
   says_on : (a b most : ℕ) (words : List ℕ) (go : Run → Ending) (r : Run) → length words ≤ most → Room a (most + b) r →
       (Room a b (printed words r) → Stays (go (printed words r))) → Stays (saying words go r)
   says_on a b most words go r within h on =
@@ -71,9 +71,9 @@ module _ (g : Story) (valid : ValidStory g) (condacts text : ℕ) (k : Takes) (e
       record { ready = ready; few = omega (arith, few, enough.reads); short = omega (arith, short, enough.bytes) }
 
   module _ (go : TurnPhase → Run → Ending) (goes : Goes go) where
-    -- ---- behind a table ----
+    -- ---- after a table ----
 
-    -- the location is described, with room for what comes behind table 0
+    -- The location is described, with room for what follows table 0.
     described_again : (r : Run) → Room (reads_behind k 0) (text_behind k 0) r → Stays (go AtDescribe r)
     described_again r h =
         goes AtDescribe r
@@ -207,7 +207,7 @@ module _ (g : Story) (valid : ValidStory g) (condacts text : ℕ) (k : Takes) (e
 
   -- ---- readings ----
 
-  -- through so many phases
+  -- The bound holds through any number of phases.
   turn_stays : (n : ℕ) → Goes (turn g n)
   unfolding turn
   turn_stays zero s r h = tt

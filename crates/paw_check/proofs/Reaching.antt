@@ -1,4 +1,4 @@
--- Which tables reading may come to, level by level.
+-- Which tables reading may reach, level by level.
 use Rattle.std.proofs.Common.{◌≡◌, ℕ, zero, suc, ◌+◌, ◌≤◌, ◌<◌, ◌==◌, ◌||◌, Bool, true, false, List, [], ◌∷◌, ◌⊎◌, inl, inr, Option, Some}
 use Rattle.std.proofs.Common.{None, refl, sym, ap, subst, length, arith, IsTrue}
 use Rattle.std.specs.Prelude.{nat_le, nat_lt, count_by, cond}

@@ -44,7 +44,7 @@ TablesTake g condacts text k =
     (pending m n t : ℕ) (r : Run) → t ≤ 2 → IsReady condacts text pending g.game r → HasUsed m n r → m + k.reads t ≤ condacts → n + k.prints t ≤ text →
     TableWithin condacts text pending g.game (m + k.reads t) (n + k.prints t) (table_read g t r)
 
--- behind table 0 the location may be described again
+-- After table 0 the location may be described again.
 abbrev pub DescribesOnly : ℕ → Out → Type 0
 DescribesOnly zero x = Unit {0}
 DescribesOnly (suc t) x = LeavesDescribed x
@@ -71,7 +71,7 @@ round_reads k = reads_of k AtResponse
 abbrev pub round_text : Takes → ℕ
 round_text k = text_of k AtResponse
 
--- what comes behind the table t, up to the next phrase
+-- What follows the table t, up to the next phrase.
 abbrev pub reads_behind : Takes → ℕ → ℕ
 reads_behind k zero = k.reads 1 + k.reads 2
 reads_behind k (suc zero) = k.reads 2
@@ -166,7 +166,7 @@ module _ (g : Story) (valid : ValidStory g) (condacts text : ℕ) where
   -- ---- room ----
 
   module _ (k : Takes) where
-    -- a run with room for a condacts and b bytes, and behind them for all phrases of its line and the prompt
+    -- A run with room for a condacts and b bytes, and after them for all phrases of its line and the prompt.
     pub record HasRoom (a b : ℕ) (r : Run) : Type 0 where
       pub ready : Ready r
       pub few : length r.read + (a + for_phrases (round_reads k) (length r.pending)) ≤ condacts

@@ -80,7 +80,7 @@ allowed_above : (o : Option OpenLoop) (n a b : ℕ) → n ≤ a → n ≤ b → 
 allowed_above None n a b h k = k
 allowed_above (Some l) n a b h k = h
 
--- what a loop takes at most that has so many objects to go over: a pass for each, and what comes behind the last
+-- The most that a loop takes over this number of objects: a pass for each, and what follows the last.
 abbrev pub turned : ℕ → ℕ → ℕ → ℕ
 turned once more zero = more
 turned once more (suc n) = once + turned once more n
@@ -117,8 +117,8 @@ module _ (g : Story) (valid : ValidStory g) (kind : SpentKind) (limit pending : 
       Steady g.game kind limit 0 true verb 0 r.world r.earlier r.pending r.turning r.events r.traces r.pieces
       × ((r.turning ≡ None) × (used kind r ≤ 0))
 
-  -- What reading comes to, with so much used at most where the location is described again; what holds where the table
-  -- is left is told apart.
+  -- How reading ends, with at most this much used where the location is described again; what holds where the table is
+  -- left is stated apart.
   abbrev pub Ends : (Run → Type 0) → ℕ → Out → Type 0
   Ends Leaving most (Left a r) = Leaving r
   Ends Leaving most (Waits p path r) = Closed kind limit r.traces r.pieces

@@ -51,7 +51,7 @@ holds_measures g name texts row h holds = record {
 none_past : (g : GameLists) (texts : List (List ℕ)) (n : ℕ) → length texts ≤ n → most_at g texts n ≡ 0
 none_past g texts n past = ap (λ text. most_bytes g (unwrap_or text [])) (slice_get_past texts n past)
 
--- a row tells the measure of each text, and of none past the last
+-- A row holds the measure of each text, and of none past the last.
 pub at_alike : (g : GameLists) (texts : List (List ℕ)) (row : List ℕ) (n : ℕ) → length texts ≤ 256
     → Holds row (most_at g texts) → slice_index_or row n 0 ≡ capped (most_at g texts n)
 at_alike g texts row n few holds = elim (cases_lt n 256) [
@@ -135,7 +135,7 @@ text_alike g p are few many c =
     ap capped (kind_alike g p c are few many (kind_of c.code)) ∙ capped_again (kind_most g (kind_of c.code) c)
     ∙ ap capped (sym (text_is g c))
 
--- the greatest of what a row tells of messages
+-- The greatest measure that a row holds for these messages.
 pub greatest_of_row : (g : GameLists) (row : List ℕ) (messages : List ℕ) → length g.system ≤ 256 → Holds row (most_put g)
     → greatest (map (λ s. slice_index_or row s 0) messages) ≡ capped (greatest (map (most_put g) messages))
 greatest_of_row g row messages few holds =

@@ -107,7 +107,7 @@ module _ (g : Story) (valid : ValidStory g) (flat : call_too_deep g.game ≡ Non
       (λ p k. any_within p (condacts_in g.game) (reached_from g.game turn_tables) t
       (in_reached g.game valid.game turn_tables lv t few at (of_game g.game valid.game turn_tables of_turn lv t at)) (stands.0 p k))
 
-  -- what calls from a table at a level come to
+  -- How calls from a table at a level end.
   abbrev CallsEnd : (n lv t : ℕ) → Type 0
   CallsEnd n lv t =
       (c : Condact) → Stands t c → c.code ≡ PROCESS → (m : ℕ) (r : Run) → Steadily lv r → used kind r ≤ m + own c →

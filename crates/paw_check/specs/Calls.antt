@@ -9,40 +9,40 @@ use Rattle.paw_game.specs.Game.{GameLists}
 use Rattle.paw_game.specs.Tables.{table_at}
 use Rattle.paw_check.specs.Verbs.{is_among}
 
--- the three tables that a turn reads, at level 0
+-- The three tables that a turn reads, at level 0.
 abbrev pub turn_tables : List ℕ
 turn_tables = RESPONSE_TABLE ∷ DESCRIBED_TABLE ∷ FRAME_TABLE ∷ []
 
--- the numbers of all tables
+-- The numbers of all tables.
 abbrev pub all_tables : GameLists → List ℕ
 all_tables g = range_with_len 0 (length g.tables)
 
--- a condact calls a table
+-- Whether a condact calls a table.
 abbrev pub is_call : Condact → Bool
 is_call c = c.code == PROCESS
 
--- a condact calls this table
+-- Whether a condact calls this table.
 abbrev pub is_call_of : ℕ → Condact → Bool
 is_call_of u c = is_call c && (c.a == u)
 
--- the condacts of a table, one entry after the other
+-- The condacts of a table, one entry after the other.
 abbrev pub condacts_in : GameLists → ℕ → List Condact
 condacts_in g t = flat_map (λ e. e.condacts) (table_at g t)
 
--- the tables that some condact of these tables calls, whether play can come to it or not
+-- The tables that some condact of these tables calls, whether play can reach it or not.
 abbrev pub called_from : GameLists → List ℕ → List ℕ
 called_from g ts = let cs = flat_map (condacts_in g) ts in filter (λ u. list_any (is_call_of u) cs) (all_tables g)
 
--- the tables n levels of calls below these
+-- The tables n levels of calls below these.
 unfoldable pub below : GameLists → List ℕ → ℕ → List ℕ
 below g ts zero = ts
 below g ts (suc n) = called_from g (below g ts n)
 
--- the tables that reading these may come to within ten levels of calls, these among them
+-- The tables that reading these may reach within ten levels of calls, these among them.
 abbrev pub reached_from : GameLists → List ℕ → List ℕ
 reached_from g ts =
     let reached = flat_map (below g ts) (range_with_len 0 (suc LEVEL_LIMIT)) in filter (is_among reached) (all_tables g)
 
--- how many levels of calls a turn may come to: as many as have a table, of the first to the tenth
+-- How many levels of calls a turn may reach: those among the first to the tenth that have a table.
 abbrev pub most_levels : GameLists → ℕ
 most_levels g = count_by (λ n. nat_lt 0 (length (below g turn_tables n))) (range_with_len 1 LEVEL_LIMIT)

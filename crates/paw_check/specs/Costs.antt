@@ -15,48 +15,48 @@ use Rattle.paw_check.specs.Calls.{turn_tables, is_call, condacts_in, reached_fro
 
 -- ---- which entries count ----
 
--- the verb may change while tables are read: some table that a turn may come to has a condact that may write it
+-- Whether the verb may change while tables are read: a table that a turn may reach has a condact that may write it.
 abbrev pub verb_may_change : GameLists → Bool
 verb_may_change g = list_any may_write_verb (flat_map (condacts_in g) (reached_from g turn_tables))
 
--- the entries of a table that may be read for a verb: those that match it, or all where the verb may change
+-- The entries of a table that may be read for a verb: those that match it, or all where the verb may change.
 abbrev pub counting : Bool → ℕ → List Entry → List Entry
 counting changing verb entries = filter (λ e. changing || is_for e.verb verb) entries
 
 -- ---- one table ----
 
--- In one reading of a table its condacts are passed over once, and for each DOALL once more for each object: a DOALL is
--- opened at most once, since reading goes on behind it, and it takes each object at most once.
+-- How often a reading of a table may pass over its condacts: once, and for each DOALL once more per object. A DOALL is
+-- opened at most once, since reading goes on after it, and takes each object at most once.
 abbrev pub most_passes : GameLists → List Condact → ℕ
 most_passes g cs = 1 + length g.objects * count_by (λ c. c.code == DOALL) cs
 
--- what a condact takes: of its own, and where it is a call what the table takes that it calls
+-- What a condact takes: its own share, and for a call what the called table takes.
 abbrev pub with_call : (Condact → ℕ) → (ℕ → ℕ) → Condact → ℕ
 with_call own called c = own c + (if is_call c then called c.a else 0)
 
--- what these condacts take, each in each pass
+-- What these condacts take together, over all passes.
 abbrev pub passed_over : GameLists → (Condact → ℕ) → List Condact → ℕ
 passed_over g takes cs = most_passes g cs * sum_by takes cs
 
 -- ---- tables and calls ----
 
--- what the reading of a table takes, by what each condact takes of its own and which entries count; n more levels of
--- calls below it are looked at
+-- What the reading of a table takes, given what each condact takes of its own and which entries count; n levels of
+-- calls below it are included.
 unfoldable pub cost : GameLists → (Condact → ℕ) → (List Entry → List Entry) → ℕ → ℕ → ℕ
 cost g own count zero t = passed_over g own (flat_map (λ e. e.condacts) (count (table_at g t)))
 cost g own count (suc n) t =
     passed_over g (with_call own (cost g own count n)) (flat_map (λ e. e.condacts) (count (table_at g t)))
 
--- the values that the verb's flag may have: all verbs of a sentence, and 255 for none
+-- The values that the verb's flag may have: all verbs of a sentence, and 255 for none.
 abbrev pub all_verbs : List ℕ
 all_verbs = range_with_len 0 (suc NO_WORD)
 
--- what the reading of a table takes with the verb that takes most
+-- What the reading of a table takes with the verb for which it takes most.
 abbrev pub most_cost : GameLists → (Condact → ℕ) → ℕ → ℕ
 most_cost g own t =
     let changing = verb_may_change g in
     greatest (map (λ verb. cost g own (counting changing verb) LEVEL_LIMIT t) all_verbs)
 
--- what it takes at most to read each of a turn's tables once
+-- The most that it takes to read each of a turn's tables once.
 abbrev pub round_cost : GameLists → (Condact → ℕ) → ℕ
 round_cost g own = sum_by (most_cost g own) turn_tables

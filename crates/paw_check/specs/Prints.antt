@@ -23,40 +23,40 @@ use Rattle.paw_check.specs.Measures.{greatest, longest_name, most_at, most_of, m
 
 -- ---- parts ----
 
--- a flag is printed in at most three digits
+-- The most bytes of a flag that is printed: three digits.
 abbrev pub most_flag : ℕ
 most_flag = 3
 
--- the number of turns, which stands in two flags, is printed in at most five
+-- The most bytes of the number of turns, which stands in two flags: five digits.
 abbrev pub most_turns : ℕ
 most_turns = 5
 
--- a list of objects, in lines or as a sentence: the texts of all objects, for each at most five bytes that end its line
--- or join it to the object before, and two that end the sentence
+-- The most bytes of a list of objects, in lines or as a sentence: the texts of all objects, at most five bytes for each
+-- that end its line or join it to the one before, and two that end the sentence.
 abbrev pub most_list : GameLists → ℕ
 most_list g = sum_by (λ o. length o.text) g.objects + 5 * length g.objects + 2
 
--- a list of objects, or a message where there is nothing to list
+-- The most bytes of a list of objects, or of a message where there is nothing to list.
 abbrev pub most_list_or_said : GameLists → ℕ → ℕ
 most_list_or_said g s = max (most_list g) (most_said g s)
 
--- INVEN prints its message, and then a list in which each object may be marked as worn, or that nothing is held
+-- The most bytes of INVEN: its message, and then a list in which each object may be marked as worn, or a message.
 abbrev pub most_inventory : GameLists → ℕ
 most_inventory g =
     let held = most_list g + length g.objects * most_put g IS_WORN_MESSAGE in
     most_said g INVENTORY_MESSAGE + max held (most_said g EMPTY_HANDED_MESSAGE)
 
--- TURNS prints the number of turns between its messages
+-- The most bytes of TURNS: the number of turns between its messages.
 abbrev pub most_count : GameLists → ℕ
 most_count g =
     most_put g TURNS_MESSAGE + most_turns + most_put g TURN_MESSAGE + most_put g PLURAL_MESSAGE
     + most_said g TURNS_END_MESSAGE
 
--- SCORE prints the score between its messages
+-- The most bytes of SCORE: the score between its messages.
 abbrev pub most_score : GameLists → ℕ
 most_score g = most_put g SCORE_MESSAGE + most_flag + most_said g SCORE_END_MESSAGE
 
--- the messages that an action on an object may put
+-- The messages that an action on an object may put.
 abbrev pub said_of_objects : List ℕ
 said_of_objects =
     IMPOSSIBLE_MESSAGE ∷ NOT_WORN_MESSAGE ∷ WORN_MESSAGE ∷ HELD_MESSAGE ∷ NOT_HERE_MESSAGE ∷ TOO_MANY_MESSAGE
@@ -64,30 +64,30 @@ said_of_objects =
     ∷ DROPPED_MESSAGE ∷ NOT_WEARABLE_MESSAGE ∷ NOT_REMOVABLE_MESSAGE ∷ HANDS_FULL_MESSAGE ∷ TOO_HEAVY_MESSAGE
     ∷ PUT_IN_MESSAGE ∷ NOT_TAKEN_OUT_MESSAGE ∷ NOT_HELD_MESSAGE ∷ NOT_PUT_ON_MESSAGE ∷ NOT_INSIDE_MESSAGE ∷ []
 
--- an action on an object prints one of these messages, and then maybe the text of a container and what ends such a line
+-- The most bytes of an action on an object: one of these messages, and maybe a container's text and a line's end.
 abbrev pub most_of_action : GameLists → ℕ
 most_of_action g =
     greatest (map (most_put g) said_of_objects) + longest_name g + most_said g NAME_END_MESSAGE
 
--- the text that a condact's first parameter names; where the number comes from a flag it may be the longest of all
+-- The most bytes of the text that a condact's first parameter names; of any text, where the number comes from a flag.
 abbrev pub most_named : GameLists → Texts → Condact → ℕ
 most_named g texts c = if is_indirect c.code then most_of g texts else most_at g texts c.a
 
 -- ---- rows ----
 
--- a condact that prints nothing
+-- The row of a condact that prints nothing.
 abbrev pub silent : GameLists → Condact → ℕ
 silent g c = 0
 
--- an action on an object, named by its number or by the sentence
+-- The row of an action on an object, which its number or the sentence names.
 abbrev pub on_object : GameLists → Condact → ℕ
 on_object g c = most_of_action g
 
--- a mark prints its name and its numbers, in at most 20 bytes
+-- The row of a mark: its name and its numbers, in at most 20 bytes.
 abbrev pub mark : GameLists → Condact → ℕ
 mark g c = 20
 
--- the most bytes that the condacts of the plain codes from 0 on print, in their order
+-- The most bytes that the condacts of the plain codes from 0 on print, in their order.
 unfoldable pub most_printed : List (GameLists → Condact → ℕ)
 most_printed =
     silent ∷ silent ∷ silent ∷ silent ∷  -- AT, NOTAT, ATGT, ATLT
@@ -139,6 +139,6 @@ most_printed =
     mark ∷ mark ∷ mark ∷ mark ∷  -- PAUSE, MODE, LINE, INPUT
     []
 
--- the most bytes that a condact prints; an indirect one has the row of the plain one
+-- The most bytes that a condact prints; an indirect one has the row of the plain one.
 unfoldable pub most_text : GameLists → Condact → ℕ
 most_text g c = (slice_index_or most_printed (plain_code c.code) silent) g c

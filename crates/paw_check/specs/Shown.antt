@@ -7,14 +7,14 @@ use Rattle.paw_check.specs.declared.verdict.Cause.TheVariants as cause
 use Rattle.paw_check.specs.declared.verdict.Verdict.{Verdict}
 use Rattle.paw_check.specs.declared.verdict.Verdict.TheVariants as verdict
 
--- the name of a cause why a game has no bound
+-- The name of a cause for which a game has no bound.
 abbrev pub cause_name : Cause → Name
 cause_name cause.Calls = codes "Calls"
 cause_name cause.Redescribe = codes "Redescribe"
 cause_name cause.Condacts = codes "Condacts"
 cause_name cause.Text = codes "Text"
 
--- what is shown of a game: its bound, or the first cause why there is none, with the table and the entry
+-- What is shown of a game: its bound, or the first cause why there is none, with the table and the entry.
 abbrev pub verdict_text : Verdict → Text
 verdict_text (verdict.Bound levels condacts text) = codes "BOUND levels "
     ++ (decimal levels ++ (codes " condacts " ++ (decimal condacts ++ (codes " text " ++ (decimal text ++ codes "\n")))))

@@ -19,11 +19,11 @@ use Rattle.paw_check.specs.Bounds.{most_condacts, most_piece}
 
 -- ---- places ----
 
--- the number of the first entry with such a condact
+-- The number of the first entry that has such a condact.
 abbrev pub entry_with : (Condact → Bool) → List Entry → Option ℕ
 entry_with is_so entries = position (λ e. list_any is_so e.condacts) entries
 
--- the first of these tables with such a condact, and its first entry with one
+-- The first of these tables with such a condact, and its first entry with one.
 abbrev pub first_with : GameLists → (Condact → Bool) → List ℕ → Option (ℕ × ℕ)
 first_with g is_so [] = None
 first_with g is_so (t ∷ ts) =
@@ -31,24 +31,24 @@ first_with g is_so (t ∷ ts) =
 
 -- ---- causes ----
 
--- a call in a table ten levels of calls below a turn's tables; a circle of calls comes there too
+-- The first call in a table ten levels of calls below a turn's tables; a circle of calls gets there too.
 abbrev pub call_too_deep : GameLists → Option (ℕ × ℕ)
 call_too_deep g = first_with g is_call (below g turn_tables LEVEL_LIMIT)
 
--- a condact after which the location is described again, and so the tables of a turn are read once more
+-- Whether after a condact the location is described again, so that the tables of a turn are read once more.
 abbrev pub redescribes : Condact → Bool
 redescribes c = does_one_of (DESC ∷ SAVE ∷ LOAD ∷ RESET ∷ []) c
 
--- such a condact in a table that reading one of the two tables after a description may come to: then how often the
--- location is described isn't known
+-- The first such condact in a table that may be reached from the two tables read after a description: then it isn't
+-- known how often the location is described.
 abbrev pub circle_of_descriptions : GameLists → Option (ℕ × ℕ)
 circle_of_descriptions g = first_with g redescribes (reached_from g (DESCRIBED_TABLE ∷ FRAME_TABLE ∷ []))
 
--- a number above its limit is a cause that lies in no single place, which 0 and 0 stand for
+-- Where a number is above its limit, the place of that cause: 0 and 0, since it lies in no single place.
 abbrev pub above : ℕ → ℕ → Option (ℕ × ℕ)
 above limit n = if nat_lt limit n then Some (0, 0) else None
 
--- the causes in their order, each with its place where it is found
+-- The causes in their order, each with its place where it is found.
 abbrev pub causes : GameLists → List (Cause × Option (ℕ × ℕ))
 causes g =
     (cause.Calls, call_too_deep g) ∷ (cause.Redescribe, circle_of_descriptions g)
@@ -56,15 +56,15 @@ causes g =
 
 -- ---- the verdict ----
 
--- no bound is known, for this cause at this place
+-- The verdict that no bound is known, for this cause at this place.
 abbrev pub unknown : Cause → (ℕ × ℕ) → Verdict
 unknown why (t, e) = verdict.Unknown why t e
 
--- the first cause decides; with none there is a bound
+-- The verdict by the first cause that is found, and the bound where there is none.
 abbrev pub first_cause : Verdict → List (Cause × Option (ℕ × ℕ)) → Verdict
 first_cause bound [] = bound
 first_cause bound ((why, place) ∷ others) = option_map_or (unknown why) place (first_cause bound others)
 
--- what is found of a game
+-- The verdict on a game.
 unfoldable pub bounds : GameLists → Verdict
 bounds g = first_cause (verdict.Bound (most_levels g) (most_condacts g) (most_piece g)) (causes g)

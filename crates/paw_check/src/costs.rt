@@ -1,4 +1,4 @@
-// What the reading of each table takes, level by level of calls. Numbers stop at the greatest of 32 bits.
+// What reading each table takes, level by level of calls. Numbers stop at the greatest of 32 bits.
 
 ghost use Rattle.std.specs.Prelude.{◌≡◌, ◌≤◌, [], IfOk, length, slice_get};
 ghost use Rattle.std.specs.Option.{unwrap_or};
@@ -16,7 +16,7 @@ use paw_base::tables::{DESCRIBED_TABLE, FRAME_TABLE, RESPONSE_TABLE};
 use paw_game::parts::{Entry, GameParts, Table};
 use std::alloc::Global;
 
-/// What the reading of each table takes for each verb, where the tables that it calls take this.
+/// What reading each table takes for each verb, where the tables that it calls take this.
 fn level(
     alloc: Global,
     parts: &GameParts,
@@ -55,7 +55,7 @@ pub(crate) fn count_of(things: usize) -> u32
     things.min(u32::MAX as usize) as u32
 }
 
-/// What the reading of each table takes for each verb, with ten levels of calls below it.
+/// What reading each table takes for each verb, with ten levels of calls below it.
 fn costs(alloc: Global, parts: &GameParts, own: &Own, changing: bool) -> Result<Vec<Row>, NoRoom>
     requires few { length parts.now.tables ≤ 256 }
     ensures long { IfOk result (λ rows. length rows.items ≡ length parts.now.tables) }

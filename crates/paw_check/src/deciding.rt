@@ -23,7 +23,7 @@ use paw_game::game::Game;
 use paw_game::parts::GameParts;
 use std::alloc::Global;
 
-/// How many readings of a turn's tables a line may lead to: at most 128 phrases, and what was open before.
+/// The most readings of a turn's tables for a line: one for each of 128 phrases, and one for what was open before.
 const MOST_ROUNDS: u32 = 129;
 
 /// The most condacts that are read for a piece.
@@ -72,7 +72,7 @@ fn counted(alloc: Global, parts: &GameParts, levels: u8, changing: bool) -> Resu
     })
 }
 
-/// No bound is known, for a cause that lies in no single place.
+/// The verdict that no bound is known, for a cause that lies in no single place.
 fn nowhere(cause: Cause) -> Verdict
     ensures value { result ≡ verdict.Unknown cause 0 0 }
 {
@@ -84,10 +84,10 @@ fn nowhere(cause: Cause) -> Verdict
 }
 
 /// What any play of the game takes at most, with whatever routines, seed and lines; or the first cause why that isn't
-/// known. The answer is what the bounds of the game are by their definition.
+/// known. The answer is the verdict on the game by its definition.
 ///
 /// # Errors
-/// NoRoom only for want of memory.
+/// NoRoom only for lack of memory.
 pub fn check(alloc: Global, game: &Game) -> Result<Verdict, NoRoom>
     ensures value { IfOk result (λ verdict. verdict ≡ bounds game.now) }
 {

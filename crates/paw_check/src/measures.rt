@@ -9,7 +9,7 @@ ghost use Rattle.paw_check.specs.inner.Own.{byte_in, measure_in, measure_at};
 use crate::sums::{Row, greater};
 use paw_game::parts::{ObjectRow, Text};
 
-/// How long a text is.
+/// The length of a text.
 fn length_of(text: &[u8]) -> u32
     ensures value { result ≡ capped (length text.now) }
 {
@@ -40,14 +40,14 @@ pub(crate) fn all_names(objects: &[ObjectRow]) -> u32
     sum
 }
 
-/// The most bytes that a byte prints, where a name has so many.
+/// The most bytes that a byte prints, where the longest name has this many.
 fn measure_of(name: u32, byte: u8) -> u32
     ensures value { result ≡ byte_in name byte }
 {
     if byte == b'_' { name } else { 1 }
 }
 
-/// The most bytes that a text prints, where a name has so many.
+/// The most bytes that a text prints, where the longest name has this many.
 pub(crate) fn measure(name: u32, text: &[u8]) -> u32
     ensures value { result ≡ capped (measure_in name text.now) }
 {

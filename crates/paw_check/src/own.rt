@@ -1,4 +1,4 @@
-// What each condact takes of its own: one condact that is read, or bytes that are printed.
+// What each condact takes by itself: one condact that is read, or bytes that are printed.
 
 ghost use Rattle.std.specs.Prelude.{◌≡◌, ◌≤◌, length};
 ghost use Rattle.paw_base.specs.Condacts.{is_indirect, plain_code};
@@ -8,7 +8,7 @@ ghost use Rattle.paw_check.specs.inner.Own.{kind_of, kind_in, named_in, text_in,
 use crate::prints::Prints;
 use paw_base::parts::Condact;
 
-/// What is counted of a condact: that it is read, or the most bytes that it prints.
+/// What is counted for a condact: that it is read, or the most bytes that it prints.
 #[derive(Drop)]
 pub(crate) enum Own {
     Condacts,
@@ -16,7 +16,7 @@ pub(crate) enum Own {
 }
 
 impl Own {
-    /// What a condact takes of its own.
+    /// What a condact takes by itself.
     pub(crate) fn of(&self, condact: &Condact) -> u32
         ensures value { result ≡ own_in self.now condact.now }
     {

@@ -199,7 +199,7 @@ pub(crate) struct Prints {
     pub(crate) there: u32,
 }
 
-/// The most bytes of the text that a condact's first parameter names, of these or any.
+/// The most bytes of the text that a condact's first parameter names: one of these or, where a flag names it, any.
 fn named(texts: &Row, any: u32, condact: &Condact) -> u32
     ensures value { result ≡ named_in texts.now any condact.now }
 {

@@ -1,4 +1,4 @@
-// Which tables reading some tables may come to, level by level of calls.
+// Which tables may be reached from some tables, level by level of calls.
 
 ghost use Rattle.std.specs.Prelude.{◌≡◌, ◌≤◌, cond, IfOk, length, nat_lt};
 ghost use Rattle.paw_base.specs.declared.limits.TheConstants.{LEVEL_LIMIT};
@@ -13,7 +13,7 @@ use paw_base::limits::LEVEL_LIMIT;
 use paw_game::parts::GameParts;
 use std::alloc::Global;
 
-/// The tables that reading some tables may come to: all of them, those ten levels of calls below, and how many levels
+/// The tables that may be reached from some tables: all of them, those ten levels of calls below, and how many levels
 /// have a table.
 #[derive(Drop)]
 pub(crate) struct Reached {
@@ -31,7 +31,7 @@ fn mark(numbers: &[u8], marks: &mut [bool; 256])
     }
 }
 
-/// One where there is a table, else none.
+/// 1 if there is a table, otherwise 0.
 fn one_if_any(numbers: &[u8]) -> u8
     ensures value { result ≡ cond (nat_lt 0 (length numbers.now)) 1 0 }
     ensures small { result ≤ 1 }
@@ -39,7 +39,7 @@ fn one_if_any(numbers: &[u8]) -> u8
     if numbers.is_empty() { 0 } else { 1 }
 }
 
-/// The tables that reading these may come to within ten levels of calls.
+/// The tables that reading these may reach within ten levels of calls.
 pub(crate) fn reached_from(alloc: Global, parts: &GameParts, from: &[u8]) -> Result<Reached, NoRoom>
     requires few { length parts.now.tables ≤ 256 }
     ensures all { IfOk result (λ reached. reached.all.items ≡ reached_from parts.now from.now) }

@@ -1,4 +1,4 @@
-// What the reading of a table takes, verb by verb. Numbers stop at the greatest of 32 bits.
+// What reading a table takes, verb by verb. Numbers stop at the greatest of 32 bits.
 
 ghost use Rattle.std.specs.Prelude.{◌≡◌, ℕ, ◌+◌, ◌*◌, ◌<◌, ◌≤◌, ◌==◌, cond, max, length, count_by, sum_by};
 ghost use Rattle.std.specs.List.{slice_index_or};
@@ -45,7 +45,7 @@ fn is_for_every(changing: bool, entry: &Entry) -> bool
 
 // ---- the condacts of an entry ----
 
-/// How many of these condacts open a loop.
+/// The number of these condacts that open a loop.
 fn doalls(condacts: &[Condact]) -> u32
     ensures value { result ≡ capped (count_by is_doall condacts.now) }
 {
@@ -58,7 +58,7 @@ fn doalls(condacts: &[Condact]) -> u32
     count
 }
 
-/// What these condacts take of their own.
+/// What these condacts take by themselves.
 fn own_sum(own: &Own, condacts: &[Condact]) -> u32
     ensures value { result ≡ capped (sum_by (own_in own.now) condacts.now) }
 {
@@ -92,7 +92,7 @@ fn taken_sum(own: &Own, called: &[Row], verb: u8, condacts: &[Condact]) -> u32
     sum
 }
 
-/// Adds one to the table that a condact calls, where it calls one.
+/// Adds one for the table that a condact calls, if it calls one.
 fn count_call(condact: &Condact, counts: &mut Row)
     ensures value { (f : ℕ → ℕ) → Holds counts.old f → Holds counts.new (λ u. f u + cond (is_call_of u condact.now) 1 0) }
 {
@@ -113,7 +113,7 @@ fn count_calls(condacts: &[Condact], counts: &mut Row)
 
 // ---- the entries of a table ----
 
-/// How many loops the entries that count for every verb open.
+/// The number of loops that the entries that count for every verb open.
 fn every_doalls(changing: bool, entries: &[Entry]) -> u32
     ensures value { result ≡ capped (over_every changing (count_by is_doall) entries.now) }
 {
@@ -126,7 +126,7 @@ fn every_doalls(changing: bool, entries: &[Entry]) -> u32
     count
 }
 
-/// What the entries that count for every verb take of their own.
+/// What the entries that count for every verb take by themselves.
 fn every_own(own: &Own, changing: bool, entries: &[Entry]) -> u32
     ensures value { result ≡ capped (over_every changing (sum_by (own_in own.now)) entries.now) }
 {
@@ -160,7 +160,7 @@ fn every_calls(changing: bool, entries: &[Entry]) -> Row
     counts
 }
 
-/// How many loops the other entries of each verb open.
+/// The number of loops that the other entries of each verb open.
 fn verb_doalls(changing: bool, entries: &[Entry]) -> Row
     ensures value { Holds result (λ v. over_verb changing v (count_by is_doall) entries.now) }
 {
@@ -208,7 +208,7 @@ fn verb_taken(own: &Own, changing: bool, called: &[Row], entries: &[Entry]) -> R
     sums
 }
 
-/// What a table takes for a verb that was called so often.
+/// What a table takes for a verb, called this many times.
 fn called_times(counts: &Row, called: &[Row], table: usize, verb: usize) -> u32
     requires few { table < 256 }
     requires within { verb < 256 }
@@ -217,7 +217,7 @@ fn called_times(counts: &Row, called: &[Row], table: usize, verb: usize) -> u32
     counts[table].saturating_mul(cell_at(called, table, verb))
 }
 
-/// What the tables take for a verb that were called so often.
+/// What the tables take for a verb, each called this many times.
 fn called_sum(counts: &Row, called: &[Row], verb: usize) -> u32
     requires few { length called.now ≤ 256 }
     requires within { verb < 256 }
@@ -230,7 +230,7 @@ fn called_sum(counts: &Row, called: &[Row], verb: usize) -> u32
     sum
 }
 
-/// What is taken in all passes: one, and for each loop one for each object.
+/// What is taken in all passes: in one, and for each loop in one for each object.
 fn in_passes(objects: u32, doalls: u32, sum: u32) -> u32
     ensures value { result ≡ capped ((1 + objects * doalls) * sum) }
 {
@@ -240,9 +240,9 @@ fn in_passes(objects: u32, doalls: u32, sum: u32) -> u32
         .saturating_mul(sum)
 }
 
-/// What is found of the entries of a table: how many loops those that count for every verb open, what they take of
-/// their own, and how often they call each table; and for each verb how many loops its other entries open, and what
-/// they take with the tables that they call.
+/// What is found in the entries of a table. For those that count for every verb: the number of loops that they open,
+/// what they take by themselves, and how often they call each table. For the other entries of each verb: the number of
+/// loops that they open, and what they take with the tables that they call.
 #[derive(Drop)]
 struct Found {
     doalls: u32,
@@ -252,7 +252,7 @@ struct Found {
     verb_taken: Row,
 }
 
-/// Goes over the entries of a table.
+/// What is found in these entries of a table.
 fn look_over(own: &Own, changing: bool, called: &[Row], entries: &[Entry]) -> Found
     ensures value { IsFound result (own_in own.now) changing called.now entries.now }
 {
@@ -277,7 +277,7 @@ impl Found {
             .saturating_add(self.verb_taken[verb])
     }
 
-    /// What the reading of the table takes for a verb.
+    /// What reading the table takes for a verb.
     fn taken(&self, objects: u32, called: &[Row], verb: usize) -> u32
         requires few { length called.now ≤ 256 }
         requires within { verb < 256 }
@@ -287,7 +287,7 @@ impl Found {
         in_passes(objects, doalls, self.sum(called, verb))
     }
 
-    /// The same for each verb.
+    /// What reading the table takes for each verb.
     fn row(&self, objects: u32, called: &[Row]) -> Row
         requires few { length called.now ≤ 256 }
         ensures value { Holds result (found_taken objects self.now called.now) }
@@ -300,7 +300,7 @@ impl Found {
     }
 }
 
-/// What the reading of a table with these entries takes, for each verb.
+/// What reading a table with these entries takes, for each verb.
 pub(crate) fn table_row(
     own: &Own,
     changing: bool,

@@ -49,7 +49,7 @@ fn with_tables(
     Ok(parts)
 }
 
-/// The line that is shown of a game; none where its parts break a rule.
+/// The line that is shown for a game; none where its parts break a rule.
 fn shown(alloc: Global, parts: GameParts) -> Result<String, NoRoom> {
     match Game::new(parts) {
         Ok(game) => check(alloc, &game)?.text(alloc),

@@ -73,7 +73,7 @@ fn list_of(parts: &GameParts) -> u32
         .saturating_add(2)
 }
 
-/// The same by the game.
+/// The most bytes of any of these messages, as the definition gives them for the game.
 fn most_put_of(parts: &GameParts, system: &Row, messages: &[u8]) -> u32
     requires valid { Valid parts.now }
     requires system { Holds system.now (most_put parts.now) }
@@ -175,7 +175,7 @@ fn any_of(parts: &GameParts, texts: &[Text]) -> u32
     greatest_measure(longest_name(&parts.objects), texts)
 }
 
-/// What is kept of a game's texts.
+/// The most bytes of a game's texts, as they are kept for its condacts.
 pub(crate) fn prints_of(parts: &GameParts) -> Prints
     requires valid { Valid parts.now }
     ensures value { ArePrints parts.now result }
@@ -195,7 +195,7 @@ pub(crate) fn prints_of(parts: &GameParts) -> Prints
     }
 }
 
-/// A location or that it is dark, and a newline.
+/// The most bytes of a location, or of the message that it is dark, and a newline.
 fn view_of(parts: &GameParts, system: &Row) -> u32
     requires system { Holds system.now (most_put parts.now) }
     ensures value { result ≡ capped (most_view parts.now) }
@@ -204,7 +204,7 @@ fn view_of(parts: &GameParts, system: &Row) -> u32
     greater(system[usize::from(DARK_MESSAGE)], location).saturating_add(1)
 }
 
-/// Why a phrase isn't carried out, and a newline.
+/// The most bytes that say why a phrase isn't carried out, and a newline.
 fn refusal_of(parts: &GameParts, system: &Row) -> u32
     requires valid { Valid parts.now }
     requires system { Holds system.now (most_put parts.now) }
@@ -213,7 +213,7 @@ fn refusal_of(parts: &GameParts, system: &Row) -> u32
     most_put_of(parts, system, &REFUSALS).saturating_add(1)
 }
 
-/// What a round prints beside its tables: a view and a refusal.
+/// The most bytes that a round prints besides its tables: a view and a refusal.
 pub(crate) fn most_outside(parts: &GameParts, prints: &Prints) -> u32
     requires valid { Valid parts.now }
     requires prints { ArePrints parts.now prints.now }
@@ -222,7 +222,7 @@ pub(crate) fn most_outside(parts: &GameParts, prints: &Prints) -> u32
     view_of(parts, &prints.system).saturating_add(refusal_of(parts, &prints.system))
 }
 
-/// What a piece prints behind its rounds: the goodbye, what a timeout says, and the prompt.
+/// The most bytes that a piece prints after its rounds: the goodbye, what is said of a timeout, and the prompt.
 pub(crate) fn most_end(parts: &GameParts, prints: &Prints) -> u32
     requires prints { ArePrints parts.now prints.now }
     ensures value { result ≡ capped (most_end parts.now) }

@@ -1,4 +1,4 @@
-// What is found of a game.
+// The verdict on a game.
 
 ghost use Rattle.std.specs.Prelude.{◌≡◌, IfOk, string_bytes};
 ghost use Rattle.paw_check.specs.Shown.{cause_name, verdict_text};
@@ -17,7 +17,7 @@ pub enum Cause {
 }
 
 impl Cause {
-    /// Its name.
+    /// The name of the cause.
     fn name(self) -> &'static str
         ensures value { result.now ≡ cause_name self }
     {
@@ -31,7 +31,7 @@ impl Cause {
 }
 
 /// What any play of a game takes at most: levels of calls, and condacts and bytes of each piece. Or the first cause why
-/// that isn't known, and the table and the entry that it was found at; 0 and 0 where it lies in no single one.
+/// that isn't known, with the table and the entry where it was found; 0 and 0 where it lies in no single one.
 #[derive(Clone, Copy, Drop, PartialEq, Eq, Debug)]
 pub enum Verdict {
     Bound {
@@ -47,10 +47,10 @@ pub enum Verdict {
 }
 
 impl Verdict {
-    /// The line that is shown of it.
+    /// The line that is shown for a verdict.
     ///
     /// # Errors
-    /// NoRoom only for want of memory.
+    /// NoRoom only for lack of memory.
     pub fn text(&self, alloc: Global) -> Result<String, NoRoom>
         ensures value { IfOk result (λ text. string_bytes text ≡ verdict_text self.now) }
     {

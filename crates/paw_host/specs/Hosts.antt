@@ -17,7 +17,7 @@ use Rattle.paw_host.specs.declared.outcome.HostOutcome.{HostOutcome}
 use Rattle.paw_host.specs.declared.outcome.HostOutcome.TheVariants as outcome
 use Rattle.paw_host.specs.declared.lines.TheConstants.{HOST_LIMIT}
 
--- the first n lines were taken, in order
+-- The first n lines were taken, in order.
 pub record HasTaken (old new : Standing) (n : ℕ) : Type 0 where
   pub there : n ≤ length old.lines
   pub lines : new.lines ≡ drop n old.lines
@@ -41,11 +41,11 @@ Hosts g seed first old new (outcome.Outside c) = InHost g seed first old (moment
 Hosts g seed first old new outcome.Memory = new ≡ old
 Hosts g seed first old new _ = ⊥
 
--- the file of this name holds the image of this game
+-- The file of this name holds the image of this game.
 abbrev pub Holds : Standing → Name → GameLists → Type 0
 Holds s name g = (bytes : Bytes) × (s.files name ≡ Some bytes) × IsImage bytes g
 
--- the file of this name holds no image of a valid game: the first rule that its bytes break is broken at this place
+-- The file of this name holds no image of a valid game; the first rule that its bytes break is broken at this place.
 abbrev pub HoldsDamage : Standing → Name → ℕ → Type 0
 HoldsDamage s name at = (bytes : Bytes) × (s.files name ≡ Some bytes) × ((g : GameLists) → ¬ IsImage bytes g)
     × (bad bytes ≡ Some at)
@@ -61,11 +61,11 @@ pub data HostsFile (rows : RoutineRows) (name : Name) (seed : Seed) (old new : S
   failed : new ≡ old → HostsFile rows name seed old new (outcome.Outside call.Load)
   wanting : new ≡ old → HostsFile rows name seed old new outcome.Memory
 
--- what stands at each moment of it: that the moments are such ones is what `Come` says
+-- What stands at each moment of hosting; `Come` says that all its moments are of this kind.
 abbrev pub HostsAtEachMoment : ((Moment → Type 0) → Type 0) → RoutineRows → Name → Seed → Standing → Type 0
 HostsAtEachMoment Come rows name seed old = (g : GameLists) (first : Sessions) → Holds old name g →
     BeginsWith (story_of g rows) first old → Come (InHost (story_of g rows) seed first old)
 
--- the two counts of a load
+-- The two counts of a load: of loads that failed, and of loads that found no file.
 abbrev pub load_calls : List StageCall
 load_calls = call.Load ∷ call.LoadAbsent ∷ []

@@ -19,23 +19,23 @@ use Rattle.paw_host.specs.Promise.{BeginsWith, InHost}
 
 -- ---- one name among others ----
 
--- what a line asks of this name, if it does, and then what comes later
+-- What a line asks of this name, if anything, and then what comes later.
 abbrev pub asked_first : Name → Option Request → List (Option Text) → List (Option Text)
 asked_first name None later = later
 asked_first name (Some r) later = if bytes_eq name r.name then r.text ∷ later else later
 
--- what these lines ask of this name, in order: no text, or this one
+-- What these lines ask of this name, in order: each a text, or none.
 unfoldable pub asked_of : Name → Lines → List (Option Text)
 asked_of name [] = []
 asked_of name (line ∷ lines) = asked_first name (request_of line) (asked_of name lines)
 
--- the answer to a line that asks something of this name, if it does, and then what comes later
+-- The answer to a line that asks something of this name, if it does, and then the later answers.
 abbrev pub answered_first : Story → Seed → Sessions → Name → Option Request → Texts → Texts
 answered_first g seed sessions name None later = later
 answered_first g seed sessions name (Some r) later =
     if bytes_eq name r.name then (answer g seed (sessions r.name) r.text).body ∷ later else later
 
--- the answers in the replies to these lines that are to this name, in order
+-- The answers to this name among the replies to these lines, in order.
 unfoldable pub answered_to : Story → Seed → Sessions → Name → Lines → Texts
 answered_to g seed sessions name [] = []
 answered_to g seed sessions name (line ∷ lines) =
@@ -44,12 +44,12 @@ answered_to g seed sessions name (line ∷ lines) =
 
 -- ---- one session alone ----
 
--- a session, once all this was asked of it
+-- A session once all this was asked of it.
 unfoldable pub session_after : Story → Seed → Session → List (Option Text) → Session
 session_after g seed session [] = session
 session_after g seed session (text ∷ texts) = session_after g seed (answer g seed session text).session texts
 
--- its answers, in order
+-- The answers of a session that all this is asked of, in order.
 unfoldable pub answers_of : Story → Seed → Session → List (Option Text) → Texts
 answers_of g seed session [] = []
 answers_of g seed session (text ∷ texts) =
@@ -57,15 +57,15 @@ answers_of g seed session (text ∷ texts) =
 
 -- ---- the laws ----
 
--- The session of a name, and what the name is answered, come of that session and of what is asked of that name alone.
+-- The session and the answers of a name follow from its earlier session and from what is asked of it, and nothing else.
 pub record EachPlaysAlone : Type 0 where
   pub session : (g : Story) (seed : Seed) (sessions : Sessions) (name : Name) (lines : Lines) →
       sessions_after g seed sessions lines name ≡ session_after g seed (sessions name) (asked_of name lines)
   pub answers : (g : Story) (seed : Seed) (sessions : Sessions) (name : Name) (lines : Lines) →
       answered_to g seed sessions name lines ≡ answers_of g seed (sessions name) (asked_of name lines)
 
--- Where a session took all texts that were asked of it, and its reading then waits, it answered them with the pieces of
--- that reading, one for each. One that was begun by the name alone was answered with all pieces of its reading.
+-- A session that took all texts that were asked of it, and whose reading then waits, answered each with one piece of
+-- that reading. One that was begun by the name alone answered with all pieces of its reading.
 pub record PiecesAreAnswered : Type 0 where
   pub later : (g : Story) (seed : Seed) (es texts : Lines) (p : Prompt) (path : List Frame) (r : Run) →
       session_after g seed (At seed es) (map Some texts) ≡ At seed (es ++ texts) →
@@ -79,31 +79,31 @@ pub record PiecesAreAnswered : Type 0 where
 
 -- ---- after a crash ----
 
--- the lines before the last of the first n
+-- The first n lines without the last of them.
 abbrev pub before_last : Lines → ℕ → Lines
 before_last lines zero = []
 before_last lines (suc n) = take n lines
 
--- it stands at lines
+-- The session was begun: it stands at lines.
 abbrev pub IsBegun : Session → Type 0
 IsBegun (At own lines) = Unit {0}
 IsBegun _ = ⊥
 
--- What there may be of a name after a crash: its session before a line, or after it; or, where its first session was being
--- made, one that stands at no lines, or a file that is refused.
+-- What a crash may leave of a name: its session before a line, or after it; or, where its first session was being made,
+-- one that stands at no lines, or a file that is refused.
 pub data AfterCrash (seed : Seed) (before after : Session) : Session → Type 0 where
   as_before : AfterCrash seed before after before
   as_after : AfterCrash seed before after after
   at_no_lines : before ≡ Absent → IsBegun after → AfterCrash seed before after (At seed [])
   half_made : (bytes : Bytes) → before ≡ Absent → IsBegun after → AfterCrash seed before after (Refused bytes)
 
--- a crash at this moment may leave what then stands: the files of all names
+-- A crash at this moment may leave the files of all names as they stand next.
 abbrev pub CrashLeaves : Moment → Standing → Type 0
 CrashLeaves m next = (name : Name) → is_name name ≡ true →
     MayBeLeft (store_name name) m (file_bytes next (store_name name))
 
--- Hosting that is cut off by a crash at any of its moments may be begun again over what is left, with such a session of
--- each name. The line that was at work is the last one that was taken.
+-- Hosting that a crash cut off at any of its moments may be begun again over what is left: each name has a session as a
+-- crash may leave it. The line that was at work is the last one that was taken.
 abbrev pub MayBeBegunAgain : Type 0
 MayBeBegunAgain =
     (g : Story) (seed : Seed) (first : Sessions) (old next : Standing) (m : Moment) → ValidStory g → seed < 2 ^ 64 →

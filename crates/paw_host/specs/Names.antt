@@ -6,36 +6,36 @@ use Rattle.std.specs.List.{list_all}
 use Rattle.paw_base.specs.Bytes.{Bytes, Line, Name, Text}
 use Rattle.paw_base.specs.declared.limits.TheConstants.{LINE_LIMIT}
 
--- the bytes of names: a to z, and 0 to 9
+-- Whether a byte may stand in a name: a to z, or 0 to 9.
 abbrev pub is_name_byte : ℕ → Bool
 is_name_byte b = is_ascii_lowercase b || is_ascii_digit b
 
--- a name has 1 to 16 of them
+-- Whether this is a name: it has 1 to 16 such bytes.
 abbrev pub is_name : Bytes → Bool
 is_name name = nat_lt 0 (length name) && (nat_le (length name) 16 && list_all is_name_byte name)
 
--- what a line asks for: the name of a player, and the text after the name, if there is one
+-- What a line asks for: the name of a player, and the text after the name, if there is one.
 pub record Request : Type 0 where
   pub name : Name
   pub text : Option Text
 
--- a line that is parted at this place, where a space stands; or one that isn't parted
+-- The request of a line that is parted at this place, where a space stands, or that isn't parted.
 abbrev pub parted_at : Line → Option ℕ → Request
 parted_at line None = record { name = line; text = None }
 parted_at line (Some at) = record { name = take at line; text = Some (drop (at + 1) line) }
 
--- a line that is parted at its first space
+-- The request of a line, which is parted at its first space.
 abbrev pub parted : Line → Request
 parted line = parted_at line (position (λ b. b == 32) line)
 
--- a line asks for something where it is a name, or a name, a space and a text
+-- What a line asks for, where it is a name, or a name, a space and a text.
 abbrev pub request_in : Line → Option Request
 request_in line = if is_name (parted line).name then Some (parted line) else None
 
--- what a typed line asks for: of a long one only its first 255 bytes count
+-- What a typed line asks for; only its first 255 bytes count.
 unfoldable pub request_of : Line → Option Request
 request_of line = request_in (take LINE_LIMIT line)
 
--- the file that keeps the session of a name
+-- The file that keeps the session of a name.
 abbrev pub store_name : Name → Name
 store_name name = name ++ codes ".paw"

@@ -17,24 +17,24 @@ use Rattle.paw_host.specs.Replies.{Session, Absent, At, Refused, Sessions, repli
 abbrev pub IsRefused : Story → Bytes → Type 0
 IsRefused g bytes = (bytes ≢ []) × ¬ ShowsSome g bytes
 
--- The bytes of a name's file, by what there is of the name: none; those of a store that stands for its lines; or those
+-- What a name's file holds, by the session of the name: nothing; bytes of a store that stands for its lines; or bytes
 -- that are refused.
 abbrev pub Stores : Story → Session → Bytes → Type 0
 Stores g Absent bytes = bytes ≡ []
 Stores g (At seed lines) bytes = Stands g seed lines bytes
 Stores g (Refused kept) bytes = (bytes ≡ kept) × IsRefused g kept
 
--- A session may be: it stands at lines that the game may be played with.
+-- A session is possible where the game may be played with the lines that it stands at.
 abbrev pub MayBe : Story → Session → Type 0
 MayBe g (At seed lines) = IsPlayedWith g seed lines
 MayBe g _ = Unit {0}
 
--- The files of all names are those of these sessions.
+-- The file of each name is that of its session.
 abbrev pub AllStore : Story → Sessions → Standing → Type 0
 AllStore g sessions s =
     (name : Name) → is_name name ≡ true → Stores g (sessions name) (file_bytes s (store_name name))
 
--- Whatever a crash leaves at this moment of the file of a name, it is that of its session.
+-- Whatever a crash at this moment leaves of the file of a name is that of its session.
 abbrev pub AllLeft : Story → Sessions → Moment → Type 0
 AllLeft g sessions m = (name : Name) → is_name name ≡ true → (bytes : Bytes) →
     MayBeLeft (store_name name) m bytes → Stores g (sessions name) bytes
@@ -44,8 +44,8 @@ abbrev pub LeftOfMaking : Story → Seed → Session → Session → Bytes → T
 LeftOfMaking g seed Absent (At own lines) bytes = IsUnmade (recover bytes) ⊎ Stands g seed [] bytes
 LeftOfMaking g seed _ _ bytes = ⊥
 
--- Whatever a crash leaves at this moment of the file of a name, it is that of its session before a line; or its store is
--- attached, and it is that of its session after the line, or the session is being made. Where the line isn't about the
+-- Whatever a crash at this moment leaves of the file of a name is that of its session before a line; or its store is
+-- attached, and it is that of its session after the line, or that session is being made. Where the line isn't about the
 -- name, both sessions are the same.
 abbrev pub EachLeft : Story → Seed → Sessions → Sessions → Moment → Type 0
 EachLeft g seed before after m = (name : Name) → is_name name ≡ true → (bytes : Bytes) →
@@ -54,12 +54,12 @@ EachLeft g seed before after m = (name : Name) → is_name name ≡ true → (by
     ⊎ ((m.attached ≡ Some (store_name name))
     × (Stores g (after name) bytes ⊎ LeftOfMaking g seed (before name) (after name) bytes))
 
--- the text begins with this one, and is a first part of that one
+-- The text begins with `from`, and is a first part of `to`.
 abbrev pub IsBetween : Text → Text → Text → Type 0
 IsBetween from to text = ((more : Text) × (text ≡ from ++ more)) × ((rest : Text) × (text ++ rest ≡ to))
 
--- This number of lines was taken, and this text was shown for them. The last one is at work, and the file of each name
--- is as before it, or as after it where its store is attached. The replies to those before it were shown; its own is being
+-- This number of lines was taken, and this text was shown for them. The last one is at work, and the file of each name is
+-- as before it, or as after it where its store is attached. The replies to the lines before it were shown. Its own is
 -- shown only once the file of each name is as after it.
 abbrev pub KeepsUp : Story → Seed → Sessions → Lines → ℕ → Text → Moment → Type 0
 KeepsUp g seed first lines zero text m = (text ≡ []) × AllLeft g first m
@@ -69,29 +69,29 @@ KeepsUp g seed first lines (suc n) text m =
     ⊎ (IsBetween (replies g seed first (take n lines)) (replies g seed first (take (suc n) lines)) text
     × AllLeft g (sessions_after g seed first (take (suc n) lines)) m))
 
--- the store that is attached once what a line asks for is done: that of the name that it asks for, if it does
+-- The store that is attached once a line was answered: that of the name that it asks for, if any, or the one before.
 abbrev pub attached_with : Option Request → Option Name → Option Name
 attached_with None attached = attached
 attached_with (Some r) attached = Some (store_name r.name)
 
--- the store that is attached after these lines
+-- The store that is attached after these lines.
 unfoldable pub attached_after : Option Name → Lines → Option Name
 attached_after attached [] = attached
 attached_after attached (line ∷ lines) = attached_after (attached_with (request_of line) attached) lines
 
--- While it is done this store may be attached, or none: a line that asks for no name attaches none.
+-- What may be attached while a line is at work: the store before, its name's, or none; without a name, that before.
 abbrev pub MayAttach : Option Request → Option Name → Option Name → Type 0
 MayAttach None before attached = attached ≡ before
 MayAttach (Some r) before attached = (attached ≡ before) ⊎ (attached ≡ Some (store_name r.name)) ⊎ (attached ≡ None)
 
--- while the last of these lines is at work
+-- What may be attached while the last of these lines is at work.
 unfoldable pub AttachedIn : Option Name → Lines → Option Name → Type 0
 AttachedIn before [] attached = attached ≡ before
 AttachedIn before (line ∷ []) attached = MayAttach (request_of line) before attached
 AttachedIn before (line ∷ next ∷ lines) attached =
     AttachedIn (attached_with (request_of line) before) (next ∷ lines) attached
 
--- This file is that of no name which these lines ask for.
+-- This file is that of no name that these lines ask for.
 abbrev pub IsNotOf : Lines → Name → Type 0
 IsNotOf lines file = AllByRecursion (λ line. (r : Request) → request_of line ≡ Some r → file ≢ store_name r.name) lines
 

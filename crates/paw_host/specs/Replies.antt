@@ -17,61 +17,61 @@ pub data Session : Type 0 where
   At : (seed : Seed) (lines : Lines) → Session
   Refused : (bytes : Bytes) → Session
 
--- the sessions of all names
+-- The sessions of all names.
 abbrev pub Sessions : Type 0
 Sessions = Name → Session
 
--- the sessions, once this name has this one
+-- The sessions, once this name has this one.
 abbrev pub with_session : Name → Session → Sessions → Sessions
 with_session name session sessions = λ n. if bytes_eq n name then session else sessions n
 
--- an answer: its text, and the session that there is afterwards
+-- An answer: its text, and the session that there is afterwards.
 pub record Answer : Type 0 where
   pub body : Text
   pub session : Session
 
 -- ---- one session ----
 
--- A session goes on to where a reading ended: the answer is the last piece. Where that piece would read or hold too
--- much, or called too deep, the answer says so, and the session stays.
+-- The answer of a session that goes on to where a reading ended: the last piece. Where that piece ran out of a budget,
+-- or a call was too deep, the answer says so, and the session stays.
 abbrev pub gone_on : Session → Session → Ending → Answer
 gone_on old new (Halted (RunsOut kind) r) = record { body = codes "spent"; session = old }
 gone_on old new (Halted (CallsTooDeep table) r) = record { body = codes "too deep"; session = old }
 gone_on old new e = record { body = last_piece (pieces_of e); session = new }
 
--- the game is begun with this seed
+-- The answer of a game that is begun with this seed.
 abbrev pub begun : Story → Seed → Answer
 begun g seed = gone_on Absent (At seed []) (reading g seed [])
 
--- the reading ended for good, with no fault
+-- Whether a reading ended because the game is over.
 abbrev pub is_over : Ending → Bool
 is_over (Halted IsOver r) = true
 is_over _ = false
 
--- A session that stands at these lines takes a text. One that is over takes none, and neither does one that has all the
--- lines that a session may have.
+-- The answer of a session that stands at these lines to a text. One that is over takes none, and neither does one that
+-- has all the lines that a session may have.
 abbrev pub taken : Story → Seed → Lines → Text → Answer
 taken g seed lines text =
     if is_over (reading g seed lines) then record { body = codes "over"; session = At seed lines }
     else if nat_le EVENT_LIMIT (length lines) then record { body = codes "full"; session = At seed lines }
     else gone_on (At seed lines) (At seed (lines ++ text ∷ [])) (reading g seed (lines ++ text ∷ []))
 
--- a session that stands at these lines answers its name alone with its last piece
+-- The answer of a session that stands at these lines to its name alone, which is its last piece, or to a text.
 abbrev pub told : Story → Seed → Lines → Option Text → Answer
 told g seed lines None = record { body = last_piece (pieces_of (reading g seed lines)); session = At seed lines }
 told g seed lines (Some text) = taken g seed lines text
 
--- an answer that begins with this text
+-- An answer with this text put in front.
 abbrev pub behind : Text → Answer → Answer
 behind text a = record { body = text ++ a.body; session = a.session }
 
--- a session that was just begun takes the text too, if there is one
+-- The answer of a session that was just begun, which takes the text too, if there is one.
 abbrev pub begun_with : Story → Option Text → Text → Session → Answer
 begun_with g (Some text) body (At seed lines) = behind body (taken g seed lines text)
 begun_with g _ body session = record { body = body; session = session }
 
--- the answer to what is asked of a session: no text, or this one. Where there is no session the game is begun with this
--- seed
+-- The answer to what is asked of a session: no text, or this one. Where there is no session the game is begun with this
+-- seed.
 unfoldable pub answer : Story → Seed → Session → Option Text → Answer
 answer g seed Absent text = begun_with g text (begun g seed).body (begun g seed).session
 answer g seed (At own lines) text = told g own lines text
@@ -79,27 +79,27 @@ answer g seed (Refused bytes) text = record { body = codes "refused"; session = 
 
 -- ---- all sessions ----
 
--- a reply: the name in brackets and the answer, each ended by a newline
+-- A reply: the name in brackets and the answer, each ended by a newline.
 abbrev pub reply : Name → Text → Text
 reply name body = codes "[" ++ (name ++ (codes "]\n" ++ (body ++ codes "\n")))
 
--- the reply to what a line asks for, if it does
+-- The reply to what a line asks for, or to a line that asks for nothing.
 abbrev pub reply_to : Story → Seed → Sessions → Option Request → Text
 reply_to g seed sessions None = reply [] (codes "bad line")
 reply_to g seed sessions (Some r) = reply r.name (answer g seed (sessions r.name) r.text).body
 
--- the sessions after what a line asks for: only that of its name may have changed
+-- The sessions after what a line asks for: only that of its name may have changed.
 abbrev pub sessions_with : Story → Seed → Sessions → Option Request → Sessions
 sessions_with g seed sessions None = sessions
 sessions_with g seed sessions (Some r) = with_session r.name (answer g seed (sessions r.name) r.text).session sessions
 
--- the sessions after these lines
+-- The sessions after these lines.
 unfoldable pub sessions_after : Story → Seed → Sessions → Lines → Sessions
 sessions_after g seed sessions [] = sessions
 sessions_after g seed sessions (line ∷ lines) =
     sessions_after g seed (sessions_with g seed sessions (request_of line)) lines
 
--- the replies to these lines, one after the other
+-- The replies to these lines, one after the other.
 unfoldable pub replies : Story → Seed → Sessions → Lines → Text
 replies g seed sessions [] = []
 replies g seed sessions (line ∷ lines) =

@@ -1,4 +1,4 @@
-// The answer to what a line asks of one session: what its store is made to keep, and the body of the reply.
+// The answer to what a line asks of one session: what its store then keeps, and the body of the reply.
 
 ghost use Rattle.std.specs.Prelude.{◌≡◌, ◌+◌, ◌*◌, ◌<◌, ◌≤◌, ◌⊎◌, [], ◌∷◌, ◌++◌, length, take, None, Some};
 ghost use Rattle.std.specs.Prelude.{IfOk, OnOk, IfSome, IfNone, MatchOption, MatchBool};
@@ -48,7 +48,7 @@ pub(crate) struct Hosted<'a, T: Tables> {
     pub seed: u64,
 }
 
-/// A session in the attached store, at which a player sits: its journal, and how many lines it has taken.
+/// A session in the attached store with a player: its journal, and the number of lines that it has taken.
 #[derive(Drop)]
 pub(crate) struct Opened {
     pub journal: Journal,
@@ -128,7 +128,7 @@ fn begin<S: Stage, T: Tables, F: Fn(u8, u8) -> u8>(
     Ok(Some(Opened { journal, events: 0 }))
 }
 
-/// Takes up the session of the attached store. None where it has no session of the game.
+/// Resumes the session of the attached store. None where it has no session of the game.
 fn take_up<S: Stage, T: Tables, F: Fn(u8, u8) -> u8>(
     stage: &mut S,
     player: &mut Player<'_, T, F>,
@@ -178,7 +178,7 @@ fn take_up<S: Stage, T: Tables, F: Fn(u8, u8) -> u8>(
     Ok(Some(Opened { journal, events }))
 }
 
-/// Whether the game of a player that stands is over; otherwise the player waits.
+/// Whether the game of a player that stands at a prompt is over; otherwise the player waits.
 fn is_over<T: Tables, F: Fn(u8, u8) -> u8>(player: &Player<'_, T, F>) -> bool
     requires seated { IsSeated player.now }
     requires standing { IsStanding player.now.last }
@@ -250,8 +250,8 @@ fn take_text<S: Stage, T: Tables, F: Fn(u8, u8) -> u8>(
     Ok(())
 }
 
-/// The piece of a session that was taken up. It has at most 65,535 bytes, but no clause of `Room::piece` says so: the cut
-/// shows it to the proof.
+/// The piece of a session that was resumed. It has at most 65,535 bytes, but no clause of `Room::piece` says so: this
+/// cut does.
 fn kept_piece(room: &Room) -> &[u8]
     ensures value { result.now ≡ take PIECE_LIMIT room.now.piece }
     ensures short { length result.now ≤ PIECE_LIMIT }

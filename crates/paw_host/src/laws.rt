@@ -2,8 +2,8 @@
 
 ghost use Rattle.paw_host.specs.Laws.{EachPlaysAlone, PiecesAreAnswered, MayBeBegunAgain};
 
-/// Each plays as if alone: whatever lines of others come between, the session of a name, and what the name is answered,
-/// come of that session and of the lines of that name alone.
+/// Each plays as if alone: whatever lines of others come between, the session and the answers of a name depend only on
+/// the session that it had and on its own lines.
 pub fn each_plays_alone()
     ensures alone { EachPlaysAlone }
 {}

@@ -36,7 +36,7 @@ use std::alloc::Global;
 /// The most lines that the host takes.
 pub const HOST_LIMIT: u64 = 1_000_000_000;
 
-/// Makes the reply to a line of another form.
+/// Makes the reply to a line that asks for nothing.
 fn refuse_line(reply: &mut Reply)
     ensures value { reply.new ≡ spoken [] (codes "bad line") }
 {

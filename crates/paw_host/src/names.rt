@@ -14,7 +14,7 @@ use std::str;
 /// The most bytes of a name.
 const NAME_LIMIT: usize = 16;
 
-/// What follows a name in that of its file.
+/// The end of the name of a session's file, after the player's name.
 const STORE_END: &[u8] = b".paw";
 
 /// The most bytes of the name of a file.
@@ -27,7 +27,7 @@ pub(crate) struct Request<'a> {
     pub text: Option<&'a [u8]>,
 }
 
-/// Whether a byte is one of names: a to z, or 0 to 9.
+/// Whether a byte may stand in a name: a to z, or 0 to 9.
 fn is_name_byte(byte: u8) -> bool
     ensures value { result ≡ is_name_byte byte }
 {
@@ -40,7 +40,7 @@ fn are_name_bytes(name: &[u8]) -> bool
     name.iter().all(|byte| is_name_byte(*byte))
 }
 
-/// Whether these are 1 to 16 bytes of names.
+/// Whether this is a name: 1 to 16 such bytes.
 fn is_name(name: &[u8]) -> bool
     ensures value { result ≡ is_name name.now }
 {
@@ -54,7 +54,7 @@ fn first_space(line: &[u8]) -> Option<usize>
     line.iter().position(|byte| *byte == b' ')
 }
 
-/// A line, parted at its first space.
+/// The request of a line, which is parted at its first space.
 fn parted<'a>(line: &'a [u8]) -> Request<'a>
     ensures value { asks result ≡ parted line.now }
 {

@@ -24,7 +24,7 @@ const HAS: &str = "I have:\nlamp\ncoat\nWhat now?\n> ";
 /// More bytes than any file here has.
 const MOST: usize = 200_000;
 
-/// Syncs the attached store, or does nothing where there is none, so that the host may begin.
+/// Syncs the attached store, if there is one, so that the host may begin.
 fn settle<S: Stage>(rt: &impl Abort, stage: &mut S)
     ensures synced { S.Tells stage.new → IsStable (S.standing stage.new).disk }
 {
@@ -47,7 +47,7 @@ fn host_words<S: Stage>(
     Ok(host(alloc, stage, &routines, owned.as_slice()))
 }
 
-// The hall is hosted.
+// Hosts the hall.
 fn run<S: Stage>(rt: &impl Abort, alloc: Global, stage: &mut S) -> Result<HostOutcome, AllocError> {
     settle(rt, stage);
     host_words(alloc, stage, &["hall", "7"])
@@ -75,7 +75,7 @@ fn replies(alloc: Global, all: &[(&str, &str)]) -> Result<String, AllocError> {
     Ok(text)
 }
 
-// These lines get these replies, after what was shown before.
+// Checks that these lines get these replies, after what was shown before.
 fn shows(
     rt: &impl Abort,
     alloc: Global,
@@ -206,7 +206,7 @@ fn names_and_texts_are_parted_at_the_first_space(rt: HostRuntime) -> Result<(), 
     )
 }
 
-// A store with these bytes is refused, and keeps them.
+// Checks that a store with these bytes is refused, and keeps them.
 fn refuses(rt: &impl Abort, alloc: Global, bytes: &[u8]) -> Result<(), Fail> {
     let mut stage = stage_of(alloc, &[b"eve", b"eve LOOK"])?;
     stage.add_file("eve.paw", bytes)?;
@@ -307,7 +307,7 @@ fn pieces(name: &[u8], taken: usize) -> &'static str {
     }
 }
 
-// What these bytes of a player's store are answered with.
+// The answer that these bytes of a player's store give.
 fn answered(rt: &impl Abort, alloc: Global, bytes: &[u8]) -> Result<Vec<u8>, Fail> {
     let mut stage = stage_of(alloc, &[b"eve"])?;
     stage.add_file("eve.paw", bytes)?;
@@ -318,8 +318,8 @@ fn answered(rt: &impl Abort, alloc: Global, bytes: &[u8]) -> Result<Vec<u8>, Fai
     Ok(body.unwrap_or(b"").to_vec(alloc)?)
 }
 
-// Whether a crash may leave a store that is answered so while this line of a player is at work: as before it, as after
-// it, or, where the session is made by it, refused, or at its first prompt.
+// Whether a crash may leave a store that gives this answer while this line of a player is at work: as before it, as
+// after it, or, where the line makes the session, refused, or at its first prompt.
 fn may_be(name: &[u8], taken: usize, body: &[u8]) -> bool {
     let before = pieces(name, taken.saturating_sub(1));
     let after = pieces(name, taken);

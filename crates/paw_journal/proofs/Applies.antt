@@ -7,7 +7,7 @@ use Rattle.std.proofs.lemmas.Bool.Decides.{nat_tests}
 use Rattle.paw_journal.specs.Session.{Change, changes, changed, is_sound, first_unsound}
 use Rattle.paw_journal.specs.Session.{base_length}
 
--- So many records were sound and are applied, and these bytes hold the others.
+-- This number of records was sound and is applied, and these bytes hold the others.
 pub record Applies (all old : List ℕ) (number : ℕ) (rest now : List ℕ) : Type 0 where
   pub few : 4 * number + length rest ≤ length all
   pub unsound : position_from (λ c. not (is_sound c)) 0 (changes all) ≡ position_from (λ c. not (is_sound c)) number (changes rest)

@@ -19,7 +19,7 @@ pub slot_small : (w : Slot) → slot_number w < 2
 slot_small which.First = omega arith
 slot_small which.Second = omega arith
 
--- the selector hides behind the choice of a slot
+-- The selector changes nothing of what each slot shows.
 pub selector_hidden : (j : ℕ) (image old : List ℕ) → j < 2 → length image ≡ length old → length old ≡ session_length →
     ((i : ℕ) → i < length old → (i < 1) ⊎ (2 ≤ i) → get_or image i 0 ≡ get_or old i 0) →
     recover_by j image ≡ recover_by j old

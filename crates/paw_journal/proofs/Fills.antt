@@ -13,7 +13,7 @@ use Rattle.paw_journal.proofs.Recovers.{recover_is, recover_by_same, same_digest
 use Rattle.paw_journal.proofs.Disks.{within_stable, within_long, within_same, put_within}
 use Rattle.paw_journal.proofs.Moved.{IsMoved, beside_none, moved_wrote, in_moved_write, in_moved_sync}
 
--- one slot hides behind the choice of the other
+-- Writing one slot changes nothing of what the other shows.
 pub slot_hidden : (k j : ℕ) (image old : List ℕ) → k < 2 → j ≡ 1 - k → length image ≡ length old →
     length old ≡ session_length → ((i : ℕ) → i < length old →
     (i < header_length + slot_length * k) ⊎ (header_length + slot_length * k + slot_length ≤ i) →

@@ -1,4 +1,4 @@
--- What the first bytes of a store tell of it.
+-- What the first bytes of a store say of it.
 use Rattle.std.proofs.Common.{◌≡◌, ◌≢◌, ℕ, ◌%◌, ◌<◌, true, false, List, [], length, take, refl, sym, ap, ◌∙◌, arith, get_or, inl, inr}
 use Rattle.std.proofs.lemmas.List.{get_or-take, nil_from_length}
 use Rattle.paw_journal.specs.declared.refusal.SessionPart.TheVariants as part

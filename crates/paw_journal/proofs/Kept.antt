@@ -17,7 +17,7 @@ use Rattle.paw_journal.specs.Session.{base_length, slot_length}
 use Rattle.paw_journal.proofs.Puts.{stretch_long, put_long, stretch_past, stretch_before, stretch_written, stretch_behind}
 use Rattle.paw_journal.proofs.Turning.{changes-append, changed-append, sound-append}
 
--- A slot of version 2 has this state, after so many change records.
+-- A slot of version 2 has this state, after this number of change records.
 pub record IsKept (bytes : List ℕ) (records : ℕ) (state : List ℕ) : Type 0 where
   pub second : is_second bytes ≡ true
   pub number : two_byte_number 0 bytes ≡ records
@@ -172,7 +172,7 @@ whole_gives state piece old n long short = record {
       ∙ (ap (λ k. stretch BASE_AT k (put BASE_AT state old)) (sym n) ∙ stretch_written BASE_AT state old (omega arith));
 }
 
--- change records behind those that stand
+-- Change records are added after those that are there.
 behind_gives : (n c : ℕ) (was state records piece old : List ℕ) → IsKept old n was → Turns was state records →
     length records ≡ 4 * c → n + c ≤ most_changes → length old ≡ slot_length → length piece ≤ 65535 →
     IsKept (put 0 (slot_head (n + c)) (put PIECE_AT piece (put (CHANGES_AT + 4 * n) records old))) (n + c) state

@@ -117,7 +117,7 @@ header_is game routines n m = over (0 ∷ 0 ∷ 2 ∷ replicate 29 0) (replicate
         ∙ (ap (put 64 routines) (sym (append_assoc (head ++ game) two behind))
         ∙ put_over 64 (head ++ game) two behind routines (omega (arith, length-append head game)) m))
 
--- the header without its first byte, behind that byte
+-- The header without its first byte is written after that byte.
 pub header_written : (digests : Digests) (header old : List ℕ) → AreLong digests → header ≡ made_header 0 digests →
     old ≡ 0 ∷ [] → put 1 (take 127 (drop 1 header)) old ≡ made_header 0 digests
 header_written digests header old n e o =
@@ -161,7 +161,7 @@ in_marked x c s t m long h e w =
     (moved_wrote 0 1 0 1 c (x ∷ []) s s t (moved_none 0 1 s h) (omega arith) (omega arith) (omega arith) (omega arith) e)
     (λ d i. marking s.disk.bytes d long i) w
 
--- bytes behind the end of such a store
+-- Bytes are written at the end of such a store.
 pub blank_end : (at : ℕ) (new : List ℕ) (s t : Standing) (n c : ℕ) → IsBlank s.disk.bytes s.disk → 1 ≤ at →
     at ≡ length s.disk.bytes → t ≡ wrote s (touched at n new s.disk) c → IsBlank t.disk.bytes t.disk
 blank_end at new s t n c h low e w = blank_now _ t.disk (blank_wrote at new s t n c h low (omega arith) w)
@@ -172,7 +172,7 @@ end_length at new s t n c e w = ap (λ x. length x.disk.bytes) w
     ∙ (ap length (put_end at new s.disk.bytes (sym e))
     ∙ (length-append s.disk.bytes new ∙ ap (λ k. k + length new) (sym e)))
 
--- bytes written behind the end of such a store, and then others behind these
+-- Bytes are written at the end of such a store, and then others after these.
 module _ (a b : ℕ) (bytes : List ℕ) (s t : Standing) (blank : IsBlank s.disk.bytes s.disk) (low : 1 ≤ a)
     (at : a ≡ length s.disk.bytes) (first : t ≡ with_written a bytes s) (next : b ≡ a + length bytes)
   where
@@ -190,7 +190,7 @@ module _ (a b : ℕ) (bytes : List ℕ) (s t : Standing) (blank : IsBlank s.disk
         (Passes_map _ _ _ _ _ _ one (λ m. in_blank_write a _ s s m (beside_none s) blank low (omega (arith, at)))) two
         (λ m. in_blank_write b _ s t m (beside_wrote _ _ _ _ first) between (omega (arith, low, next)) (omega (arith, end)))
 
-    -- and a moment of a sync behind them
+    -- A moment of the sync after them.
     pub in_sync_behind : (u : Standing) (m : Moment) → u ≡ with_written b bytes t → InSync u m → LeavesUnmade s m
     in_sync_behind u m second w =
         in_blank_sync s u m (beside_on s t u (beside_wrote _ _ _ _ first) (beside_wrote _ _ _ _ second))

@@ -95,7 +95,7 @@ moved_wrote lo hi at n c new s t u h low high long short e =
       within = within_write lo hi at n s.disk.bytes t.disk u.disk h.within low high long (inr (new, short, ap (λ x. x.disk) e));
     }
 
--- at a moment inside a write to the stretch, and inside a sync behind it
+-- A moment inside a write to the stretch, and inside a sync after it.
 pub in_moved_write : (lo hi at n : ℕ) (s t : Standing) (P : Disk → Type 0) (m : Moment) → IsMoved lo hi s t → lo ≤ at →
     at + n ≤ hi → hi ≤ length s.disk.bytes → ((d : Disk) → IsWithin lo hi s.disk.bytes d → P d) → InWrite t at n m →
     InStore s P m

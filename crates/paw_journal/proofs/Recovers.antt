@@ -1,4 +1,4 @@
--- What bytes stand for, by the parts that tell it.
+-- What bytes stand for, by the parts that decide it.
 use Rattle.std.proofs.Common.{◌≡◌, ◌≢◌, ℕ, ◌+◌, ◌*◌, ◌≤◌, ◌<◌, Bool, true, false, List, length, refl, ap, ◌∙◌, arith, get_or, ◌⊎◌, inl, inr}
 use Rattle.std.specs.Prelude.{if◌then◌else◌, ◌==◌, ◌&&◌}
 use Rattle.std.proofs.lemmas.Bool.Decides.{nat_tests}
@@ -17,14 +17,14 @@ recover_is k a e = ap (λ j. recover_by j a) e
 pub both_digests : (g h r s : List ℕ) → g ≡ h → r ≡ s → digests_of g r ≡ digests_of h s
 both_digests g h r s e f = ap (λ x. digests_of x r) e ∙ ap (digests_of h) f
 
--- so bytes 32 to 95 alone tell whose session it is
+-- So bytes 32 to 95 alone say whose session it is.
 pub same_digests : (a b : List ℕ) → length a ≡ length b →
     ((i : ℕ) → 32 ≤ i → i < 96 → get_or a i 0 ≡ get_or b i 0) → kept_digests a ≡ kept_digests b
 same_digests a b n same = both_digests (stretch 32 32 a) (stretch 32 32 b) (stretch 64 32 a) (stretch 64 32 b)
     (stretch_same 32 32 a b n (λ i low high. same i low (omega arith)))
     (stretch_same 64 32 a b n (λ i low high. same i (omega arith) high))
 
--- the parts alone tell what bytes stand for
+-- These parts alone decide what bytes stand for.
 pub recover_by_parts : (k : ℕ) (a b : List ℕ) → length a ≡ length b → mark a ≡ mark b → version a ≡ version b →
     kept_digests a ≡ kept_digests b → slot k a ≡ slot k b → recover_by k a ≡ recover_by k b
 unfolding recover_by

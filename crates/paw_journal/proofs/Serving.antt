@@ -14,7 +14,7 @@ pub the_only_one : {A : Type 0} (x y : A) → IsOneOf (y ∷ []) x → x ≡ y
 the_only_one x y (inl e) = e
 the_only_one x y (inr h) = absurd h
 
--- more may come behind
+-- What is one of these is one of a longer list.
 pub in_front : {A : Type 0} (few more : List A) (x : A) → IsOneOf few x → IsOneOf (few ++ more) x
 in_front [] more x h = absurd h
 in_front (y ∷ few) more x (inl e) = inl e

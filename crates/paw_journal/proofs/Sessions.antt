@@ -153,7 +153,7 @@ session_shows digests state piece n m few names =
     ∙ (ap (λ d. slot_shows d (slot 0 whole)) (session_digests digests state piece n)
     ∙ (ap (slot_shows digests) (made_slot_zero digests s s n l) ∙ made_slot_shows digests state piece m names)))
 
--- what a header and the slot that it chooses tell of the whole
+-- What a header and the slot that it chooses say of the whole.
 pub introduced_shows : (k : ℕ) (digests : Digests) (held bytes : List ℕ) → Introduces k digests bytes → held ≡ slot k bytes → recover bytes ≡ slot_shows digests held
 introduced_shows k digests held bytes h e =
     recover_is k bytes (sym h.slot)
@@ -243,7 +243,7 @@ shown_stays digests r o kept two three four s e f =
     let p : four.piece ≡ two.piece = ap (λ x. x.piece) f ∙ (piece_stays o kept three ∙ ap (λ x. x.piece) e) in
     s ∙ (ap (λ l. Shown digests (take state_length l) two.piece) (sym st) ∙ ap (Shown digests (take state_length four.state)) (sym p))
 
--- a piece whose length a state tells is short
+-- A piece is short if a state gives its length.
 pub short_piece : (state piece : List ℕ) → ((i : ℕ) → get_or state i 0 < 256) → piece_length state ≡ length piece → length piece ≤ 65535
 short_piece state piece bytes e = omega (arith, bytes PIECE_LENGTH_AT, bytes (PIECE_LENGTH_AT + 1))
 

@@ -14,7 +14,7 @@ use Rattle.paw_journal.proofs.Recovers.{shown_made, recover_is, recover_made}
 use Rattle.paw_journal.proofs.Fills.{slot_long}
 use Rattle.paw_journal.proofs.Slots.{state_long, first_names}
 
--- both forms of a state tell the piece's length where the slot's state tells it, and have as many bytes
+-- Both forms of a state give the piece's length where the slot's state does, and have as many bytes.
 form_names : (b : Bool) (state : List ℕ) → length state ≡ base_length →
     piece_length (if b then take state_length state else take first_length state ++ zeros 2048) ≡ piece_length state
 form_names true state n =

@@ -22,7 +22,7 @@ use Rattle.paw_journal.proofs.Puts.{stretch_long}
 use Rattle.paw_journal.proofs.Makes.{length_zeros}
 use Rattle.paw_journal.proofs.Parts.{length_stretch}
 
--- a list that is longer by so many zeros
+-- A list that is longer by a number of zeros.
 pub added_zeros : {T E : Type 0} {r : Result T E} {x : T} (was now : List ℕ) (n k count : ℕ) → k ≡ length was →
     n ≡ k + count → r ≡ Ok x → now ≡ (if is_ok r then take n was ++ replicate (n - k) 0 else was) →
     now ≡ was ++ zeros count
@@ -114,7 +114,7 @@ pub records_are : (count : ℕ) (held bytes : List ℕ) → held ≡ bytes →
 records_are count held bytes e = let n : CHANGES_AT + 4 * count - CHANGES_AT ≡ 4 * count = omega arith in
     ap (λ k. take k (drop CHANGES_AT held)) n ∙ ap (stretch CHANGES_AT (4 * count)) e
 
--- there is room for state and piece behind the head of a slot, and for as many zeros behind these
+-- There is room for state and piece after the head of a slot, and for the zeros after these.
 pub room_for_body : (r s : Room) (piece : List ℕ) → s.slot ≡ 0 ∷ 0 ∷ 2 ∷ [] → s.piece ≡ piece →
     r ≡ record s { slot = s.slot ++ zeros 61 } → length piece ≤ 65535 →
     length r.slot + base_length + length r.piece ≤ slot_length
@@ -177,7 +177,7 @@ brought_shown state n =
     ap (λ k. take (k + 2048) (take first_length state ++ replicate 2725 0)) (sym l)
     ∙ (take-append-add (take first_length state) (replicate 2725 0) 2048 ∙ ap (λ z. take first_length state ++ z) (take-replicate 2048 2725 0 (omega arith)))
 
--- it tells the piece's length, whatever number of zeros stands behind it
+-- A state of version 1 gives the piece's length, whatever number of zeros follows it.
 pub first_names : (count : ℕ) (state : List ℕ) → length state ≡ base_length →
     piece_length (take first_length state ++ zeros count) ≡ piece_length state
 first_names count state n =

@@ -77,7 +77,7 @@ difference_step old new i n low t e =
     ∙ (ap (λ b. differences_from i (get_or old i 0 ∷ drop (suc i) old) b) (drop-cons new i 0 l)
     ∙ ap (λ c. (if c then [] else change_bytes i (get_or new i 0)) ++ differences_from (suc i) (drop (suc i) old) (drop (suc i) new)) e)
 
--- Change records that make so many bytes of one state those of another.
+-- Change records that turn this many bytes of one state into those of another.
 pub record TurnsTo (old new : List ℕ) (i : ℕ) (records : List ℕ) : Type 0 where
   pub exact : records ++ differences_from i (drop i old) (drop i new) ≡ differences old new
   pub many : length records ≡ 4 * differing (take i old) (take i new)

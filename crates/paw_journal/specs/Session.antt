@@ -12,19 +12,19 @@ use Rattle.paw_journal.specs.declared.layout.TheConstants.{BASE_LENGTH, PIECE_AT
 use Rattle.paw_journal.specs.declared.refusal.SessionPart.{SessionPart}
 use Rattle.paw_journal.specs.declared.refusal.SessionPart.TheVariants as part
 
--- A session is a header and then two slots, 0 and 1.
+-- The length of the header in bytes. A session is a header and then two slots, 0 and 1.
 abbrev pub header_length : ℕ
 header_length = HEADER_LENGTH
 
--- The bytes of a slot.
+-- The length of a slot in bytes.
 abbrev pub slot_length : ℕ
 slot_length = SLOT_LENGTH
 
--- The bytes of a session: its header and two slots.
+-- The length of a session in bytes: its header and two slots.
 abbrev pub session_length : ℕ
 session_length = SESSION_LENGTH
 
--- So many bytes from a place on.
+-- The n bytes from a place on.
 abbrev pub stretch : ℕ → ℕ → Bytes → Bytes
 stretch at n bytes = take n (drop at bytes)
 
@@ -32,11 +32,11 @@ stretch at n bytes = take n (drop at bytes)
 abbrev pub two_byte_number : ℕ → Bytes → ℕ
 two_byte_number at bytes = slice_index bytes at + 256 * slice_index bytes (at + 1)
 
--- The header. The session is made where byte 0 is the mark; the low bit of byte 1 chooses a slot.
+-- The value of byte 0 of the header once the session is made. The low bit of byte 1 chooses a slot.
 abbrev pub made_mark : ℕ
 made_mark = 80
 
--- Byte 0.
+-- Byte 0 of a session.
 abbrev pub mark : Bytes → ℕ
 mark bytes = slice_index bytes 0
 
@@ -48,11 +48,11 @@ chosen bytes = slice_index bytes 1 % 2
 abbrev pub version : Bytes → ℕ
 version bytes = slice_index bytes 2
 
--- The versions of a session. Each slot has one of its own, and the session's decides nothing else.
+-- Whether a session may be of this version: 1 or 2. Each slot has its own, and the session's decides nothing else.
 abbrev pub is_version : ℕ → Bool
 is_version n = (n == 1) || (n == 2)
 
--- Whose session it is: the digests of its game, and of the routines that it is played with.
+-- The digests of what a session belongs to: its game, and the routines that it is played with.
 pub record Digests : Type 0 where
   pub game : Bytes
   pub routines : Bytes
@@ -61,18 +61,18 @@ pub record Digests : Type 0 where
 abbrev pub kept_digests : Bytes → Digests
 kept_digests bytes = record { game = stretch 32 32 bytes; routines = stretch 64 32 bytes }
 
--- A session belongs to a game and to routines, which have these digests. One that keeps 32 zeros in place of a digest
--- of its routines isn't measured: it belongs to all routines.
+-- A session belongs to a game and to routines that have these digests. If it keeps 32 zeros as the digest of its
+-- routines, it isn't measured, and belongs to all routines.
 pub record BelongsTo (game routines : Bytes) (kept : Digests) : Type 0 where
   pub of_game : kept.game ≡ game
   pub of_routines : (kept.routines ≡ zeros 32) ⊎ (kept.routines ≡ routines)
 
--- The bytes of a slot: the number of its change records (at 0), its version (at 2), its base (at 64), a piece (at
+-- The bytes of slot k: the number of its change records (at 0), its version (at 2), its base (at 64), a piece (at
 -- 4,160) and the change records (at 69,696).
 abbrev pub slot : ℕ → Bytes → Bytes
 slot k bytes = stretch (header_length + slot_length * k) slot_length bytes
 
--- The bytes of a slot's base.
+-- The length of a slot's base in bytes.
 abbrev pub base_length : ℕ
 base_length = BASE_LENGTH
 
@@ -80,7 +80,7 @@ base_length = BASE_LENGTH
 abbrev pub most_changes : ℕ
 most_changes = MOST_CHANGES
 
--- A slot is of version 2 where its byte 2 is 2, and of version 1 otherwise.
+-- Whether a slot is of version 2: its byte 2 is 2. Any other slot is of version 1.
 abbrev pub is_second : Bytes → Bool
 is_second bytes = slice_index bytes 2 == 2
 
@@ -94,11 +94,11 @@ pub record Change : Type 0 where
   pub byte : ℕ
   pub last : ℕ
 
--- A change is sound where its place is one of the base, and its last byte is 0.
+-- Whether a change is sound: its place is one of the base, and its last byte is 0.
 abbrev pub is_sound : Change → Bool
 is_sound c = nat_lt c.at base_length && (c.last == 0)
 
--- The change records that stand one after the other, each in four bytes.
+-- The change records that stand in these bytes, one after the other, each in four bytes.
 abbrev pub changes : Bytes → List Change
 changes (a ∷ b ∷ c ∷ d ∷ bytes) = record { at = a + 256 * b; byte = c; last = d } ∷ changes bytes
 changes bytes = []
@@ -120,25 +120,25 @@ changed (c ∷ more) bytes = changed more (slice_set bytes c.at c.byte)
 abbrev pub slot_state : Bytes → Bytes
 slot_state bytes = changed (slot_changes bytes) (base bytes)
 
--- A slot has a state where its change records aren't too many, and each is sound.
+-- Whether a slot has a state: it has at most 4,096 change records, and each is sound.
 abbrev pub has_state : Bytes → Bool
 has_state bytes = nat_le (two_byte_number 0 bytes) most_changes && is_none (first_unsound (slot_changes bytes))
 
--- The bytes of a state, and how many of them version 1 has. Bytes 1,369 and 1,370 tell the length of the piece; behind
--- them stand the positions that are kept, which version 1 has not.
+-- The length of a state in bytes. Bytes 1,369 and 1,370 give the length of the piece; after them come the kept
+-- positions, which version 1 doesn't have.
 abbrev pub state_length : ℕ
 state_length = STATE_LENGTH
 
--- The bytes of a state in version 1.
+-- The length in bytes of a state in version 1.
 abbrev pub first_length : ℕ
 first_length = FIRST_LENGTH
 
--- The state that a slot shows. Where it is of version 1, no position is kept, whatever stands behind its state.
+-- The state that a slot shows. In version 1 no position is kept, whatever follows the state.
 abbrev pub shown_state : Bytes → Bytes
 shown_state bytes =
     if is_second bytes then take state_length (slot_state bytes) else take first_length (slot_state bytes) ++ zeros 2048
 
--- How many bytes the piece of a state has.
+-- The length in bytes of the piece of a state.
 abbrev pub piece_length : Bytes → ℕ
 piece_length state = two_byte_number PIECE_LENGTH_AT state
 
@@ -146,15 +146,15 @@ piece_length state = two_byte_number PIECE_LENGTH_AT state
 abbrev pub slot_piece : Bytes → Text
 slot_piece bytes = stretch PIECE_AT (piece_length (slot_state bytes)) bytes
 
--- What the bytes of a store stand for: no session, with their length and mark; one that is damaged, with the place of
--- the first broken rule; or one that shows a state and a piece, with the digests of whose session it is.
+-- What the bytes of a store stand for: no session (with their length and mark); a damaged one (with the place of the
+-- first broken rule); or one that shows a state and a piece (with the digests that it keeps).
 pub data Recovered : Type 0 where
   Unmade : (length mark : ℕ) → Recovered
   Damaged : (part : SessionPart) (at : ℕ) → Recovered
   Shown : (digests : Digests) (state piece : Bytes) → Recovered
 
--- What a slot shows where this is its first change that isn't sound: it is damaged there. With none it shows its state
--- and its piece.
+-- What a slot shows, given its first change that isn't sound: damage there; or, where all are sound, its state and its
+-- piece.
 abbrev pub shown_unless : Digests → Bytes → Option ℕ → Recovered
 shown_unless digests bytes (Some n) = Damaged part.Slot (CHANGES_AT + 4 * n)
 shown_unless digests bytes None = Shown digests (shown_state bytes) (slot_piece bytes)
@@ -166,14 +166,14 @@ slot_shows digests bytes =
     then shown_unless digests bytes (first_unsound (slot_changes bytes))
     else Damaged part.Slot 0
 
--- What the bytes stand for if they choose this slot.
+-- What the bytes stand for if slot k is the one in use.
 unfoldable pub recover_by : ℕ → Bytes → Recovered
 recover_by k bytes =
     if (length bytes == session_length) && (mark bytes == made_mark)
     then (if is_version (version bytes) then slot_shows (kept_digests bytes) (slot k bytes) else Damaged part.Header 2)
     else Unmade (length bytes) (mark bytes)
 
--- What the bytes stand for, by the slot that they choose.
+-- What the bytes stand for, by the slot that is in use.
 unfoldable pub recover : Bytes → Recovered
 recover bytes = recover_by (chosen bytes) bytes
 
@@ -185,15 +185,15 @@ IsUnmade (Shown d s p) = ⊥
 
 -- ---- what is written ----
 
--- A slot as it is made: no change records, version 2, this state as its base, and this piece.
+-- A slot that is newly made: no change records, version 2, this state as its base, and this piece.
 abbrev pub made_slot : Bytes → Text → Bytes
 made_slot state piece = 0 ∷ 0 ∷ 2 ∷ zeros 61 ++ state ++ piece ++ zeros (81920 - length piece)
 
--- A header as it is made, with this mark and these digests: slot 0 is in use, and the version is 2.
+-- A header that is newly made, with this mark and these digests: slot 0 is in use, and the version is 2.
 abbrev pub made_header : ℕ → Digests → Bytes
 made_header mark digests = mark ∷ 0 ∷ 2 ∷ zeros 29 ++ digests.game ++ digests.routines ++ zeros 32
 
--- A session as it is made: both slots have this state and this piece.
+-- A session that is newly made: both slots have this state and this piece.
 abbrev pub made_session : Digests → Bytes → Text → Bytes
 made_session digests state piece = made_header made_mark digests ++ made_slot state piece ++ made_slot state piece
 
@@ -202,39 +202,39 @@ unfoldable pub differing : Bytes → Bytes → ℕ
 differing (x ∷ old) (y ∷ new) = (if x == y then 0 else 1) + differing old new
 differing old new = 0
 
--- A change record in its four bytes: from now on this byte stands at this place.
+-- A change record in its four bytes: this byte replaces the one at this place.
 abbrev pub change_bytes : ℕ → ℕ → Bytes
 change_bytes at byte = (at % 256) ∷ (at / 256) ∷ byte ∷ 0 ∷ []
 
--- The change records by which one state becomes another, as bytes: one for each place at which they differ, in rising
--- order. These are the states from this place on.
+-- The change records that turn one state into another, as bytes: one for each byte that differs, in rising order. Both
+-- states are given from this place on.
 unfoldable pub differences_from : ℕ → Bytes → Bytes → Bytes
 differences_from at (x ∷ old) (y ∷ new) =
     (if x == y then [] else change_bytes at y) ++ differences_from (suc at) old new
 differences_from at old new = []
 
--- The same of whole states.
+-- The change records that turn one whole state into another, as bytes.
 abbrev pub differences : Bytes → Bytes → Bytes
 differences old new = differences_from 0 old new
 
--- The first bytes of a slot of version 2 with so many change records.
+-- The first bytes of a slot of version 2 with this number of change records.
 abbrev pub slot_head : ℕ → Bytes
 slot_head records = (records % 256) ∷ (records / 256) ∷ 2 ∷ []
 
--- A slot that is of version 2 from now on, with so many change records, this piece, and these bytes from a place on.
--- All its other bytes are as they were.
+-- A slot once it is given version 2, this number of change records, this piece, and these bytes at a place; all its
+-- other bytes stay.
 abbrev pub rewritten : ℕ → Bytes → ℕ → Text → Bytes → Bytes
 rewritten at new records piece bytes = put 0 (slot_head records) (put PIECE_AT piece (put at new bytes))
 
--- How many change records a slot would have, once those are added that give it this state.
+-- How many change records a slot has once those are added that give it this state.
 abbrev pub records_with : Bytes → Bytes → ℕ
 records_with state bytes = two_byte_number 0 bytes + differing (slot_state bytes) state
 
--- A commit adds change records to a slot that is of version 2, has a state, and has room for them.
+-- Whether a commit adds change records to a slot: it is of version 2, has a state, and has room for them.
 abbrev pub takes_changes : Bytes → Bytes → Bool
 takes_changes state bytes = is_second bytes && has_state bytes && nat_le (records_with state bytes) most_changes
 
--- A slot once a commit gave it this state and this piece: by change records behind those that it has, or by its base,
+-- A slot after a commit gave it this state and this piece: by change records after those that it has, or by its base,
 -- written whole.
 unfoldable pub committed_slot : Bytes → Text → Bytes → Bytes
 committed_slot state piece bytes =
@@ -243,11 +243,11 @@ committed_slot state piece bytes =
     (records_with state bytes) piece bytes
     else rewritten BASE_AT state 0 piece bytes
 
--- The bytes of a session once this slot is written by a commit, and in use. All other bytes are as they were.
+-- The bytes of a session after a commit to slot k, which is then in use. All other bytes stay.
 unfoldable pub committed_in : ℕ → Bytes → Text → Bytes → Bytes
 committed_in k state piece bytes =
     put 1 (k ∷ []) (put (header_length + slot_length * k) (committed_slot state piece (slot k bytes)) bytes)
 
--- The bytes of a session once a commit gave it this state and this piece: in the slot that isn't in use.
+-- The bytes of a session after a commit of this state and this piece, to the slot that isn't in use.
 unfoldable pub committed : Bytes → Text → Bytes → Bytes
 committed state piece bytes = committed_in (1 - chosen bytes) state piece bytes

@@ -7,7 +7,7 @@ ghost use Rattle.paw_journal.specs.inner.Steps.{Turns};
 
 use crate::layout::BASE_LENGTH;
 
-/// Applies change records in order, up to the first one that isn't sound, and answers the number of that one.
+/// Applies change records in order, up to the first one that isn't sound, and returns the number of that one.
 pub(crate) fn apply(records: &[u8], state: &mut [u8; 4096]) -> Option<usize>
     ensures unsound { result ≡ first_unsound (changes records.now) }
     ensures few { IfSome result (λ n. 4 * n < length records.now) }
@@ -27,7 +27,7 @@ pub(crate) fn apply(records: &[u8], state: &mut [u8; 4096]) -> Option<usize>
     None
 }
 
-/// Adds the change records that make one state of another to a list that has none, in rising position.
+/// Adds the change records that turn one state into another to an empty list, in rising position.
 pub(crate) fn add_changes(old: &[u8; 4096], new: &[u8; 4096], records: &mut Vec<u8>)
     requires room { 4 * 4096 ≤ vec_capacity records.old }
     requires empty { records.old.items ≡ [] }
@@ -50,6 +50,6 @@ fn add_change(at: usize, byte: u8, records: &mut Vec<u8>)
     ensures capacity { vec_capacity records.old ≤ vec_capacity records.new }
 {
     let change = [(at % 256) as u8, (at / 256) as u8, byte, 0];
-    // The memory was taken before.
+    // The room was taken before.
     records.extend_from_slice(&change).unwrap();
 }

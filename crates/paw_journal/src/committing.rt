@@ -20,8 +20,8 @@ use crate::layout::{PIECE_AT, SELECTOR_AT, Slot, VERSION};
 use crate::store::{sync, write};
 use paw_stage::{Stage, StageCall};
 
-/// Writes what makes the slot that isn't chosen show another state and this piece, and makes the store stable. Whatever
-/// a crash leaves shows what the session showed before.
+/// Writes to the slot that isn't in use what makes it show this state and this piece, and makes the store stable.
+/// Whatever a crash leaves shows what the session showed before.
 pub(crate) fn write_slot<S: Stage>(
     stage: &mut S,
     which: Slot,
@@ -45,14 +45,14 @@ pub(crate) fn write_slot<S: Stage>(
     sync(stage)
 }
 
-// The first bytes of a slot with so many change records, which tell its version too.
+// The first bytes of a slot with this number of change records, its version among them.
 fn head_of(records: u16) -> [u8; 3]
     ensures value { result ≡ slot_head records }
 {
     [(records % 256) as u8, (records / 256) as u8, VERSION]
 }
 
-// Writes bytes into a slot, from a place in it on. No bytes make no write.
+// Writes bytes into a slot, from a place in it on. An empty list makes no write.
 fn write_part<S: Stage>(
     stage: &mut S,
     which: Slot,

@@ -7,21 +7,21 @@ ghost use Rattle.paw_journal.specs.inner.Steps.{Drafts};
 use crate::changes::add_changes;
 use crate::layout::{BASE_AT, CHANGE_LENGTH, CHANGES_AT, MOST_CHANGES};
 
-/// The state of a slot, and the number of the change records behind its base.
+/// The state of a slot, and the number of change records after its base.
 #[derive(Drop)]
 pub struct SlotState {
     pub(crate) records: u16,
     pub(crate) state: [u8; 4096],
 }
 
-/// Where a commit writes into a slot, and how many change records there are afterwards.
+/// Where a commit writes into a slot, and the number of change records that the slot then has.
 #[derive(Clone, Copy, Drop)]
 pub(crate) struct Draft {
     pub(crate) at: usize,
     pub(crate) records: u16,
 }
 
-/// Puts together what makes a slot, of which this is kept, have a new state.
+/// Puts together what gives a slot, of which this is kept, a new state.
 pub(crate) fn draft_over(kept: &Option<SlotState>, state: &[u8; 4096], into: &mut Vec<u8>) -> Draft
     requires room { slot_length ≤ vec_capacity into.old }
     ensures drafts { Drafts kept.now state.now into.new.items result }
@@ -33,7 +33,7 @@ pub(crate) fn draft_over(kept: &Option<SlotState>, state: &[u8; 4096], into: &mu
     }
 }
 
-// Change records to stand behind those that the slot has; where these are too many, its base.
+// Change records to be added to those of the slot or, where these are too many, its base.
 fn draft_changes(kept: &SlotState, state: &[u8; 4096], into: &mut Vec<u8>) -> Draft
     requires room { slot_length ≤ vec_capacity into.old }
     ensures drafts { Drafts (Some kept.now) state.now into.new.items result }
@@ -60,7 +60,7 @@ fn draft_base(state: &[u8; 4096], into: &mut Vec<u8>) -> Draft
     ensures capacity { slot_length ≤ vec_capacity into.new }
 {
     into.clear();
-    // The memory was taken before.
+    // The room was taken before.
     into.extend_from_slice(state).unwrap();
     Draft {
         at: BASE_AT,

@@ -1,4 +1,4 @@
-// What the header of a session tells.
+// Reading the header of a session.
 
 ghost use Rattle.std.specs.Prelude.{◌≡◌, ◌≢◌, ◌+◌, ◌≤◌, None, [], ◌∷◌, length, take, OnOk, IfOk, IfErr, IsSome};
 ghost use Rattle.paw_base.specs.Bytes.{Bytes};
@@ -19,10 +19,10 @@ use crate::refusal::{JournalRefusal, SessionPart};
 use crate::store::read;
 use paw_stage::Stage;
 
-// What stands for the digest of routines where a session isn't measured.
+// What stands in place of the digest of routines where a session isn't measured.
 const UNMEASURED: [u8; DIGEST_LENGTH] = [0; DIGEST_LENGTH];
 
-/// What the header of a session tells: the slot in use, and the digests of the game and of the routines.
+/// What the header of a session holds: the slot in use, and the digests of the game and of the routines.
 #[derive(Drop)]
 pub(crate) struct Header {
     pub(crate) slot: Slot,
@@ -34,7 +34,7 @@ impl Header {
     /// Whether the session belongs to the game and the routines with these digests.
     ///
     /// # Errors
-    /// WrongGame where it is of another game, WrongRoutines where it is of this one, is measured, and was played with
+    /// WrongGame where it is of another game. WrongRoutines where it is of this one, but is measured and was played with
     /// other routines.
     pub(crate) fn belongs_to(&self, game: &[u8; 32], rules: &[u8; 32]) -> Result<(), JournalRefusal>
         ensures belongs { OnOk result (BelongsTo game.now rules.now (header_digests self.now)) }
@@ -58,7 +58,7 @@ impl Header {
     }
 }
 
-/// Reads the header of the attached store, which has so many bytes.
+/// Reads the header of the attached store, which has this number of bytes.
 ///
 /// # Errors
 /// Unmade where no session is made, Damaged where its version isn't known, Outside(Read) where a read failed.
@@ -82,7 +82,7 @@ pub(crate) fn read_header<S: Stage>(stage: &mut S, size: u64) -> Result<Header, 
     }
 }
 
-// Why a store of another length holds no session: its length, and its first byte if it has one.
+// Why a store of another length holds no session: its length, and its first byte, if any.
 fn unmade<S: Stage>(stage: &mut S, size: u64) -> JournalRefusal
     requires attached { S.Tells stage.old → IsSome (S.standing stage.old).attached }
     requires size { S.Tells stage.old → size ≡ length (S.standing stage.old).disk.bytes }
@@ -106,7 +106,7 @@ fn unmade<S: Stage>(stage: &mut S, size: u64) -> JournalRefusal
     }
 }
 
-// What these bytes tell of each session whose header they are.
+// What the bytes of a header say.
 fn header_in(bytes: &[u8; HEADER_LENGTH]) -> Result<Header, JournalRefusal>
     ensures introduced { (whole : Bytes) → length whole ≡ session_length → bytes.now ≡ take header_length whole →
         IfOk result (IsHeaderOf whole) }

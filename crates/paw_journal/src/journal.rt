@@ -33,7 +33,7 @@ pub struct Journal {
 
 impl Journal {
     /// Makes a session of the game and the routines with these digests in the attached store, which is empty. It shows
-    /// this state, whose bytes 1,369 and 1,370 tell the piece's length, and this piece.
+    /// this state, whose bytes 1,369 and 1,370 give the piece's length, and this piece.
     ///
     /// # Errors
     /// Write or Sync where that call of the stage failed. The store then stands for no session, or for that one.
@@ -73,7 +73,7 @@ impl Journal {
     }
 
     /// Finds the session of the game with this digest in the attached store, and writes nothing. Its state and its
-    /// piece then stand in the room. It goes on with the routines with this digest, or isn't measured.
+    /// piece are then in the room. It belongs to the routines with this digest, or isn't measured.
     ///
     /// # Errors
     /// Unmade where there is no session, Damaged at its first broken rule, WrongGame where it is of another game,
@@ -121,7 +121,7 @@ impl Journal {
         Ok(Journal { slot: header.slot })
     }
 
-    /// Makes the session show this state, whose bytes 1,369 and 1,370 tell the piece's length, and this piece. Whatever
+    /// Makes the session show this state, whose bytes 1,369 and 1,370 give the piece's length, and this piece. Whatever
     /// a crash leaves in the meantime shows the old pair or the new one. It writes little: what differs from the state
     /// of the slot that isn't in use, and the piece.
     ///

@@ -64,7 +64,7 @@ pub enum Slot {
 }
 
 impl Slot {
-    /// The slot that a selector chooses: its low bit alone tells.
+    /// The slot that a selector chooses, by its low bit alone.
     pub(crate) fn chosen_by(selector: u8) -> Slot
         ensures value { slot_number result ≡ selector % 2 }
     {
@@ -85,7 +85,7 @@ impl Slot {
         }
     }
 
-    /// The slot beside it.
+    /// The other slot.
     pub(crate) fn other(self) -> Slot
         ensures value { slot_number result ≡ 1 - slot_number self }
     {

@@ -31,8 +31,7 @@ fn begin<S: Stage>(stage: &mut S) -> Result<(), StageCall>
     sync(stage)
 }
 
-// Writes the header's other bytes behind the first one: the digests of game and routines, and a selector that chooses
-// slot 0.
+// Writes the header's bytes after the first one: the digests of game and routines, and a selector that chooses slot 0.
 fn write_header<S: Stage>(stage: &mut S, game: &[u8; 32], rules: &[u8; 32]) -> Result<(), StageCall>
     requires attached { S.Tells stage.old → IsSome (S.standing stage.old).attached }
     requires blank { S.Tells stage.old → IsBlank (0 ∷ []) (S.standing stage.old).disk }
@@ -65,7 +64,7 @@ fn put_digest(header: &mut [u8; HEADER_LENGTH], at: usize, digest: &[u8; DIGEST_
     header[at..at + DIGEST_LENGTH].copy_from_slice(digest);
 }
 
-// Writes these bytes into both slots, behind the header, and makes the store stable.
+// Writes these bytes into both slots, after the header, and makes the store stable.
 fn write_slots<S: Stage>(stage: &mut S, bytes: &[u8]) -> Result<(), StageCall>
     requires attached { S.Tells stage.old → IsSome (S.standing stage.old).attached }
     requires blank { S.Tells stage.old → IsBlank (S.standing stage.old).disk.bytes (S.standing stage.old).disk }

@@ -1,4 +1,4 @@
-// The state of a slot that was read.
+// Reading the state of a slot.
 
 ghost use Rattle.std.specs.Prelude.{◌≡◌, ◌++◌, length, take, true, false, OnOk, OnErr, IfOk, IfErr};
 ghost use Rattle.paw_journal.specs.Session.{Digests, slot_length, is_second, has_state, first_length, zeros};
@@ -62,7 +62,7 @@ pub(crate) fn kept_in(slot: &[u8]) -> Option<SlotState>
     }
 }
 
-/// A state of the first version in the form of today: it keeps no positions, whatever stood behind it.
+/// A state of the first version in today's form: it keeps no positions, whatever followed it.
 #[tactic(auto, unfolding(paw_base::specs::Bytes::zeros))]
 pub(crate) fn brought_up(state: &[u8; 4096]) -> [u8; 4096]
     ensures value { result ≡ take first_length state.now ++ zeros 2725 }

@@ -24,7 +24,7 @@ use paw_stage::{Stage, StageCall};
 use std::alloc::Global;
 use std::marker::Model;
 
-/// All the memory that a journal needs, the state and the piece that its session shows, and the states of both slots.
+/// All the memory that a journal needs: the state and the piece that its session shows, and the states of both slots.
 #[derive(Drop)]
 pub struct Room {
     slot: Vec<u8>,
@@ -84,7 +84,7 @@ impl Room {
         self.piece.as_slice()
     }
 
-    /// Holds this state and this piece from now on.
+    /// Makes this the state and the piece that the session shows.
     pub(crate) fn hold(&mut self, state: &[u8; 4096], piece: &[u8])
         requires short { length piece.now ≤ PIECE_LIMIT }
         ensures value { self.new ≡ record self.old { state = state.now; piece = piece.now } }
@@ -93,7 +93,7 @@ impl Room {
         self.hold_piece(piece);
     }
 
-    // Holds this piece from now on.
+    // Makes this the piece that the session shows.
     fn hold_piece(&mut self, piece: &[u8])
         requires short { length piece.now ≤ PIECE_LIMIT }
         ensures value { self.new ≡ record self.old { piece = piece.now } }
@@ -103,14 +103,14 @@ impl Room {
         self.piece.extend_from_slice(piece).unwrap();
     }
 
-    /// The bytes that a slot is to hold, or was read to hold.
+    /// The bytes that are to be written to a slot, or that were read from one.
     pub(crate) fn slot(&self) -> &[u8]
         ensures value { result.now ≡ self.now.slot }
     {
         self.slot.as_slice()
     }
 
-    /// Keeps this state of a slot from now on.
+    /// Keeps this as the state of a slot.
     pub(crate) fn keep(&mut self, which: Slot, kept: Option<SlotState>)
         ensures value { self.new ≡ with_slot_kept which kept self.old }
     {
@@ -120,7 +120,7 @@ impl Room {
         }
     }
 
-    /// Keeps this state of both slots from now on, which are made with it.
+    /// Keeps this as the state of both slots, which are made with it.
     pub(crate) fn keep_made(&mut self, state: &[u8; 4096])
         ensures value { self.new ≡ with_made state.now self.old }
     {
@@ -134,7 +134,7 @@ impl Room {
         });
     }
 
-    /// Puts together what a commit of this state writes into a slot beside its head and the piece.
+    /// Puts together what a commit of this state writes into a slot besides its head and the piece.
     pub(crate) fn draft(&mut self, which: Slot, state: &[u8; 4096]) -> Draft
         ensures drafts { Drafts (kept_of which self.old) state.now self.new.slot result }
         ensures same { self.new ≡ record self.old { slot = self.new.slot } }
@@ -167,7 +167,7 @@ impl Room {
         self.slot.extend_from_slice(&[0, 0, VERSION]).unwrap();
     }
 
-    // Adds so many zeros to the slot.
+    // Adds this number of zeros to the slot.
     fn add_zeros(&mut self, count: usize)
         requires fits { length self.old.slot + count ≤ slot_length }
         ensures value { self.new ≡ record self.old { slot = self.old.slot ++ zeros count } }
@@ -251,7 +251,7 @@ impl Room {
         self.keep(which, kept);
     }
 
-    // Shows this state of the slot, and the slot's piece, whose length the state tells.
+    // Shows this state of the slot, and the slot's piece, whose length the state gives.
     fn show(&mut self, state: &[u8; 4096])
         requires whole { length self.old.slot ≡ slot_length }
         ensures value { self.new ≡ with_state state.now self.old }

@@ -28,7 +28,7 @@ fn the_digest_is_that_of_the_standard(rt: HostRuntime) {
     assert_eq!(rt; digest(b"abc"), expected);
 }
 
-// A state that begins with this byte, and tells the length of this piece.
+// A state that begins with this byte, and gives the length of this piece.
 fn state_of(first: u8, piece: &[u8]) -> [u8; 4096]
     requires short { length piece.now < 256 }
 {
@@ -38,7 +38,7 @@ fn state_of(first: u8, piece: &[u8]) -> [u8; 4096]
     state
 }
 
-// Whether a state tells the length of this piece.
+// Whether a state gives the length of this piece.
 fn tells(state: &[u8; 4096], piece: &[u8]) -> bool
     ensures piece { result ≡ true → piece_length state.now ≡ length piece.now }
 {
@@ -55,7 +55,7 @@ fn memory(alloc: Global, bytes: &[u8]) -> Result<MemoryStage, NoRoom>
     Ok(stage)
 }
 
-// How many of these are done: a session is made, and committed to twice.
+// The number of these steps that are done: a session is made, and committed to twice.
 fn sessions<S: Stage>(stage: &mut S, room: &mut Room) -> u8
     requires stable { S.Tells stage.old → IsStable (S.standing stage.old).disk }
 {
@@ -292,7 +292,7 @@ fn with_routines(alloc: Global, whole: &[u8], byte: u8) -> Result<Vec<u8>, Fail>
     Ok(bytes)
 }
 
-// Whether all is done: a session is made, and so many turns are committed, each with its number in so many bytes.
+// Whether all is done: a session is made, and this number of turns is committed, each with its number in `many` bytes.
 fn plays<S: Stage>(stage: &mut S, room: &mut Room, turns: u32, many: usize) -> bool
     requires stable { S.Tells stage.old → IsStable (S.standing stage.old).disk }
     requires many { many ≤ 1000 }
@@ -313,7 +313,7 @@ fn plays<S: Stage>(stage: &mut S, room: &mut Room, turns: u32, many: usize) -> b
     }
 }
 
-// Whether so many turns more are committed.
+// Whether this number of turns more is committed.
 fn goes_on<S: Stage>(
     stage: &mut S,
     room: &mut Room,
@@ -375,7 +375,7 @@ fn a_commit_writes_what_differs(rt: HostRuntime) -> Result<(), Fail> {
     Ok(())
 }
 
-// Whether the session in the store, which had one turn, is found, and so many turns more are committed.
+// Whether the session in the store, which had one turn, is found, and this number of turns more is committed.
 fn takes_up<S: Stage>(stage: &mut S, room: &mut Room, turns: u32) -> bool
     requires stable { S.Tells stage.old → IsStable (S.standing stage.old).disk }
     requires few { turns < 1000 }
@@ -410,8 +410,8 @@ fn a_slot_without_a_state_is_written_whole(rt: HostRuntime) -> Result<(), Fail> 
     Ok(())
 }
 
-// The bytes of a session as it was made and played once in version 1: it isn't measured, no slot tells a version, and
-// anything may stand behind the states.
+// The bytes of a session that was made and played once in version 1: it isn't measured, no slot gives a version, and
+// anything may follow the states.
 fn first_version(alloc: Global, room: &mut Room) -> Result<Vec<u8>, Fail> {
     let mut stage = memory(alloc, b"")?;
     plays(&mut stage, room, 1, 1);
@@ -635,7 +635,7 @@ fn each_byte_that_commits_leave(rt: HostRuntime) -> Result<(), Fail> {
             (69_838, 1),
         ],
     )?;
-    // Slot 1 again: four more, behind those that it has.
+    // Slot 1 again: four more, after those that it has.
     let session = committed(
         rt.alloc(),
         session.as_slice(),

@@ -75,7 +75,7 @@ module _ (g : Story) (digests : Digests) (name : List ℕ) (st : State) (piece :
   pub in_taking_up : (m : Moment) → InPlay (from_state g st piece digests name) (attached_to old name) m → InPlay (from_state g st piece digests name) old m
   in_taking_up m i = playing_from (from_state g st piece digests name) old m i
 
--- while the session is found, by what stages tell
+-- While the session is found, where stages say what stands.
 pub found_again : {S : Type 0} (s : Ghosts S) (first mid last : S) (g : Story) (digests : Digests) (name : List ℕ) (st : State) (piece : List ℕ) →
     Valid g.game → ShowsState g.game digests (store_bytes (s.standing first) name) st piece →
     s.standing mid ≡ attached_to (s.standing first) name → EachMoment s mid last (Still (s.standing mid)) →
@@ -126,7 +126,7 @@ read_sessions : (c : StageCall) → IsOneOf (call.Read ∷ []) c → IsOneOf ses
 read_sessions c (inl e) = inr (inl e)
 read_sessions c (inr h) = absurd h
 
--- a search that found no session came to its end by the call that failed
+-- A search that found no session ended with the call that failed.
 pub serves_refused : {S : Type 0} (g : Ghosts S) (r : JournalRefusal) (old new : S) → Serves g (call.Read ∷ []) (outside r) old new →
     Serves g session_calls (call_of_end (end_of r)) old new
 serves_refused g (refusal.Unmade n mark) old new s = serves_among g (call.Read ∷ []) session_calls None old new read_sessions s

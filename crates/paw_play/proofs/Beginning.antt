@@ -155,7 +155,7 @@ module _ {F : Type 0} {g : Story} {s : PlayedSession} {first kept : Standing} {n
     asked_is : (new : Standing) (text : List ℕ) → new ≡ record kept { shown = text } → new.asked ≡ first.asked + 0
     asked_is new text e = ap (λ (q : Standing). q.asked) e ∙ b.beside.asked ∙ omega arith
 
-    -- the session is at its first prompt, or playing it has come to its end
+    -- The session is at its first prompt, or playing it has ended.
     pub begins_to : {A : Type 0} (a : A) (new : Standing) (o : Option PlayEnd) → Told kept new next.piece found o →
         Begins g s first new next (unless_ended o a)
     begins_to a new None told = record {

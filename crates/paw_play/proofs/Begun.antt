@@ -15,7 +15,7 @@ use Rattle.paw_play.specs.Played.{PlayedSession, begun}
 use Rattle.paw_play.specs.Play.{MadeAndPlayed, spent, too_deep, unmade, plays}
 use Rattle.paw_play.specs.inner.OnTheWay.{BegunAs, begun_with}
 
--- what making a session came to is what playing it came to
+-- An end of making a session is one of making and playing it.
 pub begun_plays : (s : PlayedSession) (first now : Standing) (o : PlayEnd) → BegunAs s first now o → MadeAndPlayed s first now o
 begun_plays s first now (end.Spent kind) b = spent kind b.0 b.1 b.2
 begun_plays s first now (end.TooDeep table) b = too_deep table b.0 b.1 b.2

@@ -94,7 +94,7 @@ line_short step place =
     let blank : length (codes " ") ≡ 1 = refl in
     omega (arith, place, name_short step.code, answer_short step.yes, one, two, three, blank)
 
--- so is the line that tells how many more there were
+-- The line with the number of further steps is short too.
 pub more_short : (n : ℕ) → n < 2 ^ 32 → length (more_line n) ≤ 27
 more_short zero small = omega arith
 more_short (suc n) small =

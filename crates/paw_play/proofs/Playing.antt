@@ -340,7 +340,7 @@ module _ {F : Type 0} {g : Story} {s : PlayedSession} {most n events : ℕ} {fir
       asked_then : (new : Standing) (text : List ℕ) → new ≡ record kept { shown = text } → new.asked ≡ first.asked + suc n
       asked_then new text e = ap (λ (q : Standing). q.asked) e ∙ beside.asked ∙ asked_more
 
-      -- the session is at the next prompt, or playing on has come to its end, with the piece shown or not
+      -- The session is at the next prompt, or playing on has ended, with the piece shown or not.
       pub plays_to : {A : Type 0} (a : A) (new : Standing) (o : Option PlayEnd) → Told kept new next.piece found o →
           PlaysTo g s most first new next n (unless_ended o a)
       plays_to a new None told = record {

@@ -197,7 +197,7 @@ module _ {F : Type 0} {g : Story} {name piece : List ℕ} {r : Restored} {first 
     grown = text_is;
   })
 
-  -- or playing it has come to its end
+  -- Otherwise playing it has ended.
   pub again_last : (most : ℕ) (new : Standing) (o : PlayEnd) → ShowsAgain first new piece r.prompt (Some o) →
       PlaysOn (read_session g name piece r first) most first new o
   again_last most new end.Ended told = record {

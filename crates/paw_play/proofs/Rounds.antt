@@ -88,7 +88,7 @@ module _ (s : PlayedSession) (old : Standing) where
   cut_keeps : (m : Moment) (left : List ℕ) → InPlay s old m → MayBeLeft s.name m left → KeptOf s old (cut_at m) left
   cut_keeps m left i may = kept_up m i.taken i.text left i.there i.few i.asked (i.leaves left (store_left s.name left m i.attached may))
 
-  -- of one that came to its end all but those that are lost by it
+  -- Of a round that ended by itself, all lines but those that are lost by its end.
   at_rest : (new : Standing) (o : PlayEnd) (n : ℕ) → new.asked ≡ old.asked + n + lines_lost o → RestsWith s (attached_to old s.name) new n →
       KeptOf s old (came_to new o) (store_bytes new s.name)
   at_rest new o n asked r = (n, asked, r.there, r.few, subst (KeptBy s old.lines n) (sym (ap bytes_or_none r.file)) r.keeps)

@@ -64,7 +64,7 @@ standing_goes_on g seed es fs bytes digests st piece played stands shows =
 
 -- ---- going on from where a reading waits ----
 
--- the pieces behind those that were closed before
+-- The pieces after those that were closed before.
 pieces_with_past : (ps : List (List ℕ)) (ts : List (List Step)) (last : List ℕ) (x : Ending) → ending_with_past (last ∷ []) [] x ≢ Unended →
     pieces_of (ending_with_past ps ts x) ≡ ps ++ drop 1 (pieces_of (ending_with_past (last ∷ []) [] x))
 pieces_with_past ps ts last (WaitsAt p path r) ends = refl
@@ -110,7 +110,7 @@ begun_stands g seed lines name n bytes there few kept =
       keeps = subst (λ k. IsKept (story_digests g) k (reading g seed (first_lines n lines)) (recover bytes)) all kept;
     }
 
--- and those that it went on behind
+-- Bytes that keep lines of a session stand for those that it went on after, and for these.
 pub later_stands : (g : Story) (seed : ℕ) (es lines : List (List ℕ)) (digests : Digests) (name : List ℕ) (n : ℕ) (bytes : List ℕ) → IsOfStory g digests →
     n ≤ length lines → length es + n ≤ EVENT_LIMIT → KeptBy (from_lines g seed es digests name) lines n bytes → Stands g seed (es ++ first_lines n lines) bytes
 later_stands g seed es lines digests name n bytes belongs there few kept =
@@ -213,7 +213,7 @@ module _ (g : Story) (name : List ℕ) (old new : Standing) (valid : Valid g.gam
   goes_again _ (refused r h e) = absurd (never_refused g d (store_bytes old name) (kept_bytes st) piece r of shows.shown h)
   goes_again _ (plays_up o e mine up) = goes_up e o up
 
--- what taking up a session comes to that goes on from the bytes of its store
+-- How resuming a session that goes on from the bytes of its store ends.
 pub again_goes_on : (g : Story) (name : List ℕ) (old new : Standing) (s : PlayedSession) → Valid g.game → GoesOnFrom g name (store_bytes old name) s →
     (o : PlayEnd) → PlaysAgain g name old new o → GoesOn s old new o
 again_goes_on g name old new s valid from o p =

@@ -1,4 +1,4 @@
--- What a walk tells of pieces: each as it is, or behind the text of its steps.
+-- How a walk shows pieces: each as it is, or after the text of its steps.
 use Rattle.std.proofs.Common.{◌≡◌, ℕ, zero, suc, List, [], ◌∷◌, ◌++◌, None, refl, sym, ap, ◌∙◌}
 use Rattle.std.proofs.Common.{length, take, arith, append_assoc, length-append}
 use Rattle.std.proofs.lemmas.List.Folds.{concat-append}
@@ -32,7 +32,7 @@ take_twice zero xs = refl
 take_twice (suc n) [] = refl
 take_twice (suc n) (x ∷ xs) = ap (λ ys. x ∷ ys) (take_twice n xs)
 
--- what is kept of steps is told as the steps are
+-- What is kept of steps is shown as the steps are.
 kept_told : (k : KeptSteps) (steps : List Read) → k ≡ kept_steps steps → kept_text k ≡ steps_text steps
 kept_told k steps e =
     ap kept_text e ∙ ap (λ xs. flat_map step_line xs ++ more_line (length steps - 1000)) (take_twice 1000 steps)
@@ -61,7 +61,7 @@ pub steps_more : (telling : Telling) (pieces : List (List ℕ)) (traces : List (
 steps_more Plain pieces traces piece steps each = tt
 steps_more Stepped pieces traces piece steps each = omega (arith, length-append traces (steps ∷ []), length-append pieces (piece ∷ []), each)
 
--- before the first piece there is none to tell
+-- Before the first piece there is none to show.
 pub told_none : (telling : Telling) → concat (told_pieces telling [] []) ≡ []
 told_none Plain = refl
 told_none Stepped = refl
@@ -81,12 +81,12 @@ pub halts_told : (telling : Telling) (halt : Halt) (r : Run) → told_ending tel
 halts_told Plain halt r = refl
 halts_told Stepped halt r = refl
 
--- no line is told away
+-- How pieces are shown changes nothing of the lines to come.
 pub same_lines : (telling : Telling) (r : Run) → (told_run telling r).events ≡ r.events
 same_lines Plain r = refl
 same_lines Stepped r = refl
 
--- the closed pieces of a run with these, as they are told
+-- The closed pieces of a run with these, as they are shown.
 pub told_is : (telling : Telling) (r : Run) (pieces : List (List ℕ)) (traces : List (List Read)) → r.pieces ≡ pieces → r.traces ≡ traces →
     concat (told_run telling r).pieces ≡ concat (told_pieces telling pieces traces)
 told_is Plain r pieces traces e f = ap concat e
@@ -108,7 +108,7 @@ shows_piece step.Ended h = tt
 shows_piece (step.Spent kind) h = cc
 shows_piece (step.TooDeep table) h = cc
 
--- ---- one text behind another ----
+-- ---- one text after another ----
 
 -- a first part of the first text
 part_of : (n : ℕ) (xs ys : List ℕ) → (m : ℕ) × (take n xs ≡ take m (xs ++ ys))

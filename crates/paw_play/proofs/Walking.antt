@@ -29,7 +29,7 @@ use Rattle.paw_effects.specs.Story.{Story}
 
 -- ---- lines ----
 
--- behind the first n lines stands this one
+-- The line after the first n lines is this one.
 take_more : (lines : List (List ℕ)) (n : ℕ) (line : List ℕ) (rest : List (List ℕ)) → drop n lines ≡ line ∷ rest → take (suc n) lines ≡ take n lines ++ line ∷ []
 take_more [] zero line rest h = cc
 take_more [] (suc n) line rest h = cc
@@ -153,7 +153,7 @@ text_shown telling g whole (step.TooDeep u) next pieces traces each h m plays = 
 pub shown_nothing : (mid : Standing) → mid ≡ record mid { shown = mid.shown ++ [] }
 shown_nothing mid = ap (λ t. record mid { shown = t }) (sym (append-nil mid.shown))
 
--- what a step comes to after n lines, where `after` is the reading of those that are left then
+-- How a step ends after n lines, where `after` is the reading of those that are left then.
 module _ {F : Type 0} (telling : Telling) (g : Story) (whole after : EndingOf) (n : ℕ) (first mid new : Standing) (next : Seat F) (s : Step)
     (pieces : List (List ℕ)) (traces : List (List Read)) (each : HaveSteps telling pieces traces)
     (last : next.last ≡ s) (seated : IsSeated next) (there : n ≤ length first.lines)
@@ -305,7 +305,7 @@ long_walk telling g whole most n first now seat w seated all =
 pub first_stands : (old new : Standing) (part : List ℕ) → new ≡ record old { shown = old.shown ++ part } → new ≡ advanced old 0 part
 first_stands old new part e = let a : old.asked + 0 ≡ old.asked = omega arith in e ∙ rw a refl
 
--- after piece 0 the walk is at the first prompt, or has come to this
+-- After piece 0 the walk is at the first prompt, or has ended this way.
 pub walk_begins : {F : Type 0} (telling : Telling) (g : Story) (whole : EndingOf) (most : ℕ) (old new : Standing) (seat : Seat F) (s : Step)
     (o : Option PlayEnd) → IsSeated seat → seat.last ≡ s →
     PlaysTo g whole s seat [] [] → Told old new (seat_text telling seat) s o → WalksTo telling g whole most old new seat 0 o

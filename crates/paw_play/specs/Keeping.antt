@@ -16,22 +16,22 @@ use Rattle.paw_play.specs.Walk.{first_lines, text_for, text_before}
 use Rattle.paw_play.specs.Played.{PlayedSession}
 use Rattle.paw_play.specs.Written.{bytes_before, bytes_after}
 
--- the bytes of a store keep the session's reading of the first n lines
+-- The bytes of a store keep the session's reading of the first n lines.
 abbrev pub KeptBy : PlayedSession → Lines → ℕ → Bytes → Type 0
 KeptBy s lines n bytes = IsKept s.digests (s.before + n) (s.whole (first_lines n lines)) (recover bytes)
 
--- the bytes keep n lines, and this text is a first part of theirs
+-- The bytes keep n lines, and this text is a first part of the text for them.
 abbrev pub AgreesWith : PlayedSession → Lines → ℕ → Text → Bytes → Type 0
 AgreesWith s lines n text bytes = KeptBy s lines n bytes × ((rest : Text) × (text ++ rest ≡ text_for s.whole lines n))
 
--- the bytes keep the n lines that were taken, or all but the last
+-- The bytes keep the n lines that were taken, or all but the last.
 abbrev pub KeepsUpWith : PlayedSession → Lines → ℕ → Text → Bytes → Type 0
 KeepsUpWith s lines zero text bytes = AgreesWith s lines zero text bytes
 KeepsUpWith s lines (suc n) text bytes = AgreesWith s lines (suc n) text bytes ⊎ AgreesWith s lines n text bytes
 
--- A moment at which a session stands. Since the call began n lines were taken, and a text was shown that holds the text
--- for all but the last of them. Whatever a crash leaves of the store keeps up with them, and the text is a first part
--- of what it keeps. No other file has changed.
+-- A moment at which a session is played. Since the call began n lines were taken, and a text was shown that holds the
+-- text for all but the last of them. Whatever a crash leaves of the store keeps all these lines, or all but the last,
+-- and the text is a first part of the text for those. No other file has changed.
 pub record InPlay (s : PlayedSession) (old : Standing) (m : Moment) : Type 0 where
   pub taken : ℕ
   pub text : Text
@@ -54,7 +54,7 @@ pub record InMaking (s : PlayedSession) (old : Standing) (m : Moment) : Type 0 w
   pub files : (n : Name) → n ≢ s.name → m.files n ≡ old.files n
   pub leaves : (image : Bytes) → MayLeave m.disk image → IsUnmade (recover image) ⊎ KeptBy s old.lines 0 image
 
--- a moment of a new session once its store is attached: it is being made, or it is played
+-- A moment of a new session once its store is attached: it is being made, or it is played.
 abbrev pub InNewSession : PlayedSession → Standing → Moment → Type 0
 InNewSession s old m = InMaking s old m ⊎ InPlay s old m
 
@@ -65,7 +65,7 @@ pub record StaysAttached (name : Name) (old new : Standing) : Type 0 where
   pub others : (f : Name) → f ≢ name → new.files f ≡ old.files f
 
 -- The store is attached and at rest: a crash leaves just its bytes, which are those of its file. They keep n lines, and
--- are those that as many commits make of the bytes before the first line. No other file has changed.
+-- are what n commits make of the bytes before the first line. No other file has changed.
 pub record RestsWith (s : PlayedSession) (old new : Standing) (n : ℕ) : Type 0 where
   pub there : n ≤ length old.lines
   pub few : s.before + n ≤ EVENT_LIMIT
@@ -76,16 +76,16 @@ pub record RestsWith (s : PlayedSession) (old new : Standing) (n : ℕ) : Type 0
   pub keeps : KeptBy s old.lines n new.disk.bytes
   pub bytes : new.disk.bytes ≡ bytes_after s old.lines n (bytes_before s old.disk.bytes)
 
--- the store keeps all lines that were taken
+-- The store keeps all lines that were taken.
 abbrev pub KeepsAll : PlayedSession → Standing → Standing → Type 0
 KeepsAll s old new = (n : ℕ) × (new.asked ≡ old.asked + n) × RestsWith s old new n
 
--- the store keeps all lines that were taken but the last
+-- The store keeps all lines that were taken but the last.
 abbrev pub KeepsAllButLast : PlayedSession → Standing → Standing → Type 0
 KeepsAllButLast s old new = (n : ℕ) × (new.asked ≡ old.asked + suc n) × RestsWith s old new n
 
--- What the store keeps where playing on came to this. Where a commit failed its bytes aren't told here: the moments of
--- the call tell what a crash leaves of them.
+-- What the store keeps after playing on, by how that ended. Where a commit failed its bytes aren't given here: the
+-- moments of the call say what a crash leaves of them.
 abbrev pub LeavesStore : PlayedSession → Standing → Standing → PlayEnd → Type 0
 LeavesStore s old new end.Ended = KeepsAll s old new
 LeavesStore s old new end.InputEnded = KeepsAll s old new

@@ -25,7 +25,7 @@ use Rattle.paw_play.specs.Played.{PlayedSession, ShowsState, begun, from_lines, 
 use Rattle.paw_play.specs.Keeping.{KeptBy, InPlay, InNewSession}
 use Rattle.paw_play.specs.Play.{store_bytes, NotYet, NewSession, GoesOn}
 
--- the bytes hold a session of the story, which shows a state of the game that keeps all its rules, and a piece
+-- The bytes hold a session of the story, which shows a state of the game that keeps all its rules, and a piece.
 pub record ShowsSome (g : Story) (bytes : Bytes) : Type 0 where
   pub digests : Digests
   pub belongs : IsOfStory g digests
@@ -33,20 +33,20 @@ pub record ShowsSome (g : Story) (bytes : Bytes) : Type 0 where
   pub piece : Text
   pub shows : ShowsState g.game digests bytes state piece
 
--- a store that stands for some lines shows a state of the game that keeps all its rules
+-- A store that stands for some lines shows a state of the game that keeps all its rules.
 abbrev pub StandingShows : Type 0
 StandingShows = (g : Story) (seed : Seed) (es : Lines) (bytes : Bytes) → IsPlayedWith g seed es →
     Stands g seed es bytes → ShowsSome g bytes
 
--- going on from the state that it shows is reading the longer list of lines, from the last piece of the former on
+-- Going on from the state that such a store shows is reading on after its lines, from their last piece on.
 abbrev pub StandingGoesOn : Type 0
 StandingGoesOn =
     (g : Story) (seed : Seed) (es fs : Lines) (bytes : Bytes) (digests : Digests) (st : State)
     (piece : Text) → IsPlayedWith g seed es → Stands g seed es bytes → ShowsState g.game digests bytes st piece →
     (st.events ≡ length es) × (going_on g st piece fs ≡ reading_since g seed es fs)
 
--- Bytes that keep the first n lines of a session stand for them: where it was begun for just these, and where it went on
--- behind others for those and these.
+-- Bytes that keep the first n lines of a session stand for these lines; where the session went on after others, they
+-- stand for those and these.
 pub record KeptLinesStand : Type 0 where
   pub first : (g : Story) (seed : Seed) (lines : Lines) (name : Name) (n : ℕ) (bytes : Bytes) →
       n ≤ length lines → n ≤ EVENT_LIMIT → KeptBy (begun g seed name) lines n bytes →
@@ -57,9 +57,9 @@ pub record KeptLinesStand : Type 0 where
 
 -- ---- going on ----
 
--- Going on with more lines from a state of a reading, behind its last piece, is reading them all. The state keeps all
--- rules of the game; going on ends as that reading does, at the same prompt and in the same world; and the pieces of
--- that reading are those before, and then those that going on adds.
+-- Going on with more lines from a state of a reading, after its last piece, is reading them all. The state keeps all
+-- rules of the game; going on ends as the whole reading does, at the same prompt and in the same world; and the pieces
+-- of the whole reading are those before, and then those that going on adds.
 pub record GoesOnAsRead (g : Story) (seed : Seed) (es fs : Lines) (st : State) (piece : Text) : Type 0 where
   pub keeps : Keeps g.game st
   pub fits : FitsFields st
@@ -67,7 +67,7 @@ pub record GoesOnAsRead (g : Story) (seed : Seed) (es fs : Lines) (st : State) (
   pub pieces : pieces_of (reading g seed (es ++ fs)) ≡
       pieces_of (reading g seed es) ++ drop 1 (pieces_of (going_on g st piece fs))
 
--- it is so wherever the reading of some lines waits, for any lines that follow
+-- Wherever the reading of some lines waits, going on is reading all lines, whatever lines follow.
 abbrev pub GoingOnIsTheReading : Type 0
 GoingOnIsTheReading =
     (g : Story) (seed : Seed) (es fs : Lines) (p : Prompt) (path : List Frame) (r : Run) →
@@ -76,93 +76,93 @@ GoingOnIsTheReading =
 
 -- ---- rounds ----
 
--- How a round of play stops: it is cut off at a moment, by a crash or right behind a call that failed; or it comes to
--- this end, and then this stands
+-- How a round of play stops: it is cut off at a moment, by a crash or right after a call that failed; or it ends this
+-- way, and then this stands.
 pub data RoundStop : Type 0 where
   cut_at : Moment → RoundStop
   came_to : Standing → PlayEnd → RoundStop
 
 -- A round: a session is played in the file of this name, from what stood at first until it stops; these bytes are then
--- left of the file
+-- left of the file.
 pub record Round : Type 0 where
   pub name : Name
   pub old : Standing
   pub stop : RoundStop
   pub left : Bytes
 
--- A crash at this moment may leave these bytes of a file: any that it may leave of the store where the file is the
--- attached one, and otherwise those that the file has
+-- A crash at this moment may leave these bytes of a file: where the file is the attached one, any that it may leave of
+-- the store; otherwise those that the file has.
 abbrev pub MayBeLeft : Name → Moment → Bytes → Type 0
 MayBeLeft name m bytes = ((m.attached ≡ Some name) × MayLeave m.disk bytes)
     ⊎ ((m.attached ≢ Some name) × (bytes ≡ bytes_or_none (m.files name)))
 
--- A round begins over these bytes: its file has them, and a crash before it would leave no others. Its lines are bytes
+-- A round begins over these bytes: its file has them, and a crash before it would leave no others. Its lines are bytes.
 pub record BeginsOver (bytes : Bytes) (r : Round) : Type 0 where
   pub has : store_bytes r.old r.name ≡ bytes
   pub settled : (image : Bytes) → MayBeLeft r.name (moment_of r.old) image → image ≡ bytes
   pub lines : All AreBytes r.old.lines
 
--- play came to this end with the store at rest: no write and no sync of it failed
+-- Play ended with the store at rest: no write and no sync of it failed.
 abbrev pub AtRest : PlayEnd → Type 0
 AtRest (end.Outside call.Write) = ⊥
 AtRest (end.Outside call.Sync) = ⊥
 AtRest o = Unit {0}
 
--- It is cut off at one of these moments, and a crash there may leave these bytes of the file; or it comes to one of
--- these ends with the store at rest, and these are the bytes of the file
+-- A round stops: it is cut off at one of these moments, where a crash may leave these bytes of the file; or it ends in
+-- one of these ways, with the store at rest and these bytes in the file.
 abbrev pub StopsWith : (Moment → Type 0) → (Standing → PlayEnd → Type 0) → Name → Bytes → RoundStop → Type 0
 StopsWith Inside Comes name left (cut_at m) = Inside m × MayBeLeft name m left
 StopsWith Inside Comes name left (came_to new o) = Comes new o × AtRest o × (left ≡ store_bytes new name)
 
--- a round is played so: what stands at its moments once its store is attached, and what it comes to
+-- A round is played with these moments once its store is attached, and with one of these ends.
 abbrev pub PlaysUntil : (Moment → Type 0) → (Standing → PlayEnd → Type 0) → Round → Type 0
 PlaysUntil Inside Comes r = StopsWith (λ m. NotYet r.name r.old m ⊎ Inside m) Comes r.name r.left r.stop
 
--- a round in which a session is taken up again
+-- A round in which a session is resumed.
 abbrev pub GoesOnUntil : PlayedSession → Round → Type 0
 GoesOnUntil s r = PlaysUntil (InPlay s r.old) (GoesOn s r.old) r
 
--- the first round: the game is played from its start, over a file that is missing or empty
+-- The first round: the game is played from its start, over a file that is missing or empty.
 abbrev pub IsFirstRound : Story → Seed → Round → Type 0
 IsFirstRound g seed r = BeginsOver [] r
     × PlaysUntil (InNewSession (begun g seed r.name) r.old) (NewSession (begun g seed r.name) r.old) r
 
--- a later round: the session of these bytes is taken up again, and goes on behind whatever lines they stand for
+-- A later round: the session of these bytes is resumed, and goes on after whatever lines they stand for.
 abbrev pub IsLaterRound : Story → Seed → Bytes → Round → Type 0
 IsLaterRound g seed bytes r = BeginsOver bytes r
     × ((es : Lines) → IsPlayedWith g seed es → (stands : Stands g seed es bytes) →
     GoesOnUntil (from_lines g seed es stands.digests r.name) r)
 
--- later rounds one after the other, each over what the one before left
+-- Later rounds one after the other, each over what the one before left.
 abbrev pub AreRounds : Story → Seed → Bytes → List Round → Type 0
 AreRounds g seed bytes [] = Unit {0}
 AreRounds g seed bytes (r ∷ rounds) = IsLaterRound g seed bytes r × AreRounds g seed r.left rounds
 
--- what the last of these rounds left
+-- What the last of these rounds left.
 abbrev pub left_after : Bytes → List Round → Bytes
 left_after bytes [] = bytes
 left_after bytes (r ∷ rounds) = left_after r.left rounds
 
--- how many of the lines that were taken are lost where play came to this end: the last one, where its piece ran out of
--- a budget or a call was too deep; otherwise none
+-- The number of taken lines that are lost where play ended this way: one, the last, where its piece ran out of a budget
+-- or a call was too deep; otherwise none.
 abbrev pub lines_lost : PlayEnd → ℕ
 lines_lost (end.Spent kind) = 1
 lines_lost (end.TooDeep table) = 1
 lines_lost o = 0
 
--- So many lines of a round are kept: where it was cut off all that were taken by then, or all but the last; where it
--- came to an end all that were taken but those that are lost by it
+-- This number of lines of a round is kept: where it was cut off, all that were taken by then, or all but the last;
+-- where it ended, all that were taken but those lost by that end.
 abbrev pub AreKept : Standing → RoundStop → ℕ → Type 0
 AreKept old (cut_at m) n = (m.asked ≡ old.asked + n) ⊎ (m.asked ≡ old.asked + suc n)
 AreKept old (came_to new o) n = new.asked ≡ old.asked + n + lines_lost o
 
--- the lines that are kept of rounds, one round after the other
+-- The lines that are kept of these rounds, one round after the other.
 abbrev pub AreKeptOf : List Round → Lines → Type 0
 AreKeptOf [] lines = lines ≡ []
 AreKeptOf (r ∷ rounds) lines = (n : ℕ) × (more : Lines) × AreKept r.old r.stop n
     × (lines ≡ first_lines n r.old.lines ++ more) × AreKeptOf rounds more
 
--- After any rounds, the first of which left a session, the store stands for the lines that are kept of all of them
+-- After any rounds, the first of which left a session, the store stands for the lines that are kept of all of them.
 abbrev pub RoundsStand : Type 0
 RoundsStand =
     (g : Story) (seed : Seed) (first : Round) (rounds : List Round) → ValidStory g → seed < 2 ^ 64 →

@@ -1,4 +1,4 @@
--- Sessions of version 1, of which the states have no kept positions.
+-- Sessions of version 1, whose states have no kept positions.
 use Rattle.std.specs.Prelude.{◌≡◌, ℕ, ◌≤◌, false, length, take}
 use Rattle.paw_base.specs.Bytes.{Bytes, Lines, Seed}
 use Rattle.paw_base.specs.declared.limits.TheConstants.{EVENT_LIMIT}
@@ -10,8 +10,8 @@ use Rattle.paw_state.specs.Record.{last_piece}
 use Rattle.paw_play.specs.Session.{IsOfStory, state_after, IsPlayed}
 use Rattle.paw_play.specs.Stands.{Stands, IsPlayedWith}
 
--- The slot in use is of version 1. It shows a state in a session with these digests, whose first 1,371 bytes are those
--- of the state where a reading ended after so many lines, and the last piece of the reading.
+-- A session with these digests, whose slot in use is of version 1, keeps where a reading ended after this number of
+-- lines: it shows the last piece, and a state whose first 1,371 bytes are those of the state there.
 pub record KeepsAsOlder (digests : Digests) (events : ℕ) (e : Ending) (bytes : Bytes) : Type 0 where
   pub played : IsPlayed e
   pub first : is_second (slot (chosen bytes) bytes) ≡ false
@@ -19,8 +19,8 @@ pub record KeepsAsOlder (digests : Digests) (events : ℕ) (e : Ending) (bytes :
   pub shown : recover bytes ≡ Shown digests state (last_piece (pieces_of e))
   pub same : take first_length state ≡ take first_length (state_after events e)
 
--- The bytes of a store are those of an older session for these lines of a story that was begun with this seed: a session
--- has room for them, and it is one of the story that keeps the reading of them all, but for positions.
+-- The bytes of a store are an older session for these lines of a story that was begun with this seed: the lines aren't
+-- too many for a session, and the session is one of the story that keeps the reading of them all, except for positions.
 pub record IsOlderSession (g : Story) (seed : Seed) (es : Lines) (bytes : Bytes) : Type 0 where
   pub few : length es ≤ EVENT_LIMIT
   pub digests : Digests

@@ -1,4 +1,4 @@
--- What playing with a session comes to, and what stands at each moment of it.
+-- How playing with a session ends, what it leaves, and what stands at each moment of it.
 use Rattle.std.specs.Prelude.{take, ◌-◌, ◌≡◌, ◌≢◌, ◌⊎◌, ℕ, suc, ◌<◌, ◌≤◌, [], length, None}
 use Rattle.paw_base.specs.Bytes.{Bytes, Name, Text, zeros}
 use Rattle.paw_stage.specs.Stage.{Standing, Unattached, file_bytes, made_if_missing, opened}
@@ -27,41 +27,41 @@ use Rattle.paw_play.specs.Keeping.{StaysAttached, LeavesStore}
 
 -- ---- taking lines ----
 
--- what stood, but with the store and the files as they stand now
+-- What stood before, with the store and the files as they stand now.
 abbrev pub with_store : Standing → Standing → Standing
 with_store now old = record old { files = now.files; attached = now.attached; disk = now.disk; written = now.written }
 
--- a line was taken that couldn't be committed: nothing of its piece was shown
+-- A line was taken whose commit failed; nothing of its piece was shown.
 abbrev pub Uncommitted : EndingOf → ℕ → Standing → Standing → Type 0
 Uncommitted whole most old new =
     (n : ℕ) × (n < most) × (suc n ≤ length old.lines)
     × (new ≡ advanced (with_store new old) (suc n) (text_for whole old.lines n))
 
--- the lines that were taken and the text that was shown, where playing on came to this: as in a walk, but that a commit
--- may fail, and that memory is never wanting
+-- The lines that were taken and the text that was shown, by how playing on ended: as for a walk, except that a commit
+-- may fail, and that memory is never lacking.
 abbrev pub ShowsAs : EndingOf → ℕ → Standing → Standing → PlayEnd → Type 0
 ShowsAs whole most old new (end.Outside call.Write) = Uncommitted whole most old new
 ShowsAs whole most old new (end.Outside call.Sync) = Uncommitted whole most old new
 ShowsAs whole most old new end.Memory = ⊥
 ShowsAs whole most old new o = Walks whole most (with_store new old) new o
 
--- What playing the session on comes to, with at most so many lines more.
+-- How playing the session on ends, and what it leaves, with at most this many lines more.
 pub record PlaysOn (s : PlayedSession) (most : ℕ) (old new : Standing) (o : PlayEnd) : Type 0 where
   pub shows : ShowsAs s.whole most old new o
   pub session : LeavesStore s old new o
 
 -- ---- a store from its attach on ----
 
--- the bytes of the store of this name
+-- The bytes of the store of this name.
 abbrev pub store_bytes : Standing → Name → Bytes
 store_bytes s name = file_bytes s name
 
--- what stands once the store of this name is attached
+-- What stands once the store of this name is attached.
 abbrev pub attached_to : Standing → Name → Standing
 attached_to old name = opened name old
 
--- A moment at which the store isn't attached yet: nothing was asked or shown, and no file has changed, but that the
--- store's may be there, empty.
+-- A moment at which the store isn't attached yet: nothing was asked or shown, and no file has changed, except that the
+-- store's file may be there now, empty.
 pub record NotYet (name : Name) (old : Standing) (m : Moment) : Type 0 where
   pub asked : m.asked ≡ old.asked
   pub shown : m.shown ≡ old.shown
@@ -70,41 +70,40 @@ pub record NotYet (name : Name) (old : Standing) (m : Moment) : Type 0 where
 
 -- ---- a new session ----
 
--- what making a new session in the attached store, which is empty, and playing it comes to
+-- How making a new session in the attached store, which is empty, and playing it ends, and what that leaves.
 pub data MadeAndPlayed (s : PlayedSession) (old new : Standing) : PlayEnd → Type 0 where
   memory : new ≡ old → MadeAndPlayed s old new end.Memory
-  -- the piece before the first line is spent, or calls too deep: no session is made
+  -- The piece before the first line ran out of a budget, or a call in it was too deep: no session is made.
   spent : (kind : SpentKind) (r : Run) → s.whole [] ≡ Halted (RunsOut kind) r → new ≡ old →
       MadeAndPlayed s old new (end.Spent kind)
   too_deep : (table : ℕ) (r : Run) → s.whole [] ≡ Halted (CallsTooDeep table) r → new ≡ old →
       MadeAndPlayed s old new (end.TooDeep table)
-  -- the session couldn't be made; nothing was asked or shown, and no other file has changed
+  -- The session couldn't be made; nothing was asked or shown, and no other file has changed.
   unmade : (c : StageCall) → IsOneOf writing_calls c → new ≡ with_store new old → StaysAttached s.name old new →
       MadeAndPlayed s old new (end.Outside c)
   plays : (o : PlayEnd) → PlaysOn s EVENT_LIMIT old new o → MadeAndPlayed s old new o
 
--- what a new session comes to
+-- How a new session ends, and what it leaves.
 pub data NewSession (s : PlayedSession) (old new : Standing) : PlayEnd → Type 0 where
   unattached : Unattached old new → NewSession s old new (end.Outside call.Attach)
-  -- the store has bytes already
+  -- The store has bytes already.
   occupied : 0 < length (store_bytes old s.name) → new ≡ attached_to old s.name →
       NewSession s old new (end.Occupied (length (store_bytes old s.name)))
-  -- the store is empty: the session is made in it and played
+  -- The store is empty: the session is made in it and played.
   plays_in : (o : PlayEnd) → store_bytes old s.name ≡ [] → MadeAndPlayed s (attached_to old s.name) new o →
       NewSession s old new o
 
--- ---- a session that is taken up again ----
+-- ---- a session that is resumed ----
 
--- What taking up a session again comes to that goes on from the bytes of its store. It is never refused: its last piece
--- is shown again, and it is played on.
+-- How a session that goes on from the bytes of its store ends once it is resumed, and what it leaves. It is never
+-- refused: its last piece is shown again, and it is played on.
 pub data GoesOn (s : PlayedSession) (old new : Standing) : PlayEnd → Type 0 where
   unattached : Unattached old new → GoesOn s old new (end.Outside call.Attach)
   unread : new ≡ attached_to old s.name → GoesOn s old new (end.Outside call.Read)
   memory : new ≡ attached_to old s.name → GoesOn s old new end.Memory
   plays : (o : PlayEnd) → PlaysOn s (EVENT_LIMIT - s.before) (attached_to old s.name) new o → GoesOn s old new o
 
--- Why bytes of a store give no session of a story with these digests. Those of its game come before those of its
--- routines.
+-- Why bytes of a store give no session of a story with these digests; another game is named before other routines.
 abbrev pub Refuses : Digests → Bytes → JournalRefusal → Type 0
 Refuses own bytes (refusal.Unmade n mark) = recover bytes ≡ Unmade n mark
 Refuses own bytes (refusal.Damaged part at) = recover bytes ≡ Damaged part at
@@ -116,23 +115,23 @@ Refuses own bytes (refusal.WrongRoutines kept found) =
     × (kept ≡ d.routines) × (kept ≢ zeros 32) × (kept ≢ own.routines) × (found ≡ own.routines)
 Refuses own bytes (refusal.Outside c) = ⊥
 
--- What taking up the session with these digests that the attached store holds comes to. Where it shows a state of the
--- game, its piece is shown again and it is played on.
+-- How resuming the session with these digests in the attached store ends, and what it leaves. Where it shows a state of
+-- the game, its piece is shown again, and it is played on.
 pub data Resumed (g : Story) (digests : Digests) (name : Name) (old new : Standing) : PlayEnd → Type 0 where
   memory : new ≡ old → Resumed g digests name old new end.Memory
-  -- the bytes that the session shows, and any behind them, are no state of the game
+  -- The bytes that the session shows, with any that follow them, are no state of the game.
   no_state : (at : ℕ) (state piece : Bytes) → recover old.disk.bytes ≡ Shown digests (take state_length state) piece →
       ¬ Fit g.game state → Unfit g.game state at → new ≡ old → Resumed g digests name old new (end.State at)
   plays_on : (o : PlayEnd) (st : State) (piece : Text) → ShowsState g.game digests old.disk.bytes st piece →
       PlaysOn (from_state g st piece digests name) (EVENT_LIMIT - st.events) old new o →
       Resumed g digests name old new o
 
--- what taking up a session of a story again comes to
+-- How resuming a session of a story ends, and what it leaves.
 pub data PlaysAgain (g : Story) (name : Name) (old new : Standing) : PlayEnd → Type 0 where
   unattached : Unattached old new → PlaysAgain g name old new (end.Outside call.Attach)
   unread : new ≡ attached_to old name → PlaysAgain g name old new (end.Outside call.Read)
   wanting : new ≡ attached_to old name → PlaysAgain g name old new end.Memory
-  -- the store has no session of this story
+  -- The store has no session of this story.
   refused : (r : JournalRefusal) → Refuses (story_digests g) (store_bytes old name) r → new ≡ attached_to old name →
       PlaysAgain g name old new (end.Refused r)
   plays_up : (o : PlayEnd) (digests : Digests) → IsOfStory g digests →

@@ -11,24 +11,24 @@ use Rattle.paw_play.specs.Walk.{EndingOf}
 use Rattle.paw_play.specs.Session.{story_digests, IsOfStory, kept_bytes}
 use Rattle.paw_play.specs.Stands.{Stands, IsPlayedWith, reading_since}
 
--- A session is played: the reading of its lines, how many lines came before the first of them, the digests of its game
--- and its routines, and the name of its store.
+-- A session that is played: the reading of its lines, the number of lines before the first of them, the digests of its
+-- game and of its routines, and the name of its store.
 pub record PlayedSession : Type 0 where
   pub whole : EndingOf
   pub before : ℕ
   pub digests : Digests
   pub name : Name
 
--- the session of a story that is begun with this seed
+-- The session of a story that is begun with this seed.
 abbrev pub begun : Story → Seed → Name → PlayedSession
 begun g seed name = record { whole = reading g seed; before = 0; digests = story_digests g; name = name }
 
--- the session of a story that goes on behind these lines: its reading is told from their last piece on
+-- The session of a story that goes on after these lines: its reading begins with their last piece.
 abbrev pub from_lines : Story → Seed → Lines → Digests → Name → PlayedSession
 from_lines g seed es digests name =
     record { whole = reading_since g seed es; before = length es; digests = digests; name = name }
 
--- the run that a state gives whose last piece was this, with these lines to come
+-- The run that goes on from a state whose last piece was this one, with these lines to come.
 abbrev pub resumed_run : State → Text → Lines → Run
 resumed_run st piece lines = record {
   world = st.world;
@@ -42,23 +42,23 @@ resumed_run st piece lines = record {
   events = lines;
 }
 
--- going on from a state whose last piece was this
+-- The reading that goes on from a state whose last piece was this one.
 abbrev pub going_on : Story → State → Text → EndingOf
 going_on g st piece lines = on g st.prompt (take st.frames.count st.frames.rows) (resumed_run st piece lines)
 
--- the session of a story that goes on from a state whose last piece was this
+-- The session of a story that goes on from a state whose last piece was this one.
 abbrev pub from_state : Story → State → Text → Digests → Name → PlayedSession
 from_state g st piece digests name =
     record { whole = going_on g st piece; before = st.events; digests = digests; name = name }
 
--- the bytes of a store hold a session with these digests, which shows this state of the game and this piece
+-- The bytes of a store hold a session with these digests, which shows this state of the game and this piece.
 pub record ShowsState (g : GameLists) (digests : Digests) (bytes : Bytes) (st : State) (piece : Text) : Type 0 where
   pub keeps : Keeps g st
   pub fits : FitsFields st
   pub shown : recover bytes ≡ Shown digests (kept_bytes st) piece
 
--- a session of a story goes on from these bytes of its store: from the state that they show, or behind the lines of the
--- story that they stand for
+-- A session of a story goes on from these bytes of its store: from the state that they show, or after lines of the
+-- story that they stand for.
 pub data GoesOnFrom (g : Story) (name : Name) (bytes : Bytes) : PlayedSession → Type 0 where
   from_shown : (st : State) (piece : Text) (digests : Digests) → IsOfStory g digests →
       ShowsState g.game digests bytes st piece → GoesOnFrom g name bytes (from_state g st piece digests name)

@@ -13,32 +13,32 @@ use Rattle.paw_state.specs.State.{State}
 use Rattle.paw_state.specs.State.{state_bytes}
 use Rattle.paw_state.specs.Record.{last_piece, state_at}
 
--- the digests of a story: that of its game, and that of its routines
+-- The digests of a story: that of its game, and that of its routines.
 abbrev pub story_digests : Story → Digests
 story_digests g = record { game = sha256 (image g.game); routines = measure g.rows }
 
--- a session with these digests is one of the story: its game is the story's, and so are its routines, where it tells any
+-- A session with these digests is one of the story: it keeps the digest of its game, and that of its routines or none.
 abbrev pub IsOfStory : Story → Digests → Type 0
 IsOfStory g d = BelongsTo (sha256 (image g.game)) (measure g.rows) d
 
--- the bytes by which a session keeps a state
+-- The bytes that a session keeps of a state.
 unfoldable pub kept_bytes : State → Bytes
 kept_bytes s = state_bytes s
 
--- the bytes of the state where a reading ended; none where it is spent or too deep
+-- The bytes of the state in which a reading ended; none where a piece ran out of a budget or a call was too deep.
 abbrev pub state_after : ℕ → Ending → Bytes
 state_after events (WaitsAt p path r) = kept_bytes (state_at events p path r)
 state_after events (Halted IsOver r) = kept_bytes (state_at events prompt.Over [] r)
 state_after events _ = []
 
--- the reading waits, or is over with its last line
+-- The reading waits, or the game is over with its last line.
 abbrev pub IsPlayed : Ending → Type 0
 IsPlayed (WaitsAt p path r) = Unit {0}
 IsPlayed (Halted IsOver r) = r.events ≡ []
 IsPlayed _ = ⊥
 
--- a session with these digests stands where a reading ended, after so many lines: it shows the state there, and the
--- last piece
+-- A session with these digests keeps where a reading ended: it shows the state there, after this number of lines, and
+-- the last piece.
 pub record IsKept (digests : Digests) (events : ℕ) (e : Ending) (r : Recovered) : Type 0 where
   pub played : IsPlayed e
   pub shown : r ≡ Shown digests (state_after events e) (last_piece (pieces_of e))

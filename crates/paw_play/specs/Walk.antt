@@ -1,4 +1,4 @@
--- What taking lines and showing pieces comes to.
+-- How taking lines and showing pieces may end, and what it leaves.
 use Rattle.std.specs.Prelude.{◌≡◌, ℕ, zero, suc, ◌+◌, ◌<◌, ◌≤◌, List, [], ◌++◌, length, take, drop, map}
 use Rattle.paw_base.specs.Bytes.{Lines, Text}
 use Rattle.paw_base.specs.declared.limits.TheConstants.{EVENT_LIMIT, LINE_LIMIT}
@@ -12,35 +12,35 @@ use Rattle.paw_reading.specs.Turn.{Ending, WaitsAt, Halted, text_of}
 use Rattle.paw_play.specs.declared.PlayEnd.{PlayEnd}
 use Rattle.paw_play.specs.declared.PlayEnd.TheVariants as end
 
--- how the reading of some lines ends: that of a game from its start, or going on from a state
+-- How a reading ends, as a function of its lines: one from the start of a game, or one that goes on from a state.
 abbrev pub EndingOf : Type 0
 EndingOf = Lines → Ending
 
--- the first n lines, each cut to its first 255 bytes
+-- The first n lines, each cut to its first 255 bytes.
 abbrev pub first_lines : ℕ → Lines → Lines
 first_lines n lines = map (take LINE_LIMIT) (take n lines)
 
--- n lines more were taken, and this text was shown besides; all else stands as it was
+-- What stands once n more lines were taken, and this text was shown besides; all else stays.
 abbrev pub advanced : Standing → ℕ → Text → Standing
 advanced old n text = record old { lines = drop n old.lines; asked = old.asked + n; shown = old.shown ++ text }
 
--- n lines were taken, the reading of them ends so, and the text of its closed pieces was shown
+-- The first n lines were taken, the reading of them ends this way, and the text of its closed pieces was shown.
 pub record TakesLines (whole : EndingOf) (old new : Standing) (n : ℕ) (e : Ending) : Type 0 where
   pub reading : whole (first_lines n old.lines) ≡ e
   pub there : n ≤ length old.lines
   pub stands : new ≡ advanced old n (text_of e)
 
--- the text for the first n lines
+-- The text of the reading of the first n lines.
 abbrev pub text_for : EndingOf → Lines → ℕ → Text
 text_for whole lines n = text_of (whole (first_lines n lines))
 
--- the text for all but the last of n lines. Before the first line no text was shown
+-- The text of the reading of all but the last of n lines; before the first line none was shown.
 abbrev pub text_before : EndingOf → Lines → ℕ → Text
 text_before whole lines zero = []
 text_before whole lines (suc n) = text_for whole lines n
 
--- n lines were taken, and a first part of the text of their reading was shown: the text for all but the last, and a
--- part of the piece that the last one brings, which isn't empty
+-- The first n lines were taken, and a first part of the text of their reading was shown: the text for all but the last
+-- line, and a part of the piece that the last line brings, a piece that isn't empty.
 pub record PartShown (whole : EndingOf) (old new : Standing) (n : ℕ) : Type 0 where
   pub shown : Text
   pub rest : Text
@@ -51,19 +51,19 @@ pub record PartShown (whole : EndingOf) (old new : Standing) (n : ℕ) : Type 0 
   pub there : n ≤ length old.lines
   pub stands : new ≡ advanced old n shown
 
--- n lines were taken, and the reading of them waits
+-- The first n lines were taken, and the reading of them waits.
 abbrev pub WalkWaits : EndingOf → Standing → Standing → ℕ → Type 0
 WalkWaits whole old new n =
     (p : Prompt) × (path : List Frame) × (r : Run) × TakesLines whole old new n (WaitsAt p path r)
 
--- so many lines were taken, of which the last ended the reading so for good
+-- At most this many lines were taken, and the last of them ended the reading for good this way.
 abbrev pub WalkHalts : EndingOf → ℕ → Standing → Standing → Halt → Type 0
 WalkHalts whole most old new halt =
     (n : ℕ) × (n ≤ most) × (r : Run) × (r.events ≡ []) × TakesLines whole old new n (Halted halt r)
 
--- What a walk comes to that may take so many lines. No line is taken behind the one that ends it. One more is asked for
--- only where fewer than the most were taken, so where the player still waits after that many the walk is Long. Where
--- memory was wanting nothing was taken or shown.
+-- How a walk that may take this many lines ends, and what it leaves. No line is taken after the one that ends it. None
+-- is asked for beyond the most, so where the player still waits after that many the walk is Long. Where memory was
+-- lacking, nothing was taken or shown.
 abbrev pub Walks : EndingOf → ℕ → Standing → Standing → PlayEnd → Type 0
 Walks whole most old new end.Ended = WalkHalts whole most old new IsOver
 Walks whole most old new end.InputEnded = (length old.lines < most) × WalkWaits whole old new (length old.lines)

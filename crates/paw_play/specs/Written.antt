@@ -8,18 +8,18 @@ use Rattle.paw_play.specs.Session.{state_after}
 use Rattle.paw_play.specs.Walk.{first_lines}
 use Rattle.paw_play.specs.Played.{PlayedSession}
 
--- the state where a reading ended, after so many lines, as it is written: zeros stand behind it
+-- The state in which a reading ended, after this number of lines, as the base of a slot: filled up with zeros.
 abbrev pub base_after : ℕ → Ending → Bytes
 base_after events e = state_after events e ++ zeros (base_length - state_length)
 
--- the bytes of a session's store before the first line: those that it had; where it had none, those of the session as
--- it is made
+-- The bytes of a session's store before the first line: those that it had or, where it had none, those of the session
+-- as it is newly made.
 abbrev pub bytes_before : PlayedSession → Bytes → Bytes
 bytes_before s [] = made_session s.digests (base_after 0 (s.whole [])) (last_piece (pieces_of (s.whole [])))
 bytes_before s (b ∷ bytes) = b ∷ bytes
 
--- what these bytes of a store become with the first n lines of the session: by one commit for each, of the state where
--- the reading of the lines up to it ends, and of its last piece
+-- The bytes of this store after the first n lines of the session. Each line makes one commit: of the state in which the
+-- reading of the lines up to it ends, and of its last piece.
 abbrev pub bytes_after : PlayedSession → Lines → ℕ → Bytes → Bytes
 bytes_after s lines zero bytes = bytes
 bytes_after s lines (suc n) bytes =

@@ -8,13 +8,13 @@ pub fn standing_shows()
     ensures shows { StandingShows }
 {}
 
-/// A session that is taken up again goes on as the reading of all lines, those that its store stands for and those that
-/// follow, from the last piece of the former on.
+/// A session that is resumed goes on as the reading of all lines, those that its store stands for and those that
+/// follow, from the last piece of the first ones on.
 pub fn standing_goes_on()
     ensures goes_on { StandingGoesOn }
 {}
 
-/// What a store keeps of a session stands for its lines: those that it went on behind, and those that it took.
+/// What a store keeps of a session stands for its lines: those that it went on after, and those that it took.
 pub fn kept_lines_stand()
     ensures stand { KeptLinesStand }
 {}
@@ -25,18 +25,17 @@ pub fn going_on_is_the_reading()
     ensures goes_on { GoingOnIsTheReading }
 {}
 
-/// A session may be played in any number of rounds, from the first command on, each over what the one before left; each
-/// is cut off by a crash at any moment or by a call that failed, or comes to an end of its own. After them the store
-/// stands for the lines that are kept of each, one round after the other. A round that came to its end keeps all lines
-/// that it took, but a last one whose piece was spent or called too deep; one that was cut off keeps all, or all but
-/// the last.
+/// A session may be played in any number of rounds, from the first command on, each over what the one before left. Each
+/// is cut off by a crash at any moment or by a call that failed, or ends by itself. After them the store stands for the
+/// lines that are kept of each, one round after the other. A round that ended by itself keeps all lines that it took,
+/// except a last one whose piece ran out or called too deep; one that was cut off keeps all, or all but the last.
 pub fn rounds_stand()
     ensures rounds { RoundsStand }
 {}
 
-/// In a game that never saves, as one with neither SAVE nor LOAD, an older session, of version 1, stands for its lines:
-/// where its slot in use has the first 1,371 bytes of the state after them, and the last piece, no position is missing,
-/// and what is proved of a store that stands for lines holds of it.
+/// In a game that never saves, such as one with neither SAVE nor LOAD, an older session, of version 1, stands for its
+/// lines: if its slot in use has the first 1,371 bytes of the state after them, and the last piece, no position is
+/// missing, and what is proved of a store that stands for lines holds of it.
 pub fn older_sessions_stand()
     ensures stands { OlderSessionsStand }
 {}

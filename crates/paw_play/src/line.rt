@@ -27,14 +27,14 @@ use paw_stage::{Asked, Stage, StageCall};
 use paw_state::{STATE_ROOM, write_state};
 use paw_turn::Player;
 
-/// A session in play: its journal, and how many lines it has taken.
+/// A session in play: its journal, and the number of lines that it has taken.
 #[derive(Drop)]
 pub(crate) struct Session {
     pub journal: Journal,
     pub events: u64,
 }
 
-/// Puts the bytes of the player's state, after so many lines, and zeros behind them.
+/// Writes the player's state after this number of lines, and zeros after it.
 pub fn put_state<T: Tables, F: Fn(u8, u8) -> u8>(
     player: &Player<'_, T, F>,
     events: u64,
@@ -56,7 +56,7 @@ pub fn put_state<T: Tables, F: Fn(u8, u8) -> u8>(
     );
 }
 
-/// Commits the player's state and its last piece, after so many lines.
+/// Commits the player's state and its last piece, after this number of lines.
 ///
 /// # Errors
 /// Write or Sync where that call of the stage failed.
@@ -83,7 +83,7 @@ pub fn commit<S: Stage, T: Tables, F: Fn(u8, u8) -> u8>(
     journal.commit(stage, room, &state, player.piece())
 }
 
-/// Goes on with the session, unless playing has come to an end.
+/// Goes on with the session, unless playing has ended.
 pub(crate) fn unless_ended(end: Option<PlayEnd>, session: Session) -> Result<Session, PlayEnd>
     ensures value { result ≡ unless_ended end session }
 {

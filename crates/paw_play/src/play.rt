@@ -141,7 +141,7 @@ fn play_in<S: Stage, T: Tables, F: Fn(u8, u8) -> u8>(
     }
 }
 
-/// Plays a game from its start, with a session of it in the file of this name, which is missing or empty: shows the
+/// Plays a game from its start, with a session of it in the file of this name, which is missing or empty. Shows the
 /// piece before the first line, and then a piece for each line, until the game is over or no line is left. Each piece
 /// is committed before it is shown. `game` is the digest of the game's image; the session keeps it, and the measure of
 /// the routines. Memory is taken before anything is written.

@@ -9,7 +9,7 @@ pub trait Preface: Drop {
     ghost use Rattle.std.specs.Prelude.{◌≡◌};
     ghost use Rattle.paw_play.specs.inner.Telling.{Telling, preface};
 
-    /// How the pieces are told.
+    /// Whether the pieces are shown as they are or traced.
     ghost telling: { Telling };
 
     /// Takes the memory that it needs.
@@ -23,7 +23,7 @@ pub trait Preface: Drop {
         ensures text { result.now ≡ preface telling steps.now };
 }
 
-/// Nothing is shown before a piece.
+/// The preface of a plain walk: nothing is shown before a piece.
 #[derive(Drop)]
 pub struct Nothing;
 

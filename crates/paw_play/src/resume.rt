@@ -1,4 +1,4 @@
-// Taking up a session again.
+// Resuming a session.
 
 ghost use Rattle.std.specs.Prelude.{◌≡◌, IfSome};
 ghost use Rattle.sha2.specs.Sha256.{sha256};
@@ -32,7 +32,7 @@ use paw_state::read_state;
 use paw_turn::Player;
 use std::alloc::Global;
 
-/// Shows the last piece of a session again. None where the session waits for a line; else what playing it comes to.
+/// Shows the last piece of a session again. None where the session waits for a line; otherwise how playing it ends.
 fn show_again<S: Stage>(stage: &mut S, piece: &[u8], prompt: Prompt) -> Option<PlayEnd>
     ensures serves { Serves S.Stage play_calls (failed_so_far result) stage.old stage.new }
     ensures refused { IfSome result IsNotForCall }
@@ -49,7 +49,7 @@ fn show_again<S: Stage>(stage: &mut S, piece: &[u8], prompt: Prompt) -> Option<P
     }
 }
 
-/// What playing comes to where a session isn't found.
+/// How playing ends where no session is found.
 fn not_found(refusal: JournalRefusal) -> PlayEnd
     ensures value { result ≡ end_of refusal }
 {
@@ -62,7 +62,7 @@ fn not_found(refusal: JournalRefusal) -> PlayEnd
     }
 }
 
-/// Takes up the session of the attached store, whose state and piece stand in the room.
+/// Resumes the session of the attached store, whose state and piece are in the room.
 fn take_up<S: Stage, T: Tables, F: Fn(u8, u8) -> u8>(
     alloc: Global,
     stage: &mut S,
@@ -106,9 +106,9 @@ fn take_up<S: Stage, T: Tables, F: Fn(u8, u8) -> u8>(
     play_lines(stage, &mut player, room, Session { journal, events })
 }
 
-/// Takes up the session of a game that stands in the file of this name: shows its last piece again, and goes on from
-/// its prompt as `play_loop` does; a session that is over asks nothing. `game` is the digest of the game's image. A
-/// session that keeps the measure of other routines isn't taken up.
+/// Resumes the session of a game in the file of this name: shows its last piece again, and goes on from its prompt as
+/// `play_loop` does; a session that is over asks nothing. `game` is the digest of the game's image. A session that
+/// keeps the measure of other routines isn't resumed.
 pub fn resume_loop<S: Stage, T: Tables, F: Fn(u8, u8) -> u8>(
     alloc: Global,
     stage: &mut S,
@@ -132,7 +132,7 @@ pub fn resume_loop<S: Stage, T: Tables, F: Fn(u8, u8) -> u8>(
         GoesOnFrom g name.now (store_bytes old name.now) s →
         InTwoParts S.Stage stage.old stage.new (NotYet name.now old) (InPlay s old))) }
 {
-    // Its clause says that the game is valid, which the proof wants. No call of it is left in the program.
+    // The clause of this call says that the game is valid, which the proof needs. The compiler leaves the call out.
     let _counts = tables.counts();
     let at = match attach(stage, name) {
         Ok(at) => at,

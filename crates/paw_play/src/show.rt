@@ -9,7 +9,7 @@ ghost use Rattle.paw_stage.specs.declared.StageCall.TheVariants as call;
 
 use paw_stage::{Failed, Stage};
 
-/// Shows a text; an empty one takes no call.
+/// Shows a text; an empty one makes no call.
 ///
 /// # Errors
 /// Failed where the stage's `show` failed; a first part of the text was shown then.

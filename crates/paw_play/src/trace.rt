@@ -1,5 +1,5 @@
-// The lines of the steps of a piece, which a trace shows before it. Where nothing is put the empty text is pushed,
-// whose clause tells the proof that the text fits.
+// The lines of the steps of a piece, which a trace shows before it. Where there is nothing to put the empty text is
+// pushed, whose clause says that the text fits.
 
 ghost use Rattle.std.specs.Prelude.{◌≡◌, ◌+◌, ◌≤◌, ◌++◌, length, take, decimal};
 ghost use Rattle.paw_base.specs.inner.Piece.{Puts};
@@ -35,7 +35,7 @@ fn put_name(text: &mut Piece, code: u8) -> bool
     }
 }
 
-/// Puts where a condact stands.
+/// Puts the place of a condact.
 fn put_place(text: &mut Piece, table: u8, entry: u16, at: u8) -> bool
     ensures puts { Puts text.old text.new result (place_text table entry at) }
     ensures short { length (place_text table entry at) ≤ 13 }
@@ -47,7 +47,7 @@ fn put_place(text: &mut Piece, table: u8, entry: u16, at: u8) -> bool
         && put_number(text, u32::from(at))
 }
 
-/// Puts yes, or no where a condition failed.
+/// Puts yes, or no for a condition that failed.
 fn put_answer(text: &mut Piece, yes: bool) -> bool
     ensures puts { Puts text.old text.new result (answer_text yes) }
 {
@@ -58,7 +58,7 @@ fn put_answer(text: &mut Piece, yes: bool) -> bool
     }
 }
 
-/// Puts the line of a step, where it fits.
+/// Puts the line of a step, if it fits.
 fn put_line(text: &mut Piece, step: StepRow) -> bool
     ensures puts { Puts text.old text.new result (step_line step) }
     ensures short { length (step_line step) ≤ 27 }
@@ -69,7 +69,7 @@ fn put_line(text: &mut Piece, step: StepRow) -> bool
         && put_answer(text, step.yes)
 }
 
-/// Puts the line of a step, which is of at most 27 bytes.
+/// Puts the line of a step, which has at most 27 bytes.
 fn put_step(text: &mut Piece, step: StepRow)
     requires room { length text.old + 27 ≤ PIECE_LIMIT }
     ensures line { text.new ≡ text.old ++ step_line step }
@@ -78,7 +78,7 @@ fn put_step(text: &mut Piece, step: StepRow)
     let _fits = put_line(text, step);
 }
 
-/// Puts how many more steps there were, where there were more.
+/// Puts the number of further steps, if there are any.
 fn put_more(text: &mut Piece, more: u32) -> bool
     ensures puts { Puts text.old text.new result (more_line more) }
 {
@@ -88,8 +88,8 @@ fn put_more(text: &mut Piece, more: u32) -> bool
     text.push(b"[") && put_number(text, more) && text.push(b" more]\n")
 }
 
-/// The steps that have a line: the first 1,000. `Steps::rows` gives no more, but no clause of it says so: the cut tells
-/// the proof.
+/// The steps that have a line: the first 1,000. `Steps::rows` gives no more, but no clause of it says so: this cut
+/// does.
 fn told_steps(steps: &[StepRow]) -> &[StepRow]
     ensures value { result.now ≡ take STEP_LIMIT steps.now }
     ensures few { length result.now ≤ STEP_LIMIT }
@@ -109,8 +109,7 @@ fn write_steps(text: &mut Piece, steps: &Steps)
     let _fits = put_more(text, steps.count().saturating_sub(STEP_LIMIT as u32));
 }
 
-/// The steps of a piece are shown before it: a line for each of its first 1,000 condacts, and then how many more were
-/// read.
+/// The preface of a trace: a line for each of the first 1,000 condacts of a piece, and then how many more were read.
 #[derive(Drop)]
 pub struct StepLines {
     text: Piece,

@@ -26,7 +26,7 @@ use paw_stage::{Asked, Failed, Stage, StageCall};
 use paw_turn::{Player, Step};
 use std::alloc::Global;
 
-/// What a step comes to that brings no piece: the piece was spent, or a call was too deep. None where it brings one.
+/// How play ends at a step that brings no piece: the piece was spent, or a call was too deep. None if it brings one.
 pub(crate) fn refused(step: Step) -> Option<PlayEnd>
     ensures value { result ≡ refusal_of step }
     ensures fine { failed_so_far result ≡ None }
@@ -38,7 +38,7 @@ pub(crate) fn refused(step: Step) -> Option<PlayEnd>
     }
 }
 
-/// Shows the player's last piece behind its preface, as one text.
+/// Shows the player's last piece after its preface, as one text.
 ///
 /// # Errors
 /// Failed where a show failed; a first part of the text was shown then.
@@ -61,7 +61,7 @@ fn show_last<P: Preface, S: Stage, T: Tables, F: Fn(u8, u8) -> u8>(
     }
 }
 
-/// Shows what a step brought. None where the player waits for the next line; else what playing comes to.
+/// Shows what a step brought. None where the player waits for the next line; otherwise how playing ends.
 pub(crate) fn told<P: Preface, S: Stage, T: Tables, F: Fn(u8, u8) -> u8>(
     preface: &mut P,
     stage: &mut S,
@@ -119,7 +119,7 @@ fn walk_line<P: Preface, S: Stage, T: Tables, F: Fn(u8, u8) -> u8>(
     }
 }
 
-/// Takes lines until the game is over or no line is left, at most so many.
+/// Takes lines, at most this many, until the game is over or no line is left.
 fn walk_lines<P: Preface, S: Stage, T: Tables, F: Fn(u8, u8) -> u8>(
     preface: &mut P,
     stage: &mut S,
@@ -145,7 +145,7 @@ fn walk_lines<P: Preface, S: Stage, T: Tables, F: Fn(u8, u8) -> u8>(
     }
 }
 
-/// Walks through a game with a seed: shows the piece before the first line, and then a piece for each line, each behind
+/// Walks through a game with a seed: shows the piece before the first line, and then a piece for each line, each after
 /// its preface, until the game is over or no line is left. Nothing is kept. It takes memory before anything else.
 pub fn walk_loop<P: Preface, S: Stage, T: Tables, F: Fn(u8, u8) -> u8>(
     alloc: Global,

@@ -77,7 +77,7 @@ none_used g code caller d (f ∷ fs) h = go (none_used g code (Some (parameter_o
     go later true e q = let same = unused_is f e in let rest = later q in cc (same, rest)
     go later false e q = cc
 
--- behind the rows in use each is unused
+-- Each row after those in use is unused.
 used_then_not : (g : GameLists) (code : ℕ) (caller : Option ℕ) (n d : ℕ) (rows : List Frame) → rows_fault g code caller n d rows ≡ None
     → rows ≡ take n rows ++ replicate (length rows - n) unused
 unfolding rows_fault

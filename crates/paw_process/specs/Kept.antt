@@ -10,7 +10,7 @@ pub use Rattle.paw_reading.specs.Places.{waiting_code}
 use Rattle.paw_process.specs.declared.machine.TheConstants.{MOST_FRAMES}
 use Rattle.paw_process.specs.declared.kept.Frames.{Frames}
 
--- the frames of a path, the outermost first, with unused rows up to the most that may be open, and its loop
+-- The frames of a path, the outermost first, filled up with unused rows to the most that may be open, and its loop.
 abbrev pub frames_at : List Frame → Option OpenLoop → Frames
 frames_at path turning =
     let unused : Frame = record { table = 0; entry = 0; at = 0; acted = false } in record {
@@ -21,20 +21,20 @@ frames_at path turning =
 
 -- ---- words of their rules ----
 
--- the outermost table is 0, 1 or 2, of which FRAME_TABLE is the last; any other is the one that is called
+-- Whether this table may be open: the outermost is 0, 1 or 2 (FRAME_TABLE), and any other is the one that is called.
 abbrev pub may_open : Option ℕ → ℕ → Bool
 may_open None t = nat_le t FRAME_TABLE
 may_open (Some u) t = t == u
 
--- a condact is there, and has this code
+-- Whether a condact is there and has this code.
 abbrev pub has_code : ℕ → Option Condact → Bool
 has_code code o = option_map_or (λ c. c.code == code) o false
 
--- the first parameter of a condact; 0 where there is none
+-- The first parameter of a condact; 0 where there is none.
 abbrev pub parameter_of : Option Condact → ℕ
 parameter_of o = option_map_or (λ c. c.a) o 0
 
--- where a machine waits inside tables one to eleven are open, else none is
+-- Whether the number of open tables fits: one to eleven where a machine waits inside tables, and none otherwise.
 abbrev pub count_fits : Option ℕ → ℕ → Bool
 count_fits None n = n == 0
 count_fits (Some code) n = nat_lt 0 n && nat_le n MOST_FRAMES

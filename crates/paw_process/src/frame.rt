@@ -10,10 +10,10 @@ use paw_effects::act::Prompt;
 use paw_phrase::Found;
 use paw_reading::places::Frame;
 
-/// Past the last entry that a table may have.
+/// The number just past the last entry that a table may have.
 pub const PAST_ENTRIES: u16 = ENTRY_LIMIT as u16;
 
-/// The start of a table.
+/// The frame at the start of a table.
 pub fn start_of(table: u8) -> Frame
     ensures value { result ≡ record { table = table; entry = 0; at = 0; acted = false } }
 {
@@ -25,7 +25,7 @@ pub fn start_of(table: u8) -> Frame
     }
 }
 
-/// The next condact.
+/// The frame at the next condact of its entry.
 pub fn past(f: Frame, acted: bool) -> Frame
     requires at { f.at < 255 }
     ensures value { result ≡ record { table = f.table; entry = f.entry; at = f.at + 1; acted = acted } }
@@ -38,7 +38,7 @@ pub fn past(f: Frame, acted: bool) -> Frame
     }
 }
 
-/// The next entry.
+/// The frame at the next entry of its table.
 pub fn next_entry(f: Frame) -> Frame
     requires entry { f.entry < ENTRY_LIMIT }
     ensures value { result ≡ record { table = f.table; entry = f.entry + 1; at = 0; acted = f.acted } }
@@ -51,7 +51,7 @@ pub fn next_entry(f: Frame) -> Frame
     }
 }
 
-/// Past the table's last entry, with an action carried out: as DONE leaves the table.
+/// The frame past its table's last entry, with an action carried out: as DONE leaves the table.
 pub fn past_table(f: Frame) -> Frame
     ensures value { result ≡ record { table = f.table; entry = ENTRY_LIMIT; at = 0; acted = true } }
 {
@@ -63,8 +63,8 @@ pub fn past_table(f: Frame) -> Frame
     }
 }
 
-/// Where reading goes on after an answer at this prompt: after QUIT at yes at the next condact, and at no past the
-/// table; after a key at the next condact, with an action carried out.
+/// Where reading goes on after an answer at this prompt: for QUIT, at the next condact after yes, and past the table
+/// after no; for a key, at the next condact, with an action carried out.
 pub fn answered(waiting: Option<Prompt>, f: Frame, yes: bool) -> Frame
     requires at { f.at < 255 }
     ensures quit { waiting ≡ Some prompt.Quit → result ≡ after_quit yes f }
@@ -78,7 +78,7 @@ pub fn answered(waiting: Option<Prompt>, f: Frame, yes: bool) -> Frame
     }
 }
 
-/// Where reading goes on after PARSE: after a sentence at the next entry, else at the next condact.
+/// Where reading goes on after PARSE: at the next entry after a sentence, otherwise at the next condact.
 pub fn after_found(found: Found, f: Frame) -> Frame
     requires at { f.at < 255 }
     requires entry { f.entry < ENTRY_LIMIT }

@@ -20,11 +20,11 @@ use paw_effects::act::Prompt;
 use paw_game::tables::Tables;
 use paw_reading::places::{Frame, OpenLoop};
 
-/// As many tables as may be open at once, as a byte; the depth behind all rows too.
+/// The number of tables that may be open at once, as a byte; it is also the depth that stands for the open loop.
 const MOST_OPEN: u8 = MOST_FRAMES as u8;
 
-/// Places of a machine that waits, as they are kept: how many tables are open, their frames, the outermost first and
-/// the rows behind them unused, and the open loop.
+/// Places of a machine that waits, as they are kept: the number of open tables, their frames, the outermost first, with
+/// unused rows after them, and the open loop.
 #[derive(Clone, Copy, Drop, PartialEq, Eq, Debug)]
 pub struct Frames {
     pub count: u8,
@@ -32,14 +32,14 @@ pub struct Frames {
     pub turning: Option<OpenLoop>,
 }
 
-/// The least depth at which kept places break a rule: that of a frame from 0 on, or 11 for the open loop. A wrong
+/// The least depth at which kept places break a rule: that of a frame, counted from 0, or 11 for the open loop. A wrong
 /// number of frames is a fault at depth 0.
 #[derive(Clone, Copy, Drop, PartialEq, Eq, Debug)]
 pub struct FrameFault {
     pub depth: u8,
 }
 
-/// The condact at which a machine waits for a prompt inside tables; None for the others.
+/// The condact at which a machine waits for a prompt inside tables; None for the other prompts.
 pub fn waiting_code(prompt: Prompt) -> Option<u8>
     ensures value { result ≡ waiting_code prompt }
 {
@@ -51,7 +51,7 @@ pub fn waiting_code(prompt: Prompt) -> Option<u8>
     }
 }
 
-/// The prompt where it is one inside tables.
+/// The prompt, if it is one inside tables.
 pub(crate) fn waiting_at(prompt: Prompt) -> Option<Prompt>
     ensures value { result ≡ waiting_at prompt }
 {
@@ -61,7 +61,7 @@ pub(crate) fn waiting_at(prompt: Prompt) -> Option<Prompt>
     }
 }
 
-/// Whether a table may be open here: the outermost is 0, 1 or 2, and any other is the one that is called.
+/// Whether this table may be open: the outermost is 0, 1 or 2, and any other is the one that is called.
 pub fn may_open(caller: Option<u8>, table: u8) -> bool
     ensures value { result ≡ may_open caller table }
 {
@@ -98,7 +98,7 @@ fn is_unused(f: &Frame) -> bool
     f.table == 0 && f.entry == 0 && f.at == 0 && !f.acted
 }
 
-/// Whether a row stands where so many rows are used from it on: the last of these waits at this condact.
+/// Whether a row keeps its rules, where this many rows are used from it on: the last of these waits at this condact.
 fn row_stands<T: Tables>(tables: &T, code: u8, caller: Option<u8>, used: u8, f: &Frame) -> bool
     ensures value { result ≡ row_stands (T.game tables.now) code caller used f.now }
 {
@@ -109,7 +109,7 @@ fn row_stands<T: Tables>(tables: &T, code: u8, caller: Option<u8>, used: u8, f: 
     may_open(caller, f.table) && has_code(wanted, tables.condact(f.table, f.entry, f.at))
 }
 
-/// The depth of the first row that doesn't stand, counted from `depth` on.
+/// The depth of the first row that breaks a rule, counted from `depth` on.
 fn rows_fault<T: Tables>(
     tables: &T,
     code: u8,
@@ -141,7 +141,7 @@ pub fn is_place(locations: u16, place: u8) -> bool
     u16::from(place) < locations || (NOT_CREATED_PLACE <= place && place <= CARRIED_PLACE)
 }
 
-/// Whether the row of this level is of this table.
+/// Whether the row of this level belongs to this table.
 fn is_table(rows: &[Frame], level: u8, table: u8) -> bool
     ensures value { result ≡ is_that_table (option_map (λ f. f.table) (slice_get rows.now level)) table }
 {
@@ -163,7 +163,7 @@ fn loop_stands<T: Tables>(tables: &T, kept: &Frames, l: OpenLoop) -> bool
         && u16::from(l.last) < counts.objects
 }
 
-/// The depth of an open loop that breaks a rule.
+/// The depth of an open loop that breaks a rule: 11.
 fn loop_fault<T: Tables>(tables: &T, kept: &Frames) -> Option<u8>
     ensures value { result ≡ loop_fault (T.game tables.now) kept.now kept.now.turning }
 {
@@ -173,7 +173,7 @@ fn loop_fault<T: Tables>(tables: &T, kept: &Frames) -> Option<u8>
     }
 }
 
-/// Whether so many tables are open where a machine waits at this condact, or at none.
+/// Whether this number of tables may be open where a machine waits at this condact, or at none.
 pub fn count_fits(code: Option<u8>, count: u8) -> bool
     ensures value { result ≡ count_fits code count }
 {

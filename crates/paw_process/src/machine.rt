@@ -34,7 +34,7 @@ use paw_reading::places::{Frame, OpenLoop};
 use paw_routines::routines::Routines;
 use std::marker::Model;
 
-/// Tables that may be open at once: one, and the levels of calls.
+/// The most tables that may be open at once: one, and one for each level of calls.
 pub const MOST_FRAMES: usize = LEVEL_LIMIT + 1;
 
 /// Reads a game's tables in written order, up to the next stop. It holds the places in the tables that are open, the
@@ -71,7 +71,7 @@ impl Model for Machine {
 }
 
 impl Machine {
-    /// No table is open, the budget is full, and there are no steps.
+    /// A machine with no open table, a full budget, and no steps.
     pub fn new() -> Machine
         ensures value { result ≡ new_machine }
     {
@@ -94,7 +94,7 @@ impl Machine {
         self.push(start_of(table));
     }
 
-    /// The budget is full again and there are no steps, as it is for a new piece.
+    /// Fills up the budget and drops the steps, as for a new piece.
     pub fn refill(&mut self)
         ensures value { self.new ≡ refilled self.old }
     {
@@ -112,9 +112,9 @@ impl Machine {
         self.waiting = None;
     }
 
-    /// Takes the answer to the question of QUIT (whether it is yes), or the key of ANYKEY (whatever the answer is). At
-    /// yes or a key reading goes on after the condact; at no QUIT's table is left as DONE leaves it. Nothing is read
-    /// here: `run` goes on.
+    /// Takes the answer to QUIT's question (whether it is yes), or the key of ANYKEY (whatever the answer is). After
+    /// yes or a key, reading goes on after the condact; after no, QUIT's table is left as DONE leaves it. Nothing is
+    /// read here: `run` goes on.
     pub fn answer(&mut self, yes: bool)
         requires waits { AwaitsAnswer self.old }
         ensures quit { self.old.waiting ≡ Some prompt.Quit → AnswersQuit yes self.old.frames self.new.frames }
@@ -127,10 +127,10 @@ impl Machine {
         self.set_top(answered(waiting, f, yes));
     }
 
-    /// Reads on to the next stop. Where it waits, the text of the open piece is complete, and the machine's frames tell
-    /// where it waits; otherwise no table and no loop is open. A piece reads at most 200,000 condacts and holds at most
-    /// 65,535 bytes: at more it is Spent, and what the world and the piece hold then is open, as where a call is too
-    /// deep.
+    /// Reads on to the next stop. Where it waits, the text of the open piece is complete, and the machine's frames show
+    /// where; otherwise no table and no loop is open. A piece reads at most 200,000 condacts and holds at most 65,535
+    /// bytes. At more the machine stops as Spent, and the world and the piece may then hold anything, as after a call
+    /// that is too deep.
     pub fn run<T: Tables, F: Fn(u8, u8) -> u8>(
         &mut self,
         tables: &T,
@@ -155,8 +155,8 @@ impl Machine {
         }
     }
 
-    /// The places of the machine, to be kept where it waits. Restored at the prompt at which it stands, they are the
-    /// same machine with a full budget and no steps; and they are restored wherever they are places of a run.
+    /// The places of the machine, to be kept where it waits. Restored at the prompt where it waits, they give the same
+    /// machine with a full budget and no steps; and they can be restored wherever they are places of a run.
     pub fn frames(&self) -> Frames
         ensures value { result ≡ kept_of self.now }
         ensures again { (p : AtPrompt) → StandsAt p self.now → restored result (waiting_at p) ≡ refilled self.now }
@@ -172,8 +172,8 @@ impl Machine {
         }
     }
 
-    /// A machine of kept places, which waits at this prompt, with a full budget and no steps. Its places are these
-    /// again.
+    /// A machine with kept places that waits at this prompt, with a full budget and no steps. Its `frames` are these
+    /// places again.
     ///
     /// # Errors
     /// The least depth at which the places break a rule, exactly where they break one for this game: inside tables the
@@ -192,7 +192,7 @@ impl Machine {
         ensures sound { IfOk result (λ m. frames_fault (T.game tables.now) prompt kept.now ≡ None) }
         ensures fault { IfErr result (λ e. frames_fault (T.game tables.now) prompt kept.now ≡ Some e.depth) }
     {
-        // Its clause says that the game is valid, which the proof wants. No call of it is left in the program.
+        // The clause of this call says that the game is valid, which the proof needs. The compiler leaves the call out.
         let _counts = tables.counts();
         if let Some(depth) = frames_fault(tables, prompt, kept) {
             return Err(FrameFault { depth });
@@ -215,7 +215,7 @@ impl Machine {
         &self.steps
     }
 
-    /// The outermost of the tables that are open.
+    /// The number of the outermost open table.
     pub fn first_table(&self) -> u8
         requires some { 0 < length self.now.frames }
         ensures value { result ≡ first_table (reverse self.now.frames) }
@@ -223,7 +223,7 @@ impl Machine {
         self.rows[0].table
     }
 
-    /// How many tables are open.
+    /// The number of open tables.
     pub(crate) fn depth(&self) -> usize
         ensures value { result ≡ length self.now.frames }
         ensures room { result ≤ MOST_FRAMES }
@@ -239,7 +239,7 @@ impl Machine {
         self.rows[self.count - 1]
     }
 
-    /// Another frame becomes the innermost in the place of the one that is.
+    /// Puts another frame in the place of the innermost one.
     pub(crate) fn set_top(&mut self, f: Frame)
         requires some { 0 < length self.old.frames }
         ensures value { self.new ≡ record self.old { frames = f ∷ below self.old.frames } }
@@ -247,7 +247,7 @@ impl Machine {
         self.rows[self.count - 1] = f;
     }
 
-    /// A table is opened above the others.
+    /// Opens a table inside the others.
     pub(crate) fn push(&mut self, f: Frame)
         requires room { length self.old.frames < MOST_FRAMES }
         ensures value { self.new ≡ record self.old { frames = f ∷ self.old.frames } }
@@ -256,7 +256,7 @@ impl Machine {
         self.count += 1;
     }
 
-    /// The innermost table is closed.
+    /// Closes the innermost table.
     pub(crate) fn pop(&mut self)
         requires some { 0 < length self.old.frames }
         ensures value { self.new ≡ record self.old { frames = below self.old.frames } }
@@ -271,14 +271,14 @@ impl Machine {
         self.turning
     }
 
-    /// This loop is open from now on, or none.
+    /// Makes this the open loop, or leaves none open.
     pub(crate) fn set_turning(&mut self, turning: Option<OpenLoop>)
         ensures value { self.new ≡ record self.old { turning = turning } }
     {
         self.turning = turning;
     }
 
-    /// The prompt at which it waited. It waits at none from now on.
+    /// The prompt at which the machine waited; afterwards it waits at none.
     fn take_waiting(&mut self) -> Option<Prompt>
         ensures was { result ≡ self.old.waiting }
         ensures rest { self.new ≡ record self.old { waiting = None } }
@@ -286,21 +286,21 @@ impl Machine {
         self.waiting.take()
     }
 
-    /// It waits at this prompt from now on, or at none.
+    /// Makes the machine wait at this prompt, or at none.
     pub(crate) fn set_waiting(&mut self, waiting: Option<Prompt>)
         ensures value { self.new ≡ record self.old { waiting = waiting } }
     {
         self.waiting = waiting;
     }
 
-    /// Whether the open piece may read one condact more.
+    /// Whether the open piece may read one more condact.
     pub(crate) fn may_read(&self) -> bool
         ensures value { result ≡ nat_lt 0 self.now.left }
     {
         self.left > 0
     }
 
-    /// Notes that the condact of a frame was read, with yes, or no where it is a condition that failed.
+    /// Notes that a frame's condact was read: with yes, or with no for a condition that failed.
     pub(crate) fn note(&mut self, f: Frame, c: Condact, yes: bool)
         requires may { 0 < self.old.left }
         ensures reads { ReadsStep (step_at f c yes) self.old self.new }

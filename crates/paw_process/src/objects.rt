@@ -16,7 +16,7 @@ use paw_effects::does::refer;
 use paw_game::tables::Tables;
 use paw_world::world::World;
 
-/// The sentence excepts an object: by its second noun, and by its second adjective where it has one.
+/// Whether the sentence excepts an object: by its second noun, and by its second adjective, if any.
 fn is_excepted(world: &World, facts: ObjectFacts) -> bool
     ensures value { result ≡ is_excepted world.now facts }
 {
@@ -25,7 +25,7 @@ fn is_excepted(world: &World, facts: ObjectFacts) -> bool
     noun != NO_WORD && facts.noun == noun && (adjective == NO_WORD || facts.adjective == adjective)
 }
 
-/// A loop may take an object where it has a noun and isn't excepted.
+/// Whether a loop may take an object: it has a noun and isn't excepted.
 fn may_be_taken<T: Tables>(tables: &T, world: &World, o: u8) -> bool
     ensures value { result ≡ may_be_taken world.now (facts_at (T.game tables.now) o) }
 {
@@ -35,8 +35,8 @@ fn may_be_taken<T: Tables>(tables: &T, world: &World, o: u8) -> bool
     }
 }
 
-/// The next object that a loop over a place takes: the least above this one, or of all, that stands there and may be
-/// taken.
+/// The next object that a loop over a place takes: of those that are there and may be taken, the one with the least
+/// number, or with the least above this one.
 pub fn next_taken<T: Tables>(tables: &T, world: &World, place: u8, above: Option<u8>) -> Option<u8>
     requires game { IsOf (T.game tables.now) world.now }
     ensures value { result ≡ least_taken (T.game tables.now) world.now place (left_above world.now.places above) }
@@ -52,7 +52,7 @@ pub fn next_taken<T: Tables>(tables: &T, world: &World, place: u8, above: Option
     None
 }
 
-/// An object's noun and adjective become the sentence's.
+/// Puts an object's noun and adjective into the sentence.
 fn name<T: Tables>(tables: &T, world: &mut World, o: u8)
     ensures value { world.new ≡ named world.old (facts_at (T.game tables.now) o) }
 {
@@ -65,7 +65,7 @@ fn name<T: Tables>(tables: &T, world: &mut World, o: u8)
     }
 }
 
-/// A loop takes an object: it stands in the sentence and in flag 50, and is referred to.
+/// Takes an object for a loop: puts it into the sentence and into flag 50, and refers to it.
 pub fn take<T: Tables>(tables: &T, world: &mut World, o: u8)
     requires game { IsOf (T.game tables.now) world.old }
     requires object { o < length (T.game tables.now).objects }

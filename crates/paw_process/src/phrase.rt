@@ -1,4 +1,4 @@
-// The next phrase of the pending line becomes the sentence in the flags.
+// Putting the next phrase of the pending line into the flags.
 
 ghost use Rattle.std.specs.Prelude.{◌≡◌};
 ghost use Rattle.paw_effects.specs.Worlds.{IsOf};
@@ -13,9 +13,9 @@ use paw_game::tables::Tables;
 use paw_phrase::{Found, Pending, Sentence, next_phrase};
 use paw_world::world::World;
 
-/// Takes the next phrase of the pending line. A sentence is put into the flags 33 to 36 and 43 to 47, and its verb is
-/// the earlier one for the phrase after it. The bytes of a phrase with no known word are dropped. With no phrase left
-/// nothing changes.
+/// Takes the next phrase of the pending line. A sentence goes into flags 33 to 36 and 43 to 47, and its verb is the
+/// earlier one for the next phrase. The bytes of a phrase with no known word are dropped. With no phrase left nothing
+/// changes.
 pub fn take_phrase<T: Tables>(tables: &T, world: &mut World, pending: &mut Pending) -> Found
     ensures value { Speaks (T.game tables.now) result world.old world.new pending.old pending.new }
     ensures draws { world.new.draws ≡ world.old.draws }

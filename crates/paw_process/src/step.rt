@@ -46,7 +46,7 @@ use paw_reading::places::{Frame, OpenLoop};
 use paw_routines::routines::Routines;
 use paw_world::world::World;
 
-/// The rest of the line is dropped where the action says so.
+/// Drops the rest of the line, if the action says so.
 fn drop_line(pending: &mut Pending, done: Act)
     ensures value { pending.new ≡ record pending.old { bytes = if done.drop_line then [] else pending.old.bytes } }
 {
@@ -63,7 +63,7 @@ pub(crate) struct Rulebook<'a, T: Tables, F: Fn(u8, u8) -> u8> {
 }
 
 impl Machine {
-    /// The innermost table is left, with no open loop of its own: its caller goes on after the call.
+    /// Leaves the innermost table, which has no open loop of its own: its caller goes on after the call.
     fn leave(&mut self, acted: bool) -> Option<Turned>
         requires reading { IsReading self.old }
         requires no_loop { LoopFits (length (below self.old.frames)) self.old.turning }
@@ -82,7 +82,7 @@ impl Machine {
         None
     }
 
-    /// The piece is spent, or a call too deep: nothing is open any more.
+    /// Stops because a piece is spent or a call is too deep: nothing is open any more.
     fn stop(&mut self, turned: Turned) -> Option<Turned>
         ensures value { result ≡ Some turned }
         ensures closed { self.new ≡ record self.old { frames = []; turning = None; waiting = None } }
@@ -91,7 +91,7 @@ impl Machine {
         Some(turned)
     }
 
-    /// A table is read one level deeper, from its start.
+    /// Begins to read a table one level deeper, from its start.
     fn call(&mut self, table: u8) -> Option<Turned>
         requires reading { IsReading self.old }
         requires place { AtCondacts self.old.frames }
@@ -109,7 +109,7 @@ impl Machine {
         None
     }
 
-    /// A loop that the innermost frame's DOALL opens.
+    /// The loop that the innermost frame's DOALL opens.
     fn loop_at(&self, f: Frame, place: u8) -> OpenLoop
         requires some { 0 < length self.now.frames }
         ensures value { result ≡ loop_of (length (below self.now.frames)) f place }
@@ -124,7 +124,7 @@ impl Machine {
         }
     }
 
-    /// The open loop is cancelled where the action says so.
+    /// Cancels the open loop, if the action says so.
     fn cancel_loop(&mut self, done: Act)
         ensures value { self.new ≡ record self.old { turning = if done.cancel_loop then None else self.old.turning } }
     {
@@ -135,8 +135,8 @@ impl Machine {
 }
 
 impl<T: Tables, F: Fn(u8, u8) -> u8> Rulebook<'_, T, F> {
-    /// A loop of the innermost table takes its next object above this one, or the first of all. With none left it is
-    /// closed, and the table is left with an action carried out.
+    /// Lets the innermost table's loop take its next object above this one, or its first one. With none left the loop
+    /// is closed, and the table is left with an action carried out.
     fn next_object(
         &self,
         machine: &mut Machine,
@@ -180,7 +180,7 @@ impl<T: Tables, F: Fn(u8, u8) -> u8> Rulebook<'_, T, F> {
         }
     }
 
-    /// The innermost table is left; where its level's loop is open, the next object is taken instead.
+    /// Leaves the innermost table or, where its level's loop is open, takes the next object.
     fn leave_level(&self, machine: &mut Machine, world: &mut World, acted: bool) -> Option<Turned>
         requires ready { IsReady (T.game self.now.tables.now) machine.old world.old }
         ensures meaning { (X : RoutineRows) (r : Run) → let g = story_of (T.game self.now.tables.now) X in
@@ -201,7 +201,7 @@ impl<T: Tables, F: Fn(u8, u8) -> u8> Rulebook<'_, T, F> {
         }
     }
 
-    /// The next phrase is taken: at a sentence reading goes on at the next entry, else at the next condact.
+    /// Takes the next phrase: after a sentence reading goes on at the next entry, otherwise at the next condact.
     fn parse(&self, machine: &mut Machine, situation: &mut Situation, f: Frame)
         requires ready { IsReady (T.game self.now.tables.now) machine.old situation.old.world }
         requires at { IsInnermost f machine.old }
@@ -218,7 +218,7 @@ impl<T: Tables, F: Fn(u8, u8) -> u8> Rulebook<'_, T, F> {
         machine.set_top(after_found(found, f));
     }
 
-    /// Reading goes on after an action of the innermost frame.
+    /// Goes on after an action of the innermost frame.
     fn follow(
         &self,
         machine: &mut Machine,
@@ -258,7 +258,7 @@ impl<T: Tables, F: Fn(u8, u8) -> u8> Rulebook<'_, T, F> {
         }
     }
 
-    /// A condition of the innermost frame.
+    /// Tests a condition of the innermost frame.
     fn test(
         &self,
         machine: &mut Machine,
@@ -292,7 +292,7 @@ impl<T: Tables, F: Fn(u8, u8) -> u8> Rulebook<'_, T, F> {
         }
     }
 
-    /// QUIT puts its question and waits for the answer.
+    /// Asks QUIT's question, and waits for the answer.
     fn ask(&self, machine: &mut Machine, situation: &mut Situation) -> Option<Turned>
         requires ready { IsReady (T.game self.now.tables.now) machine.old situation.old.world }
         requires place { AtCondacts machine.old.frames }
@@ -320,7 +320,7 @@ impl<T: Tables, F: Fn(u8, u8) -> u8> Rulebook<'_, T, F> {
         Some(Turned::Waits(Prompt::Quit))
     }
 
-    /// An action of the innermost frame.
+    /// Carries out an action of the innermost frame.
     fn act(
         &self,
         machine: &mut Machine,
@@ -355,7 +355,7 @@ impl<T: Tables, F: Fn(u8, u8) -> u8> Rulebook<'_, T, F> {
         }
     }
 
-    /// The condact of the innermost frame is read, where the piece may read one more.
+    /// Reads the condact of the innermost frame, where the piece may read one more.
     fn read(
         &self,
         machine: &mut Machine,
@@ -384,7 +384,7 @@ impl<T: Tables, F: Fn(u8, u8) -> u8> Rulebook<'_, T, F> {
         }
     }
 
-    /// The condacts of the innermost frame's entry go on.
+    /// Goes on with the condacts of the innermost frame's entry.
     fn inside(&self, machine: &mut Machine, situation: &mut Situation, f: Frame) -> Option<Turned>
         requires may { MayStep F.Fn self.now.routines.now (T.game self.now.tables.now) machine.old situation.old.world }
         requires top { machine.old.frames ≡ f ∷ below machine.old.frames }
@@ -406,8 +406,8 @@ impl<T: Tables, F: Fn(u8, u8) -> u8> Rulebook<'_, T, F> {
         }
     }
 
-    /// Where reading goes on from this frame: inside an entry at its condact, and from the start of one at the next that
-    /// matches. None exactly where none does.
+    /// The frame at which reading goes on from this one: inside an entry its own, and at the start of an entry that of
+    /// the next entry that matches. None exactly where none matches.
     fn enter(&self, world: &World, f: Frame) -> Option<Frame>
         requires place { 0 < f.at → f.entry < ENTRY_LIMIT }
         ensures some { IfSome result (λ e. Enters (T.game self.now.tables.now) world.now f e) }
@@ -427,7 +427,7 @@ impl<T: Tables, F: Fn(u8, u8) -> u8> Rulebook<'_, T, F> {
         })
     }
 
-    /// One step of reading: from the start of an entry to the next that matches, and a condact there.
+    /// Makes one step of reading: from the start of an entry to the next one that matches, and a condact there.
     pub(crate) fn step(&self, machine: &mut Machine, situation: &mut Situation) -> Option<Turned>
         requires may { MayStep F.Fn self.now.routines.now (T.game self.now.tables.now) machine.old situation.old.world }
         ensures meaning { InStories F.Fn self.now.routines.now (T.game self.now.tables.now) (λ g.
@@ -437,7 +437,7 @@ impl<T: Tables, F: Fn(u8, u8) -> u8> Rulebook<'_, T, F> {
         ensures after { HasStepped (T.game self.now.tables.now) (having situation.old machine.old) result
             (having situation.new machine.new) }
     {
-        // Its clause says that the game is valid, which the proof wants. No call of it is left in the program.
+        // The clause of this call says that the game is valid, which the proof needs. The compiler leaves the call out.
         let _counts = self.tables.counts();
         let f = machine.top();
         match self.enter(&situation.world, f) {

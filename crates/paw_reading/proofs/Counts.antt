@@ -30,7 +30,7 @@ use Rattle.paw_reading.specs.inner.Pieces.{count, Counted, PiecesOfLines}
 use Rattle.paw_reading.proofs.Keeps.{either, open_or_not, prints}
 use Rattle.paw_reading.proofs.EachCondact.{plain_goes}
 
--- what reading tables comes to where v pieces and lines were there
+-- How reading tables ends where there were v pieces and lines.
 abbrev pub Counts : ℕ → Out → Type 0
 Counts v (Left a r) = count r ≡ v
 Counts v (Waits p path r) = (r.events ≡ []) × (count r ≡ suc v)

@@ -17,7 +17,7 @@ pub by_test : (P : Out → Type 0) (b : Bool) (x y : Out) → (b ≡ true → P 
 by_test P true x y h k = h refl
 by_test P false x y h k = k
 
--- P stands between each run and what reading on from it comes to
+-- P holds between each run and how reading on from it ends.
 abbrev pub Goes : (Run → Out → Type 0) → (Bool → Run → Out) → Type 0
 Goes P go = (a : Bool) (r : Run) → P r (go a r)
 

@@ -23,7 +23,7 @@ use Rattle.paw_reading.proofs.Spends.{brought, brought_more, Spends, table_spend
 
 -- ---- turns end ----
 
--- so many phases are needed at most, this one and those after it
+-- The most phases that are needed, this one and those after it.
 abbrev pub phases_needed : TurnPhase → Run → ℕ
 phases_needed AtPhrase r = 4 * left_to_read r + 1
 phases_needed AtTimeFrame r = 4 * left_to_read r + 2
@@ -114,7 +114,7 @@ after_phrase_ends g n go h r k IsNoPhrase less =
     saying_ends text (λ s. at_main g go (closed s) s.events) (line_dropped r)
     (at_main_ends g n go h shown r.events (omega arith))
 
--- with so many phases each turn ends
+-- With this number of phases each turn ends.
 turn_ends : (g : Story) (n : ℕ) → EndsWithin n (turn g n)
 unfolding turn
 turn_ends g zero AtDescribe r h = absurd (omega arith)

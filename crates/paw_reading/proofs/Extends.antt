@@ -42,7 +42,7 @@ closed_around : (ps : List (List ℕ)) (ts : List (List Step)) (lines : List (Li
 closed_around ps ts lines r = rw (append_assoc ps r.pieces (r.current ∷ []), append_assoc ts r.traces (r.read ∷ [])) refl
 
 module _ (g : Story) (ps : List (List ℕ)) (ts : List (List Step)) (lines : List (List ℕ)) where
-  -- what a reading at a level comes to around
+  -- How a reading at a level ends with these pieces before it and these lines after it.
   abbrev pub extends : ℕ → Out → Out
   extends lv (Left a r) = Left a (around ps ts lines r)
   extends lv (Waits p path r) = on_path g p lv path (around ps ts lines r)
@@ -59,7 +59,7 @@ module _ (g : Story) (ps : List (List ℕ)) (ts : List (List Step)) (lines : Lis
   abbrev loops : ℕ → Out → Out
   loops lv x = again lv (looped g (deeper g lv) lv) x
 
-  -- what a reading comes to around, where the level's open loop is yet to go on
+  -- The same, where the level's open loop is yet to go on.
   abbrev settles : ℕ → Out → Out
   settles lv (Left a r) = loops lv (Left a (around ps ts lines r))
   settles lv (Waits p path r) = on_path g p lv path (around ps ts lines r)

@@ -38,7 +38,7 @@ module _ (g : Story) (lines : List (List ℕ)) where
   goes_from m (Halted halt r) = Halted halt (with_lines lines r)
   goes_from m Unended = Unended
 
-  -- where going on ends, the turn with more lines comes to that
+  -- Where going on ends, the turn with more lines ends in the same way.
   abbrev Follows : ℕ → Ending → Ending → Type 0
   Follows m x y = goes_from m x ≢ Unended → y ≡ goes_from m x
 
@@ -159,7 +159,7 @@ module _ (g : Story) (lines : List (List ℕ)) where
       let e : suc n + m ≡ suc (n + m) = omega arith in
       rw e (read_follows m (turn g n) (turn g (n + m)) (turn_follows n m) (more_phases n m) 0 r none k)
 
-  -- so many phases that going on ends
+  -- A number of phases with which going on ends.
   enough : (m : ℕ) (s : TurnPhase) (r : Run) → r.turning ≡ None → goes_from m (turns_from g s r) ≢ Unended →
       turns_from g s (with_lines lines r) ≡ goes_from m (turns_from g s r)
   enough m s r none h =

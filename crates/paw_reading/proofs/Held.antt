@@ -79,7 +79,7 @@ pub record WaitsAbove (g : GameLists) (ts : List ℕ) (u : ℕ) (p : Prompt) (pa
   pub leads : LeadsTo g code path
   pub sound : Sound g (ts ++ tables_of path) w turning
 
--- what reading a table above these comes to; once it is left these are open
+-- How reading a table above these ends; once it is left these are open.
 abbrev pub Held : GameLists → List ℕ → List ℕ → ℕ → Out → Type 0
 Held g left ts u (Left a r) = Sound g left r.world r.turning
 Held g left ts u (Waits p path r) = WaitsAbove g ts u p path r.world r.turning

@@ -34,7 +34,7 @@ waits_there g p lv (f ∷ []) r some none = waits_on g lv p f r none
 waits_there g p lv (f ∷ h ∷ path) r some none = rw (waits_there g p (suc lv) (h ∷ path) r (λ e. cc) none) refl
 
 module _ (g : Story) (ps : List (List ℕ)) (ts : List (List Step)) where
-  -- what reading tables comes to, with these pieces before
+  -- How reading tables ends, with these pieces before.
   abbrev out_with_past : Out → Out
   out_with_past (Left a r) = Left a (with_past ps ts r)
   out_with_past (Waits p path r) = Waits p path (with_past ps ts r)

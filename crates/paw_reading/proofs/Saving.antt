@@ -46,7 +46,7 @@ module _ (g : Story) (never : NeverSaves g.game) (ks : List (Option Position)) w
   abbrev Is : Run → Type 0
   Is r = AreKept ks r.world
 
-  -- so does that of the run that a table comes to
+  -- The same holds of the run in which a table ends.
   abbrev Keeps : Out → Type 0
   Keeps (Left a r) = Is r
   Keeps (Waits p path r) = Is r

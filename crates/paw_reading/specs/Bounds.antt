@@ -6,12 +6,12 @@ use Rattle.paw_game.specs.Valid.{Valid}
 use Rattle.paw_effects.specs.Standing.{AreBytes}
 use Rattle.paw_effects.specs.Story.{Story}
 
--- a line: at most 255 bytes
+-- A line of at most 255 bytes.
 pub record IsLine (line : Line) : Type 0 where
   pub short : length line ≤ LINE_LIMIT
   pub bytes : AreBytes line
 
--- the game keeps its rules, and each row of the routines has 256 values, which are bytes
+-- The game keeps its rules, and each row of the routines has 256 values, all of them bytes.
 pub record ValidStory (g : Story) : Type 0 where
   pub game : Valid g.game
   pub whole : All (λ row. length row ≡ 256) g.rows

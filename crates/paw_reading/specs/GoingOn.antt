@@ -6,9 +6,9 @@ use Rattle.paw_reading.specs.declared.places.Frame.{Frame}
 use Rattle.paw_reading.specs.Run.{Run}
 use Rattle.paw_reading.specs.Reading.{Out, Left, after_call, again, asked, looped, plain, deeper, rest}
 
--- going on along the path of a wait, from level lv on, the outermost frame first: the innermost takes the lines, and
--- each other goes on after its call. The last row is never read, and stands because a list may be empty: the path of a
--- wait in a table has at least the frame at its prompt
+-- Goes on along the path of a wait, from level lv on, the outermost frame first: the innermost frame takes the lines,
+-- and each other goes on after its call. The last row is never used, and is there only because a list may be empty: the
+-- path of a wait in a table has at least the frame at its prompt.
 abbrev pub on_path : Story → Prompt → ℕ → List Frame → Run → Out
 on_path g p lv (f ∷ []) r =
     again lv (looped g (deeper g lv) lv) (asked g p f (plain g (deeper g lv) lv f.table f.entry (suc f.at)) r r.events)

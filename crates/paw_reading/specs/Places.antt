@@ -4,7 +4,8 @@ use Rattle.paw_base.specs.declared.codes.TheConstants.{QUIT, END, ANYKEY}
 use Rattle.paw_effects.specs.declared.act.Prompt.{Prompt}
 use Rattle.paw_effects.specs.declared.act.Prompt.TheVariants as prompt
 
--- the condact at which a run waits for this prompt: QUIT, END or ANYKEY; none at the main prompt, and where it is over
+-- The condact at which a run waits for this prompt: QUIT, END or ANYKEY; none at the main prompt or in a game that is
+-- over.
 abbrev pub waiting_code : Prompt → Option ℕ
 waiting_code prompt.Quit = Some QUIT
 waiting_code prompt.Again = Some END

@@ -46,46 +46,46 @@ pub data Stop : Type 0 where
   Restarts : Stop
   Halts : (halt : Halt) → Stop
 
--- What reading a table comes to: it was left, with an action carried out or not; no line is left at a prompt, with the
--- places that are open, the outermost first; or it was stopped.
+-- How the reading of a table ends: the table was left, with an action carried out or not; play waits at a prompt with
+-- no line left, with its open frames, the outermost first; or the table was stopped.
 pub data Out : Type 0 where
   Left : (acted : Bool) (r : Run) → Out
   Waits : (p : Prompt) (path : List Frame) (r : Run) → Out
   Stopped : (stop : Stop) (r : Run) → Out
 
--- play ends for good in this run
+-- Play ends for good in this run.
 abbrev pub halts : Halt → Run → Out
 halts halt r = Stopped (Halts halt) r
 
--- reading on in a table, with an action carried out there before or not
+-- How reading goes on in a table, as a function of whether an action was carried out there so far, and of the run.
 abbrev pub Onward : Type 0
 Onward = Bool → Run → Out
 
--- the reading of a table, by its number
+-- The reading of a table, given its number.
 abbrev pub Called : Type 0
 Called = ℕ → Run → Out
 
 -- ---- budget and text ----
 
--- a piece reads at most 200,000 condacts
+-- Goes on only where the open piece may read one more condact: a piece reads at most 200,000.
 abbrev pub within : Run → Out → Out
 within r x = if nat_lt (length r.read) READ_LIMIT then x else halts (RunsOut spent.Condacts) r
 
--- the step at a condact of this frame, with yes or no
+-- The step for a condact at this frame: yes, or no for a condition that failed.
 abbrev pub step_at : Frame → Condact → Bool → Step
 step_at f c passed = record { table = f.table; entry = f.entry; at = f.at; code = c.code; yes = passed }
 
--- the condact is noted, with yes or no
+-- The run with one more step in its open piece: this condact, with yes or no.
 abbrev pub noted : Frame → Condact → Bool → Run → Run
 noted f c passed r = record r { read = r.read ++ step_at f c passed ∷ [] }
 
--- the text is printed where it fits, and then reading goes on
+-- Prints the text if the open piece has room for it, and reads on; otherwise play ends.
 abbrev pub printing : Text → (Run → Out) → Run → Out
 printing text go r = if fits r text then go (printed text r) else halts (RunsOut spent.Text) r
 
 -- ---- calls ----
 
--- after a call: with what the called table was left with, or with a frame before the path of one that waits
+-- After a call: reading goes on once the called table was left; a wait gets the caller's frame in front; a stop stays.
 abbrev pub after_call : Frame → Onward → Out → Out
 after_call f go (Left b r) = go (f.acted || b) r
 after_call f go (Waits p path r) = Waits p (f ∷ path) r
@@ -93,43 +93,43 @@ after_call f go (Stopped stop r) = Stopped stop r
 
 -- ---- the object loop ----
 
--- the loop that is open at this level
+-- The open loop, if it was opened at this level.
 abbrev pub at_level : ℕ → Option OpenLoop → Option OpenLoop
 at_level lv None = None
 at_level lv (Some l) = if l.level == lv then Some l else None
 
--- a table that is left at the level of the open loop goes on with the loop's next object; else what it came to stands
+-- Where a table is left at the level of the open loop, reading goes on with the loop's next object; all else stays.
 abbrev pub again : ℕ → (OpenLoop → Run → Out) → Out → Out
 again lv next (Left a r) = option_map_or (λ l. next l r) (at_level lv r.turning) (Left a r)
 again lv next x = x
 
--- the sentence excepts an object by its second noun, and by its second adjective where it has one
+-- Whether the sentence excepts an object: its second noun is the object's, and so is its second adjective, if any.
 abbrev pub is_excepted : World → ObjectFacts → Bool
 is_excepted w f =
     not (flag w SECOND_NOUN_FLAG == NO_WORD) && ((f.noun == flag w SECOND_NOUN_FLAG)
     && ((flag w SECOND_ADJECTIVE_FLAG == NO_WORD) || (f.adjective == flag w SECOND_ADJECTIVE_FLAG)))
 
--- an object with these facts may be taken: it is there, it has a noun, and it isn't excepted
+-- Whether the loop may take an object with these facts: it is there, it has a noun, and it isn't excepted.
 abbrev pub may_be_taken : World → Option ObjectFacts → Bool
 may_be_taken w facts = option_map_or (λ f. not (f.noun == NO_WORD) && not (is_excepted w f)) facts false
 
--- the loop takes this object: it stands at the place now, and may be taken
+-- Whether the loop takes this object: it is at the loop's place now, and may be taken.
 abbrev pub is_taken : GameLists → World → OpenLoop → ℕ → Bool
 is_taken g w l o = (place w o == l.place) && may_be_taken w (facts_at g o)
 
--- the object's noun and adjective stand in the sentence; where there is no such object nothing changes
+-- The world with the object's noun and adjective in the sentence; unchanged where there is no such object.
 abbrev pub named : World → Option ObjectFacts → World
 named w facts = option_map_or (λ f. with_flag (with_flag w NOUN_FLAG f.noun) ADJECTIVE_FLAG f.adjective) facts w
 
--- the loop's object stands in the sentence and in the loop's flag, and is referred to
+-- The run once the loop took this object: it is in the sentence and in the loop's flag, and is referred to.
 abbrev pub taken : GameLists → OpenLoop → ℕ → Run → Run
 taken g l o r = record r {
   turning = Some (record l { last = o });
   world = referred (with_flag (named r.world (facts_at g o)) LOOP_FLAG o) o;
 }
 
--- the loop goes over the last n objects in rising number, and takes each that it may when its turn comes: then body is
--- read; with none left it is closed, and the table is left with an action carried out
+-- Runs the loop over its last n objects, in rising order. For each that it takes, body is read; after the last the loop
+-- is closed, and the table is left with an action carried out.
 unfoldable pub turns : Story → ℕ → OpenLoop → (Run → Out) → ℕ → Run → Out
 turns g lv l body zero r = Left true (without_loop r)
 turns g lv l body (suc n) r =
@@ -137,64 +137,65 @@ turns g lv l body (suc n) r =
     then again lv (λ _. turns g lv l body n) (body (taken g.game l (length g.game.objects - suc n) r))
     else turns g lv l body n r
 
--- the loop over a place that the DOALL at a frame opens
+-- The loop that the DOALL at this frame opens over a place.
 abbrev pub loop_of : ℕ → Frame → ℕ → OpenLoop
 loop_of lv f p = record { level = lv; table = f.table; entry = f.entry; at = f.at; place = p; last = 0 }
 
 -- ---- prompts ----
 
--- the game is over, with its last piece closed
+-- Play ends because the game is over, with its last piece closed.
 abbrev pub game_over : Run → Out
 game_over r = halts IsOver (closed (without_loop (line_dropped r)))
 
--- END's question answered with no: the game says goodbye and is over
+-- What follows a no to END's question: the game says goodbye and is over.
 abbrev pub over : Story → Run → Out
 over g r = printing (say_text g.game r.world GOODBYE_MESSAGE) game_over r
 
--- the answer to a prompt in a table: QUIT goes on at yes, and at no leaves the table with an action carried out; END
--- ends the game at no and starts it anew otherwise; a key, the only other prompt there, goes on with an action carried
--- out
+-- What an answer does at a prompt in a table. For QUIT, yes reads on, and all else leaves the table with an action
+-- carried out. For END, no ends the game, and all else starts it anew. A key, the only other prompt there, reads on
+-- with an action carried out.
 abbrev pub answered : Story → Prompt → Frame → Onward → Line → Run → Out
 answered g prompt.Quit f go line r = if is_yes line then go f.acted r else Left true r
 answered g prompt.Again f go line r = if is_no line then over g r else Stopped Restarts (anew r)
 answered g _ f go line r = go true r  -- Key
 
--- at a prompt in a table, the piece closed: with no line left the run waits; an ignored line closes an empty piece, and
--- the run waits on; any other is heard and answers
+-- A prompt in a table, once the piece is closed. With no line left the run waits; an ignored line closes an empty
+-- piece, and the next one is taken; any other line is heard and answers.
 unfoldable pub asked : Story → Prompt → Frame → Onward → Run → Lines → Out
 asked g p f go r [] = Waits p (f ∷ []) (record r { events = [] })
 asked g p f go r (line ∷ lines) =
     if is_ignored r.world line then asked g p f go (closed (record r { events = lines })) lines
     else answered g p f go (reply line) (heard line (record r { events = lines }))
 
--- the open piece is closed, and the run waits
+-- The open piece is closed, and the run waits at a prompt in a table.
 abbrev pub waits : Story → Prompt → Frame → Onward → Run → Out
 waits g p f go r = asked g p f go (closed r) r.events
 
 -- ---- one condact ----
 
--- after a condition: go reads on at the next condact, next at the next entry; QUIT puts its question
+-- How reading goes on after a condition: go reads on at the next condact, next at the next entry; QUIT asks its
+-- question.
 abbrev pub after_test : Story → Frame → Onward → Onward → Condact → Run → Truth → Out
 after_test g f next go c r truth.Yes = go f.acted (noted f c true r)
 after_test g f next go c r truth.No = next f.acted (noted f c false r)
 after_test g f next go c r truth.Ask =
     printing (put_text g.game r.world QUIT_MESSAGE) (waits g prompt.Quit f go) (noted f c true r)
 
--- after PARSE: at a sentence, which is taken, next reads on at the next entry, else go at the next condact; the bytes
--- of a phrase with no known word are gone
+-- How reading goes on after PARSE: a sentence is taken, and next reads on at the next entry; otherwise go reads on at
+-- the next condact. The bytes of a phrase with no known word are dropped.
 abbrev pub after_parse : Frame → Onward → Onward → Run → Parsed → Out
 after_parse f next go r (IsSentence s rest) = next f.acted (taken_phrase s rest r)
 after_parse f next go r (IsUnknown rest) = go f.acted (record r { pending = rest })
 after_parse f next go r IsNoPhrase = go f.acted r
 
--- the next phrase of the line, where pronouns stand for what the sentences before said
+-- The next phrase of the line, read with the verb of the phrase before, and the pronoun's meaning from the flags.
 abbrev pub coming_phrase : Story → Run → Parsed
 coming_phrase g r =
     parsed g.game r.pending r.earlier (flag r.world PRONOUN_NOUN_FLAG) (flag r.world PRONOUN_ADJECTIVE_FLAG)
 
--- how reading goes on after an action: go reads on at the next condact, next at the next entry, and sub a table one
--- level deeper. The last row is never read: Spent is what the program's actions answer where a text doesn't fit, and
--- here play ends before such an action is carried out
+-- How reading goes on after an action: go reads on at the next condact, next at the next entry, and sub reads a table
+-- one level deeper. The last row is never used: an action of the program answers Spent where its text doesn't fit, and
+-- here play has ended before that.
 abbrev pub after_action : Story → Called → ℕ → Frame → Onward → Onward → Effect → Run → Out
 after_action g sub lv f next go effect.Go r = go true r
 after_action g sub lv f next go (effect.Exit a) r = Left a r
@@ -205,7 +206,7 @@ after_action g sub lv f next go (effect.Ask p) r = waits g p f go r
 after_action g sub lv f next go effect.Parse r = after_parse f next go r (coming_phrase g r)
 after_action g sub lv f next go effect.Spent r = halts (RunsOut spent.Text) r
 
--- the line is dropped and the loop cancelled where the action says so
+-- The run after an action: in the world that it leaves, with the line dropped and the loop cancelled where it says so.
 abbrev pub carried_out : Done → Run → Run
 carried_out d r = record r {
   world = d.world;
@@ -213,11 +214,11 @@ carried_out d r = record r {
   turning = if d.act.cancel_loop then None else r.turning;
 }
 
--- an action prints its text, and is carried out
+-- An action prints its text, and is then carried out.
 abbrev pub acts : Story → Called → ℕ → Frame → Onward → Onward → Done → Run → Out
 acts g sub lv f next go d r = printing d.text (λ r'. after_action g sub lv f next go d.act.effect (carried_out d r')) r
 
--- a condact is read: a condition is tested, in the world that its test leaves, and an action is carried out
+-- Reads a condact: tests a condition, and goes on in the world that its test leaves; or carries out an action.
 abbrev pub reads_one : Story → Called → ℕ → Frame → Onward → Onward → Condact → Run → Out
 reads_one g sub lv f next go c r =
     let tested = holds g.game r.world c in
@@ -226,61 +227,61 @@ reads_one g sub lv f next go c r =
 
 -- ---- entries, tables, levels ----
 
--- the frame at a condact
+-- The frame at a condact, given its table, its entry, its number, and whether an action was carried out.
 abbrev pub frame_at : ℕ → ℕ → ℕ → Bool → Frame
 frame_at t e k acted = record { table = t; entry = e; at = k; acted = acted }
 
--- the condacts of an entry from number k on; next goes on with the next entry
+-- Reads the condacts of an entry from number k on; after the last, next goes on with the next entry.
 unfoldable pub condacts : Story → Called → ℕ → ℕ → ℕ → Onward → ℕ → List Condact → Bool → Run → Out
 condacts g sub lv t e next k [] acted r = next acted r
 condacts g sub lv t e next k (c ∷ cs) acted r =
     within r (reads_one g sub lv (frame_at t e k acted) next (condacts g sub lv t e next (suc k) cs) c r)
 
--- an entry is read where it matches the verb and the noun at the moment when it is reached
+-- Whether an entry is read: it matches the verb and the noun as they are when it is reached.
 abbrev pub is_for_now : Run → Entry → Bool
 is_for_now r en = matches (flag r.world VERB_FLAG) (flag r.world NOUN_FLAG) en
 
--- the entries of a table from number e on; past the last the table is left
+-- Reads the entries of a table from number e on; after the last the table is left.
 unfoldable pub entries : Story → Called → ℕ → ℕ → ℕ → List Entry → Bool → Run → Out
 entries g sub lv t e [] acted r = Left acted r
 entries g sub lv t e (en ∷ es) acted r =
     if is_for_now r en then condacts g sub lv t e (entries g sub lv t (suc e) es) 0 en.condacts acted r
     else entries g sub lv t (suc e) es acted r
 
--- from condact k of entry e on, past the test of the entry
+-- Reads on from condact k of entry e, without testing the entry's verb and noun.
 abbrev pub inside : Story → Called → ℕ → ℕ → ℕ → ℕ → Bool → Run → Out
 inside g sub lv t e k =
     condacts g sub lv t e (entries g sub lv t (suc e) (drop (suc e) (table_at g.game t))) k
     (drop k (condacts_of (entry_at g.game t e)))
 
--- from a place on, to the end of the table; condact 0 is before the test of the entry
+-- Reads on from a place to the end of the table. At condact 0 the entry's verb and noun are tested first.
 abbrev pub plain : Story → Called → ℕ → ℕ → ℕ → ℕ → Bool → Run → Out
 plain g sub lv t e zero = entries g sub lv t e (drop e (table_at g.game t))
 plain g sub lv t e (suc k) = inside g sub lv t e (suc k)
 
--- the open loop of the level looks for its next object after the one that it took last, and reads on after its DOALL
+-- Goes on with the open loop: looks for the next object after the one that it took last, and reads on after its DOALL.
 abbrev pub looped : Story → Called → ℕ → OpenLoop → Run → Out
 looped g sub lv l =
     let body = plain g sub lv l.table l.entry (suc l.at) true in
     turns g lv (record l { last = 0 }) body (length g.game.objects - suc l.last)
 
--- reading on at a level, with the loop that may be open there
+-- Reads on at a level, with the loop that may be open there.
 abbrev pub reads : Story → Called → ℕ → ℕ → ℕ → ℕ → Bool → Run → Out
 reads g sub lv t e k acted r = again lv (looped g sub lv) (plain g sub lv t e k acted r)
 
--- a table called from level lv, below which n levels are left; with none left the call is too deep, and play ends
+-- Reads a table called from level lv, where n more levels may open; with none left the call is too deep, and play ends.
 unfoldable pub called : Story → ℕ → ℕ → ℕ → Run → Out
 called g zero lv u r = halts (CallsTooDeep u) r
 called g (suc n) lv u r = reads g (called g n (suc lv)) (suc lv) u 0 0 false r
 
--- a table called from level lv: levels go from 0 to 10
+-- Reads a table called from level lv; levels go from 0 to 10.
 abbrev pub deeper : Story → ℕ → ℕ → Run → Out
 deeper g lv = called g (LEVEL_LIMIT - lv) lv
 
--- reading on at level lv in table t from condact k of entry e
+-- Reads on at level lv in table t, from condact k of entry e.
 abbrev pub rest : Story → ℕ → ℕ → ℕ → ℕ → Bool → Run → Out
 rest g lv = reads g (deeper g lv) lv
 
--- reading a table at level 0 from its start
+-- Reads a table at level 0 from its start.
 abbrev pub table_read : Story → ℕ → Run → Out
 table_read g t = rest g 0 t 0 0 false

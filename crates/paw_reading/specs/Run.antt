@@ -15,9 +15,9 @@ use Rattle.paw_world.specs.World.{World, flag, with_flag, restarted}
 use Rattle.paw_phrase.specs.declared.Sentence.{Sentence}
 use Rattle.paw_reading.specs.declared.places.OpenLoop.{OpenLoop}
 
--- the world; the bytes of the line that are not yet read, and the verb of the phrase before; the open loop; the text of
--- the open piece, and its steps: the condacts read in it, in order, each with yes, or no where it is a condition that
--- failed; the texts and the steps of the closed pieces; the lines not yet taken
+-- What stands at one time in play: the world; the unread bytes of the line, and the verb of the phrase before; the open
+-- loop; text and steps of the open piece (each condact read in it, in order, with yes, or no for a condition that
+-- failed); texts and steps of the closed pieces; and the lines not yet taken.
 pub record Run : Type 0 where
   pub world : World
   pub pending : Bytes
@@ -29,75 +29,75 @@ pub record Run : Type 0 where
   pub traces : List (List Step)
   pub events : Lines
 
--- the open piece is closed, and the next one begins
+-- Closes the open piece, and begins the next one.
 abbrev pub closed : Run → Run
 closed r = record r { current = []; read = []; pieces = r.pieces ++ r.current ∷ []; traces = r.traces ++ r.read ∷ [] }
 
--- a piece holds at most 65,535 bytes
+-- Whether a text fits into the open piece, which holds at most 65,535 bytes.
 abbrev pub fits : Run → Text → Bool
 fits r text = nat_le (length r.current + length text) PIECE_LIMIT
 
--- the text is printed
+-- The run with this text printed into its open piece.
 abbrev pub printed : Text → Run → Run
 printed text r = record r { current = r.current ++ text }
 
--- the world is this one
+-- The run with this world.
 abbrev pub with_world : World → Run → Run
 with_world w r = record r { world = w }
 
--- no loop is open
+-- The run with no open loop.
 abbrev pub without_loop : Run → Run
 without_loop r = record r { turning = None }
 
--- what is left of the line is dropped
+-- The run with the rest of its line dropped.
 abbrev pub line_dropped : Run → Run
 line_dropped r = record r { pending = [] }
 
--- the game starts anew, with nothing left of the line and no loop open: the seed and the draws, the saved position, the
--- kept positions, the pieces, open and closed, and the lines to come stay
+-- The game starts anew, with the rest of the line dropped and no loop open. Seed and draws, the saved and the kept
+-- positions, all pieces and the lines to come stay.
 abbrev pub anew : Run → Run
 anew r = record r { world = restarted r.world; pending = []; earlier = NO_WORD; turning = None }
 
 -- ---- lines ----
 
--- the line ~ stands for a timeout
+-- Whether a line stands for a timeout: it is ~ alone.
 abbrev pub is_timeout : Line → Bool
 is_timeout line = bytes_eq line (126 ∷ [])
 
--- a timeout changes nothing where the flag that lets prompts run out of time is 0
+-- Whether a line is ignored: it is a timeout, and the flag that lets prompts run out of time is 0.
 abbrev pub is_ignored : World → Line → Bool
 is_ignored w line = is_timeout line && (flag w TIMEOUT_FLAG == 0)
 
--- bit 7 of a flag tells whether the last line was a timeout; its other bits stay
+-- The world in which bit 7 of a flag says whether the last line was a timeout; the flag's other bits stay.
 abbrev pub with_timeout : Bool → World → World
 with_timeout b w =
     let rest = flag w TIMED_OUT_FLAG % TIMED_OUT_BIT in
     with_flag w TIMED_OUT_FLAG (if b then TIMED_OUT_BIT + rest else rest)
 
--- the line is heard: a flag tells whether it is a timeout
+-- The run once it heard a line: a flag says whether it was a timeout.
 abbrev pub heard : Line → Run → Run
 heard line r = with_world (with_timeout (is_timeout line) r.world) r
 
--- a timeout answers a question with an empty line
+-- The answer that a line gives to a question; a timeout gives an empty line.
 abbrev pub reply : Line → Line
 reply line = if is_timeout line then [] else line
 
--- the first byte that isn't a space is this letter, as a capital or a small one
+-- Whether the first byte that isn't a space is this letter, as a capital or a small one.
 abbrev pub begins_with : ℕ → Line → Bool
 begins_with capital line =
     option_map_or (λ b. (b == capital) || (b == capital + 32)) (find (λ b. not (b == 32)) line) false
 
--- Y answers yes
+-- Whether an answer is yes: it begins with Y.
 abbrev pub is_yes : Line → Bool
 is_yes line = begins_with 89 line
 
--- N answers no
+-- Whether an answer is no: it begins with N.
 abbrev pub is_no : Line → Bool
 is_no line = begins_with 78 line
 
 -- ---- sentences ----
 
--- the sentence stands in the flags
+-- The world with this sentence in its flags.
 abbrev pub spoken : Sentence → World → World
 spoken s w =
     let noun = with_flag (with_flag (with_flag w VERB_FLAG s.verb) NOUN_FLAG s.noun) ADJECTIVE_FLAG s.adjective in
@@ -105,6 +105,6 @@ spoken s w =
     let second = with_flag (with_flag first SECOND_NOUN_FLAG s.second_noun) SECOND_ADJECTIVE_FLAG s.second_adjective in
     with_flag (with_flag second PRONOUN_NOUN_FLAG s.pronoun_noun) PRONOUN_ADJECTIVE_FLAG s.pronoun_adjective
 
--- the phrase is taken: its sentence stands in the flags, and its verb is the earlier one for the next
+-- The run once it took a phrase: its sentence is in the flags, and its verb is the earlier one for the next phrase.
 abbrev pub taken_phrase : Sentence → Bytes → Run → Run
 taken_phrase s rest r = record r { world = spoken s r.world; pending = rest; earlier = s.verb }

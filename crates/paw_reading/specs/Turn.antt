@@ -30,62 +30,62 @@ use Rattle.paw_reading.specs.Reading.{Halt, IsOver, RunsOut, Halts}
 use Rattle.paw_reading.specs.Reading.{Out, Left, Waits, Stopped, coming_phrase, table_read}
 use Rattle.paw_reading.specs.GoingOn.{on_path}
 
--- the four phases of a turn: the location is described, a time frame comes, the next phrase is taken, or a sentence is
--- responded to
+-- The four phases of a turn: the location is described, a time frame comes, the next phrase is taken, or a sentence is
+-- responded to.
 pub data TurnPhase : Type 0 where
   AtDescribe : TurnPhase
   AtTimeFrame : TurnPhase
   AtPhrase : TurnPhase
   AtResponse : TurnPhase
 
--- How a reading ends: no line is left at a prompt, with the places that are open, the outermost first (none at the main
--- prompt); or play ends for good. Unended comes only where too few phases were granted.
+-- How a reading ends: it waits at a prompt with no line left, with its open frames, the outermost first (none at the
+-- main prompt); or play ends for good. Unended appears only where too few phases were granted.
 pub data Ending : Type 0 where
   WaitsAt : (p : Prompt) (path : List Frame) (r : Run) → Ending
   Halted : (halt : Halt) (r : Run) → Ending
   Unended : Ending
 
--- how a turn goes on from a run
+-- How a turn goes on from a run.
 abbrev pub Sequel : Type 0
 Sequel = Run → Ending
 
--- the text is printed where it fits, and then the turn goes on
+-- Prints the text if the open piece has room for it, and the turn goes on; otherwise play ends.
 abbrev pub saying : Text → Sequel → Run → Ending
 saying text go r = if fits r text then go (printed text r) else Halted (RunsOut spent.Text) r
 
--- flags that fall when a location is described: one always, one in the dark, one without light
+-- The world once a location is described: one flag falls always, one in the dark, and one without light.
 abbrev pub described : World → World
 described w =
     fallen_if (is_unlit w) UNLIT_VIEW_FLAG (fallen_if (is_dark w) DARK_VIEW_FLAG (fallen VIEW_FLAG w))
 
--- flags that fall in each time frame: 5 to 8; one more in the dark, and one without light
+-- The world after a time frame: flags 5 to 8 fall; one more falls in the dark, and one without light.
 abbrev pub time_frame_passed : World → World
 time_frame_passed w =
     let always = fallen LAST_FRAME_FLAG (fallen 7 (fallen 6 (fallen FIRST_FRAME_FLAG w))) in
     fallen_if (is_unlit w) UNLIT_FRAME_FLAG (fallen_if (is_dark w) DARK_FRAME_FLAG always)
 
--- in the dark without light a message is said; else the location is described
+-- What is shown first: a message where it is dark without light, and the location's text otherwise.
 abbrev pub view_text : GameLists → World → Text
 view_text g w = if is_unlit w then say_text g w DARK_MESSAGE else location_text g w (flag w LOCATION_FLAG)
 
--- one more turn, up to 65,535: the number stands in two flags, the low byte and the high one
+-- The world with one more turn counted, up to 65,535; two flags hold the number, the low byte and the high one.
 abbrev pub counted : World → World
 counted w =
     let n = min 65535 (turns_taken w + 1) in with_flag (with_flag w LOW_TURNS_FLAG (n % 256)) HIGH_TURNS_FLAG (n / 256)
 
--- the prompt, which is the message that a flag names, or the usual one where that is 0, and the mark at which a line is
--- typed
+-- The prompt: the message that a flag names, or the usual one where the flag is 0, and then the mark at which a line is
+-- typed.
 abbrev pub prompt_text : GameLists → World → Text
 prompt_text g w =
     say_text g w (if flag w PROMPT_FLAG == 0 then PROMPT_MESSAGE else flag w PROMPT_FLAG) ++ put_text g w LINE_MESSAGE
 
--- what a timeout at the main prompt says, once it is heard
+-- What the game says of a timeout at the main prompt, once it is heard.
 abbrev pub timeout_text : GameLists → World → Text
 timeout_text g w = say_text g (with_timeout true w) TIMEOUT_MESSAGE
 
--- at the main prompt: with no line left the run waits; an ignored line closes an empty piece, and the run waits on; a
--- timeout says its message and leads to the time frame; any other line becomes the pending bytes, with no verb before,
--- and leads to its first phrase
+-- What a run does at the main prompt. With no line left it waits; an ignored line closes an empty piece, and the next
+-- one is taken; a timeout says its message and leads to the time frame; any other line becomes the pending bytes, with
+-- no verb before, and leads to its first phrase.
 unfoldable pub at_main : Story → (TurnPhase → Sequel) → Run → Lines → Ending
 at_main g go r [] = WaitsAt prompt.Main [] (record r { events = [] })
 at_main g go r (line ∷ lines) =
@@ -94,8 +94,8 @@ at_main g go r (line ∷ lines) =
     else if is_timeout line then saying (timeout_text g.game r.world) (go AtTimeFrame) (heard line s)
     else go AtPhrase (record s { world = with_timeout false r.world; pending = line; earlier = NO_WORD })
 
--- the next phrase: a sentence counts a turn and is responded to; at one with no known word that is said, and the
--- rest of the line is dropped; with none left the prompt is shown, the piece is closed, and the game waits for a line
+-- How a turn goes on with the next phrase. A sentence counts a turn and is responded to; no known word is refused, and
+-- the rest of the line dropped; with none left the prompt is shown, the piece closed, and a line awaited.
 abbrev pub after_phrase : Story → (TurnPhase → Sequel) → Run → Parsed → Ending
 after_phrase g go r (IsSentence s rest) =
     go AtResponse (with_world (counted (taken_phrase s rest r).world) (taken_phrase s rest r))
@@ -103,35 +103,35 @@ after_phrase g go r (IsUnknown _) = saying (say_text g.game r.world UNKNOWN_MESS
 after_phrase g go r IsNoPhrase =
     saying (prompt_text g.game r.world) (λ s. at_main g go (closed s) s.events) (line_dropped r)
 
--- no entry answered and there is no exit: there is no way for a direction, and else the verb is impossible
+-- What is said where no entry answered and no exit is there: no way, for a direction; otherwise the verb is impossible.
 abbrev pub refusal_text : GameLists → World → Text
 refusal_text g w =
     say_text g w (if nat_lt (flag w VERB_FLAG) FIRST_PLAIN_VERB then NO_WAY_MESSAGE else IMPOSSIBLE_MESSAGE)
 
--- the exit for the verb is taken, and the location that it leads to described; where there is none that is said, the
--- line is dropped, and the time frame comes
+-- Takes the exit for the verb, and describes the location that it leads to; without an exit that is said, the line is
+-- dropped, and the time frame comes.
 abbrev pub connected : Story → (TurnPhase → Sequel) → Run → Option ℕ → Ending
 connected g go r None = saying (refusal_text g.game r.world) (go AtTimeFrame) (line_dropped r)
 connected g go r (Some to) = go AtDescribe (with_world (with_flag r.world LOCATION_FLAG to) r)
 
--- after RESPONSE_TABLE, 0, comes the time frame where an action was carried out, and else the exit of the location for
--- the verb is looked for; after DESCRIBED_TABLE, 1, comes the time frame, after FRAME_TABLE, 2, the fall of flags and
--- the next phrase
+-- What follows a table of level 0 that was left. After table 0, of responses: the time frame if an action was carried
+-- out, and otherwise the location's exit for the verb. After table 1, of descriptions: the time frame. After table 2,
+-- of the time frame: the fall of flags and the next phrase.
 abbrev pub after_left : Story → (TurnPhase → Sequel) → ℕ → Bool → Run → Ending
 after_left g go zero false r = connected g go r (exit_at g.game (flag r.world LOCATION_FLAG) (flag r.world VERB_FLAG))
 after_left g go (suc (suc t)) acted r = go AtPhrase (with_world (time_frame_passed r.world) r)
 after_left g go _ acted r = go AtTimeFrame r
 
--- how the turn goes on after a table at level 0, which was left, waits, or was stopped: then play ends for good, or the
--- location is described, again or in a game that starts anew
+-- How a turn goes on after a table at level 0: it was left, it waits, or it was stopped. After a stop, play ends for
+-- good, or the location is described, again or in a game that starts anew.
 abbrev pub table_done : Story → (TurnPhase → Sequel) → ℕ → Out → Ending
 table_done g go t (Left acted r) = after_left g go t acted r
 table_done g go t (Waits p path r) = WaitsAt p path r
 table_done g go t (Stopped (Halts halt) r) = Halted halt r
 table_done g go t (Stopped _ r) = go AtDescribe r
 
--- the turn from a phase on, in at most n phases: table 1 is read where the location was described, table 2 in each time
--- frame, and table 0 in response to a sentence
+-- The turn from a phase on, in at most n phases. Table 1 is read once the location was described, table 2 in each time
+-- frame, and table 0 in response to a sentence.
 unfoldable pub turn : Story → ℕ → TurnPhase → Run → Ending
 turn g zero s r = Unended
 turn g (suc n) AtDescribe r =
@@ -142,23 +142,23 @@ turn g (suc n) AtTimeFrame r = table_done g (turn g n) FRAME_TABLE (table_read g
 turn g (suc n) AtPhrase r = after_phrase g (turn g n) r (coming_phrase g r)
 turn g (suc n) AtResponse r = table_done g (turn g n) RESPONSE_TABLE (table_read g RESPONSE_TABLE r)
 
--- how much a run may still read: what is left of the line, what the open piece may still read, and what each line
--- brings
+-- How much a run may still read: the rest of its line, what the open piece may still read, and what each line to come
+-- brings.
 abbrev pub left_to_read : Run → ℕ
 left_to_read r =
     length r.pending + (READ_LIMIT - length r.read) + sum_by (λ line. length line + suc READ_LIMIT) r.events
 
--- so many phases are enough, from any phase on
+-- A number of phases that is enough, from any phase on.
 abbrev pub phases_left : Run → ℕ
 phases_left r = 4 * left_to_read r + 4
 
--- the turns from a phase on, to the end of the reading
+-- The turns from a phase on, to the end of the reading.
 abbrev pub turns_from : Story → TurnPhase → Run → Ending
 turns_from g s r = turn g (phases_left r) s r
 
 -- ---- the reading ----
 
--- the run at the start of a game, with these lines to come
+-- The run at the start of a game, with these lines to come.
 abbrev pub opening : Story → Seed → Lines → Run
 opening g seed es = record {
   world = starting_world (map (λ o. o.facts) g.game.objects) (length g.game.locations) seed;
@@ -172,34 +172,34 @@ opening g seed es = record {
   events = es;
 }
 
--- the reading of a game with these lines, each of at most 255 bytes
+-- The reading of a game with these lines, each of at most 255 bytes.
 abbrev pub reading : Story → Seed → Lines → Ending
 reading g seed es = turns_from g AtDescribe (opening g seed es)
 
--- the closed pieces of a reading, the first one first
+-- The closed pieces of a reading, the first one first.
 abbrev pub pieces_of : Ending → Texts
 pieces_of (WaitsAt p path r) = r.pieces
 pieces_of (Halted halt r) = r.pieces
 pieces_of Unended = []
 
--- the text of a reading: its closed pieces, one after the other
+-- The text of a reading: its closed pieces, one after the other.
 abbrev pub text_of : Ending → Text
 text_of e = concat (pieces_of e)
 
 -- ---- going on ----
 
--- the table of the outermost frame; 0 where there is none
+-- The table of the outermost frame; 0 where there is none.
 abbrev pub first_table : List Frame → ℕ
 first_table [] = 0
 first_table (f ∷ path) = f.table
 
--- going on from a prompt with the run's lines, in at most n phases more: at the main prompt, or inside tables; where
--- the game is over it stays so. Nothing is put again, and no piece is closed first
+-- Goes on from a prompt with the run's lines, in at most n more phases: at the main prompt, or inside tables; a game
+-- that is over stays over. Nothing is printed again, and no piece is closed first.
 abbrev pub goes_on : Story → ℕ → Prompt → List Frame → Run → Ending
 goes_on g n prompt.Main path r = at_main g (turn g n) r r.events
 goes_on g n prompt.Over path r = Halted IsOver r
 goes_on g n p path r = table_done g (turn g n) (first_table path) (on_path g p 0 path r)
 
--- going on from a prompt with the run's lines
+-- Goes on from a prompt with the run's lines, to the end of the reading.
 abbrev pub on : Story → Prompt → List Frame → Run → Ending
 on g p path r = goes_on g (phases_left r) p path r

@@ -1,6 +1,6 @@
 // Where reading stands.
 
-/// A place in a table that is open, from 0 on each, and whether an action was carried out there before it.
+/// A place in an open table, counted from 0 in each part, and whether an action was carried out there before it.
 #[derive(Clone, Copy, Drop, PartialEq, Eq, Debug)]
 pub struct Frame {
     pub table: u8,

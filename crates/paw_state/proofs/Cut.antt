@@ -23,7 +23,7 @@ use Rattle.paw_state.specs.inner.Fields.{fields_at}
 use Rattle.paw_state.proofs.Pieces.{kept_place, range_is, behind, byte_is}
 use Rattle.paw_state.proofs.Written.{length-rows}
 
--- a field stands where it is, and the others behind it
+-- A field stands where it is, and the others after it.
 here : (bytes x q : List ℕ) (xs : List (List ℕ)) (at n : ℕ) → drop at bytes ≡ concat (x ∷ xs) ++ q → length x ≡ n → slice_range bytes at (at + n) ≡ x
 here bytes x q xs at n h k = range_is bytes x (concat xs ++ q) at n (h ∙ append_assoc x (concat xs) q) k
 
@@ -57,7 +57,7 @@ pub length-held : (h : Held) → IsSizedHeld h → length (held_bytes h) ≡ HEL
 unfolding held_bytes
 length-held h s = simp length-append (omega (arith, s.flags, s.places))
 
--- where a position stands, and what stands behind it
+-- Where a position stands, and what follows it.
 held_here : (bytes : List ℕ) (h : Held) (q : List ℕ) (at : ℕ) → IsSizedHeld h → drop at bytes ≡ held_bytes h ++ q
     → (held_at (drop at bytes) ≡ h) × (drop (at + HELD_LENGTH) bytes ≡ q)
 held_here bytes h q at s e = (ap held_at e ∙ held_cut h q s, behind bytes (held_bytes h) q at HELD_LENGTH e (length-held h s))
@@ -212,7 +212,7 @@ pending_cut bytes f q s h0 =
 
 -- ---- kept positions ----
 
--- one of them, and the others behind it
+-- One of them, and the others after it.
 one_cut : (bytes q : List ℕ) (h : Held) (hs : List Held) (at : ℕ) → IsSizedHeld h → drop at bytes ≡ flat_map held_bytes (h ∷ hs) ++ q
     → (held_at (drop at bytes) ≡ h) × (drop (at + HELD_LENGTH) bytes ≡ flat_map held_bytes hs ++ q)
 one_cut bytes q h hs at s e =

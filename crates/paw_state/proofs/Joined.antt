@@ -27,7 +27,7 @@ eight_join bytes at h b =
     le_bytes_8 (slice_range bytes at (at + 8)) (eight_at bytes at) (omega (arith, length_range bytes at (at + 8) (omega arith) h))
     (each_byte (slice_range bytes at (at + 8)) (range_bytes bytes at (at + 8) b)) refl
 
--- a range, and the one behind it
+-- A range, and the one after it.
 onto : (bytes x rest : List ℕ) (a b c : ℕ) → a ≤ b → b ≤ c → x ≡ slice_range bytes a b → rest ≡ slice_range bytes b c → x ++ rest ≡ slice_range bytes a c
 onto bytes x rest a b c low high e f = ap (λ (l : List ℕ). l ++ rest) e ∙ (ap (λ (l : List ℕ). slice_range bytes a b ++ l) f ∙ range_join bytes a b c low high)
 

@@ -74,7 +74,7 @@ turning_back g f h = go (f.looping == 0) h
     go true q = zeros_loop f.turning q
     go false q = refl
 
--- a byte that is 0 or 1 tells whether something is there
+-- A byte that is 0 or 1 says whether something is there.
 pub presence_back : {A : Type 0} → (x : A) (n : ℕ) → n ≤ 1 → presence (if n == 0 then None else Some x) ≡ n
 presence_back x zero low = refl
 presence_back x (suc zero) low = refl

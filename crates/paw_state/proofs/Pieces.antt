@@ -20,7 +20,7 @@ range_is bytes x q at n h k =
     let m : at + n - at ≡ n = omega arith in
     rw m (ap (take n) h ∙ take_at x q n k)
 
--- what stands behind them
+-- What follows them.
 pub behind : (bytes x q : List ℕ) (at n : ℕ) → drop at bytes ≡ x ++ q → length x ≡ n → drop (at + n) bytes ≡ q
 behind bytes x q at n h k = sym (drop-drop n at bytes) ∙ (ap (drop n) h ∙ drop_at x q n k)
 
@@ -52,7 +52,7 @@ byte_range bytes at h =
 pub length_range : (bytes : List ℕ) (a b : ℕ) → a ≤ b → b ≤ length bytes → length (slice_range bytes a b) ≡ b - a
 length_range bytes a b low high = omega (arith, length-take (b - a) (drop a bytes), length-drop a bytes)
 
--- a range behind a place
+-- A range after a place.
 pub range_drop : (bytes : List ℕ) (at a n : ℕ) → slice_range bytes (at + a) (at + a + n) ≡ slice_range (drop at bytes) a (a + n)
 range_drop bytes at a n =
     let k : at + a + n - (at + a) ≡ n = omega arith in

@@ -1,4 +1,4 @@
--- The two bytes of a state that tell the length of the piece.
+-- The two bytes of a state that give the length of the piece.
 use Rattle.std.proofs.Common.{◌≡◌, ℕ, ◌+◌, ◌*◌, ◌<◌, ◌^◌, List, [], ◌∷◌, ◌++◌, length, take, drop, get_or, sym, ap, ◌∙◌, arith, append_assoc, length-append}
 use Rattle.std.proofs.lemmas.List.{append-nil, get_or_append_left, get_or-append-add, take-append-drop}
 use Rattle.paw_base.specs.declared.layout.TheConstants.{STATE_LENGTH}
@@ -29,7 +29,7 @@ state_ends f =
     (inner_join (f.earlier ∷ f.pending ∷ []) f.line (two_bytes f.piece) (kept_position_bytes f))
     ∙ outer_join (world_bytes f) (number_bytes f) (table_bytes f) ((f.earlier ∷ f.pending ∷ []) ++ f.line) (two_bytes f.piece ++ kept_position_bytes f)
 
--- two bytes behind 1,369
+-- The two bytes from 1,369 on.
 two_there : (front : List ℕ) (n : ℕ) (q : List ℕ) → length front ≡ PIECE → n < 2 ^ 16
     → get_or (front ++ (two_bytes n ++ q)) PIECE 0 + 256 * get_or (front ++ (two_bytes n ++ q)) (PIECE + 1) 0 ≡ n
 two_there front n q l h =

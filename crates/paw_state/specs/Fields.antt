@@ -23,58 +23,59 @@ use Rattle.paw_state.specs.declared.held.Held.{Held}
 
 -- ---- fields ----
 
--- a field: its value, its bytes, and whether its rule holds in a game
+-- A field: its value, its bytes, and whether its rule holds in a game.
 pub record Field : Type 0 where
   pub value : ℕ
   pub bytes : Bytes
   pub holds : GameLists → Bool
 
--- a number of one byte, with its rule
+-- A number of one byte, with its rule.
 abbrev pub byte : ℕ → (GameLists → Bool) → Field
 byte n holds = record { value = n; bytes = n ∷ []; holds = holds }
 
--- a number of two bytes
+-- A number of two bytes.
 abbrev pub two : ℕ → (GameLists → Bool) → Field
 two n holds = record { value = n; bytes = two_bytes n; holds = holds }
 
--- a number of eight bytes
+-- A number of eight bytes.
 abbrev pub eight : ℕ → (GameLists → Bool) → Field
 eight n holds = record { value = n; bytes = to_le_bytes w64 n; holds = holds }
 
--- bytes that are fields, one by one: the rule of each takes its number, counted from i on, and the byte
+-- Each of these bytes as a field, whose rule takes its number, counted from i on, and the byte.
 unfoldable pub one_by_one : (ℕ → ℕ → GameLists → Bool) → ℕ → Bytes → List Field
 one_by_one holds i [] = []
 one_by_one holds i (b ∷ bs) = byte b (holds i b) ∷ one_by_one holds (suc i) bs
 
--- the fields of something that isn't there where this number is 0: then each of them is 0
+-- The fields of something that is there unless this number is 0; where it is 0, each of the fields has to be 0.
 unfoldable pub if_there : ℕ → List Field → List Field
 if_there there [] = []
 if_there there (f ∷ fs) =
     record f { holds = λ g. if there == 0 then f.value == 0 else f.holds g } ∷ if_there there fs
 
--- the bytes of fields
+-- The bytes of these fields, in order.
 abbrev pub bytes_of : List Field → Bytes
 bytes_of fields = flat_map (λ f. f.bytes) fields
 
--- the place of the first field whose rule doesn't hold in a game; the bytes of the fields stand from this place on
+-- The place of the first field whose rule doesn't hold in a game; the first of the fields stands at this place.
 unfoldable pub fault_from : GameLists → ℕ → List Field → Option ℕ
 fault_from g at [] = None
 fault_from g at (f ∷ fs) = if f.holds g then fault_from g (at + length f.bytes) fs else Some at
 
 -- ---- the fields of a state ----
 
--- of the bytes for places the first are those of the objects, each a place of the game; the others are 0
+-- The rule for byte i of the places: for an object of the game it is a place of the game, and past the last one 0.
 abbrev pub place_holds : ℕ → ℕ → GameLists → Bool
 place_holds i place g = if nat_lt i (length g.objects) then is_place (length g.locations) place else place == 0
 
--- a position: 1 where it is there, its flags, and its places
+-- The fields of a position: 1 where it is there, its flags, and its places.
 abbrev pub held_fields : Held → List Field
 held_fields h =
     byte h.there (λ g. nat_le h.there 1)
     ∷ if_there h.there (one_by_one (λ i flag g. true) 0 h.flags ++ one_by_one place_holds 0 h.places)
 
--- a row, where n are used from it on: table, entry, condact, and 1 where an action was carried out. Its table is the
--- one that was called, and the outermost is 0, 1 or 2; each but the last is at a PROCESS, and the last at this condact
+-- The fields of a row, the first of n used ones (all 0 where n is 0): table, entry, condact, 1 where an action was
+-- carried out. Its table is the one called, or 0, 1 or 2 for the outermost. The last used row is at the condact with
+-- this code, each other at a PROCESS.
 abbrev pub row_fields : ℕ → (GameLists → Option ℕ) → ℕ → Row → List Field
 row_fields code caller n r = if_there n (
     byte r.table (λ g. may_open (caller g) r.table)
@@ -83,14 +84,14 @@ row_fields code caller n r = if_there n (
     ∷ byte r.acted (λ g. nat_le r.acted 1)
     ∷ [])
 
--- rows, the first n of which are used; the PROCESS of each calls the table of the next
+-- The fields of rows, the first n of which are used; the PROCESS of each calls the table of the next.
 unfoldable pub rows_fields : ℕ → (GameLists → Option ℕ) → ℕ → List Row → List Field
 rows_fields code caller n [] = []
 rows_fields code caller n (r ∷ rs) =
     row_fields code caller n r
     ++ rows_fields code (λ g. Some (parameter_of (condact_at g r.table r.entry r.at))) (n - 1) rs
 
--- the open loop: the level and the table of an open table, entry, condact (a DOALL), place, last object
+-- The fields of the open loop: the level and the number of an open table, entry, condact (a DOALL), place, last object.
 abbrev pub loop_fields : Fields → OpenLoop → List Field
 loop_fields f l = if_there f.looping (
     byte l.level (λ g. nat_lt l.level f.count)
@@ -101,16 +102,16 @@ loop_fields f l = if_there f.looping (
     ∷ byte l.last (λ g. nat_lt l.last (length g.objects))
     ∷ [])
 
--- the prompt of a code from 0 to 4; above it the game is over
+-- The prompt with this code, from 0 to 3; from 4 on the game is over.
 abbrev pub prompt_of : ℕ → Prompt
 prompt_of n = slice_index_or (prompt.Main ∷ prompt.Quit ∷ prompt.Again ∷ prompt.Key ∷ []) n prompt.Over
 
--- All fields, in order: flags and places, now and in the saved position; the seed, how many words were drawn, and how
--- many lines were taken; the prompt, how many tables are open, and their rows; whether a loop is open (none is where no
--- table is), and the loop; the verb of the sentence before; how many bytes are pending (none at a prompt outside
--- tables), and these, with zeros after them; how many bytes the last piece has; the kept positions. At most
--- 1,000,000,000 lines were taken. The words drawn are at most 200,000 for each, and 200,000 for the piece before the
--- first; where the lines are too many this isn't looked at
+-- All fields of a state, in order: flags and places, now and in the saved position; the seed, the number of words
+-- drawn, and that of lines taken; the prompt, the number of open tables, and their rows; whether a loop is open (never
+-- where no table is), and the loop; the verb of the sentence before; the number of pending bytes (0 at a prompt outside
+-- tables), and these, filled up with zeros; the length of the last piece; the kept positions. At most 1,000,000,000
+-- lines were taken. At most 200,000 words were drawn for each of them, and 200,000 for the piece before the first; this
+-- isn't checked where the lines are too many.
 unfoldable pub state_fields : Fields → List Field
 state_fields f =
     let inside = waiting_code (prompt_of f.prompt) in
@@ -131,12 +132,12 @@ state_fields f =
     ++ two f.piece (λ g. true)
     ∷ flat_map held_fields f.kept
 
--- the arrays of a position have their lengths
+-- The arrays of a position have their full lengths.
 pub record IsSizedHeld (h : Held) : Type 0 where
   pub flags : length h.flags ≡ FLAG_COUNT
   pub places : length h.places ≡ OBJECT_LIMIT
 
--- the arrays have their lengths, and the numbers fit
+-- The arrays have their full lengths, and the numbers fit their fields.
 pub record AreSized (f : Fields) : Type 0 where
   pub flags : length f.flags ≡ FLAG_COUNT
   pub places : length f.places ≡ OBJECT_LIMIT

@@ -7,13 +7,13 @@ use Rattle.paw_reading.specs.Run.{Run}
 use Rattle.paw_process.specs.Kept.{frames_at}
 use Rattle.paw_state.specs.State.{State}
 
--- the piece that was closed last; empty where none was closed
+-- The piece that was closed last; empty where none was closed.
 abbrev pub last_piece : Texts → Text
 last_piece [] = []
 last_piece (piece ∷ []) = piece
 last_piece (piece ∷ next ∷ pieces) = last_piece (next ∷ pieces)
 
--- the state of a run that stands at a prompt with these open places, the outermost first, after so many lines
+-- The state of a run that waits at a prompt with these open frames, the outermost first, after this number of lines.
 abbrev pub state_at : ℕ → Prompt → List Frame → Run → State
 state_at lines at path r = record {
   world = r.world;

@@ -20,8 +20,8 @@ use Rattle.paw_state.specs.declared.fields.Fields.{Fields}
 use Rattle.paw_state.specs.declared.held.Held.{Held}
 use Rattle.paw_state.specs.Fields.{bytes_of, state_fields, fault_from}
 
--- the world; the places in the tables that are open; what is pending; the prompt; how many lines were taken; and how
--- many bytes the last piece has
+-- What a session keeps of play: the world; the frames of the open tables; the pending line; the prompt; the number of
+-- lines taken; and the length of the last piece.
 pub record State : Type 0 where
   pub world : World
   pub frames : Frames
@@ -32,16 +32,16 @@ pub record State : Type 0 where
 
 -- ---- its fields ----
 
--- these bytes, filled up with zeros to n of them
+-- These bytes, filled up with zeros to a length of n.
 abbrev pub filled : ℕ → Bytes → Bytes
 filled n bytes = bytes ++ zeros (n - length bytes)
 
--- a position that is there, with its flags and places; all 0 where there is none
+-- The fields of a position, with its flags and places; all of them 0 where there is no position.
 abbrev pub held_of : Option Position → Held
 held_of None = record { there = 0; flags = zeros FLAG_COUNT; places = zeros OBJECT_LIMIT }
 held_of (Some q) = record { there = 1; flags = q.flags; places = filled OBJECT_LIMIT q.places }
 
--- the code of a prompt
+-- The code of a prompt, from 0 to 4.
 abbrev pub prompt_code : Prompt → ℕ
 prompt_code prompt.Main = 0
 prompt_code prompt.Quit = 1
@@ -49,11 +49,11 @@ prompt_code prompt.Again = 2
 prompt_code prompt.Key = 3
 prompt_code prompt.Over = 4
 
--- the row of a frame, with 1 where an action was carried out
+-- The row of a frame, with 1 where an action was carried out.
 abbrev pub row_of : Frame → Row
 row_of f = record { table = f.table; entry = f.entry; at = f.at; acted = (if f.acted then 1 else 0) }
 
--- the fields of a state, with 1 where a loop is open
+-- The fields of a state; the one for a loop is 1 where a loop is open.
 abbrev pub fields_of : State → Fields
 fields_of s = record {
   flags = s.world.flags;
@@ -74,14 +74,14 @@ fields_of s = record {
   piece = s.piece;
 }
 
--- the bytes of a state
+-- The bytes of a state.
 abbrev pub state_bytes : State → Bytes
 state_bytes s = bytes_of (state_fields (fields_of s))
 
 -- ---- its rules ----
 
 -- The rules of a state: the world is the game's, and sound; there are eleven rows for open tables; at most 255 bytes are
--- pending; and each of its fields keeps its rule
+-- pending; and each of its fields keeps its rule.
 pub record Keeps (g : GameLists) (s : State) : Type 0 where
   pub world : IsOf g s.world
   pub sound : IsWorld s.world
@@ -89,11 +89,11 @@ pub record Keeps (g : GameLists) (s : State) : Type 0 where
   pub line : length s.pending.bytes ≤ LINE_LIMIT
   pub fields : fault_from g 0 (state_fields (fields_of s)) ≡ None
 
--- the flags and the places of a position, where there is one, are bytes
+-- The flags and the places of a position, where there is one, are bytes.
 abbrev pub HoldsBytes : Option Position → Type 0
 HoldsBytes o = IfSome o (λ q. AreBytes q.flags × AreBytes q.places)
 
--- the numbers of a state fit the fields that they are written to: bytes, and numbers of two and eight bytes
+-- The numbers of a state fit the fields that they are written to: bytes, and numbers of two and eight bytes.
 pub record FitsFields (s : State) : Type 0 where
   pub flags : AreBytes s.world.flags
   pub places : AreBytes s.world.places

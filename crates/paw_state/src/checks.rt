@@ -27,10 +27,10 @@ use paw_game::tables::Tables;
 use paw_process::{count_fits, has_code, is_place, may_open, parameter_of, waiting_code};
 use paw_reading::places::OpenLoop;
 
-/// Random words that may be drawn in a piece.
+/// The most random words that may be drawn in a piece.
 const MOST_DRAWS: u64 = READ_LIMIT as u64;
 
-/// A fault at this place where the rule doesn't hold.
+/// Names this place as a fault, unless the rule holds.
 fn rule(at: usize, holds: bool) -> Result<(), StateFault>
     ensures value { fault_of result ≡ rule at holds }
 {
@@ -41,7 +41,7 @@ fn rule(at: usize, holds: bool) -> Result<(), StateFault>
     }
 }
 
-/// The first byte that isn't 0 is at fault.
+/// Names the first byte that isn't 0 as a fault.
 fn all_zero(at: usize, bytes: &[u8]) -> Result<(), StateFault>
     requires near { at + length bytes.now < 2 ^ 64 }
     ensures value { fault_of result ≡ first_not is_zero at bytes.now }
@@ -52,7 +52,7 @@ fn all_zero(at: usize, bytes: &[u8]) -> Result<(), StateFault>
     Ok(())
 }
 
-/// The first byte that is no place of a game with so many locations is at fault.
+/// Names the first byte that is no place of a game with this many locations as a fault.
 fn all_places(locations: u16, at: usize, places: &[u8]) -> Result<(), StateFault>
     requires near { at + length places.now < 2 ^ 64 }
     ensures value { fault_of result ≡ first_not (is_place locations) at places.now }
@@ -63,7 +63,7 @@ fn all_places(locations: u16, at: usize, places: &[u8]) -> Result<(), StateFault
     Ok(())
 }
 
-/// The places of the objects, and zeros behind them.
+/// Checks the places of the objects, and the zeros after them.
 fn check_places<T: Tables>(tables: &T, at: usize, places: &[u8; 255]) -> Result<(), StateFault>
     requires near { at < STATE_ROOM }
     ensures value { fault_of result ≡ places_fault (T.game tables.now) at places.now }
@@ -75,7 +75,7 @@ fn check_places<T: Tables>(tables: &T, at: usize, places: &[u8; 255]) -> Result<
     all_zero(at + objects, &places[objects..])
 }
 
-/// The flags and the places of a position that isn't there.
+/// Checks the flags and the places of a position that isn't there.
 fn check_absent(at: usize, held: &Held) -> Result<(), StateFault>
     requires near { at + HELD_LENGTH ≤ STATE_ROOM }
     ensures value { fault_of result ≡ absent_fault at held.now }
@@ -84,7 +84,7 @@ fn check_absent(at: usize, held: &Held) -> Result<(), StateFault>
     all_zero(at + HELD_PLACES, &held.places)
 }
 
-/// A position that may be there.
+/// Checks a position that may be there.
 fn check_held<T: Tables>(tables: &T, at: usize, held: &Held) -> Result<(), StateFault>
     requires near { at + HELD_LENGTH ≤ STATE_ROOM }
     ensures value { fault_of result ≡ held_fault (T.game tables.now) at held.now }
@@ -97,7 +97,7 @@ fn check_held<T: Tables>(tables: &T, at: usize, held: &Held) -> Result<(), State
     }
 }
 
-/// These positions, the first of which stands at this place.
+/// Checks these positions, the first of which stands at this place.
 fn check_kept<T: Tables>(tables: &T, at: usize, kept: &[Held]) -> Result<(), StateFault>
     requires near { at + HELD_LENGTH * length kept.now ≤ STATE_ROOM }
     ensures value { fault_of result ≡ kept_fault (T.game tables.now) at kept.now }
@@ -109,7 +109,7 @@ fn check_kept<T: Tables>(tables: &T, at: usize, kept: &[Held]) -> Result<(), Sta
     check_kept(tables, at + HELD_LENGTH, rest)
 }
 
-/// The numbers of lines and of draws.
+/// Checks the numbers of lines and of draws.
 fn check_numbers(fields: &Fields) -> Result<(), StateFault>
     ensures value { fault_of result ≡ numbers_fault fields.now }
 {
@@ -130,7 +130,7 @@ pub(crate) fn prompt_of(code: u8) -> Prompt
     }
 }
 
-/// The prompt, and how many tables are turning.
+/// Checks the prompt, and the number of open tables.
 fn check_prompt(fields: &Fields) -> Result<(), StateFault>
     ensures value { fault_of result ≡ prompt_fault fields.now }
 {
@@ -141,7 +141,7 @@ fn check_prompt(fields: &Fields) -> Result<(), StateFault>
     )
 }
 
-/// A row that isn't used.
+/// Checks a row that isn't used.
 fn check_unused(at: usize, row: &Row) -> Result<(), StateFault>
     requires near { at < STATE_ROOM }
     ensures value { fault_of result ≡ unused_fault at row.now }
@@ -152,7 +152,7 @@ fn check_unused(at: usize, row: &Row) -> Result<(), StateFault>
     rule(at + ROW_ACTED, row.acted == 0)
 }
 
-/// A row that is used, at a condact of this code.
+/// Checks a row that is used, at a condact of this code.
 fn check_used<T: Tables>(
     tables: &T,
     code: u8,
@@ -170,7 +170,7 @@ fn check_used<T: Tables>(
     rule(at + ROW_ACTED, row.acted <= 1)
 }
 
-/// A row where so many are used from it on: the last of these at this condact.
+/// Checks a row from which on this many are used: the last of these at this condact.
 fn check_row<T: Tables>(
     tables: &T,
     code: u8,
@@ -189,7 +189,7 @@ fn check_row<T: Tables>(
     }
 }
 
-/// These rows, the first of which stands at this place.
+/// Checks these rows, the first of which stands at this place.
 fn check_rows<T: Tables>(
     tables: &T,
     code: u8,
@@ -210,7 +210,7 @@ fn check_rows<T: Tables>(
     check_rows(tables, code, Some(called), left, at + ROW_LENGTH, rest)
 }
 
-/// The rows of the open tables, and the unused ones behind them.
+/// Checks the rows of the open tables, and the unused ones after them.
 fn check_frames<T: Tables>(tables: &T, fields: &Fields) -> Result<(), StateFault>
     ensures value { fault_of result ≡ frame_fields_fault (T.game tables.now) fields.now }
 {
@@ -218,7 +218,7 @@ fn check_frames<T: Tables>(tables: &T, fields: &Fields) -> Result<(), StateFault
     check_rows(tables, code, None, fields.count, ROWS, &fields.rows)
 }
 
-/// The bytes of a loop where none is turning.
+/// Checks the bytes of a loop where none is open.
 fn check_no_loop(turning: &OpenLoop) -> Result<(), StateFault>
     ensures value { fault_of result ≡ no_loop_fault turning.now }
 {
@@ -230,7 +230,7 @@ fn check_no_loop(turning: &OpenLoop) -> Result<(), StateFault>
     rule(LOOP_LAST, turning.last == 0)
 }
 
-/// An open loop.
+/// Checks an open loop.
 fn check_loop<T: Tables>(tables: &T, fields: &Fields, turning: &OpenLoop) -> Result<(), StateFault>
     ensures value { fault_of result ≡ loop_fields_fault (T.game tables.now) fields.now turning.now }
 {
@@ -250,7 +250,7 @@ fn check_loop<T: Tables>(tables: &T, fields: &Fields, turning: &OpenLoop) -> Res
     rule(LOOP_LAST, u16::from(turning.last) < counts.objects)
 }
 
-/// Whether the row of this level is of this table.
+/// Whether the row of this level belongs to this table.
 fn is_table_at(rows: &[Row], level: u8, table: u8) -> bool
     ensures value { result ≡ is_that_table (option_map (λ r. r.table) (slice_get rows.now level)) table }
 {
@@ -260,7 +260,7 @@ fn is_table_at(rows: &[Row], level: u8, table: u8) -> bool
     }
 }
 
-/// Whether a loop is open, and its bytes.
+/// Checks whether a loop is open, and its bytes.
 fn check_turning<T: Tables>(tables: &T, fields: &Fields) -> Result<(), StateFault>
     ensures value { fault_of result ≡ turning_fault (T.game tables.now) fields.now }
 {
@@ -273,7 +273,7 @@ fn check_turning<T: Tables>(tables: &T, fields: &Fields) -> Result<(), StateFaul
     }
 }
 
-/// What is pending.
+/// Checks what is pending.
 fn check_pending(fields: &Fields) -> Result<(), StateFault>
     ensures value { fault_of result ≡ pending_fault fields.now }
 {
@@ -283,7 +283,7 @@ fn check_pending(fields: &Fields) -> Result<(), StateFault>
     all_zero(LINE + pending, &fields.line[pending..])
 }
 
-/// The first field that breaks its rule in this game is at fault.
+/// Checks all fields, and names the first that breaks its rule in this game as a fault.
 pub(crate) fn check<T: Tables>(tables: &T, fields: &Fields) -> Result<(), StateFault>
     ensures value { fault_of result ≡ parts_fault (T.game tables.now) fields.now }
     ensures valid { Valid (T.game tables.now) }

@@ -27,7 +27,7 @@ use paw_base::limits::POSITION_COUNT;
 use paw_process::MOST_FRAMES;
 use paw_reading::places::{Frame, OpenLoop};
 
-/// A frame, as it is kept: whether an action was carried out is a byte.
+/// A frame, as it is kept: a byte says whether an action was carried out.
 #[derive(Clone, Copy, Drop)]
 pub(crate) struct Row {
     pub(crate) table: u8,
@@ -70,7 +70,7 @@ impl Row {
     }
 }
 
-/// The fields of a state in the order of their bytes. What they say is not looked at here.
+/// The fields of a state in the order of their bytes. Their rules aren't checked here.
 #[derive(Drop)]
 pub(crate) struct Fields {
     pub(crate) flags: [u8; 256],
@@ -168,7 +168,7 @@ fn loop_at(bytes: &[u8; STATE_ROOM]) -> OpenLoop
 }
 
 impl Fields {
-    /// The fields that these bytes are.
+    /// The fields that stand in these bytes.
     pub(crate) fn at(bytes: &[u8; STATE_ROOM]) -> Fields
         ensures value { result ≡ fields_at bytes.now }
         ensures bytes { AreBytes bytes.now }
@@ -194,7 +194,7 @@ impl Fields {
         }
     }
 
-    /// The bytes of these fields, and zeros behind them.
+    /// The bytes of these fields, and zeros after them.
     pub(crate) fn bytes(&self) -> [u8; STATE_ROOM]
         ensures value { result ≡ field_bytes self.now ++ zeros (STATE_ROOM - STATE_LENGTH) }
         ensures kept { length (kept_position_bytes self.now) ≡ POSITION_COUNT * HELD_LENGTH }
@@ -209,7 +209,7 @@ impl Fields {
         writer.finish()
     }
 
-    /// Flags and places, now and in the saved position.
+    /// Writes flags and places, now and in the saved position.
     #[tactic(auto, unfolding(crate::specs::inner::Fields::world_bytes))]
     fn put_world(&self, writer: &mut Writer)
         requires room { length writer.old + SEED ≤ STATE_ROOM }
@@ -220,7 +220,7 @@ impl Fields {
         self.saved.put(writer);
     }
 
-    /// The seed, the draws and the lines.
+    /// Writes the seed, the draws and the lines.
     #[tactic(auto, unfolding(crate::specs::inner::Fields::number_bytes))]
     fn put_numbers(&self, writer: &mut Writer)
         requires room { length writer.old + (PROMPT - SEED) ≤ STATE_ROOM }
@@ -231,7 +231,7 @@ impl Fields {
         writer.put(&self.events.to_le_bytes());
     }
 
-    /// The prompt, the rows of the open tables, and the open loop.
+    /// Writes the prompt, the rows of the open tables, and the open loop.
     #[tactic(auto, unfolding(crate::specs::inner::Fields::table_bytes))]
     fn put_tables(&self, writer: &mut Writer)
         requires room { length writer.old + (EARLIER - PROMPT) ≤ STATE_ROOM }
@@ -243,7 +243,7 @@ impl Fields {
         self.put_loop(writer);
     }
 
-    /// The rows of the open tables.
+    /// Writes the rows of the open tables.
     fn put_rows(&self, writer: &mut Writer)
         requires room { length writer.old + (LOOPING - ROWS) ≤ STATE_ROOM }
         ensures writes { Writes (flat_map row_bytes self.now.rows) (LOOPING - ROWS) writer.old writer.new }
@@ -254,7 +254,7 @@ impl Fields {
         }
     }
 
-    /// The open loop.
+    /// Writes the open loop.
     fn put_loop(&self, writer: &mut Writer)
         requires room { length writer.old + (EARLIER - LOOP_LEVEL) ≤ STATE_ROOM }
         ensures writes { Writes (loop_bytes self.now.turning) (EARLIER - LOOP_LEVEL) writer.old writer.new }
@@ -265,7 +265,7 @@ impl Fields {
         writer.put(&[turning.at, turning.place, turning.last]);
     }
 
-    /// What is pending, and how many bytes the last piece has.
+    /// Writes what is pending, and the length of the last piece.
     #[tactic(auto, unfolding(crate::specs::inner::Fields::pending_bytes))]
     fn put_pending(&self, writer: &mut Writer)
         requires room { length writer.old + (KEPT - EARLIER) ≤ STATE_ROOM }
@@ -276,7 +276,7 @@ impl Fields {
         writer.put(&self.piece.to_le_bytes());
     }
 
-    /// The kept positions.
+    /// Writes the kept positions.
     #[tactic(auto, unfolding(crate::specs::inner::Fields::kept_position_bytes))]
     fn put_kept(&self, writer: &mut Writer)
         requires room { length writer.old + POSITION_COUNT * HELD_LENGTH ≤ STATE_ROOM }

@@ -10,7 +10,7 @@ use crate::fields::array_at;
 use crate::layout::{HELD_FLAGS, HELD_PLACES, STATE_ROOM};
 use crate::writer::Writer;
 
-/// A position that is put aside, or isn't: whether it is there, its flags and its places.
+/// A position, or its absence: whether it is there, its flags and its places.
 #[derive(Clone, Copy, Drop)]
 pub(crate) struct Held {
     pub(crate) there: u8,

@@ -3,7 +3,7 @@
 ghost use Rattle.paw_state.specs.inner.Laws.{FieldsStand, OneFault, FitOrUnfit, BytesTellTheState, WrittenIsFit};
 ghost use Rattle.paw_state.specs.inner.Record.{StateOfParts};
 
-/// Fields stand at their places in the bytes that they are written to, so that no bytes have two faults.
+/// Fields stand at their places in the bytes that they are written to, so bytes never have two first faults.
 pub fn fields_stand()
     ensures stand { FieldsStand }
     ensures one { OneFault }
@@ -14,7 +14,7 @@ pub fn fit_or_unfit()
     ensures exactly { FitOrUnfit }
 {}
 
-/// Two states of a game with the same bytes are the same. So what is read back is what was written.
+/// Two states of a game with the same bytes are the same, so what is read back is what was written.
 pub fn bytes_tell_the_state()
     ensures same { BytesTellTheState }
 {}

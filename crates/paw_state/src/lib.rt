@@ -1,4 +1,4 @@
-//! The bytes that a session keeps of a game that is played, and what comes back of them.
+//! The bytes that a session keeps of a game that is played, and reading them back.
 #![tactic(auto)]
 
 mod checks;
@@ -21,8 +21,8 @@ use paw_world::world::World;
 pub use read::read_state;
 pub use write::write_state;
 
-/// What comes back of a state's bytes: the parts with which a player goes on, how many lines were taken (at most
-/// 1,000,000,000), and how many bytes the last piece has.
+/// What is read back from a state's bytes: the parts with which a player goes on, the number of lines taken (at most
+/// 1,000,000,000), and the length of the last piece.
 #[derive(Drop)]
 pub struct Restored {
     pub world: World,

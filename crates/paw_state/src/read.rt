@@ -1,4 +1,4 @@
-// From the bytes of a state to the parts of a game.
+// Reading the parts of a game from the bytes of a state.
 
 ghost use Rattle.std.specs.Prelude.{◌+◌, ◌*◌, slice_index, ◌≡◌, ◌≢◌, ◌<◌, ◌≤◌, ◌↔◌, None};
 ghost use Rattle.std.specs.Prelude.{length, map, replicate, slice_set, IsOk, IfOk, IfErr};
@@ -27,7 +27,7 @@ use paw_process::{Frames, MOST_FRAMES, Machine};
 use paw_reading::places::Frame;
 use paw_world::world::World;
 
-/// What a state's bytes are of: the parts with which a player of this game goes on. The bytes from 3,419 on aren't
+/// What the bytes of a state hold: the parts with which a player of this game goes on. The bytes from 3,419 on aren't
 /// read. Takes no memory.
 ///
 /// # Errors
@@ -43,7 +43,7 @@ pub fn read_state<T: Tables>(tables: &T, bytes: &[u8; STATE_ROOM]) -> Result<Res
     Ok(restored(tables, &fields))
 }
 
-/// The saved position, where it is there, becomes this one.
+/// Makes this the saved position, if it is there.
 fn put_saved(world: &mut World, held: &Held)
     requires few { length world.old.places ≤ 255 }
     ensures none { held.now.there ≡ 0 → world.new ≡ world.old }
@@ -57,7 +57,7 @@ fn put_saved(world: &mut World, held: &Held)
     world.ramsave();
 }
 
-/// The kept position of this number, which wasn't kept before, becomes this one.
+/// Makes this the kept position of this number, which had none.
 fn put_kept(world: &mut World, n: u8, held: &Held)
     requires few { n < POSITION_COUNT }
     requires none { kept_position world.old n ≡ None }
@@ -72,7 +72,7 @@ fn put_kept(world: &mut World, n: u8, held: &Held)
     world.set_kept(n, &held.flags, &held.places[..objects]);
 }
 
-/// The kept positions, none of which was kept before, become these.
+/// Makes these the kept positions, none of which was kept before.
 fn put_all_kept(world: &mut World, kept: &[Held; POSITION_COUNT])
     requires none { world.old.kept ≡ replicate POSITION_COUNT None }
     ensures value { world.new ≡ record world.old { kept = map (held_in (length world.old.places)) kept.now } }
@@ -82,7 +82,7 @@ fn put_all_kept(world: &mut World, kept: &[Held; POSITION_COUNT])
     }
 }
 
-/// The world of a game that these fields say.
+/// The world of a game that these fields describe.
 fn world_in<T: Tables>(tables: &T, fields: &Fields) -> World
     ensures value { result ≡ world_in (T.game tables.now) fields.now }
 {
@@ -95,7 +95,7 @@ fn world_in<T: Tables>(tables: &T, fields: &Fields) -> World
     world
 }
 
-/// The places in the tables that these fields say.
+/// The frames of the open tables that these fields describe.
 fn frames_in(fields: &Fields) -> Frames
     ensures value { result ≡ frames_in fields.now }
 {
@@ -121,7 +121,7 @@ fn frame_rows(rows: &[Row; MOST_FRAMES]) -> [Frame; MOST_FRAMES]
     frames
 }
 
-/// The parts of a game that these fields say, which keep their rules.
+/// The parts of a game that these fields describe, which keep their rules.
 fn restored<T: Tables>(tables: &T, fields: &Fields) -> Restored
     requires sound { parts_fault (T.game tables.now) fields.now ≡ None }
     ensures state { state_read result ≡ state_in (T.game tables.now) fields.now }
@@ -140,7 +140,7 @@ fn restored<T: Tables>(tables: &T, fields: &Fields) -> Restored
     }
 }
 
-/// The machine that waits at this prompt in the tables that these fields say.
+/// The machine that waits at this prompt in the tables that these fields describe.
 fn machine_in<T: Tables>(tables: &T, fields: &Fields, prompt: Prompt) -> Machine
     requires sound { frames_fault (T.game tables.now) prompt (frames_in fields.now) ≡ None }
     ensures value { result ≡ restored (kept result) (waiting_at prompt) }

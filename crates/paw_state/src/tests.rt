@@ -80,7 +80,7 @@ fn opened(game: &Game) -> [u8; STATE_ROOM] {
     bytes
 }
 
-/// What makes of that a state that waits for an answer inside a call inside a loop, after two lines, with `N` pending.
+/// The changes that give a state that waits inside a call inside a loop, after two lines, with `N` pending.
 const WAITING: [(usize, u8); 13] = [
     (1039, 2),
     (1047, 1),
@@ -113,7 +113,7 @@ fn waiting(rt: &impl Abort, game: &Game) -> [u8; STATE_ROOM] {
     bytes
 }
 
-/// The place that is named, or none.
+/// The place that is named as a fault, or none.
 fn fault(game: &Game, bytes: &[u8; STATE_ROOM]) -> Option<u64> {
     match read_state(game, bytes) {
         Ok(_) => None,
@@ -121,7 +121,7 @@ fn fault(game: &Game, bytes: &[u8; STATE_ROOM]) -> Option<u64> {
     }
 }
 
-/// The bytes of what was read.
+/// The bytes written of what was read.
 fn written(read: &Restored) -> [u8; STATE_ROOM] {
     let mut bytes = [255; STATE_ROOM];
     write_state(
@@ -176,7 +176,7 @@ const NAMED: [(usize, u8, u64); 36] = [
     (3418, 1, 3418),
 ];
 
-/// The same of the state that waits.
+/// The same for the state that waits.
 const NAMED_WAITING: [(usize, u8, u64); 25] = [
     (1047, 0, 1048),
     (1047, 2, 1057),
@@ -205,7 +205,7 @@ const NAMED_WAITING: [(usize, u8, u64); 25] = [
     (1113, 0, 1114),
 ];
 
-/// The same of the state at the start with the second position kept, whose bytes are 0 but for the first.
+/// The same for the state at the start with the second position kept, whose bytes are 0 but for the first.
 const NAMED_KEPT: [(usize, u8, Option<u64>); 9] = [
     (1883, 2, Some(1883)),
     (1884, 255, None),

@@ -1,4 +1,4 @@
-// From a game that is played to the bytes of its state.
+// Writing the state of a game that is played.
 
 ghost use Rattle.std.specs.Prelude.{◌+◌, ◌-◌, ◌*◌, slice_index, ◌≡◌, ◌≤◌, ◌<◌, ◌++◌, length};
 ghost use Rattle.std.specs.Prelude.{map, All, Some, None};
@@ -22,8 +22,8 @@ use paw_process::{Frames, MOST_FRAMES, Machine};
 use paw_reading::places::{Frame, OpenLoop};
 use paw_world::world::World;
 
-/// Writes the state of a game that waits at a prompt, or is over, with these parts: so many lines were taken, and the
-/// last piece has so many bytes. The bytes behind the state become 0. Takes no memory.
+/// Writes the state of a game that waits at a prompt, or is over, with these parts: the number of lines that were
+/// taken, and the length of the last piece. The bytes after the state become 0. Takes no memory.
 pub fn write_state(
     world: &World,
     machine: &Machine,
@@ -41,14 +41,14 @@ pub fn write_state(
         ≡ STATE_LENGTH }
     ensures piece { slice_index into.new PIECE + 256 * slice_index into.new (PIECE + 1) ≡ piece }
 {
-    // Its clause tells the proof that a world has at most 255 objects. No call of it is left in the program.
+    // The clause of this call says that a world has at most 255 objects. The compiler leaves the call out.
     let _objects = world.objects();
     let frames = machine.frames();
     let fields = fields_of(world, &frames, pending, prompt, events, piece);
     *into = fields.bytes();
 }
 
-/// The same flags. Its clause tells the proof that they are bytes.
+/// The same flags. The clause says that they are bytes.
 fn copied(flags: &[u8]) -> [u8; 256]
     requires all { length flags.now ≡ 256 }
     ensures value { result ≡ flags.now }
@@ -70,7 +70,7 @@ fn filled(bytes: &[u8]) -> [u8; 255]
     all
 }
 
-/// The byte of a prompt.
+/// The code of a prompt.
 fn prompt_code(prompt: Prompt) -> u8
     ensures value { result ≡ prompt_code prompt }
 {
@@ -111,7 +111,7 @@ fn loop_or_zeros(turning: Option<OpenLoop>) -> OpenLoop
     }
 }
 
-/// A position that is there, with these flags and places.
+/// The fields of a position with these flags and places.
 fn held(flags: &[u8; 256], places: &[u8]) -> Held
     requires few { length places.now ≤ 255 }
     ensures value { result ≡ held_of (Some (record { flags = flags.now; places = places.now })) }
@@ -124,7 +124,7 @@ fn held(flags: &[u8; 256], places: &[u8]) -> Held
     }
 }
 
-/// The saved position, where there is one.
+/// The fields of the saved position, if there is one.
 fn saved_of(world: &World) -> Held
     requires few { IsWorld world.now }
     ensures value { result ≡ held_of world.now.saved }
@@ -136,7 +136,7 @@ fn saved_of(world: &World) -> Held
     }
 }
 
-/// The kept position of this number, where it was kept.
+/// The fields of the kept position of this number, if it was kept.
 fn kept_of(world: &World, n: u8) -> Held
     requires few { IsWorld world.now }
     requires known { n < POSITION_COUNT }
@@ -149,7 +149,7 @@ fn kept_of(world: &World, n: u8) -> Held
     }
 }
 
-/// The kept positions.
+/// The fields of the kept positions.
 fn all_kept(world: &World) -> [Held; POSITION_COUNT]
     requires few { IsWorld world.now }
     ensures value { result ≡ map held_of world.now.kept }

@@ -8,7 +8,7 @@ ghost use Rattle.paw_state.specs.inner.Writer.{Writes};
 use crate::layout::STATE_ROOM;
 use std::marker::Model;
 
-/// The room of a state, of which so many bytes are written, from the first on. Contracts see these bytes.
+/// The room of a state, of which a first part is written. Contracts see the bytes of that part.
 #[derive(Drop)]
 pub(crate) struct Writer {
     bytes: [u8; STATE_ROOM],
@@ -28,7 +28,7 @@ impl Model for Writer {
 }
 
 impl Writer {
-    /// Nothing is written.
+    /// A room of which nothing is written.
     pub(crate) fn new() -> Writer
         ensures value { result ≡ [] }
     {
@@ -38,7 +38,7 @@ impl Writer {
         }
     }
 
-    /// Writes a field behind the others.
+    /// Writes a field after the others.
     pub(crate) fn put(&mut self, field: &[u8])
         requires room { length self.old + length field.now ≤ STATE_ROOM }
         ensures writes { Writes field.now (length field.now) self.old self.new }
@@ -48,7 +48,7 @@ impl Writer {
         self.count = end;
     }
 
-    /// What was written, and zeros behind it.
+    /// What was written, and zeros after it.
     pub(crate) fn finish(self) -> [u8; STATE_ROOM]
         ensures value { result ≡ self ++ zeros (STATE_ROOM - length self) }
         ensures room { length result ≡ STATE_ROOM }

@@ -58,7 +58,7 @@ same_file file a b h k = cc
 is_missing : (file : Option (List ℕ)) (bytes : List ℕ) → file ≡ None → file ≡ Some bytes → ⊥
 is_missing file bytes h k = cc
 
--- memory may be wanting for any source
+-- Memory may be lacking for any source.
 for_memory : (read : Result GameLists SourceFault) (at : MemoryAt) → CompletesSource read (outcome.Memory at)
 for_memory (Ok g) at = tt
 for_memory (Err fault) at = tt
@@ -122,7 +122,7 @@ completes_told name old new _ (decompile.unopened o u) free =
 completes_told name old new _ (decompile.unshown g s e) free = absurd (hindered call.Show (λ q. cc) free)
 completes_told name old new _ (decompile.untold e) free = record { image = λ h k. tt; other = λ k. tt }
 
--- a text of so many bytes at most is wrapped, and a longer one is too long
+-- A text of at most this many bytes is wrapped, and a longer one is too long.
 within : (bytes : List ℕ) → length bytes ≤ 4194304 →
     outcome.Done ≡ (if nat_le (length bytes) 4194304 then outcome.Done else outcome.TextTooLong)
 within bytes h = let t : nat_le (length bytes) 4194304 ≡ true = grind (arith, nat_tests) in rw t refl
@@ -155,7 +155,7 @@ completes_file name Such old new _ (plays g end s comes) such memory free =
 completes_file name Such old new _ (unopened o u) such memory free =
     completes_unopened name Such old new o memory u free
 
--- a walk comes to its end
+-- A walk ends.
 pub is_walked : (whole : EndingOf) (most : ℕ) (old new : Standing) (o : PlayEnd) → Walks whole most old new o →
     IsUnhindered (outcome_of o) → IsWalked (outcome_of o)
 is_walked whole most old new end.Ended w free = tt

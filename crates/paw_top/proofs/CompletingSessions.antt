@@ -30,7 +30,7 @@ use Rattle.paw_top.specs.declared.outcome.MemoryAt.{MemoryAt}
 use Rattle.paw_top.specs.declared.outcome.MemoryAt.TheVariants as memory
 use Rattle.paw_top.proofs.Completing.{hindered, completes_file}
 
--- playing on comes to its end
+-- Playing on ends.
 plays_on : (whole : EndingOf) (most : ℕ) (old new : Standing) (o : PlayEnd) → ShowsAs whole most old new o →
     IsUnhindered (outcome_of o) → IsWalked (outcome_of o)
 plays_on whole most old new (end.Outside call.Write) s free = absurd (hindered call.Write (λ q. cc) free)
@@ -103,14 +103,14 @@ same_state d c s t p q e = cc
 same_piece : (d c : Digests) (s t p q : List ℕ) (r : Recovered) → r ≡ Shown d s p → r ≡ Shown c t q → p ≡ q
 same_piece d c s t p q r h k = let e : Shown d s p ≡ Shown c t q = sym h ∙ k in cc
 
--- the digest of the game is told by the whole
+-- Equal digests name the same game.
 game_of : (d c : Digests) → d ≡ c → d.game ≡ c.game
 game_of d c e = ap (λ (x : Digests). x.game) e
 
 routines_of : (d c : Digests) → d ≡ c → d.routines ≡ c.routines
 routines_of d c e = ap (λ (x : Digests). x.routines) e
 
--- routines that the session doesn't tell, or that are the story's, aren't others
+-- Routines that the session doesn't keep, or that are the story's, aren't others.
 no_others : (kept own : List ℕ) → (kept ≡ zeros 32) ⊎ (kept ≡ own) → kept ≢ zeros 32 → kept ≢ own → ⊥
 no_others kept own (inl h) none other = none h
 no_others kept own (inr h) none other = other h

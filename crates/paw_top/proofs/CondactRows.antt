@@ -178,7 +178,7 @@ parameter_back p g kind.Preposition x s h = let b = word_parameter p g 4 x s h i
 
 -- ---- the first parameter ----
 
--- the tokens of the first parameter tell whether the condact is indirect, and are read as this parameter
+-- The tokens of the first parameter decide whether the condact is indirect, and are read as this parameter.
 record FirstBack (p : ℕ) (g : GameLists) (c : Condact) : Type 0 where
   plain : list_all is_plain (first_tokens g.words c) ≡ true
   count : length (first_tokens g.words c) ≡ param_count (first_kind c.code)

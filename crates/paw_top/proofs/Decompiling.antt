@@ -12,7 +12,7 @@ use Rattle.paw_top.specs.declared.outcome.Outcome.TheVariants as outcome
 use Rattle.paw_top.specs.declared.outcome.MemoryAt.{MemoryAt}
 use Rattle.paw_top.proofs.Refusals as refused
 
--- of a file that isn't opened nothing is told
+-- Of a file that isn't opened nothing is shown.
 pub no_file : {told : GameLists → List ℕ} {at : MemoryAt} (name : List ℕ) (old new : Standing) (o : Outcome) → LoadsNone name old new o →
     TellsOf told at name old new o
 no_file name old new o h = unopened o (refused.no_file name old new o h)
@@ -27,7 +27,7 @@ shows_so told at name g old new outcome.Done h s = done g h s
 shows_so told at name g old new (outcome.Outside call.Show) h s = unshown g h s
 shows_so told at name g old new _ h s = absurd s
 
--- a text that is shown is told, as far as it was shown
+-- A text that is shown follows from the game, as far as it was shown.
 pub shows_told : (told : GameLists → List ℕ) (at : MemoryAt) (name text : List ℕ) (g : GameLists) (old mid new : Standing) (o : Outcome) →
     Holds old name g → mid ≡ old → text ≡ told g → Shows text mid new o → TellsOf told at name old new o
 shows_told told at name text g old mid new o h still is s =

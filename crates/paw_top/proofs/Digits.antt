@@ -53,11 +53,11 @@ number-decimal n h =
 pub plain-decimal : (n : ℕ) → n ≤ 65535 → is_plain (decimal n) ≡ true
 plain-decimal n h = some_plain (decimal n) (decimal_nonempty n (omega arith)) (decimal_clean n h)
 
--- and behind a stroke
+-- And after a stroke.
 pub plain-item : (n : ℕ) → n ≤ 65535 → is_plain (47 ∷ decimal n) ≡ true
 plain-item n h = decimal_clean n h
 
--- and behind `@`
+-- And after `@`.
 pub plain-flag : (n : ℕ) → n ≤ 65535 → is_plain (64 ∷ decimal n) ≡ true
 plain-flag n h = decimal_clean n h
 

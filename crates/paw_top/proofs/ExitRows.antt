@@ -121,7 +121,7 @@ exits_rows p d before done (x ∷ xs) at scene h fresh =
 
 -- ---- all locations ----
 
--- with lists of no exits behind them these are the exits of n locations
+-- With lists of no exits after them these are the exits of n locations.
 pub record Filled (es : List (List Exit)) (n : ℕ) (all : List (List Exit)) : Type 0 where
   pub short : length es ≤ n
   pub is : es ++ replicate (n - length es) [] ≡ all

@@ -14,7 +14,7 @@ IsPlain section.Con = ⊥
 IsPlain section.Pro = ⊥
 IsPlain _ = Unit {0}
 
--- the header that comes next, behind a section
+-- The header that comes next, after a section.
 pub header_reads : (p : ℕ) (d : Spelt) (s : Section) → d.section ≡ s → IsPlain (next_header s).1 →
     LineReads p d (next_header s).0 (section_opened (next_header s).1 d)
 header_reads p d section.Before h plain = record { is = slash_step p d (codes "VOC") [] refl ∙ rw h refl; printed = refl }

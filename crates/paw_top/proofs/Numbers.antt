@@ -12,7 +12,7 @@ use Rattle.std.proofs.lemmas.Str.Parse.{digits_value_short, parse_digits}
 use Rattle.paw_top.specs.Commands.{number_of, seed_of, byte_of}
 use Rattle.paw_top.proofs.Digits.{own}
 
--- what a parse of so many digits gives, where a number below the limit is kept
+-- What a parse of this many digits gives, where a number below the limit is kept.
 kept_below : {E : Type 0} (limit n count : ℕ) (r : Result ℕ E) → OkIff r ((0 < count) × (n < limit)) n
     → result_ok r ≡ option_and_then (λ m. cond (ltb m limit) (Some m) None) (cond (ltb 0 count) (Some n) None)
 kept_below limit n count (Ok x) h = rw (h.1, lt-ltb 0 count h.0.0, lt-ltb n limit h.0.1) refl

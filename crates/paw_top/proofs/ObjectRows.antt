@@ -120,7 +120,7 @@ object_step p d fs f at r =
       printed = printed-spaced (decimal (length fs)) others plain;
     }
 
--- the rows of objects behind those that were read
+-- The rows of objects after those that were read.
 pub objects_read : (p : ℕ) (d : Spelt) (fs : List ObjectFacts) (n : ℕ) (os : List ObjectRow) → d.section ≡ section.Obj →
     Scene d → n ≡ length fs → length fs + length os ≤ length d.names → length d.names ≤ 255
     → list_all (is_object d.words (length d.locations)) os ≡ true →

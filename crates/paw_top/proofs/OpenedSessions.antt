@@ -16,7 +16,7 @@ use Rattle.paw_top.proofs.Completing.{same_game}
 pub same_story : (old : Standing) (name : List ℕ) (game : GameLists) (s : Story) → Holds old name game → Holds old name s.game → story_of game s.rows ≡ s
 same_story old name game s mine holds = ap (λ (h : GameLists). story_of h s.rows) (same_game old name game s.game mine holds)
 
--- what playing comes to at a stage where nothing has changed since
+-- How playing ends at a stage where nothing has changed since.
 pub plays_new : (s : PlayedSession) (old mid new : Standing) (o : PlayEnd) → mid ≡ old → NewSession s mid new o → NewSession s old new o
 plays_new s old mid new o still p = subst (λ q. NewSession s q new o) still p
 

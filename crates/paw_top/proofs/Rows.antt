@@ -124,7 +124,7 @@ row_step p d (b ∷ bs) ts h slash out =
       tokens_of-spaced (b ∷ bs) ts h,
     ) refl
 
--- a line of tokens behind spaces
+-- A line of tokens after spaces.
 pub more_step : (p : ℕ) (d : Spelt) (t : List ℕ) (ts : List (List ℕ)) → list_all is_plain (t ∷ ts) ≡ true → is_in_text d ≡ false
     → step p d (behind_spaces (t ∷ ts)) ≡ row_in d.section p d true (t ∷ ts)
 unfolding step

@@ -171,7 +171,7 @@ no_row_lacks g exits ts some =
     let more : eqb (length ts) 0 ≡ false = ne_eqb (length ts) 0 (λ e. omega arith) in
     rw more refl
 
--- the tables behind those that were read
+-- The tables after those that were read.
 pub tables_read : (p : ℕ) (g : GameLists) (exits : List (List Exit)) (ts : List (List Entry)) (n : ℕ)
     (rest : List (List Entry)) → Small p g → n ≡ length ts → 0 < n → length (ts ++ rest) ≤ 256
     → list_all (is_table g) rest ≡ true → Reads p (spelt_of g exits ts) (numbered (table_lines g.words) n rest) (spelt_of g exits (ts ++ rest))

@@ -178,7 +178,7 @@ item_step p s b d before n at text is room =
           ∙ rw (next, below) (ap Ok (with-with s b false before (before ++ [] ∷ []) d));
     }
 
--- the items of texts behind those that were read
+-- The items of texts after those that were read.
 pub items_read : (p : ℕ) (s : Section) (b : Bool) (d : Spelt) (before : List (List ℕ)) (n : ℕ) (texts : List (List ℕ)) →
     d.section ≡ s → is_text_section s ≡ true
     → n ≡ length before → length (before ++ texts) ≤ text_limit s → list_all is_text texts ≡ true →

@@ -1,4 +1,4 @@
--- What a trial comes to.
+-- How a trial ends.
 use Rattle.std.proofs.Common.{◌≡◌, ℕ, List, refl, sym, subst}
 use Rattle.paw_stage.specs.Stage.{Standing}
 use Rattle.paw_stage.specs.declared.StageCall.TheVariants as call
@@ -17,7 +17,7 @@ use Rattle.paw_top.specs.Completes.{IsUnhindered}
 use Rattle.paw_top.specs.inner.Completes.{Comes, due}
 use Rattle.paw_top.proofs.Completing.{hindered}
 
--- the answer where a trial tells no line
+-- The answer where a trial shows no line.
 abbrev pub stopped : TrialEnd → Outcome
 stopped end.Ended = outcome.Ended
 stopped (end.Spent kind) = outcome.Spent kind

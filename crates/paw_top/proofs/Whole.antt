@@ -99,7 +99,7 @@ texts_of_objects ws locations (o ∷ os) h =
 
 -- ---- sections ----
 
--- behind lines that are read, a section of texts
+-- After lines that are read, a section of texts.
 texts_read : (p : ℕ) (s : Section) (name : List ℕ) (d : Spelt) (before texts : List (List ℕ)) → Reads p nothing_yet before d →
     LineReads p d name (section_opened s d) → with_texts s false [] (section_opened s d) ≡ section_opened s d → is_text_section s ≡ true
     → length texts ≤ text_limit s → list_all is_text texts ≡ true → (b : Bool)

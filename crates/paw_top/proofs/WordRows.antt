@@ -43,7 +43,7 @@ class_back (suc (suc (suc (suc (suc zero))))) h = record { plain = refl; read = 
 class_back (suc (suc (suc (suc (suc (suc zero)))))) h = record { plain = refl; read = refl }
 class_back (suc (suc (suc (suc (suc (suc (suc n))))))) h = absurd (omega (arith, leb-true _ 6 h))
 
--- ---- a word behind words that stand below it ----
+-- ---- a word after words that stand below it ----
 
 -- a word stands above each one before it
 stands_above : (v : Word) (vs : List Word) (w : Word) (ws : List Word) → words_rise (v ∷ (vs ++ w ∷ ws)) ≡ true → slice_cmp nat_cmp v.letters w.letters ≡ Less
@@ -112,7 +112,7 @@ word_step p d vs w ws at h rise few =
       printed = printed-spaced (spelled_letters w) (decimal w.value ∷ class_name w.class ∷ []) (plain_row w r);
     }
 
--- the rows of words behind those that were read
+-- The rows of words after those that were read.
 pub words_read : (p : ℕ) (d : Spelt) (vs ws : List Word) → d.section ≡ section.Voc → list_all is_word ws ≡ true →
     words_rise (vs ++ ws) ≡ true → length (vs ++ ws) ≤ 2000
     → Reads p (record d { words = vs }) (map (λ w. spaced (word_tokens w)) ws) (record d { words = vs ++ ws })

@@ -7,22 +7,22 @@ use Rattle.paw_top.specs.declared.outcome.Outcome.TheVariants as outcome
 use Rattle.paw_top.specs.declared.outcome.MemoryAt.{MemoryAt}
 use Rattle.paw_top.specs.declared.outcome.MemoryAt.TheVariants as memory
 
--- the call that failed, by the answer
+-- The call that failed, by the answer.
 abbrev pub failed_call : Outcome → Option StageCall
 failed_call (outcome.Outside c) = Some c
 failed_call _ = None
 
--- the two counts of a load
+-- The two counts of a load: of loads that failed, and of loads that found no file.
 abbrev pub load_calls : List StageCall
 load_calls = call.Load ∷ call.LoadAbsent ∷ []
 
 -- ---- memory ----
 
--- a fact for the answer Memory, of the place where memory was wanting
+-- A fact for the answer Memory, about the place where memory was lacking.
 abbrev pub IfMemory : Outcome → (MemoryAt → Type 0) → Type 0
 IfMemory (outcome.Memory at) P = P at
 IfMemory _ P = Unit {0}
 
--- where memory may be wanting when an image is loaded
+-- Where memory may be lacking when an image is loaded.
 abbrev pub load_memory : List MemoryAt
 load_memory = memory.Load ∷ memory.Image ∷ []

@@ -1,4 +1,4 @@
--- What checking a game comes to.
+-- How checking a game ends, and what it leaves.
 use Rattle.paw_base.specs.Bytes.{Name}
 use Rattle.paw_check.specs.Shown.{verdict_text}
 use Rattle.paw_check.specs.Verdicts.{bounds}
@@ -7,6 +7,6 @@ use Rattle.paw_top.specs.Decompile.{TellsOf}
 use Rattle.paw_top.specs.declared.outcome.Outcome.{Outcome}
 use Rattle.paw_top.specs.declared.outcome.MemoryAt.TheVariants as memory
 
--- a check shows the bound of what any play of the game takes, or the first cause why none is known
+-- A check shows the bound of what any play of the game takes, or the first cause why none is known.
 abbrev pub Checks : Name → Standing → Standing → Outcome → Type 0
 Checks = TellsOf (λ g. verdict_text (bounds g)) memory.Check

@@ -23,10 +23,10 @@ use Rattle.paw_top.specs.declared.outcome.Outcome.{Outcome}
 use Rattle.paw_top.specs.declared.outcome.MemoryAt.{MemoryAt}
 use Rattle.paw_top.specs.declared.outcome.MemoryAt.TheVariants as place
 
--- what is asked for: to compile a source to an image; to show the source of an image; to walk through the game of an
--- image, with a seed; to play it, with a new session in a store; to go on with the session in a store; to trace a walk;
--- to play the trial of a number; to show what any play of the game of an image takes at most; to show a text in columns
--- of a width
+-- What a call may ask for: to compile a source to an image; to show the source of an image; to walk through the game of
+-- an image, with a seed; to play it, with a new session in a store; to go on with the session in a store; to trace a
+-- walk; to play the trial of a number; to show what any play of the game of an image takes at most; to show a text in
+-- columns of a width.
 pub data Command : Type 0 where
   Compile : (source image : Name) → Command
   Decompile : (image : Name) → Command
@@ -40,46 +40,46 @@ pub data Command : Type 0 where
 
 -- ---- words ----
 
--- which words come behind the name of a command: no word more; or the name of a file, or a number that is read so, which
--- usage shows by these letters, and then others
+-- The words that follow the name of a command: none; or a file's name, or a number that is read this way, which usage
+-- shows by these letters, and then others.
 pub data Form : Type 0 where
   End : Form
   File : (shown : Text) (others : Form) → Form
   Number : (shown : Text) (read : Bytes → Option ℕ) (others : Form) → Form
 
--- what a command is made of, by its form
+-- The function that makes a command from words of this form.
 abbrev pub Makes : Form → Type 0
 Makes End = Command
 Makes (File shown others) = Name → Makes others
 Makes (Number shown read others) = ℕ → Makes others
 
--- a command: its name, the form of the words behind that, and what these make
+-- A command: its name, the form of the words after the name, and what makes it from them.
 pub record CommandRow : Type 0 where
   pub name : Name
   pub form : Form
   pub makes : Makes form
 
--- the number that a word of at most so many decimal digits spells
+-- The number that a word of at most this many decimal digits spells.
 abbrev pub number_of : ℕ → Bytes → Option ℕ
 number_of most word = if nat_le (length word) most then number word else None
 
--- a seed has 1 to 20 decimal digits, and a value below 2^64
+-- The seed that a word spells: 1 to 20 decimal digits, with a value below 2^64.
 abbrev pub seed_of : Bytes → Option Seed
 seed_of word = option_and_then (λ n. if nat_lt n (2 ^ 64) then Some n else None) (number_of 20 word)
 
--- the number of a trial has 1 to 4 decimal digits
+-- The number of a trial that a word spells: 1 to 4 decimal digits.
 abbrev pub trial_of : Bytes → Option ℕ
 trial_of word = number_of 4 word
 
--- a byte has 1 to 3 decimal digits, and a value below 256
+-- The byte that a word spells: 1 to 3 decimal digits, with a value below 256.
 abbrev pub byte_of : Bytes → Option ℕ
 byte_of word = option_and_then (λ n. if nat_lt n 256 then Some n else None) (number_of 3 word)
 
--- a width is spelt as a byte, and isn't 0
+-- The width that a word spells: a byte that isn't 0.
 abbrev pub width_of : Bytes → Option ℕ
 width_of word = option_and_then (λ n. if nat_lt 0 n then Some n else None) (byte_of word)
 
--- all commands
+-- All commands.
 abbrev pub commands : List CommandRow
 commands =
     record { name = codes "compile"; form = File (codes "S") (File (codes "I") End); makes = Compile }
@@ -99,15 +99,15 @@ commands =
 
 -- ---- what they mean ----
 
--- What a command means: the calls of the stage that it makes; where memory may be wanting for it; what it comes to with
--- these rows of routines, that is how it leaves what stands, by its answer; and what stands at each moment.
+-- What a command means: the calls of the stage that it makes; where memory may be lacking for it; how it ends with
+-- these rows of routines, and what it leaves; and what stands at each moment.
 pub record CommandMeaning : Type 1 where
   pub calls : List StageCall
   pub memory : List MemoryAt
   pub comes : RoutineRows → Standing → Standing → Outcome → Type 0
   pub moments : TwoParts → RoutineRows → Standing → Type 0
 
--- a command that attaches no store: of it only what stands afterwards is said
+-- The meaning of a command that attaches no store: only what stands afterwards is stated.
 abbrev pub storeless : List StageCall → List MemoryAt → (RoutineRows → Standing → Standing → Outcome → Type 0) → CommandMeaning
 storeless calls memory comes = record {
   calls = calls;
@@ -116,7 +116,7 @@ storeless calls memory comes = record {
   moments = λ Come rows old. Unit {0};
 }
 
--- one that plays with a session
+-- The meaning of a command that plays with a session.
 abbrev pub with_session : (RoutineRows → Standing → Standing → Outcome → Type 0)
     → (TwoParts → RoutineRows → Standing → Type 0) → CommandMeaning
 with_session comes moments = record {
@@ -126,7 +126,7 @@ with_session comes moments = record {
   moments = moments;
 }
 
--- what each command means
+-- What each command means.
 abbrev pub meaning : Command → CommandMeaning
 meaning (Compile source image) =
     storeless (call.Save ∷ call.Show ∷ load_calls) (place.Source ∷ load_memory) (λ rows. Compiles source image)
@@ -145,22 +145,22 @@ meaning (Wrap width text) = storeless (call.Show ∷ load_calls) (place.Wrap ∷
 
 -- ---- from words to a command ----
 
--- no word more comes
+-- Whether no more words come.
 abbrev pub no_more : List Bytes → Bool
 no_more [] = true
 no_more (word ∷ words) = false
 
--- the name of a file comes next, which has at least one byte, and then other words
+-- The name of a file, which has at least one byte, and the words after it.
 abbrev pub next_file : List Bytes → Option (Name × List Bytes)
 next_file [] = None
 next_file (name ∷ words) = if nat_lt 0 (length name) then Some (name, words) else None
 
--- a number comes next, which is read so, and then other words
+-- The number that the next word is read as, and the words after it.
 abbrev pub next_number : (Bytes → Option ℕ) → List Bytes → Option (ℕ × List Bytes)
 next_number read [] = None
 next_number read (word ∷ words) = option_map (λ n. (n, words)) (read word)
 
--- the command that these words make in this form
+-- The command that these words make in this form.
 abbrev pub made_in : (form : Form) → Makes form → List Bytes → Option Command
 made_in End command words = if no_more words then Some command else None
 made_in (File shown others) makes words =
@@ -168,34 +168,34 @@ made_in (File shown others) makes words =
 made_in (Number shown read others) makes words =
     option_and_then (λ next. made_in others (makes next.0) next.1) (next_number read words)
 
--- the command with this name that the words behind it make
+-- The command with this name that the words after the name make.
 abbrev pub command_named : List CommandRow → Name → List Bytes → Option Command
 command_named [] name words = None
 command_named (r ∷ rows) name words =
     if bytes_eq name r.name then made_in r.form r.makes words else command_named rows name words
 
--- the first word is the name of a command
+-- The command that these words make, of which the first is its name.
 abbrev pub command_of : List Bytes → Option Command
 command_of [] = None
 command_of (name ∷ words) = command_named commands name words
 
--- what the words of a call ask for
+-- What the words of a call ask for.
 abbrev pub asked_for : {Z : Type 0} → List (String Z) → Option Command
 asked_for words = command_of (map string_bytes words)
 
 -- ---- usage ----
 
--- the words behind the name of a command, as usage shows them
+-- The words after the name of a command, as usage shows them.
 abbrev pub form_shown : Form → Text
 form_shown End = []
 form_shown (File shown others) = codes " " ++ (shown ++ form_shown others)
 form_shown (Number shown read others) = codes " " ++ (shown ++ form_shown others)
 
--- the commands, each as usage shows it: this stands before the first, and a bar before each other
+-- The commands as usage shows them, with this before the first, and a bar before each other.
 abbrev pub rows_shown : Text → List CommandRow → Text
 rows_shown mark [] = codes "\n"
 rows_shown mark (r ∷ rows) = mark ++ (r.name ++ (form_shown r.form ++ rows_shown (codes " | ") rows))
 
--- the line that shows every command
+-- The line that shows every command.
 unfoldable pub usage : Text
 usage = rows_shown (codes "usage: paw ") commands

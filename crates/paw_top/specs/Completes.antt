@@ -1,4 +1,4 @@
--- What a command comes to where nothing outside stands in its way.
+-- How a command ends where nothing outside stands in its way.
 use Rattle.std.specs.Prelude.{◌≡◌, ◌≢◌, ℕ, IfSome}
 use Rattle.paw_stage.specs.Stage.{Rose}
 use Rattle.paw_stage.specs.declared.StageCall.{StageCall}
@@ -6,11 +6,11 @@ use Rattle.paw_stage.specs.declared.StageCall.TheVariants as call
 use Rattle.paw_top.specs.Answers.{failed_call}
 use Rattle.paw_top.specs.declared.outcome.Outcome.{Outcome}
 
--- no count of faults rose, but maybe that of loads that found no file
+-- No count of faults rose, except maybe that of loads that found no file.
 abbrev pub NoFault : (StageCall → ℕ) → (StageCall → ℕ) → Type 0
 NoFault old new = (c : StageCall) → c ≢ call.LoadAbsent → ¬ Rose (old c) (new c)
 
--- the answer names no failed call, but maybe a load that found no file: so the command did what it is for, or refused
--- what it was given, or memory was wanting
+-- The answer names no failed call, except maybe a load that found no file: so the command did what it is for, or
+-- refused what it was given, or memory was lacking.
 abbrev pub IsUnhindered : Outcome → Type 0
 IsUnhindered o = IfSome (failed_call o) (λ c. c ≡ call.LoadAbsent)

@@ -1,4 +1,4 @@
--- What showing a text of the game of an image comes to, and decompiling it.
+-- How showing a text of the game of an image ends, and decompiling it.
 use Rattle.std.specs.Prelude.{◌≡◌}
 use Rattle.paw_base.specs.Bytes.{Name, Text}
 use Rattle.paw_game.specs.Game.{GameLists}
@@ -12,20 +12,20 @@ use Rattle.paw_top.specs.declared.outcome.Outcome.TheVariants as outcome
 use Rattle.paw_top.specs.declared.outcome.MemoryAt.{MemoryAt}
 use Rattle.paw_top.specs.declared.outcome.MemoryAt.TheVariants as memory
 
--- How a command that shows a text of a game leaves what stands, by its answer. The text is told by the game, and memory
--- may be wanting for it.
+-- How a command that shows a text of a game ends, and what it leaves. The text follows from the game, and memory may be
+-- lacking for it.
 pub data TellsOf (told : GameLists → Text) (at : MemoryAt) (name : Name) (old new : Standing) : Outcome → Type 0 where
-  -- the file is the image of a game, and its text was shown
+  -- The file is the image of a game, and its text was shown.
   done : (g : GameLists) → Holds old name g → new ≡ with_shown (told g) old →
       TellsOf told at name old new outcome.Done
-  -- the file gives no game; nothing is changed
+  -- The file gives no game; nothing is changed.
   unopened : (o : Outcome) → Unopened name old new o → TellsOf told at name old new o
-  -- the text couldn't be shown: a first part of it was
+  -- The text couldn't be shown: a first part of it was.
   unshown : (g : GameLists) → Holds old name g → ShowsPart (told g) old new →
       TellsOf told at name old new (outcome.Outside call.Show)
-  -- memory was wanting for the text; nothing is changed
+  -- Memory was lacking for the text; nothing is changed.
   untold : new ≡ old → TellsOf told at name old new (outcome.Memory at)
 
--- a decompiler shows the canonical source
+-- Decompiling shows the canonical source.
 abbrev pub Decompiles : Name → Standing → Standing → Outcome → Type 0
 Decompiles = TellsOf canonical_of memory.Print

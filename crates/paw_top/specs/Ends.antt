@@ -1,4 +1,4 @@
--- The answer for what playing comes to.
+-- The answer for how playing ends.
 use Rattle.paw_base.specs.Bytes.{Name}
 use Rattle.paw_game.specs.Game.{GameLists}
 use Rattle.paw_stage.specs.Stage.{Standing}
@@ -13,7 +13,7 @@ use Rattle.paw_top.specs.declared.outcome.Outcome.{Outcome}
 use Rattle.paw_top.specs.declared.outcome.Outcome.TheVariants as outcome
 use Rattle.paw_top.specs.declared.outcome.MemoryAt.TheVariants as memory
 
--- the answer for a store that gives no session of the game
+-- The answer for a store that gives no session of the game.
 abbrev pub refused_as : JournalRefusal → Outcome
 refused_as (refusal.Unmade n mark) = outcome.Unmade n mark
 refused_as (refusal.Damaged p at) = outcome.SessionDamaged p at
@@ -21,7 +21,7 @@ refused_as (refusal.WrongGame kept found) = outcome.WrongGame kept found
 refused_as (refusal.WrongRoutines kept found) = outcome.WrongRoutines kept found
 refused_as (refusal.Outside c) = outcome.Outside c
 
--- the answer for what playing came to
+-- The answer for how playing ended.
 abbrev pub outcome_of : PlayEnd → Outcome
 outcome_of end.Ended = outcome.Ended
 outcome_of end.InputEnded = outcome.InputEnded
@@ -34,7 +34,7 @@ outcome_of (end.Long events) = outcome.Long events
 outcome_of (end.Outside c) = outcome.Outside c
 outcome_of end.Memory = outcome.Memory memory.Play
 
--- the game that this file holds is played, and comes to such an end; or it isn't played, with nothing changed
+-- The game that this file holds is played, and ends in one of these ways; or it isn't played, and nothing is changed.
 pub data PlaysFile (Comes : GameLists → PlayEnd → Type 0) (name : Name) (old new : Standing) : Outcome → Type 0 where
   plays : (g : GameLists) (end : PlayEnd) → Holds old name g → Comes g end →
       PlaysFile Comes name old new (outcome_of end)

@@ -8,8 +8,8 @@ use Rattle.paw_top.specs.declared.outcome.Outcome.{Outcome}
 use Rattle.paw_top.specs.declared.outcome.Outcome.TheVariants as outcome
 use Rattle.paw_top.specs.declared.outcome.MemoryAt.{MemoryAt}
 
--- why a file gives no game: it is no image of a valid one, and its first damage is named; it isn't there; it couldn't
--- be loaded; or memory was wanting. Nothing is changed
+-- Why a file gives no game: it is no image of a valid one, and the place of its first damage is named; it isn't there;
+-- it couldn't be loaded; or memory was lacking. Nothing is changed.
 pub data Unopened (name : Name) (old new : Standing) : Outcome → Type 0 where
   damaged : (at : ℕ) → HoldsDamage old name at → new ≡ old → Unopened name old new (outcome.ImageDamaged at)
   absent : old.files name ≡ None → new ≡ old → Unopened name old new (outcome.Outside call.LoadAbsent)

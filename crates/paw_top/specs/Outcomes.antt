@@ -17,7 +17,7 @@ use Rattle.paw_top.specs.declared.outcome.Outcome.TheVariants as outcome
 use Rattle.paw_top.specs.declared.outcome.MemoryAt.{MemoryAt}
 use Rattle.paw_top.specs.declared.outcome.MemoryAt.TheVariants as memory
 
--- the exit status of the program; Done, Ended and InputEnded are 0
+-- The exit status of the program; Done, Ended and InputEnded are 0.
 abbrev pub status_of : Outcome → ℕ
 status_of outcome.Usage = 1
 status_of (outcome.SourceRefused fault) = 2
@@ -35,7 +35,7 @@ status_of (outcome.Memory at) = 8
 status_of (outcome.Long events) = 9
 status_of _ = 0
 
--- the name of a kind of fault that a source may have
+-- The name of a kind of fault that a source may have.
 abbrev pub kind_name : SourceKind → Name
 kind_name kind.Section = codes "Section"
 kind_name kind.Word = codes "Word"
@@ -48,18 +48,18 @@ kind_name kind.Condact = codes "Condact"
 kind_name kind.Text = codes "Text"
 kind_name kind.TooBig = codes "TooBig"
 
--- the name of a part of a session that may be damaged
+-- The name of a part of a session that may be damaged.
 abbrev pub part_name : SessionPart → Name
 part_name part.Header = codes "Header"
 part_name part.Slot = codes "Slot"
 part_name part.State = codes "State"
 
--- the name of what a piece may spend
+-- The name of what a piece may spend.
 abbrev pub spent_name : SpentKind → Name
 spent_name spent.Condacts = codes "condacts"
 spent_name spent.Text = codes "text"
 
--- the name of a call of the stage
+-- The name of a call of the stage.
 abbrev pub call_name : StageCall → Name
 call_name call.Load = codes "Load"
 call_name call.LoadAbsent = codes "LoadAbsent"
@@ -71,7 +71,7 @@ call_name call.Sync = codes "Sync"
 call_name call.Ask = codes "Ask"
 call_name call.Show = codes "Show"
 
--- the name of a place where memory may be wanting
+-- The name of a place where memory may be lacking.
 abbrev pub memory_name : MemoryAt → Name
 memory_name memory.Load = codes "Load"
 memory_name memory.Source = codes "Source"
@@ -82,12 +82,12 @@ memory_name memory.Trial = codes "Trial"
 memory_name memory.Check = codes "Check"
 memory_name memory.Wrap = codes "Wrap"
 
--- the line that names the digest that a session keeps and the one that was found, in hexadecimal digits
+-- The line that names the digest that a session keeps and the one that was found, in hexadecimal digits.
 abbrev pub digests_line : Text → Bytes → Bytes → Text
 digests_line said kept found =
     said ++ (codes ": kept " ++ (encode_lower kept ++ (codes " found " ++ (encode_lower found ++ codes "\n"))))
 
--- what is written to standard error; nothing for Done, Ended and InputEnded
+-- What is written to standard error; nothing for Done, Ended and InputEnded.
 abbrev pub error_text : Outcome → Text
 error_text outcome.Usage = usage
 error_text (outcome.SourceRefused fault) = codes "source line "

@@ -1,4 +1,4 @@
--- What playing the game of an image with a session comes to.
+-- How playing the game of an image with a session ends, and what it leaves.
 use Rattle.std.specs.Prelude.{◌≡◌, []}
 use Rattle.paw_base.specs.Bytes.{Name, RoutineRows, Seed}
 use Rattle.paw_game.specs.Game.{GameLists}
@@ -12,23 +12,23 @@ use Rattle.paw_top.specs.Ends.{PlaysFile}
 use Rattle.paw_top.specs.Loads.{Holds}
 use Rattle.paw_top.specs.declared.outcome.Outcome.{Outcome}
 
--- ---- what it comes to ----
+-- ---- how it ends ----
 
--- a new session of the game that this file holds, with these rows of routines, or why it isn't played
+-- A new session of the game that this file holds is played, with these rows of routines; or why it isn't.
 abbrev pub PlaysNewIn : RoutineRows → Name → Name → Seed → Standing → Standing → Outcome → Type 0
 PlaysNewIn rows name store seed old new o =
     PlaysFile (λ g end. NewSession (begun (story_of g rows) seed store) old new end) name old new o
 
--- a session that is taken up again, of the game that this file holds, with these rows of routines, or why it isn't
+-- A session of the game that this file holds is resumed, with these rows of routines; or why it isn't.
 abbrev pub PlaysAgainIn : RoutineRows → Name → Name → Standing → Standing → Outcome → Type 0
 PlaysAgainIn rows name store old new o = PlaysFile (λ g end. PlaysAgain (story_of g rows) store old new end) name old new o
 
--- a session of the game that this file holds goes on, or the file can't be opened
+-- A session of the game that this file holds goes on, or the file can't be opened.
 abbrev pub GoesOnIn : Name → GameLists → PlayedSession → Standing → Standing → Outcome → Type 0
 GoesOnIn name g s old new o = PlaysFile (λ h end. (h ≡ g) × GoesOn s old new end) name old new o
 
--- A session is taken up again. Where one of the story goes on from the bytes of its store, from the state that they show
--- or behind the lines that they stand for, it is played on and never refused.
+-- A session is resumed. Where one of the story goes on from the bytes of its store, from the state that they show or
+-- after the lines that they stand for, it is played on and never refused.
 pub record ResumesIn (rows : RoutineRows) (name store : Name) (old new : Standing) (o : Outcome) : Type 0 where
   pub again : PlaysAgainIn rows name store old new o
   pub goes_on : (g : GameLists) (s : PlayedSession) → Holds old name g →
@@ -36,16 +36,16 @@ pub record ResumesIn (rows : RoutineRows) (name store : Name) (old new : Standin
 
 -- ---- what stands at each moment ----
 
--- that moments come in two parts: at first only such ones, and from some time on only such others
+-- A way to say that moments come in two parts: of the first kind until some time, and of the second from then on.
 abbrev pub TwoParts : Type 1
 TwoParts = (Moment → Type 0) → (Moment → Type 0) → Type 0
 
--- the moments of a new session in an empty store: until the store is attached, and from then on
+-- The moments of a new session in an empty store: until the store is attached, and from then on.
 abbrev pub NewAtEachMoment : TwoParts → RoutineRows → Name → Name → Seed → Standing → Type 0
 NewAtEachMoment Come rows name store seed old = (g : GameLists) → Holds old name g → store_bytes old store ≡ [] →
     Come (NotYet store old) (InNewSession (begun (story_of g rows) seed store) old)
 
--- the moments of a session that is taken up again, where one of the story goes on from the bytes of its store
+-- The moments of a session that is resumed, where one of the story goes on from the bytes of its store.
 abbrev pub AgainAtEachMoment : TwoParts → RoutineRows → Name → Name → Standing → Type 0
 AgainAtEachMoment Come rows name store old = (g : GameLists) (s : PlayedSession) → Holds old name g →
     GoesOnFrom (story_of g rows) store (store_bytes old store) s → Come (NotYet store old) (InPlay s old)

@@ -1,4 +1,4 @@
--- What walking through the game of an image comes to.
+-- How walking through the game of an image ends, and what it leaves.
 use Rattle.paw_base.specs.Bytes.{Name, RoutineRows, Seed}
 use Rattle.paw_base.specs.declared.limits.TheConstants.{EVENT_LIMIT}
 use Rattle.paw_effects.specs.Story.{Story, story_of}
@@ -9,11 +9,11 @@ use Rattle.paw_play.specs.Walk.{EndingOf, Walks}
 use Rattle.paw_top.specs.Ends.{PlaysFile}
 use Rattle.paw_top.specs.declared.outcome.Outcome.{Outcome}
 
--- a walk through the game that this file holds, with these rows of routines, told so, or why there is none
+-- A walk through the game that this file holds, by this reading, with these rows of routines; or why there is none.
 abbrev pub WalksAs : (Story → Seed → EndingOf) → RoutineRows → Name → Seed → Standing → Standing → Outcome → Type 0
 WalksAs told rows name seed old new o =
     PlaysFile (λ g end. Walks (told (story_of g rows) seed) EVENT_LIMIT old new end) name old new o
 
--- a trace shows the steps of each piece before it
+-- The reading of a story as a trace shows it: the steps of each piece come before it.
 abbrev pub reading_traced : Story → Seed → EndingOf
 reading_traced s seed lines = traced_ending (reading s seed lines)

@@ -11,7 +11,7 @@ use std::test::Fail;
 /// More calls than any command here makes.
 const MOST_CALLS: u64 = 60;
 
-// The calls that a command makes, in their order: it stops at each of them where that one fails, and tells which it is.
+// The calls that a command makes, in their order: it stops at each of them if that one fails, and names it.
 fn calls_of(
     rt: &impl Abort,
     alloc: Global,
@@ -38,12 +38,12 @@ const ANSWERS: &str = "Y\nN";
 
 const SHOWN: [&str; 3] = ["Sure? ", "Done.\nSure? ", ">\n"];
 
-// What is shown for so many lines.
+// What is shown for this number of lines.
 fn shown_for(taken: usize) -> Result<&'static str, Fail> {
     Ok(*SHOWN.get(taken).ok_or("too many lines")?)
 }
 
-// The last piece of a session is shown again, and it is one of two.
+// Checks that the last piece of a session is shown again, and is one of these two.
 fn shows_either(
     rt: &impl Abort,
     alloc: Global,
@@ -61,8 +61,8 @@ fn shows_either(
     Ok(())
 }
 
-// A resume of a session of the earlier form stops after so many calls. Whatever a crash leaves then shows one of two
-// pieces.
+// Checks that, if a resume of a session of the earlier form stops after this number of calls, whatever a crash leaves
+// shows one of two pieces.
 fn stops_after(
     rt: &impl Abort,
     alloc: Global,
@@ -77,7 +77,7 @@ fn stops_after(
     for pick in 0..3u8 {
         let crashed = stage.inner().crash(alloc, pick)?;
         let left = match crashed.is_empty() {
-            // Nothing is attached yet: the store is as it was.
+            // Nothing is attached yet, so the store is as it was.
             true => earlier,
             false => crashed.as_slice(),
         };
@@ -101,7 +101,7 @@ fn a_resume_of_the_earlier_form_stops_anywhere(rt: HostRuntime) -> Result<(), Fa
         assert_eq!(rt; outcome, Outcome::Outside(*call));
         taken = taken.saturating_add(usize::from(asks));
     }
-    // The last call found no line left.
+    // The last call finds no line left.
     assert_eq!(rt; taken, 3);
     Ok(())
 }

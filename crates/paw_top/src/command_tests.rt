@@ -59,7 +59,7 @@ fn told_from(alloc: Global, stage: &MemoryStage, from: usize) -> Result<Vec<u8>,
     Ok(told)
 }
 
-// A command makes just these calls.
+// Checks that a command makes just these calls.
 fn makes(
     rt: &impl Abort,
     alloc: Global,
@@ -78,7 +78,7 @@ fn makes(
 #[test]
 fn nothing_is_loaded_twice_nor_asked_for_behind_the_end(rt: HostRuntime) -> Result<(), Fail> {
     let alloc = rt.alloc();
-    // Each row loads no file twice, names none but those of its words, and has nothing behind an end.
+    // Each row loads no file twice, names only the files of its words, and has nothing after an end.
     for row in [
         (
             "compile\nhall source\nhall",
@@ -112,7 +112,7 @@ fn nothing_is_loaded_twice_nor_asked_for_behind_the_end(rt: HostRuntime) -> Resu
         ("trial\n0", "WAIT", "show"),
         ("check\nhall", "WAIT", "load(hall) show"),
         ("wrap\n10\nhall source", "WAIT", "load(hall source) show"),
-        // An empty text takes no call.
+        // An empty text makes no call.
         ("wrap\n10\nstore", "WAIT", "load(store)"),
     ] {
         makes(&rt, alloc, b"", row)?;

@@ -1,4 +1,4 @@
-// The commands: how their words are read, and what does each. Words and usage are held to the rows of
+// The commands: how their words are read, and what runs each. Clauses hold words and usage to the rows of
 // specs/Commands.antt, and what is done to what these mean.
 
 ghost use Rattle.std.specs.Prelude.{◌≡◌, ◌≢◌, ◌&&◌, length, map, nat_le, string_bytes};
@@ -27,12 +27,12 @@ use paw_routines::routines::Routines;
 use paw_stage::Stage;
 use std::alloc::Global;
 
-/// What stands on standard error where the words have no form: every command of the tool.
+/// The text for standard error where the words have no form: every command of the tool.
 pub(crate) const USAGE: &str =
     "usage: paw compile S I | decompile I | walk I SEED | play I F SEED | resume I F | \
      trace I SEED | trial N | check I | wrap N T\n";
 
-/// What is asked for.
+/// What a call asks for.
 #[derive(Clone, Copy, Drop)]
 pub(crate) enum Command<'a> {
     /// Loads the source, saves the image of the game that it spells, and shows how many bytes that has.
@@ -68,7 +68,7 @@ pub(crate) enum Command<'a> {
         seed: u64,
     },
     /// Makes a large game and its lines from a number, plays half of them over a stage in memory, resumes for the rest,
-    /// and shows a line that tells what the reading of all lines comes to.
+    /// and shows a line with what the reading of all lines counts.
     Trial {
         n: u16,
     },
@@ -91,7 +91,7 @@ fn are_digits(word: &[u8]) -> bool
     word.iter().all(|byte| byte.is_ascii_digit())
 }
 
-// Whether a word is made of decimal digits, so many at most. (A number that is parsed may have a plus before it.)
+// Whether a word is made of decimal digits, at most this many. (A number that is parsed may have a plus before it.)
 fn has_digits(word: &str, most: usize) -> bool
     ensures value { result ≡ (nat_le (length word.now) most && list_all is_ascii_digit word.now) }
 {
@@ -143,7 +143,7 @@ fn width_of(word: &str) -> Option<Width>
     Some(Width { columns })
 }
 
-// The name of a file, which comes next, and the words behind it.
+// The name of a file, which comes next, and the words after it.
 fn file<'a>(words: &'a [String]) -> Option<(&'a str, &'a [String])>
     ensures value { let next = next_file (map string_bytes words.now) in
         MatchOption result (next ≡ None) (λ r. next ≡ Some (r.0.now, map string_bytes r.1.now)) }
@@ -155,7 +155,7 @@ fn file<'a>(words: &'a [String]) -> Option<(&'a str, &'a [String])>
     Some((name.as_str(), words))
 }
 
-// A seed, which comes next, and the words behind it.
+// A seed, which comes next, and the words after it.
 fn seed<'a>(words: &'a [String]) -> Option<(u64, &'a [String])>
     ensures value { let next = next_number seed_of (map string_bytes words.now) in
         MatchOption result (next ≡ None) (λ r. next ≡ Some (r.0, map string_bytes r.1.now)) }
@@ -164,7 +164,7 @@ fn seed<'a>(words: &'a [String]) -> Option<(u64, &'a [String])>
     Some((seed_of(word.as_str())?, words))
 }
 
-// The number of a trial, which comes next, and the words behind it.
+// The number of a trial, which comes next, and the words after it.
 fn trial_number<'a>(words: &'a [String]) -> Option<(u16, &'a [String])>
     ensures value { let next = next_number trial_of (map string_bytes words.now) in
         MatchOption result (next ≡ None) (λ r. next ≡ Some (r.0, map string_bytes r.1.now)) }
@@ -173,7 +173,7 @@ fn trial_number<'a>(words: &'a [String]) -> Option<(u16, &'a [String])>
     Some((trial_of(word.as_str())?, words))
 }
 
-// A width, which comes next, and the words behind it.
+// A width, which comes next, and the words after it.
 fn width<'a>(words: &'a [String]) -> Option<(Width, &'a [String])>
     ensures value { let next = next_number width_of (map string_bytes words.now) in
         MatchOption result (next ≡ None) (λ r. next ≡ Some (r.0.columns, map string_bytes r.1.now)) }
@@ -182,7 +182,7 @@ fn width<'a>(words: &'a [String]) -> Option<(Width, &'a [String])>
     Some((width_of(word.as_str())?, words))
 }
 
-// Nothing, where no word more comes.
+// Nothing, if no more words come.
 fn end(words: &[String]) -> Option<()>
     ensures value { let none = no_more (map string_bytes words.now) in
         MatchOption result (none ≡ false) (λ _. none ≡ true) }
@@ -253,7 +253,7 @@ pub(crate) fn command_of<'a>(words: &'a [String]) -> Option<Command<'a>>
     }
 }
 
-// ---- what does each ----
+// ---- what runs each ----
 
 impl<'a> Command<'a> {
     /// Does what is asked for, over a stage at which nothing is unsynced.

@@ -1,4 +1,4 @@
-// From a source to an image.
+// Compiling a source to an image.
 
 ghost use Rattle.std.specs.Prelude.{◌≡◌, ◌≢◌, ◌≤◌, [], ◌∷◌, length, string_bytes, Ok, IfOk, IfErr};
 ghost use Rattle.paw_game.specs.Game.{GameLists};
@@ -53,7 +53,7 @@ fn image_of(alloc: Global, source: &[u8]) -> Result<Vec<u8>, Outcome>
     }
 }
 
-/// The line that tells how many bytes an image has.
+/// The line that shows how many bytes an image has.
 fn line_of(alloc: Global, size: usize) -> Result<String, Outcome>
     ensures line { IfOk result (λ text. string_bytes text ≡ image_line size) }
     ensures memory { IfErr result (λ o. o ≡ outcome.Memory memory.Image) }

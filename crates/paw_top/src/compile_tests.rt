@@ -30,7 +30,7 @@ const LANTERN_CANONICAL: &str =
 /0\na lamp\n/LTX\n/0\nA cave.\n/CON\n/OBJ\n0 0 1 - LAMP _\n/PRO 0\nGET LAMP\n MESSAGE 0\n DONE\n\
 /PRO 1\n/PRO 2\n";
 
-/// The same game with notes, its words in another order, other line ends, and bytes behind the end of the text.
+/// The same game with notes, its words in another order, other line ends, and bytes after the end of the text.
 const LANTERN_OTHERWISE: &str =
     "; note\r\n/VOC\r\nTAKE 30 verb\r\n; note\r\nLANTE 50 noun\r\nLAMP 50 noun\r\nGET 30 verb\r\n\
 /STX\r\n/MTX\r\n/0\r\nTaken.\r\n/OTX\r\n/0\r\na lamp\r\n/LTX\r\n/0\r\nA cave.\r\n/CON\r\n/OBJ\r\n\
@@ -45,7 +45,7 @@ const LANTERN_IMAGE: [u8; 87] = [
     1, 0, 30, 50, 2, 51, 0, 32, 0, 0, 0, 0,
 ];
 
-/// Three messages, with 2 told in line 14.
+/// Three messages, with 2 in line 14.
 const THREE_MESSAGES: &str =
     "/VOC\n/STX\n/MTX\n/0\n/1\n/2\n/OTX\n/LTX\n/0\n/CON\n/OBJ\n/PRO 0\n_ _ MES 2\n_ _ MES 2\n/PRO 1\n/PRO 2\n";
 
@@ -55,7 +55,7 @@ const COMPILE: &str = "compile\nsource\nimage";
 /// The words that decompile the file `image`.
 const DECOMPILE: &str = "decompile\nimage";
 
-/// What a command over the files `source` and `image` comes to.
+/// A command over the files `source` and `image`, and how it ends.
 #[derive(Clone, Copy)]
 struct Case<'a> {
     name: &'a str,
@@ -78,7 +78,7 @@ fn stage_of(alloc: Global, case: &Case<'_>) -> Result<MemoryStage, Fail> {
     Ok(stage)
 }
 
-// The files are as the case says, no line was asked, and no file was made.
+// Checks that the files are as the case says, no line was asked for, and no file was made.
 fn is_left_so<S: Stage>(
     rt: &impl Abort,
     alloc: Global,
@@ -99,7 +99,7 @@ fn is_left_so<S: Stage>(
     Ok(())
 }
 
-// The command comes to what the case says.
+// Checks that the command ends as the case says.
 fn comes_so(rt: &impl Abort, alloc: Global, case: &Case<'_>) -> Result<(), Fail> {
     let mut stage = stage_of(alloc, case)?;
     let outcome = settle_and_run(rt, alloc, &mut stage, case.words)?;
@@ -134,7 +134,7 @@ fn decompiled<'a>(name: &'a str, image: &'a [u8], shown: &'a [u8]) -> Case<'a> {
     }
 }
 
-// The same case, where it comes to nothing.
+// The same case, where the command is refused and nothing is shown or saved.
 fn refused<'a>(case: Case<'a>, outcome: Outcome) -> Case<'a> {
     Case {
         outcome,

@@ -13,7 +13,7 @@ use crate::outcome::{MemoryAt, Outcome};
 use paw_stage::{LoadRefusal, Stage, StageCall};
 use std::alloc::Global;
 
-/// What a step gives; where it gives an answer, that is the answer of the command.
+/// The value of a step; where the step gives an outcome instead, the command returns that.
 macro_rules! given {
     ($result:expr) => {
         match $result {

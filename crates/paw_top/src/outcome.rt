@@ -1,4 +1,4 @@
-// What a command comes to.
+// How a command ends.
 
 ghost use Rattle.std.specs.Prelude.{◌≡◌, IfOk, string_bytes};
 ghost use Rattle.paw_top.specs.Ends.{outcome_of, refused_as};
@@ -13,7 +13,7 @@ use paw_play::PlayEnd;
 use paw_stage::StageCall;
 use std::alloc::Global;
 
-/// Where memory was wanting: in a load, in reading a source, in printing one, in decoding or encoding an image, in
+/// Where memory was lacking: in a load, in reading a source, in printing one, in decoding or encoding an image, in
 /// making what a game is played with, in a trial, which has a stage in memory of its own, in checking a game, or in
 /// wrapping a text.
 #[derive(Clone, Copy, Drop, PartialEq, Eq, Debug)]
@@ -28,18 +28,18 @@ pub enum MemoryAt {
     Wrap,
 }
 
-/// What a command comes to. Done: the command did what it is for. Ended: the game is over. InputEnded: no line is left
-/// at a prompt. Usage: the words have no form. SourceRefused: the source has a fault; its first is named. TextTooLong:
+/// How a command ends. Done: the command did what it is for. Ended: the game is over. InputEnded: no line is left at a
+/// prompt. Usage: the words have no form. SourceRefused: the source has a fault; the first one is named. TextTooLong:
 /// the file is longer than a text that is wrapped may be. ImageDamaged: the file is no image of a valid game; the place
 /// of the first field that breaks its rule.
 ///
-/// Of a store. Occupied: a new session was asked for, and the store has so many bytes already. Unmade: it has no
+/// Of a store. Occupied: a new session was asked for, and the store has bytes already; their number. Unmade: it has no
 /// session; its length in bytes, and its first byte (0 where there is none). SessionDamaged: a rule of the session is
 /// broken, first at this place in this part. WrongGame: the session is of another game; the digest that it keeps, and
 /// that of the image. WrongRoutines: it was played with other routines; the digest of those, and that of these.
 ///
 /// Spent: a piece would read or hold too much. TooDeep: a table was called at the deepest level. Outside: a call of the
-/// stage failed. Long: the session has all the lines that it may have. Memory: want of memory.
+/// stage failed. Long: the session has all the lines that it may have. Memory: lack of memory.
 #[derive(Clone, Copy, Drop, PartialEq, Eq, Debug)]
 pub enum Outcome {
     Done,
@@ -74,7 +74,7 @@ fn refused_as(refusal: JournalRefusal) -> Outcome
     }
 }
 
-/// The answer for what playing comes to.
+/// The outcome for how playing ends.
 pub(crate) fn outcome_of(end: PlayEnd) -> Outcome
     ensures value { result ≡ outcome_of end }
 {
@@ -95,7 +95,7 @@ pub(crate) fn outcome_of(end: PlayEnd) -> Outcome
     }
 }
 
-/// The exit status for want of memory.
+/// The exit status for lack of memory.
 pub const NO_MEMORY: u8 = 8;
 
 // The name of a call.
@@ -133,7 +133,7 @@ fn kind_name(kind: SourceKind) -> &'static str
     }
 }
 
-// The name of a place where memory was wanting.
+// The name of a place where memory was lacking.
 fn memory_name(at: MemoryAt) -> &'static str
     ensures { result.now ≡ memory_name at }
 {
@@ -160,7 +160,7 @@ fn part_name(part: SessionPart) -> &'static str
     }
 }
 
-// What a piece has used up.
+// The name of what a piece has used up.
 fn spent_name(kind: SpentKind) -> &'static str
     ensures { result.now ≡ spent_name kind }
 {
@@ -187,7 +187,7 @@ fn digests_line(
 impl Outcome {
     /// The exit status of the program: 0 where the command did what it is for, 1 for words with no form, 2 for a
     /// source, 3 for an image, 4 for a store, 5 and 6 for a piece that is spent and a call too deep, 7 for a failed
-    /// call, 8 for want of memory, 9 for a session that is full.
+    /// call, 8 for lack of memory, 9 for a session that is full.
     pub fn status(&self) -> u8
         ensures value { result ≡ status_of self.now }
     {
@@ -212,7 +212,7 @@ impl Outcome {
     /// The text for standard error: a line, or nothing where the command did what it is for.
     ///
     /// # Errors
-    /// NoRoom only for want of memory.
+    /// NoRoom only for lack of memory.
     #[tactic(auto, unfolding(crate::specs::Commands::usage))]
     pub fn text(&self, alloc: Global) -> Result<String, NoRoom>
         ensures value { IfOk result (λ text. string_bytes text ≡ error_text self.now) }

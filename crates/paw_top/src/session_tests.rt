@@ -8,8 +8,8 @@ use std::alloc::Global;
 use std::process::Abort;
 use std::test::Fail;
 
-/// A hall with a lamp and a sword. SHAKE ALL asks for each of them, in a called table; TWIST ALL wants a key for each;
-/// ROLL prints a random number; DEEP calls a table that calls itself.
+/// A hall with a lamp and a sword. SHAKE ALL asks for each of them, in a called table; TWIST ALL waits for a key for
+/// each; ROLL prints a random number; DEEP calls a table that calls itself.
 const HALL: &str =
     "/VOC\nALL 20 noun\nLAMP 50 noun\nSWORD 51 noun\nSHAKE 30 verb\nTWIST 31 verb\nWAIT 32 verb\n\
 QUIT 33 verb\nROLL 34 verb\nDEEP 35 verb\n/STX\n/0\n/1\n/2\n>\n/3\n/4\n/5\n/6\nWhat?\n/7\nNo way.\n\
@@ -26,12 +26,12 @@ const CAVE: &str =
 /// What is shown before the first line in the hall.
 const FIRST: &str = "Hall.\n>\n";
 
-/// The words that play, and those that take the session up again.
+/// The words that play, and those that resume the session.
 pub(crate) const PLAY: &str = "play\nhall\nstore\n7";
 
 pub(crate) const RESUME: &str = "resume\nhall\nstore";
 
-/// How many bytes a session has.
+/// The length of a session in bytes.
 const SESSION_LEN: u64 = 172_288;
 
 /// Where a session keeps its version.
@@ -106,7 +106,7 @@ fn plays_rounds(rt: &impl Abort, alloc: Global, rounds: &[Round<'_>]) -> Result<
     Ok(store)
 }
 
-// A round that comes to the end of its lines.
+// A round that goes on to the end of its lines.
 fn round_to_end<'a>(words: &'a str, lines: &'a str, shown: &'a str) -> Round<'a> {
     Round {
         words,
@@ -342,10 +342,10 @@ fn a_session_knows_its_routines(rt: HostRuntime) -> Result<(), Fail> {
     Ok(())
 }
 
-/// Where a session and each of its slots tell their version.
+/// Where a session and each of its slots have their versions.
 const VERSIONS: [usize; 3] = [VERSION_AT, 128 + 2, 86_208 + 2];
 
-/// Where a state of the earlier form ends in slot 0 and in slot 1: any bytes may stand behind it.
+/// Where a state of the earlier form ends in slot 0 and in slot 1: any bytes may follow it.
 const EARLIER_ENDS: [usize; 2] = [128 + 64 + 1371, 86_208 + 64 + 1371];
 
 /// A session of the earlier form, which isn't measured and waits for the answer to the first of two questions.

@@ -1,4 +1,4 @@
-// Playing the game of an image file: a walk, a new session, and one that is taken up again.
+// Playing the game of an image file: a walk, a new session, and one that is resumed.
 
 ghost use Rattle.std.specs.Prelude.{◌≡◌, ◌≢◌, [], ◌∷◌, ◌++◌};
 ghost use Rattle.paw_base.specs.Bytes.{RoutineRows};

@@ -11,7 +11,7 @@ use paw_stage::Stage;
 use std::alloc::{AllocError, Global};
 use std::process::Abort;
 
-/// Syncs the attached store, or does nothing where there is none, so that a command may begin.
+/// Syncs the attached store, if there is one, so that a command may begin.
 pub fn settle<S: Stage>(rt: &impl Abort, stage: &mut S)
     ensures synced { S.Tells stage.new → IsStable (S.standing stage.new).disk }
 {
@@ -27,7 +27,7 @@ fn words_of(alloc: Global, lines: &str) -> Result<Vec<String>, AllocError> {
     Ok(words)
 }
 
-/// What a command comes to whose words stand in a line each, with the program's routines, where nothing is unsynced.
+/// How a command ends, given its words, one in each line, and the program's routines, where nothing is unsynced.
 pub fn run<S: Stage>(alloc: Global, stage: &mut S, words: &str) -> Result<Outcome, AllocError>
     requires synced { S.Tells stage.old → IsStable (S.standing stage.old).disk }
 {

@@ -33,7 +33,7 @@ _ _ LET 38 1 DESC MESSAGE 2\n/PRO 8\n_ _ AT 1 MESSAGE 3\n_ _ DONE\n_ _ MESSAGE 2
 const BEFORE_TABLE_1: &str =
     "/VOC\n/STX\n/MTX\n/0\na\n/1\nb\n/OTX\n/LTX\n/0\n/CON\n/OBJ\n/PRO 0\n/PRO 1\n";
 
-// Compiles the source and walks through its game with these lines: what comes of the walk, and what it shows.
+// Compiles the source and walks through its game with these lines: how the walk ends, and what it shows.
 fn walked(
     rt: &impl Abort,
     alloc: Global,
@@ -57,7 +57,7 @@ fn walked(
     Ok((outcome, Vec::from_slice(alloc, shown)?))
 }
 
-// Walks with these lines, and compares what comes of the walk and what is shown.
+// Walks with these lines, and compares how the walk ends and what is shown.
 fn comes_so(
     rt: &impl Abort,
     alloc: Global,
@@ -195,7 +195,7 @@ fn not_done_leads_on_to_the_exits(rt: HostRuntime) -> Result<(), Fail> {
         ("HUM", "Hm.\nI can't do that.\nWhat now?\n> "),
         ("EAST", "Hm.\nI can't go that way.\nWhat now?\n> "),
         ("DOWN", "Hm.\nI can't go that way.\nWhat now?\n> "),
-        // What the rest of the line says is dropped.
+        // The rest of the line is dropped.
         ("SING. NORTH", "Hm.\nI can't do that.\nWhat now?\n> "),
         // There is a way.
         ("UP", "Hm.\nA garden.\nWhat now?\n> "),
@@ -208,7 +208,7 @@ fn not_done_leads_on_to_the_exits(rt: HostRuntime) -> Result<(), Fail> {
             "UP. IN",
             "Hm.\nA garden.\nHm.\nI can't go that way.\nWhat now?\n> ",
         ),
-        // The caller has done something, behind the call or before it.
+        // The caller has done something, after the call or before it.
         ("CLAP", "Hm.\nHm.\nWhat now?\n> "),
         ("HOP", "Hm.\nHm.\nWhat now?\n> "),
     ] {
@@ -282,7 +282,7 @@ const BEFORE_LAMP: &str =
 /STX\n/0\nIt is dark.\n/1\n/2\n/MTX\n/0\nfar\n/1\nlit\n/OTX\n/0\nlamp\n/LTX\n/0\nHall.\n/1\nYard.\n\
 /CON\n/OBJ\n0 ";
 
-/// The rest: COUNT begins the counts, DARK makes it dark, and TELL tells how far they have fallen.
+/// The rest: COUNT begins the counts, DARK makes it dark, and TELL shows how far they have fallen.
 const AFTER_LAMP: &str = " 1 W LAMP _\n/PRO 0\n\
 COUNT _ LET 2 9 LET 3 9 LET 4 9 LET 5 9 LET 6 9 LET 7 9 LET 8 9 LET 9 9 LET 10 9 DONE\n\
 DARK _ SET 0 DESC\nLOOK _ DESC\nOUT _ GOTO 1 DESC\n\

@@ -1,4 +1,4 @@
-// A session whose program stops in a call, or of which one call fails: where it stands when it is taken up.
+// A session whose program stops in a call, or of which one call fails: where it stands when it is resumed.
 
 use crate::outcome::Outcome;
 use crate::settled::settle_and_run;
@@ -9,7 +9,7 @@ use std::alloc::Global;
 use std::process::Abort;
 use std::test::Fail;
 
-/// The words that compile the game, those that play it, and those that take the session up again.
+/// The words that compile the game, those that play it, and those that resume the session.
 const COMPILE: &str = "compile\nsource\nhall";
 
 const PLAY: &str = "play\nhall\nstore\n7";
@@ -46,7 +46,7 @@ HALVE _ LET 60 9 EXTERN 1 60\n PRINT 60 NEWLINE DONE\n/PRO 1\n_ _ LISTOBJ\n/PRO 
 _ _ QUIT MESSAGE 0\n/PRO 4\n_ _ DOALL CARRIED\n_ _ ANYKEY MESSAGE 0\n/PRO 5\n\
 _ _ GT 60 0 MINUS 60 1 PROCESS 5\n";
 
-/// The lines that are played, and how many of them were taken where a session is taken up again.
+/// The lines that are played, and how many of them were taken when a session is resumed.
 const LINES: [&str; 3] = ["GET LAMP", "N", "I"];
 
 const TAKEN: usize = 1;
@@ -134,8 +134,8 @@ impl Progress {
         }
     }
 
-    // Where a session may stand of which a call of this kind was stopped, which would have brought it here: a byte that
-    // decides, and the sync behind it, leave it before the line or behind it.
+    // Where a session may stand if a call of this kind was stopped that would have brought it here: after a byte that
+    // decides, and after the sync that follows it, it may stand before the line or after it.
     fn stop(self, kind: CallKind) -> Stop {
         let decides = self.decides
             && (kind == CallKind::Sync || matches!(kind, CallKind::Write(_)));
@@ -201,7 +201,7 @@ fn session_after(
     Ok(stage.load(alloc, "store", MOST)?)
 }
 
-// The calls of a command, and where the session may stand that stops in each of them. They begin with the load of the
+// The calls of a command, and where the session may stand if it stops in each of them. They begin with the load of the
 // game.
 fn stops_of(
     rt: &impl Abort,
@@ -248,7 +248,7 @@ fn standing(rt: &impl Abort, alloc: Global, image: &[u8], session: &[u8]) -> Res
     Err("no piece of these")?
 }
 
-// A command stops in a call. Whatever a crash then leaves of the session stands where it may.
+// Checks that, if a command stops in a call, whatever a crash then leaves of the session stands where it may.
 fn stops_in<R: Refusals + Drop>(
     rt: &impl Abort,
     alloc: Global,
@@ -275,7 +275,7 @@ fn stops_in<R: Refusals + Drop>(
     Ok(())
 }
 
-// A command stops in each of its calls; gives how many these are.
+// Stops a command in each of its calls, and gives their number.
 fn stops_anywhere(
     rt: &impl Abort,
     alloc: Global,
@@ -292,7 +292,7 @@ fn stops_anywhere(
     Ok(stops.len())
 }
 
-// Each call of a command fails alone; gives how many these are.
+// Lets each call of a command fail alone, and gives their number.
 fn fails_anywhere(
     rt: &impl Abort,
     alloc: Global,
@@ -359,7 +359,7 @@ fn each_call_fails_alone(rt: HostRuntime) -> Result<(), Fail> {
     Ok(())
 }
 
-// A crash right behind a call of a play, which is told once the play is over.
+// Lets a crash follow a call of a play; its effects are looked at once the play is over.
 fn crashes_behind(
     rt: &impl Abort,
     alloc: Global,
@@ -391,7 +391,7 @@ fn a_crash_is_told_behind_each_call(rt: HostRuntime) -> Result<(), Fail> {
     let mut stage = stage_of(alloc, image, b"", &LINES)?;
     let outcome = settle_and_run(&rt, alloc, &mut stage, PLAY)?;
     assert_eq!(rt; outcome, Outcome::InputEnded);
-    // The first call of all is the sync before the command; the load behind it attaches nothing either.
+    // The first call of all is the sync before the command; the load after it attaches nothing either.
     assert!(rt; stage.crash_after(alloc, 0, 1)?.is_none());
     let mut number = 0u64;
     for stop in stops.as_slice() {

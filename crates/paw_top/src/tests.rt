@@ -106,7 +106,7 @@ fn two_rooms_are_walked_piece_by_piece(rt: HostRuntime) -> Result<(), Fail> {
 fn lines_bring_their_pieces(rt: HostRuntime) -> Result<(), Fail> {
     let alloc = rt.alloc();
     for (lines, pieces) in [
-        // Small letters are capitals, five letters tell a word, unknown words are passed over.
+        // Small letters are capitals, five letters make out a word, unknown words are passed over.
         ("look", "Hall.\n>\n"),
         ("Please look at me", "Hall.\n>\n"),
         ("LOOKS", "What?\n>\n"),
@@ -189,7 +189,7 @@ fn games_with_one_byte_changed(rt: HostRuntime) -> Result<(), Fail> {
     Ok(())
 }
 
-/// A command over a stage with the line `N`, what it comes to, what is shown, and what is asked for next.
+/// A command over a stage with the line `N`, how it ends, what is shown, and what is asked for next.
 #[derive(Clone, Copy)]
 struct Case<'a> {
     name: &'a str,
@@ -200,7 +200,7 @@ struct Case<'a> {
     next: Asked,
 }
 
-// The command comes to what the case says, and the files are as they were.
+// Checks that the command ends as the case says, and the files are as they were.
 fn comes_so(rt: &impl Abort, alloc: Global, case: &Case<'_>) -> Result<(), Fail> {
     let mut stage = stage_of(alloc, case.image, "N")?;
     let outcome = settle_and_run(rt, alloc, &mut stage, case.words)?;
@@ -298,7 +298,7 @@ fn a_turn_that_never_ends_is_spent(rt: HostRuntime) -> Result<(), Fail> {
     comes_so(&rt, alloc, &later)
 }
 
-/// What a trace of the two rooms shows, line by line; behind the steps stands the piece.
+/// What a trace of the two rooms shows, line by line; the piece follows the steps.
 const TRACED: [(&str, &str); 6] = [
     ("N", "Yard.\n>\n"),
     (
@@ -386,7 +386,7 @@ fn a_call_that_fails_ends_the_walk(rt: HostRuntime) -> Result<(), Fail> {
             "Hall.\n>\nYard.\n>\n",
             Asked::Failed,
         ),
-        // An empty piece takes no call.
+        // An empty piece makes no call.
         ("~\nN", 3, ask, FIRST, Asked::Line(1)),
     ] {
         let listed = [call].to_vec(alloc)?;

@@ -16,30 +16,30 @@ use paw_routines::routines::Routines;
 use paw_stage::Stage;
 use std::alloc::Global;
 
-/// Does what the words ask for, over a stage at which nothing is unsynced. The words are the name of a command and those
-/// behind it, as usage shows them; what each command does is told at its variant of `Command`.
+/// Does what the words ask for, over a stage at which nothing is unsynced. The words are the name of a command and
+/// those after it, as usage shows them; its variant of `Command` says what each command does.
 ///
-/// What each command means stands in `meaning`: the calls that it makes (`serves`), where memory may be wanting for it
-/// (`memory`), how it leaves what stands, by its answer (`comes`), and what stands at each moment (`moments`). A game's
-/// EXTERN calls the routines, and what is said of play is said with the rows of their values, whatever these are.
+/// What each command means stands in `meaning`: the calls that it makes (`serves`), where memory may be lacking for it
+/// (`memory`), how it ends and what it leaves (`comes`), and what stands at each moment (`moments`). A game's EXTERN
+/// calls the routines, and what is said of play is said with the rows of their values, whatever these are.
 ///
 /// The answer is Usage exactly where the words have no form, and then nothing at the stage is touched.
 ///
 /// The moments of `play` and of `resume` come in two parts. Until the store is attached nothing was asked or shown, and
-/// no file has changed, but that the store's may be there, empty (`NotYet`). From then on the store is attached at each
-/// moment. In `play` whatever a crash leaves of it is no session yet, or stands for all lines that were taken, or for
-/// all but the last (`InNewSession`). Where a session goes on from the bytes of the store, behind the lines that they
-/// stand for or from the state that they show, `resume` never refuses it and goes on as the reading of these lines and
-/// more (`goes_on` of `ResumesIn`), and whatever a crash leaves stands for them and all that were taken since, or for all
-/// but the last (`InPlay`). At each moment the session keeps the digests of its game and its routines.
+/// no file has changed, except that the store's may be there now, empty (`NotYet`). From then on the store is attached
+/// at each moment. In `play` whatever a crash leaves of it is no session yet, or stands for all lines that were taken,
+/// or for all but the last (`InNewSession`). If a session goes on from the bytes of the store, after the lines that
+/// they stand for or from the state that they show, `resume` never refuses it and goes on as the reading of these lines
+/// and more (`goes_on` of `ResumesIn`), and whatever a crash leaves stands for them and all that were taken since, or
+/// for all but the last (`InPlay`). At each moment the session keeps the digests of its game and its routines.
 ///
-/// Where playing comes to an end with nothing failed in the store, its bytes are exactly those that one commit for each
-/// line that is kept makes of the bytes before: a line whose piece is spent changes nothing there.
+/// Where playing ends with nothing failed in the store, its bytes are exactly what one commit for each line that is
+/// kept makes of the bytes before: a line whose piece is spent changes nothing there.
 ///
-/// Where the answer is Outside the count of the call that it names rose, which is one that the command makes, and no
-/// other count did; where it isn't, no count of faults rose at all. Where no call fails, but maybe a load that finds no
-/// file, the answer names none (`completes`): then the command did what it is for, or refused the file or the store, or
-/// memory was wanting. What each command comes to says so; `commands_complete` spells it out.
+/// If the answer is Outside, the count of the call that it names rose, which is one that the command makes, and no
+/// other count did; otherwise no count of faults rose at all. If no call fails, except maybe a load that finds no file,
+/// the answer names none (`completes`): then the command did what it is for, or refused the file or the store, or
+/// memory was lacking. This follows from what each command means; `commands_complete` spells it out.
 pub fn paw<S: Stage, F: Fn(u8, u8) -> u8>(
     alloc: Global,
     stage: &mut S,

@@ -17,7 +17,7 @@ use paw_stage::Stage;
 use paw_trial::{TrialEnd, trial_line};
 use std::alloc::Global;
 
-/// The answer for a trial that tells no line.
+/// The outcome for a trial that shows no line.
 fn stopped_as(end: TrialEnd) -> Outcome
     ensures form { result ≢ outcome.Usage }
     ensures memory { IfMemory result (IsOneOf (memory.Trial ∷ [])) }

@@ -1,4 +1,4 @@
--- What playing the two halves of a trial comes to.
+-- How playing the two halves of a trial ends.
 use Rattle.std.proofs.Common.{◌≡◌, ℕ, ◌+◌, ◌<◌, ◌≤◌, List, [], ◌++◌, Some, length, drop, refl, sym, ap, ◌∙◌, subst, arith, append-nil}
 use Rattle.std.specs.Prelude.{◌-◌, All}
 use Rattle.std.proofs.lemmas.List.{drop_all}
@@ -46,7 +46,7 @@ pub ready_stable : (h : Half) (n : ℕ) (m : Memory) → IsReadyFor h n m → Is
 ready_stable half.First n m is = subst (λ (x : Memory). IsStable (standing_of x).disk) (sym is) (record { kept = refl; longest = refl; dirty = refl })
 ready_stable half.Second n m holds = holds.stable
 
--- Lines are played behind others, with more lines behind them, by a session of the store whose reading ends as that of
+-- Lines are played after others, with more lines after them, by a session of the store whose reading ends as that of
 -- the others and these; what it keeps stands for them.
 module _ (n : ℕ) (es lines rest : List (List ℕ)) (all : (es ++ lines) ++ rest ≡ trial_lines n) (are : All IsLine lines) (s : PlayedSession)
     (named : s.name ≡ store_name)

@@ -27,7 +27,7 @@ stops_later n es fs stop all h =
     subst (λ lines. StopsAs stop (reading (trial_story n) n lines)) all
     (subst (StopsAs stop) (sym (going_on_is_reading (trial_story n) n es fs)) (stays (trial_story n) fs stop (reading (trial_story n) n es) h))
 
--- told from one of its pieces on, a reading ends alike
+-- A reading ends alike from whichever of its pieces it is shown.
 pub stops_since : (n : ℕ) (stop : TrialEnd) (e : Ending) → StopsAs stop (ending_since n e) → StopsAs stop e
 stops_since n end.Memory e h = tt
 stops_since n end.Ended (Halted IsOver r) h = tt

@@ -1,4 +1,4 @@
--- What a trial tells.
+-- What a trial shows.
 use Rattle.std.specs.Prelude.{ℕ, [], ◌++◌, codes, decimal}
 use Rattle.paw_base.specs.Bytes.{Text}
 use Rattle.paw_base.specs.declared.flags.TheConstants.{CARRIED_FLAG, LOCATION_FLAG}
@@ -8,16 +8,16 @@ use Rattle.paw_effects.specs.Story.{Story, story_of}
 use Rattle.paw_reading.specs.Turn.{Ending, reading}
 use Rattle.paw_gen.specs.Trial.{trial_game, trial_lines, location_count, object_count, line_count}
 
--- the game of a trial, which calls no routine: none is there
+-- The game of a trial, with no routines, since it calls none.
 abbrev pub trial_story : ℕ → Story
 trial_story n = story_of (trial_game n) []
 
--- how the reading of all lines of a trial ends; its number is its seed
+-- How the reading of all lines of a trial ends; the trial's number is its seed.
 abbrev pub trial_reading : ℕ → Ending
 trial_reading n = reading (trial_story n) n (trial_lines n)
 
--- How large the game of a trial is, how many lines were taken and how many turns counted; and of the world at the end
--- the player's location, and how many objects they carry.
+-- The line of a trial: its number; how many locations and objects its game has, how many lines were taken and how many
+-- turns counted; where the player is at the end, and how many objects they carry.
 abbrev pub trial_text : ℕ → World → Text
 trial_text n w =
     codes "TRIAL " ++ (decimal n ++ (codes ": "

@@ -18,7 +18,7 @@ use paw_stage::MemoryStage;
 use paw_state::STATE_ROOM;
 use std::alloc::Global;
 
-/// What the bytes of a state count. They begin with the flags.
+/// What the bytes of a state, which begin with the flags, count.
 fn counts_in(state: &[u8; STATE_ROOM]) -> Tally
     ensures { result ≡ tally_in state.now }
 {
@@ -30,10 +30,10 @@ fn counts_in(state: &[u8; STATE_ROOM]) -> Tally
     }
 }
 
-/// What the session counts, once all lines were played with these routines.
+/// What the session counts once all lines were played with these routines.
 ///
 /// # Errors
-/// NoRoom for want of memory, or where a call of the stage failed.
+/// NoRoom for lack of memory, or where a call of the stage failed.
 pub(crate) fn counted<F: Fn(u8, u8) -> u8>(
     alloc: Global,
     setting: &Setting,

@@ -20,10 +20,10 @@ use std::alloc::Global;
 /// The name of the store.
 pub(crate) const STORE: &str = "trial";
 
-/// How many calls the stage has room for: more than any trial makes.
+/// The number of calls that the stage has room for: more than any trial makes.
 const CALLS: u64 = 4000;
 
-/// How many bytes it has room for: more than any trial hands to its calls.
+/// The number of bytes that it has room for: more than any trial hands to its calls.
 const BYTES: u64 = 16_000_000;
 
 /// A stage for a trial.
@@ -43,7 +43,7 @@ fn add_lines(alloc: Global, stage: &mut MemoryStage, lines: &[Text]) -> Result<(
     Ok(())
 }
 
-/// How a trial stops where playing comes to this; None where no line is left.
+/// How a trial stops where playing ends this way; None where no line is left.
 fn stop_of(end: PlayEnd) -> Option<TrialEnd>
     ensures { result ≡ stop_of end }
 {
@@ -62,7 +62,7 @@ fn stop_of(end: PlayEnd) -> Option<TrialEnd>
 }
 
 /// Plays the lines that are left, with no routines: the first half with a new session, and the second with that session
-/// taken up again.
+/// resumed.
 fn play_lines<F: Fn(u8, u8) -> u8>(
     alloc: Global,
     setting: &Setting,

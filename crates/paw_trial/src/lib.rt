@@ -1,4 +1,4 @@
-//! Trials: a large game is made from a number, played half way, stopped and resumed, and told in one line.
+//! Trials: a large game is made from a number, played half way, stopped and resumed, and summed up in one line.
 #![tactic(auto)]
 
 mod counting;
@@ -11,8 +11,8 @@ mod trial;
 use paw_base::fault::SpentKind;
 pub use trial::trial_line;
 
-/// Why a trial tells no line. Ended: the game is over. Spent: a piece would read or hold too much. TooDeep: a table was
-/// called at the deepest level. Memory: want of memory, or a call of the trial's own stage failed.
+/// Why a trial shows no line. Ended: the game is over. Spent: a piece would read or hold too much. TooDeep: a table was
+/// called at the deepest level. Memory: lack of memory, or a call of the trial's own stage failed.
 #[derive(Clone, Copy, Drop, PartialEq, Eq, Debug)]
 pub enum TrialEnd {
     Ended,

@@ -17,7 +17,7 @@ use paw_journal::digest;
 use std::alloc::Global;
 use std::marker::Model;
 
-/// A half of the lines of a trial. The first is rounded down.
+/// A half of the lines of a trial. The number of lines in the first half is rounded down.
 #[derive(Clone, Copy, Drop)]
 pub(crate) enum Half {
     First,
@@ -65,7 +65,7 @@ impl Setting {
     /// The trial of this number.
     ///
     /// # Errors
-    /// NoRoom for want of memory.
+    /// NoRoom for lack of memory.
     pub(crate) fn new(alloc: Global, n: u16) -> Result<Setting, NoRoom>
         ensures { IfOk result (λ s. s ≡ n) }
     {

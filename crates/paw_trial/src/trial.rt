@@ -33,7 +33,7 @@ fn line_of(alloc: Global, n: u16, tally: Tally) -> Result<String, NoRoom>
     Ok(line)
 }
 
-/// Plays both halves, and tells what the session counts then.
+/// Plays both halves, and gives what the session counts then.
 fn played(alloc: Global, n: u16) -> Result<Tally, TrialEnd>
     ensures counts { IfOk result (IsTallyOf (trial_reading n)) }
     ensures stops { IfErr result (λ e. StopsAs e (trial_reading n)) }
@@ -44,7 +44,7 @@ fn played(alloc: Global, n: u16) -> Result<Tally, TrialEnd>
     let Ok(mut stage) = new_stage(alloc) else {
         return Err(TrialEnd::Memory);
     };
-    // the game calls no routine
+    // The game calls no routine.
     let routines = Routines::new(0, |_, x| x);
     if let Some(end) = play_half(alloc, &setting, Half::First, &routines, &mut stage) {
         return Err(end);
@@ -58,12 +58,12 @@ fn played(alloc: Global, n: u16) -> Result<Tally, TrialEnd>
     }
 }
 
-/// Makes a large game and its lines from a number, plays the first half of them over a stage in memory, resumes from
-/// the session there for the rest, and tells in a line what that session counts. It is what the reading of the game
-/// with all lines counts.
+/// Makes a large game and its lines from a number, plays the first half of them over a stage in memory, resumes the
+/// session there for the rest, and gives a line with what that session counts. The reading of the game with all lines
+/// counts the same.
 ///
 /// # Errors
-/// Ended, Spent and TooDeep where that reading ends so. Memory for want of memory, or where a call of the stage failed.
+/// Ended, Spent and TooDeep where that reading ends so. Memory for lack of memory, or where a call of the stage failed.
 pub fn trial_line(alloc: Global, n: u16) -> Result<String, TrialEnd>
     ensures line { IfOk result (λ line. IsTextOf n (trial_reading n) (string_bytes line)) }
     ensures stops { IfErr result (λ e. StopsAs e (trial_reading n)) }

@@ -12,7 +12,7 @@ use Rattle.paw_turn.specs.inner.Phases.{Past, at_phase, run_now, having_read, Go
 pub plays_none : (g : Story) (first : Phase) (old : Turn) → Plays g first old (next.Go first) old
 plays_none g first old past has = (past.read, (has, λ n lines. (n, refl)))
 
--- a whole that comes to a phase, and what is played from there
+-- A reading that leads to a phase, and then what is played from there.
 pub plays_then : (g : Story) (whole : ℕ → Past → List (List ℕ) → Ending) (s : Phase) (old mid new : Turn) (nx : Next)
     → PlaysAs g whole old (next.Go s) mid → Plays g s mid nx new → PlaysAs g whole old nx new
 plays_then g whole s old mid new nx first plays past has =

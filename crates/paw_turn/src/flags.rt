@@ -23,21 +23,21 @@ fn fall(world: &mut World, f: u8)
     world.set_flag(f, x.saturating_sub(1));
 }
 
-/// It is dark.
+/// Whether it is dark.
 fn is_dark(world: &World) -> bool
     ensures value { result ≡ is_dark world.now }
 {
     world.flag(DARK_FLAG) != 0
 }
 
-/// It is dark, and the light source isn't present.
+/// Whether it is dark, and the light source isn't present.
 pub(crate) fn is_unlit(world: &World) -> bool
     ensures value { result ≡ is_unlit world.now }
 {
     is_dark(world) && !is_lit(world)
 }
 
-/// A flag falls in the dark, and another without light.
+/// Lets one flag fall in the dark, and another without light.
 fn fall_in_dark(world: &mut World, dark: u8, unlit: u8)
     ensures value { world.new ≡
         fallen_if (is_unlit world.old) unlit (fallen_if (is_dark world.old) dark world.old) }
@@ -52,7 +52,7 @@ fn fall_in_dark(world: &mut World, dark: u8, unlit: u8)
     }
 }
 
-/// The flags that fall when a location is described.
+/// Lets the flags fall that fall when a location is described.
 pub(crate) fn describe(world: &mut World)
     ensures value { world.new ≡ described world.old }
     ensures only { ChangesFlags world.old world.new }
@@ -61,7 +61,7 @@ pub(crate) fn describe(world: &mut World)
     fall_in_dark(world, DARK_VIEW_FLAG, UNLIT_VIEW_FLAG);
 }
 
-/// The flags that fall in each time frame, behind table 2.
+/// Lets the flags fall that fall in each time frame, after table 2.
 pub(crate) fn pass_time_frame(world: &mut World)
     ensures value { world.new ≡ time_frame_passed world.old }
     ensures only { ChangesFlags world.old world.new }
@@ -73,7 +73,7 @@ pub(crate) fn pass_time_frame(world: &mut World)
     fall_in_dark(world, DARK_FRAME_FLAG, UNLIT_FRAME_FLAG);
 }
 
-/// One more turn, up to 65,535.
+/// Counts one more turn, up to 65,535.
 pub(crate) fn count_turn(world: &mut World)
     ensures value { world.new ≡ counted world.old }
     ensures only { ChangesFlags world.old world.new }
@@ -83,7 +83,7 @@ pub(crate) fn count_turn(world: &mut World)
     world.set_flag(HIGH_TURNS_FLAG, (next / 256) as u8);
 }
 
-/// Tells by bit 7 of flag 49 whether the last line was a timeout.
+/// Sets bit 7 of flag 49 to whether the last line was a timeout.
 pub(crate) fn tell_timeout(world: &mut World, timeout: bool)
     ensures value { world.new ≡ with_timeout timeout world.old }
     ensures only { ChangesFlags world.old world.new }

@@ -14,8 +14,8 @@ use paw_base::fault::SpentKind;
 use paw_effects::act::Prompt;
 pub use player::Player;
 
-/// What a player comes to with a line: it waits at a prompt; the game is over; the piece would read or hold too much;
-/// or a table was called at the deepest level.
+/// How a line ends for a player: it waits at a prompt; the game is over; the piece would read or hold too much; or a
+/// table was called at the deepest level.
 #[derive(Clone, Copy, Drop, PartialEq, Eq, Debug)]
 pub enum Step {
     Waits(Prompt),

@@ -40,7 +40,7 @@ fn is_ignored(world: &World, line: &[u8]) -> bool
     is_timeout(line) && world.flag(TIMEOUT_FLAG) == 0
 }
 
-/// What a line answers to a question: a timeout answers with an empty line.
+/// The answer that a line gives to a question: a timeout gives an empty line.
 fn reply(line: &[u8]) -> &[u8]
     ensures value { result.now ≡ reply line.now }
 {
@@ -61,8 +61,8 @@ fn begins_with(capital: u8, line: &[u8]) -> bool
 }
 
 impl Turn {
-    /// Takes a line that isn't ignored at the main prompt: at a timeout message 35 is said, and the time frame comes;
-    /// any other line is pending now.
+    /// Takes a line that isn't ignored at the main prompt: a timeout says message 35 and leads to the time frame; any
+    /// other line becomes the pending one.
     fn hear_line<T: Tables>(&mut self, tables: &T, line: &[u8]) -> Next
         requires line { length line.now ≤ LINE_LIMIT }
         requires heard { is_ignored self.old.situation.world line.now ≡ false }

@@ -1,4 +1,4 @@
-// What is lent of a player, and where a player stands.
+// What a player lends of itself, and where it stands.
 
 ghost use Rattle.std.specs.Prelude.{◌≡◌};
 ghost use Rattle.paw_turn.specs.inner.Parts.{prompt_step, prompt_at};
@@ -9,7 +9,7 @@ use paw_phrase::Pending;
 use paw_process::Machine;
 use paw_world::world::World;
 
-/// What a player consists of between two lines, lent by it: with these a player goes on, now or later.
+/// What a player consists of between two lines, as it lends it: with these parts a player can go on, now or later.
 #[derive(Drop)]
 pub struct Parts<'p> {
     pub world: &'p World,
@@ -18,7 +18,7 @@ pub struct Parts<'p> {
     pub prompt: Prompt,
 }
 
-/// What a player came to that stands at this prompt.
+/// The end of a line for a player who stands at this prompt.
 pub(crate) fn step_at(prompt: Prompt) -> Step
     ensures value { result ≡ prompt_step prompt }
 {
@@ -28,7 +28,7 @@ pub(crate) fn step_at(prompt: Prompt) -> Step
     }
 }
 
-/// The prompt at which a player stands that came to this.
+/// The prompt at which a player stands after this end of a line.
 pub(crate) fn prompt_at(step: Step) -> Prompt
     ensures value { result ≡ prompt_at step }
 {

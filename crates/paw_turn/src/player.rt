@@ -84,9 +84,9 @@ impl<'a, T: Tables, F: Fn(u8, u8) -> u8> Player<'a, T, F> {
         })
     }
 
-    /// A player of a game that calls these routines, which stands at a prompt with these parts, as they were lent or
-    /// restored: they stand there as a run of the game may. The next line goes on from there; where the game is over
-    /// the player is finished.
+    /// A player of a game that calls these routines, which stands at a prompt with these parts, lent or restored
+    /// earlier: they stand there as a run of the game may. The next line goes on from there; where the game is over the
+    /// player is finished.
     ///
     /// # Errors
     /// NoRoom where there is no memory for a piece. The parts are gone then.
@@ -103,7 +103,7 @@ impl<'a, T: Tables, F: Fn(u8, u8) -> u8> Player<'a, T, F> {
         ensures value { IfOk result (λ p. p ≡ seat_at (T.game tables.now) routines.now world machine pending prompt) }
         ensures seated { IfOk result IsSeated }
     {
-        // Its clause says that the game is valid, which the proof wants. No call of it is left in the program.
+        // The clause of this call says that the game is valid, which the proof needs. The compiler leaves the call out.
         let _counts = tables.counts();
         let piece = Piece::new(alloc)?;
         Ok(Player {
@@ -214,8 +214,8 @@ impl<'a, T: Tables, F: Fn(u8, u8) -> u8> Player<'a, T, F> {
     }
 
     /// Lends the world, the machine, what is pending, and the prompt at which the player stands: Over once the game is
-    /// over, or the player spent or too deep. Where it waits or the game is over, a player that is seated with them is
-    /// this one with an empty piece, and the machine's places are never refused when they are restored.
+    /// over, or the player is spent or too deep. Where it waits or the game is over, a player seated with them is this
+    /// one with an empty piece, and the machine's places are always accepted when they are restored.
     pub fn parts(&self) -> Parts<'_>
         ensures world { result.world.now ≡ self.now.world }
         ensures machine { result.machine.now ≡ self.now.machine }

@@ -59,7 +59,7 @@ pub(crate) struct Rulebook<'a, T: Tables, F: Fn(u8, u8) -> u8> {
     pub(crate) routines: &'a Routines<F>,
 }
 
-/// Goes on so where the text was shown, and else the piece is spent.
+/// Goes on this way if the text was shown; otherwise the piece is spent.
 pub(crate) fn or_spent(shown: bool, next: Next) -> Next
     ensures value { result ≡ or_spent shown next }
 {
@@ -175,7 +175,7 @@ impl Turn {
         or_spent(self.put_message(tables, message), Next::Go(phase))
     }
 
-    /// Shows where the game is: in the dark without light that it is dark, else the location's text.
+    /// Shows where the game is: a message where it is dark without light, and otherwise the location's text.
     fn show_view<T: Tables>(&mut self, tables: &T) -> bool
         ensures puts { Puts self.old.situation.piece self.new.situation.piece result
             (view_text (T.game tables.now) self.old.situation.world) }
@@ -212,7 +212,7 @@ impl Turn {
             )
     }
 
-    /// With no phrase left the prompt is shown, and the game waits for a line.
+    /// Shows the prompt once no phrase is left, and waits for a line.
     fn prompt<T: Tables>(&mut self, tables: &T) -> Next
         requires ready { MayGoOn (T.game tables.now) self.old }
         ensures meaning { (X : RoutineRows) → let g = story_of (T.game tables.now) X in
@@ -229,8 +229,7 @@ impl Turn {
         }
     }
 
-    /// No entry answered and no exit leads on: says so, drops the rest of the line, and goes on with the time
-    /// frame.
+    /// Says that no entry answered and no exit leads on, drops the rest of the line, and goes on with the time frame.
     fn refuse<T: Tables>(&mut self, tables: &T) -> Next
         requires ready { MayGoOn (T.game tables.now) self.old }
         ensures meaning { (X : RoutineRows) → let g = story_of (T.game tables.now) X in
@@ -288,7 +287,7 @@ impl Turn {
         }
     }
 
-    /// Goes on after table 0, 1 or 2, as the machine turned out.
+    /// Goes on after table 0, 1 or 2, by how the machine stopped.
     pub(crate) fn after_table<T: Tables>(&mut self, tables: &T, table: u8, turned: Turned) -> Next
         requires playable { IsPlayable (T.game tables.now) self.old }
         requires stops { StopsInTable table turned self.old.machine }
@@ -308,7 +307,7 @@ impl Turn {
     }
 
     /// Takes the next phrase. A sentence counts a turn; at a phrase with no known word message 6 is said, and the rest
-    /// of the line is dropped; with none left comes the prompt.
+    /// of the line is dropped; with none left the prompt comes.
     fn phrase<T: Tables>(&mut self, tables: &T) -> Next
         requires ready { MayGoOn (T.game tables.now) self.old }
         ensures meaning { (X : RoutineRows) → let g = story_of (T.game tables.now) X in

@@ -12,64 +12,64 @@ use Rattle.paw_check.specs.Costs.{with_call, counting}
 
 -- ---- numbers ----
 
--- a number as 32 bits hold it: any above their greatest is the greatest
+-- A number as 32 bits hold it: any above the greatest becomes the greatest.
 abbrev pub capped : ℕ → ℕ
 capped n = min n (2 ^ 32 - 1)
 
--- a row of 256 numbers holds these, by verb, or by table
+-- A row of 256 numbers holds these, by verb, or by table.
 pub record Holds (row : List ℕ) (f : ℕ → ℕ) : Type 0 where
   pub long : length row ≡ 256
   pub each : (v : ℕ) → v < 256 → slice_index_or row v 0 ≡ capped (f v)
 
--- what rows of numbers hold at a table and a verb; 0 past their end
+-- The number in these rows at a table and a verb; 0 past their end.
 abbrev pub cell_at : List (List ℕ) → ℕ → ℕ → ℕ
 cell_at rows t v = slice_index_or (unwrap_or (slice_get rows t) []) v 0
 
 -- ---- flags ----
 
--- flags of 256 tables, after these were marked besides
+-- The flags of 256 tables, once these were marked as well.
 pub record Marks (old new : List Bool) (p : ℕ → Bool) : Type 0 where
   pub long : length new ≡ length old
   pub each : (u : ℕ) → u < 256 → slice_index_or new u false ≡ (slice_index_or old u false || p u)
 
--- the condacts of these entries
+-- The condacts of these entries.
 abbrev pub condacts_of_entries : List Entry → List Condact
 condacts_of_entries es = flat_map (λ e. e.condacts) es
 
--- the condacts of the tables with these numbers
+-- The condacts of the tables with these numbers.
 abbrev pub condacts_of_tables : List (List Entry) → List ℕ → List Condact
 condacts_of_tables tables ts = flat_map (λ t. condacts_of_entries (unwrap_or (slice_get tables t) [])) ts
 
--- the tables that those with these numbers call
+-- The tables that those with these numbers call.
 abbrev pub called_among : List (List Entry) → List ℕ → List ℕ
 called_among tables ts =
     filter (λ u. list_any (is_call_of u) (condacts_of_tables tables ts)) (range_with_len 0 (length tables))
 
 -- ---- entries ----
 
--- a condact opens a loop
+-- Whether a condact opens a loop.
 abbrev pub is_doall : Condact → Bool
 is_doall c = c.code == DOALL
 
--- an entry counts for every verb
+-- Whether an entry counts for every verb.
 abbrev pub is_for_every : Bool → Entry → Bool
 is_for_every changing e = changing || is_any e.verb
 
--- a sum over the condacts of entries that count for every verb
+-- A sum over the condacts of entries that count for every verb.
 abbrev pub over_every : Bool → (List Condact → ℕ) → List Entry → ℕ
 over_every changing f es = sum_by (λ e. if is_for_every changing e then f e.condacts else 0) es
 
--- a sum over the condacts of the other entries of a verb
+-- A sum over the condacts of the other entries of a verb.
 abbrev pub over_verb : Bool → ℕ → (List Condact → ℕ) → List Entry → ℕ
 over_verb changing v f es =
     sum_by (λ e. if is_for_every changing e then 0 else (if e.verb == v then f e.condacts else 0)) es
 
--- what the tables take for a verb that are called so often
+-- What the tables take for a verb, each called this many times.
 abbrev pub dot : List ℕ → List (List ℕ) → ℕ → ℕ
 dot counts called v =
     sum_by (λ u. slice_index_or counts u 0 * cell_at called u v) (range_with_len 0 (length called))
 
--- what the reading of these entries takes for a verb, by what condacts take and how many objects there are
+-- What reading these entries takes for a verb, by what condacts take and how many objects there are.
 abbrev pub entries_take : ℕ → (Condact → ℕ) → Bool → ℕ → List Entry → ℕ
 entries_take objects takes changing v es =
     let cs = flat_map (λ e. e.condacts) (counting changing v es) in

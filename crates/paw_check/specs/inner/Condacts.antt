@@ -16,26 +16,26 @@ use Rattle.paw_reading.specs.Bounds.{ValidStory}
 use Rattle.paw_check.specs.Prints.{most_text}
 use Rattle.paw_check.specs.Verbs.{may_write_verb}
 
--- a fact of each condact of a story, in each world that its game may be in
+-- A fact about each condact of a story, in each world that its game may be in.
 abbrev pub OfEach : (Story → World → Condact → Type 0) → Type 0
 OfEach Fact = (g : Story) (w : World) (c : Condact) → ValidStory g → IsWorldOf g.game w →
     IsTrue (is_condact g.game c) → Fact g w c
 
--- an action prints no more than its row says
+-- An action prints no more than its row says.
 abbrev pub ActionsPrintWithin : Type 0
 ActionsPrintWithin = OfEach (λ g w c. length (effect_of g w c).text ≤ most_text g.game c)
 
--- neither does the question that a condition asks, which is QUIT's
+-- The question that a condition asks, which is QUIT's, prints no more than its row says.
 abbrev pub QuestionsPrintWithin : Type 0
 QuestionsPrintWithin = OfEach (λ g w c. (holds g.game w c).answer ≡ truth.Ask →
     length (put_text g.game (holds g.game w c).world QUIT_MESSAGE) ≤ most_text g.game c)
 
--- a condition leaves the verb as it is, unless it is one that may write it
+-- A condition leaves the verb as it is, unless it is one that may write it.
 abbrev pub ConditionsKeepVerb : Type 0
 ConditionsKeepVerb =
     OfEach (λ g w c. may_write_verb c ≡ false → flag (holds g.game w c).world VERB_FLAG ≡ flag w VERB_FLAG)
 
--- so does an action, or it leaves all tables to describe the location
+-- An action leaves the verb as it is, unless it may write it, or leaves all tables to describe the location.
 abbrev pub ActionsKeepVerb : Type 0
 ActionsKeepVerb = OfEach (λ g w c. may_write_verb c ≡ false →
     (flag (effect_of g w c).world VERB_FLAG ≡ flag w VERB_FLAG)

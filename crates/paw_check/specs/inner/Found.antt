@@ -1,4 +1,4 @@
--- What the code finds of the entries of a table.
+-- What the code finds in the entries of a table.
 use Rattle.std.specs.Prelude.{◌≡◌, ℕ, ◌+◌, ◌*◌, Bool, List, count_by, sum_by}
 use Rattle.std.specs.List.{slice_index_or}
 use Rattle.paw_base.specs.declared.parts.Condact.{Condact}
@@ -8,7 +8,7 @@ use Rattle.paw_check.specs.Costs.{with_call}
 use Rattle.paw_check.specs.declared.sums.Found.{Found}
 use Rattle.paw_check.specs.inner.Capped.{Holds, capped, cell_at, dot, is_doall, over_every, over_verb}
 
--- what is found is that of these entries
+-- This is found in these entries.
 pub record IsFound (x : Found) (takes : Condact → ℕ) (changing : Bool) (called : List (List ℕ)) (es : List Entry) : Type 0 where
   pub doalls : x.doalls ≡ capped (over_every changing (count_by is_doall) es)
   pub own : x.own ≡ capped (over_every changing (sum_by takes) es)
@@ -16,10 +16,10 @@ pub record IsFound (x : Found) (takes : Condact → ℕ) (changing : Bool) (call
   pub verb_doalls : Holds x.verb_doalls (λ v. over_verb changing v (count_by is_doall) es)
   pub verb_taken : Holds x.verb_taken (λ v. over_verb changing v (sum_by (with_call takes (λ u. cell_at called u v))) es)
 
--- what the condacts of the entries that count for a verb take together
+-- What the condacts of the entries that count for a verb take together.
 abbrev pub found_sum : Found → List (List ℕ) → ℕ → ℕ
 found_sum x called v = x.own + dot x.calls called v + slice_index_or x.verb_taken v 0
 
--- what the reading of the table takes for a verb
+-- What reading the table takes for a verb.
 abbrev pub found_taken : ℕ → Found → List (List ℕ) → ℕ → ℕ
 found_taken objects x called v = (1 + objects * (x.doalls + slice_index_or x.verb_doalls v 0)) * found_sum x called v

@@ -1,4 +1,4 @@
--- What the rows of the code hold of all tables, level by level of calls.
+-- What the code's rows hold for all tables, level by level of calls.
 use Rattle.std.specs.Prelude.{◌≡◌, ℕ, ◌<◌, Bool, List, map, sum_by}
 use Rattle.paw_base.specs.declared.limits.TheConstants.{LEVEL_LIMIT}
 use Rattle.paw_base.specs.declared.parts.Condact.{Condact}
@@ -9,20 +9,20 @@ use Rattle.paw_check.specs.Costs.{cost, counting, passed_over, with_call, all_ve
 use Rattle.paw_check.specs.Measures.{greatest}
 use Rattle.paw_check.specs.inner.Capped.{capped, cell_at, condacts_of_entries}
 
--- rows hold what the reading of each table takes for each verb, where the tables that it calls take what these hold
+-- Rows hold what reading each table takes for each verb, where the tables that it calls take what these rows hold.
 abbrev pub HoldsLevel : GameLists → (Condact → ℕ) → Bool → List (List ℕ) → List (List ℕ) → Type 0
 HoldsLevel g own changing called rows = (t v : ℕ) → v < 256 → cell_at rows t v
     ≡ capped (passed_over g (with_call own (λ u. cell_at called u v)) (condacts_of_entries (counting changing v (table_at g t))))
 
--- rows hold what the reading of each table takes for each verb, with n levels of calls below it
+-- Rows hold what reading each table takes for each verb, with n levels of calls below it.
 abbrev pub HoldsCosts : GameLists → (Condact → ℕ) → Bool → ℕ → List (List ℕ) → Type 0
 HoldsCosts g own changing n rows =
     (t v : ℕ) → v < 256 → cell_at rows t v ≡ capped (cost g own (counting changing v) n t)
 
--- what the reading of a table takes with the verb that takes most
+-- What reading a table takes with the verb for which it takes most.
 abbrev pub most_taken : GameLists → (Condact → ℕ) → Bool → ℕ → ℕ
 most_taken g own changing t = greatest (map (λ verb. cost g own (counting changing verb) LEVEL_LIMIT t) all_verbs)
 
--- what it takes to read each table of a turn once
+-- What it takes to read each table of a turn once.
 abbrev pub round_taken : GameLists → (Condact → ℕ) → Bool → ℕ
 round_taken g own changing = sum_by (most_taken g own changing) turn_tables

@@ -1,4 +1,4 @@
--- What the code keeps of a game's texts, and what each condact takes by that.
+-- What the code keeps of a game's texts, and what each condact takes by it.
 use Rattle.std.specs.Prelude.{◌≡◌, ℕ, ◌+◌, ◌==◌, List, [], sum_by, slice_get, if◌then◌else◌}
 use Rattle.std.specs.List.{slice_index_or}
 use Rattle.std.specs.Option.{unwrap_or}
@@ -16,29 +16,29 @@ use Rattle.paw_check.specs.inner.Capped.{capped}
 
 -- ---- texts ----
 
--- the most bytes that a byte prints, where a name has so many
+-- The most bytes that a byte prints, where the longest name has this many.
 abbrev pub byte_in : ℕ → ℕ → ℕ
 byte_in name b = if b == 95 then name else 1
 
--- the most bytes that a text prints, where a name has so many
+-- The most bytes that a text prints, where the longest name has this many.
 abbrev pub measure_in : ℕ → Text → ℕ
 measure_in name text = sum_by (byte_in name) text
 
--- the same for the text with this number
+-- The same for the text with this number.
 abbrev pub measure_at : ℕ → Texts → ℕ → ℕ
 measure_at name texts n = measure_in name (unwrap_or (slice_get texts n) [])
 
 -- ---- condacts ----
 
--- what a condact with this code prints
+-- What a condact with this code prints.
 abbrev pub kind_of : ℕ → Printed
 kind_of code = slice_index_or PRINTED (plain_code code) printed.Nothing
 
--- the most bytes of the text that a condact's first parameter names, of these or any
+-- The most bytes of the text that a condact's first parameter names: one of these or, where a flag names it, any.
 abbrev pub named_in : List ℕ → ℕ → Condact → ℕ
 named_in texts any c = if is_indirect c.code then any else slice_index_or texts c.a 0
 
--- the most bytes that a condact prints, by what it prints
+-- The most bytes that a condact prints, by what it prints.
 abbrev pub kind_in : Prints → Printed → Condact → ℕ
 kind_in p printed.Nothing c = 0
 kind_in p printed.Newline c = 1
@@ -56,11 +56,11 @@ kind_in p printed.Message c = named_in p.messages p.any_message c
 kind_in p printed.MessageLine c = capped (named_in p.messages p.any_message c + 1)
 kind_in p printed.System c = named_in p.system p.any_system c
 
--- the most bytes that a condact prints
+-- The most bytes that a condact prints.
 abbrev pub text_in : Prints → Condact → ℕ
 text_in p c = kind_in p (kind_of c.code) c
 
--- what a condact takes of its own
+-- What a condact takes by itself.
 abbrev pub own_in : Own → Condact → ℕ
 own_in own.Condacts c = 1
 own_in (own.Text p) c = text_in p c

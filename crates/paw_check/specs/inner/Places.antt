@@ -10,26 +10,26 @@ use Rattle.paw_check.specs.Verdicts.{redescribes, entry_with}
 use Rattle.paw_check.specs.declared.places.Wanted.{Wanted}
 use Rattle.paw_check.specs.declared.places.Wanted.TheVariants as wanted
 
--- a condact is of this kind
+-- Whether a condact is of this kind.
 abbrev pub is_wanted : Wanted → Condact → Bool
 is_wanted wanted.Call c = is_call c
 is_wanted wanted.Description c = redescribes c
 is_wanted wanted.VerbWriter c = may_write_verb c
 
--- the number of the first entry with a condact of this kind
+-- The number of the first entry with a condact of this kind.
 abbrev pub entry_wanted : Wanted → List Entry → Option ℕ
 entry_wanted w entries = entry_with (is_wanted w) entries
 
--- the first of the tables with these numbers that has one, and its first entry with one
+-- The first of the tables with these numbers that has one, and its first entry with one.
 abbrev pub place_wanted : Wanted → List (List Entry) → List ℕ → Option (ℕ × ℕ)
 place_wanted w tables [] = None
 place_wanted w tables (t ∷ ts) =
     option_map_or (λ e. Some (t, e)) (entry_wanted w (unwrap_or (slice_get tables t) [])) (place_wanted w tables ts)
 
--- one of these entries has a condact that passes
+-- Whether one of these entries has a condact that passes.
 abbrev pub any_in_entries : (Condact → Bool) → List Entry → Bool
 any_in_entries p es = list_any (λ e. list_any p e.condacts) es
 
--- the table with this number has one
+-- Whether the table with this number has a condact that passes.
 abbrev pub any_in_table : (Condact → Bool) → List (List Entry) → ℕ → Bool
 any_in_table p tables t = any_in_entries p (unwrap_or (slice_get tables t) [])

@@ -1,4 +1,4 @@
--- What the code keeps of a game's texts, and what a piece prints beside its tables.
+-- What the code keeps of a game's texts, and what a piece prints besides its tables.
 use Rattle.std.specs.Prelude.{◌≡◌, ℕ, ◌+◌}
 use Rattle.paw_base.specs.declared.messages.TheConstants.{SEEN_MESSAGE, NOTHING_THERE_MESSAGE, GOODBYE_MESSAGE}
 use Rattle.paw_base.specs.declared.messages.TheConstants.{TIMEOUT_MESSAGE}
@@ -9,7 +9,7 @@ use Rattle.paw_check.specs.Prints.{most_list, most_list_or_said, most_inventory,
 use Rattle.paw_check.specs.declared.prints.Prints.{Prints}
 use Rattle.paw_check.specs.inner.Capped.{Holds, capped}
 
--- what is kept is that of this game
+-- What is kept is what the definitions give for this game.
 pub record ArePrints (g : GameLists) (p : Prints) : Type 0 where
   pub system : Holds p.system (most_put g)
   pub messages : Holds p.messages (most_at g g.messages)
@@ -22,10 +22,10 @@ pub record ArePrints (g : GameLists) (p : Prints) : Type 0 where
   pub here : p.here ≡ capped (most_said g SEEN_MESSAGE + most_list g)
   pub there : p.there ≡ capped (most_list_or_said g NOTHING_THERE_MESSAGE)
 
--- what a round prints beside its tables
+-- What a round prints besides its tables.
 abbrev pub most_outside : GameLists → ℕ
 most_outside g = most_view g + most_refusal g
 
--- what a piece prints behind its rounds
+-- What a piece prints after its rounds.
 abbrev pub most_end : GameLists → ℕ
 most_end g = most_said g GOODBYE_MESSAGE + (most_said g TIMEOUT_MESSAGE + most_prompt g)

@@ -8,7 +8,7 @@ use Rattle.paw_check.specs.declared.verdict.Verdict.TheVariants as verdict
 use Rattle.paw_check.specs.Bounds.{most_condacts, most_piece}
 use Rattle.paw_check.specs.Verdicts.{above, first_cause}
 
--- the verdict of a game with these levels of calls, in which neither calls nor descriptions are a cause
+-- The verdict of a game with these levels of calls, in which neither calls nor descriptions are a cause.
 abbrev pub counted : GameLists → ℕ → Verdict
 counted g levels =
     first_cause (verdict.Bound levels (most_condacts g) (most_piece g))

@@ -18,15 +18,15 @@ use Rattle.paw_check.specs.Promise.{PiecesWithin}
 
 -- ---- what stands before and after a table ----
 
--- a bound that pieces may reach: it is within the limits of a piece, and leaves room for the goodbye of a game that is
--- over, which stands in a piece of its own
+-- A bound that pieces may reach: it is within the limits of a piece, and leaves room for the goodbye of a game that is
+-- over, which stands in a piece of its own.
 pub record IsBound (condacts text : ℕ) (g : GameLists) : Type 0 where
   pub reads : condacts ≤ READ_LIMIT
   pub bytes : text ≤ PIECE_LIMIT
   pub goodbye : most_said g GOODBYE_MESSAGE ≤ text
 
--- A run outside tables, or one that has just left them: it is in a world of its game, at most so many bytes of its line
--- are left, no loop is open, the lines to come are lines, and each closed piece is within the bound.
+-- A run outside tables, or one that has just left them: it is in a world of its game, at most `pending` bytes of its
+-- line are left, no loop is open, the lines to come are lines, and each closed piece is within the bound.
 pub record IsReady (condacts text pending : ℕ) (g : GameLists) (r : Run) : Type 0 where
   pub world : IsWorldOf g r.world
   pub earlier : r.earlier < 256
@@ -35,22 +35,23 @@ pub record IsReady (condacts text pending : ℕ) (g : GameLists) (r : Run) : Typ
   pub lines : All IsLine r.events
   pub closed : PiecesWithin condacts text r
 
--- the open piece has at most so many bytes, and at most so many condacts were read for it
+-- The open piece has at most this many bytes, and at most this many condacts were read for it.
 pub record HasUsed (reads bytes : ℕ) (r : Run) : Type 0 where
   pub read : length r.read ≤ reads
   pub current : length r.current ≤ bytes
 
--- ---- what a table comes to ----
+-- ---- how a table ends ----
 
--- the condacts that are read at most while a table is, and the bytes that are printed
+-- The most condacts that are read while a table is.
 abbrev pub reads_of : GameLists → ℕ → ℕ
 reads_of g t = most_cost g (λ c. 1) t
 
+-- The most bytes that are printed while a table is read.
 abbrev pub text_of : GameLists → ℕ → ℕ
 text_of g t = most_cost g (most_text g) t
 
--- A table is left, or describes the location again, with so much used of the open piece at most, and no more of the line
--- left than before. Or the game starts anew, behind an answer: then nothing of the open piece is used, and nothing of
+-- A table is left, or describes the location again, with at most this much of the open piece used, and no more of the
+-- line left than before. Or the game starts anew after an answer: then nothing of the open piece is used, and nothing of
 -- the line is left. Or it waits, or the game is over. Each piece that it closed is within the bound. No piece is spent,
 -- and no call is too deep.
 abbrev pub TableWithin : (condacts text pending : ℕ) → GameLists → (reads bytes : ℕ) → Out → Type 0
@@ -64,8 +65,8 @@ TableWithin condacts text pending g reads bytes (Stopped Restarts r) =
 TableWithin condacts text pending g reads bytes (Stopped (Halts IsOver) r) = PiecesWithin condacts text r
 TableWithin condacts text pending g reads bytes (Stopped (Halts _) r) = ⊥
 
--- Where no call is too deep, each table of a turn is read so: from a run that has used so much of the open piece, where
--- that and what the table takes are within the bound.
+-- Where no call is too deep, each table of a turn is read within the bound: from a run that has used a part of the open
+-- piece, where that part and what the table takes are within it.
 abbrev pub TablesWithin : Type 0
 TablesWithin =
     (g : Story) (condacts text pending reads bytes t : ℕ) (r : Run) → ValidStory g → call_too_deep g.game ≡ None →
@@ -75,13 +76,13 @@ TablesWithin =
 
 -- ---- tables that don't describe again ----
 
--- the location isn't described again
+-- The location isn't described again.
 abbrev pub LeavesDescribed : Out → Type 0
 LeavesDescribed (Stopped Redescribes r) = ⊥
 LeavesDescribed _ = Unit {0}
 
--- where no condact that may describe the location again is reached from the table that is read after a description and
--- the one of time frames, these two never do
+-- Where no condact that may describe the location again is reached from the table that is read after a description and
+-- the one of time frames, these two never describe it again.
 abbrev pub TablesLeaveDescribed : Type 0
 TablesLeaveDescribed =
     (g : Story) (t : ℕ) (r : Run) → ValidStory g → circle_of_descriptions g.game ≡ None →

@@ -27,7 +27,7 @@ use Rattle.paw_host.specs.Replies.{Session, Absent, At, Answer, begun, is_over}
 use Rattle.paw_host.specs.Promise.{Stores, LeftOfMaking}
 use Rattle.paw_host.specs.declared.answer.Opened.{Opened}
 
--- the word for a step that brings no piece
+-- The word for a step that brings no piece.
 abbrev pub word_of : Step → Option Text
 word_of (step.Waits p) = None
 word_of step.Ended = None
@@ -46,25 +46,25 @@ pub record SitsAt {F : Type 0} (g : Story) (seed : Seed) (es : Lines) (seat : Se
       whole fs ≡ on g p (reverse seat.machine.frames) (run_at seat pieces traces fs)
   pub over : seat.last ≡ step.Ended → is_over (reading g seed es) ≡ true
 
--- the reply grew by the body of an answer, and the store keeps the answer's session
+-- The reply grew by the body of an answer, and the store keeps the answer's session.
 pub record Answers (g : Story) (a : Answer) (before after : Text) (bytes : Bytes) : Type 0 where
   pub body : after ≡ before ++ a.body
   pub stores : Stores g a.session bytes
 
--- what beginning the game in the attached store leaves: the piece before the first line is spent or calls too deep, as
--- the reply says; or the player sits at the first prompt, the store keeps it, and the reply has the piece
+-- What beginning the game in the attached store leaves: the piece before the first line is spent or calls too deep, as
+-- the reply says; or the player sits at the first prompt, the store keeps it, and the reply has the piece.
 abbrev pub BeginsTo : {F : Type 0} → Story → Seed → Text → Text → Seat F → Bytes → Option Opened → Type 0
 BeginsTo g seed before after seat bytes None = (begun g seed).session ≡ Absent × (after ≡ before ++ (begun g seed).body)
 BeginsTo g seed before after seat bytes (Some s) =
     SitsAt g seed [] seat × Stands g seed [] bytes × ((begun g seed).session ≡ At seed [])
     × (after ≡ before ++ (begun g seed).body)
 
--- a beginning leaves the attached store as it was; or the store keeps the session that is made, by its journal
+-- A beginning leaves the attached store as it was; or the store keeps the session that is made, by its journal.
 abbrev pub LeavesBegun : Room → Standing → Standing → Option Opened → Type 0
 LeavesBegun room old new None = new ≡ old
 LeavesBegun room old new (Some s) = KeptIn s.journal room new
 
--- what taking up the session of these bytes leaves, and where they stand for lines, those
+-- What resuming the session of these bytes leaves; where they stand for lines, the player sits after those.
 abbrev pub TakesUp : {F : Type 0} → Story → Room → Seat F → Bytes → Option Opened → Type 0
 TakesUp g room seat bytes None = ¬ ShowsSome g bytes
 TakesUp g room seat bytes (Some s) = ShowsSome g bytes × ((seed : Seed) (es : Lines) → IsPlayedWith g seed es →
@@ -72,20 +72,20 @@ TakesUp g room seat bytes (Some s) = ShowsSome g bytes × ((seed : Seed) (es : L
     SitsAt g seed es seat × (s.events ≡ length es)
     × (take PIECE_LIMIT room.piece ≡ last_piece (pieces_of (reading g seed es))))
 
--- at a moment only the attached store may differ from what stood, and whatever a crash leaves of it is such
+-- At a moment only the attached store may differ from what stood, and this holds of whatever a crash leaves of it.
 abbrev pub InFile : (Bytes → Type 0) → Standing → Moment → Type 0
 InFile Left old m = InStore old (λ (d : Disk). (image : Bytes) → MayLeave d image → Left image) m
 
--- the bytes are those of one session or of another
+-- The bytes are those of one session or of another.
 abbrev pub StoresEither : Story → Session → Session → Bytes → Type 0
 StoresEither g before after bytes = Stores g before bytes ⊎ Stores g after bytes
 
--- the bytes are none, or those of a session that is made, which then is one that stands at no lines
+-- The bytes are none, or those of a session that is made, which then is one that stands at no lines.
 abbrev pub LeftOfBeginning : Story → Seed → Bytes → Type 0
 LeftOfBeginning g seed bytes =
     (bytes ≡ []) ⊎ (((begun g seed).session ≡ At seed []) × (IsUnmade (recover bytes) ⊎ Stands g seed [] bytes))
 
--- all stands as it did, but the file of this name, and which store is attached
+-- All stands as it did, except for the file of this name, and for which store is attached.
 pub record IsAside (name : Name) (old new : Standing) : Type 0 where
   pub lines : new.lines ≡ old.lines
   pub asked : new.asked ≡ old.asked
@@ -105,10 +105,10 @@ pub record InAnswer (g : Story) (seed : Seed) (name : Name) (before after : Sess
   pub left : (bytes : Bytes) → MayBeLeft name m bytes → Stores g before bytes
       ⊎ ((m.attached ≡ Some name) × (Stores g after bytes ⊎ LeftOfMaking g seed before after bytes))
 
--- the bytes are of one session or of another, or of one that is made
+-- The bytes are of one session or of another, or of one that is made.
 abbrev pub LeftOf : Story → Seed → Session → Session → Bytes → Type 0
 LeftOf g seed before after bytes = Stores g before bytes ⊎ Stores g after bytes ⊎ LeftOfMaking g seed before after bytes
 
--- the calls by which a session is asked for something
+-- The calls by which a session is asked for something.
 abbrev pub answer_calls : List StageCall
 answer_calls = call.Attach ∷ call.Read ∷ writing_calls

@@ -14,32 +14,32 @@ use Rattle.paw_host.specs.Outcomes.{failed_call}
 use Rattle.paw_host.specs.declared.outcome.HostOutcome.{HostOutcome}
 use Rattle.paw_host.specs.declared.outcome.HostOutcome.TheVariants as outcome
 
--- the call that failed, if an outcome has come
+-- The call that failed, if an outcome has come.
 abbrev pub failed_so_far : Option HostOutcome → Option StageCall
 failed_so_far None = None
 failed_so_far (Some o) = failed_call o
 
--- each of the sessions may be
+-- Each of the sessions may be.
 abbrev pub AllMay : Story → Sessions → Type 0
 AllMay g sessions = (name : Name) → is_name name ≡ true → MayBe g (sessions name)
 
--- no line is taken
+-- No line is taken.
 pub record SameLines (old new : Standing) : Type 0 where
   pub lines : new.lines ≡ old.lines
   pub asked : new.asked ≡ old.asked
 
--- One line is taken; or none was left. Where a call failed nothing is said.
+-- One line is taken, or none was left. Where a call failed nothing is stated.
 abbrev pub TakesTo : Standing → Standing → Option HostOutcome → Type 0
 TakesTo old new None = (line : Line) × (old.lines ≡ line ∷ new.lines) × (new.asked ≡ old.asked + 1)
 TakesTo old new (Some outcome.InputEnded) = (old.lines ≡ []) × (new ≡ old)
 TakesTo old new (Some (outcome.Outside c)) = Unit {0}
 TakesTo old new (Some _) = ⊥
 
--- this file isn't the one of the name that is asked for
+-- This file isn't that of the name that is asked for.
 abbrev pub IsNotFor : Option Request → Name → Type 0
 IsNotFor request file = (r : Request) → request ≡ Some r → file ≢ store_name r.name
 
--- what a line asks for is done: the files are those of the sessions after it, and no other file has changed
+-- What a line asks for is done: the files are those of the sessions after it, and no other file has changed.
 pub record IsDone (g : Story) (after : Sessions) (request : Option Request) (old new : Standing) : Type 0 where
   pub lines : new.lines ≡ old.lines
   pub asked : new.asked ≡ old.asked
@@ -48,7 +48,7 @@ pub record IsDone (g : Story) (after : Sessions) (request : Option Request) (old
   pub stores : AllStore g after new
   pub attached : new.attached ≡ attached_with request old.attached
 
--- a moment at which it is being done
+-- A moment at which a line's request is carried out.
 pub record InWork (g : Story) (seed : Seed) (before after : Sessions) (request : Option Request) (old : Standing)
     (m : Moment) : Type 0 where
   pub asked : m.asked ≡ old.asked
@@ -57,7 +57,7 @@ pub record InWork (g : Story) (seed : Seed) (before after : Sessions) (request :
   pub left : EachLeft g seed before after m
   pub attached : MayAttach request old.attached m.attached
 
--- n lines were answered, and the host waits for the next one
+-- The first n lines were answered, and the host waits for the next one.
 pub record IsServing (g : Story) (seed : Seed) (first : Sessions) (old now : Standing) (n : ℕ) : Type 0 where
   pub answered : Answered g seed first old now n
   pub may : AllMay g (sessions_after g seed first (take n old.lines))
@@ -72,16 +72,16 @@ ServesTo g seed first old new n (Some outcome.InputEnded) =
 ServesTo g seed first old new n (Some (outcome.Outside c)) = Unit {0}
 ServesTo g seed first old new n (Some _) = ⊥
 
--- what is asked for is done, and the reply is made
+-- What is asked for is done, and the reply is made.
 abbrev pub Does : Story → Seed → Sessions → Option Request → Text → Standing → Standing → Type 0
 Does g seed sessions request text old new =
     (text ≡ reply_to g seed sessions request) × IsDone g (sessions_with g seed sessions request) request old new
 
--- a moment at which it is being done
+-- A moment at which a line's request is carried out.
 abbrev pub Doing : Story → Seed → Sessions → Option Request → Standing → Moment → Type 0
 Doing g seed sessions request old m = InWork g seed sessions (sessions_with g seed sessions request) request old m
 
--- a fact of each host that waits for a line, n of the lines that there were when it started being answered
+-- A fact about each host that waits for a line and has answered n of the lines that there were when it started.
 abbrev pub EachServing : Story → Seed → Standing → (Sessions → Standing → ℕ → Type 0) → Type 0
 EachServing g seed now Holds =
     (first : Sessions) (start : Standing) (n : ℕ) → seed < 2 ^ 64 → All AreBytes start.lines →

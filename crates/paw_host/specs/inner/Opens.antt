@@ -12,24 +12,24 @@ use Rattle.paw_host.specs.Outcomes.{failed_call}
 use Rattle.paw_host.specs.declared.outcome.HostOutcome.{HostOutcome}
 use Rattle.paw_host.specs.declared.outcome.HostOutcome.TheVariants as outcome
 
--- the call that failed, where there is an outcome only if something failed
+-- The call that failed, where there is an outcome only if something failed.
 abbrev pub failed_or : {A : Type 0} → Result A HostOutcome → Option StageCall
 failed_or (Ok a) = None
 failed_or (Err o) = failed_call o
 
--- a load that gave these bytes: the whole file, or one byte more than an image may have; nothing is changed
+-- A load that gave these bytes: the whole file, or one byte more than an image may have; nothing is changed.
 abbrev pub LoadsSome : Name → Standing → Standing → Bytes → Type 0
 LoadsSome name old new given =
     (bytes : Bytes) × (old.files name ≡ Some bytes) × (given ≡ take (IMAGE_LIMIT + 1) bytes) × (new ≡ old)
 
--- a load that gave nothing, by its answer; nothing is changed
+-- A load that gave nothing, by its answer; nothing is changed.
 abbrev pub LoadsNone : Name → Standing → Standing → HostOutcome → Type 0
 LoadsNone name old new (outcome.Outside call.LoadAbsent) = (old.files name ≡ None) × (new ≡ old)
 LoadsNone name old new (outcome.Outside call.Load) = new ≡ old
 LoadsNone name old new outcome.Memory = new ≡ old
 LoadsNone name old new _ = ⊥
 
--- why bytes give no game: they are no image of a valid one, or memory was lacking
+-- Why bytes give no game: they are no image of a valid one, or memory was lacking.
 abbrev pub GivesNone : Bytes → HostOutcome → Type 0
 GivesNone bytes (outcome.ImageDamaged at) = ((g : GameLists) → ¬ IsImage bytes g) × (bad bytes ≡ Some at)
 GivesNone bytes outcome.Memory = Unit {0}

@@ -12,34 +12,34 @@ use Rattle.paw_routines.specs.declared.routines.Routines.{Routines}
 use Rattle.paw_turn.specs.inner.Player.{Seat, IsSeated}
 use Rattle.paw_turn.specs.inner.Parts.{IsStanding}
 
--- a player that is seated, at the game and with the routines that it had
+-- A player that is seated, at the game and with the routines that it had.
 pub record Stays {F : Type 0} (old new : Seat F) : Type 0 where
   pub seated : IsSeated new
   pub game : new.game ≡ old.game
   pub routines : new.routines ≡ old.routines
 
--- a player that stays, and of whose numbers no more were drawn than one piece draws
+-- A player that stays, and of whose numbers no more were drawn than one piece draws.
 pub record PlaysAnew {F : Type 0} (old new : Seat F) : Type 0 where
   pub stays : Stays old new
   pub draws : new.world.draws ≤ READ_LIMIT
 
--- a player that stands, after as many lines as a session may have
+-- A player that stands, after as many lines as a session may have.
 pub record StandsAfter {F : Type 0} (events : ℕ) (seat : Seat F) : Type 0 where
   pub few : events ≤ EVENT_LIMIT
   pub standing : IsStanding seat.last
   pub draws : seat.world.draws ≤ READ_LIMIT * (events + 1)
 
--- these are the digest of the routines
+-- These bytes are the digest of the routines.
 abbrev pub IsMeasureOf : {F : Type 0} → Shared F (ℕ × (ℕ × Unit {0})) ℕ → Routines F → Bytes → Type 0
 IsMeasureOf calls routines rules = (X : RoutineRows) → AreRowsOf calls routines X → rules ≡ measure X
 
--- these are the digests of a game's image and of the routines
+-- These bytes are the digests of a game's image and of the routines.
 pub record AreDigestsOf {F : Type 0} (calls : Shared F (ℕ × (ℕ × Unit {0})) ℕ) (g : GameLists) (routines : Routines F)
     (game rules : Bytes) : Type 0 where
   pub digest : game ≡ sha256 (image g)
   pub measured : IsMeasureOf calls routines rules
 
--- a player of the hosted game: it is seated at the game of these tables, and these are the digests of what it plays with
+-- A player of the hosted game: its game is that of these tables, and these are the digests of what it plays with.
 pub record IsHosted {F : Type 0} (calls : Shared F (ℕ × (ℕ × Unit {0})) ℕ) (tables : GameLists) (game rules : Bytes)
     (seat : Seat F) : Type 0 where
   pub seated : IsSeated seat

@@ -3,11 +3,11 @@ use Rattle.std.specs.Prelude.{◌≡◌, Option, Some, None}
 use Rattle.paw_host.specs.Words.{Call}
 use Rattle.paw_host.specs.declared.words.Call.{Call as Given}
 
--- what the code's call asks for
+-- What the code's call asks for.
 abbrev pub means : Given → Call
 means c = record { image = c.image.now; seed = c.seed }
 
--- the code's answer spells what is asked for
+-- The code's answer spells what is asked for.
 abbrev pub SpellsCall : Option Given → Option Call → Type 0
 SpellsCall None asked = asked ≡ None
 SpellsCall (Some c) asked = asked ≡ Some (means c)

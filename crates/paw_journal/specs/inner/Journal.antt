@@ -1,4 +1,4 @@
--- What the calls of a journal answer, and what they leave: words that contracts between crates and proofs use beside
+-- What the calls of a journal answer, and what they leave: words that contracts between crates and proofs use besides
 -- those of specs/Journal.antt.
 use Rattle.std.specs.Prelude.{◌≡◌, ◌≢◌, Option, Some, None, Result, Ok, Err, IsSome}
 use Rattle.paw_base.specs.Bytes.{Bytes, Text}
@@ -26,7 +26,7 @@ pub record KeptIn (journal : Journal) (room : Room) (s : Standing) : Type 0 wher
   pub slots : KeepsSlots room s.disk.bytes
 
 -- Why the store has no session of this game to go on with by these routines, by what its bytes stand for. A stage call
--- that failed tells nothing of the store.
+-- that failed says nothing of the store.
 abbrev pub IsSessionRefused : Recovered → Bytes → Bytes → JournalRefusal → Type 0
 IsSessionRefused r game rules (refusal.Unmade n mark) = r ≡ Unmade n mark
 IsSessionRefused r game rules (refusal.Damaged part at) = r ≡ Damaged part at
@@ -43,6 +43,7 @@ abbrev pub failed_stage_call : {A : Type 0} → Result A StageCall → Option St
 failed_stage_call (Ok answer) = None
 failed_stage_call (Err c) = Some c
 
+-- The stage call that failed, if that is why a store gives no session.
 abbrev pub outside : JournalRefusal → Option StageCall
 outside (refusal.Outside c) = Some c
 outside (refusal.Unmade n mark) = None
@@ -50,6 +51,7 @@ outside (refusal.Damaged part at) = None
 outside (refusal.WrongGame kept found) = None
 outside (refusal.WrongRoutines kept found) = None
 
+-- The stage call that failed, by what a call that may refuse the store answers.
 abbrev pub refused_call : {A : Type 0} → Result A JournalRefusal → Option StageCall
 refused_call (Ok answer) = None
 refused_call (Err e) = outside e

@@ -20,8 +20,7 @@ slot_number which.Second = 1
 abbrev pub state_in : Bytes → SlotState
 state_in bytes = record { records = two_byte_number 0 bytes; state = slot_state bytes }
 
--- The same, for a commit to go on from; none where it has no state, or is
--- of version 1.
+-- The state of a slot for a commit to go on from; none where it has no state, or is of version 1.
 abbrev pub kept_slot : Bytes → Option SlotState
 kept_slot bytes = if is_second bytes && has_state bytes then Some (state_in bytes) else None
 
@@ -44,7 +43,7 @@ abbrev pub with_slot_kept : Slot → Option SlotState → Room → Room
 with_slot_kept which.First kept room = record room { first = kept }
 with_slot_kept which.Second kept room = record room { second = kept }
 
--- A room that shows this state of the slot that was read, and the slot's piece, whose length the state tells.
+-- A room that shows this state of the slot that was read, and the slot's piece, whose length the state gives.
 abbrev pub with_state : Bytes → Room → Room
 with_state state room = record room { state = state; piece = stretch PIECE_AT (piece_length state) room.slot }
 
@@ -59,7 +58,7 @@ with_made state room = record room {
 abbrev pub HasRead : Slot → Standing → Room → Type 0
 HasRead which s room = room.slot ≡ slot (slot_number which) s.disk.bytes
 
--- The room shows what the slot shows that was read.
+-- The room shows what the slot that was read shows.
 abbrev pub ShowsSlot : Digests → Room → Room → Type 0
 ShowsSlot digests old new = slot_shows digests old.slot ≡ session_shown digests new.state new.piece
 

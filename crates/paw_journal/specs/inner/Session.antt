@@ -1,5 +1,5 @@
 -- How a session lies in the bytes of a store, and what bytes of a store stand for: words that contracts between crates
--- and proofs use beside those of specs/Session.antt.
+-- and proofs use besides those of specs/Session.antt.
 use Rattle.std.specs.Prelude.{◌≡◌, ℕ, ◌∷◌, ◌++◌, take, drop}
 use Rattle.paw_base.specs.Bytes.{Bytes, Text}
 use Rattle.paw_journal.specs.declared.refusal.SessionPart.TheVariants as part

@@ -31,7 +31,7 @@ pub record IsBlank (held : Bytes) (d : Disk) : Type 0 where
   pub blank : mark d.bytes ≡ 0
   pub clean : is_dirty d.dirty 0 ≡ false
 
--- What a header tells of a session that is made of these bytes: the slot in use, and whose session it is.
+-- What a header says of a session that is made of these bytes: the slot in use, and whose session it is.
 pub record Introduces (number : ℕ) (whose : Digests) (bytes : Bytes) : Type 0 where
   pub made : IsMade bytes
   pub slot : number ≡ chosen bytes
@@ -94,11 +94,11 @@ HoldsMade digests state piece s = s.disk.bytes ≡ made_session digests state pi
 abbrev pub header_digests : Header → Digests
 header_digests header = digests_of header.game header.routines
 
--- What a header tells of a session with these bytes.
+-- The header says this of a session with these bytes.
 abbrev pub IsHeaderOf : Bytes → Header → Type 0
 IsHeaderOf bytes header = Introduces (slot_number header.slot) (header_digests header) bytes
 
--- Change records that make one state of another, one for each position that differs.
+-- Change records that turn one state into another, one for each position that differs.
 pub record Turns (old new records : Bytes) : Type 0 where
   pub exact : records ≡ differences old new
   pub many : length records ≡ 4 * differing old new
@@ -126,7 +126,7 @@ WritesSlot which draft bytes piece old new =
 abbrev pub Chooses : Slot → Standing → Standing → Type 0
 Chooses which old new = HoldsStable (chosen_session (slot_number which) old.disk.bytes) new
 
--- What a commit writes into a slot beside its head and the piece: so that the slot is what a commit makes of it, has
+-- What a commit writes into a slot besides its head and the piece, so that the slot is what a commit makes of it, has
 -- this state, and no more bytes are written than a commit may write.
 pub record Drafts (kept : Option SlotState) (state bytes : Bytes) (draft : Draft) : Type 0 where
   pub inside : draft.at + length bytes ≤ slot_length

@@ -20,7 +20,7 @@ pub record IsBeside (old new : Standing) : Type 0 where
   pub file : (n : Name) → old.attached ≡ Some n → old.files n ≡ Some old.disk.bytes →
       new.files n ≡ Some new.disk.bytes
 
--- At a moment inside a call that moves the attached store alone: all else is as it was, and the disk is such.
+-- At a moment inside a call that moves the attached store alone, all else is as it was, and this holds of the disk.
 pub record InStore (old : Standing) (Inside : Disk → Type 0) (m : Moment) : Type 0 where
   pub asked : m.asked ≡ old.asked
   pub shown : m.shown ≡ old.shown
@@ -36,11 +36,11 @@ Leaves Such d = (image : Bytes) → MayLeave d image → Such (recover image)
 abbrev pub shown_by : ℕ → Standing → Recovered
 shown_by k s = recover_by k s.disk.bytes
 
--- One of two.
+-- What is recovered is one of these two.
 abbrev pub IsEither : Recovered → Recovered → Recovered → Type 0
 IsEither old new r = (r ≡ old) ⊎ (r ≡ new)
 
--- No session, or this one.
+-- What is recovered is no session, or this one.
 abbrev pub IsUnmadeOr : Recovered → Recovered → Type 0
 IsUnmadeOr made r = IsUnmade r ⊎ (r ≡ made)
 
@@ -52,7 +52,7 @@ Opens old new name at = (at.length ≡ length (file_bytes old name)) × (new ≡
 abbrev pub HoldsStable : Bytes → Standing → Type 0
 HoldsStable bytes s = s.disk ≡ stable bytes
 
--- Both slots were written with these bytes, behind all that stood.
+-- Both slots were written with these bytes, after all that stood.
 abbrev pub LaysSlots : Bytes → Standing → Standing → Type 0
 LaysSlots bytes old new = HoldsStable (old.disk.bytes ++ bytes ++ bytes) new
 

@@ -1,4 +1,4 @@
--- The calls of a stage that playing makes: words that contracts between crates and proofs use beside those of
+-- The calls of a stage that playing makes: words that contracts between crates and proofs use besides those of
 -- specs/Calls.antt.
 use Rattle.std.specs.Prelude.{Option, Some, None, Result, Ok, Err}
 use Rattle.paw_stage.specs.declared.StageCall.{StageCall}
@@ -6,27 +6,28 @@ use Rattle.paw_journal.specs.declared.refusal.JournalRefusal.TheVariants as refu
 use Rattle.paw_play.specs.declared.PlayEnd.{PlayEnd}
 use Rattle.paw_play.specs.declared.PlayEnd.TheVariants as end
 
--- a store is never refused for a call that failed: that is the answer Outside
+-- A store is never refused for a call that failed: such an end is Outside.
 abbrev pub IsNotForCall : PlayEnd → Type 0
 IsNotForCall (end.Refused (refusal.Outside c)) = ⊥
 IsNotForCall _ = Unit {0}
 
--- the call that failed, by what playing came to
+-- The call that failed, by how playing ended.
 abbrev pub call_of_end : PlayEnd → Option StageCall
 call_of_end (end.Outside c) = Some c
 call_of_end (end.Refused (refusal.Outside c)) = Some c
 call_of_end _ = None
 
--- the same where playing may go on
+-- The same where playing may go on.
 abbrev pub failed_so_far : Option PlayEnd → Option StageCall
 failed_so_far None = None
 failed_so_far (Some o) = call_of_end o
 
+-- The call that failed, where playing has ended only if there is no answer.
 abbrev pub failed_or : {A : Type 0} → Result A PlayEnd → Option StageCall
 failed_or (Ok a) = None
 failed_or (Err o) = call_of_end o
 
--- playing goes on with this, or has come to an end
+-- Playing goes on with this, or has ended.
 abbrev pub unless_ended : {A : Type 0} → Option PlayEnd → A → Result A PlayEnd
 unless_ended None a = Ok a
 unless_ended (Some o) a = Err o

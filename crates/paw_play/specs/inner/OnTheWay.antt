@@ -42,16 +42,16 @@ use Rattle.paw_play.specs.inner.Telling.{Telling, Plain, HaveSteps, told_pieces,
 
 -- ---- a walk ----
 
--- the bytes of the state of a player, after so many lines of its session
+-- The bytes of the state of a player, after this number of lines of its session.
 abbrev pub seat_state : {F : Type 0} → ℕ → Seat F → Bytes
 seat_state events p = kept_bytes (state_of p.world p.machine p.pending (prompt_at p.last) events (length p.piece))
 
--- the same as they are written: zeros stand behind them
+-- The same as they are written: filled up with zeros.
 abbrev pub seat_base : {F : Type 0} → ℕ → Seat F → Bytes
 seat_base events p = seat_state events p ++ zeros (base_length - state_length)
 
--- the walk is at a prompt: n lines were taken, these pieces were shown as they are told, and whatever lines come, the
--- reading of all goes on from the player
+-- The walk is at a prompt: n lines were taken, these pieces were shown, with their prefaces, and whatever lines come,
+-- the reading of all goes on from the player.
 pub record IsWalking {F : Type 0} (telling : Telling) (g : Story) (whole : EndingOf) (old now : Standing)
     (seat : Seat F)
     (n : ℕ) : Type 0 where
@@ -66,23 +66,23 @@ pub record IsWalking {F : Type 0} (telling : Telling) (g : Story) (whole : Endin
   pub there : n ≤ length old.lines
   pub stands : now ≡ advanced old n (concat (told_pieces telling pieces traces))
 
--- a step that brings a piece
+-- The step brings a piece.
 abbrev pub ShowsPiece : Step → Type 0
 ShowsPiece (step.Waits p) = Unit {0}
 ShowsPiece step.Ended = Unit {0}
 ShowsPiece (step.Spent kind) = ⊥
 ShowsPiece (step.TooDeep table) = ⊥
 
--- what a step comes to that brings no piece
+-- How playing ends at a step that brings no piece.
 abbrev pub refusal_of : Step → Option PlayEnd
 refusal_of (step.Waits p) = None
 refusal_of step.Ended = None
 refusal_of (step.Spent kind) = Some (end.Spent kind)
 refusal_of (step.TooDeep table) = Some (end.TooDeep table)
 
--- what showing a step's piece does: it is shown where the player waits or is over, and then no other line may be asked
--- for where it is over; nothing is shown of a piece that is spent or of a call too deep; or a part is shown of a piece
--- that isn't empty, and the call failed
+-- What showing a step's piece does: it is shown where the player waits or is over, and where it is over no other line
+-- may be asked for; nothing is shown of a piece that is spent or of a call too deep; or a part is shown of a piece that
+-- isn't empty, and the call failed.
 abbrev pub Told : Standing → Standing → Text → Step → Option PlayEnd → Type 0
 Told old new piece s None = (p : Prompt) × (s ≡ step.Waits p) × (new ≡ record old { shown = old.shown ++ piece })
 Told old new piece s (Some end.Ended) = (s ≡ step.Ended) × (new ≡ record old { shown = old.shown ++ piece })
@@ -92,7 +92,7 @@ Told old new piece s (Some (end.Outside call.Show)) =
     ShowsPiece s × (0 < length piece) × (n : ℕ) × (new ≡ record old { shown = old.shown ++ take n piece })
 Told old new piece s (Some _) = ⊥
 
--- after n lines the walk is at a prompt, or has come to this
+-- After n lines the walk is at a prompt, or has ended this way.
 abbrev pub WalksTo : {F : Type 0} → Telling → Story → EndingOf → ℕ → Standing → Standing → Seat F → ℕ →
     Option PlayEnd → Type 0
 WalksTo telling g whole most first now seat n None = IsWalking telling g whole first now seat n
@@ -100,7 +100,7 @@ WalksTo telling g whole most first now seat n (Some o) = Walks (told_as telling 
 
 -- ---- a session ----
 
--- the session of a story that is begun with this seed, whatever its digests
+-- The session of a story that is begun with this seed, whatever its digests.
 abbrev pub begun_with : Story → Seed → Digests → Name → PlayedSession
 begun_with g seed digests name = record { whole = reading g seed; before = 0; digests = digests; name = name }
 
@@ -114,19 +114,19 @@ pub record IsPlaying {F : Type 0} (g : Story) (s : PlayedSession) (first now : S
   pub last : Text
   pub grown : text_for s.whole first.lines n ≡ text_before s.whole first.lines n ++ last
 
--- after one line more: the session is at the next prompt, or playing on has come to this
+-- After one more line the session is at the next prompt, or playing on has ended this way.
 abbrev pub PlaysTo : {A F : Type 0} → Story → PlayedSession → ℕ → Standing → Standing → Seat F → ℕ →
     Result A PlayEnd → Type 0
 PlaysTo g s most first now seat n (Ok a) = IsPlaying g s first now seat (suc n)
 PlaysTo g s most first now seat n (Err o) = PlaysOn s most first now o
 
--- the store of this name is attached and at rest, and its file holds its bytes
+-- The store of this name is attached and at rest, and its file holds its bytes.
 pub record IsStore (name : Name) (s : Standing) : Type 0 where
   pub attached : s.attached ≡ Some name
   pub stable : IsStable s.disk
   pub file : s.files name ≡ Some s.disk.bytes
 
--- what making a new session comes to, once its store is attached
+-- How making a new session ends, once its store is attached, and what it leaves.
 abbrev pub BegunAs : PlayedSession → Standing → Standing → PlayEnd → Type 0
 BegunAs s first now (end.Spent kind) = (r : Run) × (s.whole [] ≡ Halted (RunsOut kind) r) × (now ≡ first)
 BegunAs s first now (end.TooDeep table) = (r : Run) × (s.whole [] ≡ Halted (CallsTooDeep table) r) × (now ≡ first)
@@ -134,12 +134,12 @@ BegunAs s first now (end.Outside call.Write) = (now ≡ with_store now first) ×
 BegunAs s first now (end.Outside call.Sync) = (now ≡ with_store now first) × StaysAttached s.name first now
 BegunAs s first now o = PlaysOn s EVENT_LIMIT first now o
 
--- the session is at its first prompt, or making it has come to this
+-- The session is at its first prompt, or making it has ended this way.
 abbrev pub Begins : {A F : Type 0} → Story → PlayedSession → Standing → Standing → Seat F → Result A PlayEnd → Type 0
 Begins g s first now seat (Ok a) = IsPlaying g s first now seat 0
 Begins g s first now seat (Err o) = BegunAs s first now o
 
--- what showing a piece again does: the session waits at its prompt, or is over, or a part was shown and the call failed
+-- What showing a piece again does: the session waits at its prompt, or is over, or the call failed after a part.
 abbrev pub ShowsAgain : Standing → Standing → Text → Prompt → Option PlayEnd → Type 0
 ShowsAgain old new piece p None = (p ≢ prompt.Over) × (new ≡ record old { shown = old.shown ++ piece })
 ShowsAgain old new piece p (Some end.Ended) = (p ≡ prompt.Over) × (new ≡ record old { shown = old.shown ++ piece })
@@ -147,7 +147,7 @@ ShowsAgain old new piece p (Some (end.Outside call.Show)) =
     (0 < length piece) × (n : ℕ) × (new ≡ record old { shown = old.shown ++ take n piece })
 ShowsAgain old new piece p (Some _) = ⊥
 
--- what playing comes to where a session isn't found
+-- How playing ends where a session isn't found.
 abbrev pub end_of : JournalRefusal → PlayEnd
 end_of (refusal.Unmade n mark) = end.Refused (refusal.Unmade n mark)
 end_of (refusal.Damaged part at) = end.Refused (refusal.Damaged part at)
@@ -157,7 +157,7 @@ end_of (refusal.Outside c) = end.Outside c
 
 -- ---- a player and its session, between calls ----
 
--- A player may take lines: it has a seat, its routines have rows, and it drew so many numbers at most.
+-- A player may take lines: it has a seat, its routines have rows, and it drew at most this many numbers.
 pub record MayPlay {F : Type 0} (calls : Shared F (ℕ × (ℕ × Unit {0})) ℕ) (draws : ℕ) (p : Seat F) : Type 0 where
   pub seated : IsSeated p
   pub rows : HaveRows calls p.routines
@@ -169,7 +169,7 @@ pub record MayBegin {F : Type 0} (calls : Shared F (ℕ × (ℕ × Unit {0})) �
   pub rows : HaveRows calls p.routines
   pub new : IsNew p p.world.seed
 
--- It plays the same game with the same routines still, and drew so many numbers at most.
+-- The player still plays the same game with the same routines, and drew at most this many numbers.
 pub record StillPlays {F : Type 0} (draws : ℕ) (old new : Seat F) : Type 0 where
   pub seated : IsSeated new
   pub game : new.game ≡ old.game
@@ -181,43 +181,43 @@ pub record IsAttached (at : Attached) (s : Standing) : Type 0 where
   pub rests : IsAtRest s
   pub long : at.length ≡ length s.disk.bytes
 
--- A session has taken so many lines. Where a stage tells what stands, its store is at rest and holds it.
+-- A session has taken this number of lines. Where a stage says what stands, its store is at rest and holds it.
 pub record HoldsSession (tells : Type 0) (n : ℕ) (room : Room) (now : Standing) (session : Session) : Type 0 where
   pub events : session.events ≡ n
   pub kept : tells → KeptIn session.journal room now
 
--- ---- facts of what is under way ----
+-- ---- facts about what is under way ----
 
--- a fact of the game's story, whatever rows stand for its routines
+-- A fact about the game's story, whatever rows stand for its routines.
 abbrev pub EachStory : {F : Type 0} → Shared F (ℕ × (ℕ × Unit {0})) ℕ → Routines F → GameLists →
     (Story → Type 0) → Type 0
 EachStory calls routines game Holds = (X : RoutineRows) → AreRowsOf calls routines X → Holds (story_of game X)
 
--- a fact of each session that is at its prompt with this player, after so many lines in all: n were taken since `first`
--- stood, of at most `most`
+-- A fact about each session that is at its prompt with this player, after this number of lines in all: n were taken
+-- since `first` stood, of at most `most`.
 abbrev pub EachPlaying : {F : Type 0} → Story → Seat F → ℕ → Standing →
     (PlayedSession → ℕ → ℕ → Standing → Type 0) → Type 0
 EachPlaying g seat events now Holds =
     (s : PlayedSession) (most n : ℕ) (first : Standing) → IsPlaying g s first now seat n → events ≡ s.before + n →
     n < most → Holds s most n first
 
--- a fact of each session that is at the prompt that it begins at or is taken up at, after so many lines in all
+-- A fact about each session that is at the prompt where it begins or is resumed, after this number of lines in all.
 abbrev pub EachStarting : {F : Type 0} → Story → Seat F → ℕ → Standing → (PlayedSession → Standing → Type 0) → Type 0
 EachStarting g seat events now Holds =
     (s : PlayedSession) (first : Standing) → IsPlaying g s first now seat 0 → events ≡ s.before → Holds s first
 
--- what the session of a store shows that a player was committed to, after so many lines
+-- What the session of a store shows after this player was committed to it, with this number of lines.
 abbrev pub shown_then : {F : Type 0} → ℕ → Seat F → Standing → Recovered
 shown_then events seat s = Shown (kept_digests s.disk.bytes) (seat_state events seat) seat.piece
 
--- the player was committed to the session
+-- The player was committed to the session.
 abbrev pub Commits : {F : Type 0} → ℕ → Seat F → Standing → Standing → Type 0
 Commits events seat old new = recover new.disk.bytes ≡ shown_then events seat old
 
--- the store's bytes are those that the commit of the player makes of what they were
+-- The store's bytes are what the commit of the player makes of what they were.
 abbrev pub Writes : {F : Type 0} → ℕ → Seat F → Standing → Standing → Type 0
 Writes events seat old new = new.disk.bytes ≡ committed (seat_base events seat) seat.piece old.disk.bytes
 
--- a moment at which a crash leaves what the session showed before, or the player
+-- A moment at which a crash leaves what the session showed before, or the player.
 abbrev pub InCommit : {F : Type 0} → ℕ → Seat F → Standing → Moment → Type 0
 InCommit events seat old m = InStore old (Leaves (IsEither (recover old.disk.bytes) (shown_then events seat old))) m

@@ -1,4 +1,4 @@
--- How a walk tells the pieces of a game: words that contracts and proofs use.
+-- How a walk shows the pieces of a game: words that contracts and proofs use.
 use Rattle.std.specs.Prelude.{◌≡◌, ◌-◌, List, [], ◌++◌, length, take, flat_map}
 use Rattle.paw_base.specs.Bytes.{Text, Texts}
 use Rattle.paw_base.specs.inner.Steps.{KeptSteps}
@@ -9,42 +9,44 @@ use Rattle.paw_turn.specs.inner.Player.{Seat}
 use Rattle.paw_play.specs.Traces.{step_line, more_line, traced_pieces, traced_run, traced_ending}
 use Rattle.paw_play.specs.Walk.{EndingOf}
 
--- each piece is told as it is, or behind the text of its steps
+-- Whether each piece is shown as it is, or after the text of its steps.
 pub data Telling : Type 0 where
   Plain : Telling
   Stepped : Telling
 
--- the text of the steps that are kept
+-- The text of the steps that are kept.
 abbrev pub kept_text : KeptSteps → Text
 kept_text kept = flat_map step_line (take STEP_LIMIT kept.rows) ++ more_line (kept.count - STEP_LIMIT)
 
--- what is told before a piece, by what is kept of its steps
+-- What is shown before a piece, by what is kept of its steps.
 abbrev pub preface : Telling → KeptSteps → Text
 preface Plain kept = []
 preface Stepped kept = kept_text kept
 
--- what is told of a player's last piece
+-- What is shown for a player's last piece.
 abbrev pub seat_text : {F : Type 0} → Telling → Seat F → Text
 seat_text telling p = preface telling p.machine.steps ++ p.piece
 
--- closed pieces with their steps, as they are told
+-- Closed pieces with their steps, as they are shown.
 abbrev pub told_pieces : Telling → Texts → List (List Read) → Texts
 told_pieces Plain pieces traces = pieces
 told_pieces Stepped pieces traces = traced_pieces pieces traces
 
--- where pieces are told behind their steps, each has its own
+-- Where pieces are shown after their steps, each has its own.
 abbrev pub HaveSteps : Telling → Texts → List (List Read) → Type 0
 HaveSteps Plain pieces traces = Unit {0}
 HaveSteps Stepped pieces traces = length traces ≡ length pieces
 
+-- The run, with its pieces shown this way.
 abbrev pub told_run : Telling → Run → Run
 told_run Plain r = r
 told_run Stepped r = traced_run r
 
+-- The ending, with its pieces shown this way.
 abbrev pub told_ending : Telling → Ending → Ending
 told_ending Plain e = e
 told_ending Stepped e = traced_ending e
 
--- a reading whose pieces are told so
+-- The reading, with its pieces shown this way.
 abbrev pub told_as : Telling → EndingOf → EndingOf
 told_as telling whole lines = told_ending telling (whole lines)

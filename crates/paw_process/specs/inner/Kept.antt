@@ -1,5 +1,5 @@
 -- What is kept of a machine that waits, and the rules that it keeps: words that contracts between crates and proofs use
--- beside those of specs/Kept.antt.
+-- besides those of specs/Kept.antt.
 use Rattle.std.specs.Prelude.{ℕ, suc, ◌-◌, ◌==◌, ◌&&◌, Bool, true, false, not, List, [], ◌∷◌, Option, Some, None, reverse, take}
 use Rattle.std.specs.Prelude.{length, slice_get, nat_lt, if◌then◌else◌}
 use Rattle.std.specs.Option.{option_map, option_map_or, option_or, unwrap_or}
@@ -20,15 +20,15 @@ use Rattle.paw_process.specs.inner.OpenTables.{OpenTables}
 use Rattle.paw_process.specs.inner.OpenTables.{IsWaiting, IsClosed}
 use Rattle.paw_process.specs.declared.kept.Frames.{Frames}
 
--- an unused row
+-- An unused row.
 abbrev pub unused : Frame
 unused = record { table = 0; entry = 0; at = 0; acted = false }
 
--- what is kept of a machine: its frames, the outermost first, and its loop
+-- What is kept of a machine: its frames, the outermost first, and its loop.
 abbrev pub kept : OpenTables → Frames
 kept m = frames_at (reverse m.frames) m.turning
 
--- the machine of what is kept, which waits at this prompt, with a full budget and no steps
+-- The machine of what is kept, which waits at this prompt, with a full budget and no steps.
 abbrev pub restored : Frames → Option Prompt → OpenTables
 restored k waiting = record {
   frames = reverse (take k.count k.rows);
@@ -40,7 +40,7 @@ restored k waiting = record {
 
 -- ---- the rules ----
 
--- inside tables the machine waits at the prompt, and else nothing is open
+-- Inside tables the machine waits at the prompt; at other prompts nothing is open.
 abbrev pub StandsAt : Prompt → OpenTables → Type 0
 StandsAt prompt.Main m = IsClosed m
 StandsAt prompt.Quit m = IsWaiting prompt.Quit m
@@ -48,7 +48,7 @@ StandsAt prompt.Again m = IsWaiting prompt.Again m
 StandsAt prompt.Key m = IsWaiting prompt.Key m
 StandsAt prompt.Over m = IsClosed m
 
--- the prompt inside tables
+-- The prompt, if it is one inside tables.
 abbrev pub waiting_at : Prompt → Option Prompt
 waiting_at prompt.Main = None
 waiting_at prompt.Quit = Some prompt.Quit
@@ -56,51 +56,51 @@ waiting_at prompt.Again = Some prompt.Again
 waiting_at prompt.Key = Some prompt.Key
 waiting_at prompt.Over = None
 
--- the condact at which a frame stands
+-- The condact at which a frame stands.
 abbrev pub condact_of : GameLists → Frame → Option Condact
 condact_of g f = condact_at g f.table f.entry f.at
 
--- a row that isn't used
+-- Whether a row is unused.
 abbrev pub is_unused : Frame → Bool
 is_unused f = (f.table == 0) && ((f.entry == 0) && ((f.at == 0) && not f.acted))
 
--- a row stands where n rows are used from it on: each of these is of a table that may be open there, and all but the
--- last are at a PROCESS, the last at this condact; one that isn't used is 0
+-- Whether a row keeps its rules, where n rows are used from it on: each of these is of a table that may be open there;
+-- all but the last are at a PROCESS, and the last is at this condact; an unused row is 0.
 abbrev pub row_stands : GameLists → ℕ → Option ℕ → ℕ → Frame → Bool
 row_stands g code caller n f =
     if n == 0 then is_unused f
     else may_open caller f.table && has_code (if n == 1 then code else PROCESS) (condact_of g f)
 
--- the depth of the first row that doesn't stand, counted from d on, of which n are used; each PROCESS calls the next
--- row's table
+-- The depth of the first row that breaks a rule, counted from d on, where n of the rows are used; each PROCESS calls
+-- the next row's table.
 unfoldable pub rows_fault : GameLists → ℕ → Option ℕ → ℕ → ℕ → List Frame → Option ℕ
 rows_fault g code caller n d [] = None
 rows_fault g code caller n d (f ∷ fs) =
     if row_stands g code caller n f
     then rows_fault g code (Some (parameter_of (condact_of g f))) (n - 1) (suc d) fs else Some d
 
--- a table is there, and it is this one
+-- Whether there is a table, and it is this one.
 abbrev pub is_that_table : Option ℕ → ℕ → Bool
 is_that_table o t = option_map_or (λ u. t == u) o false
 
--- the open loop is at a DOALL of the table of its level, and its place and its last object are the game's
+-- Whether an open loop keeps its rules: it is at a DOALL of its level's table; place and last object are the game's.
 abbrev pub loop_stands : GameLists → Frames → OpenLoop → Bool
 loop_stands g k l =
     nat_lt l.level k.count && (is_that_table (option_map (λ f. f.table) (slice_get k.rows l.level)) l.table
     && (has_code DOALL (condact_at g l.table l.entry l.at)
     && (is_place (length g.locations) l.place && nat_lt l.last (length g.objects))))
 
--- the depth of an open loop that breaks its rule is that behind all rows
+-- The depth of an open loop that breaks a rule: 11, after all rows.
 abbrev pub loop_fault : GameLists → Frames → Option OpenLoop → Option ℕ
 loop_fault g k o = if option_map_or (loop_stands g k) o true then None else Some MOST_FRAMES
 
--- the first fault of what is kept of a machine that waits at a condact of this code, or where none is open
+-- The first fault of what is kept of a machine that waits at a condact with this code, or where no table is open.
 abbrev pub fault_at : GameLists → Option ℕ → Frames → Option ℕ
 fault_at g code k =
     if count_fits code k.count
     then option_or (rows_fault g (unwrap_or code 0) None k.count 0 k.rows) (loop_fault g k k.turning) else Some 0
 
--- the least depth at which what is kept of a machine that waits at this prompt breaks a rule: a frame, that behind all
--- rows for the loop, 0 for the number of frames; nothing where it keeps them all
+-- The least depth at which what is kept of a machine that waits at this prompt breaks a rule: that of a frame, 11 for
+-- the loop, or 0 for the number of frames; none where it keeps them all.
 abbrev pub frames_fault : GameLists → Prompt → Frames → Option ℕ
 frames_fault g p k = fault_at g (waiting_code p) k

@@ -21,22 +21,23 @@ use Rattle.paw_process.specs.declared.Turned.TheVariants as turned
 
 -- ---- stories ----
 
--- whatever rows stand for the routines, this holds of the story that the game is with them
+-- This holds of the story that the game is with any rows that stand for the routines.
 abbrev pub InStories :
     {F : Type 0} → Shared F (ℕ × (ℕ × Unit {0})) ℕ → Routines F → GameLists → (Story → Type 0) → Type 0
 InStories calls routines g P = (X : RoutineRows) → AreRowsOf calls routines X → P (story_of g X)
 
 -- ---- what is held ----
 
--- what is held between two stops: the situation that reading changes, and the machine
+-- What stands between two stops: the surroundings that reading changes, and the machine.
 pub record Held : Type 0 where
   pub situation : Situation
   pub machine : OpenTables
 
+-- This situation and this machine.
 abbrev pub having : Situation → OpenTables → Held
 having s m = record { situation = s; machine = m }
 
--- a run shows what is held, with the condacts that the open piece has read
+-- A run shows what stands, with the condacts that the open piece has read.
 pub record ShowsHeld (r : Run) (h : Held) : Type 0 where
   pub world : r.world ≡ h.situation.world
   pub pending : r.pending ≡ h.situation.pending.bytes
@@ -45,7 +46,7 @@ pub record ShowsHeld (r : Run) (h : Held) : Type 0 where
   pub current : r.current ≡ h.situation.piece
   pub read : HasRead r.read h.machine
 
--- the run with what is held now
+-- The run with what stands now.
 abbrev pub run_held : Held → Run → Run
 run_held h r = record r {
   world = h.situation.world;
@@ -55,34 +56,34 @@ run_held h r = record r {
   current = h.situation.piece;
 }
 
--- the run with these condacts read besides
+-- The run with these condacts read as well.
 abbrev pub with_steps : List Step → Run → Run
 with_steps steps r = record r { read = r.read ++ steps }
 
--- the run with these lines to come
+-- The run with these lines to come.
 abbrev pub to_come : Lines → Run → Run
 to_come lines r = record r { events = lines }
 
 -- ---- going on ----
 
--- going on in the tables that are open, the innermost first
+-- Goes on in the open tables, the innermost first.
 abbrev pub going_in : Story → List Frame → Run → Out
 going_in g [] r = Left false r
 going_in g (f ∷ fs) r = along g fs (rest g (length fs) f.table f.entry f.at f.acted r)
 
--- the closed pieces, what was read in them, and the lines to come are the same
+-- The closed pieces, their steps, and the lines to come are the same.
 pub record SamePast (old new : Run) : Type 0 where
   pub pieces : new.pieces ≡ old.pieces
   pub traces : new.traces ≡ old.traces
   pub events : new.events ≡ old.events
 
--- the reading ends so for good, in a run with the same past; what world and piece then hold is open
+-- The reading ends for good this way, in a run with the same past; world and piece may then be anything.
 abbrev pub TableHalts : Halt → Run → Out → Type 0
 TableHalts halt r x = (s : Run) × (x ≡ halts halt s) × SamePast r s
 
--- What a reading comes to, where the machine turned out so, with these frames and this run: the outermost table was
--- left; the location is described again; the piece is closed, and the run goes on at the prompt along the frames; or
--- the piece is spent or a call too deep
+-- How a reading ends where the machine stopped this way, with these frames and this run: the outermost table was left;
+-- the location is described again; the piece is closed, and the run goes on at the prompt along the frames; or the
+-- piece is spent or a call too deep.
 abbrev pub ComesTo : Story → Turned → List Frame → Run → Out → Type 0
 ComesTo g (turned.Left acted) fs r x = x ≡ Left acted r
 ComesTo g turned.Redescribe fs r x = x ≡ Stopped Redescribes r
@@ -90,8 +91,8 @@ ComesTo g (turned.Waits p) fs r x = x ≡ on_path g p 0 (reverse fs) (closed r)
 ComesTo g (turned.Spent kind) fs r x = TableHalts (RunsOut kind) r x
 ComesTo g (turned.TooDeep u) fs r x = TableHalts (CallsTooDeep u) r x
 
--- Running on from what was held to what is held now: for every run that shows what was held there are the condacts that
--- were read besides, of which the machine keeps the steps, so that whatever lines come, going on comes to what is said
+-- Running on from what stood to what stands now: for every run that showed what stood there are further condacts that
+-- were read, of which the machine keeps the steps, so that, whatever lines come, going on ends in the way that is said.
 abbrev pub RunsTo : Story → Held → Turned → Held → Type 0
 RunsTo g old t new =
     (r : Run) → ShowsHeld r old → (steps : List Step) × HasRead (r.read ++ steps) new.machine
@@ -99,7 +100,7 @@ RunsTo g old t new =
     ComesTo g t new.machine.frames (to_come lines (run_held new (with_steps steps r)))
     (going_in g old.machine.frames (to_come lines r)))
 
--- after a stop the machine waits, or nothing is open
+-- After a stop the machine waits, or nothing is open.
 abbrev pub IsStopped : Turned → OpenTables → Type 0
 IsStopped (turned.Left acted) m = IsClosed m
 IsStopped turned.Redescribe m = IsClosed m
@@ -109,19 +110,19 @@ IsStopped (turned.TooDeep u) m = IsClosed m
 
 -- ---- answers ----
 
--- the machine waits for the answer to QUIT, or for a key
+-- The machine waits for the answer to QUIT, or for a key.
 abbrev pub AwaitsAnswer : OpenTables → Type 0
 AwaitsAnswer m = IsWaiting prompt.Quit m ⊎ IsWaiting prompt.Key m
 
--- In each valid game, going on along these frames from QUIT's question with a line that answers so is going on in the
--- new frames once the line is heard
+-- In each valid game, going on along these frames from QUIT's question with a line that gives this answer is going on
+-- in the new frames once the line is heard.
 abbrev pub AnswersQuit : Bool → List Frame → List Frame → Type 0
 AnswersQuit agrees old new =
     (g : Story) (line : Line) (lines : Lines) (r : Run) →
     Valid g.game → is_ignored r.world line ≡ false → is_yes (reply line) ≡ agrees →
     on_path g prompt.Quit 0 (reverse old) (to_come (line ∷ lines) r) ≡ going_in g new (heard line (to_come lines r))
 
--- so is going on from a key with any line
+-- The same holds of going on from a key, with any line.
 abbrev pub AnswersKey : List Frame → List Frame → Type 0
 AnswersKey old new =
     (g : Story) (line : Line) (lines : Lines) (r : Run) →

@@ -20,54 +20,54 @@ use Rattle.paw_process.specs.inner.OpenTables.{HasRead, ReadsStep, IsReading}
 use Rattle.paw_process.specs.inner.Meaning.{Held, run_held, with_steps, to_come, going_in, ComesTo, IsStopped}
 use Rattle.paw_process.specs.declared.Turned.{Turned}
 
--- a reading goes on in these frames with this run, or the machine has stopped at what it comes to
+-- A reading goes on in these frames with this run, or the machine has stopped where it ends.
 abbrev pub Continues : Story → Out → Option Turned → List Frame → Run → Type 0
 Continues g x None fs r = x ≡ going_in g fs r
 Continues g x (Some t) fs r = ComesTo g t fs r x
 
--- the machine may read on, or stands as it does after a stop
+-- The machine may read on, or is as it is after a stop.
 abbrev pub StandsOrTurned : Option Turned → OpenTables → Type 0
 StandsOrTurned None m = IsReading m
 StandsOrTurned (Some t) m = IsStopped t m
 
--- the run with this open loop
+-- The run with this open loop.
 abbrev pub turning_as : Option OpenLoop → Run → Run
 turning_as o r = record r { turning = o }
 
--- the run with this world and this open loop
+-- The run with this world and this open loop.
 abbrev pub looping : World → Option OpenLoop → Run → Run
 looping w o r = record r { world = w; turning = o }
 
--- what the reading comes to where the innermost table, above these frames, comes to this: its level's open loop goes on
+-- How the reading ends where the innermost table, above these frames, ends this way: its level's open loop goes on.
 abbrev pub resolved : Story → List Frame → Out → Out
 resolved g fs x = along g fs (again (length fs) (looped g (deeper g (length fs)) (length fs)) x)
 
--- reading on in the innermost table at the entry after this frame's
+-- Reads on in the innermost table at the entry after this frame's.
 abbrev pub next_of : Story → List Frame → Frame → Bool → Run → Out
 next_of g fs f = plain g (deeper g (length fs)) (length fs) f.table (suc f.entry) 0
 
--- reading on in the innermost table at the condact after this frame's
+-- Reads on in the innermost table at the condact after this frame's.
 abbrev pub past_of : Story → List Frame → Frame → Bool → Run → Out
 past_of g fs f = plain g (deeper g (length fs)) (length fs) f.table f.entry (suc f.at)
 
--- reading the condacts of this frame's entry from its condact on
+-- Reads the condacts of this frame's entry from its condact on.
 abbrev pub reading_at : Story → List Frame → Frame → Run → Out
 reading_at g fs f r =
     resolved g fs (inside g (deeper g (length fs)) (length fs) f.table f.entry f.at f.acted r)
 
--- going on in the innermost table after an action
+-- Goes on in the innermost table after an action.
 abbrev pub acted_at : Story → List Frame → Frame → Effect → Run → Out
 acted_at g fs f e r =
     resolved g fs (after_action g (deeper g (length fs)) (length fs) f (next_of g fs f) (past_of g fs f) e r)
 
--- a loop of the innermost table takes the next of the last n objects
+-- Lets a loop of the innermost table take the next of the last n objects.
 abbrev pub turning_at : Story → List Frame → OpenLoop → ℕ → Run → Out
 turning_at g fs l n r =
     along g fs (turns g (length fs) (record l { last = 0 })
     (plain g (deeper g (length fs)) (length fs) l.table l.entry (suc l.at) true) n r)
 
--- Reading what x says comes from what was held to what is held now: there are the condacts that were read, of which the
--- machine keeps the steps, so that whatever lines come the machine goes on to what x is, or has stopped at it
+-- Reading as x says leads from what stood to what stands now: there are condacts that were read, of which the machine
+-- keeps the steps, so that, whatever lines come, the machine goes on to what x is, or has stopped at it.
 abbrev pub ReadsTable : Story → (Run → Out) → Held → Option Turned → Held → Type 0
 ReadsTable g x old t new =
     (r : Run) → HasRead r.read old.machine → (steps : List Step) × HasRead (r.read ++ steps) new.machine
@@ -75,40 +75,40 @@ ReadsTable g x old t new =
     Continues g (x (to_come lines (run_held old r))) t new.machine.frames
     (to_come lines (run_held new (with_steps steps r))))
 
--- from one frame of the innermost table reading goes on at the condact of another
+-- From one frame of the innermost table, reading goes on at the condact of another.
 pub record Enters (g : GameLists) (w : World) (f e : Frame) : Type 0 where
   pub entry : e.entry < ENTRY_LIMIT
   pub low : f.entry ≤ e.entry
   pub goes : (X : RoutineRows) (fs : List Frame) (r : Run) → r.world ≡ w →
       going_in (story_of g X) (f ∷ fs) r ≡ reading_at (story_of g X) fs e r
 
--- from this frame reading goes on at none: the innermost table is left
+-- From this frame reading goes on at no condact: the innermost table is left.
 abbrev pub EntersNone : GameLists → World → Frame → Type 0
 EntersNone g w f =
     (X : RoutineRows) (fs : List Frame) (r : Run) → r.world ≡ w →
     going_in (story_of g X) (f ∷ fs) r ≡ resolved (story_of g X) fs (Left f.acted r)
 
--- reading one condact of this frame
+-- Reads one condact of this frame.
 abbrev pub one_at : Story → List Frame → Frame → Condact → Run → Out
 one_at g fs f c r =
     resolved g fs (reads_one g (deeper g (length fs)) (length fs) f (next_of g fs f) (past_of g fs f) c r)
 
--- reading it comes from what was held to what is held now: it is noted with yes or no, and so it is in every run
+-- Reading this condact leads from what stood to what stands now: it is noted with yes or no, and so it is in every run.
 abbrev pub ReadsOne : Story → List Frame → Frame → Condact → Held → Option Turned → Held → Type 0
 ReadsOne g fs f c old t new =
     (passed : Bool) × ReadsStep (step_at f c passed) old.machine new.machine × ((r : Run) →
     Continues g (one_at g fs f c (run_held old r)) t new.machine.frames (noted f c passed (run_held new r)))
 
--- where reading goes on after QUIT's question: at yes at the next condact, at no past the table, as after DONE
+-- Where reading goes on after QUIT's question: after yes at the next condact, after no past the table, as after DONE.
 abbrev pub after_quit : Bool → Frame → Frame
 after_quit true f = record f { at = f.at + 1 }
 after_quit false f = record { table = f.table; entry = ENTRY_LIMIT; at = 0; acted = true }
 
--- after a key reading goes on at the next condact, with an action carried out
+-- Where reading goes on after a key: at the next condact, with an action carried out.
 abbrev pub after_key : Frame → Frame
 after_key f = record f { at = f.at + 1; acted = true }
 
--- where reading goes on after PARSE: after a sentence at the next entry, else at the next condact
+-- Where reading goes on after PARSE: at the next entry after a sentence, otherwise at the next condact.
 abbrev pub after_found : Found → Frame → Frame
 after_found found.Sentence f = record { table = f.table; entry = f.entry + 1; at = 0; acted = f.acted }
 after_found found.Nothing f = record f { at = f.at + 1 }

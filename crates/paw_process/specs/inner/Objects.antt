@@ -7,16 +7,16 @@ use Rattle.paw_world.specs.World.{World, place, with_flag}
 use Rattle.paw_effects.specs.Effects.{referred}
 use Rattle.paw_reading.specs.Reading.{may_be_taken, named}
 
--- an object stands at a place, and a loop may take it
+-- Whether an object is at a place, and a loop may take it.
 abbrev pub is_next : GameLists → World → ℕ → ℕ → Bool
 is_next g w p o = (place w o == p) && may_be_taken w (facts_at g o)
 
--- of the last n objects, the least that a loop over a place takes as the world is; nothing where it takes none
+-- The least of the last n objects that a loop over a place takes in the world as it is; none where it takes none.
 unfoldable pub least_taken : GameLists → World → ℕ → ℕ → Option ℕ
 least_taken g w p zero = None
 least_taken g w p (suc n) =
     if is_next g w p (length g.objects - suc n) then Some (length g.objects - suc n) else least_taken g w p n
 
--- the world once a loop has taken an object
+-- The world once a loop has taken an object.
 abbrev pub with_taken : GameLists → World → ℕ → World
 with_taken g w o = referred (with_flag (named w (facts_at g o)) LOOP_FLAG o) o

@@ -9,8 +9,8 @@ use Rattle.paw_reading.specs.declared.places.OpenLoop.{OpenLoop}
 use Rattle.paw_reading.specs.Run.{Step}
 use Rattle.paw_process.specs.declared.machine.TheConstants.{MOST_FRAMES}
 
--- what a machine holds: the places in the tables that are open, the innermost first; the open loop; the prompt at which
--- it waits; how many condacts the open piece may still read; and what is kept of the steps of the piece
+-- What a machine holds: the frames of the open tables, the innermost first; the open loop; the prompt at which it
+-- waits; the number of condacts that the open piece may still read; and what is kept of the piece's steps.
 pub record OpenTables : Type 0 where
   pub frames : List Frame
   pub turning : Option OpenLoop
@@ -18,51 +18,52 @@ pub record OpenTables : Type 0 where
   pub left : ℕ
   pub steps : KeptSteps
 
--- the open piece has read these condacts, and so many in all as a piece may
+-- The open piece has read these condacts, and with what it may still read that makes as many as a piece may.
 pub record HasRead (read : List Step) (m : OpenTables) : Type 0 where
   pub left : length read + m.left ≡ READ_LIMIT
   pub steps : m.steps ≡ kept_steps read
 
--- no condact was read
+-- No condact was read.
 pub record ReadsNone (old new : OpenTables) : Type 0 where
   pub left : new.left ≡ old.left
   pub steps : new.steps ≡ old.steps
 
--- one was read, with this step
+-- One condact was read, with this step.
 pub record ReadsStep (step : Step) (old new : OpenTables) : Type 0 where
   pub left : old.left ≡ new.left + 1
   pub steps : new.steps ≡ with_step_noted step old.steps
 
--- the frames below the innermost
+-- The frames below the innermost.
 abbrev pub below : List Frame → List Frame
 below [] = []
 below (f ∷ fs) = fs
 
--- the frame stands at a condact
+-- The frame stands at a condact.
 pub record IsAtCondact (f : Frame) : Type 0 where
   pub at : f.at < CONDACT_LIMIT
   pub entry : f.entry < ENTRY_LIMIT
 
--- each of these frames stands at a condact
+-- Each of these frames stands at a condact.
 abbrev pub AtCondacts : List Frame → Type 0
 AtCondacts [] = Unit {0}
 AtCondacts (f ∷ fs) = IsAtCondact f × AtCondacts fs
 
--- the innermost frame stands before an entry, or in one
+-- The innermost frame stands before an entry, or in one.
 abbrev pub InTable : List Frame → Type 0
 InTable [] = Unit {0}
 InTable (f ∷ fs) = 0 < f.at → f.entry < ENTRY_LIMIT
 
--- the loop stands at a condact, and is one of these levels'
+-- The loop stands at a condact, and is one of these levels'.
 pub record IsLoopWithin (levels : ℕ) (l : OpenLoop) : Type 0 where
   pub at : l.at < CONDACT_LIMIT
   pub entry : l.entry < ENTRY_LIMIT
   pub level : l.level < levels
 
+-- The open loop, if any, stands at a condact, and is one of these levels'.
 abbrev pub LoopFits : ℕ → Option OpenLoop → Type 0
 LoopFits levels o = IfSome o (IsLoopWithin levels)
 
--- tables are open, at most eleven, and each but the innermost stands at a condact
+-- Tables are open, at most eleven, and each but the innermost stands at a condact.
 pub record AreOpen (frames : List Frame) (turning : Option OpenLoop) : Type 0 where
   pub some : 0 < length frames
   pub depth : length frames ≤ MOST_FRAMES
@@ -70,30 +71,30 @@ pub record AreOpen (frames : List Frame) (turning : Option OpenLoop) : Type 0 wh
   pub below : AtCondacts (below frames)
   pub loop : LoopFits (length frames) turning
 
--- the machine may read on
+-- The machine may read on.
 pub record IsReading (m : OpenTables) : Type 0 where
   pub tables : AreOpen m.frames m.turning
   pub waiting : m.waiting ≡ None
 
--- the machine waits at this prompt
+-- The machine waits at this prompt.
 pub record IsWaiting (p : Prompt) (m : OpenTables) : Type 0 where
   pub tables : AreOpen m.frames m.turning
   pub condacts : AtCondacts m.frames
   pub waiting : m.waiting ≡ Some p
 
--- no table is open, the budget is full, and there are no steps
+-- No table is open, the budget is full, and there are no steps.
 abbrev pub new_machine : OpenTables
 new_machine = record { frames = []; turning = None; waiting = None; left = READ_LIMIT; steps = no_steps }
 
--- the budget is full again, and there are no steps
+-- The budget is full again, and there are no steps.
 abbrev pub refilled : OpenTables → OpenTables
 refilled m = record m { left = READ_LIMIT; steps = no_steps }
 
--- this table alone is open, at its start
+-- This table alone is open, at its start.
 abbrev pub table_begun : ℕ → OpenTables → OpenTables
 table_begun t m = record m { frames = record { table = t; entry = 0; at = 0; acted = false } ∷ [] }
 
--- no table and no loop is open
+-- No table and no loop is open.
 pub record IsClosed (m : OpenTables) : Type 0 where
   pub frames : m.frames ≡ []
   pub turning : m.turning ≡ None

@@ -10,12 +10,12 @@ use Rattle.paw_phrase.specs.Pending.{PendingLine}
 use Rattle.paw_phrase.specs.Sentence.{Parsed, IsSentence, IsUnknown, IsNoPhrase, parsed}
 use Rattle.paw_reading.specs.Run.{spoken}
 
--- what the next phrase of a pending line is
+-- What the next phrase of a pending line is.
 abbrev pub next_phrase : GameLists → World → PendingLine → Parsed
 next_phrase g w p = parsed g p.bytes p.earlier (flag w PRONOUN_NOUN_FLAG) (flag w PRONOUN_ADJECTIVE_FLAG)
 
--- The next phrase is taken. A sentence stands in the flags, its bytes are gone, and its verb is the earlier one from
--- now on; the bytes of a phrase with no known word are gone; where there is no phrase nothing changes.
+-- The next phrase is taken. A sentence is in the flags, its bytes are gone, and its verb is the earlier one from now
+-- on; the bytes of a phrase with no known word are gone; where there is no phrase nothing changes.
 abbrev pub Speaks : GameLists → Found → World → World → PendingLine → PendingLine → Type 0
 Speaks g found.Sentence w w' old new =
     (s : Sentence) × (next_phrase g w old ≡ IsSentence s new.bytes) × (w' ≡ spoken s w) × (new.earlier ≡ s.verb)

@@ -15,24 +15,24 @@ use Rattle.paw_process.specs.inner.Meaning.{Held}
 use Rattle.paw_process.specs.inner.Moves.{StandsOrTurned}
 use Rattle.paw_process.specs.declared.Turned.{Turned}
 
--- the machine may read on, in a world of the game
+-- The machine may read on, in a world of the game.
 pub record IsReady (g : GameLists) (m : OpenTables) (w : World) : Type 0 where
   pub reading : IsReading m
   pub game : IsOf g w
 
--- one step may be made: the routines have rows, and the world can make a draw for each condact that is left
+-- One step may be made: the routines have rows, and the world can make a draw for each condact that is left.
 pub record MayStep {F : Type 0} (calls : Shared F (ℕ × (ℕ × Unit {0})) ℕ) (routines : Routines F) (g : GameLists)
     (m : OpenTables) (w : World) : Type 0 where
   pub ready : IsReady g m w
   pub rows : HaveRows calls routines
   pub draws : w.draws + m.left < 2 ^ 64
 
--- the innermost frame is this one, and it stands at a condact
+-- The innermost frame is this one, and it stands at a condact.
 pub record IsInnermost (f : Frame) (m : OpenTables) : Type 0 where
   pub top : m.frames ≡ f ∷ below m.frames
   pub place : IsAtCondact f
 
--- this condact may be read at the innermost frame: the budget isn't used up, and the world can make one draw more
+-- This condact may be read at the innermost frame: the budget isn't used up, and the world can make one draw more.
 pub record MayReadOne (g : GameLists) (f : Frame) (c : Condact) (m : OpenTables) (w : World) : Type 0 where
   pub ready : IsReady g m w
   pub at : IsInnermost f m
@@ -40,7 +40,7 @@ pub record MayReadOne (g : GameLists) (f : Frame) (c : Condact) (m : OpenTables)
   pub condact : is_right g c ≡ true
   pub draws : w.draws < 2 ^ 64 - 1
 
--- the machine may read on or has stopped; no condact is read, the world is the game's still, and nothing is drawn
+-- The machine may read on or has stopped; no condact is read, the world is the game's still, and nothing is drawn.
 pub record HasMoved (g : GameLists) (old : OpenTables) (w : World) (t : Option Turned)
     (new : OpenTables) (w' : World) : Type 0 where
   pub stands : StandsOrTurned t new
@@ -48,12 +48,12 @@ pub record HasMoved (g : GameLists) (old : OpenTables) (w : World) (t : Option T
   pub game : IsOf g w'
   pub draws : w'.draws ≡ w.draws
 
--- the world is the game's still, and each draw is paid for by a condact
+-- The world is the game's still, and each draw is paid for by a condact.
 pub record IsAfterStep (g : GameLists) (old new : Held) : Type 0 where
   pub game : IsOf g new.situation.world
   pub draws : new.situation.world.draws + new.machine.left ≤ old.situation.world.draws + old.machine.left
 
--- a step is made: the machine may read on or has stopped, and the world is as a step leaves it
+-- A step is made: the machine may read on or has stopped, and the world is as a step leaves it.
 pub record HasStepped (g : GameLists) (old : Held) (t : Option Turned) (new : Held) : Type 0 where
   pub stands : StandsOrTurned t new.machine
   pub step : IsAfterStep g old new

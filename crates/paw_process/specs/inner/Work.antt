@@ -5,20 +5,21 @@ use Rattle.paw_reading.specs.declared.places.Frame.{Frame}
 use Rattle.paw_reading.specs.declared.places.OpenLoop.{OpenLoop}
 use Rattle.paw_process.specs.inner.OpenTables.{OpenTables}
 
--- the entries that are left in each open table
+-- The entries that are left in each open table.
 abbrev pub frames_work : List Frame → ℕ
 frames_work [] = 0
 frames_work (f ∷ fs) = (suc ENTRY_LIMIT - f.entry) + 1 + frames_work fs
 
--- the objects that are left in the open loop
+-- The objects that are left in the open loop.
 abbrev pub loop_work : Option OpenLoop → ℕ
 loop_work None = 0
 loop_work (Some l) = (256 - l.last) * 5000
 
+-- What is left to do between two condacts that are read.
 abbrev pub work : OpenTables → ℕ
 work m = frames_work m.frames + loop_work m.turning
 
--- a condact was counted, or less is left to do
+-- A condact was counted, or less is left to do.
 pub data Progress (old new : OpenTables) : Type 0 where
   counts : new.left + 1 ≡ old.left → Progress old new
   falls : new.left ≡ old.left → work new < work old → Progress old new

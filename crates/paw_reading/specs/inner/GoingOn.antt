@@ -1,4 +1,4 @@
--- Going on from where a run waits inside tables: words that contracts between crates and proofs use beside those of
+-- Going on from where a run waits inside tables: words that contracts between crates and proofs use besides those of
 -- specs/GoingOn.antt.
 use Rattle.std.specs.Prelude.{ℕ, suc, List, [], ◌∷◌, ◌++◌, length}
 use Rattle.paw_base.specs.Bytes.{Lines}
@@ -8,16 +8,16 @@ use Rattle.paw_reading.specs.Run.{Run}
 use Rattle.paw_reading.specs.Reading.{Out, Left, Waits, Stopped, after_call, rest}
 use Rattle.paw_reading.specs.GoingOn.{on_path}
 
--- going on with what each open table was left with, the innermost first
+-- Goes on with what each open table was left with, the innermost first.
 abbrev pub along : Story → List Frame → Out → Out
 along g [] x = x
 along g (f ∷ fs) x = along g fs (after_call f (rest g (length fs) f.table f.entry (suc f.at)) x)
 
--- the run with these lines after those that are left
+-- The run with these lines after those that are left.
 abbrev pub with_lines : Lines → Run → Run
 with_lines lines r = record r { events = r.events ++ lines }
 
--- what reading at a level comes to where these lines follow
+-- How reading at a level ends where these lines follow.
 abbrev pub extended : Story → Lines → ℕ → Out → Out
 extended g lines lv (Left a r) = Left a (with_lines lines r)
 extended g lines lv (Waits p path r) = on_path g p lv path (with_lines lines r)

@@ -6,18 +6,18 @@ use Rattle.paw_reading.specs.Run.{Run}
 use Rattle.paw_reading.specs.Reading.{IsOver}
 use Rattle.paw_reading.specs.Turn.{Ending, WaitsAt, Halted, Unended, reading}
 
--- the pieces that are closed, and the lines that are left
+-- The number of closed pieces and of lines that are left.
 abbrev pub count : Run → ℕ
 count r = length r.pieces + length r.events
 
--- Of n lines: a reading that waits has taken each, and closed one piece before them and one for each; one that is over
--- has so for the lines that it took; one that is spent, or a call too deep, has not closed the piece that it was in
+-- Of n lines, a reading that waits has taken each, and closed one piece before them and one for each. One that is over
+-- has done so for the lines that it took. One that ran out, or called too deep, hasn't closed its last piece.
 abbrev pub Counted : ℕ → Ending → Type 0
 Counted n (WaitsAt p path r) = (r.events ≡ []) × (count r ≡ suc n)
 Counted n (Halted IsOver r) = count r ≡ suc n
 Counted n (Halted _ r) = count r ≡ n
 Counted n Unended = Unit {0}
 
--- a reading has one piece for each line, and one before them
+-- A reading has one piece for each line, and one before them.
 abbrev pub PiecesOfLines : Type 0
 PiecesOfLines = (g : Story) (seed : Seed) (es : Lines) → Counted (length es) (reading g seed es)

@@ -1,4 +1,4 @@
--- Where a run may wait: words that contracts between crates and proofs use beside those of specs/Places.antt.
+-- Where a run may wait: words that contracts between crates and proofs use besides those of specs/Places.antt.
 use Rattle.std.specs.Prelude.{◌≡◌, ◌≢◌, ℕ, suc, ◌<◌, ◌≤◌, List, [], ◌∷◌, Option, Some}
 use Rattle.std.specs.Prelude.{None, length, map, slice_get, IfSome, IsTrue, All}
 use Rattle.paw_base.specs.Bytes.{Lines, Seed}
@@ -21,63 +21,63 @@ use Rattle.paw_reading.specs.Reading.{IsOver}
 use Rattle.paw_reading.specs.Turn.{Ending, WaitsAt, Halted, reading, first_table, on}
 use Rattle.paw_reading.specs.Places.{waiting_code}
 
--- a condact with this code stands there
+-- A condact with this code stands at this place.
 pub record IsAt (g : GameLists) (code t e k : ℕ) : Type 0 where
   pub condact : Condact
   pub stands : condact_at g t e k ≡ Some condact
   pub is : condact.code ≡ code
 
--- a PROCESS stands at the frame, and calls this table
+-- A PROCESS stands at the frame, and calls this table.
 pub record IsCallOf (g : GameLists) (u : ℕ) (f : Frame) : Type 0 where
   pub condact : Condact
   pub stands : condact_at g f.table f.entry f.at ≡ Some condact
   pub process : condact.code ≡ PROCESS
   pub called : condact.a ≡ u
 
--- each frame but the last stands at a call of the next one's table, and the last at a condact with this code
+-- Each frame but the last stands at a call of the next one's table, and the last at a condact with this code.
 abbrev pub LeadsTo : GameLists → ℕ → List Frame → Type 0
 LeadsTo g code [] = ⊥
 LeadsTo g code (f ∷ []) = IsAt g code f.table f.entry f.at
 LeadsTo g code (f ∷ h ∷ path) = IsCallOf g h.table f × LeadsTo g code (h ∷ path)
 
--- the tables that are open, the outermost first
+-- The tables that are open, the outermost first.
 abbrev pub tables_of : List Frame → List ℕ
 tables_of path = map (λ f. f.table) path
 
--- a loop of one of these tables, by its level: it was opened by a DOALL, goes over the objects at a place of the game,
--- and took one of the game's objects last
+-- A loop of one of these tables, by its level: it was opened by a DOALL, goes over the objects at a place of the game,
+-- and took one of the game's objects last.
 pub record IsLoopIn (g : GameLists) (tables : List ℕ) (l : OpenLoop) : Type 0 where
   pub level : slice_get tables l.level ≡ Some l.table
   pub doall : IsAt g DOALL l.table l.entry l.at
   pub place : IsTrue (is_place (length g.locations) l.place)
   pub last : l.last < length g.objects
 
--- a loop of the outermost level belongs to this table
+-- A loop of the outermost level belongs to this table.
 abbrev pub IsLoopOf : ℕ → Option OpenLoop → Type 0
 IsLoopOf t turning = IfSome turning (λ l. l.level ≡ 0 → l.table ≡ t)
 
--- tables are open from 0, 1 or 2 to a condact with this code, eleven at most, and the loop is one of theirs
+-- Tables are open from 0, 1 or 2 to a condact with this code, eleven at most, and the loop is one of theirs.
 pub record AreOpenTo (g : GameLists) (code : ℕ) (path : List Frame) (turning : Option OpenLoop) : Type 0 where
   pub few : length path ≤ suc LEVEL_LIMIT
   pub outermost : first_table path ≤ 2
   pub leads : LeadsTo g code path
   pub loop : IfSome turning (IsLoopIn g (tables_of path))
 
--- open to this condact; without one nothing is open
+-- Tables are open to this condact; without one nothing is open.
 abbrev pub AreOpenAt : GameLists → Option ℕ → List Frame → Option OpenLoop → Type 0
 AreOpenAt g None path turning = (path ≡ []) × (turning ≡ None)
 AreOpenAt g (Some code) path turning = AreOpenTo g code path turning
 
--- the places of a run that waits at this prompt, or is over: in tables it waits at the prompt's condact
+-- The places of a run that waits at this prompt, or is over: in tables it waits at the prompt's condact.
 abbrev pub ArePlaces : GameLists → Prompt → List Frame → Option OpenLoop → Type 0
 ArePlaces g p path turning = AreOpenAt g (waiting_code p) path turning
 
--- with no table open nothing is left of the line
+-- With no table open nothing is left of the line.
 abbrev pub IsLineTaken : List Frame → Run → Type 0
 IsLineTaken path r = path ≡ [] → r.pending ≡ []
 
 -- A run stands as it may at its prompt: its world is the game's; what is left of the line has at most 255 bytes, and
--- with no table open nothing is left; the earlier verb is a byte; and the open piece is empty, with nothing read in it
+-- with no table open nothing is left; the earlier verb is a byte; and the open piece is empty, with nothing read in it.
 pub record StandsRightly (g : GameLists) (p : Prompt) (path : List Frame) (r : Run) : Type 0 where
   pub world : IsWorldOf g r.world
   pub places : ArePlaces g p path r.turning
@@ -87,7 +87,7 @@ pub record StandsRightly (g : GameLists) (p : Prompt) (path : List Frame) (r : R
   pub piece : r.current ≡ []
   pub read : r.read ≡ []
 
--- so does a reading that waits, or is over
+-- A reading that waits, or is over, stands as it may.
 abbrev pub StopsRightly : GameLists → Ending → Type 0
 StopsRightly g (WaitsAt p path r) = (p ≢ prompt.Over) × StandsRightly g p path r
 StopsRightly g (Halted IsOver r) = StandsRightly g prompt.Over [] r
@@ -95,29 +95,29 @@ StopsRightly g _ = Unit {0}
 
 -- ---- the laws ----
 
--- each reading of a valid story stops rightly
+-- Each reading of a valid story stops rightly.
 abbrev pub ReadingsStopRightly : Type 0
 ReadingsStopRightly =
     (g : Story) (seed : Seed) (es : Lines) → ValidStory g → All IsLine es → StopsRightly g.game (reading g seed es)
 
--- so does going on from where a run stands as it may
+-- Going on from where a run stands as it may stops rightly.
 abbrev pub GoingOnStopsRightly : Type 0
 GoingOnStopsRightly =
     (g : Story) (p : Prompt) (path : List Frame) (r : Run) → ValidStory g → All IsLine r.events →
     StandsRightly g.game p path r → StopsRightly g.game (on g p path r)
 
--- a reading that waits, or is over, keeps the bounds
+-- A reading that waits, or is over, keeps the bounds.
 abbrev pub StopsBounded : Seed → ℕ → Ending → Type 0
 StopsBounded seed n (WaitsAt p path r) = IsBounded seed n r
 StopsBounded seed n (Halted IsOver r) = IsBounded seed n r
 StopsBounded seed n _ = Unit {0}
 
--- each reading of a valid story keeps the bounds
+-- Each reading of a valid story keeps the bounds.
 abbrev pub ReadingsAreBounded : Type 0
 ReadingsAreBounded =
     (g : Story) (seed : Seed) (es : Lines) → ValidStory g → All IsLine es → StopsBounded seed 0 (reading g seed es)
 
--- so does going on from where a run stands as it may, and keeps them
+-- Going on from where a run stands as it may, within the bounds, keeps them.
 abbrev pub GoingOnIsBounded : Type 0
 GoingOnIsBounded =
     (g : Story) (seed n : ℕ) (p : Prompt) (path : List Frame) (r : Run) → ValidStory g → All IsLine r.events →

@@ -30,90 +30,90 @@ use Rattle.paw_reading.specs.GoingOn.{on_path}
 
 -- ---- words ----
 
--- reading on at the condact after a frame's
+-- Reads on at the condact after a frame's.
 abbrev pub past : Story → ℕ → Frame → Bool → Run → Out
 past g lv f acted r = rest g lv f.table f.entry (suc f.at) acted r
 
--- reading on at the entry after a frame's
+-- Reads on at the entry after a frame's.
 abbrev pub next : Story → ℕ → Frame → Bool → Run → Out
 next g lv f acted r = rest g lv f.table (suc f.entry) 0 acted r
 
--- reading on at a frame's condact, past the test of its entry
+-- Reads on at a frame's condact, without testing its entry's verb and noun.
 abbrev pub at_frame : Story → ℕ → Frame → Run → Out
 at_frame g lv f r = again lv (looped g (deeper g lv) lv) (inside g (deeper g lv) lv f.table f.entry f.at f.acted r)
 
--- the table at a level is to be left
+-- Leaves the table at a level.
 abbrev pub leaves : Story → ℕ → Bool → Run → Out
 leaves g lv acted r = again lv (looped g (deeper g lv) lv) (Left acted r)
 
--- a loop looks for its next object from number o on, and reads on after its DOALL
+-- Lets a loop look for its next object from number o on, and read on after its DOALL.
 abbrev pub looks : Story → ℕ → OpenLoop → ℕ → Run → Out
 looks g lv l o r =
     let body = plain g (deeper g lv) lv l.table l.entry (suc l.at) true in
     turns g lv (record l { last = 0 }) body (length g.game.objects - o) r
 
--- the table at the condact after a frame's, whatever loop is open
+-- Reads the table from the condact after a frame's, whatever loop is open.
 abbrev pub plain_past : Story → ℕ → Frame → Bool → Run → Out
 plain_past g lv f = plain g (deeper g lv) lv f.table f.entry (suc f.at)
 
--- the table at the entry after a frame's, whatever loop is open
+-- Reads the table from the entry after a frame's, whatever loop is open.
 abbrev pub plain_next : Story → ℕ → Frame → Bool → Run → Out
 plain_next g lv f = plain g (deeper g lv) lv f.table (suc f.entry) 0
 
--- how reading goes on after the action at a frame
+-- How reading goes on after the action at a frame.
 abbrev pub goes : Story → ℕ → Frame → Effect → Run → Out
 goes g lv f e r =
     again lv (looped g (deeper g lv) lv)
     (after_action g (deeper g lv) lv f (plain_next g lv f) (plain_past g lv f) e r)
 
--- the run after a condition
+-- The run after a condition.
 abbrev pub tested : Story → Condact → Run → Run
 tested g c r = with_world (holds g.game r.world c).world r
 
--- the run after a condition that didn't fail
+-- The run after a condition that didn't fail.
 abbrev pub passed : Story → Frame → Condact → Run → Run
 passed g f c r = noted f c true (tested g c r)
 
--- the question of QUIT after its test
+-- The question of QUIT after its test.
 abbrev pub question : Story → Condact → Run → Text
 question g c r = quit_question g (tested g c r)
 
--- the run after an action: its text is printed, and it is carried out
+-- The run after an action: its text is printed, and it is carried out.
 abbrev pub done : Story → Frame → Condact → Run → Run
 done g f c r =
     let d = effect_of g r.world c in
     carried_out d (printed d.text (noted f c true r))
 
--- the condact stands at the frame, and the open piece may read one more
+-- The condact stands at the frame, and the open piece may read one more.
 pub record MayRead (g : Story) (f : Frame) (c : Condact) (r : Run) : Type 0 where
   pub stands : condact_at g.game f.table f.entry f.at ≡ Some c
   pub left : length r.read < READ_LIMIT
 
--- the condact is a condition, and its test answers so
+-- The condact is a condition, and this is its answer.
 pub record IsTested (g : Story) (f : Frame) (c : Condact) (r : Run) (answer : Truth) : Type 0 where
   pub may : MayRead g f c r
   pub is : is_condition c ≡ true
   pub answers : (holds g.game r.world c).answer ≡ answer
 
--- the condact is an action, and its text fits or not
+-- The condact is an action, and its text fits or not.
 pub record IsActing (g : Story) (f : Frame) (c : Condact) (r : Run) (fit : Bool) : Type 0 where
   pub may : MayRead g f c r
   pub is : is_condition c ≡ false
   pub room : fits r (effect_of g r.world c).text ≡ fit
 
--- this line is the next, and it is heard
+-- This line is the next one, and is heard.
 pub record Hears (line : Line) (lines : Lines) (r : Run) : Type 0 where
   pub comes : r.events ≡ line ∷ lines
   pub counts : is_ignored r.world line ≡ false
 
--- the run once this line is heard, with these to come
+-- The run once this line is heard, with these lines to come.
 abbrev pub hearing : Line → Lines → Run → Run
 hearing line lines r = heard line (record r { events = lines })
 
 -- ---- rules ----
 
--- Entries: past the last the table is left; one that doesn't match now is passed over; the condacts of one that matches
--- are read, and past the last of them comes the next entry
+-- Entries: after the last the table is left; one that doesn't match now is passed over; the condacts of one that
+-- matches are read, and after the last of them comes the next entry.
 pub record ReadsEntries (g : Story) (lv : ℕ) : Type 0 where
   pub past_last : (t e : ℕ) (a : Bool) (r : Run) → entry_at g.game t e ≡ None → rest g lv t e 0 a r ≡ leaves g lv a r
   pub passed_over : (t e : ℕ) (en : Entry) (a : Bool) (r : Run) → entry_at g.game t e ≡ Some en →
@@ -125,7 +125,7 @@ pub record ReadsEntries (g : Story) (lv : ℕ) : Type 0 where
       at_frame g lv f r ≡ next g lv f f.acted r
 
 -- Condacts: a piece reads at most 200,000. A condition that holds leads to the next condact, one that fails to the next
--- entry; QUIT puts its question and waits. An action prints its text and is carried out; then its effect follows
+-- entry; QUIT asks its question and waits. An action prints its text and is carried out; then its effect follows.
 pub record ReadsCondacts (g : Story) (lv : ℕ) : Type 0 where
   pub used_up : (f : Frame) (c : Condact) (r : Run) → condact_at g.game f.table f.entry f.at ≡ Some c →
       READ_LIMIT ≤ length r.read → at_frame g lv f r ≡ halts (RunsOut spent.Condacts) r
@@ -144,7 +144,7 @@ pub record ReadsCondacts (g : Story) (lv : ℕ) : Type 0 where
 
 -- What follows an action: the next condact, with an action carried out; the way out of the table; the description, with
 -- no loop; a table one level deeper, down to level 10; a loop, from its first object on; a prompt, the piece closed; or
--- the next phrase, of which a sentence leads to the next entry
+-- the next phrase, of which a sentence leads to the next entry.
 pub record FollowsActions (g : Story) (lv : ℕ) : Type 0 where
   pub go : (f : Frame) (r : Run) → goes g lv f effect.Go r ≡ past g lv f true r
   pub exit : (f : Frame) (a : Bool) (r : Run) → goes g lv f (effect.Exit a) r ≡ leaves g lv a r
@@ -162,9 +162,9 @@ pub record FollowsActions (g : Story) (lv : ℕ) : Type 0 where
       goes g lv f effect.Parse r ≡ past g lv f f.acted r
   pub too_long : (f : Frame) (r : Run) → goes g lv f effect.Spent r ≡ halts (RunsOut spent.Text) r
 
--- The object loop: a table is left where no loop is open at its level; else the loop looks on above the object that it
--- took last. It takes the least object that it may take now, and reads on after its DOALL; with none it is closed, and
--- the table is left
+-- The object loop: a table is left where no loop is open at its level; otherwise the loop goes on above the object that
+-- it took last. It takes the least object that it may take now, and reads on after its DOALL; with none left it is
+-- closed, and the table is left.
 pub record TurnsLoops (g : Story) (lv : ℕ) : Type 0 where
   pub left : (a : Bool) (r : Run) → at_level lv r.turning ≡ None → leaves g lv a r ≡ Left a r
   pub looks_on : (a : Bool) (l : OpenLoop) (r : Run) → r.turning ≡ Some l → l.level ≡ lv →
@@ -177,9 +177,9 @@ pub record TurnsLoops (g : Story) (lv : ℕ) : Type 0 where
   pub none_left : (l : OpenLoop) (o : ℕ) (r : Run) → length g.game.objects ≤ o →
       looks g lv l o r ≡ Left true (without_loop r)
 
--- Prompts: along two frames or more, the outermost goes on after its call with what the others come to. With no line
--- the run waits; an ignored one closes an empty piece, and the run waits on. QUIT reads on at yes and leaves the table
--- at no; a key reads on; END ends the game at no and starts it anew otherwise
+-- Prompts: along two frames or more, the outermost goes on after its call with how the others end. With no line the run
+-- waits; an ignored line closes an empty piece, and the next is taken. QUIT reads on at yes and leaves the table at no;
+-- a key reads on; END ends the game at no and starts it anew otherwise.
 pub record AnswersPrompts (g : Story) (lv : ℕ) : Type 0 where
   pub above : (p : Prompt) (f h : Frame) (path : List Frame) (r : Run) →
       on_path g p lv (f ∷ h ∷ path) r ≡ after_call f (past g lv f) (on_path g p (suc lv) (h ∷ path) r)
@@ -200,7 +200,7 @@ pub record AnswersPrompts (g : Story) (lv : ℕ) : Type 0 where
       is_no (reply line) ≡ false →
       on_path g prompt.Again lv (f ∷ []) r ≡ Stopped Restarts (anew (hearing line lines r))
 
--- the rules of reading on, at each level of each game
+-- The rules of reading on, at each level of each game.
 pub record ReadingOn : Type 0 where
   pub entries : (g : Story) (lv : ℕ) → ReadsEntries g lv
   pub condacts : (g : Story) (lv : ℕ) → ReadsCondacts g lv

@@ -1,4 +1,4 @@
--- The positions that a game keeps: words that contracts between crates and proofs use beside those of
+-- The positions that a game keeps: words that contracts between crates and proofs use besides those of
 -- specs/Saving.antt.
 use Rattle.std.specs.Prelude.{◌≡◌, List, replicate, Option, None}
 use Rattle.paw_base.specs.Bytes.{Lines, Seed}
@@ -11,11 +11,11 @@ use Rattle.paw_reading.specs.Run.{Run}
 use Rattle.paw_reading.specs.Turn.{Ending, WaitsAt, Halted, Unended, reading, on}
 use Rattle.paw_reading.specs.Saving.{NeverSaves}
 
--- each of the positions is nothing
+-- Four positions, none of which is there.
 abbrev pub no_positions : List (Option Position)
 no_positions = replicate POSITION_COUNT None
 
--- where it waits, or play has ended for good, these positions are kept
+-- Where the reading waits, or play has ended for good, these positions are kept.
 abbrev pub EndsKeeping : List (Option Position) → Ending → Type 0
 EndsKeeping kept (WaitsAt p path r) = r.world.kept ≡ kept
 EndsKeeping kept (Halted halt r) = r.world.kept ≡ kept
@@ -23,12 +23,12 @@ EndsKeeping kept Unended = Unit {0}
 
 -- ---- the laws ----
 
--- no reading of a game that never saves keeps a position
+-- No reading of a game that never saves keeps a position.
 abbrev pub ReadingsKeepNoPosition : Type 0
 ReadingsKeepNoPosition =
     (g : Story) (seed : Seed) (es : Lines) → NeverSaves g.game → EndsKeeping no_positions (reading g seed es)
 
--- going on in it leaves the kept positions as they are
+-- Going on in such a game leaves the kept positions as they are.
 abbrev pub GoingOnKeepsPositions : Type 0
 GoingOnKeepsPositions =
     (g : Story) (p : Prompt) (path : List Frame) (r : Run) → NeverSaves g.game →

@@ -1,5 +1,5 @@
--- Steps of reading and of the turn that specs/Reading.antt and specs/Turn.antt say in place, by names: words that
--- contracts between crates and proofs use.
+-- Names for steps of reading and of the turn that specs/Reading.antt and specs/Turn.antt write out: contracts between
+-- crates and proofs use them.
 use Rattle.std.specs.Prelude.{ℕ, false, List}
 use Rattle.paw_base.specs.Bytes.{Line, Text}
 use Rattle.paw_base.specs.declared.messages.TheConstants.{QUIT_MESSAGE, GOODBYE_MESSAGE, UNKNOWN_MESSAGE}
@@ -19,32 +19,32 @@ use Rattle.paw_reading.specs.Turn.{Ending, first_table, table_done, turn}
 
 -- ---- tables ----
 
--- what a game says last
+-- What a game says last.
 abbrev pub goodbye : Story → Run → Text
 goodbye g r = say_text g.game r.world GOODBYE_MESSAGE
 
--- the question of QUIT
+-- The question of QUIT.
 abbrev pub quit_question : Story → Run → Text
 quit_question g r = put_text g.game r.world QUIT_MESSAGE
 
--- a condition is tested, in the world that its test leaves
+-- Tests a condition, and goes on in the world that its test leaves.
 abbrev pub tests : Story → Frame → Onward → Onward → Condact → Run → Tested → Out
 tests g f next go c r tested = after_test g f next go c (with_world tested.world r) tested.answer
 
--- PARSE takes the next phrase: a sentence leads to the next entry
+-- Lets PARSE take the next phrase: a sentence leads to the next entry.
 abbrev pub parses : Story → Frame → Onward → Onward → Run → Out
 parses g f next go r = after_parse f next go r (coming_phrase g r)
 
 -- ---- the turn ----
 
--- a line becomes the pending bytes, with no verb before
+-- The run with this line as its pending bytes, and no verb before.
 abbrev pub line_set : Line → Run → Run
 line_set line r = record r { world = with_timeout false r.world; pending = line; earlier = NO_WORD }
 
--- what is said to a phrase with no known word
+-- What is said of a phrase with no known word.
 abbrev pub unknown_text : GameLists → World → Text
 unknown_text g w = say_text g w UNKNOWN_MESSAGE
 
--- going on from a prompt inside tables, in at most n phases more
+-- Goes on from a prompt inside tables, in at most n more phases.
 abbrev pub in_table : Story → ℕ → Prompt → List Frame → Run → Ending
 in_table g n p path r = table_done g (turn g n) (first_table path) (on_path g p 0 path r)

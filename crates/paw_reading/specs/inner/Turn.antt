@@ -1,4 +1,4 @@
--- The turn, and the reading of a list of lines: words that contracts between crates and proofs use beside those of
+-- The turn, and the reading of a list of lines: words that contracts between crates and proofs use besides those of
 -- specs/Turn.antt.
 use Rattle.std.specs.Prelude.{◌≡◌, ◌≢◌, ℕ, ◌<◌, List, [], ◌++◌, length}
 use Rattle.paw_base.specs.Bytes.{Lines, Seed}
@@ -12,7 +12,7 @@ use Rattle.paw_reading.specs.Turn.{TurnPhase, Ending, WaitsAt, Halted, Unended, 
 
 -- ---- going on ----
 
--- a reading that waits goes on with these lines; another stays as it ended, with the lines untaken
+-- A reading that waits goes on with these lines; any other stays as it ended, with the lines untaken.
 abbrev pub followed : Story → Lines → Ending → Ending
 followed g lines (WaitsAt p path r) = on g p path (with_lines lines r)
 followed g lines (Halted halt r) = Halted halt (with_lines lines r)
@@ -20,25 +20,25 @@ followed g lines Unended = Unended
 
 -- ---- the laws ----
 
--- a reading ends: the phases that are granted are enough
+-- A reading ends: the phases that are granted are enough.
 abbrev pub TurnsEnd : Type 0
 TurnsEnd = (g : Story) (s : TurnPhase) (r : Run) → turns_from g s r ≢ Unended
 
--- more phases, or fewer that are enough, change nothing
+-- More phases, or fewer that are enough, change nothing.
 abbrev pub EndsOnce : Type 0
 EndsOnce = (g : Story) (n : ℕ) (s : TurnPhase) (r : Run) →
     turn g n s r ≢ Unended → turn g n s r ≡ turns_from g s r
 
--- so is it with going on from a prompt
+-- Going on from a prompt ends: the phases that are granted are enough.
 abbrev pub GoingOnEnds : Type 0
 GoingOnEnds = (g : Story) (p : Prompt) (path : List Frame) (r : Run) → on g p path r ≢ Unended
 
--- more phases, or fewer that are enough, change nothing of it
+-- More phases, or fewer that are enough, change nothing in going on.
 abbrev pub GoesOnOnce : Type 0
 GoesOnOnce = (g : Story) (n : ℕ) (p : Prompt) (path : List Frame) (r : Run) →
     goes_on g n p path r ≢ Unended → goes_on g n p path r ≡ on g p path r
 
--- inside tables a run waits along the frames of those that are open, and at the main prompt none is
+-- Inside tables a run waits along the frames of those that are open, and at the main prompt none is.
 abbrev pub MayWaitAlong : Prompt → List Frame → Type 0
 MayWaitAlong prompt.Main path = path ≡ []
 MayWaitAlong prompt.Quit path = 0 < length path
@@ -46,12 +46,12 @@ MayWaitAlong prompt.Again path = 0 < length path
 MayWaitAlong prompt.Key path = 0 < length path
 MayWaitAlong prompt.Over path = ⊥
 
--- with no line going on is the wait itself
+-- With no line going on is the wait itself.
 abbrev pub WaitsOn : Type 0
 WaitsOn = (g : Story) (p : Prompt) (path : List Frame) (r : Run) → MayWaitAlong p path → r.events ≡ [] →
     on g p path r ≡ WaitsAt p path r
 
--- reading more lines is reading some, and going on with the others
+-- Reading more lines is reading some, and going on with the others.
 abbrev pub GoingOnIsReading : Type 0
 GoingOnIsReading = (g : Story) (seed : Seed) (es fs : Lines) →
     reading g seed (es ++ fs) ≡ followed g fs (reading g seed es)

@@ -27,62 +27,62 @@ use Rattle.paw_state.specs.Fields.{prompt_of as listed_prompt}
 
 -- ---- rules and faults ----
 
--- nothing where the rule of a field holds; else the place of the field
+-- None where the rule of a field holds; otherwise the place of the field.
 abbrev pub rule : ℕ → Bool → Option ℕ
 rule at holds = if holds then None else Some at
 
--- the first of these faults; nothing where there is none
+-- The first of these faults; none where there is none.
 abbrev pub first : List (Option ℕ) → Option ℕ
 first [] = None
 first (o ∷ later) = option_or o (first later)
 
--- of bytes from this place on, the first that isn't so
+-- The place of the first byte that breaks this rule, where the first byte stands at this place.
 unfoldable pub first_not : (ℕ → Bool) → ℕ → List ℕ → Option ℕ
 first_not p at [] = None
 first_not p at (b ∷ bs) = if p b then first_not p (suc at) bs else Some at
 
 -- ---- the rules of the fields ----
 
--- a byte is 0
+-- A byte is 0.
 abbrev pub is_zero : ℕ → Bool
 is_zero b = b == 0
 
--- of the bytes for places the first are those of the objects, each a place of the game; the others are 0
+-- The first fault of the bytes for places: those of the objects come first, each a place of the game; the others are 0.
 abbrev pub places_fault : GameLists → ℕ → List ℕ → Option ℕ
 places_fault g at places = first (
     first_not (is_place (length g.locations)) at (take (length g.objects) places)
     ∷ first_not is_zero (at + length g.objects) (drop (length g.objects) places)
     ∷ [])
 
--- the flags and the places of a position that isn't there are 0
+-- The first fault of a position that isn't there: its flags and its places are 0.
 abbrev pub absent_fault : ℕ → Held → Option ℕ
 absent_fault at h = first (
     first_not is_zero (at + HELD_FLAGS) h.flags
     ∷ first_not is_zero (at + HELD_PLACES) h.places
     ∷ [])
 
--- whether a position is there is told by 0 or 1; one that isn't has zeros alone, and the places of one that is are as
--- those now
+-- The first fault of a position: 0 or 1 says whether it is there; one that isn't has zeros alone, and the places of one
+-- that is are like those of now.
 abbrev pub held_fault : GameLists → ℕ → Held → Option ℕ
 held_fault g at h = first (
     rule at (nat_le h.there 1)
     ∷ (if h.there == 0 then absent_fault at h else places_fault g (at + HELD_PLACES) h.places)
     ∷ [])
 
--- the first fault of positions that stand one after the other from this place on
+-- The first fault of positions that stand one after the other from this place on.
 unfoldable pub kept_fault : GameLists → ℕ → List Held → Option ℕ
 kept_fault g at [] = None
 kept_fault g at (h ∷ hs) = option_or (held_fault g at h) (kept_fault g (at + HELD_LENGTH) hs)
 
--- at most 1,000,000,000 lines were taken; the words drawn are at most 200,000 for each line, and 200,000 for the piece
--- before the first
+-- The first fault of the numbers: at most 1,000,000,000 lines were taken; the words drawn are at most 200,000 for each
+-- line, and 200,000 for the piece before the first.
 abbrev pub numbers_fault : Fields → Option ℕ
 numbers_fault f = first (
     rule EVENTS (nat_le f.events EVENT_LIMIT)
     ∷ rule DRAWS (nat_le f.draws (READ_LIMIT * (f.events + 1)))
     ∷ [])
 
--- the prompt of a code from 0 to 4; above it the game is over
+-- The prompt with this code, from 0 to 4; above 4 the game is over.
 abbrev pub prompt_of : ℕ → Prompt
 prompt_of n =
     if n == 0 then prompt.Main
@@ -91,15 +91,15 @@ prompt_of n =
     else if n == 3 then prompt.Key
     else prompt.Over
 
--- the prompt's code is one of 0 to 4; one to eleven tables are open at the prompts inside tables, and none at the
--- others
+-- The first fault of the prompt and the number of tables: the code is from 0 to 4; one to eleven tables are open at the
+-- prompts inside tables, and none at the others.
 abbrev pub prompt_fault : Fields → Option ℕ
 prompt_fault f = first (
     rule PROMPT (nat_le f.prompt 4)
     ∷ rule COUNT (count_fits (waiting_code (prompt_of f.prompt)) f.count)
     ∷ [])
 
--- a row that is not used is 0
+-- The first fault of an unused row: it is 0.
 abbrev pub unused_fault : ℕ → Row → Option ℕ
 unused_fault at r = first (
     rule at (r.table == 0)
@@ -108,8 +108,8 @@ unused_fault at r = first (
     ∷ rule (at + ROW_ACTED) (r.acted == 0)
     ∷ [])
 
--- one that is used is of the table that was called (the outermost of table 0, 1 or 2), and stands at a condact of this
--- code
+-- The first fault of a used row: it is of the table that was called (the outermost of table 0, 1 or 2), and stands at a
+-- condact with this code.
 abbrev pub used_fault : GameLists → ℕ → Option ℕ → ℕ → Row → Option ℕ
 used_fault g code caller at r = first (
     rule at (may_open caller r.table)
@@ -118,23 +118,23 @@ used_fault g code caller at r = first (
     ∷ rule (at + ROW_ACTED) (nat_le r.acted 1)
     ∷ [])
 
--- of n rows that are used from this one on, each but the last is at a PROCESS, and the last at the prompt's condact
+-- The first fault of a row from which on n are used: the last is at the prompt's condact, each other at a PROCESS.
 abbrev pub row_fault : GameLists → ℕ → Option ℕ → ℕ → ℕ → Row → Option ℕ
 row_fault g code caller n at r =
     if n == 0 then unused_fault at r else used_fault g (if n == 1 then code else PROCESS) caller at r
 
--- the table that the PROCESS of a row calls
+-- The table that the PROCESS of a row calls.
 abbrev pub called_table : GameLists → Row → Option ℕ
 called_table g r = Some (parameter_of (condact_at g r.table r.entry r.at))
 
--- the first fault of rows that stand from this place on, of which n are used, the first of them of the table that was
--- called
+-- The first fault of rows that stand from this place on, of which n are used, the first of them of the table that was
+-- called.
 unfoldable pub row_fields_fault : GameLists → ℕ → Option ℕ → ℕ → ℕ → List Row → Option ℕ
 row_fields_fault g code caller n at [] = None
 row_fields_fault g code caller n at (r ∷ rs) =
     option_or (row_fault g code caller n at r) (row_fields_fault g code (called_table g r) (n - 1) (at + ROW_LENGTH) rs)
 
--- without an open loop its bytes are 0
+-- The first fault of the bytes of a loop that isn't open: they are 0.
 abbrev pub no_loop_fault : OpenLoop → Option ℕ
 no_loop_fault l = first (
     rule LOOP_LEVEL (l.level == 0)
@@ -145,7 +145,7 @@ no_loop_fault l = first (
     ∷ rule LOOP_LAST (l.last == 0)
     ∷ [])
 
--- an open loop is at a DOALL of the table of its level, and its place and its last object are the game's
+-- The first fault of an open loop: it is at a DOALL of its level's table, and its place and last object are the game's.
 abbrev pub loop_fields_fault : GameLists → Fields → OpenLoop → Option ℕ
 loop_fields_fault g f l = first (
     rule LOOP_LEVEL (nat_lt l.level f.count)
@@ -156,26 +156,26 @@ loop_fields_fault g f l = first (
     ∷ rule LOOP_LAST (nat_lt l.last (length g.objects))
     ∷ [])
 
--- whether a loop is open is told by 0 or 1; none is where no table is. One that isn't open has zeros alone
+-- The first fault of the loop: 0 or 1 says whether one is open, and 0 where no table is; one that isn't is all 0.
 abbrev pub turning_fault : GameLists → Fields → Option ℕ
 turning_fault g f = first (
     rule LOOPING (nat_le f.looping (if f.count == 0 then 0 else 1))
     ∷ (if f.looping == 0 then no_loop_fault f.turning else loop_fields_fault g f f.turning)
     ∷ [])
 
--- the first fault of all rows: the last that is used is at the condact of the prompt, the first of table 0, 1 or 2
+-- The first fault of all rows: the last that is used is at the condact of the prompt, the first of table 0, 1 or 2.
 abbrev pub frame_fields_fault : GameLists → Fields → Option ℕ
 frame_fields_fault g f = row_fields_fault g (unwrap_or (waiting_code (prompt_of f.prompt)) 0) None f.count ROWS f.rows
 
--- no byte is pending where no table is open; the bytes behind those that are pending are 0
+-- The first fault of what is pending: nothing where no table is open; the bytes after those pending are 0.
 abbrev pub pending_fault : Fields → Option ℕ
 pending_fault f = first (
     rule PENDING (is_some (waiting_code (prompt_of f.prompt)) || (f.pending == 0))
     ∷ first_not is_zero (LINE + f.pending) (drop f.pending f.line)
     ∷ [])
 
--- The place of the first field that breaks its rule, in the order of the fields, but for one: how many lines were taken
--- is looked at before how many words were drawn
+-- The place of the first field that breaks its rule, in the order of the fields, with one exception: the number of
+-- lines is looked at before the number of words drawn.
 abbrev pub parts_fault : GameLists → Fields → Option ℕ
 parts_fault g f = first (
     places_fault g PLACES f.places
@@ -190,17 +190,17 @@ parts_fault g f = first (
 
 -- ---- of the list of fields ----
 
--- the place of the first field that breaks its rule
+-- The place of the first field that breaks its rule.
 abbrev pub fields_fault : GameLists → Fields → Option ℕ
 fields_fault g f = fault_from g 0 (state_fields f)
 
--- the condact at which a game waits at the prompt of these fields, where it is one inside tables
+-- The condact at which a game waits at the prompt of these fields, where it is one inside tables.
 abbrev pub inside : Fields → Option ℕ
 inside f = waiting_code (listed_prompt f.prompt)
 
 -- ---- what checks answer ----
 
--- a fault is the place of the field that breaks a rule
+-- What a check answers: a fault is the place of the field that breaks a rule.
 abbrev pub fault_of : Result (Unit {0}) StateFault → Option ℕ
 fault_of (Ok u) = None
 fault_of (Err e) = Some e.at

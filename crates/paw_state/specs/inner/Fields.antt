@@ -1,5 +1,5 @@
 -- The bytes of a state's fields, part by part, and where each field stands in them: words of contracts and proofs.
--- specs/Fields.antt says the bytes in one list.
+-- specs/Fields.antt has the bytes in one list.
 use Rattle.std.specs.Prelude.{ℕ, zero, suc, ◌+◌, List, [], ◌∷◌, ◌++◌, drop, flat_map, slice_index, slice_range}
 use Rattle.std.specs.List.{concat}
 use Rattle.std.specs.Int.{w16, w64, from_le_bytes, to_le_bytes}
@@ -18,59 +18,59 @@ use Rattle.paw_state.specs.declared.held.Held.{Held}
 
 -- ---- from fields to bytes ----
 
--- a number of eight bytes
+-- The bytes of a number of eight bytes.
 abbrev pub eight_bytes : ℕ → Bytes
 eight_bytes n = to_le_bytes w64 n
 
--- a frame: table, entry, condact, and 1 where an action was carried out
+-- The bytes of a frame: table, entry, condact, and 1 where an action was carried out.
 abbrev pub row_bytes : Row → Bytes
 row_bytes r = r.table ∷ (two_bytes r.entry ++ r.at ∷ r.acted ∷ [])
 
--- the open loop: level, table, entry, condact, place, last object
+-- The bytes of the open loop: level, table, entry, condact, place, last object.
 abbrev pub loop_bytes : OpenLoop → Bytes
 loop_bytes l = l.level ∷ l.table ∷ (two_bytes l.entry ++ l.at ∷ l.place ∷ l.last ∷ [])
 
--- a position that may be there: whether it is, its flags, and its places
+-- The bytes of a position that may be there: whether it is, its flags, and its places.
 unfoldable pub held_bytes : Held → Bytes
 held_bytes h = concat ((h.there ∷ []) ∷ h.flags ∷ h.places ∷ [])
 
--- flags and places, now and in the saved position
+-- The bytes of flags and places, now and in the saved position.
 unfoldable pub world_bytes : Fields → Bytes
 world_bytes f = concat (f.flags ∷ f.places ∷ held_bytes f.saved ∷ [])
 
--- the seed, how many words were drawn, and how many lines were taken
+-- The bytes of the seed, the number of words drawn, and the number of lines taken.
 unfoldable pub number_bytes : Fields → Bytes
 number_bytes f = concat (eight_bytes f.seed ∷ eight_bytes f.draws ∷ eight_bytes f.events ∷ [])
 
--- the prompt, the rows of the open tables, and the open loop
+-- The bytes of the prompt, the rows of the open tables, and the open loop.
 unfoldable pub table_bytes : Fields → Bytes
 table_bytes f = concat (
     (f.prompt ∷ f.count ∷ []) ∷ flat_map row_bytes f.rows ∷ (f.looping ∷ []) ∷ loop_bytes f.turning ∷ [])
 
--- what is pending, and how many bytes the last piece has
+-- The bytes of what is pending, and of the length of the last piece.
 unfoldable pub pending_bytes : Fields → Bytes
 pending_bytes f = concat ((f.earlier ∷ f.pending ∷ []) ∷ f.line ∷ two_bytes f.piece ∷ [])
 
--- the kept positions
+-- The bytes of the kept positions.
 unfoldable pub kept_position_bytes : Fields → Bytes
 kept_position_bytes f = flat_map held_bytes f.kept
 
--- the bytes of a state's fields
+-- The bytes of a state's fields.
 abbrev pub field_bytes : Fields → Bytes
 field_bytes f = concat (
     world_bytes f ∷ number_bytes f ∷ table_bytes f ∷ pending_bytes f ∷ kept_position_bytes f ∷ [])
 
 -- ---- from bytes to fields ----
 
--- the number in the two bytes from a place on
+-- The number in the two bytes from a place on.
 abbrev pub two_at : Bytes → ℕ → ℕ
 two_at bytes at = from_le_bytes w16 (slice_range bytes at (at + 2))
 
--- the number in the eight bytes from a place on
+-- The number in the eight bytes from a place on.
 abbrev pub eight_at : Bytes → ℕ → ℕ
 eight_at bytes at = from_le_bytes w64 (slice_range bytes at (at + 8))
 
--- the row in the bytes from the first on
+-- The row in these bytes, from the first on.
 abbrev pub row_at : Bytes → Row
 row_at bytes = record {
   table = slice_index bytes 0;
@@ -79,7 +79,7 @@ row_at bytes = record {
   acted = slice_index bytes ROW_ACTED;
 }
 
--- the position in the bytes from the first on
+-- The position in these bytes, from the first on.
 abbrev pub held_at : Bytes → Held
 held_at bytes = record {
   there = slice_index bytes 0;
@@ -87,12 +87,12 @@ held_at bytes = record {
   places = slice_range bytes HELD_PLACES HELD_LENGTH;
 }
 
--- so many rows
+-- This number of rows, from the first byte on.
 unfoldable pub rows_at : ℕ → Bytes → List Row
 rows_at zero bytes = []
 rows_at (suc n) bytes = row_at bytes ∷ rows_at n (drop ROW_LENGTH bytes)
 
--- where each field stands
+-- The fields in these bytes, each at its place.
 abbrev pub fields_at : Bytes → Fields
 fields_at bytes = record {
   flags = slice_range bytes FLAGS PLACES;

@@ -1,4 +1,4 @@
--- Bytes that are a state of a game: words that contracts between crates and proofs use beside those of specs/Fit.antt.
+-- Bytes that are a state of a game: words that contracts between crates and proofs use besides those of specs/Fit.antt.
 use Rattle.paw_base.specs.declared.layout.TheConstants.{STATE_LENGTH}
 use Rattle.std.specs.Prelude.{◌≡◌, ℕ, Option, take}
 use Rattle.paw_base.specs.Bytes.{Bytes}
@@ -12,16 +12,16 @@ use Rattle.paw_state.specs.State.{state_bytes}
 use Rattle.paw_state.specs.inner.Faults.{fields_fault}
 use Rattle.paw_state.specs.inner.Fields.{fields_at}
 
--- the place of the first field that breaks its rule; nothing where the bytes are fit
+-- The place of the first field that breaks its rule; none where the bytes are fit.
 abbrev pub unfit : GameLists → Bytes → Option ℕ
 unfit g bytes = fields_fault g (fields_at bytes)
 
--- the state of parts that were read
+-- The state of parts that were read.
 abbrev pub state_read : Restored → State
 state_read r = state_of r.world r.machine r.pending r.prompt r.events r.piece
 
 -- Parts that were read from bytes: the bytes are those of their state, which keeps its rules; the machine waits at the
--- prompt with a full budget
+-- prompt with a full budget.
 pub record IsRead (g : GameLists) (bytes : Bytes) (r : Restored) : Type 0 where
   pub are : take STATE_LENGTH bytes ≡ state_bytes (state_read r)
   pub keeps : Keeps g (state_read r)

@@ -12,27 +12,27 @@ use Rattle.paw_state.specs.Fit.{Fit, Unfit}
 use Rattle.paw_state.specs.inner.Fields.{fields_at}
 use Rattle.paw_state.specs.inner.Fit.{unfit}
 
--- fields stand at their places in the bytes that they are written to
+-- Fields stand at their places in the bytes that they are written to.
 abbrev pub FieldsStand : Type 0
 FieldsStand = (f : Fields) (rest : Bytes) → AreSized f → fields_at (bytes_of (state_fields f) ++ rest) ≡ f
 
--- so bytes have one fault at most, which is that of the fields at these places
+-- Bytes have one first fault at most, which is that of the fields at these places.
 abbrev pub OneFault : Type 0
 OneFault = (g : GameLists) (bytes : Bytes) (at : ℕ) → Unfit g bytes at → unfit g bytes ≡ Some at
 
--- bytes have a fault exactly where they are not fit
+-- Bytes have a fault exactly where they are not fit.
 abbrev pub FitOrUnfit : Type 0
 FitOrUnfit =
     (g : GameLists) (bytes : Bytes) → Valid g → STATE_LENGTH ≤ length bytes → AreBytes bytes →
     (unfit g bytes ≡ None) ↔ Fit g bytes
 
--- two states of a game with the same bytes are the same
+-- Two states of a game with the same bytes are the same.
 abbrev pub BytesTellTheState : Type 0
 BytesTellTheState =
     (g : GameLists) (s t : State) → Valid g → Keeps g s → FitsFields s → Keeps g t → FitsFields t →
     state_bytes s ≡ state_bytes t → s ≡ t
 
--- a state has so many bytes, which are fit for the game, whatever follows them
+-- A state has a fixed number of bytes, which are fit for the game, whatever follows them.
 abbrev pub WrittenIsFit : Type 0
 WrittenIsFit =
     (g : GameLists) (s : State) (rest : Bytes) → Valid g → Keeps g s → FitsFields s →

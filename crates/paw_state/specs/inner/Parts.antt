@@ -1,4 +1,4 @@
--- What the fields of a state say.
+-- What the fields of a state stand for.
 use Rattle.std.specs.Prelude.{◌≡◌, ℕ, ◌==◌, Option, Some, None, length, map, take, if◌then◌else◌}
 use Rattle.paw_game.specs.Game.{GameLists}
 use Rattle.paw_world.specs.World.{World, Position}
@@ -12,11 +12,11 @@ use Rattle.paw_state.specs.declared.held.Held.{Held}
 use Rattle.paw_state.specs.State.{State}
 use Rattle.paw_state.specs.inner.Faults.{prompt_of}
 
--- a position where it is there: the flags, and the places of so many objects
+-- The position, if it is there: its flags, and the places of this number of objects.
 abbrev pub held_in : ℕ → Held → Option Position
 held_in objects h = if h.there == 0 then None else Some (record { flags = h.flags; places = take objects h.places })
 
--- the world of the game with these flags, places, positions and draws
+-- The world of the game with these flags, places, positions and draws.
 abbrev pub world_in : GameLists → Fields → World
 world_in g f = record {
   facts = map (λ o. o.facts) g.objects;
@@ -29,19 +29,23 @@ world_in g f = record {
   draws = f.draws;
 }
 
+-- The frame of a row.
 abbrev pub frame_in : Row → Frame
 frame_in r = record { table = r.table; entry = r.entry; at = r.at; acted = (r.acted == 1) }
 
+-- The open loop, if there is one.
 abbrev pub turning_in : Fields → Option OpenLoop
 turning_in f = if f.looping == 0 then None else Some f.turning
 
+-- The frames of the open tables, and the open loop.
 abbrev pub frames_in : Fields → Frames
 frames_in f = record { count = f.count; rows = map frame_in f.rows; turning = turning_in f }
 
+-- The pending bytes, and the earlier verb.
 abbrev pub pending_in : Fields → PendingLine
 pending_in f = record { bytes = take f.pending f.line; earlier = f.earlier }
 
--- the state of these fields
+-- The state of these fields.
 abbrev pub state_in : GameLists → Fields → State
 state_in g f = record {
   world = world_in g f;
@@ -52,7 +56,7 @@ state_in g f = record {
   piece = f.piece;
 }
 
--- the flags and the places of a position become those of the world, now and saved
+-- The flags and the places of a position become those of the world, now and saved.
 abbrev pub SetsSaved : Held → World → World → Type 0
 SetsSaved h old new =
     new ≡ record old {

@@ -1,4 +1,4 @@
--- What a session keeps of a reading: words that contracts between crates and proofs use beside those of
+-- What a session keeps of a reading: words that contracts between crates and proofs use besides those of
 -- specs/Record.antt.
 use Rattle.std.specs.Prelude.{◌≡◌, ℕ, length, reverse}
 use Rattle.paw_effects.specs.declared.act.Prompt.{Prompt}
@@ -7,7 +7,7 @@ use Rattle.paw_process.specs.inner.OpenTables.{OpenTables}
 use Rattle.paw_state.specs.inner.State.{state_of}
 use Rattle.paw_state.specs.Record.{last_piece, state_at}
 
--- The state of a run is that of the parts that it shows
+-- The state of a run is that of the parts that it shows.
 abbrev pub StateOfParts : Type 0
 StateOfParts =
     (lines : ℕ) (at : Prompt) (m : OpenTables) (r : Run) → r.turning ≡ m.turning →

@@ -1,5 +1,5 @@
 -- What a session keeps of a game that is played, and the rules that it keeps: words that contracts between crates and
--- proofs use beside those of specs/State.antt.
+-- proofs use besides those of specs/State.antt.
 use Rattle.std.specs.Option.{unwrap_or}
 use Rattle.std.specs.Prelude.{◌≡◌, ℕ, ◌+◌, ◌*◌, ◌≤◌, [], Option, None, length, All, IfNone}
 use Rattle.paw_base.specs.declared.limits.TheConstants.{LINE_LIMIT, READ_LIMIT, EVENT_LIMIT}
@@ -18,16 +18,16 @@ use Rattle.paw_process.specs.declared.kept.Frames.{Frames}
 use Rattle.paw_reading.specs.declared.places.OpenLoop.{OpenLoop}
 use Rattle.paw_state.specs.State.{State}
 
--- the state of a game that waits at a prompt with these parts, its tables as they are kept
+-- The state of a game that waits at a prompt with these parts, its tables as they are kept.
 abbrev pub state_with : World → Frames → PendingLine → Prompt → ℕ → ℕ → State
 state_with w frames p at events piece =
     record { world = w; frames = frames; pending = p; prompt = at; events = events; piece = piece }
 
--- the state of a game that waits at a prompt with these parts
+-- The state of a game that waits at a prompt with these parts.
 abbrev pub state_of : World → OpenTables → PendingLine → Prompt → ℕ → ℕ → State
 state_of w m p at events piece = state_with w (kept m) p at events piece
 
--- the loop, or one that is all 0 where there is none
+-- The loop, or one that is all 0 where there is none.
 abbrev pub loop_or_zeros : Option OpenLoop → OpenLoop
 loop_or_zeros o = unwrap_or o (record { level = 0; table = 0; entry = 0; at = 0; place = 0; last = 0 })
 
@@ -36,7 +36,7 @@ loop_or_zeros o = unwrap_or o (record { level = 0; table = 0; entry = 0; at = 0;
 -- The rules of a state: the world is the game's, and sound, with each object at a place, now, in the saved position and
 -- in the kept ones; at most 1,000,000,000 lines were taken; the words drawn are at most 200,000 for each line, and
 -- 200,000 for the piece before the first; the open tables and the open loop are such as a game waits in at the prompt,
--- in eleven rows; at most 255 bytes are pending, and none where no table is open
+-- in eleven rows; at most 255 bytes are pending, and none where no table is open.
 pub record KeepsEach (g : GameLists) (s : State) : Type 0 where
   pub world : IsOf g s.world
   pub sound : IsWorld s.world

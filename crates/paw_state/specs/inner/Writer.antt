@@ -2,7 +2,7 @@
 use Rattle.std.specs.Prelude.{◌≡◌, ℕ, ◌+◌, ◌++◌, length}
 use Rattle.paw_base.specs.Bytes.{Bytes}
 
--- these bytes, so many, were written behind the others
+-- These bytes, of this number, were written after the others.
 pub record Writes (field : Bytes) (count : ℕ) (old new : Bytes) : Type 0 where
   pub puts : new ≡ old ++ field
   pub long : length new ≡ length old + count

@@ -1,10 +1,10 @@
--- The words of a command: words that contracts between crates and proofs use beside those of specs/Commands.antt.
+-- The words of a command: words that contracts between crates and proofs use besides those of specs/Commands.antt.
 use Rattle.std.specs.Prelude.{◌≡◌, Option, Some, None}
 use Rattle.paw_top.specs.declared.commands.Command.{Command as Given}
 use Rattle.paw_top.specs.declared.commands.Command.TheVariants as given
 use Rattle.paw_top.specs.Commands.{Command, Compile, Decompile, Walk, Play, Resume, Trace, Trial, Check, Wrap}
 
--- what the code's command asks for
+-- What the code's command asks for.
 abbrev pub meant : Given → Command
 meant (given.Compile source image) = Compile source.now image.now
 meant (given.Decompile image) = Decompile image.now
@@ -16,7 +16,7 @@ meant (given.Trial n) = Trial n
 meant (given.Check image) = Check image.now
 meant (given.Wrap width text) = Wrap width.columns text.now
 
--- the code's answer spells what is asked for
+-- The code's answer spells what is asked for.
 abbrev pub SpellsCommand : Option Given → Option Command → Type 0
 SpellsCommand None asked = asked ≡ None
 SpellsCommand (Some command) asked = asked ≡ Some (meant command)

@@ -1,5 +1,4 @@
--- What compiling a source comes to: words that contracts between crates and proofs use beside those of
--- specs/Compile.antt.
+-- How compiling a source ends: words that contracts between crates and proofs use besides those of specs/Compile.antt.
 use Rattle.std.specs.Prelude.{◌≡◌, ◌⊎◌, Result, Err, Option, Some}
 use Rattle.paw_base.specs.Bytes.{Bytes, Name, Text}
 use Rattle.paw_base.specs.declared.fault.SourceFault.{SourceFault}
@@ -12,13 +11,13 @@ use Rattle.paw_top.specs.declared.outcome.Outcome.TheVariants as outcome
 
 -- ---- on the way ----
 
--- why a source that is read so gives no image: its fault, or want of memory
+-- Why a source that reads this way gives no image: its fault, or lack of memory.
 abbrev pub IsRefusal : Result GameLists SourceFault → Outcome → Type 0
 IsRefusal read (outcome.SourceRefused fault) = read ≡ Err fault
 IsRefusal read (outcome.Memory at) = Unit {0}
 IsRefusal read _ = ⊥
 
--- how saving a file and then showing a line leave what stands, by the answer
+-- How saving a file and then showing a line ends, and what it leaves.
 abbrev pub SavesSo : Name → Bytes → Text → Standing → Standing → Outcome → Type 0
 SavesSo name bytes line old new (outcome.Outside call.Save) =
     (new ≡ old) ⊎ ((left : Option Bytes) × Saves old new name left)

@@ -1,4 +1,4 @@
--- What a command comes to where nothing outside fails: words of a law that follows from what each command comes to.
+-- How a command ends where nothing outside fails: words of a law that follows from what is said of each command.
 use Rattle.std.specs.Prelude.{◌≡◌, ◌≢◌, ℕ, [], ◌∷◌, length, Result, Ok, Err, Some, nat_le, if◌then◌else◌}
 use Rattle.paw_base.specs.Bytes.{Bytes, Name, RoutineRows, Seed, Text}
 use Rattle.paw_base.specs.declared.fault.SourceFault.{SourceFault}
@@ -31,27 +31,27 @@ use Rattle.paw_top.specs.Walk.{WalksAs, reading_traced}
 use Rattle.paw_top.specs.declared.outcome.Outcome.{Outcome}
 use Rattle.paw_top.specs.declared.outcome.Outcome.TheVariants as outcome
 
--- this is the answer that is due, or memory was wanting
+-- This is the answer that is due, or memory was lacking.
 abbrev pub Comes : Outcome → Outcome → Type 0
 Comes due (outcome.Memory at) = Unit {0}
 Comes due o = o ≡ due
 
--- the file was refused as no image, by the place of its first damage, or memory was wanting
+-- The file was refused as no image, with the place of its first damage, or memory was lacking.
 abbrev pub IsDamaged : Standing → Name → Outcome → Type 0
 IsDamaged old name (outcome.ImageDamaged at) = HoldsDamage old name at
 IsDamaged old name (outcome.Memory at) = Unit {0}
 IsDamaged old name _ = ⊥
 
--- a source that spells a game is compiled, and any other is refused for its fault
+-- A source that spells a game is compiled, and any other is refused for its fault.
 abbrev pub CompletesSource : Result GameLists SourceFault → Outcome → Type 0
 CompletesSource (Ok g) o = Comes outcome.Done o
 CompletesSource (Err fault) o = Comes (outcome.SourceRefused fault) o
 
--- where the source is there, it is compiled or refused
+-- Where the source is there, it is compiled or refused.
 abbrev pub CompletesCompile : Name → Standing → Outcome → Type 0
 CompletesCompile source old o = (bytes : Bytes) → old.files source ≡ Some bytes → CompletesSource (spelled bytes) o
 
--- playing came to its end, or memory was wanting
+-- Playing ended, or memory was lacking.
 abbrev pub IsWalked : Outcome → Type 0
 IsWalked outcome.Ended = Unit {0}
 IsWalked outcome.InputEnded = Unit {0}
@@ -61,12 +61,12 @@ IsWalked (outcome.Long events) = Unit {0}
 IsWalked (outcome.Memory at) = Unit {0}
 IsWalked _ = ⊥
 
--- a new session is played in an empty store, and a store with bytes is refused
+-- A new session is played in an empty store, and a store with bytes is refused.
 abbrev pub CompletesNew : Bytes → Outcome → Type 0
 CompletesNew [] o = IsWalked o
 CompletesNew (b ∷ bytes) o = Comes (outcome.Occupied (length (b ∷ bytes))) o
 
--- a session of the story that shows a state of its game is played on, and any other store is refused
+-- A session of the story that shows a state of its game is played on, and any other store is refused.
 pub record CompletesAgain (g : Story) (bytes : Bytes) (o : Outcome) : Type 0 where
   pub shown : (d : Digests) (st : State) (piece : Text) → IsOfStory g d → ShowsState g.game d bytes st piece →
       IsWalked o
@@ -75,13 +75,13 @@ pub record CompletesAgain (g : Story) (bytes : Bytes) (o : Outcome) : Type 0 whe
       ((st : State) → ¬ ShowsState g.game d bytes st piece) →
       (at : ℕ) × Comes (outcome.SessionDamaged part.State at) o
 
--- where the image is there, such an answer comes of its game; where the file is no image, it is refused
+-- Where the image is there, such an answer follows from its game; where the file is no image, it is refused.
 pub record CompletesImage (name : Name) (Such : GameLists → Outcome → Type 0) (old : Standing)
     (o : Outcome) : Type 0 where
   pub image : (g : GameLists) → Holds old name g → Such g o
   pub other : HoldsNone old name → IsDamaged old name o
 
--- the answer that a trial is due, by how the reading of its lines ends
+-- The answer that a trial is due, by how the reading of its lines ends.
 abbrev pub due : Ending → Outcome
 due (WaitsAt p path r) = outcome.Done
 due (Halted IsOver r) = outcome.Ended
@@ -89,13 +89,13 @@ due (Halted (RunsOut kind) r) = outcome.Spent kind
 due (Halted (CallsTooDeep table) r) = outcome.TooDeep table
 due Unended = outcome.Done
 
--- where the text is there, it is shown, or refused where it is too long
+-- Where the text is there, it is shown, or refused where it is too long.
 abbrev pub CompletesWrap : Name → Standing → Outcome → Type 0
 CompletesWrap name old o = (bytes : Bytes) → old.files name ≡ Some bytes →
     Comes (if nat_le (length bytes) WRAP_LIMIT then outcome.Done else outcome.TextTooLong) o
 
--- What a command comes to where nothing outside fails and the file that it loads is there: it does its work, or refuses
--- the file or the store, or memory was wanting.
+-- How a command ends where nothing outside fails and the file that it loads is there: it does its work, or refuses the
+-- file or the store, or memory was lacking.
 pub record EachCompletes : Type 0 where
   pub compile : (source target : Name) (old new : Standing) (o : Outcome) → Compiles source target old new o →
       IsUnhindered o → CompletesCompile source old o

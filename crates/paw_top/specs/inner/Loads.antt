@@ -1,4 +1,4 @@
--- What loading a file comes to: words that contracts between crates and proofs use beside those of specs/Loads.antt.
+-- How loading a file ends: words that contracts between crates and proofs use besides those of specs/Loads.antt.
 use Rattle.std.specs.Prelude.{◌≡◌, ℕ, ◌+◌, take, Some, None}
 use Rattle.paw_base.specs.Bytes.{Bytes, Name}
 use Rattle.paw_game.specs.Game.{GameLists}
@@ -9,23 +9,23 @@ use Rattle.paw_stage.specs.declared.StageCall.TheVariants as call
 use Rattle.paw_top.specs.declared.outcome.Outcome.{Outcome}
 use Rattle.paw_top.specs.declared.outcome.Outcome.TheVariants as outcome
 
--- the file of this name holds no image of a valid game
+-- The file of this name holds no image of a valid game.
 abbrev pub HoldsNone : Standing → Name → Type 0
 HoldsNone s name = (bytes : Bytes) × (s.files name ≡ Some bytes) × ((g : GameLists) → ¬ IsImage bytes g)
 
--- a load that gave nothing, by its answer; nothing is changed
+-- A load that gave nothing, by its answer; nothing is changed.
 abbrev pub LoadsNone : Name → Standing → Standing → Outcome → Type 0
 LoadsNone name old new (outcome.Outside call.LoadAbsent) = (old.files name ≡ None) × (new ≡ old)
 LoadsNone name old new (outcome.Outside call.Load) = new ≡ old
 LoadsNone name old new (outcome.Memory at) = new ≡ old
 LoadsNone name old new _ = ⊥
 
--- a load that gave these bytes: the whole file, or one more than the most where it has more; nothing is changed
+-- A load that gave these bytes: the whole file, or one more than the most where it has more; nothing is changed.
 abbrev pub LoadsSome : Name → ℕ → Standing → Standing → Bytes → Type 0
 LoadsSome name most old new given = (bytes : Bytes) × (old.files name ≡ Some bytes) × (given ≡ take (most + 1) bytes)
     × (new ≡ old)
 
--- why bytes that were loaded give no game: they are no image of a valid one, or memory was wanting
+-- Why bytes that were loaded give no game: they are no image of a valid one, or memory was lacking.
 abbrev pub GivesNone : Bytes → Outcome → Type 0
 GivesNone bytes (outcome.ImageDamaged at) = ((g : GameLists) → ¬ IsImage bytes g) × (bad bytes ≡ Some at)
 GivesNone bytes (outcome.Memory at) = Unit {0}

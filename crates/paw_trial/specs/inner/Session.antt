@@ -23,28 +23,29 @@ use Rattle.paw_trial.specs.declared.TrialEnd.{TrialEnd}
 use Rattle.paw_trial.specs.declared.TrialEnd.TheVariants as end
 use Rattle.paw_trial.specs.declared.Tally.{Tally}
 
--- the name of the store
+-- The name of the store.
 abbrev pub store_name : Name
 store_name = codes "trial"
 
--- the lines are played in two halves
+-- The first half of the lines of a trial, rounded down.
 abbrev pub first_half : ℕ → Lines
 first_half n = take (length (trial_lines n) / 2) (trial_lines n)
 
+-- The second half of the lines.
 abbrev pub second_half : ℕ → Lines
 second_half n = drop (length (trial_lines n) / 2) (trial_lines n)
 
--- the lines of a half
+-- The lines of a half.
 abbrev pub lines_of : Half → ℕ → Lines
 lines_of half.First n = first_half n
 lines_of half.Second n = second_half n
 
--- the lines that are played once a half is
+-- The lines that are played once a half is.
 abbrev pub lines_by : Half → ℕ → Lines
 lines_by half.First n = first_half n
 lines_by half.Second n = trial_lines n
 
--- the reading waits for another line
+-- The reading waits for another line.
 abbrev pub Waits : Ending → Type 0
 Waits (WaitsAt p path r) = Unit {0}
 Waits _ = ⊥
@@ -62,7 +63,7 @@ abbrev pub IsReadyFor : Half → ℕ → Memory → Type 0
 IsReadyFor half.First n m = m ≡ empty 4000 16000000
 IsReadyFor half.Second n m = HoldsLines n (first_half n) (standing_of m)
 
--- The lines of a half are played: with a new session, or with that session taken up again.
+-- The lines of a half are played: with a new session, or with that session resumed.
 abbrev pub PlaysHalf : Half → ℕ → Standing → Standing → PlayEnd → Type 0
 PlaysHalf half.First n old new end = NewSession (begun (trial_story n) n store_name) old new end
 PlaysHalf half.Second n old new end = PlaysAgain (trial_story n) store_name old new end
@@ -72,7 +73,7 @@ abbrev pub ComesTo : ℕ → Lines → Standing → Option TrialEnd → Type 0
 ComesTo n es new None = HoldsLines n es new
 ComesTo n es new (Some stop) = StopsAs stop (trial_reading n)
 
--- how a trial stops where playing comes to this; it goes on where no line is left
+-- How a trial stops where playing ends this way; it goes on where no line is left.
 abbrev pub stop_of : PlayEnd → Option TrialEnd
 stop_of play.InputEnded = None
 stop_of play.Ended = Some end.Ended
@@ -80,15 +81,16 @@ stop_of (play.Spent kind) = Some (end.Spent kind)
 stop_of (play.TooDeep table) = Some (end.TooDeep table)
 stop_of _ = Some end.Memory
 
--- what a world counts
+-- What a world counts.
 abbrev pub tally_of : World → Tally
 tally_of w = record { turns = turns_taken w; at = flag w LOCATION_FLAG; carried = flag w CARRIED_FLAG }
 
+-- The reading waits, and this is what its world counts.
 abbrev pub IsTallyOf : Ending → Tally → Type 0
 IsTallyOf (WaitsAt p path r) t = t ≡ tally_of r.world
 IsTallyOf _ t = ⊥
 
--- what the bytes of a state count; they begin with the flags
+-- What the bytes of a state, which begin with the flags, count.
 abbrev pub tally_in : Bytes → Tally
 tally_in state = record {
   turns = slice_index state LOW_TURNS_FLAG + 256 * slice_index state HIGH_TURNS_FLAG;

@@ -26,7 +26,7 @@ use Rattle.paw_turn.specs.declared.Step.TheVariants as step
 pub use Rattle.paw_turn.specs.inner.Player.{prompt_at, IsStanding}
 use Rattle.paw_turn.specs.inner.Player.{Seat, IsSeated, StandsClosed, StandRightly, run_at}
 
--- a player waits at its prompt, and where the game is over it has ended
+-- How the last line of a player ended: the player waits at this prompt, or the game is over.
 abbrev pub prompt_step : Prompt → Step
 prompt_step prompt.Main = step.Waits prompt.Main
 prompt_step prompt.Quit = step.Waits prompt.Quit
@@ -34,13 +34,13 @@ prompt_step prompt.Again = step.Waits prompt.Again
 prompt_step prompt.Key = step.Waits prompt.Key
 prompt_step prompt.Over = step.Ended
 
--- Parts fit a game at a prompt: they stand there as a run may, and the machine waits at the prompt, or no table is open
--- where it is the main one or the game is over
+-- Parts fit a game at a prompt: they stand there as a run may, and the machine waits at the prompt or, where it is the
+-- main one or the game is over, no table is open.
 pub record Fits (g : GameLists) (w : World) (m : OpenTables) (p : PendingLine) (at : Prompt) : Type 0 where
   pub machine : StandsClosed (prompt_step at) m
   pub rightly : StandRightly g at w m p
 
--- the player of a game that stands at a prompt with these parts, and shows no piece
+-- The player of a game that stands at a prompt with these parts, and shows no piece.
 abbrev pub seat_at : {F : Type 0} → GameLists → Routines F → World → OpenTables → PendingLine → Prompt → Seat F
 seat_at g routines w m p at = record {
   game = g;
@@ -54,38 +54,38 @@ seat_at g routines w m p at = record {
 
 -- ---- laws ----
 
--- with no table open nothing is left of the line
+-- With no table open nothing is left of the line.
 abbrev pub IsLineTaken : OpenTables → PendingLine → Type 0
 IsLineTaken m p = m.frames ≡ [] → p.bytes ≡ []
 
--- what is pending is a line of at most 255 bytes, of which nothing is left where no table is open; the earlier verb is
--- a byte
+-- What is pending is a line of at most 255 bytes, of which nothing is left where no table is open; the earlier verb is
+-- a byte.
 pub record IsPending (m : OpenTables) (p : PendingLine) : Type 0 where
   pub bytes : IsLine p.bytes
   pub taken : IsLineTaken m p
   pub earlier : p.earlier < 256
 
--- a world of the game, a machine that was restored for it, and what may be pending there fit the game
+-- Parts that a session gives back fit: a world of the game, a machine restored for it, what may be pending there.
 abbrev pub RestoredFits : Type 0
 RestoredFits =
     (g : GameLists) (at : Prompt) (k : Frames) (w : World) (m : OpenTables) (p : PendingLine) →
     IsWorldOf g w → IsPending m p → length k.rows ≡ MOST_FRAMES →
     m ≡ restored k (waiting_at at) → MachineStandsAt at m → frames_fault g at k ≡ None → Fits g w m p at
 
--- the player that stands with what is kept of a player's machine, and with its other parts
+-- The player that stands with what is kept of a player's machine, and with its other parts.
 abbrev pub seated_again : {F : Type 0} → Seat F → Seat F
 seated_again p =
     let at = prompt_at p.last in
     seat_at p.game p.routines p.world (restored (kept p.machine) (waiting_at at)) p.pending at
 
--- it is the same player, but that it shows no piece and keeps no steps, and its budget is full
+-- A player seated with its own parts is the same, except that it shows no piece, keeps no steps, and has a full budget.
 abbrev pub SeatedAgain : Type 0 → Type 0
 SeatedAgain F =
     (p : Seat F) → IsSeated p → IsStanding p.last →
     seated_again p ≡ record p { piece = []; machine = refilled p.machine }
 
--- what lines lead to depends on neither the last piece, nor the budget that it left, nor its steps: each line opens a
--- piece of its own
+-- What follows from lines depends on neither the last piece, nor the budget that it left, nor its steps: each line
+-- opens a piece of its own.
 abbrev pub GoesOnAlike : Type 0 → Type 0
 GoesOnAlike F =
     (g : Story) (p : Seat F) (at : Prompt) (piece : Text) (left : ℕ) (steps : KeptSteps)

@@ -1,4 +1,4 @@
--- What the phases of a turn come to in the reading. The contracts of private functions alone speak of this.
+-- What the phases of a turn mean in the reading. Only the contracts of private functions use this.
 use Rattle.std.specs.Prelude.{◌≡◌, ℕ, zero, suc, ◌+◌, ◌*◌, ◌<◌, ◌≤◌, ◌^◌, Bool, false, List, Option}
 use Rattle.std.specs.Prelude.{[], ◌∷◌, ◌++◌, length, reverse, if◌then◌else◌}
 use Rattle.std.specs.Fn.{Shared}
@@ -38,14 +38,14 @@ use Rattle.paw_turn.specs.inner.Player.{Seat, WaitsIn, StandsAt, StandsClosed}
 
 -- ---- runs ----
 
--- what was read in the open piece, and the closed pieces with what was read in them
+-- The steps of the open piece, and the closed pieces with theirs.
 pub record Past : Type 0 where
   pub read : List Read
   pub pieces : Texts
   pub traces : List (List Read)
 
--- the run with this world, this pending line and its earlier verb, this open loop, this text in the open piece, this
--- past, and these lines to come
+-- The run with this world, this pending line and its earlier verb, this open loop, this text in the open piece, this
+-- past, and these lines to come.
 abbrev pub run_from : World → Bytes → ℕ → Option OpenLoop → Text → Past → Lines → Run
 run_from w bytes earlier turning text past lines = record {
   world = w;
@@ -59,92 +59,94 @@ run_from w bytes earlier turning text past lines = record {
   events = lines;
 }
 
--- the run that shows what is held, with this past and these lines to come
+-- The run that shows what stands in a turn, with this past and these lines to come.
 abbrev pub run_now : Turn → Past → Lines → Run
 run_now h past lines =
     let s = h.situation in
     run_from s.world s.pending.bytes s.pending.earlier h.machine.turning s.piece past lines
 
--- the open piece has read some condacts
+-- The open piece has read some condacts.
 abbrev pub HasReadSome : OpenTables → Type 0
 HasReadSome m = (read : List Read) × HasRead read m
 
+-- The past with these steps of the open piece.
 abbrev pub having_read : List Read → Past → Past
 having_read read past = record past { read = read }
 
 -- ---- phases ----
 
+-- The phase of the reading that is the code's phase.
 abbrev pub at_phase : Phase → TurnPhase
 at_phase phase.Describe = AtDescribe
 at_phase phase.TimeFrame = AtTimeFrame
 at_phase phase.Phrase = AtPhrase
 at_phase phase.Response = AtResponse
 
--- a turn ends so for good, in a run with the same past
+-- A turn ends for good this way, in a run with the same past.
 abbrev pub TurnHalts : Halt → Run → Ending → Type 0
 TurnHalts halt r x = (s : Run) × (x ≡ Halted halt s) × SamePast r s
 
--- a turn stops here: it waits along the frames, or it is over, with the piece closed; or it is spent or a call is too
--- deep, with no piece more
+-- A turn stops here: it waits along the frames, or it is over, with the piece closed; or it is spent or a call is too
+-- deep, with no piece more.
 abbrev pub StopsAs : Story → ℕ → Step → List Frame → Run → Ending → Type 0
 StopsAs g n (step.Waits p) fs r x = x ≡ goes_on g n p (reverse fs) (closed r)
 StopsAs g n step.Ended fs r x = x ≡ Halted IsOver (closed r)
 StopsAs g n (step.Spent kind) fs r x = TurnHalts (RunsOut kind) r x
 StopsAs g n (step.TooDeep u) fs r x = TurnHalts (CallsTooDeep u) r x
 
--- what a turn comes to is going on with the next phase, or it stops here
+-- How a turn goes on: with the next phase, or not at all.
 abbrev pub GoesOnAs : Story → ℕ → Next → List Frame → Run → Ending → Type 0
 GoesOnAs g n (next.Go s) fs r x = x ≡ turn g n (at_phase s) r
 GoesOnAs g n (next.Stop step) fs r x = StopsAs g n step fs r x
 
--- what x says leads from what was held to what is held now, and no condact is read
+-- What x says leads from what stood to what stands now, and no condact is read.
 abbrev pub Moves : Story → (ℕ → Run → Ending) → Turn → Next → Turn → Type 0
 Moves g x old next new =
     (past : Past) (n : ℕ) (lines : Lines) →
     GoesOnAs g n next new.machine.frames (run_now new past lines) (x n (run_now old past lines))
 
--- what x says leads from what was held to what is held now: there is what the open piece has read by then
+-- What x says leads from what stood to what stands now: there is what the open piece has read by then.
 abbrev pub ReadsTurn : Story → (ℕ → Run → Ending) → Turn → Next → Turn → Type 0
 ReadsTurn g x old next new =
     (past : Past) → HasRead past.read old.machine → (read : List Read) × (HasRead read new.machine
     × ((n : ℕ) (lines : Lines) →
     GoesOnAs g n next new.machine.frames (run_now new (having_read read past) lines) (x n (run_now old past lines))))
 
--- a whole, of which more may be granted, leads from what was held to what is held now
+-- A reading, with enough phases granted, leads from what stood to what stands now.
 abbrev pub PlaysAs : Story → (ℕ → Past → Lines → Ending) → Turn → Next → Turn → Type 0
 PlaysAs g whole old next new =
     (past : Past) → HasRead past.read old.machine → (read : List Read) × (HasRead read new.machine
     × ((n : ℕ) (lines : Lines) →
     (m : ℕ) × GoesOnAs g n next new.machine.frames (run_now new (having_read read past) lines) (whole m past lines)))
 
--- the turn from a phase on
+-- The turn from a phase on.
 abbrev pub from_phase : Story → Phase → Turn → ℕ → Past → Lines → Ending
 from_phase g s h m past lines = turn g m (at_phase s) (run_now h past lines)
 
--- going on from a prompt with a line
+-- Going on from a prompt with a line.
 abbrev pub from_prompt : Story → Prompt → Turn → Line → ℕ → Past → Lines → Ending
 from_prompt g p h line m past lines = goes_on g m p (reverse h.machine.frames) (run_now h past (line ∷ lines))
 
--- some phases from the first on lead from what was held to what is held now
+-- Some phases from the first on lead from what stood to what stands now.
 abbrev pub Plays : Story → Phase → Turn → Next → Turn → Type 0
 Plays g first old next new = PlaysAs g (from_phase g first old) old next new
 
--- the machine has read what x says, from what was held to a stop
+-- The machine has read as x says, from what stood to a stop.
 abbrev pub RunsAs : Story → (Past → Lines → Out) → Turn → Turned → Turn → Type 0
 RunsAs g x old turned new =
     (past : Past) → HasRead past.read old.machine → (steps : List Read) × (HasRead (past.read ++ steps) new.machine
     × ((lines : Lines) →
     ComesTo g turned new.machine.frames (run_now new (having_read (past.read ++ steps) past) lines) (x past lines)))
 
--- a table from its start
+-- The reading of a table from its start.
 abbrev pub from_table : Story → ℕ → Turn → Past → Lines → Out
 from_table g t h past lines = table_read g t (run_now h past lines)
 
--- going on in the tables that are open, with a line
+-- Going on in the open tables, with a line.
 abbrev pub from_path : Story → Prompt → Turn → Line → Past → Lines → Out
 from_path g p h line past lines = on_path g p 0 (reverse h.machine.frames) (run_now h past (line ∷ lines))
 
--- a table at level 0 came to what the machine turned out; the turn goes on from there, and no condact is read
+-- A table at level 0 ended where the machine stopped; the turn goes on from there, and no condact is read.
 abbrev pub MovesAfter : Story → ℕ → Turned → Turn → Next → Turn → Type 0
 MovesAfter g t turned old next new =
     (past : Past) (n : ℕ) (lines : Lines) (x : Out) →
@@ -153,48 +155,48 @@ MovesAfter g t turned old next new =
 
 -- ---- what stands between two phases ----
 
--- the world is the game's, and it can make all draws that the piece may still ask for
+-- The world is the game's, and it can make all draws that the piece may still ask for.
 pub record IsPlayable (g : GameLists) (h : Turn) : Type 0 where
   pub world : IsOf g h.situation.world
   pub budget : h.machine.left ≤ READ_LIMIT
   pub draws : h.situation.world.draws + h.machine.left < 2 ^ 64
 
--- a phase may begin: no table is open
+-- A phase may begin: no table is open.
 pub record MayGoOn (g : GameLists) (h : Turn) : Type 0 where
   pub playable : IsPlayable g h
   pub closed : IsClosed h.machine
 
--- tables may be read in a phase
+-- Tables may be read in a phase.
 pub record MayRead {F : Type 0} (calls : Shared F (ℕ × (ℕ × Unit {0})) ℕ) (routines : Routines F)
     (g : GameLists) (h : Turn) : Type 0 where
   pub rows : HaveRows calls routines
   pub read : HasReadSome h.machine
   pub ready : MayGoOn g h
 
--- a line may be taken at this prompt
+-- A line may be taken at this prompt.
 pub record MayHear (g : GameLists) (p : Prompt) (h : Turn) : Type 0 where
   pub valid : Valid g
   pub read : HasReadSome h.machine
   pub playable : IsPlayable g h
   pub stands : StandsAt p h.machine
 
--- before the next phase no table is open, and after a stop the machine stands as it does there
+-- Before the next phase no table is open, and after a stop the machine stands as it does there.
 abbrev pub StandsBefore : Next → OpenTables → Type 0
 StandsBefore (next.Go s) m = IsClosed m
 StandsBefore (next.Stop step) m = StandsClosed step m
 
--- the world is the game's still, and each draw is paid for by a condact
+-- The world is the game's still, and each draw is paid for by a condact.
 pub record Stays (g : GameLists) (old new : Turn) : Type 0 where
   pub world : IsOf g new.situation.world
   pub left : new.machine.left ≤ old.machine.left
   pub draws : new.situation.world.draws + new.machine.left ≤ old.situation.world.draws + old.machine.left
 
--- so it is after a phase, and the machine stands as what comes next wants it
+-- The same holds after a phase, and the machine stands as what comes next needs it.
 pub record KeepsGame (g : GameLists) (old : Turn) (next : Next) (new : Turn) : Type 0 where
   pub stays : Stays g old new
   pub machine : StandsBefore next new.machine
 
--- the machine waits at a prompt in this table
+-- The machine waits at a prompt in this table.
 abbrev pub WaitsInTable : ℕ → Prompt → OpenTables → Type 0
 WaitsInTable t prompt.Main m = ⊥
 WaitsInTable t prompt.Quit m = WaitsIn prompt.Quit m × (first_table (reverse m.frames) ≡ t)
@@ -202,7 +204,7 @@ WaitsInTable t prompt.Again m = WaitsIn prompt.Again m × (first_table (reverse 
 WaitsInTable t prompt.Key m = WaitsIn prompt.Key m × (first_table (reverse m.frames) ≡ t)
 WaitsInTable t prompt.Over m = ⊥
 
--- where the machine stopped in this table it waits, or no table is open
+-- Where the machine stopped in this table it waits, or no table is open.
 abbrev pub StopsInTable : ℕ → Turned → OpenTables → Type 0
 StopsInTable t (turned.Left acted) m = IsClosed m
 StopsInTable t turned.Redescribe m = IsClosed m
@@ -212,25 +214,27 @@ StopsInTable t (turned.TooDeep u) m = IsClosed m
 
 -- ---- turns end ----
 
--- how much may still be read
+-- How much may still be read.
 abbrev pub left_of : Turn → ℕ
 left_of h = length h.situation.pending.bytes + h.machine.left
 
+-- The rank of a phase: each leads to one of a lower rank, unless something was read.
 abbrev pub rank : Phase → ℕ
 rank phase.Phrase = 1
 rank phase.TimeFrame = 2
 rank phase.Describe = 3
 rank phase.Response = 4
 
+-- A measure of what is left to do: four for each thing that may still be read, and the rank of the phase.
 abbrev pub work : Phase → Turn → ℕ
 work s h = 4 * left_of h + rank s
 
--- with the next phase there is less to do
+-- With the next phase there is less to do.
 abbrev pub Falls : ℕ → Next → Turn → Type 0
 Falls most (next.Go s) new = work s new < most
 Falls most (next.Stop step) new = Unit {0}
 
--- a table leaves at most so much to read, and less where the location is described again
+-- A table leaves at most this much to read, and less where the location is described again.
 abbrev pub Leaves : Turned → ℕ → ℕ → Type 0
 Leaves (turned.Left acted) old new = new ≤ old
 Leaves turned.Redescribe old new = new < old
@@ -238,14 +242,14 @@ Leaves (turned.Waits p) old new = Unit {0}
 Leaves (turned.Spent kind) old new = Unit {0}
 Leaves (turned.TooDeep u) old new = Unit {0}
 
--- what a table's reading uses up
+-- What a table's reading uses up.
 pub record Uses (turned : Turned) (old new : Turn) : Type 0 where
   pub left : new.machine.left ≤ old.machine.left
   pub leaves : Leaves turned (left_of old) (left_of new)
 
 -- ---- worlds ----
 
--- of the world at most flags were changed
+-- The worlds differ at most in flags.
 pub record ChangesFlags (old new : World) : Type 0 where
   pub facts : new.facts ≡ old.facts
   pub locations : new.locations ≡ old.locations
@@ -255,20 +259,20 @@ pub record ChangesFlags (old new : World) : Type 0 where
 
 -- ---- texts ----
 
--- so it goes on where the text was shown, and else the piece is spent
+-- How a turn goes on where a text was shown; where it wasn't, the piece is spent.
 abbrev pub or_spent : Bool → Next → Next
 or_spent shown n = if shown then n else next.Stop (step.Spent spent.Text)
 
 -- ---- tables ----
 
--- the phase in which table 0, 1 or 2 is read, by its rank
+-- The phase in which table 0, 1 or 2 is read, by its rank.
 abbrev pub table_rank : ℕ → ℕ
 table_rank zero = 4
 table_rank (suc zero) = 3
 table_rank (suc (suc t)) = 2
 
--- once a table is left there is less to do than in its phase; where the location is described again, nothing was done
--- yet
+-- Once a table is left there is less to do than in its phase; where the location is described again, nothing was done
+-- yet.
 abbrev pub FallsAfter : ℕ → Turned → Turn → Next → Turn → Type 0
 FallsAfter t (turned.Left acted) old next new = Falls (4 * left_of old + table_rank t) next new
 FallsAfter t turned.Redescribe old n new = (n ≡ next.Go phase.Describe) × (new ≡ old)
@@ -278,7 +282,7 @@ FallsAfter t (turned.TooDeep u) old next new = (m : ℕ) → Falls m next new
 
 -- ---- lines ----
 
--- the machine waits for an answer at this prompt
+-- The machine waits for an answer at this prompt.
 abbrev pub AwaitsAt : Prompt → OpenTables → Type 0
 AwaitsAt prompt.Main m = ⊥
 AwaitsAt prompt.Quit m = WaitsIn prompt.Quit m
@@ -286,7 +290,7 @@ AwaitsAt prompt.Again m = ⊥
 AwaitsAt prompt.Key m = WaitsIn prompt.Key m
 AwaitsAt prompt.Over m = ⊥
 
--- this line answers the prompt: it isn't ignored, and the machine waits for it
+-- This line answers the prompt: it isn't ignored, and the machine waits for it.
 pub record MayAnswer (g : GameLists) (p : Prompt) (line : Line) (h : Turn) : Type 0 where
   pub heard : is_ignored h.situation.world line ≡ false
   pub valid : Valid g
@@ -296,7 +300,7 @@ pub record MayAnswer (g : GameLists) (p : Prompt) (line : Line) (h : Turn) : Typ
 
 -- ---- players ----
 
--- what a player is seen as
+-- The view of a player that contracts have.
 abbrev pub seat_of : {F : Type 0} → GameLists → Routines F → Turn → Step → Seat F
 seat_of g routines h last = record {
   game = g;
@@ -308,28 +312,29 @@ seat_of g routines h last = record {
   last = last;
 }
 
--- with this world
+-- The turn with this world.
 abbrev pub in_world : World → Turn → Turn
 in_world w h = record h { situation = record h.situation { world = w } }
 
--- with this world and this pending line
+-- The turn with this world and this pending line.
 abbrev pub with_line : World → PendingLine → Turn → Turn
 with_line w p h = record h { situation = record h.situation { world = w; pending = p } }
 
--- with this piece
+-- The turn with this piece.
 abbrev pub with_piece : Text → Turn → Turn
 with_piece piece h = record h { situation = record h.situation { piece = piece } }
 
--- nothing is shown of a piece that is spent, or in which a call is too deep
+-- The piece that is shown: nothing where a piece is spent, or a call in it is too deep.
 abbrev pub shown : Step → Text → Text
 shown (step.Waits p) piece = piece
 shown step.Ended piece = piece
 shown (step.Spent kind) piece = []
 shown (step.TooDeep u) piece = []
 
+-- The turn with the piece that is shown after this end of a line.
 abbrev pub turn_settled : Step → Turn → Turn
 turn_settled step h = with_piece (shown step h.situation.piece) h
 
--- a new piece may be read
+-- The turn with a new piece to be read.
 abbrev pub opened_piece : Turn → Turn
 opened_piece h = record h { situation = record h.situation { piece = [] }; machine = refilled h.machine }

@@ -21,8 +21,8 @@ use Rattle.paw_process.specs.inner.OpenTables.{IsWaiting, IsClosed, new_machine}
 use Rattle.paw_turn.specs.declared.Step.{Step}
 use Rattle.paw_turn.specs.declared.Step.TheVariants as step
 
--- a player between two lines: its game and the routines that it calls, the world, what is left of the line, the tables
--- that are open with the steps of the last piece, the text of that piece, and what it came to last
+-- A player between two lines: its game and the routines that it calls, the world, what is left of the line, the open
+-- tables with the steps of the last piece, the text of that piece, and how its last line ended.
 pub record Seat (F : Type 0) : Type 0 where
   pub game : GameLists
   pub routines : Routines F
@@ -32,7 +32,7 @@ pub record Seat (F : Type 0) : Type 0 where
   pub piece : Text
   pub last : Step
 
--- the run that these parts stand for, with these closed pieces, what was read in them, and these lines to come
+-- The run that these parts stand for, with these closed pieces, the steps of each, and these lines to come.
 abbrev pub run_with : World → OpenTables → PendingLine → Texts → List (List Read) → Lines → Run
 run_with w m p pieces traces lines = record {
   world = w;
@@ -46,19 +46,19 @@ run_with w m p pieces traces lines = record {
   events = lines;
 }
 
--- the run that a player stands for
+-- The run that a player stands for.
 abbrev pub run_at : {F : Type 0} → Seat F → Texts → List (List Read) → Lines → Run
 run_at p pieces traces lines = run_with p.world p.machine p.pending pieces traces lines
 
--- whatever lines come after, the whole reading of them ends so, with no piece more and none to show
+-- Whatever lines come after, the whole reading of them ends this way, with no further piece and none to show.
 abbrev pub PlayHalts : {F : Type 0} → (Lines → Ending) → Halt → Seat F → Texts → List (List Read) → Type 0
 PlayHalts whole halt new pieces traces =
     (new.piece ≡ []) × ((lines : Lines) → (r : Run) × (whole lines ≡ Halted halt r)
     × (r.pieces ≡ pieces) × (r.traces ≡ traces) × (r.events ≡ lines))
 
--- Playing on in a story comes to this: whatever lines come after, the whole reading of them goes on from the player's
--- prompt with one piece more; or is over with one piece more, as the player stands; or is spent, or a call is too deep,
--- with no piece more and none to show. Of what was read in the piece that was closed the player keeps the steps
+-- Playing on in a story ends this way. Whatever lines come after, the whole reading of them goes on from the player's
+-- prompt with one more piece; or is over with one more piece, as the player stands; or is spent, or a call is too deep,
+-- with no further piece and none to show. Of the piece that was closed the player keeps the steps.
 abbrev pub PlaysTo : {F : Type 0} → Story → (Lines → Ending) → Step → Seat F → Texts → List (List Read) → Type 0
 PlaysTo g whole (step.Waits p) new pieces traces =
     (read : List Read) × ((new.machine.steps ≡ kept_steps read) × ((lines : Lines) →
@@ -70,12 +70,12 @@ PlaysTo g whole step.Ended new pieces traces =
 PlaysTo g whole (step.Spent kind) new pieces traces = PlayHalts whole (RunsOut kind) new pieces traces
 PlaysTo g whole (step.TooDeep u) new pieces traces = PlayHalts whole (CallsTooDeep u) new pieces traces
 
--- the machine waits at this prompt in the tables that are open
+-- The machine waits at this prompt in the tables that are open.
 pub record WaitsIn (p : Prompt) (m : OpenTables) : Type 0 where
   pub tables : IsWaiting p m
   pub loop : IsLoopOf (first_table (reverse m.frames)) m.turning
 
--- at the main prompt no table is open; at an inner one the machine waits there
+-- At the main prompt no table is open; at an inner one the machine waits there.
 abbrev pub StandsAt : Prompt → OpenTables → Type 0
 StandsAt prompt.Main m = IsClosed m
 StandsAt prompt.Quit m = WaitsIn prompt.Quit m
@@ -83,45 +83,45 @@ StandsAt prompt.Again m = WaitsIn prompt.Again m
 StandsAt prompt.Key m = WaitsIn prompt.Key m
 StandsAt prompt.Over m = ⊥
 
--- a player that is finished has no table open
+-- A player that is finished has no table open.
 abbrev pub StandsClosed : Step → OpenTables → Type 0
 StandsClosed (step.Waits p) m = StandsAt p m
 StandsClosed step.Ended m = IsClosed m
 StandsClosed (step.Spent kind) m = IsClosed m
 StandsClosed (step.TooDeep u) m = IsClosed m
 
--- a player that is over, spent or too deep takes no more lines
+-- A player that is over, spent or too deep takes no more lines.
 abbrev pub IsFinished : Step → Type 0
 IsFinished (step.Waits p) = ⊥
 IsFinished step.Ended = Unit {0}
 IsFinished (step.Spent kind) = Unit {0}
 IsFinished (step.TooDeep u) = Unit {0}
 
--- the prompt at which a player stands; one that is spent or too deep takes no more lines, as where the game is over
+-- The prompt at which a player stands; one that is spent or too deep takes no more lines, as if the game were over.
 abbrev pub prompt_at : Step → Prompt
 prompt_at (step.Waits p) = p
 prompt_at step.Ended = prompt.Over
 prompt_at (step.Spent kind) = prompt.Over
 prompt_at (step.TooDeep u) = prompt.Over
 
--- a player that is neither spent nor too deep stands at its prompt
+-- A player that is neither spent nor too deep stands at its prompt.
 abbrev pub IsStanding : Step → Type 0
 IsStanding (step.Waits p) = Unit {0}
 IsStanding step.Ended = Unit {0}
 IsStanding (step.Spent kind) = ⊥
 IsStanding (step.TooDeep u) = ⊥
 
--- parts stand in a game at a prompt as a run may
+-- Parts stand in a game at a prompt as a run may.
 abbrev pub StandRightly : GameLists → Prompt → World → OpenTables → PendingLine → Type 0
 StandRightly g at w m p = StandsRightly g at (reverse m.frames) (run_with w m p [] [] [])
 
--- a player of a valid game may take lines: where it stands at a prompt it stands as a run may
+-- A player of a valid game may take lines: where it stands at a prompt it stands as a run may.
 pub record IsSeated {F : Type 0} (p : Seat F) : Type 0 where
   pub valid : Valid p.game
   pub machine : StandsClosed p.last p.machine
   pub rightly : IsStanding p.last → StandRightly p.game (prompt_at p.last) p.world p.machine p.pending
 
--- a player that is new: the game is at its start, and no piece was made
+-- A player that is new: the game is at its start, and no piece was made.
 pub record IsNew {F : Type 0} (p : Seat F) (seed : Seed) : Type 0 where
   pub world : p.world ≡ opening_world p.game seed
   pub pending : p.pending ≡ record { bytes = []; earlier = NO_WORD }

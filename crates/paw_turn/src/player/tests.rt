@@ -35,7 +35,7 @@ enum Between {
     Seating,
 }
 
-/// What a line comes to, and the piece that it brings.
+/// The end of a line, and the piece that it brings.
 type Brought = (Step, &'static str);
 
 /// A line, and what it brings.
@@ -43,7 +43,7 @@ type Taken = (&'static str, Brought);
 
 const MAIN: Step = Step::Waits(Prompt::Main);
 
-/// Nothing but the prompt.
+/// The prompt alone.
 const PROMPT: Brought = (MAIN, "What now?\n> ");
 
 const HALL: Brought = (MAIN, "A hall.\nWhat now?\n> ");
@@ -70,7 +70,7 @@ const READS_TOO_MUCH: Brought = (Step::Spent(SpentKind::Condacts), "");
 
 const TELLS_TOO_MUCH: Brought = (Step::Spent(SpentKind::Text), "");
 
-/// A line that is late where none may be, at each prompt.
+/// A timeout, at each prompt, where none is allowed.
 const IGNORED_AT_MAIN: Taken = ("~", (MAIN, ""));
 
 const IGNORED_AT_QUIT: Taken = ("~", (Step::Waits(Prompt::Quit), ""));
@@ -81,7 +81,7 @@ const IGNORED_AT_KEY: Taken = ("~", (Step::Waits(Prompt::Key), ""));
 
 /// Lines that lead to each prompt, and from each on.
 const CASES: [&[Taken]; 14] = [
-    // The loop of the outer table goes on behind the question in the called one.
+    // The loop of the outer table goes on after the question in the called one.
     &[
         ("SHAKE ALL", SURE),
         ("N", SURE),
@@ -123,10 +123,10 @@ const CASES: [&[Taken]; 14] = [
         ("WHERE ALL", PROMPT),
         ("WHERE", (MAIN, "Done.\nWhat now?\n> ")),
     ],
-    // What is excepted is left out of the loop, with its adjective and without.
+    // What is excepted is left out of the loop, with its adjective and without it.
     &[("SHAKE ALL EXCEPT RED LAMP", SURE), ("Y", SWORD)],
     &[("SHAKE ALL EXCEPT LAMP", SURE), ("y", SWORD)],
-    // The next phrase is taken inside a loop: its verb matches no entry that follows; where there is none reading goes
+    // The next phrase is taken inside a loop: its verb matches no later entry; where there is no phrase reading goes
     // on.
     &[
         ("TURN ALL AND WAIT", PROMPT),
@@ -174,14 +174,14 @@ const CASES: [&[Taken]; 14] = [
     ],
 ];
 
-/// Lines after which a player goes on no more, and what it answers then.
+/// Lines after which a player is finished, and what it answers then.
 const FINISHING: [Taken; 3] = [
     ("DEEP", TOO_DEEP),
     ("SPIN", READS_TOO_MUCH),
     ("FALL", TELLS_TOO_MUCH),
 ];
 
-// Whether a player that came to this is neither spent nor too deep.
+// Whether a player with this end is neither spent nor too deep.
 fn is_standing(step: Step) -> bool
     ensures standing { result ≡ true → IsStanding step }
 {
@@ -256,7 +256,7 @@ fn taken_up<'a, R: AllocGlobal, F: Fn(u8, u8) -> u8>(
     Ok(other)
 }
 
-// Compares what a player came to with a line, and the piece that it lends then.
+// Compares the end of a line, and the piece that the player lends then.
 fn compare<F: Fn(u8, u8) -> u8>(
     rt: &impl Abort,
     player: &Player<'_, Game, F>,

@@ -9,7 +9,7 @@ use Rattle.paw_routines.specs.Routines.{AreRowsOf, HaveRows}
 use Rattle.paw_effects.specs.Story.{story_of}
 use Rattle.paw_play.proofs.walk.walk_lines.Given as goal
 
--- so many lines were taken
+-- This number of lines was taken.
 abbrev pub invariant-loop : goal.invariant-loop
 invariant-loop g l = record {
   seated : IsSeated l.player;

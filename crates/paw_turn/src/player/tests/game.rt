@@ -1,4 +1,4 @@
-// The games of the tests: one that asks inside calls and loops, and one that never comes to a prompt.
+// The games of the tests: one that asks inside calls and loops, and one that never reaches a prompt.
 
 use paw_base::codes::{
     ANYKEY, AT, ATGT, DESC, DOALL, DONE, END, GT, LET, MESSAGE, MINUS, NOTDONE, OK, PARSE, PROCESS,
@@ -46,7 +46,7 @@ const WORDS: [([u8; 5], u8, u8); 23] = [
 /// A flag that counts calls.
 const CALLS: u8 = 60;
 
-/// How many system messages there are.
+/// The number of system messages.
 const SYSTEM_TEXTS: usize = 36;
 
 /// The system message of a number; the others are empty.
@@ -91,7 +91,7 @@ type Code = (u8, u8, u8);
 type Row = (u8, u8, &'static [Code]);
 
 /// SHAKE, TWIST and TURN go round the objects here; NEST calls as deep as it may, and DEEP deeper; QUIT asks twice;
-/// SPIN and FALL never come to an end.
+/// SPIN and FALL never end.
 const RESPONSES: [Row; 19] = [
     (31, 20, &[(DOALL, HERE_PLACE, 0)]),
     (31, NO_WORD, &[(PROCESS, 3, 0), (DONE, 0, 0)]),

@@ -46,7 +46,7 @@ pub(super) fn waiting() -> Frames {
     }
 }
 
-/// So many tables are open, of which these are the first, and no loop is.
+/// This many open tables, of which these are the first, and no open loop.
 fn opened(count: u8, first: Frame, second: Frame) -> Frames {
     let mut rows = [UNUSED; 11];
     rows[0] = first;
@@ -86,7 +86,7 @@ const ROWS: [(usize, (u8, u16, u8, bool), Option<u8>); 19] = [
     // The table isn't the one that is called.
     (1, (3, 0, 0, true), Some(1)),
     (1, (5, 0, 0, true), Some(1)),
-    // The rows behind them are unused.
+    // The rows after them are unused.
     (2, (4, 0, 0, false), Some(2)),
     (3, (0, 256, 0, false), Some(3)),
     (4, (0, 0, 1, false), Some(4)),
