@@ -365,7 +365,7 @@ module _ {F : Type 0} {g : Story} {s : PlayedSession} {most n events : ℕ} {fir
 
 -- all the lines that a session may have were taken
 pub long_play : {F : Type 0} (g : Story) (s : PlayedSession) (most n : ℕ) (first now : Standing) (seat : Seat F) →
-    IsPlaying g s first now seat n → IsSeated seat → n ≡ most → PlaysOn s most first now (end.Long 1000000000)
+    IsPlaying g s first now seat n → IsSeated seat → n ≡ most → PlaysOn s most first now (end.Long EVENT_LIMIT)
 long_play g s most n first now seat w seated all = record {
   shows = long_walk Plain g s.whole most n (with_store now first) now seat w.walking seated all;
   session = (n, asked_is g s first now seat n w, w.rests);

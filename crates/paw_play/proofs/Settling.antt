@@ -2,6 +2,7 @@
 use Rattle.std.proofs.Common.{◌≡◌, ℕ, suc, ◌+◌, ◌*◌, ◌^◌, ◌<◌, ◌≤◌, List, [], ◌∷◌, Option, Some, None, sym, ap, ◌∙◌, subst, length, arith}
 use Rattle.std.specs.Prelude.{IfNone, All}
 use Rattle.std.proofs.lemmas.List.{length-map}
+use Rattle.paw_base.specs.declared.limits.TheConstants.{EVENT_LIMIT, READ_LIMIT}
 use Rattle.paw_game.specs.Game.{GameLists}
 use Rattle.paw_game.specs.declared.parts.ObjectRow.{ObjectRow}
 use Rattle.paw_game.specs.Valid.{Valid}
@@ -73,10 +74,10 @@ world_sound g v w k = record {
 
 -- ---- readings ----
 
-module _ (g : GameLists) (v : Valid g) (seed : ℕ) (n : ℕ) (fits : seed < 2 ^ 64) (few : n ≤ 1000000000) where
+module _ (g : GameLists) (v : Valid g) (seed : ℕ) (n : ℕ) (fits : seed < 2 ^ 64) (few : n ≤ EVENT_LIMIT) where
   -- one piece was closed for each line, and one before them
-  drawn : (r : Run) → IsBounded seed 0 r → length r.pieces + length r.events ≡ suc n → r.world.draws ≤ 200000 * (n + 1)
-  drawn r bound count = let most : r.world.draws ≤ 0 + 200000 * length r.pieces = bound.draws in omega (arith, most, count)
+  drawn : (r : Run) → IsBounded seed 0 r → length r.pieces + length r.events ≡ suc n → r.world.draws ≤ READ_LIMIT * (n + 1)
+  drawn r bound count = let most : r.world.draws ≤ 0 + READ_LIMIT * length r.pieces = bound.draws in omega (arith, most, count)
 
   settles : (p : Prompt) (path : List Frame) (r : Run) → StandsRightly g p path r → IsBounded seed 0 r → length r.pieces + length r.events ≡ suc n →
       Settles g n p path r
@@ -114,7 +115,7 @@ module _ (g : GameLists) (v : Valid g) (seed : ℕ) (n : ℕ) (fits : seed < 2 ^
   ending_settles (Halted IsOver r) at bound count = settles prompt.Over [] r at bound count
   ending_settles _ at bound count = tt
 
-pub reading_settles : (g : Story) (seed : ℕ) (es : List (List ℕ)) → IsPlayedWith g seed es → length es ≤ 1000000000 →
+pub reading_settles : (g : Story) (seed : ℕ) (es : List (List ℕ)) → IsPlayedWith g seed es → length es ≤ EVENT_LIMIT →
     IsSettled g.game (length es) (reading g seed es)
 reading_settles g seed es played few =
     ending_settles g.game played.valid.game seed (length es) played.fits few (reading g seed es)

@@ -5,6 +5,7 @@ use Rattle.std.proofs.lemmas.List.Folds.{concat-append}
 use Rattle.std.proofs.lemmas.List.{append-nil}
 use Rattle.std.specs.Prelude.{◌-◌, flat_map}
 use Rattle.std.specs.List.{concat}
+use Rattle.paw_base.specs.declared.limits.TheConstants.{STEP_LIMIT}
 use Rattle.paw_base.specs.inner.Steps.{KeptSteps}
 use Rattle.paw_base.specs.inner.Steps.{kept_steps}
 use Rattle.paw_stage.specs.Stage.{Standing, ShowsPart, with_shown}
@@ -35,7 +36,7 @@ take_twice (suc n) (x ∷ xs) = ap (λ ys. x ∷ ys) (take_twice n xs)
 -- What is kept of steps is shown as the steps are.
 kept_told : (k : KeptSteps) (steps : List Read) → k ≡ kept_steps steps → kept_text k ≡ steps_text steps
 kept_told k steps e =
-    ap kept_text e ∙ ap (λ xs. flat_map step_line xs ++ more_line (length steps - 1000)) (take_twice 1000 steps)
+    ap kept_text e ∙ ap (λ xs. flat_map step_line xs ++ more_line (length steps - STEP_LIMIT)) (take_twice STEP_LIMIT steps)
 
 -- one piece more
 traced_more : (pieces : List (List ℕ)) (traces : List (List Read)) (piece : List ℕ) (steps : List Read) → length traces ≡ length pieces →

@@ -295,7 +295,7 @@ module _ {F : Type 0} (telling : Telling) (g : Story) (whole : EndingOf) (most n
 -- all the lines that a session may have were taken
 pub long_walk : {F : Type 0} (telling : Telling) (g : Story) (whole : EndingOf) (most n : ℕ) (first now : Standing) (seat : Seat F) →
     IsWalking telling g whole first now seat n → IsSeated seat → n ≡ most →
-    (1000000000 ≡ EVENT_LIMIT) × WalkWaits (told_as telling whole) first now most
+    (EVENT_LIMIT ≡ EVENT_LIMIT) × WalkWaits (told_as telling whole) first now most
 long_walk telling g whole most n first now seat w seated all =
     let at = waiting telling g whole n first now seat w seated in
     (refl, (at.0, at.1, at.2, rw (← all) at.3))

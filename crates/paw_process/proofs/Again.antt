@@ -6,6 +6,7 @@ use Rattle.std.specs.Option.{option_or, unwrap_or}
 use Rattle.std.proofs.Math.Seq.{take-append_seam}
 use Rattle.std.proofs.lemmas.Bool.{eqb-true, leb-true}
 use Rattle.std.proofs.lemmas.List.{reverse-reverse}
+use Rattle.paw_base.specs.declared.limits.TheConstants.{READ_LIMIT}
 use Rattle.paw_base.specs.inner.Steps.{no_steps}
 use Rattle.paw_game.specs.Game.{GameLists}
 use Rattle.paw_effects.specs.declared.act.Prompt.{Prompt}
@@ -32,9 +33,9 @@ path_again path turning = take-append_seam path (replicate (11 - length path) un
 
 again_at : (m : OpenTables) (waiting : Option Prompt) → m.waiting ≡ waiting → restored (kept m) waiting ≡ refilled m
 again_at m waiting is =
-    ap (λ (fs : List Frame). record { frames = fs; turning = m.turning; waiting = waiting; left = 200000; steps = no_steps })
+    ap (λ (fs : List Frame). record { frames = fs; turning = m.turning; waiting = waiting; left = READ_LIMIT; steps = no_steps })
     (ap (λ (s : List Frame). reverse s) (path_again (reverse m.frames) m.turning) ∙ reverse-reverse m.frames)
-    ∙ ap (λ (w : Option Prompt). record { frames = m.frames; turning = m.turning; waiting = w; left = 200000; steps = no_steps }) (sym is)
+    ∙ ap (λ (w : Option Prompt). record { frames = m.frames; turning = m.turning; waiting = w; left = READ_LIMIT; steps = no_steps }) (sym is)
 
 pub restored_again : (p : Prompt) (m : OpenTables) → StandsAt p m → restored (kept m) (waiting_at p) ≡ refilled m
 restored_again prompt.Main m stands = again_at m None stands.waiting

@@ -1,5 +1,6 @@
 -- Answers at the prompts inside tables.
 use Rattle.std.proofs.Common.{◌≡◌, ℕ, Bool, true, false, List, ◌∷◌, refl, sym, ap, ◌∙◌, length, reverse, add-one}
+use Rattle.paw_base.specs.declared.limits.TheConstants.{ENTRY_LIMIT}
 use Rattle.paw_effects.specs.Story.{Story}
 use Rattle.paw_game.specs.Valid.{Valid}
 use Rattle.paw_game.proofs.Kept.{table-short}
@@ -32,7 +33,7 @@ quits : (g : Story) (f : Frame) (fs : List Frame) (line : List ℕ) (r : Run) (a
     → resolved g fs (answered g prompt.Quit f (past_of g fs f) (reply line) r) ≡ going_in g (after_quit agrees f ∷ fs) r
 quits g f fs line r true v h = rw (h, add-one) refl
 quits g f fs line r false v h =
-    rw h (ap (resolved g fs) (sym (plain_past g (deeper g (length fs)) (length fs) f.table 4000 true r (table-short g.game v f.table))))
+    rw h (ap (resolved g fs) (sym (plain_past g (deeper g (length fs)) (length fs) f.table ENTRY_LIMIT true r (table-short g.game v f.table))))
 
 pub answers_quit : (agrees : Bool) (old new : List Frame) (f : Frame) → old ≡ f ∷ below old → new ≡ after_quit agrees f ∷ below old → AnswersQuit agrees old new
 answers_quit agrees old new f top e g line lines r v ignored h =

@@ -2,6 +2,7 @@
 use Rattle.std.proofs.Common.{◌≡◌, ℕ, zero, suc, ◌+◌, ◌-◌, ◌≤◌, ◌<◌, Bool, true, false, List, ◌∷◌}
 use Rattle.std.proofs.Common.{Option, Some, None, refl, sym, ap, ◌∙◌, length, arith, add-one}
 use Rattle.std.specs.Prelude.{if◌then◌else◌, reverse}
+use Rattle.paw_base.specs.declared.limits.TheConstants.{READ_LIMIT}
 use Rattle.paw_base.specs.declared.parts.Condact.{Condact}
 use Rattle.paw_base.specs.declared.fault.SpentKind.TheVariants as spent
 use Rattle.paw_effects.specs.Story.{Story}
@@ -154,14 +155,14 @@ reading_end g fs f r h =
 
 -- at a condact
 pub reading_condact : (g : Story) (fs : List Frame) (f : Frame) (r : Run) (c : Condact) → condact_at g.game f.table f.entry f.at ≡ Some c
-    → length r.read < 200000
+    → length r.read < READ_LIMIT
     → reading_at g fs f r ≡ resolved g fs (reads_one g (deeper g (length fs)) (length fs) f (next_of g fs f) (past_of g fs f) c r)
 reading_condact g fs f r c h low =
     ap (resolved g fs) (inside_condact g (deeper g (length fs)) (length fs) f.table f.entry f.at f.acted r c h ∙ within_budget r _ low)
 
 -- the budget is used up
 pub reading_none : (g : Story) (fs : List Frame) (f : Frame) (r : Run) (c : Condact) →
-    condact_at g.game f.table f.entry f.at ≡ Some c → 200000 ≤ length r.read →
+    condact_at g.game f.table f.entry f.at ≡ Some c → READ_LIMIT ≤ length r.read →
     reading_at g fs f r ≡ halts (RunsOut spent.Condacts) r
 reading_none g fs f r c h low =
     ap (resolved g fs) (inside_condact g (deeper g (length fs)) (length fs) f.table f.entry f.at f.acted r c h ∙ within_none r _ low)

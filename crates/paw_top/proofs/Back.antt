@@ -1,6 +1,7 @@
 -- The way of a game from its image to its source and back.
 use Rattle.std.proofs.Common.{◌≡◌, ℕ, List, ◌≤◌, length, Result, Ok, Some, refl, sym, ap, ◌∙◌, subst}
 use Rattle.std.proofs.lemmas.List.{append_cancel_left}
+use Rattle.paw_base.specs.declared.limits.TheConstants.{IMAGE_LIMIT, SOURCE_LIMIT}
 use Rattle.paw_base.specs.declared.fault.SourceFault.{SourceFault}
 use Rattle.paw_game.specs.Game.{GameLists}
 use Rattle.paw_game.specs.Image.{image}
@@ -36,6 +37,6 @@ comes_back itself image_name source target bytes text old shown before after fil
     let c : text ≡ canonical_of g = append_cancel_left old.shown text (canonical_of g) (sym t ∙ ap (λ s. s.shown) e) in
     let i = held.2 in
     let m : spelled text ≡ Ok g = ap spelled c
-    ∙ itself g i.valid (subst (λ l. length l ≤ 4194304) i.spelled i.short) (subst (λ l. length l ≤ 8388608) c short) in
+    ∙ itself g i.valid (subst (λ l. length l ≤ IMAGE_LIMIT) i.spelled i.short) (subst (λ l. length l ≤ SOURCE_LIMIT) c short) in
     let same : image h ≡ bytes = ap image (sym (same_game text spells.0 g h (sym spells.1 ∙ there) spells.2 m)) ∙ sym i.spelled ∙ b in
     subst (λ l. Kept before after target l (image_line (length l))) same f

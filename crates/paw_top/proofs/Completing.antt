@@ -2,6 +2,7 @@
 use Rattle.std.proofs.Common.{◌≡◌, ◌≢◌, ◌≤◌, ◌<◌, ℕ, true, false, List, length, Option, Some, None, refl, sym, ap, ◌∙◌, subst, arith}
 use Rattle.std.specs.Prelude.{Result, Ok, Err, IfSome, nat_le, if◌then◌else◌}
 use Rattle.std.proofs.lemmas.Bool.Decides.{nat_tests}
+use Rattle.paw_wrap.specs.declared.columns.TheConstants.{WRAP_LIMIT}
 use Rattle.paw_base.specs.declared.fault.SourceFault.{SourceFault}
 use Rattle.paw_base.specs.declared.limits.TheConstants.{EVENT_LIMIT}
 use Rattle.paw_game.specs.Game.{GameLists}
@@ -123,21 +124,21 @@ completes_told name old new _ (decompile.unshown g s e) free = absurd (hindered 
 completes_told name old new _ (decompile.untold e) free = record { image = λ h k. tt; other = λ k. tt }
 
 -- A text of at most this many bytes is wrapped, and a longer one is too long.
-within : (bytes : List ℕ) → length bytes ≤ 4194304 →
-    outcome.Done ≡ (if nat_le (length bytes) 4194304 then outcome.Done else outcome.TextTooLong)
-within bytes h = let t : nat_le (length bytes) 4194304 ≡ true = grind (arith, nat_tests) in rw t refl
+within : (bytes : List ℕ) → length bytes ≤ WRAP_LIMIT →
+    outcome.Done ≡ (if nat_le (length bytes) WRAP_LIMIT then outcome.Done else outcome.TextTooLong)
+within bytes h = let t : nat_le (length bytes) WRAP_LIMIT ≡ true = grind (arith, nat_tests) in rw t refl
 
-beyond : (bytes : List ℕ) → 4194304 < length bytes →
-    outcome.TextTooLong ≡ (if nat_le (length bytes) 4194304 then outcome.Done else outcome.TextTooLong)
-beyond bytes h = let t : nat_le (length bytes) 4194304 ≡ false = grind (arith, nat_tests) in rw t refl
+beyond : (bytes : List ℕ) → WRAP_LIMIT < length bytes →
+    outcome.TextTooLong ≡ (if nat_le (length bytes) WRAP_LIMIT then outcome.Done else outcome.TextTooLong)
+beyond bytes h = let t : nat_le (length bytes) WRAP_LIMIT ≡ false = grind (arith, nat_tests) in rw t refl
 
 -- a text that is shown in columns
 pub completes_wrap : (width : ℕ) (name : List ℕ) (old new : Standing) (o : Outcome) → shows.Wraps width name old new o →
     IsUnhindered o → CompletesWrap name old o
 completes_wrap width name old new _ (shows.done text h e) free = λ bytes is.
-    within bytes (subst (λ b. length b ≤ 4194304) (same_file _ text bytes h.0 is) h.1)
+    within bytes (subst (λ b. length b ≤ WRAP_LIMIT) (same_file _ text bytes h.0 is) h.1)
 completes_wrap width name old new _ (shows.too_long text h long e) free = λ bytes is.
-    beyond bytes (subst (λ b. 4194304 < length b) (same_file _ text bytes h is) long)
+    beyond bytes (subst (λ b. WRAP_LIMIT < length b) (same_file _ text bytes h is) long)
 completes_wrap width name old new _ (shows.absent h e) free = λ bytes is. absurd (is_missing _ bytes h is)
 completes_wrap width name old new _ (shows.unloaded e) free = λ bytes is. absurd (hindered call.Load (λ q. cc) free)
 completes_wrap width name old new _ (shows.unshown text h e) free = λ bytes is. absurd (hindered call.Show (λ q. cc) free)

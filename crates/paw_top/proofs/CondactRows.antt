@@ -8,6 +8,8 @@ use Rattle.std.proofs.lemmas.Bool.{and_parts, and_from, and_right, or_cases, not
 use Rattle.std.proofs.lemmas.List.{append-nil}
 use Rattle.std.proofs.lemmas.List.Folds.{list_all-append}
 use Rattle.std.proofs.Math.ListN.{length-map}
+use Rattle.paw_base.specs.declared.limits.TheConstants.{LOCATION_LIMIT}
+use Rattle.paw_base.specs.declared.places.TheConstants.{NOT_CREATED_PLACE, HERE_PLACE}
 use Rattle.paw_base.specs.declared.fault.SourceKind.{SourceKind}
 use Rattle.paw_base.specs.declared.fault.SourceKind.TheVariants as fault
 use Rattle.paw_base.specs.declared.parts.Condact.{Condact}
@@ -112,7 +114,7 @@ pub record Small (p : ℕ) (g : GameLists) : Type 0 where
   pub system : length g.system ≤ 256
   pub messages : length g.messages ≤ 256
   pub objects : length g.objects ≤ 255
-  pub locations : length g.locations ≤ 252
+  pub locations : length g.locations ≤ LOCATION_LIMIT
   pub tables : length g.tables ≤ 256
   pub counted : p ≡ length g.tables
 
@@ -134,11 +136,11 @@ word_parameter : (p : ℕ) (g : GameLists) (class x : ℕ) → Small p g → is_
     ReadsBack (value_token g.words class x) (word_or_none g.words class) x
 word_parameter p g class x s h = word_or_none_back g.words class x s.words h
 
-place_kept : (x locations : ℕ) → locations ≤ 252 → (ltb x locations || is_within 252 255 x) ≡ true → x ≤ 65535
+place_kept : (x locations : ℕ) → locations ≤ LOCATION_LIMIT → (ltb x locations || is_within NOT_CREATED_PLACE HERE_PLACE x) ≡ true → x ≤ 65535
 place_kept x locations few h =
-    elim (or_cases (ltb x locations) (is_within 252 255 x) h) [
+    elim (or_cases (ltb x locations) (is_within NOT_CREATED_PLACE HERE_PLACE x) h) [
       | inl is ↦ omega (arith, ltb-true x locations is)
-      | inr is ↦ omega (arith, leb-true x 255 (and_parts (leb 252 x) (leb x 255) is).1)
+      | inr is ↦ omega (arith, leb-true x HERE_PLACE (and_parts (leb NOT_CREATED_PLACE x) (leb x HERE_PLACE) is).1)
     ]
 
 parameter_back : (p : ℕ) (g : GameLists) (k : ParamKind) (x : ℕ) → Small p g → is_parameter (counts_of g) g.words k x ≡ true → ParameterBack p g k x

@@ -1,5 +1,6 @@
 -- Showing a text of a game, step by step.
 use Rattle.std.proofs.Common.{◌≡◌, ℕ, List, subst}
+use Rattle.paw_base.specs.declared.limits.TheConstants.{IMAGE_LIMIT}
 use Rattle.paw_game.specs.Game.{GameLists}
 use Rattle.paw_stage.specs.Stage.{Standing}
 use Rattle.paw_stage.specs.declared.StageCall.TheVariants as call
@@ -18,7 +19,7 @@ pub no_file : {told : GameLists → List ℕ} {at : MemoryAt} (name : List ℕ) 
 no_file name old new o h = unopened o (refused.no_file name old new o h)
 
 pub no_game : {told : GameLists → List ℕ} {at : MemoryAt} (name given : List ℕ) (old new : Standing) (o : Outcome) →
-    LoadsSome name 4194304 old new given → GivesNone given o → TellsOf told at name old new o
+    LoadsSome name IMAGE_LIMIT old new given → GivesNone given o → TellsOf told at name old new o
 no_game name given old new o f h = unopened o (refused.no_image name given old new o f h)
 
 shows_so : (told : GameLists → List ℕ) (at : MemoryAt) (name : List ℕ) (g : GameLists) (old new : Standing) (o : Outcome) → Holds old name g →

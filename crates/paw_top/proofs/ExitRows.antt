@@ -6,6 +6,7 @@ use Rattle.std.specs.Fmt.{decimal}
 use Rattle.std.proofs.lemmas.Bool.{and_parts, and_from, or_from, or_parts, le-ltb, lt-ltb, ltb-true, eqb-false, ne_eqb, not-true, not_from_false}
 use Rattle.std.proofs.lemmas.List.{append_assoc, append-nil, replicate_more}
 use Rattle.std.proofs.lemmas.List.Folds.{list_any-append}
+use Rattle.paw_base.specs.declared.limits.TheConstants.{LOCATION_LIMIT}
 use Rattle.paw_game.specs.declared.parts.Word.{Word}
 use Rattle.paw_game.specs.declared.parts.Exit.{Exit}
 use Rattle.paw_game.specs.Valid.{is_verb_value, are_exits, is_exits}
@@ -95,7 +96,7 @@ exit_step p d before done x at r =
 -- what the rows of sections may look at
 pub record Scene (d : Spelt) : Type 0 where
   pub words : Words d.words
-  pub few : length d.locations ≤ 252
+  pub few : length d.locations ≤ LOCATION_LIMIT
 
 exits_rows : (p : ℕ) (d : Spelt) (before : List (List Exit)) (done xs : List Exit) → d.section ≡ section.Con → Scene d →
     are_exits d.words (length d.locations) xs ≡ true → are_fresh done xs ≡ true

@@ -7,6 +7,7 @@ use Rattle.std.specs.declared.cmp.Ordering.TheVariants.{Less, Equal, Greater}
 use Rattle.std.specs.Ordering.{is_eq, is_lt, nat_cmp}
 use Rattle.std.specs.Cmp.Lexicographic.{slice_cmp}
 use Rattle.std.proofs.lemmas.Bool.{and_parts, or_cases, eqb-true, eq-eqb, ne_eqb, leb-true, lt-ltb, ltb-true, false≢true}
+use Rattle.paw_base.specs.declared.words.TheConstants.{LEAST_WORD, GREATEST_WORD}
 use Rattle.paw_grammar.specs.Spells.{begins_with_slash}
 use Rattle.std.proofs.lemmas.Cmp.{nat_list_cmp_total}
 use Rattle.std.proofs.lemmas.Map.Text.{is_eq-slice_cmp}
@@ -97,7 +98,7 @@ record First (ws : List Word) (class value : ℕ) (w : Word) : Type 0 where
   class_is : w.class ≡ class
   value_is : w.value ≡ value
   low : 2 ≤ value
-  high : value ≤ 254
+  high : value ≤ GREATEST_WORD
   spelled : Spelling (spelled_letters w) w.letters
   known_is : known ws (spelled_letters w) ≡ Some w
 
@@ -105,10 +106,10 @@ first_is : (ws : List Word) (class value : ℕ) (w : Word) → Words ws → firs
 first_is ws class value w words h =
     let passes = and_parts (eqb w.class class) _ (find_passes (means class value) ws w h) in
     let kept = and_parts (are_letters w.letters) _ (find_keeps (means class value) is_word ws w words.all h) in
-    let range = and_parts (leb 2 w.value) (leb w.value 254) (and_parts (is_within 2 254 w.value) _ kept.1).0 in
+    let range = and_parts (leb LEAST_WORD w.value) (leb w.value GREATEST_WORD) (and_parts (is_within LEAST_WORD GREATEST_WORD w.value) _ kept.1).0 in
     let value_is : w.value ≡ value = eqb-true w.value value passes.1 in
     let low : 2 ≤ w.value = leb-true 2 w.value range.0 in
-    let high : w.value ≤ 254 = leb-true w.value 254 range.1 in
+    let high : w.value ≤ GREATEST_WORD = leb-true w.value GREATEST_WORD range.1 in
     let s = spelling w.letters kept.0 in
     record {
       class_is = eqb-true w.class class passes.0;
@@ -119,7 +120,7 @@ first_is ws class value w words h =
       known_is = rw (s.word, s.is) (found_word (means class value) ws w words.rise h);
     }
 
-no_sign : (value : ℕ) (w : Word) → 2 ≤ value → value ≤ 254 → word_token value (Some w) ≡ spelled_letters w
+no_sign : (value : ℕ) (w : Word) → LEAST_WORD ≤ value → value ≤ GREATEST_WORD → word_token value (Some w) ≡ spelled_letters w
 no_sign value w low high =
     let one : eqb value 1 ≡ false = ne_eqb value 1 (λ e. omega arith) in
     let none : eqb value 255 ≡ false = ne_eqb value 255 (λ e. omega arith) in
@@ -189,7 +190,7 @@ entry_noun_back ws value words h =
 record Verb (ws : List Word) (value : ℕ) (w : Word) : Type 0 where
   stands : option_or (first_word ws 0 value) (first_word ws 2 value) ≡ Some w
   low : 2 ≤ value
-  high : value ≤ 254
+  high : value ≤ GREATEST_WORD
   spelled : Spelling (spelled_letters w) w.letters
   read : as_verb (known ws (spelled_letters w)) ≡ Some value
 

@@ -5,6 +5,8 @@ use Rattle.std.specs.List.{list_all}
 use Rattle.std.specs.Fmt.{decimal}
 use Rattle.std.proofs.lemmas.Bool.{and_parts, and_from, or_cases, leb-true, ltb-true, lt-ltb, le-leb, eq-eqb}
 use Rattle.std.proofs.lemmas.List.{append_assoc, append-nil}
+use Rattle.paw_base.specs.declared.limits.TheConstants.{LOCATION_LIMIT}
+use Rattle.paw_base.specs.declared.places.TheConstants.{NOT_CREATED_PLACE, CARRIED_PLACE}
 use Rattle.paw_base.specs.declared.fault.SourceKind.{SourceKind}
 use Rattle.paw_base.specs.declared.parts.ObjectFacts.{ObjectFacts}
 use Rattle.paw_game.specs.declared.parts.Word.{Word}
@@ -64,14 +66,14 @@ object_row-is ws locations n count f r =
       r.adjective.is [],
     ) refl
 
-place_small : (locations p : ℕ) → locations ≤ 252 → is_place locations p ≡ true → p ≤ 65535
+place_small : (locations p : ℕ) → locations ≤ LOCATION_LIMIT → is_place locations p ≡ true → p ≤ 65535
 place_small locations p few h =
-    elim (or_cases (ltb p locations) (is_within 252 254 p) h) [
+    elim (or_cases (ltb p locations) (is_within NOT_CREATED_PLACE CARRIED_PLACE p) h) [
       | inl is ↦ omega (arith, ltb-true p locations is)
-      | inr is ↦ omega (arith, leb-true p 254 (and_parts (leb 252 p) (leb p 254) is).1)
+      | inr is ↦ omega (arith, leb-true p CARRIED_PLACE (and_parts (leb NOT_CREATED_PLACE p) (leb p CARRIED_PLACE) is).1)
     ]
 
-facts_row : (ws : List Word) (locations n count : ℕ) (f : ObjectFacts) → Words ws → locations ≤ 252 → n < count →
+facts_row : (ws : List Word) (locations n count : ℕ) (f : ObjectFacts) → Words ws → locations ≤ LOCATION_LIMIT → n < count →
     count ≤ 65535 → are_facts ws locations f ≡ true → FactsRow ws locations n count f
 facts_row ws locations n count f words few below most h =
     let noun = and_parts (is_word_or_none ws 2 f.noun) _ h in

@@ -1,5 +1,6 @@
 -- An image that isn't opened.
 use Rattle.std.proofs.Common.{◌≡◌, ℕ, List, subst}
+use Rattle.paw_base.specs.declared.limits.TheConstants.{IMAGE_LIMIT}
 use Rattle.paw_game.specs.Game.{GameLists}
 use Rattle.paw_play.specs.declared.PlayEnd.{PlayEnd}
 use Rattle.paw_stage.specs.Stage.{Standing}
@@ -19,7 +20,7 @@ no_file name old new (outcome.Memory at) h = wanting at h
 no_file name old new _ h = absurd h
 
 -- and so do bytes that give no game
-pub no_image : (name given : List ℕ) (old new : Standing) (o : Outcome) → LoadsSome name 4194304 old new given → GivesNone given o → Unopened name old new o
+pub no_image : (name given : List ℕ) (old new : Standing) (o : Outcome) → LoadsSome name IMAGE_LIMIT old new given → GivesNone given o → Unopened name old new o
 no_image name given old new (outcome.ImageDamaged at) f h = damaged at (damage_loaded name given old new at f h.0 h.1) f.3
 no_image name given old new (outcome.Memory at) f h = wanting at f.3
 no_image name given old new _ f h = absurd h
@@ -30,5 +31,5 @@ pub unloaded : {Comes : GameLists → PlayEnd → Type 0} (name : List ℕ) (old
 unloaded name old new o h = unopened o (no_file name old new o h)
 
 pub undecoded : {Comes : GameLists → PlayEnd → Type 0} (name given bytes : List ℕ) (old new : Standing) (o : Outcome) → bytes ≡ given →
-    LoadsSome name 4194304 old new given → GivesNone bytes o → PlaysFile Comes name old new o
+    LoadsSome name IMAGE_LIMIT old new given → GivesNone bytes o → PlaysFile Comes name old new o
 undecoded name given bytes old new o e f h = unopened o (no_image name given old new o f (subst (λ b. GivesNone b o) e h))

@@ -6,6 +6,7 @@ use Rattle.std.specs.List.{list_all, flat_map}
 use Rattle.std.specs.Fmt.{decimal}
 use Rattle.std.proofs.lemmas.Bool.{and_parts, leb-true, lt-ltb, eq-eqb, ne_eqb}
 use Rattle.std.proofs.lemmas.List.{append_assoc, append-nil}
+use Rattle.paw_base.specs.declared.limits.TheConstants.{ENTRY_LIMIT}
 use Rattle.paw_base.specs.declared.fault.SourceKind.{SourceKind}
 use Rattle.paw_base.specs.declared.parts.Condact.{Condact}
 use Rattle.paw_game.specs.declared.parts.Word.{Word}
@@ -101,15 +102,15 @@ record EntryRow (ws : List Word) (e : Entry) : Type 0 where
   verb : ReadsBack (verb_token ws e.verb) (entry_verb ws) e.verb
   noun : ReadsBack (value_token ws 2 e.noun) (entry_noun ws) e.noun
 
-entry_row-is : (p : ℕ) (g : GameLists) (es : List Entry) (e : Entry) → EntryRow g.words e → length es < 4000
+entry_row-is : (p : ℕ) (g : GameLists) (es : List Entry) (e : Entry) → EntryRow g.words e → length es < ENTRY_LIMIT
     → entry_row (bounds p g) g.words es (entry_tokens g.words e) ≡ Ok (es ++ with_condacts e [] ∷ [])
 unfolding entry_row more_condacts condacts_in
 entry_row-is p g es e r room =
-    let below : ltb (length es) 4000 ≡ true = lt-ltb (length es) 4000 room in
+    let below : ltb (length es) ENTRY_LIMIT ≡ true = lt-ltb (length es) ENTRY_LIMIT room in
     let few : ltb 255 0 ≡ false = refl in
     rw (r.verb.is (value_token g.words 2 e.noun ∷ []), r.noun.is []) (rw below refl)
 
-entry_step : (p : ℕ) (g : GameLists) (exits : List (List Exit)) (ts : List (List Entry)) (es : List Entry) (e : Entry) → EntryRow g.words e → length es < 4000
+entry_step : (p : ℕ) (g : GameLists) (exits : List (List Exit)) (ts : List (List Entry)) (es : List Entry) (e : Entry) → EntryRow g.words e → length es < ENTRY_LIMIT
     → LineReads p (spelt_of g exits (ts ++ es ∷ [])) (spaced (entry_tokens g.words e)) (spelt_of g exits (ts ++ (es ++ with_condacts e [] ∷ []) ∷ []))
 entry_step p g exits ts es e r room =
     let d : Spelt = spelt_of g exits (ts ++ es ∷ []) in
@@ -125,7 +126,7 @@ entry_step p g exits ts es e r room =
     }
 
 entries_read : (p : ℕ) (g : GameLists) (exits : List (List Exit)) (ts : List (List Entry)) (done es : List Entry) →
-    Small p g → length (done ++ es) ≤ 4000 → list_all (is_entry g) es ≡ true
+    Small p g → length (done ++ es) ≤ ENTRY_LIMIT → list_all (is_entry g) es ≡ true
     → Reads p (spelt_of g exits (ts ++ done ∷ [])) (flat_map (entry_lines g.words) es) (spelt_of g exits (ts ++ (done ++ es) ∷ []))
 entries_read p g exits ts done [] s few h = rw (append-nil done) (reads_none p (spelt_of g exits (ts ++ done ∷ [])))
 entries_read p g exits ts done (e ∷ es) s few h =
@@ -134,7 +135,7 @@ entries_read p g exits ts done (e ∷ es) s few h =
     let noun = and_parts (is_any e.noun || has_word g.words 2 e.noun) _ verb.1 in
     let cs = and_parts (leb (length e.condacts) 255) (list_all (is_condact g) e.condacts) noun.1 in
     let row : EntryRow g.words e = record { verb = entry_verb_back g.words e.verb s.words verb.0; noun = entry_noun_back g.words e.noun s.words noun.0 } in
-    let room : length done < 4000 = omega (arith, length-append done (e ∷ es), few) in
+    let room : length done < ENTRY_LIMIT = omega (arith, length-append done (e ∷ es), few) in
     let same : (done ++ e ∷ []) ++ es ≡ done ++ e ∷ es = append_assoc done (e ∷ []) es in
     let rows = condacts_read p g exits ts done e [] e.condacts s (leb-true (length e.condacts) 255 cs.0) cs.1 in
     let rest = entries_read p g exits ts (done ++ e ∷ []) es s (rw same few) both.1 in
@@ -163,8 +164,8 @@ pub table_read : (p : ℕ) (g : GameLists) (exits : List (List Exit)) (d : Spelt
     → next_header d.section ≡ (codes "/PRO", section.Pro) → n ≡ length d.tables → n ≤ 255 → lacks_rows d ≡ false →
     is_table g es ≡ true → Reads p d (table_lines g.words n es) (spelt_of g exits (ts ++ es ∷ []))
 table_read p g exits d ts n es s begun at is few rows h =
-    let both = and_parts (leb (length es) 4000) (list_all (is_entry g) es) h in
-    reads_line p _ _ _ _ _ (rw begun at (header_step p d n at is few rows)) (entries_read p g exits ts [] es s (leb-true (length es) 4000 both.0) both.1)
+    let both = and_parts (leb (length es) ENTRY_LIMIT) (list_all (is_entry g) es) h in
+    reads_line p _ _ _ _ _ (rw begun at (header_step p d n at is few rows)) (entries_read p g exits ts [] es s (leb-true (length es) ENTRY_LIMIT both.0) both.1)
 
 no_row_lacks : (g : GameLists) (exits : List (List Exit)) (ts : List (List Entry)) → 0 < length ts → lacks_rows (spelt_of g exits ts) ≡ false
 no_row_lacks g exits ts some =

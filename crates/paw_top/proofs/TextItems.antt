@@ -4,6 +4,7 @@ use Rattle.std.proofs.Common.{arith, length-append}
 use Rattle.std.specs.List.{list_all, flat_map}
 use Rattle.std.proofs.lemmas.Bool.{and_parts, leb-true, le-ltb, lt-ltb, eq-eqb, ne_eqb}
 use Rattle.std.proofs.lemmas.List.{append_assoc, append-nil}
+use Rattle.paw_base.specs.declared.limits.TheConstants.{TEXT_LIMIT}
 use Rattle.paw_base.specs.declared.fault.SourceKind.{SourceKind}
 use Rattle.paw_game.specs.Valid.{is_text, is_printed}
 use Rattle.paw_grammar.specs.declared.section.Section.{Section}
@@ -93,14 +94,14 @@ in_text s b before t d at text =
     ap (λ x. not (eqb (length (texts_of x e)) 0)) here
     ∙ rw ((texts-with s b (before ++ t ∷ []) d text).0, some) refl
 
-line_joined : (b : Bool) (before : List (List ℕ)) (t l : List ℕ) → length (with_line b t l) ≤ 4095 →
+line_joined : (b : Bool) (before : List (List ℕ)) (t l : List ℕ) → length (with_line b t l) ≤ TEXT_LIMIT →
     text_line b l (before ++ t ∷ []) ≡ Ok (before ++ with_line b t l ∷ [])
 line_joined b before t l short =
-    let within : ltb 4095 (length (with_line b t l)) ≡ false = le-ltb 4095 (length (with_line b t l)) short in
+    let within : ltb TEXT_LIMIT (length (with_line b t l)) ≡ false = le-ltb TEXT_LIMIT (length (with_line b t l)) short in
     rw (last_or-push [] before t, within, with_last-push (with_line b t l) before t) refl
 
 line_step : (p : ℕ) (s : Section) (b : Bool) (d : Spelt) (before : List (List ℕ)) (t l : List ℕ) → d.section ≡ s →
-    is_text_section s ≡ true → TextLine l → length (with_line b t l) ≤ 4095
+    is_text_section s ≡ true → TextLine l → length (with_line b t l) ≤ TEXT_LIMIT
     → LineReads p (with_texts s b (before ++ t ∷ []) d) l (with_texts s true (before ++ with_line b t l ∷ []) d)
 line_step p s b d before t l at text line short =
     let ts : List (List ℕ) = before ++ t ∷ [] in
@@ -120,15 +121,15 @@ line_step p s b d before t l at text line short =
 -- ---- a text ----
 
 more_lines : (p : ℕ) (s : Section) (d : Spelt) (before : List (List ℕ)) (t : List ℕ) (ls : List (List ℕ)) → d.section ≡ s → is_text_section s ≡ true
-    → list_all is_line ls ≡ true → length (t ++ flat_map (λ m. 10 ∷ m) ls) ≤ 4095
+    → list_all is_line ls ≡ true → length (t ++ flat_map (λ m. 10 ∷ m) ls) ≤ TEXT_LIMIT
     → Reads p (with_texts s true (before ++ t ∷ []) d) ls (with_texts s true (before ++ (t ++ flat_map (λ m. 10 ∷ m) ls) ∷ []) d)
 more_lines p s d before t [] at text lines short = rw (append-nil t) (reads_none p (with_texts s true (before ++ t ∷ []) d))
 more_lines p s d before t (l ∷ ls) at text lines short =
     let both = and_parts (is_line l) (list_all is_line ls) lines in
     let more : List ℕ = flat_map (λ m. 10 ∷ m) ls in
     let same : (t ++ 10 ∷ l) ++ more ≡ t ++ (10 ∷ l ++ more) = append_assoc t (10 ∷ l) more in
-    let whole : length ((t ++ 10 ∷ l) ++ more) ≤ 4095 = rw same short in
-    let first : length (t ++ 10 ∷ l) ≤ 4095 = omega (arith, length-append (t ++ 10 ∷ l) more, whole) in
+    let whole : length ((t ++ 10 ∷ l) ++ more) ≤ TEXT_LIMIT = rw same short in
+    let first : length (t ++ 10 ∷ l) ≤ TEXT_LIMIT = omega (arith, length-append (t ++ 10 ∷ l) more, whole) in
     reads_line p _ _ _ l ls (line_step p s true d before t l at text (text_line_is l both.0) first)
     (rw same at (more_lines p s d before (t ++ 10 ∷ l) ls at text both.1 whole))
 
@@ -137,12 +138,12 @@ abbrev pub Then : ℕ → Section → Spelt → Spelt → List (List ℕ) → Li
 Then p s d e lines texts = (b : Bool) × Reads p e lines (with_texts s b texts d)
 
 whole_text : (p : ℕ) (s : Section) (d : Spelt) (before : List (List ℕ)) (t : List ℕ) (ls : List (List ℕ)) → d.section ≡ s → is_text_section s ≡ true
-    → HasLine ls → list_all is_line ls ≡ true → rejoined ls ≡ t → length t ≤ 4095 → Then p s d (with_texts s false (before ++ [] ∷ []) d) ls (before ++ t ∷ [])
+    → HasLine ls → list_all is_line ls ≡ true → rejoined ls ≡ t → length t ≤ TEXT_LIMIT → Then p s d (with_texts s false (before ++ [] ∷ []) d) ls (before ++ t ∷ [])
 whole_text p s d before t ls at text (has_line l ms are) lines is short =
     let both = and_parts (is_line l) (list_all is_line ms) (rw are at lines) in
     let same : l ++ flat_map (λ m. 10 ∷ m) ms ≡ t = rw are at is in
-    let whole : length (l ++ flat_map (λ m. 10 ∷ m) ms) ≤ 4095 = rw same short in
-    let first : length l ≤ 4095 = omega (arith, length-append l (flat_map (λ m. 10 ∷ m) ms), whole) in
+    let whole : length (l ++ flat_map (λ m. 10 ∷ m) ms) ≤ TEXT_LIMIT = rw same short in
+    let first : length l ≤ TEXT_LIMIT = omega (arith, length-append l (flat_map (λ m. 10 ∷ m) ms), whole) in
     rw are (
       true,
       reads_line p _ _ _ l ms (line_step p s false d before [] l at text (text_line_is l both.0) first)
@@ -153,9 +154,9 @@ text_read : (p : ℕ) (s : Section) (d : Spelt) (before : List (List ℕ)) (t : 
     → Then p s d (with_texts s false (before ++ [] ∷ []) d) (lines_of_text t) (before ++ t ∷ [])
 text_read p s d before [] at text h = (false, reads_none p (with_texts s false (before ++ [] ∷ []) d))
 text_read p s d before (b ∷ bs) at text h =
-    let both = and_parts (leb (length (b ∷ bs)) 4095) (is_printed true (b ∷ bs)) h in
+    let both = and_parts (leb (length (b ∷ bs)) TEXT_LIMIT) (is_printed true (b ∷ bs)) h in
     whole_text p s d before (b ∷ bs) (split (b ∷ bs)) at text (split_some (b ∷ bs)) (split_is_lines (b ∷ bs) both.1)
-    (rejoined-split (b ∷ bs)) (leb-true _ 4095 both.0)
+    (rejoined-split (b ∷ bs)) (leb-true _ TEXT_LIMIT both.0)
 
 -- ---- items ----
 

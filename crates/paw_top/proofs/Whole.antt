@@ -4,6 +4,7 @@ use Rattle.std.specs.Prelude.{codes}
 use Rattle.std.specs.List.{list_all, count_by}
 use Rattle.std.proofs.Math.ListN.{length-map}
 use Rattle.std.proofs.lemmas.Bool.{and_parts, and_from, leb-true, le-ltb, eqb-true, ne_eqb}
+use Rattle.paw_base.specs.declared.limits.TheConstants.{IMAGE_LIMIT, LOCATION_LIMIT, SOURCE_LIMIT, WORD_LIMIT}
 use Rattle.paw_game.specs.declared.parts.Word.{Word}
 use Rattle.paw_game.specs.declared.parts.Exit.{Exit}
 use Rattle.paw_game.specs.declared.parts.Entry.{Entry}
@@ -37,7 +38,7 @@ use Rattle.paw_top.proofs.TableRows.{spelt_of, table_read, tables_read}
 
 -- the rules of a valid game, one by one
 record Rules (g : GameLists) : Type 0 where
-  few_words : length g.words ≤ 2000
+  few_words : length g.words ≤ WORD_LIMIT
   all_words : list_all is_word g.words ≡ true
   rise : words_rise g.words ≡ true
   few_system : length g.system ≤ 256
@@ -47,7 +48,7 @@ record Rules (g : GameLists) : Type 0 where
   few_objects : length g.objects ≤ 255
   objects : list_all (is_object g.words (length g.locations)) g.objects ≡ true
   some_locations : 1 ≤ length g.locations
-  few_locations : length g.locations ≤ 252
+  few_locations : length g.locations ≤ LOCATION_LIMIT
   locations : list_all is_text g.locations ≡ true
   one_each : length g.exits ≡ length g.locations
   exits : list_all (is_exits g.words (length g.locations)) g.exits ≡ true
@@ -57,13 +58,13 @@ record Rules (g : GameLists) : Type 0 where
 
 rules : (g : GameLists) → Valid g → Rules g
 rules g v =
-    let words = and_parts (leb (length g.words) 2000) _ v.words in
+    let words = and_parts (leb (length g.words) WORD_LIMIT) _ v.words in
     let each = and_parts (list_all is_word g.words) (words_rise g.words) words.1 in
     let system = and_parts (leb (length g.system) 256) (list_all is_text g.system) v.system in
     let messages = and_parts (leb (length g.messages) 256) (list_all is_text g.messages) v.messages in
     let objects = and_parts (leb (length g.objects) 255) (list_all (is_object g.words (length g.locations)) g.objects) v.objects in
-    let some = and_parts (leb 1 (length g.locations)) (rows_kept 252 is_text g.locations) v.locations in
-    let locations = and_parts (leb (length g.locations) 252) (list_all is_text g.locations) some.1 in
+    let some = and_parts (leb 1 (length g.locations)) (rows_kept LOCATION_LIMIT is_text g.locations) v.locations in
+    let locations = and_parts (leb (length g.locations) LOCATION_LIMIT) (list_all is_text g.locations) some.1 in
     let exits = and_parts (eqb (length g.exits) (length g.locations)) (list_all (is_exits g.words (length g.locations)) g.exits) v.exits in
     let tables = and_parts (is_within 3 256 (length g.tables)) (list_all (is_table g) g.tables) v.tables in
     let range = and_parts (leb 3 (length g.tables)) (leb (length g.tables) 256) tables.0 in
@@ -205,14 +206,14 @@ counted : CountsTables → (p : ℕ) (g : GameLists) (exits : List (List Exit)) 
 counted counts p g exits reads = sym (counts p nothing_yet (spelt_of g exits g.tables) (canonical_lines g) reads.is
     ∙ zero-add (count_by begins_table (canonical_lines g)))
 
-read_again : CountsTables → (g : GameLists) → Rules g → length (image g) ≤ 4194304 →
+read_again : CountsTables → (g : GameLists) → Rules g → length (image g) ≤ IMAGE_LIMIT →
     spelled_after (count_by begins_table (canonical_lines g)) 0 nothing_yet (canonical_lines g) ≡ Ok g
 read_again counts g r within =
     let whole = whole_read (length g.tables) g r (small g r) in
     let e : Spelt = spelt_of g whole.exits g.tables in
     let same : game_of e ≡ g = game_is g whole.exits whole.filled in
     let many : ltb (length g.tables) 3 ≡ false = le-ltb _ _ r.some_tables in
-    let short : ltb 4194304 (length (image (game_of e))) ≡ false = ap (λ h. ltb 4194304 (length (image h))) same ∙ le-ltb _ _ within in
+    let short : ltb IMAGE_LIMIT (length (image (game_of e))) ≡ false = ap (λ h. ltb IMAGE_LIMIT (length (image h))) same ∙ le-ltb _ _ within in
     ap (λ p. spelled_after p 0 nothing_yet (canonical_lines g)) (counted counts (length g.tables) g whole.exits whole.reads)
     ∙ reads_whole (length g.tables) nothing_yet e (canonical_lines g) whole.reads many short
     ∙ ap (λ (h : GameLists). Ok h) same
@@ -226,5 +227,5 @@ pub spells_itself : CountsTables → SpellsItself
 unfolding spelled
 spells_itself counts = λ g v within short.
     let r = rules g v in
-    let fits : ltb 8388608 (length (canonical_of g)) ≡ false = le-ltb _ _ short in
+    let fits : ltb SOURCE_LIMIT (length (canonical_of g)) ≡ false = le-ltb _ _ short in
     rw fits (ap (λ (ls : List (List ℕ)). spelled_after (count_by begins_table ls) 0 nothing_yet ls) (lines_are g r) ∙ read_again counts g r within)

@@ -10,6 +10,8 @@ use Rattle.std.proofs.lemmas.Bool.{and_parts, leb-true, ne_eqb}
 use Rattle.std.proofs.lemmas.Cmp.{nat_list_cmp_total}
 use Rattle.std.proofs.lemmas.List.{append_assoc, append-nil}
 use Rattle.std.proofs.lemmas.Map.Text.{is_eq-slice_cmp}
+use Rattle.paw_base.specs.declared.limits.TheConstants.{WORD_LIMIT}
+use Rattle.paw_base.specs.declared.words.TheConstants.{LEAST_WORD, GREATEST_WORD}
 use Rattle.paw_base.specs.declared.fault.SourceKind.{SourceKind}
 use Rattle.paw_game.specs.declared.parts.Word.{Word}
 use Rattle.paw_game.specs.Valid.{are_letters, is_within, is_word, words_rise}
@@ -75,31 +77,31 @@ word_tokens w = spelled_letters w ∷ decimal w.value ∷ class_name w.class ∷
 -- the row of a word
 record WordRow (w : Word) : Type 0 where
   spelled : Spelling (spelled_letters w) w.letters
-  value : is_within 2 254 w.value ≡ true
+  value : is_within LEAST_WORD GREATEST_WORD w.value ≡ true
   small : w.value ≤ 65535
   class : ClassName w.class
 
 word_row : (w : Word) → is_word w ≡ true → WordRow w
 word_row w h =
     let letters = and_parts (are_letters w.letters) _ h in
-    let value = and_parts (is_within 2 254 w.value) (leb w.class 6) letters.1 in
-    let high : w.value ≤ 254 = leb-true w.value 254 (and_parts (leb 2 w.value) (leb w.value 254) value.0).1 in
+    let value = and_parts (is_within LEAST_WORD GREATEST_WORD w.value) (leb w.class 6) letters.1 in
+    let high : w.value ≤ GREATEST_WORD = leb-true w.value GREATEST_WORD (and_parts (leb LEAST_WORD w.value) (leb w.value GREATEST_WORD) value.0).1 in
     record { spelled = spelling w.letters letters.0; value = value.0; small = omega arith; class = class_back w.class value.1 }
 
 plain_row : (w : Word) → WordRow w → list_all is_plain (word_tokens w) ≡ true
 plain_row w r = rw (r.spelled.plain, plain-decimal w.value r.small, r.class.plain) refl
 
 voc_row-is : (vs : List Word) (w : Word) (ws : List Word) → WordRow w → words_rise (vs ++ w ∷ ws) ≡ true →
-    length vs < 2000 → voc_row vs (word_tokens w) ≡ Ok (vs ++ w ∷ [])
+    length vs < WORD_LIMIT → voc_row vs (word_tokens w) ≡ Ok (vs ++ w ∷ [])
 unfolding voc_row
 voc_row-is vs w ws r rise few =
-    let room : eqb (length vs) 2000 ≡ false = ne_eqb (length vs) 2000 (λ e. omega arith) in
+    let room : eqb (length vs) WORD_LIMIT ≡ false = ne_eqb (length vs) WORD_LIMIT (λ e. omega arith) in
     rw (r.spelled.word, r.spelled.is, number-decimal w.value r.small, r.value, r.class.read, not_declared vs w ws rise, room, put_last vs w ws rise) refl
 
 -- ---- all rows ----
 
 word_step : (p : ℕ) (d : Spelt) (vs : List Word) (w : Word) (ws : List Word) → d.section ≡ section.Voc →
-    is_word w ≡ true → words_rise (vs ++ w ∷ ws) ≡ true → length vs < 2000
+    is_word w ≡ true → words_rise (vs ++ w ∷ ws) ≡ true → length vs < WORD_LIMIT
     → LineReads p (record d { words = vs }) (spaced (word_tokens w)) (record d { words = vs ++ w ∷ [] })
 word_step p d vs w ws at h rise few =
     let r = word_row w h in
@@ -114,12 +116,12 @@ word_step p d vs w ws at h rise few =
 
 -- The rows of words after those that were read.
 pub words_read : (p : ℕ) (d : Spelt) (vs ws : List Word) → d.section ≡ section.Voc → list_all is_word ws ≡ true →
-    words_rise (vs ++ ws) ≡ true → length (vs ++ ws) ≤ 2000
+    words_rise (vs ++ ws) ≡ true → length (vs ++ ws) ≤ WORD_LIMIT
     → Reads p (record d { words = vs }) (map (λ w. spaced (word_tokens w)) ws) (record d { words = vs ++ ws })
 words_read p d vs [] at all rise few = rw (append-nil vs) (reads_none p (record d { words = vs }))
 words_read p d vs (w ∷ ws) at all rise few =
     let both = and_parts (is_word w) (list_all is_word ws) all in
-    let room : length vs < 2000 = omega (arith, length-append vs (w ∷ ws), few) in
+    let room : length vs < WORD_LIMIT = omega (arith, length-append vs (w ∷ ws), few) in
     let same : (vs ++ w ∷ []) ++ ws ≡ vs ++ w ∷ ws = append_assoc vs (w ∷ []) ws in
     let rest = words_read p d (vs ++ w ∷ []) ws at both.1 (ap words_rise same ∙ rise) (rw same few) in
     reads_line p _ _ _ _ _ (word_step p d vs w ws at both.0 rise room) (rw same at rest)

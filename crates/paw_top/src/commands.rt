@@ -86,7 +86,7 @@ pub(crate) enum Command<'a> {
 // ---- words ----
 
 fn are_digits(word: &[u8]) -> bool
-    ensures { result ≡ list_all is_ascii_digit word.now }
+    ensures value { result ≡ list_all is_ascii_digit word.now }
 {
     word.iter().all(|byte| byte.is_ascii_digit())
 }

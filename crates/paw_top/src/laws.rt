@@ -21,5 +21,5 @@ pub fn decompiled_games_come_back()
 
 /// A canonical source that is longer than a source may be spells nothing.
 pub fn long_canonical_sources_are_too_big()
-    ensures { LongIsTooBig }
+    ensures too_big { LongIsTooBig }
 {}

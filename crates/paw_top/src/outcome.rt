@@ -100,7 +100,7 @@ pub const NO_MEMORY: u8 = 8;
 
 // The name of a call.
 fn call_name(call: StageCall) -> &'static str
-    ensures { result.now ≡ call_name call }
+    ensures value { result.now ≡ call_name call }
 {
     match call {
         StageCall::Load => "Load",
@@ -117,7 +117,7 @@ fn call_name(call: StageCall) -> &'static str
 
 // The name of a kind of fault.
 fn kind_name(kind: SourceKind) -> &'static str
-    ensures { result.now ≡ kind_name kind }
+    ensures value { result.now ≡ kind_name kind }
 {
     match kind {
         SourceKind::Section => "Section",
@@ -135,7 +135,7 @@ fn kind_name(kind: SourceKind) -> &'static str
 
 // The name of a place where memory was lacking.
 fn memory_name(at: MemoryAt) -> &'static str
-    ensures { result.now ≡ memory_name at }
+    ensures value { result.now ≡ memory_name at }
 {
     match at {
         MemoryAt::Load => "Load",
@@ -151,7 +151,7 @@ fn memory_name(at: MemoryAt) -> &'static str
 
 // The name of a part of a session.
 fn part_name(part: SessionPart) -> &'static str
-    ensures { result.now ≡ part_name part }
+    ensures value { result.now ≡ part_name part }
 {
     match part {
         SessionPart::Header => "Header",
@@ -162,7 +162,7 @@ fn part_name(part: SessionPart) -> &'static str
 
 // The name of what a piece has used up.
 fn spent_name(kind: SpentKind) -> &'static str
-    ensures { result.now ≡ spent_name kind }
+    ensures value { result.now ≡ spent_name kind }
 {
     match kind {
         SpentKind::Condacts => "condacts",

@@ -20,7 +20,7 @@ use std::alloc::Global;
 
 /// What the bytes of a state, which begin with the flags, count.
 fn counts_in(state: &[u8; STATE_ROOM]) -> Tally
-    ensures { result ≡ tally_in state.now }
+    ensures value { result ≡ tally_in state.now }
 {
     Tally {
         turns: u32::from(state[LOW_TURNS_FLAG as usize])
@@ -42,7 +42,7 @@ pub(crate) fn counted<F: Fn(u8, u8) -> u8>(
 ) -> Result<Tally, NoRoom>
     requires rows { HaveRows F.Fn routines.now }
     requires holds { HoldsLines setting.now (trial_lines setting.now) (standing_of stage.old) }
-    ensures { IfOk result (IsTallyOf (trial_reading setting.now)) }
+    ensures tally { IfOk result (IsTallyOf (trial_reading setting.now)) }
 {
     let mut room = Room::new(alloc)?;
     let Ok(at) = attach(stage, STORE) else {

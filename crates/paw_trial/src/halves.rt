@@ -28,14 +28,14 @@ const BYTES: u64 = 16_000_000;
 
 /// A stage for a trial.
 pub(crate) fn new_stage(alloc: Global) -> Result<MemoryStage, NoRoom>
-    ensures { IfOk result (λ s. s ≡ empty 4000 16000000) }
+    ensures empty { IfOk result (λ s. s ≡ empty 4000 16000000) }
 {
     MemoryStage::new(alloc, CALLS, BYTES)
 }
 
 /// Adds lines to those that are left.
 fn add_lines(alloc: Global, stage: &mut MemoryStage, lines: &[Text]) -> Result<(), NoRoom>
-    ensures { OnOk result (stage.new ≡ record stage.old { lines = stage.old.lines ++ lines.now }) }
+    ensures added { OnOk result (stage.new ≡ record stage.old { lines = stage.old.lines ++ lines.now }) }
 {
     for line in lines {
         stage.add_line(alloc, line.rows.as_slice())?;
@@ -45,7 +45,7 @@ fn add_lines(alloc: Global, stage: &mut MemoryStage, lines: &[Text]) -> Result<(
 
 /// How a trial stops where playing ends this way; None where no line is left.
 fn stop_of(end: PlayEnd) -> Option<TrialEnd>
-    ensures { result ≡ stop_of end }
+    ensures value { result ≡ stop_of end }
 {
     match end {
         PlayEnd::InputEnded => None,
@@ -72,7 +72,7 @@ fn play_lines<F: Fn(u8, u8) -> u8>(
 ) -> PlayEnd
     requires rows { AreRowsOf F.Fn routines.now [] }
     requires stable { IsStable (standing_of stage.old).disk }
-    ensures { PlaysHalf half setting.now (standing_of stage.old) (standing_of stage.new) result }
+    ensures plays { PlaysHalf half setting.now (standing_of stage.old) (standing_of stage.new) result }
 {
     let game = setting.game();
     let digest = setting.digest();
@@ -93,7 +93,7 @@ pub(crate) fn play_half<F: Fn(u8, u8) -> u8>(
 ) -> Option<TrialEnd>
     requires rows { AreRowsOf F.Fn routines.now [] }
     requires ready { IsReadyFor half setting.now stage.old }
-    ensures { ComesTo setting.now (lines_by half setting.now) (standing_of stage.new) result }
+    ensures plays { ComesTo setting.now (lines_by half setting.now) (standing_of stage.new) result }
 {
     let Ok(()) = add_lines(alloc, stage, setting.half(half)) else {
         return Some(TrialEnd::Memory);

@@ -51,8 +51,8 @@ impl Model for Setting {
 
 /// The image of a game that isn't too long.
 fn image_of(alloc: Global, game: &Game) -> Result<Vec<u8>, NoRoom>
-    requires { length (image game.now) ≤ IMAGE_LIMIT }
-    ensures { IfOk result (λ v. v.items ≡ image game.now) }
+    requires fits { length (image game.now) ≤ IMAGE_LIMIT }
+    ensures value { IfOk result (λ v. v.items ≡ image game.now) }
 {
     match encode(alloc, game) {
         Ok(bytes) => Ok(bytes),
@@ -67,7 +67,7 @@ impl Setting {
     /// # Errors
     /// NoRoom for lack of memory.
     pub(crate) fn new(alloc: Global, n: u16) -> Result<Setting, NoRoom>
-        ensures { IfOk result (λ s. s ≡ n) }
+        ensures value { IfOk result (λ s. s ≡ n) }
     {
         let game = game_of(alloc, n)?;
         let image = image_of(alloc, &game)?;
@@ -83,14 +83,14 @@ impl Setting {
 
     /// The number, which is the seed as well.
     pub(crate) fn number(&self) -> u16
-        ensures { result ≡ self.now }
+        ensures value { result ≡ self.now }
     {
         self.n
     }
 
     /// The game.
     pub(crate) fn game(&self) -> &Game
-        ensures { result.now ≡ trial_game self.now }
+        ensures value { result.now ≡ trial_game self.now }
     {
         &self.game
     }

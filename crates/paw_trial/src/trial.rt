@@ -16,8 +16,8 @@ use std::alloc::Global;
 
 /// The line of a trial whose session counts this.
 fn line_of(alloc: Global, n: u16, tally: Tally) -> Result<String, NoRoom>
-    requires { IsTallyOf (trial_reading n) tally }
-    ensures { IfOk result (λ line. IsTextOf n (trial_reading n) (string_bytes line)) }
+    requires tally { IsTallyOf (trial_reading n) tally }
+    ensures text { IfOk result (λ line. IsTextOf n (trial_reading n) (string_bytes line)) }
 {
     let locations = location_count(n);
     let objects = object_count(n);

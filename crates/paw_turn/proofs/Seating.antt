@@ -5,6 +5,7 @@ use Rattle.std.specs.Prelude.{if◌then◌else◌, nat_lt}
 use Rattle.std.specs.Option.{option_or}
 use Rattle.std.proofs.lemmas.Bool.{eqb-true, ltb-true}
 use Rattle.std.proofs.lemmas.List.{reverse-reverse}
+use Rattle.paw_base.specs.declared.limits.TheConstants.{READ_LIMIT}
 use Rattle.paw_base.specs.inner.Steps.{KeptSteps}
 use Rattle.paw_base.specs.inner.Steps.{no_steps}
 use Rattle.paw_game.specs.Game.{GameLists}
@@ -194,7 +195,7 @@ taken_fits p m seated standing is =
     subst (λ (n : OpenTables). Fits p.game p.world n p.pending (prompt_at p.last))
     (sym (is ∙ restored_again (prompt_at p.last) p.machine (machine_stands p.last p.machine seated.machine standing)))
     (record {
-      machine = machine_alike (prompt_at p.last) p.machine 200000 no_steps fits.machine;
+      machine = machine_alike (prompt_at p.last) p.machine READ_LIMIT no_steps fits.machine;
       rightly = record { world = k.world; places = k.places; line = k.line; pending = k.pending; earlier = k.earlier; piece = refl; read = refl };
     })
 
@@ -232,7 +233,7 @@ renewed p q seed seated game = begun q seed (subst Valid (sym game) seated.valid
 pub new_ready : {F : Type 0} (g : GameLists) (routines : Routines F) (h : Turn) (last : Step) → Valid g
     → IsNew (seat_of g routines h last) h.situation.world.seed → MayGoOn g h
 new_ready g routines h last v fresh =
-    let left : h.machine.left ≡ 200000 = ap (λ (m : OpenTables). m.left) fresh.machine in
+    let left : h.machine.left ≡ READ_LIMIT = ap (λ (m : OpenTables). m.left) fresh.machine in
     let draws : h.situation.world.draws ≡ 0 = ap (λ (w : World). w.draws) fresh.world in
     record {
       playable = record {

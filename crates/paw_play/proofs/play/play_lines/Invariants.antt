@@ -1,4 +1,5 @@
 use Rattle.std.proofs.Common.{◌≡◌, ◌+◌, ◌-◌, ◌*◌, ◌≤◌, ℕ, List, None}
+use Rattle.paw_base.specs.declared.limits.TheConstants.{READ_LIMIT}
 use Rattle.paw_base.specs.declared.limits.TheConstants.{EVENT_LIMIT}
 use Rattle.paw_routines.specs.Routines.{AreRowsOf, HaveRows}
 use Rattle.paw_effects.specs.Story.{story_of}
@@ -22,7 +23,7 @@ invariant-loop g l = record {
   events : l.session.events ≡ l.counter;
   from : l.fn.session.events ≤ l.counter;
   few : l.counter ≤ EVENT_LIMIT;
-  draws : l.player.world.draws ≤ 200000 * (l.counter + 1);
+  draws : l.player.world.draws ≤ READ_LIMIT * (l.counter + 1);
   serves : Serves g.S.Stage play_calls None l.fn.stage l.stage;
   kept : g.S.Stage.Tells l.fn.stage → KeptIn l.session.journal l.room (g.S.Stage.standing l.stage);
   playing : g.S.Stage.Tells l.fn.stage → (X : List (List ℕ)) → AreRowsOf g.F.Fn l.fn.player.routines X → (s : PlayedSession) (first : Standing) →

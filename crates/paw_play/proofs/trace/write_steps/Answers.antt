@@ -1,6 +1,7 @@
 use Rattle.std.proofs.Common.{◌≡◌, ℕ, List, ◌+◌, ◌≤◌, ◌++◌, length, take, arith, ap, ◌∙◌}
 use Rattle.std.specs.Prelude.{◌-◌, flat_map}
 use Rattle.std.proofs.lemmas.List.{take_all}
+use Rattle.paw_base.specs.declared.limits.TheConstants.{STEP_LIMIT}
 use Rattle.paw_reading.specs.Run.{Step}
 use Rattle.paw_play.specs.Traces.{step_line, more_line}
 use Rattle.paw_play.proofs.Lines.{put_whole, more_short}
@@ -15,12 +16,12 @@ returns c =
     let fits : length c.loop-step.text + length (more_line more) ≤ 65535 =
     omega (arith, loop.short, c.loop-step.auto.step-index-end, c.told_steps-step-items.ensures.few, short) in
     let whole = put_whole c.put_more-fits.result c.loop-step.text c.put_more-fits.new.text (more_line more) c.put_more-fits.ensures.puts fits in
-    let all : take c.loop-step.step-index items ≡ take 1000 c.args.steps.now.rows =
+    let all : take c.loop-step.step-index items ≡ take STEP_LIMIT c.args.steps.now.rows =
     take_all c.loop-step.step-index items c.loop-step-test.false ∙ c.told_steps-step-items.ensures.value
-    ∙ ap (take 1000) c.rows.ensures.value in
-    let count : more ≡ c.args.steps.now.count - 1000 =
-    c.saturating_sub.ensures ∙ ap (λ n. n - 1000) c.count.ensures.value in
+    ∙ ap (take STEP_LIMIT) c.rows.ensures.value in
+    let count : more ≡ c.args.steps.now.count - STEP_LIMIT =
+    c.saturating_sub.ensures ∙ ap (λ n. n - STEP_LIMIT) c.count.ensures.value in
     record {
       text = whole ∙ ap (λ t. t ++ more_line more) (loop.lines ∙ ap (flat_map step_line) all)
-          ∙ ap (λ n. flat_map step_line (take 1000 c.args.steps.now.rows) ++ more_line n) count;
+          ∙ ap (λ n. flat_map step_line (take STEP_LIMIT c.args.steps.now.rows) ++ more_line n) count;
     }

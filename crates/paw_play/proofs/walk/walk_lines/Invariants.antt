@@ -1,4 +1,5 @@
 use Rattle.std.proofs.Common.{◌≡◌, ◌+◌, ◌*◌, ◌≤◌, ℕ, List, None}
+use Rattle.paw_base.specs.declared.limits.TheConstants.{READ_LIMIT}
 use Rattle.paw_stage.specs.Stage.{Standing}
 use Rattle.paw_stage.specs.Across.{Serves}
 use Rattle.paw_turn.specs.inner.Player.{IsSeated}
@@ -14,7 +15,7 @@ abbrev pub invariant-loop : goal.invariant-loop
 invariant-loop g l = record {
   seated : IsSeated l.player;
   game : l.player.game ≡ l.fn.player.game;
-  draws : l.player.world.draws ≤ 200000 * (l.counter + 1);
+  draws : l.player.world.draws ≤ READ_LIMIT * (l.counter + 1);
   serves : Serves g.S.Stage walk_calls None l.fn.stage l.stage;
   routines : l.player.routines ≡ l.fn.player.routines;
   rows : HaveRows g.F.Fn l.player.routines;

@@ -1,5 +1,6 @@
 use Rattle.std.proofs.Common.{◌≡◌, ◌≤◌, ◌<◌, ◌⊎◌, ◌∙◌, ℕ, List, [], ◌∷◌, Some, length, take, refl, sym, ap, subst, arith, inl, inr}
 use Rattle.std.proofs.lemmas.List.{take_all}
+use Rattle.paw_wrap.specs.declared.columns.TheConstants.{WRAP_LIMIT}
 use Rattle.paw_stage.specs.Across.{IsOneOf}
 use Rattle.paw_stage.specs.Stage.{Standing}
 use Rattle.paw_stage.specs.declared.StageCall.TheVariants as call
@@ -22,17 +23,17 @@ no_file width name old new (outcome.Memory at) h m = wanting at m h
 no_file width name old new _ h m = absurd h
 
 -- what was loaded and isn't too long is the text of the file
-holds_text : (name given : List ℕ) (old new : Standing) → LoadsSome name 4194304 old new given → length given ≤ 4194304 →
+holds_text : (name given : List ℕ) (old new : Standing) → LoadsSome name WRAP_LIMIT old new given → length given ≤ WRAP_LIMIT →
     HoldsText old name given
 holds_text name given old new f short =
-    let whole : length f.0 ≤ 4194304 = short_enough f.0 (subst (λ b. length b ≤ 4194304) f.2 short) (in_order (length f.0) 4194304) in
+    let whole : length f.0 ≤ WRAP_LIMIT = short_enough f.0 (subst (λ b. length b ≤ WRAP_LIMIT) f.2 short) (in_order (length f.0) WRAP_LIMIT) in
     (f.1 ∙ ap Some (sym (f.2 ∙ take_all 4194305 f.0 (omega (arith, whole)))), short)
 
 -- what was loaded and is too long comes of a file that is
-is_long : (given bytes : List ℕ) → given ≡ take 4194305 bytes → 4194304 < length given →
-    (length bytes ≤ 4194304) ⊎ (4194305 ≤ length bytes) → 4194304 < length bytes
+is_long : (given bytes : List ℕ) → given ≡ take 4194305 bytes → WRAP_LIMIT < length given →
+    (length bytes ≤ WRAP_LIMIT) ⊎ (4194305 ≤ length bytes) → WRAP_LIMIT < length bytes
 is_long given bytes e h (inl k) =
-    absurd (omega (arith, k, subst (λ b. 4194304 < length b) (e ∙ take_all 4194305 bytes (omega (arith, k))) h))
+    absurd (omega (arith, k, subst (λ b. WRAP_LIMIT < length b) (e ∙ take_all 4194305 bytes (omega (arith, k))) h))
 is_long given bytes e h (inr k) = omega (arith, k)
 
 -- a text that is shown in columns is wrapped, as far as it was shown
@@ -54,19 +55,19 @@ returns-in-Err-clause-wraps g c = λ tells.
 pub returns-then-len-gt-WRAP_LIMIT-clause-wraps : goal.returns-then-len-gt-WRAP_LIMIT-clause-wraps
 returns-then-len-gt-WRAP_LIMIT-clause-wraps g c = λ tells.
     let f = c.in-Ok.ensures.some tells in
-    let long = subst (λ n. 4194304 < n) (c.len.ensures ∙ c.in-Ok.given.ok.0) c.if-len-gt-WRAP_LIMIT.true in
-    too_long f.0 f.1 (is_long c.in-Ok.given.items f.0 f.2 long (in_order (length f.0) 4194304)) f.3
+    let long = subst (λ n. WRAP_LIMIT < n) (c.len.ensures ∙ c.in-Ok.given.ok.0) c.if-len-gt-WRAP_LIMIT.true in
+    too_long f.0 f.1 (is_long c.in-Ok.given.items f.0 f.2 long (in_order (length f.0) WRAP_LIMIT)) f.3
 
 pub returns-in_default-clause-wraps : goal.returns-in_default-clause-wraps
 returns-in_default-clause-wraps g c = λ tells.
     let f = c.in-Ok.ensures.some tells in
-    let short = subst (λ n. n ≤ 4194304) (c.len.ensures ∙ c.in-Ok.given.ok.0) c.if-len-gt-WRAP_LIMIT.false in
+    let short = subst (λ n. n ≤ WRAP_LIMIT) (c.len.ensures ∙ c.in-Ok.given.ok.0) c.if-len-gt-WRAP_LIMIT.false in
     unwrapped c.in-Ok.given.items (holds_text c.args.text.now c.in-Ok.given.items _ _ f short) f.3
 
 pub returns-clause-wraps : goal.returns-clause-wraps
 returns-clause-wraps g c = λ tells.
     let f = c.in-Ok.ensures.some tells in
-    let short = subst (λ n. n ≤ 4194304) (c.len.ensures ∙ c.in-Ok.given.ok.0) c.if-len-gt-WRAP_LIMIT.false in
+    let short = subst (λ n. n ≤ WRAP_LIMIT) (c.len.ensures ∙ c.in-Ok.given.ok.0) c.if-len-gt-WRAP_LIMIT.false in
     shows_text c.args.width.columns c.args.text.now c.in-Ok.given.items c.as_slice-2.result.now _ _ _ c.tell.result
     (holds_text c.args.text.now c.in-Ok.given.items _ _ f short) f.3
     (c.as_slice-2.ensures.value ∙ ap (λ (w : WrappedText). w.bytes) (c.wrapped.view_is ∙ c.in-Ok-wrap.ensures.value)

@@ -9,7 +9,7 @@ use Rattle.paw_trial.proofs.Counts.{trial_counts}
 use Rattle.paw_trial.proofs.counting.counted.Goals as goal
 
 pub returns : goal.returns
-returns g c =
+returns g c = record { tally =
     let n = c.args.setting.now in
     let room = c.find.new.room in
     let bytes = store_bytes (standing_of c.args.stage.now) store_name in
@@ -17,5 +17,5 @@ returns g c =
     let same : found.disk.bytes ≡ bytes = ap (λ (s : Standing). s.disk.bytes) (c.find.ensures.still tt ∙ (c.in-Ok.ensures.attached tt).1) in
     let digests = kept_digests found.disk.bytes in
     let shown = subst (λ b. recover b ≡ Shown digests (take state_length room.state) room.piece) same (c.in-Ok-find.ensures.kept tt).shown in
-    subst (IsTallyOf (trial_reading n)) (sym (c.counts_in.ensures ∙ ap tally_in c.state.ensures.value))
-    (trial_counts n bytes room.state room.piece digests c.digest.ensures.small c.requires.holds.waits c.requires.holds.stands shown)
+    subst (IsTallyOf (trial_reading n)) (sym (c.counts_in.ensures.value ∙ ap tally_in c.state.ensures.value))
+    (trial_counts n bytes room.state room.piece digests c.digest.ensures.small c.requires.holds.waits c.requires.holds.stands shown) }

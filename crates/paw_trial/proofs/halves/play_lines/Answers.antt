@@ -12,30 +12,30 @@ pub play_loop-requires-clause-rows : goal.play_loop-requires-clause-rows
 play_loop-requires-clause-rows g c = ([], c.requires.rows)
 
 pub play_loop-requires-clause-game : goal.play_loop-requires-clause-game
-play_loop-requires-clause-game g c = c.digest-digest.ensures.digest ∙ ap (λ g. sha256 (image g)) (sym c.game-game.ensures)
+play_loop-requires-clause-game g c = c.digest-digest.ensures.digest ∙ ap (λ g. sha256 (image g)) (sym c.game-game.ensures.value)
 
 pub resume_loop-requires-clause-rows : goal.resume_loop-requires-clause-rows
 resume_loop-requires-clause-rows g c = ([], c.requires.rows)
 
 pub resume_loop-requires-clause-game : goal.resume_loop-requires-clause-game
-resume_loop-requires-clause-game g c = c.digest-digest.ensures.digest ∙ ap (λ g. sha256 (image g)) (sym c.game-game.ensures)
+resume_loop-requires-clause-game g c = c.digest-digest.ensures.digest ∙ ap (λ g. sha256 (image g)) (sym c.game-game.ensures.value)
 
 pub returns-in-First : goal.returns-in-First
-returns-in-First g c =
+returns-in-First g c = record { plays =
     let n = c.args.setting.now in
     let old = standing_of c.args.stage.now in
     let new = standing_of c.play_loop.new.stage in
     let seed : c.from-seed.result ≡ n = omega arith in
     subst (λ h. PlaysHalf h n old new c.play_loop.result) (sym c.in-First.is)
-    (subst (λ g. NewSession (begun (story_of g []) n store_name) old new c.play_loop.result) c.game-game.ensures
+    (subst (λ g. NewSession (begun (story_of g []) n store_name) old new c.play_loop.result) c.game-game.ensures.value
     (subst (λ s. NewSession (begun (story_of c.game-game.result.now []) s store_name) old new c.play_loop.result) seed
-    (c.play_loop.ensures.plays tt [] c.requires.rows)))
+    (c.play_loop.ensures.plays tt [] c.requires.rows))) }
 
 pub returns-in-Second : goal.returns-in-Second
-returns-in-Second g c =
+returns-in-Second g c = record { plays =
     let n = c.args.setting.now in
     let old = standing_of c.args.stage.now in
     let new = standing_of c.resume_loop.new.stage in
     subst (λ h. PlaysHalf h n old new c.resume_loop.result) (sym c.in-Second.is)
     (subst (λ g. PlaysAgain (story_of g []) store_name old new c.resume_loop.result)
-    c.game-game.ensures (c.resume_loop.ensures.plays tt [] c.requires.rows))
+    c.game-game.ensures.value (c.resume_loop.ensures.plays tt [] c.requires.rows)) }
