@@ -11,7 +11,7 @@ use Rattle.paw_stage.specs.Moments.{Moment}
 use Rattle.paw_effects.specs.Story.{Story}
 use Rattle.paw_effects.specs.declared.act.Prompt.{Prompt}
 use Rattle.paw_effects.specs.declared.act.Prompt.TheVariants as prompt
-use Rattle.paw_reading.specs.Reading.{IsOver}
+use Rattle.paw_reading.specs.declared.places.Halt.TheVariants as halt
 use Rattle.paw_reading.specs.Turn.{reading, on, pieces_of}
 use Rattle.paw_turn.specs.inner.Player.{Seat, run_at, PlaysTo, IsSeated, StandsClosed}
 use Rattle.paw_turn.specs.inner.Parts.{seat_at, prompt_step}
@@ -160,7 +160,7 @@ module _ {F : Type 0} (g : Story) (seed : ℕ) (es : List (List ℕ)) (digests :
   on_over : r.prompt ≡ prompt.Over → is_over (reading g seed es) ≡ true
   on_over e =
       let since = (standing_goes_on g seed es [] bytes digests (state_read r) piece played stands shows).1 in
-      let h = same_halt (length es) (reading g seed (es ++ [])) IsOver _
+      let h = same_halt (length es) (reading g seed (es ++ [])) halt.Over _
       (sym since ∙ goes [] ∙ ap (λ q. on g q (reverse r.machine.frames) (run_at seat (piece ∷ []) [] [])) e) in
       subst (λ l. is_over (reading g seed l) ≡ true) (append-nil es) (ap is_over h.1)
 

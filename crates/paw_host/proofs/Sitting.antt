@@ -9,7 +9,8 @@ use Rattle.paw_effects.specs.Story.{Story}
 use Rattle.paw_effects.specs.declared.act.Prompt.{Prompt}
 use Rattle.paw_reading.specs.declared.places.Frame.{Frame}
 use Rattle.paw_reading.specs.Run.{Run}
-use Rattle.paw_reading.specs.Reading.{Halt, IsOver, RunsOut, CallsTooDeep}
+use Rattle.paw_reading.specs.declared.places.Halt.{Halt}
+use Rattle.paw_reading.specs.declared.places.Halt.TheVariants as halt
 use Rattle.paw_reading.specs.Turn.{Ending, WaitsAt, Halted, Unended, reading, on}
 use Rattle.paw_reading.proofs.Counts.{pieces_of_lines}
 use Rattle.paw_turn.specs.inner.Player.{Seat, run_at, PlaysTo, IsSeated, StandsAt, StandsClosed}
@@ -37,7 +38,7 @@ same_digests d s p e t q h = cc
 pub kept_gone : (digests : Digests) (state piece : List ℕ) (n : ℕ) (old new : Session) (e : Ending) → IsKept digests n e (Shown digests state piece) →
     gone_on old new e ≡ record { body = piece; session = new }
 kept_gone digests state piece n old new (WaitsAt p path r) k = ap (λ q. record { body = q; session = new }) (sym (same_piece _ _ _ _ _ _ k.shown))
-kept_gone digests state piece n old new (Halted IsOver r) k = ap (λ q. record { body = q; session = new }) (sym (same_piece _ _ _ _ _ _ k.shown))
+kept_gone digests state piece n old new (Halted halt.Over r) k = ap (λ q. record { body = q; session = new }) (sym (same_piece _ _ _ _ _ _ k.shown))
 kept_gone digests state piece n old new _ k = absurd k.played
 
 -- a reading that is followed from some piece on halts as it does from its first
@@ -118,12 +119,12 @@ module _ {F : Type 0} {g : Story} {seed : ℕ} {es : List (List ℕ)} {seat : Se
             | step.Spent kind ↦ λ plays e.
                 let w : codes "spent" ≡ word = cc in
                 let r = plays.1 [] in
-                let h = halts_all (text ∷ []) (RunsOut kind) r.0 (s.waits p last (text ∷ []) ∙ r.1) in
+                let h = halts_all (text ∷ []) (halt.Spent kind) r.0 (s.waits p last (text ∷ []) ∙ r.1) in
                 rw h.1 (ap (λ b. record { body = b; session = At seed es }) w)
             | step.TooDeep table ↦ λ plays e.
                 let w : codes "too deep" ≡ word = cc in
                 let r = plays.1 [] in
-                let h = halts_all (text ∷ []) (CallsTooDeep table) r.0 (s.waits p last (text ∷ []) ∙ r.1) in
+                let h = halts_all (text ∷ []) (halt.TooDeep table) r.0 (s.waits p last (text ∷ []) ∙ r.1) in
                 rw h.1 (ap (λ b. record { body = b; session = At seed es }) w)
           ] plays e
 

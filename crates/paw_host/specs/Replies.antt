@@ -4,7 +4,7 @@ use Rattle.std.specs.Prelude.{Option, Some, None, if◌then◌else◌}
 use Rattle.std.specs.Str.{bytes_eq}
 use Rattle.paw_base.specs.declared.limits.TheConstants.{EVENT_LIMIT}
 use Rattle.paw_effects.specs.Story.{Story}
-use Rattle.paw_reading.specs.Reading.{IsOver, RunsOut, CallsTooDeep}
+use Rattle.paw_reading.specs.declared.places.Halt.TheVariants as halt
 use Rattle.paw_reading.specs.Turn.{Ending, Halted, reading, pieces_of}
 use Rattle.paw_state.specs.Record.{last_piece}
 use Rattle.paw_host.specs.Names.{Request, request_of}
@@ -34,8 +34,8 @@ pub record Answer : Type 0 where
 -- A session goes on to where a reading ended: the answer is the last piece. Where that piece would read or hold too
 -- much, or called too deep, the answer says so, and the session stays.
 abbrev pub gone_on : Session → Session → Ending → Answer
-gone_on old new (Halted (RunsOut kind) r) = record { body = codes "spent"; session = old }
-gone_on old new (Halted (CallsTooDeep table) r) = record { body = codes "too deep"; session = old }
+gone_on old new (Halted (halt.Spent kind) r) = record { body = codes "spent"; session = old }
+gone_on old new (Halted (halt.TooDeep table) r) = record { body = codes "too deep"; session = old }
 gone_on old new e = record { body = last_piece (pieces_of e); session = new }
 
 -- the game is begun with this seed
@@ -44,7 +44,7 @@ begun g seed = gone_on Absent (At seed []) (reading g seed [])
 
 -- the reading ended for good, with no fault
 abbrev pub is_over : Ending → Bool
-is_over (Halted IsOver r) = true
+is_over (Halted halt.Over r) = true
 is_over _ = false
 
 -- A session that stands at these lines takes a text. One that is over takes none, and neither does one that has all the

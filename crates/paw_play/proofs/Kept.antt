@@ -4,7 +4,7 @@ use Rattle.std.specs.Prelude.{reverse}
 use Rattle.paw_effects.specs.declared.act.Prompt.{Prompt}
 use Rattle.paw_effects.specs.declared.act.Prompt.TheVariants as prompt
 use Rattle.paw_reading.specs.Run.{Step as Read}
-use Rattle.paw_reading.specs.Reading.{IsOver}
+use Rattle.paw_reading.specs.declared.places.Halt.TheVariants as halt
 use Rattle.paw_reading.specs.Turn.{Ending, WaitsAt, Halted}
 use Rattle.paw_turn.specs.inner.Player.{Seat, run_at, PlaysTo, StandsClosed}
 use Rattle.paw_turn.specs.declared.Step.{Step}
@@ -57,7 +57,7 @@ waits_kept digests events e p next pieces traces last is =
 
 over_kept : {F : Type 0} (digests : Digests) (events : ℕ) (e : Ending) (next : Seat F) (pieces : List (List ℕ)) (traces : List (List Read)) →
     next.last ≡ step.Ended → next.machine.frames ≡ [] →
-    e ≡ Halted IsOver (run_at next (pieces ++ next.piece ∷ []) traces []) →
+    e ≡ Halted halt.Over (run_at next (pieces ++ next.piece ∷ []) traces []) →
     IsKept digests events e (Shown digests (seat_state events next) next.piece)
 over_kept digests events e next pieces traces last closed is = rw (is, last) (record {
   played = refl;

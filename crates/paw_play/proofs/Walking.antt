@@ -10,7 +10,9 @@ use Rattle.paw_effects.specs.declared.act.Prompt.{Prompt}
 use Rattle.paw_effects.specs.declared.act.Prompt.TheVariants as prompt
 use Rattle.paw_reading.specs.declared.places.Frame.{Frame}
 use Rattle.paw_reading.specs.Run.{Run, Step as Read}
-use Rattle.paw_reading.specs.Reading.{Waits, Halt, IsOver, RunsOut, CallsTooDeep, asked}
+use Rattle.paw_reading.specs.declared.places.Halt.{Halt}
+use Rattle.paw_reading.specs.declared.places.Halt.TheVariants as halt
+use Rattle.paw_reading.specs.Reading.{Waits, asked}
 use Rattle.paw_reading.specs.GoingOn.{on_path}
 use Rattle.paw_reading.specs.Turn.{WaitsAt, at_main, reading, on, text_of}
 use Rattle.paw_process.specs.inner.OpenTables.{OpenTables}
@@ -144,7 +146,7 @@ text_shown telling g whole (step.Waits p) next pieces traces each h m plays =
     ∙ told_more telling next pieces traces plays.0 each plays.1.0
 text_shown telling g whole step.Ended next pieces traces each h m plays =
     let r : Run = run_at next (pieces ++ next.piece ∷ []) (traces ++ plays.0 ∷ []) [] in
-    ap (λ e. text_of (told_ending telling e)) (plays.1.1 []) ∙ ap text_of (halts_told telling IsOver r)
+    ap (λ e. text_of (told_ending telling e)) (plays.1.1 []) ∙ ap text_of (halts_told telling halt.Over r)
     ∙ told_more telling next pieces traces plays.0 each plays.1.0
 text_shown telling g whole (step.Spent kind) next pieces traces each h m plays = absurd h
 text_shown telling g whole (step.TooDeep u) next pieces traces each h m plays = absurd h
@@ -226,16 +228,16 @@ module _ {F : Type 0} (telling : Telling) (g : Story) (whole after : EndingOf) (
         told_run telling r,
         same_lines telling r,
         record {
-          reading = ap (told_ending telling) (read_all ∙ at.1.1 []) ∙ halts_told telling IsOver r;
+          reading = ap (told_ending telling) (read_all ∙ at.1.1 []) ∙ halts_told telling halt.Over r;
           there = there;
           stands = stands_with (seat_text telling next) told.1
               ∙ ap (advanced first n) (sym (told_more telling next pieces traces at.0 each at.1.0));
         },
       )
   comes_to most few (Some (end.Spent kind)) told =
-      halts most few (RunsOut kind) (subst (λ q. PlaysTo g after q next pieces traces) told.0 plays) told.1
+      halts most few (halt.Spent kind) (subst (λ q. PlaysTo g after q next pieces traces) told.0 plays) told.1
   comes_to most few (Some (end.TooDeep table)) told =
-      halts most few (CallsTooDeep table) (subst (λ q. PlaysTo g after q next pieces traces) told.0 plays) told.1
+      halts most few (halt.TooDeep table) (subst (λ q. PlaysTo g after q next pieces traces) told.0 plays) told.1
   comes_to most few (Some (end.Outside call.Show)) told = (n, few, shown_part told.0 told.1 told.2 told.3)
   comes_to most few (Some _) told = absurd told
 

@@ -10,7 +10,7 @@ use Rattle.paw_base.specs.declared.fault.SpentKind.{SpentKind}
 use Rattle.paw_base.specs.declared.limits.TheConstants.{EVENT_LIMIT}
 use Rattle.paw_effects.specs.Story.{Story}
 use Rattle.paw_reading.specs.Run.{Run}
-use Rattle.paw_reading.specs.Reading.{RunsOut, CallsTooDeep}
+use Rattle.paw_reading.specs.declared.places.Halt.TheVariants as halt
 use Rattle.paw_reading.specs.Turn.{Halted}
 use Rattle.paw_journal.specs.Session.{Digests, Unmade, Damaged, Shown, recover, state_length}
 use Rattle.paw_journal.specs.Journal.{writing_calls}
@@ -74,9 +74,9 @@ pub record NotYet (name : List ℕ) (old : Standing) (m : Moment) : Type 0 where
 pub data MadeAndPlayed (s : PlayedSession) (old new : Standing) : PlayEnd → Type 0 where
   memory : new ≡ old → MadeAndPlayed s old new end.Memory
   -- the piece before the first line is spent, or calls too deep: no session is made
-  spent : (kind : SpentKind) (r : Run) → s.whole [] ≡ Halted (RunsOut kind) r → new ≡ old →
+  spent : (kind : SpentKind) (r : Run) → s.whole [] ≡ Halted (halt.Spent kind) r → new ≡ old →
       MadeAndPlayed s old new (end.Spent kind)
-  too_deep : (table : ℕ) (r : Run) → s.whole [] ≡ Halted (CallsTooDeep table) r → new ≡ old →
+  too_deep : (table : ℕ) (r : Run) → s.whole [] ≡ Halted (halt.TooDeep table) r → new ≡ old →
       MadeAndPlayed s old new (end.TooDeep table)
   -- the session couldn't be made; nothing was asked or shown, and no other file has changed
   unmade : (c : StageCall) → IsOneOf writing_calls c → new ≡ with_store new old → StaysAttached s.name old new →

@@ -5,7 +5,7 @@ use Rattle.paw_game.specs.Image.{image}
 use Rattle.paw_routines.specs.Measure.{measure}
 use Rattle.paw_effects.specs.Story.{Story}
 use Rattle.paw_effects.specs.declared.act.Prompt.TheVariants as prompt
-use Rattle.paw_reading.specs.Reading.{IsOver}
+use Rattle.paw_reading.specs.declared.places.Halt.TheVariants as halt
 use Rattle.paw_reading.specs.Turn.{Ending, WaitsAt, Halted, pieces_of}
 use Rattle.paw_journal.specs.Session.{Digests, BelongsTo, Recovered, Shown}
 use Rattle.paw_state.specs.State.{State}
@@ -27,13 +27,13 @@ kept_bytes s = state_bytes s
 -- the bytes of the state where a reading ended; none where it is spent or too deep
 abbrev pub state_after : ℕ → Ending → List ℕ
 state_after events (WaitsAt p path r) = kept_bytes (state_at events p path r)
-state_after events (Halted IsOver r) = kept_bytes (state_at events prompt.Over [] r)
+state_after events (Halted halt.Over r) = kept_bytes (state_at events prompt.Over [] r)
 state_after events _ = []
 
 -- the reading waits, or is over with its last line
 abbrev pub IsPlayed : Ending → Type 0
 IsPlayed (WaitsAt p path r) = Unit {0}
-IsPlayed (Halted IsOver r) = r.events ≡ []
+IsPlayed (Halted halt.Over r) = r.events ≡ []
 IsPlayed _ = ⊥
 
 -- a session with these digests stands where a reading ended, after so many lines: it shows the state there, and the

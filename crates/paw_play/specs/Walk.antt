@@ -6,7 +6,8 @@ use Rattle.paw_stage.specs.declared.StageCall.TheVariants as call
 use Rattle.paw_effects.specs.declared.act.Prompt.{Prompt}
 use Rattle.paw_reading.specs.declared.places.Frame.{Frame}
 use Rattle.paw_reading.specs.Run.{Run}
-use Rattle.paw_reading.specs.Reading.{Halt, IsOver, RunsOut, CallsTooDeep}
+use Rattle.paw_reading.specs.declared.places.Halt.{Halt}
+use Rattle.paw_reading.specs.declared.places.Halt.TheVariants as halt
 use Rattle.paw_reading.specs.Turn.{Ending, WaitsAt, Halted, text_of}
 use Rattle.paw_play.specs.declared.PlayEnd.{PlayEnd}
 use Rattle.paw_play.specs.declared.PlayEnd.TheVariants as end
@@ -64,10 +65,10 @@ WalkHalts whole most old new halt =
 -- only where fewer than the most were taken, so where the player still waits after that many the walk is Long. Where
 -- memory was wanting nothing was taken or shown.
 abbrev pub Walks : EndingOf → ℕ → Standing → Standing → PlayEnd → Type 0
-Walks whole most old new end.Ended = WalkHalts whole most old new IsOver
+Walks whole most old new end.Ended = WalkHalts whole most old new halt.Over
 Walks whole most old new end.InputEnded = (length old.lines < most) × WalkWaits whole old new (length old.lines)
-Walks whole most old new (end.Spent kind) = WalkHalts whole most old new (RunsOut kind)
-Walks whole most old new (end.TooDeep table) = WalkHalts whole most old new (CallsTooDeep table)
+Walks whole most old new (end.Spent kind) = WalkHalts whole most old new (halt.Spent kind)
+Walks whole most old new (end.TooDeep table) = WalkHalts whole most old new (halt.TooDeep table)
 Walks whole most old new (end.Long events) = (events ≡ EVENT_LIMIT) × WalkWaits whole old new most
 Walks whole most old new (end.Outside call.Ask) = (n : ℕ) × (n < most) × WalkWaits whole old new n
 Walks whole most old new (end.Outside call.Show) = (n : ℕ) × (n ≤ most) × PartShown whole old new n

@@ -10,7 +10,6 @@ use Rattle.paw_base.specs.declared.messages.TheConstants.{QUIT_MESSAGE, GOODBYE_
 use Rattle.paw_base.specs.declared.words.TheConstants.{NO_WORD}
 use Rattle.paw_base.specs.declared.parts.Condact.{Condact}
 use Rattle.paw_base.specs.declared.parts.ObjectFacts.{ObjectFacts}
-use Rattle.paw_base.specs.declared.fault.SpentKind.{SpentKind}
 use Rattle.paw_base.specs.declared.fault.SpentKind.TheVariants as spent
 use Rattle.paw_game.specs.declared.parts.Entry.{Entry}
 use Rattle.paw_game.specs.Game.{GameLists}
@@ -29,14 +28,10 @@ use Rattle.paw_effects.specs.Holds.{is_condition, holds}
 use Rattle.paw_effects.specs.Effects.{Done, effect_of, referred}
 use Rattle.paw_reading.specs.declared.places.Frame.{Frame}
 use Rattle.paw_reading.specs.declared.places.OpenLoop.{OpenLoop}
+use Rattle.paw_reading.specs.declared.places.Halt.{Halt}
+use Rattle.paw_reading.specs.declared.places.Halt.TheVariants as halt
 use Rattle.paw_reading.specs.Run.{Run, Step, closed, fits, printed, with_world, without_loop, line_dropped}
 use Rattle.paw_reading.specs.Run.{anew, is_ignored, heard, reply, is_yes, is_no, taken_phrase}
-
--- What ends play for good: the game is over; a piece would read or hold too much; or a call is too deep.
-pub data Halt : Type 0 where
-  IsOver : Halt
-  RunsOut : (kind : SpentKind) → Halt
-  CallsTooDeep : (table : ℕ) → Halt
 
 -- What stops a table, and all that called it: the location is described again; the game starts anew; or play ends for
 -- good.
@@ -68,7 +63,7 @@ Called = ℕ → Run → Out
 
 -- a piece reads at most 200,000 condacts
 abbrev pub within : Run → Out → Out
-within r x = if nat_lt (length r.read) READ_LIMIT then x else halts (RunsOut spent.Condacts) r
+within r x = if nat_lt (length r.read) READ_LIMIT then x else halts (halt.Spent spent.Condacts) r
 
 -- the step at a condact of this frame, with yes or no
 abbrev pub step_at : Frame → Condact → Bool → Step
@@ -80,7 +75,7 @@ noted f c passed r = record r { read = r.read ++ step_at f c passed ∷ [] }
 
 -- the text is printed where it fits, and then reading goes on
 abbrev pub printing : List ℕ → (Run → Out) → Run → Out
-printing text go r = if fits r text then go (printed text r) else halts (RunsOut spent.Text) r
+printing text go r = if fits r text then go (printed text r) else halts (halt.Spent spent.Text) r
 
 -- ---- calls ----
 
@@ -144,7 +139,7 @@ loop_of lv f p = record { level = lv; table = f.table; entry = f.entry; at = f.a
 
 -- the game is over, with its last piece closed
 abbrev pub game_over : Run → Out
-game_over r = halts IsOver (closed (without_loop (line_dropped r)))
+game_over r = halts halt.Over (closed (without_loop (line_dropped r)))
 
 -- END's question answered with no: the game says goodbye and is over
 abbrev pub over : Story → Run → Out
@@ -202,7 +197,7 @@ after_action g sub lv f next go (effect.Call u) r = after_call f go (sub u r)
 after_action g sub lv f next go (effect.Loop p) r = turns g lv (loop_of lv f p) (go true) (length g.game.objects) r
 after_action g sub lv f next go (effect.Ask p) r = waits g p f go r
 after_action g sub lv f next go effect.Parse r = after_parse f next go r (coming_phrase g r)
-after_action g sub lv f next go effect.Spent r = halts (RunsOut spent.Text) r
+after_action g sub lv f next go effect.Spent r = halts (halt.Spent spent.Text) r
 
 -- the line is dropped and the loop cancelled where the action says so
 abbrev pub carried_out : Done → Run → Run
@@ -269,7 +264,7 @@ reads g sub lv t e k acted r = again lv (looped g sub lv) (plain g sub lv t e k 
 
 -- a table called from level lv, below which n levels are left; with none left the call is too deep, and play ends
 unfoldable pub called : Story → ℕ → ℕ → ℕ → Run → Out
-called g zero lv u r = halts (CallsTooDeep u) r
+called g zero lv u r = halts (halt.TooDeep u) r
 called g (suc n) lv u r = reads g (called g n (suc lv)) (suc lv) u 0 0 false r
 
 -- a table called from level lv: levels go from 0 to 10

@@ -25,7 +25,9 @@ use Rattle.paw_effects.specs.Texts.{put_text, say_text, location_text}
 use Rattle.paw_reading.specs.declared.places.Frame.{Frame}
 use Rattle.paw_reading.specs.Run.{Run, closed, fits, printed, with_world, line_dropped, is_timeout}
 use Rattle.paw_reading.specs.Run.{is_ignored, heard, with_timeout, taken_phrase}
-use Rattle.paw_reading.specs.Reading.{Halt, IsOver, RunsOut, Halts}
+use Rattle.paw_reading.specs.declared.places.Halt.{Halt}
+use Rattle.paw_reading.specs.declared.places.Halt.TheVariants as halt
+use Rattle.paw_reading.specs.Reading.{Halts}
 use Rattle.paw_reading.specs.Reading.{Out, Left, Waits, Stopped, coming_phrase, table_read}
 use Rattle.paw_reading.specs.GoingOn.{on_path}
 
@@ -50,7 +52,7 @@ Sequel = Run → Ending
 
 -- the text is printed where it fits, and then the turn goes on
 abbrev pub saying : List ℕ → Sequel → Run → Ending
-saying text go r = if fits r text then go (printed text r) else Halted (RunsOut spent.Text) r
+saying text go r = if fits r text then go (printed text r) else Halted (halt.Spent spent.Text) r
 
 -- flags that fall when a location is described: one always, one in the dark, one without light
 abbrev pub described : World → World
@@ -196,7 +198,7 @@ first_table (f ∷ path) = f.table
 -- the game is over it stays so. Nothing is put again, and no piece is closed first
 abbrev pub goes_on : Story → ℕ → Prompt → List Frame → Run → Ending
 goes_on g n prompt.Main path r = at_main g (turn g n) r r.events
-goes_on g n prompt.Over path r = Halted IsOver r
+goes_on g n prompt.Over path r = Halted halt.Over r
 goes_on g n p path r = table_done g (turn g n) (first_table path) (on_path g p 0 path r)
 
 -- going on from a prompt with the run's lines

@@ -2,7 +2,7 @@
 use Rattle.std.proofs.Common.{◌≡◌, ℕ, List, refl, sym, subst}
 use Rattle.paw_stage.specs.Stage.{Standing}
 use Rattle.paw_stage.specs.declared.StageCall.TheVariants as call
-use Rattle.paw_reading.specs.Reading.{IsOver, RunsOut, CallsTooDeep}
+use Rattle.paw_reading.specs.declared.places.Halt.TheVariants as halt
 use Rattle.paw_reading.specs.Turn.{Ending, WaitsAt, Halted}
 use Rattle.paw_trial.specs.declared.TrialEnd.{TrialEnd}
 use Rattle.paw_trial.specs.declared.TrialEnd.TheVariants as end
@@ -26,11 +26,11 @@ stopped end.Memory = outcome.Memory memory.Trial
 
 pub halted : (n : ℕ) (s : Standing) (stop : TrialEnd) (e : Ending) → trial_reading n ≡ e → StopsAs stop e → Tries n s s (stopped stop)
 halted n s end.Memory e is h = wanting refl
-halted n s end.Ended (Halted IsOver r) is h = ends r is refl
-halted n s (end.Spent kind) (Halted (RunsOut found) r) is h =
-    spent kind r (subst (λ k. trial_reading n ≡ Halted (RunsOut k) r) (sym h) is) refl
-halted n s (end.TooDeep table) (Halted (CallsTooDeep found) r) is h =
-    too_deep table r (subst (λ t. trial_reading n ≡ Halted (CallsTooDeep t) r) (sym h) is) refl
+halted n s end.Ended (Halted halt.Over r) is h = ends r is refl
+halted n s (end.Spent kind) (Halted (halt.Spent found) r) is h =
+    spent kind r (subst (λ k. trial_reading n ≡ Halted (halt.Spent k) r) (sym h) is) refl
+halted n s (end.TooDeep table) (Halted (halt.TooDeep found) r) is h =
+    too_deep table r (subst (λ t. trial_reading n ≡ Halted (halt.TooDeep t) r) (sym h) is) refl
 halted n s stop e is h = absurd h
 
 pub told : (n : ℕ) (old new : Standing) (o : Outcome) (text : List ℕ) (e : Ending) → trial_reading n ≡ e → IsTextOf n e text → Shows text old new o →

@@ -5,7 +5,7 @@ use Rattle.paw_stage.specs.Stage.{Standing}
 use Rattle.paw_effects.specs.declared.act.Prompt.{Prompt}
 use Rattle.paw_reading.specs.declared.places.Frame.{Frame}
 use Rattle.paw_reading.specs.Run.{Run}
-use Rattle.paw_reading.specs.Reading.{IsOver, RunsOut, CallsTooDeep}
+use Rattle.paw_reading.specs.declared.places.Halt.TheVariants as halt
 use Rattle.paw_reading.specs.Turn.{WaitsAt, Halted}
 use Rattle.paw_trial.specs.Trial.{trial_reading, trial_text}
 use Rattle.paw_top.specs.Shows.{Shows}
@@ -18,9 +18,9 @@ use Rattle.paw_top.specs.declared.outcome.MemoryAt.TheVariants as memory
 pub data Tries (n : ℕ) (old new : Standing) : Outcome → Type 0 where
   shows : (o : Outcome) (p : Prompt) (path : List Frame) (r : Run) → trial_reading n ≡ WaitsAt p path r →
       Shows (trial_text n r.world) old new o → Tries n old new o
-  ends : (r : Run) → trial_reading n ≡ Halted IsOver r → new ≡ old → Tries n old new outcome.Ended
-  spent : (kind : SpentKind) (r : Run) → trial_reading n ≡ Halted (RunsOut kind) r → new ≡ old →
+  ends : (r : Run) → trial_reading n ≡ Halted halt.Over r → new ≡ old → Tries n old new outcome.Ended
+  spent : (kind : SpentKind) (r : Run) → trial_reading n ≡ Halted (halt.Spent kind) r → new ≡ old →
       Tries n old new (outcome.Spent kind)
-  too_deep : (table : ℕ) (r : Run) → trial_reading n ≡ Halted (CallsTooDeep table) r → new ≡ old →
+  too_deep : (table : ℕ) (r : Run) → trial_reading n ≡ Halted (halt.TooDeep table) r → new ≡ old →
       Tries n old new (outcome.TooDeep table)
   wanting : new ≡ old → Tries n old new (outcome.Memory memory.Trial)

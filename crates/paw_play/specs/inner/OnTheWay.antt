@@ -15,7 +15,7 @@ use Rattle.paw_effects.specs.Story.{Story, story_of}
 use Rattle.paw_effects.specs.declared.act.Prompt.{Prompt}
 use Rattle.paw_effects.specs.declared.act.Prompt.TheVariants as prompt
 use Rattle.paw_reading.specs.Run.{Run, Step as Read}
-use Rattle.paw_reading.specs.Reading.{RunsOut, CallsTooDeep}
+use Rattle.paw_reading.specs.declared.places.Halt.TheVariants as halt
 use Rattle.paw_reading.specs.Turn.{Halted, reading, on}
 use Rattle.paw_turn.specs.inner.Player.{Seat, run_at, IsSeated, IsNew}
 use Rattle.paw_turn.specs.inner.Parts.{prompt_at}
@@ -128,8 +128,8 @@ pub record IsStore (name : List ℕ) (s : Standing) : Type 0 where
 
 -- what making a new session comes to, once its store is attached
 abbrev pub BegunAs : PlayedSession → Standing → Standing → PlayEnd → Type 0
-BegunAs s first now (end.Spent kind) = (r : Run) × (s.whole [] ≡ Halted (RunsOut kind) r) × (now ≡ first)
-BegunAs s first now (end.TooDeep table) = (r : Run) × (s.whole [] ≡ Halted (CallsTooDeep table) r) × (now ≡ first)
+BegunAs s first now (end.Spent kind) = (r : Run) × (s.whole [] ≡ Halted (halt.Spent kind) r) × (now ≡ first)
+BegunAs s first now (end.TooDeep table) = (r : Run) × (s.whole [] ≡ Halted (halt.TooDeep table) r) × (now ≡ first)
 BegunAs s first now (end.Outside call.Write) = (now ≡ with_store now first) × StaysAttached s.name first now
 BegunAs s first now (end.Outside call.Sync) = (now ≡ with_store now first) × StaysAttached s.name first now
 BegunAs s first now o = PlaysOn s EVENT_LIMIT first now o

@@ -1,5 +1,6 @@
 -- What a machine's answers mean in the reading.
 use Rattle.std.specs.Prelude.{◌≡◌, ◌⊎◌, ℕ, Bool, false, List, [], ◌∷◌, ◌++◌, length, reverse}
+use Rattle.std.specs.Prelude.{Option, Some, None, MatchOption}
 use Rattle.std.specs.Fn.{Shared}
 use Rattle.paw_game.specs.Game.{GameLists}
 use Rattle.paw_game.specs.Valid.{Valid}
@@ -9,7 +10,9 @@ use Rattle.paw_effects.specs.Story.{Story, story_of}
 use Rattle.paw_effects.specs.declared.act.Prompt.TheVariants as prompt
 use Rattle.paw_reading.specs.declared.places.Frame.{Frame}
 use Rattle.paw_reading.specs.Run.{Run, Step, closed, is_ignored, heard, reply, is_yes}
-use Rattle.paw_reading.specs.Reading.{Halt, RunsOut, CallsTooDeep, Redescribes, Out, Left, Stopped, halts, rest}
+use Rattle.paw_reading.specs.declared.places.Halt.{Halt}
+use Rattle.paw_reading.specs.declared.places.Halt.TheVariants as halt
+use Rattle.paw_reading.specs.Reading.{Redescribes, Out, Left, Stopped, halts, rest}
 use Rattle.paw_reading.specs.GoingOn.{on_path}
 use Rattle.paw_reading.specs.inner.GoingOn.{along}
 use Rattle.paw_process.specs.inner.OpenTables.{OpenTables}
@@ -75,19 +78,24 @@ pub record SamePast (old new : Run) : Type 0 where
   pub traces : new.traces ≡ old.traces
   pub events : new.events ≡ old.events
 
+-- What ended play where the machine turned out so; nothing where it stopped otherwise.
+abbrev pub turned_halt : Turned → Option Halt
+turned_halt (turned.Spent kind) = Some (halt.Spent kind)
+turned_halt (turned.TooDeep u) = Some (halt.TooDeep u)
+turned_halt _ = None
+
 -- the reading ends so for good, in a run with the same past; what world and piece then hold is open
 abbrev pub TableHalts : Halt → Run → Out → Type 0
 TableHalts halt r x = (s : Run) × (x ≡ halts halt s) × SamePast r s
 
 -- What a reading comes to, where the machine turned out so, with these frames and this run: the outermost table was
 -- left; the location is described again; the piece is closed, and the run goes on at the prompt along the frames; or
--- the piece is spent or a call too deep
+-- play has ended for good
 abbrev pub ComesTo : Story → Turned → List Frame → Run → Out → Type 0
 ComesTo g (turned.Left acted) fs r x = x ≡ Left acted r
 ComesTo g turned.Redescribe fs r x = x ≡ Stopped Redescribes r
 ComesTo g (turned.Waits p) fs r x = x ≡ on_path g p 0 (reverse fs) (closed r)
-ComesTo g (turned.Spent kind) fs r x = TableHalts (RunsOut kind) r x
-ComesTo g (turned.TooDeep u) fs r x = TableHalts (CallsTooDeep u) r x
+ComesTo g t fs r x = MatchOption (turned_halt t) ⊥ (λ halt. TableHalts halt r x)
 
 -- Running on from what was held to what is held now: for every run that shows what was held there are the condacts that
 -- were read besides, of which the machine keeps the steps, so that whatever lines come, going on comes to what is said
@@ -100,11 +108,8 @@ RunsTo g old t new =
 
 -- after a stop the machine waits, or nothing is open
 abbrev pub IsStopped : Turned → OpenTables → Type 0
-IsStopped (turned.Left acted) m = IsClosed m
-IsStopped turned.Redescribe m = IsClosed m
 IsStopped (turned.Waits p) m = IsWaiting p m
-IsStopped (turned.Spent kind) m = IsClosed m
-IsStopped (turned.TooDeep u) m = IsClosed m
+IsStopped _ m = IsClosed m
 
 -- ---- answers ----
 

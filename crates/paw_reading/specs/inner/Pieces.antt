@@ -2,7 +2,7 @@
 use Rattle.std.specs.Prelude.{◌≡◌, ℕ, suc, ◌+◌, List, [], length}
 use Rattle.paw_effects.specs.Story.{Story}
 use Rattle.paw_reading.specs.Run.{Run}
-use Rattle.paw_reading.specs.Reading.{IsOver}
+use Rattle.paw_reading.specs.declared.places.Halt.TheVariants as halt
 use Rattle.paw_reading.specs.Turn.{Ending, WaitsAt, Halted, Unended, reading}
 
 -- the pieces that are closed, and the lines that are left
@@ -13,7 +13,7 @@ count r = length r.pieces + length r.events
 -- has so for the lines that it took; one that is spent, or a call too deep, has not closed the piece that it was in
 abbrev pub Counted : ℕ → Ending → Type 0
 Counted n (WaitsAt p path r) = (r.events ≡ []) × (count r ≡ suc n)
-Counted n (Halted IsOver r) = count r ≡ suc n
+Counted n (Halted halt.Over r) = count r ≡ suc n
 Counted n (Halted _ r) = count r ≡ n
 Counted n Unended = Unit {0}
 

@@ -9,7 +9,7 @@ use Rattle.paw_state.specs.State.{State}
 use Rattle.paw_journal.specs.Session.{Digests, Shown, recover}
 use Rattle.paw_journal.specs.declared.refusal.SessionPart.TheVariants as part
 use Rattle.paw_journal.specs.declared.refusal.JournalRefusal.{JournalRefusal}
-use Rattle.paw_reading.specs.Reading.{IsOver, RunsOut, CallsTooDeep}
+use Rattle.paw_reading.specs.declared.places.Halt.TheVariants as halt
 use Rattle.paw_reading.specs.Turn.{Ending, WaitsAt, Halted, Unended, reading}
 use Rattle.paw_trial.specs.Trial.{trial_reading}
 use Rattle.paw_wrap.specs.declared.columns.TheConstants.{WRAP_LIMIT}
@@ -83,9 +83,9 @@ pub record CompletesImage (name : List ℕ) (Such : GameLists → Outcome → Ty
 -- the answer that a trial is due, by how the reading of its lines ends
 abbrev pub due : Ending → Outcome
 due (WaitsAt p path r) = outcome.Done
-due (Halted IsOver r) = outcome.Ended
-due (Halted (RunsOut kind) r) = outcome.Spent kind
-due (Halted (CallsTooDeep table) r) = outcome.TooDeep table
+due (Halted halt.Over r) = outcome.Ended
+due (Halted (halt.Spent kind) r) = outcome.Spent kind
+due (Halted (halt.TooDeep table) r) = outcome.TooDeep table
 due Unended = outcome.Done
 
 -- where the text is there, it is shown, or refused where it is too long

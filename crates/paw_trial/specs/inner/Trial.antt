@@ -1,6 +1,6 @@
 -- What a trial tells: words that contracts between crates and proofs use beside those of specs/Trial.antt.
 use Rattle.std.specs.Prelude.{◌≡◌, ℕ, List}
-use Rattle.paw_reading.specs.Reading.{IsOver, RunsOut, CallsTooDeep}
+use Rattle.paw_reading.specs.declared.places.Halt.TheVariants as halt
 use Rattle.paw_reading.specs.Turn.{Ending, WaitsAt, Halted, reading}
 use Rattle.paw_trial.specs.declared.TrialEnd.{TrialEnd}
 use Rattle.paw_trial.specs.declared.TrialEnd.TheVariants as end
@@ -14,7 +14,7 @@ IsTextOf n _ text = ⊥
 -- a trial has no text where the reading ends otherwise, or where memory was wanting
 abbrev pub StopsAs : TrialEnd → Ending → Type 0
 StopsAs end.Memory e = Unit {0}
-StopsAs end.Ended (Halted IsOver r) = Unit {0}
-StopsAs (end.Spent kind) (Halted (RunsOut found) r) = kind ≡ found
-StopsAs (end.TooDeep table) (Halted (CallsTooDeep found) r) = table ≡ found
+StopsAs end.Ended (Halted halt.Over r) = Unit {0}
+StopsAs (end.Spent kind) (Halted (halt.Spent found) r) = kind ≡ found
+StopsAs (end.TooDeep table) (Halted (halt.TooDeep found) r) = table ≡ found
 StopsAs _ _ = ⊥

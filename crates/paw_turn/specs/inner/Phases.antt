@@ -17,7 +17,9 @@ use Rattle.paw_effects.specs.Story.{Story}
 use Rattle.paw_reading.specs.declared.places.Frame.{Frame}
 use Rattle.paw_reading.specs.declared.places.OpenLoop.{OpenLoop}
 use Rattle.paw_reading.specs.Run.{Run, Step as Read, closed, is_ignored}
-use Rattle.paw_reading.specs.Reading.{Halt, IsOver, RunsOut, CallsTooDeep, Out, table_read}
+use Rattle.paw_reading.specs.declared.places.Halt.{Halt}
+use Rattle.paw_reading.specs.declared.places.Halt.TheVariants as halt
+use Rattle.paw_reading.specs.Reading.{Out, table_read}
 use Rattle.paw_reading.specs.GoingOn.{on_path}
 use Rattle.paw_reading.specs.Turn.{Ending, Halted, AtDescribe, AtTimeFrame, AtPhrase, AtResponse}
 use Rattle.paw_reading.specs.Turn.{table_done, turn, first_table, goes_on, TurnPhase}
@@ -87,9 +89,9 @@ TurnHalts halt r x = (s : Run) × (x ≡ Halted halt s) × SamePast r s
 -- deep, with no piece more
 abbrev pub StopsAs : Story → ℕ → Step → List Frame → Run → Ending → Type 0
 StopsAs g n (step.Waits p) fs r x = x ≡ goes_on g n p (reverse fs) (closed r)
-StopsAs g n step.Ended fs r x = x ≡ Halted IsOver (closed r)
-StopsAs g n (step.Spent kind) fs r x = TurnHalts (RunsOut kind) r x
-StopsAs g n (step.TooDeep u) fs r x = TurnHalts (CallsTooDeep u) r x
+StopsAs g n step.Ended fs r x = x ≡ Halted halt.Over (closed r)
+StopsAs g n (step.Spent kind) fs r x = TurnHalts (halt.Spent kind) r x
+StopsAs g n (step.TooDeep u) fs r x = TurnHalts (halt.TooDeep u) r x
 
 -- what a turn comes to is going on with the next phase, or it stops here
 abbrev pub GoesOnAs : Story → ℕ → Next → List Frame → Run → Ending → Type 0

@@ -12,7 +12,8 @@ use Rattle.paw_effects.specs.declared.act.Prompt.TheVariants as prompt
 use Rattle.paw_effects.specs.inner.Opening.{opening_world}
 use Rattle.paw_effects.specs.Story.{Story}
 use Rattle.paw_reading.specs.Run.{Run, Step as Read}
-use Rattle.paw_reading.specs.Reading.{Halt, IsOver, RunsOut, CallsTooDeep}
+use Rattle.paw_reading.specs.declared.places.Halt.{Halt}
+use Rattle.paw_reading.specs.declared.places.Halt.TheVariants as halt
 use Rattle.paw_reading.specs.Turn.{Ending, Halted, first_table, on}
 use Rattle.paw_reading.specs.inner.Places.{IsLoopOf, StandsRightly}
 use Rattle.paw_process.specs.inner.OpenTables.{OpenTables}
@@ -67,9 +68,9 @@ PlaysTo g whole (step.Waits p) new pieces traces =
     ≡ on g p (reverse new.machine.frames) (run_at new (pieces ++ new.piece ∷ []) (traces ++ read ∷ []) lines)))
 PlaysTo g whole step.Ended new pieces traces =
     (read : List Read) × ((new.machine.steps ≡ kept_steps read) × ((lines : List (List ℕ)) →
-    whole lines ≡ Halted IsOver (run_at new (pieces ++ new.piece ∷ []) (traces ++ read ∷ []) lines)))
-PlaysTo g whole (step.Spent kind) new pieces traces = PlayHalts whole (RunsOut kind) new pieces traces
-PlaysTo g whole (step.TooDeep u) new pieces traces = PlayHalts whole (CallsTooDeep u) new pieces traces
+    whole lines ≡ Halted halt.Over (run_at new (pieces ++ new.piece ∷ []) (traces ++ read ∷ []) lines)))
+PlaysTo g whole (step.Spent kind) new pieces traces = PlayHalts whole (halt.Spent kind) new pieces traces
+PlaysTo g whole (step.TooDeep u) new pieces traces = PlayHalts whole (halt.TooDeep u) new pieces traces
 
 -- the machine waits at this prompt in the tables that are open
 pub record WaitsIn (p : Prompt) (m : OpenTables) : Type 0 where
