@@ -51,6 +51,11 @@ pub data Out : Type 0 where
 abbrev pub halts : Halt → Run → Out
 halts halt r = Stopped (Halts halt) r
 
+-- Play ended with its last piece closed, as it does only where the game is over. Otherwise that piece is dropped.
+abbrev pub closes_piece : Halt → Bool
+closes_piece halt.Over = true
+closes_piece _ = false
+
 -- reading on in a table, with an action carried out there before or not
 abbrev pub Onward : Type 0
 Onward = Bool → Run → Out

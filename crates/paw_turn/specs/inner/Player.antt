@@ -1,5 +1,6 @@
 -- What a player's answers mean in the reading.
-use Rattle.std.specs.Prelude.{◌≡◌, ℕ, List, [], ◌∷◌, ◌++◌, reverse}
+use Rattle.std.specs.Prelude.{◌≡◌, ℕ, Bool, true, List, [], ◌∷◌, ◌++◌, reverse, Option, Some, None, MatchOption, MatchBool}
+use Rattle.std.specs.Option.{option_map_or}
 use Rattle.paw_base.specs.declared.words.TheConstants.{NO_WORD}
 use Rattle.paw_base.specs.inner.Steps.{kept_steps}
 use Rattle.paw_game.specs.Game.{GameLists}
@@ -12,6 +13,7 @@ use Rattle.paw_effects.specs.declared.act.Prompt.TheVariants as prompt
 use Rattle.paw_effects.specs.inner.Opening.{opening_world}
 use Rattle.paw_effects.specs.Story.{Story}
 use Rattle.paw_reading.specs.Run.{Run, Step as Read}
+use Rattle.paw_reading.specs.Reading.{closes_piece}
 use Rattle.paw_reading.specs.declared.places.Halt.{Halt}
 use Rattle.paw_reading.specs.declared.places.Halt.TheVariants as halt
 use Rattle.paw_reading.specs.Turn.{Ending, Halted, first_table, on}
@@ -20,6 +22,27 @@ use Rattle.paw_process.specs.inner.OpenTables.{OpenTables}
 use Rattle.paw_process.specs.inner.OpenTables.{IsWaiting, IsClosed, new_machine}
 use Rattle.paw_turn.specs.declared.Step.{Step}
 use Rattle.paw_turn.specs.declared.Step.TheVariants as step
+
+-- ---- what a player comes to ----
+
+-- what a player comes to where play has ended so
+abbrev pub step_of : Halt → Step
+step_of halt.Over = step.Ended
+step_of (halt.Spent kind) = step.Spent kind
+step_of (halt.TooDeep u) = step.TooDeep u
+
+-- What ended play where a player came to this; nothing where it waits.
+abbrev pub step_halt : Step → Option Halt
+step_halt (step.Waits p) = None
+step_halt step.Ended = Some halt.Over
+step_halt (step.Spent kind) = Some (halt.Spent kind)
+step_halt (step.TooDeep u) = Some (halt.TooDeep u)
+
+-- it brings a piece: the player waits, or play ended with its last piece closed
+abbrev pub brings_piece : Step → Bool
+brings_piece s = option_map_or closes_piece (step_halt s) true
+
+-- ---- players ----
 
 -- a player between two lines: its game and the routines that it calls, the world, what is left of the line, the tables
 -- that are open with the steps of the last piece, the text of that piece, and what it came to last
@@ -58,8 +81,8 @@ PlayHalts whole halt new pieces traces =
     × (r.pieces ≡ pieces) × (r.traces ≡ traces) × (r.events ≡ lines))
 
 -- Playing on in a story comes to this: whatever lines come after, the whole reading of them goes on from the player's
--- prompt with one piece more; or is over with one piece more, as the player stands; or is spent, or a call is too deep,
--- with no piece more and none to show. Of what was read in the piece that was closed the player keeps the steps
+-- prompt with one piece more; or is over with one piece more, as the player stands; or has ended otherwise, with no
+-- piece more and none to show. Of what was read in the piece that was closed the player keeps the steps
 abbrev pub PlaysTo : {F : Type 0} → Story → (List (List ℕ) → Ending) → Step → Seat F → List (List ℕ) →
     List (List Read) → Type 0
 PlaysTo g whole (step.Waits p) new pieces traces =
@@ -69,8 +92,7 @@ PlaysTo g whole (step.Waits p) new pieces traces =
 PlaysTo g whole step.Ended new pieces traces =
     (read : List Read) × ((new.machine.steps ≡ kept_steps read) × ((lines : List (List ℕ)) →
     whole lines ≡ Halted halt.Over (run_at new (pieces ++ new.piece ∷ []) (traces ++ read ∷ []) lines)))
-PlaysTo g whole (step.Spent kind) new pieces traces = PlayHalts whole (halt.Spent kind) new pieces traces
-PlaysTo g whole (step.TooDeep u) new pieces traces = PlayHalts whole (halt.TooDeep u) new pieces traces
+PlaysTo g whole s new pieces traces = MatchOption (step_halt s) ⊥ (λ halt. PlayHalts whole halt new pieces traces)
 
 -- the machine waits at this prompt in the tables that are open
 pub record WaitsIn (p : Prompt) (m : OpenTables) : Type 0 where
@@ -88,30 +110,21 @@ StandsAt prompt.Over m = ⊥
 -- a player that is finished has no table open
 abbrev pub StandsClosed : Step → OpenTables → Type 0
 StandsClosed (step.Waits p) m = StandsAt p m
-StandsClosed step.Ended m = IsClosed m
-StandsClosed (step.Spent kind) m = IsClosed m
-StandsClosed (step.TooDeep u) m = IsClosed m
+StandsClosed _ m = IsClosed m
 
--- a player that is over, spent or too deep takes no more lines
+-- a player whose play has ended takes no more lines
 abbrev pub IsFinished : Step → Type 0
 IsFinished (step.Waits p) = ⊥
-IsFinished step.Ended = Unit {0}
-IsFinished (step.Spent kind) = Unit {0}
-IsFinished (step.TooDeep u) = Unit {0}
+IsFinished _ = Unit {0}
 
--- the prompt at which a player stands; one that is spent or too deep takes no more lines, as where the game is over
+-- the prompt at which a player stands; one whose play has ended stands where the game is over
 abbrev pub prompt_at : Step → Prompt
 prompt_at (step.Waits p) = p
-prompt_at step.Ended = prompt.Over
-prompt_at (step.Spent kind) = prompt.Over
-prompt_at (step.TooDeep u) = prompt.Over
+prompt_at _ = prompt.Over
 
--- a player that is neither spent nor too deep stands at its prompt
+-- a player that brought a piece stands at its prompt
 abbrev pub IsStanding : Step → Type 0
-IsStanding (step.Waits p) = Unit {0}
-IsStanding step.Ended = Unit {0}
-IsStanding (step.Spent kind) = ⊥
-IsStanding (step.TooDeep u) = ⊥
+IsStanding s = MatchBool (brings_piece s) (Unit {0}) ⊥
 
 -- parts stand in a game at a prompt as a run may
 abbrev pub StandRightly : GameLists → Prompt → World → OpenTables → PendingLine → Type 0
