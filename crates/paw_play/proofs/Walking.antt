@@ -25,7 +25,8 @@ use Rattle.paw_play.specs.declared.PlayEnd.TheVariants as end
 use Rattle.paw_stage.specs.declared.StageCall.TheVariants as call
 use Rattle.paw_play.specs.Walk.{EndingOf, first_lines, advanced, text_before, PartShown, WalkWaits, WalkHalts}
 use Rattle.paw_play.specs.inner.Telling.{Telling, seat_text, told_pieces, HaveSteps, told_run, told_ending, told_as}
-use Rattle.paw_play.specs.inner.OnTheWay.{IsWalking, ShowsPiece, Told, WalksTo}
+use Rattle.paw_turn.specs.inner.Player.{IsStanding}
+use Rattle.paw_play.specs.inner.OnTheWay.{IsWalking, Told, WalksTo}
 use Rattle.paw_play.proofs.Telling.{pieces_more, told_more, steps_more, told_none, steps_none, waits_told, halts_told, same_lines, told_is}
 use Rattle.paw_effects.specs.Story.{Story}
 
@@ -136,7 +137,7 @@ text_so_far telling g whole n first now seat w seated =
 
 -- the text of a step that brings a piece
 pub text_shown : {F : Type 0} (telling : Telling) (g : Story) (whole : EndingOf) (s : Step) (next : Seat F)
-    (pieces : List (List ℕ)) (traces : List (List Read)) → HaveSteps telling pieces traces → ShowsPiece s → StandsClosed s next.machine →
+    (pieces : List (List ℕ)) (traces : List (List Read)) → HaveSteps telling pieces traces → IsStanding s → StandsClosed s next.machine →
     PlaysTo g whole s next pieces traces →
     text_of (told_as telling whole []) ≡ concat (told_pieces telling pieces traces) ++ seat_text telling next
 text_shown telling g whole (step.Waits p) next pieces traces each h m plays =
@@ -168,7 +169,7 @@ module _ {F : Type 0} (telling : Telling) (g : Story) (whole after : EndingOf) (
   read_all = ap whole (sym (append-nil (first_lines n first.lines))) ∙ whole_after []
 
   -- part of the text was shown
-  shown_part : ShowsPiece s → 0 < length (seat_text telling next) → (m : ℕ) →
+  shown_part : IsStanding s → 0 < length (seat_text telling next) → (m : ℕ) →
       new ≡ record mid { shown = mid.shown ++ take m (seat_text telling next) } → PartShown (told_as telling whole) first new n
   shown_part shows some m e = record {
     shown = concat (told_pieces telling pieces traces) ++ take m (seat_text telling next);

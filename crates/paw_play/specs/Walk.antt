@@ -1,5 +1,6 @@
 -- What taking lines and showing pieces comes to.
 use Rattle.std.specs.Prelude.{◌≡◌, ℕ, zero, suc, ◌+◌, ◌<◌, ◌≤◌, List, [], ◌++◌, length, take, drop, map}
+use Rattle.std.specs.Prelude.{Option, Some, None, MatchOption}
 use Rattle.paw_base.specs.declared.limits.TheConstants.{EVENT_LIMIT, LINE_LIMIT}
 use Rattle.paw_stage.specs.Stage.{Standing}
 use Rattle.paw_stage.specs.declared.StageCall.TheVariants as call
@@ -11,6 +12,13 @@ use Rattle.paw_reading.specs.declared.places.Halt.TheVariants as halt
 use Rattle.paw_reading.specs.Turn.{Ending, WaitsAt, Halted, text_of}
 use Rattle.paw_play.specs.declared.PlayEnd.{PlayEnd}
 use Rattle.paw_play.specs.declared.PlayEnd.TheVariants as end
+
+-- What ended play for good where playing came to this; nothing where it came to something else.
+abbrev pub end_halt : PlayEnd → Option Halt
+end_halt end.Ended = Some halt.Over
+end_halt (end.Spent kind) = Some (halt.Spent kind)
+end_halt (end.TooDeep table) = Some (halt.TooDeep table)
+end_halt _ = None
 
 -- how the reading of some lines ends: that of a game from its start, or going on from a state
 abbrev pub EndingOf : Type 0
@@ -65,12 +73,9 @@ WalkHalts whole most old new halt =
 -- only where fewer than the most were taken, so where the player still waits after that many the walk is Long. Where
 -- memory was wanting nothing was taken or shown.
 abbrev pub Walks : EndingOf → ℕ → Standing → Standing → PlayEnd → Type 0
-Walks whole most old new end.Ended = WalkHalts whole most old new halt.Over
 Walks whole most old new end.InputEnded = (length old.lines < most) × WalkWaits whole old new (length old.lines)
-Walks whole most old new (end.Spent kind) = WalkHalts whole most old new (halt.Spent kind)
-Walks whole most old new (end.TooDeep table) = WalkHalts whole most old new (halt.TooDeep table)
 Walks whole most old new (end.Long events) = (events ≡ EVENT_LIMIT) × WalkWaits whole old new most
 Walks whole most old new (end.Outside call.Ask) = (n : ℕ) × (n < most) × WalkWaits whole old new n
 Walks whole most old new (end.Outside call.Show) = (n : ℕ) × (n ≤ most) × PartShown whole old new n
 Walks whole most old new end.Memory = new ≡ old
-Walks whole most old new _ = ⊥
+Walks whole most old new o = MatchOption (end_halt o) ⊥ (WalkHalts whole most old new)
