@@ -1,5 +1,6 @@
 -- What a trial tells: words that contracts between crates and proofs use beside those of specs/Trial.antt.
 use Rattle.std.specs.Prelude.{◌≡◌, ℕ, List}
+use Rattle.paw_reading.specs.declared.places.Halt.{Halt}
 use Rattle.paw_reading.specs.declared.places.Halt.TheVariants as halt
 use Rattle.paw_reading.specs.Turn.{Ending, WaitsAt, Halted, reading}
 use Rattle.paw_trial.specs.declared.TrialEnd.{TrialEnd}
@@ -11,10 +12,14 @@ abbrev pub IsTextOf : ℕ → Ending → List ℕ → Type 0
 IsTextOf n (WaitsAt p path r) text = text ≡ trial_text n r.world
 IsTextOf n _ text = ⊥
 
--- a trial has no text where the reading ends otherwise, or where memory was wanting
+-- why a trial has no text where play has ended so
+abbrev pub trial_end : Halt → TrialEnd
+trial_end halt.Over = end.Ended
+trial_end (halt.Spent kind) = end.Spent kind
+trial_end (halt.TooDeep table) = end.TooDeep table
+
+-- a trial has no text where the reading has ended for good, or where memory was wanting
 abbrev pub StopsAs : TrialEnd → Ending → Type 0
 StopsAs end.Memory e = Unit {0}
-StopsAs end.Ended (Halted halt.Over r) = Unit {0}
-StopsAs (end.Spent kind) (Halted (halt.Spent found) r) = kind ≡ found
-StopsAs (end.TooDeep table) (Halted (halt.TooDeep found) r) = table ≡ found
+StopsAs stop (Halted halt r) = stop ≡ trial_end halt
 StopsAs _ _ = ⊥
