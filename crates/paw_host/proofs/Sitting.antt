@@ -19,7 +19,8 @@ use Rattle.paw_turn.specs.declared.Step.TheVariants as step
 use Rattle.paw_journal.specs.Session.{Digests, Recovered, Shown, recover}
 use Rattle.paw_play.specs.Session.{story_digests, IsOfStory, IsKept}
 use Rattle.paw_play.specs.Stands.{Stands, ending_since}
-use Rattle.paw_play.specs.inner.OnTheWay.{ShowsPiece, seat_state}
+use Rattle.paw_turn.specs.inner.Player.{IsStanding}
+use Rattle.paw_play.specs.inner.OnTheWay.{seat_state}
 use Rattle.paw_play.proofs.Going.{whole_kept}
 use Rattle.paw_play.proofs.Kept.{step_kept}
 use Rattle.paw_play.proofs.Walking.{on_waits}
@@ -89,18 +90,18 @@ module _ {F : Type 0} {g : Story} {seed : ℕ} {es : List (List ℕ)} {seat : Se
     module _ (found : Step) (next : Seat F) (is : next.last ≡ found) (then_seated : IsSeated next)
         (plays : PlaysTo g (λ lines. on g p (reverse seat.machine.frames) (run_at seat s.pieces s.traces (text ∷ lines))) found next s.pieces s.traces) where
       -- the piece is kept
-      pub text_kept : (digests : Digests) (events : ℕ) → ShowsPiece found → events ≡ length es + 1 →
+      pub text_kept : (digests : Digests) (events : ℕ) → IsStanding found → events ≡ length es + 1 →
           IsKept digests events (reading g seed (es ++ text ∷ [])) (Shown digests (seat_state events next) next.piece)
       text_kept digests events shows count =
           kept_all digests events (text ∷ []) _ (subst (λ e. IsKept digests events e (Shown digests (seat_state events next) next.piece))
           (sym (s.waits p last (text ∷ [])))
           (step_kept g digests events _ found next s.pieces s.traces shows is (subst (λ q. StandsClosed q next.machine) is then_seated.machine) plays))
 
-      pub text_answer : ShowsPiece found → taken g seed es text ≡ record { body = next.piece; session = At seed (es ++ text ∷ []) }
+      pub text_answer : IsStanding found → taken g seed es text ≡ record { body = next.piece; session = At seed (es ++ text ∷ []) }
       text_answer shows = taken_is
           ∙ kept_gone (story_digests g) (seat_state (length es + 1) next) next.piece (length es + 1) _ _ _ (text_kept (story_digests g) (length es + 1) shows refl)
 
-      pub text_stands : (digests : Digests) (bytes : List ℕ) (events : ℕ) → IsOfStory g digests → ShowsPiece found → events ≡ length es + 1 →
+      pub text_stands : (digests : Digests) (bytes : List ℕ) (events : ℕ) → IsOfStory g digests → IsStanding found → events ≡ length es + 1 →
           recover bytes ≡ Shown digests (seat_state events next) next.piece → Stands g seed (es ++ text ∷ []) bytes
       text_stands digests bytes events belongs shows count is_shown =
           let long : length (es ++ text ∷ []) ≡ events = length-append es (text ∷ []) ∙ sym count in
@@ -129,7 +130,7 @@ module _ {F : Type 0} {g : Story} {seed : ℕ} {es : List (List ℕ)} {seat : Se
           ] plays e
 
 -- a step that brings no word brings a piece
-pub shows_by : (found : Step) → word_of found ≡ None → ShowsPiece found
+pub shows_by : (found : Step) → word_of found ≡ None → IsStanding found
 shows_by (step.Waits p) h = tt
 shows_by step.Ended h = tt
 shows_by (step.Spent kind) h = cc
