@@ -145,8 +145,8 @@ abbrev pub left_after : List ℕ → List Round → List ℕ
 left_after bytes [] = bytes
 left_after bytes (r ∷ rounds) = left_after r.left rounds
 
--- how many of the lines that were taken are lost where play came to this end: the last one, where play ended before its
--- piece was closed; otherwise none
+-- how many of the lines that were taken this end of playing loses: the last one, where play ended before its piece was
+-- closed; otherwise none
 abbrev pub lines_lost : PlayEnd → ℕ
 lines_lost o = option_map_or (λ halt. if closes_piece halt then 0 else 1) (end_halt o) 0
 

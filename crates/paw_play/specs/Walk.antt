@@ -13,7 +13,7 @@ use Rattle.paw_reading.specs.Turn.{Ending, WaitsAt, Halted, text_of}
 use Rattle.paw_play.specs.declared.PlayEnd.{PlayEnd}
 use Rattle.paw_play.specs.declared.PlayEnd.TheVariants as end
 
--- What ended play for good where playing came to this; nothing where it came to something else.
+-- the halt that an end of playing is, if it is one
 abbrev pub end_halt : PlayEnd → Option Halt
 end_halt end.Ended = Some halt.Over
 end_halt (end.Spent kind) = Some (halt.Spent kind)

@@ -38,7 +38,7 @@ pub enum PlayEnd {
     Memory,
 }
 
-/// What playing comes to where play has ended so.
+/// The end of playing that this halt is.
 pub fn end_of(halt: Halt) -> PlayEnd
     ensures value { result ≡ end_of_halt halt }
 {
@@ -49,7 +49,7 @@ pub fn end_of(halt: Halt) -> PlayEnd
     }
 }
 
-/// What ended play for good where playing came to this. None where it came to something else.
+/// The halt that this end of playing is, if it is one.
 pub fn halt_of(end: PlayEnd) -> Option<Halt>
     ensures value { result ≡ end_halt end }
 {

@@ -27,7 +27,8 @@ use paw_stage::{Asked, Failed, Stage, StageCall};
 use paw_turn::{Player, Step, halt_of};
 use std::alloc::Global;
 
-/// What a step comes to that brings no piece: play ended before it was closed. None where it brings one.
+/// The end of playing at a step that brings no piece, because play ended before it was closed. None where it brings
+/// one.
 pub(crate) fn refused(step: Step) -> Option<PlayEnd>
     ensures value { result ≡ refusal_of step }
     ensures fine { failed_so_far result ≡ None }

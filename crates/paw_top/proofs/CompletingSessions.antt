@@ -61,7 +61,7 @@ no_writing c (inl h) = λ q. cc
 no_writing c (inr (inl h)) = λ q. cc
 no_writing c (inr (inr h)) = absurd h
 
--- play that has ended for good came to its end
+-- a halt ends a walk
 halted_walked : (o : PlayEnd) (halt : Halt) → end_halt o ≡ Some halt → IsWalked (outcome_of o)
 halted_walked end.Ended halt e = tt
 halted_walked (end.Spent kind) halt e = tt

@@ -25,7 +25,7 @@ pub enum TrialEnd {
     Memory,
 }
 
-/// Why a trial tells no line where play has ended so.
+/// The end of a trial that this halt is.
 pub(crate) fn end_of(halt: Halt) -> TrialEnd
     ensures value { result ≡ trial_end halt }
 {

@@ -68,7 +68,7 @@ pub record IsWalking {F : Type 0} (telling : Telling) (g : Story) (whole : Endin
   pub there : n ≤ length old.lines
   pub stands : now ≡ advanced old n (concat (told_pieces telling pieces traces))
 
--- what playing comes to where play has ended so
+-- the end of playing that a halt is
 abbrev pub end_of_halt : Halt → PlayEnd
 end_of_halt halt.Over = end.Ended
 end_of_halt (halt.Spent kind) = end.Spent kind

@@ -78,7 +78,7 @@ pub record SamePast (old new : Run) : Type 0 where
   pub traces : new.traces ≡ old.traces
   pub events : new.events ≡ old.events
 
--- What ended play where the machine turned out so; nothing where it stopped otherwise.
+-- the halt that a stop of the machine is, if it is one
 abbrev pub turned_halt : Turned → Option Halt
 turned_halt (turned.Spent kind) = Some (halt.Spent kind)
 turned_halt (turned.TooDeep u) = Some (halt.TooDeep u)

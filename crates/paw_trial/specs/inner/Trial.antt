@@ -12,7 +12,7 @@ abbrev pub IsTextOf : ℕ → Ending → List ℕ → Type 0
 IsTextOf n (WaitsAt p path r) text = text ≡ trial_text n r.world
 IsTextOf n _ text = ⊥
 
--- why a trial has no text where play has ended so
+-- the end of a trial that a halt is
 abbrev pub trial_end : Halt → TrialEnd
 trial_end halt.Over = end.Ended
 trial_end (halt.Spent kind) = end.Spent kind

@@ -23,15 +23,15 @@ use Rattle.paw_process.specs.inner.OpenTables.{IsWaiting, IsClosed, new_machine}
 use Rattle.paw_turn.specs.declared.Step.{Step}
 use Rattle.paw_turn.specs.declared.Step.TheVariants as step
 
--- ---- what a player comes to ----
+-- ---- steps ----
 
--- what a player comes to where play has ended so
+-- the step of a player whose play this halt has ended
 abbrev pub step_of : Halt → Step
 step_of halt.Over = step.Ended
 step_of (halt.Spent kind) = step.Spent kind
 step_of (halt.TooDeep u) = step.TooDeep u
 
--- What ended play where a player came to this; nothing where it waits.
+-- the halt that a step is; none where the player waits
 abbrev pub step_halt : Step → Option Halt
 step_halt (step.Waits p) = None
 step_halt step.Ended = Some halt.Over
