@@ -60,7 +60,7 @@ class Reading:
 
     def goes_on(self):
         """Whether the game waits or is over, and wasn't stopped by a limit."""
-        return self.ending[0] == "WaitsAt" or self.ending[:2] == ("Halted", ("IsOver",))
+        return self.ending[0] == "WaitsAt" or self.ending[:2] == ("Halted", ("Over",))
 
     def state(self):
         """The bytes of the state that a session keeps after the lines; none where a limit stopped them."""

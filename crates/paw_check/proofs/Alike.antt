@@ -25,7 +25,8 @@ use Rattle.paw_reading.specs.declared.places.Frame.{Frame}
 use Rattle.paw_reading.specs.declared.places.OpenLoop.{OpenLoop}
 use Rattle.paw_reading.specs.Run.{Run, closed, fits, printed, with_world, without_loop, anew, is_ignored, heard, reply, is_yes, is_no}
 use Rattle.paw_reading.specs.Run.{taken_phrase}
-use Rattle.paw_reading.specs.Reading.{RunsOut, Redescribes, Restarts, Halts, Out, Left, Waits, Stopped, halts, printing, noted, after_call, at_level, again}
+use Rattle.paw_reading.specs.declared.places.Halt.TheVariants as halt
+use Rattle.paw_reading.specs.Reading.{Redescribes, Restarts, Halts, Out, Left, Waits, Stopped, halts, printing, noted, after_call, at_level, again}
 use Rattle.paw_reading.specs.Reading.{is_taken, taken, turns, loop_of, over, answered, asked, waits, after_test, after_parse, after_action}
 use Rattle.paw_reading.specs.Reading.{coming_phrase, carried_out, acts, reads_one, condacts, is_for_now, entries, plain, looped, reads, game_over}
 use Rattle.paw_reading.specs.inner.Steps.{goodbye, quit_question}
@@ -135,8 +136,8 @@ module _ (g : Story) (Describes : Type 0) (lv : ℕ) where
   printing_alike : (text : List ℕ) (go on : Run → Out) (r : Run) → Same (go (printed text r)) (on (printed text r)) →
       Same (printing text go r) (printing text on r)
   printing_alike text go on r h =
-      both Same (fits r text) (go (printed text r)) (halts (RunsOut spent.Text) r) (on (printed text r)) (halts (RunsOut spent.Text) r) h
-      (itself (halts (RunsOut spent.Text) r) tt)
+      both Same (fits r text) (go (printed text r)) (halts (halt.Spent spent.Text) r) (on (printed text r)) (halts (halt.Spent spent.Text) r) h
+      (itself (halts (halt.Spent spent.Text) r) tt)
 
   -- ---- one condact ----
 
@@ -175,7 +176,7 @@ module _ (g : Story) (Describes : Type 0) (lv : ℕ) where
         turns_alike (loop_of lv f p) (w.go true) (w.on_go true) (omega arith) (w.goes true) (length g.game.objects) r
     after_action_alike f w (effect.Ask p) r l k = waits_alike p f w.go w.on_go w.goes r k
     after_action_alike f w effect.Parse r l k = after_parse_alike f w r (coming_phrase g r) k
-    after_action_alike f w effect.Spent r l k = itself (halts (RunsOut spent.Text) r) tt
+    after_action_alike f w effect.Spent r l k = itself (halts (halt.Spent spent.Text) r) tt
 
     cancelled : (b : Bool) (o : Option OpenLoop) → AtMost lv o → AtMost lv (if b then None else o)
     cancelled true o k = tt
@@ -206,7 +207,7 @@ module _ (g : Story) (Describes : Type 0) (lv : ℕ) where
           both Same (nat_lt (length r.read) READ_LIMIT) _ _ _ _
           (reads_one_alike (record { table = t; entry = e; at = k; acted = a })
           (record { next = next; on_next = on; go = _; on_go = _; nexts = h; goes = condacts_alike t e next on h (suc k) cs all.1 }) c all.0 r j)
-          (itself (halts (RunsOut spent.Condacts) r) tt)
+          (itself (halts (halt.Spent spent.Condacts) r) tt)
 
       entries_alike : (t e : ℕ) (es : List Entry) → AllByRecursion (λ en. AllByRecursion Kept en.condacts) es →
           GoAlike (entries g sub lv t e es) (entries g over_sub lv t e es)

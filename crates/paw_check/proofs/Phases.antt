@@ -12,7 +12,8 @@ use Rattle.paw_phrase.proofs.Shortens.{phrases_take_two}
 use Rattle.paw_effects.specs.Story.{Story}
 use Rattle.paw_reading.specs.Bounds.{IsLine, ValidStory}
 use Rattle.paw_reading.specs.Run.{Run, closed, fits, printed, with_world, line_dropped, is_timeout, is_ignored, heard, taken_phrase}
-use Rattle.paw_reading.specs.Reading.{IsOver, RunsOut, CallsTooDeep, Redescribes, Restarts, Halts, Out, Left, Waits, Stopped, coming_phrase, table_read}
+use Rattle.paw_reading.specs.declared.places.Halt.TheVariants as halt
+use Rattle.paw_reading.specs.Reading.{Redescribes, Restarts, Halts, Out, Left, Waits, Stopped, coming_phrase, table_read}
 use Rattle.paw_reading.specs.Turn.{TurnPhase, AtDescribe, AtTimeFrame, AtPhrase, AtResponse, Ending, WaitsAt, Halted, Unended, saying, described}
 use Rattle.paw_reading.specs.Turn.{time_frame_passed, view_text, counted, prompt_text, timeout_text, at_main, after_phrase, refusal_text, connected}
 use Rattle.paw_reading.specs.Turn.{after_left, table_done, turn, phases_left, opening, reading}
@@ -126,9 +127,9 @@ module _ (g : Story) (valid : ValidStory g) (condacts text : ℕ) (k : Takes) (e
         anew_stays r
         (record { world = u.0.world; earlier = u.0.earlier; line = omega (arith, u.0.line); loop = u.0.loop; lines = u.0.lines; closed = u.0.closed })
         u.1.read u.1.current
-    done_stays t m n p low few short (Stopped (Halts IsOver) r) o u = u
-    done_stays t m n p low few short (Stopped (Halts (RunsOut kind)) r) o u = absurd u
-    done_stays t m n p low few short (Stopped (Halts (CallsTooDeep v)) r) o u = absurd u
+    done_stays t m n p low few short (Stopped (Halts halt.Over) r) o u = u
+    done_stays t m n p low few short (Stopped (Halts (halt.Spent kind)) r) o u = absurd u
+    done_stays t m n p low few short (Stopped (Halts (halt.TooDeep v)) r) o u = absurd u
 
     table_stays : (t : ℕ) → t ≤ 2 → (r : Run) → Room (k.reads t + reads_behind k t) (k.prints t + text_behind k t) r →
         Stays (table_done g go t (table_read g t r))
@@ -228,9 +229,9 @@ module _ (g : Story) (valid : ValidStory g) (condacts text : ℕ) (k : Takes) (e
 
   ended : (e : Ending) → Stays e → e ≢ Unended → EndsWithin condacts text e
   ended (WaitsAt p path r) h some = h
-  ended (Halted IsOver r) h some = h
-  ended (Halted (RunsOut kind) r) h some = h
-  ended (Halted (CallsTooDeep u) r) h some = h
+  ended (Halted halt.Over r) h some = h
+  ended (Halted (halt.Spent kind) r) h some = h
+  ended (Halted (halt.TooDeep u) r) h some = h
   ended Unended h some = absurd (some refl)
 
   -- a reading waits or is over, with all its pieces within the bound

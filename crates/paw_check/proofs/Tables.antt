@@ -38,7 +38,8 @@ use Rattle.paw_reading.specs.declared.places.Frame.{Frame}
 use Rattle.paw_reading.specs.declared.places.OpenLoop.{OpenLoop}
 use Rattle.paw_reading.specs.Run.{Run, Step, closed, printed, with_world, without_loop, anew, with_timeout, is_timeout}
 use Rattle.paw_reading.specs.Run.{is_ignored, heard, reply, is_yes, is_no, taken_phrase}
-use Rattle.paw_reading.specs.Reading.{IsOver, RunsOut, CallsTooDeep, Redescribes, Restarts, Halts, Stop, Out, Left, Waits, Stopped}
+use Rattle.paw_reading.specs.declared.places.Halt.TheVariants as halt
+use Rattle.paw_reading.specs.Reading.{Redescribes, Restarts, Halts, Stop, Out, Left, Waits, Stopped}
 use Rattle.paw_reading.specs.Reading.{noted, after_call, at_level, again, is_taken, taken, turns, loop_of, over, answered, asked, waits}
 use Rattle.paw_reading.specs.Reading.{after_test, after_parse, coming_phrase, after_action, carried_out, acts, reads_one, condacts, is_for_now}
 use Rattle.paw_reading.specs.Reading.{entries, plain, looped, reads, game_over}
@@ -124,9 +125,9 @@ module _ (g : Story) (valid : ValidStory g) (kind : SpentKind) (limit pending : 
   Ends Leaving most (Waits p path r) = Closed kind limit r.traces r.pieces
   Ends Leaving most (Stopped Redescribes r) = IsLoose 0 r × ((r.turning ≡ None) × (used kind r ≤ most))
   Ends Leaving most (Stopped Restarts r) = IsFresh r
-  Ends Leaving most (Stopped (Halts IsOver) r) = Closed kind limit r.traces r.pieces
-  Ends Leaving most (Stopped (Halts (RunsOut how)) r) = Another kind how
-  Ends Leaving most (Stopped (Halts (CallsTooDeep t)) r) = ⊥
+  Ends Leaving most (Stopped (Halts halt.Over) r) = Closed kind limit r.traces r.pieces
+  Ends Leaving most (Stopped (Halts (halt.Spent how)) r) = Another kind how
+  Ends Leaving most (Stopped (Halts (halt.TooDeep t)) r) = ⊥
 
   -- the table is left, where its loop may be open
   abbrev pub Inside : (lv open_most most : ℕ) → Run → Type 0
@@ -143,9 +144,9 @@ module _ (g : Story) (valid : ValidStory g) (kind : SpentKind) (limit pending : 
   stops_up : (P Q : Run → Type 0) (n m : ℕ) → n ≤ m → (stop : Stop) (r : Run) → Ends P n (Stopped stop r) → Ends Q m (Stopped stop r)
   stops_up P Q n m h Redescribes r k = (k.0, (k.1.0, omega (arith, h, k.1.1)))
   stops_up P Q n m h Restarts r k = k
-  stops_up P Q n m h (Halts IsOver) r k = k
-  stops_up P Q n m h (Halts (RunsOut how)) r k = k
-  stops_up P Q n m h (Halts (CallsTooDeep t)) r k = k
+  stops_up P Q n m h (Halts halt.Over) r k = k
+  stops_up P Q n m h (Halts (halt.Spent how)) r k = k
+  stops_up P Q n m h (Halts (halt.TooDeep t)) r k = k
 
   pub ends_up : (P Q : Run → Type 0) (n m : ℕ) → n ≤ m → ((r : Run) → P r → Q r) → (x : Out) → Ends P n x → Ends Q m x
   ends_up P Q n m h f (Left a r) k = f r k

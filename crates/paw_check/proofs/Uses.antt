@@ -10,7 +10,8 @@ use Rattle.paw_base.specs.declared.fault.SpentKind.TheVariants as spent
 use Rattle.paw_game.specs.Game.{GameLists}
 use Rattle.paw_reading.specs.declared.places.Frame.{Frame}
 use Rattle.paw_reading.specs.Run.{Run, Step, fits, printed}
-use Rattle.paw_reading.specs.Reading.{RunsOut, Out, halts, within, step_at, noted, printing}
+use Rattle.paw_reading.specs.declared.places.Halt.TheVariants as halt
+use Rattle.paw_reading.specs.Reading.{Out, halts, within, step_at, noted, printing}
 use Rattle.paw_check.specs.Prints.{most_text}
 
 -- of two amounts that of this kind
@@ -86,9 +87,9 @@ unread spent.Text g c r h e = tt
 -- a condact may be read where what it uses is within the limit
 pub may_read : (P : Out → Type 0) (kind : SpentKind) (g : GameLists) (c : Condact) (r : Run) (x : Out) →
     used kind r + own_of kind g c ≤ of_kind kind READ_LIMIT PIECE_LIMIT → P x →
-    (Another kind spent.Condacts → P (halts (RunsOut spent.Condacts) r)) → P (within r x)
+    (Another kind spent.Condacts → P (halts (halt.Spent spent.Condacts) r)) → P (within r x)
 may_read P kind g c r x h k spends =
-    passes P (nat_lt (length r.read) READ_LIMIT) x (halts (RunsOut spent.Condacts) r) k (λ e. spends (unread kind g c r h e))
+    passes P (nat_lt (length r.read) READ_LIMIT) x (halts (halt.Spent spent.Condacts) r) k (λ e. spends (unread kind g c r h e))
 
 unfit : (kind : SpentKind) (r : Run) (text : List ℕ) → used kind (printed text r) ≤ of_kind kind READ_LIMIT PIECE_LIMIT → fits r text ≡ false →
     Another kind spent.Text
@@ -98,6 +99,6 @@ unfit spent.Text r text h e = absurd (omega (arith, length-append r.current text
 -- a text may be printed where the piece with it is within the limit
 pub may_print : (P : Out → Type 0) (kind : SpentKind) (text : List ℕ) (go : Run → Out) (r : Run) →
     used kind (printed text r) ≤ of_kind kind READ_LIMIT PIECE_LIMIT → P (go (printed text r)) →
-    (Another kind spent.Text → P (halts (RunsOut spent.Text) r)) → P (printing text go r)
+    (Another kind spent.Text → P (halts (halt.Spent spent.Text) r)) → P (printing text go r)
 may_print P kind text go r h k spends =
-    passes P (fits r text) (go (printed text r)) (halts (RunsOut spent.Text) r) k (λ e. spends (unfit kind r text h e))
+    passes P (fits r text) (go (printed text r)) (halts (halt.Spent spent.Text) r) k (λ e. spends (unfit kind r text h e))

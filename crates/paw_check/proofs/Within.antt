@@ -20,7 +20,8 @@ use Rattle.paw_effects.proofs.Worlds.{byte_at}
 use Rattle.paw_reading.specs.Bounds.{ValidStory}
 use Rattle.paw_reading.specs.declared.places.OpenLoop.{OpenLoop}
 use Rattle.paw_reading.specs.Run.{Run}
-use Rattle.paw_reading.specs.Reading.{IsOver, RunsOut, CallsTooDeep, Redescribes, Restarts, Halts, Out, Left, Waits, Stopped, at_level}
+use Rattle.paw_reading.specs.declared.places.Halt.TheVariants as halt
+use Rattle.paw_reading.specs.Reading.{Redescribes, Restarts, Halts, Out, Left, Waits, Stopped, at_level}
 use Rattle.paw_reading.specs.Reading.{reads, called, table_read}
 use Rattle.paw_reading.proofs.Keeps.{called_keeps}
 use Rattle.paw_check.specs.Prints.{most_text}
@@ -235,10 +236,10 @@ module _ (g : Story) (valid : ValidStory g) (condacts text pending verb reads by
   both (Waits p path r) h k = record { pieces = k; traces = h }
   both (Stopped Redescribes r) h k = (ready pending 0 true r h.0 k.0 h.1.0, record { read = h.1.1; current = k.1.1 })
   both (Stopped Restarts r) h k = (ready 0 0 true r h.0 k.0 h.1.0, record { read = h.1.1; current = k.1.1 })
-  both (Stopped (Halts IsOver) r) h k = record { pieces = k; traces = h }
-  both (Stopped (Halts (RunsOut spent.Condacts)) r) h k = h
-  both (Stopped (Halts (RunsOut spent.Text)) r) h k = k
-  both (Stopped (Halts (CallsTooDeep t)) r) h k = h
+  both (Stopped (Halts halt.Over) r) h k = record { pieces = k; traces = h }
+  both (Stopped (Halts (halt.Spent spent.Condacts)) r) h k = h
+  both (Stopped (Halts (halt.Spent spent.Text)) r) h k = k
+  both (Stopped (Halts (halt.TooDeep t)) r) h k = h
 
 -- each table of a turn is read within what it takes
 pub tables_within : TablesWithin

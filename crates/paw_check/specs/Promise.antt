@@ -5,7 +5,8 @@ use Rattle.paw_base.specs.declared.tables.TheConstants.{FRAME_TABLE}
 use Rattle.paw_effects.specs.Story.{Story}
 use Rattle.paw_reading.specs.Bounds.{IsLine, ValidStory}
 use Rattle.paw_reading.specs.Run.{Run}
-use Rattle.paw_reading.specs.Reading.{IsOver, called, reads, table_read}
+use Rattle.paw_reading.specs.declared.places.Halt.TheVariants as halt
+use Rattle.paw_reading.specs.Reading.{called, reads, table_read}
 use Rattle.paw_reading.specs.Turn.{Ending, WaitsAt, Halted, reading}
 use Rattle.paw_check.specs.declared.verdict.Verdict.{Verdict}
 use Rattle.paw_check.specs.declared.verdict.Verdict.TheVariants as verdict
@@ -20,7 +21,7 @@ pub record PiecesWithin (condacts text : ℕ) (r : Run) : Type 0 where
 -- a budget, and no call was too deep.
 abbrev pub EndsWithin : ℕ → ℕ → Ending → Type 0
 EndsWithin condacts text (WaitsAt p path r) = PiecesWithin condacts text r
-EndsWithin condacts text (Halted IsOver r) = PiecesWithin condacts text r
+EndsWithin condacts text (Halted halt.Over r) = PiecesWithin condacts text r
 EndsWithin condacts text _ = ⊥
 
 -- A turn's tables read the same with this number of levels of calls as with all ten. So none is read at a deeper one.

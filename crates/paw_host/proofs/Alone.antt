@@ -10,7 +10,7 @@ use Rattle.paw_effects.specs.Story.{Story}
 use Rattle.paw_effects.specs.declared.act.Prompt.{Prompt}
 use Rattle.paw_reading.specs.declared.places.Frame.{Frame}
 use Rattle.paw_reading.specs.Run.{Run, Step}
-use Rattle.paw_reading.specs.Reading.{IsOver, RunsOut, CallsTooDeep}
+use Rattle.paw_reading.specs.declared.places.Halt.TheVariants as halt
 use Rattle.paw_reading.specs.Turn.{Ending, WaitsAt, Halted, Unended, reading, pieces_of}
 use Rattle.paw_reading.specs.inner.Turn.{followed}
 use Rattle.paw_reading.specs.inner.Longer.{ending_with_past, goes_on_with}
@@ -138,9 +138,9 @@ taken_by : (seed : ℕ) (es : List (List ℕ)) (text : List ℕ) (e : Ending) (o
 taken_by seed es text e true full = inl refl
 taken_by seed es text e false true = inl refl
 taken_by seed es text (WaitsAt p path r) false false = inr refl
-taken_by seed es text (Halted IsOver r) false false = inr refl
-taken_by seed es text (Halted (RunsOut kind) r) false false = inl refl
-taken_by seed es text (Halted (CallsTooDeep table) r) false false = inl refl
+taken_by seed es text (Halted halt.Over r) false false = inr refl
+taken_by seed es text (Halted (halt.Spent kind) r) false false = inl refl
+taken_by seed es text (Halted (halt.TooDeep table) r) false false = inl refl
 taken_by seed es text Unended false false = inr refl
 
 -- a text isn't taken, or its piece is the answer

@@ -4,7 +4,7 @@ use Rattle.std.proofs.Common.{append_assoc, nat_le, Option, Some, None}
 use Rattle.std.specs.Prelude.{codes, if◌then◌else◌}
 use Rattle.paw_base.specs.declared.limits.TheConstants.{EVENT_LIMIT}
 use Rattle.paw_effects.specs.Story.{Story}
-use Rattle.paw_reading.specs.Reading.{IsOver, RunsOut, CallsTooDeep}
+use Rattle.paw_reading.specs.declared.places.Halt.TheVariants as halt
 use Rattle.paw_reading.specs.Turn.{Ending, WaitsAt, Halted, Unended, reading}
 use Rattle.paw_stage.specs.Stage.{Standing}
 use Rattle.paw_stage.specs.Moments.{Moment}
@@ -60,9 +60,9 @@ begun_then g seed text before mid after bytes at grown a = rw (begun_takes g see
 
 gone_at : (seed : ℕ) (a b : List (List ℕ)) (e : Ending) → (o : List (List ℕ)) × ((gone_on (At seed a) (At seed b) e).session ≡ At seed o)
 gone_at seed a b (WaitsAt p path r) = (b, refl)
-gone_at seed a b (Halted IsOver r) = (b, refl)
-gone_at seed a b (Halted (RunsOut kind) r) = (a, refl)
-gone_at seed a b (Halted (CallsTooDeep table) r) = (a, refl)
+gone_at seed a b (Halted halt.Over r) = (b, refl)
+gone_at seed a b (Halted (halt.Spent kind) r) = (a, refl)
+gone_at seed a b (Halted (halt.TooDeep table) r) = (a, refl)
 gone_at seed a b Unended = (b, refl)
 
 taken_by : (seed : ℕ) (es : List (List ℕ)) (text : List ℕ) (e : Ending) (over full : Bool) → (o : List (List ℕ)) ×

@@ -5,7 +5,7 @@ use Rattle.std.proofs.lemmas.List.Elements.{All-append, All-cons, All-nil}
 use Rattle.paw_base.specs.declared.limits.TheConstants.{EVENT_LIMIT}
 use Rattle.paw_effects.specs.Story.{Story}
 use Rattle.paw_reading.specs.Bounds.{IsLine, ValidStory}
-use Rattle.paw_reading.specs.Reading.{IsOver, RunsOut, CallsTooDeep}
+use Rattle.paw_reading.specs.declared.places.Halt.TheVariants as halt
 use Rattle.paw_reading.specs.Turn.{Ending, WaitsAt, Halted, Unended, reading}
 use Rattle.paw_play.specs.Stands.{IsPlayedWith}
 use Rattle.paw_host.specs.Names.{Request, is_name}
@@ -25,9 +25,9 @@ one_more g own es text p l =
 
 gone_may : (g : Story) (old new : Session) (e : Ending) → MayBe g old → MayBe g new → MayBe g (gone_on old new e).session
 gone_may g old new (WaitsAt p path r) a b = b
-gone_may g old new (Halted IsOver r) a b = b
-gone_may g old new (Halted (RunsOut kind) r) a b = a
-gone_may g old new (Halted (CallsTooDeep table) r) a b = a
+gone_may g old new (Halted halt.Over r) a b = b
+gone_may g old new (Halted (halt.Spent kind) r) a b = a
+gone_may g old new (Halted (halt.TooDeep table) r) a b = a
 gone_may g old new Unended a b = b
 
 taken_may_by : (g : Story) (own : ℕ) (es : List (List ℕ)) (text : List ℕ) (e : Ending) (over full : Bool) → IsPlayedWith g own es → IsPlayedWith g own (es ++ text ∷ []) →

@@ -11,7 +11,7 @@ use Rattle.paw_stage.specs.Moments.{Moment}
 use Rattle.paw_effects.specs.Story.{Story}
 use Rattle.paw_effects.specs.declared.act.Prompt.{Prompt}
 use Rattle.paw_effects.specs.declared.act.Prompt.TheVariants as prompt
-use Rattle.paw_reading.specs.Reading.{IsOver}
+use Rattle.paw_reading.specs.declared.places.Halt.TheVariants as halt
 use Rattle.paw_reading.specs.Turn.{reading, on, pieces_of}
 use Rattle.paw_turn.specs.inner.Player.{Seat, run_at, PlaysTo, IsSeated, StandsClosed}
 use Rattle.paw_turn.specs.inner.Parts.{seat_at, prompt_step}
@@ -37,7 +37,8 @@ use Rattle.paw_play.specs.Session.{story_digests, IsOfStory, kept_bytes, IsKept}
 use Rattle.paw_play.specs.Stands.{Stands, IsPlayedWith}
 use Rattle.paw_play.specs.Played.{ShowsState, going_on}
 use Rattle.paw_play.specs.Laws.{ShowsSome}
-use Rattle.paw_play.specs.inner.OnTheWay.{ShowsPiece, seat_state}
+use Rattle.paw_turn.specs.inner.Player.{IsStanding}
+use Rattle.paw_play.specs.inner.OnTheWay.{seat_state}
 use Rattle.paw_play.proofs.Kept.{step_kept}
 use Rattle.paw_play.proofs.Resuming.{goes_on_from}
 use Rattle.paw_play.proofs.Standing.{standing_goes_on}
@@ -48,7 +49,7 @@ use Rattle.paw_host.proofs.Sitting.{kept_gone, same_digests, same_piece, same_ha
 -- ---- the piece before the first line ----
 
 sits_by : {F : Type 0} (g : Story) (seed : ℕ) (found : Step) (next : Seat F) → next.last ≡ found →
-    PlaysTo g (reading g seed) found next [] [] → ShowsPiece found → SitsAt g seed [] next
+    PlaysTo g (reading g seed) found next [] [] → IsStanding found → SitsAt g seed [] next
 sits_by g seed (step.Waits p) next is plays shows = record {
   whole = reading g seed;
   follows = inl (λ fs. refl);
@@ -73,17 +74,17 @@ sits_by g seed (step.TooDeep table) next is plays shows = absurd shows
 
 module _ {F : Type 0} (g : Story) (seed : ℕ) (found : Step) (next : Seat F) (is : next.last ≡ found) (seated : IsSeated next)
     (plays : PlaysTo g (reading g seed) found next [] []) where
-  pub sits : ShowsPiece found → SitsAt g seed [] next
+  pub sits : IsStanding found → SitsAt g seed [] next
   sits shows = sits_by g seed found next is plays shows
 
-  first_kept : (digests : Digests) → ShowsPiece found → IsKept digests 0 (reading g seed []) (Shown digests (seat_state 0 next) next.piece)
+  first_kept : (digests : Digests) → IsStanding found → IsKept digests 0 (reading g seed []) (Shown digests (seat_state 0 next) next.piece)
   first_kept digests shows =
       step_kept g digests 0 (reading g seed) found next [] [] shows is (subst (λ q. StandsClosed q next.machine) is seated.machine) plays
 
-  pub first_answer : ShowsPiece found → begun g seed ≡ record { body = next.piece; session = At seed [] }
+  pub first_answer : IsStanding found → begun g seed ≡ record { body = next.piece; session = At seed [] }
   first_answer shows = kept_gone (story_digests g) (seat_state 0 next) next.piece 0 _ _ _ (first_kept (story_digests g) shows)
 
-  pub first_stands : (bytes : List ℕ) → ShowsPiece found → recover bytes ≡ Shown (story_digests g) (seat_state 0 next) next.piece → Stands g seed [] bytes
+  pub first_stands : (bytes : List ℕ) → IsStanding found → recover bytes ≡ Shown (story_digests g) (seat_state 0 next) next.piece → Stands g seed [] bytes
   first_stands bytes shows e = record {
     few = omega arith;
     digests = story_digests g;
@@ -100,7 +101,7 @@ module _ {F : Type 0} (g : Story) (seed : ℕ) (found : Step) (next : Seat F) (i
   ] plays e
 
   -- while the session is made
-  pub in_beginning : (state : List ℕ) (old : Standing) (m : Moment) → ShowsPiece found → take state_length state ≡ seat_state 0 next →
+  pub in_beginning : (state : List ℕ) (old : Standing) (m : Moment) → IsStanding found → take state_length state ≡ seat_state 0 next →
       LeavesMade (story_digests g) state next.piece old m → InFile (LeftOfBeginning g seed) old m
   in_beginning state old m shows e i = record {
     asked = i.asked;
@@ -161,7 +162,7 @@ module _ {F : Type 0} (g : Story) (seed : ℕ) (es : List (List ℕ)) (digests :
   on_over : r.prompt ≡ prompt.Over → is_over (reading g seed es) ≡ true
   on_over e =
       let since = (standing_goes_on g seed es [] bytes digests (state_read r) piece played stands shows).1 in
-      let h = same_halt (length es) (reading g seed (es ++ [])) IsOver _
+      let h = same_halt (length es) (reading g seed (es ++ [])) halt.Over _
       (sym since ∙ goes [] ∙ ap (λ q. on g q (reverse r.machine.frames) (run_at seat (piece ∷ []) [] [])) e) in
       subst (λ l. is_over (reading g seed l) ≡ true) (append-nil es) (ap is_over h.1)
 

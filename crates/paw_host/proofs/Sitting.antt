@@ -9,7 +9,8 @@ use Rattle.paw_effects.specs.Story.{Story}
 use Rattle.paw_effects.specs.declared.act.Prompt.{Prompt}
 use Rattle.paw_reading.specs.declared.places.Frame.{Frame}
 use Rattle.paw_reading.specs.Run.{Run}
-use Rattle.paw_reading.specs.Reading.{Halt, IsOver, RunsOut, CallsTooDeep}
+use Rattle.paw_reading.specs.declared.places.Halt.{Halt}
+use Rattle.paw_reading.specs.declared.places.Halt.TheVariants as halt
 use Rattle.paw_reading.specs.Turn.{Ending, WaitsAt, Halted, Unended, reading, on}
 use Rattle.paw_reading.proofs.Counts.{pieces_of_lines}
 use Rattle.paw_turn.specs.inner.Player.{Seat, run_at, PlaysTo, IsSeated, StandsAt, StandsClosed}
@@ -18,7 +19,8 @@ use Rattle.paw_turn.specs.declared.Step.TheVariants as step
 use Rattle.paw_journal.specs.Session.{Digests, Recovered, Shown, recover}
 use Rattle.paw_play.specs.Session.{story_digests, IsOfStory, IsKept}
 use Rattle.paw_play.specs.Stands.{Stands, ending_since}
-use Rattle.paw_play.specs.inner.OnTheWay.{ShowsPiece, seat_state}
+use Rattle.paw_turn.specs.inner.Player.{IsStanding}
+use Rattle.paw_play.specs.inner.OnTheWay.{seat_state}
 use Rattle.paw_play.proofs.Going.{whole_kept}
 use Rattle.paw_play.proofs.Kept.{step_kept}
 use Rattle.paw_play.proofs.Walking.{on_waits}
@@ -37,7 +39,7 @@ same_digests d s p e t q h = cc
 pub kept_gone : (digests : Digests) (state piece : List ℕ) (n : ℕ) (old new : Session) (e : Ending) → IsKept digests n e (Shown digests state piece) →
     gone_on old new e ≡ record { body = piece; session = new }
 kept_gone digests state piece n old new (WaitsAt p path r) k = ap (λ q. record { body = q; session = new }) (sym (same_piece _ _ _ _ _ _ k.shown))
-kept_gone digests state piece n old new (Halted IsOver r) k = ap (λ q. record { body = q; session = new }) (sym (same_piece _ _ _ _ _ _ k.shown))
+kept_gone digests state piece n old new (Halted halt.Over r) k = ap (λ q. record { body = q; session = new }) (sym (same_piece _ _ _ _ _ _ k.shown))
 kept_gone digests state piece n old new _ k = absurd k.played
 
 -- a reading that is followed from some piece on halts as it does from its first
@@ -88,18 +90,18 @@ module _ {F : Type 0} {g : Story} {seed : ℕ} {es : List (List ℕ)} {seat : Se
     module _ (found : Step) (next : Seat F) (is : next.last ≡ found) (then_seated : IsSeated next)
         (plays : PlaysTo g (λ lines. on g p (reverse seat.machine.frames) (run_at seat s.pieces s.traces (text ∷ lines))) found next s.pieces s.traces) where
       -- the piece is kept
-      pub text_kept : (digests : Digests) (events : ℕ) → ShowsPiece found → events ≡ length es + 1 →
+      pub text_kept : (digests : Digests) (events : ℕ) → IsStanding found → events ≡ length es + 1 →
           IsKept digests events (reading g seed (es ++ text ∷ [])) (Shown digests (seat_state events next) next.piece)
       text_kept digests events shows count =
           kept_all digests events (text ∷ []) _ (subst (λ e. IsKept digests events e (Shown digests (seat_state events next) next.piece))
           (sym (s.waits p last (text ∷ [])))
           (step_kept g digests events _ found next s.pieces s.traces shows is (subst (λ q. StandsClosed q next.machine) is then_seated.machine) plays))
 
-      pub text_answer : ShowsPiece found → taken g seed es text ≡ record { body = next.piece; session = At seed (es ++ text ∷ []) }
+      pub text_answer : IsStanding found → taken g seed es text ≡ record { body = next.piece; session = At seed (es ++ text ∷ []) }
       text_answer shows = taken_is
           ∙ kept_gone (story_digests g) (seat_state (length es + 1) next) next.piece (length es + 1) _ _ _ (text_kept (story_digests g) (length es + 1) shows refl)
 
-      pub text_stands : (digests : Digests) (bytes : List ℕ) (events : ℕ) → IsOfStory g digests → ShowsPiece found → events ≡ length es + 1 →
+      pub text_stands : (digests : Digests) (bytes : List ℕ) (events : ℕ) → IsOfStory g digests → IsStanding found → events ≡ length es + 1 →
           recover bytes ≡ Shown digests (seat_state events next) next.piece → Stands g seed (es ++ text ∷ []) bytes
       text_stands digests bytes events belongs shows count is_shown =
           let long : length (es ++ text ∷ []) ≡ events = length-append es (text ∷ []) ∙ sym count in
@@ -118,17 +120,17 @@ module _ {F : Type 0} {g : Story} {seed : ℕ} {es : List (List ℕ)} {seat : Se
             | step.Spent kind ↦ λ plays e.
                 let w : codes "spent" ≡ word = cc in
                 let r = plays.1 [] in
-                let h = halts_all (text ∷ []) (RunsOut kind) r.0 (s.waits p last (text ∷ []) ∙ r.1) in
+                let h = halts_all (text ∷ []) (halt.Spent kind) r.0 (s.waits p last (text ∷ []) ∙ r.1) in
                 rw h.1 (ap (λ b. record { body = b; session = At seed es }) w)
             | step.TooDeep table ↦ λ plays e.
                 let w : codes "too deep" ≡ word = cc in
                 let r = plays.1 [] in
-                let h = halts_all (text ∷ []) (CallsTooDeep table) r.0 (s.waits p last (text ∷ []) ∙ r.1) in
+                let h = halts_all (text ∷ []) (halt.TooDeep table) r.0 (s.waits p last (text ∷ []) ∙ r.1) in
                 rw h.1 (ap (λ b. record { body = b; session = At seed es }) w)
           ] plays e
 
 -- a step that brings no word brings a piece
-pub shows_by : (found : Step) → word_of found ≡ None → ShowsPiece found
+pub shows_by : (found : Step) → word_of found ≡ None → IsStanding found
 shows_by (step.Waits p) h = tt
 shows_by step.Ended h = tt
 shows_by (step.Spent kind) h = cc

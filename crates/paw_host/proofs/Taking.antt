@@ -17,7 +17,7 @@ use Rattle.paw_turn.specs.declared.Step.TheVariants as step
 use Rattle.paw_journal.specs.Session.{Digests, Shown, recover, kept_digests}
 use Rattle.paw_play.specs.Session.{IsOfStory}
 use Rattle.paw_play.specs.Stands.{Stands}
-use Rattle.paw_play.specs.inner.OnTheWay.{ShowsPiece, seat_state, InCommit}
+use Rattle.paw_play.specs.inner.OnTheWay.{seat_state, InCommit}
 use Rattle.paw_host.specs.Replies.{At, taken}
 use Rattle.paw_host.specs.Promise.{Stores}
 use Rattle.paw_host.specs.inner.Answers.{SitsAt, Answers, InFile, StoresEither, word_of}
@@ -63,7 +63,7 @@ module _ {F : Type 0} {g : Story} {seed : ℕ} {es : List (List ℕ)} {seat : Se
     refused_answer word e = text_refused s p last seated text few found next is then_seated plays word e
 
     -- the piece was committed
-    pub took : (digests : Digests) (before after : List ℕ) (bytes : List ℕ) (events : ℕ) → IsOfStory g digests → ShowsPiece found → events ≡ length es + 1 →
+    pub took : (digests : Digests) (before after : List ℕ) (bytes : List ℕ) (events : ℕ) → IsOfStory g digests → IsStanding found → events ≡ length es + 1 →
         recover bytes ≡ Shown digests (seat_state events next) next.piece → after ≡ before ++ next.piece →
         Answers g (taken g seed es text) before after bytes
     took digests before after bytes events belongs shows count shown grown = rw (text_answer s p last seated text few found next is then_seated plays shows) (record {
@@ -72,7 +72,7 @@ module _ {F : Type 0} {g : Story} {seed : ℕ} {es : List (List ℕ)} {seat : Se
     })
 
     -- inside the commit
-    pub in_taking : (events : ℕ) (old : Standing) (m : Moment) → ShowsPiece found → events ≡ length es + 1 → Stands g seed es old.disk.bytes →
+    pub in_taking : (events : ℕ) (old : Standing) (m : Moment) → IsStanding found → events ≡ length es + 1 → Stands g seed es old.disk.bytes →
         (state piece : List ℕ) → recover old.disk.bytes ≡ Shown (kept_digests old.disk.bytes) state piece → InCommit events next old m →
         InFile (StoresEither g (At seed es) (taken g seed es text).session) old m
     in_taking events old m shows count stands state piece kept i = record {

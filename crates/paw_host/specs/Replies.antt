@@ -5,7 +5,7 @@ use Rattle.std.specs.Str.{bytes_eq}
 use Rattle.paw_base.specs.Bytes.{Bytes, Lines, Name, Seed, Text}
 use Rattle.paw_base.specs.declared.limits.TheConstants.{EVENT_LIMIT}
 use Rattle.paw_effects.specs.Story.{Story}
-use Rattle.paw_reading.specs.Reading.{IsOver, RunsOut, CallsTooDeep}
+use Rattle.paw_reading.specs.declared.places.Halt.TheVariants as halt
 use Rattle.paw_reading.specs.Turn.{Ending, Halted, reading, pieces_of}
 use Rattle.paw_state.specs.Record.{last_piece}
 use Rattle.paw_host.specs.Names.{Request, request_of}
@@ -35,8 +35,8 @@ pub record Answer : Type 0 where
 -- The answer of a session that goes on to where a reading ended: the last piece. Where that piece ran out of a budget,
 -- or a call was too deep, the answer says so, and the session stays.
 abbrev pub gone_on : Session → Session → Ending → Answer
-gone_on old new (Halted (RunsOut kind) r) = record { body = codes "spent"; session = old }
-gone_on old new (Halted (CallsTooDeep table) r) = record { body = codes "too deep"; session = old }
+gone_on old new (Halted (halt.Spent kind) r) = record { body = codes "spent"; session = old }
+gone_on old new (Halted (halt.TooDeep table) r) = record { body = codes "too deep"; session = old }
 gone_on old new e = record { body = last_piece (pieces_of e); session = new }
 
 -- The answer of a game that is begun with this seed.
@@ -45,7 +45,7 @@ begun g seed = gone_on Absent (At seed []) (reading g seed [])
 
 -- Whether a reading ended because the game is over.
 abbrev pub is_over : Ending → Bool
-is_over (Halted IsOver r) = true
+is_over (Halted halt.Over r) = true
 is_over _ = false
 
 -- The answer of a session that stands at these lines to a text. One that is over takes none, and neither does one that

@@ -26,7 +26,8 @@ use Rattle.paw_play.specs.Keeping.{InPlay, InMaking, StaysAttached, RestsWith}
 use Rattle.paw_play.specs.Play.{with_store}
 use Rattle.paw_play.specs.inner.Calls.{unless_ended}
 use Rattle.paw_play.specs.inner.Telling.{Plain}
-use Rattle.paw_play.specs.inner.OnTheWay.{IsWalking, Told, ShowsPiece, refusal_of, seat_state, seat_base, IsStore}
+use Rattle.paw_turn.specs.inner.Player.{IsStanding}
+use Rattle.paw_play.specs.inner.OnTheWay.{IsWalking, Told, refusal_of, seat_state, seat_base, IsStore}
 use Rattle.paw_play.specs.inner.OnTheWay.{BegunAs, Begins, begun_with}
 use Rattle.paw_play.proofs.Kept.{KeepsLines, step_kept}
 use Rattle.paw_play.proofs.Written.{made_bytes}
@@ -56,7 +57,7 @@ pub record Begun {F : Type 0} (g : Story) (s : PlayedSession) (first kept : Stan
   pub seated : IsSeated next
   pub last : next.last ≡ found
   pub plays : StepsTo g s.whole found next [] []
-  pub shows : ShowsPiece found
+  pub shows : IsStanding found
   pub beside : IsBeside first kept
 
 pub begun : {F : Type 0} (g : Story) (seed : ℕ) (digests : Digests) (name : List ℕ) (first kept : Standing) (next : Seat F) (found : Step) →
@@ -178,6 +179,6 @@ module _ {F : Type 0} {g : Story} {s : PlayedSession} {first kept : Standing} {n
           (walk_begins Plain g s.whole EVENT_LIMIT kept new next found (Some (end.Outside call.Show)) b.seated b.last b.plays told);
       session = (0, asked_is new (kept.shown ++ take told.2 next.piece) told.3, rests_then new (kept.shown ++ take told.2 next.piece) told.3);
     }
-    begins_to a new (Some (end.Spent kind)) told = absurd (subst ShowsPiece told.0 b.shows)
-    begins_to a new (Some (end.TooDeep table)) told = absurd (subst ShowsPiece told.0 b.shows)
+    begins_to a new (Some (end.Spent kind)) told = absurd (subst IsStanding told.0 b.shows)
+    begins_to a new (Some (end.TooDeep table)) told = absurd (subst IsStanding told.0 b.shows)
     begins_to a new (Some _) told = absurd told

@@ -8,17 +8,18 @@ use Rattle.paw_stage.specs.Stage.{Standing}
 use Rattle.paw_stage.specs.declared.StageCall.TheVariants as call
 use Rattle.paw_journal.specs.Session.{Digests}
 use Rattle.paw_journal.specs.inner.Session.{digests_of}
+use Rattle.paw_reading.specs.declared.places.Halt.TheVariants as halt
 use Rattle.paw_play.specs.declared.PlayEnd.{PlayEnd}
 use Rattle.paw_play.specs.declared.PlayEnd.TheVariants as end
 use Rattle.paw_play.specs.Session.{story_digests}
 use Rattle.paw_play.specs.Played.{PlayedSession, begun}
-use Rattle.paw_play.specs.Play.{MadeAndPlayed, spent, too_deep, unmade, plays}
+use Rattle.paw_play.specs.Play.{MadeAndPlayed, halts, unmade, plays}
 use Rattle.paw_play.specs.inner.OnTheWay.{BegunAs, begun_with}
 
 -- An end of making a session is one of making and playing it.
 pub begun_plays : (s : PlayedSession) (first now : Standing) (o : PlayEnd) → BegunAs s first now o → MadeAndPlayed s first now o
-begun_plays s first now (end.Spent kind) b = spent kind b.0 b.1 b.2
-begun_plays s first now (end.TooDeep table) b = too_deep table b.0 b.1 b.2
+begun_plays s first now (end.Spent kind) b = halts (end.Spent kind) (halt.Spent kind) b.0 refl refl b.1 b.2
+begun_plays s first now (end.TooDeep table) b = halts (end.TooDeep table) (halt.TooDeep table) b.0 refl refl b.1 b.2
 begun_plays s first now (end.Outside call.Write) b = unmade call.Write (inl refl) b.0 b.1
 begun_plays s first now (end.Outside call.Sync) b = unmade call.Sync (inr (inl refl)) b.0 b.1
 begun_plays s first now o b = plays o b

@@ -8,7 +8,7 @@ use Rattle.paw_effects.specs.declared.act.Prompt.{Prompt}
 use Rattle.paw_effects.specs.declared.act.Prompt.TheVariants as prompt
 use Rattle.paw_reading.specs.declared.places.Frame.{Frame}
 use Rattle.paw_reading.specs.Run.{Run, Step}
-use Rattle.paw_reading.specs.Reading.{IsOver}
+use Rattle.paw_reading.specs.declared.places.Halt.TheVariants as halt
 use Rattle.paw_reading.specs.Turn.{Ending, WaitsAt, Halted, Unended, reading, on, pieces_of, text_of}
 use Rattle.paw_reading.specs.inner.GoingOn.{with_lines}
 use Rattle.paw_reading.specs.inner.Longer.{ending_with_past, with_past, without_past}
@@ -36,7 +36,7 @@ pub record Settles (g : GameLists) (n : ℕ) (p : Prompt) (path : List Frame) (r
 
 abbrev pub IsSettled : GameLists → ℕ → Ending → Type 0
 IsSettled g n (WaitsAt p path r) = Settles g n p path r
-IsSettled g n (Halted IsOver r) = Settles g n prompt.Over [] r
+IsSettled g n (Halted halt.Over r) = Settles g n prompt.Over [] r
 IsSettled g n _ = Unit {0}
 
 -- ---- a reading from one of its pieces on ----
@@ -89,7 +89,7 @@ whole_kept digests n m lines (WaitsAt p path s) r counted few k =
       shown = k.shown ∙ ap (λ q. Shown digests (kept_bytes (record (state_at m p path s) { piece = length q })) q)
           (last_dropped n s.pieces low);
     }
-whole_kept digests n m lines (Halted IsOver s) r counted few k =
+whole_kept digests n m lines (Halted halt.Over s) r counted few k =
     let low : n < length s.pieces = omega (arith, counted, ap length k.played) in
     record {
       played = k.played;
@@ -141,16 +141,16 @@ module _ (g : Story) (seed : ℕ) (es fs : List (List ℕ)) where
         ∙ past_stays g (last_piece r.pieces ∷ []) [] p path (with_lines fs (without_past r)),
   )
 
-  over_goes : (r : Run) → reading g seed es ≡ Halted IsOver r → Settles g.game (length es) prompt.Over [] r →
-      r.events ≡ [] → Counted (length es) (Halted IsOver r) →
-      GoesOnFrom (Halted IsOver r) (state_at (length es) prompt.Over [] r) (last_piece r.pieces)
+  over_goes : (r : Run) → reading g seed es ≡ Halted halt.Over r → Settles g.game (length es) prompt.Over [] r →
+      r.events ≡ [] → Counted (length es) (Halted halt.Over r) →
+      GoesOnFrom (Halted halt.Over r) (state_at (length es) prompt.Over [] r) (last_piece r.pieces)
   over_goes r is k none counted = (
     all_pieces (length es) r.pieces r.events counted none,
     k.traced ∙ all_pieces (length es) r.pieces r.events counted none,
-    Halted IsOver (with_lines fs (without_past r)),
+    Halted halt.Over (with_lines fs (without_past r)),
     rw is at (going_on_is_reading g seed es fs)
-        ∙ ap (Halted IsOver) (rw (append-nil r.pieces, append-nil r.traces) refl),
-    ap (Halted IsOver) (taken_past r (last_piece r.pieces) fs k.current k.read none),
+        ∙ ap (Halted halt.Over) (rw (append-nil r.pieces, append-nil r.traces) refl),
+    ap (Halted halt.Over) (taken_past r (last_piece r.pieces) fs k.current k.read none),
   )
 
   ended_goes : (e : Ending) → reading g seed es ≡ e → IsSettled g.game (length es) e → Counted (length es) e →
@@ -164,7 +164,7 @@ module _ (g : Story) (seed : ℕ) (es fs : List (List ℕ)) where
       let same : st ≡ state_at (length es) p path s = bytes_tell_the_state g.game st (state_at (length es) p path s) v keeps fits k.keeps k.fits cc in
       let piece_is : piece ≡ last_piece s.pieces = cc in
       rw (same, piece_is) (refl, waiting_goes p path s is k counted)
-  ended_goes (Halted IsOver s) is k counted digests other r kept st piece v keeps fits shown =
+  ended_goes (Halted halt.Over s) is k counted digests other r kept st piece v keeps fits shown =
       let both : Shown other (kept_bytes st) piece ≡ Shown digests (state_bytes (state_at (length es) prompt.Over [] s)) (last_piece s.pieces) = sym shown
       ∙ kept.shown in
       let same : st ≡ state_at (length es) prompt.Over [] s = bytes_tell_the_state g.game st

@@ -4,7 +4,7 @@ use Rattle.std.specs.Prelude.{reverse}
 use Rattle.paw_effects.specs.declared.act.Prompt.{Prompt}
 use Rattle.paw_effects.specs.declared.act.Prompt.TheVariants as prompt
 use Rattle.paw_reading.specs.Run.{Step as Read}
-use Rattle.paw_reading.specs.Reading.{IsOver}
+use Rattle.paw_reading.specs.declared.places.Halt.TheVariants as halt
 use Rattle.paw_reading.specs.Turn.{Ending, WaitsAt, Halted}
 use Rattle.paw_turn.specs.inner.Player.{Seat, run_at, PlaysTo, StandsClosed}
 use Rattle.paw_turn.specs.declared.Step.{Step}
@@ -19,7 +19,8 @@ use Rattle.paw_reading.specs.declared.places.Frame.{Frame}
 use Rattle.paw_play.specs.Session.{kept_bytes, IsKept}
 use Rattle.paw_play.specs.Walk.{EndingOf, first_lines}
 use Rattle.paw_play.specs.Played.{PlayedSession}
-use Rattle.paw_play.specs.inner.OnTheWay.{ShowsPiece, seat_state}
+use Rattle.paw_turn.specs.inner.Player.{IsStanding}
+use Rattle.paw_play.specs.inner.OnTheWay.{seat_state}
 use Rattle.paw_play.proofs.Walking.{on_waits}
 use Rattle.paw_effects.specs.Story.{Story}
 
@@ -57,7 +58,7 @@ waits_kept digests events e p next pieces traces last is =
 
 over_kept : {F : Type 0} (digests : Digests) (events : ℕ) (e : Ending) (next : Seat F) (pieces : List (List ℕ)) (traces : List (List Read)) →
     next.last ≡ step.Ended → next.machine.frames ≡ [] →
-    e ≡ Halted IsOver (run_at next (pieces ++ next.piece ∷ []) traces []) →
+    e ≡ Halted halt.Over (run_at next (pieces ++ next.piece ∷ []) traces []) →
     IsKept digests events e (Shown digests (seat_state events next) next.piece)
 over_kept digests events e next pieces traces last closed is = rw (is, last) (record {
   played = refl;
@@ -67,7 +68,7 @@ over_kept digests events e next pieces traces last closed is = rw (is, last) (re
 
 -- a step that brings a piece leads to a player whose session keeps the reading
 pub step_kept : {F : Type 0} (g : Story) (digests : Digests) (events : ℕ) (whole : EndingOf) (s : Step) (next : Seat F) (pieces : List (List ℕ))
-    (traces : List (List Read)) → ShowsPiece s → next.last ≡ s →
+    (traces : List (List Read)) → IsStanding s → next.last ≡ s →
     StandsClosed s next.machine → PlaysTo g whole s next pieces traces → IsKept digests events (whole []) (Shown digests (seat_state events next) next.piece)
 step_kept g digests events whole (step.Waits p) next pieces traces shows last stands plays =
     waits_kept digests events (whole []) p next pieces (traces ++ plays.0 ∷ []) last

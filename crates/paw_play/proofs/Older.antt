@@ -5,7 +5,7 @@ use Rattle.std.proofs.lemmas.List.{length-take-le, take_at}
 use Rattle.paw_game.specs.Game.{GameLists}
 use Rattle.paw_game.specs.Valid.{Valid}
 use Rattle.paw_effects.specs.declared.act.Prompt.TheVariants as prompt
-use Rattle.paw_reading.specs.Reading.{IsOver}
+use Rattle.paw_reading.specs.declared.places.Halt.TheVariants as halt
 use Rattle.paw_reading.specs.Turn.{Ending, WaitsAt, Halted, reading}
 use Rattle.paw_reading.specs.inner.Saving.{no_positions, EndsKeeping}
 use Rattle.paw_reading.proofs.Saving.{readings_keep_no_position}
@@ -74,7 +74,7 @@ ending_kept g v digests n bytes (WaitsAt p path r) k none old = record {
   played = tt;
   shown = state_same g v (state_at n p path r) k.keeps k.fits none bytes digests old.state (last_piece r.pieces) old.first old.shown old.same;
 }
-ending_kept g v digests n bytes (Halted IsOver r) k none old = record {
+ending_kept g v digests n bytes (Halted halt.Over r) k none old = record {
   played = old.played;
   shown = state_same g v (state_at n prompt.Over [] r) k.keeps k.fits none bytes digests old.state (last_piece r.pieces) old.first old.shown old.same;
 }

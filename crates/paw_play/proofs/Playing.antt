@@ -30,7 +30,8 @@ use Rattle.paw_play.specs.Keeping.{AgreesWith, KeepsUpWith, InPlay, StaysAttache
 use Rattle.paw_play.specs.Play.{with_store, Uncommitted, PlaysOn}
 use Rattle.paw_play.specs.inner.Calls.{unless_ended}
 use Rattle.paw_play.specs.inner.Telling.{Plain}
-use Rattle.paw_play.specs.inner.OnTheWay.{IsWalking, WalksTo, Told, ShowsPiece, refusal_of, seat_state, seat_base, IsPlaying, PlaysTo}
+use Rattle.paw_turn.specs.inner.Player.{IsStanding}
+use Rattle.paw_play.specs.inner.OnTheWay.{IsWalking, WalksTo, Told, refusal_of, seat_state, seat_base, IsPlaying, PlaysTo}
 use Rattle.paw_play.specs.Written.{bytes_before, bytes_after}
 use Rattle.paw_play.proofs.Kept.{KeepsLines, step_kept}
 use Rattle.paw_play.proofs.Written.{more_bytes}
@@ -145,7 +146,7 @@ pub record Taken {F : Type 0} (g : Story) (s : PlayedSession) (most n events : �
   pub took : mid ≡ record now { lines = mid.lines; asked = now.asked + 1 }
   pub plays : StepsTo g (λ more. on g w.walking.prompt (reverse seat.machine.frames) (run_at seat w.walking.pieces w.walking.traces (given ∷ more)))
       found next w.walking.pieces w.walking.traces
-  pub shows : ShowsPiece found
+  pub shows : IsStanding found
   pub counts : events ≡ s.before + suc n
   pub fit : events ≤ EVENT_LIMIT
 
@@ -359,8 +360,8 @@ module _ {F : Type 0} {g : Story} {s : PlayedSession} {most n events : ℕ} {fir
             (walks_then new (Some (end.Outside call.Show)) told);
         session = (suc n, asked_then new (kept.shown ++ take told.2 next.piece) told.3, rests_then new (kept.shown ++ take told.2 next.piece) told.3);
       }
-      plays_to a new (Some (end.Spent kind)) told = absurd (subst ShowsPiece told.0 t.shows)
-      plays_to a new (Some (end.TooDeep table)) told = absurd (subst ShowsPiece told.0 t.shows)
+      plays_to a new (Some (end.Spent kind)) told = absurd (subst IsStanding told.0 t.shows)
+      plays_to a new (Some (end.TooDeep table)) told = absurd (subst IsStanding told.0 t.shows)
       plays_to a new (Some _) told = absurd told
 
 -- all the lines that a session may have were taken

@@ -24,7 +24,7 @@ use Rattle.paw_play.specs.Stands.{Stands, IsPlayedWith}
 use Rattle.paw_play.specs.Played.{PlayedSession, begun, from_lines}
 use Rattle.paw_play.specs.Keeping.{KeptBy, KeepsUpWith, InPlay, InNewSession, RestsWith}
 use Rattle.paw_play.specs.Play.{PlaysOn, MadeAndPlayed, NewSession, GoesOn, NotYet, attached_to, store_bytes}
-use Rattle.paw_play.specs.Play.{memory, spent, too_deep, unmade, plays, unattached, occupied, plays_in, unread}
+use Rattle.paw_play.specs.Play.{memory, halts, unmade, plays, unattached, occupied, plays_in, unread}
 use Rattle.paw_play.specs.Laws.{RoundStop, cut_at, came_to, Round, MayBeLeft, BeginsOver, AtRest, StopsWith, AreRounds, left_after}
 use Rattle.paw_play.specs.Laws.{lines_lost, AreKept, AreKeptOf, RoundsStand}
 use Rattle.paw_play.proofs.Attaching.{store_attached}
@@ -132,8 +132,7 @@ module _ (g : Story) (seed : ℕ) (r : Round) (begins : BeginsOver [] r) (made :
   first_in : (new : Standing) (o : PlayEnd) → MadeAndPlayed (begun g seed r.name) (attached_to r.old r.name) new o → AtRest o →
       r.left ≡ store_bytes new r.name → KeptOf (begun g seed r.name) r.old (came_to new o) (store_bytes new r.name)
   first_in new _ (memory e) rest left = absurd (still_empty new left (bytes_of r.old new r.name e))
-  first_in new _ (spent kind run is e) rest left = absurd (still_empty new left (bytes_of r.old new r.name e))
-  first_in new _ (too_deep table run is e) rest left = absurd (still_empty new left (bytes_of r.old new r.name e))
+  first_in new _ (halts o halt run by cut is e) rest left = absurd (still_empty new left (bytes_of r.old new r.name e))
   first_in new _ (unmade c is e stays) rest left = absurd (no_writing c is rest)
   first_in new _ (plays o p) rest left = came_keeps (begun g seed r.name) r.old EVENT_LIMIT new o p rest
 

@@ -16,7 +16,7 @@ use Rattle.paw_effects.specs.inner.Standing.{MayBePosition, IsWorldOf}
 use Rattle.paw_effects.proofs.Worlds.{few_objects, place_small}
 use Rattle.paw_reading.specs.declared.places.Frame.{Frame}
 use Rattle.paw_reading.specs.Run.{Run}
-use Rattle.paw_reading.specs.Reading.{IsOver}
+use Rattle.paw_reading.specs.declared.places.Halt.TheVariants as halt
 use Rattle.paw_reading.specs.Turn.{Ending, WaitsAt, Halted, reading}
 use Rattle.paw_reading.specs.inner.Bounds.{IsBounded}
 use Rattle.paw_reading.specs.inner.Pieces.{Counted}
@@ -112,7 +112,7 @@ module _ (g : GameLists) (v : Valid g) (seed : ℕ) (n : ℕ) (fits : seed < 2 ^
 
   ending_settles : (e : Ending) → StopsRightly g e → StopsBounded seed 0 e → Counted n e → IsSettled g n e
   ending_settles (WaitsAt p path r) at bound count = settles p path r at.1 bound count.1
-  ending_settles (Halted IsOver r) at bound count = settles prompt.Over [] r at bound count
+  ending_settles (Halted halt.Over r) at bound count = settles prompt.Over [] r at bound count
   ending_settles _ at bound count = tt
 
 pub reading_settles : (g : Story) (seed : ℕ) (es : List (List ℕ)) → IsPlayedWith g seed es → length es ≤ EVENT_LIMIT →

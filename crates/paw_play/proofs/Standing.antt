@@ -10,7 +10,7 @@ use Rattle.paw_game.specs.Valid.{Valid}
 use Rattle.paw_stage.specs.Stage.{Standing}
 use Rattle.paw_effects.specs.declared.act.Prompt.TheVariants as prompt
 use Rattle.paw_reading.specs.Run.{Step}
-use Rattle.paw_reading.specs.Reading.{IsOver}
+use Rattle.paw_reading.specs.declared.places.Halt.TheVariants as halt
 use Rattle.paw_reading.specs.Turn.{Ending, WaitsAt, Halted, Unended, reading, pieces_of}
 use Rattle.paw_reading.specs.inner.Longer.{ending_with_past}
 use Rattle.paw_reading.specs.inner.Pieces.{Counted}
@@ -43,7 +43,7 @@ ending_shows : (g : GameLists) (digests : Digests) (n : ℕ) (bytes : List ℕ) 
     (st : State) × (piece : List ℕ) × ShowsState g digests bytes st piece
 ending_shows g digests n bytes (WaitsAt p path r) k kept =
     (state_at n p path r, last_piece r.pieces, record { keeps = k.keeps; fits = k.fits; shown = kept.shown })
-ending_shows g digests n bytes (Halted IsOver r) k kept =
+ending_shows g digests n bytes (Halted halt.Over r) k kept =
     (state_at n prompt.Over [] r, last_piece r.pieces, record { keeps = k.keeps; fits = k.fits; shown = kept.shown })
 ending_shows g digests n bytes _ k kept = absurd kept.played
 

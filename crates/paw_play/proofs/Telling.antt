@@ -13,7 +13,7 @@ use Rattle.paw_stage.specs.Moments.{Moment, moment_of, InShow}
 use Rattle.paw_effects.specs.declared.act.Prompt.{Prompt}
 use Rattle.paw_reading.specs.declared.places.Frame.{Frame}
 use Rattle.paw_reading.specs.Run.{Run, Step as Read}
-use Rattle.paw_reading.specs.Reading.{Halt}
+use Rattle.paw_reading.specs.declared.places.Halt.{Halt}
 use Rattle.paw_reading.specs.Turn.{WaitsAt, Halted}
 use Rattle.paw_turn.specs.inner.Player.{Seat, run_at}
 use Rattle.paw_turn.specs.declared.Step.{Step}
@@ -21,7 +21,8 @@ use Rattle.paw_turn.specs.declared.Step.TheVariants as step
 use Rattle.paw_play.specs.Traces.{step_line, more_line, steps_text, traced_pieces}
 use Rattle.paw_play.specs.inner.Telling.{Telling, Plain, Stepped, kept_text, seat_text, HaveSteps}
 use Rattle.paw_play.specs.inner.Telling.{told_pieces, told_run, told_ending}
-use Rattle.paw_play.specs.inner.OnTheWay.{ShowsPiece, refusal_of}
+use Rattle.paw_turn.specs.inner.Player.{IsStanding}
+use Rattle.paw_play.specs.inner.OnTheWay.{refusal_of}
 
 -- ---- texts ----
 
@@ -103,7 +104,7 @@ told_more telling next pieces traces steps each kept =
     ∙ pieces_more telling next pieces traces steps each kept
 
 -- a step that isn't refused brings a piece
-pub shows_piece : (found : Step) → None ≡ refusal_of found → ShowsPiece found
+pub shows_piece : (found : Step) → None ≡ refusal_of found → IsStanding found
 shows_piece (step.Waits p) h = tt
 shows_piece step.Ended h = tt
 shows_piece (step.Spent kind) h = cc

@@ -10,7 +10,9 @@ use Rattle.paw_effects.specs.declared.act.Prompt.{Prompt}
 use Rattle.paw_effects.specs.declared.act.Prompt.TheVariants as prompt
 use Rattle.paw_reading.specs.declared.places.Frame.{Frame}
 use Rattle.paw_reading.specs.Run.{Run, Step as Read}
-use Rattle.paw_reading.specs.Reading.{Waits, Halt, IsOver, RunsOut, CallsTooDeep, asked}
+use Rattle.paw_reading.specs.declared.places.Halt.{Halt}
+use Rattle.paw_reading.specs.declared.places.Halt.TheVariants as halt
+use Rattle.paw_reading.specs.Reading.{Waits, asked}
 use Rattle.paw_reading.specs.GoingOn.{on_path}
 use Rattle.paw_reading.specs.Turn.{WaitsAt, at_main, reading, on, text_of}
 use Rattle.paw_process.specs.inner.OpenTables.{OpenTables}
@@ -23,7 +25,8 @@ use Rattle.paw_play.specs.declared.PlayEnd.TheVariants as end
 use Rattle.paw_stage.specs.declared.StageCall.TheVariants as call
 use Rattle.paw_play.specs.Walk.{EndingOf, first_lines, advanced, text_before, PartShown, WalkWaits, WalkHalts}
 use Rattle.paw_play.specs.inner.Telling.{Telling, seat_text, told_pieces, HaveSteps, told_run, told_ending, told_as}
-use Rattle.paw_play.specs.inner.OnTheWay.{IsWalking, ShowsPiece, Told, WalksTo}
+use Rattle.paw_turn.specs.inner.Player.{IsStanding}
+use Rattle.paw_play.specs.inner.OnTheWay.{IsWalking, Told, WalksTo}
 use Rattle.paw_play.proofs.Telling.{pieces_more, told_more, steps_more, told_none, steps_none, waits_told, halts_told, same_lines, told_is}
 use Rattle.paw_effects.specs.Story.{Story}
 
@@ -134,7 +137,7 @@ text_so_far telling g whole n first now seat w seated =
 
 -- the text of a step that brings a piece
 pub text_shown : {F : Type 0} (telling : Telling) (g : Story) (whole : EndingOf) (s : Step) (next : Seat F)
-    (pieces : List (List ℕ)) (traces : List (List Read)) → HaveSteps telling pieces traces → ShowsPiece s → StandsClosed s next.machine →
+    (pieces : List (List ℕ)) (traces : List (List Read)) → HaveSteps telling pieces traces → IsStanding s → StandsClosed s next.machine →
     PlaysTo g whole s next pieces traces →
     text_of (told_as telling whole []) ≡ concat (told_pieces telling pieces traces) ++ seat_text telling next
 text_shown telling g whole (step.Waits p) next pieces traces each h m plays =
@@ -144,7 +147,7 @@ text_shown telling g whole (step.Waits p) next pieces traces each h m plays =
     ∙ told_more telling next pieces traces plays.0 each plays.1.0
 text_shown telling g whole step.Ended next pieces traces each h m plays =
     let r : Run = run_at next (pieces ++ next.piece ∷ []) (traces ++ plays.0 ∷ []) [] in
-    ap (λ e. text_of (told_ending telling e)) (plays.1.1 []) ∙ ap text_of (halts_told telling IsOver r)
+    ap (λ e. text_of (told_ending telling e)) (plays.1.1 []) ∙ ap text_of (halts_told telling halt.Over r)
     ∙ told_more telling next pieces traces plays.0 each plays.1.0
 text_shown telling g whole (step.Spent kind) next pieces traces each h m plays = absurd h
 text_shown telling g whole (step.TooDeep u) next pieces traces each h m plays = absurd h
@@ -166,7 +169,7 @@ module _ {F : Type 0} (telling : Telling) (g : Story) (whole after : EndingOf) (
   read_all = ap whole (sym (append-nil (first_lines n first.lines))) ∙ whole_after []
 
   -- part of the text was shown
-  shown_part : ShowsPiece s → 0 < length (seat_text telling next) → (m : ℕ) →
+  shown_part : IsStanding s → 0 < length (seat_text telling next) → (m : ℕ) →
       new ≡ record mid { shown = mid.shown ++ take m (seat_text telling next) } → PartShown (told_as telling whole) first new n
   shown_part shows some m e = record {
     shown = concat (told_pieces telling pieces traces) ++ take m (seat_text telling next);
@@ -226,16 +229,16 @@ module _ {F : Type 0} (telling : Telling) (g : Story) (whole after : EndingOf) (
         told_run telling r,
         same_lines telling r,
         record {
-          reading = ap (told_ending telling) (read_all ∙ at.1.1 []) ∙ halts_told telling IsOver r;
+          reading = ap (told_ending telling) (read_all ∙ at.1.1 []) ∙ halts_told telling halt.Over r;
           there = there;
           stands = stands_with (seat_text telling next) told.1
               ∙ ap (advanced first n) (sym (told_more telling next pieces traces at.0 each at.1.0));
         },
       )
   comes_to most few (Some (end.Spent kind)) told =
-      halts most few (RunsOut kind) (subst (λ q. PlaysTo g after q next pieces traces) told.0 plays) told.1
+      halts most few (halt.Spent kind) (subst (λ q. PlaysTo g after q next pieces traces) told.0 plays) told.1
   comes_to most few (Some (end.TooDeep table)) told =
-      halts most few (CallsTooDeep table) (subst (λ q. PlaysTo g after q next pieces traces) told.0 plays) told.1
+      halts most few (halt.TooDeep table) (subst (λ q. PlaysTo g after q next pieces traces) told.0 plays) told.1
   comes_to most few (Some (end.Outside call.Show)) told = (n, few, shown_part told.0 told.1 told.2 told.3)
   comes_to most few (Some _) told = absurd told
 

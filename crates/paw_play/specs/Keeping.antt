@@ -3,16 +3,18 @@
 -- The lines are those that are left when a call begins.
 use Rattle.std.specs.Prelude.{◌≡◌, ◌≢◌, ◌⊎◌, ℕ, zero, suc, ◌+◌, ◌≤◌, ◌++◌, length, Some}
 use Rattle.paw_base.specs.Bytes.{Bytes, Lines, Name, Text}
+use Rattle.std.specs.Prelude.{MatchBool, MatchOption}
 use Rattle.paw_base.specs.declared.limits.TheConstants.{EVENT_LIMIT}
 use Rattle.paw_stage.specs.Disk.{MayLeave, IsStable}
 use Rattle.paw_stage.specs.Stage.{Standing}
 use Rattle.paw_stage.specs.Moments.{Moment}
 use Rattle.paw_stage.specs.declared.StageCall.TheVariants as call
+use Rattle.paw_reading.specs.Reading.{closes_piece}
 use Rattle.paw_journal.specs.Session.{IsUnmade, recover}
 use Rattle.paw_play.specs.declared.PlayEnd.{PlayEnd}
 use Rattle.paw_play.specs.declared.PlayEnd.TheVariants as end
 use Rattle.paw_play.specs.Session.{IsKept}
-use Rattle.paw_play.specs.Walk.{first_lines, text_for, text_before}
+use Rattle.paw_play.specs.Walk.{end_halt, first_lines, text_for, text_before}
 use Rattle.paw_play.specs.Played.{PlayedSession}
 use Rattle.paw_play.specs.Written.{bytes_before, bytes_after}
 
@@ -87,13 +89,11 @@ KeepsAllButLast s old new = (n : ℕ) × (new.asked ≡ old.asked + suc n) × Re
 -- What the store keeps after playing on, by how that ended. Where a commit failed its bytes aren't given here: the
 -- moments of the call say what a crash leaves of them.
 abbrev pub LeavesStore : PlayedSession → Standing → Standing → PlayEnd → Type 0
-LeavesStore s old new end.Ended = KeepsAll s old new
 LeavesStore s old new end.InputEnded = KeepsAll s old new
 LeavesStore s old new (end.Long events) = KeepsAll s old new
 LeavesStore s old new (end.Outside call.Ask) = KeepsAll s old new
 LeavesStore s old new (end.Outside call.Show) = KeepsAll s old new
-LeavesStore s old new (end.Spent kind) = KeepsAllButLast s old new
-LeavesStore s old new (end.TooDeep table) = KeepsAllButLast s old new
 LeavesStore s old new (end.Outside call.Write) = StaysAttached s.name old new
 LeavesStore s old new (end.Outside call.Sync) = StaysAttached s.name old new
-LeavesStore s old new _ = Unit {0}
+LeavesStore s old new o = MatchOption (end_halt o) (Unit {0}) (λ halt.
+    MatchBool (closes_piece halt) (KeepsAll s old new) (KeepsAllButLast s old new))

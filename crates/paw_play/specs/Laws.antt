@@ -1,6 +1,8 @@
 -- The laws of sessions.
 use Rattle.std.specs.Prelude.{◌≡◌, ◌≢◌, ◌⊎◌, ℕ, suc, ◌+◌, ◌^◌, ◌<◌, ◌≤◌, List, [], ◌∷◌, ◌++◌, length, drop, All, Some}
 use Rattle.paw_base.specs.Bytes.{Bytes, Lines, Name, Seed, Text}
+use Rattle.std.specs.Prelude.{if◌then◌else◌}
+use Rattle.std.specs.Option.{option_map_or}
 use Rattle.paw_effects.specs.Story.{Story}
 use Rattle.paw_base.specs.declared.limits.TheConstants.{EVENT_LIMIT}
 use Rattle.paw_stage.specs.Disk.{MayLeave}
@@ -11,6 +13,7 @@ use Rattle.paw_effects.specs.declared.act.Prompt.{Prompt}
 use Rattle.paw_effects.specs.Standing.{AreBytes}
 use Rattle.paw_reading.specs.declared.places.Frame.{Frame}
 use Rattle.paw_reading.specs.Run.{Run}
+use Rattle.paw_reading.specs.Reading.{closes_piece}
 use Rattle.paw_reading.specs.Turn.{WaitsAt, reading, pieces_of}
 use Rattle.paw_reading.specs.Bounds.{ValidStory}
 use Rattle.paw_journal.specs.Session.{Digests, IsUnmade, recover}
@@ -18,7 +21,7 @@ use Rattle.paw_state.specs.State.{State, Keeps, FitsFields}
 use Rattle.paw_state.specs.Record.{last_piece, state_at}
 use Rattle.paw_play.specs.declared.PlayEnd.{PlayEnd}
 use Rattle.paw_play.specs.declared.PlayEnd.TheVariants as end
-use Rattle.paw_play.specs.Walk.{first_lines}
+use Rattle.paw_play.specs.Walk.{end_halt, first_lines}
 use Rattle.paw_play.specs.Session.{IsOfStory}
 use Rattle.paw_play.specs.Stands.{Stands, IsPlayedWith, reading_since}
 use Rattle.paw_play.specs.Played.{PlayedSession, ShowsState, begun, from_lines, going_on}
@@ -143,12 +146,10 @@ abbrev pub left_after : Bytes → List Round → Bytes
 left_after bytes [] = bytes
 left_after bytes (r ∷ rounds) = left_after r.left rounds
 
--- The number of taken lines that are lost where play ended this way: one, the last, where its piece ran out of a budget
--- or a call was too deep; otherwise none.
+-- How many of the lines that were taken this end of playing loses: the last one, where play ended before its piece was
+-- closed; otherwise none.
 abbrev pub lines_lost : PlayEnd → ℕ
-lines_lost (end.Spent kind) = 1
-lines_lost (end.TooDeep table) = 1
-lines_lost o = 0
+lines_lost o = option_map_or (λ halt. if closes_piece halt then 0 else 1) (end_halt o) 0
 
 -- This number of lines of a round is kept: where it was cut off, all that were taken by then, or all but the last;
 -- where it ended, all that were taken but those lost by that end.

@@ -1,16 +1,16 @@
 -- How playing with a session ends, what it leaves, and what stands at each moment of it.
-use Rattle.std.specs.Prelude.{take, ◌-◌, ◌≡◌, ◌≢◌, ◌⊎◌, ℕ, suc, ◌<◌, ◌≤◌, [], length, None}
+use Rattle.std.specs.Prelude.{take, ◌-◌, ◌≡◌, ◌≢◌, ◌⊎◌, ℕ, suc, ◌<◌, ◌≤◌, [], length, None, false, Some}
 use Rattle.paw_base.specs.Bytes.{Bytes, Name, Text, zeros}
 use Rattle.paw_stage.specs.Stage.{Standing, Unattached, file_bytes, made_if_missing, opened}
 use Rattle.paw_stage.specs.Moments.{Moment}
 use Rattle.paw_stage.specs.Across.{IsOneOf}
 use Rattle.paw_stage.specs.declared.StageCall.{StageCall}
 use Rattle.paw_stage.specs.declared.StageCall.TheVariants as call
-use Rattle.paw_base.specs.declared.fault.SpentKind.{SpentKind}
 use Rattle.paw_base.specs.declared.limits.TheConstants.{EVENT_LIMIT}
 use Rattle.paw_effects.specs.Story.{Story}
 use Rattle.paw_reading.specs.Run.{Run}
-use Rattle.paw_reading.specs.Reading.{RunsOut, CallsTooDeep}
+use Rattle.paw_reading.specs.declared.places.Halt.{Halt}
+use Rattle.paw_reading.specs.Reading.{closes_piece}
 use Rattle.paw_reading.specs.Turn.{Halted}
 use Rattle.paw_journal.specs.Session.{Digests, Unmade, Damaged, Shown, recover, state_length}
 use Rattle.paw_journal.specs.Journal.{writing_calls}
@@ -20,7 +20,7 @@ use Rattle.paw_state.specs.State.{State}
 use Rattle.paw_state.specs.Fit.{Fit, Unfit}
 use Rattle.paw_play.specs.declared.PlayEnd.{PlayEnd}
 use Rattle.paw_play.specs.declared.PlayEnd.TheVariants as end
-use Rattle.paw_play.specs.Walk.{EndingOf, text_for, advanced, Walks}
+use Rattle.paw_play.specs.Walk.{end_halt, EndingOf, text_for, advanced, Walks}
 use Rattle.paw_play.specs.Session.{story_digests, IsOfStory}
 use Rattle.paw_play.specs.Played.{PlayedSession, from_state, ShowsState}
 use Rattle.paw_play.specs.Keeping.{StaysAttached, LeavesStore}
@@ -73,11 +73,9 @@ pub record NotYet (name : Name) (old : Standing) (m : Moment) : Type 0 where
 -- How making a new session in the attached store, which is empty, and playing it ends, and what that leaves.
 pub data MadeAndPlayed (s : PlayedSession) (old new : Standing) : PlayEnd → Type 0 where
   memory : new ≡ old → MadeAndPlayed s old new end.Memory
-  -- The piece before the first line ran out of a budget, or a call in it was too deep: no session is made.
-  spent : (kind : SpentKind) (r : Run) → s.whole [] ≡ Halted (RunsOut kind) r → new ≡ old →
-      MadeAndPlayed s old new (end.Spent kind)
-  too_deep : (table : ℕ) (r : Run) → s.whole [] ≡ Halted (CallsTooDeep table) r → new ≡ old →
-      MadeAndPlayed s old new (end.TooDeep table)
+  -- Play ended before the piece before the first line was closed: no session is made.
+  halts : (o : PlayEnd) (halt : Halt) (r : Run) → end_halt o ≡ Some halt → closes_piece halt ≡ false →
+      s.whole [] ≡ Halted halt r → new ≡ old → MadeAndPlayed s old new o
   -- The session couldn't be made; nothing was asked or shown, and no other file has changed.
   unmade : (c : StageCall) → IsOneOf writing_calls c → new ≡ with_store new old → StaysAttached s.name old new →
       MadeAndPlayed s old new (end.Outside c)

@@ -6,7 +6,7 @@ use Rattle.paw_game.specs.Image.{image}
 use Rattle.paw_routines.specs.Measure.{measure}
 use Rattle.paw_effects.specs.Story.{Story}
 use Rattle.paw_effects.specs.declared.act.Prompt.TheVariants as prompt
-use Rattle.paw_reading.specs.Reading.{IsOver}
+use Rattle.paw_reading.specs.declared.places.Halt.TheVariants as halt
 use Rattle.paw_reading.specs.Turn.{Ending, WaitsAt, Halted, pieces_of}
 use Rattle.paw_journal.specs.Session.{Digests, BelongsTo, Recovered, Shown}
 use Rattle.paw_state.specs.State.{State}
@@ -28,13 +28,13 @@ kept_bytes s = state_bytes s
 -- The bytes of the state in which a reading ended; none where a piece ran out of a budget or a call was too deep.
 abbrev pub state_after : ℕ → Ending → Bytes
 state_after events (WaitsAt p path r) = kept_bytes (state_at events p path r)
-state_after events (Halted IsOver r) = kept_bytes (state_at events prompt.Over [] r)
+state_after events (Halted halt.Over r) = kept_bytes (state_at events prompt.Over [] r)
 state_after events _ = []
 
 -- The reading waits, or the game is over with its last line.
 abbrev pub IsPlayed : Ending → Type 0
 IsPlayed (WaitsAt p path r) = Unit {0}
-IsPlayed (Halted IsOver r) = r.events ≡ []
+IsPlayed (Halted halt.Over r) = r.events ≡ []
 IsPlayed _ = ⊥
 
 -- A session with these digests keeps where a reading ended: it shows the state there, after this number of lines, and

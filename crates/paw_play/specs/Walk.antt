@@ -1,16 +1,25 @@
 -- How taking lines and showing pieces may end, and what it leaves.
 use Rattle.std.specs.Prelude.{◌≡◌, ℕ, zero, suc, ◌+◌, ◌<◌, ◌≤◌, List, [], ◌++◌, length, take, drop, map}
 use Rattle.paw_base.specs.Bytes.{Lines, Text}
+use Rattle.std.specs.Prelude.{Option, Some, None, MatchOption}
 use Rattle.paw_base.specs.declared.limits.TheConstants.{EVENT_LIMIT, LINE_LIMIT}
 use Rattle.paw_stage.specs.Stage.{Standing}
 use Rattle.paw_stage.specs.declared.StageCall.TheVariants as call
 use Rattle.paw_effects.specs.declared.act.Prompt.{Prompt}
 use Rattle.paw_reading.specs.declared.places.Frame.{Frame}
 use Rattle.paw_reading.specs.Run.{Run}
-use Rattle.paw_reading.specs.Reading.{Halt, IsOver, RunsOut, CallsTooDeep}
+use Rattle.paw_reading.specs.declared.places.Halt.{Halt}
+use Rattle.paw_reading.specs.declared.places.Halt.TheVariants as halt
 use Rattle.paw_reading.specs.Turn.{Ending, WaitsAt, Halted, text_of}
 use Rattle.paw_play.specs.declared.PlayEnd.{PlayEnd}
 use Rattle.paw_play.specs.declared.PlayEnd.TheVariants as end
+
+-- The halt that an end of playing is, if it is one.
+abbrev pub end_halt : PlayEnd → Option Halt
+end_halt end.Ended = Some halt.Over
+end_halt (end.Spent kind) = Some (halt.Spent kind)
+end_halt (end.TooDeep table) = Some (halt.TooDeep table)
+end_halt _ = None
 
 -- How a reading ends, as a function of its lines: one from the start of a game, or one that goes on from a state.
 abbrev pub EndingOf : Type 0
@@ -65,12 +74,9 @@ WalkHalts whole most old new halt =
 -- is asked for beyond the most, so where the player still waits after that many the walk is Long. Where memory was
 -- lacking, nothing was taken or shown.
 abbrev pub Walks : EndingOf → ℕ → Standing → Standing → PlayEnd → Type 0
-Walks whole most old new end.Ended = WalkHalts whole most old new IsOver
 Walks whole most old new end.InputEnded = (length old.lines < most) × WalkWaits whole old new (length old.lines)
-Walks whole most old new (end.Spent kind) = WalkHalts whole most old new (RunsOut kind)
-Walks whole most old new (end.TooDeep table) = WalkHalts whole most old new (CallsTooDeep table)
 Walks whole most old new (end.Long events) = (events ≡ EVENT_LIMIT) × WalkWaits whole old new most
 Walks whole most old new (end.Outside call.Ask) = (n : ℕ) × (n < most) × WalkWaits whole old new n
 Walks whole most old new (end.Outside call.Show) = (n : ℕ) × (n ≤ most) × PartShown whole old new n
 Walks whole most old new end.Memory = new ≡ old
-Walks whole most old new _ = ⊥
+Walks whole most old new o = MatchOption (end_halt o) ⊥ (WalkHalts whole most old new)

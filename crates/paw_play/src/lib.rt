@@ -1,6 +1,10 @@
 //! Playing over a stage: lines are taken, and the pieces that they bring are shown.
 #![tactic(auto)]
 
+ghost use Rattle.std.specs.Prelude.{◌≡◌};
+ghost use Rattle.paw_play.specs.Walk.{end_halt};
+ghost use Rattle.paw_play.specs.inner.OnTheWay.{end_of_halt};
+
 pub mod laws;
 pub mod line;
 pub mod play;
@@ -12,6 +16,7 @@ pub mod walk;
 
 use paw_base::fault::SpentKind;
 use paw_journal::JournalRefusal;
+use paw_reading::places::Halt;
 use paw_stage::StageCall;
 
 /// How playing ends. Occupied: a new session was asked for, and its store has bytes already. Refused: the store gives
@@ -31,4 +36,33 @@ pub enum PlayEnd {
     Long { events: u64 },
     Outside(StageCall),
     Memory,
+}
+
+/// The end of playing that this halt is.
+pub fn end_of(halt: Halt) -> PlayEnd
+    ensures value { result ≡ end_of_halt halt }
+{
+    match halt {
+        Halt::Over => PlayEnd::Ended,
+        Halt::Spent(kind) => PlayEnd::Spent(kind),
+        Halt::TooDeep { table } => PlayEnd::TooDeep { table },
+    }
+}
+
+/// The halt that this end of playing is, if it is one.
+pub fn halt_of(end: PlayEnd) -> Option<Halt>
+    ensures value { result ≡ end_halt end }
+{
+    match end {
+        PlayEnd::Ended => Some(Halt::Over),
+        PlayEnd::Spent(kind) => Some(Halt::Spent(kind)),
+        PlayEnd::TooDeep { table } => Some(Halt::TooDeep { table }),
+        PlayEnd::InputEnded
+        | PlayEnd::Occupied { .. }
+        | PlayEnd::Refused(_)
+        | PlayEnd::State { .. }
+        | PlayEnd::Long { .. }
+        | PlayEnd::Outside(_)
+        | PlayEnd::Memory => None,
+    }
 }

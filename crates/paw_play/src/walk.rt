@@ -16,25 +16,26 @@ ghost use Rattle.paw_play.specs.inner.OnTheWay.{EachStory, IsWalking, WalksTo, T
 ghost use Rattle.paw_play.specs.Calls.{walk_calls};
 ghost use Rattle.paw_play.specs.inner.Calls.{IsNotForCall, call_of_end, failed_so_far};
 
-use crate::PlayEnd;
 use crate::preface::Preface;
 use crate::show::show;
+use crate::{PlayEnd, end_of};
 use paw_base::limits::{EVENT_LIMIT, LINE_LIMIT};
 use paw_game::tables::Tables;
+use paw_reading::places::Halt;
 use paw_routines::routines::Routines;
 use paw_stage::{Asked, Failed, Stage, StageCall};
-use paw_turn::{Player, Step};
+use paw_turn::{Player, Step, halt_of};
 use std::alloc::Global;
 
-/// How play ends at a step that brings no piece: the piece was spent, or a call was too deep. None if it brings one.
+/// The end of playing at a step that brings no piece, because play ended before it was closed. None where it brings
+/// one.
 pub(crate) fn refused(step: Step) -> Option<PlayEnd>
     ensures value { result ≡ refusal_of step }
     ensures fine { failed_so_far result ≡ None }
 {
-    match step {
-        Step::Waits(_) | Step::Ended => None,
-        Step::Spent(kind) => Some(PlayEnd::Spent(kind)),
-        Step::TooDeep { table } => Some(PlayEnd::TooDeep { table }),
+    match halt_of(step) {
+        None | Some(Halt::Over) => None,
+        Some(halt) => Some(end_of(halt)),
     }
 }
 

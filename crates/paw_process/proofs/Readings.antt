@@ -26,7 +26,8 @@ use Rattle.paw_effects.specs.Texts.{put_text}
 use Rattle.paw_reading.specs.declared.places.Frame.{Frame}
 use Rattle.paw_reading.specs.declared.places.OpenLoop.{OpenLoop}
 use Rattle.paw_reading.specs.Run.{Run, Step, closed, with_world}
-use Rattle.paw_reading.specs.Reading.{RunsOut, Out, halts, step_at, noted, printing, waits}
+use Rattle.paw_reading.specs.declared.places.Halt.TheVariants as halt
+use Rattle.paw_reading.specs.Reading.{Out, halts, step_at, noted, printing, waits}
 use Rattle.paw_reading.specs.Reading.{acts, carried_out, after_action, loop_of, deeper}
 use Rattle.paw_reading.specs.inner.Steps.{tests, parses}
 use Rattle.paw_reading.specs.GoingOn.{on_path}
@@ -148,7 +149,7 @@ act_follows g old mid f c s s' a r kind does unspent eq em =
 -- an action whose text doesn't fit
 pub act_spends : (g : Story) (old : OpenTables) (f : Frame) (c : Condact) (s s' : Situation) (a : Act) (r : Run)
     → is_condition c ≡ false → Does (effect_of g s.world c) s.piece s'.piece s'.world a → effect.Spent ≡ a.effect
-    → one_at g (below old.frames) f c (run_held (having s old) r) ≡ halts (RunsOut spent.Text) (noted f c true (run_held (having s old) r))
+    → one_at g (below old.frames) f c (run_held (having s old) r) ≡ halts (halt.Spent spent.Text) (noted f c true (run_held (having s old) r))
 act_spends g old f c s s' a r kind does is =
     let d = effect_of g s.world c in
     one_acts g (below old.frames) f c (run_held (having s old) r) kind

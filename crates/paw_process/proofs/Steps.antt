@@ -14,7 +14,8 @@ use Rattle.paw_effects.specs.declared.act.Effect.TheVariants as effect
 use Rattle.paw_reading.specs.declared.places.Frame.{Frame}
 use Rattle.paw_reading.specs.declared.places.OpenLoop.{OpenLoop}
 use Rattle.paw_reading.specs.Run.{Run, closed, without_loop}
-use Rattle.paw_reading.specs.Reading.{RunsOut, Redescribes, Halts, Out, Left, Stopped, halts, at_level, again}
+use Rattle.paw_reading.specs.declared.places.Halt.TheVariants as halt
+use Rattle.paw_reading.specs.Reading.{Redescribes, Halts, Out, Left, Stopped, halts, at_level, again}
 use Rattle.paw_reading.specs.Reading.{taken, turns, loop_of, waits, plain, looped, deeper, rest, reads_one}
 use Rattle.paw_reading.specs.GoingOn.{on_path}
 use Rattle.paw_reading.specs.inner.GoingOn.{along}
@@ -114,8 +115,8 @@ pub acted_redescribes : (g : Story) (fs : List Frame) (f : Frame) (r : Run) →
 acted_redescribes g fs f r = along_stopped g fs Redescribes (without_loop r)
 
 pub acted_spent : (g : Story) (fs : List Frame) (f : Frame) (r : Run) →
-    acted_at g fs f effect.Spent r ≡ halts (RunsOut spent.Text) r
-acted_spent g fs f r = along_stopped g fs (Halts (RunsOut spent.Text)) r
+    acted_at g fs f effect.Spent r ≡ halts (halt.Spent spent.Text) r
+acted_spent g fs f r = along_stopped g fs (Halts (halt.Spent spent.Text)) r
 
 -- the piece is closed, and the run goes on at the prompt along the frames
 pub settled_waits : (g : Story) (fs : List Frame) (f : Frame) (p : Prompt) (r : Run)
@@ -163,7 +164,7 @@ reading_condact g fs f r c h low =
 -- the budget is used up
 pub reading_none : (g : Story) (fs : List Frame) (f : Frame) (r : Run) (c : Condact) →
     condact_at g.game f.table f.entry f.at ≡ Some c → READ_LIMIT ≤ length r.read →
-    reading_at g fs f r ≡ halts (RunsOut spent.Condacts) r
+    reading_at g fs f r ≡ halts (halt.Spent spent.Condacts) r
 reading_none g fs f r c h low =
     ap (resolved g fs) (inside_condact g (deeper g (length fs)) (length fs) f.table f.entry f.at f.acted r c h ∙ within_none r _ low)
-    ∙ along_stopped g fs (Halts (RunsOut spent.Condacts)) r
+    ∙ along_stopped g fs (Halts (halt.Spent spent.Condacts)) r

@@ -1,5 +1,5 @@
 -- Calls, and what the machine's stops say.
-use Rattle.std.proofs.Common.{◌≡◌, ℕ, suc, ◌+◌, ◌≤◌, ◌<◌, Bool, true, false, List, [], ◌∷◌, ◌++◌, Option, Some, None, refl, ap, ◌∙◌, length, arith}
+use Rattle.std.proofs.Common.{◌≡◌, ℕ, suc, ◌+◌, ◌≤◌, ◌<◌, Bool, true, false, List, [], ◌∷◌, ◌++◌, Option, Some, refl, sym, ap, ◌∙◌, subst, length, arith}
 use Rattle.std.specs.Prelude.{nat_le, reverse}
 use Rattle.std.proofs.lemmas.Bool.Decides.{nat_tests}
 use Rattle.paw_base.specs.declared.fault.SpentKind.{SpentKind}
@@ -9,7 +9,8 @@ use Rattle.paw_effects.specs.Story.{Story}
 use Rattle.paw_effects.specs.declared.act.Prompt.{Prompt}
 use Rattle.paw_reading.specs.declared.places.Frame.{Frame}
 use Rattle.paw_reading.specs.Run.{Run, closed, printed}
-use Rattle.paw_reading.specs.Reading.{RunsOut, CallsTooDeep, Halts, Out, halts, printing, waits, deeper}
+use Rattle.paw_reading.specs.declared.places.Halt.TheVariants as halt
+use Rattle.paw_reading.specs.Reading.{Halts, Out, halts, printing, waits, deeper}
 use Rattle.paw_reading.specs.GoingOn.{on_path}
 use Rattle.paw_reading.specs.inner.GoingOn.{along}
 use Rattle.paw_reading.proofs.Rules.{deeper_rest, deeper_none}
@@ -27,21 +28,21 @@ length_below (f ∷ fs) h = refl
 
 -- the piece is spent in a run with the same past
 pub stops_spent : (g : Story) (x : Out) (t : Option Turned) (kind : SpentKind) (fs : List Frame) (r s : Run) →
-    t ≡ Some (turned.Spent kind) → x ≡ halts (RunsOut kind) s → SamePast r s → Continues g x t fs r
+    t ≡ Some (turned.Spent kind) → x ≡ halts (halt.Spent kind) s → SamePast r s → Continues g x t fs r
 stops_spent g x t kind fs r s e h past = rw e (s, h, past)
 
 -- a call is too deep in a run with the same past
 pub stops_deep : (g : Story) (x : Out) (t : Option Turned) (u : ℕ) (fs : List Frame) (r s : Run) →
-    t ≡ Some (turned.TooDeep u) → x ≡ halts (CallsTooDeep u) s → SamePast r s → Continues g x t fs r
+    t ≡ Some (turned.TooDeep u) → x ≡ halts (halt.TooDeep u) s → SamePast r s → Continues g x t fs r
 stops_deep g x t u fs r s e h past = rw e (s, h, past)
 
 -- ---- calls ----
 
 pub call_deep : (g : Story) (fs : List Frame) (u : ℕ) (r : Run) → 11 ≤ length fs →
-    along g fs (deeper g (length (below fs)) u r) ≡ halts (CallsTooDeep u) r
+    along g fs (deeper g (length (below fs)) u r) ≡ halts (halt.TooDeep u) r
 call_deep g fs u r h =
     let low : 10 ≤ length (below fs) = omega (arith, length_below fs (omega arith)) in
-    ap (along g fs) (deeper_none g (length (below fs)) u r low) ∙ along_stopped g fs (Halts (CallsTooDeep u)) r
+    ap (along g fs) (deeper_none g (length (below fs)) u r low) ∙ along_stopped g fs (Halts (halt.TooDeep u)) r
 
 pub call_goes : (g : Story) (fs : List Frame) (u : ℕ) (r : Run) → 0 < length fs → length fs < 11
     → along g fs (deeper g (length (below fs)) u r) ≡ going_in g (record { table = u; entry = 0; at = 0; acted = false } ∷ fs) r
@@ -52,7 +53,7 @@ call_goes g fs u r some low =
 -- ---- prompts ----
 
 pub no_fit : (r : Run) (text : List ℕ) (go : Run → Out) → 65535 < length r.current + length text →
-    printing text go r ≡ halts (RunsOut spent.Text) r
+    printing text go r ≡ halts (halt.Spent spent.Text) r
 no_fit r text go h =
     let t : nat_le (length r.current + length text) 65535 ≡ false = grind (arith, nat_tests) in rw t refl
 
@@ -62,8 +63,8 @@ fit r text go h =
 
 -- the question doesn't fit
 pub ask_spent : (g : Story) (fs : List Frame) (text : List ℕ) (go : Run → Out) (r : Run) →
-    65535 < length r.current + length text → resolved g fs (printing text go r) ≡ halts (RunsOut spent.Text) r
-ask_spent g fs text go r h = ap (resolved g fs) (no_fit r text go h) ∙ along_stopped g fs (Halts (RunsOut spent.Text)) r
+    65535 < length r.current + length text → resolved g fs (printing text go r) ≡ halts (halt.Spent spent.Text) r
+ask_spent g fs text go r h = ap (resolved g fs) (no_fit r text go h) ∙ along_stopped g fs (Halts (halt.Spent spent.Text)) r
 
 -- the question is put, and the run goes on at the prompt along the frames
 pub ask_waits : (g : Story) (fs old : List Frame) (f : Frame) (p : Prompt) (text piece : List ℕ) (r : Run) → old ≡ f ∷ fs
@@ -82,12 +83,7 @@ put_yes old new text ok h e = rw e at h
 
 -- what goes on to the same goes on
 pub goes_from : (g : Story) (x y : Out) (t : Option Turned) (fs : List Frame) (r : Run) → x ≡ y → Continues g y t fs r → Continues g x t fs r
-goes_from g x y None fs r e h = e ∙ h
-goes_from g x y (Some (turned.Left a)) fs r e h = e ∙ h
-goes_from g x y (Some turned.Redescribe) fs r e h = e ∙ h
-goes_from g x y (Some (turned.Waits p)) fs r e h = e ∙ h
-goes_from g x y (Some (turned.Spent kind)) fs r e (s, h, past) = (s, e ∙ h, past)
-goes_from g x y (Some (turned.TooDeep u)) fs r e (s, h, past) = (s, e ∙ h, past)
+goes_from g x y t fs r e h = subst (λ (z : Out). Continues g z t fs r) (sym e) h
 
 pub ask_stops : (g : Story) (fs : List Frame) (text : List ℕ) (go : Run → Out) (r : Run) (t : Option Turned) (fs' : List Frame) (s : Run)
     → t ≡ Some (turned.Spent spent.Text) → 65535 < length r.current + length text → SamePast s r

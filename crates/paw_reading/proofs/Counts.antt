@@ -18,7 +18,8 @@ use Rattle.paw_reading.specs.declared.places.Frame.{Frame}
 use Rattle.paw_reading.specs.declared.places.OpenLoop.{OpenLoop}
 use Rattle.paw_reading.specs.Run.{Run, closed, fits, printed, with_world, without_loop, line_dropped, anew, is_timeout, is_ignored, heard}
 use Rattle.paw_reading.specs.Run.{reply, is_yes, is_no, taken_phrase}
-use Rattle.paw_reading.specs.Reading.{IsOver, RunsOut, Redescribes, Restarts, Halts, Out, Left, Waits, Stopped, halts, noted, after_call}
+use Rattle.paw_reading.specs.declared.places.Halt.TheVariants as halt
+use Rattle.paw_reading.specs.Reading.{Redescribes, Restarts, Halts, Out, Left, Waits, Stopped, halts, noted, after_call}
 use Rattle.paw_reading.specs.Reading.{at_level, again, is_taken, taken, turns, loop_of, over, answered, asked, waits, after_test}
 use Rattle.paw_reading.specs.Reading.{after_parse, after_action, carried_out, acts, reads_one, plain, looped, reads, called, deeper, rest}
 use Rattle.paw_reading.specs.Reading.{table_read, coming_phrase, game_over}
@@ -34,7 +35,7 @@ use Rattle.paw_reading.proofs.EachCondact.{plain_goes}
 abbrev pub Counts : ℕ → Out → Type 0
 Counts v (Left a r) = count r ≡ v
 Counts v (Waits p path r) = (r.events ≡ []) × (count r ≡ suc v)
-Counts v (Stopped (Halts IsOver) r) = count r ≡ suc v
+Counts v (Stopped (Halts halt.Over) r) = count r ≡ suc v
 Counts v (Stopped _ r) = count r ≡ v
 
 abbrev IsCounting : (Run → Out) → Type 0
@@ -128,7 +129,7 @@ module _ (g : Story) (sub : ℕ → Run → Out) (lv : ℕ) (calls : CallsCounti
 
   acts_count : (f : Frame) (next go : Bool → Run → Out) → AreCounting next → AreCounting go → (d : Done) → IsCounting (acts g sub lv f next go d)
   acts_count f next go hn hg d v r k =
-      either (Counts v) (fits r d.text) _ (halts (RunsOut spent.Text) r)
+      either (Counts v) (fits r d.text) _ (halts (halt.Spent spent.Text) r)
       (after_action_counts f next go hn hg d.act.effect v (carried_out d (printed d.text r)) k) k
 
   reads_one_counts : (f : Frame) (next go : Bool → Run → Out) → AreCounting next → AreCounting go → (c : Condact) → IsCounting (reads_one g sub lv f next go c)
@@ -167,7 +168,7 @@ TurnsCounting go = (v : ℕ) (r : Run) → count r ≡ v → Counted v (go r)
 
 saying_counts : (text : List ℕ) (go : Run → Ending) → TurnsCounting go → TurnsCounting (saying text go)
 saying_counts text go h v r k =
-    either (Counted v) (fits r text) _ (Halted (RunsOut spent.Text) r) (h v (printed text r) k) k
+    either (Counted v) (fits r text) _ (Halted (halt.Spent spent.Text) r) (h v (printed text r) k) k
 
 module _ (g : Story) (go : TurnPhase → Run → Ending) (counts : (s : TurnPhase) → TurnsCounting (go s)) where
   connected_counts : (to : Option ℕ) → TurnsCounting (λ r. connected g go r to)
@@ -185,7 +186,7 @@ module _ (g : Story) (go : TurnPhase → Run → Ending) (counts : (s : TurnPhas
   table_done_counts t v (Waits p path r) k = k
   table_done_counts t v (Stopped Redescribes r) k = counts AtDescribe v r k
   table_done_counts t v (Stopped Restarts r) k = counts AtDescribe v r k
-  table_done_counts t v (Stopped (Halts IsOver) r) k = k
+  table_done_counts t v (Stopped (Halts halt.Over) r) k = k
   table_done_counts t v (Stopped (Halts _) r) k = k
 
   read_counts : (t : ℕ) → TurnsCounting (λ r. table_done g go t (table_read g t r))

@@ -10,7 +10,8 @@ use Rattle.paw_game.specs.Tables.{table_at, entry_at, condacts_of}
 use Rattle.paw_effects.specs.Story.{Story}
 use Rattle.paw_reading.specs.declared.places.Frame.{Frame}
 use Rattle.paw_reading.specs.Run.{Run}
-use Rattle.paw_reading.specs.Reading.{RunsOut, Out, Left, halts, reads_one, condacts, is_for_now, entries, plain}
+use Rattle.paw_reading.specs.declared.places.Halt.TheVariants as halt
+use Rattle.paw_reading.specs.Reading.{Out, Left, halts, reads_one, condacts, is_for_now, entries, plain}
 
 -- what holds in both cases, the first with its test
 pub by_test : (P : Out → Type 0) (b : Bool) (x y : Out) → (b ≡ true → P x) → P y → P (if b then x else y)
@@ -27,13 +28,13 @@ ReadsOne P g sub lv f =
     (next go : Bool → Run → Out) → Goes P next → Goes P go → (c : Condact) (r : Run) → length r.read < READ_LIMIT → P r (reads_one g sub lv f next go c r)
 
 module _ (P : Run → Out → Type 0) (g : Story) (sub : ℕ → Run → Out) (lv t : ℕ) (left : (a : Bool) (r : Run) → P r (Left a r))
-    (spends : (r : Run) → P r (halts (RunsOut spent.Condacts) r))
+    (spends : (r : Run) → P r (halts (halt.Spent spent.Condacts) r))
     (one : (e k : ℕ) (a : Bool) → ReadsOne P g sub lv (record { table = t; entry = e; at = k; acted = a })) where
   condacts_go : (e : ℕ) (next : Bool → Run → Out) → Goes P next → (k : ℕ) (cs : List Condact) → Goes P (condacts g sub lv t e next k cs)
   unfolding condacts
   condacts_go e next hn k [] a r = hn a r
   condacts_go e next hn k (c ∷ cs) a r =
-      by_test (P r) (nat_lt (length r.read) READ_LIMIT) _ (halts (RunsOut spent.Condacts) r)
+      by_test (P r) (nat_lt (length r.read) READ_LIMIT) _ (halts (halt.Spent spent.Condacts) r)
       (λ few. one e k a next _ hn (condacts_go e next hn (suc k) cs) c r (ltb-true (length r.read) READ_LIMIT few)) (spends r)
 
   entries_go : (e : ℕ) (es : List Entry) → Goes P (entries g sub lv t e es)

@@ -13,7 +13,8 @@ use Rattle.paw_effects.specs.declared.act.Prompt.TheVariants as prompt
 use Rattle.paw_effects.specs.Texts.{say_text}
 use Rattle.paw_reading.specs.declared.places.Frame.{Frame}
 use Rattle.paw_reading.specs.Run.{Run, closed, fits, printed, with_world, line_dropped, is_timeout, is_ignored, heard, with_timeout}
-use Rattle.paw_reading.specs.Reading.{RunsOut, Redescribes, Restarts, Halts, Out, Left, Waits, Stopped, table_read}
+use Rattle.paw_reading.specs.declared.places.Halt.TheVariants as halt
+use Rattle.paw_reading.specs.Reading.{Redescribes, Restarts, Halts, Out, Left, Waits, Stopped, table_read}
 use Rattle.paw_reading.specs.Turn.{TurnPhase, AtDescribe, AtTimeFrame, AtPhrase, AtResponse, Ending, Halted, Unended, saying, described, time_frame_passed}
 use Rattle.paw_reading.specs.Turn.{view_text, prompt_text, at_main, after_phrase, refusal_text, connected, after_left}
 use Rattle.paw_reading.specs.Turn.{table_done, turn, left_to_read, phases_left, first_table, goes_on}
@@ -44,7 +45,7 @@ EndsWithin n go = (s : TurnPhase) (r : Run) → phases_needed s r ≤ n → go s
 saying_ends : (text : List ℕ) (go : Run → Ending) (r : Run) → go (printed text r) ≢ Unended → saying text go r ≢ Unended
 saying_ends text go r h = by_test (fits r text)
   where
-    by_test : (b : Bool) → (if b then go (printed text r) else Halted (RunsOut spent.Text) r) ≢ Unended
+    by_test : (b : Bool) → (if b then go (printed text r) else Halted (halt.Spent spent.Text) r) ≢ Unended
     by_test true = h
     by_test false = λ e. cc
 
@@ -168,9 +169,9 @@ saying_more : (text : List ℕ) (go more : Run → Ending) (r : Run) → ((s : R
     saying text more r ≡ saying text go r
 saying_more text go more r h = by_test (fits r text)
   where
-    by_test : (b : Bool) → (if b then go (printed text r) else Halted (RunsOut spent.Text) r) ≢ Unended →
-        (if b then more (printed text r) else Halted (RunsOut spent.Text) r)
-        ≡ (if b then go (printed text r) else Halted (RunsOut spent.Text) r)
+    by_test : (b : Bool) → (if b then go (printed text r) else Halted (halt.Spent spent.Text) r) ≢ Unended →
+        (if b then more (printed text r) else Halted (halt.Spent spent.Text) r)
+        ≡ (if b then go (printed text r) else Halted (halt.Spent spent.Text) r)
     by_test true k = h (printed text r) k
     by_test false k = refl
 

@@ -23,7 +23,8 @@ use Rattle.paw_reading.specs.declared.places.Frame.{Frame}
 use Rattle.paw_reading.specs.declared.places.OpenLoop.{OpenLoop}
 use Rattle.paw_reading.specs.Run.{Run, Step, closed, fits, printed, with_world, without_loop, line_dropped, anew, is_ignored, heard, reply}
 use Rattle.paw_reading.specs.Run.{is_yes, is_no, taken_phrase}
-use Rattle.paw_reading.specs.Reading.{IsOver, RunsOut, Restarts, Out, Left, Waits, Stopped, halts, noted, printing, after_call, at_level}
+use Rattle.paw_reading.specs.declared.places.Halt.TheVariants as halt
+use Rattle.paw_reading.specs.Reading.{Restarts, Out, Left, Waits, Stopped, halts, noted, printing, after_call, at_level}
 use Rattle.paw_reading.specs.Reading.{again, is_taken, taken, turns, loop_of, over, answered, asked, waits, after_test}
 use Rattle.paw_reading.specs.Reading.{after_parse, after_action, carried_out, acts, reads_one, is_for_now, inside, plain, looped, deeper}
 use Rattle.paw_reading.specs.Reading.{rest, coming_phrase, game_over}
@@ -82,7 +83,7 @@ module _ (g : Story) (ps : List (List ℕ)) (ts : List (List Step)) (lines : Lis
         loops lv (printing text go (around ps ts lines r)) ≡ settles lv (printing text go r)
     settles_printing text go r h =
         settles_or (fits r text) (go (around ps ts lines (printed text r)))
-        (halts (RunsOut spent.Text) (around ps ts lines r)) (go (printed text r)) (halts (RunsOut spent.Text) r) h refl
+        (halts (halt.Spent spent.Text) (around ps ts lines r)) (go (printed text r)) (halts (halt.Spent spent.Text) r) h refl
 
     -- ---- calls ----
 
@@ -100,7 +101,7 @@ module _ (g : Story) (ps : List (List ℕ)) (ts : List (List Step)) (lines : Lis
     settles_over : IsSettling lv (over g)
     settles_over r =
         settles_printing (goodbye g r) game_over r
-        (ap (halts IsOver) (closed_around ps ts lines (without_loop (line_dropped (printed (goodbye g r) r)))))
+        (ap (halts halt.Over) (closed_around ps ts lines (without_loop (line_dropped (printed (goodbye g r) r)))))
 
     settles_answered : (p : Prompt) (f : Frame) (go : Bool → Run → Out) → ((a : Bool) → IsSettling lv (go a)) → (line : List ℕ) →
         IsSettling lv (answered g p f go line)
@@ -233,8 +234,8 @@ module _ (g : Story) (ps : List (List ℕ)) (ts : List (List Step)) (lines : Lis
           at_condact None n ih = rw (inside_end g (deeper g lv) lv t e k a (around ps ts lines r) n, inside_end g (deeper g lv) lv t e k a r n) (hn a r)
           at_condact (Some c) n ih =
               rw (inside_condact g (deeper g lv) lv t e k a (around ps ts lines r) c n, inside_condact g (deeper g lv) lv t e k a r c n)
-              (settles_or (nat_lt (length r.read) READ_LIMIT) _ (halts (RunsOut spent.Condacts) (around ps ts lines r)) _
-              (halts (RunsOut spent.Condacts) r)
+              (settles_or (nat_lt (length r.read) READ_LIMIT) _ (halts (halt.Spent spent.Condacts) (around ps ts lines r)) _
+              (halts (halt.Spent spent.Condacts) r)
               (settles_one (record { table = t; entry = e; at = k; acted = a }) hn ih c r) refl)
 
       settles_entries : (t m e : ℕ) → length (table_at g.game t) ≤ e + m → (a : Bool) → IsSettling lv (plain g (deeper g lv) lv t e 0 a)

@@ -10,7 +10,8 @@ use Rattle.paw_effects.specs.declared.act.Prompt.{Prompt}
 use Rattle.paw_effects.specs.declared.act.Prompt.TheVariants as prompt
 use Rattle.paw_reading.specs.declared.places.Frame.{Frame}
 use Rattle.paw_reading.specs.Run.{Run, closed, fits, printed, with_world, line_dropped, is_timeout, is_ignored, heard, taken_phrase}
-use Rattle.paw_reading.specs.Reading.{RunsOut, Redescribes, Restarts, Halts, Out, Left, Waits, Stopped, deeper, table_read, coming_phrase}
+use Rattle.paw_reading.specs.declared.places.Halt.TheVariants as halt
+use Rattle.paw_reading.specs.Reading.{Redescribes, Restarts, Halts, Out, Left, Waits, Stopped, deeper, table_read, coming_phrase}
 use Rattle.paw_reading.specs.GoingOn.{on_path}
 use Rattle.paw_reading.specs.inner.GoingOn.{with_lines, extended}
 use Rattle.paw_reading.specs.Turn.{TurnPhase, AtDescribe, AtTimeFrame, AtPhrase, AtResponse, Ending, WaitsAt, Halted, Unended, saying}
@@ -49,8 +50,8 @@ module _ (g : Story) (lines : List (List ℕ)) where
       Follows m (saying text go r) (saying text more (with_lines lines r))
   saying_follows m text go more r h = by_test (fits r text)
     where
-      by_test : (b : Bool) → Follows m (if b then go (printed text r) else Halted (RunsOut spent.Text) r)
-          (if b then more (with_lines lines (printed text r)) else Halted (RunsOut spent.Text) (with_lines lines r))
+      by_test : (b : Bool) → Follows m (if b then go (printed text r) else Halted (halt.Spent spent.Text) r)
+          (if b then more (with_lines lines (printed text r)) else Halted (halt.Spent spent.Text) (with_lines lines r))
       by_test true k = h k
       by_test false k = refl
 

@@ -31,7 +31,8 @@ use Rattle.paw_effects.proofs.Placed.{IsPlaced, doall_place, referred_placed, re
 use Rattle.paw_reading.specs.declared.places.Frame.{Frame}
 use Rattle.paw_reading.specs.declared.places.OpenLoop.{OpenLoop}
 use Rattle.paw_reading.specs.Run.{Run, closed, fits, printed, with_world, anew, is_ignored, heard, reply, is_yes, is_no, taken_phrase}
-use Rattle.paw_reading.specs.Reading.{IsOver, RunsOut, Restarts, Halts, Out, Left, Waits, Stopped, halts, noted, after_call, at_level}
+use Rattle.paw_reading.specs.declared.places.Halt.TheVariants as halt
+use Rattle.paw_reading.specs.Reading.{Restarts, Halts, Out, Left, Waits, Stopped, halts, noted, after_call, at_level}
 use Rattle.paw_reading.specs.Reading.{again, is_taken, named, taken, turns, loop_of, over, answered, asked, after_test, after_parse}
 use Rattle.paw_reading.specs.Reading.{after_action, carried_out, acts, reads_one, condacts, is_for_now, entries, plain, looped, reads}
 use Rattle.paw_reading.specs.Reading.{called, deeper, rest, table_read, game_over, waits}
@@ -83,7 +84,7 @@ pub record WaitsAbove (g : GameLists) (ts : List ℕ) (u : ℕ) (p : Prompt) (pa
 abbrev pub Held : GameLists → List ℕ → List ℕ → ℕ → Out → Type 0
 Held g left ts u (Left a r) = Sound g left r.world r.turning
 Held g left ts u (Waits p path r) = WaitsAbove g ts u p path r.world r.turning
-Held g left ts u (Stopped (Halts IsOver) r) = (r.turning ≡ None) × ((r.pending ≡ []) × IsPlaced g r.world)
+Held g left ts u (Stopped (Halts halt.Over) r) = (r.turning ≡ None) × ((r.pending ≡ []) × IsPlaced g r.world)
 Held g left ts u (Stopped (Halts _) r) = Unit {0}
 Held g left ts u (Stopped _ r) = Sound g [] r.world r.turning
 
@@ -293,7 +294,7 @@ module _ (g : Story) (v : Valid g.game) (ts : List ℕ) (lv : ℕ) (deep : lengt
         → Sound g.game (ts ++ u ∷ []) d.world r.turning
         → Inside (acts g sub lv f next go d r)
     acts_held f next go c own at hn hg d leads r k =
-        either Inside (fits r d.text) _ (halts (RunsOut spent.Text) r)
+        either Inside (fits r d.text) _ (halts (halt.Spent spent.Text) r)
         (after_action_held f next go c own at hn hg d.act.effect leads (carried_out d (printed d.text r))
         (cancelled g.game (ts ++ u ∷ []) d.world d.act.cancel_loop r.turning k)) tt
 
@@ -317,7 +318,7 @@ module _ (g : Story) (v : Valid g.game) (ts : List ℕ) (lv : ℕ) (deep : lengt
     condacts_held e next hn k [] d a r h = hn a r h
     condacts_held e next hn k (c ∷ cs) d a r h =
         let at = drop_more (condacts_of (entry_at g.game u e)) cs k c d in
-        either Inside (nat_lt (length r.read) READ_LIMIT) _ (halts (RunsOut spent.Condacts) r)
+        either Inside (nat_lt (length r.read) READ_LIMIT) _ (halts (halt.Spent spent.Condacts) r)
         (reads_one_held (record { table = u; entry = e; at = k; acted = a }) next _ c refl at.0 hn (condacts_held e next hn (suc k) cs at.1) r h) tt
 
     entries_held : (e : ℕ) (es : List Entry) → drop e (table_at g.game u) ≡ es → GoesHeld (ts ++ u ∷ []) (entries g sub lv u e es)

@@ -20,7 +20,8 @@ use Rattle.paw_effects.specs.Effects.{Done, effect_of}
 use Rattle.paw_reading.specs.declared.places.Frame.{Frame}
 use Rattle.paw_reading.specs.declared.places.OpenLoop.{OpenLoop}
 use Rattle.paw_reading.specs.Run.{Run, closed, fits, printed, with_world, anew, is_ignored, heard, reply, is_yes, is_no, taken_phrase}
-use Rattle.paw_reading.specs.Reading.{RunsOut, Restarts, Out, Left, Waits, Stopped, halts, noted, after_call, at_level, again}
+use Rattle.paw_reading.specs.declared.places.Halt.TheVariants as halt
+use Rattle.paw_reading.specs.Reading.{Restarts, Out, Left, Waits, Stopped, halts, noted, after_call, at_level, again}
 use Rattle.paw_reading.specs.Reading.{taken, turns, loop_of, over, answered, asked, after_test, after_parse, after_action, carried_out}
 use Rattle.paw_reading.specs.Reading.{acts, reads_one, plain, looped, reads, called, deeper, game_over, printing}
 use Rattle.paw_reading.specs.Reading.{waits}
@@ -62,8 +63,8 @@ either P false x y h k = k
 
 -- what holds after a print, whether its text fits or not
 pub prints : (P : Out → Type 0) (text : List ℕ) (go : Run → Out) (r : Run) → P (go (printed text r)) →
-    P (halts (RunsOut spent.Text) r) → P (printing text go r)
-prints P text go r h k = either P (fits r text) (go (printed text r)) (halts (RunsOut spent.Text) r) h k
+    P (halts (halt.Spent spent.Text) r) → P (printing text go r)
+prints P text go r h k = either P (fits r text) (go (printed text r)) (halts (halt.Spent spent.Text) r) h k
 
 pub open_or_not : (P : Out → Type 0) (next : OpenLoop → Out) (x : Out) (o : Option OpenLoop) → ((l : OpenLoop) → o ≡ Some l → P (next l)) →
     (o ≡ None → P x) → P (option_map_or next o x)
@@ -163,7 +164,7 @@ module _ (g : Story) (sub : ℕ → Run → Out) (lv : ℕ) (calls : CallsKeepin
       Keeps r.turning (acts g sub lv f next go d r)
   acts_keeps f next go hn hg d r =
       let s : Run = carried_out d (printed d.text r) in
-      either (Keeps r.turning) (fits r d.text) _ (halts (RunsOut spent.Text) r)
+      either (Keeps r.turning) (fits r d.text) _ (halts (halt.Spent spent.Text) r)
       (Keeps_from r.turning s.turning _ (cancelled d.act.cancel_loop r.turning) (after_action_keeps f next go hn hg d.act.effect s)) tt
 
   reads_one_keeps : (f : Frame) (next go : Bool → Run → Out) → GoesKeeping next → GoesKeeping go → (c : Condact) (r : Run) →

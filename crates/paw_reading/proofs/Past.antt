@@ -12,7 +12,8 @@ use Rattle.paw_effects.specs.declared.act.Prompt.{Prompt}
 use Rattle.paw_effects.specs.declared.act.Prompt.TheVariants as prompt
 use Rattle.paw_reading.specs.declared.places.Frame.{Frame}
 use Rattle.paw_reading.specs.Run.{Run, Step, closed, fits, printed, with_world, line_dropped, is_timeout, is_ignored, heard, taken_phrase}
-use Rattle.paw_reading.specs.Reading.{RunsOut, Redescribes, Restarts, Halts, Out, Left, Waits, Stopped, rest, table_read, coming_phrase}
+use Rattle.paw_reading.specs.declared.places.Halt.TheVariants as halt
+use Rattle.paw_reading.specs.Reading.{Redescribes, Restarts, Halts, Out, Left, Waits, Stopped, rest, table_read, coming_phrase}
 use Rattle.paw_reading.specs.GoingOn.{on_path}
 use Rattle.paw_reading.specs.inner.GoingOn.{with_lines}
 use Rattle.paw_reading.specs.Turn.{TurnPhase, AtDescribe, AtTimeFrame, AtPhrase, AtResponse, Ending, WaitsAt, Halted, Unended, saying}
@@ -67,8 +68,8 @@ module _ (g : Story) (ps : List (List ℕ)) (ts : List (List Step)) where
   saying_past text go r h = by_test (fits r text)
     where
       by_test : (b : Bool) →
-          (if b then go (with_past ps ts (printed text r)) else Halted (RunsOut spent.Text) (with_past ps ts r))
-          ≡ ending_with_past ps ts (if b then go (printed text r) else Halted (RunsOut spent.Text) r)
+          (if b then go (with_past ps ts (printed text r)) else Halted (halt.Spent spent.Text) (with_past ps ts r))
+          ≡ ending_with_past ps ts (if b then go (printed text r) else Halted (halt.Spent spent.Text) r)
       by_test true = h
       by_test false = refl
 

@@ -20,7 +20,8 @@ use Rattle.paw_effects.proofs.Placed.{IsPlaced, opened_placed}
 use Rattle.paw_reading.specs.declared.places.Frame.{Frame}
 use Rattle.paw_reading.specs.declared.places.OpenLoop.{OpenLoop}
 use Rattle.paw_reading.specs.Run.{Run, Step, closed, fits, printed, with_world, line_dropped, is_timeout, is_ignored, heard, taken_phrase}
-use Rattle.paw_reading.specs.Reading.{IsOver, RunsOut, Redescribes, Restarts, Halts, Out, Left, Waits, Stopped, table_read, coming_phrase}
+use Rattle.paw_reading.specs.declared.places.Halt.TheVariants as halt
+use Rattle.paw_reading.specs.Reading.{Redescribes, Restarts, Halts, Out, Left, Waits, Stopped, table_read, coming_phrase}
 use Rattle.paw_reading.specs.Turn.{TurnPhase, AtDescribe, AtTimeFrame, AtPhrase, AtResponse, Ending, WaitsAt, Halted, reading, on, saying}
 use Rattle.paw_reading.specs.Turn.{described, time_frame_passed, view_text, counted, prompt_text, at_main, after_phrase, refusal_text}
 use Rattle.paw_reading.specs.Turn.{connected, after_left, table_done, turn, phases_left, opening, first_table, goes_on, timeout_text}
@@ -82,7 +83,7 @@ record IsPlacedRightly (g : GameLists) (p : Prompt) (path : List Frame) (r : Run
 
 abbrev StopsPlaced : GameLists → Ending → Type 0
 StopsPlaced g (WaitsAt p path r) = (p ≢ prompt.Over) × IsPlacedRightly g p path r
-StopsPlaced g (Halted IsOver r) = IsPlacedRightly g prompt.Over [] r
+StopsPlaced g (Halted halt.Over r) = IsPlacedRightly g prompt.Over [] r
 StopsPlaced g _ = Unit {0}
 
 module _ (g : Story) (v : Valid g.game) where
@@ -100,7 +101,7 @@ module _ (g : Story) (v : Valid g.game) where
   saying_rightly : (text : List ℕ) (go : Run → Ending) → GoRightly go → GoRightly (saying text go)
   saying_rightly text go h r k =
       let printed_so : IsBetween (printed text r) = record { of = k.of; none = k.none } in
-      either IsRightly (fits r text) _ (Halted (RunsOut spent.Text) r) (h (printed text r) printed_so) tt
+      either IsRightly (fits r text) _ (Halted (halt.Spent spent.Text) r) (h (printed text r) printed_so) tt
 
   module _ (go : TurnPhase → Run → Ending) (goes : (s : TurnPhase) → GoRightly (go s)) where
     connected_rightly : (to : Option ℕ) → GoRightly (λ r. connected g go r to)
@@ -125,7 +126,7 @@ module _ (g : Story) (v : Valid g.game) where
         (rightly.0, record { places = rightly.1; line = some_path g.game k.code path r k.leads })
     table_done_rightly t low (Stopped Redescribes r) k = goes AtDescribe r (between r k)
     table_done_rightly t low (Stopped Restarts r) k = goes AtDescribe r (between r k)
-    table_done_rightly t low (Stopped (Halts IsOver) r) k = record { places = (refl, k.0); line = λ e. k.1.0 }
+    table_done_rightly t low (Stopped (Halts halt.Over) r) k = record { places = (refl, k.0); line = λ e. k.1.0 }
     table_done_rightly t low (Stopped (Halts _) r) k = tt
 
     read_rightly : (t : ℕ) → t ≤ 2 → GoRightly (λ r. table_done g go t (table_read g t r))
@@ -151,7 +152,7 @@ module _ (g : Story) (v : Valid g.game) where
         (record { of = k.of; none = k.none })
     after_phrase_rightly IsNoPhrase r k =
         either IsRightly (fits (line_dropped r) (prompt_text g.game r.world)) _
-        (Halted (RunsOut spent.Text) (line_dropped r))
+        (Halted (halt.Spent spent.Text) (line_dropped r))
         (at_main_rightly (closed (printed (prompt_text g.game r.world) (line_dropped r))) r.events (record { of = k.of; none = k.none }) refl) tt
 
   turn_rightly : (n : ℕ) (s : TurnPhase) → GoRightly (turn g n s)
@@ -203,7 +204,7 @@ stands g valid seed n p path r at k = record {
 
 stop_rightly : (g : Story) (valid : ValidStory g) (seed n : ℕ) (e : Ending) → StopsPlaced g.game e → EndsSound g valid seed n e → StopsRightly g.game e
 stop_rightly g valid seed n (WaitsAt p path r) at k = (at.0, stands g valid seed n p path r at.1 k)
-stop_rightly g valid seed n (Halted IsOver r) at k = stands g valid seed n prompt.Over [] r at k
+stop_rightly g valid seed n (Halted halt.Over r) at k = stands g valid seed n prompt.Over [] r at k
 stop_rightly g valid seed n _ at k = tt
 
 bounded : (g : GameLists) (seed n : ℕ) (r : Run) → IsResting g seed n r → IsBounded seed n r
@@ -216,7 +217,7 @@ bounded g seed n r k = record {
 
 stop_bounded : (g : Story) (valid : ValidStory g) (seed n : ℕ) (e : Ending) → EndsSound g valid seed n e → StopsBounded seed n e
 stop_bounded g valid seed n (WaitsAt p path r) k = bounded g.game seed n r k
-stop_bounded g valid seed n (Halted IsOver r) k = bounded g.game seed n r k
+stop_bounded g valid seed n (Halted halt.Over r) k = bounded g.game seed n r k
 stop_bounded g valid seed n _ k = tt
 
 -- each reading
@@ -260,7 +261,7 @@ apart r = rw (append-nil r.pieces, append-nil r.traces) refl
 placed_past : (g : GameLists) (ps : List (List ℕ)) (ts : List (List Step)) (e : Ending) → StopsRightly g e → StopsRightly g (ending_with_past ps ts e)
 placed_past g ps ts (WaitsAt p path r) k =
     (k.0, record { world = k.1.world; places = k.1.places; line = k.1.line; pending = k.1.pending; earlier = k.1.earlier; piece = k.1.piece; read = k.1.read })
-placed_past g ps ts (Halted IsOver r) k = record {
+placed_past g ps ts (Halted halt.Over r) k = record {
   world = k.world;
   places = k.places;
   line = k.line;

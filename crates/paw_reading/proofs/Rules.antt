@@ -17,7 +17,8 @@ use Rattle.paw_world.specs.World.{flag}
 use Rattle.paw_reading.specs.declared.places.Frame.{Frame}
 use Rattle.paw_reading.specs.declared.places.OpenLoop.{OpenLoop}
 use Rattle.paw_reading.specs.Run.{Run}
-use Rattle.paw_reading.specs.Reading.{RunsOut, CallsTooDeep, Out, Left, Waits, Stopped, halts, within, after_call, at_level, again}
+use Rattle.paw_reading.specs.declared.places.Halt.TheVariants as halt
+use Rattle.paw_reading.specs.Reading.{Out, Left, Waits, Stopped, halts, within, after_call, at_level, again}
 use Rattle.paw_reading.specs.Reading.{reads_one, condacts, is_for_now, entries, inside, plain, looped, called, deeper, rest}
 use Rattle.paw_reading.proofs.Lists.{drop_none, drop_some, drop_more}
 use Rattle.paw_reading.proofs.Keeps.{Keeps, CallsKeeping, at_level_is, looped_closes}
@@ -26,7 +27,7 @@ use Rattle.paw_reading.proofs.Keeps.{Keeps, CallsKeeping, at_level_is, looped_cl
 pub within_budget : (r : Run) (x : Out) → length r.read < READ_LIMIT → within r x ≡ x
 within_budget r x h = let t : nat_lt (length r.read) READ_LIMIT ≡ true = grind (arith, nat_tests) in rw t refl
 
-pub within_none : (r : Run) (x : Out) → READ_LIMIT ≤ length r.read → within r x ≡ halts (RunsOut spent.Condacts) r
+pub within_none : (r : Run) (x : Out) → READ_LIMIT ≤ length r.read → within r x ≡ halts (halt.Spent spent.Condacts) r
 within_none r x h = let t : nat_lt (length r.read) READ_LIMIT ≡ false = grind (arith, nat_tests) in rw t refl
 
 module _ (g : Story) (sub : ℕ → Run → Out) (lv : ℕ) where
@@ -124,7 +125,7 @@ unfolding called
 deeper_rest g lv u r h = let e : 10 - lv ≡ suc (10 - suc lv) = omega arith in rw e refl
 
 -- at the deepest level no table can be called
-pub deeper_none : (g : Story) (lv u : ℕ) (r : Run) → 10 ≤ lv → deeper g lv u r ≡ halts (CallsTooDeep u) r
+pub deeper_none : (g : Story) (lv u : ℕ) (r : Run) → 10 ≤ lv → deeper g lv u r ≡ halts (halt.TooDeep u) r
 unfolding called
 deeper_none g lv u r h = let e : 10 - lv ≡ 0 = omega arith in rw e refl
 

@@ -23,7 +23,8 @@ use Rattle.paw_effects.proofs.EachRow.{effect_kept, condition_kept}
 use Rattle.paw_reading.specs.declared.places.Frame.{Frame}
 use Rattle.paw_reading.specs.declared.places.OpenLoop.{OpenLoop}
 use Rattle.paw_reading.specs.Run.{Run, closed, fits, printed, with_world, line_dropped, anew, is_timeout, is_ignored, heard, reply, is_yes, is_no, taken_phrase}
-use Rattle.paw_reading.specs.Reading.{RunsOut, Restarts, Redescribes, Halts, Out, Left, Waits, Stopped, halts, noted, after_call, at_level}
+use Rattle.paw_reading.specs.declared.places.Halt.TheVariants as halt
+use Rattle.paw_reading.specs.Reading.{Restarts, Redescribes, Halts, Out, Left, Waits, Stopped, halts, noted, after_call, at_level}
 use Rattle.paw_reading.specs.Reading.{again, is_taken, named, taken, turns, loop_of, over, answered, asked, after_test, after_parse}
 use Rattle.paw_reading.specs.Reading.{after_action, carried_out, acts, reads_one, condacts, is_for_now, entries, plain, looped, reads}
 use Rattle.paw_reading.specs.Reading.{called, deeper, rest, table_read, game_over, waits, coming_phrase}
@@ -133,7 +134,7 @@ module _ (g : Story) (never : NeverSaves g.game) (ks : List (Option Position)) w
     acts_keep : (f : Frame) (next go : Bool → Run → Out) → GoesKeeping next → GoesKeeping go → (d : Done) (r : Run) → Is r → AreKept ks d.world →
         Keeps (acts g sub lv f next go d r)
     acts_keep f next go hn hg d r k h =
-        either Keeps (fits r d.text) _ (halts (RunsOut spent.Text) r)
+        either Keeps (fits r d.text) _ (halts (halt.Spent spent.Text) r)
         (after_action_keeps f next go hn hg d.act.effect (carried_out d (printed d.text r)) h) k
 
     reads_one_keeps : (f : Frame) (next go : Bool → Run → Out) → GoesKeeping next → GoesKeeping go → (c : Condact) →
@@ -153,7 +154,7 @@ module _ (g : Story) (never : NeverSaves g.game) (ks : List (Option Position)) w
     condacts_keep t e next hn k [] d a r h = hn a r h
     condacts_keep t e next hn k (c ∷ cs) d a r h =
         let at = drop_more (condacts_of (entry_at g.game t e)) cs k c d in
-        either Keeps (nat_lt (length r.read) READ_LIMIT) _ (halts (RunsOut spent.Condacts) r)
+        either Keeps (nat_lt (length r.read) READ_LIMIT) _ (halts (halt.Spent spent.Condacts) r)
         (reads_one_keeps (record { table = t; entry = e; at = k; acted = a }) next _ hn (condacts_keep t e next hn (suc k) cs at.1) c at.0 r h) h
 
     entries_keep : (t e : ℕ) (es : List Entry) → drop e (table_at g.game t) ≡ es → GoesKeeping (entries g sub lv t e es)
@@ -225,7 +226,7 @@ module _ (g : Story) (never : NeverSaves g.game) (ks : List (Option Position)) w
   GoEnding go = (r : Run) → Is r → Ends (go r)
 
   saying_ends : (text : List ℕ) (go : Run → Ending) → GoEnding go → GoEnding (saying text go)
-  saying_ends text go h r k = either Ends (fits r text) _ (Halted (RunsOut spent.Text) r) (h (printed text r) k) k
+  saying_ends text go h r k = either Ends (fits r text) _ (Halted (halt.Spent spent.Text) r) (h (printed text r) k) k
 
   module _ (go : TurnPhase → Run → Ending) (goes : (s : TurnPhase) → GoEnding (go s)) where
     connected_ends : (to : Option ℕ) → GoEnding (λ r. connected g go r to)
@@ -264,7 +265,7 @@ module _ (g : Story) (never : NeverSaves g.game) (ks : List (Option Position)) w
     after_phrase_ends (IsUnknown rest) r k =
         saying_ends (unknown_text g.game r.world) (go AtTimeFrame) (goes AtTimeFrame) (line_dropped r) k
     after_phrase_ends IsNoPhrase r k =
-        either Ends (fits (line_dropped r) (prompt_text g.game r.world)) _ (Halted (RunsOut spent.Text) (line_dropped r))
+        either Ends (fits (line_dropped r) (prompt_text g.game r.world)) _ (Halted (halt.Spent spent.Text) (line_dropped r))
         (at_main_ends (closed (printed (prompt_text g.game r.world) (line_dropped r))) r.events k) k
 
   turn_ends : (n : ℕ) (s : TurnPhase) → GoEnding (turn g n s)

@@ -34,7 +34,8 @@ use Rattle.paw_reading.specs.declared.places.Frame.{Frame}
 use Rattle.paw_reading.specs.declared.places.OpenLoop.{OpenLoop}
 use Rattle.paw_reading.specs.Run.{Run, closed, fits, printed, with_world, without_loop, line_dropped, anew, is_timeout, is_ignored, heard}
 use Rattle.paw_reading.specs.Run.{with_timeout, reply, is_yes, is_no, spoken, taken_phrase}
-use Rattle.paw_reading.specs.Reading.{IsOver, RunsOut, Redescribes, Restarts, Halts, Out, Left, Waits, Stopped, halts, noted, printing}
+use Rattle.paw_reading.specs.declared.places.Halt.TheVariants as halt
+use Rattle.paw_reading.specs.Reading.{Redescribes, Restarts, Halts, Out, Left, Waits, Stopped, halts, noted, printing}
 use Rattle.paw_reading.specs.Reading.{after_call, at_level, again, is_taken, named, taken, turns, loop_of, over, answered, asked, waits}
 use Rattle.paw_reading.specs.Reading.{after_test, after_parse, after_action, carried_out, acts, reads_one, condacts, is_for_now, entries}
 use Rattle.paw_reading.specs.Reading.{plain, looped, reads, called, deeper, table_read, game_over, coming_phrase}
@@ -101,7 +102,7 @@ module _ (g : Story) (valid : ValidStory g) (seed base : ℕ) where
   abbrev Sounds : Out → Type 0
   Sounds (Left a r) = Is r
   Sounds (Waits p path r) = Rests r
-  Sounds (Stopped (Halts IsOver) r) = Rests r
+  Sounds (Stopped (Halts halt.Over) r) = Rests r
   Sounds (Stopped (Halts _) r) = Unit {0}
   Sounds (Stopped _ r) = Is r
 
@@ -271,7 +272,7 @@ module _ (g : Story) (valid : ValidStory g) (seed base : ℕ) where
 
   printing_sounds : (text : List ℕ) (go : Run → Out) → ((r : Run) → Is r → Sounds (go r)) → (r : Run) → Is r → Sounds (printing text go r)
   printing_sounds text go h r k =
-      by_test Sounds (fits r text) _ (halts (RunsOut spent.Text) r)
+      by_test Sounds (fits r text) _ (halts (halt.Spent spent.Text) r)
       (λ fit. h (printed text r) (printed_so r text k fit)) tt
 
   over_sounds : (r : Run) → Is r → Sounds (over g r)
@@ -339,7 +340,7 @@ module _ (g : Story) (valid : ValidStory g) (seed base : ℕ) where
         IsWorldAt g.game seed (bound r) d.world →
         Sounds (acts g sub lv f next go d r)
     acts_sound f next go hn hg d r k world =
-        by_test Sounds (fits r d.text) _ (halts (RunsOut spent.Text) r)
+        by_test Sounds (fits r d.text) _ (halts (halt.Spent spent.Text) r)
         (λ fit. after_action_sounds f next go hn hg d.act.effect (carried_out d (printed d.text r))
         (carried_so d (printed d.text r) (printed_so r d.text k fit) world)) tt
 
@@ -363,7 +364,7 @@ module _ (g : Story) (valid : ValidStory g) (seed base : ℕ) where
     unfolding condacts
     condacts_sound t e next hn k [] all a r h = hn a r h
     condacts_sound t e next hn k (c ∷ cs) all a r h =
-        by_test Sounds (nat_lt (length r.read) READ_LIMIT) _ (halts (RunsOut spent.Condacts) r)
+        by_test Sounds (nat_lt (length r.read) READ_LIMIT) _ (halts (halt.Spent spent.Condacts) r)
         (λ few. reads_one_sounds (record { table = t; entry = e; at = k; acted = a }) next _ hn
         (condacts_sound t e next hn (suc k) cs (second_of_and (is_condact g.game c) _ all)) c r
         (first_of_and (is_condact g.game c) _ all) (ltb-true (length r.read) READ_LIMIT few) h) tt
@@ -426,7 +427,7 @@ module _ (g : Story) (valid : ValidStory g) (seed base : ℕ) where
 
   abbrev pub EndsSound : Ending → Type 0
   EndsSound (WaitsAt p path r) = Rests r
-  EndsSound (Halted IsOver r) = Rests r
+  EndsSound (Halted halt.Over r) = Rests r
   EndsSound _ = Unit {0}
 
   abbrev TurnsSound : (Run → Ending) → Type 0
@@ -438,7 +439,7 @@ module _ (g : Story) (valid : ValidStory g) (seed base : ℕ) where
 
   saying_sounds : (text : List ℕ) (go : Run → Ending) → TurnsSound go → TurnsSound (saying text go)
   saying_sounds text go h r k =
-      one_of (fits r text) _ (Halted (RunsOut spent.Text) r) (λ fit. h (printed text r) (printed_so r text k fit)) tt
+      one_of (fits r text) _ (Halted (halt.Spent spent.Text) r) (λ fit. h (printed text r) (printed_so r text k fit)) tt
 
   fallen_so : (n f : ℕ) (w : World) → IsWorldAt g.game seed n w → IsWorldAt g.game seed n (fallen f w)
   fallen_so n f w k = flagged g.game v seed n w k f (flag w f - 1) (omega (arith, flag_small g.game v seed n w k f))
@@ -491,7 +492,7 @@ module _ (g : Story) (valid : ValidStory g) (seed base : ℕ) where
     table_done_sounds t (Waits p path r) k = k
     table_done_sounds t (Stopped Redescribes r) k = goes AtDescribe r k
     table_done_sounds t (Stopped Restarts r) k = goes AtDescribe r k
-    table_done_sounds t (Stopped (Halts IsOver) r) k = k
+    table_done_sounds t (Stopped (Halts halt.Over) r) k = k
     table_done_sounds t (Stopped (Halts _) r) k = tt
 
     read_sounds : (t : ℕ) → TurnsSound (λ r. table_done g go t (table_read g t r))

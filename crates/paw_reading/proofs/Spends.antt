@@ -20,7 +20,8 @@ use Rattle.paw_effects.specs.Effects.{Done, effect_of}
 use Rattle.paw_reading.specs.declared.places.Frame.{Frame}
 use Rattle.paw_reading.specs.declared.places.OpenLoop.{OpenLoop}
 use Rattle.paw_reading.specs.Run.{Run, closed, fits, printed, with_world, anew, is_ignored, heard, reply, is_yes, is_no, taken_phrase}
-use Rattle.paw_reading.specs.Reading.{RunsOut, Restarts, Halts, Out, Left, Waits, Stopped, halts, noted, after_call, at_level, again}
+use Rattle.paw_reading.specs.declared.places.Halt.TheVariants as halt
+use Rattle.paw_reading.specs.Reading.{Restarts, Halts, Out, Left, Waits, Stopped, halts, noted, after_call, at_level, again}
 use Rattle.paw_reading.specs.Reading.{is_taken, taken, turns, loop_of, over, answered, asked, after_test, after_parse, after_action}
 use Rattle.paw_reading.specs.Reading.{carried_out, acts, reads_one, plain, looped, reads, called, deeper, rest, table_read, coming_phrase}
 use Rattle.paw_reading.specs.Reading.{game_over, waits}
@@ -154,7 +155,7 @@ module _ (g : Story) (sub : ℕ → Run → Out) (lv : ℕ) (calls : CallsSpendi
   acts_spend f next go hn hg d r =
       let s : Run = carried_out d (printed d.text r) in
       let less : length s.pending ≤ length r.pending = dropped_less d.act.drop_line r.pending in
-      either (Spends (suc (left_to_read r))) (fits r d.text) _ (halts (RunsOut spent.Text) r)
+      either (Spends (suc (left_to_read r))) (fits r d.text) _ (halts (halt.Spent spent.Text) r)
       (Spends_up (suc (left_to_read s)) _ (omega (arith, less)) _ (after_action_spends f next go hn hg d.act.effect s)) tt
 
   reads_one_spends : (f : Frame) (next go : Bool → Run → Out) → AreSpending next → AreSpending go → (c : Condact) (r : Run) → length r.read < READ_LIMIT →

@@ -19,7 +19,8 @@ use Rattle.paw_effects.proofs.EachRow.{effect_asks}
 use Rattle.paw_reading.specs.declared.places.Frame.{Frame}
 use Rattle.paw_reading.specs.declared.places.OpenLoop.{OpenLoop}
 use Rattle.paw_reading.specs.Run.{Run, closed, fits, printed, with_world, anew, is_ignored, heard, reply, is_yes, is_no, taken_phrase}
-use Rattle.paw_reading.specs.Reading.{RunsOut, Restarts, Out, Left, Waits, Stopped, halts, noted, after_call, at_level, again, is_taken}
+use Rattle.paw_reading.specs.declared.places.Halt.TheVariants as halt
+use Rattle.paw_reading.specs.Reading.{Restarts, Out, Left, Waits, Stopped, halts, noted, after_call, at_level, again, is_taken}
 use Rattle.paw_reading.specs.Reading.{taken, turns, loop_of, over, answered, asked, after_test, after_parse, after_action, carried_out}
 use Rattle.paw_reading.specs.Reading.{acts, reads_one, plain, looped, reads, called, deeper, rest, table_read, game_over}
 use Rattle.paw_reading.specs.Reading.{waits}
@@ -135,7 +136,7 @@ module _ (t : ℕ) where
         AsksInner d.act.effect → (r : Run) → IsLoopOf t r.turning
         → Stays t lv (acts g sub lv f next go d r)
     acts_stays f next go own hn hg d asks r k =
-        either (Stays t lv) (fits r d.text) _ (halts (RunsOut spent.Text) r)
+        either (Stays t lv) (fits r d.text) _ (halts (halt.Spent spent.Text) r)
         (after_action_stays f next go own hn hg d.act.effect asks (carried_out d (printed d.text r)) (cancelled d.act.cancel_loop r.turning k)) tt
 
     reads_one_stays : (f : Frame) (next go : Bool → Run → Out) → IsOwn lv f.table → GoesStaying lv next → GoesStaying lv go → (c : Condact) (r : Run) →

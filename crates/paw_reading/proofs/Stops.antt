@@ -15,7 +15,8 @@ use Rattle.paw_effects.specs.Effects.{Done, effect_of}
 use Rattle.paw_reading.specs.declared.places.Frame.{Frame}
 use Rattle.paw_reading.specs.declared.places.OpenLoop.{OpenLoop}
 use Rattle.paw_reading.specs.Run.{Run, closed, fits, printed, with_world, anew, is_ignored, heard, reply, is_yes, is_no, taken_phrase}
-use Rattle.paw_reading.specs.Reading.{RunsOut, Restarts, Halts, Out, Left, Waits, Stopped, halts, noted, after_call, at_level, again}
+use Rattle.paw_reading.specs.declared.places.Halt.TheVariants as halt
+use Rattle.paw_reading.specs.Reading.{Restarts, Halts, Out, Left, Waits, Stopped, halts, noted, after_call, at_level, again}
 use Rattle.paw_reading.specs.Reading.{is_taken, taken, turns, loop_of, over, answered, asked, after_test, after_parse, after_action}
 use Rattle.paw_reading.specs.Reading.{carried_out, acts, reads_one, plain, looped, reads, called, deeper, rest, game_over}
 use Rattle.paw_reading.specs.Reading.{waits}
@@ -106,7 +107,7 @@ module _ (g : Story) (sub : ℕ → Run → Out) (lv : ℕ) (calls : CallsStoppi
 
   acts_stop : (f : Frame) (next go : Bool → Run → Out) → AreStopping next → AreStopping go → (d : Done) (r : Run) → Stops (acts g sub lv f next go d r)
   acts_stop f next go hn hg d r =
-      either Stops (fits r d.text) _ (halts (RunsOut spent.Text) r)
+      either Stops (fits r d.text) _ (halts (halt.Spent spent.Text) r)
       (after_action_stops f next go hn hg d.act.effect (carried_out d (printed d.text r))) tt
 
   reads_one_stops : (f : Frame) (next go : Bool → Run → Out) → AreStopping next → AreStopping go → (c : Condact) (r : Run) →

@@ -11,7 +11,6 @@ use Rattle.paw_base.specs.declared.messages.TheConstants.{QUIT_MESSAGE, GOODBYE_
 use Rattle.paw_base.specs.declared.words.TheConstants.{NO_WORD}
 use Rattle.paw_base.specs.declared.parts.Condact.{Condact}
 use Rattle.paw_base.specs.declared.parts.ObjectFacts.{ObjectFacts}
-use Rattle.paw_base.specs.declared.fault.SpentKind.{SpentKind}
 use Rattle.paw_base.specs.declared.fault.SpentKind.TheVariants as spent
 use Rattle.paw_game.specs.declared.parts.Entry.{Entry}
 use Rattle.paw_game.specs.Game.{GameLists}
@@ -30,14 +29,10 @@ use Rattle.paw_effects.specs.Holds.{is_condition, holds}
 use Rattle.paw_effects.specs.Effects.{Done, effect_of, referred}
 use Rattle.paw_reading.specs.declared.places.Frame.{Frame}
 use Rattle.paw_reading.specs.declared.places.OpenLoop.{OpenLoop}
+use Rattle.paw_reading.specs.declared.places.Halt.{Halt}
+use Rattle.paw_reading.specs.declared.places.Halt.TheVariants as halt
 use Rattle.paw_reading.specs.Run.{Run, Step, closed, fits, printed, with_world, without_loop, line_dropped}
 use Rattle.paw_reading.specs.Run.{anew, is_ignored, heard, reply, is_yes, is_no, taken_phrase}
-
--- What ends play for good: the game is over; a piece would read or hold too much; or a call is too deep.
-pub data Halt : Type 0 where
-  IsOver : Halt
-  RunsOut : (kind : SpentKind) → Halt
-  CallsTooDeep : (table : ℕ) → Halt
 
 -- What stops a table, and all that called it: the location is described again; the game starts anew; or play ends for
 -- good.
@@ -57,6 +52,11 @@ pub data Out : Type 0 where
 abbrev pub halts : Halt → Run → Out
 halts halt r = Stopped (Halts halt) r
 
+-- Play ended with its last piece closed, as it does only where the game is over. Otherwise that piece is dropped.
+abbrev pub closes_piece : Halt → Bool
+closes_piece halt.Over = true
+closes_piece _ = false
+
 -- How reading goes on in a table, as a function of whether an action was carried out there so far, and of the run.
 abbrev pub Onward : Type 0
 Onward = Bool → Run → Out
@@ -69,7 +69,7 @@ Called = ℕ → Run → Out
 
 -- Goes on only where the open piece may read one more condact: a piece reads at most 200,000.
 abbrev pub within : Run → Out → Out
-within r x = if nat_lt (length r.read) READ_LIMIT then x else halts (RunsOut spent.Condacts) r
+within r x = if nat_lt (length r.read) READ_LIMIT then x else halts (halt.Spent spent.Condacts) r
 
 -- The step for a condact at this frame: yes, or no for a condition that failed.
 abbrev pub step_at : Frame → Condact → Bool → Step
@@ -81,7 +81,7 @@ noted f c passed r = record r { read = r.read ++ step_at f c passed ∷ [] }
 
 -- Prints the text if the open piece has room for it, and reads on; otherwise play ends.
 abbrev pub printing : Text → (Run → Out) → Run → Out
-printing text go r = if fits r text then go (printed text r) else halts (RunsOut spent.Text) r
+printing text go r = if fits r text then go (printed text r) else halts (halt.Spent spent.Text) r
 
 -- ---- calls ----
 
@@ -145,7 +145,7 @@ loop_of lv f p = record { level = lv; table = f.table; entry = f.entry; at = f.a
 
 -- Play ends because the game is over, with its last piece closed.
 abbrev pub game_over : Run → Out
-game_over r = halts IsOver (closed (without_loop (line_dropped r)))
+game_over r = halts halt.Over (closed (without_loop (line_dropped r)))
 
 -- What follows a no to END's question: the game says goodbye and is over.
 abbrev pub over : Story → Run → Out
@@ -204,7 +204,7 @@ after_action g sub lv f next go (effect.Call u) r = after_call f go (sub u r)
 after_action g sub lv f next go (effect.Loop p) r = turns g lv (loop_of lv f p) (go true) (length g.game.objects) r
 after_action g sub lv f next go (effect.Ask p) r = waits g p f go r
 after_action g sub lv f next go effect.Parse r = after_parse f next go r (coming_phrase g r)
-after_action g sub lv f next go effect.Spent r = halts (RunsOut spent.Text) r
+after_action g sub lv f next go effect.Spent r = halts (halt.Spent spent.Text) r
 
 -- The run after an action: in the world that it leaves, with the line dropped and the loop cancelled where it says so.
 abbrev pub carried_out : Done → Run → Run
@@ -271,7 +271,7 @@ reads g sub lv t e k acted r = again lv (looped g sub lv) (plain g sub lv t e k 
 
 -- Reads a table called from level lv, where n more levels may open; with none left the call is too deep, and play ends.
 unfoldable pub called : Story → ℕ → ℕ → ℕ → Run → Out
-called g zero lv u r = halts (CallsTooDeep u) r
+called g zero lv u r = halts (halt.TooDeep u) r
 called g (suc n) lv u r = reads g (called g n (suc lv)) (suc lv) u 0 0 false r
 
 -- Reads a table called from level lv; levels go from 0 to 10.

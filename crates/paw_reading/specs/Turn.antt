@@ -26,7 +26,9 @@ use Rattle.paw_effects.specs.Texts.{put_text, say_text, location_text}
 use Rattle.paw_reading.specs.declared.places.Frame.{Frame}
 use Rattle.paw_reading.specs.Run.{Run, closed, fits, printed, with_world, line_dropped, is_timeout}
 use Rattle.paw_reading.specs.Run.{is_ignored, heard, with_timeout, taken_phrase}
-use Rattle.paw_reading.specs.Reading.{Halt, IsOver, RunsOut, Halts}
+use Rattle.paw_reading.specs.declared.places.Halt.{Halt}
+use Rattle.paw_reading.specs.declared.places.Halt.TheVariants as halt
+use Rattle.paw_reading.specs.Reading.{Halts}
 use Rattle.paw_reading.specs.Reading.{Out, Left, Waits, Stopped, coming_phrase, table_read}
 use Rattle.paw_reading.specs.GoingOn.{on_path}
 
@@ -51,7 +53,7 @@ Sequel = Run → Ending
 
 -- Prints the text if the open piece has room for it, and the turn goes on; otherwise play ends.
 abbrev pub saying : Text → Sequel → Run → Ending
-saying text go r = if fits r text then go (printed text r) else Halted (RunsOut spent.Text) r
+saying text go r = if fits r text then go (printed text r) else Halted (halt.Spent spent.Text) r
 
 -- The world once a location is described: one flag falls always, one in the dark, and one without light.
 abbrev pub described : World → World
@@ -197,7 +199,7 @@ first_table (f ∷ path) = f.table
 -- that is over stays over. Nothing is printed again, and no piece is closed first.
 abbrev pub goes_on : Story → ℕ → Prompt → List Frame → Run → Ending
 goes_on g n prompt.Main path r = at_main g (turn g n) r r.events
-goes_on g n prompt.Over path r = Halted IsOver r
+goes_on g n prompt.Over path r = Halted halt.Over r
 goes_on g n p path r = table_done g (turn g n) (first_table path) (on_path g p 0 path r)
 
 -- Goes on from a prompt with the run's lines, to the end of the reading.

@@ -1,5 +1,5 @@
 -- A session whose calls don't fail.
-use Rattle.std.proofs.Common.{◌≡◌, ◌≢◌, ◌⊎◌, ℕ, ◌<◌, List, [], ◌∷◌, length, take, refl, sym, ap, ◌∙◌, subst, arith, inl, inr}
+use Rattle.std.proofs.Common.{◌≡◌, ◌≢◌, ◌⊎◌, ℕ, ◌<◌, List, [], ◌∷◌, length, take, Some, refl, sym, ap, ◌∙◌, subst, arith, inl, inr}
 use Rattle.paw_base.specs.Bytes.{zeros}
 use Rattle.paw_game.specs.Game.{GameLists}
 use Rattle.paw_effects.specs.Story.{Story, story_of}
@@ -14,7 +14,8 @@ use Rattle.paw_journal.specs.Journal.{writing_calls}
 use Rattle.paw_journal.specs.declared.refusal.JournalRefusal.{JournalRefusal}
 use Rattle.paw_journal.specs.declared.refusal.JournalRefusal.TheVariants as refusal
 use Rattle.paw_play.specs.Session.{IsOfStory, kept_bytes, story_digests}
-use Rattle.paw_play.specs.Walk.{EndingOf}
+use Rattle.paw_reading.specs.declared.places.Halt.{Halt}
+use Rattle.paw_play.specs.Walk.{end_halt, EndingOf}
 use Rattle.paw_play.specs.Play as session
 use Rattle.paw_play.specs.Play.{ShowsAs, MadeAndPlayed, NewSession, Resumed, PlaysAgain, Refuses, attached_to, store_bytes}
 use Rattle.paw_play.specs.Played.{PlayedSession, ShowsState, begun}
@@ -60,10 +61,22 @@ no_writing c (inl h) = λ q. cc
 no_writing c (inr (inl h)) = λ q. cc
 no_writing c (inr (inr h)) = absurd h
 
+-- a halt ends a walk
+halted_walked : (o : PlayEnd) (halt : Halt) → end_halt o ≡ Some halt → IsWalked (outcome_of o)
+halted_walked end.Ended halt e = tt
+halted_walked (end.Spent kind) halt e = tt
+halted_walked (end.TooDeep table) halt e = tt
+halted_walked end.InputEnded halt e = tt
+halted_walked (end.Occupied n) halt e = cc
+halted_walked (end.Refused r) halt e = cc
+halted_walked (end.State at) halt e = cc
+halted_walked (end.Long events) halt e = tt
+halted_walked (end.Outside c) halt e = cc
+halted_walked end.Memory halt e = tt
+
 plays_in : (s : PlayedSession) (old new : Standing) (o : PlayEnd) → MadeAndPlayed s old new o → IsUnhindered (outcome_of o) → IsWalked (outcome_of o)
 plays_in s old new _ (session.memory e) free = tt
-plays_in s old new _ (session.spent kind r is e) free = tt
-plays_in s old new _ (session.too_deep table r is e) free = tt
+plays_in s old new _ (session.halts o halt r by cut is e) free = halted_walked o halt by
 plays_in s old new _ (session.unmade c w e stays) free = absurd (hindered c (no_writing c w) free)
 plays_in s old new _ (session.plays o p) free = plays_on _ _ old new o p.shows free
 

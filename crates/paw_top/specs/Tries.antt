@@ -1,26 +1,25 @@
 -- How a trial ends, and what it leaves.
-use Rattle.std.specs.Prelude.{◌≡◌, ℕ, List}
-use Rattle.paw_base.specs.declared.fault.SpentKind.{SpentKind}
+use Rattle.std.specs.Prelude.{◌≡◌, ℕ, List, Some}
 use Rattle.paw_stage.specs.Stage.{Standing}
 use Rattle.paw_effects.specs.declared.act.Prompt.{Prompt}
 use Rattle.paw_reading.specs.declared.places.Frame.{Frame}
 use Rattle.paw_reading.specs.Run.{Run}
-use Rattle.paw_reading.specs.Reading.{IsOver, RunsOut, CallsTooDeep}
+use Rattle.paw_reading.specs.declared.places.Halt.{Halt}
 use Rattle.paw_reading.specs.Turn.{WaitsAt, Halted}
 use Rattle.paw_trial.specs.Trial.{trial_reading, trial_text}
+use Rattle.paw_play.specs.Walk.{end_halt}
+use Rattle.paw_play.specs.declared.PlayEnd.{PlayEnd}
+use Rattle.paw_top.specs.Ends.{outcome_of}
 use Rattle.paw_top.specs.Shows.{Shows}
 use Rattle.paw_top.specs.declared.outcome.Outcome.{Outcome}
 use Rattle.paw_top.specs.declared.outcome.Outcome.TheVariants as outcome
 use Rattle.paw_top.specs.declared.outcome.MemoryAt.TheVariants as memory
 
--- How a trial ends, and what it leaves. Where the reading of its game with all its lines waits for another, its line of
--- the world there is shown. Where it ends otherwise, or memory was lacking, nothing is changed.
+-- Where the reading of the trial's game with all its lines waits for another, the line of the world there is shown.
+-- Where it ends for good, or memory was wanting, nothing is changed.
 pub data Tries (n : ℕ) (old new : Standing) : Outcome → Type 0 where
   shows : (o : Outcome) (p : Prompt) (path : List Frame) (r : Run) → trial_reading n ≡ WaitsAt p path r →
       Shows (trial_text n r.world) old new o → Tries n old new o
-  ends : (r : Run) → trial_reading n ≡ Halted IsOver r → new ≡ old → Tries n old new outcome.Ended
-  spent : (kind : SpentKind) (r : Run) → trial_reading n ≡ Halted (RunsOut kind) r → new ≡ old →
-      Tries n old new (outcome.Spent kind)
-  too_deep : (table : ℕ) (r : Run) → trial_reading n ≡ Halted (CallsTooDeep table) r → new ≡ old →
-      Tries n old new (outcome.TooDeep table)
+  halts : (end : PlayEnd) (halt : Halt) (r : Run) → end_halt end ≡ Some halt → trial_reading n ≡ Halted halt r →
+      new ≡ old → Tries n old new (outcome_of end)
   wanting : new ≡ old → Tries n old new (outcome.Memory memory.Trial)

@@ -1,28 +1,32 @@
 -- How playing the two halves of a trial ends.
 use Rattle.std.proofs.Common.{◌≡◌, ℕ, ◌+◌, ◌<◌, ◌≤◌, List, [], ◌++◌, Some, length, drop, refl, sym, ap, ◌∙◌, subst, arith, append-nil}
 use Rattle.std.specs.Prelude.{◌-◌, All}
+use Rattle.std.specs.Option.{option_map_or}
 use Rattle.std.proofs.lemmas.List.{drop_all}
 use Rattle.paw_base.specs.declared.limits.TheConstants.{EVENT_LIMIT}
 use Rattle.paw_stage.specs.Disk.{IsStable}
 use Rattle.paw_stage.specs.inner.Memory.{Memory, empty, standing_of}
 use Rattle.paw_stage.specs.Stage.{Standing, bytes_or_none}
-use Rattle.paw_reading.specs.Turn.{reading}
+use Rattle.paw_reading.specs.declared.places.Halt.{Halt}
+use Rattle.paw_reading.specs.declared.places.Halt.TheVariants as halt
+use Rattle.paw_reading.specs.Run.{Run}
+use Rattle.paw_reading.specs.Turn.{Halted, reading}
 use Rattle.paw_reading.specs.Bounds.{IsLine}
 use Rattle.paw_play.specs.declared.PlayEnd.{PlayEnd}
 use Rattle.paw_play.specs.declared.PlayEnd.TheVariants as play
-use Rattle.paw_play.specs.Walk.{first_lines}
+use Rattle.paw_play.specs.Walk.{end_halt, first_lines, WalkHalts}
 use Rattle.paw_play.specs.Stands.{Stands}
 use Rattle.paw_play.specs.Played.{PlayedSession, begun, from_lines, behind}
 use Rattle.paw_play.specs.Keeping.{KeptBy}
-use Rattle.paw_play.specs.Play.{PlaysOn, MadeAndPlayed, memory, spent, too_deep, unmade, plays, unattached, occupied, plays_in, NewSession, PlaysAgain, GoesOn}
-use Rattle.paw_play.specs.Play.{store_bytes, attached_to}
+use Rattle.paw_play.specs.Play.{PlaysOn, MadeAndPlayed, memory, halts, unmade, plays, unattached, occupied, plays_in, NewSession, PlaysAgain, GoesOn}
+use Rattle.paw_play.specs.Play.{store_bytes, attached_to, with_store}
 use Rattle.paw_play.specs.Play as of
 use Rattle.paw_play.proofs.Standing.{begun_stands, later_stands, again_goes_on}
 use Rattle.paw_gen.specs.Trial.{trial_lines}
 use Rattle.paw_trial.specs.declared.TrialEnd.{TrialEnd}
 use Rattle.paw_trial.specs.declared.TrialEnd.TheVariants as end
 use Rattle.paw_trial.specs.Trial.{trial_story, trial_reading}
-use Rattle.paw_trial.specs.inner.Trial.{StopsAs}
+use Rattle.paw_trial.specs.inner.Trial.{trial_end, StopsAs}
 use Rattle.paw_trial.specs.declared.setting.Half.{Half}
 use Rattle.paw_trial.specs.declared.setting.Half.TheVariants as half
 use Rattle.paw_trial.specs.inner.Session.{Waits, first_half, second_half, lines_of, lines_by, IsReadyFor, PlaysHalf, ComesTo, stop_of, store_name}
@@ -46,6 +50,25 @@ pub ready_stable : (h : Half) (n : ℕ) (m : Memory) → IsReadyFor h n m → Is
 ready_stable half.First n m is = subst (λ (x : Memory). IsStable (standing_of x).disk) (sym is) (record { kept = refl; longest = refl; dirty = refl })
 ready_stable half.Second n m holds = holds.stable
 
+-- A trial stops as the reading that has ended so.
+stops_as : (halt : Halt) (r : Run) → StopsAs (trial_end halt) (Halted halt r)
+stops_as halt.Over r = refl
+stops_as (halt.Spent kind) r = refl
+stops_as (halt.TooDeep table) r = refl
+
+-- Where play has ended so a trial stops.
+stop_halted : (o : PlayEnd) (halt : Halt) → end_halt o ≡ Some halt → stop_of o ≡ Some (trial_end halt)
+stop_halted play.Ended halt e = ap (λ x. Some (option_map_or trial_end x end.Memory)) e
+stop_halted (play.Spent kind) halt e = ap (λ x. Some (option_map_or trial_end x end.Memory)) e
+stop_halted (play.TooDeep table) halt e = ap (λ x. Some (option_map_or trial_end x end.Memory)) e
+stop_halted play.InputEnded halt e = cc
+stop_halted (play.Occupied size) halt e = cc
+stop_halted (play.Refused r) halt e = cc
+stop_halted (play.State at) halt e = cc
+stop_halted (play.Long events) halt e = cc
+stop_halted (play.Outside c) halt e = cc
+stop_halted play.Memory halt e = cc
+
 -- Lines are played after others, with more lines after them, by a session of the store whose reading ends as that of
 -- the others and these; what it keeps stands for them.
 module _ (n : ℕ) (es lines rest : List (List ℕ)) (all : (es ++ lines) ++ rest ≡ trial_lines n) (are : All IsLine lines) (s : PlayedSession)
@@ -58,6 +81,13 @@ module _ (n : ℕ) (es lines rest : List (List ℕ)) (all : (es ++ lines) ++ res
   stopped : (stop : TrialEnd) (k : ℕ) → StopsAs stop (s.whole (first_lines k lines)) → StopsAs stop (trial_reading n)
   stopped stop k h = stops_later n (es ++ first_lines k lines) (drop k lines ++ rest) stop
       (taken_and_left es lines rest k are ∙ all) (stops stop (first_lines k lines) h)
+
+  halted : (halt : Halt) (most : ℕ) (old new : Standing) → old.lines ≡ lines → WalkHalts s.whole most (with_store new old) new halt →
+      StopsAs (trial_end halt) (trial_reading n)
+  halted halt most old new is shows =
+      stopped (trial_end halt) shows.0
+      (subst (StopsAs (trial_end halt)) (sym (sym (ap (λ x. s.whole (first_lines shows.0 x)) is) ∙ shows.4.reading))
+      (stops_as halt shows.2))
 
   half_comes : (most : ℕ) (old new : Standing) (o : PlayEnd) → old.lines ≡ lines → PlaysOn s most old new o → ComesTo n (es ++ lines) new (stop_of o)
   half_comes most old new play.InputEnded is p =
@@ -77,14 +107,9 @@ module _ (n : ℕ) (es lines rest : List (List ℕ)) (all : (es ++ lines) ++ res
         stands = subst (Stands (trial_story n) n (es ++ lines))
             (sym (ap bytes_or_none (subst (λ x. new.files x ≡ Some new.disk.bytes) named rests.file))) kept;
       }
-  half_comes most old new play.Ended is p =
-      stopped end.Ended p.shows.0 (subst (StopsAs end.Ended) (sym (sym (ap (λ x. s.whole (first_lines p.shows.0 x)) is) ∙ p.shows.4.reading)) tt)
-  half_comes most old new (play.Spent kind) is p =
-      stopped (end.Spent kind) p.shows.0 (subst (StopsAs (end.Spent kind)) (sym (sym (ap (λ x. s.whole (first_lines p.shows.0 x)) is) ∙ p.shows.4.reading)) refl)
-  half_comes most old new (play.TooDeep table) is p =
-      stopped (end.TooDeep table) p.shows.0
-      (subst (StopsAs (end.TooDeep table))
-      (sym (sym (ap (λ x. s.whole (first_lines p.shows.0 x)) is) ∙ p.shows.4.reading)) refl)
+  half_comes most old new play.Ended is p = halted halt.Over most old new is p.shows
+  half_comes most old new (play.Spent kind) is p = halted (halt.Spent kind) most old new is p.shows
+  half_comes most old new (play.TooDeep table) is p = halted (halt.TooDeep table) most old new is p.shows
   half_comes most old new (play.Occupied size) is p = tt
   half_comes most old new (play.Refused r) is p = tt
   half_comes most old new (play.State at) is p = tt
@@ -97,8 +122,9 @@ module _ (n : ℕ) (es lines rest : List (List ℕ)) (all : (es ++ lines) ++ res
 module _ (n : ℕ) (old new : Standing) (is : old.lines ≡ first_half n) where
   made : (o : PlayEnd) → MadeAndPlayed (begun (trial_story n) n store_name) old new o → ComesTo n (first_half n) new (stop_of o)
   made _ (memory e) = tt
-  made _ (spent kind r e same) = stops_later n [] (trial_lines n) (end.Spent kind) refl (subst (StopsAs (end.Spent kind)) (sym e) refl)
-  made _ (too_deep table r e same) = stops_later n [] (trial_lines n) (end.TooDeep table) refl (subst (StopsAs (end.TooDeep table)) (sym e) refl)
+  made _ (halts o halt r by cut e same) =
+      subst (λ x. ComesTo n (first_half n) new x) (sym (stop_halted o halt by))
+      (stops_later n [] (trial_lines n) (trial_end halt) refl (subst (StopsAs (trial_end halt)) (sym e) (stops_as halt r)))
   made _ (unmade c w e stays) = tt
   made _ (plays o p) =
       half_comes n [] (first_half n) (second_half n) (both_halves n) (first_are n) (begun (trial_story n) n store_name) refl

@@ -1,7 +1,6 @@
 -- A trial that stops before its last line stops as the reading of all lines does.
 use Rattle.std.proofs.Common.{◌≡◌, ℕ, List, ◌++◌, sym, subst}
 use Rattle.paw_effects.specs.Story.{Story}
-use Rattle.paw_reading.specs.Reading.{IsOver, RunsOut, CallsTooDeep}
 use Rattle.paw_reading.specs.Turn.{Ending, WaitsAt, Halted, reading}
 use Rattle.paw_reading.specs.inner.Turn.{followed}
 use Rattle.paw_reading.proofs.Followed.{going_on_is_reading}
@@ -16,9 +15,7 @@ use Rattle.paw_trial.specs.inner.Session.{Waits}
 -- more lines change nothing
 stays : (g : Story) (fs : List (List ℕ)) (stop : TrialEnd) (e : Ending) → StopsAs stop e → StopsAs stop (followed g fs e)
 stays g fs end.Memory e h = tt
-stays g fs end.Ended (Halted IsOver r) h = tt
-stays g fs (end.Spent kind) (Halted (RunsOut found) r) h = h
-stays g fs (end.TooDeep table) (Halted (CallsTooDeep found) r) h = h
+stays g fs stop (Halted halt r) h = h
 stays g fs stop e h = absurd h
 
 pub stops_later : (n : ℕ) (es fs : List (List ℕ)) (stop : TrialEnd) → es ++ fs ≡ trial_lines n → StopsAs stop (reading (trial_story n) n es) →
@@ -30,9 +27,7 @@ stops_later n es fs stop all h =
 -- A reading ends alike from whichever of its pieces it is shown.
 pub stops_since : (n : ℕ) (stop : TrialEnd) (e : Ending) → StopsAs stop (ending_since n e) → StopsAs stop e
 stops_since n end.Memory e h = tt
-stops_since n end.Ended (Halted IsOver r) h = tt
-stops_since n (end.Spent kind) (Halted (RunsOut found) r) h = h
-stops_since n (end.TooDeep table) (Halted (CallsTooDeep found) r) h = h
+stops_since n stop (Halted halt r) h = h
 stops_since n stop e h = absurd h
 
 pub waits_since : (n : ℕ) (e : Ending) → Waits (ending_since n e) → Waits e

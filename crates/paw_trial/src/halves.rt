@@ -6,13 +6,13 @@ ghost use Rattle.paw_stage.specs.inner.Memory.{empty, standing_of};
 ghost use Rattle.paw_routines.specs.Routines.{AreRowsOf};
 ghost use Rattle.paw_trial.specs.inner.Session.{lines_by, IsReadyFor, PlaysHalf, ComesTo, stop_of};
 
-use crate::TrialEnd;
 use crate::setting::{Half, Setting};
+use crate::{TrialEnd, end_of};
 use paw_base::fault::NoRoom;
 use paw_game::parts::Text;
-use paw_play::PlayEnd;
 use paw_play::play::play_loop;
 use paw_play::resume::resume_loop;
+use paw_play::{PlayEnd, halt_of};
 use paw_routines::routines::Routines;
 use paw_stage::MemoryStage;
 use std::alloc::Global;
@@ -47,17 +47,10 @@ fn add_lines(alloc: Global, stage: &mut MemoryStage, lines: &[Text]) -> Result<(
 fn stop_of(end: PlayEnd) -> Option<TrialEnd>
     ensures value { result ≡ stop_of end }
 {
-    match end {
-        PlayEnd::InputEnded => None,
-        PlayEnd::Ended => Some(TrialEnd::Ended),
-        PlayEnd::Spent(kind) => Some(TrialEnd::Spent(kind)),
-        PlayEnd::TooDeep { table } => Some(TrialEnd::TooDeep { table }),
-        PlayEnd::Occupied { .. }
-        | PlayEnd::Refused(_)
-        | PlayEnd::State { .. }
-        | PlayEnd::Long { .. }
-        | PlayEnd::Outside(_)
-        | PlayEnd::Memory => Some(TrialEnd::Memory),
+    match halt_of(end) {
+        Some(halt) => Some(end_of(halt)),
+        None if end == PlayEnd::InputEnded => None,
+        None => Some(TrialEnd::Memory),
     }
 }
 

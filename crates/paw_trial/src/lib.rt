@@ -1,6 +1,9 @@
 //! Trials: a large game is made from a number, played half way, stopped and resumed, and summed up in one line.
 #![tactic(auto)]
 
+ghost use Rattle.std.specs.Prelude.{◌≡◌};
+ghost use Rattle.paw_trial.specs.inner.Trial.{trial_end};
+
 mod counting;
 mod halves;
 mod setting;
@@ -9,6 +12,7 @@ mod tests;
 mod trial;
 
 use paw_base::fault::SpentKind;
+use paw_reading::places::Halt;
 pub use trial::trial_line;
 
 /// Why a trial shows no line. Ended: the game is over. Spent: a piece would read or hold too much. TooDeep: a table was
@@ -19,6 +23,17 @@ pub enum TrialEnd {
     Spent(SpentKind),
     TooDeep { table: u8 },
     Memory,
+}
+
+/// The end of a trial that this halt is.
+pub(crate) fn end_of(halt: Halt) -> TrialEnd
+    ensures value { result ≡ trial_end halt }
+{
+    match halt {
+        Halt::Over => TrialEnd::Ended,
+        Halt::Spent(kind) => TrialEnd::Spent(kind),
+        Halt::TooDeep { table } => TrialEnd::TooDeep { table },
+    }
 }
 
 /// What a session counts: its turns, the player's location, and how many objects they carry.

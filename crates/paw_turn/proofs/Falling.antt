@@ -56,9 +56,7 @@ leaves_by g (turned.Left acted) fs first r x old new comes e f spends =
     let h : left_to_read r ≤ left_to_read first = subst (Spends (left_to_read first)) comes spends in omega arith
 leaves_by g turned.Redescribe fs first r x old new comes e f spends =
     let h : left_to_read r < left_to_read first = subst (Spends (left_to_read first)) comes spends in omega arith
-leaves_by g (turned.Waits p) fs first r x old new comes e f spends = tt
-leaves_by g (turned.Spent kind) fs first r x old new comes e f spends = tt
-leaves_by g (turned.TooDeep u) fs first r x old new comes e f spends = tt
+leaves_by g turned fs first r x old new comes e f spends = tt
 
 pub uses : (g : Story) (t : ℕ) (old mid : Turn) (turned : Turned) → HasReadSome old.machine → RunsAs g (from_table g t old) old turned mid → Uses turned old mid
 uses g t old mid turned budget runs =
@@ -85,6 +83,4 @@ table_falls t (turned.Left acted) old mid new n used falls = falls_up _ _ n new 
 table_falls t turned.Redescribe old mid new n used falls =
     subst (λ (m : Next). Falls (4 * left_of old + table_rank t) m new) (sym falls.0)
     (subst (λ (h : Turn). work phase.Describe h < 4 * left_of old + table_rank t) (sym falls.1) (omega (arith, used.leaves, table_rank_low t)))
-table_falls t (turned.Waits p) old mid new n used falls = falls _
-table_falls t (turned.Spent kind) old mid new n used falls = falls _
-table_falls t (turned.TooDeep u) old mid new n used falls = falls _
+table_falls t turned old mid new n used falls = falls _

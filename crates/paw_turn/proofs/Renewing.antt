@@ -15,7 +15,8 @@ use Rattle.paw_effects.specs.Texts.{say_text}
 use Rattle.paw_reading.specs.declared.places.Frame.{Frame}
 use Rattle.paw_reading.specs.declared.places.OpenLoop.{OpenLoop}
 use Rattle.paw_reading.specs.Run.{Run, closed, fits, printed, without_loop, line_dropped, anew, is_timeout, is_ignored, heard, with_timeout, reply, is_no}
-use Rattle.paw_reading.specs.Reading.{IsOver, RunsOut, Restarts, Out, Stopped, halts, after_call, again, asked, looped, deeper, rest}
+use Rattle.paw_reading.specs.declared.places.Halt.TheVariants as halt
+use Rattle.paw_reading.specs.Reading.{Restarts, Out, Stopped, halts, after_call, again, asked, looped, deeper, rest}
 use Rattle.paw_reading.specs.GoingOn.{on_path}
 use Rattle.paw_reading.specs.Turn.{Ending, Halted, AtDescribe, TurnPhase, table_done, turn, first_table}
 use Rattle.paw_process.specs.inner.Meaning.{to_come}
@@ -30,7 +31,7 @@ use Rattle.paw_turn.specs.inner.Phases.{Past, run_from, run_now, PlaysAs, from_p
 -- at no the game is over or the piece is spent, and else it starts anew
 abbrev final : Bool → Bool → Run → Run → Run → Out
 final declines fit e s d =
-    if declines then (if fit then halts IsOver e else halts (RunsOut spent.Text) s) else Stopped Restarts d
+    if declines then (if fit then halts halt.Over e else halts (halt.Spent spent.Text) s) else Stopped Restarts d
 
 -- the answer, once it is heard
 abbrev answer_of : Story → List ℕ → Run → Out
@@ -76,11 +77,11 @@ final_restarts : (g : Story) (go : TurnPhase → Run → Ending) (t : ℕ) (decl
 final_restarts g go t declines fit e s d is = rw is refl
 
 final_ends : (g : Story) (go : TurnPhase → Run → Ending) (t : ℕ) (declines fit : Bool) (e s d : Run) → declines ≡ true →
-    fit ≡ true → table_done g go t (final declines fit e s d) ≡ Halted IsOver e
+    fit ≡ true → table_done g go t (final declines fit e s d) ≡ Halted halt.Over e
 final_ends g go t declines fit e s d is fitting = rw (is, fitting) refl
 
 final_spends : (g : Story) (go : TurnPhase → Run → Ending) (t : ℕ) (declines fit : Bool) (e s d : Run) → declines ≡ true →
-    fit ≡ false → table_done g go t (final declines fit e s d) ≡ Halted (RunsOut spent.Text) s
+    fit ≡ false → table_done g go t (final declines fit e s d) ≡ Halted (halt.Spent spent.Text) s
 final_spends g go t declines fit e s d is fitting = rw (is, fitting) refl
 
 -- at any answer but no the game starts anew
@@ -122,7 +123,7 @@ again_ends g old new line w some hears declines world fit piece stays bytes earl
         λ n lines. (
           n,
           again_is g old line some hears n past lines ∙ (final_ends g (turn g n) _ _ _ _ _ _ declines t
-              ∙ ap (Halted IsOver) (held_is past lines (with_timeout (is_timeout line) old.situation.world) (old.situation.piece ++ text)
+              ∙ ap (Halted halt.Over) (held_is past lines (with_timeout (is_timeout line) old.situation.world) (old.situation.piece ++ text)
               new.situation.world new.situation.pending.bytes new.situation.pending.earlier new.machine.turning new.situation.piece
               world' bytes earlier turning piece')),
         ),

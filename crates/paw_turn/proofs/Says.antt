@@ -4,7 +4,7 @@ use Rattle.std.specs.Prelude.{nat_le}
 use Rattle.std.proofs.lemmas.Bool.Decides.{nat_tests}
 use Rattle.paw_base.specs.declared.fault.SpentKind.TheVariants as spent
 use Rattle.paw_reading.specs.Run.{Run, printed}
-use Rattle.paw_reading.specs.Reading.{RunsOut}
+use Rattle.paw_reading.specs.declared.places.Halt.TheVariants as halt
 use Rattle.paw_reading.specs.Turn.{Ending, Halted, saying}
 
 -- a text that fits is printed
@@ -13,5 +13,5 @@ said text go r h = let t : nat_le (length r.current + length text) 65535 ≡ tru
 
 -- at one that doesn't the piece is spent
 pub unsaid : (text : List ℕ) (go : Run → Ending) (r : Run) → 65535 < length r.current + length text →
-    saying text go r ≡ Halted (RunsOut spent.Text) r
+    saying text go r ≡ Halted (halt.Spent spent.Text) r
 unsaid text go r h = let t : nat_le (length r.current + length text) 65535 ≡ false = grind (arith, nat_tests) in rw t refl

@@ -110,8 +110,7 @@ step_again (step.Waits prompt.Again) m stands standing = refl
 step_again (step.Waits prompt.Key) m stands standing = refl
 step_again (step.Waits prompt.Over) m stands standing = absurd stands
 step_again step.Ended m stands standing = refl
-step_again (step.Spent kind) m stands standing = absurd standing
-step_again (step.TooDeep u) m stands standing = absurd standing
+step_again s m stands standing = absurd standing
 
 machine_stands : (s : Step) (m : OpenTables) → StandsClosed s m → IsStanding s → MachineStandsAt (prompt_at s) m
 machine_stands (step.Waits prompt.Main) m stands standing = stands
@@ -120,8 +119,7 @@ machine_stands (step.Waits prompt.Again) m stands standing = stands.tables
 machine_stands (step.Waits prompt.Key) m stands standing = stands.tables
 machine_stands (step.Waits prompt.Over) m stands standing = absurd stands
 machine_stands step.Ended m stands standing = stands
-machine_stands (step.Spent kind) m stands standing = absurd standing
-machine_stands (step.TooDeep u) m stands standing = absurd standing
+machine_stands s m stands standing = absurd standing
 
 module _ {F : Type 0} (p : Seat F) (seated : IsSeated p) (standing : IsStanding p.last) where
   -- its parts fit its game

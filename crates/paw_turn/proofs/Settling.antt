@@ -8,7 +8,8 @@ use Rattle.paw_effects.specs.declared.act.Prompt.{Prompt}
 use Rattle.paw_effects.specs.inner.Opening.{opening_world}
 use Rattle.paw_reading.specs.declared.places.OpenLoop.{OpenLoop}
 use Rattle.paw_reading.specs.Run.{Run, Step as Read, closed}
-use Rattle.paw_reading.specs.Reading.{Halt, RunsOut, CallsTooDeep}
+use Rattle.paw_reading.specs.declared.places.Halt.{Halt}
+use Rattle.paw_reading.specs.declared.places.Halt.TheVariants as halt
 use Rattle.paw_reading.specs.Turn.{Ending, Unended, AtDescribe, turns_from, phases_left, opening, reading, on}
 use Rattle.paw_reading.proofs.Ends.{ends_once, going_on_ends, goes_on_once}
 use Rattle.paw_process.specs.inner.OpenTables.{OpenTables}
@@ -66,9 +67,9 @@ settles g routines whole total once step.Ended last new past has stops = (
   ),
 )
 settles g routines whole total once (step.Spent kind) last new past has stops =
-    halts whole total once (RunsOut kind) (seat_of g.game routines (turn_settled (step.Spent kind) new) last) new past refl stops
+    halts whole total once (halt.Spent kind) (seat_of g.game routines (turn_settled (step.Spent kind) new) last) new past refl stops
 settles g routines whole total once (step.TooDeep u) last new past has stops =
-    halts whole total once (CallsTooDeep u) (seat_of g.game routines (turn_settled (step.TooDeep u) new) last) new past refl stops
+    halts whole total once (halt.TooDeep u) (seat_of g.game routines (turn_settled (step.TooDeep u) new) last) new past refl stops
 
 -- the past of a player with these pieces, at the start of a piece
 abbrev before : List (List ℕ) → List (List Read) → Past

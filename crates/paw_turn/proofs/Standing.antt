@@ -90,8 +90,7 @@ stands_at g whole (step.Waits q) p pieces traces stands plays rightly standing =
 stands_at g whole step.Ended p pieces traces closed plays rightly standing =
     let at = subst (StopsRightly g.game) (plays.1.1 []) rightly in
     stands_over g.game p.world p.machine p.pending (pieces ++ p.piece ∷ []) (traces ++ plays.0 ∷ []) closed at
-stands_at g whole (step.Spent kind) p pieces traces closed plays rightly standing = absurd standing
-stands_at g whole (step.TooDeep u) p pieces traces closed plays rightly standing = absurd standing
+stands_at g whole s p pieces traces closed plays rightly standing = absurd standing
 
 -- a player that was started
 pub started : {F : Type 0} (g : Story) (seed : ℕ) (s : Step) (p : Seat F) → ValidStory g → StandsClosed s p.machine → PlaysTo g (reading g seed) s p [] []

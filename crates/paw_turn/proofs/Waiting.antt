@@ -33,8 +33,6 @@ waits_in prompt.Over t m waits there = there.inner
 pub stops_in : (g : Story) (t : ℕ) (x : Past → List (List ℕ) → Out) (old mid : Turn) (turned : Turned) → HasReadSome old.machine
     → ((past : Past) (p : Prompt) (path : List Frame) (s : Run) → x past [] ≡ Waits p path s → WaitsThere t 0 p path s.turning)
     → RunsAs g x old turned mid → IsStopped turned mid.machine → StopsInTable t turned mid.machine
-stops_in g t x old mid (turned.Left acted) budget there runs stopped = stopped
-stops_in g t x old mid turned.Redescribe budget there runs stopped = stopped
 stops_in g t x old mid (turned.Waits p) budget there runs stopped =
     let some = some_past old budget in
     let run = runs some.0 some.1 in
@@ -42,8 +40,7 @@ stops_in g t x old mid (turned.Waits p) budget there runs stopped =
     let many : 0 < length (reverse mid.machine.frames) = omega (arith, length-reverse mid.machine.frames, stopped.tables.some) in
     waits_in p t mid.machine stopped
     (there some.0 p (reverse mid.machine.frames) r (run.1.1 [] ∙ some_waits g p (reverse mid.machine.frames) r many))
-stops_in g t x old mid (turned.Spent kind) budget there runs stopped = stopped
-stops_in g t x old mid (turned.TooDeep u) budget there runs stopped = stopped
+stops_in g t x old mid turned budget there runs stopped = stopped
 
 pub table_stops : (g : Story) (t : ℕ) (old mid : Turn) (turned : Turned) → HasReadSome old.machine → IsClosed old.machine
     → RunsAs g (from_table g t old) old turned mid → IsStopped turned mid.machine → StopsInTable t turned mid.machine

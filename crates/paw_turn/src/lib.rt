@@ -1,6 +1,9 @@
 //! Turns: a player takes lines one by one, and gives the piece of text that each brings.
 #![tactic(auto)]
 
+ghost use Rattle.std.specs.Prelude.{◌≡◌};
+ghost use Rattle.paw_turn.specs.inner.Player.{step_of, step_halt};
+
 mod flags;
 pub mod laws;
 mod lines;
@@ -12,6 +15,7 @@ mod turn;
 pub use parts::Parts;
 use paw_base::fault::SpentKind;
 use paw_effects::act::Prompt;
+use paw_reading::places::Halt;
 pub use player::Player;
 
 /// How a line ends for a player: it waits at a prompt; the game is over; the piece would read or hold too much; or a
@@ -22,4 +26,27 @@ pub enum Step {
     Ended,
     Spent(SpentKind),
     TooDeep { table: u8 },
+}
+
+/// The step of a player whose play this halt has ended.
+pub(crate) fn step_of(halt: Halt) -> Step
+    ensures value { result ≡ step_of halt }
+{
+    match halt {
+        Halt::Over => Step::Ended,
+        Halt::Spent(kind) => Step::Spent(kind),
+        Halt::TooDeep { table } => Step::TooDeep { table },
+    }
+}
+
+/// The halt that this step is. None where the player waits for a line.
+pub fn halt_of(step: Step) -> Option<Halt>
+    ensures value { result ≡ step_halt step }
+{
+    match step {
+        Step::Waits(_) => None,
+        Step::Ended => Some(Halt::Over),
+        Step::Spent(kind) => Some(Halt::Spent(kind)),
+        Step::TooDeep { table } => Some(Halt::TooDeep { table }),
+    }
 }

@@ -16,7 +16,7 @@ ghost use Rattle.paw_turn.specs.inner.Phases.{PlaysAs, RunsAs, from_prompt, from
 ghost use Rattle.paw_turn.specs.inner.Phases.{MayHear, MayAnswer, Stays, KeepsGame, StopsInTable};
 
 use crate::phase::{Next, Phase};
-use crate::turn::{Rulebook, Turn, or_spent};
+use crate::turn::{Rulebook, Turn, halting, or_spent};
 use crate::{Step, flags};
 use paw_base::flags::TIMEOUT_FLAG;
 use paw_base::messages::{GOODBYE_MESSAGE, TIMEOUT_MESSAGE};
@@ -24,6 +24,7 @@ use paw_effects::act::Prompt;
 use paw_effects::text::say;
 use paw_game::tables::Tables;
 use paw_process::Turned;
+use paw_reading::places::Halt;
 use paw_world::world::World;
 
 /// Whether a line is ~, which stands for a timeout.
@@ -105,7 +106,7 @@ impl Turn {
             &mut self.situation.piece,
             GOODBYE_MESSAGE,
         );
-        or_spent(said, Next::Stop(Step::Ended))
+        or_spent(said, halting(Halt::Over))
     }
 }
 

@@ -24,10 +24,10 @@ ghost use Rattle.paw_turn.specs.inner.Phases.{ReadsTurn, Plays, MovesAfter};
 ghost use Rattle.paw_turn.specs.inner.Phases.{IsPlayable, MayGoOn, MayRead, Stays, KeepsGame};
 ghost use Rattle.paw_turn.specs.inner.Phases.{StopsInTable};
 ghost use Rattle.paw_turn.specs.inner.Phases.{with_piece, left_of, work, Falls};
-ghost use Rattle.paw_turn.specs.inner.Phases.{or_spent, table_rank, FallsAfter, RunsAs, from_table, Uses};
+ghost use Rattle.paw_turn.specs.inner.Phases.{halting, or_spent, table_rank, FallsAfter, RunsAs, from_table, Uses};
 
 use crate::phase::{Next, Phase};
-use crate::{Step, flags};
+use crate::{Step, flags, halt_of, step_of};
 use paw_base::fault::SpentKind;
 use paw_base::flags::{LOCATION_FLAG, PROMPT_FLAG, VERB_FLAG};
 use paw_base::messages::{
@@ -42,6 +42,7 @@ use paw_effects::text::{place_text, put, say};
 use paw_game::tables::Tables;
 use paw_phrase::{Found, Pending};
 use paw_process::{Machine, Situation, Turned, take_phrase};
+use paw_reading::places::Halt;
 use paw_routines::routines::Routines;
 use paw_world::world::World;
 
@@ -59,6 +60,13 @@ pub(crate) struct Rulebook<'a, T: Tables, F: Fn(u8, u8) -> u8> {
     pub(crate) routines: &'a Routines<F>,
 }
 
+/// Play has ended so, and nothing goes on.
+pub(crate) fn halting(halt: Halt) -> Next
+    ensures value { result ≡ halting halt }
+{
+    Next::Stop(step_of(halt))
+}
+
 /// Goes on this way if the text was shown; otherwise the piece is spent.
 pub(crate) fn or_spent(shown: bool, next: Next) -> Next
     ensures value { result ≡ or_spent shown next }
@@ -66,7 +74,7 @@ pub(crate) fn or_spent(shown: bool, next: Next) -> Next
     if shown {
         next
     } else {
-        Next::Stop(Step::Spent(SpentKind::Text))
+        halting(Halt::Spent(SpentKind::Text))
     }
 }
 
@@ -140,9 +148,9 @@ impl Turn {
     pub(crate) fn settle(&mut self, step: Step)
         ensures value { self.new ≡ turn_settled step self.old }
     {
-        match step {
-            Step::Waits(_) | Step::Ended => {}
-            Step::Spent(_) | Step::TooDeep { .. } => self.situation.piece.clear(),
+        match halt_of(step) {
+            None | Some(Halt::Over) => {}
+            Some(_) => self.situation.piece.clear(),
         }
     }
 
@@ -225,7 +233,7 @@ impl Turn {
         if self.show_prompt(tables) {
             Next::Stop(Step::Waits(Prompt::Main))
         } else {
-            Next::Stop(Step::Spent(SpentKind::Text))
+            halting(Halt::Spent(SpentKind::Text))
         }
     }
 
@@ -301,8 +309,8 @@ impl Turn {
             Turned::Left(acted) => self.after_left(tables, table, acted),
             Turned::Redescribe => Next::Go(Phase::Describe),
             Turned::Waits(prompt) => Next::Stop(Step::Waits(prompt)),
-            Turned::Spent(kind) => Next::Stop(Step::Spent(kind)),
-            Turned::TooDeep { table } => Next::Stop(Step::TooDeep { table }),
+            Turned::Spent(kind) => halting(Halt::Spent(kind)),
+            Turned::TooDeep { table } => halting(Halt::TooDeep { table }),
         }
     }
 
@@ -373,7 +381,7 @@ impl<T: Tables, F: Fn(u8, u8) -> u8> Rulebook<'_, T, F> {
         if held.show_view(self.tables) {
             self.read_table(held, DESCRIBED_TABLE)
         } else {
-            Next::Stop(Step::Spent(SpentKind::Text))
+            halting(Halt::Spent(SpentKind::Text))
         }
     }
 

@@ -8,7 +8,8 @@ use Rattle.paw_effects.specs.Story.{Story}
 use Rattle.paw_effects.specs.inner.Standing.{IsWorldOf}
 use Rattle.paw_reading.specs.Bounds.{IsLine, ValidStory}
 use Rattle.paw_reading.specs.Run.{Run}
-use Rattle.paw_reading.specs.Reading.{IsOver, Redescribes, Restarts, Halts, Out, Left, Waits, Stopped, table_read}
+use Rattle.paw_reading.specs.declared.places.Halt.TheVariants as halt
+use Rattle.paw_reading.specs.Reading.{Redescribes, Restarts, Halts, Out, Left, Waits, Stopped, table_read}
 use Rattle.paw_check.specs.Measures.{most_said}
 use Rattle.paw_check.specs.Prints.{most_text}
 use Rattle.paw_check.specs.Costs.{most_cost}
@@ -62,7 +63,7 @@ TableWithin condacts text pending g reads bytes (Stopped Redescribes r) =
     IsReady condacts text pending g r × HasUsed reads bytes r
 TableWithin condacts text pending g reads bytes (Stopped Restarts r) =
     IsReady condacts text 0 g r × HasUsed 0 0 r
-TableWithin condacts text pending g reads bytes (Stopped (Halts IsOver) r) = PiecesWithin condacts text r
+TableWithin condacts text pending g reads bytes (Stopped (Halts halt.Over) r) = PiecesWithin condacts text r
 TableWithin condacts text pending g reads bytes (Stopped (Halts _) r) = ⊥
 
 -- Where no call is too deep, each table of a turn is read within the bound: from a run that has used a part of the open

@@ -1,6 +1,7 @@
 -- What stands on the way, inside a call.
 use Rattle.std.specs.Prelude.{◌≡◌, ◌≢◌, ℕ, suc, ◌+◌, ◌<◌, ◌≤◌, List, [], ◌++◌, length, take}
-use Rattle.std.specs.Prelude.{◌-◌, reverse, Option, Some, None, Result, Ok, Err}
+use Rattle.std.specs.Prelude.{◌-◌, reverse, Option, Some, None, Result, Ok, Err, MatchOption, if◌then◌else◌}
+use Rattle.std.specs.Option.{option_map}
 use Rattle.std.specs.List.{concat}
 use Rattle.std.specs.Fn.{Shared}
 use Rattle.paw_base.specs.declared.limits.TheConstants.{EVENT_LIMIT}
@@ -15,10 +16,11 @@ use Rattle.paw_effects.specs.Story.{Story, story_of}
 use Rattle.paw_effects.specs.declared.act.Prompt.{Prompt}
 use Rattle.paw_effects.specs.declared.act.Prompt.TheVariants as prompt
 use Rattle.paw_reading.specs.Run.{Run, Step as Read}
-use Rattle.paw_reading.specs.Reading.{RunsOut, CallsTooDeep}
+use Rattle.paw_reading.specs.declared.places.Halt.{Halt}
+use Rattle.paw_reading.specs.declared.places.Halt.TheVariants as halt
 use Rattle.paw_reading.specs.Turn.{Halted, reading, on}
-use Rattle.paw_turn.specs.inner.Player.{Seat, run_at, IsSeated, IsNew}
-use Rattle.paw_turn.specs.inner.Parts.{prompt_at}
+use Rattle.paw_turn.specs.inner.Player.{step_of, step_halt, brings_piece, Seat, run_at, IsSeated, IsNew}
+use Rattle.paw_turn.specs.inner.Parts.{prompt_at, IsStanding}
 use Rattle.paw_turn.specs.declared.Step.{Step}
 use Rattle.paw_turn.specs.declared.Step.TheVariants as step
 use Rattle.paw_base.specs.Bytes.{Bytes, Lines, Name, RoutineRows, Seed, Text, Texts, zeros}
@@ -34,7 +36,7 @@ use Rattle.paw_play.specs.declared.PlayEnd.{PlayEnd}
 use Rattle.paw_play.specs.declared.PlayEnd.TheVariants as end
 use Rattle.paw_play.specs.declared.line.Session.{Session}
 use Rattle.paw_play.specs.Session.{kept_bytes}
-use Rattle.paw_play.specs.Walk.{EndingOf, first_lines, text_for, text_before, advanced, Walks}
+use Rattle.paw_play.specs.Walk.{end_halt, EndingOf, first_lines, text_for, text_before, advanced, Walks}
 use Rattle.paw_play.specs.Played.{PlayedSession}
 use Rattle.paw_play.specs.Keeping.{StaysAttached, RestsWith}
 use Rattle.paw_play.specs.Play.{PlaysOn, with_store}
@@ -66,19 +68,15 @@ pub record IsWalking {F : Type 0} (telling : Telling) (g : Story) (whole : Endin
   pub there : n ≤ length old.lines
   pub stands : now ≡ advanced old n (concat (told_pieces telling pieces traces))
 
--- The step brings a piece.
-abbrev pub ShowsPiece : Step → Type 0
-ShowsPiece (step.Waits p) = Unit {0}
-ShowsPiece step.Ended = Unit {0}
-ShowsPiece (step.Spent kind) = ⊥
-ShowsPiece (step.TooDeep table) = ⊥
+-- The end of playing that a halt is.
+abbrev pub end_of_halt : Halt → PlayEnd
+end_of_halt halt.Over = end.Ended
+end_of_halt (halt.Spent kind) = end.Spent kind
+end_of_halt (halt.TooDeep table) = end.TooDeep table
 
 -- How playing ends at a step that brings no piece.
 abbrev pub refusal_of : Step → Option PlayEnd
-refusal_of (step.Waits p) = None
-refusal_of step.Ended = None
-refusal_of (step.Spent kind) = Some (end.Spent kind)
-refusal_of (step.TooDeep table) = Some (end.TooDeep table)
+refusal_of s = if brings_piece s then None else option_map end_of_halt (step_halt s)
 
 -- What showing a step's piece does: it is shown where the player waits or is over, and where it is over no other line
 -- may be asked for; nothing is shown of a piece that is spent or of a call too deep; or a part is shown of a piece that
@@ -86,11 +84,9 @@ refusal_of (step.TooDeep table) = Some (end.TooDeep table)
 abbrev pub Told : Standing → Standing → Text → Step → Option PlayEnd → Type 0
 Told old new piece s None = (p : Prompt) × (s ≡ step.Waits p) × (new ≡ record old { shown = old.shown ++ piece })
 Told old new piece s (Some end.Ended) = (s ≡ step.Ended) × (new ≡ record old { shown = old.shown ++ piece })
-Told old new piece s (Some (end.Spent kind)) = (s ≡ step.Spent kind) × (new ≡ old)
-Told old new piece s (Some (end.TooDeep table)) = (s ≡ step.TooDeep table) × (new ≡ old)
 Told old new piece s (Some (end.Outside call.Show)) =
-    ShowsPiece s × (0 < length piece) × (n : ℕ) × (new ≡ record old { shown = old.shown ++ take n piece })
-Told old new piece s (Some _) = ⊥
+    IsStanding s × (0 < length piece) × (n : ℕ) × (new ≡ record old { shown = old.shown ++ take n piece })
+Told old new piece s (Some o) = MatchOption (end_halt o) ⊥ (λ halt. (s ≡ step_of halt) × (new ≡ old))
 
 -- After n lines the walk is at a prompt, or has ended this way.
 abbrev pub WalksTo : {F : Type 0} → Telling → Story → EndingOf → ℕ → Standing → Standing → Seat F → ℕ →
@@ -128,8 +124,8 @@ pub record IsStore (name : Name) (s : Standing) : Type 0 where
 
 -- How making a new session ends, once its store is attached, and what it leaves.
 abbrev pub BegunAs : PlayedSession → Standing → Standing → PlayEnd → Type 0
-BegunAs s first now (end.Spent kind) = (r : Run) × (s.whole [] ≡ Halted (RunsOut kind) r) × (now ≡ first)
-BegunAs s first now (end.TooDeep table) = (r : Run) × (s.whole [] ≡ Halted (CallsTooDeep table) r) × (now ≡ first)
+BegunAs s first now (end.Spent kind) = (r : Run) × (s.whole [] ≡ Halted (halt.Spent kind) r) × (now ≡ first)
+BegunAs s first now (end.TooDeep table) = (r : Run) × (s.whole [] ≡ Halted (halt.TooDeep table) r) × (now ≡ first)
 BegunAs s first now (end.Outside call.Write) = (now ≡ with_store now first) × StaysAttached s.name first now
 BegunAs s first now (end.Outside call.Sync) = (now ≡ with_store now first) × StaysAttached s.name first now
 BegunAs s first now o = PlaysOn s EVENT_LIMIT first now o

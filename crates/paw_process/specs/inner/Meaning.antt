@@ -1,5 +1,6 @@
 -- What a machine's answers mean in the reading.
 use Rattle.std.specs.Prelude.{◌≡◌, ◌⊎◌, ℕ, Bool, false, List, [], ◌∷◌, ◌++◌, length, reverse}
+use Rattle.std.specs.Prelude.{Option, Some, None, MatchOption}
 use Rattle.std.specs.Fn.{Shared}
 use Rattle.paw_base.specs.Bytes.{Line, Lines, RoutineRows}
 use Rattle.paw_game.specs.Game.{GameLists}
@@ -10,7 +11,9 @@ use Rattle.paw_effects.specs.Story.{Story, story_of}
 use Rattle.paw_effects.specs.declared.act.Prompt.TheVariants as prompt
 use Rattle.paw_reading.specs.declared.places.Frame.{Frame}
 use Rattle.paw_reading.specs.Run.{Run, Step, closed, is_ignored, heard, reply, is_yes}
-use Rattle.paw_reading.specs.Reading.{Halt, RunsOut, CallsTooDeep, Redescribes, Out, Left, Stopped, halts, rest}
+use Rattle.paw_reading.specs.declared.places.Halt.{Halt}
+use Rattle.paw_reading.specs.declared.places.Halt.TheVariants as halt
+use Rattle.paw_reading.specs.Reading.{Redescribes, Out, Left, Stopped, halts, rest}
 use Rattle.paw_reading.specs.GoingOn.{on_path}
 use Rattle.paw_reading.specs.inner.GoingOn.{along}
 use Rattle.paw_process.specs.inner.OpenTables.{OpenTables}
@@ -77,19 +80,24 @@ pub record SamePast (old new : Run) : Type 0 where
   pub traces : new.traces ≡ old.traces
   pub events : new.events ≡ old.events
 
+-- The halt that a stop of the machine is, if it is one.
+abbrev pub turned_halt : Turned → Option Halt
+turned_halt (turned.Spent kind) = Some (halt.Spent kind)
+turned_halt (turned.TooDeep u) = Some (halt.TooDeep u)
+turned_halt _ = None
+
 -- The reading ends for good this way, in a run with the same past; world and piece may then be anything.
 abbrev pub TableHalts : Halt → Run → Out → Type 0
 TableHalts halt r x = (s : Run) × (x ≡ halts halt s) × SamePast r s
 
--- How a reading ends where the machine stopped this way, with these frames and this run: the outermost table was left;
--- the location is described again; the piece is closed, and the run goes on at the prompt along the frames; or the
--- piece is spent or a call too deep.
+-- What a reading comes to, where the machine turned out so, with these frames and this run: the outermost table was
+-- left; the location is described again; the piece is closed, and the run goes on at the prompt along the frames; or
+-- play has ended for good.
 abbrev pub ComesTo : Story → Turned → List Frame → Run → Out → Type 0
 ComesTo g (turned.Left acted) fs r x = x ≡ Left acted r
 ComesTo g turned.Redescribe fs r x = x ≡ Stopped Redescribes r
 ComesTo g (turned.Waits p) fs r x = x ≡ on_path g p 0 (reverse fs) (closed r)
-ComesTo g (turned.Spent kind) fs r x = TableHalts (RunsOut kind) r x
-ComesTo g (turned.TooDeep u) fs r x = TableHalts (CallsTooDeep u) r x
+ComesTo g t fs r x = MatchOption (turned_halt t) ⊥ (λ halt. TableHalts halt r x)
 
 -- Running on from what stood to what stands now: for every run that showed what stood there are further condacts that
 -- were read, of which the machine keeps the steps, so that, whatever lines come, going on ends in the way that is said.
@@ -102,11 +110,8 @@ RunsTo g old t new =
 
 -- After a stop the machine waits, or nothing is open.
 abbrev pub IsStopped : Turned → OpenTables → Type 0
-IsStopped (turned.Left acted) m = IsClosed m
-IsStopped turned.Redescribe m = IsClosed m
 IsStopped (turned.Waits p) m = IsWaiting p m
-IsStopped (turned.Spent kind) m = IsClosed m
-IsStopped (turned.TooDeep u) m = IsClosed m
+IsStopped _ m = IsClosed m
 
 -- ---- answers ----
 

@@ -17,7 +17,7 @@ use Rattle.paw_reading.specs.declared.places.OpenLoop.{OpenLoop}
 use Rattle.paw_reading.specs.Run.{Run}
 use Rattle.paw_reading.specs.Bounds.{IsLine, ValidStory}
 use Rattle.paw_reading.specs.inner.Bounds.{IsBounded}
-use Rattle.paw_reading.specs.Reading.{IsOver}
+use Rattle.paw_reading.specs.declared.places.Halt.TheVariants as halt
 use Rattle.paw_reading.specs.Turn.{Ending, WaitsAt, Halted, reading, first_table, on}
 use Rattle.paw_reading.specs.Places.{waiting_code}
 
@@ -90,7 +90,7 @@ pub record StandsRightly (g : GameLists) (p : Prompt) (path : List Frame) (r : R
 -- A reading that waits, or is over, stands as it may.
 abbrev pub StopsRightly : GameLists → Ending → Type 0
 StopsRightly g (WaitsAt p path r) = (p ≢ prompt.Over) × StandsRightly g p path r
-StopsRightly g (Halted IsOver r) = StandsRightly g prompt.Over [] r
+StopsRightly g (Halted halt.Over r) = StandsRightly g prompt.Over [] r
 StopsRightly g _ = Unit {0}
 
 -- ---- the laws ----
@@ -109,7 +109,7 @@ GoingOnStopsRightly =
 -- A reading that waits, or is over, keeps the bounds.
 abbrev pub StopsBounded : Seed → ℕ → Ending → Type 0
 StopsBounded seed n (WaitsAt p path r) = IsBounded seed n r
-StopsBounded seed n (Halted IsOver r) = IsBounded seed n r
+StopsBounded seed n (Halted halt.Over r) = IsBounded seed n r
 StopsBounded seed n _ = Unit {0}
 
 -- Each reading of a valid story keeps the bounds.

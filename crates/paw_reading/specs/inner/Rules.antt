@@ -21,7 +21,8 @@ use Rattle.paw_reading.specs.declared.places.Frame.{Frame}
 use Rattle.paw_reading.specs.declared.places.OpenLoop.{OpenLoop}
 use Rattle.paw_reading.specs.Run.{Run, closed, fits, printed, with_world, without_loop, anew}
 use Rattle.paw_reading.specs.Run.{is_ignored, heard, reply, is_yes, is_no, taken_phrase}
-use Rattle.paw_reading.specs.Reading.{RunsOut, CallsTooDeep, Redescribes, Restarts, Out, Left, Waits, Stopped}
+use Rattle.paw_reading.specs.declared.places.Halt.TheVariants as halt
+use Rattle.paw_reading.specs.Reading.{Redescribes, Restarts, Out, Left, Waits, Stopped}
 use Rattle.paw_reading.specs.Reading.{halts, noted, after_call, at_level, again, is_taken, taken, turns, loop_of}
 use Rattle.paw_reading.specs.Reading.{over, coming_phrase, after_action, carried_out, frame_at}
 use Rattle.paw_reading.specs.Reading.{is_for_now, inside, plain, looped, deeper, rest}
@@ -128,7 +129,7 @@ pub record ReadsEntries (g : Story) (lv : ℕ) : Type 0 where
 -- entry; QUIT asks its question and waits. An action prints its text and is carried out; then its effect follows.
 pub record ReadsCondacts (g : Story) (lv : ℕ) : Type 0 where
   pub used_up : (f : Frame) (c : Condact) (r : Run) → condact_at g.game f.table f.entry f.at ≡ Some c →
-      READ_LIMIT ≤ length r.read → at_frame g lv f r ≡ halts (RunsOut spent.Condacts) r
+      READ_LIMIT ≤ length r.read → at_frame g lv f r ≡ halts (halt.Spent spent.Condacts) r
   pub holding : (f : Frame) (c : Condact) (r : Run) → IsTested g f c r truth.Yes →
       at_frame g lv f r ≡ past g lv f f.acted (passed g f c r)
   pub failing : (f : Frame) (c : Condact) (r : Run) → IsTested g f c r truth.No →
@@ -136,11 +137,11 @@ pub record ReadsCondacts (g : Story) (lv : ℕ) : Type 0 where
   pub asking : (f : Frame) (c : Condact) (r : Run) → IsTested g f c r truth.Ask → fits r (question g c r) ≡ true →
       at_frame g lv f r ≡ on_path g prompt.Quit lv (f ∷ []) (closed (printed (question g c r) (passed g f c r)))
   pub asking_too_long : (f : Frame) (c : Condact) (r : Run) → IsTested g f c r truth.Ask →
-      fits r (question g c r) ≡ false → at_frame g lv f r ≡ halts (RunsOut spent.Text) (passed g f c r)
+      fits r (question g c r) ≡ false → at_frame g lv f r ≡ halts (halt.Spent spent.Text) (passed g f c r)
   pub acting : (f : Frame) (c : Condact) (r : Run) → IsActing g f c r true →
       at_frame g lv f r ≡ goes g lv f (effect_of g r.world c).act.effect (done g f c r)
   pub acting_too_long : (f : Frame) (c : Condact) (r : Run) → IsActing g f c r false →
-      at_frame g lv f r ≡ halts (RunsOut spent.Text) (noted f c true r)
+      at_frame g lv f r ≡ halts (halt.Spent spent.Text) (noted f c true r)
 
 -- What follows an action: the next condact, with an action carried out; the way out of the table; the description, with
 -- no loop; a table one level deeper, down to level 10; a loop, from its first object on; a prompt, the piece closed; or
@@ -151,7 +152,7 @@ pub record FollowsActions (g : Story) (lv : ℕ) : Type 0 where
   pub redescribe : (f : Frame) (r : Run) → goes g lv f effect.Redescribe r ≡ Stopped Redescribes (without_loop r)
   pub call : (f : Frame) (u : ℕ) (r : Run) → lv < LEVEL_LIMIT →
       goes g lv f (effect.Call u) r ≡ after_call f (past g lv f) (rest g (suc lv) u 0 0 false r)
-  pub deep : (f : Frame) (u : ℕ) (r : Run) → LEVEL_LIMIT ≤ lv → goes g lv f (effect.Call u) r ≡ halts (CallsTooDeep u) r
+  pub deep : (f : Frame) (u : ℕ) (r : Run) → LEVEL_LIMIT ≤ lv → goes g lv f (effect.Call u) r ≡ halts (halt.TooDeep u) r
   pub loop : (f : Frame) (p : ℕ) (r : Run) → goes g lv f (effect.Loop p) r ≡ looks g lv (loop_of lv f p) 0 r
   pub ask : (f : Frame) (p : Prompt) (r : Run) → goes g lv f (effect.Ask p) r ≡ on_path g p lv (f ∷ []) (closed r)
   pub sentence : (f : Frame) (s : Sentence) (bytes : Bytes) (r : Run) → coming_phrase g r ≡ IsSentence s bytes →
@@ -160,7 +161,7 @@ pub record FollowsActions (g : Story) (lv : ℕ) : Type 0 where
       goes g lv f effect.Parse r ≡ past g lv f f.acted (record r { pending = bytes })
   pub no_phrase : (f : Frame) (r : Run) → coming_phrase g r ≡ IsNoPhrase →
       goes g lv f effect.Parse r ≡ past g lv f f.acted r
-  pub too_long : (f : Frame) (r : Run) → goes g lv f effect.Spent r ≡ halts (RunsOut spent.Text) r
+  pub too_long : (f : Frame) (r : Run) → goes g lv f effect.Spent r ≡ halts (halt.Spent spent.Text) r
 
 -- The object loop: a table is left where no loop is open at its level; otherwise the loop goes on above the object that
 -- it took last. It takes the least object that it may take now, and reads on after its DOALL; with none left it is

@@ -10,18 +10,18 @@ use Rattle.paw_state.specs.State.{State}
 use Rattle.paw_journal.specs.Session.{Digests, Shown, recover}
 use Rattle.paw_journal.specs.declared.refusal.SessionPart.TheVariants as part
 use Rattle.paw_journal.specs.declared.refusal.JournalRefusal.{JournalRefusal}
-use Rattle.paw_reading.specs.Reading.{IsOver, RunsOut, CallsTooDeep}
 use Rattle.paw_reading.specs.Turn.{Ending, WaitsAt, Halted, Unended, reading}
 use Rattle.paw_trial.specs.Trial.{trial_reading}
 use Rattle.paw_wrap.specs.declared.columns.TheConstants.{WRAP_LIMIT}
 use Rattle.paw_play.specs.Play.{Refuses, store_bytes}
 use Rattle.paw_play.specs.Played.{ShowsState}
+use Rattle.paw_play.specs.inner.OnTheWay.{end_of_halt}
 use Rattle.paw_play.specs.Session.{IsOfStory, story_digests}
 use Rattle.paw_top.specs.Compile.{Compiles}
 use Rattle.paw_top.specs.Completes.{IsUnhindered}
 use Rattle.paw_top.specs.Check.{Checks}
 use Rattle.paw_top.specs.Decompile.{Decompiles}
-use Rattle.paw_top.specs.Ends.{refused_as}
+use Rattle.paw_top.specs.Ends.{outcome_of, refused_as}
 use Rattle.paw_top.specs.Loads.{Holds, HoldsDamage}
 use Rattle.paw_top.specs.inner.Loads.{HoldsNone}
 use Rattle.paw_top.specs.Shows.{Wraps}
@@ -84,9 +84,7 @@ pub record CompletesImage (name : Name) (Such : GameLists → Outcome → Type 0
 -- The answer that a trial is due, by how the reading of its lines ends.
 abbrev pub due : Ending → Outcome
 due (WaitsAt p path r) = outcome.Done
-due (Halted IsOver r) = outcome.Ended
-due (Halted (RunsOut kind) r) = outcome.Spent kind
-due (Halted (CallsTooDeep table) r) = outcome.TooDeep table
+due (Halted halt r) = outcome_of (end_of_halt halt)
 due Unended = outcome.Done
 
 -- Where the text is there, it is shown, or refused where it is too long.

@@ -2,6 +2,7 @@
 use Rattle.std.specs.Prelude.{◌≡◌, ℕ, ◌+◌, ◌*◌, ◌/◌, [], length, take}
 use Rattle.std.specs.Prelude.{drop, codes, slice_index, Option, Some, None}
 use Rattle.paw_base.specs.Bytes.{Bytes, Lines, Name}
+use Rattle.std.specs.Option.{option_map_or}
 use Rattle.paw_base.specs.declared.flags.TheConstants.{CARRIED_FLAG, LOW_TURNS_FLAG, HIGH_TURNS_FLAG, LOCATION_FLAG}
 use Rattle.paw_stage.specs.Disk.{IsStable}
 use Rattle.paw_stage.specs.Stage.{Standing}
@@ -11,12 +12,13 @@ use Rattle.paw_world.specs.World.{World, flag}
 use Rattle.paw_reading.specs.Turn.{Ending, WaitsAt, reading}
 use Rattle.paw_play.specs.declared.PlayEnd.{PlayEnd}
 use Rattle.paw_play.specs.declared.PlayEnd.TheVariants as play
+use Rattle.paw_play.specs.Walk.{end_halt}
 use Rattle.paw_play.specs.Played.{begun}
 use Rattle.paw_play.specs.Play.{store_bytes, NewSession, PlaysAgain}
 use Rattle.paw_play.specs.Stands.{Stands}
 use Rattle.paw_gen.specs.Trial.{trial_lines}
 use Rattle.paw_trial.specs.Trial.{trial_story, trial_reading}
-use Rattle.paw_trial.specs.inner.Trial.{StopsAs}
+use Rattle.paw_trial.specs.inner.Trial.{trial_end, StopsAs}
 use Rattle.paw_trial.specs.declared.setting.Half.{Half}
 use Rattle.paw_trial.specs.declared.setting.Half.TheVariants as half
 use Rattle.paw_trial.specs.declared.TrialEnd.{TrialEnd}
@@ -76,10 +78,7 @@ ComesTo n es new (Some stop) = StopsAs stop (trial_reading n)
 -- How a trial stops where playing ends this way; it goes on where no line is left.
 abbrev pub stop_of : PlayEnd → Option TrialEnd
 stop_of play.InputEnded = None
-stop_of play.Ended = Some end.Ended
-stop_of (play.Spent kind) = Some (end.Spent kind)
-stop_of (play.TooDeep table) = Some (end.TooDeep table)
-stop_of _ = Some end.Memory
+stop_of o = Some (option_map_or trial_end (end_halt o) end.Memory)
 
 -- What a world counts.
 abbrev pub tally_of : World → Tally

@@ -1,7 +1,8 @@
 -- What a trial shows: words that contracts between crates and proofs use besides those of specs/Trial.antt.
 use Rattle.std.specs.Prelude.{◌≡◌, ℕ}
 use Rattle.paw_base.specs.Bytes.{Text}
-use Rattle.paw_reading.specs.Reading.{IsOver, RunsOut, CallsTooDeep}
+use Rattle.paw_reading.specs.declared.places.Halt.{Halt}
+use Rattle.paw_reading.specs.declared.places.Halt.TheVariants as halt
 use Rattle.paw_reading.specs.Turn.{Ending, WaitsAt, Halted, reading}
 use Rattle.paw_trial.specs.declared.TrialEnd.{TrialEnd}
 use Rattle.paw_trial.specs.declared.TrialEnd.TheVariants as end
@@ -12,10 +13,14 @@ abbrev pub IsTextOf : ℕ → Ending → Text → Type 0
 IsTextOf n (WaitsAt p path r) text = text ≡ trial_text n r.world
 IsTextOf n _ text = ⊥
 
--- A trial has no text where the reading ends otherwise, or where memory was lacking.
+-- The end of a trial that a halt is.
+abbrev pub trial_end : Halt → TrialEnd
+trial_end halt.Over = end.Ended
+trial_end (halt.Spent kind) = end.Spent kind
+trial_end (halt.TooDeep table) = end.TooDeep table
+
+-- A trial has no text where the reading has ended for good, or where memory was wanting.
 abbrev pub StopsAs : TrialEnd → Ending → Type 0
 StopsAs end.Memory e = Unit {0}
-StopsAs end.Ended (Halted IsOver r) = Unit {0}
-StopsAs (end.Spent kind) (Halted (RunsOut found) r) = kind ≡ found
-StopsAs (end.TooDeep table) (Halted (CallsTooDeep found) r) = table ≡ found
+StopsAs stop (Halted halt r) = stop ≡ trial_end halt
 StopsAs _ _ = ⊥

@@ -1,6 +1,6 @@
 -- What the phases of a turn mean in the reading. Only the contracts of private functions use this.
 use Rattle.std.specs.Prelude.{◌≡◌, ℕ, zero, suc, ◌+◌, ◌*◌, ◌<◌, ◌≤◌, ◌^◌, Bool, false, List, Option}
-use Rattle.std.specs.Prelude.{[], ◌∷◌, ◌++◌, length, reverse, if◌then◌else◌}
+use Rattle.std.specs.Prelude.{[], ◌∷◌, ◌++◌, length, reverse, if◌then◌else◌, MatchOption}
 use Rattle.std.specs.Fn.{Shared}
 use Rattle.paw_base.specs.Bytes.{Bytes, Line, Lines, Text, Texts}
 use Rattle.paw_base.specs.declared.limits.TheConstants.{READ_LIMIT}
@@ -18,7 +18,9 @@ use Rattle.paw_effects.specs.Story.{Story}
 use Rattle.paw_reading.specs.declared.places.Frame.{Frame}
 use Rattle.paw_reading.specs.declared.places.OpenLoop.{OpenLoop}
 use Rattle.paw_reading.specs.Run.{Run, Step as Read, closed, is_ignored}
-use Rattle.paw_reading.specs.Reading.{Halt, IsOver, RunsOut, CallsTooDeep, Out, table_read}
+use Rattle.paw_reading.specs.declared.places.Halt.{Halt}
+use Rattle.paw_reading.specs.declared.places.Halt.TheVariants as halt
+use Rattle.paw_reading.specs.Reading.{Out, table_read}
 use Rattle.paw_reading.specs.GoingOn.{on_path}
 use Rattle.paw_reading.specs.Turn.{Ending, Halted, AtDescribe, AtTimeFrame, AtPhrase, AtResponse}
 use Rattle.paw_reading.specs.Turn.{table_done, turn, first_table, goes_on, TurnPhase}
@@ -34,7 +36,7 @@ use Rattle.paw_turn.specs.declared.phase.Phase.TheVariants as phase
 use Rattle.paw_turn.specs.declared.phase.Next.{Next}
 use Rattle.paw_turn.specs.declared.phase.Next.TheVariants as next
 use Rattle.paw_turn.specs.declared.turn.Turn.{Turn}
-use Rattle.paw_turn.specs.inner.Player.{Seat, WaitsIn, StandsAt, StandsClosed}
+use Rattle.paw_turn.specs.inner.Player.{step_of, step_halt, brings_piece, Seat, WaitsIn, StandsAt, StandsClosed}
 
 -- ---- runs ----
 
@@ -86,13 +88,12 @@ at_phase phase.Response = AtResponse
 abbrev pub TurnHalts : Halt → Run → Ending → Type 0
 TurnHalts halt r x = (s : Run) × (x ≡ Halted halt s) × SamePast r s
 
--- A turn stops here: it waits along the frames, or it is over, with the piece closed; or it is spent or a call is too
--- deep, with no piece more.
+-- A turn stops here: it waits along the frames, or it is over, with the piece closed; or play has ended otherwise, with
+-- no piece more.
 abbrev pub StopsAs : Story → ℕ → Step → List Frame → Run → Ending → Type 0
 StopsAs g n (step.Waits p) fs r x = x ≡ goes_on g n p (reverse fs) (closed r)
-StopsAs g n step.Ended fs r x = x ≡ Halted IsOver (closed r)
-StopsAs g n (step.Spent kind) fs r x = TurnHalts (RunsOut kind) r x
-StopsAs g n (step.TooDeep u) fs r x = TurnHalts (CallsTooDeep u) r x
+StopsAs g n step.Ended fs r x = x ≡ Halted halt.Over (closed r)
+StopsAs g n s fs r x = MatchOption (step_halt s) ⊥ (λ halt. TurnHalts halt r x)
 
 -- How a turn goes on: with the next phase, or not at all.
 abbrev pub GoesOnAs : Story → ℕ → Next → List Frame → Run → Ending → Type 0
@@ -206,11 +207,8 @@ WaitsInTable t prompt.Over m = ⊥
 
 -- Where the machine stopped in this table it waits, or no table is open.
 abbrev pub StopsInTable : ℕ → Turned → OpenTables → Type 0
-StopsInTable t (turned.Left acted) m = IsClosed m
-StopsInTable t turned.Redescribe m = IsClosed m
 StopsInTable t (turned.Waits p) m = WaitsInTable t p m
-StopsInTable t (turned.Spent kind) m = IsClosed m
-StopsInTable t (turned.TooDeep u) m = IsClosed m
+StopsInTable t _ m = IsClosed m
 
 -- ---- turns end ----
 
@@ -238,9 +236,7 @@ Falls most (next.Stop step) new = Unit {0}
 abbrev pub Leaves : Turned → ℕ → ℕ → Type 0
 Leaves (turned.Left acted) old new = new ≤ old
 Leaves turned.Redescribe old new = new < old
-Leaves (turned.Waits p) old new = Unit {0}
-Leaves (turned.Spent kind) old new = Unit {0}
-Leaves (turned.TooDeep u) old new = Unit {0}
+Leaves _ old new = Unit {0}
 
 -- What a table's reading uses up.
 pub record Uses (turned : Turned) (old new : Turn) : Type 0 where
@@ -259,9 +255,13 @@ pub record ChangesFlags (old new : World) : Type 0 where
 
 -- ---- texts ----
 
+-- Play has ended so, and nothing goes on.
+abbrev pub halting : Halt → Next
+halting halt = next.Stop (step_of halt)
+
 -- How a turn goes on where a text was shown; where it wasn't, the piece is spent.
 abbrev pub or_spent : Bool → Next → Next
-or_spent shown n = if shown then n else next.Stop (step.Spent spent.Text)
+or_spent shown n = if shown then n else halting (halt.Spent spent.Text)
 
 -- ---- tables ----
 
@@ -276,9 +276,7 @@ table_rank (suc (suc t)) = 2
 abbrev pub FallsAfter : ℕ → Turned → Turn → Next → Turn → Type 0
 FallsAfter t (turned.Left acted) old next new = Falls (4 * left_of old + table_rank t) next new
 FallsAfter t turned.Redescribe old n new = (n ≡ next.Go phase.Describe) × (new ≡ old)
-FallsAfter t (turned.Waits p) old next new = (m : ℕ) → Falls m next new
-FallsAfter t (turned.Spent kind) old next new = (m : ℕ) → Falls m next new
-FallsAfter t (turned.TooDeep u) old next new = (m : ℕ) → Falls m next new
+FallsAfter t _ old next new = (m : ℕ) → Falls m next new
 
 -- ---- lines ----
 
@@ -324,12 +322,9 @@ with_line w p h = record h { situation = record h.situation { world = w; pending
 abbrev pub with_piece : Text → Turn → Turn
 with_piece piece h = record h { situation = record h.situation { piece = piece } }
 
--- The piece that is shown: nothing where a piece is spent, or a call in it is too deep.
+-- The piece that is shown: nothing where play ended before the piece was closed.
 abbrev pub shown : Step → Text → Text
-shown (step.Waits p) piece = piece
-shown step.Ended piece = piece
-shown (step.Spent kind) piece = []
-shown (step.TooDeep u) piece = []
+shown s piece = if brings_piece s then piece else []
 
 -- The turn with the piece that is shown after this end of a line.
 abbrev pub turn_settled : Step → Turn → Turn

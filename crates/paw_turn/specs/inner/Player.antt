@@ -1,6 +1,8 @@
 -- What a player's answers mean in the reading.
 use Rattle.std.specs.Prelude.{◌≡◌, List, [], ◌∷◌, ◌++◌, reverse}
 use Rattle.paw_base.specs.Bytes.{Lines, Seed, Text, Texts}
+use Rattle.std.specs.Prelude.{◌≡◌, ℕ, Bool, true, List, [], ◌∷◌, ◌++◌, reverse, Option, Some, None, MatchOption, MatchBool}
+use Rattle.std.specs.Option.{option_map_or}
 use Rattle.paw_base.specs.declared.words.TheConstants.{NO_WORD}
 use Rattle.paw_base.specs.inner.Steps.{kept_steps}
 use Rattle.paw_game.specs.Game.{GameLists}
@@ -13,13 +15,36 @@ use Rattle.paw_effects.specs.declared.act.Prompt.TheVariants as prompt
 use Rattle.paw_effects.specs.inner.Opening.{opening_world}
 use Rattle.paw_effects.specs.Story.{Story}
 use Rattle.paw_reading.specs.Run.{Run, Step as Read}
-use Rattle.paw_reading.specs.Reading.{Halt, IsOver, RunsOut, CallsTooDeep}
+use Rattle.paw_reading.specs.Reading.{closes_piece}
+use Rattle.paw_reading.specs.declared.places.Halt.{Halt}
+use Rattle.paw_reading.specs.declared.places.Halt.TheVariants as halt
 use Rattle.paw_reading.specs.Turn.{Ending, Halted, first_table, on}
 use Rattle.paw_reading.specs.inner.Places.{IsLoopOf, StandsRightly}
 use Rattle.paw_process.specs.inner.OpenTables.{OpenTables}
 use Rattle.paw_process.specs.inner.OpenTables.{IsWaiting, IsClosed, new_machine}
 use Rattle.paw_turn.specs.declared.Step.{Step}
 use Rattle.paw_turn.specs.declared.Step.TheVariants as step
+
+-- ---- steps ----
+
+-- The step of a player whose play this halt has ended.
+abbrev pub step_of : Halt → Step
+step_of halt.Over = step.Ended
+step_of (halt.Spent kind) = step.Spent kind
+step_of (halt.TooDeep u) = step.TooDeep u
+
+-- The halt that a step is; none where the player waits.
+abbrev pub step_halt : Step → Option Halt
+step_halt (step.Waits p) = None
+step_halt step.Ended = Some halt.Over
+step_halt (step.Spent kind) = Some (halt.Spent kind)
+step_halt (step.TooDeep u) = Some (halt.TooDeep u)
+
+-- It brings a piece: the player waits, or play ended with its last piece closed.
+abbrev pub brings_piece : Step → Bool
+brings_piece s = option_map_or closes_piece (step_halt s) true
+
+-- ---- players ----
 
 -- A player between two lines: its game and the routines that it calls, the world, what is left of the line, the open
 -- tables with the steps of the last piece, the text of that piece, and how its last line ended.
@@ -66,9 +91,8 @@ PlaysTo g whole (step.Waits p) new pieces traces =
     ≡ on g p (reverse new.machine.frames) (run_at new (pieces ++ new.piece ∷ []) (traces ++ read ∷ []) lines)))
 PlaysTo g whole step.Ended new pieces traces =
     (read : List Read) × ((new.machine.steps ≡ kept_steps read) × ((lines : Lines) →
-    whole lines ≡ Halted IsOver (run_at new (pieces ++ new.piece ∷ []) (traces ++ read ∷ []) lines)))
-PlaysTo g whole (step.Spent kind) new pieces traces = PlayHalts whole (RunsOut kind) new pieces traces
-PlaysTo g whole (step.TooDeep u) new pieces traces = PlayHalts whole (CallsTooDeep u) new pieces traces
+    whole lines ≡ Halted halt.Over (run_at new (pieces ++ new.piece ∷ []) (traces ++ read ∷ []) lines)))
+PlaysTo g whole s new pieces traces = MatchOption (step_halt s) ⊥ (λ halt. PlayHalts whole halt new pieces traces)
 
 -- The machine waits at this prompt in the tables that are open.
 pub record WaitsIn (p : Prompt) (m : OpenTables) : Type 0 where
@@ -86,30 +110,21 @@ StandsAt prompt.Over m = ⊥
 -- A player that is finished has no table open.
 abbrev pub StandsClosed : Step → OpenTables → Type 0
 StandsClosed (step.Waits p) m = StandsAt p m
-StandsClosed step.Ended m = IsClosed m
-StandsClosed (step.Spent kind) m = IsClosed m
-StandsClosed (step.TooDeep u) m = IsClosed m
+StandsClosed _ m = IsClosed m
 
--- A player that is over, spent or too deep takes no more lines.
+-- A player whose play has ended takes no more lines.
 abbrev pub IsFinished : Step → Type 0
 IsFinished (step.Waits p) = ⊥
-IsFinished step.Ended = Unit {0}
-IsFinished (step.Spent kind) = Unit {0}
-IsFinished (step.TooDeep u) = Unit {0}
+IsFinished _ = Unit {0}
 
--- The prompt at which a player stands; one that is spent or too deep takes no more lines, as if the game were over.
+-- The prompt at which a player stands; one whose play has ended stands where the game is over.
 abbrev pub prompt_at : Step → Prompt
 prompt_at (step.Waits p) = p
-prompt_at step.Ended = prompt.Over
-prompt_at (step.Spent kind) = prompt.Over
-prompt_at (step.TooDeep u) = prompt.Over
+prompt_at _ = prompt.Over
 
--- A player that is neither spent nor too deep stands at its prompt.
+-- A player that brought a piece stands at its prompt.
 abbrev pub IsStanding : Step → Type 0
-IsStanding (step.Waits p) = Unit {0}
-IsStanding step.Ended = Unit {0}
-IsStanding (step.Spent kind) = ⊥
-IsStanding (step.TooDeep u) = ⊥
+IsStanding s = MatchBool (brings_piece s) (Unit {0}) ⊥
 
 -- Parts stand in a game at a prompt as a run may.
 abbrev pub StandRightly : GameLists → Prompt → World → OpenTables → PendingLine → Type 0

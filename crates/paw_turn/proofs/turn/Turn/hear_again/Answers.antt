@@ -32,7 +32,7 @@ returns-then-not-begins_with-clause-keeps g c =
 
 pub returns-clause-meaning : goal.returns-clause-meaning
 returns-clause-meaning g c X =
-    rw c.or_spent.ensures.value (again_told (story_of (g.T.Tables.game c.args.tables.now) X) c.args.self.now
+    rw (c.or_spent.ensures.value, c.halting.ensures.value) (again_told (story_of (g.T.Tables.game c.args.tables.now) X) c.args.self.now
     (record {
       situation = record { world = c.tell_timeout.new.world; pending = c.drop_line.new.self; piece = c.say-said.new.piece };
       machine = c.close.new.self;
