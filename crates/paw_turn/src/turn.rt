@@ -345,7 +345,7 @@ impl Turn {
 impl<T: Tables, F: Fn(u8, u8) -> u8> Rulebook<'_, T, F> {
     /// Reads table 0, 1 or 2 from its start, up to the machine's next stop.
     fn run_table(&self, held: &mut Turn, table: u8) -> Turned
-        requires { MayRead F.Fn self.now.routines.now (T.game self.now.tables.now) held.old }
+        requires may { MayRead F.Fn self.now.routines.now (T.game self.now.tables.now) held.old }
         ensures runs { InStories F.Fn self.now.routines.now (T.game self.now.tables.now) (λ g.
             RunsAs g (from_table g table held.old) held.old result held.new) }
         ensures stops { StopsInTable table result held.new.machine }
@@ -359,7 +359,7 @@ impl<T: Tables, F: Fn(u8, u8) -> u8> Rulebook<'_, T, F> {
 
     /// Reads table 0, 1 or 2, and goes on after it.
     fn read_table(&self, held: &mut Turn, table: u8) -> Next
-        requires { MayRead F.Fn self.now.routines.now (T.game self.now.tables.now) held.old }
+        requires may { MayRead F.Fn self.now.routines.now (T.game self.now.tables.now) held.old }
         ensures meaning { InStories F.Fn self.now.routines.now (T.game self.now.tables.now) (λ g.
             ReadsTurn g (λ n r. table_done g (turn g n) table (table_read g table r)) held.old result held.new) }
         ensures keeps { KeepsGame (T.game self.now.tables.now) held.old result held.new }
@@ -371,7 +371,7 @@ impl<T: Tables, F: Fn(u8, u8) -> u8> Rulebook<'_, T, F> {
 
     /// Describes the location, and reads table 1.
     fn describe(&self, held: &mut Turn) -> Next
-        requires { MayRead F.Fn self.now.routines.now (T.game self.now.tables.now) held.old }
+        requires may { MayRead F.Fn self.now.routines.now (T.game self.now.tables.now) held.old }
         ensures meaning { InStories F.Fn self.now.routines.now (T.game self.now.tables.now) (λ g.
             ReadsTurn g (λ n r. turn g (suc n) AtDescribe r) held.old result held.new) }
         ensures keeps { KeepsGame (T.game self.now.tables.now) held.old result held.new }
@@ -387,7 +387,7 @@ impl<T: Tables, F: Fn(u8, u8) -> u8> Rulebook<'_, T, F> {
 
     /// Goes through one phase.
     fn phase(&self, held: &mut Turn, phase: Phase) -> Next
-        requires { MayRead F.Fn self.now.routines.now (T.game self.now.tables.now) held.old }
+        requires may { MayRead F.Fn self.now.routines.now (T.game self.now.tables.now) held.old }
         ensures meaning { InStories F.Fn self.now.routines.now (T.game self.now.tables.now) (λ g.
             ReadsTurn g (λ n r. turn g (suc n) (at_phase phase) r) held.old result held.new) }
         ensures keeps { KeepsGame (T.game self.now.tables.now) held.old result held.new }
@@ -403,7 +403,7 @@ impl<T: Tables, F: Fn(u8, u8) -> u8> Rulebook<'_, T, F> {
 
     /// Plays on from a phase to the next prompt, or to the end.
     pub(crate) fn play(&self, held: &mut Turn, first: Phase) -> Step
-        requires { MayRead F.Fn self.now.routines.now (T.game self.now.tables.now) held.old }
+        requires may { MayRead F.Fn self.now.routines.now (T.game self.now.tables.now) held.old }
         ensures meaning { InStories F.Fn self.now.routines.now (T.game self.now.tables.now) (λ g.
             Plays g first held.old (next.Stop result) held.new) }
         ensures keeps { KeepsGame (T.game self.now.tables.now) held.old (next.Stop result) held.new }

@@ -37,8 +37,8 @@ play-step-requires g c =
     let routines = c.self.inside.rulebook.routines.now in
     let fresh = subst (λ (q : Seat g.row.F.Denot). IsNew q q.world.seed) (sym c.self.view_is) c.requires.new in
     let valid = subst (λ (q : Seat g.row.F.Denot). Valid q.game) (sym c.self.view_is) c.requires.seated.valid in
-    record {
+    record { may = record {
       rows = subst (λ (q : Seat g.row.F.Denot). HaveRows g.F.Fn q.routines) (sym c.self.view_is) c.requires.rows;
       read = new_read own routines c.self.inside.turn c.self.inside.last fresh;
       ready = new_ready own routines c.self.inside.turn c.self.inside.last valid fresh;
-    }
+    } }

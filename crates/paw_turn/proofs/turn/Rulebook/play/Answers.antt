@@ -9,12 +9,12 @@ use Rattle.paw_turn.proofs.turn.Rulebook.play.Goals as goal
 
 pub loop-phase-init : goal.loop-phase-init
 loop-phase-init g c = record {
-  playable = c.requires.ready.playable;
-  read = c.requires.read;
+  playable = c.requires.may.ready.playable;
+  read = c.requires.may.read;
   plays = λ X rows. plays_none (story_of (g.T.Tables.game c.args.self.now.tables.now) X) c.args.first c.args.held.now;
   keeps = record {
-    stays = record { world = c.requires.ready.playable.world; left = omega arith; draws = omega arith };
-    machine = c.requires.ready.closed;
+    stays = record { world = c.requires.may.ready.playable.world; left = omega arith; draws = omega arith };
+    machine = c.requires.may.ready.closed;
   };
 }
 
@@ -25,11 +25,11 @@ loop-phase-preserved g c =
     let phase = c.loop-phase.phase in
     let before = c.loop-phase.held in
     let after = c.phase.new.held in
-    let own : Story = story_of (g.T.Tables.game c.args.self.now.tables.now) c.requires.rows.0 in
+    let own : Story = story_of (g.T.Tables.game c.args.self.now.tables.now) c.requires.may.rows.0 in
     record {
       playable = record { world = e.keeps.stays.world; budget = omega arith; draws = omega arith };
       read = reads_read own (λ n r. turn own (suc n) (at_phase phase) r) before (next.Go c.in-Go.next) after
-          (e.meaning c.requires.rows.0 c.requires.rows.1) v.read;
+          (e.meaning c.requires.may.rows.0 c.requires.may.rows.1) v.read;
       plays = λ X rows.
           plays_on (story_of (g.T.Tables.game c.args.self.now.tables.now) X) c.args.first phase c.args.held.now before after
           (next.Go c.in-Go.next) (v.plays X rows) (e.meaning X rows);

@@ -15,14 +15,14 @@ returns-clause-runs g c X rows =
 pub returns-clause-uses : goal.returns-clause-uses
 returns-clause-uses g c =
     let new : Turn = record { situation = c.run.new.situation; machine = c.run.new.self } in
-    uses (story_of (g.T.Tables.game c.args.self.now.tables.now) c.requires.rows.0) c.args.table c.args.held.now new
-    c.run.result c.requires.read (returns-clause-runs g c c.requires.rows.0 c.requires.rows.1)
+    uses (story_of (g.T.Tables.game c.args.self.now.tables.now) c.requires.may.rows.0) c.args.table c.args.held.now new
+    c.run.result c.requires.may.read (returns-clause-runs g c c.requires.may.rows.0 c.requires.may.rows.1)
 
 pub returns-clause-stops : goal.returns-clause-stops
 returns-clause-stops g c =
     let new : Turn = record { situation = c.run.new.situation; machine = c.run.new.self } in
-    table_stops (story_of (g.T.Tables.game c.args.self.now.tables.now) c.requires.rows.0) c.args.table c.args.held.now new
-    c.run.result c.requires.read c.requires.ready.closed (returns-clause-runs g c c.requires.rows.0 c.requires.rows.1) c.run.ensures.stopped
+    table_stops (story_of (g.T.Tables.game c.args.self.now.tables.now) c.requires.may.rows.0) c.args.table c.args.held.now new
+    c.run.result c.requires.may.read c.requires.may.ready.closed (returns-clause-runs g c c.requires.may.rows.0 c.requires.may.rows.1) c.run.ensures.stopped
 
 pub returns-clause-stays : goal.returns-clause-stays
 returns-clause-stays g c =

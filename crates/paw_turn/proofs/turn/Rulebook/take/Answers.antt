@@ -16,7 +16,7 @@ play-requires g c =
     let own = story_of (g.T.Tables.game c.args.self.now.tables.now) c.requires.rows.0 in
     let keeps = c.in-Go.ensures.keeps in
     let playable = c.requires.ready.playable in
-    record {
+    record { may = record {
       rows = c.requires.rows;
       read = plays_read own (from_prompt own c.args.prompt c.args.held.now c.args.line.now) c.args.held.now
           (next.Go c.in-Go.phase) c.hear.new.held (c.in-Go.ensures.meaning c.requires.rows.0 c.requires.rows.1) c.requires.ready.read;
@@ -28,4 +28,4 @@ play-requires g c =
         };
         closed = keeps.machine;
       };
-    }
+    } }
