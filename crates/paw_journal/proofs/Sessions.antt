@@ -71,7 +71,7 @@ made_piece state piece n =
 
 -- a slot that is made has its state, and shows it with its piece
 made_slot_kept : (state piece : List ℕ) → length state ≡ base_length → IsKept (made_slot state piece) 0 state
-made_slot_kept state piece n = record { second = refl; number = no_changes state piece; few = omega arith; sound = refl; told = made_base state piece n }
+made_slot_kept state piece n = record { current = refl; number = no_changes state piece; few = omega arith; sound = refl; told = made_base state piece n }
 
 made_slot_shows : (digests : Digests) (state piece : List ℕ) → length state ≡ base_length →
     piece_length state ≡ length piece →

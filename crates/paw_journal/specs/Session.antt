@@ -8,6 +8,7 @@ unfoldable pub use Rattle.paw_base.specs.Bytes.{zeros}
 use Rattle.paw_stage.specs.Disk.{put}
 use Rattle.paw_journal.specs.declared.layout.TheConstants.{HEADER_LENGTH, SLOT_LENGTH, SESSION_LENGTH, BASE_AT}
 use Rattle.paw_journal.specs.declared.layout.TheConstants.{BASE_LENGTH, PIECE_AT, CHANGES_AT, MOST_CHANGES}
+use Rattle.paw_journal.specs.declared.layout.TheConstants.{FIRST_VERSION, VERSION}
 use Rattle.paw_journal.specs.declared.refusal.SessionPart.{SessionPart}
 use Rattle.paw_journal.specs.declared.refusal.SessionPart.TheVariants as part
 
@@ -47,9 +48,10 @@ chosen bytes = slice_index bytes 1 % 2
 abbrev pub version : List ℕ → ℕ
 version bytes = slice_index bytes 2
 
--- The versions of a session. Each slot has one of its own, and the session's decides nothing else.
+-- The versions of a session: from the first up to the one that is written. Each slot has one of its own, and the
+-- session's decides nothing else.
 abbrev pub is_version : ℕ → Bool
-is_version n = (n == 1) || (n == 2)
+is_version n = nat_le FIRST_VERSION n && nat_le n VERSION
 
 -- Whose session it is: the digests of its game, and of the routines that it is played with.
 pub record Digests : Type 0 where
@@ -79,9 +81,13 @@ base_length = BASE_LENGTH
 abbrev pub most_changes : ℕ
 most_changes = MOST_CHANGES
 
--- A slot is of version 2 where its byte 2 is 2, and of version 1 otherwise.
-abbrev pub is_second : List ℕ → Bool
-is_second bytes = slice_index bytes 2 == 2
+-- Byte 2 of a slot: its version.
+abbrev pub slot_version : List ℕ → ℕ
+slot_version bytes = slice_index bytes 2
+
+-- Whether a slot is of the version that is written.
+abbrev pub is_current : List ℕ → Bool
+is_current bytes = slot_version bytes == VERSION
 
 -- The base of a slot.
 abbrev pub base : List ℕ → List ℕ
@@ -132,10 +138,15 @@ state_length = STATE_LENGTH
 abbrev pub first_length : ℕ
 first_length = FIRST_LENGTH
 
--- The state that a slot shows. Where it is of version 1, no position is kept, whatever stands behind its state.
+-- How many bytes of a state a slot of this version has. One that isn't of the version that is written is read as one
+-- of version 1.
+abbrev pub form_length : ℕ → ℕ
+form_length version = if version == VERSION then state_length else first_length
+
+-- The state that a slot shows: the bytes that its version has, whatever stands behind them, and zeros for the others.
 abbrev pub shown_state : List ℕ → List ℕ
 shown_state bytes =
-    if is_second bytes then take state_length (slot_state bytes) else take first_length (slot_state bytes) ++ zeros 2048
+    let n = form_length (slot_version bytes) in take n (slot_state bytes) ++ zeros (state_length - n)
 
 -- How many bytes the piece of a state has.
 abbrev pub piece_length : List ℕ → ℕ
@@ -231,7 +242,7 @@ records_with state bytes = two_byte_number 0 bytes + differing (slot_state bytes
 
 -- A commit adds change records to a slot that is of version 2, has a state, and has room for them.
 abbrev pub takes_changes : List ℕ → List ℕ → Bool
-takes_changes state bytes = is_second bytes && has_state bytes && nat_le (records_with state bytes) most_changes
+takes_changes state bytes = is_current bytes && has_state bytes && nat_le (records_with state bytes) most_changes
 
 -- A slot once a commit gave it this state and this piece: by change records behind those that it has, or by its base,
 -- written whole.

@@ -237,7 +237,8 @@ impl Room {
             self.show(&kept.state);
             self.keep(which, Some(kept));
         } else {
-            self.show(&brought_up(&kept.state));
+            let state = brought_up(self.slot(), &kept.state);
+            self.show(&state);
             self.keep(which, None);
         }
     }
