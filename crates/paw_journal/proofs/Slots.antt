@@ -116,7 +116,7 @@ records_are count held bytes e = let n : CHANGES_AT + 4 * count - CHANGES_AT ≡
     ap (λ k. take k (drop CHANGES_AT held)) n ∙ ap (stretch CHANGES_AT (4 * count)) e
 
 -- there is room for state and piece behind the head of a slot, and for as many zeros behind these
-pub room_for_body : (r s : Room) (piece : List ℕ) → s.slot ≡ 0 ∷ 0 ∷ 2 ∷ [] → s.piece ≡ piece →
+pub room_for_body : (r s : Room) (piece : List ℕ) → s.slot ≡ 0 ∷ 0 ∷ VERSION ∷ [] → s.piece ≡ piece →
     r ≡ record s { slot = s.slot ++ zeros 61 } → length piece ≤ 65535 →
     length r.slot + base_length + length r.piece ≤ slot_length
 room_for_body r s piece f g e few = omega (
@@ -130,7 +130,7 @@ room_for_body r s piece f g e few = omega (
   length_zeros 61,
 )
 
-pub room_behind : (q r s : Room) (state piece : List ℕ) (n : ℕ) → s.slot ≡ 0 ∷ 0 ∷ 2 ∷ [] → s.state ≡ state →
+pub room_behind : (q r s : Room) (state piece : List ℕ) (n : ℕ) → s.slot ≡ 0 ∷ 0 ∷ VERSION ∷ [] → s.state ≡ state →
     s.piece ≡ piece → r ≡ record s { slot = s.slot ++ zeros 61 } → length state ≡ base_length → length piece ≤ 65535 →
     q ≡ record r { slot = r.slot ++ r.state ++ r.piece } → n ≡ length piece → length q.slot + (81920 - n) ≤ slot_length
 room_behind q r s state piece n a b d e long few f k =

@@ -195,13 +195,14 @@ IsUnmade (Shown d s p) = ⊥
 
 -- ---- what is written ----
 
--- A slot as it is made: no change records, version 2, this state as its base, and this piece.
+-- A slot as it is made: no change records, the version that is written, this state as its base, and this piece.
 abbrev pub made_slot : List ℕ → List ℕ → List ℕ
-made_slot state piece = 0 ∷ 0 ∷ 2 ∷ zeros 61 ++ state ++ piece ++ zeros (81920 - length piece)
+made_slot state piece = 0 ∷ 0 ∷ VERSION ∷ zeros 61 ++ state ++ piece ++ zeros (81920 - length piece)
 
--- A header as it is made, with this mark and these digests: slot 0 is in use, and the version is 2.
+-- A header as it is made, with this mark and these digests: slot 0 is in use, and the version is the one that is
+-- written.
 abbrev pub made_header : ℕ → Digests → List ℕ
-made_header mark digests = mark ∷ 0 ∷ 2 ∷ zeros 29 ++ digests.game ++ digests.routines ++ zeros 32
+made_header mark digests = mark ∷ 0 ∷ VERSION ∷ zeros 29 ++ digests.game ++ digests.routines ++ zeros 32
 
 -- A session as it is made: both slots have this state and this piece.
 abbrev pub made_session : Digests → List ℕ → List ℕ → List ℕ
@@ -227,12 +228,12 @@ differences_from at old new = []
 abbrev pub differences : List ℕ → List ℕ → List ℕ
 differences old new = differences_from 0 old new
 
--- The first bytes of a slot of version 2 with so many change records.
+-- The first bytes of a slot of the version that is written with so many change records.
 abbrev pub slot_head : ℕ → List ℕ
-slot_head records = (records % 256) ∷ (records / 256) ∷ 2 ∷ []
+slot_head records = (records % 256) ∷ (records / 256) ∷ VERSION ∷ []
 
--- A slot that is of version 2 from now on, with so many change records, this piece, and these bytes from a place on.
--- All its other bytes are as they were.
+-- A slot that is of the version that is written from now on, with so many change records, this piece, and these bytes
+-- from a place on. All its other bytes are as they were.
 abbrev pub rewritten : ℕ → List ℕ → ℕ → List ℕ → List ℕ → List ℕ
 rewritten at new records piece bytes = put 0 (slot_head records) (put PIECE_AT piece (put at new bytes))
 
@@ -240,7 +241,7 @@ rewritten at new records piece bytes = put 0 (slot_head records) (put PIECE_AT p
 abbrev pub records_with : List ℕ → List ℕ → ℕ
 records_with state bytes = two_byte_number 0 bytes + differing (slot_state bytes) state
 
--- A commit adds change records to a slot that is of version 2, has a state, and has room for them.
+-- A commit adds change records to a slot that is of the version that is written, has a state, and has room for them.
 abbrev pub takes_changes : List ℕ → List ℕ → Bool
 takes_changes state bytes = is_current bytes && has_state bytes && nat_le (records_with state bytes) most_changes
 
