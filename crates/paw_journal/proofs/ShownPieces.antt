@@ -1,5 +1,5 @@
 -- How long a state and a piece are that bytes show, and whose session they are of.
-use Rattle.std.proofs.Common.{◌≡◌, ℕ, ◌+◌, ◌-◌, ◌≤◌, Bool, true, false, List, ◌++◌, Option, Some, None, length, take}
+use Rattle.std.proofs.Common.{◌≡◌, ℕ, ◌+◌, ◌-◌, ◌<◌, ◌≤◌, Bool, true, false, List, ◌++◌, Option, Some, None, length, take}
 use Rattle.std.proofs.Common.{drop, refl, sym, ap, ◌∙◌, arith, get_or}
 use Rattle.std.specs.Prelude.{if◌then◌else◌, nat_le}
 use Rattle.std.proofs.lemmas.List.{length-append, length-take-le, length-drop, get_or-take}
@@ -75,3 +75,14 @@ shown_long bytes digests state piece e few =
   where
     there : (k d l m : ℕ) → d ≡ l - PIECE_AT → l ≡ slot_length → m ≡ k → m ≤ 81920 → k ≤ d
     there k d l m e f n few = omega arith
+
+-- so is a piece that stands beside a buffer whose first bytes are the state
+pub buffer_long : (bytes : List ℕ) (digests : Digests) (buffer piece : List ℕ) (n : ℕ) →
+    recover bytes ≡ Shown digests (take state_length buffer) piece → piece_length buffer ≡ n → n < 65536 → length piece ≡ n
+buffer_long bytes digests buffer piece n e is low =
+    let a : get_or (take state_length buffer) PIECE_LENGTH_AT 0 ≡ get_or buffer PIECE_LENGTH_AT 0 =
+    get_or-take state_length buffer PIECE_LENGTH_AT 0 (omega arith) in
+    let b : get_or (take state_length buffer) (PIECE_LENGTH_AT + 1) 0 ≡ get_or buffer (PIECE_LENGTH_AT + 1) 0 =
+    get_or-take state_length buffer (PIECE_LENGTH_AT + 1) 0 (omega arith) in
+    let m : piece_length (take state_length buffer) ≡ n = omega (arith, a, b, is) in
+    shown_long bytes digests (take state_length buffer) piece e (omega (arith, m, low)) ∙ m
