@@ -1,7 +1,7 @@
 -- Sessions that are begun, and sessions that are taken up.
-use Rattle.std.proofs.Common.{◌≡◌, ◌≢◌, inl, inr, ℕ, ◌+◌, ◌*◌, ◌<◌, List, [], ◌∷◌, ◌++◌, refl, sym, ap, ◌∙◌, subst, true, take, length, get_or, arith}
+use Rattle.std.proofs.Common.{◌≡◌, ◌≢◌, inl, inr, ℕ, ◌+◌, ◌*◌, ◌<◌, List, [], ◌∷◌, ◌++◌, refl, sym, ap, ◌∙◌, subst, true, take, length, arith}
 use Rattle.std.proofs.Common.{Some, codes}
-use Rattle.std.proofs.lemmas.List.{append-nil, get_or-take, take_all}
+use Rattle.std.proofs.lemmas.List.{append-nil, take_all}
 use Rattle.std.specs.Prelude.{reverse}
 use Rattle.sha2.specs.Sha256.{sha256}
 use Rattle.paw_game.specs.Game.{GameLists}
@@ -22,7 +22,7 @@ use Rattle.paw_stage.specs.declared.StageCall.{StageCall}
 use Rattle.paw_routines.specs.Measure.{measure}
 use Rattle.paw_state.specs.declared.layout.TheConstants.{PIECE, STATE_LENGTH}
 use Rattle.paw_journal.specs.Session.{Digests, Unmade, Damaged, Shown, recover, state_length, piece_length}
-use Rattle.paw_journal.proofs.ShownPieces.{shown_long}
+use Rattle.paw_journal.proofs.ShownPieces.{buffer_long}
 use Rattle.paw_journal.specs.inner.Session.{session_shown}
 use Rattle.paw_journal.specs.inner.Store.{LeavesMade}
 use Rattle.paw_journal.specs.inner.Journal.{IsSessionRefused}
@@ -184,20 +184,10 @@ module _ {F : Type 0} (g : Story) (seed : ℕ) (es : List (List ℕ)) (digests :
   pub last_shown : piece ≡ last_piece (pieces_of (reading g seed es))
   last_shown = same_piece _ _ _ _ _ _ (sym shows.shown ∙ stands.keeps.shown)
 
--- the piece that stands beside a buffer is as long as the buffer says
-buffer_long : (bytes : List ℕ) (digests : Digests) (buffer piece : List ℕ) (n : ℕ) →
-    recover bytes ≡ Shown digests (take state_length buffer) piece →
-    get_or buffer PIECE 0 + 256 * get_or buffer (PIECE + 1) 0 ≡ n → n < 65536 → length piece ≡ n
-buffer_long bytes digests buffer piece n e is low =
-    let a : get_or (take state_length buffer) PIECE 0 ≡ get_or buffer PIECE 0 = get_or-take STATE_LENGTH buffer PIECE 0 (omega arith) in
-    let b : get_or (take state_length buffer) (PIECE + 1) 0 ≡ get_or buffer (PIECE + 1) 0 = get_or-take STATE_LENGTH buffer (PIECE + 1) 0 (omega arith) in
-    let m : piece_length (take state_length buffer) ≡ n = omega (arith, a, b, is) in
-    shown_long bytes digests (take state_length buffer) piece e (omega (arith, m, low)) ∙ m
-
 -- a player is seated with what was read of a session of the story
 pub taken_up : {F : Type 0} (g : Story) (digests : Digests) (bytes state buffer piece : List ℕ) (r : Restored) (routines : Routines F) (seat : Seat F) →
     recover bytes ≡ session_shown digests state piece → buffer ≡ state → IsOfStory g digests → IsRead g.game buffer r →
-    get_or buffer PIECE 0 + 256 * get_or buffer (PIECE + 1) 0 ≡ r.piece → seat ≡ seat_at g.game routines r.world r.machine r.pending r.prompt →
+    piece_length buffer ≡ r.piece → seat ≡ seat_at g.game routines r.world r.machine r.pending r.prompt →
     ShowsSome g bytes × ((seed : ℕ) (es : List (List ℕ)) → IsPlayedWith g seed es → Stands g seed es bytes →
     SitsAt g seed es seat × (r.events ≡ length es) × (take 65535 piece ≡ last_piece (pieces_of (reading g seed es))))
 taken_up {F} g digests bytes state buffer piece r routines seat shown same belongs read told is =

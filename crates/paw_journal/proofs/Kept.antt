@@ -1,25 +1,27 @@
 -- What a slot holds, and what it holds once a commit has written it.
-use Rattle.std.proofs.Common.{◌≡◌, ℕ, ◌+◌, ◌*◌, ◌/◌, ◌%◌, ◌≤◌, ◌<◌, Bool, true, false, List, ◌++◌, length, take, refl, sym, ap, subst, ◌∙◌, arith}
-use Rattle.std.specs.Prelude.{Option, Some, None, if◌then◌else◌, is_none, nat_le, ◌&&◌}
+use Rattle.std.proofs.Common.{◌≡◌, ℕ, ◌+◌, ◌-◌, ◌*◌, ◌/◌, ◌%◌, ◌≤◌, ◌<◌, Bool, true, false, List, ◌++◌, length, take, refl, sym, ap, subst, ◌∙◌, arith}
+use Rattle.std.specs.Prelude.{◌==◌, Option, Some, None, if◌then◌else◌, is_none, nat_le, ◌&&◌}
 use Rattle.std.proofs.lemmas.Bool.Decides.{nat_tests}
+use Rattle.std.proofs.lemmas.List.{append-nil}
 use Rattle.paw_stage.specs.Disk.{put}
 use Rattle.paw_journal.specs.declared.refusal.SessionPart.TheVariants as part
 use Rattle.paw_journal.specs.declared.drafting.SlotState.{SlotState}
 use Rattle.paw_journal.specs.declared.drafting.Draft.{Draft}
-use Rattle.paw_journal.specs.Session.{Digests, Damaged, Shown, stretch, two_byte_number, base, changes, changed, first_unsound, slot_changes, slot_state, is_second}
+use Rattle.paw_journal.specs.Session.{Digests, Damaged, Shown, stretch, two_byte_number, base, changes, changed, first_unsound, slot_changes, slot_state}
 use Rattle.paw_journal.specs.Session.{has_state, differing, differences, slot_head, rewritten, records_with, takes_changes, committed_slot}
-use Rattle.paw_journal.specs.Session.{shown_state, first_length, zeros, slot_piece, slot_shows, shown_unless, most_changes, piece_length, state_length}
+use Rattle.paw_journal.specs.Session.{is_current, form_length, slot_version}
+use Rattle.paw_journal.specs.Session.{shown_state, zeros, slot_piece, slot_shows, shown_unless, most_changes, piece_length, state_length}
 use Rattle.paw_journal.specs.inner.Room.{kept_slot}
 use Rattle.paw_journal.specs.inner.Written.{most_written}
 use Rattle.paw_journal.specs.inner.Steps.{Turns, Drafts}
-use Rattle.paw_journal.specs.declared.layout.TheConstants.{BASE_AT, CHANGES_AT, PIECE_AT}
+use Rattle.paw_journal.specs.declared.layout.TheConstants.{VERSION, BASE_AT, CHANGES_AT, PIECE_AT}
 use Rattle.paw_journal.specs.Session.{base_length, slot_length}
 use Rattle.paw_journal.proofs.Puts.{stretch_long, put_long, stretch_past, stretch_before, stretch_written, stretch_behind}
 use Rattle.paw_journal.proofs.Turning.{changes-append, changed-append, sound-append}
 
--- A slot of version 2 has this state, after this number of change records.
+-- A slot of the version that is written has this state, after so many change records.
 pub record IsKept (bytes : List ℕ) (records : ℕ) (state : List ℕ) : Type 0 where
-  pub second : is_second bytes ≡ true
+  pub current : is_current bytes ≡ true
   pub number : two_byte_number 0 bytes ≡ records
   pub few : records ≤ most_changes
   pub sound : first_unsound (changes (stretch CHANGES_AT (4 * records) bytes)) ≡ None
@@ -33,18 +35,18 @@ pub has_state_is : (bytes : List ℕ) → two_byte_number 0 bytes ≤ most_chang
     first_unsound (slot_changes bytes) ≡ None → has_state bytes ≡ true
 has_state_is bytes low e = holds_state bytes (two_byte_number 0 bytes) (first_unsound (slot_changes bytes)) low e
 
-pub kept_of_both : (bytes : List ℕ) → is_second bytes ≡ true → has_state bytes ≡ true →
+pub kept_of_both : (bytes : List ℕ) → is_current bytes ≡ true → has_state bytes ≡ true →
     kept_slot bytes ≡ Some (record { records = two_byte_number 0 bytes; state = slot_state bytes })
-kept_of_both bytes e f = both (is_second bytes) (has_state bytes) (Some (record { records = two_byte_number 0 bytes; state = slot_state bytes })) e f
+kept_of_both bytes e f = both (is_current bytes) (has_state bytes) (Some (record { records = two_byte_number 0 bytes; state = slot_state bytes })) e f
   where
     both : (a b : Bool) (x : Option SlotState) → a ≡ true → b ≡ true → (if a && b then x else None) ≡ x
     both a b x e f = ap (λ t. if t && b then x else None) e ∙ ap (λ t. if t then x else None) f
 
-pub kept_of_first : (bytes : List ℕ) → is_second bytes ≡ false → kept_slot bytes ≡ None
-kept_of_first bytes e = ap (λ t. if t && has_state bytes then Some (record { records = two_byte_number 0 bytes; state = slot_state bytes }) else None) e
+pub kept_of_older : (bytes : List ℕ) → is_current bytes ≡ false → kept_slot bytes ≡ None
+kept_of_older bytes e = ap (λ t. if t && has_state bytes then Some (record { records = two_byte_number 0 bytes; state = slot_state bytes }) else None) e
 
 pub kept_of_broken : (bytes : List ℕ) → has_state bytes ≡ false → kept_slot bytes ≡ None
-kept_of_broken bytes e = neither (is_second bytes) (has_state bytes) (Some (record { records = two_byte_number 0 bytes; state = slot_state bytes })) e
+kept_of_broken bytes e = neither (is_current bytes) (has_state bytes) (Some (record { records = two_byte_number 0 bytes; state = slot_state bytes })) e
   where
     neither : (a b : Bool) (x : Option SlotState) → b ≡ false → (if a && b then x else None) ≡ None
     neither true b x e = ap (λ t. if t then x else None) e
@@ -57,7 +59,7 @@ kept_is bytes records state h =
     ap (λ n. stretch CHANGES_AT (4 * n) bytes) h.number in
     let t : has_state bytes ≡ true = has_state_is bytes (omega (arith, h.number, h.few)) (ap (λ l. first_unsound (changes l)) r ∙ h.sound) in
     let s : slot_state bytes ≡ state = ap (λ l. changed (changes l) (base bytes)) r ∙ h.told in
-    kept_of_both bytes h.second t
+    kept_of_both bytes h.current t
     ∙ (ap (λ n. Some (record { records = n; state = slot_state bytes })) h.number ∙ ap (λ l. Some (record { records = records; state = l })) s)
 
 tests : (n : ℕ) (unsound : Option ℕ) → (nat_le n most_changes && is_none unsound) ≡ true →
@@ -69,10 +71,10 @@ tests n (Some k) e = absurd (never (nat_le n most_changes) e)
     never true e = cc
     never false e = cc
 
-pub state_has : (bytes : List ℕ) → is_second bytes ≡ true → has_state bytes ≡ true → IsKept bytes (two_byte_number 0 bytes) (slot_state bytes)
+pub state_has : (bytes : List ℕ) → is_current bytes ≡ true → has_state bytes ≡ true → IsKept bytes (two_byte_number 0 bytes) (slot_state bytes)
 state_has bytes f e =
     let t = tests (two_byte_number 0 bytes) (first_unsound (slot_changes bytes)) e in
-    record { second = f; number = refl; few = t.0; sound = t.1; told = refl }
+    record { current = f; number = refl; few = t.0; sound = t.1; told = refl }
 
 kept_some : (a b : Bool) (x : SlotState) (records : ℕ) (state : List ℕ) →
     (if a && b then Some x else None) ≡ Some (record { records = records; state = state }) →
@@ -84,12 +86,12 @@ kept_some false b x records state e = absurd (cc e)
 pub is_kept : (bytes : List ℕ) (records : ℕ) (state : List ℕ) →
     kept_slot bytes ≡ Some (record { records = records; state = state }) → IsKept bytes records state
 is_kept bytes records state e =
-    let k = kept_some (is_second bytes) (has_state bytes) (record { records = two_byte_number 0 bytes; state = slot_state bytes }) records state e in
+    let k = kept_some (is_current bytes) (has_state bytes) (record { records = two_byte_number 0 bytes; state = slot_state bytes }) records state e in
     let h = state_has bytes k.0 k.1 in
     let r : stretch CHANGES_AT (4 * records) bytes ≡ stretch CHANGES_AT (4 * two_byte_number 0 bytes) bytes =
     ap (λ n. stretch CHANGES_AT (4 * n) bytes) (sym k.2) in
     record {
-      second = k.0;
+      current = k.0;
       number = k.2;
       few = omega (arith, k.2, h.few);
       sound = ap (λ l. first_unsound (changes l)) r ∙ h.sound;
@@ -107,6 +109,16 @@ sound_shows digests bytes e =
     low : (n : ℕ) → n ≤ most_changes → nat_le n most_changes ≡ true
     low n h = grind (arith, nat_tests)
 
+-- of the version that is written, it shows all bytes of its state
+current_shown : (bytes : List ℕ) → is_current bytes ≡ true → shown_state bytes ≡ take state_length (slot_state bytes)
+unfolding zeros
+current_shown bytes e =
+    ap (λ v. take (form_length v) (slot_state bytes) ++ zeros (state_length - form_length v)) (is_written (slot_version bytes) e)
+    ∙ append-nil (take state_length (slot_state bytes))
+  where
+    is_written : (v : ℕ) → (v == VERSION) ≡ true → v ≡ VERSION
+    is_written v e = grind (arith, nat_tests)
+
 pub kept_shows : (digests : Digests) (bytes : List ℕ) (records : ℕ) (state : List ℕ) → IsKept bytes records state →
     slot_shows digests bytes ≡ Shown digests (take state_length state) (stretch PIECE_AT (piece_length state) bytes)
 kept_shows digests bytes records state h =
@@ -115,8 +127,7 @@ kept_shows digests bytes records state h =
     let t : has_state bytes ≡ true = has_state_is bytes (omega (arith, h.number, h.few)) (ap (λ l. first_unsound (changes l)) r ∙ h.sound) in
     let s : slot_state bytes ≡ state = ap (λ l. changed (changes l) (base bytes)) r ∙ h.told in
     sound_shows digests bytes t
-    ∙ (ap (λ b. Shown digests (if b then take state_length (slot_state bytes) else take first_length (slot_state bytes)
-    ++ zeros 2048) (slot_piece bytes)) h.second
+    ∙ (ap (λ l. Shown digests l (slot_piece bytes)) (current_shown bytes h.current)
     ∙ ap (λ l. Shown digests (take state_length l) (stretch PIECE_AT (piece_length l) bytes)) s)
 
 -- ---- a slot that was written ----
@@ -164,7 +175,7 @@ whole_gives : (state piece old : List ℕ) → length state ≡ base_length → 
     length piece ≤ 65535 →
     IsKept (put 0 (slot_head 0) (put PIECE_AT piece (put BASE_AT state old))) 0 state
 whole_gives state piece old n long short = record {
-  second = refl;
+  current = refl;
   number = written_number 0 BASE_AT state piece old long (omega arith) short (omega arith);
   few = omega arith;
   sound = refl;
@@ -193,7 +204,7 @@ behind_gives n c was state records piece old h t l few long short =
     written_base (n + c) at records piece old long fits short few
     ∙ stretch_before BASE_AT base_length at records old (omega arith) (omega (arith, long)) in
     record {
-      second = refl;
+      current = refl;
       number = written_number (n + c) at records piece old long fits short few;
       few = few;
       sound = ap first_unsound all
@@ -216,7 +227,7 @@ takes_none false b c x e = refl
 takes_as : (n : ℕ) (was state old : List ℕ) → kept_slot old ≡ Some (record { records = n; state = was }) →
     takes_changes state old ≡ nat_le (n + differing was state) most_changes
 takes_as n was state old is =
-    let k = kept_some (is_second old) (has_state old) (record { records = two_byte_number 0 old; state = slot_state old }) n was is in
+    let k = kept_some (is_current old) (has_state old) (record { records = two_byte_number 0 old; state = slot_state old }) n was is in
     ap (λ b. b && has_state old && nat_le (records_with state old) most_changes) k.0
     ∙ (ap (λ b. true && b && nat_le (records_with state old) most_changes) k.1
     ∙ (ap (λ m. nat_le (m + differing (slot_state old) state) most_changes) k.2
@@ -235,7 +246,7 @@ exact_behind : (n c : ℕ) (was state bytes piece old : List ℕ) → bytes ≡ 
     rewritten (CHANGES_AT + 4 * n) bytes (n + c) piece old ≡ committed_slot state piece old
 unfolding committed_slot
 exact_behind n c was state bytes piece old e d few is =
-    let k = kept_some (is_second old) (has_state old) (record { records = two_byte_number 0 old; state = slot_state old }) n was is in
+    let k = kept_some (is_current old) (has_state old) (record { records = two_byte_number 0 old; state = slot_state old }) n was is in
     let t = takes_as n was state old is ∙ low n c (differing was state) d few in
     sym (ap (λ b. if b then rewritten (CHANGES_AT + 4 * two_byte_number 0 old) (differences (slot_state old) state) (records_with state old) piece old
     else rewritten BASE_AT state 0 piece old) t
@@ -280,7 +291,7 @@ drafts_behind n c was state bytes t l few = record {
 pub drafts_base : (state bytes : List ℕ) → bytes ≡ state → length state ≡ base_length →
     Drafts None state bytes (record { at = 64; records = 0 })
 drafts_base state bytes e n = drafts_whole None state bytes e n (λ piece. omega arith)
-    (λ old is. takes_none (is_second old) (has_state old) (nat_le (records_with state old) most_changes)
+    (λ old is. takes_none (is_current old) (has_state old) (nat_le (records_with state old) most_changes)
     (record { records = two_byte_number 0 old; state = slot_state old }) is)
 
 pub drafts_whole_as : (state bytes : List ℕ) (kept : Option SlotState) (draft : Draft) → bytes ≡ state →

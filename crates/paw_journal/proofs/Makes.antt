@@ -9,6 +9,7 @@ use Rattle.paw_stage.specs.Disk.{Range, Disk, is_dirty, IsInWrite, put, IsStable
 use Rattle.paw_stage.specs.Stage.{Standing, wrote, with_written}
 use Rattle.paw_stage.specs.Moments.{Moment, Passes, InWrite, InSync}
 use Rattle.paw_stage.proofs.Time.{Passes_map, Passes_on}
+use Rattle.paw_journal.specs.declared.layout.TheConstants.{VERSION}
 use Rattle.paw_journal.specs.Session.{Digests, IsUnmade, recover, mark, zeros, made_mark, session_length}
 use Rattle.paw_journal.specs.Session.{made_header}
 use Rattle.paw_journal.specs.inner.Session.{digests_of}
@@ -85,7 +86,7 @@ abbrev pub AreLong : Digests → Type 0
 AreLong digests = (length digests.game ≡ 32) × (length digests.routines ≡ 32)
 
 pub length_header : (first : ℕ) (digests : Digests) → AreLong digests → length (made_header first digests) ≡ 128
-length_header first digests n = header (first ∷ 0 ∷ 2 ∷ zeros 29) digests.game digests.routines (zeros 32)
+length_header first digests n = header (first ∷ 0 ∷ VERSION ∷ zeros 29) digests.game digests.routines (zeros 32)
     (omega (arith, length_zeros 29)) n.0 n.1 (length_zeros 32)
   where
     header : (head game routines behind : List ℕ) → length head ≡ 32 → length game ≡ 32 → length routines ≡ 32 →
@@ -105,9 +106,9 @@ put_over at a b c new n m =
 
 -- the digests written into a header that has none
 pub header_is : (game routines : List ℕ) → length game ≡ 32 → length routines ≡ 32 →
-    put 64 routines (put 32 game (0 ∷ 0 ∷ 2 ∷ replicate 125 0)) ≡ made_header 0 (digests_of game routines)
+    put 64 routines (put 32 game (0 ∷ 0 ∷ VERSION ∷ replicate 125 0)) ≡ made_header 0 (digests_of game routines)
 unfolding zeros
-header_is game routines n m = over (0 ∷ 0 ∷ 2 ∷ replicate 29 0) (replicate 32 0) (replicate 32 0) (replicate 32 0) refl refl n m
+header_is game routines n m = over (0 ∷ 0 ∷ VERSION ∷ replicate 29 0) (replicate 32 0) (replicate 32 0) (replicate 32 0) refl refl n m
   where
     over : (head one two behind : List ℕ) → length head ≡ 32 → length one ≡ 32 → length game ≡ 32 → length routines ≡ length two →
         put 64 routines (put 32 game (head ++ one ++ two ++ behind)) ≡ head ++ game ++ routines ++ behind

@@ -20,7 +20,7 @@ use Rattle.paw_journal.specs.Session.{session_length, slot_length, zeros, made_m
 use Rattle.paw_journal.specs.Session.{made_header, made_slot, made_session}
 use Rattle.paw_journal.specs.inner.Store.{IsBeside, InStore, Leaves, IsEither}
 use Rattle.paw_journal.specs.inner.Steps.{Introduces}
-use Rattle.paw_journal.specs.declared.layout.TheConstants.{BASE_AT, PIECE_AT}
+use Rattle.paw_journal.specs.declared.layout.TheConstants.{VERSION, BASE_AT, PIECE_AT}
 use Rattle.paw_journal.specs.Session.{base_length}
 use Rattle.paw_journal.proofs.Recovers.{recover_is, recover_made, both_digests}
 use Rattle.paw_journal.proofs.Makes.{AreLong, length_zeros, length_header}
@@ -29,12 +29,13 @@ use Rattle.paw_journal.proofs.Slots.{state_stays, piece_stays}
 use Rattle.paw_journal.proofs.Disks.{stable_is}
 use Rattle.paw_journal.proofs.Moved.{in_later}
 
-length_head : length (0 ∷ 0 ∷ 2 ∷ zeros 61) ≡ 64
+length_head : length (0 ∷ 0 ∷ VERSION ∷ zeros 61) ≡ 64
 length_head = omega (arith, length_zeros 61)
 
 pub length_slot : (state piece : List ℕ) → length state ≡ base_length → length piece ≤ 65535 →
     length (made_slot state piece) ≡ slot_length
-length_slot state piece n few = slots (0 ∷ 0 ∷ 2 ∷ zeros 61) state piece (zeros (81920 - length piece)) length_head n few (length_zeros (81920 - length piece))
+length_slot state piece n few =
+    slots (0 ∷ 0 ∷ VERSION ∷ zeros 61) state piece (zeros (81920 - length piece)) length_head n few (length_zeros (81920 - length piece))
   where
     slots : (head state piece behind : List ℕ) → length head ≡ 64 → length state ≡ base_length → length piece ≤ 65535 →
         length behind ≡ 81920 - length piece → length (head ++ state ++ piece ++ behind) ≡ slot_length
@@ -56,22 +57,22 @@ regroup a b c d = simp append_assoc
 
 made_base : (state piece : List ℕ) → length state ≡ base_length → base (made_slot state piece) ≡ state
 made_base state piece n =
-    ap (λ l. take base_length (drop BASE_AT l)) (regroup (0 ∷ 0 ∷ 2 ∷ zeros 61) state piece (zeros (81920 - length piece)))
-    ∙ (ap (take base_length) (drop_at (0 ∷ 0 ∷ 2 ∷ zeros 61) _ 64 length_head) ∙ take_at state _ base_length n)
+    ap (λ l. take base_length (drop BASE_AT l)) (regroup (0 ∷ 0 ∷ VERSION ∷ zeros 61) state piece (zeros (81920 - length piece)))
+    ∙ (ap (take base_length) (drop_at (0 ∷ 0 ∷ VERSION ∷ zeros 61) _ 64 length_head) ∙ take_at state _ base_length n)
 
 made_piece : (state piece : List ℕ) → length state ≡ base_length →
     stretch PIECE_AT (length piece) (made_slot state piece) ≡ piece
 made_piece state piece n =
-    ap (λ l. take (length piece) (drop PIECE_AT l)) (append_assoc (0 ∷ 0 ∷ 2 ∷ zeros 61 ++ state) piece (zeros (81920 - length piece)))
-    ∙ (ap (take (length piece)) (drop_at (0 ∷ 0 ∷ 2 ∷ zeros 61 ++ state) _ PIECE_AT
-    (head (0 ∷ 0 ∷ 2 ∷ zeros 61) state length_head n)) ∙ take_at piece _ (length piece) refl)
+    ap (λ l. take (length piece) (drop PIECE_AT l)) (append_assoc (0 ∷ 0 ∷ VERSION ∷ zeros 61 ++ state) piece (zeros (81920 - length piece)))
+    ∙ (ap (take (length piece)) (drop_at (0 ∷ 0 ∷ VERSION ∷ zeros 61 ++ state) _ PIECE_AT
+    (head (0 ∷ 0 ∷ VERSION ∷ zeros 61) state length_head n)) ∙ take_at piece _ (length piece) refl)
   where
     head : (z state : List ℕ) → length z ≡ 64 → length state ≡ base_length → length (z ++ state) ≡ PIECE_AT
     head z state h n = omega (arith, length-append z state)
 
 -- a slot that is made has its state, and shows it with its piece
 made_slot_kept : (state piece : List ℕ) → length state ≡ base_length → IsKept (made_slot state piece) 0 state
-made_slot_kept state piece n = record { second = refl; number = no_changes state piece; few = omega arith; sound = refl; told = made_base state piece n }
+made_slot_kept state piece n = record { current = refl; number = no_changes state piece; few = omega arith; sound = refl; told = made_base state piece n }
 
 made_slot_shows : (digests : Digests) (state piece : List ℕ) → length state ≡ base_length →
     piece_length state ≡ length piece →
@@ -98,10 +99,10 @@ made_slot_one digests first slots n l m =
 made_digests : (digests : Digests) (slots behind : List ℕ) → AreLong digests → kept_digests (made_header made_mark digests ++ slots ++ behind) ≡ digests
 made_digests digests slots behind n =
     both_digests _ _ _ _
-    (of_game (made_mark ∷ 0 ∷ 2 ∷ zeros 29) digests.game digests.routines (zeros 32) slots behind head n.0)
-    (of_routines (made_mark ∷ 0 ∷ 2 ∷ zeros 29) digests.game digests.routines (zeros 32) slots behind head n.0 n.1)
+    (of_game (made_mark ∷ 0 ∷ VERSION ∷ zeros 29) digests.game digests.routines (zeros 32) slots behind head n.0)
+    (of_routines (made_mark ∷ 0 ∷ VERSION ∷ zeros 29) digests.game digests.routines (zeros 32) slots behind head n.0 n.1)
   where
-    head : length (made_mark ∷ 0 ∷ 2 ∷ zeros 29) ≡ 32
+    head : length (made_mark ∷ 0 ∷ VERSION ∷ zeros 29) ≡ 32
     head = omega (arith, length_zeros 29)
 
     regroup : (a b c d e : List ℕ) → a ++ b ++ c ++ d ++ e ≡ a ++ (b ++ (c ++ (d ++ e)))

@@ -1,36 +1,25 @@
 -- How long a state and a piece are that bytes show, and whose session they are of.
-use Rattle.std.proofs.Common.{◌≡◌, ℕ, ◌+◌, ◌-◌, ◌≤◌, Bool, true, false, List, ◌++◌, Option, Some, None, length, take}
+use Rattle.std.proofs.Common.{◌≡◌, ℕ, ◌+◌, ◌-◌, ◌<◌, ◌≤◌, Bool, true, false, List, ◌++◌, Option, Some, None, length, take}
 use Rattle.std.proofs.Common.{drop, refl, sym, ap, ◌∙◌, arith, get_or}
 use Rattle.std.specs.Prelude.{if◌then◌else◌, nat_le}
 use Rattle.std.proofs.lemmas.List.{length-append, length-take-le, length-drop, get_or-take}
 use Rattle.paw_base.specs.declared.layout.TheConstants.{PIECE_LENGTH_AT}
 use Rattle.paw_journal.specs.declared.refusal.SessionPart.TheVariants as part
 use Rattle.paw_journal.specs.Session.{Digests, Damaged, Shown, recover, chosen, kept_digests, slot, slot_shows, shown_unless, first_unsound, slot_changes, slot_state}
-use Rattle.paw_journal.specs.Session.{slot_piece, shown_state, is_second, two_byte_number, piece_length, most_changes, state_length, first_length, zeros}
+use Rattle.paw_journal.specs.Session.{slot_piece, shown_state, form_length, slot_version, two_byte_number, piece_length, most_changes, state_length, zeros}
 use Rattle.paw_journal.specs.declared.layout.TheConstants.{PIECE_AT}
 use Rattle.paw_journal.specs.Session.{base_length, slot_length}
 use Rattle.paw_journal.proofs.Makes.{length_zeros}
 use Rattle.paw_journal.proofs.Recovers.{shown_made, recover_is, recover_made}
 use Rattle.paw_journal.proofs.Fills.{slot_long}
-use Rattle.paw_journal.proofs.Slots.{state_long, first_names}
+use Rattle.paw_journal.proofs.Slots.{state_long, form_bounds, form_names}
 
--- Both forms of a state give the piece's length where the slot's state does, and have as many bytes.
-form_names : (b : Bool) (state : List ℕ) → length state ≡ base_length →
-    piece_length (if b then take state_length state else take first_length state ++ zeros 2048) ≡ piece_length state
-form_names true state n =
-    let a : get_or (take state_length state) PIECE_LENGTH_AT 0 ≡ get_or state PIECE_LENGTH_AT 0 =
-    get_or-take state_length state PIECE_LENGTH_AT 0 (omega arith) in
-    let b : get_or (take state_length state) (PIECE_LENGTH_AT + 1) 0 ≡ get_or state (PIECE_LENGTH_AT + 1) 0 =
-    get_or-take state_length state (PIECE_LENGTH_AT + 1) 0 (omega arith) in
-    omega (arith, a, b)
-form_names false state n = first_names 2048 state n
-
-form_long : (b : Bool) (state : List ℕ) → length state ≡ base_length →
-    length (if b then take state_length state else take first_length state ++ zeros 2048) ≡ state_length
-form_long true state n = length-take-le state_length state (omega arith)
-form_long false state n =
-    let l = length-take-le first_length state (omega arith) in
-    omega (arith, length-append (take first_length state) (zeros 2048), l, length_zeros 2048)
+-- in the form of each version a state has as many bytes
+form_long : (n : ℕ) (state : List ℕ) → n ≤ state_length → length state ≡ base_length →
+    length (take n state ++ zeros (state_length - n)) ≡ state_length
+form_long n state few long =
+    let l = length-take-le n state (omega arith) in
+    omega (arith, length-append (take n state) (zeros (state_length - n)), l, length_zeros (state_length - n))
 
 same_shown : (d : Digests) (a p : List ℕ) (e : Digests) (b q : List ℕ) → Shown d a p ≡ Shown e b q → (d ≡ e) × (a ≡ b) × (p ≡ q)
 same_shown d a p e b q h = (cc, cc, cc)
@@ -70,16 +59,30 @@ pub shown_whole : (bytes : List ℕ) (digests : Digests) (state piece : List ℕ
 shown_whole bytes digests state piece e =
     let h = of_chosen bytes digests state piece e in
     let s = slot (chosen bytes) bytes in
-    ap length (sym h.1) ∙ form_long (is_second s) (slot_state s) (state_long s h.3)
+    ap length (sym h.1) ∙ form_long (form_length (slot_version s)) (slot_state s) (form_bounds (slot_version s)).1 (state_long s h.3)
 
 -- and the piece is as long as the state says
 pub shown_long : (bytes : List ℕ) (digests : Digests) (state piece : List ℕ) → recover bytes ≡ Shown digests state piece → piece_length state ≤ 81920 → length piece ≡ piece_length state
 shown_long bytes digests state piece e few =
     let h = of_chosen bytes digests state piece e in
     let s = slot (chosen bytes) bytes in
-    let n : piece_length state ≡ piece_length (slot_state s) = ap piece_length (sym h.1) ∙ form_names (is_second s) (slot_state s) (state_long s h.3) in
+    let m = form_length (slot_version s) in
+    let bounds = form_bounds (slot_version s) in
+    let n : piece_length state ≡ piece_length (slot_state s) =
+    ap piece_length (sym h.1) ∙ form_names m (state_length - m) (slot_state s) bounds.0 bounds.1 (state_long s h.3) in
     ap length (sym h.2) ∙ (length-take-le (piece_length (slot_state s)) (drop PIECE_AT s) (there _ _ _ _ (length-drop PIECE_AT s) h.3 n few)
     ∙ sym n)
   where
     there : (k d l m : ℕ) → d ≡ l - PIECE_AT → l ≡ slot_length → m ≡ k → m ≤ 81920 → k ≤ d
     there k d l m e f n few = omega arith
+
+-- so is a piece that stands beside a buffer whose first bytes are the state
+pub buffer_long : (bytes : List ℕ) (digests : Digests) (buffer piece : List ℕ) (n : ℕ) →
+    recover bytes ≡ Shown digests (take state_length buffer) piece → piece_length buffer ≡ n → n < 65536 → length piece ≡ n
+buffer_long bytes digests buffer piece n e is low =
+    let a : get_or (take state_length buffer) PIECE_LENGTH_AT 0 ≡ get_or buffer PIECE_LENGTH_AT 0 =
+    get_or-take state_length buffer PIECE_LENGTH_AT 0 (omega arith) in
+    let b : get_or (take state_length buffer) (PIECE_LENGTH_AT + 1) 0 ≡ get_or buffer (PIECE_LENGTH_AT + 1) 0 =
+    get_or-take state_length buffer (PIECE_LENGTH_AT + 1) 0 (omega arith) in
+    let m : piece_length (take state_length buffer) ≡ n = omega (arith, a, b, is) in
+    shown_long bytes digests (take state_length buffer) piece e (omega (arith, m, low)) ∙ m

@@ -1,8 +1,9 @@
 -- A slot that is put together, and one that is read.
 use Rattle.std.proofs.Common.{◌≡◌, ℕ, ◌+◌, ◌-◌, ◌*◌, ◌≤◌, ◌<◌, min, List, [], ◌∷◌, ◌++◌, get_or, length, take, drop, replicate, refl, sym, ap, ◌∙◌, true, false}
-use Rattle.std.proofs.Common.{arith}
-use Rattle.std.specs.Prelude.{slice_set, Bool, ◌&&◌, Option, Some, None, is_none, Result, Ok, is_ok, if◌then◌else◌, nat_le}
+use Rattle.std.proofs.Common.{arith, lit≤}
+use Rattle.std.specs.Prelude.{slice_set, ◌==◌, Bool, ◌&&◌, Option, Some, None, is_none, Result, Ok, is_ok, if◌then◌else◌, nat_le}
 use Rattle.std.proofs.lemmas.Bool.Decides.{nat_tests}
+use Rattle.std.proofs.lemmas.List.{drop-replicate}
 use Rattle.std.proofs.lemmas.List.{length-append, take-replicate, length-take-le, length-set, get_or-take, get_or_append_left, take_all, take_at}
 use Rattle.std.proofs.Math.Seq.{take-append-add}
 use Rattle.paw_base.specs.declared.layout.TheConstants.{PIECE_LENGTH_AT}
@@ -10,14 +11,14 @@ use Rattle.paw_journal.specs.declared.layout.Slot.{Slot}
 use Rattle.paw_journal.specs.declared.layout.Slot.TheVariants as which
 use Rattle.paw_journal.specs.declared.drafting.SlotState.{SlotState}
 use Rattle.paw_journal.specs.declared.refusal.SessionPart.TheVariants as part
-use Rattle.paw_journal.specs.Session.{Change, Digests, Damaged, Shown, piece_length, state_length, first_length, is_second, slot_piece, stretch, two_byte_number, base}
+use Rattle.paw_journal.specs.Session.{Change, Digests, Damaged, Shown, piece_length, state_length, first_length, is_current, slot_piece, stretch, two_byte_number, base}
 use Rattle.paw_journal.specs.Session.{changes, changed, first_unsound, slot_changes, slot_state, slot_shows, shown_unless, most_changes, slot}
-use Rattle.paw_journal.specs.Session.{has_state}
+use Rattle.paw_journal.specs.Session.{has_state, form_length, slot_version, shown_state}
 use Rattle.paw_journal.specs.Session.{slot_length, header_length, session_length, zeros}
 use Rattle.paw_journal.specs.inner.Room.{Room, kept_slot, with_slot_kept}
-use Rattle.paw_journal.specs.declared.layout.TheConstants.{BASE_AT, CHANGES_AT, PIECE_AT}
+use Rattle.paw_journal.specs.declared.layout.TheConstants.{VERSION, BASE_AT, CHANGES_AT, PIECE_AT}
 use Rattle.paw_journal.specs.Session.{base_length}
-use Rattle.paw_journal.proofs.Kept.{has_state_is, state_has, kept_shows, sound_shows, kept_of_both, kept_of_first, kept_of_broken}
+use Rattle.paw_journal.proofs.Kept.{has_state_is, state_has, kept_shows, sound_shows, kept_of_both, kept_of_older, kept_of_broken}
 use Rattle.paw_journal.proofs.Puts.{stretch_long}
 use Rattle.paw_journal.proofs.Makes.{length_zeros}
 use Rattle.paw_journal.proofs.Parts.{length_stretch}
@@ -114,8 +115,8 @@ pub records_are : (count : ℕ) (held bytes : List ℕ) → held ≡ bytes →
 records_are count held bytes e = let n : CHANGES_AT + 4 * count - CHANGES_AT ≡ 4 * count = omega arith in
     ap (λ k. take k (drop CHANGES_AT held)) n ∙ ap (stretch CHANGES_AT (4 * count)) e
 
--- There is room for state and piece after the head of a slot, and for the zeros after these.
-pub room_for_body : (r s : Room) (piece : List ℕ) → s.slot ≡ 0 ∷ 0 ∷ 2 ∷ [] → s.piece ≡ piece →
+-- there is room for state and piece behind the head of a slot, and for as many zeros behind these
+pub room_for_body : (r s : Room) (piece : List ℕ) → s.slot ≡ 0 ∷ 0 ∷ VERSION ∷ [] → s.piece ≡ piece →
     r ≡ record s { slot = s.slot ++ zeros 61 } → length piece ≤ 65535 →
     length r.slot + base_length + length r.piece ≤ slot_length
 room_for_body r s piece f g e few = omega (
@@ -129,7 +130,7 @@ room_for_body r s piece f g e few = omega (
   length_zeros 61,
 )
 
-pub room_behind : (q r s : Room) (state piece : List ℕ) (n : ℕ) → s.slot ≡ 0 ∷ 0 ∷ 2 ∷ [] → s.state ≡ state →
+pub room_behind : (q r s : Room) (state piece : List ℕ) (n : ℕ) → s.slot ≡ 0 ∷ 0 ∷ VERSION ∷ [] → s.state ≡ state →
     s.piece ≡ piece → r ≡ record s { slot = s.slot ++ zeros 61 } → length state ≡ base_length → length piece ≤ 65535 →
     q ≡ record r { slot = r.slot ++ r.state ++ r.piece } → n ≡ length piece → length q.slot + (81920 - n) ≤ slot_length
 room_behind q r s state piece n a b d e long few f k =
@@ -168,26 +169,45 @@ state_long bytes n =
     length-changed (slot_changes bytes) (base bytes)
     ∙ stretch_long BASE_AT base_length bytes (omega arith)
 
--- a state of version 1 in the form of version 2
-brought_shown : (state : List ℕ) → length state ≡ base_length →
-    take state_length (take first_length state ++ zeros 2725) ≡ take first_length state ++ zeros 2048
-unfolding zeros
-brought_shown state n =
-    let l : length (take first_length state) ≡ first_length = length-take-le first_length state (omega arith) in
-    ap (λ k. take (k + 2048) (take first_length state ++ replicate 2725 0)) (sym l)
-    ∙ (take-append-add (take first_length state) (replicate 2725 0) 2048 ∙ ap (λ z. take first_length state ++ z) (take-replicate 2048 2725 0 (omega arith)))
+-- a slot of any version has the bytes of a state up to those that tell the piece's length, and no more than a state has
+pub form_bounds : (version : ℕ) → (first_length ≤ form_length version) × (form_length version ≤ state_length)
+form_bounds version = bounds (version == VERSION)
+  where
+    bounds : (b : Bool) → let n = if b then state_length else first_length in (first_length ≤ n) × (n ≤ state_length)
+    bounds true = (lit≤ tt, lit≤ tt)
+    bounds false = (lit≤ tt, lit≤ tt)
 
--- A state of version 1 gives the piece's length, whatever number of zeros follows it.
-pub first_names : (count : ℕ) (state : List ℕ) → length state ≡ base_length →
-    piece_length (take first_length state ++ zeros count) ≡ piece_length state
-first_names count state n =
-    let l : length (take first_length state) ≡ first_length = length-take-le first_length state (omega arith) in
-    let a : get_or (take first_length state ++ zeros count) PIECE_LENGTH_AT 0 ≡ get_or state PIECE_LENGTH_AT 0 =
-    get_or_append_left (take first_length state) (zeros count) 0 PIECE_LENGTH_AT (omega arith)
-    ∙ get_or-take first_length state PIECE_LENGTH_AT 0 (omega arith) in
-    let b : get_or (take first_length state ++ zeros count) (PIECE_LENGTH_AT + 1) 0 ≡ get_or state (PIECE_LENGTH_AT + 1) 0 =
-    get_or_append_left (take first_length state) (zeros count) 0 (PIECE_LENGTH_AT + 1) (omega arith)
-    ∙ get_or-take first_length state (PIECE_LENGTH_AT + 1) 0 (omega arith) in
+-- the first n bytes of a state, and zeros
+brought_shown : (n : ℕ) (state : List ℕ) → n ≤ state_length → length state ≡ base_length →
+    take state_length (take n state ++ zeros (base_length - n)) ≡ take n state ++ zeros (state_length - n)
+unfolding zeros
+brought_shown n state few long =
+    let l : length (take n state) ≡ n = length-take-le n state (omega arith) in
+    let e : state_length ≡ length (take n state) + (state_length - n) = omega arith in
+    let left : List ℕ = replicate (base_length - n) 0 in
+    ap (λ k. take k (take n state ++ left)) e
+    ∙ (take-append-add (take n state) left (state_length - n)
+    ∙ ap (λ z. take n state ++ z) (take-replicate (state_length - n) (base_length - n) 0 (omega arith)))
+
+-- these are what is put together of them
+pub brought_is : (n k : ℕ) (front state : List ℕ) → k ≡ n → front ≡ take k state →
+    front ++ drop k (replicate base_length 0) ≡ take n state ++ zeros (base_length - n)
+unfolding zeros
+brought_is n k front state e f =
+    ap (λ l. l ++ drop k (replicate base_length 0)) f
+    ∙ (ap (λ l. take k state ++ l) (drop-replicate k base_length 0) ∙ ap (λ m. take m state ++ replicate (base_length - m) 0) e)
+
+-- they tell the piece's length, whatever number of zeros stands behind them
+pub form_names : (n count : ℕ) (state : List ℕ) → first_length ≤ n → n ≤ state_length → length state ≡ base_length →
+    piece_length (take n state ++ zeros count) ≡ piece_length state
+form_names n count state many few long =
+    let l : length (take n state) ≡ n = length-take-le n state (omega arith) in
+    let a : get_or (take n state ++ zeros count) PIECE_LENGTH_AT 0 ≡ get_or state PIECE_LENGTH_AT 0 =
+    get_or_append_left (take n state) (zeros count) 0 PIECE_LENGTH_AT (omega arith)
+    ∙ get_or-take n state PIECE_LENGTH_AT 0 (omega arith) in
+    let b : get_or (take n state ++ zeros count) (PIECE_LENGTH_AT + 1) 0 ≡ get_or state (PIECE_LENGTH_AT + 1) 0 =
+    get_or_append_left (take n state) (zeros count) 0 (PIECE_LENGTH_AT + 1) (omega arith)
+    ∙ get_or-take n state (PIECE_LENGTH_AT + 1) 0 (omega arith) in
     omega (arith, a, b)
 
 -- a slot that was read, and the state that was taken out of it
@@ -197,8 +217,8 @@ module _ (w : Slot) (kept : SlotState) (old shown now : Room) (n : length old.sl
     told : kept.state ≡ slot_state old.slot
     told = ap (λ x. x.state) k
 
-    -- of version 2
-    pub taken_shows : (digests : Digests) → is_second old.slot ≡ true →
+    -- of the version that is written
+    pub taken_shows : (digests : Digests) → is_current old.slot ≡ true →
         shown ≡ record old { state = kept.state; piece = stretch PIECE_AT (piece_length kept.state) old.slot } →
         now ≡ with_slot_kept w (Some kept) shown →
         slot_shows digests old.slot ≡ Shown digests (take state_length now.state) now.piece
@@ -211,7 +231,7 @@ module _ (w : Slot) (kept : SlotState) (old shown now : Room) (n : length old.sl
         ∙ (ap (λ l. Shown digests (take state_length l) (stretch PIECE_AT (piece_length (slot_state old.slot)) old.slot))
         (sym a) ∙ ap (Shown digests (take state_length now.state)) (sym b))
 
-    pub taken_kept : is_second old.slot ≡ true →
+    pub taken_kept : is_current old.slot ≡ true →
         shown ≡ record old { state = kept.state; piece = stretch PIECE_AT (piece_length kept.state) old.slot } →
         now ≡ with_slot_kept w (Some kept) shown →
         now ≡ with_slot_kept w (kept_slot old.slot) (record old { state = now.state; piece = now.piece })
@@ -225,27 +245,29 @@ module _ (w : Slot) (kept : SlotState) (old shown now : Room) (n : length old.sl
         ∙ ap (λ l. record old { state = now.state; piece = l }) (sym b)) in
         f ∙ (ap (λ x. with_slot_kept w x shown) q ∙ ap (with_slot_kept w (kept_slot old.slot)) r)
 
-    -- of version 1
-    pub brought_shows : (digests : Digests) (state : List ℕ) → is_second old.slot ≡ false →
-        state ≡ take first_length kept.state ++ zeros 2725 →
+    -- of any version
+    pub brought_shows : (digests : Digests) (state : List ℕ) →
+        state ≡ take (form_length (slot_version old.slot)) kept.state ++ zeros (base_length - form_length (slot_version old.slot)) →
         shown ≡ record old { state = state; piece = stretch PIECE_AT (piece_length state) old.slot } →
         now ≡ with_slot_kept w None shown → slot_shows digests old.slot ≡ Shown digests (take state_length now.state) now.piece
-    brought_shows digests state e i s f =
+    brought_shows digests state i s f =
+        let m = form_length (slot_version old.slot) in
+        let bounds = form_bounds (slot_version old.slot) in
         let long : length (slot_state old.slot) ≡ base_length = state_long old.slot n in
-        let st : state ≡ take first_length (slot_state old.slot) ++ zeros 2725 = i ∙ ap (λ l. take first_length l ++ zeros 2725) told in
+        let st : state ≡ take m (slot_state old.slot) ++ zeros (base_length - m) =
+        i ∙ ap (λ l. take m l ++ zeros (base_length - m)) told in
         let a : now.state ≡ state = ap (λ r. r.state) f ∙ (state_stays w None shown ∙ ap (λ r. r.state) s) in
         let b : now.piece ≡ stretch PIECE_AT (piece_length state) old.slot =
         ap (λ r. r.piece) f ∙ (piece_stays w None shown ∙ ap (λ r. r.piece) s) in
-        let c : take state_length now.state ≡ take first_length (slot_state old.slot) ++ zeros 2048 =
-        ap (take state_length) (a ∙ st) ∙ brought_shown (slot_state old.slot) long in
-        let p : now.piece ≡ slot_piece old.slot =
-        b ∙ ap (λ m. stretch PIECE_AT m old.slot) (ap piece_length st ∙ first_names 2725 (slot_state old.slot) long) in
+        let c : take state_length now.state ≡ shown_state old.slot =
+        ap (take state_length) (a ∙ st) ∙ brought_shown m (slot_state old.slot) bounds.1 long in
+        let names = form_names m (base_length - m) (slot_state old.slot) bounds.0 bounds.1 long in
+        let p : now.piece ≡ slot_piece old.slot = b ∙ ap (λ m. stretch PIECE_AT m old.slot) (ap piece_length st ∙ names) in
         sound_shows digests old.slot t
-        ∙ (ap (λ x. Shown digests (if x then take state_length (slot_state old.slot) else take first_length
-        (slot_state old.slot) ++ zeros 2048) (slot_piece old.slot)) e
-        ∙ (ap (λ l. Shown digests l (slot_piece old.slot)) (sym c) ∙ ap (Shown digests (take state_length now.state)) (sym p)))
+        ∙ (ap (λ l. Shown digests l (slot_piece old.slot)) (sym c) ∙ ap (Shown digests (take state_length now.state)) (sym p))
 
-    pub brought_kept : (state : List ℕ) → is_second old.slot ≡ false →
+    -- of an older one
+    pub brought_kept : (state : List ℕ) → is_current old.slot ≡ false →
         shown ≡ record old { state = state; piece = stretch PIECE_AT (piece_length state) old.slot } →
         now ≡ with_slot_kept w None shown → now
         ≡ with_slot_kept w (kept_slot old.slot) (record old { state = now.state; piece = now.piece })
@@ -256,15 +278,15 @@ module _ (w : Slot) (kept : SlotState) (old shown now : Room) (n : length old.sl
         let r : shown ≡ record old { state = now.state; piece = now.piece } =
         s ∙ (ap (λ l. record old { state = l; piece = stretch PIECE_AT (piece_length state) old.slot }) (sym a)
         ∙ ap (λ l. record old { state = now.state; piece = l }) (sym b)) in
-        f ∙ (ap (λ x. with_slot_kept w x shown) (sym (kept_of_first old.slot e)) ∙ ap (with_slot_kept w (kept_slot old.slot)) r)
+        f ∙ (ap (λ x. with_slot_kept w x shown) (sym (kept_of_older old.slot e)) ∙ ap (with_slot_kept w (kept_slot old.slot)) r)
 
 -- what is kept of a slot that was read
 pub kept_is_none : (bytes : List ℕ) → has_state bytes ≡ false → None ≡ kept_slot bytes
 kept_is_none bytes e = sym (kept_of_broken bytes e)
 
-pub kept_is_some : (bytes : List ℕ) (kept : SlotState) → is_second bytes ≡ true → has_state bytes ≡ true →
+pub kept_is_some : (bytes : List ℕ) (kept : SlotState) → is_current bytes ≡ true → has_state bytes ≡ true →
     kept ≡ record { records = two_byte_number 0 bytes; state = slot_state bytes } → Some kept ≡ kept_slot bytes
 kept_is_some bytes kept e f k = ap Some k ∙ sym (kept_of_both bytes e f)
 
-pub kept_is_first : (bytes : List ℕ) → is_second bytes ≡ false → None ≡ kept_slot bytes
-kept_is_first bytes e = sym (kept_of_first bytes e)
+pub kept_is_older : (bytes : List ℕ) → is_current bytes ≡ false → None ≡ kept_slot bytes
+kept_is_older bytes e = sym (kept_of_older bytes e)

@@ -9,6 +9,7 @@ use Rattle.paw_base.specs.Bytes.{Bytes, Text}
 use Rattle.paw_stage.specs.Disk.{put}
 use Rattle.paw_journal.specs.declared.layout.TheConstants.{HEADER_LENGTH, SLOT_LENGTH, SESSION_LENGTH, BASE_AT}
 use Rattle.paw_journal.specs.declared.layout.TheConstants.{BASE_LENGTH, PIECE_AT, CHANGES_AT, MOST_CHANGES}
+use Rattle.paw_journal.specs.declared.layout.TheConstants.{FIRST_VERSION, VERSION}
 use Rattle.paw_journal.specs.declared.refusal.SessionPart.{SessionPart}
 use Rattle.paw_journal.specs.declared.refusal.SessionPart.TheVariants as part
 
@@ -48,9 +49,10 @@ chosen bytes = slice_index bytes 1 % 2
 abbrev pub version : Bytes → ℕ
 version bytes = slice_index bytes 2
 
--- Whether a session may be of this version: 1 or 2. Each slot has its own, and the session's decides nothing else.
+-- The versions of a session: from the first up to the one that is written. Each slot has one of its own, and the
+-- session's decides nothing else.
 abbrev pub is_version : ℕ → Bool
-is_version n = (n == 1) || (n == 2)
+is_version n = nat_le FIRST_VERSION n && nat_le n VERSION
 
 -- The digests of what a session belongs to: its game, and the routines that it is played with.
 pub record Digests : Type 0 where
@@ -80,9 +82,13 @@ base_length = BASE_LENGTH
 abbrev pub most_changes : ℕ
 most_changes = MOST_CHANGES
 
--- Whether a slot is of version 2: its byte 2 is 2. Any other slot is of version 1.
-abbrev pub is_second : Bytes → Bool
-is_second bytes = slice_index bytes 2 == 2
+-- Byte 2 of a slot: its version.
+abbrev pub slot_version : Bytes → ℕ
+slot_version bytes = slice_index bytes 2
+
+-- Whether a slot is of the version that is written.
+abbrev pub is_current : Bytes → Bool
+is_current bytes = slot_version bytes == VERSION
 
 -- The base of a slot.
 abbrev pub base : Bytes → Bytes
@@ -133,10 +139,15 @@ state_length = STATE_LENGTH
 abbrev pub first_length : ℕ
 first_length = FIRST_LENGTH
 
--- The state that a slot shows. In version 1 no position is kept, whatever follows the state.
+-- How many bytes of a state a slot of this version has. One that isn't of the version that is written is read as one
+-- of version 1.
+abbrev pub form_length : ℕ → ℕ
+form_length version = if version == VERSION then state_length else first_length
+
+-- The state that a slot shows: the bytes that its version has, whatever stands behind them, and zeros for the others.
 abbrev pub shown_state : Bytes → Bytes
 shown_state bytes =
-    if is_second bytes then take state_length (slot_state bytes) else take first_length (slot_state bytes) ++ zeros 2048
+    let n = form_length (slot_version bytes) in take n (slot_state bytes) ++ zeros (state_length - n)
 
 -- The length in bytes of the piece of a state.
 abbrev pub piece_length : Bytes → ℕ
@@ -185,13 +196,14 @@ IsUnmade (Shown d s p) = ⊥
 
 -- ---- what is written ----
 
--- A slot that is newly made: no change records, version 2, this state as its base, and this piece.
-abbrev pub made_slot : Bytes → Text → Bytes
-made_slot state piece = 0 ∷ 0 ∷ 2 ∷ zeros 61 ++ state ++ piece ++ zeros (81920 - length piece)
+-- A slot as it is made: no change records, the version that is written, this state as its base, and this piece.
+abbrev pub made_slot : List ℕ → List ℕ → List ℕ
+made_slot state piece = 0 ∷ 0 ∷ VERSION ∷ zeros 61 ++ state ++ piece ++ zeros (81920 - length piece)
 
--- A header that is newly made, with this mark and these digests: slot 0 is in use, and the version is 2.
-abbrev pub made_header : ℕ → Digests → Bytes
-made_header mark digests = mark ∷ 0 ∷ 2 ∷ zeros 29 ++ digests.game ++ digests.routines ++ zeros 32
+-- A header as it is made, with this mark and these digests: slot 0 is in use, and the version is the one that is
+-- written.
+abbrev pub made_header : ℕ → Digests → List ℕ
+made_header mark digests = mark ∷ 0 ∷ VERSION ∷ zeros 29 ++ digests.game ++ digests.routines ++ zeros 32
 
 -- A session that is newly made: both slots have this state and this piece.
 abbrev pub made_session : Digests → Bytes → Text → Bytes
@@ -217,22 +229,22 @@ differences_from at old new = []
 abbrev pub differences : Bytes → Bytes → Bytes
 differences old new = differences_from 0 old new
 
--- The first bytes of a slot of version 2 with this number of change records.
-abbrev pub slot_head : ℕ → Bytes
-slot_head records = (records % 256) ∷ (records / 256) ∷ 2 ∷ []
+-- The first bytes of a slot of the version that is written with so many change records.
+abbrev pub slot_head : ℕ → List ℕ
+slot_head records = (records % 256) ∷ (records / 256) ∷ VERSION ∷ []
 
--- A slot once it is given version 2, this number of change records, this piece, and these bytes at a place; all its
--- other bytes stay.
-abbrev pub rewritten : ℕ → Bytes → ℕ → Text → Bytes → Bytes
+-- A slot that is of the version that is written from now on, with so many change records, this piece, and these bytes
+-- from a place on. All its other bytes are as they were.
+abbrev pub rewritten : ℕ → List ℕ → ℕ → List ℕ → List ℕ → List ℕ
 rewritten at new records piece bytes = put 0 (slot_head records) (put PIECE_AT piece (put at new bytes))
 
 -- How many change records a slot has once those are added that give it this state.
 abbrev pub records_with : Bytes → Bytes → ℕ
 records_with state bytes = two_byte_number 0 bytes + differing (slot_state bytes) state
 
--- Whether a commit adds change records to a slot: it is of version 2, has a state, and has room for them.
-abbrev pub takes_changes : Bytes → Bytes → Bool
-takes_changes state bytes = is_second bytes && has_state bytes && nat_le (records_with state bytes) most_changes
+-- A commit adds change records to a slot that is of the version that is written, has a state, and has room for them.
+abbrev pub takes_changes : List ℕ → List ℕ → Bool
+takes_changes state bytes = is_current bytes && has_state bytes && nat_le (records_with state bytes) most_changes
 
 -- A slot after a commit gave it this state and this piece: by change records after those that it has, or by its base,
 -- written whole.

@@ -148,5 +148,5 @@ fn digest_at(bytes: &[u8; HEADER_LENGTH], at: usize) -> [u8; DIGEST_LENGTH]
 fn is_known_version(version: u8) -> bool
     ensures value { result ≡ is_version version }
 {
-    version == FIRST_VERSION || version == VERSION
+    FIRST_VERSION <= version && version <= VERSION
 }

@@ -1,7 +1,8 @@
 // Reading the state of a slot.
 
-ghost use Rattle.std.specs.Prelude.{◌≡◌, ◌++◌, length, take, true, false, OnOk, OnErr, IfOk, IfErr};
-ghost use Rattle.paw_journal.specs.Session.{Digests, slot_length, is_second, has_state, first_length, zeros};
+ghost use Rattle.std.specs.Prelude.{◌≡◌, ◌-◌, ◌≤◌, ◌++◌, length, take, true, false, OnOk, OnErr, IfOk, IfErr};
+ghost use Rattle.paw_journal.specs.Session.{Digests, slot_length, base_length, state_length, is_current, has_state, zeros};
+ghost use Rattle.paw_journal.specs.Session.{slot_version, form_length};
 ghost use Rattle.paw_journal.specs.inner.Session.{IsDamagedAt};
 ghost use Rattle.paw_journal.specs.inner.Room.{kept_slot, state_in};
 
@@ -11,7 +12,7 @@ use crate::layout::{
     BASE_AT, BASE_LENGTH, CHANGE_LENGTH, CHANGES_AT, MOST_CHANGES, SLOT_VERSION_AT, VERSION,
     number_at,
 };
-use paw_base::layout::FIRST_LENGTH;
+use paw_base::layout::{FIRST_LENGTH, STATE_LENGTH};
 
 /// The state of a slot with these bytes: its base with its change records applied.
 ///
@@ -43,7 +44,7 @@ pub(crate) fn state_in(slot: &[u8]) -> Result<SlotState, u64>
 /// Whether a slot with these bytes is of the version that is written.
 pub(crate) fn is_current(slot: &[u8]) -> bool
     requires whole { length slot.now ≡ slot_length }
-    ensures value { result ≡ is_second slot.now }
+    ensures value { result ≡ is_current slot.now }
 {
     slot[SLOT_VERSION_AT] == VERSION
 }
@@ -62,12 +63,29 @@ pub(crate) fn kept_in(slot: &[u8]) -> Option<SlotState>
     }
 }
 
-/// A state of the first version in today's form: it keeps no positions, whatever followed it.
-#[tactic(auto, unfolding(paw_base::specs::Bytes::zeros))]
-pub(crate) fn brought_up(state: &[u8; 4096]) -> [u8; 4096]
-    ensures value { result ≡ take first_length state.now ++ zeros 2725 }
+/// How many bytes of a state a slot of this version has.
+fn form_length(version: u8) -> usize
+    ensures value { result ≡ form_length version }
+    ensures few { result ≤ state_length }
 {
+    if version == VERSION {
+        STATE_LENGTH
+    } else {
+        FIRST_LENGTH
+    }
+}
+
+/// The state of a slot with these bytes in the form of today: what its version has of it, and zeros for the rest,
+/// whatever stood there.
+#[tactic(auto, unfolding(paw_base::specs::Bytes::zeros))]
+pub(crate) fn brought_up(slot: &[u8], state: &[u8; 4096]) -> [u8; 4096]
+    requires whole { length slot.now ≡ slot_length }
+    ensures value { result ≡
+        take (form_length (slot_version slot.now)) state.now
+        ++ zeros (base_length - form_length (slot_version slot.now)) }
+{
+    let length = form_length(slot[SLOT_VERSION_AT]);
     let mut now = [0; BASE_LENGTH];
-    now[..FIRST_LENGTH].copy_from_slice(&state[..FIRST_LENGTH]);
+    now[..length].copy_from_slice(&state[..length]);
     now
 }

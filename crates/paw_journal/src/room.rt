@@ -7,6 +7,7 @@ ghost use Rattle.paw_stage.specs.Moments.{Still};
 ghost use Rattle.paw_stage.specs.Across.{Serves};
 ghost use Rattle.paw_stage.specs.inner.Across.{Throughout};
 ghost use Rattle.paw_journal.specs.Session.{Digests, slot_length, session_length, zeros, has_state, made_slot};
+ghost use Rattle.paw_journal.specs.declared.layout.TheConstants.{VERSION};
 ghost use Rattle.paw_journal.specs.inner.Session.{IsDamagedAt};
 ghost use Rattle.paw_journal.specs.inner.Room.{kept_slot, kept_of, with_slot_kept, with_made, with_state, state_in};
 ghost use Rattle.paw_journal.specs.inner.Room.{HasRead, ShowsSlot, KeepsRead};
@@ -161,7 +162,7 @@ impl Room {
     // Adds the first bytes of a slot with no change records.
     fn add_head(&mut self)
         requires empty { self.old.slot ≡ [] }
-        ensures value { self.new ≡ record self.old { slot = 0 ∷ 0 ∷ 2 ∷ [] } }
+        ensures value { self.new ≡ record self.old { slot = 0 ∷ 0 ∷ VERSION ∷ [] } }
     {
         // The memory was taken by `new`.
         self.slot.extend_from_slice(&[0, 0, VERSION]).unwrap();
@@ -237,7 +238,8 @@ impl Room {
             self.show(&kept.state);
             self.keep(which, Some(kept));
         } else {
-            self.show(&brought_up(&kept.state));
+            let state = brought_up(self.slot(), &kept.state);
+            self.show(&state);
             self.keep(which, None);
         }
     }

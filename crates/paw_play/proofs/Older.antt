@@ -1,5 +1,5 @@
 -- An older session of a game that never saves stands for its lines.
-use Rattle.std.proofs.Common.{◌≡◌, ℕ, Bool, true, false, List, [], ◌++◌, Option, Some, None, length, take, refl, sym, ap, ◌∙◌, arith}
+use Rattle.std.proofs.Common.{◌≡◌, ℕ, ◌-◌, Bool, true, false, List, [], ◌++◌, Option, Some, None, length, take, refl, sym, ap, ◌∙◌, arith}
 use Rattle.std.specs.Prelude.{if◌then◌else◌, nat_le}
 use Rattle.std.proofs.lemmas.List.{length-take-le, take_at}
 use Rattle.paw_game.specs.Game.{GameLists}
@@ -11,7 +11,8 @@ use Rattle.paw_reading.specs.inner.Saving.{no_positions, EndsKeeping}
 use Rattle.paw_reading.proofs.Saving.{readings_keep_no_position}
 use Rattle.paw_journal.specs.declared.refusal.SessionPart.TheVariants as part
 use Rattle.paw_journal.specs.Session.{Digests, Damaged, Shown, recover, chosen, kept_digests, slot, slot_shows, shown_unless, first_unsound, slot_changes}
-use Rattle.paw_journal.specs.Session.{slot_state, shown_state, is_second, two_byte_number, most_changes, state_length, first_length, zeros}
+use Rattle.paw_journal.specs.Session.{slot_state, shown_state, two_byte_number, most_changes, state_length, first_length, zeros}
+use Rattle.paw_journal.specs.Session.{form_length, slot_version, base_length}
 use Rattle.paw_journal.proofs.Recovers.{shown_made, recover_is, recover_made}
 use Rattle.paw_journal.proofs.Fills.{slot_long}
 use Rattle.paw_journal.proofs.Slots.{state_long}
@@ -40,16 +41,19 @@ unfolding slot_shows
 by_slot digests s d st p e = by_count digests s d st p (nat_le (two_byte_number 0 s) most_changes) e
 
 -- of version 1, a slot shows its first 1,371 bytes and zeros
-shown_first : (s st : List ℕ) → is_second s ≡ false → shown_state s ≡ st → length (slot_state s) ≡ 4096 → take 1371 st ++ zeros 2048 ≡ st
+shown_first : (s st : List ℕ) → form_length (slot_version s) ≡ first_length → shown_state s ≡ st → length (slot_state s) ≡ base_length
+    → take first_length st ++ zeros (state_length - first_length) ≡ st
 shown_first s st first is n =
     let head : List ℕ = take first_length (slot_state s) in
-    let form : st ≡ head ++ zeros 2048 = sym is ∙ ap (λ (b : Bool). if b then take state_length (slot_state s) else head ++ zeros 2048) first in
-    let l : length head ≡ 1371 = length-take-le 1371 (slot_state s) (omega (arith, n)) in
-    ap (λ (x : List ℕ). x ++ zeros 2048) (ap (take 1371) form ∙ take_at head (zeros 2048) 1371 l) ∙ sym form
+    let behind : List ℕ = zeros (state_length - first_length) in
+    let form : st ≡ head ++ behind = sym is ∙ ap (λ (n : ℕ). take n (slot_state s) ++ zeros (state_length - n)) first in
+    let l : length head ≡ first_length = length-take-le first_length (slot_state s) (omega (arith, n)) in
+    ap (λ (x : List ℕ). x ++ behind) (ap (take first_length) form ∙ take_at head behind first_length l) ∙ sym form
 
 -- so does a store whose slot in use is of version 1
-chosen_first : (bytes : List ℕ) (digests : Digests) (state piece : List ℕ) → is_second (slot (chosen bytes) bytes) ≡ false → recover bytes ≡ Shown digests state piece
-    → take 1371 state ++ zeros 2048 ≡ state
+chosen_first : (bytes : List ℕ) (digests : Digests) (state piece : List ℕ) → form_length (slot_version (slot (chosen bytes) bytes)) ≡ first_length
+    → recover bytes ≡ Shown digests state piece
+    → take first_length state ++ zeros (state_length - first_length) ≡ state
 chosen_first bytes digests state piece first e =
     let made = shown_made bytes digests state piece e in
     let s = slot (chosen bytes) bytes in
@@ -60,12 +64,13 @@ chosen_first bytes digests state piece first e =
 -- ---- the state where a reading ended ----
 
 state_same : (g : GameLists) (v : Valid g) (st : State) → Keeps g st → FitsFields st → st.world.kept ≡ no_positions
-    → (bytes : List ℕ) (digests : Digests) (state piece : List ℕ) → is_second (slot (chosen bytes) bytes) ≡ false → recover bytes ≡ Shown digests state piece
+    → (bytes : List ℕ) (digests : Digests) (state piece : List ℕ) → form_length (slot_version (slot (chosen bytes) bytes)) ≡ first_length
+    → recover bytes ≡ Shown digests state piece
     → take first_length state ≡ take first_length (kept_bytes st) → recover bytes ≡ Shown digests (kept_bytes st) piece
 unfolding kept_bytes
 state_same g v st keeps fits none bytes digests state piece first shown same =
     let is : state ≡ kept_bytes st = sym (chosen_first bytes digests state piece first shown)
-    ∙ (ap (λ (x : List ℕ). x ++ zeros 2048) same ∙ ends_in_zeros st (long_state g st v keeps fits) none) in
+    ∙ (ap (λ (x : List ℕ). x ++ zeros (state_length - first_length)) same ∙ ends_in_zeros st (long_state g st v keeps fits) none) in
     shown ∙ ap (λ (x : List ℕ). Shown digests x piece) is
 
 ending_kept : (g : GameLists) (v : Valid g) (digests : Digests) (n : ℕ) (bytes : List ℕ) (e : Ending) → IsSettled g n e → EndsKeeping no_positions e

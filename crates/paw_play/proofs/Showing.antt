@@ -1,7 +1,6 @@
 -- What the bytes of a store show.
-use Rattle.std.proofs.Common.{◌≡◌, ℕ, ◌+◌, ◌*◌, ◌<◌, List, [], Option, Some, None, refl, sym, ap, ◌∙◌, subst, length, take, get_or, arith}
+use Rattle.std.proofs.Common.{◌≡◌, ℕ, ◌+◌, ◌*◌, ◌<◌, List, [], Option, Some, None, refl, sym, ap, ◌∙◌, subst, length, take, arith}
 use Rattle.std.specs.Prelude.{IfNone}
-use Rattle.std.proofs.lemmas.List.{get_or-take}
 use Rattle.paw_game.specs.Game.{GameLists}
 use Rattle.paw_game.specs.Valid.{Valid}
 use Rattle.paw_world.specs.World.{Position, IsSavedFor}
@@ -23,7 +22,7 @@ use Rattle.paw_turn.specs.inner.Parts.{Fits, IsPending, prompt_step, seat_at}
 use Rattle.paw_turn.specs.inner.Player.{Seat, StandsClosed, IsSeated}
 use Rattle.paw_turn.proofs.Seating.{restored_fits}
 use Rattle.paw_journal.specs.Session.{Digests, Shown, recover, kept_digests, piece_length, state_length}
-use Rattle.paw_journal.proofs.ShownPieces.{shown_long}
+use Rattle.paw_journal.proofs.ShownPieces.{shown_long, buffer_long}
 use Rattle.paw_state.specs.State.{State, Keeps, FitsFields, HoldsBytes}
 use Rattle.paw_state.specs.inner.State.{state_of}
 use Rattle.paw_state.specs.State.{state_bytes}
@@ -58,18 +57,6 @@ one_state g d e bytes name s t p q valid h k =
     let one = same_shown d e (kept_bytes s) p (kept_bytes t) q (sym h.shown ∙ k.shown) in
     let state : s ≡ t = bytes_tell_the_state g.game s t valid h.keeps h.fits k.keeps k.fits (bytes_same s t one.1) in
     ap (λ x. from_state g x p d name) state ∙ ap (λ x. from_state g t x d name) one.2 ∙ ap (λ x. from_state g t q x name) one.0
-
--- ---- the piece is as long as the state says ----
-
--- the piece that stands beside a buffer is as long as the buffer says
-buffer_long : (bytes : List ℕ) (digests : Digests) (buffer piece : List ℕ) (n : ℕ) →
-    recover bytes ≡ Shown digests (take state_length buffer) piece →
-    get_or buffer 1369 0 + 256 * get_or buffer 1370 0 ≡ n → n < 65536 → length piece ≡ n
-buffer_long bytes digests buffer piece n e is low =
-    let a : get_or (take state_length buffer) 1369 0 ≡ get_or buffer 1369 0 = get_or-take 3419 buffer 1369 0 (omega arith) in
-    let b : get_or (take state_length buffer) 1370 0 ≡ get_or buffer 1370 0 = get_or-take 3419 buffer 1370 0 (omega arith) in
-    let m : piece_length (take state_length buffer) ≡ n = omega (arith, a, b, is) in
-    shown_long bytes digests (take state_length buffer) piece e (omega (arith, m, low)) ∙ m
 
 -- ---- parts that were read fit a player ----
 
@@ -112,7 +99,7 @@ read_fits g bytes r is =
 
 pub resumed : {F : Type 0} (g : Story) (name buffer state piece : List ℕ) (r : Restored) (first : Standing) (routines : Routines F) (seat : Seat F) →
     recover first.disk.bytes ≡ Shown (kept_digests first.disk.bytes) (take state_length state) piece → buffer ≡ state → IsRead g.game buffer r →
-    get_or buffer 1369 0 + 256 * get_or buffer 1370 0 ≡ r.piece →
+    piece_length buffer ≡ r.piece →
     seat ≡ seat_at g.game routines r.world r.machine r.pending r.prompt → IsSeated seat → IsStore name first →
     MadeOfRead g name piece r first routines seat
 resumed g name buffer state piece r first routines seat shown same read long is seated store =

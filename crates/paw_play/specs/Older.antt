@@ -1,21 +1,21 @@
--- Sessions of version 1, whose states have no kept positions.
-use Rattle.std.specs.Prelude.{◌≡◌, ℕ, ◌≤◌, false, length, take}
-use Rattle.paw_base.specs.Bytes.{Bytes, Lines, Seed}
+-- Sessions of version 1, of which the states have no kept positions.
+use Rattle.std.specs.Prelude.{◌≡◌, ℕ, ◌≤◌, List, length, take}
 use Rattle.paw_base.specs.declared.limits.TheConstants.{EVENT_LIMIT}
 use Rattle.paw_effects.specs.Story.{Story}
 use Rattle.paw_reading.specs.Turn.{Ending, reading, pieces_of}
 use Rattle.paw_reading.specs.Saving.{NeverSaves}
-use Rattle.paw_journal.specs.Session.{Digests, Shown, recover, chosen, slot, is_second, first_length}
+use Rattle.paw_journal.specs.Session.{Digests, Shown, recover, chosen, slot, slot_version, form_length, first_length}
 use Rattle.paw_state.specs.Record.{last_piece}
 use Rattle.paw_play.specs.Session.{IsOfStory, state_after, IsPlayed}
 use Rattle.paw_play.specs.Stands.{Stands, IsPlayedWith}
 
--- A session with these digests, whose slot in use is of version 1, keeps where a reading ended after this number of
--- lines: it shows the last piece, and a state whose first 1,371 bytes are those of the state there.
-pub record KeepsAsOlder (digests : Digests) (events : ℕ) (e : Ending) (bytes : Bytes) : Type 0 where
+-- The slot in use is of version 1: it has the first 1,371 bytes of a state. It shows a state in a session with these
+-- digests, whose first 1,371 bytes are those of the state where a reading ended after so many lines, and the last piece
+-- of the reading.
+pub record KeepsAsOlder (digests : Digests) (events : ℕ) (e : Ending) (bytes : List ℕ) : Type 0 where
   pub played : IsPlayed e
-  pub first : is_second (slot (chosen bytes) bytes) ≡ false
-  pub state : Bytes
+  pub first : form_length (slot_version (slot (chosen bytes) bytes)) ≡ first_length
+  pub state : List ℕ
   pub shown : recover bytes ≡ Shown digests state (last_piece (pieces_of e))
   pub same : take first_length state ≡ take first_length (state_after events e)
 

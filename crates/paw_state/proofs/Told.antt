@@ -1,5 +1,5 @@
--- The two bytes of a state that give the length of the piece.
-use Rattle.std.proofs.Common.{◌≡◌, ℕ, ◌+◌, ◌*◌, ◌<◌, ◌^◌, List, [], ◌∷◌, ◌++◌, length, take, drop, get_or, sym, ap, ◌∙◌, arith, append_assoc, length-append}
+-- The two bytes of a state that tell the length of the piece.
+use Rattle.std.proofs.Common.{◌≡◌, ℕ, ◌-◌, ◌+◌, ◌*◌, ◌<◌, ◌^◌, List, [], ◌∷◌, ◌++◌, length, take, drop, get_or, sym, ap, ◌∙◌, arith, append_assoc, length-append}
 use Rattle.std.proofs.lemmas.List.{append-nil, get_or_append_left, get_or-append-add, take-append-drop}
 use Rattle.paw_base.specs.declared.layout.TheConstants.{STATE_LENGTH}
 use Rattle.paw_state.proofs.Found.{length-zeros}
@@ -68,8 +68,11 @@ piece_in s rest into e l h =
     rw (a, b) (piece_told s l h)
 
 -- what stands before the zeros of a buffer
-pub buffer_long : (bytes into : List ℕ) → into ≡ bytes ++ zeros 677 → length into ≡ STATE_ROOM → length bytes ≡ STATE_LENGTH
-buffer_long bytes into e l = let m = length-append bytes (zeros 677) in omega (arith, ap length (sym e) ∙ l, m, length-zeros 677)
+pub buffer_long : (bytes into : List ℕ) → into ≡ bytes ++ zeros (STATE_ROOM - STATE_LENGTH) → length into ≡ STATE_ROOM →
+    length bytes ≡ STATE_LENGTH
+buffer_long bytes into e l =
+    let m = length-append bytes (zeros (STATE_ROOM - STATE_LENGTH)) in
+    omega (arith, ap length (sym e) ∙ l, m, length-zeros (STATE_ROOM - STATE_LENGTH))
 
 -- as it is read from a buffer
 pub piece_read : (s : State) (bytes : List ℕ) → take STATE_LENGTH bytes ≡ state_bytes s → AreLong s → s.piece < 2 ^ 16

@@ -84,7 +84,8 @@ mapped_all f xs ys i kx ky low h =
 -- ---- all fields ----
 
 pub all_written : (w0 w1 w2 w3 w4 w5 last x y z t k : List ℕ) → w0 ≡ [] → w1 ≡ w0 ++ x → w2 ≡ w1 ++ y → w3 ≡ w2 ++ z → w4 ≡ w3 ++ t → w5 ≡ w4 ++ k
-    → length w5 ≡ STATE_LENGTH → last ≡ w5 ++ zeros (STATE_ROOM - length w5) → last ≡ concat (x ∷ y ∷ z ∷ t ∷ k ∷ []) ++ zeros 677
+    → length w5 ≡ STATE_LENGTH → last ≡ w5 ++ zeros (STATE_ROOM - length w5)
+    → last ≡ concat (x ∷ y ∷ z ∷ t ∷ k ∷ []) ++ zeros (STATE_ROOM - STATE_LENGTH)
 all_written w0 w1 w2 w3 w4 w5 last x y z t k e0 e1 e2 e3 e4 e5 n e =
     let all : w5 ≡ concat (x ∷ y ∷ z ∷ t ∷ k ∷ []) = rw (e5, e4, e3, e2, e1, e0) (simp (append_assoc, append-nil)) in
-    e ∙ (ap (λ (i : ℕ). w5 ++ zeros (STATE_ROOM - i)) n ∙ ap (λ (l : List ℕ). l ++ zeros 677) all)
+    e ∙ (ap (λ (i : ℕ). w5 ++ zeros (STATE_ROOM - i)) n ∙ ap (λ (l : List ℕ). l ++ zeros (STATE_ROOM - STATE_LENGTH)) all)

@@ -6,7 +6,7 @@ use Rattle.paw_journal.specs.declared.layout.Slot.{Slot}
 use Rattle.paw_journal.specs.declared.layout.Slot.TheVariants as which
 use Rattle.paw_journal.specs.declared.drafting.SlotState.{SlotState}
 use Rattle.paw_stage.specs.Stage.{Standing}
-use Rattle.paw_journal.specs.Session.{Digests, slot, is_second, two_byte_number, slot_state, slot_shows}
+use Rattle.paw_journal.specs.Session.{Digests, slot, is_current, two_byte_number, slot_state, slot_shows}
 use Rattle.paw_journal.specs.Session.{has_state}
 use Rattle.paw_journal.specs.Session.{stretch, piece_length}
 use Rattle.paw_journal.specs.inner.Session.{session_shown}
@@ -20,9 +20,9 @@ slot_number which.Second = 1
 abbrev pub state_in : Bytes → SlotState
 state_in bytes = record { records = two_byte_number 0 bytes; state = slot_state bytes }
 
--- The state of a slot for a commit to go on from; none where it has no state, or is of version 1.
-abbrev pub kept_slot : Bytes → Option SlotState
-kept_slot bytes = if is_second bytes && has_state bytes then Some (state_in bytes) else None
+-- The same, for a commit to go on from; none where it has no state, or is of an older version.
+abbrev pub kept_slot : List ℕ → Option SlotState
+kept_slot bytes = if is_current bytes && has_state bytes then Some (state_in bytes) else None
 
 -- The bytes on their way to the store or from it, the state and the piece that the session shows, and the states of
 -- both slots.

@@ -1,4 +1,5 @@
-use Rattle.std.proofs.Common.{◌∙◌, ◌++◌, ap, length}
+use Rattle.std.proofs.Common.{◌∙◌, ◌++◌, ◌-◌, ap, length}
+use Rattle.paw_journal.specs.Session.{base_length, state_length}
 use Rattle.paw_state.specs.State.{zeros, state_bytes}
 use Rattle.paw_state.specs.inner.State.{state_of}
 use Rattle.paw_play.specs.Session.{kept_bytes}
@@ -10,7 +11,7 @@ unfolding kept_bytes
 returns-clause-state g c =
     cut (state_bytes (state_of c.parts-parts.result.world.now c.parts-parts.result.machine.now
     c.parts-parts.result.pending.now c.parts-parts.result.prompt c.args.events (length c.piece.result.now)))
-    (zeros 677) c.write_state.new.into 3419 c.write_state.ensures.value c.write_state.ensures.length
+    (zeros (base_length - state_length)) c.write_state.new.into state_length c.write_state.ensures.value c.write_state.ensures.length
     ∙ same_parts _ _ _ _ _ _ _ _ c.args.events _ _ c.parts-parts.ensures.world c.parts-parts.ensures.machine
     c.parts-parts.ensures.pending c.parts-parts.ensures.prompt
     (ap length c.piece.ensures.value)
@@ -19,7 +20,7 @@ pub returns-clause-base : goal.returns-clause-base
 unfolding kept_bytes
 returns-clause-base g c =
     c.write_state.ensures.value
-    ∙ ap (λ x. x ++ zeros 677)
+    ∙ ap (λ x. x ++ zeros (base_length - state_length))
     (same_parts _ _ _ _ _ _ _ _ c.args.events _ _ c.parts-parts.ensures.world c.parts-parts.ensures.machine
     c.parts-parts.ensures.pending c.parts-parts.ensures.prompt (ap length c.piece.ensures.value))
 

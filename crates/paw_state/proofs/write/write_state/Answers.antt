@@ -1,7 +1,9 @@
-use Rattle.std.proofs.Common.{◌≡◌, ℕ, List, ◌++◌, length, sym, ap, ◌∙◌}
+use Rattle.std.proofs.Common.{◌≡◌, ℕ, ◌-◌, List, ◌++◌, length, sym, ap, ◌∙◌}
+use Rattle.paw_base.specs.declared.layout.TheConstants.{STATE_LENGTH}
 use Rattle.paw_process.specs.declared.kept.Frames.{Frames}
+use Rattle.paw_state.specs.declared.layout.TheConstants.{STATE_ROOM}
 use Rattle.paw_state.specs.State.{State}
-use Rattle.paw_state.specs.inner.State.{state_of}
+use Rattle.paw_state.specs.inner.State.{state_of, state_with}
 use Rattle.paw_state.specs.State.{zeros, fields_of, state_bytes}
 use Rattle.paw_state.specs.inner.Fields.{field_bytes, kept_position_bytes}
 use Rattle.paw_state.proofs.Listed.{state_same}
@@ -12,29 +14,34 @@ pub returns-clause-value : goal.returns-clause-value
 returns-clause-value c =
     let s : State = state_of c.args.world.now c.args.machine.now c.args.pending.now c.args.prompt c.args.events c.args.piece in
     let frames = λ (k : Frames). fields_of
-    (record { world = c.args.world.now; frames = k; pending = c.args.pending.now; prompt = c.args.prompt; events = c.args.events; piece = c.args.piece }) in
-    c.bytes.ensures.value ∙ (ap (λ f. field_bytes f ++ zeros 677) (c.fields_of-fields.ensures.value ∙ ap frames c.frames-frames.ensures.value)
-    ∙ ap (λ (l : List ℕ). l ++ zeros 677) (sym (state_same s)))
+    (state_with c.args.world.now k c.args.pending.now c.args.prompt c.args.events c.args.piece) in
+    c.bytes.ensures.value
+    ∙ (ap (λ f. field_bytes f ++ zeros (STATE_ROOM - STATE_LENGTH)) (c.fields_of-fields.ensures.value ∙ ap frames c.frames-frames.ensures.value)
+    ∙ ap (λ (l : List ℕ). l ++ zeros (STATE_ROOM - STATE_LENGTH)) (sym (state_same s)))
 
 pub returns-clause-length : goal.returns-clause-length
 returns-clause-length c =
     let s : State = state_of c.args.world.now c.args.machine.now c.args.pending.now c.args.prompt c.args.events c.args.piece in
     let frames = λ (k : Frames). fields_of
-    (record { world = c.args.world.now; frames = k; pending = c.args.pending.now; prompt = c.args.prompt; events = c.args.events; piece = c.args.piece }) in
-    let is : c.bytes.result ≡ state_bytes s ++ zeros 677 =
-    c.bytes.ensures.value ∙ (ap (λ f. field_bytes f ++ zeros 677) (c.fields_of-fields.ensures.value ∙ ap frames c.frames-frames.ensures.value)
-    ∙ ap (λ (l : List ℕ). l ++ zeros 677) (sym (state_same s))) in
+    (state_with c.args.world.now k c.args.pending.now c.args.prompt c.args.events c.args.piece) in
+    let is : c.bytes.result ≡ state_bytes s ++ zeros (STATE_ROOM - STATE_LENGTH) =
+    c.bytes.ensures.value
+    ∙ (ap (λ f. field_bytes f ++ zeros (STATE_ROOM - STATE_LENGTH)) (c.fields_of-fields.ensures.value ∙ ap frames c.frames-frames.ensures.value)
+    ∙ ap (λ (l : List ℕ). l ++ zeros (STATE_ROOM - STATE_LENGTH)) (sym (state_same s))) in
     buffer_long (state_bytes s) c.bytes.result is c.bytes.ensures.room
 
 pub returns-clause-piece : goal.returns-clause-piece
 returns-clause-piece c =
     let s : State = state_of c.args.world.now c.args.machine.now c.args.pending.now c.args.prompt c.args.events c.args.piece in
     let frames = λ (k : Frames). fields_of
-    (record { world = c.args.world.now; frames = k; pending = c.args.pending.now; prompt = c.args.prompt; events = c.args.events; piece = c.args.piece }) in
+    (state_with c.args.world.now k c.args.pending.now c.args.prompt c.args.events c.args.piece) in
     let same = c.fields_of-fields.ensures.value ∙ ap frames c.frames-frames.ensures.value in
-    let is : c.bytes.result ≡ state_bytes s ++ zeros 677 = c.bytes.ensures.value ∙ (ap (λ f. field_bytes f ++ zeros 677) same ∙ ap (λ (l : List ℕ). l ++ zeros 677) (sym (state_same s))) in
+    let is : c.bytes.result ≡ state_bytes s ++ zeros (STATE_ROOM - STATE_LENGTH) =
+    c.bytes.ensures.value
+    ∙ (ap (λ f. field_bytes f ++ zeros (STATE_ROOM - STATE_LENGTH)) same
+    ∙ ap (λ (l : List ℕ). l ++ zeros (STATE_ROOM - STATE_LENGTH)) (sym (state_same s))) in
     let long : AreLong s = record {
       all = buffer_long (state_bytes s) c.bytes.result is c.bytes.ensures.room;
       kept = ap (λ f. length (kept_position_bytes f)) (sym same) ∙ c.bytes.ensures.kept;
     } in
-    piece_in s (zeros 677) c.bytes.result is long c.ranges.piece.fits
+    piece_in s (zeros (STATE_ROOM - STATE_LENGTH)) c.bytes.result is long c.ranges.piece.fits
