@@ -20,7 +20,7 @@ led code (Acts done) s w c h = h s w c
 
 plain_goes : (s : Story) (w : World) (c : Condact) → MayLead c.code (plain_effect s w c).act.effect
 unfolding plain_effect
-plain_goes s w c = led c.code (meaning_of c.code) s w c (facts c.code).lead.on
+plain_goes s w c = led c.code (meaning_of c.code) s w c (facts c.code).way.led
 
 -- an action leads on as the plain code of its condact may
 pub effect_goes : (s : Story) (w : World) (c : Condact) → MayLead (plain_code c.code) (effect_of s w c).act.effect

@@ -38,7 +38,7 @@ done_within most (Acts done) s w c d row of k = row s w c d of k
 plain_within : (s : Story) (w : World) (c d : Condact) → IsWorldOf s.game w → StandsFor s.game c d
     → length (plain_effect s w d).text ≤ (slice_index_or most_printed d.code silent) s.game c
 unfolding plain_effect
-plain_within s w c d = done_within (slice_index_or most_printed d.code silent) (meaning_of d.code) s w c d (facts d.code).print.within
+plain_within s w c d = done_within (slice_index_or most_printed d.code silent) (meaning_of d.code) s w c d (facts d.code).text.within
 
 -- ---- each condact ----
 
