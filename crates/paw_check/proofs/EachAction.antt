@@ -76,13 +76,16 @@ each_action =
     by_name (λ d. get) (λ g d u o. get_said g) (says TAKEN_MESSAGE refl) (says NOT_HERE_MESSAGE refl) &  -- AUTOG
     by_name (λ d. drop) (λ g d u o. drop_said g) (says DROPPED_MESSAGE refl) (says NOT_CARRIED_MESSAGE refl) &  -- AUTOD
     by_name (λ d. wear) (λ g d u o. wear_said g) (says PUT_ON_MESSAGE refl) (says NOT_CARRIED_MESSAGE refl) &  -- AUTOW
-    by_name (λ d. remove) (λ g d u o. remove_said g) (says TAKEN_OFF_MESSAGE refl) (says NOT_WORN_MESSAGE refl) &  -- AUTOR
+    by_name (λ d. remove) (λ g d u o. remove_said g) (says TAKEN_OFF_MESSAGE refl)
+    (says NOT_WORN_MESSAGE refl) &  -- AUTOR
     by_name (λ d. put_in d.a) (λ g d u o. drop_said g) (λ g d. named g PUT_IN_MESSAGE d.a refl)
     (says NOT_CARRIED_MESSAGE refl) &  -- AUTOP
     by_name (λ d. take_out d.a) (λ g d u o. take_out_said g d.a) (says TAKEN_MESSAGE refl)
     (λ g d. named g NOT_INSIDE_MESSAGE d.a refl) &  -- AUTOT
     row quiet (set refl) going &  -- GOTO
-    row (prints (λ s w c d of k. omega (arith, message_most s.game w d.a, k.named s.game.messages))) still going &  -- MES
+    row
+    (prints (λ s w c d of k. omega (arith, message_most s.game w d.a, k.named s.game.messages)))
+    still going &  -- MES
     row
     (prints (λ s w c d of k.
       omega (arith, message_most s.game w d.a, k.named s.game.messages,

@@ -30,25 +30,28 @@ use Rattle.paw_check.proofs.Lengths.{put_most, at_most}
 
 -- ---- each plain condact ----
 
-done_within : (most : Most) (m : Meaning) (s : Story) (w : World) (c d : Condact) → PrintsBy most m → IsWorldOf s.game w → StandsFor s.game c d
-    → length (done_by m s w d).text ≤ most s.game c
+done_within : (most : Most) (m : Meaning) (s : Story) (w : World) (c d : Condact) → PrintsBy most m
+    → IsWorldOf s.game w → StandsFor s.game c d → length (done_by m s w d).text ≤ most s.game c
 done_within most (Tests test) s w c d row of k = omega arith
 done_within most (Acts done) s w c d row of k = row s w c d of k
 
 plain_within : (s : Story) (w : World) (c d : Condact) → IsWorldOf s.game w → StandsFor s.game c d
     → length (plain_effect s w d).text ≤ (slice_index_or most_printed d.code silent) s.game c
 unfolding plain_effect
-plain_within s w c d = done_within (slice_index_or most_printed d.code silent) (meaning_of d.code) s w c d (facts d.code).text.within
+plain_within s w c d =
+    done_within (slice_index_or most_printed d.code silent) (meaning_of d.code) s w c d (facts d.code).text.within
 
 -- ---- each condact ----
 
-stands_for : (g : GameLists) (w : World) (c d : Condact) → Valid g → IsTrue (is_right g c) → as_plain g w c ≡ Some d → StandsFor g c d
+stands_for : (g : GameLists) (w : World) (c d : Condact) → Valid g → IsTrue (is_right g c) → as_plain g w c ≡ Some d
+    → StandsFor g c d
 stands_for g w c d v right is =
     let second : c.b < 256 = argument_small g v (second_kind c.code) c.b (right-second g c right) in
     record {
       named = carried g w c d is (λ x. (texts : List (List ℕ)) → most_at g texts x.a ≤ most_named g texts c)
           (λ e texts. rw e (omega arith)) (λ e k texts. rw e (at_most g texts (flag w c.a)));
-      first = carried g w c d is (λ x. x.a < 256) (λ e. argument_small g v (first_kind c.code) c.a (right-first g c right))
+      first = carried g w c d is (λ x. x.a < 256)
+          (λ e. argument_small g v (first_kind c.code) c.a (right-first g c right))
           (λ e k. argument_small g v (first_kind (plain_code c.code)) (flag w c.a) k);
       second = carried g w c d is (λ x. x.b < 256) (λ e. second) (λ e k. second);
     }
@@ -57,13 +60,14 @@ pub actions_print_within : ActionsPrintWithin
 unfolding effect_of most_text
 actions_print_within g w c v of h =
     let right : IsTrue (is_right g.game c) = right_condact g.game c v.game h in
-    of_carried (λ (x : Done). length x.text ≤ (slice_index_or most_printed (plain_code c.code) silent) g.game c) (plain_effect g w)
-    (as_plain g.game w c) (makes w)
+    of_carried (λ (x : Done). length x.text ≤ (slice_index_or most_printed (plain_code c.code) silent) g.game c)
+    (plain_effect g w) (as_plain g.game w c) (makes w)
     (λ d is. subst (λ code. length (plain_effect g w d).text ≤ (slice_index_or most_printed code silent) g.game c)
     (carried_code g.game w c d is) (plain_within g w c d of (stands_for g.game w c d v.game right is))) (omega arith)
 
 -- QUIT alone asks, and its question is that of its row
-quit_row : (g : GameLists) (c : Condact) (code : ℕ) → code ≡ QUIT → most_put g QUIT_MESSAGE ≤ (slice_index_or most_printed code silent) g c
+quit_row : (g : GameLists) (c : Condact) (code : ℕ) → code ≡ QUIT
+    → most_put g QUIT_MESSAGE ≤ (slice_index_or most_printed code silent) g c
 unfolding most_printed
 quit_row g c code is = rw is (omega arith)
 

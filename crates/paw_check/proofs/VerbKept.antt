@@ -18,21 +18,23 @@ use Rattle.paw_check.proofs.Verb.{HasVerb, LeavesVerb}
 
 -- ---- each plain condact ----
 
-done_leaves : (n : ℕ) (m : Meaning) (s : Story) (w : World) (c : Condact) → KeepsBy c.code m → SparesVerb c → IsWorldOf s.game w → HasVerb n w
-    → LeavesVerb n (done_by m s w c)
+done_leaves : (n : ℕ) (m : Meaning) (s : Story) (w : World) (c : Condact) → KeepsBy c.code m → SparesVerb c
+    → IsWorldOf s.game w → HasVerb n w → LeavesVerb n (done_by m s w c)
 done_leaves n (Tests test) s w c kept spares of k = inl k
 done_leaves n (Acts done) s w c kept spares of k = kept n s w c refl spares of k
 
-tested_has : (n : ℕ) (m : Meaning) (g : GameLists) (w : World) (c : Condact) → KeepsBy c.code m → SparesVerb c → HasVerb n w
-    → HasVerb n (tested_by m g w c).world
+tested_has : (n : ℕ) (m : Meaning) (g : GameLists) (w : World) (c : Condact) → KeepsBy c.code m → SparesVerb c
+    → HasVerb n w → HasVerb n (tested_by m g w c).world
 tested_has n (Tests test) g w c kept spares k = kept n g w c refl spares k
 tested_has n (Acts done) g w c kept spares k = k
 
-plain_leaves : (n : ℕ) (s : Story) (w : World) (c : Condact) → SparesVerb c → IsWorldOf s.game w → HasVerb n w → LeavesVerb n (plain_effect s w c)
+plain_leaves : (n : ℕ) (s : Story) (w : World) (c : Condact) → SparesVerb c → IsWorldOf s.game w → HasVerb n w
+    → LeavesVerb n (plain_effect s w c)
 unfolding plain_effect
 plain_leaves n s w c = done_leaves n (meaning_of c.code) s w c (facts c.code).verb.kept
 
-plain_has : (n : ℕ) (g : GameLists) (w : World) (c : Condact) → SparesVerb c → HasVerb n w → HasVerb n (plain_holds g w c).world
+plain_has : (n : ℕ) (g : GameLists) (w : World) (c : Condact) → SparesVerb c → HasVerb n w
+    → HasVerb n (plain_holds g w c).world
 unfolding plain_holds
 plain_has n g w c = tested_has n (meaning_of c.code) g w c (facts c.code).verb.kept
 
@@ -41,7 +43,8 @@ plain_has n g w c = tested_has n (meaning_of c.code) g w c (facts c.code).verb.k
 pub conditions_keep_verb : ConditionsKeepVerb
 unfolding holds
 conditions_keep_verb g w c v of right spared =
-    of_carried (λ (t : Tested). HasVerb (flag w VERB_FLAG) t.world) (plain_holds g.game w) (as_plain g.game w c) (answers w false)
+    of_carried (λ (t : Tested). HasVerb (flag w VERB_FLAG) t.world) (plain_holds g.game w) (as_plain g.game w c)
+    (answers w false)
     (λ d is. plain_has (flag w VERB_FLAG) g.game w d (carried_spares g.game w c d is spared) refl) refl
 
 pub actions_keep_verb : ActionsKeepVerb
