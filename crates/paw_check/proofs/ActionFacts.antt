@@ -86,13 +86,14 @@ pub record Way (code : ℕ) (m : Meaning) : Type 0 where
 
 -- ---- the three, side by side ----
 
+-- Each fact is a record of its own, so that the words below find the parts of an action by comparing types.
 pub record Facts (code : ℕ) (most : Most) (m : Meaning) : Type 0 where
   pub text : Prints most m
   pub verb : Keeps code m
   pub way : Way code m
 
 pub row : {code : ℕ} {most : Most} {m : Meaning} → Prints most m → Keeps code m → Way code m → Facts code most m
-row t v l = record { text = t; verb = v; way = l }
+row t v w = record { text = t; verb = v; way = w }
 
 -- what a story, a world and a condact give
 abbrev pub Given : Type 0 → Type 0
@@ -104,21 +105,21 @@ action text world act = Acts (λ s w c. record { text = text s w c; world = worl
 
 -- ---- words for what is printed ----
 
--- nothing
+-- Nothing is printed.
 pub quiet : {world : Given World} {act : Given Act} → Prints silent (action (λ s w c. []) world act)
 quiet = record { within = λ s w c d of k. omega arith }
 
--- a text that is within its bound for this reason
+-- A text is printed, which is within its bound for this reason.
 pub prints : {most : Most} {done : Given Done} → PrintsBy most (Acts done) → Prints most (Acts done)
 prints why = record { within = why }
 
 -- ---- words for how the verb is left ----
 
--- No world changes.
+-- The world stays as it is.
 pub still : {code : ℕ} {text : Given (List ℕ)} {act : Given Act} → Keeps code (action text (λ s w c. w) act)
 still = record { kept = λ n s w c is spares of k. inl k }
 
--- The world changes, and the verb is left for this reason.
+-- The verb is left for this reason.
 pub keeps : {code : ℕ} {done : Given Done} → KeepsBy code (Acts done) → Keeps code (Acts done)
 keeps why = record { kept = why }
 
@@ -159,38 +160,38 @@ set_second {code} {x} among = record {
 
 -- ---- words for where reading goes on ----
 
--- where the code may lead to, for this reason
+-- Reading goes on where the code may lead to, for this reason.
 pub leads : {code : ℕ} {done : Given Done} → LeadsBy code (Acts done) → Way code (Acts done)
 leads why = record { led = why }
 
 module _ {code : ℕ} {text : Given (List ℕ)} {world : Given World} where
-  -- at the next condact, with the line as it is or without it
+  -- Reading goes on at the next condact, with the line as it is or without it.
   pub going : {line loop : Bool}
       → Way code (action text world (λ s w c. record { effect = effect.Go; drop_line = line; cancel_loop = loop }))
   going = record { led = λ s w c. tt }
 
-  -- out of the table
+  -- The table is left.
   pub leaving : {b : Bool} → Way code (action text world (λ s w c. plainly (effect.Exit b)))
   leaving = record { led = λ s w c. tt }
 
-  -- at the description of the location: the code is among those that may lead there
+  -- The location is described again: the code is among those that may lead there.
   pub describing : is_among (DESC ∷ SAVE ∷ LOAD ∷ RESET ∷ []) code ≡ true
       → Way code (action text world (λ s w c. plainly effect.Redescribe))
   describing among = record { led = λ s w c. among }
 
-  -- in another table
+  -- Another table is read.
   pub calling : {u : Given ℕ} → Way code (action text world (λ s w c. plainly (effect.Call (u s w c))))
   calling = record { led = λ s w c. tt }
 
-  -- in a loop over objects
+  -- A loop over objects begins.
   pub looping : {p : Given ℕ} → Way code (action text world (λ s w c. plainly (effect.Loop (p s w c))))
   looping = record { led = λ s w c. tt }
 
-  -- at a prompt
+  -- A prompt waits for the player.
   pub asking : {p : Prompt} → Way code (action text world (λ s w c. plainly (effect.Ask p)))
   asking = record { led = λ s w c. tt }
 
-  -- with the next phrase: the code is that of PARSE
+  -- The next phrase is taken: the code is that of PARSE.
   pub parsing : code ≡ PARSE → Way code (action text world (λ s w c. plainly effect.Parse))
   parsing is = record { led = λ s w c. is }
 
