@@ -28,7 +28,8 @@ use Rattle.paw_check.specs.Verdicts.{call_too_deep, redescribes}
 use Rattle.paw_check.specs.Promise.{CallsWithin}
 use Rattle.paw_check.specs.inner.Within.{LeavesDescribed, TablesLeaveDescribed}
 use Rattle.paw_check.proofs.Members.{In}
-use Rattle.paw_check.proofs.Leading.{MayLead, effect_goes}
+use Rattle.paw_check.proofs.ActionFacts.{MayLead}
+use Rattle.paw_check.proofs.Leading.{effect_goes}
 use Rattle.paw_check.proofs.Alike.{AtMost, Settled, Alike, LeadsOn, plain_alike, none_at, reads_alike}
 use Rattle.paw_check.proofs.Reaching.{each_of_table, no_first, calls_below, of_game, in_reached, NoneAt, none_called, none_behind}
 

@@ -1,12 +1,14 @@
 mod EachPlain
 mod Carried
 mod Verb
-pub mod VerbKept
 mod Lengths
 mod Listed
 mod Marks
 mod Spoken
+mod ActionFacts
+mod EachAction
 pub mod PrintsWithin
+pub mod VerbKept
 pub mod Capped
 pub mod Cells
 pub mod DecidingLaws

@@ -51,7 +51,8 @@ use Rattle.paw_check.proofs.PrintsWithin.{actions_print_within, questions_print_
 use Rattle.paw_check.proofs.VerbKept.{conditions_keep_verb, actions_keep_verb}
 use Rattle.paw_check.proofs.TurnWorlds.{timeout_of, phrase_of}
 use Rattle.paw_check.proofs.TableWorlds.{taken_of, anew_of, acted_of, tested_of, timeout_verb, taken_verb}
-use Rattle.paw_check.proofs.Leading.{MayLead, effect_goes}
+use Rattle.paw_check.proofs.ActionFacts.{MayLead}
+use Rattle.paw_check.proofs.Leading.{effect_goes}
 use Rattle.paw_check.proofs.Uses.{of_kind, used, own_of, Closed, Another, nothing, noted_use, printed_use, first_use, closed_more, may_read, may_print}
 
 -- ---- what stands while a table is read ----
