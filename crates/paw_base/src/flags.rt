@@ -109,7 +109,7 @@ pub const REFERRED_CONTAINER_FLAG: u8 = 56;
 pub const REFERRED_WEARABLE_FLAG: u8 = 57;
 
 /// The value of these two flags where it is so.
-pub const REFERRED_SO: u8 = 128;
+pub const FACT_HOLDS: u8 = 128;
 
 /// The number of the position that SAVE keeps and LOAD takes back, modulo 4.
 pub const POSITION_FLAG: u8 = 58;

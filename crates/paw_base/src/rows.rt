@@ -264,11 +264,11 @@ fn code_of(name: &[u8]) -> Option<usize>
     ensures value { result ≡ code_named name.now }
 {
     let wanted = filled_up_capitals(name)?;
-    place_of(wanted)
+    index_of_name(wanted)
 }
 
 /// The code of the condact with this name in capitals, filled up with spaces.
-fn place_of(name: [u8; 8]) -> Option<usize>
+fn index_of_name(name: [u8; 8]) -> Option<usize>
     ensures value { result ≡ position (λ row. bytes_eq row.0 name) CONDACTS }
 {
     CONDACTS.iter().position(|row| row.0 == name)

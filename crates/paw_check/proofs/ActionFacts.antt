@@ -25,7 +25,7 @@ use Rattle.paw_effects.specs.Holds.{Tested}
 use Rattle.paw_effects.specs.inner.Standing.{IsWorldOf}
 use Rattle.paw_check.specs.Measures.{most_at}
 use Rattle.paw_check.specs.Prints.{most_named, most_of_action, said_of_objects, silent}
-use Rattle.paw_check.specs.Prints.{mark as most_mark}
+use Rattle.paw_check.specs.Prints.{mark_most as most_mark}
 use Rattle.paw_check.specs.Verbs.{is_among, writes_first, writes_second}
 use Rattle.paw_check.proofs.EachPlain.{Most}
 use Rattle.paw_check.proofs.Carried.{SparesVerb}
@@ -251,6 +251,6 @@ module _ {code : ℕ} (a : Condact → _)
       let found : World → Condact → Option ℕ = λ w c. first_fitting w (looks_at (a c)) in
       row
       (prints (λ s w c d of k.
-        found_most s.game (a d) (hinders s.game d) (comes s.game d) w (found w d) (misses s.game d w)))
+      found_most s.game (a d) (hinders s.game d) (comes s.game d) w (found w d) (misses s.game d w)))
       (keeps (λ n s w c is spares of k. inl (found_has n s.game w (a c) (found w c) k)))
       (leads (λ s w c. found_leads code s.game w (a c) (found w c)))

@@ -26,9 +26,10 @@ use Rattle.paw_reading.specs.declared.places.OpenLoop.{OpenLoop}
 use Rattle.paw_reading.specs.Run.{Run, closed, fits, printed, with_world, without_loop, anew, is_ignored, heard, reply, is_yes, is_no}
 use Rattle.paw_reading.specs.Run.{taken_phrase}
 use Rattle.paw_reading.specs.declared.places.Halt.TheVariants as halt
-use Rattle.paw_reading.specs.Reading.{Redescribes, Restarts, Halts, Out, Left, Waits, Stopped, halts, printing, noted, after_call, at_level, again}
-use Rattle.paw_reading.specs.Reading.{is_taken, taken, turns, loop_of, over, answered, asked, waits, after_test, after_parse, after_action}
-use Rattle.paw_reading.specs.Reading.{coming_phrase, carried_out, acts, reads_one, condacts, is_for_now, entries, plain, looped, reads, game_over}
+use Rattle.paw_reading.specs.Reading.{Redescribes, Restarts, Halts, Out, Left, Waits, Stopped, halts, printing, noted, after_call, at_level, next_object_or}
+use Rattle.paw_reading.specs.Reading.{is_taken, taken, over_objects, loop_of, over, answered, asked, waits, after_test, after_parse, after_action}
+use Rattle.paw_reading.specs.Reading.{coming_phrase, carried_out, acts, reads_one, condacts, is_for_now, entries, from_place, rest_of_loop, read_at_level}
+use Rattle.paw_reading.specs.Reading.{game_over}
 use Rattle.paw_reading.specs.inner.Steps.{goodbye, quit_question}
 use Rattle.paw_reading.proofs.Keeps.{either, prints, Keeps, IsOrNone, CallsKeeping, plain_keeps}
 
@@ -77,23 +78,23 @@ module _ (g : Story) (Describes : Type 0) (lv : ℕ) where
   open_alike next on x (Some l) h k = h l
 
   again_itself : (next on : OpenLoop → Run → Out) → ((l : OpenLoop) (r : Run) → AtMost lv r.turning → Same (next l r) (on l r)) →
-      (x : Out) → Settled Describes lv x → Same (again lv next x) (again lv on x)
+      (x : Out) → Settled Describes lv x → Same (next_object_or lv next x) (next_object_or lv on x)
   again_itself next on h (Left a r) k = open_alike (λ l. next l r) (λ l. on l r) (Left a r) (at_level lv r.turning) (λ l. h l r k) k
   again_itself next on h (Waits p path r) k = itself (Waits p path r) tt
   again_itself next on h (Stopped stop r) k = itself (Stopped stop r) k
 
   again_alike : (next on : OpenLoop → Run → Out) → ((l : OpenLoop) (r : Run) → AtMost lv r.turning → Same (next l r) (on l r)) →
-      (x y : Out) → Same x y → Same (again lv next x) (again lv on y)
-  again_alike next on h x y k = subst (λ z. Same (again lv next x) (again lv on z)) k.0 (again_itself next on h x k.1)
+      (x y : Out) → Same x y → Same (next_object_or lv next x) (next_object_or lv on y)
+  again_alike next on h x y k = subst (λ z. Same (next_object_or lv next x) (next_object_or lv on z)) k.0 (again_itself next on h x k.1)
 
   turns_alike : (l : OpenLoop) (body on : Run → Out) → l.level ≤ lv → ((r : Run) → AtMost lv r.turning → Same (body r) (on r)) →
-      (n : ℕ) (r : Run) → Same (turns g lv l body n r) (turns g lv l on n r)
-  unfolding turns
+      (n : ℕ) (r : Run) → Same (over_objects g lv l body n r) (over_objects g lv l on n r)
+  unfolding over_objects
   turns_alike l body on low h zero r = itself (Left true (without_loop r)) tt
   turns_alike l body on low h (suc n) r =
       let o : ℕ = length g.game.objects - suc n in
       both Same (is_taken g.game r.world l o) _ _ _ _
-      (again_alike (λ _. turns g lv l body n) (λ _. turns g lv l on n) (λ m s j. turns_alike l body on low h n s) (body (taken g.game l o r))
+      (again_alike (λ _. over_objects g lv l body n) (λ _. over_objects g lv l on n) (λ m s j. turns_alike l body on low h n s) (body (taken g.game l o r))
       (on (taken g.game l o r)) (h (taken g.game l o r) low))
       (turns_alike l body on low h n r)
 
@@ -219,7 +220,7 @@ module _ (g : Story) (Describes : Type 0) (lv : ℕ) where
 
       -- a table of such condacts, from its start
       pub plain_alike : (t : ℕ) → AllByRecursion (λ en. AllByRecursion Kept en.condacts) (table_at g.game t) →
-          GoAlike (plain g sub lv t 0 0) (plain g over_sub lv t 0 0)
+          GoAlike (from_place g sub lv t 0 0) (from_place g over_sub lv t 0 0)
       plain_alike t all = entries_alike t 0 (table_at g.game t) all
 
 -- ---- a level ----
@@ -237,7 +238,7 @@ kept_away lv o q none (inl e) = subst (λ z. at_level lv z ≡ None) (sym e) non
 kept_away lv o q none (inr e) = subst (λ z. at_level lv z ≡ None) (sym e) refl
 
 -- with no loop open at its level before it, a table that is left is left
-none_again : (lv : ℕ) (next : OpenLoop → Run → Out) (o : Option OpenLoop) (x : Out) → at_level lv o ≡ None → Keeps o x → again lv next x ≡ x
+none_again : (lv : ℕ) (next : OpenLoop → Run → Out) (o : Option OpenLoop) (x : Out) → at_level lv o ≡ None → Keeps o x → next_object_or lv next x ≡ x
 none_again lv next o (Left a r) none k =
     ap (λ (z : Option OpenLoop). option_map_or (λ l. next l r) z (Left a r)) (kept_away lv o r.turning none k)
 none_again lv next o (Waits p path r) none k = refl
@@ -245,9 +246,9 @@ none_again lv next o (Stopped stop r) none k = refl
 
 -- so it is read once, from its start
 read_once : (g : Story) (sub : ℕ → Run → Out) → CallsKeeping sub → (lv t : ℕ) (r : Run) → at_level lv r.turning ≡ None →
-    reads g sub lv t 0 0 false r ≡ plain g sub lv t 0 0 false r
+    read_at_level g sub lv t 0 0 false r ≡ from_place g sub lv t 0 0 false r
 read_once g sub calls lv t r none =
-    none_again lv (looped g sub lv) r.turning (plain g sub lv t 0 0 false r) none (plain_keeps g sub lv calls t 0 0 false r)
+    none_again lv (rest_of_loop g sub lv) r.turning (from_place g sub lv t 0 0 false r) none (plain_keeps g sub lv calls t 0 0 false r)
 
 -- and leaves no loop open that wasn't
 kept_most : (lv : ℕ) (o q : Option OpenLoop) → AtMost lv o → IsOrNone o q → AtMost lv q
@@ -265,10 +266,10 @@ settled_below Describes lv high o (Stopped (Halts halt) r) low k h = tt
 -- what is alike from the start of a table to its end is alike for the whole table
 pub reads_alike : (g : Story) (Describes : Type 0) (lv high t : ℕ) (sub over_sub : ℕ → Run → Out) → CallsKeeping sub → CallsKeeping over_sub → (r : Run) →
     AtMost lv r.turning → at_level high r.turning ≡ None →
-    Alike Describes high (plain g sub high t 0 0 false r) (plain g over_sub high t 0 0 false r) →
-    Alike Describes lv (reads g sub high t 0 0 false r) (reads g over_sub high t 0 0 false r)
+    Alike Describes high (from_place g sub high t 0 0 false r) (from_place g over_sub high t 0 0 false r) →
+    Alike Describes lv (read_at_level g sub high t 0 0 false r) (read_at_level g over_sub high t 0 0 false r)
 reads_alike g Describes lv high t sub over_sub calls over_calls r low none h =
     let one = read_once g sub calls high t r none in
     let other = read_once g over_sub over_calls high t r none in
-    let settled = settled_below Describes lv high r.turning (plain g sub high t 0 0 false r) low (plain_keeps g sub high calls t 0 0 false r) h.1 in
+    let settled = settled_below Describes lv high r.turning (from_place g sub high t 0 0 false r) low (plain_keeps g sub high calls t 0 0 false r) h.1 in
     (one ∙ (h.0 ∙ sym other), subst (Settled Describes lv) (sym one) settled)

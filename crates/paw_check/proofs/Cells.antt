@@ -13,7 +13,7 @@ use Rattle.paw_game.specs.declared.parts.Entry.{Entry}
 use Rattle.paw_game.specs.Game.{GameLists}
 use Rattle.paw_game.specs.Tables.{table_at}
 use Rattle.paw_check.specs.Costs.{counting, passed_over, with_call}
-use Rattle.paw_check.specs.inner.Capped.{Holds, capped, cell_at, condacts_of_entries, entries_take}
+use Rattle.paw_check.specs.inner.Capped.{HoldsCapped, capped, cell_at, condacts_of_entries, entries_take}
 use Rattle.paw_check.specs.inner.Levels.{HoldsLevel}
 use Rattle.paw_check.proofs.Capped.{add_alike, product_alike, from_capped}
 use Rattle.paw_check.proofs.FoundLaws.{cell_past}
@@ -29,7 +29,7 @@ cell_is rows t v = ap (λ (row : List ℕ). slice_index_or row v 0) (unwrap_or-s
 
 pub before_more : (objects : ℕ) (own : Condact → ℕ) (changing : Bool) (tables : List (List Entry)) (called rows : List (List ℕ)) (n : ℕ) (row : List ℕ) (es : List Entry)
     → HoldBefore objects own changing tables called rows n → es ≡ get_or tables n []
-    → Holds row (λ v. entries_take objects (with_call own (λ u. cell_at called u v)) changing v es)
+    → HoldsCapped row (λ v. entries_take objects (with_call own (λ u. cell_at called u v)) changing v es)
     → HoldBefore objects own changing tables called (rows ++ row ∷ []) (n + 1)
 before_more objects own changing tables called rows n row es so is holds = record {
   long = length_push rows row ∙ ap (λ (k : ℕ). k + 1) so.long;

@@ -20,16 +20,16 @@ use Rattle.paw_check.specs.declared.prints.Prints.{Prints}
 use Rattle.paw_check.specs.declared.verdict.Cause.TheVariants as cause
 use Rattle.paw_check.specs.declared.verdict.Verdict.TheVariants as verdict
 use Rattle.paw_check.specs.Bounds.{most_condacts, most_piece}
-use Rattle.paw_check.specs.Calls.{condacts_in, most_levels}
+use Rattle.paw_check.specs.Calls.{table_condacts, most_levels}
 use Rattle.paw_check.specs.Costs.{round_cost, verb_may_change}
 use Rattle.paw_check.specs.Prints.{most_text}
 use Rattle.paw_check.specs.Verdicts.{bounds, first_with, call_too_deep, circle_of_descriptions}
 use Rattle.paw_check.specs.inner.Capped.{capped}
 use Rattle.paw_check.specs.inner.Levels.{round_taken}
 use Rattle.paw_check.specs.inner.Own.{own_in}
-use Rattle.paw_check.specs.inner.Places.{is_wanted, place_wanted, entry_wanted, any_in_table}
+use Rattle.paw_check.specs.inner.Places.{is_wanted, spot_wanted, entry_wanted, any_in_table}
 use Rattle.paw_check.specs.inner.Texts.{ArePrints, most_outside, most_end}
-use Rattle.paw_check.specs.inner.Verdicts.{counted}
+use Rattle.paw_check.specs.inner.Verdicts.{bound_or_cause}
 use Rattle.paw_check.proofs.Capped.{add_alike, product_alike, from_capped}
 use Rattle.paw_check.proofs.LevelLaws.{round_alike}
 use Rattle.paw_check.proofs.SetLaws.{any_of_flat}
@@ -44,7 +44,7 @@ short_tables g v = λ i d low.
     (first_of_and (nat_le (length (get_or g.tables i d)) ENTRY_LIMIT) _
     (AllPass-from_list_all (is_table g) g.tables (second_of_and (is_within 3 256 (length g.tables)) _ v.tables) i d low))
 
-pub place_is : (g : GameLists) (w : Wanted) (ts : List ℕ) → place_wanted w g.tables ts ≡ first_with g (is_wanted w) ts
+pub place_is : (g : GameLists) (w : Wanted) (ts : List ℕ) → spot_wanted w g.tables ts ≡ first_with g (is_wanted w) ts
 place_is g w [] = refl
 place_is g w (t ∷ ts) = ap (option_map_or (λ e. Some (t, e)) (entry_wanted w (table_at g t))) (place_is g w ts)
 
@@ -54,9 +54,9 @@ any_same : {X : Type 0} (p q : X → Bool) (xs : List X) → ((x : X) → p x �
 any_same p q [] same = refl
 any_same p q (x ∷ xs) same = ap (λ (b : Bool). b || list_any p xs) (same x) ∙ ap (λ (b : Bool). q x || b) (any_same p q xs same)
 
-pub any_is : (g : GameLists) (p : Condact → Bool) (ts : List ℕ) → list_any (any_in_table p g.tables) ts ≡ list_any p (flat_map (condacts_in g) ts)
+pub any_is : (g : GameLists) (p : Condact → Bool) (ts : List ℕ) → list_any (any_in_table p g.tables) ts ≡ list_any p (flat_map (table_condacts g) ts)
 any_is g p ts =
-    sym (any_of_flat p (condacts_in g) ts
+    sym (any_of_flat p (table_condacts g) ts
     ∙ any_same _ (any_in_table p g.tables) ts (λ t. any_of_flat p (λ (e : Entry). e.condacts) (table_at g t)))
 
 -- ---- numbers ----
@@ -95,16 +95,16 @@ above_limit limit n h = lt-ltb limit n h
 within_limit : (limit n : ℕ) → n ≤ limit → nat_lt limit n ≡ false
 within_limit limit n h = le-ltb limit n h
 
-pub too_many : (g : GameLists) (levels n : ℕ) → n ≡ capped (most_condacts g) → READ_LIMIT < n → counted g levels ≡ verdict.Unknown cause.Condacts 0 0
+pub too_many : (g : GameLists) (levels n : ℕ) → n ≡ capped (most_condacts g) → READ_LIMIT < n → bound_or_cause g levels ≡ verdict.Unknown cause.Condacts 0 0
 too_many g levels n is many = rw (above_limit READ_LIMIT (most_condacts g) (omega (arith, is, many))) refl
 
 pub too_long : (g : GameLists) (levels n m : ℕ) → n ≡ capped (most_condacts g) → n ≤ READ_LIMIT → m ≡ capped (most_piece g) → PIECE_LIMIT < m
-    → counted g levels ≡ verdict.Unknown cause.Text 0 0
+    → bound_or_cause g levels ≡ verdict.Unknown cause.Text 0 0
 too_long g levels n m is few same long =
     rw (within_limit READ_LIMIT (most_condacts g) (omega (arith, is, few)), above_limit PIECE_LIMIT (most_piece g) (omega (arith, same, long))) refl
 
 pub in_bounds : (g : GameLists) (levels n m : ℕ) → n ≡ capped (most_condacts g) → n ≤ READ_LIMIT → m ≡ capped (most_piece g) → m ≤ PIECE_LIMIT
-    → counted g levels ≡ verdict.Bound levels n m
+    → bound_or_cause g levels ≡ verdict.Bound levels n m
 in_bounds g levels n m is few same short =
     let condacts : most_condacts g ≡ n = omega (arith, is, few) in
     let bytes : most_piece g ≡ m = omega (arith, same, short) in
@@ -120,20 +120,20 @@ pub bounds_described : (g : GameLists) (t e : ℕ) → call_too_deep g ≡ None 
 unfolding bounds
 bounds_described g t e h k = rw (h, k) refl
 
-pub bounds_counted : (g : GameLists) → call_too_deep g ≡ None → circle_of_descriptions g ≡ None → bounds g ≡ counted g (most_levels g)
+pub bounds_counted : (g : GameLists) → call_too_deep g ≡ None → circle_of_descriptions g ≡ None → bounds g ≡ bound_or_cause g (most_levels g)
 unfolding bounds
 bounds_counted g h k = rw (h, k) refl
 
 -- ---- what the code found ----
 
 pub found_in : (g : GameLists) (w : Wanted) (tables : List (List Entry)) (numbers ts : List ℕ) (x : Option (ℕ × ℕ))
-    → x ≡ place_wanted w tables numbers → tables ≡ g.tables → numbers ≡ ts → first_with g (is_wanted w) ts ≡ x
+    → x ≡ spot_wanted w tables numbers → tables ≡ g.tables → numbers ≡ ts → first_with g (is_wanted w) ts ≡ x
 found_in g w tables numbers ts x h same those =
-    sym (h ∙ ap (λ (us : List (List Entry)). place_wanted w us numbers) same ∙ ap (place_wanted w g.tables) those ∙ place_is g w ts)
+    sym (h ∙ ap (λ (us : List (List Entry)). spot_wanted w us numbers) same ∙ ap (spot_wanted w g.tables) those ∙ place_is g w ts)
 
 pub any_found : (g : GameLists) (w : Wanted) (tables : List (List Entry)) (numbers ts : List ℕ) (b : Bool)
     → b ≡ list_any (any_in_table (is_wanted w) tables) numbers → tables ≡ g.tables → numbers ≡ ts
-    → b ≡ list_any (is_wanted w) (flat_map (condacts_in g) ts)
+    → b ≡ list_any (is_wanted w) (flat_map (table_condacts g) ts)
 any_found g w tables numbers ts b h same those =
     h ∙ ap (λ (us : List (List Entry)). list_any (any_in_table (is_wanted w) us) numbers) same
     ∙ ap (list_any (any_in_table (is_wanted w) g.tables)) those ∙ any_is g (is_wanted w) ts

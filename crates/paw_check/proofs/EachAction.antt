@@ -50,8 +50,8 @@ each_action =
     (condition (λ n g w c is spares k. k))  -- CHANCE
     (condition (λ n g w c is spares k. k))  -- QUIT
     (condition (λ n g w c is spares k.
-      moves_has n w c.a (exit_at g (flag w c.a) (flag w VERB_FLAG))
-      (spares.first (writes_one writes_first MOVE c refl is)) k))  -- MOVE
+    moves_has n w c.a (exit_at g (flag w c.a) (flag w VERB_FLAG))
+    (spares.first (writes_one writes_first MOVE c refl is)) k))  -- MOVE
     (
     row (prints (λ s w c d of k. inventory_most s.game w of.of)) still going &  -- INVEN
     row quiet still (describing refl) &  -- DESC
@@ -68,8 +68,8 @@ each_action =
     row quiet (keeps (λ n s w c is spares of k. inl k)) going &  -- RAMSAVE
     row quiet
     (keeps (λ n s w c is spares of k.
-      inl (ramloaded_has n s.game w c.a w.saved of.saved
-      (spares.back (writes_one (RAMLOAD ∷ []) RAMLOAD c refl is)) k))) going &  -- RAMLOAD
+    inl (ramloaded_has n s.game w c.a w.saved of.saved
+    (spares.back (writes_one (RAMLOAD ∷ []) RAMLOAD c refl is)) k))) going &  -- RAMLOAD
     row (prints (λ s w c d of k. turns_most s.game w of.flags)) still going &  -- TURNS
     row (prints (λ s w c d of k. score_most s.game w of.flags)) still going &  -- SCORE
     row quiet (keeps (λ n s w c is spares of k. inl (dropped_has n (here w) (held_objects w) w k))) going &  -- DROPALL
@@ -88,8 +88,12 @@ each_action =
     still going &  -- MES
     row
     (prints (λ s w c d of k.
-      omega (arith, message_most s.game w d.a, k.named s.game.messages,
-      length-append (message_text s.game w d.a) (10 ∷ [])))) still going &  -- MESSAGE
+    omega (
+      arith,
+      message_most s.game w d.a,
+      k.named s.game.messages,
+      length-append (message_text s.game w d.a) (10 ∷ []),
+    ))) still going &  -- MESSAGE
     row (prints (λ s w c d of k. omega (arith, put_most s.game w d.a, k.named s.game.system))) still going &  -- SYSMESS
     row (prints (λ s w c d of k. omega arith)) still going &  -- NEWLINE
     row (prints (λ s w c d of k. byte_digits (flag w d.a) (byte_at w.flags d.a of.flags))) still going &  -- PRINT
@@ -103,14 +107,14 @@ each_action =
     row quiet (moving _ _) going &  -- DESTROY
     row quiet
     (keeps (λ n s w c is spares of k.
-      inl (moved_has n (moved w c.a (place w c.b)) c.b (place w c.a)
-      (moved_has n w c.a (place w c.b) k)))) going &  -- SWAP
+    inl (moved_has n (moved w c.a (place w c.b)) c.b (place w c.a)
+    (moved_has n w c.a (place w c.b) k)))) going &  -- SWAP
     row quiet (moving _ _) going &  -- PLACE
     row quiet
     (keeps (λ n s w c is spares of k.
-      inl (one_has n (nat_lt (flag w REFERRED_FLAG) (length w.places))
-      (moved w (flag w REFERRED_FLAG) (named_place w c.a)) w
-      (moved_has n w (flag w REFERRED_FLAG) (named_place w c.a) k) k))) going &  -- PUTO
+    inl (one_has n (nat_lt (flag w REFERRED_FLAG) (length w.places))
+    (moved w (flag w REFERRED_FLAG) (named_place w c.a)) w
+    (moved_has n w (flag w REFERRED_FLAG) (named_place w c.a) k) k))) going &  -- PUTO
     row quiet (set_first refl) going &  -- SET
     row quiet (set_first refl) going &  -- CLEAR
     row quiet (set_first refl) going &  -- PLUS
@@ -120,14 +124,14 @@ each_action =
     row quiet (set_second refl) going &  -- SUB
     row quiet
     (keeps (λ n s w c is spares of k.
-      inl (other_has n (drawn_on w 1) c.a (rolled w)
-      (spares.first (writes_one writes_first RANDOM c refl is)) k))) going &  -- RANDOM
+    inl (other_has n (drawn_on w 1) c.a (rolled w)
+    (spares.first (writes_one writes_first RANDOM c refl is)) k))) going &  -- RANDOM
     row quiet (moving _ _) going &  -- COPYOO
     row quiet (set_second refl) going &  -- COPYOF
     row quiet
     (keeps (λ n s w c is spares of k.
-      inl (one_has n (names_place w (flag w c.a)) _ w
-      (moved_has n w c.b (named_place w (flag w c.a)) k) k))) going &  -- COPYFO
+    inl (one_has n (names_place w (flag w c.a)) _ w
+    (moved_has n w c.b (named_place w (flag w c.a)) k) k))) going &  -- COPYFO
     row quiet (set_second refl) going &  -- COPYFF
     row (prints (λ s w c d of k. here_list_most s.game w of.of)) still going &  -- LISTOBJ
     row
@@ -146,8 +150,8 @@ each_action =
     row quiet (keeps (λ n s w c is spares of k. inr refl)) (describing refl) &  -- RESET
     row quiet
     (keeps (λ n s w c is spares of k.
-      inl (answered_has n w c.b (value_at s.rows c.a (flag w c.b))
-      (spares.second (writes_one writes_second EXTERN c refl is)) k))) going &  -- EXTERN
+    inl (answered_has n w c.b (value_at s.rows c.a (flag w c.b))
+    (spares.second (writes_one writes_second EXTERN c refl is)) k))) going &  -- EXTERN
     with_marks Facts marked tt)
 
 pub facts : (code : ℕ) → Facts code (slice_index_or most_printed code silent) (meaning_of code)

@@ -8,7 +8,7 @@ use Rattle.std.proofs.lemmas.Bool.{cases_lt, ne_eqb, eq-eqb}
 use Rattle.std.proofs.lemmas.List.Sums.{sum_by-cons, sum_by-append, sum_by_push}
 use Rattle.paw_base.specs.declared.parts.Condact.{Condact}
 use Rattle.paw_game.specs.declared.parts.Entry.{Entry}
-use Rattle.paw_check.specs.Calls.{is_call, is_call_of}
+use Rattle.paw_check.specs.Calls.{calls_table, is_call_of}
 use Rattle.paw_check.specs.Costs.{with_call, counting}
 use Rattle.paw_check.specs.inner.Capped.{over_every, over_verb, is_for_every, condacts_of_entries}
 
@@ -129,14 +129,14 @@ picked_all f a n past = elim (cases_lt a n) [
 
 -- what condacts take by the tables that they call is what each table takes, as often as it is called
 abbrev called_by : (ℕ → ℕ) → Condact → ℕ
-called_by f c = if is_call c then f c.a else 0
+called_by f c = if calls_table c then f c.a else 0
 
 abbrev times_called : (ℕ → ℕ) → List Condact → ℕ → ℕ
 times_called f cs u = count_by (is_call_of u) cs * f u
 
 one_call : (f : ℕ → ℕ) (c : Condact) (n : ℕ) → ((u : ℕ) → n ≤ u → f u ≡ 0)
     → sum_by (λ u. cond (is_call_of u c) 1 0 * f u) (range_with_len 0 n) ≡ called_by f c
-one_call f c n past = at (is_call c) where
+one_call f c n past = at (calls_table c) where
   at : (b : Bool) → sum_by (λ u. cond (b && (c.a == u)) 1 0 * f u) (range_with_len 0 n) ≡ cond b (f c.a) 0
   at true = picked_all f c.a n (past c.a)
   at false = sum_of_none _ (range_with_len 0 n) (λ (u : ℕ). zero-mul (f u))

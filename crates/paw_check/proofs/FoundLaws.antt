@@ -9,8 +9,8 @@ use Rattle.paw_base.specs.declared.parts.Condact.{Condact}
 use Rattle.paw_game.specs.declared.parts.Entry.{Entry}
 use Rattle.paw_check.specs.Calls.{is_call_of}
 use Rattle.paw_check.specs.Costs.{with_call, counting}
-use Rattle.paw_check.specs.declared.sums.Found.{Found}
-use Rattle.paw_check.specs.inner.Capped.{Holds, capped, cell_at, dot, is_doall, over_every, over_verb, condacts_of_entries, entries_take}
+use Rattle.paw_check.specs.declared.sums.TableSums.{TableSums}
+use Rattle.paw_check.specs.inner.Capped.{HoldsCapped, capped, cell_at, dot, is_doall, over_every, over_verb, condacts_of_entries, entries_take}
 use Rattle.paw_check.specs.inner.Found.{IsFound, found_sum, found_taken}
 use Rattle.paw_check.proofs.Capped.{add_alike, product_alike, from_capped}
 use Rattle.paw_check.proofs.Entries.{counting_parts, every_parts}
@@ -29,7 +29,7 @@ pub cell_past : (rows : List (List ℕ)) (u v : ℕ) → length rows ≤ u → c
 cell_past rows u v past = ap (λ row. slice_index_or (unwrap_or row []) v 0) (slice_get_past rows u past)
 
 -- how many loops the entries that count for a verb open
-doalls_alike : (x : Found) (takes : Condact → ℕ) (changing : Bool) (called : List (List ℕ)) (es : List Entry) (v : ℕ)
+doalls_alike : (x : TableSums) (takes : Condact → ℕ) (changing : Bool) (called : List (List ℕ)) (es : List Entry) (v : ℕ)
     → IsFound x takes changing called es → v < 256
     → capped (x.doalls + slice_index_or x.verb_doalls v 0) ≡ capped (count_by is_doall (condacts_of_entries (counting changing v es)))
 doalls_alike x takes changing called es v is low =
@@ -38,7 +38,7 @@ doalls_alike x takes changing called es v is low =
     ∙ ap capped (sym (counting_parts changing v (λ (c : Condact). cond (is_doall c) 1 0) es))
 
 -- what the tables take that the entries for every verb call
-calls_alike : (x : Found) (takes : Condact → ℕ) (changing : Bool) (called : List (List ℕ)) (es : List Entry) (v : ℕ)
+calls_alike : (x : TableSums) (takes : Condact → ℕ) (changing : Bool) (called : List (List ℕ)) (es : List Entry) (v : ℕ)
     → IsFound x takes changing called es → length called ≤ 256
     → capped (dot x.calls called v)
     ≡ capped (sum_by (λ u. over_every changing (count_by (is_call_of u)) es * cell_at called u v) (range_with_len 0 (length called)))
@@ -47,7 +47,7 @@ calls_alike x takes changing called es v is few =
     product_alike _ _ (cell_at called u v) (cell_at called u v) (from_capped _ _ (is.calls.each u (omega (arith, low, few)))) refl)
 
 -- what their condacts take
-sum_alike : (x : Found) (takes : Condact → ℕ) (changing : Bool) (called : List (List ℕ)) (es : List Entry) (v : ℕ)
+sum_alike : (x : TableSums) (takes : Condact → ℕ) (changing : Bool) (called : List (List ℕ)) (es : List Entry) (v : ℕ)
     → IsFound x takes changing called es → length called ≤ 256 → v < 256
     → capped (found_sum x called v)
     ≡ capped (sum_by (with_call takes (λ u. cell_at called u v)) (condacts_of_entries (counting changing v es)))
@@ -63,7 +63,7 @@ sum_alike x takes changing called es v is few low =
     ∙ ap capped (sym (counting_parts changing v t es))
 
 -- what their reading takes
-pub found_is : (objects : ℕ) (x : Found) (takes : Condact → ℕ) (changing : Bool) (called : List (List ℕ)) (es : List Entry) (v : ℕ)
+pub found_is : (objects : ℕ) (x : TableSums) (takes : Condact → ℕ) (changing : Bool) (called : List (List ℕ)) (es : List Entry) (v : ℕ)
     → IsFound x takes changing called es → length called ≤ 256 → v < 256
     → capped (found_taken objects x called v)
     ≡ capped (entries_take objects (with_call takes (λ u. cell_at called u v)) changing v es)
@@ -73,9 +73,9 @@ found_is objects x takes changing called es v is few low =
     (sum_alike x takes changing called es v is few low)
 
 -- and so for each verb
-pub found_holds : (objects : ℕ) (row : List ℕ) (x : Found) (takes : Condact → ℕ) (changing : Bool) (called : List (List ℕ)) (es : List Entry)
-    → IsFound x takes changing called es → length called ≤ 256 → Holds row (found_taken objects x called)
-    → Holds row (λ v. entries_take objects (with_call takes (λ u. cell_at called u v)) changing v es)
+pub found_holds : (objects : ℕ) (row : List ℕ) (x : TableSums) (takes : Condact → ℕ) (changing : Bool) (called : List (List ℕ)) (es : List Entry)
+    → IsFound x takes changing called es → length called ≤ 256 → HoldsCapped row (found_taken objects x called)
+    → HoldsCapped row (λ v. entries_take objects (with_call takes (λ u. cell_at called u v)) changing v es)
 found_holds objects row x takes changing called es is few holds = record {
   long = holds.long;
   each = λ v low. holds.each v low ∙ found_is objects x takes changing called es v is few low;

@@ -9,7 +9,7 @@ use Rattle.paw_base.specs.declared.parts.Condact.{Condact}
 use Rattle.paw_game.specs.Game.{GameLists}
 use Rattle.paw_game.specs.Tables.{table_at}
 use Rattle.paw_game.specs.declared.parts.Entry.{Entry}
-use Rattle.paw_check.specs.Calls.{is_call, turn_tables}
+use Rattle.paw_check.specs.Calls.{calls_table, turn_tables}
 use Rattle.paw_check.specs.Costs.{cost, counting, passed_over, with_call, all_verbs}
 use Rattle.paw_check.specs.Measures.{greatest}
 use Rattle.paw_check.specs.inner.Capped.{capped, cell_at, condacts_of_entries, entries_take}
@@ -23,7 +23,7 @@ use Rattle.paw_check.proofs.Greatest.{greatest_alike}
 
 pub call_alike : (own own' : Condact → ℕ) (f h : ℕ → ℕ) → ((c : Condact) → capped (own c) ≡ capped (own' c))
     → ((u : ℕ) → capped (f u) ≡ capped (h u)) → (c : Condact) → capped (with_call own f c) ≡ capped (with_call own' h c)
-call_alike own own' f h same calls c = add_alike (own c) (own' c) _ _ (same c) (at (is_call c)) where
+call_alike own own' f h same calls c = add_alike (own c) (own' c) _ _ (same c) (at (calls_table c)) where
   at : (b : Bool) → capped (cond b (f c.a) 0) ≡ capped (cond b (h c.a) 0)
   at true = calls c.a
   at false = refl
@@ -46,7 +46,7 @@ cost_more g own count n t = refl
 
 -- a condact takes no more where the tables that it may call take nothing
 no_call : (own : Condact → ℕ) (v : ℕ) (c : Condact) → with_call own (λ u. cell_at [] u v) c ≡ own c
-no_call own v c = at (is_call c) where
+no_call own v c = at (calls_table c) where
   none : cell_at [] c.a v ≡ 0
   none = cell_past [] c.a v (omega arith)
 

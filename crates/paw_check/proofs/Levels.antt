@@ -21,9 +21,9 @@ use Rattle.paw_effects.proofs.Asking.{Leads}
 use Rattle.paw_effects.proofs.EachRow.{effect_leads}
 use Rattle.paw_reading.specs.Bounds.{ValidStory}
 use Rattle.paw_reading.specs.Run.{Run}
-use Rattle.paw_reading.specs.Reading.{Redescribes, Restarts, Halts, Out, Left, Waits, Stopped, at_level, reads, called, table_read}
+use Rattle.paw_reading.specs.Reading.{Redescribes, Restarts, Halts, Out, Left, Waits, Stopped, at_level, read_at_level, called, table_read}
 use Rattle.paw_reading.proofs.Keeps.{called_keeps}
-use Rattle.paw_check.specs.Calls.{turn_tables, condacts_in, below, most_levels}
+use Rattle.paw_check.specs.Calls.{turn_tables, table_condacts, called_below, most_levels}
 use Rattle.paw_check.specs.Verdicts.{call_too_deep, redescribes}
 use Rattle.paw_check.specs.Promise.{CallsWithin}
 use Rattle.paw_check.specs.inner.Within.{LeavesDescribed, TablesLeaveDescribed}
@@ -38,9 +38,9 @@ describing : (s : Story) (w : World) (c : Condact) → (effect_of s w c).act.eff
 describing s w c e = subst (MayLead (plain_code c.code)) e (effect_goes s w c)
 
 module _ (s : Story) (v : Valid s.game) (ts : List ℕ) (few : (t : ℕ) → In t ts → t < length s.game.tables) (Describes : Type 0)
-    (may : (n t : ℕ) → n ≤ 10 → In t (below s.game ts n) → list_any redescribes (condacts_in s.game t) ≡ true → Describes) where
+    (may : (n t : ℕ) → n ≤ 10 → In t (called_below s.game ts n) → list_any redescribes (table_condacts s.game t) ≡ true → Describes) where
   abbrev TablesAt : ℕ → ℕ → Type 0
-  TablesAt n t = In t (below s.game ts n)
+  TablesAt n t = In t (called_below s.game ts n)
 
   abbrev Empty : ℕ → Type 0
   Empty n = NoneAt s.game v ts n
@@ -115,8 +115,8 @@ module _ (s : Story) (v : Valid s.game) (ts : List ℕ) (few : (t : ℕ) → In 
 
   -- so does a table at level 0
   pub table_alike : (n t : ℕ) → (n ≡ 10) ⊎ (Empty (suc n) × Empty 11) → In t ts → (r : Run) → r.turning ≡ None →
-      Alike Describes 0 (reads s (called s n 0) 0 t 0 0 false r) (table_read s t r)
-  unfolding below
+      Alike Describes 0 (read_at_level s (called s n 0) 0 t 0 0 false r) (table_read s t r)
+  unfolding called_below
   table_alike n t enough at r none =
       reads_alike s Describes 0 0 t (called s n 0) (called s 10 0) (called_keeps s n 0) (called_keeps s 10 0) r (none_open 0 r.turning none)
       (none_there 0 r.turning none)

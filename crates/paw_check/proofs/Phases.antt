@@ -6,7 +6,7 @@ use Rattle.std.proofs.lemmas.Bool.{le-leb}
 use Rattle.paw_game.specs.Tables.{exit_at}
 use Rattle.paw_world.specs.World.{World, flag, with_flag}
 use Rattle.paw_phrase.specs.Sentence.{Parsed, IsSentence, IsUnknown, IsNoPhrase}
-use Rattle.paw_phrase.specs.inner.Leaving.{Leaves, IsTwoLess}
+use Rattle.paw_phrase.specs.inner.Leaving.{LeavesBytes, IsTwoLess}
 use Rattle.paw_phrase.proofs.Phrases.{parsed-shorter}
 use Rattle.paw_phrase.proofs.Shortens.{phrases_take_two}
 use Rattle.paw_effects.specs.Story.{Story}
@@ -192,8 +192,8 @@ module _ (g : Story) (valid : ValidStory g) (condacts text : ℕ) (k : Takes) (e
         (closed_ready g valid condacts text s s_in (omega (arith, h.few)) (omega (arith, size, says.prompt r.world, h.short))) (omega arith) (omega arith)
         h.ready.lines)
 
-    after_phrase_stays : (r : Run) → Room 0 0 r → (p : Parsed) → coming_phrase g r ≡ p → Leaves (λ rest. length rest < length r.pending) p →
-        Leaves (IsTwoLess r.pending) p → Stays (after_phrase g go r p)
+    after_phrase_stays : (r : Run) → Room 0 0 r → (p : Parsed) → coming_phrase g r ≡ p → LeavesBytes (λ rest. length rest < length r.pending) p →
+        LeavesBytes (IsTwoLess r.pending) p → Stays (after_phrase g go r p)
     after_phrase_stays r h (IsSentence s left) e shorter two =
         let q : Run = with_world (counted (taken_phrase s left r).world) (taken_phrase s left r) in
         goes AtResponse q

@@ -5,23 +5,23 @@ use Rattle.std.specs.Option.{unwrap_or, option_map_or}
 use Rattle.std.proofs.lemmas.List.{drop_more}
 use Rattle.paw_game.specs.declared.parts.Entry.{Entry}
 use Rattle.paw_check.specs.declared.places.Wanted.{Wanted}
-use Rattle.paw_check.specs.inner.Places.{entry_wanted, place_wanted}
+use Rattle.paw_check.specs.inner.Places.{entry_wanted, spot_wanted}
 
 place_at : (w : Wanted) (tables : List (List Entry)) (ns : List ℕ) (i d : ℕ) → i < length ns
-    → place_wanted w tables (drop i ns)
-    ≡ option_map_or (λ e. Some (get_or ns i d, e)) (entry_wanted w (unwrap_or (slice_get tables (get_or ns i d)) [])) (place_wanted w tables (drop (i + 1) ns))
-place_at w tables ns i d within = ap (place_wanted w tables) (drop_more ns i d within)
+    → spot_wanted w tables (drop i ns)
+    ≡ option_map_or (λ e. Some (get_or ns i d, e)) (entry_wanted w (unwrap_or (slice_get tables (get_or ns i d)) [])) (spot_wanted w tables (drop (i + 1) ns))
+place_at w tables ns i d within = ap (spot_wanted w tables) (drop_more ns i d within)
 
 pub place_more : (w : Wanted) (tables : List (List Entry)) (ns : List ℕ) (i d : ℕ) → i < length ns
-    → None ≡ entry_wanted w (unwrap_or (slice_get tables (get_or ns i d)) []) → place_wanted w tables (drop i ns) ≡ place_wanted w tables ns
-    → place_wanted w tables (drop (i + 1) ns) ≡ place_wanted w tables ns
+    → None ≡ entry_wanted w (unwrap_or (slice_get tables (get_or ns i d)) []) → spot_wanted w tables (drop i ns) ≡ spot_wanted w tables ns
+    → spot_wanted w tables (drop (i + 1) ns) ≡ spot_wanted w tables ns
 place_more w tables ns i d within none so =
-    ap (λ found. option_map_or (λ e. Some (get_or ns i d, e)) found (place_wanted w tables (drop (i + 1) ns))) none
+    ap (λ found. option_map_or (λ e. Some (get_or ns i d, e)) found (spot_wanted w tables (drop (i + 1) ns))) none
     ∙ sym (place_at w tables ns i d within) ∙ so
 
 pub place_found : (w : Wanted) (tables : List (List Entry)) (ns : List ℕ) (i d e : ℕ) → i < length ns
-    → Some e ≡ entry_wanted w (unwrap_or (slice_get tables (get_or ns i d)) []) → place_wanted w tables (drop i ns) ≡ place_wanted w tables ns
-    → Some (get_or ns i d, e) ≡ place_wanted w tables ns
+    → Some e ≡ entry_wanted w (unwrap_or (slice_get tables (get_or ns i d)) []) → spot_wanted w tables (drop i ns) ≡ spot_wanted w tables ns
+    → Some (get_or ns i d, e) ≡ spot_wanted w tables ns
 place_found w tables ns i d e within some so =
-    ap (λ found. option_map_or (λ e. Some (get_or ns i d, e)) found (place_wanted w tables (drop (i + 1) ns))) some
+    ap (λ found. option_map_or (λ e. Some (get_or ns i d, e)) found (spot_wanted w tables (drop (i + 1) ns))) some
     ∙ sym (place_at w tables ns i d within) ∙ so

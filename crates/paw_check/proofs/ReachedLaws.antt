@@ -3,19 +3,19 @@ use Rattle.std.proofs.Common.{◌≡◌, ℕ, zero, suc, ◌+◌, ◌<◌, ◌�
 use Rattle.std.specs.Prelude.{◌||◌, flat_map, count_by, nat_lt}
 use Rattle.std.specs.List.{list_any, range_with_len, slice_index_or}
 use Rattle.paw_game.specs.Game.{GameLists}
-use Rattle.paw_check.specs.Calls.{below, called_from}
+use Rattle.paw_check.specs.Calls.{called_below, called_from}
 use Rattle.paw_check.specs.Verbs.{is_among}
-use Rattle.paw_check.specs.inner.Capped.{Marks}
+use Rattle.paw_check.specs.inner.Capped.{MarksTables}
 
 -- the flags mark the tables of the first n levels
 pub record Marked (g : GameLists) (ts : List ℕ) (n : ℕ) (marks : List Bool) : Type 0 where
   pub long : length marks ≡ 256
-  pub each : (u : ℕ) → u < 256 → slice_index_or marks u false ≡ is_among (flat_map (below g ts) (range_with_len 0 n)) u
+  pub each : (u : ℕ) → u < 256 → slice_index_or marks u false ≡ is_among (flat_map (called_below g ts) (range_with_len 0 n)) u
 
-pub below_none : (g : GameLists) (ts : List ℕ) → below g ts 0 ≡ ts
-unfolding below
+pub below_none : (g : GameLists) (ts : List ℕ) → called_below g ts 0 ≡ ts
+unfolding called_below
 below_none g ts = refl
 
-pub below_more : (g : GameLists) (ts : List ℕ) (n : ℕ) → below g ts (suc n) ≡ called_from g (below g ts n)
-unfolding below
+pub below_more : (g : GameLists) (ts : List ℕ) (n : ℕ) → called_below g ts (suc n) ≡ called_from g (called_below g ts n)
+unfolding called_below
 below_more g ts n = refl

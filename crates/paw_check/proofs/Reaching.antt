@@ -15,12 +15,12 @@ use Rattle.paw_base.specs.Condacts.{condact_lines, line_of, plain_line, is_indir
 use Rattle.paw_game.specs.declared.parts.Entry.{Entry}
 use Rattle.paw_game.specs.Game.{GameLists}
 use Rattle.paw_game.specs.Tables.{table_at}
-use Rattle.paw_game.specs.Valid.{Valid, is_condact, is_entry, is_any, is_verb_value, has_word}
+use Rattle.paw_game.specs.Valid.{Valid, is_condact, is_entry, is_wildcard, is_verb_value, has_word}
 use Rattle.paw_game.proofs.Kept.{first_of_and, second_of_and, table_kept}
 use Rattle.paw_game.proofs.Right.{right_condact}
 use Rattle.paw_effects.proofs.Placed.{first_kept}
 use Rattle.paw_check.specs.Verbs.{is_among}
-use Rattle.paw_check.specs.Calls.{turn_tables, all_tables, is_call, is_call_of, condacts_in, below, reached_from, most_levels}
+use Rattle.paw_check.specs.Calls.{turn_tables, all_tables, calls_table, is_call_of, table_condacts, called_below, reached_from, most_levels}
 use Rattle.paw_check.specs.Verdicts.{entry_with, first_with}
 use Rattle.paw_check.proofs.Members.{In, or_left, or_right, any_front, any_behind, any_of_joined, any_within, Found, found_within, any_weaker, in_filtered, of_filtered}
 use Rattle.paw_check.proofs.Members.{in_range, of_range, no_position}
@@ -47,7 +47,7 @@ module _ (g : GameLists) (all : List Condact) (Q : Condact → Type 0) (holds : 
   entry_condacts : (en : Entry) → IsTrue (is_entry g en) → IsTrue (list_all (is_condact g) en.condacts)
   entry_condacts en h =
       second_of_and (nat_le (length en.condacts) 255) _
-      (second_of_and (is_any en.noun || has_word g.words 2 en.noun) _ (second_of_and (is_any en.verb || is_verb_value g.words en.verb) _ h))
+      (second_of_and (is_wildcard en.noun || has_word g.words 2 en.noun) _ (second_of_and (is_wildcard en.verb || is_verb_value g.words en.verb) _ h))
 
   each_entry : (es : List Entry) → IsTrue (list_all (is_entry g) es) → IsPart all (flat_map (λ e. e.condacts) es) →
       AllByRecursion (λ en. AllByRecursion Q en.condacts) es
@@ -60,9 +60,9 @@ module _ (g : GameLists) (all : List Condact) (Q : Condact → Type 0) (holds : 
 
 -- and so of each of a table
 pub each_of_table : (g : GameLists) (v : Valid g) (t : ℕ) (Q : Condact → Type 0) →
-    ((c : Condact) → Member (condacts_in g t) c → IsTrue (is_condact g c) → Q c) → AllByRecursion (λ en. AllByRecursion Q en.condacts) (table_at g t)
+    ((c : Condact) → Member (table_condacts g t) c → IsTrue (is_condact g c) → Q c) → AllByRecursion (λ en. AllByRecursion Q en.condacts) (table_at g t)
 each_of_table g v t Q holds =
-    each_entry g (condacts_in g t) Q holds (table_at g t) (second_of_and (nat_le (length (table_at g t)) ENTRY_LIMIT) _ (table_kept g v t)) (λ p e. e)
+    each_entry g (table_condacts g t) Q holds (table_at g t) (second_of_and (nat_le (length (table_at g t)) ENTRY_LIMIT) _ (table_kept g v t)) (λ p e. e)
 
 -- ---- places of condacts ----
 
@@ -87,7 +87,7 @@ no_place t (Some e) later h = cc
 
 -- where there is no place none of these tables has such a condact
 pub no_first : (g : GameLists) (is_so : Condact → Bool) (ts : List ℕ) → first_with g is_so ts ≡ None → (t : ℕ) → In t ts →
-    list_any is_so (condacts_in g t) ≡ true → ⊥
+    list_any is_so (table_condacts g t) ≡ true → ⊥
 no_first g is_so [] none t at h = cc
 no_first g is_so (u ∷ us) none t at h =
     let k : NoPlace u (entry_with is_so (table_at g u)) (first_with g is_so us) =
@@ -95,7 +95,7 @@ no_first g is_so (u ∷ us) none t at h =
     elim (or_cases (u == t) (is_among us t) at) [
       | inl here ↦
           no_position (λ (e : Entry). list_any is_so e.condacts) (table_at g u) k.none_here
-          (any_entry is_so (table_at g u) (subst (λ w. list_any is_so (condacts_in g w) ≡ true) (sym (eqb-true u t here)) h))
+          (any_entry is_so (table_at g u) (subst (λ w. list_any is_so (table_condacts g w) ≡ true) (sym (eqb-true u t here)) h))
       | inr later ↦ no_first g is_so us k.none_later t later h
     ]
 
@@ -114,42 +114,42 @@ module _ (g : GameLists) (v : Valid g) (ts : List ℕ) where
   called_table c kept is = ltb-true c.a (length g.tables) (first_kept g c PROCESS kind.Table process_takes is (right_condact g c v kept))
 
   -- it stands one level below
-  pub calls_below : (n t : ℕ) → In t (below g ts n) → (c : Condact) → Member (condacts_in g t) c → IsTrue (is_condact g c) → c.code ≡ PROCESS →
-      In c.a (below g ts (suc n))
-  unfolding below
+  pub calls_below : (n t : ℕ) → In t (called_below g ts n) → (c : Condact) → Member (table_condacts g t) c → IsTrue (is_condact g c) → c.code ≡ PROCESS →
+      In c.a (called_below g ts (suc n))
+  unfolding called_below
   calls_below n t at c is kept process =
-      in_filtered (λ u. list_any (is_call_of u) (flat_map (condacts_in g) (below g ts n))) (all_tables g) c.a
-      (any_within (is_call_of c.a) (condacts_in g) (below g ts n) t at (is (is_call_of c.a) (same_table c process)))
+      in_filtered (λ u. list_any (is_call_of u) (flat_map (table_condacts g) (called_below g ts n))) (all_tables g) c.a
+      (any_within (is_call_of c.a) (table_condacts g) (called_below g ts n) t at (is (is_call_of c.a) (same_table c process)))
       (in_range 0 (length g.tables) c.a (omega arith) (omega (arith, called_table c kept process)))
 
   -- the tables of a level are the game's
-  pub of_game : ((t : ℕ) → In t ts → t < length g.tables) → (n t : ℕ) → In t (below g ts n) → t < length g.tables
-  unfolding below
+  pub of_game : ((t : ℕ) → In t ts → t < length g.tables) → (n t : ℕ) → In t (called_below g ts n) → t < length g.tables
+  unfolding called_below
   of_game few zero t at = few t at
   of_game few (suc n) t at =
       omega (
         arith,
         of_range 0 (length g.tables) t
-            (of_filtered (λ u. list_any (is_call_of u) (flat_map (condacts_in g) (below g ts n))) (all_tables g) t at).among,
+            (of_filtered (λ u. list_any (is_call_of u) (flat_map (table_condacts g) (called_below g ts n))) (all_tables g) t at).among,
       )
 
   -- within ten levels they are reached
-  pub in_reached : (n t : ℕ) → n ≤ 10 → In t (below g ts n) → t < length g.tables → In t (reached_from g ts)
+  pub in_reached : (n t : ℕ) → n ≤ 10 → In t (called_below g ts n) → t < length g.tables → In t (reached_from g ts)
   in_reached n t low at few =
-      in_filtered (is_among (flat_map (below g ts) (range_with_len 0 11))) (all_tables g) t
-      (any_within (λ m. m == t) (below g ts) (range_with_len 0 11) n (in_range 0 11 n (omega arith) (omega arith)) at)
+      in_filtered (is_among (flat_map (called_below g ts) (range_with_len 0 11))) (all_tables g) t
+      (any_within (λ m. m == t) (called_below g ts) (range_with_len 0 11) n (in_range 0 11 n (omega arith) (omega arith)) at)
       (in_range 0 (length g.tables) t (omega arith) (omega arith))
 
   -- no table stands at this level
   abbrev pub NoneAt : ℕ → Type 0
-  NoneAt n = (t : ℕ) → In t (below g ts n) → ⊥
+  NoneAt n = (t : ℕ) → In t (called_below g ts n) → ⊥
 
   -- a table at a level is called by one above it
-  caller : (n t : ℕ) → In t (below g ts (suc n)) → Found (is_call_of t) (condacts_in g) (below g ts n)
-  unfolding below
+  caller : (n t : ℕ) → In t (called_below g ts (suc n)) → Found (is_call_of t) (table_condacts g) (called_below g ts n)
+  unfolding called_below
   caller n t at =
-      found_within (is_call_of t) (condacts_in g) (below g ts n)
-      (of_filtered (λ u. list_any (is_call_of u) (flat_map (condacts_in g) (below g ts n))) (all_tables g) t at).passes
+      found_within (is_call_of t) (table_condacts g) (called_below g ts n)
+      (of_filtered (λ u. list_any (is_call_of u) (flat_map (table_condacts g) (called_below g ts n))) (all_tables g) t at).passes
 
   none_below : (n : ℕ) → NoneAt n → NoneAt (suc n)
   none_below n none t at = let k = caller n t at in none k.place k.among
@@ -158,19 +158,19 @@ module _ (g : GameLists) (v : Valid g) (ts : List ℕ) where
   none_further n zero none = let e : n ≡ n + 0 = omega arith in subst NoneAt e none
   none_further n (suc k) none = let e : suc (n + k) ≡ n + suc k = omega arith in subst NoneAt e (none_below (n + k) (none_further n k none))
 
-  is_a_call : (u : ℕ) (c : Condact) → is_call_of u c ≡ true → is_call c ≡ true
-  is_a_call u c h = first_of_and (is_call c) (c.a == u) h
+  is_a_call : (u : ℕ) (c : Condact) → is_call_of u c ≡ true → calls_table c ≡ true
+  is_a_call u c h = first_of_and (calls_table c) (c.a == u) h
 
   -- below a level without calls
-  pub none_called : (n : ℕ) → first_with g is_call (below g ts n) ≡ None → NoneAt (suc n)
+  pub none_called : (n : ℕ) → first_with g calls_table (called_below g ts n) ≡ None → NoneAt (suc n)
   none_called n none t at =
       let k = caller n t at in
-      no_first g is_call (below g ts n) none k.place k.among (any_weaker (is_call_of t) is_call (is_a_call t) (condacts_in g k.place) k.found)
+      no_first g calls_table (called_below g ts n) none k.place k.among (any_weaker (is_call_of t) calls_table (is_a_call t) (table_condacts g k.place) k.found)
 
 -- ---- how many levels there are ----
 
 abbrev has_tables : GameLists → ℕ → Bool
-has_tables g n = nat_lt 0 (length (below g turn_tables n))
+has_tables g n = nat_lt 0 (length (called_below g turn_tables n))
 
 no_tables : (ts : List ℕ) → nat_lt 0 (length ts) ≡ false → (t : ℕ) → In t ts → ⊥
 no_tables [] h t at = cc
@@ -194,7 +194,7 @@ module _ (g : GameLists) (v : Valid g) where
           None_at ((a + 1) + count_by (has_tables g) (range_with_len (a + 1) k)) ⊎ (count_by (has_tables g) (range_with_len (a + 1) k) ≡ k) →
           None_at (a + count_by (has_tables g) (range_with_len a (suc k))) ⊎ (count_by (has_tables g) (range_with_len a (suc k)) ≡ suc k)
       go false e more later =
-          inl (none_further g v turn_tables a (count_by (has_tables g) (range_with_len a (suc k))) (no_tables (below g turn_tables a) e))
+          inl (none_further g v turn_tables a (count_by (has_tables g) (range_with_len a (suc k))) (no_tables (called_below g turn_tables a) e))
       go true e more (inl none) =
           let one : ◌≡◌ {A = ℕ} (cond (has_tables g a) 1 0) 1 = ap (λ (b : Bool). cond b 1 0) e in
           let same : (a + 1) + count_by (has_tables g) (range_with_len (a + 1) k) ≡ a + count_by (has_tables g) (range_with_len a (suc k)) =
@@ -205,7 +205,7 @@ module _ (g : GameLists) (v : Valid g) where
           inr (omega (arith, one, more, all))
 
   -- below as many levels as there are stands no table
-  pub none_behind : first_with g is_call (below g turn_tables 10) ≡ None → None_at (suc (most_levels g))
+  pub none_behind : first_with g calls_table (called_below g turn_tables 10) ≡ None → None_at (suc (most_levels g))
   none_behind calm = go (first_levels 1 10)
     where
       go : None_at (1 + most_levels g) ⊎ (most_levels g ≡ 10) → None_at (suc (most_levels g))

@@ -17,7 +17,7 @@ use Rattle.paw_reading.specs.Turn.{view_text, counted, prompt_text, timeout_text
 use Rattle.paw_reading.specs.Turn.{opening}
 use Rattle.paw_reading.specs.inner.Steps.{line_set, unknown_text}
 use Rattle.paw_check.specs.Promise.{EndsWithin}
-use Rattle.paw_check.specs.inner.Within.{IsReady, HasUsed, TableWithin, LeavesDescribed}
+use Rattle.paw_check.specs.inner.Within.{IsReadyWithin, HasUsed, TableWithin, LeavesDescribed}
 use Rattle.paw_check.proofs.Allowances.{for_phrases, fewer_bytes, phrase_less}
 use Rattle.paw_check.proofs.TurnWorlds.{counted_of, timeout_of, phrase_of, start_of}
 
@@ -41,7 +41,7 @@ pub record Says (g : Story) (k : Takes) : Type 0 where
 -- each table of a turn takes no more, from each run with room for it
 abbrev pub TablesTake : Story → (condacts text : ℕ) → Takes → Type 0
 TablesTake g condacts text k =
-    (pending m n t : ℕ) (r : Run) → t ≤ 2 → IsReady condacts text pending g.game r → HasUsed m n r → m + k.reads t ≤ condacts → n + k.prints t ≤ text →
+    (pending m n t : ℕ) (r : Run) → t ≤ 2 → IsReadyWithin condacts text pending g.game r → HasUsed m n r → m + k.reads t ≤ condacts → n + k.prints t ≤ text →
     TableWithin condacts text pending g.game (m + k.reads t) (n + k.prints t) (table_read g t r)
 
 -- After table 0 the location may be described again.
@@ -96,7 +96,7 @@ one_within most piece short (suc i) d low = absurd (omega arith)
 module _ (g : Story) (valid : ValidStory g) (condacts text : ℕ) where
   -- a run of which a line may be left
   abbrev pub Ready : Run → Type 0
-  Ready r = IsReady condacts text 255 g.game r
+  Ready r = IsReadyWithin condacts text 255 g.game r
 
   abbrev pub Ends : Ending → Type 0
   Ends e = EndsSo condacts text e
@@ -193,7 +193,7 @@ module _ (g : Story) (valid : ValidStory g) (condacts text : ℕ) where
         record { ready = with_line r h.ready [] (omega arith); few = omega (arith, fewer, h.few); short = omega (arith, shorter, h.short) }
 
     -- what a table leaves of the room that a run has
-    pub left_room : (a b c d m n p : ℕ) (s : Run) → p ≤ 255 → IsReady condacts text p g.game s → HasUsed (m + c) (n + d) s →
+    pub left_room : (a b c d m n p : ℕ) (s : Run) → p ≤ 255 → IsReadyWithin condacts text p g.game s → HasUsed (m + c) (n + d) s →
         m + ((c + a) + for_phrases (round_reads k) p) ≤ condacts → n + ((d + b) + (for_phrases (round_text k) p + k.prompt)) ≤ text → HasRoom a b s
     left_room a b c d m n p s low h used few short =
         let fewer = fewer_bytes (round_reads k) (length s.pending) p h.line in

@@ -10,7 +10,7 @@ use Rattle.std.proofs.lemmas.List.Folds.{list_any-append}
 use Rattle.paw_base.specs.declared.parts.Condact.{Condact}
 use Rattle.paw_game.specs.declared.parts.Entry.{Entry}
 use Rattle.paw_check.specs.Calls.{is_call_of}
-use Rattle.paw_check.specs.inner.Capped.{Marks, condacts_of_entries, condacts_of_tables}
+use Rattle.paw_check.specs.inner.Capped.{MarksTables, condacts_of_entries, condacts_of_tables}
 use Rattle.paw_check.proofs.Entries.{range_to}
 
 -- nothing besides
@@ -64,7 +64,7 @@ or_assoc true b c = refl
 or_assoc false b c = refl
 
 -- marked twice
-pub marks_both : (a b c : List Bool) (p q r : ℕ → Bool) → ((u : ℕ) → (p u || q u) ≡ r u) → Marks a b p → Marks b c q → Marks a c r
+pub marks_both : (a b c : List Bool) (p q r : ℕ → Bool) → ((u : ℕ) → (p u || q u) ≡ r u) → MarksTables a b p → MarksTables b c q → MarksTables a c r
 marks_both a b c p q r both first second = record {
   long = second.long ∙ first.long;
   each = λ u low. second.each u low ∙ ap (λ (x : Bool). x || q u) (first.each u low)
@@ -74,9 +74,9 @@ marks_both a b c p q r both first second = record {
 -- the tables that one more table calls
 pub marks_table_more : (a b c : List Bool) (tables : List (List Entry)) (from : List ℕ) (i d : ℕ) → i < length from
     → (es : List Entry) → es ≡ unwrap_or (slice_get tables (get_or from i d)) []
-    → Marks a b (λ u. list_any (is_call_of u) (condacts_of_tables tables (take i from)))
-    → Marks b c (λ u. list_any (is_call_of u) (condacts_of_entries es))
-    → Marks a c (λ u. list_any (is_call_of u) (condacts_of_tables tables (take (i + 1) from)))
+    → MarksTables a b (λ u. list_any (is_call_of u) (condacts_of_tables tables (take i from)))
+    → MarksTables b c (λ u. list_any (is_call_of u) (condacts_of_entries es))
+    → MarksTables a c (λ u. list_any (is_call_of u) (condacts_of_tables tables (take (i + 1) from)))
 marks_table_more a b c tables from i d within es is first second =
     marks_both a b c _ _ _ (λ u.
     ap (λ xs. list_any (is_call_of u) (condacts_of_tables tables (take i from)) || list_any (is_call_of u) (condacts_of_entries xs)) is
@@ -96,7 +96,7 @@ marked_no p n xs ys so fails is =
     ∙ append-nil (filter p (range_with_len 0 n)))
 
 -- the marked numbers below a count are those that pass
-pub marks_filter : (b : List Bool) (p : ℕ → Bool) (n : ℕ) → n ≤ 256 → Marks (replicate 256 false) b p
+pub marks_filter : (b : List Bool) (p : ℕ → Bool) (n : ℕ) → n ≤ 256 → MarksTables (replicate 256 false) b p
     → filter (λ u. slice_index_or b u false) (range_with_len 0 n) ≡ filter p (range_with_len 0 n)
 marks_filter b p n few so = filter_alike _ p 0 n (λ u low.
     so.each u (omega (arith, low, few)) ∙ ap (λ (x : Bool). x || p u) (get_or-replicate 256 u false false (omega (arith, low, few))))

@@ -12,7 +12,7 @@ use Rattle.paw_world.specs.Weight.{weight}
 use Rattle.paw_effects.specs.Story.{story_of}
 use Rattle.paw_effects.specs.Standing.{AreBytes}
 use Rattle.paw_effects.specs.inner.Standing.{IsWorldOf}
-use Rattle.paw_effects.specs.Referring.{referred, facts_written, weight_class}
+use Rattle.paw_effects.specs.Referring.{referred, with_referred_facts, flag_of_fact}
 use Rattle.paw_effects.specs.Holds.{holds}
 use Rattle.paw_effects.specs.Effects.{effect_of}
 use Rattle.paw_effects.proofs.Worlds.{IsWorldAt, world_at, world_is, flagged, facts_small, anew_so}
@@ -71,12 +71,12 @@ named_verb : (w : World) (f : Option ObjectFacts) → flag (named w f) 33 ≡ fl
 named_verb w None = refl
 named_verb w (Some f) = other (with_flag w 34 f.noun) 35 f.adjective (omega arith) ∙ other w 34 f.noun (omega arith)
 
-facts_verb : (w : World) (o : ℕ) (f : Option ObjectFacts) → flag (facts_written w o f) 33 ≡ flag w 33
+facts_verb : (w : World) (o : ℕ) (f : Option ObjectFacts) → flag (with_referred_facts w o f) 33 ≡ flag w 33
 facts_verb w o None = refl
 facts_verb w o (Some f) =
     let weighed : World = with_flag w 55 (weight w o) in
-    let held : World = with_flag weighed 56 (weight_class f.container) in
-    other held 57 (weight_class f.wearable) (omega arith) ∙ other weighed 56 (weight_class f.container) (omega arith)
+    let held : World = with_flag weighed 56 (flag_of_fact f.container) in
+    other held 57 (flag_of_fact f.wearable) (omega arith) ∙ other weighed 56 (flag_of_fact f.container) (omega arith)
     ∙ other w 55 (weight w o) (omega arith)
 
 referred_verb : (w : World) (o : ℕ) → flag (referred w o) 33 ≡ flag w 33

@@ -18,7 +18,7 @@ use Rattle.paw_game.specs.Tables.{table_at, is_for}
 use Rattle.paw_game.specs.Valid.{is_condact}
 use Rattle.paw_world.specs.World.{World, flag}
 use Rattle.paw_phrase.specs.Sentence.{Parsed, IsSentence, IsUnknown, IsNoPhrase}
-use Rattle.paw_phrase.proofs.Phrases.{Leaves, parsed-shorter}
+use Rattle.paw_phrase.proofs.Phrases.{LeavesBytes, parsed-shorter}
 use Rattle.paw_effects.specs.Story.{Story}
 use Rattle.paw_effects.specs.declared.act.Prompt.{Prompt}
 use Rattle.paw_effects.specs.declared.act.Prompt.TheVariants as prompt
@@ -40,9 +40,9 @@ use Rattle.paw_reading.specs.Run.{Run, Step, closed, printed, with_world, withou
 use Rattle.paw_reading.specs.Run.{is_ignored, heard, reply, is_yes, is_no, taken_phrase}
 use Rattle.paw_reading.specs.declared.places.Halt.TheVariants as halt
 use Rattle.paw_reading.specs.Reading.{Redescribes, Restarts, Halts, Stop, Out, Left, Waits, Stopped}
-use Rattle.paw_reading.specs.Reading.{noted, after_call, at_level, again, is_taken, taken, turns, loop_of, over, answered, asked, waits}
+use Rattle.paw_reading.specs.Reading.{noted, after_call, at_level, next_object_or, is_taken, taken, over_objects, loop_of, over, answered, asked, waits}
 use Rattle.paw_reading.specs.Reading.{after_test, after_parse, coming_phrase, after_action, carried_out, acts, reads_one, condacts, is_for_now}
-use Rattle.paw_reading.specs.Reading.{entries, plain, looped, reads, game_over}
+use Rattle.paw_reading.specs.Reading.{entries, from_place, rest_of_loop, read_at_level, game_over}
 use Rattle.paw_reading.specs.inner.Steps.{goodbye, quit_question}
 use Rattle.paw_reading.proofs.EachCondact.{by_test}
 use Rattle.paw_reading.proofs.Keeps.{Keeps, CallsKeeping, IsOrNone, either, open_or_not, plain_keeps}
@@ -314,7 +314,7 @@ module _ (g : Story) (valid : ValidStory g) (kind : SpentKind) (limit pending : 
     -- a table that is left with its loop open goes on with the loop
     again_ends : (next : OpenLoop → Run → Out) (a b d : ℕ) → b ≤ d →
         ((l : OpenLoop) (r : Run) → Is lv r → used kind r ≤ a → Ends (Outside lv d) d (next l r)) → (x : Out) → Ends (Inside lv a b) b x →
-        Ends (Outside lv d) d (again lv next x)
+        Ends (Outside lv d) d (next_object_or lv next x)
     again_ends next a b d h goes (Left acted r) k =
         open_or_not (Ends (Outside lv d) d) (λ l. next l r) (Left acted r) (at_level lv r.turning)
         (λ l e. let most : used kind r ≤ allowed (Some l) a b = rw e at k.1 in goes l r k.0 most)
@@ -324,8 +324,8 @@ module _ (g : Story) (valid : ValidStory g) (kind : SpentKind) (limit pending : 
 
     turns_end : (l : OpenLoop) (body : Run → Out) (once more : ℕ) → l.level ≡ lv → Takes once more body → (n : ℕ) → n ≤ length g.game.objects →
         (m : ℕ) (r : Run) → Is lv r → used kind r ≤ m → m + turned once more n ≤ limit →
-        Ends (Outside lv (m + turned once more n)) (m + turned once more n) (turns g lv l body n r)
-    unfolding turns
+        Ends (Outside lv (m + turned once more n)) (m + turned once more n) (over_objects g lv l body n r)
+    unfolding over_objects
     turns_end l body once more own takes zero few m r k u fits = (no_loop lv r k, (refl, omega (arith, u)))
     turns_end l body once more own takes (suc n) few m r k u fits =
         let o : ℕ = length g.game.objects - suc n in
@@ -334,11 +334,11 @@ module _ (g : Story) (valid : ValidStory g) (kind : SpentKind) (limit pending : 
         let some : more ≤ turned once more n = more_turned once more n in
         let most : ℕ = m + turned once more (suc n) in
         either (Ends (Outside lv most) most) (is_taken g.game r.world l o) _ _
-        (again_ends (λ _. turns g lv l body n) (m + once) (m + (once + more)) most (omega (arith, some))
-        (λ q j is v. outside_up lv (m + once + turned once more n) most (omega arith) (turns g lv l body n j)
+        (again_ends (λ _. over_objects g lv l body n) (m + once) (m + (once + more)) most (omega (arith, some))
+        (λ q j is v. outside_up lv (m + once + turned once more n) most (omega arith) (over_objects g lv l body n j)
         (turns_end l body once more own takes n (omega (arith, few)) (m + once) j is v (omega (arith, fits))))
         (body s) (takes m s (taken_is lv l o r own small k) u (omega (arith, fits, some))))
-        (outside_up lv (m + turned once more n) most (omega arith) (turns g lv l body n r)
+        (outside_up lv (m + turned once more n) most (omega arith) (over_objects g lv l body n r)
         (turns_end l body once more own takes n (omega (arith, few)) m r k u (omega (arith, fits))))
 
     after_call_ends : (once more : ℕ) (f : Frame) (go : Bool → Run → Out) → Goes once more go → (m : ℕ) → m + (once + more) ≤ limit → (x : Out) →
@@ -352,7 +352,7 @@ module _ (g : Story) (valid : ValidStory g) (kind : SpentKind) (limit pending : 
 
     module _ (once more : ℕ) (f : Frame) (next go : Bool → Run → Out) (goes_next : Goes once more next) (goes_go : Goes once more go) where
       after_parse_ends : changing ≡ true → (m : ℕ) (r : Run) → Is lv r → used kind r ≤ m → m + (once + more) ≤ limit → (p : Parsed) →
-          coming_phrase g r ≡ p → Leaves (λ rest. length rest < length r.pending) p →
+          coming_phrase g r ≡ p → LeavesBytes (λ rest. length rest < length r.pending) p →
           Ends (Inside lv (m + once) (m + (once + more))) (m + (once + more)) (after_parse f next go r p)
       after_parse_ends may m r k u fits (IsSentence s rest) e less =
           let said = phrase_of g.game valid.game g.rows r k.world k.small s rest e in
@@ -464,7 +464,7 @@ module _ (g : Story) (valid : ValidStory g) (kind : SpentKind) (limit pending : 
             let room : turned once more n ≤ loop_cost + more = wide once more short in
             let own : extra c ≡ loop_cost = loops c leads.0 in
             outside_inside lv (m + (takes c + once)) (m + takes c + turned once more n) (m + ((takes c + once) + (extra c + more)))
-            (omega (arith, room, own)) (turns g lv (loop_of lv f p) (go true) n r)
+            (omega (arith, room, own)) (over_objects g lv (loop_of lv f p) (go true) n r)
             (turns_end (loop_of lv f p) (go true) once more refl (goes_go true) n (omega arith) (m + takes c) r (loose lv r k (speaks (λ e. cc)))
             (omega (arith, u, own_takes c)) (omega (arith, room, own, fits)))
         after_action_ends (effect.Ask p) w leads kept parses r k speaks u =
@@ -514,7 +514,7 @@ module _ (g : Story) (valid : ValidStory g) (kind : SpentKind) (limit pending : 
             })
             (λ other e. elim (actions_keep_verb g r.world c valid k.world (is c has) (quiet c has e)) [
               | inl same ↦ same ∙ k.speaks e
-              | inr again ↦ absurd (other again)
+              | inr next_object_or ↦ absurd (other next_object_or)
             ])
             most)
             (λ h. h)
@@ -604,7 +604,7 @@ module _ (g : Story) (valid : ValidStory g) (kind : SpentKind) (limit pending : 
         stays o q none (inr e) = rw e refl
 
         last_ends : (next : OpenLoop → Run → Out) (a b : ℕ) (o : Option OpenLoop) (x : Out) → at_level lv o ≡ None → Keeps o x →
-            Ends (Inside lv a b) b x → Ends (Outside lv b) b (again lv next x)
+            Ends (Inside lv a b) b x → Ends (Outside lv b) b (next_object_or lv next x)
         last_ends next a b o (Left acted r) none keep k =
             let shut : at_level lv r.turning ≡ None = stays o r.turning none keep in
             let most : used kind r ≤ allowed None a b = rw shut at k.1 in
@@ -619,11 +619,12 @@ module _ (g : Story) (valid : ValidStory g) (kind : SpentKind) (limit pending : 
             m + (sum_by takes (their (chosen (table_at g.game t))) + sum_by extra (their (chosen (table_at g.game t)))) ≤ limit →
             Ends (Outside lv (m + (sum_by takes (their (chosen (table_at g.game t))) + sum_by extra (their (chosen (table_at g.game t))))))
             (m + (sum_by takes (their (chosen (table_at g.game t))) + sum_by extra (their (chosen (table_at g.game t)))))
-            (reads g sub lv t 0 0 false r)
+            (read_at_level g sub lv t 0 0 false r)
         reads_end t has short m r k none u fits =
             let a : ℕ = sum_by takes (their (chosen (table_at g.game t))) in
             let b : ℕ = sum_by extra (their (chosen (table_at g.game t))) in
-            let goes : Goes a b (plain g sub lv t 0 0) =
+            let goes : Goes a b (from_place g sub lv t 0 0) =
             subst (λ es. Goes a b (entries g sub lv t 0 es)) (sym (all_left (table_at g.game t))) (entries_end t 0 (table_at g.game t) has short) in
-            last_ends (looped g sub lv) (m + a) (m + (a + b)) r.turning (plain g sub lv t 0 0 false r) none (plain_keeps g sub lv keeps t 0 0 false r)
+            last_ends (rest_of_loop g sub lv) (m + a) (m + (a + b)) r.turning (from_place g sub lv t 0 0 false r) none
+            (plain_keeps g sub lv keeps t 0 0 false r)
             (goes false m r k u fits)

@@ -18,7 +18,7 @@ use Rattle.paw_check.specs.declared.prints.Printed.{Printed}
 use Rattle.paw_check.specs.declared.prints.Printed.TheVariants as printed
 use Rattle.paw_check.specs.declared.prints.Prints.{Prints}
 use Rattle.paw_check.specs.declared.prints.TheConstants.{PRINTED}
-use Rattle.paw_check.specs.inner.Capped.{Holds, capped}
+use Rattle.paw_check.specs.inner.Capped.{HoldsCapped, capped}
 use Rattle.paw_check.specs.inner.Own.{byte_in, measure_in, measure_at, kind_in, kind_of, named_in, text_in}
 use Rattle.paw_check.specs.inner.Texts.{ArePrints}
 use Rattle.paw_check.proofs.Capped.{add_alike, sum_alike, from_capped, capped_again}
@@ -41,7 +41,7 @@ pub greatest_measure_alike : (g : GameLists) (name : ℕ) (texts : List (List �
 greatest_measure_alike g name texts h = greatest_alike _ _ texts (λ text. measure_alike name (longest_name g) text h)
 
 pub holds_measures : (g : GameLists) (name : ℕ) (texts : List (List ℕ)) (row : List ℕ) → name ≡ capped (longest_name g)
-    → Holds row (measure_at name texts) → Holds row (most_at g texts)
+    → HoldsCapped row (measure_at name texts) → HoldsCapped row (most_at g texts)
 holds_measures g name texts row h holds = record {
   long = holds.long;
   each = λ v low. holds.each v low ∙ measure_alike name (longest_name g) (unwrap_or (slice_get texts v) []) h;
@@ -53,7 +53,7 @@ none_past g texts n past = ap (λ text. most_bytes g (unwrap_or text [])) (slice
 
 -- A row holds the measure of each text, and of none past the last.
 pub at_alike : (g : GameLists) (texts : List (List ℕ)) (row : List ℕ) (n : ℕ) → length texts ≤ 256
-    → Holds row (most_at g texts) → slice_index_or row n 0 ≡ capped (most_at g texts n)
+    → HoldsCapped row (most_at g texts) → slice_index_or row n 0 ≡ capped (most_at g texts n)
 at_alike g texts row n few holds = elim (cases_lt n 256) [
   | inl low ↦ holds.each n low
   | inr high ↦
@@ -102,7 +102,7 @@ unfolding most_text
 text_is g c = row_at (plain_code c.code) g c
 
 named_alike : (g : GameLists) (texts : List (List ℕ)) (row : List ℕ) (any : ℕ) (c : Condact) → length texts ≤ 256
-    → Holds row (most_at g texts) → any ≡ capped (most_of g texts) → named_in row any c ≡ capped (most_named g texts c)
+    → HoldsCapped row (most_at g texts) → any ≡ capped (most_of g texts) → named_in row any c ≡ capped (most_named g texts c)
 named_alike g texts row any c few holds most = at (is_indirect c.code) where
   at : (b : Bool) → cond b any (slice_index_or row c.a 0) ≡ capped (cond b (most_of g texts) (most_at g texts c.a))
   at true = most
@@ -136,7 +136,7 @@ text_alike g p are few many c =
     ∙ ap capped (sym (text_is g c))
 
 -- The greatest measure that a row holds for these messages.
-pub greatest_of_row : (g : GameLists) (row : List ℕ) (messages : List ℕ) → length g.system ≤ 256 → Holds row (most_put g)
+pub greatest_of_row : (g : GameLists) (row : List ℕ) (messages : List ℕ) → length g.system ≤ 256 → HoldsCapped row (most_put g)
     → greatest (map (λ s. slice_index_or row s 0) messages) ≡ capped (greatest (map (most_put g) messages))
 greatest_of_row g row messages few holds =
     ap greatest (map_same (λ s. slice_index_or row s 0) (λ s. capped (most_put g s)) messages (λ s. at_alike g g.system row s few holds))

@@ -16,7 +16,7 @@ use Rattle.paw_world.specs.Weight.{weight}
 use Rattle.paw_effects.specs.declared.act.Effect.TheVariants as effect
 use Rattle.paw_effects.specs.Done.{Done}
 use Rattle.paw_effects.specs.Positions.{loaded}
-use Rattle.paw_effects.specs.Referring.{facts_written, weight_class, referred, referred_to_none}
+use Rattle.paw_effects.specs.Referring.{with_referred_facts, flag_of_fact, referred, referred_to_none}
 use Rattle.paw_effects.specs.ObjectActions.{destination, first_that_holds, hindrances, tried, acted_on}
 use Rattle.paw_effects.specs.AutoActions.{acted_on_found}
 use Rattle.paw_effects.specs.Holds.{answers}
@@ -70,13 +70,13 @@ module _ (n : ℕ) where
 
   -- ---- referring ----
 
-  facts_has : (w : World) (o : ℕ) (f : Option ObjectFacts) → HasVerb w → HasVerb (facts_written w o f)
+  facts_has : (w : World) (o : ℕ) (f : Option ObjectFacts) → HasVerb w → HasVerb (with_referred_facts w o f)
   facts_has w o None k = k
   facts_has w o (Some f) k =
       let weighed : World = with_flag w REFERRED_WEIGHT_FLAG (weight w o) in
-      let held : World = with_flag weighed REFERRED_CONTAINER_FLAG (weight_class f.container) in
-      other_has held REFERRED_WEARABLE_FLAG (weight_class f.wearable) refl
-      (other_has weighed REFERRED_CONTAINER_FLAG (weight_class f.container) refl (other_has w REFERRED_WEIGHT_FLAG (weight w o) refl k))
+      let held : World = with_flag weighed REFERRED_CONTAINER_FLAG (flag_of_fact f.container) in
+      other_has held REFERRED_WEARABLE_FLAG (flag_of_fact f.wearable) refl
+      (other_has weighed REFERRED_CONTAINER_FLAG (flag_of_fact f.container) refl (other_has w REFERRED_WEIGHT_FLAG (weight w o) refl k))
 
   pub referred_has : (w : World) (o : ℕ) → HasVerb w → HasVerb (referred w o)
   referred_has w o k =

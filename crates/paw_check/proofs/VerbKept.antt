@@ -10,7 +10,7 @@ use Rattle.paw_effects.specs.Indirect.{as_plain}
 use Rattle.paw_effects.specs.Effects.{makes, done_by, effect_of, plain_effect}
 use Rattle.paw_effects.specs.Holds.{Tested, answers, tested_by, holds, plain_holds}
 use Rattle.paw_effects.specs.inner.Standing.{IsWorldOf}
-use Rattle.paw_check.specs.inner.Condacts.{ConditionsKeepVerb, ActionsKeepVerb}
+use Rattle.paw_check.specs.inner.Condacts.{ConditionsLeaveVerb, ActionsLeaveVerb}
 use Rattle.paw_check.proofs.ActionFacts.{KeepsBy}
 use Rattle.paw_check.proofs.EachAction.{facts}
 use Rattle.paw_check.proofs.Carried.{SparesVerb, of_carried, carried_spares}
@@ -40,14 +40,14 @@ plain_has n g w c = tested_has n (meaning_of c.code) g w c (facts c.code).verb.k
 
 -- ---- each condact ----
 
-pub conditions_keep_verb : ConditionsKeepVerb
+pub conditions_keep_verb : ConditionsLeaveVerb
 unfolding holds
 conditions_keep_verb g w c v of right spared =
     of_carried (λ (t : Tested). HasVerb (flag w VERB_FLAG) t.world) (plain_holds g.game w) (as_plain g.game w c)
     (answers w false)
     (λ d is. plain_has (flag w VERB_FLAG) g.game w d (carried_spares g.game w c d is spared) refl) refl
 
-pub actions_keep_verb : ActionsKeepVerb
+pub actions_keep_verb : ActionsLeaveVerb
 unfolding effect_of
 actions_keep_verb g w c v of right spared =
     of_carried (LeavesVerb (flag w VERB_FLAG)) (plain_effect g w) (as_plain g.game w c) (makes w)

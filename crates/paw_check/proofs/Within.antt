@@ -22,14 +22,14 @@ use Rattle.paw_reading.specs.declared.places.OpenLoop.{OpenLoop}
 use Rattle.paw_reading.specs.Run.{Run}
 use Rattle.paw_reading.specs.declared.places.Halt.TheVariants as halt
 use Rattle.paw_reading.specs.Reading.{Redescribes, Restarts, Halts, Out, Left, Waits, Stopped, at_level}
-use Rattle.paw_reading.specs.Reading.{reads, called, table_read}
+use Rattle.paw_reading.specs.Reading.{read_at_level, called, table_read}
 use Rattle.paw_reading.proofs.Keeps.{called_keeps}
 use Rattle.paw_check.specs.Prints.{most_text}
 use Rattle.paw_check.specs.Verbs.{may_write_verb}
-use Rattle.paw_check.specs.Calls.{turn_tables, is_call, condacts_in, below, reached_from}
+use Rattle.paw_check.specs.Calls.{turn_tables, calls_table, table_condacts, called_below, reached_from}
 use Rattle.paw_check.specs.Costs.{counting, cost, verb_may_change}
 use Rattle.paw_check.specs.Verdicts.{call_too_deep}
-use Rattle.paw_check.specs.inner.Within.{IsReady, TableWithin, TablesWithin, reads_of, text_of}
+use Rattle.paw_check.specs.inner.Within.{IsReadyWithin, TableWithin, TablesWithin, reads_of, table_text}
 use Rattle.paw_check.proofs.Lengths.{say_most}
 use Rattle.paw_check.proofs.Members.{In, any_within}
 use Rattle.paw_check.proofs.Reaching.{Member, each_of_table, calls_below, of_game, in_reached, no_first}
@@ -96,16 +96,16 @@ module _ (g : Story) (valid : ValidStory g) (flat : call_too_deep g.game ≡ Non
 
   -- a condact of a table, which keeps the rules of a game
   abbrev Stands : ℕ → Condact → Type 0
-  Stands t c = Member (condacts_in g.game t) c × IsTrue (is_condact g.game c)
+  Stands t c = Member (table_condacts g.game t) c × IsTrue (is_condact g.game c)
 
   of_turn : (t : ℕ) → In t turn_tables → t < length g.game.tables
   of_turn t at = omega (arith, one_of_three t at, some_tables g.game valid.game)
 
   -- where the verb doesn't change no condact of a table that is reached may write it
-  quiet : (lv t : ℕ) → lv ≤ 10 → In t (below g.game turn_tables lv) → (c : Condact) → Stands t c → changing ≡ false → may_write_verb c ≡ false
+  quiet : (lv t : ℕ) → lv ≤ 10 → In t (called_below g.game turn_tables lv) → (c : Condact) → Stands t c → changing ≡ false → may_write_verb c ≡ false
   quiet lv t few at c stands still =
-      none_such may_write_verb (flat_map (condacts_in g.game) (reached_from g.game turn_tables)) still c
-      (λ p k. any_within p (condacts_in g.game) (reached_from g.game turn_tables) t
+      none_such may_write_verb (flat_map (table_condacts g.game) (reached_from g.game turn_tables)) still c
+      (λ p k. any_within p (table_condacts g.game) (reached_from g.game turn_tables) t
       (in_reached g.game valid.game turn_tables lv t few at (of_game g.game valid.game turn_tables of_turn lv t at)) (stands.0 p k))
 
   -- How calls from a table at a level end.
@@ -119,21 +119,21 @@ module _ (g : Story) (valid : ValidStory g) (flat : call_too_deep g.game ≡ Non
   loops_take k c h = rw h refl
 
   -- a table that is read from its start
-  table_end : (n lv t : ℕ) → lv ≤ 10 → In t (below g.game turn_tables lv) → CallsEnd n lv t → (m : ℕ) (r : Run) → Steadily lv r →
+  table_end : (n lv t : ℕ) → lv ≤ 10 → In t (called_below g.game turn_tables lv) → CallsEnd n lv t → (m : ℕ) (r : Run) → Steadily lv r →
       at_level lv r.turning ≡ None → used kind r ≤ m → m + cost g.game own count n t ≤ limit →
-      EndsSo (Shut lv (m + cost g.game own count n t)) (m + cost g.game own count n t) (reads g (called g n lv) lv t 0 0 false r)
+      EndsSo (Shut lv (m + cost g.game own count n t)) (m + cost g.game own count n t) (read_at_level g (called g n lv) lv t 0 0 false r)
   table_end n lv t few at calls m r k none u fits =
       let cs : List Condact = flat_map (λ e. e.condacts) (count (table_at g.game t)) in
       let all : ℕ = sum_by (takes_at g.game own count n) cs in
       let once_more : ℕ = all + sum_by (if_opens (length g.game.objects * all)) cs in
       let is : cost g.game own count n t ≡ once_more = cost_is g.game own count n t in
-      let ends : EndsSo (Shut lv (m + once_more)) (m + once_more) (reads g (called g n lv) lv t 0 0 false r) =
+      let ends : EndsSo (Shut lv (m + once_more)) (m + once_more) (read_at_level g (called g n lv) lv t 0 0 false r) =
       reads_end g valid kind limit pending changing verb low bye lv (Stands t)
       (λ c stands. stands.1) (quiet lv t few at) (takes_at g.game own count n) (if_opens (length g.game.objects * all))
       (own_takes g.game own count n) all (length g.game.objects * all) (loops_take (length g.game.objects * all))
       (λ once more h. turned_most all once more (length g.game.objects) h) (called g n lv) calls (called_keeps g n lv) t
       (each_of_table g.game valid.game t (Stands t) (λ c member kept. (member, kept))) (omega arith) m r k none u (omega (arith, is, fits)) in
-      subst (λ x. EndsSo (Shut lv (m + x)) (m + x) (reads g (called g n lv) lv t 0 0 false r)) (sym is) ends
+      subst (λ x. EndsSo (Shut lv (m + x)) (m + x) (read_at_level g (called g n lv) lv t 0 0 false r)) (sym is) ends
 
   down : (lv : ℕ) (r : Run) → Steadily lv r → Steadily (suc lv) r
   down lv r k = record {
@@ -157,33 +157,33 @@ module _ (g : Story) (valid : ValidStory g) (flat : call_too_deep g.game ≡ Non
     closed = k.closed;
   }
 
-  calls_end : (n lv t : ℕ) → n + lv ≡ 10 → In t (below g.game turn_tables lv) → CallsEnd n lv t
+  calls_end : (n lv t : ℕ) → n + lv ≡ 10 → In t (called_below g.game turn_tables lv) → CallsEnd n lv t
   unfolding called
   calls_end zero lv t deep at c stands calls m r k u fits =
       let ten : lv ≡ 10 = omega (arith, deep) in
-      absurd (no_first g.game is_call (below g.game turn_tables 10) flat t (rw ten at at) (stands.0 is_call (rw calls refl)))
+      absurd (no_first g.game calls_table (called_below g.game turn_tables 10) flat t (rw ten at at) (stands.0 calls_table (rw calls refl)))
   calls_end (suc n) lv t deep at c stands calls m r k u fits =
-      let under : In c.a (below g.game turn_tables (suc lv)) =
+      let under : In c.a (called_below g.game turn_tables (suc lv)) =
       calls_below g.game valid.game turn_tables lv t at c stands.0 stands.1 calls in
       let most : ℕ = m + own c + cost g.game own count n c.a in
       let same : takes_at g.game own count (suc n) c ≡ own c + cost g.game own count n c.a = rw calls refl in
-      let ends : EndsSo (Shut (suc lv) most) most (reads g (called g n (suc lv)) (suc lv) c.a 0 0 false r) =
+      let ends : EndsSo (Shut (suc lv) most) most (read_at_level g (called g n (suc lv)) (suc lv) c.a 0 0 false r) =
       table_end n (suc lv) c.a (omega (arith, deep)) under (calls_end n (suc lv) c.a (omega (arith, deep)) under) (m + own c) r (down lv r k)
       (shut r.turning lv k.loop) u (omega (arith, same, fits)) in
       ends_up g valid kind limit pending changing verb low bye (Shut (suc lv) most) (Some_way lv (m + takes_at g.game own count (suc n) c)) most
       (m + takes_at g.game own count (suc n) c) (omega (arith, same)) (λ s i. (up lv s i.0 i.1.0, omega (arith, i.1.1, same)))
-      (reads g (called g n (suc lv)) (suc lv) c.a 0 0 false r) ends
+      (read_at_level g (called g n (suc lv)) (suc lv) c.a 0 0 false r) ends
 
   -- a table of a turn
   pub turn_table_end : (t m : ℕ) (r : Run) → In t turn_tables → Steadily 0 r → r.turning ≡ None → used kind r ≤ m →
       m + cost g.game own count 10 t ≤ limit →
       EndsSo (Shut 0 (m + cost g.game own count 10 t)) (m + cost g.game own count 10 t) (table_read g t r)
-  unfolding below
+  unfolding called_below
   turn_table_end t m r at k none u fits =
       table_end 10 0 t (omega arith) at (calls_end 10 0 t refl at) m r k (rw none refl) u fits
 
   -- the same for a run outside tables, where the table costs at most this
-  pub ready_table_end : (t m most condacts text : ℕ) (r : Run) → In t turn_tables → IsReady condacts text pending g.game r →
+  pub ready_table_end : (t m most condacts text : ℕ) (r : Run) → In t turn_tables → IsReadyWithin condacts text pending g.game r →
       (changing ≡ false → flag r.world 33 ≡ verb) → Closed kind limit r.traces r.pieces → used kind r ≤ m →
       cost g.game own count 10 t ≤ most → m + most ≤ limit → EndsSo (Shut 0 (m + most)) (m + most) (table_read g t r)
   ready_table_end t m most condacts text r at ready speaks closed u least fits =
@@ -220,7 +220,7 @@ module _ (g : Story) (valid : ValidStory g) (condacts text pending verb reads by
   ready : (left lv : ℕ) (loose : Bool) (r : Run)
       → Steady g.game spent.Condacts condacts left loose verb lv r.world r.earlier r.pending r.turning r.events r.traces r.pieces
       → Steady g.game spent.Text text left loose verb lv r.world r.earlier r.pending r.turning r.events r.traces r.pieces
-      → r.turning ≡ None → IsReady condacts text left g.game r
+      → r.turning ≡ None → IsReadyWithin condacts text left g.game r
   ready left lv loose r h k none = record {
     world = h.world;
     earlier = h.small;
@@ -250,10 +250,10 @@ tables_within g condacts text pending reads bytes t r valid flat bound low ready
     let no_bye : (w : World) → IsWorldOf g.game w → 0 ≤ condacts = λ w k. omega arith in
     let bye : (w : World) → IsWorldOf g.game w → length (say_text g.game w 14) ≤ text = λ w k. omega (arith, say_most g.game w 14, bound.goodbye) in
     let reads_most : cost g.game (λ c. 1) (counting (verb_may_change g.game) verb) 10 t ≤ reads_of g.game t = verb_most g.game (λ c. 1) t verb small in
-    let text_most : cost g.game (most_text g.game) (counting (verb_may_change g.game) verb) 10 t ≤ text_of g.game t =
+    let text_most : cost g.game (most_text g.game) (counting (verb_may_change g.game) verb) 10 t ≤ table_text g.game t =
     verb_most g.game (most_text g.game) t verb small in
-    both g valid condacts text pending verb (reads + reads_of g.game t) (bytes + text_of g.game t) bound.reads bound.bytes no_bye bye (table_read g t r)
+    both g valid condacts text pending verb (reads + reads_of g.game t) (bytes + table_text g.game t) bound.reads bound.bytes no_bye bye (table_read g t r)
     (ready_table_end g valid flat spent.Condacts condacts pending verb bound.reads no_bye t reads (reads_of g.game t) condacts text r at ready
     (λ e. refl) ready.closed.traces uses.read reads_most fit_reads)
-    (ready_table_end g valid flat spent.Text text pending verb bound.bytes bye t bytes (text_of g.game t) condacts text r at ready
+    (ready_table_end g valid flat spent.Text text pending verb bound.bytes bye t bytes (table_text g.game t) condacts text r at ready
     (λ e. refl) ready.closed.pieces uses.current text_most fit_bytes)

@@ -18,31 +18,32 @@ abbrev pub all_tables : GameLists → List ℕ
 all_tables g = range_with_len 0 (length g.tables)
 
 -- Whether a condact calls a table.
-abbrev pub is_call : Condact → Bool
-is_call c = c.code == PROCESS
+abbrev pub calls_table : Condact → Bool
+calls_table c = c.code == PROCESS
 
 -- Whether a condact calls this table.
 abbrev pub is_call_of : ℕ → Condact → Bool
-is_call_of u c = is_call c && (c.a == u)
+is_call_of u c = calls_table c && (c.a == u)
 
 -- The condacts of a table, one entry after the other.
-abbrev pub condacts_in : GameLists → ℕ → List Condact
-condacts_in g t = flat_map (λ e. e.condacts) (table_at g t)
+abbrev pub table_condacts : GameLists → ℕ → List Condact
+table_condacts g t = flat_map (λ e. e.condacts) (table_at g t)
 
 -- The tables that some condact of these tables calls, whether play can reach it or not.
 abbrev pub called_from : GameLists → List ℕ → List ℕ
-called_from g ts = let cs = flat_map (condacts_in g) ts in filter (λ u. list_any (is_call_of u) cs) (all_tables g)
+called_from g ts = let cs = flat_map (table_condacts g) ts in filter (λ u. list_any (is_call_of u) cs) (all_tables g)
 
 -- The tables n levels of calls below these.
-unfoldable pub below : GameLists → List ℕ → ℕ → List ℕ
-below g ts zero = ts
-below g ts (suc n) = called_from g (below g ts n)
+unfoldable pub called_below : GameLists → List ℕ → ℕ → List ℕ
+called_below g ts zero = ts
+called_below g ts (suc n) = called_from g (called_below g ts n)
 
 -- The tables that reading these may reach within ten levels of calls, these among them.
 abbrev pub reached_from : GameLists → List ℕ → List ℕ
 reached_from g ts =
-    let reached = flat_map (below g ts) (range_with_len 0 (suc LEVEL_LIMIT)) in filter (is_among reached) (all_tables g)
+    let reached = flat_map (called_below g ts) (range_with_len 0 (suc LEVEL_LIMIT)) in
+    filter (is_among reached) (all_tables g)
 
 -- How many levels of calls a turn may reach: those among the first to the tenth that have a table.
 abbrev pub most_levels : GameLists → ℕ
-most_levels g = count_by (λ n. nat_lt 0 (length (below g turn_tables n))) (range_with_len 1 LEVEL_LIMIT)
+most_levels g = count_by (λ n. nat_lt 0 (length (called_below g turn_tables n))) (range_with_len 1 LEVEL_LIMIT)

@@ -11,13 +11,13 @@ use Rattle.paw_game.specs.Game.{GameLists}
 use Rattle.paw_game.specs.Tables.{table_at, is_for}
 use Rattle.paw_check.specs.Measures.{greatest}
 use Rattle.paw_check.specs.Verbs.{may_write_verb}
-use Rattle.paw_check.specs.Calls.{turn_tables, is_call, condacts_in, reached_from}
+use Rattle.paw_check.specs.Calls.{turn_tables, calls_table, table_condacts, reached_from}
 
 -- ---- which entries count ----
 
 -- Whether the verb may change while tables are read: a table that a turn may reach has a condact that may write it.
 abbrev pub verb_may_change : GameLists → Bool
-verb_may_change g = list_any may_write_verb (flat_map (condacts_in g) (reached_from g turn_tables))
+verb_may_change g = list_any may_write_verb (flat_map (table_condacts g) (reached_from g turn_tables))
 
 -- The entries of a table that may be read for a verb: those that match it, or all where the verb may change.
 abbrev pub counting : Bool → ℕ → List Entry → List Entry
@@ -32,7 +32,7 @@ most_passes g cs = 1 + length g.objects * count_by (λ c. c.code == DOALL) cs
 
 -- What a condact takes: its own share, and for a call what the called table takes.
 abbrev pub with_call : (Condact → ℕ) → (ℕ → ℕ) → Condact → ℕ
-with_call own called c = own c + (if is_call c then called c.a else 0)
+with_call own called c = own c + (if calls_table c then called c.a else 0)
 
 -- What these condacts take together, over all passes.
 abbrev pub passed_over : GameLists → (Condact → ℕ) → List Condact → ℕ

@@ -14,7 +14,7 @@ use Rattle.paw_check.specs.declared.verdict.Cause.TheVariants as cause
 use Rattle.paw_check.specs.declared.verdict.Verdict.{Verdict}
 use Rattle.paw_check.specs.declared.verdict.Verdict.TheVariants as verdict
 use Rattle.paw_check.specs.Verbs.{does_one_of}
-use Rattle.paw_check.specs.Calls.{turn_tables, is_call, below, reached_from, most_levels}
+use Rattle.paw_check.specs.Calls.{turn_tables, calls_table, called_below, reached_from, most_levels}
 use Rattle.paw_check.specs.Bounds.{most_condacts, most_piece}
 
 -- ---- places ----
@@ -33,7 +33,7 @@ first_with g is_so (t ∷ ts) =
 
 -- The first call in a table ten levels of calls below a turn's tables; a circle of calls gets there too.
 abbrev pub call_too_deep : GameLists → Option (ℕ × ℕ)
-call_too_deep g = first_with g is_call (below g turn_tables LEVEL_LIMIT)
+call_too_deep g = first_with g calls_table (called_below g turn_tables LEVEL_LIMIT)
 
 -- Whether after a condact the location is described again, so that the tables of a turn are read once more.
 abbrev pub redescribes : Condact → Bool

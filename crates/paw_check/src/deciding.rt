@@ -8,7 +8,7 @@ ghost use Rattle.paw_check.specs.Costs.{verb_may_change};
 ghost use Rattle.paw_check.specs.Verdicts.{bounds};
 ghost use Rattle.paw_check.specs.declared.verdict.Verdict.TheVariants as verdict;
 ghost use Rattle.paw_check.specs.inner.Capped.{capped};
-ghost use Rattle.paw_check.specs.inner.Verdicts.{counted};
+ghost use Rattle.paw_check.specs.inner.Verdicts.{bound_or_cause};
 
 use crate::costs::round_cost;
 use crate::own::Own;
@@ -52,10 +52,15 @@ fn most_piece(alloc: Global, parts: &GameParts, changing: bool) -> Result<u32, N
 }
 
 /// The verdict on a game that neither calls nor describes too often, by what its pieces take.
-fn counted(alloc: Global, parts: &GameParts, levels: u8, changing: bool) -> Result<Verdict, NoRoom>
+fn bound_or_cause(
+    alloc: Global,
+    parts: &GameParts,
+    levels: u8,
+    changing: bool,
+) -> Result<Verdict, NoRoom>
     requires valid { Valid parts.now }
     requires changing { changing ≡ verb_may_change parts.now }
-    ensures value { IfOk result (λ verdict. verdict ≡ counted parts.now levels) }
+    ensures value { IfOk result (λ verdict. verdict ≡ bound_or_cause parts.now levels) }
 {
     let condacts = most_condacts(alloc, parts, changing)?;
     if condacts > READ_LIMIT {
@@ -114,5 +119,5 @@ pub fn check(alloc: Global, game: &Game) -> Result<Verdict, NoRoom>
         });
     }
     let changing = Wanted::VerbWriter.is_in(tables, reached.all.as_slice());
-    counted(alloc, parts, reached.levels, changing)
+    bound_or_cause(alloc, parts, reached.levels, changing)
 }

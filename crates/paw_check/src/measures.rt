@@ -3,7 +3,7 @@
 ghost use Rattle.std.specs.Prelude.{◌≡◌, ◌≤◌, [], length, map, sum_by, slice_get};
 ghost use Rattle.std.specs.Option.{unwrap_or};
 ghost use Rattle.paw_check.specs.Measures.{greatest};
-ghost use Rattle.paw_check.specs.inner.Capped.{Holds, capped};
+ghost use Rattle.paw_check.specs.inner.Capped.{HoldsCapped, capped};
 ghost use Rattle.paw_check.specs.inner.Own.{byte_in, measure_in, measure_at};
 
 use crate::sums::{Row, greater};
@@ -71,7 +71,7 @@ fn text_of(texts: &[Text], number: usize) -> &[u8]
 /// The same for each of these texts.
 pub(crate) fn measures(name: u32, texts: &[Text]) -> Row
     requires few { length texts.now ≤ 256 }
-    ensures value { Holds result (measure_at name texts.now) }
+    ensures value { HoldsCapped result (measure_at name texts.now) }
 {
     let mut row = [0u32; 256];
     for at in 0..texts.len() {

@@ -200,7 +200,7 @@ pub(crate) struct Prints {
 }
 
 /// The most bytes of the text that a condact's first parameter names: one of these or, where a flag names it, any.
-fn named(texts: &Row, any: u32, condact: &Condact) -> u32
+fn most_named(texts: &Row, any: u32, condact: &Condact) -> u32
     ensures value { result ≡ named_in texts.now any condact.now }
 {
     if is_indirect(condact.code) {
@@ -228,9 +228,9 @@ impl Prints {
             There => self.there,
             Put(message) => self.system[usize::from(message)],
             Said(message) => self.system[usize::from(message)].saturating_add(1),
-            Message => named(&self.messages, self.any_message, condact),
-            MessageLine => named(&self.messages, self.any_message, condact).saturating_add(1),
-            System => named(&self.system, self.any_system, condact),
+            Message => most_named(&self.messages, self.any_message, condact),
+            MessageLine => most_named(&self.messages, self.any_message, condact).saturating_add(1),
+            System => most_named(&self.system, self.any_system, condact),
         }
     }
 }

@@ -2,12 +2,12 @@
 
 ghost use Rattle.std.specs.Prelude.{◌≡◌, ◌≤◌, cond, IfOk, length, nat_lt};
 ghost use Rattle.paw_base.specs.declared.limits.TheConstants.{LEVEL_LIMIT};
-ghost use Rattle.paw_check.specs.Calls.{below, reached_from};
+ghost use Rattle.paw_check.specs.Calls.{called_below, reached_from};
 ghost use Rattle.paw_check.specs.Verbs.{is_among};
-ghost use Rattle.paw_check.specs.inner.Capped.{Marks};
+ghost use Rattle.paw_check.specs.inner.Capped.{MarksTables};
 ghost use Rattle.paw_check.specs.inner.Reached.{levels_from};
 
-use crate::sets::{called_from, marked};
+use crate::sets::{called_from, marked_numbers};
 use paw_base::fault::NoRoom;
 use paw_base::limits::LEVEL_LIMIT;
 use paw_game::parts::GameParts;
@@ -24,7 +24,7 @@ pub(crate) struct Reached {
 
 /// Marks the tables with these numbers.
 fn mark(numbers: &[u8], marks: &mut [bool; 256])
-    ensures value { Marks marks.old marks.new (is_among numbers.now) }
+    ensures value { MarksTables marks.old marks.new (is_among numbers.now) }
 {
     for number in numbers {
         marks[usize::from(*number)] = true;
@@ -43,7 +43,7 @@ fn one_if_any(numbers: &[u8]) -> u8
 pub(crate) fn reached_from(alloc: Global, parts: &GameParts, from: &[u8]) -> Result<Reached, NoRoom>
     requires few { length parts.now.tables ≤ 256 }
     ensures all { IfOk result (λ reached. reached.all.items ≡ reached_from parts.now from.now) }
-    ensures deepest { IfOk result (λ reached. reached.deepest.items ≡ below parts.now from.now LEVEL_LIMIT) }
+    ensures deepest { IfOk result (λ reached. reached.deepest.items ≡ called_below parts.now from.now LEVEL_LIMIT) }
     ensures levels { IfOk result (λ reached. reached.levels ≡ levels_from parts.now from.now LEVEL_LIMIT) }
 {
     let tables = parts.tables.as_slice();
@@ -57,7 +57,7 @@ pub(crate) fn reached_from(alloc: Global, parts: &GameParts, from: &[u8]) -> Res
         levels += one_if_any(level.as_slice());
         deepest = level;
     }
-    let all = marked(alloc, tables.len(), &marks)?;
+    let all = marked_numbers(alloc, tables.len(), &marks)?;
     Ok(Reached {
         all,
         deepest,

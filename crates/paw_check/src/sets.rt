@@ -4,7 +4,7 @@ ghost use Rattle.std.specs.Prelude.{◌≡◌, ◌≤◌, false, [], IfOk, lengt
 ghost use Rattle.std.specs.List.{range_with_len, slice_index_or, list_any};
 ghost use Rattle.std.specs.Option.{unwrap_or};
 ghost use Rattle.paw_check.specs.Calls.{is_call_of};
-ghost use Rattle.paw_check.specs.inner.Capped.{Marks, called_among, condacts_of_entries, condacts_of_tables};
+ghost use Rattle.paw_check.specs.inner.Capped.{MarksTables, called_among, condacts_of_entries, condacts_of_tables};
 
 use paw_base::codes::PROCESS;
 use paw_base::fault::NoRoom;
@@ -24,7 +24,7 @@ pub(crate) fn entries_of(tables: &[Table], number: u8) -> &[Entry]
 
 /// Marks the tables that these condacts call.
 fn mark_called(condacts: &[Condact], marks: &mut [bool; 256])
-    ensures marks { Marks marks.old marks.new (λ u. list_any (is_call_of u) condacts.now) }
+    ensures marks { MarksTables marks.old marks.new (λ u. list_any (is_call_of u) condacts.now) }
 {
     for condact in condacts {
         if condact.code == PROCESS {
@@ -35,7 +35,7 @@ fn mark_called(condacts: &[Condact], marks: &mut [bool; 256])
 
 /// Marks the tables that the condacts of these entries call.
 fn mark_called_in(entries: &[Entry], marks: &mut [bool; 256])
-    ensures marks { Marks marks.old marks.new (λ u. list_any (is_call_of u) (condacts_of_entries entries.now)) }
+    ensures marks { MarksTables marks.old marks.new (λ u. list_any (is_call_of u) (condacts_of_entries entries.now)) }
 {
     for entry in entries {
         mark_called(entry.condacts.rows.as_slice(), marks);
@@ -44,7 +44,8 @@ fn mark_called_in(entries: &[Entry], marks: &mut [bool; 256])
 
 /// Marks the tables that the condacts of the tables with these numbers call.
 fn mark_called_from(tables: &[Table], from: &[u8], marks: &mut [bool; 256])
-    ensures marks { Marks marks.old marks.new (λ u. list_any (is_call_of u) (condacts_of_tables tables.now from.now)) }
+    ensures marks { MarksTables marks.old marks.new
+        (λ u. list_any (is_call_of u) (condacts_of_tables tables.now from.now)) }
 {
     for table in from {
         mark_called_in(entries_of(tables, *table), marks);
@@ -52,7 +53,11 @@ fn mark_called_from(tables: &[Table], from: &[u8], marks: &mut [bool; 256])
 }
 
 /// The numbers below a count that are marked.
-pub(crate) fn marked(alloc: Global, count: usize, marks: &[bool; 256]) -> Result<Vec<u8>, NoRoom>
+pub(crate) fn marked_numbers(
+    alloc: Global,
+    count: usize,
+    marks: &[bool; 256],
+) -> Result<Vec<u8>, NoRoom>
     requires few { count ≤ 256 }
     ensures value { IfOk result (λ numbers. numbers.items ≡ filter (λ u. slice_index_or marks.now u false) (range_with_len 0 count)) }
 {
@@ -72,6 +77,6 @@ pub(crate) fn called_from(alloc: Global, tables: &[Table], from: &[u8]) -> Resul
 {
     let mut marks = [false; 256];
     mark_called_from(tables, from, &mut marks);
-    let numbers = marked(alloc, tables.len(), &marks)?;
+    let numbers = marked_numbers(alloc, tables.len(), &marks)?;
     Ok(numbers)
 }

@@ -4,7 +4,8 @@ ghost use Rattle.std.specs.Prelude.{◌≡◌, ℕ, ◌+◌, ◌*◌, ◌<◌, �
 ghost use Rattle.std.specs.List.{slice_index_or};
 ghost use Rattle.paw_check.specs.Calls.{is_call_of};
 ghost use Rattle.paw_check.specs.Costs.{with_call};
-ghost use Rattle.paw_check.specs.inner.Capped.{Holds, capped, cell_at, is_doall, is_for_every, over_every, over_verb};
+ghost use Rattle.paw_check.specs.inner.Capped.{HoldsCapped, capped, cell_at, is_doall, is_for_every, over_every};
+ghost use Rattle.paw_check.specs.inner.Capped.{over_verb};
 ghost use Rattle.paw_check.specs.inner.Capped.{dot, entries_take};
 ghost use Rattle.paw_check.specs.inner.Found.{IsFound, found_sum, found_taken};
 ghost use Rattle.paw_check.specs.inner.Own.{own_in};
@@ -13,7 +14,7 @@ use crate::own::Own;
 use paw_base::codes::{DOALL, PROCESS};
 use paw_base::parts::Condact;
 use paw_game::parts::Entry;
-use paw_game::values::is_any;
+use paw_game::values::is_wildcard;
 
 /// A number for each verb, or for each table.
 pub(crate) type Row = [u32; 256];
@@ -40,7 +41,7 @@ fn cell_at(rows: &[Row], table: usize, verb: usize) -> u32
 fn is_for_every(changing: bool, entry: &Entry) -> bool
     ensures value { result ≡ is_for_every changing entry.now }
 {
-    changing || is_any(entry.verb)
+    changing || is_wildcard(entry.verb)
 }
 
 // ---- the condacts of an entry ----
@@ -94,7 +95,8 @@ fn taken_sum(own: &Own, called: &[Row], verb: u8, condacts: &[Condact]) -> u32
 
 /// Adds one for the table that a condact calls, if it calls one.
 fn count_call(condact: &Condact, counts: &mut Row)
-    ensures value { (f : ℕ → ℕ) → Holds counts.old f → Holds counts.new (λ u. f u + cond (is_call_of u condact.now) 1 0) }
+    ensures value { (f : ℕ → ℕ) → HoldsCapped counts.old f →
+        HoldsCapped counts.new (λ u. f u + cond (is_call_of u condact.now) 1 0) }
 {
     if condact.code == PROCESS {
         let table = usize::from(condact.a);
@@ -104,7 +106,8 @@ fn count_call(condact: &Condact, counts: &mut Row)
 
 /// Adds how often these condacts call each table.
 fn count_calls(condacts: &[Condact], counts: &mut Row)
-    ensures value { (f : ℕ → ℕ) → Holds counts.old f → Holds counts.new (λ u. f u + count_by (is_call_of u) condacts.now) }
+    ensures value { (f : ℕ → ℕ) → HoldsCapped counts.old f →
+        HoldsCapped counts.new (λ u. f u + count_by (is_call_of u) condacts.now) }
 {
     for condact in condacts {
         count_call(condact, counts);
@@ -141,7 +144,7 @@ fn every_own(own: &Own, changing: bool, entries: &[Entry]) -> u32
 
 /// Adds how often an entry calls each table, where it counts for every verb.
 fn count_every(changing: bool, entry: &Entry, counts: &mut Row)
-    ensures value { (f : ℕ → ℕ) → Holds counts.old f → Holds counts.new
+    ensures value { (f : ℕ → ℕ) → HoldsCapped counts.old f → HoldsCapped counts.new
         (λ u. f u + cond (is_for_every changing entry.now) (count_by (is_call_of u) entry.now.condacts) 0) }
 {
     if is_for_every(changing, entry) {
@@ -151,7 +154,7 @@ fn count_every(changing: bool, entry: &Entry, counts: &mut Row)
 
 /// How often the entries that count for every verb call each table.
 fn every_calls(changing: bool, entries: &[Entry]) -> Row
-    ensures value { Holds result (λ u. over_every changing (count_by (is_call_of u)) entries.now) }
+    ensures value { HoldsCapped result (λ u. over_every changing (count_by (is_call_of u)) entries.now) }
 {
     let mut counts = [0u32; 256];
     for entry in entries {
@@ -162,7 +165,7 @@ fn every_calls(changing: bool, entries: &[Entry]) -> Row
 
 /// The number of loops that the other entries of each verb open.
 fn verb_doalls(changing: bool, entries: &[Entry]) -> Row
-    ensures value { Holds result (λ v. over_verb changing v (count_by is_doall) entries.now) }
+    ensures value { HoldsCapped result (λ v. over_verb changing v (count_by is_doall) entries.now) }
 {
     let mut counts = [0u32; 256];
     for entry in entries {
@@ -188,8 +191,8 @@ fn taken_for_verb(own: &Own, changing: bool, called: &[Row], entry: &Entry) -> u
 
 /// Adds what is taken for a verb.
 fn add_at(sums: &mut Row, verb: u8, taken: u32)
-    ensures value { (f k : ℕ → ℕ) → taken ≡ capped (k verb) → Holds sums.old f
-        → Holds sums.new (λ v. f v + cond (verb == v) (k v) 0) }
+    ensures value { (f k : ℕ → ℕ) → taken ≡ capped (k verb) → HoldsCapped sums.old f
+        → HoldsCapped sums.new (λ v. f v + cond (verb == v) (k v) 0) }
 {
     let at = verb as usize;
     sums[at] = sums[at].saturating_add(taken);
@@ -197,7 +200,7 @@ fn add_at(sums: &mut Row, verb: u8, taken: u32)
 
 /// What the other entries of each verb take, with the tables that they call.
 fn verb_taken(own: &Own, changing: bool, called: &[Row], entries: &[Entry]) -> Row
-    ensures value { Holds result (λ v. over_verb changing v
+    ensures value { HoldsCapped result (λ v. over_verb changing v
         (sum_by (with_call (own_in own.now) (λ u. cell_at called.now u v))) entries.now) }
 {
     let mut sums = [0u32; 256];
@@ -244,7 +247,7 @@ fn in_passes(objects: u32, doalls: u32, sum: u32) -> u32
 /// what they take by themselves, and how often they call each table. For the other entries of each verb: the number of
 /// loops that they open, and what they take with the tables that they call.
 #[derive(Drop)]
-struct Found {
+struct TableSums {
     doalls: u32,
     own: u32,
     calls: Row,
@@ -253,10 +256,10 @@ struct Found {
 }
 
 /// What is found in these entries of a table.
-fn look_over(own: &Own, changing: bool, called: &[Row], entries: &[Entry]) -> Found
+fn look_over(own: &Own, changing: bool, called: &[Row], entries: &[Entry]) -> TableSums
     ensures value { IsFound result (own_in own.now) changing called.now entries.now }
 {
-    Found {
+    TableSums {
         doalls: every_doalls(changing, entries),
         own: every_own(own, changing, entries),
         calls: every_calls(changing, entries),
@@ -265,7 +268,7 @@ fn look_over(own: &Own, changing: bool, called: &[Row], entries: &[Entry]) -> Fo
     }
 }
 
-impl Found {
+impl TableSums {
     /// What the condacts of the entries that count for a verb take together.
     fn sum(&self, called: &[Row], verb: usize) -> u32
         requires few { length called.now ≤ 256 }
@@ -278,7 +281,7 @@ impl Found {
     }
 
     /// What reading the table takes for a verb.
-    fn taken(&self, objects: u32, called: &[Row], verb: usize) -> u32
+    fn read_for_verb(&self, objects: u32, called: &[Row], verb: usize) -> u32
         requires few { length called.now ≤ 256 }
         requires within { verb < 256 }
         ensures value { result ≡ capped (found_taken objects self.now called.now verb) }
@@ -290,11 +293,11 @@ impl Found {
     /// What reading the table takes for each verb.
     fn row(&self, objects: u32, called: &[Row]) -> Row
         requires few { length called.now ≤ 256 }
-        ensures value { Holds result (found_taken objects self.now called.now) }
+        ensures value { HoldsCapped result (found_taken objects self.now called.now) }
     {
         let mut row = [0u32; 256];
         for verb in 0..256 {
-            row[verb] = self.taken(objects, called, verb);
+            row[verb] = self.read_for_verb(objects, called, verb);
         }
         row
     }
@@ -309,7 +312,7 @@ pub(crate) fn table_row(
     entries: &[Entry],
 ) -> Row
     requires few { length called.now ≤ 256 }
-    ensures value { Holds result (λ v. entries_take objects
+    ensures value { HoldsCapped result (λ v. entries_take objects
         (with_call (own_in own.now) (λ u. cell_at called.now u v)) changing v entries.now) }
 {
     look_over(own, changing, called, entries).row(objects, called)

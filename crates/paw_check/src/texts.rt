@@ -7,7 +7,7 @@ ghost use Rattle.paw_base.specs.declared.messages.TheConstants.{SEEN_MESSAGE, NO
 ghost use Rattle.paw_check.specs.Bounds.{most_view, most_refusal};
 ghost use Rattle.paw_check.specs.Measures.{greatest, most_at, most_of, most_put, most_said};
 ghost use Rattle.paw_check.specs.Prints.{most_list, most_list_or_said, most_inventory, most_count, most_score, most_of_action};
-ghost use Rattle.paw_check.specs.inner.Capped.{Holds, capped};
+ghost use Rattle.paw_check.specs.inner.Capped.{HoldsCapped, capped};
 ghost use Rattle.paw_check.specs.inner.Texts.{ArePrints, most_outside, most_end};
 
 use crate::costs::count_of;
@@ -57,7 +57,7 @@ fn greatest_put(system: &Row, messages: &[u8]) -> u32
 }
 
 /// The most bytes of a message with its newline.
-fn said(system: &Row, message: u8) -> u32
+fn message_length(system: &Row, message: u8) -> u32
     ensures value { result ≡ capped (slice_index_or system.now message 0 + 1) }
 {
     system[usize::from(message)].saturating_add(1)
@@ -76,7 +76,7 @@ fn list_of(parts: &GameParts) -> u32
 /// The most bytes of any of these messages, as the definition gives them for the game.
 fn most_put_of(parts: &GameParts, system: &Row, messages: &[u8]) -> u32
     requires valid { Valid parts.now }
-    requires system { Holds system.now (most_put parts.now) }
+    requires system { HoldsCapped system.now (most_put parts.now) }
     ensures value { result ≡ capped (greatest (map (most_put parts.now) messages.now)) }
 {
     greatest_put(system, messages)
@@ -85,17 +85,17 @@ fn most_put_of(parts: &GameParts, system: &Row, messages: &[u8]) -> u32
 /// What an action on an object prints at most.
 fn action_of(parts: &GameParts, system: &Row) -> u32
     requires valid { Valid parts.now }
-    requires system { Holds system.now (most_put parts.now) }
+    requires system { HoldsCapped system.now (most_put parts.now) }
     ensures value { result ≡ capped (most_of_action parts.now) }
 {
     most_put_of(parts, system, &SAID_OF_OBJECTS)
         .saturating_add(longest_name(&parts.objects))
-        .saturating_add(said(system, NAME_END_MESSAGE))
+        .saturating_add(message_length(system, NAME_END_MESSAGE))
 }
 
 /// What marks objects as worn at most, all of them.
 fn worn_of(parts: &GameParts, system: &Row) -> u32
-    requires system { Holds system.now (most_put parts.now) }
+    requires system { HoldsCapped system.now (most_put parts.now) }
     ensures value { result ≡ capped (length parts.now.objects * most_put parts.now IS_WORN_MESSAGE) }
 {
     let objects = count_of(parts.objects.len());
@@ -104,58 +104,61 @@ fn worn_of(parts: &GameParts, system: &Row) -> u32
 
 /// What INVEN prints at most.
 fn inventory_of(parts: &GameParts, system: &Row) -> u32
-    requires system { Holds system.now (most_put parts.now) }
+    requires system { HoldsCapped system.now (most_put parts.now) }
     ensures value { result ≡ capped (most_inventory parts.now) }
 {
     let held = list_of(parts).saturating_add(worn_of(parts, system));
-    said(system, INVENTORY_MESSAGE).saturating_add(greater(
+    message_length(system, INVENTORY_MESSAGE).saturating_add(greater(
         held,
-        said(system, EMPTY_HANDED_MESSAGE),
+        message_length(system, EMPTY_HANDED_MESSAGE),
     ))
 }
 
 /// What TURNS prints at most.
 fn turns_of(parts: &GameParts, system: &Row) -> u32
-    requires system { Holds system.now (most_put parts.now) }
+    requires system { HoldsCapped system.now (most_put parts.now) }
     ensures value { result ≡ capped (most_count parts.now) }
 {
     system[usize::from(TURNS_MESSAGE)]
         .saturating_add(5)
         .saturating_add(system[usize::from(TURN_MESSAGE)])
         .saturating_add(system[usize::from(PLURAL_MESSAGE)])
-        .saturating_add(said(system, TURNS_END_MESSAGE))
+        .saturating_add(message_length(system, TURNS_END_MESSAGE))
 }
 
 /// What SCORE prints at most.
 fn score_of(parts: &GameParts, system: &Row) -> u32
-    requires system { Holds system.now (most_put parts.now) }
+    requires system { HoldsCapped system.now (most_put parts.now) }
     ensures value { result ≡ capped (most_score parts.now) }
 {
     system[usize::from(SCORE_MESSAGE)]
         .saturating_add(3)
-        .saturating_add(said(system, SCORE_END_MESSAGE))
+        .saturating_add(message_length(system, SCORE_END_MESSAGE))
 }
 
 /// What LISTOBJ prints at most.
 fn here_of(parts: &GameParts, system: &Row) -> u32
-    requires system { Holds system.now (most_put parts.now) }
+    requires system { HoldsCapped system.now (most_put parts.now) }
     ensures value { result ≡ capped (most_said parts.now SEEN_MESSAGE + most_list parts.now) }
 {
-    said(system, SEEN_MESSAGE).saturating_add(list_of(parts))
+    message_length(system, SEEN_MESSAGE).saturating_add(list_of(parts))
 }
 
 /// What LISTAT prints at most.
 fn there_of(parts: &GameParts, system: &Row) -> u32
-    requires system { Holds system.now (most_put parts.now) }
+    requires system { HoldsCapped system.now (most_put parts.now) }
     ensures value { result ≡ capped (most_list_or_said parts.now NOTHING_THERE_MESSAGE) }
 {
-    greater(list_of(parts), said(system, NOTHING_THERE_MESSAGE))
+    greater(
+        list_of(parts),
+        message_length(system, NOTHING_THERE_MESSAGE),
+    )
 }
 
 /// The most bytes of each system message.
 fn system_of(parts: &GameParts) -> Row
     requires valid { Valid parts.now }
-    ensures value { Holds result (most_put parts.now) }
+    ensures value { HoldsCapped result (most_put parts.now) }
 {
     measures(longest_name(&parts.objects), &parts.system)
 }
@@ -163,7 +166,7 @@ fn system_of(parts: &GameParts) -> Row
 /// The most bytes of each message.
 fn messages_of(parts: &GameParts) -> Row
     requires valid { Valid parts.now }
-    ensures value { Holds result (most_at parts.now parts.now.messages) }
+    ensures value { HoldsCapped result (most_at parts.now parts.now.messages) }
 {
     measures(longest_name(&parts.objects), &parts.messages)
 }
@@ -197,7 +200,7 @@ pub(crate) fn prints_of(parts: &GameParts) -> Prints
 
 /// The most bytes of a location, or of the message that it is dark, and a newline.
 fn view_of(parts: &GameParts, system: &Row) -> u32
-    requires system { Holds system.now (most_put parts.now) }
+    requires system { HoldsCapped system.now (most_put parts.now) }
     ensures value { result ≡ capped (most_view parts.now) }
 {
     let location = any_of(parts, &parts.locations);
@@ -207,7 +210,7 @@ fn view_of(parts: &GameParts, system: &Row) -> u32
 /// The most bytes that say why a phrase isn't carried out, and a newline.
 fn refusal_of(parts: &GameParts, system: &Row) -> u32
     requires valid { Valid parts.now }
-    requires system { Holds system.now (most_put parts.now) }
+    requires system { HoldsCapped system.now (most_put parts.now) }
     ensures value { result ≡ capped (most_refusal parts.now) }
 {
     most_put_of(parts, system, &REFUSALS).saturating_add(1)
@@ -232,7 +235,8 @@ pub(crate) fn most_end(parts: &GameParts, prints: &Prints) -> u32
         .any_system
         .saturating_add(1)
         .saturating_add(system[usize::from(LINE_MESSAGE)]);
-    said(system, GOODBYE_MESSAGE).saturating_add(said(system, TIMEOUT_MESSAGE).saturating_add(
-        prompt,
-    ))
+    message_length(system, GOODBYE_MESSAGE).saturating_add(message_length(
+        system,
+        TIMEOUT_MESSAGE,
+    ).saturating_add(prompt))
 }

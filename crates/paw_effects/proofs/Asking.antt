@@ -14,7 +14,7 @@ use Rattle.paw_effects.specs.declared.act.Effect.{Effect}
 use Rattle.paw_effects.specs.declared.act.Effect.TheVariants as effect
 use Rattle.paw_effects.specs.declared.object_actions.Action.{Action}
 use Rattle.paw_effects.specs.declared.object_actions.Action.TheVariants as action
-use Rattle.paw_effects.specs.declared.object_words.Words.{Words}
+use Rattle.paw_effects.specs.declared.object_words.ObjectReply.{ObjectReply}
 use Rattle.paw_effects.specs.Story.{Story}
 use Rattle.paw_effects.specs.Positions.{loaded, position_number}
 use Rattle.paw_effects.specs.Referring.{referred}
@@ -99,7 +99,7 @@ module _ (g : GameLists) (w : World) (c d : Condact) (is : as_plain g w c ≡ So
 
 -- ---- actions on objects, and positions ----
 
-tried_leads : (g : GameLists) (w v : World) (c : Condact) (o : ℕ) (a : Action) (said : Option Words) → Leads w c (tried g v o a said).act.effect
+tried_leads : (g : GameLists) (w v : World) (c : Condact) (o : ℕ) (a : Action) (said : Option ObjectReply) → Leads w c (tried g v o a said).act.effect
 tried_leads g w v c o a (Some said) = tt
 tried_leads g w v c o a None = tt
 

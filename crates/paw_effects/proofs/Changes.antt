@@ -39,11 +39,11 @@ use Rattle.paw_effects.specs.declared.object_actions.Action.TheVariants as actio
 use Rattle.paw_effects.specs.declared.object_search.Spot.{Spot}
 use Rattle.paw_effects.specs.declared.object_search.Spot.TheVariants as spot
 use Rattle.paw_effects.specs.declared.object_search.Spot.TheVariants.{Here, At}
-use Rattle.paw_effects.specs.declared.object_words.Words.{Words}
+use Rattle.paw_effects.specs.declared.object_words.ObjectReply.{ObjectReply}
 use Rattle.paw_effects.specs.ObjectActions.{first_that_holds, hindrances, destination, tried, acted_on}
 use Rattle.paw_effects.specs.ObjectSearch.{fits_sentence, names as names_facts, least_fitting, fitting_at, first_fitting}
 use Rattle.paw_effects.specs.AutoActions.{looks_at, acted_on_found}
-use Rattle.paw_effects.specs.Referring.{referred, referred_to_none, facts_written, weight_class}
+use Rattle.paw_effects.specs.Referring.{referred, referred_to_none, with_referred_facts, flag_of_fact}
 use Rattle.paw_effects.specs.Meanings.{Meaning, Tests, Acts}
 use Rattle.paw_effects.specs.Effects.{done_by}
 use Rattle.paw_effects.specs.Story.{story_of}
@@ -219,18 +219,18 @@ module _ (g : GameLists) (v : Valid g) (seed n : ℕ) where
 
   -- ---- referring ----
 
-  class_small : (b : Bool) → weight_class b < 256
+  class_small : (b : Bool) → flag_of_fact b < 256
   class_small true = omega arith
   class_small false = omega arith
 
-  facts_so : (w : World) → Is w → (o : ℕ) (f : Option ObjectFacts) → Is (facts_written w o f)
+  facts_so : (w : World) → Is w → (o : ℕ) (f : Option ObjectFacts) → Is (with_referred_facts w o f)
   facts_so w k o None = k
   facts_so w k o (Some f) =
       let heavy : World = with_flag w 55 (weight w o) in
       let heavy_so : Is heavy = flagged g v seed n w k 55 (weight w o) (weight_small g v seed n w k o) in
-      flagged g v seed n (with_flag heavy 56 (weight_class f.container))
-      (flagged g v seed n heavy heavy_so 56 (weight_class f.container) (class_small f.container))
-      57 (weight_class f.wearable) (class_small f.wearable)
+      flagged g v seed n (with_flag heavy 56 (flag_of_fact f.container))
+      (flagged g v seed n heavy heavy_so 56 (flag_of_fact f.container) (class_small f.container))
+      57 (flag_of_fact f.wearable) (class_small f.wearable)
 
   pub referred_so : (w : World) → Is w → (o : ℕ) → o < 256 → Is (referred w o)
   referred_so w k o small =
@@ -269,7 +269,7 @@ module _ (g : GameLists) (v : Valid g) (seed n : ℕ) where
   destination_place w k (action.PutIn l) p = p
   destination_place w k (action.TakeOut l) p = held_place CARRIED_PLACE refl
 
-  tried_so : (w : World) → Is w → (o : ℕ) (a : Action) (said : Option Words) → Puts a → Is (tried g w o a said).world
+  tried_so : (w : World) → Is w → (o : ℕ) (a : Action) (said : Option ObjectReply) → Puts a → Is (tried g w o a said).world
   tried_so w k o a (Some said) p = k
   tried_so w k o a None p = moved_so g v seed n w k o (destination w a) (destination_place w k a p.at)
 

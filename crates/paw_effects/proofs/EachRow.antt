@@ -28,7 +28,7 @@ use Rattle.paw_effects.specs.ObjectSearch.{first_fitting}
 use Rattle.paw_effects.specs.ObjectActions.{acted_on}
 use Rattle.paw_effects.specs.AutoActions.{looks_at, acted_by_name}
 use Rattle.paw_effects.specs.Standing.{AreBytes}
-use Rattle.paw_effects.specs.Meanings.{Meaning, Tests, Acts, tests, doing, printing, changing, meanings, meaning_of}
+use Rattle.paw_effects.specs.Meanings.{Meaning, Tests, Acts, tests, doing, printing_action, changing, meanings, meaning_of}
 use Rattle.paw_effects.specs.Indirect.{as_plain}
 use Rattle.paw_effects.specs.Effects.{Done, makes, effect_of, plain_effect}
 use Rattle.paw_effects.specs.Holds.{Tested, answers, holds, plain_holds}
@@ -88,7 +88,7 @@ still code text act leads = record {
 }
 
 -- An action that prints.
-printed : (code : ℕ) (text : GameLists → World → Condact → List ℕ) → Facts code (printing text)
+printed : (code : ℕ) (text : GameLists → World → Condact → List ℕ) → Facts code (printing_action text)
 printed code text = still code _ _ (λ s w c is. tt)
 
 -- An action that gives a flag a byte.

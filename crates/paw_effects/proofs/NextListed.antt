@@ -14,7 +14,7 @@ use Rattle.paw_world.specs.World.{World}
 use Rattle.paw_world.specs.inner.World.{first_at}
 use Rattle.paw_world.proofs.Least.{least_at_here, least_at_pass, least_at_end, least_at_is}
 use Rattle.paw_world.proofs.Contents.{above_at_none, above_at_some}
-use Rattle.paw_effects.specs.declared.lists.Listed.TheVariants as listed
+use Rattle.paw_effects.specs.declared.lists.ListKind.TheVariants as listed
 use Rattle.paw_effects.specs.inner.Listing.{lesser, first_above, listed_from, listed_above}
 use Rattle.paw_effects.specs.Presence.{is_held}
 

@@ -18,7 +18,7 @@ use Rattle.paw_base.specs.declared.rows.ParamKind.TheVariants as kind
 use Rattle.paw_base.specs.Condacts.{condact_lines, line_of, plain_line, is_indirect, first_kind, second_kind}
 use Rattle.paw_game.specs.Game.{GameLists}
 use Rattle.paw_game.specs.declared.parts.ObjectRow.{ObjectRow}
-use Rattle.paw_game.specs.Valid.{Valid, is_argument, is_within, is_place, is_text, rows_kept}
+use Rattle.paw_game.specs.Valid.{Valid, is_argument, is_within, is_place, is_text, rows_are_valid}
 use Rattle.paw_game.specs.inner.Valid.{is_right}
 use Rattle.paw_game.proofs.Kept.{first_of_and, facts-start}
 use Rattle.paw_game.proofs.Right.{right-first, right-second}
@@ -26,14 +26,14 @@ use Rattle.paw_world.specs.World.{World, Position, flag, with_flag, place, with_
 use Rattle.paw_world.specs.World.{starting_world, restarted, with_objects_returned, at_position, position_of, keeping, kept_position}
 use Rattle.paw_effects.specs.declared.object_actions.Action.{Action}
 use Rattle.paw_effects.specs.declared.object_actions.Action.TheVariants as action
-use Rattle.paw_effects.specs.declared.object_words.Words.{Words}
+use Rattle.paw_effects.specs.declared.object_words.ObjectReply.{ObjectReply}
 use Rattle.paw_effects.specs.inner.Worlds.{ArePlacesOf, StandsIn}
 use Rattle.paw_effects.specs.Story.{Story}
 use Rattle.paw_routines.specs.Rows.{value_at}
 use Rattle.paw_effects.specs.Positions.{loaded, position_number}
 use Rattle.paw_effects.specs.Presence.{named_place, held_objects}
 use Rattle.paw_effects.specs.MoveActions.{names_place, moved_if_place}
-use Rattle.paw_effects.specs.Referring.{facts_written, referred, referred_to_none}
+use Rattle.paw_effects.specs.Referring.{with_referred_facts, referred, referred_to_none}
 use Rattle.paw_effects.specs.ObjectSearch.{first_fitting}
 use Rattle.paw_effects.specs.ObjectActions.{destination, first_that_holds, hindrances, tried}
 use Rattle.paw_effects.specs.AutoActions.{looks_at, acted_on_found}
@@ -61,7 +61,7 @@ by_test g false x y h k = k refl
 -- A game has a location.
 first_place : (g : GameLists) → Valid g → is_place (length g.locations) 0 ≡ true
 first_place g v =
-    let some = leb-true 1 (length g.locations) (first_of_and _ (rows_kept LOCATION_LIMIT is_text g.locations) v.locations) in
+    let some = leb-true 1 (length g.locations) (first_of_and _ (rows_are_valid LOCATION_LIMIT is_text g.locations) v.locations) in
     grind (arith, nat_tests)
 
 pub at_place : (g : GameLists) → Valid g → (places : List ℕ) (o : ℕ) → ArePlacesOf g places → is_place (length g.locations) (slice_index places o) ≡ true
@@ -190,7 +190,7 @@ to_placed g w p at k = one_placed g (nat_lt (flag w 51) (length w.places)) (move
 
 -- ---- actions on objects ----
 
-facts_placed : (g : GameLists) (w : World) (o : ℕ) (f : Option ObjectFacts) → IsPlaced g w → IsPlaced g (facts_written w o f)
+facts_placed : (g : GameLists) (w : World) (o : ℕ) (f : Option ObjectFacts) → IsPlaced g w → IsPlaced g (with_referred_facts w o f)
 facts_placed g w o None k = k
 facts_placed g w o (Some f) k = k
 
@@ -225,7 +225,7 @@ autop_goes g c is r = record { to = low_place (length g.locations) c.a (first_ke
 pub putin_goes : (g : GameLists) (c : Condact) → c.code ≡ PUTIN → IsTrue (is_right g c) → Goes g (action.PutIn c.b)
 putin_goes g c is r = record { to = low_place (length g.locations) c.b (second_kept g c PUTIN kind.Location putin_takes is r) }
 
-tried_placed : (g : GameLists) (w : World) (o : ℕ) (a : Action) (said : Option Words) → Goes g a → IsPlaced g w → IsPlaced g (tried g w o a said).world
+tried_placed : (g : GameLists) (w : World) (o : ℕ) (a : Action) (said : Option ObjectReply) → Goes g a → IsPlaced g w → IsPlaced g (tried g w o a said).world
 tried_placed g w o a (Some said) h k = k
 tried_placed g w o a None h k = moved_placed g w o (destination w a) (destined g w a k.1.0 h.to) k
 

@@ -12,12 +12,12 @@ use Rattle.paw_world.specs.World.{World, Position, flag, with_flag, place, with_
 use Rattle.paw_world.specs.World.{kept_position}
 use Rattle.paw_effects.specs.declared.object_actions.Action.{Action}
 use Rattle.paw_effects.specs.declared.object_actions.Action.TheVariants as action
-use Rattle.paw_effects.specs.declared.object_words.Words.{Words}
+use Rattle.paw_effects.specs.declared.object_words.ObjectReply.{ObjectReply}
 use Rattle.paw_effects.specs.Story.{Story}
 use Rattle.paw_effects.specs.Positions.{loaded, position_number}
 use Rattle.paw_effects.specs.Presence.{named_place, held_objects}
 use Rattle.paw_effects.specs.MoveActions.{names_place}
-use Rattle.paw_effects.specs.Referring.{facts_written, referred, referred_to_none}
+use Rattle.paw_effects.specs.Referring.{with_referred_facts, referred, referred_to_none}
 use Rattle.paw_effects.specs.ObjectSearch.{first_fitting}
 use Rattle.paw_effects.specs.ObjectActions.{destination, first_that_holds, hindrances, tried}
 use Rattle.paw_effects.specs.AutoActions.{looks_at, acted_on_found}
@@ -53,14 +53,14 @@ module _ (ks : List (Option Position)) where
 
   -- ---- actions on objects ----
 
-  facts_kept : (w : World) (o : ℕ) (f : Option ObjectFacts) → AreKept w → AreKept (facts_written w o f)
+  facts_kept : (w : World) (o : ℕ) (f : Option ObjectFacts) → AreKept w → AreKept (with_referred_facts w o f)
   facts_kept w o None k = k
   facts_kept w o (Some f) k = k
 
   pub referred_kept : (w : World) (o : ℕ) → AreKept w → AreKept (referred w o)
   referred_kept w o k = facts_kept (with_flag (with_flag w 51 o) 54 (place w o)) o (slice_get w.facts o) k
 
-  tried_kept : (g : GameLists) (w : World) (o : ℕ) (a : Action) (said : Option Words) → AreKept w → AreKept (tried g w o a said).world
+  tried_kept : (g : GameLists) (w : World) (o : ℕ) (a : Action) (said : Option ObjectReply) → AreKept w → AreKept (tried g w o a said).world
   tried_kept g w o a (Some said) k = k
   tried_kept g w o a None k = moved_kept w o (destination w a) k
 

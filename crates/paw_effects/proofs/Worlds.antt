@@ -98,15 +98,15 @@ word_small (w ∷ ws) class value all has = go ((w.class == class) && (w.value =
         subst (λ x. x < 256) is (value_small w (first_of_and (is_word w) _ all))
     go false e h later = later h
 
-words_kept : (g : GameLists) → Valid g → IsTrue (list_all is_word g.words)
-words_kept g v = first_of_and _ (words_rise g.words) (second_of_and (nat_le (length g.words) WORD_LIMIT) _ v.words)
+words_are_valid : (g : GameLists) → Valid g → IsTrue (list_all is_word g.words)
+words_are_valid g v = first_of_and _ (words_rise g.words) (second_of_and (nat_le (length g.words) WORD_LIMIT) _ v.words)
 
 pub word_or_none_small : (g : GameLists) → Valid g → (class value : ℕ) → IsTrue (is_word_or_none g.words class value) → value < 256
 word_or_none_small g v class value h = go (value == 255) refl h
   where
     go : (b : Bool) → (value == 255) ≡ b → IsTrue (b || has_word g.words class value) → value < 256
     go true e k = omega (arith, eqb-true value 255 e)
-    go false e k = word_small g.words class value (words_kept g v) k
+    go false e k = word_small g.words class value (words_are_valid g v) k
 
 pub place_small : (g : GameLists) → Valid g → (p : ℕ) → IsTrue (is_place (length g.locations) p) → p < 256
 place_small g v p h = let few = (few_locations g v).1 in grind (arith, nat_tests)

@@ -10,8 +10,8 @@ use Rattle.paw_effects.specs.declared.object_actions.Action.{Action}
 use Rattle.paw_effects.specs.declared.object_actions.Action.TheVariants as action
 use Rattle.paw_effects.specs.declared.object_search.Spot.{Spot}
 use Rattle.paw_effects.specs.declared.object_search.Spot.TheVariants.{Here, At}
-use Rattle.paw_effects.specs.declared.object_words.Words.{Words}
-use Rattle.paw_effects.specs.declared.object_words.Words.TheVariants.{Says, Names}
+use Rattle.paw_effects.specs.declared.object_words.ObjectReply.{ObjectReply}
+use Rattle.paw_effects.specs.declared.object_words.ObjectReply.TheVariants.{Says, Names}
 use Rattle.paw_effects.specs.Done.{Done}
 use Rattle.paw_effects.specs.Referring.{referred, referred_to_none}
 use Rattle.paw_effects.specs.ObjectSearch.{some_fits, first_fitting}
@@ -25,7 +25,7 @@ looks_at (action.TakeOut l) = At l ∷ At CARRIED_PLACE ∷ At WORN_PLACE ∷ He
 looks_at _ = At CARRIED_PLACE ∷ At WORN_PLACE ∷ Here ∷ []  -- Drop, Wear, PutIn
 
 -- The message of an action whose object isn't found there.
-abbrev pub missing : Action → Words
+abbrev pub missing : Action → ObjectReply
 missing action.Get = Says NOT_HERE_MESSAGE
 missing action.Remove = Says NOT_WORN_MESSAGE
 missing (action.TakeOut l) = Names NOT_INSIDE_MESSAGE l

@@ -49,8 +49,8 @@ abbrev pub doing : (GameLists → World → Condact → Done) → Meaning
 doing done = Acts (λ s w c. done s.game w c)
 
 -- An action that prints, and changes nothing.
-abbrev pub printing : (GameLists → World → Condact → Text) → Meaning
-printing text = doing (λ g w c. prints w (text g w c))
+abbrev pub printing_action : (GameLists → World → Condact → Text) → Meaning
+printing_action text = doing (λ g w c. prints w (text g w c))
 
 -- An action that changes the world, and prints nothing.
 abbrev pub changing : (World → Condact → World) → Meaning
@@ -58,7 +58,7 @@ changing made = doing (λ g w c. makes (made w c))
 
 -- An action for what is shown or played besides the text: it prints its name and its numbers.
 abbrev pub mark : Meaning
-mark = printing (λ g w c. mark_text c)
+mark = printing_action (λ g w c. mark_text c)
 
 -- EXTERN: a flag becomes the answer of a routine to its value, if there is such a routine.
 abbrev pub answered_by : RoutineRows → World → ℕ → ℕ → World
@@ -96,7 +96,7 @@ meanings =
     tests (λ w c. nat_le TIMED_OUT_BIT (flag w TIMED_OUT_FLAG)) ∷  -- TIMEOUT
     Tests (λ g w c. record { answer = truth.Ask; world = w }) ∷  -- QUIT
     Tests (λ g w c. moves g w c.a) ∷  -- MOVE
-    printing (λ g w c. inventory_text g w) ∷  -- INVEN
+    printing_action (λ g w c. inventory_text g w) ∷  -- INVEN
     doing (λ g w c. leads w effect.Redescribe) ∷  -- DESC
     doing (λ g w c. tells w (put_text g w AGAIN_MESSAGE) (effect.Ask prompt.Again)) ∷  -- END
     doing (λ g w c. leads w (effect.Exit true)) ∷  -- DONE
@@ -107,8 +107,8 @@ meanings =
     doing (λ g w c. loaded g w (kept_position w (position_number w))) ∷  -- LOAD
     changing (λ w c. ramsaved w) ∷  -- RAMSAVE
     changing (λ w c. ramloaded w c.a) ∷  -- RAMLOAD
-    printing (λ g w c. turns_text g w) ∷  -- TURNS
-    printing (λ g w c. score_text g w) ∷  -- SCORE
+    printing_action (λ g w c. turns_text g w) ∷  -- TURNS
+    printing_action (λ g w c. score_text g w) ∷  -- SCORE
     changing (λ w c. all_dropped w) ∷  -- DROPALL
     doing (λ g w c. acted_by_name g w action.Get) ∷  -- AUTOG
     doing (λ g w c. acted_by_name g w action.Drop) ∷  -- AUTOD
@@ -117,11 +117,11 @@ meanings =
     doing (λ g w c. acted_by_name g w (action.PutIn c.a)) ∷  -- AUTOP
     doing (λ g w c. acted_by_name g w (action.TakeOut c.a)) ∷  -- AUTOT
     changing (λ w c. with_flag w LOCATION_FLAG c.a) ∷  -- GOTO
-    printing (λ g w c. message_text g w c.a) ∷  -- MES
-    printing (λ g w c. message_text g w c.a ++ 10 ∷ []) ∷  -- MESSAGE
-    printing (λ g w c. put_text g w c.a) ∷  -- SYSMESS
-    printing (λ g w c. 10 ∷ []) ∷  -- NEWLINE
-    printing (λ g w c. decimal (flag w c.a)) ∷  -- PRINT
+    printing_action (λ g w c. message_text g w c.a) ∷  -- MES
+    printing_action (λ g w c. message_text g w c.a ++ 10 ∷ []) ∷  -- MESSAGE
+    printing_action (λ g w c. put_text g w c.a) ∷  -- SYSMESS
+    printing_action (λ g w c. 10 ∷ []) ∷  -- NEWLINE
+    printing_action (λ g w c. decimal (flag w c.a)) ∷  -- PRINT
     doing (λ g w c. acted_on g w c.a action.Get) ∷  -- GET
     doing (λ g w c. acted_on g w c.a action.Drop) ∷  -- DROP
     doing (λ g w c. acted_on g w c.a action.Wear) ∷  -- WEAR
@@ -145,8 +145,8 @@ meanings =
     changing (λ w c. with_flag w c.b (place w c.a)) ∷  -- COPYOF
     changing (λ w c. moved_if_place w c.b (flag w c.a)) ∷  -- COPYFO
     changing (λ w c. with_flag w c.b (flag w c.a)) ∷  -- COPYFF
-    printing (λ g w c. here_list_text g w) ∷  -- LISTOBJ
-    printing (λ g w c. list_or_say g w NOTHING_THERE_MESSAGE (texts_at g w (named_place w c.a))) ∷  -- LISTAT
+    printing_action (λ g w c. here_list_text g w) ∷  -- LISTOBJ
+    printing_action (λ g w c. list_or_say g w NOTHING_THERE_MESSAGE (texts_at g w (named_place w c.a))) ∷  -- LISTAT
     changing (λ w c. referred_by_name w) ∷  -- WHATO
     changing (λ w c. with_flag w c.b (weight w c.a)) ∷  -- WEIGH
     changing (λ w c. with_flag w c.a (carried_weight w)) ∷  -- WEIGHT

@@ -18,8 +18,8 @@ use Rattle.paw_effects.specs.declared.act.Act.{Act}
 use Rattle.paw_effects.specs.declared.act.Effect.TheVariants as effect
 use Rattle.paw_effects.specs.declared.object_actions.Action.{Action}
 use Rattle.paw_effects.specs.declared.object_actions.Action.TheVariants as action
-use Rattle.paw_effects.specs.declared.object_words.Words.{Words}
-use Rattle.paw_effects.specs.declared.object_words.Words.TheVariants.{Says, Names}
+use Rattle.paw_effects.specs.declared.object_words.ObjectReply.{ObjectReply}
+use Rattle.paw_effects.specs.declared.object_words.ObjectReply.TheVariants.{Says, Names}
 use Rattle.paw_effects.specs.Done.{Done, prints}
 use Rattle.paw_effects.specs.Presence.{is_held}
 use Rattle.paw_effects.specs.Referring.{referred}
@@ -54,7 +54,7 @@ holds_place w l = nat_lt l (length w.places) && is_held w l
 -- ---- what hinders an action, and the message then ----
 
 -- The tests of each action in their order, each with its message where it holds.
-abbrev pub hindrances : World → ℕ → Action → List (Bool × Words)
+abbrev pub hindrances : World → ℕ → Action → List (Bool × ObjectReply)
 hindrances w o action.Get =
     (is_held w o, Says HELD_MESSAGE) ∷ (not (is_here w o), Says NOT_HERE_MESSAGE)
     ∷ (is_too_heavy w o, Says TOO_HEAVY_MESSAGE) ∷ (is_laden w, Says TOO_MANY_MESSAGE) ∷ []
@@ -73,7 +73,7 @@ hindrances w o _ =  -- Drop, PutIn
     ∷ (not (is_carried w o), Says NOT_CARRIED_MESSAGE) ∷ []
 
 -- The message of the first test that holds.
-abbrev pub first_that_holds : List (Bool × Words) → Option Words
+abbrev pub first_that_holds : List (Bool × ObjectReply) → Option ObjectReply
 first_that_holds [] = None
 first_that_holds ((holds, said) ∷ tests) = if holds then Some said else first_that_holds tests
 
@@ -87,7 +87,7 @@ destination w (action.PutIn l) = l
 destination w _ = CARRIED_PLACE  -- Get, Remove, TakeOut
 
 -- The message of an action that is done.
-abbrev pub outcome : Action → Words
+abbrev pub outcome : Action → ObjectReply
 outcome action.Drop = Says DROPPED_MESSAGE
 outcome action.Wear = Says PUT_ON_MESSAGE
 outcome action.Remove = Says TAKEN_OFF_MESSAGE
@@ -95,13 +95,13 @@ outcome (action.PutIn l) = Names PUT_IN_MESSAGE l
 outcome _ = Says TAKEN_MESSAGE  -- Get, TakeOut
 
 -- An action is refused with a message; the rest of the line is dropped, and the table left with an action carried out.
-abbrev pub refuses : GameLists → World → Words → Done
+abbrev pub refuses : GameLists → World → ObjectReply → Done
 refuses g w said =
     let act : Act = record { effect = effect.Exit true; drop_line = true; cancel_loop = ends_loop said } in
     record { text = spoken_words g w said; world = w; act = act }
 
 -- An action on an object: it is refused with this message, or carried out where there is none.
-abbrev pub tried : GameLists → World → ℕ → Action → Option Words → Done
+abbrev pub tried : GameLists → World → ℕ → Action → Option ObjectReply → Done
 tried g w o a (Some said) = refuses g w said
 tried g w o a None = let after = moved w o (destination w a) in prints after (spoken_words g after (outcome a))
 

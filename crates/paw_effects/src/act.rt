@@ -47,7 +47,7 @@ pub struct Act {
 }
 
 /// The answer of an action that goes on with this effect, with the line and the loop as they are.
-pub(crate) fn on(effect: Effect) -> Act
+pub(crate) fn plain_act(effect: Effect) -> Act
     ensures value { result ≡ plainly effect }
 {
     Act {
@@ -63,7 +63,7 @@ pub(crate) fn dropping(effect: Effect) -> Act
 {
     Act {
         drop_line: true,
-        ..on(effect)
+        ..plain_act(effect)
     }
 }
 
@@ -71,5 +71,5 @@ pub(crate) fn dropping(effect: Effect) -> Act
 pub(crate) fn after(fits: bool, e: Effect) -> Act
     ensures value { result ≡ plainly (if fits then e else effect.Spent) }
 {
-    on(if fits { e } else { Effect::Spent })
+    plain_act(if fits { e } else { Effect::Spent })
 }

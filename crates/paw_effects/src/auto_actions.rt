@@ -10,14 +10,14 @@ ghost use Rattle.paw_effects.specs.AutoActions.{looks_at, missing, acted_by_name
 use crate::act::Act;
 use crate::object_actions::{Action, act_on, refuse};
 use crate::object_search::{Spot, first_fitting, some_fits};
-use crate::object_words::Words;
+use crate::object_words::ObjectReply;
 use crate::referring::{refer, refer_to_none};
 use paw_base::piece::Piece;
 use paw_game::tables::Tables;
 use paw_world::world::World;
 
 /// The object that an action looks for.
-fn found(world: &World, action: Action) -> Option<u8>
+fn object_looked_for(world: &World, action: Action) -> Option<u8>
     ensures value { result ≡ first_fitting world.now (looks_at action) }
     ensures known { IfSome result (λ o. o < length world.now.places) }
 {
@@ -41,14 +41,14 @@ fn found_carried_first(world: &World) -> Option<u8>
 }
 
 /// The message where the object of an action isn't found.
-fn missing(action: Action) -> Words
+fn missing(action: Action) -> ObjectReply
     ensures value { result ≡ missing action }
 {
     match action {
-        Action::Get => Words::NOT_HERE,
-        Action::Drop | Action::Wear | Action::PutIn(_) => Words::NOT_CARRIED,
-        Action::Remove => Words::NOT_WORN,
-        Action::TakeOut(place) => Words::not_in(place),
+        Action::Get => ObjectReply::NOT_HERE,
+        Action::Drop | Action::Wear | Action::PutIn(_) => ObjectReply::NOT_CARRIED,
+        Action::Remove => ObjectReply::NOT_WORN,
+        Action::TakeOut(place) => ObjectReply::not_in(place),
     }
 }
 
@@ -64,10 +64,10 @@ pub(crate) fn act_by_name<T: Tables>(
     ensures game { IsOf (T.game tables.now) world.new }
     ensures draws { world.new.draws ≡ world.old.draws }
 {
-    match found(world, action) {
+    match object_looked_for(world, action) {
         Some(o) => act_on(tables, world, piece, o, action),
         None if some_fits(world) => refuse(tables, world, piece, missing(action)),
-        None => refuse(tables, world, piece, Words::NO_SUCH_OBJECT),
+        None => refuse(tables, world, piece, ObjectReply::NO_SUCH_OBJECT),
     }
 }
 

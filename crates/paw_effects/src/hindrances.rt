@@ -5,7 +5,7 @@ ghost use Rattle.paw_effects.specs.ObjectActions.{is_worn, is_carried, can_be_wo
 ghost use Rattle.paw_effects.specs.ObjectActions.{holds_place, first_that_holds, hindrances};
 
 use crate::object_actions::Action;
-use crate::object_words::Words;
+use crate::object_words::ObjectReply;
 use crate::presence::{is_held, is_here};
 use paw_base::flags::{CARRIED_FLAG, MOST_CARRIED_FLAG, MOST_WEIGHT_FLAG};
 use paw_base::places::{CARRIED_PLACE, WORN_PLACE};
@@ -56,7 +56,7 @@ fn holds_place(world: &World, place: u8) -> bool
 }
 
 /// The message of the first test that holds.
-fn first_that_holds(tests: &[(bool, Words)]) -> Option<Words>
+fn first_that_holds(tests: &[(bool, ObjectReply)]) -> Option<ObjectReply>
     ensures value { result ≡ first_that_holds tests.now }
 {
     for &(holds, said) in tests {
@@ -68,43 +68,46 @@ fn first_that_holds(tests: &[(bool, Words)]) -> Option<Words>
 }
 
 /// What hinders an action on an object that was referred to: the message of the first test that holds.
-pub(crate) fn hindrance(world: &World, o: u8, action: Action) -> Option<Words>
+pub(crate) fn hindrance(world: &World, o: u8, action: Action) -> Option<ObjectReply>
     requires known { o < length world.now.places }
     ensures value { result ≡ first_that_holds (hindrances world.now o action) }
 {
     match action {
         Action::Get => first_that_holds(&[
-            (is_held(world, o), Words::HELD),
-            (!is_here(world, o), Words::NOT_HERE),
-            (is_too_heavy(world, o), Words::TOO_HEAVY),
-            (is_laden(world), Words::TOO_MANY),
+            (is_held(world, o), ObjectReply::HELD),
+            (!is_here(world, o), ObjectReply::NOT_HERE),
+            (is_too_heavy(world, o), ObjectReply::TOO_HEAVY),
+            (is_laden(world), ObjectReply::TOO_MANY),
         ]),
         Action::Drop | Action::PutIn(_) => first_that_holds(&[
-            (is_worn(world, o), Words::WORN),
-            (is_here(world, o), Words::NOT_HELD),
-            (!is_carried(world, o), Words::NOT_CARRIED),
+            (is_worn(world, o), ObjectReply::WORN),
+            (is_here(world, o), ObjectReply::NOT_HELD),
+            (!is_carried(world, o), ObjectReply::NOT_CARRIED),
         ]),
         Action::Wear => first_that_holds(&[
-            (is_here(world, o), Words::NOT_HELD),
-            (is_worn(world, o), Words::WORN_ALREADY),
-            (!is_carried(world, o), Words::NOT_CARRIED),
-            (!can_be_worn(world, o), Words::NOT_WEARABLE),
+            (is_here(world, o), ObjectReply::NOT_HELD),
+            (is_worn(world, o), ObjectReply::WORN_ALREADY),
+            (!is_carried(world, o), ObjectReply::NOT_CARRIED),
+            (!can_be_worn(world, o), ObjectReply::NOT_WEARABLE),
         ]),
         Action::Remove => first_that_holds(&[
-            (is_carried(world, o) || is_here(world, o), Words::NOT_PUT_ON),
-            (!is_worn(world, o), Words::NOT_WORN),
-            (!can_be_worn(world, o), Words::NOT_REMOVABLE),
-            (is_laden(world), Words::HANDS_FULL),
+            (
+                is_carried(world, o) || is_here(world, o),
+                ObjectReply::NOT_PUT_ON,
+            ),
+            (!is_worn(world, o), ObjectReply::NOT_WORN),
+            (!can_be_worn(world, o), ObjectReply::NOT_REMOVABLE),
+            (is_laden(world), ObjectReply::HANDS_FULL),
         ]),
         Action::TakeOut(place) => first_that_holds(&[
-            (is_held(world, o), Words::HELD),
-            (is_here(world, o), Words::outside(place)),
-            (world.place(o) != place, Words::not_in(place)),
+            (is_held(world, o), ObjectReply::HELD),
+            (is_here(world, o), ObjectReply::outside(place)),
+            (world.place(o) != place, ObjectReply::not_in(place)),
             (
                 !holds_place(world, place) && is_too_heavy(world, o),
-                Words::TOO_HEAVY,
+                ObjectReply::TOO_HEAVY,
             ),
-            (is_laden(world), Words::TOO_MANY),
+            (is_laden(world), ObjectReply::TOO_MANY),
         ]),
     }
 }

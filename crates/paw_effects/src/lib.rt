@@ -4,9 +4,9 @@
 pub mod act;
 mod auto_actions;
 mod chance;
+pub mod condact;
 mod conditions;
 pub mod counts;
-pub mod does;
 mod hindrances;
 mod indirect;
 pub mod laws;

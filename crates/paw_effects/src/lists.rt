@@ -20,7 +20,7 @@ use std::marker::Model;
 
 /// The objects of a list: those at a place, or those that are worn or carried.
 #[derive(Clone, Copy, Drop, PartialEq, Eq, Debug)]
-pub(crate) enum Listed {
+pub(crate) enum ListKind {
     At(u8),
     Held,
 }
@@ -38,7 +38,7 @@ fn lesser(a: Option<u8>, b: Option<u8>) -> Option<u8>
 
 /// The least object of a list above `above`, or the least of all without `above`. None exactly where there is no such
 /// object.
-fn next(world: &World, listed: Listed, above: Option<u8>) -> Option<u8>
+fn next(world: &World, listed: ListKind, above: Option<u8>) -> Option<u8>
     ensures none { IfNone result (listed_above world.now listed above ≡ []) }
     ensures some { IfSome result (λ o.
         listed_above world.now listed above ≡ o ∷ listed_above world.now listed (Some o)) }
@@ -46,8 +46,8 @@ fn next(world: &World, listed: Listed, above: Option<u8>) -> Option<u8>
     ensures rises { IfSome result (λ o. IfSome above (λ a. a < o)) }
 {
     match listed {
-        Listed::At(p) => world.first_at(p, above),
-        Listed::Held => lesser(
+        ListKind::At(p) => world.first_at(p, above),
+        ListKind::Held => lesser(
             world.first_at(WORN_PLACE, above),
             world.first_at(CARRIED_PLACE, above),
         ),
@@ -79,7 +79,7 @@ fn put_if_worn<T: Tables>(tables: &T, world: &World, piece: &mut Piece, o: u8) -
 struct ObjectList<'a, T: Tables> {
     tables: &'a T,
     world: &'a World,
-    listed: Listed,
+    listed: ListKind,
 }
 
 impl<'a, T: Tables> Model for ObjectList<'a, T> {
@@ -113,8 +113,8 @@ impl<'a, T: Tables> ObjectList<'a, T> {
             (listed_text self.now.game self.now.world self.now.listed o) }
     {
         match self.listed {
-            Listed::At(_) => print_object(self.tables, piece, o),
-            Listed::Held => {
+            ListKind::At(_) => print_object(self.tables, piece, o),
+            ListKind::Held => {
                 print_object(self.tables, piece, o)
                     && put_if_worn(self.tables, self.world, piece, o)
             }
@@ -214,7 +214,7 @@ pub(crate) fn print_inventory<T: Tables>(tables: &T, world: &World, piece: &mut 
     let held = ObjectList {
         tables,
         world,
-        listed: Listed::Held,
+        listed: ListKind::Held,
     };
     say(tables, world, piece, INVENTORY_MESSAGE) && held.print_or_say(piece, EMPTY_HANDED_MESSAGE)
 }
@@ -226,7 +226,7 @@ pub(crate) fn print_place<T: Tables>(tables: &T, world: &World, piece: &mut Piec
     let there = ObjectList {
         tables,
         world,
-        listed: Listed::At(p),
+        listed: ListKind::At(p),
     };
     there.print_or_say(piece, NOTHING_THERE_MESSAGE)
 }
@@ -241,7 +241,7 @@ pub(crate) fn print_here<T: Tables>(tables: &T, world: &World, piece: &mut Piece
     let here = ObjectList {
         tables,
         world,
-        listed: Listed::At(world.flag(LOCATION_FLAG)),
+        listed: ListKind::At(world.flag(LOCATION_FLAG)),
     };
     match here.next(None) {
         Some(first) => say(tables, world, piece, SEEN_MESSAGE) && here.print_from(piece, first),

@@ -5,9 +5,9 @@ ghost use Rattle.paw_effects.specs.Worlds.{IsOf};
 ghost use Rattle.paw_effects.specs.inner.Done.{Does};
 ghost use Rattle.paw_effects.specs.ObjectActions.{destination, outcome, refuses, acted_on};
 
-use crate::act::{Act, Effect, after, on};
+use crate::act::{Act, Effect, after, plain_act};
 use crate::hindrances::hindrance;
-use crate::object_words::{Words, speak};
+use crate::object_words::{ObjectReply, speak};
 use crate::presence::here;
 use crate::referring::refer;
 use paw_base::piece::Piece;
@@ -40,26 +40,31 @@ impl Action {
     }
 
     /// The message once it is done.
-    fn outcome(self) -> Words
+    fn outcome(self) -> ObjectReply
         ensures value { result ≡ outcome self }
     {
         match self {
-            Action::Get | Action::TakeOut(_) => Words::TAKEN,
-            Action::Drop => Words::DROPPED,
-            Action::Wear => Words::PUT_ON,
-            Action::Remove => Words::TAKEN_OFF,
-            Action::PutIn(place) => Words::now_in(place),
+            Action::Get | Action::TakeOut(_) => ObjectReply::TAKEN,
+            Action::Drop => ObjectReply::DROPPED,
+            Action::Wear => ObjectReply::PUT_ON,
+            Action::Remove => ObjectReply::TAKEN_OFF,
+            Action::PutIn(place) => ObjectReply::now_in(place),
         }
     }
 }
 
 /// Refuses an action: prints why, drops the rest of the line, and leaves the table as one in which an action was
 /// carried out.
-pub(crate) fn refuse<T: Tables>(tables: &T, world: &World, piece: &mut Piece, words: Words) -> Act
+pub(crate) fn refuse<T: Tables>(
+    tables: &T,
+    world: &World,
+    piece: &mut Piece,
+    words: ObjectReply,
+) -> Act
     ensures does { Does (refuses (T.game tables.now) world.now words) piece.old piece.new world.now result }
 {
     if !speak(tables, world, piece, words) {
-        return on(Effect::Spent);
+        return plain_act(Effect::Spent);
     }
     Act {
         effect: Effect::Exit(true),

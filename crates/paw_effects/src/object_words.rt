@@ -20,102 +20,107 @@ use paw_world::world::World;
 
 /// The message of an action: a system message; or a system message and then the name of a container.
 #[derive(Clone, Copy, Drop, PartialEq, Eq, Debug)]
-pub(crate) enum Words {
+pub(crate) enum ObjectReply {
     Says(u8),
     Names(u8, u8),
 }
 
-impl Words {
+impl ObjectReply {
     /// No object of the game is meant.
-    pub(crate) const NO_SUCH_OBJECT: Words = Words::Says(IMPOSSIBLE_MESSAGE);
+    pub(crate) const NO_SUCH_OBJECT: ObjectReply = ObjectReply::Says(IMPOSSIBLE_MESSAGE);
 
     /// It isn't worn.
-    pub(crate) const NOT_WORN: Words = Words::Says(NOT_WORN_MESSAGE);
+    pub(crate) const NOT_WORN: ObjectReply = ObjectReply::Says(NOT_WORN_MESSAGE);
 
     /// It is worn, so it can't be dropped or put away.
-    pub(crate) const WORN: Words = Words::Says(WORN_MESSAGE);
+    pub(crate) const WORN: ObjectReply = ObjectReply::Says(WORN_MESSAGE);
 
     /// It is worn or carried already.
-    pub(crate) const HELD: Words = Words::Says(HELD_MESSAGE);
+    pub(crate) const HELD: ObjectReply = ObjectReply::Says(HELD_MESSAGE);
 
     /// It isn't here.
-    pub(crate) const NOT_HERE: Words = Words::Says(NOT_HERE_MESSAGE);
+    pub(crate) const NOT_HERE: ObjectReply = ObjectReply::Says(NOT_HERE_MESSAGE);
 
     /// No more objects can be carried. It ends the loop over objects.
-    pub(crate) const TOO_MANY: Words = Words::Says(TOO_MANY_MESSAGE);
+    pub(crate) const TOO_MANY: ObjectReply = ObjectReply::Says(TOO_MANY_MESSAGE);
 
     /// It isn't carried.
-    pub(crate) const NOT_CARRIED: Words = Words::Says(NOT_CARRIED_MESSAGE);
+    pub(crate) const NOT_CARRIED: ObjectReply = ObjectReply::Says(NOT_CARRIED_MESSAGE);
 
     /// It is worn already.
-    pub(crate) const WORN_ALREADY: Words = Words::Says(WORN_ALREADY_MESSAGE);
+    pub(crate) const WORN_ALREADY: ObjectReply = ObjectReply::Says(WORN_ALREADY_MESSAGE);
 
     /// It was taken.
-    pub(crate) const TAKEN: Words = Words::Says(TAKEN_MESSAGE);
+    pub(crate) const TAKEN: ObjectReply = ObjectReply::Says(TAKEN_MESSAGE);
 
     /// It was put on.
-    pub(crate) const PUT_ON: Words = Words::Says(PUT_ON_MESSAGE);
+    pub(crate) const PUT_ON: ObjectReply = ObjectReply::Says(PUT_ON_MESSAGE);
 
     /// It was taken off.
-    pub(crate) const TAKEN_OFF: Words = Words::Says(TAKEN_OFF_MESSAGE);
+    pub(crate) const TAKEN_OFF: ObjectReply = ObjectReply::Says(TAKEN_OFF_MESSAGE);
 
     /// It was dropped.
-    pub(crate) const DROPPED: Words = Words::Says(DROPPED_MESSAGE);
+    pub(crate) const DROPPED: ObjectReply = ObjectReply::Says(DROPPED_MESSAGE);
 
     /// It can't be worn.
-    pub(crate) const NOT_WEARABLE: Words = Words::Says(NOT_WEARABLE_MESSAGE);
+    pub(crate) const NOT_WEARABLE: ObjectReply = ObjectReply::Says(NOT_WEARABLE_MESSAGE);
 
     /// It can't be taken off.
-    pub(crate) const NOT_REMOVABLE: Words = Words::Says(NOT_REMOVABLE_MESSAGE);
+    pub(crate) const NOT_REMOVABLE: ObjectReply = ObjectReply::Says(NOT_REMOVABLE_MESSAGE);
 
     /// No more objects can be carried once it is taken off. It ends the loop over objects.
-    pub(crate) const HANDS_FULL: Words = Words::Says(HANDS_FULL_MESSAGE);
+    pub(crate) const HANDS_FULL: ObjectReply = ObjectReply::Says(HANDS_FULL_MESSAGE);
 
     /// It is too heavy.
-    pub(crate) const TOO_HEAVY: Words = Words::Says(TOO_HEAVY_MESSAGE);
+    pub(crate) const TOO_HEAVY: ObjectReply = ObjectReply::Says(TOO_HEAVY_MESSAGE);
 
     /// It is here, and not carried.
-    pub(crate) const NOT_HELD: Words = Words::Says(NOT_HELD_MESSAGE);
+    pub(crate) const NOT_HELD: ObjectReply = ObjectReply::Says(NOT_HELD_MESSAGE);
 
     /// It is carried or here, and not worn.
-    pub(crate) const NOT_PUT_ON: Words = Words::Says(NOT_PUT_ON_MESSAGE);
+    pub(crate) const NOT_PUT_ON: ObjectReply = ObjectReply::Says(NOT_PUT_ON_MESSAGE);
 
     /// It was put into this container.
-    pub(crate) fn now_in(container: u8) -> Words
-        ensures value { result ≡ Words.Names PUT_IN_MESSAGE container }
+    pub(crate) fn now_in(container: u8) -> ObjectReply
+        ensures value { result ≡ ObjectReply.Names PUT_IN_MESSAGE container }
     {
-        Words::Names(PUT_IN_MESSAGE, container)
+        ObjectReply::Names(PUT_IN_MESSAGE, container)
     }
 
     /// It is here, and not in this container.
-    pub(crate) fn outside(container: u8) -> Words
-        ensures value { result ≡ Words.Names NOT_TAKEN_OUT_MESSAGE container }
+    pub(crate) fn outside(container: u8) -> ObjectReply
+        ensures value { result ≡ ObjectReply.Names NOT_TAKEN_OUT_MESSAGE container }
     {
-        Words::Names(NOT_TAKEN_OUT_MESSAGE, container)
+        ObjectReply::Names(NOT_TAKEN_OUT_MESSAGE, container)
     }
 
     /// It isn't in this container.
-    pub(crate) fn not_in(container: u8) -> Words
-        ensures value { result ≡ Words.Names NOT_INSIDE_MESSAGE container }
+    pub(crate) fn not_in(container: u8) -> ObjectReply
+        ensures value { result ≡ ObjectReply.Names NOT_INSIDE_MESSAGE container }
     {
-        Words::Names(NOT_INSIDE_MESSAGE, container)
+        ObjectReply::Names(NOT_INSIDE_MESSAGE, container)
     }
 
     /// Whether the loop over objects ends after this message.
     pub(crate) fn ends_loop(self) -> bool
         ensures value { result ≡ ends_loop self }
     {
-        self == Words::TOO_MANY || self == Words::HANDS_FULL
+        self == ObjectReply::TOO_MANY || self == ObjectReply::HANDS_FULL
     }
 }
 
 /// Prints this message. False exactly where it doesn't fit; the piece may then hold anything.
-pub(crate) fn speak<T: Tables>(tables: &T, world: &World, piece: &mut Piece, words: Words) -> bool
+pub(crate) fn speak<T: Tables>(
+    tables: &T,
+    world: &World,
+    piece: &mut Piece,
+    words: ObjectReply,
+) -> bool
     ensures puts { Puts piece.old piece.new result (spoken_words (T.game tables.now) world.now words) }
 {
     match words {
-        Words::Says(message) => say(tables, world, piece, message),
-        Words::Names(message, container) => {
+        ObjectReply::Says(message) => say(tables, world, piece, message),
+        ObjectReply::Names(message, container) => {
             put(tables, world, piece, message)
                 && print_object(tables, piece, container)
                 && say(tables, world, piece, NAME_END_MESSAGE)

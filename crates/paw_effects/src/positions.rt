@@ -8,7 +8,7 @@ ghost use Rattle.paw_effects.specs.inner.Done.{Does};
 ghost use Rattle.paw_effects.specs.Positions.{loaded, position_number};
 ghost use Rattle.paw_world.specs.World.{keeping, kept_position};
 
-use crate::act::{Act, Effect, after, on};
+use crate::act::{Act, Effect, after, plain_act};
 use crate::text::{print_nothing, say};
 use paw_base::flags::POSITION_FLAG;
 use paw_base::limits::POSITION_COUNT;
@@ -40,7 +40,7 @@ fn load_position<T: Tables>(tables: &T, world: &mut World, piece: &mut Piece, n:
     // Its clause says that the world is sound, which the proof needs. No call of it is left in the program.
     let _objects = world.objects();
     if world.recall(n) {
-        on(Effect::Redescribe)
+        plain_act(Effect::Redescribe)
     } else {
         after(
             say(tables, world, piece, IMPOSSIBLE_MESSAGE),

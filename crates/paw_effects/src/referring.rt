@@ -2,10 +2,10 @@
 
 ghost use Rattle.std.specs.Prelude.{◌≡◌, ◌<◌, length};
 ghost use Rattle.paw_effects.specs.Worlds.{IsOf};
-ghost use Rattle.paw_effects.specs.Referring.{weight_class, referred, referred_to_none};
+ghost use Rattle.paw_effects.specs.Referring.{flag_of_fact, referred, referred_to_none};
 
 use paw_base::flags::{
-    REFERRED_CONTAINER_FLAG, REFERRED_FLAG, REFERRED_PLACE_FLAG, REFERRED_SO,
+    FACT_HOLDS, REFERRED_CONTAINER_FLAG, REFERRED_FLAG, REFERRED_PLACE_FLAG,
     REFERRED_WEARABLE_FLAG, REFERRED_WEIGHT_FLAG,
 };
 use paw_base::places::NOT_CREATED_PLACE;
@@ -36,9 +36,9 @@ pub fn refer<T: Tables>(tables: &T, world: &mut World, o: u8)
 
 // The flag for whether an object is of a class.
 fn class(member: bool) -> u8
-    ensures value { result ≡ weight_class member }
+    ensures value { result ≡ flag_of_fact member }
 {
-    if member { REFERRED_SO } else { 0 }
+    if member { FACT_HOLDS } else { 0 }
 }
 
 /// Refers to no object: flag 51 becomes none (255), flag 54 not created (252), and the flags 55 to 57 become 0.

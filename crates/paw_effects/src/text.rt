@@ -18,7 +18,7 @@ use paw_game::tables::Tables;
 use paw_world::world::World;
 
 /// The text before the first underscore, and the text after it; None where there is no underscore.
-fn parted(text: &[u8]) -> Option<(&[u8], &[u8])>
+fn split_at_underscore(text: &[u8]) -> Option<(&[u8], &[u8])>
     ensures none { IfNone result ((name : Text) → with_name name text.now ≡ text.now) }
     ensures some { IfSome result (λ p. (name : Text) →
         with_name name text.now ≡ (p.0.now ++ name) ++ with_name name p.1.now) }
@@ -44,7 +44,7 @@ fn print(piece: &mut Piece, name: &[u8], text: &[u8]) -> bool
     ensures puts { Puts piece.old piece.new result (with_name name.now text.now) }
 {
     let mut rest = text;
-    while let Some((before, after)) = parted(rest) {
+    while let Some((before, after)) = split_at_underscore(rest) {
         if !print_both(piece, before, name) {
             return false;
         }

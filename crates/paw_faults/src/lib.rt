@@ -2,6 +2,6 @@
 #![tactic(auto)]
 
 pub mod laws;
+pub mod read_error;
 #[cfg(test)]
 mod tests;
-pub mod unread;

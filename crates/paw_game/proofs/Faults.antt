@@ -15,7 +15,8 @@ use Rattle.paw_game.specs.declared.parts.Exit.{Exit}
 use Rattle.paw_game.specs.declared.parts.GamePart.{GamePart}
 use Rattle.paw_game.specs.declared.parts.GamePart.TheVariants as part
 use Rattle.paw_game.specs.Game.{GameLists}
-use Rattle.paw_game.specs.Valid.{Valid, are_letters, is_word, is_text, is_object, is_exits, is_table, is_within, rows_kept, words_rise, words_kept}
+use Rattle.paw_game.specs.Valid.{Valid, are_letters, is_word, is_text, is_object, exits_are_valid, is_table, is_within, rows_are_valid, words_rise}
+use Rattle.paw_game.specs.Valid.{words_are_valid}
 use Rattle.paw_game.specs.inner.Fault.{part_row_fault, first_bad, bad_word, words_fault, texts_fault}
 use Rattle.paw_game.specs.inner.Fault.{objects_fault, exits_fault, tables_fault, fault_in, game_fault}
 
@@ -86,7 +87,7 @@ rise_after-none (w ∷ ws) =
       | inr h ↦ rw h refl
     ]
 
-is_none-words_fault : (ws : List Word) → is_none (words_fault ws) ≡ words_kept ws
+is_none-words_fault : (ws : List Word) → is_none (words_fault ws) ≡ words_are_valid ws
 unfolding words_fault
 is_none-words_fault ws =
     is_none-row_fault 0 WORD_LIMIT (length ws) (bad_word 0 [] ws)
@@ -96,14 +97,14 @@ is_none-words_fault ws =
 
 -- ---- the other parts
 
-is_none-texts_fault : (least most : ℕ) (ts : List (List ℕ)) → is_none (texts_fault least most ts) ≡ (nat_le least (length ts) && rows_kept most is_text ts)
+is_none-texts_fault : (least most : ℕ) (ts : List (List ℕ)) → is_none (texts_fault least most ts) ≡ (nat_le least (length ts) && rows_are_valid most is_text ts)
 unfolding texts_fault
 is_none-texts_fault least most ts =
     is_none-row_fault least most (length ts) (first_bad is_text ts)
     ∙ ap (λ b. nat_le least (length ts) && (nat_le (length ts) most && b)) (is_none-first_bad is_text ts)
 
 is_none-objects_fault : (ws : List Word) (locations : ℕ) (os : List ObjectRow)
-    → is_none (objects_fault ws locations os) ≡ rows_kept OBJECT_LIMIT (is_object ws locations) os
+    → is_none (objects_fault ws locations os) ≡ rows_are_valid OBJECT_LIMIT (is_object ws locations) os
 unfolding objects_fault
 is_none-objects_fault ws locations os =
     is_none-row_fault 0 OBJECT_LIMIT (length os) (first_bad (is_object ws locations) os)
@@ -112,11 +113,11 @@ is_none-objects_fault ws locations os =
     ∙ at_least_zero (length os) _)
 
 is_none-exits_fault : (ws : List Word) (locations : ℕ) (es : List (List Exit))
-    → is_none (exits_fault ws locations es) ≡ ((length es == locations) && list_all (is_exits ws locations) es)
+    → is_none (exits_fault ws locations es) ≡ ((length es == locations) && list_all (exits_are_valid ws locations) es)
 unfolding exits_fault
 is_none-exits_fault ws locations es =
-    is_none-row_fault locations locations (length es) (first_bad (is_exits ws locations) es)
-    ∙ (ap (λ b. nat_le locations (length es) && (nat_le (length es) locations && b)) (is_none-first_bad (is_exits ws locations) es)
+    is_none-row_fault locations locations (length es) (first_bad (exits_are_valid ws locations) es)
+    ∙ (ap (λ b. nat_le locations (length es) && (nat_le (length es) locations && b)) (is_none-first_bad (exits_are_valid ws locations) es)
     ∙ both_ends locations (length es) _)
 
 is_none-tables_fault : (g : GameLists) → is_none (tables_fault g)

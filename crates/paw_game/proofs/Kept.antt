@@ -23,8 +23,8 @@ use Rattle.paw_game.specs.declared.parts.Entry.{Entry}
 use Rattle.paw_game.specs.declared.parts.GamePart.{GamePart}
 use Rattle.paw_game.specs.declared.parts.GamePart.TheVariants as part
 use Rattle.paw_game.specs.Game.{GameLists, counts_of}
-use Rattle.paw_game.specs.Valid.{Valid, begins_no_line, is_parameter, is_printed, is_text_byte, are_exits, are_facts, keeps_kinds, is_condact, is_entry}
-use Rattle.paw_game.specs.Valid.{is_exits, is_object, is_place, is_table, is_text, is_word_or_none, is_verb_value, is_within, is_any, has_word}
+use Rattle.paw_game.specs.Valid.{Valid, begins_no_line, is_parameter, is_printed, is_text_byte, are_exits, facts_are_valid, fits_kinds, is_condact, is_entry}
+use Rattle.paw_game.specs.Valid.{exits_are_valid, is_object, is_place, is_table, is_text, is_word_or_none, is_verb_value, is_within, is_wildcard, has_word}
 use Rattle.paw_game.specs.Tables.{condact_at, condacts_of, entry_at, exit_at, exit_of, facts_at, head_at, table_at}
 use Rattle.paw_game.specs.inner.Tables.{text_at}
 
@@ -71,7 +71,7 @@ pub object_kept : (g : GameLists) → Valid g → (o : ℕ) (row : ObjectRow) �
 object_kept g v o row e =
     list_all-at (is_object g.words (length g.locations)) g.objects o row (second_of_and (nat_le (length g.objects) OBJECT_LIMIT) _ v.objects) e
 
-pub facts_kept : (g : GameLists) → Valid g → (o : ℕ) (f : ObjectFacts) → facts_at g o ≡ Some f → IsTrue (are_facts g.words (length g.locations) f)
+pub facts_kept : (g : GameLists) → Valid g → (o : ℕ) (f : ObjectFacts) → facts_at g o ≡ Some f → IsTrue (facts_are_valid g.words (length g.locations) f)
 facts_kept g v o f e =
     let at = option_map-Some (λ (row : ObjectRow). row.facts) (slice_get g.objects o) f e in
     rw (← at.2) (second_of_and (is_text at.0.text) _ (object_kept g v o at.0 at.1))
@@ -140,12 +140,13 @@ exit_of-leads ws locations (x ∷ xs) verb to h e =
     (first_of_and (nat_lt x.to locations) _ (second_of_and (is_verb_value ws x.verb) _ (first_of_and _ (are_exits ws locations xs) h))))
     (exit_of-leads ws locations xs verb to (second_of_and _ (are_exits ws locations xs) h)) e
 
-pub exits_kept_at : (g : GameLists) → Valid g → (l : ℕ) (xs : List Exit) → slice_get g.exits l ≡ Some xs → IsTrue (is_exits g.words (length g.locations) xs)
+pub exits_kept_at : (g : GameLists) → Valid g → (l : ℕ) (xs : List Exit) → slice_get g.exits l ≡ Some xs →
+    IsTrue (exits_are_valid g.words (length g.locations) xs)
 exits_kept_at g v l xs e =
-    list_all-at (is_exits g.words (length g.locations)) g.exits l xs (second_of_and (length g.exits == length g.locations) _ v.exits) e
+    list_all-at (exits_are_valid g.words (length g.locations)) g.exits l xs (second_of_and (length g.exits == length g.locations) _ v.exits) e
 
 exit_in-leads : (ws : List Word) (locations : ℕ) (o : Option (List Exit)) (verb to : ℕ)
-    → ((xs : List Exit) → o ≡ Some xs → IsTrue (is_exits ws locations xs)) → exit_of (unwrap_or o []) verb ≡ Some to → to < locations
+    → ((xs : List Exit) → o ≡ Some xs → IsTrue (exits_are_valid ws locations xs)) → exit_of (unwrap_or o []) verb ≡ Some to → to < locations
 exit_in-leads ws locations None verb to h e = absurd (none-some to e)
 exit_in-leads ws locations (Some xs) verb to h e =
     exit_of-leads ws locations xs verb to (second_of_and (nat_le (length xs) EXIT_LIMIT) _ (h xs refl)) e
@@ -179,7 +180,7 @@ entry-small g v t e en h = omega (arith, slice_get_within (table_at g t) e en h,
 condacts_kept : (g : GameLists) (en : Entry) → IsTrue (is_entry g en)
     → IsTrue (nat_le (length en.condacts) CONDACT_LIMIT && list_all (is_condact g) en.condacts)
 condacts_kept g en h =
-    second_of_and (is_any en.noun || has_word g.words NOUN_CLASS en.noun) _ (second_of_and (is_any en.verb || is_verb_value g.words en.verb) _ h)
+    second_of_and (is_wildcard en.noun || has_word g.words NOUN_CLASS en.noun) _ (second_of_and (is_wildcard en.verb || is_verb_value g.words en.verb) _ h)
 
 pub condacts-short : (g : GameLists) (en : Entry) → IsTrue (is_entry g en) → length en.condacts ≤ CONDACT_LIMIT
 condacts-short g en h = leb-true (length en.condacts) CONDACT_LIMIT (first_of_and _ (list_all (is_condact g) en.condacts) (condacts_kept g en h))
@@ -249,18 +250,18 @@ condact-none g t e k h =
 
 -- ---- the parts of a condact
 
-pub code_kept : (rule : ParamKind → ℕ → Bool) (c : Condact) → IsTrue (keeps_kinds rule c) → IsCode c.code
+pub code_kept : (rule : ParamKind → ℕ → Bool) (c : Condact) → IsTrue (fits_kinds rule c) → IsCode c.code
 code_kept rule c h = first_of_and (is_code c.code) _ h
 
-pub first_kept : (rule : ParamKind → ℕ → Bool) (c : Condact) → IsTrue (keeps_kinds rule c) → IsTrue (rule (first_kind c.code) c.a)
+pub first_kept : (rule : ParamKind → ℕ → Bool) (c : Condact) → IsTrue (fits_kinds rule c) → IsTrue (rule (first_kind c.code) c.a)
 first_kept rule c h = first_of_and (rule (first_kind c.code) c.a) _ (second_of_and (is_code c.code) _ h)
 
-pub second_kept : (rule : ParamKind → ℕ → Bool) (c : Condact) → IsTrue (keeps_kinds rule c) → IsTrue (rule (second_kind c.code) c.b)
+pub second_kept : (rule : ParamKind → ℕ → Bool) (c : Condact) → IsTrue (fits_kinds rule c) → IsTrue (rule (second_kind c.code) c.b)
 second_kept rule c h = second_of_and (rule (first_kind c.code) c.a) _ (second_of_and (is_code c.code) _ h)
 
 -- A condact that keeps a rule keeps another that the first one gives.
 pub keeps_other : (rule other : ParamKind → ℕ → Bool) (c : Condact) → ((k : ParamKind) (x : ℕ) → IsTrue (rule k x) → IsTrue (other k x))
-    → IsTrue (keeps_kinds rule c) → IsTrue (keeps_kinds other c)
+    → IsTrue (fits_kinds rule c) → IsTrue (fits_kinds other c)
 keeps_other rule other c gives h =
     and_from (is_code c.code) _ (first_of_and (is_code c.code) _ h)
     (and_from (other (first_kind c.code) c.a) _ (gives (first_kind c.code) c.a (first_kept rule c h)) (gives (second_kind c.code) c.b (second_kept rule c h)))

@@ -14,7 +14,7 @@ use Rattle.paw_base.specs.declared.rows.ParamKind.TheVariants as kind
 use Rattle.paw_game.specs.declared.parts.Word.{Word}
 use Rattle.paw_game.specs.Game.{GameLists, counts_of}
 use Rattle.paw_game.specs.Tables.{condact_at}
-use Rattle.paw_game.specs.Valid.{Valid, are_letters, has_word, is_argument, is_condact, is_parameter, is_within, is_word, is_word_or_none, words_kept}
+use Rattle.paw_game.specs.Valid.{Valid, are_letters, has_word, is_argument, is_condact, is_parameter, is_within, is_word, is_word_or_none, words_are_valid}
 use Rattle.paw_game.specs.inner.Valid.{is_right}
 use Rattle.paw_game.proofs.Kept.{first_of_and, second_of_and, code_kept, first_kept, second_kept, keeps_other, condact_kept}
 
@@ -33,7 +33,7 @@ has_small (w ∷ ws) class value kept has =
       | inr later ↦ has_small ws class value (second_of_and (is_word w) _ kept) later
     ]
 
-word_small : (words : List Word) (class x : ℕ) → IsTrue (words_kept words) → IsTrue (is_word_or_none words class x) → IsTrue (nat_lt x 256)
+word_small : (words : List Word) (class x : ℕ) → IsTrue (words_are_valid words) → IsTrue (is_word_or_none words class x) → IsTrue (nat_lt x 256)
 word_small words class x kept h =
     let each = first_of_and (list_all is_word words) _ (second_of_and (nat_le (length words) WORD_LIMIT) _ kept) in
     let small : x < 256 = elim (or_cases (x == NO_WORD) (has_word words class x) h) [

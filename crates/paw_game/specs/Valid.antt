@@ -30,8 +30,8 @@ abbrev pub is_within : ℕ → ℕ → ℕ → Bool
 is_within low high n = nat_le low n && nat_le n high
 
 -- Whether a list has at most this many rows, and each of them keeps a rule.
-abbrev pub rows_kept : {A : Type 0} → ℕ → (A → Bool) → List A → Bool
-rows_kept most rule rows = nat_le (length rows) most && list_all rule rows
+abbrev pub rows_are_valid : {A : Type 0} → ℕ → (A → Bool) → List A → Bool
+rows_are_valid most rule rows = nat_le (length rows) most && list_all rule rows
 
 -- ---- words ----
 
@@ -60,8 +60,8 @@ words_rise (w ∷ []) = true
 words_rise (w ∷ v ∷ ws) = is_lt (slice_cmp nat_cmp w.letters v.letters) && words_rise (v ∷ ws)
 
 -- Whether words keep their rules: they aren't too many, each is a word, and they are in order.
-abbrev pub words_kept : List Word → Bool
-words_kept ws = nat_le (length ws) WORD_LIMIT && (list_all is_word ws && words_rise ws)
+abbrev pub words_are_valid : List Word → Bool
+words_are_valid ws = nat_le (length ws) WORD_LIMIT && (list_all is_word ws && words_rise ws)
 
 -- Whether a word of this class has this value.
 abbrev pub has_word : List Word → ℕ → ℕ → Bool
@@ -101,14 +101,14 @@ abbrev pub is_word_or_none : List Word → ℕ → ℕ → Bool
 is_word_or_none ws class value = (value == NO_WORD) || has_word ws class value
 
 -- Whether the facts of an object keep their rules: its noun, its adjective, where it begins, and its weight.
-abbrev pub are_facts : List Word → ℕ → ObjectFacts → Bool
-are_facts ws locations f =
+abbrev pub facts_are_valid : List Word → ℕ → ObjectFacts → Bool
+facts_are_valid ws locations f =
     is_word_or_none ws NOUN_CLASS f.noun && (is_word_or_none ws ADJECTIVE_CLASS f.adjective
     && (is_place locations f.start && nat_le f.weight WEIGHT_LIMIT))
 
 -- Whether an object keeps its rules, which are those of its text and of its facts.
 abbrev pub is_object : List Word → ℕ → ObjectRow → Bool
-is_object ws locations o = is_text o.text && are_facts ws locations o.facts
+is_object ws locations o = is_text o.text && facts_are_valid ws locations o.facts
 
 -- Whether each exit has a verb value that no exit after it has, and leads to a location.
 abbrev pub are_exits : List Word → ℕ → List Exit → Bool
@@ -118,8 +118,8 @@ are_exits ws locations (x ∷ xs) =
     && are_exits ws locations xs
 
 -- Whether the exits of one location keep their rules; distinct verb values alone see to it that they aren't too many.
-abbrev pub is_exits : List Word → ℕ → List Exit → Bool
-is_exits ws locations xs = nat_le (length xs) EXIT_LIMIT && are_exits ws locations xs
+abbrev pub exits_are_valid : List Word → ℕ → List Exit → Bool
+exits_are_valid ws locations xs = nat_le (length xs) EXIT_LIMIT && are_exits ws locations xs
 
 -- ---- tables ----
 
@@ -148,36 +148,37 @@ is_argument g kind.Preposition x = nat_lt x 256
 is_argument g k x = is_parameter (counts_of g) g.words k x
 
 -- Whether a condact has a code, and parameters that keep the rules of their kinds.
-abbrev pub keeps_kinds : (ParamKind → ℕ → Bool) → Condact → Bool
-keeps_kinds rule c = is_code c.code && (rule (first_kind c.code) c.a && rule (second_kind c.code) c.b)
+abbrev pub fits_kinds : (ParamKind → ℕ → Bool) → Condact → Bool
+fits_kinds rule c = is_code c.code && (rule (first_kind c.code) c.a && rule (second_kind c.code) c.b)
 
 -- Whether a condact keeps its rules: its parameters name what the game has, and those that it doesn't have are 0.
 abbrev pub is_condact : GameLists → Condact → Bool
-is_condact g c = keeps_kinds (is_parameter (counts_of g) g.words) c
+is_condact g c = fits_kinds (is_parameter (counts_of g) g.words) c
 
 -- Whether the word of an entry matches any word.
-abbrev pub is_any : ℕ → Bool
-is_any value = (value == ANY_WORD) || (value == NO_WORD)
+abbrev pub is_wildcard : ℕ → Bool
+is_wildcard value = (value == ANY_WORD) || (value == NO_WORD)
 
 -- Whether an entry keeps its rules: those of its verb, its noun and its condacts, which aren't too many.
 abbrev pub is_entry : GameLists → Entry → Bool
 is_entry g e =
-    (is_any e.verb || is_verb_value g.words e.verb) && ((is_any e.noun || has_word g.words NOUN_CLASS e.noun)
-    && rows_kept CONDACT_LIMIT (is_condact g) e.condacts)
+    (is_wildcard e.verb || is_verb_value g.words e.verb) && ((is_wildcard e.noun || has_word g.words NOUN_CLASS e.noun)
+    && rows_are_valid CONDACT_LIMIT (is_condact g) e.condacts)
 
 -- Whether a table keeps its rules: its entries aren't too many, and each keeps its own.
 abbrev pub is_table : GameLists → List Entry → Bool
-is_table g es = rows_kept ENTRY_LIMIT (is_entry g) es
+is_table g es = rows_are_valid ENTRY_LIMIT (is_entry g) es
 
 -- ---- the whole game ----
 
 -- A valid game: each list has a length that it may have, each row keeps its rules, and each location has its exits.
 pub record Valid (g : GameLists) : Type 0 where
-  pub words : IsTrue (words_kept g.words)
-  pub system : IsTrue (rows_kept SYSTEM_LIMIT is_text g.system)
-  pub messages : IsTrue (rows_kept MESSAGE_LIMIT is_text g.messages)
-  pub objects : IsTrue (rows_kept OBJECT_LIMIT (is_object g.words (length g.locations)) g.objects)
-  pub locations : IsTrue (nat_le LOCATION_LEAST (length g.locations) && rows_kept LOCATION_LIMIT is_text g.locations)
+  pub words : IsTrue (words_are_valid g.words)
+  pub system : IsTrue (rows_are_valid SYSTEM_LIMIT is_text g.system)
+  pub messages : IsTrue (rows_are_valid MESSAGE_LIMIT is_text g.messages)
+  pub objects : IsTrue (rows_are_valid OBJECT_LIMIT (is_object g.words (length g.locations)) g.objects)
+  pub locations : IsTrue
+      (nat_le LOCATION_LEAST (length g.locations) && rows_are_valid LOCATION_LIMIT is_text g.locations)
   pub exits : IsTrue ((length g.exits == length g.locations)
-      && list_all (is_exits g.words (length g.locations)) g.exits)
+      && list_all (exits_are_valid g.words (length g.locations)) g.exits)
   pub tables : IsTrue (is_within TABLE_LEAST TABLE_LIMIT (length g.tables) && list_all (is_table g) g.tables)

@@ -3,14 +3,14 @@
 ghost use Rattle.std.specs.Prelude.{◌≡◌, ◌&&◌, ◌==◌, ◌<◌, ◌^◌, IfSome, length, nat_lt};
 ghost use Rattle.std.specs.List.{list_all, list_any};
 ghost use Rattle.paw_game.specs.inner.Fault.{exits_fault, first_bad, objects_fault, tables_fault};
-ghost use Rattle.paw_game.specs.Valid.{are_exits, are_facts, is_condact, is_entry, is_exits, is_object};
+ghost use Rattle.paw_game.specs.Valid.{are_exits, facts_are_valid, is_condact, is_entry, exits_are_valid, is_object};
 ghost use Rattle.paw_game.specs.Valid.{is_table, is_verb_value};
 
 use crate::parts::{Entry, Exit, Exits, GameParts, ObjectRow, Table};
 use crate::rows::row_fault;
 use crate::rules::{Lengths, Rules};
 use crate::texts::is_text;
-use crate::values::is_any;
+use crate::values::is_wildcard;
 use paw_base::limits::{
     CONDACT_LIMIT, ENTRY_LIMIT, EXIT_LIMIT, OBJECT_LIMIT, TABLE_LEAST, TABLE_LIMIT, WEIGHT_LIMIT,
 };
@@ -44,8 +44,8 @@ impl<'a> Inspector<'a> {
         Inspector { parts, rules }
     }
 
-    fn are_facts(&self, facts: &ObjectFacts) -> bool
-        ensures value { result ≡ are_facts self.now.words (length self.now.locations) facts.now }
+    fn facts_are_valid(&self, facts: &ObjectFacts) -> bool
+        ensures value { result ≡ facts_are_valid self.now.words (length self.now.locations) facts.now }
     {
         self.rules.is_noun_or_none(facts.noun)
             && self.rules.is_adjective_or_none(facts.adjective)
@@ -77,7 +77,7 @@ impl<'a> Inspector<'a> {
     fn is_object(&self, object: &ObjectRow) -> bool
         ensures value { result ≡ is_object self.now.words (length self.now.locations) object.now }
     {
-        is_text(&object.text) && self.are_facts(&object.facts)
+        is_text(&object.text) && self.facts_are_valid(&object.facts)
     }
 
     /// The row to name of the exits, where one breaks a rule or there are too many or too few.
@@ -93,15 +93,18 @@ impl<'a> Inspector<'a> {
 
     /// The first location whose exits break a rule.
     fn bad_exits(&self) -> Option<usize>
-        ensures value { result ≡ first_bad (is_exits self.now.words (length self.now.locations)) self.now.exits }
+        ensures value { result ≡ first_bad (exits_are_valid self.now.words (length self.now.locations)) self.now.exits }
         ensures within { IfSome result (λ row. row < length self.now.exits) }
     {
         let parts = self.parts;
-        parts.exits.iter().position(|exits| !self.is_exits(exits))
+        parts
+            .exits
+            .iter()
+            .position(|exits| !self.exits_are_valid(exits))
     }
 
-    fn is_exits(&self, exits: &Exits) -> bool
-        ensures value { result ≡ is_exits self.now.words (length self.now.locations) exits.now }
+    fn exits_are_valid(&self, exits: &Exits) -> bool
+        ensures value { result ≡ exits_are_valid self.now.words (length self.now.locations) exits.now }
     {
         exits.rows.len() <= EXIT_LIMIT && self.are_exits(exits.rows.as_slice())
     }
@@ -164,8 +167,8 @@ impl<'a> Inspector<'a> {
         ensures value { result ≡ is_entry self.now entry.now }
     {
         let condacts = &entry.condacts;
-        (is_any(entry.verb) || self.rules.is_verb_value(entry.verb))
-            && (is_any(entry.noun) || self.rules.is_noun(entry.noun))
+        (is_wildcard(entry.verb) || self.rules.is_verb_value(entry.verb))
+            && (is_wildcard(entry.noun) || self.rules.is_noun(entry.noun))
             && condacts.rows.len() <= CONDACT_LIMIT
             && self.are_condacts(condacts.rows.as_slice())
     }

@@ -3,15 +3,15 @@
 ghost use Rattle.std.specs.Prelude.{◌≡◌, ◌||◌, ◌==◌, false};
 ghost use Rattle.std.specs.List.{slice_index_or};
 ghost use Rattle.paw_base.specs.declared.words.TheConstants.{NO_WORD};
-ghost use Rattle.paw_game.specs.Valid.{is_any};
+ghost use Rattle.paw_game.specs.Valid.{is_wildcard};
 ghost use Rattle.paw_game.specs.inner.Values.{Tells};
 
 use crate::parts::Word;
 use paw_base::words::{ANY_WORD, NO_WORD};
 
 /// Whether a word of an entry matches any word of a sentence.
-pub fn is_any(value: u8) -> bool
-    ensures value { result ≡ is_any value }
+pub fn is_wildcard(value: u8) -> bool
+    ensures value { result ≡ is_wildcard value }
 {
     value == ANY_WORD || value == NO_WORD
 }

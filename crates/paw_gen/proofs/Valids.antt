@@ -14,8 +14,8 @@ use Rattle.paw_base.specs.declared.words.TheConstants.{VERB_CLASS, NOUN_CLASS, N
 use Rattle.paw_base.specs.Condacts.{condact_lines, plain_line, line_of, is_plain_code, is_indirect}
 use Rattle.paw_game.specs.declared.parts.Word.{Word}
 use Rattle.paw_game.specs.Game.{GameLists}
-use Rattle.paw_game.specs.Valid.{Valid, is_within, is_word, is_text, words_rise, words_kept, has_word, is_word_or_none, is_verb_value, is_object}
-use Rattle.paw_game.specs.Valid.{is_exits, is_condact, is_table, rows_kept}
+use Rattle.paw_game.specs.Valid.{Valid, is_within, is_word, is_text, words_rise, words_are_valid, has_word, is_word_or_none, is_verb_value, is_object}
+use Rattle.paw_game.specs.Valid.{exits_are_valid, is_condact, is_table, rows_are_valid}
 use Rattle.paw_gen.specs.Trial.{rows, named_words, object_word, object_count, location_count, trial_object, trial_object_text, trial_location_text}
 use Rattle.paw_gen.specs.Trial.{ring_exits, condact_with, trial_game}
 use Rattle.paw_gen.specs.declared.vocabulary.TheConstants.{NORTH_WORD, SOUTH_WORD}
@@ -46,7 +46,7 @@ all_before xs ys h = (and_parts (list_all is_word xs) (list_all is_word ys) (sym
 pub each_word : (n : ℕ) → list_all is_word (words_of n) ≡ true
 each_word n = all_before (words_of n) (drop (object_count n) (rows 109 object_word)) (ap (list_all is_word) (all_of_them n) ∙ all_words)
 
-words_fine : (n : ℕ) → words_kept (words_of n) ≡ true
+words_fine : (n : ℕ) → words_are_valid (words_of n) ≡ true
 words_fine n =
     let few : length (rows (object_count n) object_word) ≡ object_count n = length_rows object_word (object_count n) in
     and_both (le_true (length (words_of n)) WORD_LIMIT (omega (arith, few)))
@@ -68,7 +68,8 @@ object_fine n k low =
     (ap (λ b. b || is_within NOT_CREATED_PLACE CARRIED_PLACE (7 * k % location_count n)) (lt_true (7 * k % location_count n) (location_count n) (omega arith)))
     (le_true (k % 4) WEIGHT_LIMIT (omega arith))))
 
-objects_fine : (n : ℕ) → rows_kept OBJECT_LIMIT (is_object (words_of n) (location_count n)) (rows (object_count n) (trial_object (location_count n))) ≡ true
+objects_fine : (n : ℕ) → rows_are_valid OBJECT_LIMIT (is_object (words_of n) (location_count n)) (rows (object_count n) (trial_object (location_count n)))
+    ≡ true
 objects_fine n =
     and_both (le_true (length (rows (object_count n) (trial_object (location_count n)))) OBJECT_LIMIT
     (omega (arith, length_rows (trial_object (location_count n)) (object_count n))))
@@ -77,7 +78,7 @@ objects_fine n =
 -- ---- locations and exits ----
 
 locations_fine : (n : ℕ) → (nat_le LOCATION_LEAST (length (rows (location_count n) trial_location_text))
-    && rows_kept LOCATION_LIMIT is_text (rows (location_count n) trial_location_text)) ≡ true
+    && rows_are_valid LOCATION_LIMIT is_text (rows (location_count n) trial_location_text)) ≡ true
 locations_fine n =
     let size : length (rows (location_count n) trial_location_text) ≡ location_count n = length_rows trial_location_text (location_count n) in
     and_both (le_true LOCATION_LEAST (length (rows (location_count n) trial_location_text)) (omega (arith, size)))
@@ -90,7 +91,7 @@ north_known n = or_true (has_word (words_of n) VERB_CLASS NORTH_WORD)
 south_known : (n : ℕ) → is_verb_value (words_of n) SOUTH_WORD ≡ true
 south_known n = or_true (has_word (words_of n) VERB_CLASS SOUTH_WORD)
 
-exits_of_one : (n k : ℕ) → is_exits (words_of n) (location_count n) (ring_exits (location_count n) k) ≡ true
+exits_of_one : (n k : ℕ) → exits_are_valid (words_of n) (location_count n) (ring_exits (location_count n) k) ≡ true
 exits_of_one n k =
     let north : nat_lt ((k + 1) % location_count n) (location_count n) ≡ true = lt_true ((k + 1) % location_count n) (location_count n) (omega arith) in
     let south : nat_lt ((k + location_count n - 1) % location_count n) (location_count n) ≡ true =
@@ -101,13 +102,13 @@ exits_of_one n k =
 abbrev AreExits : ℕ → ℕ → Type 0
 AreExits n locations =
     ((length (rows (location_count n) (ring_exits (location_count n))) == locations)
-    && list_all (is_exits (words_of n) locations) (rows (location_count n) (ring_exits (location_count n)))) ≡ true
+    && list_all (exits_are_valid (words_of n) locations) (rows (location_count n) (ring_exits (location_count n)))) ≡ true
 
 exits_fine : (n : ℕ) → AreExits n (location_count n)
 exits_fine n =
     and_both (eq_true (length (rows (location_count n) (ring_exits (location_count n)))) (location_count n)
     (length_rows (ring_exits (location_count n)) (location_count n)))
-    (all_rows (is_exits (words_of n) (location_count n)) (ring_exits (location_count n)) (location_count n) (λ k low. exits_of_one n k))
+    (all_rows (exits_are_valid (words_of n) (location_count n)) (ring_exits (location_count n)) (location_count n) (λ k low. exits_of_one n k))
 
 -- ---- tables ----
 
@@ -137,7 +138,7 @@ trial_valid n =
       words = words_fine n;
       system = system_texts;
       messages = refl;
-      objects = subst (λ m. rows_kept OBJECT_LIMIT (is_object (words_of n) m) (rows (object_count n) (trial_object (location_count n))) ≡ true)
+      objects = subst (λ m. rows_are_valid OBJECT_LIMIT (is_object (words_of n) m) (rows (object_count n) (trial_object (location_count n))) ≡ true)
           (sym size) (objects_fine n);
       locations = locations_fine n;
       exits = subst (AreExits n) (sym size) (exits_fine n);

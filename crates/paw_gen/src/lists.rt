@@ -5,7 +5,7 @@ ghost use Rattle.paw_base.specs.declared.limits.TheConstants.{LOCATION_LIMIT};
 ghost use Rattle.paw_gen.specs.Trial.{named_words, object_facts, object_letters, trial_object};
 ghost use Rattle.paw_gen.specs.Trial.{object_word, ring_exits, rows};
 
-use crate::texts::numbered;
+use crate::texts::numbered_text;
 use crate::vocabulary::{
     ALL_WORD, AND_WORD, DROP_WORD, GET_WORD, INVEN_WORD, LOOK_WORD, NORTH_WORD, SOUTH_WORD,
 };
@@ -93,7 +93,7 @@ pub(crate) fn objects(alloc: Global, locations: u16, objects: u16) -> Result<Vec
     let mut all = Vec::new(alloc);
     for number in 0..objects {
         all.push(ObjectRow {
-            text: numbered(alloc, b"thing ", number, b"")?,
+            text: numbered_text(alloc, b"thing ", number, b"")?,
             facts: object_facts(locations, number),
         })?;
     }

@@ -9,7 +9,7 @@ use paw_game::parts::Text;
 use std::alloc::Global;
 
 /// A number between two texts.
-pub(crate) fn numbered(
+pub(crate) fn numbered_text(
     alloc: Global,
     before: &[u8],
     number: u16,
@@ -35,7 +35,7 @@ pub(crate) fn numbered_texts(
 {
     let mut texts = Vec::new(alloc);
     for number in 0..count {
-        texts.push(numbered(alloc, before, number, after)?)?;
+        texts.push(numbered_text(alloc, before, number, after)?)?;
     }
     Ok(texts)
 }

@@ -10,12 +10,12 @@ use Rattle.std.proofs.lemmas.Slice.Eq.{bytes_eq-Decides}
 use Rattle.std.proofs.lemmas.Map.Text.{is_eq-slice_cmp}
 use Rattle.paw_game.specs.declared.parts.Word.{Word}
 use Rattle.paw_game.specs.Tables.{word_of}
-use Rattle.paw_grammar.specs.declared.vocabulary.Meaning.{Meaning}
+use Rattle.paw_grammar.specs.declared.vocabulary.WordMeaning.{WordMeaning}
 use Rattle.paw_grammar.specs.inner.WordMap.{word_from, words_in}
 use Rattle.paw_grammar.specs.Vocabulary.{words_with}
 
 abbrev Entry : Type 0
-Entry = List ℕ × Meaning
+Entry = List ℕ × WordMeaning
 
 bytes_eq-sym : (a b : List ℕ) → bytes_eq a b ≡ bytes_eq b a
 bytes_eq-sym a b =
@@ -48,7 +48,7 @@ pub put_in : (es : List Entry) (w : Word) → word_of w.letters (words_in es) �
 unfolding words_with
 put_in [] w none = refl
 put_in (e ∷ es) w none =
-    let m : Meaning = record { value = w.value; class = w.class } in
+    let m : WordMeaning = record { value = w.value; class = w.class } in
     let two = none_here (bytes_eq e.0 w.letters) (word_from e) (word_of w.letters (words_in es)) none in
     elim (slice_cmp nat_cmp w.letters e.0) as (λ o. slice_cmp nat_cmp w.letters e.0 ≡ o
     → words_in (match_ordering o ((w.letters, m) ∷ e ∷ es) ((e.0, m) ∷ es)

@@ -14,8 +14,8 @@ use Rattle.paw_base.specs.declared.limits.TheConstants.{FLAG_COUNT}
 use Rattle.paw_base.specs.declared.words.TheConstants.{ADVERB_CLASS, NOUN_CLASS, ADJECTIVE_CLASS, PREPOSITION_CLASS}
 use Rattle.paw_game.specs.declared.parts.Word.{Word}
 use Rattle.paw_grammar.specs.declared.bounds.Bounds.{Bounds}
-use Rattle.paw_faults.specs.declared.unread.Unread.{Unread}
-use Rattle.paw_faults.specs.declared.unread.Unread.TheVariants as unread
+use Rattle.paw_faults.specs.declared.read_error.ReadError.{ReadError}
+use Rattle.paw_faults.specs.declared.read_error.ReadError.TheVariants as unread
 use Rattle.paw_faults.specs.inner.Gives.{Fails}
 use Rattle.paw_faults.specs.Bind.{◌>>=◌}
 use Rattle.paw_grammar.specs.Tokens.{read_by, at_is_next}
@@ -142,7 +142,7 @@ unfolding condacts_in
 one_fault bounds ws cs name ts k e = rw e refl
 
 pub fails_here : (bounds : Bounds) (ws : List Word) (cs : List Condact) (name : List ℕ) (ts old : List (List ℕ))
-    (whole : Result (List Condact) SourceKind) (e : Unread SourceKind) → old ≡ name ∷ ts
+    (whole : Result (List Condact) SourceKind) (e : ReadError SourceKind) → old ≡ name ∷ ts
     → with_more_condacts cs (condacts_in bounds ws 0 old) ≡ whole → Fails e (condact bounds ws name ts) → Fails e whole
 fails_here bounds ws cs name ts old whole unread.Memory next invariant fails = tt
 fails_here bounds ws cs name ts old whole (unread.Fault k) next invariant fails =

@@ -19,7 +19,7 @@ use Rattle.paw_grammar.specs.declared.bounds.Bounds.{Bounds}
 use Rattle.paw_faults.specs.Bind.{◌>>=◌}
 use Rattle.paw_grammar.specs.Tokens.{Reads, read_by, at_most, at_is_next}
 use Rattle.paw_grammar.specs.Numbers.{number, in_range, number_below}
-use Rattle.paw_grammar.specs.Vocabulary.{place_among, word_or_none}
+use Rattle.paw_grammar.specs.Vocabulary.{index_among, word_or_none}
 
 -- ---- places ----
 
@@ -36,11 +36,11 @@ place_up_to last named locations ts =
 
 -- The place where an object begins.
 abbrev pub first_place : ℕ → Reads ℕ
-first_place locations ts = place_up_to CARRIED_PLACE (place_among place_names) locations ts
+first_place locations ts = place_up_to CARRIED_PLACE (index_among place_names) locations ts
 
 -- A place that is a parameter.
 abbrev pub any_place : ℕ → Reads ℕ
-any_place locations ts = place_up_to HERE_PLACE (place_among (place_names ++ codes "HERE" ∷ [])) locations ts
+any_place locations ts = place_up_to HERE_PLACE (index_among (place_names ++ codes "HERE" ∷ [])) locations ts
 
 -- ---- parameters ----
 

@@ -48,8 +48,8 @@ tokens_added p d slash blank (t ∷ ts) =
 
 -- What is spelled after one line more, or the line's first fault; a forbidden byte counts before all others. A comment
 -- spells nothing.
-unfoldable pub step : ℕ → Spelt → Line → Result Spelt SourceKind
-step p d l =
+unfoldable pub after_line : ℕ → Spelt → Line → Result Spelt SourceKind
+after_line p d l =
     if is_comment l then Ok d
     else if has_forbidden_byte (is_text_line d l) l then Err kind.Text
     else if is_text_line d l then text_added d l
@@ -80,7 +80,7 @@ whole n d =
 -- The game that a source spells, by what its first n lines spell and the lines after them.
 unfoldable pub spelled_after : ℕ → ℕ → Spelt → Lines → Result GameLists SourceFault
 spelled_after p n d [] = whole n d
-spelled_after p n d (l ∷ ls) = at_line (suc n) (step p d l) (λ e. spelled_after p (suc n) e ls)
+spelled_after p n d (l ∷ ls) = at_line (suc n) (after_line p d l) (λ e. spelled_after p (suc n) e ls)
 
 -- The game that a source spells, or the line and the kind of its first fault. Parameters may name as many tables as
 -- there are lines that begin one.

@@ -43,12 +43,12 @@ class_names =
     ∷ codes "PRONOUN" ∷ []
 
 -- The index of the name that a token is, in any case of letters, if it is one of them.
-abbrev pub place_among : Names → Token → Option ℕ
-place_among names t = position (is_named t) names
+abbrev pub index_among : Names → Token → Option ℕ
+index_among names t = position (is_named t) names
 
 -- The class of words that a token names, by its number.
 abbrev pub class : Reads ℕ
-class ts = read_by kind.Word (place_among class_names) ts
+class ts = read_by kind.Word (index_among class_names) ts
 
 -- The two facts that a kind gives of an object: whether it is a container, and whether it may be worn.
 abbrev pub kind_named : Token → Option (Bool × Bool)

@@ -14,7 +14,7 @@ ghost use Rattle.paw_grammar.specs.Tokens.{at_is_next};
 use crate::bounds::Bounds;
 use crate::numbers::{byte_below, number, number_below};
 use crate::places::place;
-use crate::refusal::ReadError;
+use crate::refusal::LineError;
 use crate::tokens::{Tokens, without_first};
 use crate::vocabulary::Vocabulary;
 use paw_base::codes::INDIRECT;
@@ -23,14 +23,14 @@ use paw_base::limits::CONDACT_LIMIT;
 use paw_base::parts::Condact;
 use paw_base::rows::{ParamKind, condact_named, condact_row, may_be_indirect};
 use paw_base::words::{ADJECTIVE_CLASS, ADVERB_CLASS, NOUN_CLASS, PREPOSITION_CLASS};
-use paw_faults::unread::Unread;
+use paw_faults::read_error::ReadError;
 use std::marker::Model;
 
 /// How many values a flag, or a number, may have.
 const BYTES: u16 = 256;
 
 /// Takes the number of a table; 255 stands for one that is above.
-fn table(tokens: &mut Tokens, tables: u32) -> Result<u8, ReadError>
+fn table(tokens: &mut Tokens, tables: u32) -> Result<u8, LineError>
     ensures gives { Gives (λ n. (n, tokens.new)) result (table tables tokens.old) }
 {
     let number = number_below(tokens, tables)?;
@@ -38,17 +38,17 @@ fn table(tokens: &mut Tokens, tables: u32) -> Result<u8, ReadError>
 }
 
 /// Takes a token that begins with `@`: the flag whose number follows.
-fn flag_behind_at(tokens: &mut Tokens) -> Result<u8, ReadError>
+fn flag_behind_at(tokens: &mut Tokens) -> Result<u8, LineError>
     ensures gives { Gives (λ n. (n, tokens.new)) result (flag_behind_at tokens.old) }
 {
     let token = tokens.token()?;
     match number(without_first(token)) {
-        None => Err(Unread::Fault(SourceKind::Number)),
+        None => Err(ReadError::Fault(SourceKind::Number)),
         Some(number) => {
             if number < u32::from(BYTES) {
                 Ok(number as u8)
             } else {
-                Err(Unread::Fault(SourceKind::Range))
+                Err(ReadError::Fault(SourceKind::Range))
             }
         }
     }
@@ -100,7 +100,7 @@ impl<'a> Model for Scope<'a> {
 
 impl<'a> Scope<'a> {
     /// Takes a parameter of this kind.
-    fn parameter(&self, kind: ParamKind, tokens: &mut Tokens) -> Result<u8, ReadError>
+    fn parameter(&self, kind: ParamKind, tokens: &mut Tokens) -> Result<u8, LineError>
         ensures gives { Gives (λ n. (n, tokens.new)) result (parameter self.now.bounds self.now.words kind tokens.old) }
     {
         match kind {
@@ -126,7 +126,7 @@ impl<'a> Scope<'a> {
         indirect: bool,
         kind: ParamKind,
         tokens: &mut Tokens,
-    ) -> Result<u8, ReadError>
+    ) -> Result<u8, LineError>
         ensures gives { Gives (λ n. (n, tokens.new)) result
             (first_parameter self.now.bounds self.now.words indirect kind tokens.old) }
     {
@@ -139,15 +139,15 @@ impl<'a> Scope<'a> {
 
     /// Takes the parameters of the condact with this name.
     #[tactic(auto, unfolding(crate::specs::Condacts::condact))]
-    fn condact(&self, name: &[u8], tokens: &mut Tokens) -> Result<Condact, ReadError>
+    fn condact(&self, name: &[u8], tokens: &mut Tokens) -> Result<Condact, LineError>
         ensures gives { Gives (λ c. (c, tokens.new)) result
             (condact self.now.bounds self.now.words name.now tokens.old) }
     {
         let Some(plain) = condact_named(name) else {
-            return Err(Unread::Fault(SourceKind::Condact));
+            return Err(ReadError::Fault(SourceKind::Condact));
         };
         let Some(row) = condact_row(plain) else {
-            return Err(Unread::Fault(SourceKind::Condact));
+            return Err(ReadError::Fault(SourceKind::Condact));
         };
         let indirect = is_indirect(plain, tokens);
         let code = code_of(indirect, plain);
@@ -157,7 +157,7 @@ impl<'a> Scope<'a> {
     }
 
     /// Takes all condacts up to the end of the line, and adds them.
-    fn add_condacts(&self, tokens: &mut Tokens, rows: &mut Vec<Condact>) -> Result<(), ReadError>
+    fn add_condacts(&self, tokens: &mut Tokens, rows: &mut Vec<Condact>) -> Result<(), LineError>
         ensures gives { Gives (λ _. rows.new.items) result
             (with_more_condacts rows.old.items (condacts_in self.now.bounds self.now.words 0 tokens.old)) }
     {
@@ -182,13 +182,13 @@ impl<'a> Scope<'a> {
         &self,
         tokens: &mut Tokens,
         rows: &mut Vec<Condact>,
-    ) -> Result<(), ReadError>
+    ) -> Result<(), LineError>
         ensures gives { Gives (λ _. rows.new.items) result
             (more_condacts self.now.bounds self.now.words rows.old.items tokens.old) }
     {
         self.add_condacts(tokens, rows)?;
         if rows.len() > CONDACT_LIMIT {
-            return Err(Unread::Fault(SourceKind::TooBig));
+            return Err(ReadError::Fault(SourceKind::TooBig));
         }
         Ok(())
     }

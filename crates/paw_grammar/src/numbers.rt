@@ -3,16 +3,16 @@
 ghost use Rattle.std.specs.Prelude.{◌≡◌, ◌<◌, ◌≤◌, OnOk};
 ghost use Rattle.paw_faults.specs.inner.Gives.{Gives};
 ghost use Rattle.paw_grammar.specs.Numbers.{number, number_within, number_below, row_number};
-ghost use Rattle.paw_grammar.specs.inner.Numbers.{capped, capped_number};
+ghost use Rattle.paw_grammar.specs.inner.Numbers.{capped_value, capped_number};
 
-use crate::refusal::ReadError;
+use crate::refusal::LineError;
 use crate::tokens::Tokens;
 use paw_base::fault::SourceKind;
-use paw_faults::unread::Unread;
+use paw_faults::read_error::ReadError;
 
 /// The number that a token of decimal digits is, or 4,294,967,295 where it is above that; None for any other token.
 pub fn number(token: &[u8]) -> Option<u32>
-    ensures value { result ≡ capped (number token.now) }
+    ensures value { result ≡ capped_value (number token.now) }
 {
     if token.is_empty() {
         return None;
@@ -30,12 +30,12 @@ pub fn number(token: &[u8]) -> Option<u32>
 }
 
 /// Takes a number, or 4,294,967,295 for one that is above that.
-fn next_number(tokens: &mut Tokens) -> Result<u32, ReadError>
+fn next_number(tokens: &mut Tokens) -> Result<u32, LineError>
     ensures gives { Gives (λ n. (n, tokens.new)) result (capped_number tokens.old) }
 {
     let token = tokens.token()?;
     match number(token) {
-        None => Err(Unread::Fault(SourceKind::Number)),
+        None => Err(ReadError::Fault(SourceKind::Number)),
         Some(number) => Ok(number),
     }
 }
@@ -45,14 +45,14 @@ fn next_number(tokens: &mut Tokens) -> Result<u32, ReadError>
 /// # Errors
 /// Missing, Number or Range, in this order, exactly where the line ends, the token isn't a number, or it is another
 /// number.
-pub fn number_within(tokens: &mut Tokens, low: u8, high: u8) -> Result<u8, ReadError>
+pub fn number_within(tokens: &mut Tokens, low: u8, high: u8) -> Result<u8, LineError>
     ensures gives { Gives (λ n. (n, tokens.new)) result (number_within low high tokens.old) }
 {
     let number = next_number(tokens)?;
     if u32::from(low) <= number && number <= u32::from(high) {
         Ok(number as u8)
     } else {
-        Err(Unread::Fault(SourceKind::Range))
+        Err(ReadError::Fault(SourceKind::Range))
     }
 }
 
@@ -60,14 +60,14 @@ pub fn number_within(tokens: &mut Tokens, low: u8, high: u8) -> Result<u8, ReadE
 ///
 /// # Errors
 /// As `number_within`.
-pub fn number_below(tokens: &mut Tokens, limit: u32) -> Result<u32, ReadError>
+pub fn number_below(tokens: &mut Tokens, limit: u32) -> Result<u32, LineError>
     ensures gives { Gives (λ n. (n, tokens.new)) result (number_below limit tokens.old) }
 {
     let number = next_number(tokens)?;
     if number < limit {
         Ok(number)
     } else {
-        Err(Unread::Fault(SourceKind::Range))
+        Err(ReadError::Fault(SourceKind::Range))
     }
 }
 
@@ -75,7 +75,7 @@ pub fn number_below(tokens: &mut Tokens, limit: u32) -> Result<u32, ReadError>
 ///
 /// # Errors
 /// As `number_within`.
-pub fn byte_below(tokens: &mut Tokens, limit: u16) -> Result<u8, ReadError>
+pub fn byte_below(tokens: &mut Tokens, limit: u16) -> Result<u8, LineError>
     requires limit { limit ≤ 256 }
     ensures gives { Gives (λ n. (n, tokens.new)) result (number_below limit tokens.old) }
 {
@@ -87,7 +87,7 @@ pub fn byte_below(tokens: &mut Tokens, limit: u16) -> Result<u8, ReadError>
 ///
 /// # Errors
 /// As `number_within`; a number other than the row's own is Range, and so is any where all rows were there before.
-pub fn row_number(tokens: &mut Tokens, number: u16, count: u16) -> Result<(), ReadError>
+pub fn row_number(tokens: &mut Tokens, number: u16, count: u16) -> Result<(), LineError>
     ensures value { Gives (λ _. (number, tokens.new)) result (row_number number count tokens.old) }
     ensures room { OnOk result (number < count) }
 {
@@ -95,6 +95,6 @@ pub fn row_number(tokens: &mut Tokens, number: u16, count: u16) -> Result<(), Re
     if found == u32::from(number) && number < count {
         Ok(())
     } else {
-        Err(Unread::Fault(SourceKind::Range))
+        Err(ReadError::Fault(SourceKind::Range))
     }
 }

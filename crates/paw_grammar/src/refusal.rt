@@ -1,7 +1,7 @@
 // Why a line isn't read.
 
 use paw_base::fault::SourceKind;
-use paw_faults::unread::Unread;
+use paw_faults::read_error::ReadError;
 
 /// Why a line isn't read: lack of memory, or its first fault.
-pub type ReadError = Unread<SourceKind>;
+pub type LineError = ReadError<SourceKind>;

@@ -4,7 +4,7 @@ use crate::bounds::Bounds;
 use crate::condacts::Scope;
 use crate::numbers::{number_within, row_number};
 use crate::places::first_place;
-use crate::refusal::ReadError;
+use crate::refusal::LineError;
 use crate::tokens::Tokens;
 use crate::vocabulary::Vocabulary;
 use crate::words::{class, object_kind, word};
@@ -12,7 +12,7 @@ use paw_base::codes::{AUTOP, DOALL, EQ, INDIRECT, LET, MES, NOUN2, OK};
 use paw_base::fault::SourceKind;
 use paw_base::parts::Condact;
 use paw_base::words::{ADJECTIVE_CLASS, NOUN_CLASS, VERB_CLASS};
-use paw_faults::unread::Unread;
+use paw_faults::read_error::ReadError;
 use paw_game::parts::Word;
 use paw_lex::Line;
 use std::alloc::Global;
@@ -37,11 +37,11 @@ fn tokens(source: &[u8]) -> Tokens<'_> {
     Tokens::new(source, &line)
 }
 
-fn fault<T>(kind: SourceKind) -> Result<T, ReadError> {
-    Err(Unread::Fault(kind))
+fn fault<T>(kind: SourceKind) -> Result<T, LineError> {
+    Err(ReadError::Fault(kind))
 }
 
-fn declared(alloc: Global) -> Result<Vocabulary, ReadError> {
+fn declared(alloc: Global) -> Result<Vocabulary, LineError> {
     let mut words = Vocabulary::new(alloc);
     for (letters, value, class) in [
         (*b"TAKE ", 30, VERB_CLASS),
@@ -91,7 +91,7 @@ fn tokens_of_rows_are_read(rt: HostRuntime) -> Result<(), Fail> {
     assert_eq!(rt; word(&mut row), Ok(*b"LANTE"));
     assert_eq!(rt; number_within(&mut row, 2, 254), Ok(50));
     assert_eq!(rt; class(&mut row), Ok(2));
-    assert_eq!(rt; row.ended(), Ok(()));
+    assert_eq!(rt; row.end_line(), Ok(()));
 
     let mut object = tokens(b"4\tcarried 2 cw LANTERN _ x");
     assert_eq!(rt; row_number(&mut object, 4, 5), Ok(()));
@@ -100,7 +100,7 @@ fn tokens_of_rows_are_read(rt: HostRuntime) -> Result<(), Fail> {
     assert_eq!(rt; object_kind(&mut object), Ok((true, true)));
     assert_eq!(rt; words.word_or_none(NOUN_CLASS, &mut object), Ok(50));
     assert_eq!(rt; words.word_or_none(ADJECTIVE_CLASS, &mut object), Ok(255));
-    assert_eq!(rt; object.ended(), fault(SourceKind::Extra));
+    assert_eq!(rt; object.end_line(), fault(SourceKind::Extra));
 
     let mut head = tokens(b"N * *");
     assert_eq!(rt; words.entry_verb(&mut head), Ok(2));

@@ -1,15 +1,15 @@
 // The tokens of a line, taken from left to right.
 
 ghost use Rattle.std.specs.Prelude.{◌≡◌, ◌∷◌, [], MatchOption, drop};
-ghost use Rattle.paw_lex.specs.inner.Lines.{bytes_of, LiesIn};
+ghost use Rattle.paw_lex.specs.inner.Lines.{line_bytes, LiesIn};
 ghost use Rattle.paw_lex.specs.Tokens.{tokens_of};
 ghost use Rattle.paw_lex.specs.inner.Tokens.{tokens_from};
 ghost use Rattle.paw_faults.specs.inner.Gives.{Gives};
 ghost use Rattle.paw_grammar.specs.Tokens.{token, ended, is_named, at_is_next, begins_with_at};
 
-use crate::refusal::ReadError;
+use crate::refusal::LineError;
 use paw_base::fault::SourceKind;
-use paw_faults::unread::Unread;
+use paw_faults::read_error::ReadError;
 use paw_lex::{Line, next_token};
 use std::marker::Model;
 
@@ -42,7 +42,7 @@ impl<'a> Tokens<'a> {
     /// All tokens of a line of the source.
     pub fn new(source: &'a [u8], line: &Line) -> Tokens<'a>
         requires span { LiesIn source.now line.now }
-        ensures value { result ≡ tokens_of (bytes_of source.now line.now) }
+        ensures value { result ≡ tokens_of (line_bytes source.now line.now) }
     {
         Tokens {
             source,
@@ -78,11 +78,11 @@ impl<'a> Tokens<'a> {
     ///
     /// # Errors
     /// Missing exactly where none is left.
-    pub fn token(&mut self) -> Result<&'a [u8], ReadError>
+    pub fn token(&mut self) -> Result<&'a [u8], LineError>
         ensures gives { Gives (λ t. (t.now, self.new)) result (token self.old) }
     {
         match self.next() {
-            None => Err(Unread::Fault(SourceKind::Missing)),
+            None => Err(ReadError::Fault(SourceKind::Missing)),
             Some(token) => Ok(token),
         }
     }
@@ -91,12 +91,12 @@ impl<'a> Tokens<'a> {
     ///
     /// # Errors
     /// Extra exactly where a token is left.
-    pub fn ended(&mut self) -> Result<(), ReadError>
+    pub fn end_line(&mut self) -> Result<(), LineError>
         ensures gives { Gives (λ _. tt) result (ended self.old) }
     {
         match self.next() {
             None => Ok(()),
-            Some(_) => Err(Unread::Fault(SourceKind::Extra)),
+            Some(_) => Err(ReadError::Fault(SourceKind::Extra)),
         }
     }
 }

@@ -8,13 +8,13 @@ ghost use Rattle.paw_grammar.specs.Vocabulary.{words_with, declared, known, in_c
 ghost use Rattle.paw_grammar.specs.Vocabulary.{or_any, word_or_none, verb_word, entry_verb, entry_noun};
 ghost use Rattle.paw_grammar.specs.inner.WordMap.{words_in};
 
-use crate::refusal::ReadError;
+use crate::refusal::LineError;
 use crate::tokens::Tokens;
 use crate::words::letters_in;
 use paw_base::fault::{NoRoom, SourceKind};
 use paw_base::limits::{WORD_LENGTH, WORD_LIMIT};
 use paw_base::words::{ANY_WORD, FIRST_PLAIN_NOUN, NO_WORD, NOUN_CLASS, VERB_CLASS};
-use paw_faults::unread::Unread;
+use paw_faults::read_error::ReadError;
 use paw_game::parts::Word;
 use std::alloc::Global;
 use std::collections::BTreeMap;
@@ -22,13 +22,16 @@ use std::marker::Model;
 
 /// What a word means: its value, and its class.
 #[derive(Clone, Copy, Drop, PartialEq, Eq, Debug)]
-struct Meaning {
+struct WordMeaning {
     value: u8,
     class: u8,
 }
 
 /// The declared word with these letters.
-fn find(words: &BTreeMap<[u8; WORD_LENGTH], Meaning>, letters: [u8; WORD_LENGTH]) -> Option<Word>
+fn find(
+    words: &BTreeMap<[u8; WORD_LENGTH], WordMeaning>,
+    letters: [u8; WORD_LENGTH],
+) -> Option<Word>
     ensures value { result ≡ word_of letters (words_in words.now.entries) }
 {
     match words.get(&letters) {
@@ -42,29 +45,32 @@ fn find(words: &BTreeMap<[u8; WORD_LENGTH], Meaning>, letters: [u8; WORD_LENGTH]
 }
 
 /// How many words are declared.
-fn count(words: &BTreeMap<[u8; WORD_LENGTH], Meaning>) -> usize
+fn count(words: &BTreeMap<[u8; WORD_LENGTH], WordMeaning>) -> usize
     ensures value { result ≡ length (words_in words.now.entries) }
 {
     words.len()
 }
 
 /// Puts a word that isn't among the words in its place.
-fn put(words: &mut BTreeMap<[u8; WORD_LENGTH], Meaning>, word: Word) -> Result<(), ReadError>
+fn put(words: &mut BTreeMap<[u8; WORD_LENGTH], WordMeaning>, word: Word) -> Result<(), LineError>
     requires fresh { word_of word.letters (words_in words.old.entries) ≡ None }
     ensures gives { Gives (λ _. words_in words.new.entries) result (Ok (words_with word (words_in words.old.entries))) }
 {
-    let meaning = Meaning {
+    let meaning = WordMeaning {
         value: word.value,
         class: word.class,
     };
     match words.insert(word.letters, meaning) {
         Ok(_) => Ok(()),
-        Err(_) => Err(Unread::Memory),
+        Err(_) => Err(ReadError::Memory),
     }
 }
 
 /// The words in order of their letters.
-fn listed(alloc: Global, words: &BTreeMap<[u8; WORD_LENGTH], Meaning>) -> Result<Vec<Word>, NoRoom>
+fn word_list(
+    alloc: Global,
+    words: &BTreeMap<[u8; WORD_LENGTH], WordMeaning>,
+) -> Result<Vec<Word>, NoRoom>
     ensures value { IfOk result (λ list. list.items ≡ words_in words.now.entries) }
 {
     let mut list = Vec::with_capacity(alloc, words.len())?;
@@ -121,19 +127,19 @@ fn or_any(token: &[u8], value: Option<u8>) -> Option<u8>
 }
 
 /// The value, or Word where there is none.
-fn or_word_fault(value: Option<u8>) -> Result<u8, ReadError>
-    ensures value { result ≡ ok_or value (Unread.Fault SourceKind.Word) }
+fn or_word_fault(value: Option<u8>) -> Result<u8, LineError>
+    ensures value { result ≡ ok_or value (ReadError.Fault SourceKind.Word) }
 {
     match value {
         Some(value) => Ok(value),
-        None => Err(Unread::Fault(SourceKind::Word)),
+        None => Err(ReadError::Fault(SourceKind::Word)),
     }
 }
 
 /// The declared words, no two with the same letters; contracts see them as a list in order of their letters.
 #[derive(Drop)]
 pub struct Vocabulary {
-    words: BTreeMap<[u8; WORD_LENGTH], Meaning>,
+    words: BTreeMap<[u8; WORD_LENGTH], WordMeaning>,
 }
 
 impl Model for Vocabulary {
@@ -161,14 +167,14 @@ impl Vocabulary {
     /// # Errors
     /// Duplicate exactly where its letters are declared, with any class, and otherwise TooBig exactly where there are
     /// 2,000 words. Memory where there is none.
-    pub fn declare(&mut self, word: Word) -> Result<(), ReadError>
+    pub fn declare(&mut self, word: Word) -> Result<(), LineError>
         ensures gives { Gives (λ _. self.new) result (declared word self.old) }
     {
         if find(&self.words, word.letters).is_some() {
-            return Err(Unread::Fault(SourceKind::Duplicate));
+            return Err(ReadError::Fault(SourceKind::Duplicate));
         }
         if count(&self.words) == WORD_LIMIT {
-            return Err(Unread::Fault(SourceKind::TooBig));
+            return Err(ReadError::Fault(SourceKind::TooBig));
         }
         put(&mut self.words, word)
     }
@@ -180,11 +186,11 @@ impl Vocabulary {
     pub fn into_words(self, alloc: Global) -> Result<Vec<Word>, NoRoom>
         ensures value { IfOk result (λ list. list.items ≡ self) }
     {
-        listed(alloc, &self.words)
+        word_list(alloc, &self.words)
     }
 
     /// The declared word that a token spells.
-    fn known(&self, token: &[u8]) -> Option<Word>
+    fn find_word(&self, token: &[u8]) -> Option<Word>
         ensures value { result ≡ known self.now token.now }
     {
         let letters = letters_in(token)?;
@@ -195,21 +201,21 @@ impl Vocabulary {
     fn word_value(&self, class: u8, token: &[u8]) -> Option<u8>
         ensures value { result ≡ in_class class (known self.now token.now) }
     {
-        in_class(class, self.known(token))
+        in_class(class, self.find_word(token))
     }
 
     /// The verb value of the word that a token spells.
     fn verb_value(&self, token: &[u8]) -> Option<u8>
         ensures value { result ≡ as_verb (known self.now token.now) }
     {
-        as_verb(self.known(token))
+        as_verb(self.find_word(token))
     }
 
     /// Takes an object's word, or one that is a parameter: 255 for `_`, otherwise the value of the word of this class.
     ///
     /// # Errors
     /// Missing exactly where the line ends, and Word exactly where the token is no such word.
-    pub fn word_or_none(&self, class: u8, tokens: &mut Tokens) -> Result<u8, ReadError>
+    pub fn word_or_none(&self, class: u8, tokens: &mut Tokens) -> Result<u8, LineError>
         ensures gives { Gives (λ value. (value, tokens.new)) result (word_or_none self.now class tokens.old) }
     {
         let token = tokens.token()?;
@@ -220,7 +226,7 @@ impl Vocabulary {
     ///
     /// # Errors
     /// As `word_or_none`.
-    pub fn verb_word(&self, tokens: &mut Tokens) -> Result<u8, ReadError>
+    pub fn verb_word(&self, tokens: &mut Tokens) -> Result<u8, LineError>
         ensures gives { Gives (λ value. (value, tokens.new)) result (verb_word self.now tokens.old) }
     {
         let token = tokens.token()?;
@@ -231,7 +237,7 @@ impl Vocabulary {
     ///
     /// # Errors
     /// As `word_or_none`.
-    pub fn entry_verb(&self, tokens: &mut Tokens) -> Result<u8, ReadError>
+    pub fn entry_verb(&self, tokens: &mut Tokens) -> Result<u8, LineError>
         ensures gives { Gives (λ value. (value, tokens.new)) result (entry_verb self.now tokens.old) }
     {
         let token = tokens.token()?;
@@ -242,7 +248,7 @@ impl Vocabulary {
     ///
     /// # Errors
     /// As `word_or_none`.
-    pub fn entry_noun(&self, tokens: &mut Tokens) -> Result<u8, ReadError>
+    pub fn entry_noun(&self, tokens: &mut Tokens) -> Result<u8, LineError>
         ensures gives { Gives (λ value. (value, tokens.new)) result (entry_noun self.now tokens.old) }
     {
         let token = tokens.token()?;

@@ -6,13 +6,13 @@ ghost use Rattle.std.specs.Char.{is_ascii_alphanumeric};
 ghost use Rattle.paw_faults.specs.inner.Gives.{Gives};
 ghost use Rattle.paw_grammar.specs.Tokens.{is_named};
 ghost use Rattle.paw_grammar.specs.Vocabulary.{is_word_token, letters_of, letters_in, word, class_names};
-ghost use Rattle.paw_grammar.specs.Vocabulary.{place_among, class, kind_named, object_kind};
+ghost use Rattle.paw_grammar.specs.Vocabulary.{index_among, class, kind_named, object_kind};
 
-use crate::refusal::ReadError;
+use crate::refusal::LineError;
 use crate::tokens::{Tokens, is_named};
 use paw_base::fault::SourceKind;
 use paw_base::limits::WORD_LENGTH;
-use paw_faults::unread::Unread;
+use paw_faults::read_error::ReadError;
 
 /// The names of the classes of words, by class; conjunctions and pronouns are the last.
 static CLASS_NAMES: [&[u8]; 7] = [
@@ -63,18 +63,18 @@ pub(crate) fn letters_in(token: &[u8]) -> Option<[u8; WORD_LENGTH]>
 ///
 /// # Errors
 /// Missing exactly where the line ends, and Word exactly where the token has another byte.
-pub fn word(tokens: &mut Tokens) -> Result<[u8; WORD_LENGTH], ReadError>
+pub fn word(tokens: &mut Tokens) -> Result<[u8; WORD_LENGTH], LineError>
     ensures gives { Gives (λ letters. (letters, tokens.new)) result (word tokens.old) }
 {
     let token = tokens.token()?;
     match letters_in(token) {
-        None => Err(Unread::Fault(SourceKind::Word)),
+        None => Err(ReadError::Fault(SourceKind::Word)),
         Some(letters) => Ok(letters),
     }
 }
 
 /// The place of the name that a token is, in any case of letters.
-pub(crate) fn place_among(names: &[&[u8]], token: &[u8]) -> Option<usize>
+pub(crate) fn index_among(names: &[&[u8]], token: &[u8]) -> Option<usize>
     ensures value { result ≡ position (λ name. is_named token.now name.now) names.now }
 {
     names.iter().position(|name| is_named(token, name))
@@ -82,9 +82,9 @@ pub(crate) fn place_among(names: &[&[u8]], token: &[u8]) -> Option<usize>
 
 /// The class that a token names, in any case of letters.
 fn class_named(token: &[u8]) -> Option<u8>
-    ensures value { result ≡ place_among class_names token.now }
+    ensures value { result ≡ index_among class_names token.now }
 {
-    let class = place_among(&CLASS_NAMES, token)?;
+    let class = index_among(&CLASS_NAMES, token)?;
     Some(class as u8)
 }
 
@@ -93,12 +93,12 @@ fn class_named(token: &[u8]) -> Option<u8>
 ///
 /// # Errors
 /// Missing exactly where the line ends, and Word exactly where the token isn't one of these names.
-pub fn class(tokens: &mut Tokens) -> Result<u8, ReadError>
+pub fn class(tokens: &mut Tokens) -> Result<u8, LineError>
     ensures gives { Gives (λ class. (class, tokens.new)) result (class tokens.old) }
 {
     let token = tokens.token()?;
     match class_named(token) {
-        None => Err(Unread::Fault(SourceKind::Word)),
+        None => Err(ReadError::Fault(SourceKind::Word)),
         Some(class) => Ok(class),
     }
 }
@@ -124,12 +124,12 @@ fn kind_named(token: &[u8]) -> Option<(bool, bool)>
 ///
 /// # Errors
 /// Missing exactly where the line ends, and Word exactly where the token isn't one of these.
-pub fn object_kind(tokens: &mut Tokens) -> Result<(bool, bool), ReadError>
+pub fn object_kind(tokens: &mut Tokens) -> Result<(bool, bool), LineError>
     ensures gives { Gives (λ kind. (kind, tokens.new)) result (object_kind tokens.old) }
 {
     let token = tokens.token()?;
     match kind_named(token) {
-        None => Err(Unread::Fault(SourceKind::Word)),
+        None => Err(ReadError::Fault(SourceKind::Word)),
         Some(kind) => Ok(kind),
     }
 }

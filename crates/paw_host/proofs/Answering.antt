@@ -9,50 +9,54 @@ use Rattle.paw_reading.specs.Turn.{Ending, WaitsAt, Halted, Unended, reading}
 use Rattle.paw_stage.specs.Stage.{Standing}
 use Rattle.paw_stage.specs.Moments.{Moment}
 use Rattle.paw_journal.specs.Session.{IsUnmade, recover}
-use Rattle.paw_journal.specs.inner.Store.{IsBeside}
+use Rattle.paw_journal.specs.inner.Store.{ChangesStoreOnly}
 use Rattle.paw_play.specs.Stands.{Stands}
-use Rattle.paw_host.specs.Replies.{Session, Absent, At, Refused, Answer, gone_on, begun, begun_with, taken, answer, is_over}
+use Rattle.paw_host.specs.Replies.{NamedSession, Absent, At, Refused, Answer, gone_on, begun_answer, begun_with_text, answer_taking, answer, is_over}
 use Rattle.paw_host.specs.Promise.{Stores, LeftOfMaking}
 use Rattle.paw_host.specs.inner.Answers.{Answers, InFile, LeftOf, LeftOfBeginning, StoresEither}
 
 -- ---- sessions that are begun ----
 
-answer_absent : (g : Story) (seed : ℕ) (text : Option (List ℕ)) → answer g seed Absent text ≡ begun_with g text (begun g seed).body (begun g seed).session
+answer_absent : (g : Story) (seed : ℕ) (text : Option (List ℕ)) → answer g seed Absent text
+    ≡ begun_with_text g text (begun_answer g seed).body (begun_answer g seed).session
 unfolding answer
 answer_absent g seed text = refl
 
-with_absent : (g : Story) (text : Option (List ℕ)) (body : List ℕ) (s : Session) → s ≡ Absent → begun_with g text body s ≡ record { body = body; session = s }
+with_absent : (g : Story) (text : Option (List ℕ)) (body : List ℕ) (s : NamedSession) → s ≡ Absent → begun_with_text g text body s
+    ≡ record { body = body; session = s }
 with_absent g None body s e = refl
 with_absent g (Some text) body Absent e = refl
 with_absent g (Some text) body (At seed es) e = cc
 with_absent g (Some text) body (Refused bytes) e = refl
 
 -- the game isn't begun
-pub not_begun : (g : Story) (seed : ℕ) (text : Option (List ℕ)) (before after bytes : List ℕ) → (begun g seed).session ≡ Absent →
-    after ≡ before ++ (begun g seed).body → bytes ≡ [] → Answers g (answer g seed Absent text) before after bytes
+pub not_begun : (g : Story) (seed : ℕ) (text : Option (List ℕ)) (before after bytes : List ℕ) → (begun_answer g seed).session ≡ Absent →
+    after ≡ before ++ (begun_answer g seed).body → bytes ≡ [] → Answers g (answer g seed Absent text) before after bytes
 not_begun g seed text before after bytes none grown empty =
-    rw (answer_absent g seed text, with_absent g text (begun g seed).body (begun g seed).session none) (record {
+    rw (answer_absent g seed text, with_absent g text (begun_answer g seed).body (begun_answer g seed).session none) (record {
       body = grown;
       stores = subst (λ s. Stores g s bytes) (sym none) empty;
     })
 
 -- it is, and no text is taken
-pub just_begun : (g : Story) (seed : ℕ) (before after bytes : List ℕ) → (begun g seed).session ≡ At seed [] →
-    after ≡ before ++ (begun g seed).body → Stands g seed [] bytes → Answers g (answer g seed Absent None) before after bytes
+pub just_begun : (g : Story) (seed : ℕ) (before after bytes : List ℕ) → (begun_answer g seed).session ≡ At seed [] →
+    after ≡ before ++ (begun_answer g seed).body → Stands g seed [] bytes → Answers g (answer g seed Absent None) before after bytes
 just_begun g seed before after bytes at grown stands = rw (answer_absent g seed None) (record {
   body = grown;
   stores = subst (λ s. Stores g s bytes) (sym at) stands;
 })
 
-begun_takes : (g : Story) (seed : ℕ) (text : List ℕ) → (begun g seed).session ≡ At seed [] →
-    answer g seed Absent (Some text) ≡ record { body = (begun g seed).body ++ (taken g seed [] text).body; session = (taken g seed [] text).session }
-begun_takes g seed text at = answer_absent g seed (Some text) ∙ ap (begun_with g (Some text) (begun g seed).body) at
+begun_takes : (g : Story) (seed : ℕ) (text : List ℕ) → (begun_answer g seed).session ≡ At seed [] →
+    answer g seed Absent (Some text)
+    ≡ record { body = (begun_answer g seed).body ++ (answer_taking g seed [] text).body; session = (answer_taking g seed [] text).session }
+begun_takes g seed text at = answer_absent g seed (Some text) ∙ ap (begun_with_text g (Some text) (begun_answer g seed).body) at
 
 -- it is, and takes a text
-pub begun_then : (g : Story) (seed : ℕ) (text before mid after bytes : List ℕ) → (begun g seed).session ≡ At seed [] →
-    mid ≡ before ++ (begun g seed).body → Answers g (taken g seed [] text) mid after bytes → Answers g (answer g seed Absent (Some text)) before after bytes
+pub begun_then : (g : Story) (seed : ℕ) (text before mid after bytes : List ℕ) → (begun_answer g seed).session ≡ At seed [] →
+    mid ≡ before ++ (begun_answer g seed).body → Answers g (answer_taking g seed [] text) mid after bytes →
+    Answers g (answer g seed Absent (Some text)) before after bytes
 begun_then g seed text before mid after bytes at grown a = rw (begun_takes g seed text at) (record {
-  body = a.body ∙ ap (λ x. x ++ (taken g seed [] text).body) grown ∙ append_assoc before (begun g seed).body (taken g seed [] text).body;
+  body = a.body ∙ ap (λ x. x ++ (answer_taking g seed [] text).body) grown ∙ append_assoc before (begun_answer g seed).body (answer_taking g seed [] text).body;
   stores = a.stores;
 })
 
@@ -73,17 +77,17 @@ taken_by seed es text e false true = (es, refl)
 taken_by seed es text e false false = gone_at seed es (es ++ text ∷ []) e
 
 -- a text leaves a session
-taken_at : (g : Story) (seed : ℕ) (es : List (List ℕ)) (text : List ℕ) → (o : List (List ℕ)) × ((taken g seed es text).session ≡ At seed o)
+taken_at : (g : Story) (seed : ℕ) (es : List (List ℕ)) (text : List ℕ) → (o : List (List ℕ)) × ((answer_taking g seed es text).session ≡ At seed o)
 taken_at g seed es text =
     taken_by seed es text (reading g seed (es ++ text ∷ [])) (is_over (reading g seed es)) (nat_le EVENT_LIMIT (length es))
 
-answer_at : (g : Story) (seed : ℕ) (text : Option (List ℕ)) → (begun g seed).session ≡ At seed [] →
+answer_at : (g : Story) (seed : ℕ) (text : Option (List ℕ)) → (begun_answer g seed).session ≡ At seed [] →
     (o : List (List ℕ)) × ((answer g seed Absent text).session ≡ At seed o)
 answer_at g seed None at = ([], ap (λ (a : Answer). a.session) (answer_absent g seed None) ∙ at)
 answer_at g seed (Some text) at =
     let t = taken_at g seed [] text in (t.0, ap (λ (a : Answer). a.session) (begun_takes g seed text at) ∙ t.1)
 
-making_by : (g : Story) (seed : ℕ) (s : Session) (o : List (List ℕ)) (bytes : List ℕ) → s ≡ At seed o → IsUnmade (recover bytes) ⊎ Stands g seed [] bytes →
+making_by : (g : Story) (seed : ℕ) (s : NamedSession) (o : List (List ℕ)) (bytes : List ℕ) → s ≡ At seed o → IsUnmade (recover bytes) ⊎ Stands g seed [] bytes →
     LeftOfMaking g seed Absent s bytes
 making_by g seed s o bytes e h = subst (λ x. LeftOfMaking g seed Absent x bytes) (sym e) h
 
@@ -102,7 +106,7 @@ in_new_begun g seed text old m i = record {
 }
 
 -- what holds from a store beside which nothing has changed holds from before
-pub in_file_from : (Left : List ℕ → Type 0) (old mid : Standing) (m : Moment) → IsBeside old mid → InFile Left mid m → InFile Left old m
+pub in_file_from : (Left : List ℕ → Type 0) (old mid : Standing) (m : Moment) → ChangesStoreOnly old mid → InFile Left mid m → InFile Left old m
 in_file_from Left old mid m b i = record {
   asked = i.asked ∙ b.asked;
   shown = i.shown ∙ b.shown;
@@ -112,8 +116,9 @@ in_file_from Left old mid m b i = record {
 }
 
 -- while it takes a text
-pub in_new_taking : (g : Story) (seed : ℕ) (text : List ℕ) (old mid : Standing) (m : Moment) → (begun g seed).session ≡ At seed [] → IsBeside old mid →
-    InFile (StoresEither g (At seed []) (taken g seed [] text).session) mid m →
+pub in_new_taking : (g : Story) (seed : ℕ) (text : List ℕ) (old mid : Standing) (m : Moment) → (begun_answer g seed).session ≡ At seed [] →
+    ChangesStoreOnly old mid →
+    InFile (StoresEither g (At seed []) (answer_taking g seed [] text).session) mid m →
     InFile (LeftOf g seed Absent (answer g seed Absent (Some text)).session) old m
 in_new_taking g seed text old mid m at b i = in_file_from (LeftOf g seed Absent (answer g seed Absent (Some text)).session) old mid m b (record {
   asked = i.asked;

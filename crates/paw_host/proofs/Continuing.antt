@@ -9,7 +9,8 @@ use Rattle.paw_reading.specs.declared.places.Halt.TheVariants as halt
 use Rattle.paw_reading.specs.Turn.{Ending, WaitsAt, Halted, Unended, reading}
 use Rattle.paw_play.specs.Stands.{IsPlayedWith}
 use Rattle.paw_host.specs.Names.{Request, is_name}
-use Rattle.paw_host.specs.Replies.{Session, Absent, At, Refused, Sessions, gone_on, begun, begun_with, taken, answer, is_over, sessions_with}
+use Rattle.paw_host.specs.Replies.{NamedSession, Absent, At, Refused, Sessions, gone_on, begun_answer, begun_with_text, answer_taking, answer, is_over}
+use Rattle.paw_host.specs.Replies.{sessions_with}
 use Rattle.paw_host.specs.Promise.{MayBe}
 use Rattle.paw_host.specs.inner.Lines.{AllMay}
 use Rattle.paw_host.proofs.Serving.{same_or_not, its_own, not_its_own}
@@ -23,7 +24,7 @@ one_more : (g : Story) (own : ℕ) (es : List (List ℕ)) (text : List ℕ) → 
 one_more g own es text p l =
     record { valid = p.valid; fits = p.fits; lines = All-append IsLine es (text ∷ []) p.lines (All-cons IsLine text [] l (All-nil IsLine)) }
 
-gone_may : (g : Story) (old new : Session) (e : Ending) → MayBe g old → MayBe g new → MayBe g (gone_on old new e).session
+gone_may : (g : Story) (old new : NamedSession) (e : Ending) → MayBe g old → MayBe g new → MayBe g (gone_on old new e).session
 gone_may g old new (WaitsAt p path r) a b = b
 gone_may g old new (Halted halt.Over r) a b = b
 gone_may g old new (Halted (halt.Spent kind) r) a b = a
@@ -37,22 +38,22 @@ taken_may_by g own es text e true full a b = a
 taken_may_by g own es text e false true a b = a
 taken_may_by g own es text e false false a b = gone_may g (At own es) (At own (es ++ text ∷ [])) e a b
 
-taken_may : (g : Story) (own : ℕ) (es : List (List ℕ)) (text : List ℕ) → IsPlayedWith g own es → IsLine text → MayBe g (taken g own es text).session
+taken_may : (g : Story) (own : ℕ) (es : List (List ℕ)) (text : List ℕ) → IsPlayedWith g own es → IsLine text → MayBe g (answer_taking g own es text).session
 taken_may g own es text p l =
     taken_may_by g own es text (reading g own (es ++ text ∷ [])) (is_over (reading g own es)) (nat_le EVENT_LIMIT (length es)) p (one_more g own es text p l)
 
-begun_may : (g : Story) (text : Option (List ℕ)) (body : List ℕ) (s : Session) → MayBe g s → IfLine text → MayBe g (begun_with g text body s).session
+begun_may : (g : Story) (text : Option (List ℕ)) (body : List ℕ) (s : NamedSession) → MayBe g s → IfLine text → MayBe g (begun_with_text g text body s).session
 begun_may g None body s p l = p
 begun_may g (Some text) body Absent p l = tt
 begun_may g (Some text) body (At own es) p l = taken_may g own es text p l
 begun_may g (Some text) body (Refused bytes) p l = tt
 
 -- what a session becomes that may be
-pub answer_may : (g : Story) (seed : ℕ) (before : Session) (text : Option (List ℕ)) → ValidStory g → seed < 2 ^ 64 → IfLine text → MayBe g before →
+pub answer_may : (g : Story) (seed : ℕ) (before : NamedSession) (text : Option (List ℕ)) → ValidStory g → seed < 2 ^ 64 → IfLine text → MayBe g before →
     MayBe g (answer g seed before text).session
 unfolding answer
 answer_may g seed Absent text valid small l p =
-    begun_may g text (begun g seed).body (begun g seed).session
+    begun_may g text (begun_answer g seed).body (begun_answer g seed).session
     (gone_may g Absent (At seed []) (reading g seed []) tt (record { valid = valid; fits = small; lines = All-nil IsLine })) l
 answer_may g seed (At own es) None valid small l p = p
 answer_may g seed (At own es) (Some text) valid small l p = taken_may g own es text p l

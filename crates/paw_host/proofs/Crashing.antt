@@ -9,8 +9,8 @@ use Rattle.paw_stage.specs.Stage.{file_bytes}
 use Rattle.paw_stage.specs.Moments.{Moment}
 use Rattle.paw_journal.specs.Session.{IsUnmade, recover}
 use Rattle.paw_host.specs.Names.{request_of, is_name, store_name}
-use Rattle.paw_host.specs.Replies.{Session, Absent, At, Refused, Sessions, sessions_with, sessions_after}
-use Rattle.paw_host.specs.Promise.{Stores, MayBe, EachLeft, LeftOfMaking, KeepsUp}
+use Rattle.paw_host.specs.Replies.{NamedSession, Absent, At, Refused, Sessions, sessions_with, sessions_after}
+use Rattle.paw_host.specs.Promise.{Stores, MayBe, EachLeft, LeftOfMaking, IsUpToDate}
 use Rattle.paw_host.specs.Laws.{before_last, AfterCrash, as_before, as_after, at_no_lines, half_made, MayBeBegunAgain}
 use Rattle.paw_host.specs.inner.Lines.{AllMay}
 use Rattle.paw_host.proofs.Continuing.{all_may}
@@ -33,24 +33,24 @@ may_before g seed first lines (suc n) valid small bytes may =
     may_after g seed first (take n lines) valid small (All-take AreBytes n lines bytes) may
 
 -- what a crash leaves while the last of n lines is at work
-left_at : (g : Story) (seed : ℕ) (first : Sessions) (lines : List (List ℕ)) (n : ℕ) (text : List ℕ) (m : Moment) → KeepsUp g seed first lines n text m →
+left_at : (g : Story) (seed : ℕ) (first : Sessions) (lines : List (List ℕ)) (n : ℕ) (text : List ℕ) (m : Moment) → IsUpToDate g seed first lines n text m →
     EachLeft g seed (sessions_after g seed first (before_last lines n)) (sessions_after g seed first (take n lines)) m
 unfolding sessions_after
 left_at g seed first lines zero text m k = λ name is bytes may. inl (k.1 name is bytes may)
 left_at g seed first lines (suc n) text m k = k.0
 
 -- a session that these bytes are those of, such as there may be after a crash
-abbrev Found : Story → ℕ → Session → Session → List ℕ → Session → Type 0
+abbrev Found : Story → ℕ → NamedSession → NamedSession → List ℕ → NamedSession → Type 0
 Found g seed before after bytes s = MayBe g s × Stores g s bytes × AfterCrash seed before after s
 
 half : (g : Story) (seed own : ℕ) (lines : List (List ℕ)) (bytes : List ℕ) → IsUnmade (recover bytes) →
-    (s : Session) × Found g seed Absent (At own lines) bytes s
+    (s : NamedSession) × Found g seed Absent (At own lines) bytes s
 half g seed own lines [] h = (Absent, (tt, refl, as_before))
 half g seed own lines (b ∷ bytes) h =
     (Refused (b ∷ bytes), (tt, (refl, (λ e. cc, λ some. not_shown (recover (b ∷ bytes)) _ _ _ h some.shows.shown)), half_made (b ∷ bytes) refl tt))
 
-in_making : (g : Story) (seed : ℕ) (before after : Session) (bytes : List ℕ) → ValidStory g → seed < 2 ^ 64 → LeftOfMaking g seed before after bytes →
-    (s : Session) × Found g seed before after bytes s
+in_making : (g : Story) (seed : ℕ) (before after : NamedSession) (bytes : List ℕ) → ValidStory g → seed < 2 ^ 64 → LeftOfMaking g seed before after bytes →
+    (s : NamedSession) × Found g seed before after bytes s
 in_making g seed Absent (At own lines) bytes valid small (inl h) = half g seed own lines bytes h
 in_making g seed Absent (At own lines) bytes valid small (inr h) =
     (At seed [], (record { valid = valid; fits = small; lines = All-nil IsLine }, h, at_no_lines refl tt))
@@ -59,18 +59,20 @@ in_making g seed Absent (Refused kept) bytes valid small h = absurd h
 in_making g seed (At own lines) after bytes valid small h = absurd h
 in_making g seed (Refused kept) after bytes valid small h = absurd h
 
-found : (g : Story) (seed : ℕ) (before after : Session) (bytes : List ℕ) (Attached : Type 0) → ValidStory g → seed < 2 ^ 64 → MayBe g before → MayBe g after →
-    Stores g before bytes ⊎ (Attached × (Stores g after bytes ⊎ LeftOfMaking g seed before after bytes)) → (s : Session) × Found g seed before after bytes s
+found : (g : Story) (seed : ℕ) (before after : NamedSession) (bytes : List ℕ) (Attached : Type 0) → ValidStory g → seed < 2 ^ 64 → MayBe g before →
+    MayBe g after →
+    Stores g before bytes ⊎ (Attached × (Stores g after bytes ⊎ LeftOfMaking g seed before after bytes)) → (s : NamedSession)
+    × Found g seed before after bytes s
 found g seed before after bytes Attached valid small b a (inl h) = (before, (b, h, as_before))
 found g seed before after bytes Attached valid small b a (inr (at, inl h)) = (after, (a, h, as_after))
 found g seed before after bytes Attached valid small b a (inr (at, inr h)) = in_making g seed before after bytes valid small h
 
 -- the session of a name; what is no name has none
-chosen : (b : Bool) → (b ≡ true → Session) → Session
+chosen : (b : Bool) → (b ≡ true → NamedSession) → NamedSession
 chosen true f = f refl
 chosen false f = Absent
 
-chosen_is : (b : Bool) (f : b ≡ true → Session) (P : Session → Type 0) → ((t : b ≡ true) → P (f t)) → b ≡ true → P (chosen b f)
+chosen_is : (b : Bool) (f : b ≡ true → NamedSession) (P : NamedSession → Type 0) → ((t : b ≡ true) → P (f t)) → b ≡ true → P (chosen b f)
 unfolding chosen
 chosen_is true f P h e = h refl
 chosen_is false f P h e = cc
@@ -85,7 +87,7 @@ may_be_begun_again g seed first old next m valid small b i left lines =
     after : Sessions
     after = sessions_after g seed first (take i.taken old.lines)
 
-    one : (name : List ℕ) → is_name name ≡ true → (s : Session) × Found g seed (before name) (after name) (file_bytes next (store_name name)) s
+    one : (name : List ℕ) → is_name name ≡ true → (s : NamedSession) × Found g seed (before name) (after name) (file_bytes next (store_name name)) s
     one name is = found g seed (before name) (after name) (file_bytes next (store_name name)) (m.attached ≡ Some (store_name name)) valid small
         (may_before g seed first old.lines i.taken valid small b.lines b.may name is)
         (may_after g seed first (take i.taken old.lines) valid small (All-take AreBytes i.taken old.lines b.lines) b.may name is)

@@ -17,13 +17,14 @@ use Rattle.paw_play.specs.Calls.{session_calls}
 use Rattle.paw_play.proofs.Walking.{drop_more, drop_all}
 use Rattle.paw_host.specs.Names.{Request, parted, parted_at, request_in, request_of, is_name, store_name}
 use Rattle.paw_host.specs.Replies.{Sessions, reply_to, sessions_with, sessions_after, replies}
-use Rattle.paw_host.specs.Promise.{Stores, AllStore, AllLeft, EachLeft, KeepsUp, IsNotOf, InHost, Answered, BeginsWith, attached_with, attached_after, MayAttach, AttachedIn}
+use Rattle.paw_host.specs.Promise.{Stores, AllStore, AllLeft, EachLeft, IsUpToDate, IsNotOf, InHost, Answered, BeginsWith, attached_with, attached_after}
+use Rattle.paw_host.specs.Promise.{MayAttach, AttachedIn}
 use Rattle.paw_host.specs.Hosts.{HasTaken, Ends, Hosts}
-use Rattle.paw_host.specs.Outcomes.{failed_call}
+use Rattle.paw_host.specs.Outcomes.{host_failure}
 use Rattle.paw_host.specs.declared.lines.TheConstants.{HOST_LIMIT}
 use Rattle.paw_host.specs.declared.outcome.HostOutcome.{HostOutcome}
 use Rattle.paw_host.specs.declared.outcome.HostOutcome.TheVariants as outcome
-use Rattle.paw_host.specs.inner.Lines.{AllMay, Does, Doing, IsDone, InWork, IsServing, SameLines, ServesTo, TakesTo}
+use Rattle.paw_host.specs.inner.Lines.{AllMay, AnswersRequest, Doing, IsDone, InWork, IsServing, SameLines, ServesTo, TakesTo}
 use Rattle.paw_host.proofs.Continuing.{IfLine, all_may}
 use Rattle.paw_host.proofs.Reaching.{FilesHold, rest_left}
 use Rattle.paw_host.proofs.Serving.{sessions_more, replies_more, not_of_more, last_line, attached_more, attached_now, attached_in, each_done, with_attached}
@@ -99,7 +100,7 @@ grown g seed (l ∷ lines) (suc n) at =
 
 keeps_now : (g : Story) (seed : ℕ) (first : Sessions) (start : Option (List ℕ)) (lines : List (List ℕ)) (n : ℕ) (m : Moment) → n ≤ length lines →
     m.attached ≡ attached_after start (take n lines) → AllLeft g (sessions_after g seed first (take n lines)) m →
-    KeepsUp g seed first lines n (replies g seed first (take n lines)) m
+    IsUpToDate g seed first lines n (replies g seed first (take n lines)) m
 unfolding sessions_after replies
 keeps_now g seed first start lines zero m there attached h = (refl, h)
 keeps_now g seed first start lines (suc n) m there attached h =
@@ -269,10 +270,11 @@ module _ (g : Story) (seed : ℕ) (first : Sessions) (old now mid : Standing) (n
       settled = settled;
     })
 
-  module _ (request : Option Request) (text : List ℕ) (done : Standing) (same : request ≡ request_of line) (does : Does g seed before request text mid done)
+  module _ (request : Option Request) (text : List ℕ) (done : Standing) (same : request ≡ request_of line)
+      (does : AnswersRequest g seed before request text mid done)
       (settled : IsStable done.disk) where
-    is_done : Does g seed before (request_of line) text mid done
-    is_done = subst (λ r. Does g seed before r text mid done) same does
+    is_done : AnswersRequest g seed before (request_of line) text mid done
+    is_done = subst (λ r. AnswersRequest g seed before r text mid done) same does
 
     -- while the reply that was made is shown
     pub in_show : FilesHold done → (shown : List ℕ) → shown ≡ text → (m : Moment) → InShow done shown m → InHost g seed first old m
@@ -328,7 +330,7 @@ taken_more old now new n h k =
 
 -- none was left, or a call failed
 pub ends_by : (old now new : Standing) (n : ℕ) (o : HostOutcome) → HasTaken old now n → n < HOST_LIMIT → TakesTo now new (Some o) →
-    IfSome (failed_call o) (IsOneOf session_calls) → Ends old new o
+    IfSome (host_failure o) (IsOneOf session_calls) → Ends old new o
 ends_by old now new n outcome.InputEnded h few k among =
     let all : n ≡ length old.lines = drop_all old.lines n (sym h.lines ∙ k.0) h.there in
     (omega (arith, all, few), subst (λ q. HasTaken old q (length old.lines)) (sym k.1) (subst (HasTaken old now) all h))

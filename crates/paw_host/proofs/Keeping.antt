@@ -11,7 +11,7 @@ use Rattle.paw_state.specs.Record.{last_piece}
 use Rattle.paw_play.specs.Stands.{Stands, IsPlayedWith}
 use Rattle.paw_play.specs.Laws.{ShowsSome}
 use Rattle.paw_play.proofs.Standing.{standing_shows}
-use Rattle.paw_host.specs.Replies.{Session, Absent, At, Refused, Answer, taken, answer}
+use Rattle.paw_host.specs.Replies.{NamedSession, Absent, At, Refused, Answer, answer_taking, answer}
 use Rattle.paw_host.specs.Promise.{Stores, MayBe}
 use Rattle.paw_host.specs.inner.Answers.{Answers, InFile, StoresEither}
 
@@ -23,7 +23,7 @@ module _ (g : Story) (seed : ℕ) (bytes : List ℕ) (some : 0 < length bytes) w
   no_refused kept h shows = absurd (h.1.1 (subst (ShowsSome g) h.0 shows))
 
   -- the store has no session of the game
-  pub kept_refused : (before : Session) (text : Option (List ℕ)) (old new : List ℕ) → MayBe g before → Stores g before bytes →
+  pub kept_refused : (before : NamedSession) (text : Option (List ℕ)) (old new : List ℕ) → MayBe g before → Stores g before bytes →
       ¬ ShowsSome g bytes → new ≡ old ++ codes "refused" → Answers g (answer g seed before text) old new bytes
   unfolding answer
   kept_refused Absent text old new may stores none grown = no_absent stores
@@ -31,7 +31,7 @@ module _ (g : Story) (seed : ℕ) (bytes : List ℕ) (some : 0 < length bytes) w
   kept_refused (Refused kept) text old new may stores none grown = record { body = grown; stores = stores }
 
   -- it has one, and answers with its last piece
-  pub kept_told : (before : Session) (old new piece : List ℕ) → MayBe g before → Stores g before bytes → ShowsSome g bytes →
+  pub kept_told : (before : NamedSession) (old new piece : List ℕ) → MayBe g before → Stores g before bytes → ShowsSome g bytes →
       ((own : ℕ) (es : List (List ℕ)) → IsPlayedWith g own es → Stands g own es bytes → piece ≡ last_piece (pieces_of (reading g own es))) →
       new ≡ old ++ piece → Answers g (answer g seed before None) old new bytes
   unfolding answer
@@ -41,8 +41,8 @@ module _ (g : Story) (seed : ℕ) (bytes : List ℕ) (some : 0 < length bytes) w
   kept_told (Refused kept) old new piece may stores shows last grown = no_refused kept stores shows
 
   -- it has one, which takes a text: what holds of each session that does so holds of this one
-  pub kept_each : (P : Session → Answer → Type 0) (before : Session) (text : List ℕ) → MayBe g before → Stores g before bytes → ShowsSome g bytes →
-      ((own : ℕ) (es : List (List ℕ)) → IsPlayedWith g own es → Stands g own es bytes → P (At own es) (taken g own es text)) →
+  pub kept_each : (P : NamedSession → Answer → Type 0) (before : NamedSession) (text : List ℕ) → MayBe g before → Stores g before bytes → ShowsSome g bytes →
+      ((own : ℕ) (es : List (List ℕ)) → IsPlayedWith g own es → Stands g own es bytes → P (At own es) (answer_taking g own es text)) →
       P before (answer g seed before (Some text))
   unfolding answer
   kept_each P Absent text may stores shows each = no_absent stores
@@ -50,7 +50,8 @@ module _ (g : Story) (seed : ℕ) (bytes : List ℕ) (some : 0 < length bytes) w
   kept_each P (Refused kept) text may stores shows each = no_refused kept stores shows
 
 -- while nothing is written
-pub still_in_file : (g : Story) (before after : Session) (old : Standing) (m : Moment) → IsStable old.disk → Stores g before old.disk.bytes → m ≡ moment_of old →
+pub still_in_file : (g : Story) (before after : NamedSession) (old : Standing) (m : Moment) → IsStable old.disk → Stores g before old.disk.bytes → m
+    ≡ moment_of old →
     InFile (StoresEither g before after) old m
 still_in_file g before after old m settled stores e = subst (InFile (StoresEither g before after) old) (sym e) (record {
   asked = refl;

@@ -15,7 +15,7 @@ use Rattle.paw_host.specs.Promise.{BeginsWith}
 use Rattle.paw_host.specs.Hosts.{Ends, Hosts, HostsFile, Holds, hosts, damaged, absent, failed, wanting}
 use Rattle.paw_host.specs.declared.outcome.HostOutcome.{HostOutcome}
 use Rattle.paw_host.specs.declared.outcome.HostOutcome.TheVariants as outcome
-use Rattle.paw_host.specs.inner.Opens.{LoadsSome, LoadsNone, GivesNone}
+use Rattle.paw_host.specs.inner.Opens.{ReadsImage, ReadsNoImage, OpensNone}
 
 -- ---- what loading cuts off ----
 
@@ -53,7 +53,7 @@ loaded_bad given bytes at e h = bad_whole bytes at (subst (λ b. bad b ≡ Some 
 -- ---- the file ----
 
 -- it holds the game of the bytes that were loaded
-pub holds_loaded : (name given bytes : List ℕ) (old new : Standing) (g : GameLists) → bytes ≡ given → LoadsSome name old new given → IsImage bytes g →
+pub holds_loaded : (name given bytes : List ℕ) (old new : Standing) (g : GameLists) → bytes ≡ given → ReadsImage name old new given → IsImage bytes g →
     Holds old name g
 holds_loaded name given bytes old new g e f h = (f.0, f.1, loaded_image given f.0 g f.2 (subst (λ b. IsImage b g) e h))
 
@@ -69,7 +69,7 @@ same_story old name g k rows h i =
 -- ---- how hosting ends ----
 
 -- a load that gives nothing
-pub unloaded : (rows : List (List ℕ)) (name : List ℕ) (seed : ℕ) (old new : Standing) (o : HostOutcome) → LoadsNone name old new o →
+pub unloaded : (rows : List (List ℕ)) (name : List ℕ) (seed : ℕ) (old new : Standing) (o : HostOutcome) → ReadsNoImage name old new o →
     HostsFile rows name seed old new o
 unloaded rows name seed old new (outcome.Outside call.LoadAbsent) h = absent h.0 h.1
 unloaded rows name seed old new (outcome.Outside call.Load) h = failed h
@@ -77,7 +77,7 @@ unloaded rows name seed old new outcome.Memory h = wanting h
 unloaded rows name seed old new _ h = absurd h
 
 -- bytes that give no game
-unopened : (rows : List (List ℕ)) (name given : List ℕ) (seed : ℕ) (old new : Standing) (o : HostOutcome) → LoadsSome name old new given → GivesNone given o →
+unopened : (rows : List (List ℕ)) (name given : List ℕ) (seed : ℕ) (old new : Standing) (o : HostOutcome) → ReadsImage name old new given → OpensNone given o →
     HostsFile rows name seed old new o
 unopened rows name given seed old new (outcome.ImageDamaged at) f h =
     damaged at (f.0, f.1, loaded_none given f.0 f.2 h.0, loaded_bad given f.0 at f.2 h.1) f.3
@@ -85,8 +85,8 @@ unopened rows name given seed old new outcome.Memory f h = wanting f.3
 unopened rows name given seed old new _ f h = absurd h
 
 pub undecoded : (rows : List (List ℕ)) (name given bytes : List ℕ) (seed : ℕ) (old new : Standing) (o : HostOutcome) → bytes ≡ given →
-    LoadsSome name old new given → GivesNone bytes o → HostsFile rows name seed old new o
-undecoded rows name given bytes seed old new o e f h = unopened rows name given seed old new o f (subst (λ b. GivesNone b o) e h)
+    ReadsImage name old new given → OpensNone bytes o → HostsFile rows name seed old new o
+undecoded rows name given bytes seed old new o e f h = unopened rows name given seed old new o f (subst (λ b. OpensNone b o) e h)
 
 -- a game that is hosted, at a stage where nothing has changed since the load
 pub hosted : (rows : List (List ℕ)) (name : List ℕ) (seed : ℕ) (old mid new : Standing) (o : HostOutcome) (g : GameLists) → Holds old name g → mid ≡ old →

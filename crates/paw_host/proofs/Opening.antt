@@ -12,8 +12,8 @@ use Rattle.paw_effects.specs.Story.{Story}
 use Rattle.paw_effects.specs.declared.act.Prompt.{Prompt}
 use Rattle.paw_effects.specs.declared.act.Prompt.TheVariants as prompt
 use Rattle.paw_reading.specs.declared.places.Halt.TheVariants as halt
-use Rattle.paw_reading.specs.Turn.{reading, on, pieces_of}
-use Rattle.paw_turn.specs.inner.Player.{Seat, run_at, PlaysTo, IsSeated, StandsClosed}
+use Rattle.paw_reading.specs.Turn.{reading, going_on_from, pieces_of}
+use Rattle.paw_turn.specs.inner.Player.{PlayerView, run_at, PlaysTo, IsSeated, StandsClosed}
 use Rattle.paw_turn.specs.inner.Parts.{seat_at, prompt_step}
 use Rattle.paw_turn.specs.declared.Step.{Step}
 use Rattle.paw_turn.specs.declared.Step.TheVariants as step
@@ -42,13 +42,13 @@ use Rattle.paw_play.specs.inner.OnTheWay.{seat_state}
 use Rattle.paw_play.proofs.Kept.{step_kept}
 use Rattle.paw_play.proofs.Resuming.{goes_on_from}
 use Rattle.paw_play.proofs.Standing.{standing_goes_on}
-use Rattle.paw_host.specs.Replies.{Absent, At, Answer, begun, is_over}
-use Rattle.paw_host.specs.inner.Answers.{SitsAt, word_of, InFile, LeftOfBeginning}
+use Rattle.paw_host.specs.Replies.{Absent, At, Answer, begun_answer, is_over}
+use Rattle.paw_host.specs.inner.Answers.{SitsAt, refusal_word_of, InFile, LeftOfBeginning}
 use Rattle.paw_host.proofs.Sitting.{kept_gone, same_digests, same_piece, same_halt}
 
 -- ---- the piece before the first line ----
 
-sits_by : {F : Type 0} (g : Story) (seed : ℕ) (found : Step) (next : Seat F) → next.last ≡ found →
+sits_by : {F : Type 0} (g : Story) (seed : ℕ) (found : Step) (next : PlayerView F) → next.last ≡ found →
     PlaysTo g (reading g seed) found next [] [] → IsStanding found → SitsAt g seed [] next
 sits_by g seed (step.Waits p) next is plays shows = record {
   whole = reading g seed;
@@ -58,7 +58,7 @@ sits_by g seed (step.Waits p) next is plays shows = record {
   waits = λ q e fs.
       let same : step.Waits p ≡ step.Waits q = sym is ∙ e in
       let at : p ≡ q = cc in
-      subst (λ x. reading g seed fs ≡ on g x (reverse next.machine.frames) (run_at next (next.piece ∷ []) (plays.0 ∷ []) fs)) at (plays.1.1 fs);
+      subst (λ x. reading g seed fs ≡ going_on_from g x (reverse next.machine.frames) (run_at next (next.piece ∷ []) (plays.0 ∷ []) fs)) at (plays.1.1 fs);
   over = λ e. let same : step.Waits p ≡ step.Ended = sym is ∙ e in cc;
 }
 sits_by g seed step.Ended next is plays shows = record {
@@ -72,7 +72,7 @@ sits_by g seed step.Ended next is plays shows = record {
 sits_by g seed (step.Spent kind) next is plays shows = absurd shows
 sits_by g seed (step.TooDeep table) next is plays shows = absurd shows
 
-module _ {F : Type 0} (g : Story) (seed : ℕ) (found : Step) (next : Seat F) (is : next.last ≡ found) (seated : IsSeated next)
+module _ {F : Type 0} (g : Story) (seed : ℕ) (found : Step) (next : PlayerView F) (is : next.last ≡ found) (seated : IsSeated next)
     (plays : PlaysTo g (reading g seed) found next [] []) where
   pub sits : IsStanding found → SitsAt g seed [] next
   sits shows = sits_by g seed found next is plays shows
@@ -81,7 +81,7 @@ module _ {F : Type 0} (g : Story) (seed : ℕ) (found : Step) (next : Seat F) (i
   first_kept digests shows =
       step_kept g digests 0 (reading g seed) found next [] [] shows is (subst (λ q. StandsClosed q next.machine) is seated.machine) plays
 
-  pub first_answer : IsStanding found → begun g seed ≡ record { body = next.piece; session = At seed [] }
+  pub first_answer : IsStanding found → begun_answer g seed ≡ record { body = next.piece; session = At seed [] }
   first_answer shows = kept_gone (story_digests g) (seat_state 0 next) next.piece 0 _ _ _ (first_kept (story_digests g) shows)
 
   pub first_stands : (bytes : List ℕ) → IsStanding found → recover bytes ≡ Shown (story_digests g) (seat_state 0 next) next.piece → Stands g seed [] bytes
@@ -92,13 +92,15 @@ module _ {F : Type 0} (g : Story) (seed : ℕ) (found : Step) (next : Seat F) (i
     keeps = rw e (first_kept (story_digests g) shows);
   }
 
-  pub first_refused : (word : List ℕ) → word_of found ≡ Some word → begun g seed ≡ record { body = word; session = Absent }
-  first_refused word e = elim found as (λ q. PlaysTo g (reading g seed) q next [] [] → word_of q ≡ Some word → begun g seed ≡ record { body = word; session = Absent }) [
-    | step.Waits q ↦ λ plays e. cc
-    | step.Ended ↦ λ plays e. cc
-    | step.Spent kind ↦ λ plays e. let w : codes "spent" ≡ word = cc in rw (plays.1 []).1 (ap (λ b. record { body = b; session = Absent }) w)
-    | step.TooDeep table ↦ λ plays e. let w : codes "too deep" ≡ word = cc in rw (plays.1 []).1 (ap (λ b. record { body = b; session = Absent }) w)
-  ] plays e
+  pub first_refused : (word : List ℕ) → refusal_word_of found ≡ Some word → begun_answer g seed ≡ record { body = word; session = Absent }
+  first_refused word e =
+      elim found as
+      (λ q. PlaysTo g (reading g seed) q next [] [] → refusal_word_of q ≡ Some word → begun_answer g seed ≡ record { body = word; session = Absent }) [
+        | step.Waits q ↦ λ plays e. cc
+        | step.Ended ↦ λ plays e. cc
+        | step.Spent kind ↦ λ plays e. let w : codes "spent" ≡ word = cc in rw (plays.1 []).1 (ap (λ b. record { body = b; session = Absent }) w)
+        | step.TooDeep table ↦ λ plays e. let w : codes "too deep" ≡ word = cc in rw (plays.1 []).1 (ap (λ b. record { body = b; session = Absent }) w)
+      ] plays e
 
   -- while the session is made
   pub in_beginning : (state : List ℕ) (old : Standing) (m : Moment) → IsStanding found → take state_length state ≡ seat_state 0 next →
@@ -114,7 +116,7 @@ module _ {F : Type 0} (g : Story) (seed : ℕ) (found : Step) (next : Seat F) (i
     ];
   }
     where
-      begins : (begun g seed).session ≡ At seed []
+      begins : (begun_answer g seed).session ≡ At seed []
       begins = ap (λ (a : Answer). a.session) (first_answer shows)
 
 -- ---- a session that is taken up ----
@@ -145,25 +147,27 @@ waits_step prompt.Again p h = cc
 waits_step prompt.Key p h = cc
 waits_step prompt.Over p h = cc
 
-module _ {F : Type 0} (g : Story) (seed : ℕ) (es : List (List ℕ)) (digests : Digests) (bytes piece : List ℕ) (r : Restored) (routines : Routines F) (seat : Seat F)
+module _ {F : Type 0} (g : Story) (seed : ℕ) (es : List (List ℕ)) (digests : Digests) (bytes piece : List ℕ) (r : Restored) (routines : Routines F)
+    (seat : PlayerView F)
     (played : IsPlayedWith g seed es) (stands : Stands g seed es bytes) (shows : ShowsState g.game digests bytes (state_read r) piece)
     (is : seat ≡ seat_at g.game routines r.world r.machine r.pending r.prompt) where
-  goes : (fs : List (List ℕ)) → going_on g (state_read r) piece fs ≡ on g r.prompt (reverse r.machine.frames) (run_at seat (piece ∷ []) [] fs)
+  goes : (fs : List (List ℕ)) → going_on g (state_read r) piece fs ≡ going_on_from g r.prompt (reverse r.machine.frames) (run_at seat (piece ∷ []) [] fs)
   goes fs = goes_on_from g r.world r.machine r.pending r.prompt r.events r.piece piece fs
-      ∙ ap (λ (q : Seat F). on g r.prompt (reverse r.machine.frames) (run_at q (piece ∷ []) [] fs)) (sym is)
+      ∙ ap (λ (q : PlayerView F). going_on_from g r.prompt (reverse r.machine.frames) (run_at q (piece ∷ []) [] fs)) (sym is)
 
-  goes_here : (fs : List (List ℕ)) → going_on g (state_read r) piece fs ≡ on g r.prompt (reverse seat.machine.frames) (run_at seat (piece ∷ []) [] fs)
+  goes_here : (fs : List (List ℕ)) → going_on g (state_read r) piece fs
+      ≡ going_on_from g r.prompt (reverse seat.machine.frames) (run_at seat (piece ∷ []) [] fs)
   goes_here fs = goes fs
-      ∙ ap (λ (q : Seat F). on g r.prompt (reverse q.machine.frames) (run_at seat (piece ∷ []) [] fs)) (sym is)
+      ∙ ap (λ (q : PlayerView F). going_on_from g r.prompt (reverse q.machine.frames) (run_at seat (piece ∷ []) [] fs)) (sym is)
 
   last_is : seat.last ≡ prompt_step r.prompt
-  last_is = ap (λ (q : Seat F). q.last) is
+  last_is = ap (λ (q : PlayerView F). q.last) is
 
   on_over : r.prompt ≡ prompt.Over → is_over (reading g seed es) ≡ true
   on_over e =
       let since = (standing_goes_on g seed es [] bytes digests (state_read r) piece played stands shows).1 in
       let h = same_halt (length es) (reading g seed (es ++ [])) halt.Over _
-      (sym since ∙ goes [] ∙ ap (λ q. on g q (reverse r.machine.frames) (run_at seat (piece ∷ []) [] [])) e) in
+      (sym since ∙ goes [] ∙ ap (λ q. going_on_from g q (reverse r.machine.frames) (run_at seat (piece ∷ []) [] [])) e) in
       subst (λ l. is_over (reading g seed l) ≡ true) (append-nil es) (ap is_over h.1)
 
   pub sits_again : SitsAt g seed es seat
@@ -174,7 +178,7 @@ module _ {F : Type 0} (g : Story) (seed : ℕ) (es : List (List ℕ)) (digests :
     traces = [];
     waits = λ p e fs.
         let at : r.prompt ≡ p = waits_step r.prompt p (sym last_is ∙ e) in
-        goes_here fs ∙ ap (λ q. on g q (reverse seat.machine.frames) (run_at seat (piece ∷ []) [] fs)) at;
+        goes_here fs ∙ ap (λ q. going_on_from g q (reverse seat.machine.frames) (run_at seat (piece ∷ []) [] fs)) at;
     over = λ e. on_over (over_step r.prompt (sym last_is ∙ e));
   }
 
@@ -185,7 +189,7 @@ module _ {F : Type 0} (g : Story) (seed : ℕ) (es : List (List ℕ)) (digests :
   last_shown = same_piece _ _ _ _ _ _ (sym shows.shown ∙ stands.keeps.shown)
 
 -- a player is seated with what was read of a session of the story
-pub taken_up : {F : Type 0} (g : Story) (digests : Digests) (bytes state buffer piece : List ℕ) (r : Restored) (routines : Routines F) (seat : Seat F) →
+pub taken_up : {F : Type 0} (g : Story) (digests : Digests) (bytes state buffer piece : List ℕ) (r : Restored) (routines : Routines F) (seat : PlayerView F) →
     recover bytes ≡ session_shown digests state piece → buffer ≡ state → IsOfStory g digests → IsRead g.game buffer r →
     piece_length buffer ≡ r.piece → seat ≡ seat_at g.game routines r.world r.machine r.pending r.prompt →
     ShowsSome g bytes × ((seed : ℕ) (es : List (List ℕ)) → IsPlayedWith g seed es → Stands g seed es bytes →

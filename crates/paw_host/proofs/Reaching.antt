@@ -6,12 +6,12 @@ use Rattle.paw_stage.specs.Disk.{IsStable, stable}
 use Rattle.paw_stage.specs.Stage.{Standing, Files, file_bytes, bytes_or_none, made_if_missing, opened, Unattached}
 use Rattle.paw_stage.specs.Moments.{Moment, moment_of, InAttach}
 use Rattle.paw_journal.specs.Session.{IsUnmade, Recovered, Shown, Digests, recover, recover_by}
-use Rattle.paw_journal.specs.inner.Store.{IsBeside}
+use Rattle.paw_journal.specs.inner.Store.{ChangesStoreOnly}
 use Rattle.paw_journal.proofs.Disks.{stable_is, stable_leaves}
 use Rattle.paw_effects.specs.Story.{Story}
 use Rattle.paw_play.specs.Laws.{MayBeLeft}
 use Rattle.paw_play.proofs.Attaching.{other_file}
-use Rattle.paw_host.specs.Replies.{Session, Absent, At, Refused}
+use Rattle.paw_host.specs.Replies.{NamedSession, Absent, At, Refused}
 use Rattle.paw_host.specs.Promise.{Stores}
 use Rattle.paw_host.specs.inner.Answers.{InFile, InAnswer, IsAside, LeftOf, StoresEither}
 
@@ -93,7 +93,7 @@ module _ (old new : Standing) (name : List ℕ) (settled : IsStable old.disk) (h
 
 -- ---- a session that is asked for something ----
 
-module _ (g : Story) (seed : ℕ) (name : List ℕ) (before after : Session) (old : Standing) (stores : Stores g before (file_bytes old name)) where
+module _ (g : Story) (seed : ℕ) (name : List ℕ) (before after : NamedSession) (old : Standing) (stores : Stores g before (file_bytes old name)) where
   -- before anything is done
   pub answer_before : (m : Moment) → IsBefore name old m → InAnswer g seed name before after old m
   answer_before m i = record {
@@ -126,7 +126,7 @@ module _ (g : Story) (seed : ℕ) (name : List ℕ) (before after : Session) (ol
       still f ne = i.files f (λ e. ne (sym (same_name name f e))) ∙ other_file old name f ne
 
 -- from a store with no bytes, of which there is no session
-pub answer_in_new : (g : Story) (seed : ℕ) (name : List ℕ) (before after : Session) (old mid : Standing) (m : Moment) →
+pub answer_in_new : (g : Story) (seed : ℕ) (name : List ℕ) (before after : NamedSession) (old mid : Standing) (m : Moment) →
     Stores g before (file_bytes old name) → before ≡ Absent → mid ≡ opened name old → InFile (LeftOf g seed Absent after) mid m →
     InAnswer g seed name before after old m
 answer_in_new g seed name before after old mid m stores none is i =
@@ -134,7 +134,7 @@ answer_in_new g seed name before after old mid m stores none is i =
     (subst (λ s. InFile (LeftOf g seed s after) (opened name old) m) (sym none) (subst (λ q. InFile (LeftOf g seed Absent after) q m) is i))
 
 -- from a store with bytes
-pub answer_in_kept : (g : Story) (seed : ℕ) (name : List ℕ) (before after : Session) (old mid : Standing) (m : Moment) →
+pub answer_in_kept : (g : Story) (seed : ℕ) (name : List ℕ) (before after : NamedSession) (old mid : Standing) (m : Moment) →
     Stores g before (file_bytes old name) → mid ≡ opened name old → InFile (StoresEither g before after) mid m →
     InAnswer g seed name before after old m
 answer_in_kept g seed name before after old mid m stores is i =
@@ -163,7 +163,7 @@ unmade bytes e = rw e tt
 pub not_shown : (r : Recovered) (d : Digests) (state piece : List ℕ) → IsUnmade r → r ≡ Shown d state piece → ⊥
 not_shown r d state piece h e = subst IsUnmade e h
 
-pub none_stored : (g : Story) (before : Session) (bytes : List ℕ) → bytes ≡ [] → Stores g before bytes → before ≡ Absent
+pub none_stored : (g : Story) (before : NamedSession) (bytes : List ℕ) → bytes ≡ [] → Stores g before bytes → before ≡ Absent
 none_stored g Absent bytes e h = refl
 none_stored g (At own es) bytes e h = absurd (not_shown (recover bytes) _ _ _ (unmade bytes e) h.keeps.shown)
 none_stored g (Refused kept) bytes e h = absurd (h.1.0 (sym h.0 ∙ e))
@@ -173,7 +173,7 @@ pub aside_unattached : (name : List ℕ) (old new : Standing) → Unattached old
 aside_unattached name old new (inl e) = subst (IsAside name old) (sym e) (record { lines = refl; asked = refl; shown = refl; files = λ f ne. refl })
 aside_unattached name old new (inr e) = subst (IsAside name old) (sym e) (record { lines = refl; asked = refl; shown = refl; files = λ f ne. refl })
 
-module _ (name : List ℕ) (old mid new : Standing) (is : mid ≡ opened name old) (b : IsBeside mid new) where
+module _ (name : List ℕ) (old mid new : Standing) (is : mid ≡ opened name old) (b : ChangesStoreOnly mid new) where
   -- the store is attached still
   pub attached_still : new.attached ≡ Some name
   attached_still = b.attached ∙ ap (λ (q : Standing). q.attached) is

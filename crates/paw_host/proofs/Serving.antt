@@ -10,10 +10,10 @@ use Rattle.paw_stage.specs.Stage.{Standing, file_bytes, bytes_or_none}
 use Rattle.paw_stage.specs.Moments.{Moment, moment_of}
 use Rattle.paw_play.specs.Laws.{MayBeLeft}
 use Rattle.paw_host.specs.Names.{Request, request_of, is_name, store_name}
-use Rattle.paw_host.specs.Replies.{Session, Sessions, with_session, answer, reply, reply_to, sessions_with, sessions_after, replies}
+use Rattle.paw_host.specs.Replies.{NamedSession, Sessions, with_named_session, answer, reply_text, reply_to, sessions_with, sessions_after, replies}
 use Rattle.paw_host.specs.Promise.{Stores, AllStore, EachLeft, AllLeft, IsNotOf, LeftOfMaking, attached_with, attached_after, MayAttach, AttachedIn}
 use Rattle.paw_host.specs.inner.Answers.{Answers, InAnswer, IsAside}
-use Rattle.paw_host.specs.inner.Lines.{IsNotFor, IsDone, InWork, Does, Doing}
+use Rattle.paw_host.specs.inner.Lines.{IsNotFor, IsDone, InWork, AnswersRequest, Doing}
 use Rattle.paw_host.proofs.Reaching.{FilesHold, rest_left}
 
 -- ---- lists of lines ----
@@ -103,10 +103,11 @@ same_or_not a b = elim (bytes_eq a b) as (λ t. bytes_eq a b ≡ t → (a ≡ b)
   | false ↦ λ t. inr (λ e. let yes : bytes_eq a b ≡ true = (bytes_eq-Decides a b).1 e in let no : true ≡ false = sym yes ∙ t in cc, t)
 ] refl
 
-pub its_own : (name : List ℕ) (session : Session) (sessions : Sessions) → with_session name session sessions name ≡ session
+pub its_own : (name : List ℕ) (session : NamedSession) (sessions : Sessions) → with_named_session name session sessions name ≡ session
 its_own name session sessions = ap (λ b. if b then session else sessions name) ((bytes_eq-Decides name name).1 refl)
 
-pub not_its_own : (name other : List ℕ) (session : Session) (sessions : Sessions) → bytes_eq other name ≡ false → with_session name session sessions other ≡ sessions other
+pub not_its_own : (name other : List ℕ) (session : NamedSession) (sessions : Sessions) → bytes_eq other name ≡ false →
+    with_named_session name session sessions other ≡ sessions other
 not_its_own name other session sessions e = ap (λ b. if b then session else sessions other) e
 
 -- ---- what a line asks for ----
@@ -184,7 +185,7 @@ with_attached request start attached e r is = e ∙ ap (λ o. attached_with o st
 
 -- ---- the reply ----
 
-spoken : (name body : List ℕ) → ((codes "[" ++ (name ++ codes "]\n")) ++ body) ++ codes "\n" ≡ reply name body
+spoken : (name body : List ℕ) → ((codes "[" ++ (name ++ codes "]\n")) ++ body) ++ codes "\n" ≡ reply_text name body
 spoken name body =
     ap (λ x. 91 ∷ x) (append_assoc (name ++ codes "]\n") body (codes "\n") ∙ append_assoc name (codes "]\n") (body ++ codes "\n"))
 
@@ -192,7 +193,7 @@ spoken name body =
 pub does_request : (g : Story) (seed : ℕ) (sessions : Sessions) (old new : Standing) (r : Request) (store begun grown whole : List ℕ) → AllStore g sessions old →
     is_name r.name ≡ true → store ≡ store_name r.name → IsAside store old new → new.attached ≡ Some store → begun ≡ codes "[" ++ (r.name ++ codes "]\n") →
     Answers g (answer g seed (sessions r.name) r.text) begun grown (file_bytes new store) → whole ≡ grown ++ codes "\n" →
-    Does g seed sessions (Some r) whole old new
+    AnswersRequest g seed sessions (Some r) whole old new
 does_request g seed sessions old new r store begun grown whole stores named is aside attached opens a ends = (
   ends ∙ ap (λ x. x ++ codes "\n") (a.body ∙ ap (λ x. x ++ (answer g seed (sessions r.name) r.text).body) opens)
       ∙ spoken r.name (answer g seed (sessions r.name) r.text).body,

@@ -11,9 +11,9 @@ use Rattle.paw_reading.specs.declared.places.Frame.{Frame}
 use Rattle.paw_reading.specs.Run.{Run}
 use Rattle.paw_reading.specs.declared.places.Halt.{Halt}
 use Rattle.paw_reading.specs.declared.places.Halt.TheVariants as halt
-use Rattle.paw_reading.specs.Turn.{Ending, WaitsAt, Halted, Unended, reading, on}
+use Rattle.paw_reading.specs.Turn.{Ending, WaitsAt, Halted, Unended, reading, going_on_from}
 use Rattle.paw_reading.proofs.Counts.{pieces_of_lines}
-use Rattle.paw_turn.specs.inner.Player.{Seat, run_at, PlaysTo, IsSeated, StandsAt, StandsClosed}
+use Rattle.paw_turn.specs.inner.Player.{PlayerView, run_at, PlaysTo, IsSeated, StandsAt, StandsClosed}
 use Rattle.paw_turn.specs.declared.Step.{Step}
 use Rattle.paw_turn.specs.declared.Step.TheVariants as step
 use Rattle.paw_journal.specs.Session.{Digests, Recovered, Shown, recover}
@@ -24,8 +24,8 @@ use Rattle.paw_play.specs.inner.OnTheWay.{seat_state}
 use Rattle.paw_play.proofs.Going.{whole_kept}
 use Rattle.paw_play.proofs.Kept.{step_kept}
 use Rattle.paw_play.proofs.Walking.{on_waits}
-use Rattle.paw_host.specs.Replies.{Session, At, gone_on, taken, is_over}
-use Rattle.paw_host.specs.inner.Answers.{SitsAt, word_of}
+use Rattle.paw_host.specs.Replies.{NamedSession, At, gone_on, answer_taking, is_over}
+use Rattle.paw_host.specs.inner.Answers.{SitsAt, refusal_word_of}
 
 -- ---- answers by how a reading ended ----
 
@@ -36,7 +36,7 @@ pub same_digests : (d : Digests) (s p : List ℕ) (e : Digests) (t q : List ℕ)
 same_digests d s p e t q h = cc
 
 -- a reading that a session keeps is answered with the last piece
-pub kept_gone : (digests : Digests) (state piece : List ℕ) (n : ℕ) (old new : Session) (e : Ending) → IsKept digests n e (Shown digests state piece) →
+pub kept_gone : (digests : Digests) (state piece : List ℕ) (n : ℕ) (old new : NamedSession) (e : Ending) → IsKept digests n e (Shown digests state piece) →
     gone_on old new e ≡ record { body = piece; session = new }
 kept_gone digests state piece n old new (WaitsAt p path r) k = ap (λ q. record { body = q; session = new }) (sym (same_piece _ _ _ _ _ _ k.shown))
 kept_gone digests state piece n old new (Halted halt.Over r) k = ap (λ q. record { body = q; session = new }) (sym (same_piece _ _ _ _ _ _ k.shown))
@@ -56,7 +56,7 @@ same_wait n Unended p path r h = cc
 
 -- ---- where the reading of some lines ended ----
 
-module _ {F : Type 0} {g : Story} {seed : ℕ} {es : List (List ℕ)} {seat : Seat F} (s : SitsAt g seed es seat) where
+module _ {F : Type 0} {g : Story} {seed : ℕ} {es : List (List ℕ)} {seat : PlayerView F} (s : SitsAt g seed es seat) where
   -- what a session keeps of the lines that follow, it keeps of all
   kept_all : (digests : Digests) (n : ℕ) (fs : List (List ℕ)) (r : Recovered) → IsKept digests n (s.whole fs) r → IsKept digests n (reading g seed (es ++ fs)) r
   kept_all digests n fs r k = elim s.follows [
@@ -84,11 +84,12 @@ module _ {F : Type 0} {g : Story} {seed : ℕ} {es : List (List ℕ)} {seat : Se
   -- ---- a text ----
 
   module _ (p : Prompt) (last : seat.last ≡ step.Waits p) (seated : IsSeated seat) (text : List ℕ) (few : length es < EVENT_LIMIT) where
-    taken_is : taken g seed es text ≡ gone_on (At seed es) (At seed (es ++ text ∷ [])) (reading g seed (es ++ text ∷ []))
+    taken_is : answer_taking g seed es text ≡ gone_on (At seed es) (At seed (es ++ text ∷ [])) (reading g seed (es ++ text ∷ []))
     taken_is = rw (not_over p last seated, lt-leb EVENT_LIMIT (length es) few) refl
 
-    module _ (found : Step) (next : Seat F) (is : next.last ≡ found) (then_seated : IsSeated next)
-        (plays : PlaysTo g (λ lines. on g p (reverse seat.machine.frames) (run_at seat s.pieces s.traces (text ∷ lines))) found next s.pieces s.traces) where
+    module _ (found : Step) (next : PlayerView F) (is : next.last ≡ found) (then_seated : IsSeated next)
+        (plays : PlaysTo g
+        (λ lines. going_on_from g p (reverse seat.machine.frames) (run_at seat s.pieces s.traces (text ∷ lines))) found next s.pieces s.traces) where
       -- the piece is kept
       pub text_kept : (digests : Digests) (events : ℕ) → IsStanding found → events ≡ length es + 1 →
           IsKept digests events (reading g seed (es ++ text ∷ [])) (Shown digests (seat_state events next) next.piece)
@@ -97,7 +98,7 @@ module _ {F : Type 0} {g : Story} {seed : ℕ} {es : List (List ℕ)} {seat : Se
           (sym (s.waits p last (text ∷ [])))
           (step_kept g digests events _ found next s.pieces s.traces shows is (subst (λ q. StandsClosed q next.machine) is then_seated.machine) plays))
 
-      pub text_answer : IsStanding found → taken g seed es text ≡ record { body = next.piece; session = At seed (es ++ text ∷ []) }
+      pub text_answer : IsStanding found → answer_taking g seed es text ≡ record { body = next.piece; session = At seed (es ++ text ∷ []) }
       text_answer shows = taken_is
           ∙ kept_gone (story_digests g) (seat_state (length es + 1) next) next.piece (length es + 1) _ _ _ (text_kept (story_digests g) (length es + 1) shows refl)
 
@@ -112,9 +113,13 @@ module _ {F : Type 0} {g : Story} {seed : ℕ} {es : List (List ℕ)} {seat : Se
             keeps = rw (long, is_shown) (text_kept digests events shows count);
           }
 
-      pub text_refused : (word : List ℕ) → word_of found ≡ Some word → taken g seed es text ≡ record { body = word; session = At seed es }
-      text_refused word e = taken_is ∙ elim found as (λ q. PlaysTo g (λ lines. on g p (reverse seat.machine.frames) (run_at seat s.pieces s.traces (text ∷ lines))) q next s.pieces s.traces →
-          word_of q ≡ Some word → gone_on (At seed es) (At seed (es ++ text ∷ [])) (reading g seed (es ++ text ∷ [])) ≡ record { body = word; session = At seed es }) [
+      pub text_refused : (word : List ℕ) → refusal_word_of found ≡ Some word → answer_taking g seed es text ≡ record { body = word; session = At seed es }
+      text_refused word e =
+          taken_is ∙ elim found as
+          (λ q. PlaysTo g
+          (λ lines. going_on_from g p (reverse seat.machine.frames) (run_at seat s.pieces s.traces (text ∷ lines))) q next s.pieces s.traces →
+          refusal_word_of q ≡ Some word → gone_on (At seed es) (At seed (es ++ text ∷ [])) (reading g seed (es ++ text ∷ []))
+          ≡ record { body = word; session = At seed es }) [
             | step.Waits q ↦ λ plays e. cc
             | step.Ended ↦ λ plays e. cc
             | step.Spent kind ↦ λ plays e.
@@ -130,7 +135,7 @@ module _ {F : Type 0} {g : Story} {seed : ℕ} {es : List (List ℕ)} {seat : Se
           ] plays e
 
 -- a step that brings no word brings a piece
-pub shows_by : (found : Step) → word_of found ≡ None → IsStanding found
+pub shows_by : (found : Step) → refusal_word_of found ≡ None → IsStanding found
 shows_by (step.Waits p) h = tt
 shows_by step.Ended h = tt
 shows_by (step.Spent kind) h = cc

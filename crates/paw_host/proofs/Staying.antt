@@ -4,13 +4,13 @@ use Rattle.std.specs.Fn.{Shared}
 use Rattle.paw_game.specs.Game.{GameLists}
 use Rattle.paw_routines.specs.Routines.{HaveRows}
 use Rattle.paw_routines.specs.declared.routines.Routines.{Routines}
-use Rattle.paw_turn.specs.inner.Player.{Seat, IsSeated}
-use Rattle.paw_host.specs.inner.Seats.{AreDigestsOf, IsHosted, Stays}
+use Rattle.paw_turn.specs.inner.Player.{PlayerView, IsSeated}
+use Rattle.paw_host.specs.inner.Seats.{AreDigestsOf, IsHosted, StaysSeated}
 
-pub stays_same : {F : Type 0} {a : Seat F} → IsSeated a → Stays a a
+pub stays_same : {F : Type 0} {a : PlayerView F} → IsSeated a → StaysSeated a a
 stays_same h = record { seated = h; game = refl; routines = refl }
 
-pub stays_on : {F : Type 0} {a b c : Seat F} → Stays a b → Stays b c → Stays a c
+pub stays_on : {F : Type 0} {a b c : PlayerView F} → StaysSeated a b → StaysSeated b c → StaysSeated a c
 stays_on h k = record { seated = k.seated; game = k.game ∙ h.game; routines = k.routines ∙ h.routines }
 
 pub digests_on : {F : Type 0} (calls : Shared F (ℕ × (ℕ × Unit {0})) ℕ) (g h : GameLists) (r s : Routines F) (game rules : List ℕ) →
@@ -19,8 +19,8 @@ digests_on calls g h r s game rules e f d =
     subst (λ q. AreDigestsOf calls q s game rules) e (subst (λ q. AreDigestsOf calls g q game rules) f d)
 
 -- the game stays hosted
-pub hosted_on : {F : Type 0} {calls : Shared F (ℕ × (ℕ × Unit {0})) ℕ} {tables : GameLists} {game rules : List ℕ} {a b : Seat F} →
-    IsHosted calls tables game rules a → Stays a b → IsHosted calls tables game rules b
+pub hosted_on : {F : Type 0} {calls : Shared F (ℕ × (ℕ × Unit {0})) ℕ} {tables : GameLists} {game rules : List ℕ} {a b : PlayerView F} →
+    IsHosted calls tables game rules a → StaysSeated a b → IsHosted calls tables game rules b
 hosted_on {calls} {game} {rules} {a} {b} h k = record {
   seated = k.seated;
   rows = subst (HaveRows calls) (sym k.routines) h.rows;

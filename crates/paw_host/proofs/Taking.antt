@@ -8,19 +8,19 @@ use Rattle.paw_stage.specs.Moments.{Moment}
 use Rattle.paw_effects.specs.Story.{Story}
 use Rattle.paw_effects.specs.declared.act.Prompt.{Prompt}
 use Rattle.paw_effects.specs.declared.act.Prompt.TheVariants as prompt
-use Rattle.paw_reading.specs.Turn.{on}
+use Rattle.paw_reading.specs.Turn.{going_on_from}
 use Rattle.std.specs.Prelude.{reverse, codes}
 use Rattle.paw_process.specs.inner.OpenTables.{OpenTables}
-use Rattle.paw_turn.specs.inner.Player.{Seat, run_at, PlaysTo, IsSeated, IsStanding, StandsClosed, prompt_at}
+use Rattle.paw_turn.specs.inner.Player.{PlayerView, run_at, PlaysTo, IsSeated, IsStanding, StandsClosed, prompt_at}
 use Rattle.paw_turn.specs.declared.Step.{Step}
 use Rattle.paw_turn.specs.declared.Step.TheVariants as step
 use Rattle.paw_journal.specs.Session.{Digests, Shown, recover, kept_digests}
 use Rattle.paw_play.specs.Session.{IsOfStory}
 use Rattle.paw_play.specs.Stands.{Stands}
 use Rattle.paw_play.specs.inner.OnTheWay.{seat_state, InCommit}
-use Rattle.paw_host.specs.Replies.{At, taken}
+use Rattle.paw_host.specs.Replies.{At, answer_taking}
 use Rattle.paw_host.specs.Promise.{Stores}
-use Rattle.paw_host.specs.inner.Answers.{SitsAt, Answers, InFile, StoresEither, word_of}
+use Rattle.paw_host.specs.inner.Answers.{SitsAt, Answers, InFile, StoresEither, refusal_word_of}
 use Rattle.paw_host.proofs.Sitting.{same_digests, not_over, text_answer, text_stands, text_refused}
 
 -- a store keeps the digests of the session that it stands for
@@ -48,24 +48,28 @@ waits_by step.Ended h e = absurd (e refl)
 waits_by (step.Spent kind) h e = absurd h
 waits_by (step.TooDeep table) h e = absurd h
 
-module _ {F : Type 0} {g : Story} {seed : ℕ} {es : List (List ℕ)} {seat : Seat F} (s : SitsAt g seed es seat) (seated : IsSeated seat) (text : List ℕ) where
+module _ {F : Type 0} {g : Story} {seed : ℕ} {es : List (List ℕ)} {seat : PlayerView F} (s : SitsAt g seed es seat) (seated : IsSeated seat)
+    (text : List ℕ) where
   -- the game is over
-  pub over_answer : seat.last ≡ step.Ended → taken g seed es text ≡ record { body = codes "over"; session = At seed es }
+  pub over_answer : seat.last ≡ step.Ended → answer_taking g seed es text ≡ record { body = codes "over"; session = At seed es }
   over_answer last = rw (s.over last) refl
 
   -- the session is full
-  pub full_answer : (p : Prompt) → seat.last ≡ step.Waits p → EVENT_LIMIT ≤ length es → taken g seed es text ≡ record { body = codes "full"; session = At seed es }
+  pub full_answer : (p : Prompt) → seat.last ≡ step.Waits p → EVENT_LIMIT ≤ length es → answer_taking g seed es text
+      ≡ record { body = codes "full"; session = At seed es }
   full_answer p last full = rw (not_over s p last seated, le-leb EVENT_LIMIT (length es) full) refl
 
-  module _ (p : Prompt) (last : seat.last ≡ step.Waits p) (few : length es < EVENT_LIMIT) (found : Step) (next : Seat F) (is : next.last ≡ found) (then_seated : IsSeated next)
-      (plays : PlaysTo g (λ lines. on g p (reverse seat.machine.frames) (run_at seat s.pieces s.traces (text ∷ lines))) found next s.pieces s.traces) where
-    pub refused_answer : (word : List ℕ) → word_of found ≡ Some word → taken g seed es text ≡ record { body = word; session = At seed es }
+  module _ (p : Prompt) (last : seat.last ≡ step.Waits p) (few : length es < EVENT_LIMIT) (found : Step) (next : PlayerView F) (is : next.last ≡ found)
+      (then_seated : IsSeated next)
+      (plays : PlaysTo g
+      (λ lines. going_on_from g p (reverse seat.machine.frames) (run_at seat s.pieces s.traces (text ∷ lines))) found next s.pieces s.traces) where
+    pub refused_answer : (word : List ℕ) → refusal_word_of found ≡ Some word → answer_taking g seed es text ≡ record { body = word; session = At seed es }
     refused_answer word e = text_refused s p last seated text few found next is then_seated plays word e
 
     -- the piece was committed
     pub took : (digests : Digests) (before after : List ℕ) (bytes : List ℕ) (events : ℕ) → IsOfStory g digests → IsStanding found → events ≡ length es + 1 →
         recover bytes ≡ Shown digests (seat_state events next) next.piece → after ≡ before ++ next.piece →
-        Answers g (taken g seed es text) before after bytes
+        Answers g (answer_taking g seed es text) before after bytes
     took digests before after bytes events belongs shows count shown grown = rw (text_answer s p last seated text few found next is then_seated plays shows) (record {
       body = grown;
       stores = text_stands s p last seated text few found next is then_seated plays digests bytes events belongs shows count shown;
@@ -74,7 +78,7 @@ module _ {F : Type 0} {g : Story} {seed : ℕ} {es : List (List ℕ)} {seat : Se
     -- inside the commit
     pub in_taking : (events : ℕ) (old : Standing) (m : Moment) → IsStanding found → events ≡ length es + 1 → Stands g seed es old.disk.bytes →
         (state piece : List ℕ) → recover old.disk.bytes ≡ Shown (kept_digests old.disk.bytes) state piece → InCommit events next old m →
-        InFile (StoresEither g (At seed es) (taken g seed es text).session) old m
+        InFile (StoresEither g (At seed es) (answer_taking g seed es text).session) old m
     in_taking events old m shows count stands state piece kept i = record {
       asked = i.asked;
       shown = i.shown;
@@ -87,5 +91,5 @@ module _ {F : Type 0} {g : Story} {seed : ℕ} {es : List (List ℕ)} {seat : Se
     }
       where
         after : (bytes : List ℕ) → recover bytes ≡ Shown stands.digests (seat_state events next) next.piece →
-            Stores g (taken g seed es text).session bytes
+            Stores g (answer_taking g seed es text).session bytes
         after bytes e = (took stands.digests [] next.piece bytes events stands.belongs shows count e refl).stores

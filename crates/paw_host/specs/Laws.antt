@@ -14,7 +14,7 @@ use Rattle.paw_stage.specs.Stage.{Standing, file_bytes}
 use Rattle.paw_stage.specs.Moments.{Moment}
 use Rattle.paw_play.specs.Laws.{MayBeLeft}
 use Rattle.paw_host.specs.Names.{Request, request_of, is_name, store_name}
-use Rattle.paw_host.specs.Replies.{Session, Absent, At, Refused, Sessions, answer, sessions_with, sessions_after}
+use Rattle.paw_host.specs.Replies.{NamedSession, Absent, At, Refused, Sessions, answer, sessions_with, sessions_after}
 use Rattle.paw_host.specs.Promise.{BeginsWith, InHost}
 
 -- ---- one name among others ----
@@ -45,12 +45,12 @@ answered_to g seed sessions name (line ∷ lines) =
 -- ---- one session alone ----
 
 -- A session once all this was asked of it.
-unfoldable pub session_after : Story → Seed → Session → List (Option Text) → Session
+unfoldable pub session_after : Story → Seed → NamedSession → List (Option Text) → NamedSession
 session_after g seed session [] = session
 session_after g seed session (text ∷ texts) = session_after g seed (answer g seed session text).session texts
 
 -- The answers of a session that all this is asked of, in order.
-unfoldable pub answers_of : Story → Seed → Session → List (Option Text) → Texts
+unfoldable pub answers_of : Story → Seed → NamedSession → List (Option Text) → Texts
 answers_of g seed session [] = []
 answers_of g seed session (text ∷ texts) =
     (answer g seed session text).body ∷ answers_of g seed (answer g seed session text).session texts
@@ -85,13 +85,13 @@ before_last lines zero = []
 before_last lines (suc n) = take n lines
 
 -- The session was begun: it stands at lines.
-abbrev pub IsBegun : Session → Type 0
+abbrev pub IsBegun : NamedSession → Type 0
 IsBegun (At own lines) = Unit {0}
 IsBegun _ = ⊥
 
 -- What a crash may leave of a name: its session before a line, or after it; or, where its first session was being made,
 -- one that stands at no lines, or a file that is refused.
-pub data AfterCrash (seed : Seed) (before after : Session) : Session → Type 0 where
+pub data AfterCrash (seed : Seed) (before after : NamedSession) : NamedSession → Type 0 where
   as_before : AfterCrash seed before after before
   as_after : AfterCrash seed before after after
   at_no_lines : before ≡ Absent → IsBegun after → AfterCrash seed before after (At seed [])

@@ -5,15 +5,15 @@ use Rattle.paw_host.specs.declared.outcome.HostOutcome.{HostOutcome}
 use Rattle.paw_host.specs.declared.outcome.HostOutcome.TheVariants as outcome
 
 -- The exit status of the program.
-abbrev pub status_of : HostOutcome → ℕ
-status_of outcome.InputEnded = 0
-status_of outcome.Usage = 1
-status_of (outcome.ImageDamaged at) = 3
-status_of (outcome.Outside c) = 7
-status_of outcome.Memory = 8
-status_of (outcome.Long lines) = 9
+abbrev pub host_status : HostOutcome → ℕ
+host_status outcome.InputEnded = 0
+host_status outcome.Usage = 1
+host_status (outcome.ImageDamaged at) = 3
+host_status (outcome.Outside c) = 7
+host_status outcome.Memory = 8
+host_status (outcome.Long lines) = 9
 
 -- The call that failed, by the outcome.
-abbrev pub failed_call : HostOutcome → Option StageCall
-failed_call (outcome.Outside c) = Some c
-failed_call _ = None
+abbrev pub host_failure : HostOutcome → Option StageCall
+host_failure (outcome.Outside c) = Some c
+host_failure _ = None

@@ -11,7 +11,7 @@ use Rattle.paw_journal.specs.Session.{IsUnmade, recover}
 use Rattle.paw_play.specs.Stands.{Stands, IsPlayedWith}
 use Rattle.paw_play.specs.Laws.{ShowsSome, MayBeLeft}
 use Rattle.paw_host.specs.Names.{Request, request_of, is_name, store_name}
-use Rattle.paw_host.specs.Replies.{Session, Absent, At, Refused, Sessions, replies, sessions_after}
+use Rattle.paw_host.specs.Replies.{NamedSession, Absent, At, Refused, Sessions, replies, sessions_after}
 
 -- A file with these bytes is refused: it isn't empty, and it shows no session of the game and its routines.
 abbrev pub IsRefused : Story → Bytes → Type 0
@@ -19,13 +19,13 @@ IsRefused g bytes = (bytes ≢ []) × ¬ ShowsSome g bytes
 
 -- What a name's file holds, by the session of the name: nothing; bytes of a store that stands for its lines; or bytes
 -- that are refused.
-abbrev pub Stores : Story → Session → Bytes → Type 0
+abbrev pub Stores : Story → NamedSession → Bytes → Type 0
 Stores g Absent bytes = bytes ≡ []
 Stores g (At seed lines) bytes = Stands g seed lines bytes
 Stores g (Refused kept) bytes = (bytes ≡ kept) × IsRefused g kept
 
 -- A session is possible where the game may be played with the lines that it stands at.
-abbrev pub MayBe : Story → Session → Type 0
+abbrev pub MayBe : Story → NamedSession → Type 0
 MayBe g (At seed lines) = IsPlayedWith g seed lines
 MayBe g _ = Unit {0}
 
@@ -40,7 +40,7 @@ AllLeft g sessions m = (name : Name) → is_name name ≡ true → (bytes : Byte
     MayBeLeft (store_name name) m bytes → Stores g (sessions name) bytes
 
 -- A crash may leave these bytes while a name's first session is made: no session, or one that stands at no lines.
-abbrev pub LeftOfMaking : Story → Seed → Session → Session → Bytes → Type 0
+abbrev pub LeftOfMaking : Story → Seed → NamedSession → NamedSession → Bytes → Type 0
 LeftOfMaking g seed Absent (At own lines) bytes = IsUnmade (recover bytes) ⊎ Stands g seed [] bytes
 LeftOfMaking g seed _ _ bytes = ⊥
 
@@ -61,9 +61,9 @@ IsBetween from to text = ((more : Text) × (text ≡ from ++ more)) × ((rest : 
 -- This number of lines was taken, and this text was shown for them. The last one is at work, and the file of each name is
 -- as before it, or as after it where its store is attached. The replies to the lines before it were shown. Its own is
 -- shown only once the file of each name is as after it.
-abbrev pub KeepsUp : Story → Seed → Sessions → Lines → ℕ → Text → Moment → Type 0
-KeepsUp g seed first lines zero text m = (text ≡ []) × AllLeft g first m
-KeepsUp g seed first lines (suc n) text m =
+abbrev pub IsUpToDate : Story → Seed → Sessions → Lines → ℕ → Text → Moment → Type 0
+IsUpToDate g seed first lines zero text m = (text ≡ []) × AllLeft g first m
+IsUpToDate g seed first lines (suc n) text m =
     EachLeft g seed (sessions_after g seed first (take n lines)) (sessions_after g seed first (take (suc n) lines)) m
     × ((text ≡ replies g seed first (take n lines))
     ⊎ (IsBetween (replies g seed first (take n lines)) (replies g seed first (take (suc n) lines)) text
@@ -103,7 +103,7 @@ pub record InHost (g : Story) (seed : Seed) (first : Sessions) (old : Standing) 
   pub there : taken ≤ length old.lines
   pub asked : m.asked ≡ old.asked + taken
   pub shown : m.shown ≡ old.shown ++ text
-  pub keeps : KeepsUp g seed first old.lines taken text m
+  pub keeps : IsUpToDate g seed first old.lines taken text m
   pub attached : AttachedIn old.attached (take taken old.lines) m.attached
   pub others : (file : Name) → IsNotOf (take taken old.lines) file → m.files file ≡ old.files file
 

@@ -12,36 +12,36 @@ use Rattle.paw_host.specs.Names.{Request, request_of}
 
 -- What there is of a name: no session; one of a game that was begun with this seed and stands at these lines; or a file
 -- that is refused, with these bytes.
-pub data Session : Type 0 where
-  Absent : Session
-  At : (seed : Seed) (lines : Lines) → Session
-  Refused : (bytes : Bytes) → Session
+pub data NamedSession : Type 0 where
+  Absent : NamedSession
+  At : (seed : Seed) (lines : Lines) → NamedSession
+  Refused : (bytes : Bytes) → NamedSession
 
 -- The sessions of all names.
 abbrev pub Sessions : Type 0
-Sessions = Name → Session
+Sessions = Name → NamedSession
 
 -- The sessions, once this name has this one.
-abbrev pub with_session : Name → Session → Sessions → Sessions
-with_session name session sessions = λ n. if bytes_eq n name then session else sessions n
+abbrev pub with_named_session : Name → NamedSession → Sessions → Sessions
+with_named_session name session sessions = λ n. if bytes_eq n name then session else sessions n
 
 -- An answer: its text, and the session that there is afterwards.
 pub record Answer : Type 0 where
   pub body : Text
-  pub session : Session
+  pub session : NamedSession
 
 -- ---- one session ----
 
 -- The answer of a session that goes on to where a reading ended: the last piece. Where that piece ran out of a budget,
 -- or a call was too deep, the answer says so, and the session stays.
-abbrev pub gone_on : Session → Session → Ending → Answer
+abbrev pub gone_on : NamedSession → NamedSession → Ending → Answer
 gone_on old new (Halted (halt.Spent kind) r) = record { body = codes "spent"; session = old }
 gone_on old new (Halted (halt.TooDeep table) r) = record { body = codes "too deep"; session = old }
 gone_on old new e = record { body = last_piece (pieces_of e); session = new }
 
 -- The answer of a game that is begun with this seed.
-abbrev pub begun : Story → Seed → Answer
-begun g seed = gone_on Absent (At seed []) (reading g seed [])
+abbrev pub begun_answer : Story → Seed → Answer
+begun_answer g seed = gone_on Absent (At seed []) (reading g seed [])
 
 -- Whether a reading ended because the game is over.
 abbrev pub is_over : Ending → Bool
@@ -50,48 +50,50 @@ is_over _ = false
 
 -- The answer of a session that stands at these lines to a text. One that is over takes none, and neither does one that
 -- has all the lines that a session may have.
-abbrev pub taken : Story → Seed → Lines → Text → Answer
-taken g seed lines text =
+abbrev pub answer_taking : Story → Seed → Lines → Text → Answer
+answer_taking g seed lines text =
     if is_over (reading g seed lines) then record { body = codes "over"; session = At seed lines }
     else if nat_le EVENT_LIMIT (length lines) then record { body = codes "full"; session = At seed lines }
     else gone_on (At seed lines) (At seed (lines ++ text ∷ [])) (reading g seed (lines ++ text ∷ []))
 
 -- The answer of a session that stands at these lines to its name alone, which is its last piece, or to a text.
-abbrev pub told : Story → Seed → Lines → Option Text → Answer
-told g seed lines None = record { body = last_piece (pieces_of (reading g seed lines)); session = At seed lines }
-told g seed lines (Some text) = taken g seed lines text
+abbrev pub session_told : Story → Seed → Lines → Option Text → Answer
+session_told g seed lines None =
+    record { body = last_piece (pieces_of (reading g seed lines)); session = At seed lines }
+session_told g seed lines (Some text) = answer_taking g seed lines text
 
 -- An answer with this text put in front.
 abbrev pub behind : Text → Answer → Answer
 behind text a = record { body = text ++ a.body; session = a.session }
 
 -- The answer of a session that was just begun, which takes the text too, if there is one.
-abbrev pub begun_with : Story → Option Text → Text → Session → Answer
-begun_with g (Some text) body (At seed lines) = behind body (taken g seed lines text)
-begun_with g _ body session = record { body = body; session = session }
+abbrev pub begun_with_text : Story → Option Text → Text → NamedSession → Answer
+begun_with_text g (Some text) body (At seed lines) = behind body (answer_taking g seed lines text)
+begun_with_text g _ body session = record { body = body; session = session }
 
 -- The answer to what is asked of a session: no text, or this one. Where there is no session the game is begun with this
 -- seed.
-unfoldable pub answer : Story → Seed → Session → Option Text → Answer
-answer g seed Absent text = begun_with g text (begun g seed).body (begun g seed).session
-answer g seed (At own lines) text = told g own lines text
+unfoldable pub answer : Story → Seed → NamedSession → Option Text → Answer
+answer g seed Absent text = begun_with_text g text (begun_answer g seed).body (begun_answer g seed).session
+answer g seed (At own lines) text = session_told g own lines text
 answer g seed (Refused bytes) text = record { body = codes "refused"; session = Refused bytes }
 
 -- ---- all sessions ----
 
 -- A reply: the name in brackets and the answer, each ended by a newline.
-abbrev pub reply : Name → Text → Text
-reply name body = codes "[" ++ (name ++ (codes "]\n" ++ (body ++ codes "\n")))
+abbrev pub reply_text : Name → Text → Text
+reply_text name body = codes "[" ++ (name ++ (codes "]\n" ++ (body ++ codes "\n")))
 
 -- The reply to what a line asks for, or to a line that asks for nothing.
 abbrev pub reply_to : Story → Seed → Sessions → Option Request → Text
-reply_to g seed sessions None = reply [] (codes "bad line")
-reply_to g seed sessions (Some r) = reply r.name (answer g seed (sessions r.name) r.text).body
+reply_to g seed sessions None = reply_text [] (codes "bad line")
+reply_to g seed sessions (Some r) = reply_text r.name (answer g seed (sessions r.name) r.text).body
 
 -- The sessions after what a line asks for: only that of its name may have changed.
 abbrev pub sessions_with : Story → Seed → Sessions → Option Request → Sessions
 sessions_with g seed sessions None = sessions
-sessions_with g seed sessions (Some r) = with_session r.name (answer g seed (sessions r.name) r.text).session sessions
+sessions_with g seed sessions (Some r) =
+    with_named_session r.name (answer g seed (sessions r.name) r.text).session sessions
 
 -- The sessions after these lines.
 unfoldable pub sessions_after : Story → Seed → Sessions → Lines → Sessions

@@ -9,27 +9,27 @@ use Rattle.std.specs.declared.string.String.{String}
 use Rattle.paw_base.specs.Bytes.{Bytes, Name, Seed}
 
 -- What a call asks for: to host the game of this image, and to begin new sessions with this seed.
-pub record Call : Type 0 where
+pub record HostCall : Type 0 where
   pub image : Name
   pub seed : Seed
 
 -- The number that a word of 1 to 20 decimal digits spells.
-abbrev pub number_of : Bytes → Option ℕ
-number_of word =
+abbrev pub decimal_number : Bytes → Option ℕ
+decimal_number word =
     if nat_lt 0 (length word) && (nat_le (length word) 20 && list_all is_ascii_digit word)
     then Some (digits_value 10 word)
     else None
 
 -- The seed that a word spells: such a number, below 2^64.
 abbrev pub seed_of : Bytes → Option Seed
-seed_of word = option_and_then (λ n. if nat_lt n (2 ^ 64) then Some n else None) (number_of word)
+seed_of word = option_and_then (λ n. if nat_lt n (2 ^ 64) then Some n else None) (decimal_number word)
 
 -- The call that these words make: the name of a file, which has at least one byte, and a seed.
-abbrev pub call_of : List Bytes → Option Call
-call_of (image ∷ seed ∷ []) =
+abbrev pub host_call_of : List Bytes → Option HostCall
+host_call_of (image ∷ seed ∷ []) =
     if nat_lt 0 (length image) then option_map (λ n. record { image = image; seed = n }) (seed_of seed) else None
-call_of _ = None
+host_call_of _ = None
 
 -- What the words of a call ask for.
-abbrev pub asked_for : {Z : Type 0} → List (String Z) → Option Call
-asked_for words = call_of (map string_bytes words)
+abbrev pub asked_call : {Z : Type 0} → List (String Z) → Option HostCall
+asked_call words = host_call_of (map string_bytes words)

@@ -7,8 +7,8 @@ ghost use Rattle.paw_base.specs.Bytes.{Lines, Seed};
 ghost use Rattle.paw_base.specs.declared.limits.TheConstants.{EVENT_LIMIT, LINE_LIMIT, PIECE_LIMIT};
 ghost use Rattle.paw_stage.specs.Disk.{IsStable};
 ghost use Rattle.paw_stage.specs.Moments.{Still};
-ghost use Rattle.paw_stage.specs.Across.{Across, EachMoment, Serves};
-ghost use Rattle.paw_stage.specs.inner.Across.{Throughout};
+ghost use Rattle.paw_stage.specs.Across.{IfTelling, EachMoment, FailsOnlyBy};
+ghost use Rattle.paw_stage.specs.inner.Across.{AtEachMoment};
 ghost use Rattle.paw_stage.specs.declared.StageCall.TheVariants as call;
 ghost use Rattle.paw_routines.specs.Routines.{HaveRows};
 ghost use Rattle.paw_reading.specs.Turn.{reading};
@@ -16,17 +16,17 @@ ghost use Rattle.paw_turn.specs.inner.Player.{IsSeated, PlaysTo};
 ghost use Rattle.paw_turn.specs.inner.Parts.{IsStanding, prompt_at};
 ghost use Rattle.paw_turn.specs.declared.Step.TheVariants as step;
 ghost use Rattle.paw_journal.specs.Journal.{writing_calls};
-ghost use Rattle.paw_journal.specs.inner.Store.{IsBeside};
+ghost use Rattle.paw_journal.specs.inner.Store.{ChangesStoreOnly};
 ghost use Rattle.paw_journal.specs.inner.Journal.{IsAtRest, KeptIn, failed_stage_call};
 ghost use Rattle.paw_play.specs.Stands.{Stands};
 ghost use Rattle.paw_play.specs.inner.OnTheWay.{EachStory};
 ghost use Rattle.paw_stage.specs.Stage.{file_bytes};
-ghost use Rattle.paw_host.specs.Replies.{Session, Absent, At, taken, answer};
+ghost use Rattle.paw_host.specs.Replies.{NamedSession, Absent, At, answer_taking, answer};
 ghost use Rattle.paw_host.specs.Promise.{MayBe, Stores};
-ghost use Rattle.paw_host.specs.inner.Answers.{word_of, SitsAt, Answers, BeginsTo, TakesUp};
+ghost use Rattle.paw_host.specs.inner.Answers.{refusal_word_of, SitsAt, Answers, BeginsTo, TakesUp};
 ghost use Rattle.paw_host.specs.inner.Answers.{InFile, InAnswer, IsAside, StoresEither, LeftOf, LeftOfBeginning};
 ghost use Rattle.paw_host.specs.inner.Answers.{answer_calls, LeavesBegun};
-ghost use Rattle.paw_host.specs.inner.Seats.{AreDigestsOf, IsHosted, PlaysAnew, StandsAfter, Stays};
+ghost use Rattle.paw_host.specs.inner.Seats.{AreDigestsOf, IsHosted, PlaysAnew, StandsAfter, StaysSeated};
 ghost use Rattle.paw_host.specs.declared.reply.TheConstants.{REPLY_LIMIT};
 
 use crate::reply::Reply;
@@ -56,8 +56,8 @@ pub(crate) struct Opened {
 }
 
 /// The word for a step that brings no piece.
-fn refused(step: Step) -> Option<&'static [u8]>
-    ensures value { MatchOption result (word_of step ≡ None) (λ w. word_of step ≡ Some w.now) }
+fn refusal_word(step: Step) -> Option<&'static [u8]>
+    ensures value { MatchOption result (refusal_word_of step ≡ None) (λ w. refusal_word_of step ≡ Some w.now) }
     ensures short { IfSome result (λ w. length w.now ≤ 8) }
     ensures standing { IfNone result (IsStanding step) }
 {
@@ -103,18 +103,18 @@ fn begin<S: Stage, T: Tables, F: Fn(u8, u8) -> u8>(
     ensures anew { PlaysAnew player.old player.new }
     ensures opened { IfOk result (λ found. IfSome found (λ s. (s.events ≡ 0) × StandsAfter s.events player.new)) }
     ensures short { length reply.new ≤ length reply.old + PIECE_LIMIT }
-    ensures serves { Serves S.Stage writing_calls (failed_stage_call result) stage.old stage.new }
-    ensures leaves { Across S.Stage stage.old stage.new (λ old new. IfOk result (LeavesBegun room.new old new)) }
-    ensures beside { Across S.Stage stage.old stage.new IsBeside }
-    ensures meaning { Across S.Stage stage.old stage.new (λ old new.
+    ensures serves { FailsOnlyBy S.Stage writing_calls (failed_stage_call result) stage.old stage.new }
+    ensures leaves { IfTelling S.Stage stage.old stage.new (λ old new. IfOk result (LeavesBegun room.new old new)) }
+    ensures beside { IfTelling S.Stage stage.old stage.new ChangesStoreOnly }
+    ensures meaning { IfTelling S.Stage stage.old stage.new (λ old new.
         EachStory F.Fn player.old.routines player.old.game (λ g.
         IfOk result (BeginsTo g seed reply.old reply.new player.new new.disk.bytes))) }
-    ensures any_moment { Across S.Stage stage.old stage.new (λ old new.
+    ensures any_moment { IfTelling S.Stage stage.old stage.new (λ old new.
         EachStory F.Fn player.old.routines player.old.game (λ g.
         EachMoment S.Stage stage.old stage.new (InFile (LeftOfBeginning g seed) old))) }
 {
     let step = start_anew(player, seed);
-    if let Some(word) = refused(step) {
+    if let Some(word) = refusal_word(step) {
         reply.push(word);
         return Ok(None);
     }
@@ -143,14 +143,14 @@ fn take_up<S: Stage, T: Tables, F: Fn(u8, u8) -> u8>(
     requires digests { AreDigestsOf F.Fn player.old.game player.old.routines game.now rules.now }
     requires rests { S.Tells stage.old → IsAtRest (S.standing stage.old) }
     requires attached { S.Tells stage.old → at.length ≡ length (S.standing stage.old).disk.bytes }
-    ensures stays { Stays player.old player.new }
+    ensures stays { StaysSeated player.old player.new }
     ensures opened { IfOk result (λ found. IfSome found (λ s. StandsAfter s.events player.new)) }
-    ensures serves { Serves S.Stage (call.Read ∷ []) (failed_stage_call result) stage.old stage.new }
+    ensures serves { FailsOnlyBy S.Stage (call.Read ∷ []) (failed_stage_call result) stage.old stage.new }
     ensures still { S.Tells stage.old → S.standing stage.new ≡ S.standing stage.old }
     ensures kept { S.Tells stage.old →
         IfOk result (λ found. IfSome found (λ s. KeptIn s.journal room.new (S.standing stage.new))) }
-    ensures time { Throughout S.Stage stage.old stage.new Still }
-    ensures meaning { Across S.Stage stage.old stage.new (λ old new.
+    ensures time { AtEachMoment S.Stage stage.old stage.new Still }
+    ensures meaning { IfTelling S.Stage stage.old stage.new (λ old new.
         EachStory F.Fn player.old.routines player.old.game (λ g.
         IfOk result (TakesUp g room.new player.new old.disk.bytes))) }
 {
@@ -214,20 +214,20 @@ fn take_text<S: Stage, T: Tables, F: Fn(u8, u8) -> u8>(
     requires short { length text.now ≤ LINE_LIMIT }
     requires kept { S.Tells stage.old → KeptIn opened.journal room.old (S.standing stage.old) }
     requires room { length reply.old + PIECE_LIMIT ≤ REPLY_LIMIT }
-    ensures stays { Stays player.old player.new }
+    ensures stays { StaysSeated player.old player.new }
     ensures short { length reply.new ≤ length reply.old + PIECE_LIMIT }
-    ensures serves { Serves S.Stage writing_calls (failed_stage_call result) stage.old stage.new }
+    ensures serves { FailsOnlyBy S.Stage writing_calls (failed_stage_call result) stage.old stage.new }
     ensures rests { S.Tells stage.old → OnOk result (IsAtRest (S.standing stage.new)) }
-    ensures beside { Across S.Stage stage.old stage.new IsBeside }
-    ensures meaning { Across S.Stage stage.old stage.new (λ old new.
+    ensures beside { IfTelling S.Stage stage.old stage.new ChangesStoreOnly }
+    ensures meaning { IfTelling S.Stage stage.old stage.new (λ old new.
         EachStory F.Fn player.old.routines player.old.game (λ g. (seed : Seed) (es : Lines) →
         SitsAt g seed es player.old → opened.events ≡ length es → Stands g seed es old.disk.bytes →
-        OnOk result (Answers g (taken g seed es text.now) reply.old reply.new new.disk.bytes))) }
-    ensures any_moment { Across S.Stage stage.old stage.new (λ old new.
+        OnOk result (Answers g (answer_taking g seed es text.now) reply.old reply.new new.disk.bytes))) }
+    ensures any_moment { IfTelling S.Stage stage.old stage.new (λ old new.
         EachStory F.Fn player.old.routines player.old.game (λ g. (seed : Seed) (es : Lines) →
         SitsAt g seed es player.old → opened.events ≡ length es → Stands g seed es old.disk.bytes →
         EachMoment S.Stage stage.old stage.new
-        (InFile (StoresEither g (At seed es) (taken g seed es text.now).session) old))) }
+        (InFile (StoresEither g (At seed es) (answer_taking g seed es text.now).session) old))) }
 {
     if is_over(player) {
         reply.push(b"over");
@@ -238,7 +238,7 @@ fn take_text<S: Stage, T: Tables, F: Fn(u8, u8) -> u8>(
         return Ok(());
     }
     let step = player.take(text);
-    if let Some(word) = refused(step) {
+    if let Some(word) = refusal_word(step) {
         reply.push(word);
         return Ok(());
     }
@@ -278,15 +278,15 @@ fn answer_new<S: Stage, T: Tables, F: Fn(u8, u8) -> u8>(
     requires rests { S.Tells stage.old → IsAtRest (S.standing stage.old) }
     requires attached { S.Tells stage.old → at.length ≡ length (S.standing stage.old).disk.bytes }
     requires room { length reply.old ≤ 20 }
-    ensures stays { Stays player.old player.new }
+    ensures stays { StaysSeated player.old player.new }
     ensures short { length reply.new ≤ length reply.old + 2 * PIECE_LIMIT }
-    ensures serves { Serves S.Stage writing_calls (failed_stage_call result) stage.old stage.new }
+    ensures serves { FailsOnlyBy S.Stage writing_calls (failed_stage_call result) stage.old stage.new }
     ensures rests { S.Tells stage.old → OnOk result (IsAtRest (S.standing stage.new)) }
-    ensures beside { Across S.Stage stage.old stage.new IsBeside }
-    ensures meaning { Across S.Stage stage.old stage.new (λ old new.
+    ensures beside { IfTelling S.Stage stage.old stage.new ChangesStoreOnly }
+    ensures meaning { IfTelling S.Stage stage.old stage.new (λ old new.
         EachStory F.Fn player.old.routines player.old.game (λ g.
         OnOk result (Answers g (answer g hosted.now.seed Absent (option_copied text.entry)) reply.old reply.new new.disk.bytes))) }
-    ensures any_moment { Across S.Stage stage.old stage.new (λ old new.
+    ensures any_moment { IfTelling S.Stage stage.old stage.new (λ old new.
         EachStory F.Fn player.old.routines player.old.game (λ g.
         EachMoment S.Stage stage.old stage.new
         (InFile (LeftOf g hosted.now.seed Absent (answer g hosted.now.seed Absent (option_copied text.entry)).session) old))) }
@@ -327,17 +327,17 @@ fn answer_kept<S: Stage, T: Tables, F: Fn(u8, u8) -> u8>(
     requires rests { S.Tells stage.old → IsAtRest (S.standing stage.old) }
     requires attached { S.Tells stage.old → at.length ≡ length (S.standing stage.old).disk.bytes }
     requires room { length reply.old ≤ 20 }
-    ensures stays { Stays player.old player.new }
+    ensures stays { StaysSeated player.old player.new }
     ensures short { length reply.new ≤ length reply.old + 2 * PIECE_LIMIT }
-    ensures serves { Serves S.Stage (call.Read ∷ writing_calls) (failed_stage_call result) stage.old stage.new }
+    ensures serves { FailsOnlyBy S.Stage (call.Read ∷ writing_calls) (failed_stage_call result) stage.old stage.new }
     ensures rests { S.Tells stage.old → OnOk result (IsAtRest (S.standing stage.new)) }
-    ensures beside { Across S.Stage stage.old stage.new IsBeside }
-    ensures meaning { Across S.Stage stage.old stage.new (λ old new.
-        EachStory F.Fn player.old.routines player.old.game (λ g. (before : Session) → MayBe g before →
+    ensures beside { IfTelling S.Stage stage.old stage.new ChangesStoreOnly }
+    ensures meaning { IfTelling S.Stage stage.old stage.new (λ old new.
+        EachStory F.Fn player.old.routines player.old.game (λ g. (before : NamedSession) → MayBe g before →
         Stores g before old.disk.bytes →
         OnOk result (Answers g (answer g hosted.now.seed before (option_copied text.entry)) reply.old reply.new new.disk.bytes))) }
-    ensures any_moment { Across S.Stage stage.old stage.new (λ old new.
-        EachStory F.Fn player.old.routines player.old.game (λ g. (before : Session) → MayBe g before →
+    ensures any_moment { IfTelling S.Stage stage.old stage.new (λ old new.
+        EachStory F.Fn player.old.routines player.old.game (λ g. (before : NamedSession) → MayBe g before →
         Stores g before old.disk.bytes →
         EachMoment S.Stage stage.old stage.new
         (InFile (StoresEither g before (answer g hosted.now.seed before (option_copied text.entry)).session) old))) }
@@ -381,18 +381,18 @@ pub(crate) fn answer<S: Stage, T: Tables, F: Fn(u8, u8) -> u8>(
     requires short { IfSome text (λ t. length t.now ≤ LINE_LIMIT) }
     requires synced { S.Tells stage.old → IsStable (S.standing stage.old).disk }
     requires room { length reply.old ≤ 20 }
-    ensures stays { Stays player.old player.new }
+    ensures stays { StaysSeated player.old player.new }
     ensures short { length reply.new ≤ length reply.old + 2 * PIECE_LIMIT }
-    ensures serves { Serves S.Stage answer_calls (failed_stage_call result) stage.old stage.new }
+    ensures serves { FailsOnlyBy S.Stage answer_calls (failed_stage_call result) stage.old stage.new }
     ensures synced { S.Tells stage.old → OnOk result (IsStable (S.standing stage.new).disk) }
-    ensures aside { Across S.Stage stage.old stage.new (IsAside store.now) }
-    ensures attached { Across S.Stage stage.old stage.new (λ old new. OnOk result (new.attached ≡ Some store.now)) }
-    ensures meaning { Across S.Stage stage.old stage.new (λ old new.
-        EachStory F.Fn player.old.routines player.old.game (λ g. (before : Session) → MayBe g before →
+    ensures aside { IfTelling S.Stage stage.old stage.new (IsAside store.now) }
+    ensures attached { IfTelling S.Stage stage.old stage.new (λ old new. OnOk result (new.attached ≡ Some store.now)) }
+    ensures meaning { IfTelling S.Stage stage.old stage.new (λ old new.
+        EachStory F.Fn player.old.routines player.old.game (λ g. (before : NamedSession) → MayBe g before →
         Stores g before (file_bytes old store.now) →
         OnOk result (Answers g (answer g hosted.now.seed before (option_copied text.entry)) reply.old reply.new (file_bytes new store.now)))) }
-    ensures any_moment { Across S.Stage stage.old stage.new (λ old new.
-        EachStory F.Fn player.old.routines player.old.game (λ g. (before : Session) → MayBe g before →
+    ensures any_moment { IfTelling S.Stage stage.old stage.new (λ old new.
+        EachStory F.Fn player.old.routines player.old.game (λ g. (before : NamedSession) → MayBe g before →
         Stores g before (file_bytes old store.now) →
         EachMoment S.Stage stage.old stage.new
         (InAnswer g hosted.now.seed store.now before (answer g hosted.now.seed before (option_copied text.entry)).session old))) }

@@ -2,12 +2,12 @@
 
 ghost use Rattle.std.specs.Prelude.{◌≡◌, ◌↔◌, ◌≢◌, ◌++◌, None, IfSome};
 ghost use Rattle.paw_base.specs.Bytes.{RoutineRows};
-ghost use Rattle.paw_stage.specs.Across.{Across, EachMoment, Serves};
+ghost use Rattle.paw_stage.specs.Across.{IfTelling, EachMoment, FailsOnlyBy};
 ghost use Rattle.paw_stage.specs.Disk.{IsStable};
 ghost use Rattle.paw_routines.specs.Routines.{AreRowsOf, HaveRows};
 ghost use Rattle.paw_play.specs.Calls.{session_calls};
-ghost use Rattle.paw_host.specs.Outcomes.{failed_call};
-ghost use Rattle.paw_host.specs.Words.{asked_for};
+ghost use Rattle.paw_host.specs.Outcomes.{host_failure};
+ghost use Rattle.paw_host.specs.Words.{asked_call};
 ghost use Rattle.paw_play.specs.inner.OnTheWay.{EachStory};
 ghost use Rattle.paw_host.specs.Replies.{Sessions};
 ghost use Rattle.paw_host.specs.Promise.{BeginsWith, InHost};
@@ -37,12 +37,12 @@ fn host_game<S: Stage, T: Tables, F: Fn(u8, u8) -> u8>(
     requires digests { AreDigestsOf F.Fn (T.game hosted.now.tables.now) routines.now hosted.now.game hosted.now.rules }
     requires synced { S.Tells stage.old → IsStable (S.standing stage.old).disk }
     ensures form { result ≢ outcome.Usage }
-    ensures serves { Serves S.Stage session_calls (failed_call result) stage.old stage.new }
-    ensures ends { Across S.Stage stage.old stage.new (λ old new. Ends old new result) }
-    ensures meaning { Across S.Stage stage.old stage.new (λ old new.
+    ensures serves { FailsOnlyBy S.Stage session_calls (host_failure result) stage.old stage.new }
+    ensures ends { IfTelling S.Stage stage.old stage.new (λ old new. Ends old new result) }
+    ensures meaning { IfTelling S.Stage stage.old stage.new (λ old new.
         EachStory F.Fn routines.now (T.game hosted.now.tables.now) (λ g. (first : Sessions) →
         BeginsWith g first old → Hosts g hosted.now.seed first old new result)) }
-    ensures any_moment { Across S.Stage stage.old stage.new (λ old new.
+    ensures any_moment { IfTelling S.Stage stage.old stage.new (λ old new.
         EachStory F.Fn routines.now (T.game hosted.now.tables.now) (λ g. (first : Sessions) →
         BeginsWith g first old →
         EachMoment S.Stage stage.old stage.new (InHost g hosted.now.seed first old))) }
@@ -72,12 +72,12 @@ pub fn host<S: Stage, F: Fn(u8, u8) -> u8>(
 ) -> HostOutcome
     requires rows { HaveRows F.Fn routines.now }
     requires synced { S.Tells stage.old → IsStable (S.standing stage.old).disk }
-    ensures usage { (result ≡ outcome.Usage) ↔ (asked_for words.now ≡ None) }
-    ensures idle { asked_for words.now ≡ None → stage.new ≡ stage.old }
-    ensures serves { Serves S.Stage (load_calls ++ session_calls) (failed_call result) stage.old stage.new }
-    ensures comes { Across S.Stage stage.old stage.new (λ old new. IfSome (asked_for words.now) (λ c.
+    ensures usage { (result ≡ outcome.Usage) ↔ (asked_call words.now ≡ None) }
+    ensures idle { asked_call words.now ≡ None → stage.new ≡ stage.old }
+    ensures serves { FailsOnlyBy S.Stage (load_calls ++ session_calls) (host_failure result) stage.old stage.new }
+    ensures comes { IfTelling S.Stage stage.old stage.new (λ old new. IfSome (asked_call words.now) (λ c.
         (X : RoutineRows) → AreRowsOf F.Fn routines.now X → HostsFile X c.image c.seed old new result)) }
-    ensures moments { Across S.Stage stage.old stage.new (λ old new. IfSome (asked_for words.now) (λ c.
+    ensures moments { IfTelling S.Stage stage.old stage.new (λ old new. IfSome (asked_call words.now) (λ c.
         (X : RoutineRows) → AreRowsOf F.Fn routines.now X →
         HostsAtEachMoment (EachMoment S.Stage stage.old stage.new) X c.image c.seed old)) }
 {

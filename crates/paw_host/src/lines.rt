@@ -3,21 +3,22 @@
 ghost use Rattle.std.specs.Prelude.{◌≡◌, ◌≢◌, ◌≤◌, [], Some, true, codes, length, IfOk, OnOk, IfSome, IfNone};
 ghost use Rattle.paw_base.specs.declared.limits.TheConstants.{LINE_LIMIT};
 ghost use Rattle.paw_stage.specs.Disk.{IsStable};
-ghost use Rattle.paw_stage.specs.Across.{Across, EachMoment, Serves};
+ghost use Rattle.paw_stage.specs.Across.{IfTelling, EachMoment, FailsOnlyBy};
 ghost use Rattle.paw_turn.specs.inner.Player.{IsSeated};
 ghost use Rattle.paw_journal.specs.inner.Journal.{failed_stage_call};
 ghost use Rattle.paw_play.specs.Calls.{session_calls};
 ghost use Rattle.paw_play.specs.inner.OnTheWay.{EachStory};
 ghost use Rattle.paw_host.specs.Names.{is_name, request_in};
-ghost use Rattle.paw_host.specs.Replies.{Sessions, reply as spoken};
+ghost use Rattle.paw_host.specs.Replies.{Sessions, reply_text as spoken};
 ghost use Rattle.paw_host.specs.Promise.{AllStore, BeginsWith, InHost};
 ghost use Rattle.paw_host.specs.Hosts.{Ends, Hosts};
-ghost use Rattle.paw_host.specs.Outcomes.{failed_call};
+ghost use Rattle.paw_host.specs.Outcomes.{host_failure};
 ghost use Rattle.paw_host.specs.declared.outcome.HostOutcome.TheVariants as outcome;
 ghost use Rattle.paw_host.specs.inner.Names.{asks};
 ghost use Rattle.paw_host.specs.inner.Answers.{answer_calls};
-ghost use Rattle.paw_host.specs.inner.Seats.{IsHosted, Stays};
-ghost use Rattle.paw_host.specs.inner.Lines.{AllMay, Does, Doing, EachServing, SameLines, ServesTo, TakesTo, failed_so_far};
+ghost use Rattle.paw_host.specs.inner.Seats.{IsHosted, StaysSeated};
+ghost use Rattle.paw_host.specs.inner.Lines.{AllMay, AnswersRequest, Doing, EachServing, SameLines, ServesTo, TakesTo};
+ghost use Rattle.paw_host.specs.inner.Lines.{host_failure_so_far};
 
 use crate::answer::{Hosted, answer};
 use crate::names::{Request, StoreName, request_in};
@@ -88,15 +89,16 @@ impl<'a, T: Tables, F: Fn(u8, u8) -> u8> Seats<'a, T, F> {
         requires name { is_name request.name.now ≡ true }
         requires short { IfSome request.text (λ t. length t.now ≤ LINE_LIMIT) }
         requires synced { S.Tells stage.old → IsStable (S.standing stage.old).disk }
-        ensures stays { Stays self.old.player self.new.player }
-        ensures serves { Serves S.Stage answer_calls (failed_stage_call result) stage.old stage.new }
+        ensures stays { StaysSeated self.old.player self.new.player }
+        ensures serves { FailsOnlyBy S.Stage answer_calls (failed_stage_call result) stage.old stage.new }
         ensures synced { S.Tells stage.old → OnOk result (IsStable (S.standing stage.new).disk) }
-        ensures lines { Across S.Stage stage.old stage.new SameLines }
-        ensures done { Across S.Stage stage.old stage.new (λ old new.
+        ensures lines { IfTelling S.Stage stage.old stage.new SameLines }
+        ensures done { IfTelling S.Stage stage.old stage.new (λ old new.
             EachStory F.Fn self.old.player.routines self.old.player.game (λ g. (sessions : Sessions) →
             AllMay g sessions → AllStore g sessions old →
-            OnOk result (Does g hosted.now.seed sessions (Some (asks request.entry)) self.new.reply old new))) }
-        ensures any_moment { Across S.Stage stage.old stage.new (λ old new.
+            OnOk result
+            (AnswersRequest g hosted.now.seed sessions (Some (asks request.entry)) self.new.reply old new))) }
+        ensures any_moment { IfTelling S.Stage stage.old stage.new (λ old new.
             EachStory F.Fn self.old.player.routines self.old.player.game (λ g. (sessions : Sessions) →
             AllMay g sessions → AllStore g sessions old →
             EachMoment S.Stage stage.old stage.new (Doing g hosted.now.seed sessions (Some (asks request.entry)) old))) }
@@ -129,15 +131,15 @@ impl<'a, T: Tables, F: Fn(u8, u8) -> u8> Seats<'a, T, F> {
         requires hosted { IsHosted F.Fn (T.game hosted.now.tables.now) hosted.now.game hosted.now.rules self.old.player }
         requires short { length line.now ≤ LINE_LIMIT }
         requires synced { S.Tells stage.old → IsStable (S.standing stage.old).disk }
-        ensures stays { Stays self.old.player self.new.player }
-        ensures serves { Serves S.Stage answer_calls (failed_stage_call result) stage.old stage.new }
+        ensures stays { StaysSeated self.old.player self.new.player }
+        ensures serves { FailsOnlyBy S.Stage answer_calls (failed_stage_call result) stage.old stage.new }
         ensures synced { S.Tells stage.old → OnOk result (IsStable (S.standing stage.new).disk) }
-        ensures lines { Across S.Stage stage.old stage.new SameLines }
-        ensures done { Across S.Stage stage.old stage.new (λ old new.
+        ensures lines { IfTelling S.Stage stage.old stage.new SameLines }
+        ensures done { IfTelling S.Stage stage.old stage.new (λ old new.
             EachStory F.Fn self.old.player.routines self.old.player.game (λ g. (sessions : Sessions) →
             AllMay g sessions → AllStore g sessions old →
-            OnOk result (Does g hosted.now.seed sessions (request_in line.now) self.new.reply old new))) }
-        ensures any_moment { Across S.Stage stage.old stage.new (λ old new.
+            OnOk result (AnswersRequest g hosted.now.seed sessions (request_in line.now) self.new.reply old new))) }
+        ensures any_moment { IfTelling S.Stage stage.old stage.new (λ old new.
             EachStory F.Fn self.old.player.routines self.old.player.game (λ g. (sessions : Sessions) →
             AllMay g sessions → AllStore g sessions old →
             EachMoment S.Stage stage.old stage.new (Doing g hosted.now.seed sessions (request_in line.now) old))) }
@@ -155,15 +157,15 @@ impl<'a, T: Tables, F: Fn(u8, u8) -> u8> Seats<'a, T, F> {
     fn serve<S: Stage>(&mut self, stage: &mut S, hosted: &Hosted<'_, T>) -> Option<HostOutcome>
         requires hosted { IsHosted F.Fn (T.game hosted.now.tables.now) hosted.now.game hosted.now.rules self.old.player }
         requires synced { S.Tells stage.old → IsStable (S.standing stage.old).disk }
-        ensures stays { Stays self.old.player self.new.player }
+        ensures stays { StaysSeated self.old.player self.new.player }
         ensures form { IfSome result (λ o. o ≢ outcome.Usage) }
-        ensures serves { Serves S.Stage session_calls (failed_so_far result) stage.old stage.new }
+        ensures serves { FailsOnlyBy S.Stage session_calls (host_failure_so_far result) stage.old stage.new }
         ensures synced { S.Tells stage.old → IfNone result (IsStable (S.standing stage.new).disk) }
-        ensures takes { Across S.Stage stage.old stage.new (λ old new. TakesTo old new result) }
-        ensures meaning { Across S.Stage stage.old stage.new (λ old new.
+        ensures takes { IfTelling S.Stage stage.old stage.new (λ old new. TakesTo old new result) }
+        ensures meaning { IfTelling S.Stage stage.old stage.new (λ old new.
             EachStory F.Fn self.old.player.routines self.old.player.game (λ g.
             EachServing g hosted.now.seed old (λ first start n. ServesTo g hosted.now.seed first start new n result))) }
-        ensures any_moment { Across S.Stage stage.old stage.new (λ old new.
+        ensures any_moment { IfTelling S.Stage stage.old stage.new (λ old new.
             EachStory F.Fn self.old.player.routines self.old.player.game (λ g.
             EachServing g hosted.now.seed old (λ first start n.
             EachMoment S.Stage stage.old stage.new (InHost g hosted.now.seed first start)))) }
@@ -194,12 +196,12 @@ impl<'a, T: Tables, F: Fn(u8, u8) -> u8> Seats<'a, T, F> {
         requires hosted { IsHosted F.Fn (T.game hosted.now.tables.now) hosted.now.game hosted.now.rules self.old.player }
         requires synced { S.Tells stage.old → IsStable (S.standing stage.old).disk }
         ensures form { result ≢ outcome.Usage }
-        ensures serves { Serves S.Stage session_calls (failed_call result) stage.old stage.new }
-        ensures ends { Across S.Stage stage.old stage.new (λ old new. Ends old new result) }
-        ensures meaning { Across S.Stage stage.old stage.new (λ old new.
+        ensures serves { FailsOnlyBy S.Stage session_calls (host_failure result) stage.old stage.new }
+        ensures ends { IfTelling S.Stage stage.old stage.new (λ old new. Ends old new result) }
+        ensures meaning { IfTelling S.Stage stage.old stage.new (λ old new.
             EachStory F.Fn self.old.player.routines self.old.player.game (λ g. (first : Sessions) →
             BeginsWith g first old → Hosts g hosted.now.seed first old new result)) }
-        ensures any_moment { Across S.Stage stage.old stage.new (λ old new.
+        ensures any_moment { IfTelling S.Stage stage.old stage.new (λ old new.
             EachStory F.Fn self.old.player.routines self.old.player.game (λ g. (first : Sessions) →
             BeginsWith g first old →
             EachMoment S.Stage stage.old stage.new (InHost g hosted.now.seed first old))) }

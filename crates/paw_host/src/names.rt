@@ -55,7 +55,7 @@ fn first_space(line: &[u8]) -> Option<usize>
 }
 
 /// The request of a line, which is parted at its first space.
-fn parted<'a>(line: &'a [u8]) -> Request<'a>
+fn split_request<'a>(line: &'a [u8]) -> Request<'a>
     ensures value { asks result ≡ parted line.now }
 {
     match first_space(line) {
@@ -76,7 +76,7 @@ pub(crate) fn request_in<'a>(line: &'a [u8]) -> Option<Request<'a>>
     ensures name { IfSome result (λ r. is_name r.name.now ≡ true) }
     ensures short { IfSome result (λ r. IfSome r.text (λ text. length text.now ≤ length line.now)) }
 {
-    let request = parted(line);
+    let request = split_request(line);
     if is_name(request.name) {
         Some(request)
     } else {

@@ -1,13 +1,13 @@
 // The game of an image file.
 
 ghost use Rattle.std.specs.Prelude.{◌≡◌, ◌≢◌, ℕ, List, None, Some, IfOk, IfErr};
-ghost use Rattle.paw_stage.specs.Across.{Across, Serves};
-ghost use Rattle.paw_stage.specs.inner.Across.{Throughout};
+ghost use Rattle.paw_stage.specs.Across.{IfTelling, FailsOnlyBy};
+ghost use Rattle.paw_stage.specs.inner.Across.{AtEachMoment};
 ghost use Rattle.paw_stage.specs.Moments.{Still};
 ghost use Rattle.paw_image.specs.Images.{IsImage};
 ghost use Rattle.paw_image.specs.inner.Views.{game_read};
 ghost use Rattle.paw_host.specs.Hosts.{load_calls};
-ghost use Rattle.paw_host.specs.inner.Opens.{LoadsSome, LoadsNone, GivesNone, failed_or};
+ghost use Rattle.paw_host.specs.inner.Opens.{ReadsImage, ReadsNoImage, OpensNone, host_failure_or};
 ghost use Rattle.paw_host.specs.declared.outcome.HostOutcome.TheVariants as outcome;
 
 use crate::outcome::HostOutcome;
@@ -23,12 +23,12 @@ pub(crate) fn load<S: Stage>(
     stage: &mut S,
     name: &str,
 ) -> Result<Vec<u8>, HostOutcome>
-    ensures serves { Serves S.Stage load_calls (failed_or result) stage.old stage.new }
+    ensures serves { FailsOnlyBy S.Stage load_calls (host_failure_or result) stage.old stage.new }
     ensures form { IfErr result (λ o. o ≢ outcome.Usage) }
-    ensures some { Across S.Stage stage.old stage.new (λ old new.
-        IfOk result (λ v. LoadsSome name.now old new v.items)) }
-    ensures none { Across S.Stage stage.old stage.new (λ old new. IfErr result (LoadsNone name.now old new)) }
-    ensures time { Throughout S.Stage stage.old stage.new Still }
+    ensures some { IfTelling S.Stage stage.old stage.new (λ old new.
+        IfOk result (λ v. ReadsImage name.now old new v.items)) }
+    ensures none { IfTelling S.Stage stage.old stage.new (λ old new. IfErr result (ReadsNoImage name.now old new)) }
+    ensures time { AtEachMoment S.Stage stage.old stage.new Still }
 {
     match stage.load(alloc, name, IMAGE_LIMIT) {
         Ok(bytes) => Ok(bytes),
@@ -42,9 +42,9 @@ pub(crate) fn load<S: Stage>(
 pub(crate) fn view_in<'a>(alloc: Global, bytes: &'a [u8]) -> Result<View<'a>, HostOutcome>
     ensures found { IfOk result (λ view. IsImage bytes.now (game_read view)) }
     ensures bytes { IfOk result (λ view. view ≡ bytes.now) }
-    ensures none { IfErr result (GivesNone bytes.now) }
+    ensures none { IfErr result (OpensNone bytes.now) }
     ensures form { IfErr result (λ o. o ≢ outcome.Usage) }
-    ensures fine { failed_or result ≡ None }
+    ensures fine { host_failure_or result ≡ None }
 {
     match View::new(alloc, bytes) {
         Ok(view) => Ok(view),

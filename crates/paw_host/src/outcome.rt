@@ -1,7 +1,7 @@
 // How hosting ends.
 
 ghost use Rattle.std.specs.Prelude.{◌≡◌};
-ghost use Rattle.paw_host.specs.Outcomes.{status_of};
+ghost use Rattle.paw_host.specs.Outcomes.{host_status};
 
 use paw_stage::StageCall;
 
@@ -25,7 +25,7 @@ pub const NO_MEMORY: u8 = 8;
 impl HostOutcome {
     /// The exit status of the program.
     pub fn status(&self) -> u8
-        ensures value { result ≡ status_of self.now }
+        ensures value { result ≡ host_status self.now }
     {
         match self {
             HostOutcome::InputEnded => 0,

@@ -3,12 +3,12 @@
 ghost use Rattle.std.specs.Prelude.{◌≡◌, ◌&&◌, length, map, nat_le, string_bytes};
 ghost use Rattle.std.specs.Char.{is_ascii_digit};
 ghost use Rattle.std.specs.List.{list_all};
-ghost use Rattle.paw_host.specs.Words.{call_of, seed_of};
+ghost use Rattle.paw_host.specs.Words.{host_call_of, seed_of};
 ghost use Rattle.paw_host.specs.inner.Words.{SpellsCall};
 
 /// What is asked for: the game of this image file is hosted, and new sessions are begun with this seed.
 #[derive(Clone, Copy, Drop)]
-pub(crate) struct Call<'a> {
+pub(crate) struct HostCall<'a> {
     pub image: &'a str,
     pub seed: u64,
 }
@@ -39,8 +39,8 @@ fn seed_of(word: &str) -> Option<u64>
 
 /// What these words ask for: the name of a file, which has at least one byte, and a seed. None where they have no such
 /// form.
-pub(crate) fn call_of<'a>(words: &'a [String]) -> Option<Call<'a>>
-    ensures value { SpellsCall result (call_of (map string_bytes words.now)) }
+pub(crate) fn call_of<'a>(words: &'a [String]) -> Option<HostCall<'a>>
+    ensures value { SpellsCall result (host_call_of (map string_bytes words.now)) }
 {
     let [image, seed] = words else {
         return None;
@@ -49,7 +49,7 @@ pub(crate) fn call_of<'a>(words: &'a [String]) -> Option<Call<'a>>
         return None;
     }
     let seed = seed_of(seed.as_str())?;
-    Some(Call {
+    Some(HostCall {
         image: image.as_str(),
         seed,
     })

@@ -11,13 +11,13 @@ use Rattle.paw_base.specs.declared.rows.ParamKind.{ParamKind}
 use Rattle.paw_base.specs.declared.rows.ParamKind.TheVariants as kind
 use Rattle.paw_base.specs.Condacts.{first_kind, second_kind}
 use Rattle.paw_game.specs.Image.{parameter_image, condact_image}
-use Rattle.paw_image.specs.inner.CondactMarks.{IsEnd, GoesOnAt, AreMarks, KeepsPlaces, MarkEntry, MarkEntries}
-use Rattle.paw_image.specs.Damage.{Preface, Passing, each, after_condact}
+use Rattle.paw_image.specs.inner.CondactMarks.{IsEnd, GoesOnAt, AreMarks, BeginsWithList, MarkEntry, MarkEntries}
+use Rattle.paw_image.specs.Damage.{ImagePreface, Passing, each, after_condact}
 use Rattle.paw_faults.specs.Bind.{◌>>=◌}
 use Rattle.paw_image.specs.Reading.{byte_at}
 use Rattle.paw_faults.specs.inner.Gives.{Fails}
 use Rattle.paw_image.specs.inner.Rows.{past_condact, condact_after, condact_among, value_of}
-use Rattle.paw_faults.specs.declared.unread.Unread.{Unread}
+use Rattle.paw_faults.specs.declared.read_error.ReadError.{ReadError}
 use Rattle.paw_image.proofs.EndLaws.{end_whole, end_taken, end_of_end}
 use Rattle.paw_image.proofs.Faults.{fails_next}
 use Rattle.paw_image.proofs.FieldLaws.{IsBytes, at_ok, bind_then}
@@ -78,7 +78,7 @@ pub record Walked (n : ℕ) (bytes rest : List ℕ) : Type 0 where
   pub end : IsEnd bytes rest
   pub short : length bytes ≤ length rest + n * 3
 
-pub condacts_walked : (d : Preface) (n : ℕ) (bytes rest : List ℕ) → IsBytes bytes → each (after_condact d) n bytes ≡ Ok rest
+pub condacts_walked : (d : ImagePreface) (n : ℕ) (bytes rest : List ℕ) → IsBytes bytes → each (after_condact d) n bytes ≡ Ok rest
     → Walked n bytes rest
 unfolding each
 condacts_walked d zero bytes rest fits e =
@@ -142,14 +142,14 @@ all_marked marks condacts start count so_far k lt =
     (m.0, get_drop start marks k ∙ m.1, m.2)
 
 -- The mark after the condacts that were passed over.
-pub mark_is : (d : Preface) (n : ℕ) (bytes rest : List ℕ) → IsBytes bytes → each (after_condact d) n bytes ≡ Ok rest
+pub mark_is : (d : ImagePreface) (n : ℕ) (bytes rest : List ℕ) → IsBytes bytes → each (after_condact d) n bytes ≡ Ok rest
     → GoesOnAt n bytes (length bytes - length rest)
 mark_is d n bytes rest fits e =
     let walked = condacts_walked d n bytes rest fits e in
     walked.past ∙ ap (λ (r : List ℕ). Ok r) (sym walked.end)
 
 -- Marks that are kept mark the same entry.
-pub entry_kept : (first : ℕ) (marks more bytes : List ℕ) → KeepsPlaces marks more → MarkEntry (drop first marks) bytes → MarkEntry (drop first more) bytes
+pub entry_kept : (first : ℕ) (marks more bytes : List ℕ) → BeginsWithList marks more → MarkEntry (drop first marks) bytes → MarkEntry (drop first more) bytes
 entry_kept first marks more [] keeps h = tt
 entry_kept first marks more (verb ∷ []) keeps h = tt
 entry_kept first marks more (verb ∷ noun ∷ []) keeps h = tt
@@ -158,7 +158,7 @@ entry_kept first marks more (verb ∷ noun ∷ count ∷ condacts) keeps h = λ 
     (m.0, get_drop first more k ∙ keeps (first + k) m.0 (sym (get_drop first marks k) ∙ m.1), m.2)
 
 pub one_more_entry : (all offsets firsts marks more : List ℕ) (p : ℕ) → length offsets ≡ length firsts → MarkEntries all offsets firsts marks
-    → KeepsPlaces marks more → MarkEntry (drop (length marks) more) (drop p all)
+    → BeginsWithList marks more → MarkEntry (drop (length marks) more) (drop p all)
     → MarkEntries all (offsets ++ p ∷ []) (firsts ++ length marks ∷ []) more
 one_more_entry all offsets firsts marks more p same so_far keeps last e q found =
     elim (cases_lt e (length offsets)) [
@@ -202,14 +202,14 @@ marks_at marks (verb ∷ noun ∷ count ∷ condacts) le h =
 -- ---- as they are passed over ----
 
 -- The first fault of eight rows after some others is that of all.
-pub eights_fail : (pass : List ℕ → Passing) (i count : ℕ) (bytes rest : List ℕ) (e : Unread ℕ) → i * 8 + 8 ≤ count
+pub eights_fail : (pass : List ℕ → Passing) (i count : ℕ) (bytes rest : List ℕ) (e : ReadError ℕ) → i * 8 + 8 ≤ count
     → each pass (i * 8) bytes ≡ Ok rest → Fails e (each pass 8 rest) → Fails e (each pass count bytes)
 eights_fail pass i count bytes rest e le so_far h =
     let n = count - (i * 8 + 8) in
     let all = each_more pass (i * 8) (8 + n) count bytes rest (omega (arith, le)) so_far ∙ each_add pass 8 n rest in
     subst (λ (p : Passing). Fails e p) (sym all) (fails_next e (each pass 8 rest) (each pass n) h)
 
-pub mark_small : (d : Preface) (n : ℕ) (bytes rest : List ℕ) → IsBytes bytes → each (after_condact d) n bytes ≡ Ok rest → n ≤ 255
+pub mark_small : (d : ImagePreface) (n : ℕ) (bytes rest : List ℕ) → IsBytes bytes → each (after_condact d) n bytes ≡ Ok rest → n ≤ 255
     → length bytes - length rest < 2 ^ 16
 mark_small d n bytes rest fits e le = omega (arith, (condacts_walked d n bytes rest fits e).short, le)
 

@@ -3,10 +3,10 @@ use Rattle.std.proofs.Common.{◌≡◌, ℕ, suc, ◌-◌, ◌+◌, ◌≤◌, 
 use Rattle.std.proofs.Common.{◌∙◌, append_assoc, arith}
 use Rattle.std.specs.List.{AllByRecursion}
 use Rattle.std.proofs.lemmas.List.{append-nil, map-append}
-use Rattle.paw_faults.specs.declared.unread.Unread.{Unread}
-use Rattle.paw_faults.specs.declared.unread.Unread.TheVariants as fault
+use Rattle.paw_faults.specs.declared.read_error.ReadError.{ReadError}
+use Rattle.paw_faults.specs.declared.read_error.ReadError.TheVariants as fault
 use Rattle.paw_faults.specs.inner.Gives.{Fails}
-use Rattle.paw_image.specs.Damage.{Preface, Passing, each, exit_kept, after_exits_of, after_table}
+use Rattle.paw_image.specs.Damage.{ImagePreface, Passing, each, checked_exit, after_exits_of, after_table}
 use Rattle.paw_image.specs.inner.Offsets.{begins, entries_begin, entries_of, tables_begin}
 use Rattle.paw_image.specs.declared.offsets.TableIndex.{TableIndex}
 
@@ -20,7 +20,7 @@ module _ (pass : List ℕ → Passing) (count i : ℕ) (bytes : List ℕ) (total
       let one : each pass (count - i) bytes ≡ each pass (count - (i + 1)) after = rw (k, h) refl in
       sym one ∙ so_far
 
-  pub each_ends : (e : Unread ℕ) → i < count → Fails e (pass bytes) → each pass (count - i) bytes ≡ total → Fails e total
+  pub each_ends : (e : ReadError ℕ) → i < count → Fails e (pass bytes) → each pass (count - i) bytes ≡ total → Fails e total
   unfolding each
   each_ends fault.Memory lt h so_far = tt
   each_ends (fault.Fault left) lt h so_far =
@@ -37,8 +37,8 @@ module _ (pass : List ℕ → Passing) (count i : ℕ) (bytes : List ℕ) (total
 
 -- ---- exits ----
 
-module _ (d : Preface) (verbs : List ℕ) (count i : ℕ) (bytes : List ℕ) (total : Passing) where
-  pub exits_go_on : (verb : ℕ) (after : List ℕ) → i < count → exit_kept d verbs bytes ≡ Ok (verb, after) → after_exits_of d verbs (count - i) bytes ≡ total
+module _ (d : ImagePreface) (verbs : List ℕ) (count i : ℕ) (bytes : List ℕ) (total : Passing) where
+  pub exits_go_on : (verb : ℕ) (after : List ℕ) → i < count → checked_exit d verbs bytes ≡ Ok (verb, after) → after_exits_of d verbs (count - i) bytes ≡ total
       → after_exits_of d (verb ∷ verbs) (count - (i + 1)) after ≡ total
   unfolding after_exits_of
   exits_go_on verb after lt h so_far =
@@ -46,7 +46,7 @@ module _ (d : Preface) (verbs : List ℕ) (count i : ℕ) (bytes : List ℕ) (to
       let one : after_exits_of d verbs (count - i) bytes ≡ after_exits_of d (verb ∷ verbs) (count - (i + 1)) after = rw (k, h) refl in
       sym one ∙ so_far
 
-  pub exits_end : (e : Unread ℕ) → i < count → Fails e (exit_kept d verbs bytes) → after_exits_of d verbs (count - i) bytes ≡ total → Fails e total
+  pub exits_end : (e : ReadError ℕ) → i < count → Fails e (checked_exit d verbs bytes) → after_exits_of d verbs (count - i) bytes ≡ total → Fails e total
   unfolding after_exits_of
   exits_end fault.Memory lt h so_far = tt
   exits_end (fault.Fault left) lt h so_far =
@@ -79,7 +79,7 @@ module _ (pass : List ℕ → Passing) (total : ℕ) (front : List ℕ) (count i
       let one : front ++ begins pass total (count - i) bytes ≡ front = rw k (append-nil front) in
       sym one ∙ so_far
 
-module _ (d : Preface) (total : ℕ) (front : List TableIndex) (count i : ℕ) (bytes : List ℕ) (whole : List (List ℕ)) where
+module _ (d : ImagePreface) (total : ℕ) (front : List TableIndex) (count i : ℕ) (bytes : List ℕ) (whole : List (List ℕ)) where
   pub tables_go_on : (t : TableIndex) (after : List ℕ) → i < count → after_table d bytes ≡ Ok after → t.entries.items ≡ entries_begin d total bytes
       → entries_of front ++ tables_begin d total (count - i) bytes ≡ whole
       → entries_of (front ++ t ∷ []) ++ tables_begin d total (count - (i + 1)) after ≡ whole

@@ -3,11 +3,11 @@ use Rattle.std.proofs.Common.{◌≡◌, ℕ, ◌+◌, ◌-◌, ◌≤◌, Bool,
 use Rattle.std.specs.List.{flat_map}
 use Rattle.std.proofs.lemmas.List.{drop_at, drop-drop, length-drop, get_or-drop}
 use Rattle.paw_game.specs.Image.{two_bytes, text_image, object_image, exits_image, entry_image, table_image}
-use Rattle.paw_game.specs.Valid.{is_within, is_text, is_object, is_exits}
+use Rattle.paw_game.specs.Valid.{is_within, is_text, is_object, exits_are_valid}
 use Rattle.paw_image.specs.inner.CondactMarks.{IsEnd}
-use Rattle.paw_image.specs.Damage.{Preface, Passing, each, number_kept, after_text, after_object, after_exits, after_entry, after_table}
+use Rattle.paw_image.specs.Damage.{ImagePreface, Passing, each, checked_number, after_text, after_object, after_exits, after_entry, after_table}
 use Rattle.paw_image.specs.Reading.{Reading, number_at}
-use Rattle.paw_image.specs.inner.Reading.{text_at, object_at, exits_at}
+use Rattle.paw_image.specs.inner.Reading.{sized_text_at, object_at, exits_at}
 use Rattle.paw_image.proofs.FieldLaws.{IsBytes, Takes, at_ok, bind_then, kept_ok, number_takes}
 use Rattle.paw_image.proofs.ListLaws.{TakesRow}
 use Rattle.paw_image.proofs.RowLaws.{text_takes, object_takes, exits_take, entry_takes, table_takes}
@@ -49,29 +49,29 @@ module _ (all bytes rest : List ℕ) (fits : IsBytes all) (end : IsEnd all bytes
       end_of_end all bytes rest end (end_taken bytes (flat_map image rows.value) rest rows.taken)
 
   pub texts_end : (n : ℕ) → each after_text n bytes ≡ Ok rest → IsEnd all rest
-  texts_end n e = rows_end after_text text_at text_image is_text text_takes text_sound n e
+  texts_end n e = rows_end after_text sized_text_at text_image is_text text_takes text_sound n e
 
-  pub objects_end : (d : Preface) (n : ℕ) → each (after_object d) n bytes ≡ Ok rest → IsEnd all rest
+  pub objects_end : (d : ImagePreface) (n : ℕ) → each (after_object d) n bytes ≡ Ok rest → IsEnd all rest
   objects_end d n e =
       rows_end (after_object d) object_at object_image (is_object d.words d.counts.locations) object_takes (object_sound d) n e
 
-  pub exits_end : (d : Preface) (n : ℕ) → each (after_exits d) n bytes ≡ Ok rest → IsEnd all rest
+  pub exits_end : (d : ImagePreface) (n : ℕ) → each (after_exits d) n bytes ≡ Ok rest → IsEnd all rest
   exits_end d n e =
-      rows_end (after_exits d) exits_at exits_image (is_exits d.words d.counts.locations) exits_take (exits_sound d) n e
+      rows_end (after_exits d) exits_at exits_image (exits_are_valid d.words d.counts.locations) exits_take (exits_sound d) n e
 
-  pub entry_end : (d : Preface) → after_entry d bytes ≡ Ok rest → IsEnd all rest
+  pub entry_end : (d : ImagePreface) → after_entry d bytes ≡ Ok rest → IsEnd all rest
   entry_end d e =
       let here = end_fits all bytes fits end in
       let entry = entry_sound d bytes rest here e in
       end_of_end all bytes rest end (end_taken bytes (entry_image entry.value) rest (entry_takes bytes (entry.value, rest) here entry.reads))
 
-  pub table_end : (d : Preface) → after_table d bytes ≡ Ok rest → IsEnd all rest
+  pub table_end : (d : ImagePreface) → after_table d bytes ≡ Ok rest → IsEnd all rest
   table_end d e =
       let here = end_fits all bytes fits end in
       let table = table_placed d bytes rest here e in
       end_of_end all bytes rest end (end_taken bytes (table_image table.value) rest (table_takes bytes (table.value, rest) here table.reads))
 
-  pub within_end : (least most n : ℕ) → number_kept least most bytes ≡ Ok (n, rest) → IsEnd all rest
+  pub within_end : (least most n : ℕ) → checked_number least most bytes ≡ Ok (n, rest) → IsEnd all rest
   within_end least most n e =
       let here = end_fits all bytes fits end in
       bind_then _ (number_at bytes) _ (n, rest) e (λ x x_ok e.

@@ -1,7 +1,7 @@
 -- Where a first step has no value, what follows it has none.
 use Rattle.std.proofs.Common.{◌≡◌, ℕ, suc, ◌+◌, ◌-◌, ◌<◌, List, None, Result, Ok, Err, refl, sym, subst, ◌∙◌, arith}
-use Rattle.paw_faults.specs.declared.unread.Unread.{Unread}
-use Rattle.paw_faults.specs.declared.unread.Unread.TheVariants as fault
+use Rattle.paw_faults.specs.declared.read_error.ReadError.{ReadError}
+use Rattle.paw_faults.specs.declared.read_error.ReadError.TheVariants as fault
 use Rattle.paw_image.specs.Damage.{Passing, each}
 use Rattle.paw_faults.specs.Bind.{◌>>=◌}
 use Rattle.paw_image.specs.Reading.{Reading}
@@ -25,7 +25,7 @@ no_value (Ok x) h = absurd h
 no_value (Err left) h = refl
 
 -- A fault of a first step is one of what follows it.
-pub fails_next : {A B : Type 0} (e : Unread ℕ) (r : Result A ℕ) (f : A → Result B ℕ) → Fails e r → Fails e (r >>= f)
+pub fails_next : {A B : Type 0} (e : ReadError ℕ) (r : Result A ℕ) (f : A → Result B ℕ) → Fails e r → Fails e (r >>= f)
 fails_next fault.Memory r f h = tt
 fails_next (fault.Fault left) r f h = rw h refl
 

@@ -24,8 +24,8 @@ use Rattle.paw_faults.specs.Bind.{◌>>=◌}
 use Rattle.paw_image.specs.declared.version.Version.{Version}
 use Rattle.paw_image.specs.declared.version.Version.TheVariants.{One, Two}
 use Rattle.paw_image.specs.Reading.{byte_at, bytes_at, number_at}
-use Rattle.paw_image.specs.inner.Reading.{byte_of}
-use Rattle.paw_image.specs.Damage.{Preface, number_kept, version_told, version_kept, counts_kept, word_kept, words_above, front}
+use Rattle.paw_image.specs.inner.Reading.{version_byte}
+use Rattle.paw_image.specs.Damage.{ImagePreface, checked_number, version_told, checked_version, checked_counts, checked_word, words_above, front}
 use Rattle.paw_image.proofs.FieldLaws.{IsBytes, Takes, Takes-then, at_ok, bind_then, byte_takes, bytes_take, bytes_again}
 use Rattle.paw_image.proofs.FieldLaws.{number_takes}
 use Rattle.paw_image.proofs.PassRows.{within_passes}
@@ -36,7 +36,7 @@ use Rattle.paw_image.proofs.ValidLaws.{letters_fit, ValidParts}
 -- ---- mark and version ----
 
 -- A byte that stands for a version is the byte of that version.
-told : (byte : ℕ) → is_within 1 2 byte ≡ true → byte ≡ byte_of (version_told byte)
+told : (byte : ℕ) → is_within 1 2 byte ≡ true → byte ≡ version_byte (version_told byte)
 told zero h = absurd cc
 told (suc zero) h = refl
 told (suc (suc zero)) h = refl
@@ -44,22 +44,22 @@ told (suc (suc (suc byte))) h =
     let high = leb-true (suc (suc (suc byte))) 2 (and_parts (leb 1 (suc (suc (suc byte)))) _ h).1 in
     absurd (omega (arith, high))
 
-version_takes : (bytes : List ℕ) (x : Version × List ℕ) → IsBytes bytes → version_kept bytes ≡ Ok x
-    → Takes bytes (codes "PAWI" ++ byte_of x.0 ∷ []) x.1
-unfolding version_kept
+version_takes : (bytes : List ℕ) (x : Version × List ℕ) → IsBytes bytes → checked_version bytes ≡ Ok x
+    → Takes bytes (codes "PAWI" ++ version_byte x.0 ∷ []) x.1
+unfolding checked_version
 version_takes bytes x fits e =
     kept_then _ (λ m. bytes_eq m (codes "PAWI")) (bytes_at 4) bytes _ x e (λ mark mark_ok mark_kept e.
     kept_then _ (is_within 1 2) byte_at mark.1 _ x e (λ byte byte_ok byte_kept e.
     let mark_taken = (bytes_take 4 bytes mark fits mark_ok).0 in
     let byte_taken = (byte_takes mark.1 byte mark_taken.rest_fits byte_ok).0 in
     let is_mark = (bytes_eq-Decides mark.0 (codes "PAWI")).0 mark_kept in
-    at_ok (λ (y : Version × List ℕ). Takes bytes (codes "PAWI" ++ byte_of y.0 ∷ []) y.1) _ x e
-    (Takes-then (codes "PAWI") (byte_of (version_told byte.0) ∷ [])
+    at_ok (λ (y : Version × List ℕ). Takes bytes (codes "PAWI" ++ version_byte y.0 ∷ []) y.1) _ x e
+    (Takes-then (codes "PAWI") (version_byte (version_told byte.0) ∷ [])
     (subst (λ (m : List ℕ). Takes bytes m mark.1) is_mark mark_taken)
     (subst (λ (b : ℕ). Takes mark.1 (b ∷ []) byte.1) (told byte.0 byte_kept) byte_taken))))
 
-version_passes : (v : Version) (rest : List ℕ) → version_kept (codes "PAWI" ++ (byte_of v ∷ rest)) ≡ Ok (v, rest)
-unfolding version_kept
+version_passes : (v : Version) (rest : List ℕ) → checked_version (codes "PAWI" ++ (version_byte v ∷ rest)) ≡ Ok (v, rest)
+unfolding checked_version
 version_passes One rest = rw (bytes_again 4 (codes "PAWI") (1 ∷ rest) refl) refl
 version_passes Two rest = rw (bytes_again 4 (codes "PAWI") (2 ∷ rest) refl) refl
 
@@ -82,15 +82,15 @@ pub record AreFew (c : Counts) : Type 0 where
 
 -- What follows from a number that kept its limits.
 within_then : {B : Type 0} (P : Type 0) (least most : ℕ) (bytes : List ℕ) (f : ℕ × List ℕ → Result B ℕ) (y : B)
-    → IsBytes bytes → (number_kept least most bytes >>= f) ≡ Ok y
+    → IsBytes bytes → (checked_number least most bytes >>= f) ≡ Ok y
     → ((x : ℕ × List ℕ) → Takes bytes (two_bytes x.0) x.1 → is_within least most x.0 ≡ true → f x ≡ Ok y → P) → P
 within_then P least most bytes f y fits e go =
     kept_then P (is_within least most) number_at bytes f y e
     (λ x x_ok x_kept e. go x (number_takes bytes x fits x_ok).0 x_kept e)
 
-counts_take : (bytes : List ℕ) (x : Counts × List ℕ) → IsBytes bytes → counts_kept bytes ≡ Ok x
+counts_take : (bytes : List ℕ) (x : Counts × List ℕ) → IsBytes bytes → checked_counts bytes ≡ Ok x
     → Takes bytes (counts_image x.0) x.1 × AreFew x.0
-unfolding counts_kept
+unfolding checked_counts
 counts_take bytes x fits e =
     within_then _ 0 WORD_LIMIT bytes _ x fits e (λ words words_taken w e.
     within_then _ 0 SYSTEM_LIMIT words.1 _ x words_taken.rest_fits e (λ system system_taken s e.
@@ -105,8 +105,8 @@ counts_take bytes x fits e =
     (taken, record { words = w; system = s; messages = m; objects = o; locations = l; tables = t })))))))
 
 counts_pass : (g : GameLists) (rest : List ℕ) → AreFew (counts_of g)
-    → counts_kept (counts_image (counts_of g) ++ rest) ≡ Ok (counts_of g, rest)
-unfolding counts_kept
+    → checked_counts (counts_image (counts_of g) ++ rest) ≡ Ok (counts_of g, rest)
+unfolding checked_counts
 counts_pass g rest h =
     let after_locations = two_bytes (length g.tables) ++ rest in
     let after_objects = two_bytes (length g.locations) ++ after_locations in
@@ -139,9 +139,9 @@ record IsNext (before bytes : List ℕ) (x : Word × List ℕ) : Type 0 where
   keeps : is_word x.0 ≡ true
   above : is_lt (slice_cmp nat_cmp before x.0.letters) ≡ true
 
-word_takes : (before bytes : List ℕ) (x : Word × List ℕ) → IsBytes bytes → word_kept before bytes ≡ Ok x
+word_takes : (before bytes : List ℕ) (x : Word × List ℕ) → IsBytes bytes → checked_word before bytes ≡ Ok x
     → IsNext before bytes x
-unfolding word_kept
+unfolding checked_word
 word_takes before bytes x fits e =
     kept_then _ (λ l. are_letters l && is_lt (slice_cmp nat_cmp before l)) (bytes_at WORD_LENGTH) bytes _ x e
     (λ letters letters_ok letters_kept e.
@@ -171,7 +171,7 @@ words_take before zero bytes x fits e =
     at_ok (λ (y : List Word × List ℕ). AreNext before 0 bytes y) ([], bytes) x e
     (record { taken = record { parts = refl; rest_fits = fits }; many = refl; keep = refl; rise = refl })
 words_take before (suc n) bytes x fits e =
-    bind_then _ (word_kept before bytes) _ x e (λ first first_ok e.
+    bind_then _ (checked_word before bytes) _ x e (λ first first_ok e.
     bind_then _ (words_above first.0.letters n first.1) _ x e (λ others others_ok e.
     let w = word_takes before bytes first fits first_ok in
     let ws = words_take first.0.letters n first.1 others w.taken.rest_fits others_ok in
@@ -183,15 +183,15 @@ words_take before (suc n) bytes x fits e =
     })))
 
 word_passes : (before : List ℕ) (w : Word) (rest : List ℕ) → is_word w ≡ true
-    → is_lt (slice_cmp nat_cmp before w.letters) ≡ true → word_kept before (word_image w ++ rest) ≡ Ok (w, rest)
-unfolding word_kept
+    → is_lt (slice_cmp nat_cmp before w.letters) ≡ true → checked_word before (word_image w ++ rest) ≡ Ok (w, rest)
+unfolding checked_word
 word_passes before w rest h above =
     let letters = and_parts (are_letters w.letters) _ h in
     let value = and_parts (is_within LEAST_WORD GREATEST_WORD w.value) (leb w.class PRONOUN_CLASS) letters.1 in
     let regrouped : word_image w ++ rest ≡ w.letters ++ (w.value ∷ w.class ∷ rest) =
     append_assoc w.letters (w.value ∷ w.class ∷ []) rest in
     let again = bytes_again WORD_LENGTH w.letters (w.value ∷ w.class ∷ rest) (letters_fit w.letters letters.0) in
-    ap (word_kept before) regrouped ∙ rw (again, letters.0, above, value.0, value.1) refl
+    ap (checked_word before) regrouped ∙ rw (again, letters.0, above, value.0, value.1) refl
 
 words_pass : (before : List ℕ) (ws : List Word) (rest : List ℕ) → list_all is_word ws ≡ true
     → rise_after before ws ≡ true → words_above before (length ws) (flat_map word_image ws ++ rest) ≡ Ok (ws, rest)
@@ -212,31 +212,31 @@ words_pass before (w ∷ ws) rest h rise =
 abbrev pub front_with : ℕ → Counts → List Word → List ℕ
 front_with byte counts words = codes "PAWI" ++ (byte ∷ (counts_image counts ++ flat_map word_image words))
 
-abbrev pub front_image : Preface → List ℕ
-front_image d = front_with (byte_of d.version) d.counts d.words
+abbrev pub front_image : ImagePreface → List ℕ
+front_image d = front_with (version_byte d.version) d.counts d.words
 
-pub front_length : (d : Preface) → length (front_image d) ≡ 17 + length (flat_map word_image d.words)
+pub front_length : (d : ImagePreface) → length (front_image d) ≡ 17 + length (flat_map word_image d.words)
 front_length d = omega (arith, length-append (counts_image d.counts) (flat_map word_image d.words))
 
-pub record Fronted (bytes : List ℕ) (x : Preface × List ℕ) : Type 0 where
+pub record Fronted (bytes : List ℕ) (x : ImagePreface × List ℕ) : Type 0 where
   pub taken : Takes bytes (front_image x.0) x.1
   pub few : AreFew x.0.counts
   pub many : length x.0.words ≡ x.0.counts.words
   pub keep : list_all is_word x.0.words ≡ true
   pub rise : rise_after [] x.0.words ≡ true
 
-pub front_takes : (bytes : List ℕ) (x : Preface × List ℕ) → IsBytes bytes → front bytes ≡ Ok x → Fronted bytes x
+pub front_takes : (bytes : List ℕ) (x : ImagePreface × List ℕ) → IsBytes bytes → front bytes ≡ Ok x → Fronted bytes x
 unfolding front
 front_takes bytes x fits e =
-    bind_then _ (version_kept bytes) _ x e (λ version version_ok e.
-    bind_then _ (counts_kept version.1) _ x e (λ counts counts_ok e.
+    bind_then _ (checked_version bytes) _ x e (λ version version_ok e.
+    bind_then _ (checked_counts version.1) _ x e (λ counts counts_ok e.
     bind_then _ (words_above [] counts.0.words counts.1) _ x e (λ words words_ok e.
     let first = version_takes bytes version fits version_ok in
     let six = counts_take version.1 counts first.rest_fits counts_ok in
     let ws = words_take [] counts.0.words counts.1 words six.0.rest_fits words_ok in
     let after_version = Takes-then (counts_image counts.0) (flat_map word_image words.0) six.0 ws.taken in
-    at_ok (λ (y : Preface × List ℕ). Fronted bytes y) _ x e (record {
-      taken = Takes-then (codes "PAWI" ++ byte_of version.0 ∷ []) _ first after_version;
+    at_ok (λ (y : ImagePreface × List ℕ). Fronted bytes y) _ x e (record {
+      taken = Takes-then (codes "PAWI" ++ version_byte version.0 ∷ []) _ first after_version;
       few = six.1;
       many = ws.many;
       keep = ws.keep;

@@ -3,7 +3,7 @@ use Rattle.std.proofs.Common.{◌≡◌, ℕ, ◌≤◌, List, length, Ok, Err, 
 use Rattle.paw_game.specs.Game.{GameLists}
 use Rattle.paw_game.specs.Valid.{Valid}
 use Rattle.paw_game.specs.Image.{image}
-use Rattle.paw_faults.specs.declared.unread.Unread.TheVariants as unread
+use Rattle.paw_faults.specs.declared.read_error.ReadError.TheVariants as unread
 use Rattle.paw_base.specs.declared.limits.TheConstants.{IMAGE_LIMIT}
 use Rattle.paw_image.specs.Images.{IsImage}
 use Rattle.paw_faults.specs.inner.Gives.{Fails}

@@ -13,7 +13,7 @@ use Rattle.paw_game.specs.declared.parts.ObjectRow.{ObjectRow}
 use Rattle.paw_game.specs.declared.parts.Exit.{Exit}
 use Rattle.paw_game.specs.declared.parts.Entry.{Entry}
 use Rattle.paw_game.specs.Game.{GameLists}
-use Rattle.paw_game.specs.Valid.{Valid, is_word, is_text, is_object, is_exits, is_condact, is_entry, is_table}
+use Rattle.paw_game.specs.Valid.{Valid, is_word, is_text, is_object, exits_are_valid, is_condact, is_entry, is_table}
 use Rattle.paw_game.specs.Image.{two_bytes, head_image, word_image, text_image, object_image, exit_image, exits_image}
 use Rattle.paw_game.specs.Image.{parameter_image, condact_image, entry_image, table_image, image}
 use Rattle.paw_image.specs.inner.Sizes.{FitsWord}
@@ -50,7 +50,7 @@ all_true : {A : Type 0} (xs : List A) → list_all (λ _. true) xs ≡ true
 all_true [] = refl
 all_true (x ∷ xs) = all_true xs
 
-exits_most : (ws : List Word) (locations : ℕ) (xs : List Exit) → is_exits ws locations xs ≡ true → length (exits_image xs) ≤ 511
+exits_most : (ws : List Word) (locations : ℕ) (xs : List Exit) → exits_are_valid ws locations xs ≡ true → length (exits_image xs) ≤ 511
 exits_most ws locations xs h =
     omega (arith, leb-true _ _ (and_parts (leb (length xs) EXIT_LIMIT) _ h).0, rows_at_most exit_image (λ _. true) 2 (λ x _. omega arith) xs (all_true xs))
 
@@ -129,7 +129,7 @@ image_short g v =
       leb-true _ _ parts.locations_few,
       rows_at_most text_image is_text 4097 text_most g.locations parts.locations_keep,
       parts.exits_many,
-      rows_at_most exits_image (is_exits g.words locations) 511 (exits_most g.words locations) g.exits parts.exits_keep,
+      rows_at_most exits_image (exits_are_valid g.words locations) 511 (exits_most g.words locations) g.exits parts.exits_keep,
       tables_few g parts,
       rows_at_most table_image (is_table g) 3072002 (table_most g) g.tables parts.tables_keep,
     )

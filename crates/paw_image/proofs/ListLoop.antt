@@ -4,10 +4,10 @@ use Rattle.std.proofs.Common.{refl, sym, ap, subst, ◌∙◌, append_assoc, ari
 use Rattle.std.specs.Prelude.{slice_get}
 use Rattle.std.proofs.lemmas.List.{append-nil, length-append}
 use Rattle.paw_game.specs.declared.parts.Word.{Word}
-use Rattle.paw_faults.specs.declared.unread.Unread.{Unread}
+use Rattle.paw_faults.specs.declared.read_error.ReadError.{ReadError}
 use Rattle.paw_faults.specs.Bind.{◌>>=◌}
 use Rattle.paw_image.specs.Reading.{Reading}
-use Rattle.paw_image.specs.Damage.{word_kept, words_above}
+use Rattle.paw_image.specs.Damage.{checked_word, words_above}
 use Rattle.paw_faults.specs.inner.Gives.{Fails}
 use Rattle.paw_image.specs.inner.Reading.{leading_rows}
 use Rattle.paw_image.specs.inner.Words.{letters_if_word, last_letters}
@@ -33,7 +33,7 @@ module _ {A : Type 0} (front : List A) (one : Reading A) (others : A → List �
       let next : one_more one others ≡ (others x after >>= λ y. Ok (x ∷ y.0, y.1)) = rw h refl in
       sym (regroup front x (others x after)) ∙ sym (ap (with_front front) (is ∙ next)) ∙ so_far
 
-  pub ends : (e : Unread ℕ) → Fails e one → Fails e total
+  pub ends : (e : ReadError ℕ) → Fails e one → Fails e total
   ends e h =
       let fails = fails_next e one (λ x. others x.0 x.1 >>= λ y. Ok (x.0 ∷ y.0, y.1)) h in
       subst (Fails e) so_far (fails_next e all _ (subst (Fails e) (sym is) fails))
@@ -59,7 +59,7 @@ module _ {A : Type 0} (row : List ℕ → Reading A) (count i : ℕ) (bytes : Li
 module _ (before : List ℕ) (count i : ℕ) (bytes : List ℕ) where
   pub word_more : i < count
       → words_above before (count - i) bytes
-      ≡ one_more (word_kept before bytes) (λ w. words_above w.letters (count - (i + 1)))
+      ≡ one_more (checked_word before bytes) (λ w. words_above w.letters (count - (i + 1)))
   unfolding words_above
   word_more lt = let k : count - i ≡ suc (count - (i + 1)) = omega arith in rw k refl
 

@@ -110,14 +110,14 @@ lists_lie bytes g e =
 
 text_there : (bytes rest : List ℕ) (texts : List (List ℕ)) (begin k p : ℕ) → AllByRecursion FitsText texts
     → drop begin bytes ≡ flat_map text_image texts ++ rest → slice_get (offsets text_image begin texts) k ≡ Some p
-    → value_of (inner_reading.text_at (drop p bytes)) ≡ slice_get texts k
+    → value_of (inner_reading.sized_text_at (drop p bytes)) ≡ slice_get texts k
 text_there bytes rest texts begin k p fits lies h =
     let r = row_lies text_image bytes rest texts begin lies k p h in
     rw (r.lies, text_again r.row r.after (all_at FitsText texts k r.row fits r.is)) (sym r.is)
 
 text_of_object : (bytes : List ℕ) (os : List ObjectRow) (k p : ℕ) → AllByRecursion FitsObject os
     → RowAt object_image bytes (slice_get os k) p
-    → value_of (inner_reading.text_at (drop p bytes)) ≡ option_map (λ (o : ObjectRow). o.text) (slice_get os k)
+    → value_of (inner_reading.sized_text_at (drop p bytes)) ≡ option_map (λ (o : ObjectRow). o.text) (slice_get os k)
 text_of_object bytes os k p fits r =
     let o = r.row in
     let facts = o.facts.noun ∷ o.facts.adjective ∷ o.facts.start ∷ weight_byte o.facts.weight o.facts.container o.facts.wearable ∷ [] in
@@ -125,7 +125,7 @@ text_of_object bytes os k p fits r =
     rw (r.lies, append_assoc (text_image o.text) facts r.after, text_again o.text (facts ++ r.after) text, r.is) refl
 
 pub text_of_part : (bytes : List ℕ) (g : GameLists) → ListsAt bytes g → FitsGame g → (p : GamePart) (k at : ℕ)
-    → slice_get (rows_begin g p) k ≡ Some at → value_of (inner_reading.text_at (drop at bytes)) ≡ text_at g p k
+    → slice_get (rows_begin g p) k ≡ Some at → value_of (inner_reading.sized_text_at (drop at bytes)) ≡ text_at g p k
 text_of_part bytes g l fits part.Words k at h = absurd (none-some at h)
 text_of_part bytes g l fits part.System k at h = text_there bytes l.after_system g.system (system_begins g) k at fits.system l.system h
 text_of_part bytes g l fits part.Messages k at h = text_there bytes l.after_messages g.messages (messages_begin g) k at fits.messages l.messages h

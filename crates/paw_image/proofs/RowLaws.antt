@@ -19,7 +19,7 @@ use Rattle.paw_game.specs.declared.parts.Entry.{Entry}
 use Rattle.paw_game.specs.Image.{two_bytes, text_image, weight_byte, object_image, exit_image}
 use Rattle.paw_game.specs.Image.{exits_image, parameter_image, condact_image, entry_image, table_image}
 use Rattle.paw_image.specs.Reading.{byte_at, number_at}
-use Rattle.paw_image.specs.inner.Reading.{few_at, pair_at, text_at, leading_facts, object_at, leading_exit}
+use Rattle.paw_image.specs.inner.Reading.{few_at, pair_at, sized_text_at, leading_facts, object_at, leading_exit}
 use Rattle.paw_image.specs.inner.Reading.{exits_at, code_at, parameter_at, leading_condact, leading_entry, leading_table}
 use Rattle.paw_image.specs.inner.Sizes.{FitsText, FitsObject, FitsExit, FitsExits, FitsParameter, FitsCondact}
 use Rattle.paw_image.specs.inner.Sizes.{FitsEntry, FitsTable}
@@ -29,16 +29,16 @@ use Rattle.paw_image.proofs.ListLaws.{TakesRow, ReadsAgain, rows_take, rows_agai
 
 -- ---- texts ----
 
-pub text_takes : TakesRow text_at text_image
-unfolding text_at
+pub text_takes : TakesRow sized_text_at text_image
+unfolding sized_text_at
 text_takes bytes x fits e =
     bind_then _ (number_at bytes) _ x e (λ len len_ok e.
     let len_taken = (number_takes bytes len fits len_ok).0 in
     let text_taken = bytes_take len.0 len.1 x len_taken.rest_fits e in
     subst (λ (n : ℕ). Takes bytes (two_bytes n ++ x.0) x.1) (sym text_taken.1) (Takes-then (two_bytes len.0) x.0 len_taken text_taken.0))
 
-pub text_again : ReadsAgain text_at text_image FitsText
-unfolding text_at
+pub text_again : ReadsAgain sized_text_at text_image FitsText
+unfolding sized_text_at
 text_again text rest fits = rw (number_again (length text) (text ++ rest) fits, bytes_again (length text) text rest refl) refl
 
 -- ---- objects ----
@@ -107,7 +107,7 @@ facts_again f rest lt = let gives = byte_gives f.weight f.container f.wearable l
 pub object_takes : TakesRow object_at object_image
 unfolding object_at
 object_takes bytes x fits e =
-    bind_then _ (text_at bytes) _ x e (λ text text_ok e.
+    bind_then _ (sized_text_at bytes) _ x e (λ text text_ok e.
     bind_then _ (leading_facts text.1) _ x e (λ facts facts_ok e.
     let text_taken = text_takes bytes text fits text_ok in
     let facts_taken = facts_take text.1 facts text_taken.rest_fits facts_ok in

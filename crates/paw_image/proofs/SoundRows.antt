@@ -16,15 +16,15 @@ use Rattle.paw_game.specs.declared.parts.Exit.{Exit}
 use Rattle.paw_game.specs.declared.parts.Entry.{Entry}
 use Rattle.paw_game.specs.Game.{GameLists, counts_of}
 use Rattle.paw_game.specs.Image.{two_bytes, text_image, exit_image, parameter_image, condact_image, entry_image, table_image}
-use Rattle.paw_game.specs.Valid.{is_within, is_printed, is_text, is_word_or_none, is_place, are_facts}
-use Rattle.paw_game.specs.Valid.{is_object, is_verb_value, are_exits, is_exits, is_parameter}
-use Rattle.paw_game.specs.Valid.{is_any, has_word}
+use Rattle.paw_game.specs.Valid.{is_within, is_printed, is_text, is_word_or_none, is_place, facts_are_valid}
+use Rattle.paw_game.specs.Valid.{is_object, is_verb_value, are_exits, exits_are_valid, is_parameter}
+use Rattle.paw_game.specs.Valid.{is_wildcard, has_word}
 use Rattle.paw_faults.specs.Bind.{◌>>=◌}
 use Rattle.paw_image.specs.Reading.{byte_at, bytes_at, number_at}
-use Rattle.paw_image.specs.inner.Reading.{few_at, pair_at, leading_rows, text_at, facts_with, leading_facts, object_at, leading_exit, exits_at}
+use Rattle.paw_image.specs.inner.Reading.{few_at, pair_at, leading_rows, sized_text_at, facts_with, leading_facts, object_at, leading_exit, exits_at}
 use Rattle.paw_image.specs.inner.Reading.{code_at, parameter_at, leading_condact, leading_entry, leading_table}
-use Rattle.paw_image.specs.Damage.{Preface, may_stand, field_kept, each, after_text, after_facts, after_object}
-use Rattle.paw_image.specs.Damage.{exit_kept, after_exits_of, after_exits, after_parameter}
+use Rattle.paw_image.specs.Damage.{ImagePreface, may_stand, checked_field, each, after_text, after_facts, after_object}
+use Rattle.paw_image.specs.Damage.{checked_exit, after_exits_of, after_exits, after_parameter}
 use Rattle.paw_image.specs.Damage.{after_condact, after_entry, after_table}
 use Rattle.paw_image.specs.declared.version.Version.{Version}
 use Rattle.paw_image.specs.declared.version.Version.TheVariants.{One, Two}
@@ -35,13 +35,13 @@ use Rattle.paw_image.proofs.RowLaws.{text_takes, exit_takes, condact_takes, entr
 use Rattle.paw_image.proofs.Stands.{and_true, kept_then, bytes_length, Stands, SoundRow, rest_fits, each_sound, taken_length}
 
 -- What the lists of a game say at their front, in an image of a version.
-abbrev pub declared_as : Version → GameLists → Preface
+abbrev pub declared_as : Version → GameLists → ImagePreface
 declared_as v g = record { version = v; counts = counts_of g; words = g.words }
 
 -- ---- texts ----
 
-pub text_sound : SoundRow after_text text_at is_text
-unfolding after_text text_at
+pub text_sound : SoundRow after_text sized_text_at is_text
+unfolding after_text sized_text_at
 text_sound bytes rest fits e =
     kept_then _ (is_within 0 TEXT_LIMIT) number_at bytes _ rest e (λ len len_ok len_kept e.
     kept_then _ (is_printed true) (bytes_at len.0) len.1 _ rest e (λ text text_ok text_kept e.
@@ -50,7 +50,7 @@ text_sound bytes rest fits e =
     ∙ (and_parts (leb 0 len.0) (leb len.0 TEXT_LIMIT) len_kept).1 in
     record {
       value = text.0;
-      reads = at_ok (λ (r : List ℕ). text_at bytes ≡ Ok (text.0, r)) text.1 rest e (rw (len_ok, text_ok) refl);
+      reads = at_ok (λ (r : List ℕ). sized_text_at bytes ≡ Ok (text.0, r)) text.1 rest e (rw (len_ok, text_ok) refl);
       keeps = and_true (leb (length text.0) TEXT_LIMIT) _ few text_kept;
     }))
 
@@ -59,7 +59,7 @@ text_sound bytes rest fits e =
 light : (w : ℕ) → leb (bit_and w 63) 63 ≡ true
 light w = le-leb (bit_and w 63) 63 (rw (and_mask w 6) (omega arith))
 
-facts_sound : (d : Preface) → SoundRow (after_facts d) leading_facts (are_facts d.words d.counts.locations)
+facts_sound : (d : ImagePreface) → SoundRow (after_facts d) leading_facts (facts_are_valid d.words d.counts.locations)
 unfolding after_facts leading_facts
 facts_sound d bytes rest fits e =
     kept_then _ (is_word_or_none d.words NOUN_CLASS) byte_at bytes _ rest e (λ noun noun_ok noun_kept e.
@@ -74,12 +74,12 @@ facts_sound d bytes rest fits e =
       keeps = rw (noun_kept, adjective_kept, start_kept, light weight.0) refl;
     }))))
 
-pub object_sound : (d : Preface) → SoundRow (after_object d) object_at (is_object d.words d.counts.locations)
+pub object_sound : (d : ImagePreface) → SoundRow (after_object d) object_at (is_object d.words d.counts.locations)
 unfolding object_at
 object_sound d bytes rest fits e =
     bind_then _ (after_text bytes) _ rest e (λ after after_ok e.
     let text = text_sound bytes after fits after_ok in
-    let facts = facts_sound d after rest (rest_fits text_at text_image is_text text_takes bytes after fits text) e in
+    let facts = facts_sound d after rest (rest_fits sized_text_at text_image is_text text_takes bytes after fits text) e in
     record {
       value = record { text = text.value; facts = facts.value };
       reads = rw (text.reads, facts.reads) refl;
@@ -115,16 +115,16 @@ none_of-none [] = refl
 none_of-none (x ∷ xs) = none_of-none xs
 
 -- What the exits after those with these verbs keep.
-abbrev keeps_after : Preface → List ℕ → List Exit → Bool
+abbrev keeps_after : ImagePreface → List ℕ → List Exit → Bool
 keeps_after d verbs xs = none_of verbs xs && are_exits d.words d.counts.locations xs
 
-exits_sound_of : (d : Preface) (verbs : List ℕ) (n : ℕ) (bytes rest : List ℕ)
+exits_sound_of : (d : ImagePreface) (verbs : List ℕ) (n : ℕ) (bytes rest : List ℕ)
     → after_exits_of d verbs n bytes ≡ Ok rest → Stands (leading_rows leading_exit n bytes) (keeps_after d verbs) rest
-unfolding after_exits_of exit_kept leading_rows leading_exit pair_at
+unfolding after_exits_of checked_exit leading_rows leading_exit pair_at
 exits_sound_of d verbs zero bytes rest e =
     record { value = []; reads = at_ok (λ (r : List ℕ). leading_rows leading_exit 0 bytes ≡ Ok ([], r)) bytes rest e refl; keeps = refl }
 exits_sound_of d verbs (suc n) bytes rest e =
-    bind_then _ (exit_kept d verbs bytes) _ rest e (λ x x_ok e.
+    bind_then _ (checked_exit d verbs bytes) _ rest e (λ x x_ok e.
     kept_then _ (λ v. is_verb_value d.words v && not (list_any (λ earlier. eqb earlier v) verbs)) byte_at bytes _ x x_ok (λ verb verb_ok verb_kept x_ok.
     kept_then _ (λ l. ltb l d.counts.locations) byte_at verb.1 _ x x_ok (λ to to_ok to_kept x_ok.
     let e2 : after_exits_of d (verb.0 ∷ verbs) n to.1 ≡ Ok rest =
@@ -143,7 +143,7 @@ exits_sound_of d verbs (suc n) bytes rest e =
 few : (n : ℕ) → n < 256 → leb n EXIT_LIMIT ≡ true
 few n lt = le-leb n EXIT_LIMIT (omega arith)
 
-pub exits_sound : (d : Preface) → SoundRow (after_exits d) exits_at (is_exits d.words d.counts.locations)
+pub exits_sound : (d : ImagePreface) → SoundRow (after_exits d) exits_at (exits_are_valid d.words d.counts.locations)
 unfolding after_exits few_at
 exits_sound d bytes rest fits e =
     bind_then _ (byte_at bytes) _ rest e (λ count count_ok e.
@@ -161,29 +161,29 @@ exits_sound d bytes rest fits e =
 -- ---- tables ----
 
 -- The rules of condacts, entries and tables, by what the front declares.
-abbrev pub keeps_condact : Preface → Condact → Bool
+abbrev pub keeps_condact : ImagePreface → Condact → Bool
 keeps_condact d c =
     may_stand d.version c.code && (is_parameter d.counts d.words (first_kind c.code) c.a && is_parameter d.counts d.words (second_kind c.code) c.b)
 
-abbrev pub keeps_entry : Preface → Entry → Bool
+abbrev pub keeps_entry : ImagePreface → Entry → Bool
 keeps_entry d e =
-    (is_any e.verb || is_verb_value d.words e.verb) && ((is_any e.noun || has_word d.words NOUN_CLASS e.noun)
+    (is_wildcard e.verb || is_verb_value d.words e.verb) && ((is_wildcard e.noun || has_word d.words NOUN_CLASS e.noun)
     && (leb (length e.condacts) CONDACT_LIMIT && list_all (keeps_condact d) e.condacts))
 
-abbrev pub keeps_table : Preface → List Entry → Bool
+abbrev pub keeps_table : ImagePreface → List Entry → Bool
 keeps_table d es = leb (length es) ENTRY_LIMIT && list_all (keeps_entry d) es
 
-byte_sound : (rule : ℕ → Bool) (bytes rest : List ℕ) → (field_kept rule byte_at bytes >>= λ x. Ok x.1) ≡ Ok rest → Stands (byte_at bytes) rule rest
+byte_sound : (rule : ℕ → Bool) (bytes rest : List ℕ) → (checked_field rule byte_at bytes >>= λ x. Ok x.1) ≡ Ok rest → Stands (byte_at bytes) rule rest
 byte_sound rule bytes rest e =
     kept_then _ rule byte_at bytes _ rest e (λ x x_ok x_kept e.
     record { value = x.0; reads = at_ok (λ (r : List ℕ). byte_at bytes ≡ Ok (x.0, r)) x.1 rest e x_ok; keeps = x_kept })
 
-parameter_sound : (d : Preface) (k : ParamKind) → SoundRow (after_parameter d k) (parameter_at k) (is_parameter d.counts d.words k)
+parameter_sound : (d : ImagePreface) (k : ParamKind) → SoundRow (after_parameter d k) (parameter_at k) (is_parameter d.counts d.words k)
 parameter_sound d kind.Absent bytes rest fits e =
     record { value = 0; reads = at_ok (λ (r : List ℕ). parameter_at kind.Absent bytes ≡ Ok (0, r)) bytes rest e refl; keeps = refl }
 parameter_sound d k bytes rest fits e = byte_sound (is_parameter d.counts d.words k) bytes rest e
 
-code_is : (bytes : List ℕ) → code_at bytes ≡ field_kept is_code byte_at bytes
+code_is : (bytes : List ℕ) → code_at bytes ≡ checked_field is_code byte_at bytes
 code_is [] = refl
 code_is (code ∷ bytes) = refl
 
@@ -192,7 +192,7 @@ stands_code : (v : Version) (code : ℕ) → may_stand v code ≡ true → is_co
 stands_code One code h = rw h refl
 stands_code Two code h = h
 
-pub condact_sound : (d : Preface) → SoundRow (after_condact d) leading_condact (keeps_condact d)
+pub condact_sound : (d : ImagePreface) → SoundRow (after_condact d) leading_condact (keeps_condact d)
 unfolding after_condact leading_condact
 condact_sound d bytes rest fits e =
     kept_then _ (may_stand d.version) byte_at bytes _ rest e (λ code code_ok code_kept e.
@@ -211,11 +211,11 @@ condact_sound d bytes rest fits e =
       keeps = rw (code_kept, a.keeps, b.keeps) refl;
     }))
 
-pub entry_sound : (d : Preface) → SoundRow (after_entry d) leading_entry (keeps_entry d)
+pub entry_sound : (d : ImagePreface) → SoundRow (after_entry d) leading_entry (keeps_entry d)
 unfolding after_entry leading_entry pair_at few_at
 entry_sound d bytes rest fits e =
-    kept_then _ (λ v. is_any v || is_verb_value d.words v) byte_at bytes _ rest e (λ verb verb_ok verb_kept e.
-    kept_then _ (λ n. is_any n || has_word d.words NOUN_CLASS n) byte_at verb.1 _ rest e (λ noun noun_ok noun_kept e.
+    kept_then _ (λ v. is_wildcard v || is_verb_value d.words v) byte_at bytes _ rest e (λ verb verb_ok verb_kept e.
+    kept_then _ (λ n. is_wildcard n || has_word d.words NOUN_CLASS n) byte_at verb.1 _ rest e (λ noun noun_ok noun_kept e.
     bind_then _ (byte_at noun.1) _ rest e (λ count count_ok e.
     let verb_fits = (byte_takes bytes verb fits verb_ok).0.rest_fits in
     let noun_fits = (byte_takes verb.1 noun verb_fits noun_ok).0.rest_fits in
@@ -230,13 +230,13 @@ entry_sound d bytes rest fits e =
     })))
 
 -- A table, with where its entries begin.
-pub record TablePlaced (d : Preface) (bytes rest : List ℕ) : Type 0 where
+pub record TablePlaced (d : ImagePreface) (bytes rest : List ℕ) : Type 0 where
   pub value : List Entry
   pub reads : leading_table bytes ≡ Ok (value, rest)
   pub keeps : keeps_table d value ≡ true
   pub begin : (total start : ℕ) → start + length bytes ≡ total → entries_begin d total bytes ≡ offsets entry_image (start + 2) value
 
-pub table_placed : (d : Preface) (bytes rest : List ℕ) → IsBytes bytes → after_table d bytes ≡ Ok rest → TablePlaced d bytes rest
+pub table_placed : (d : ImagePreface) (bytes rest : List ℕ) → IsBytes bytes → after_table d bytes ≡ Ok rest → TablePlaced d bytes rest
 unfolding after_table leading_table entries_begin
 table_placed d bytes rest fits e =
     kept_then _ (is_within 0 ENTRY_LIMIT) number_at bytes _ rest e (λ count count_ok count_kept e.
@@ -254,13 +254,13 @@ table_placed d bytes rest fits e =
     })
 
 -- Tables, with where their entries begin.
-pub record TablesPlaced (d : Preface) (n : ℕ) (bytes rest : List ℕ) : Type 0 where
+pub record TablesPlaced (d : ImagePreface) (n : ℕ) (bytes rest : List ℕ) : Type 0 where
   pub value : List (List Entry)
   pub reads : leading_rows leading_table n bytes ≡ Ok (value, rest)
   pub keeps : list_all (keeps_table d) value ≡ true
   pub begin : (total start : ℕ) → start + length bytes ≡ total → tables_begin d total n bytes ≡ entry_offsets start value
 
-pub tables_placed : (d : Preface) (n : ℕ) (bytes rest : List ℕ) → IsBytes bytes → each (after_table d) n bytes ≡ Ok rest → TablesPlaced d n bytes rest
+pub tables_placed : (d : ImagePreface) (n : ℕ) (bytes rest : List ℕ) → IsBytes bytes → each (after_table d) n bytes ≡ Ok rest → TablesPlaced d n bytes rest
 unfolding each leading_rows tables_begin
 tables_placed d zero bytes rest fits e =
     record {

@@ -7,7 +7,7 @@ use Rattle.std.proofs.lemmas.List.{length-take, length-append}
 use Rattle.paw_faults.specs.Bind.{◌>>=◌}
 use Rattle.paw_image.specs.Reading.{Reading, bytes_at}
 use Rattle.paw_image.specs.inner.Reading.{leading_rows}
-use Rattle.paw_image.specs.Damage.{Passing, field_kept, each}
+use Rattle.paw_image.specs.Damage.{Passing, checked_field, each}
 use Rattle.paw_image.specs.inner.Offsets.{offsets, begins}
 use Rattle.paw_image.proofs.FieldLaws.{IsBytes, Takes, Takes-then, read_ok, at_ok, bind_then, guard_ok, kept_ok}
 use Rattle.paw_image.proofs.ListLaws.{TakesRow}
@@ -17,10 +17,10 @@ and_true a b p q = rw (p, q) refl
 
 -- What follows from a field that kept its rule.
 pub kept_then : {A B : Type 0} (P : Type 0) (rule : A → Bool) (field : List ℕ → Reading A) (bytes : List ℕ)
-    (f : A × List ℕ → Result B ℕ) (y : B) → (field_kept rule field bytes >>= f) ≡ Ok y
+    (f : A × List ℕ → Result B ℕ) (y : B) → (checked_field rule field bytes >>= f) ≡ Ok y
     → ((x : A × List ℕ) → field bytes ≡ Ok x → rule x.0 ≡ true → f x ≡ Ok y → P) → P
 kept_then {A} P rule field bytes f y e go =
-    bind_then P (field_kept rule field bytes) f y e (λ x x_ok e.
+    bind_then P (checked_field rule field bytes) f y e (λ x x_ok e.
     bind_then P (field bytes) _ x x_ok (λ z z_ok e2.
     let both = kept_ok (rule z.0) (Ok z) (length bytes) x e2 in
     go z z_ok both.0 (at_ok (λ (w : A × List ℕ). f w ≡ Ok y) x z (sym both.1) e)))

@@ -17,8 +17,8 @@ use Rattle.paw_game.specs.declared.parts.Exit.{Exit}
 use Rattle.paw_game.specs.declared.parts.Entry.{Entry}
 use Rattle.paw_game.specs.Game.{GameLists, counts_of}
 use Rattle.paw_game.proofs.Faults.{rise_after, rise_after-none}
-use Rattle.paw_game.specs.Valid.{is_within, are_letters, is_word, has_word, is_verb_value, is_word_or_none, is_place, is_any}
-use Rattle.paw_game.specs.Valid.{is_text, is_object, is_exits, is_parameter, is_condact, is_entry, is_table, Valid}
+use Rattle.paw_game.specs.Valid.{is_within, are_letters, is_word, has_word, is_verb_value, is_word_or_none, is_place, is_wildcard}
+use Rattle.paw_game.specs.Valid.{is_text, is_object, exits_are_valid, is_parameter, is_condact, is_entry, is_table, Valid}
 use Rattle.paw_image.specs.inner.Sizes.{FitsWord, FitsText, FitsObject, FitsExits, FitsParameter, FitsCondact, FitsEntry, FitsTable, FitsGame}
 
 -- What a test gives at each element.
@@ -44,7 +44,7 @@ object_fits ws locations o e =
     let start = and_parts (is_place locations o.facts.start) (leb o.facts.weight WEIGHT_LIMIT) adjective.1 in
     record { text = text_fits o.text text.0; weight = omega (arith, leb-true _ _ start.1) }
 
-exits_fit : (ws : List Word) (locations : ℕ) (xs : List Exit) → is_exits ws locations xs ≡ true → FitsExits xs
+exits_fit : (ws : List Word) (locations : ℕ) (xs : List Exit) → exits_are_valid ws locations xs ≡ true → FitsExits xs
 exits_fit ws locations xs e = omega (arith, leb-true _ _ (and_parts (leb (length xs) EXIT_LIMIT) _ e).0)
 
 parameter_fits : (g : GameLists) (k : ParamKind) (x : ℕ) → is_parameter (counts_of g) g.words k x ≡ true → FitsParameter k x
@@ -65,8 +65,8 @@ condact_fits g c e =
 
 entry_fits : (g : GameLists) (en : Entry) → is_entry g en ≡ true → FitsEntry en
 entry_fits g en e =
-    let verb = and_parts (is_any en.verb || is_verb_value g.words en.verb) _ e in
-    let noun = and_parts (is_any en.noun || has_word g.words NOUN_CLASS en.noun) _ verb.1 in
+    let verb = and_parts (is_wildcard en.verb || is_verb_value g.words en.verb) _ e in
+    let noun = and_parts (is_wildcard en.noun || has_word g.words NOUN_CLASS en.noun) _ verb.1 in
     let condacts = and_parts (leb (length en.condacts) CONDACT_LIMIT) (list_all (is_condact g) en.condacts) noun.1 in
     record { count = omega (arith, leb-true _ _ condacts.0); condacts = all_give (is_condact g) FitsCondact (condact_fits g) en.condacts condacts.1 }
 
@@ -91,7 +91,7 @@ pub record ValidParts (g : GameLists) : Type 0 where
   pub locations_few : leb (length g.locations) LOCATION_LIMIT ≡ true
   pub locations_keep : list_all is_text g.locations ≡ true
   pub exits_many : length g.exits ≡ length g.locations
-  pub exits_keep : list_all (is_exits g.words (length g.locations)) g.exits ≡ true
+  pub exits_keep : list_all (exits_are_valid g.words (length g.locations)) g.exits ≡ true
   pub tables_within : is_within TABLE_LEAST TABLE_LIMIT (length g.tables) ≡ true
   pub tables_keep : list_all (is_table g) g.tables ≡ true
 
@@ -150,7 +150,7 @@ valid_fits g valid =
       objects = all_give (is_object g.words (length g.locations)) FitsObject (object_fits g.words (length g.locations))
           g.objects v.objects_keep;
       locations = all_give is_text FitsText text_fits g.locations v.locations_keep;
-      exits = all_give (is_exits g.words (length g.locations)) FitsExits (exits_fit g.words (length g.locations))
+      exits = all_give (exits_are_valid g.words (length g.locations)) FitsExits (exits_fit g.words (length g.locations))
           g.exits v.exits_keep;
       tables = all_give (is_table g) FitsTable (table_fits g) g.tables v.tables_keep;
     }

@@ -14,14 +14,14 @@ use Rattle.paw_base.specs.inner.Condacts.{IsCode, IsPlainCode, condact_row_of}
 use Rattle.paw_base.proofs.Table.{code_within, none_from, plain_below, plain_is, plain_of_code}
 use Rattle.paw_game.specs.declared.parts.Entry.{Entry}
 use Rattle.paw_game.specs.Game.{GameLists}
-use Rattle.paw_game.specs.Valid.{is_any, is_condact, is_entry, is_table, is_verb_value, has_word}
+use Rattle.paw_game.specs.Valid.{is_wildcard, is_condact, is_entry, is_table, is_verb_value, has_word}
 use Rattle.paw_game.specs.Image.{any_indirect, has_indirect, version_of, two_bytes, condact_image, entry_image, table_image}
 use Rattle.paw_faults.specs.Bind.{◌>>=◌}
 use Rattle.paw_image.specs.declared.version.Version.{Version}
 use Rattle.paw_image.specs.declared.version.Version.TheVariants.{One, Two}
-use Rattle.paw_image.specs.Damage.{Passing, field_kept, may_stand, each, after_condact, after_entry, after_table, is_end, needs_no_2}
+use Rattle.paw_image.specs.Damage.{Passing, checked_field, may_stand, each, after_condact, after_entry, after_table, is_end, needs_no_2}
 use Rattle.paw_image.specs.Reading.{byte_at}
-use Rattle.paw_image.specs.inner.Reading.{IsFault, byte_of}
+use Rattle.paw_image.specs.inner.Reading.{IsFault, version_byte}
 use Rattle.paw_image.proofs.Faults.{fault_first}
 use Rattle.paw_image.proofs.PassRows.{within_passes, up_to, condact_passes, entry_passes, table_passes}
 use Rattle.paw_image.proofs.SoundRows.{declared_as, keeps_condact, keeps_entry, keeps_table}
@@ -75,8 +75,8 @@ module _ (g : GameLists) where
 
   split_entry : (e : Entry) → keeps_entry (declared_as One g) e ≡ (is_entry g e && not (any_indirect e.condacts))
   split_entry e =
-      let verb = is_any e.verb || is_verb_value g.words e.verb in
-      let noun = is_any e.noun || has_word g.words NOUN_CLASS e.noun in
+      let verb = is_wildcard e.verb || is_verb_value g.words e.verb in
+      let noun = is_wildcard e.noun || has_word g.words NOUN_CLASS e.noun in
       let few = leb (length e.condacts) CONDACT_LIMIT in
       let all = list_all (is_condact g) e.condacts in
       let none = not (any_indirect e.condacts) in
@@ -145,7 +145,7 @@ each_stops pass image one two test splits passes stops (x ∷ xs) rest keep foun
     ])
 
 field_stops : {B : Type 0} (rule : ℕ → Bool) (x : ℕ) (rest : List ℕ) (f : ℕ × List ℕ → Result B ℕ) → rule x ≡ false
-    → IsFault (field_kept rule byte_at (x ∷ rest) >>= f)
+    → IsFault (checked_field rule byte_at (x ∷ rest) >>= f)
 field_stops rule x rest f h = rw h tt
 
 module _ (g : GameLists) where
@@ -156,8 +156,8 @@ module _ (g : GameLists) where
   entry_stops : StopsRow (after_entry (declared_as One g)) entry_image (is_entry g) (λ (e : Entry). any_indirect e.condacts)
   unfolding after_entry
   entry_stops e rest keeps indirect =
-      let verb = and_parts (is_any e.verb || is_verb_value g.words e.verb) _ keeps in
-      let noun = and_parts (is_any e.noun || has_word g.words NOUN_CLASS e.noun) _ verb.1 in
+      let verb = and_parts (is_wildcard e.verb || is_verb_value g.words e.verb) _ keeps in
+      let noun = and_parts (is_wildcard e.noun || has_word g.words NOUN_CLASS e.noun) _ verb.1 in
       let condacts = and_parts (leb (length e.condacts) CONDACT_LIMIT) _ noun.1 in
       rw (verb.0, noun.0)
       (each_stops (after_condact (declared_as One g)) condact_image (keeps_condact (declared_as One g)) (is_condact g)
@@ -192,7 +192,7 @@ needed false = One
 abbrev pub needed_by : GameLists → Version
 needed_by g = needed (has_indirect g.tables)
 
-pub needed_byte : (g : GameLists) → byte_of (needed_by g) ≡ version_of g
+pub needed_byte : (g : GameLists) → version_byte (needed_by g) ≡ version_of g
 unfolding version_of
 needed_byte g = elim (either (has_indirect g.tables)) [
   | inl is ↦ rw is refl
@@ -228,7 +228,7 @@ is_needed g p stops = elim (either (has_indirect g.tables)) [
 -- Where the tables keep the rules of a version that is needed, it is the game's.
 pub right_version : (v : Version) (g : GameLists) (p : Passing) → list_all (keeps_table (declared_as v g)) g.tables ≡ true
     → needs_no_2 v p ≡ false → (list_all (keeps_table (declared_as One g)) g.tables ≡ true → p ≡ Ok [])
-    → byte_of v ≡ version_of g
+    → version_byte v ≡ version_of g
 unfolding version_of
 right_version One g p keep wanted passes =
     let parts = and_parts (list_all (is_table g) g.tables) (not (has_indirect g.tables)) (sym (split_tables g g.tables) ∙ keep) in

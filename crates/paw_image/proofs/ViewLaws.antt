@@ -13,7 +13,7 @@ use Rattle.paw_game.specs.Game.{GameLists}
 use Rattle.paw_game.specs.Image.{entry_image}
 use Rattle.paw_game.specs.Tables.{head_at, condact_at, entry_at}
 use Rattle.paw_game.specs.inner.Tables.{text_at, match_at}
-use Rattle.paw_image.specs.Damage.{Preface, after_all, is_needless, bad}
+use Rattle.paw_image.specs.Damage.{ImagePreface, after_all, is_needless, bad}
 use Rattle.paw_image.specs.inner.CondactMarks.{IsMarked, MarkEntry}
 use Rattle.paw_image.specs.Images.{IsImage}
 use Rattle.paw_image.specs.inner.Images.{AtDamage}
@@ -52,14 +52,14 @@ unfolding bad
 index_from bytes front rest p fits short whole passed =
     let none = both_none _ (is_needless bytes) 4 (rw (le-ltb IMAGE_LIMIT (length bytes) short) at whole) in
     let read = all_sound bytes fits (nothing_left (length bytes) (after_all bytes) none.0) none.1 in
-    let d : Preface × List ℕ = (preface_of front, rest) in
+    let d : ImagePreface × List ℕ = (preface_of front, rest) in
     let is = game_is bytes read.game read.reads in
     let declared = read.declared d passed.declared in
     let stand = read.begin d p passed.declared passed.over in
     record {
       image = rw is (record { spelled = all_takes bytes read.game fits read.reads; valid = read.valid; short = short });
-      counted = rw is (ap (λ (x : Preface). x.counts) declared);
-      spelled = rw is (ap (λ (x : Preface). x.words) declared);
+      counted = rw is (ap (λ (x : ImagePreface). x.counts) declared);
+      spelled = rw is (ap (λ (x : ImagePreface). x.words) declared);
       system = rw is stand.system;
       messages = rw is stand.messages;
       objects = rw is stand.objects;
@@ -85,12 +85,12 @@ lists_of bytes is = lists_lie bytes (game_read bytes) is.spelled
 
 pub text_read : (bytes : List ℕ) → IsImage bytes (game_read bytes) → (p : GamePart) (k at : ℕ)
     → slice_get (rows_begin (game_read bytes) p) k ≡ Some at
-    → value_of (inner_reading.text_at (drop at bytes)) ≡ text_at (game_read bytes) p k
+    → value_of (inner_reading.sized_text_at (drop at bytes)) ≡ text_at (game_read bytes) p k
 text_read bytes is p k at h = text_of_part bytes (game_read bytes) (lists_of bytes is) (fits_of bytes is) p k at h
 
 pub span_read : (bytes : List ℕ) → IsImage bytes (game_read bytes) → (p : GamePart) (k at : ℕ) (text : List ℕ)
     → slice_get (rows_begin (game_read bytes) p) k ≡ Some at
-    → value_of (inner_reading.text_at (drop at bytes)) ≡ Some text
+    → value_of (inner_reading.sized_text_at (drop at bytes)) ≡ Some text
     → span_at (game_read bytes) p k ≡ Some (at + 2, at + 2 + length text)
 span_read bytes is p k at text h found = rw (h, sym (text_read bytes is p k at h) ∙ found) refl
 

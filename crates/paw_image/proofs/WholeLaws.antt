@@ -7,7 +7,7 @@ use Rattle.std.specs.Prelude.{Option, if◌then◌else◌}
 use Rattle.std.specs.Option.{option_or}
 use Rattle.std.proofs.lemmas.Option.{none-some}
 use Rattle.paw_game.specs.Game.{GameLists}
-use Rattle.paw_game.specs.Valid.{Valid, is_within, is_word, words_rise, is_text, is_object, is_exits}
+use Rattle.paw_game.specs.Valid.{Valid, is_within, is_word, words_rise, is_text, is_object, exits_are_valid}
 use Rattle.paw_game.specs.Image.{word_image, text_image, object_image, exits_image, table_image, image, has_indirect, version_of}
 use Rattle.paw_game.proofs.Faults.{rise_after, rise_after-none}
 use Rattle.paw_base.specs.declared.limits.TheConstants.{IMAGE_LIMIT, WORD_LIMIT, SYSTEM_LIMIT, MESSAGE_LIMIT}
@@ -18,9 +18,9 @@ use Rattle.paw_image.specs.Images.{IsImage}
 use Rattle.paw_image.specs.declared.version.Version.{Version}
 use Rattle.paw_image.specs.declared.version.Version.TheVariants.{One}
 use Rattle.paw_image.specs.Reading.{Reading}
-use Rattle.paw_image.specs.inner.Reading.{IsFault, text_at, object_at, exits_at, lists_at, all_of, byte_of}
-use Rattle.paw_image.specs.Damage.{Preface, Passing, each, after_text, after_object, after_exits, after_table}
-use Rattle.paw_image.specs.Damage.{after_lists, front, after_all, as_version_1, is_needless_after, is_needless, place_in, bad}
+use Rattle.paw_image.specs.inner.Reading.{IsFault, sized_text_at, object_at, exits_at, lists_at, all_of, version_byte}
+use Rattle.paw_image.specs.Damage.{ImagePreface, Passing, each, after_text, after_object, after_exits, after_table}
+use Rattle.paw_image.specs.Damage.{after_lists, front, after_all, as_version_1, is_needless_after, is_needless, offset_in, bad}
 use Rattle.paw_image.specs.inner.Offsets.{offsets, entry_offsets, entries_of, AreGoneOver}
 use Rattle.paw_image.specs.inner.Views.{system_begins}
 use Rattle.paw_image.specs.declared.offsets.Offsets.{Offsets}
@@ -55,20 +55,20 @@ pub record StandAt (start : ℕ) (g : GameLists) (p : Offsets) : Type 0 where
       + length (flat_map text_image g.locations) + length (flat_map exits_image g.exits)) g.tables
 
 -- The lists after the words, as they are read by their rules.
-record AreRead (d : Preface) (bytes rest : List ℕ) : Type 0 where
+record AreRead (d : ImagePreface) (bytes rest : List ℕ) : Type 0 where
   game : GameLists
   reads : lists_at d bytes ≡ Ok (game, rest)
   system : list_all is_text game.system ≡ true
   messages : list_all is_text game.messages ≡ true
   objects : list_all (is_object d.words d.counts.locations) game.objects ≡ true
   locations : list_all is_text game.locations ≡ true
-  exits : list_all (is_exits d.words d.counts.locations) game.exits ≡ true
+  exits : list_all (exits_are_valid d.words d.counts.locations) game.exits ≡ true
   as_many : length game.exits ≡ d.counts.locations
   tables : list_all (keeps_table d) game.tables ≡ true
   begin : (total start : ℕ) (p : Offsets) → start + length bytes ≡ total → AreGoneOver d total bytes p
       → StandAt start game p
 
-lists_sound : (d : Preface) (bytes rest : List ℕ) → IsBytes bytes → after_lists d bytes ≡ Ok rest
+lists_sound : (d : ImagePreface) (bytes rest : List ℕ) → IsBytes bytes → after_lists d bytes ≡ Ok rest
     → AreRead d bytes rest
 unfolding after_lists lists_at
 lists_sound d bytes rest fits e =
@@ -78,7 +78,7 @@ lists_sound d bytes rest fits e =
     bind_then _ (each (after_object d) c.objects at_objects) _ rest e (λ at_locations objects_ok e.
     bind_then _ (each after_text c.locations at_locations) _ rest e (λ at_exits locations_ok e.
     bind_then _ (each (after_exits d) c.locations at_exits) _ rest e (λ at_tables exits_ok e.
-    let texts = each_sound after_text text_at text_image is_text text_takes text_sound in
+    let texts = each_sound after_text sized_text_at text_image is_text text_takes text_sound in
     let system = texts c.system bytes at_messages fits system_ok in
     let messages = texts c.messages at_messages at_objects system.taken.rest_fits messages_ok in
     let objects =
@@ -86,7 +86,7 @@ lists_sound d bytes rest fits e =
     c.objects at_objects at_locations messages.taken.rest_fits objects_ok in
     let locations = texts c.locations at_locations at_exits objects.taken.rest_fits locations_ok in
     let exits =
-    each_sound (after_exits d) exits_at exits_image (is_exits d.words c.locations) exits_take (exits_sound d)
+    each_sound (after_exits d) exits_at exits_image (exits_are_valid d.words c.locations) exits_take (exits_sound d)
     c.locations at_exits at_tables locations.taken.rest_fits exits_ok in
     let tables = tables_placed d c.tables at_tables rest exits.taken.rest_fits e in
     record {
@@ -125,19 +125,19 @@ lists_sound d bytes rest fits e =
     })))))
 
 -- What the front declares, and the lists that keep its rules, make a valid game.
-valid_from : (bytes : List ℕ) (x : Preface × List ℕ) (rest : List ℕ) → Fronted bytes x
+valid_from : (bytes : List ℕ) (x : ImagePreface × List ℕ) (rest : List ℕ) → Fronted bytes x
     → (r : AreRead x.0 x.1 rest) → x.0 ≡ declared_as x.0.version r.game → Valid r.game
 valid_from bytes x rest f r is =
     let g = r.game in
-    let few = subst (λ (d : Preface). AreFew d.counts) is f.few in
-    let keep = subst (λ (d : Preface). list_all is_word d.words ≡ true) is f.keep in
-    let rise = subst (λ (d : Preface). rise_after [] d.words ≡ true) is f.rise in
+    let few = subst (λ (d : ImagePreface). AreFew d.counts) is f.few in
+    let keep = subst (λ (d : ImagePreface). list_all is_word d.words ≡ true) is f.keep in
+    let rise = subst (λ (d : ImagePreface). rise_after [] d.words ≡ true) is f.rise in
     let kept_words : (list_all is_word g.words && words_rise g.words) ≡ true =
     sym (rise_after-none g.words) ∙ rw (keep, rise) refl in
-    let kept_objects = subst (λ (d : Preface). list_all (is_object d.words d.counts.locations) g.objects ≡ true) is r.objects in
-    let kept_exits = subst (λ (d : Preface). list_all (is_exits d.words d.counts.locations) g.exits ≡ true) is r.exits in
-    let as_many = subst (λ (d : Preface). length g.exits ≡ d.counts.locations) is r.as_many in
-    let kept_tables = subst (λ (d : Preface). list_all (keeps_table d) g.tables ≡ true) is r.tables in
+    let kept_objects = subst (λ (d : ImagePreface). list_all (is_object d.words d.counts.locations) g.objects ≡ true) is r.objects in
+    let kept_exits = subst (λ (d : ImagePreface). list_all (exits_are_valid d.words d.counts.locations) g.exits ≡ true) is r.exits in
+    let as_many = subst (λ (d : ImagePreface). length g.exits ≡ d.counts.locations) is r.as_many in
+    let kept_tables = subst (λ (d : ImagePreface). list_all (keeps_table d) g.tables ≡ true) is r.tables in
     let locations = and_parts (leb LOCATION_LEAST (length g.locations))
     (leb (length g.locations) LOCATION_LIMIT) few.locations in
     record {
@@ -167,7 +167,7 @@ tables_reached version g rest valid =
     let v = parts_of g valid in
     let texts = each_passes after_text text_image is_text text_passes in
     let objects = each_passes (after_object d) object_image (is_object g.words (length g.locations)) (object_passes d) in
-    let all_exits = each_passes (after_exits d) exits_image (is_exits g.words (length g.locations)) (exits_pass d) in
+    let all_exits = each_passes (after_exits d) exits_image (exits_are_valid g.words (length g.locations)) (exits_pass d) in
     let exits = subst (λ (n : ℕ). each (after_exits d) n (from_exits g rest) ≡ Ok (from_tables g rest)) v.exits_many
     (all_exits g.exits (from_tables g rest) v.exits_keep) in
     rw (
@@ -193,9 +193,9 @@ pub record IsWhole (bytes : List ℕ) : Type 0 where
   pub game : GameLists
   pub reads : all_of bytes ≡ Ok game
   pub valid : Valid game
-  pub declared : (d : Preface × List ℕ) → front bytes ≡ Ok d → d.0 ≡ declared_as d.0.version game
-  pub end : (d : Preface × List ℕ) → front bytes ≡ Ok d → IsEnd bytes d.1
-  pub begin : (d : Preface × List ℕ) (p : Offsets) → front bytes ≡ Ok d → AreGoneOver d.0 (length bytes) d.1 p
+  pub declared : (d : ImagePreface × List ℕ) → front bytes ≡ Ok d → d.0 ≡ declared_as d.0.version game
+  pub end : (d : ImagePreface × List ℕ) → front bytes ≡ Ok d → IsEnd bytes d.1
+  pub begin : (d : ImagePreface × List ℕ) (p : Offsets) → front bytes ≡ Ok d → AreGoneOver d.0 (length bytes) d.1 p
       → StandAt (system_begins game) game p
 
 pub all_sound : (bytes : List ℕ) → IsBytes bytes → after_all bytes ≡ Ok [] → is_needless bytes ≡ false → IsWhole bytes
@@ -207,28 +207,28 @@ all_sound bytes fits e needed =
     let taken = lists_take d.0 d.1 (lists.game, []) fronted.taken.rest_fits lists.reads in
     let is = taken.declared fronted.many in
     let g = lists.game in
-    let keep = subst (λ (f : Preface). list_all (keeps_table f) g.tables ≡ true) is lists.tables in
+    let keep = subst (λ (f : ImagePreface). list_all (keeps_table f) g.tables ≡ true) is lists.tables in
     let valid = valid_from bytes d [] fronted lists is in
     let passes : list_all (keeps_table (declared_as One g)) g.tables ≡ true → after_lists (as_version_1 d.0) d.1 ≡ Ok [] =
-    λ plain. ap (λ (f : Preface). after_lists (as_version_1 f) d.1) is ∙ ap (after_lists (declared_as One g)) taken.parts
+    λ plain. ap (λ (f : ImagePreface). after_lists (as_version_1 f) d.1) is ∙ ap (after_lists (declared_as One g)) taken.parts
     ∙ lists_pass One g [] valid plain in
     let version = right_version d.0.version g (after_lists (as_version_1 d.0) d.1) keep
-    (subst (λ (r : Reading Preface). is_needless_after r ≡ false) d_ok needed) passes in
+    (subst (λ (r : Reading ImagePreface). is_needless_after r ≡ false) d_ok needed) passes in
     let start = 17 + length (flat_map word_image d.0.words) in
     let ends : start + length d.1 ≡ length bytes =
     omega (arith, front_length d.0, taken_length bytes (front_image d.0) d.1 fronted.taken) in
     record {
       game = lists.game;
-      reads = rw (d_ok, lists.reads) (ended g (eqb (byte_of d.0.version) (version_of g)) (eq-eqb (byte_of d.0.version) (version_of g) version));
+      reads = rw (d_ok, lists.reads) (ended g (eqb (version_byte d.0.version) (version_of g)) (eq-eqb (version_byte d.0.version) (version_of g) version));
       valid = valid;
-      declared = λ d2 d2_ok. at_ok (λ (y : Preface × List ℕ). y.0 ≡ declared_as y.0.version lists.game) d d2 (sym d_ok ∙ d2_ok) is;
+      declared = λ d2 d2_ok. at_ok (λ (y : ImagePreface × List ℕ). y.0 ≡ declared_as y.0.version lists.game) d d2 (sym d_ok ∙ d2_ok) is;
       end = λ d2 d2_ok.
-          at_ok (λ (y : Preface × List ℕ). IsEnd bytes y.1) d d2 (sym d_ok ∙ d2_ok)
+          at_ok (λ (y : ImagePreface × List ℕ). IsEnd bytes y.1) d d2 (sym d_ok ∙ d2_ok)
           (end_taken bytes (front_image d.0) d.1 fronted.taken);
       begin = λ d2 p d2_ok over.
           let over_here =
-          at_ok (λ (y : Preface × List ℕ). AreGoneOver y.0 (length bytes) y.1 p) d2 d (sym d2_ok ∙ d_ok) over in
-          subst (λ (f : Preface). StandAt (17 + length (flat_map word_image f.words)) lists.game p) is
+          at_ok (λ (y : ImagePreface × List ℕ). AreGoneOver y.0 (length bytes) y.1 p) d2 d (sym d2_ok ∙ d_ok) over in
+          subst (λ (f : ImagePreface). StandAt (17 + length (flat_map word_image f.words)) lists.game p) is
           (lists.begin (length bytes) start p ends over_here);
     })
 
@@ -250,7 +250,7 @@ all_needed g v =
 
 -- ---- the place of the first broken rule ----
 
-pub nothing_left : (total : ℕ) (p : Passing) → place_in total p ≡ None → p ≡ Ok []
+pub nothing_left : (total : ℕ) (p : Passing) → offset_in total p ≡ None → p ≡ Ok []
 nothing_left total (Err left) e = absurd cc
 nothing_left total (Ok []) e = refl
 nothing_left total (Ok (b ∷ bytes)) e = absurd cc

@@ -15,7 +15,7 @@ use crate::head::{Front, read_front};
 use crate::offsets::{Offsets, pass_lists};
 use crate::refusal::ImageRefusal;
 use crate::version::Version;
-use paw_faults::unread::Unread;
+use paw_faults::read_error::ReadError;
 use std::alloc::{AllocError, Global};
 
 /// Where the version stands.
@@ -56,8 +56,8 @@ fn pass_as_version_1(alloc: Global, bytes: &[u8], passed: &Passed) -> Result<boo
     let rules = FieldRules::new(&passed.front).as_version_1();
     match pass_lists(alloc, &rules, bytes, passed.lists) {
         Ok((_, rest)) => Ok(rest.is_empty()),
-        Err(Unread::Fault(_)) => Ok(false),
-        Err(Unread::Memory) => Err(AllocError),
+        Err(ReadError::Fault(_)) => Ok(false),
+        Err(ReadError::Memory) => Err(AllocError),
     }
 }
 
@@ -91,8 +91,8 @@ pub fn pass_whole<'a>(alloc: Global, bytes: &'a [u8]) -> Result<Passed<'a>, Imag
             return Ok(passed);
         }
         Ok((_, rest)) => rest.len(),
-        Err(Unread::Fault(left)) => left,
-        Err(Unread::Memory) => return Err(ImageRefusal::Memory),
+        Err(ReadError::Fault(left)) => left,
+        Err(ReadError::Memory) => return Err(ImageRefusal::Memory),
     };
     // What is left is no more than all bytes, so nothing is cut off here; saturating says so without a proof.
     let at = bytes.len().saturating_sub(left) as u64;

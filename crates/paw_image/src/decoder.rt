@@ -11,7 +11,7 @@ use crate::damage::damage;
 use crate::parts::read_parts;
 use crate::refusal::ImageRefusal;
 use paw_base::limits::IMAGE_LIMIT;
-use paw_faults::unread::Unread;
+use paw_faults::read_error::ReadError;
 use paw_game::game::Game;
 use std::alloc::Global;
 
@@ -27,8 +27,8 @@ fn read_game(alloc: Global, bytes: &[u8]) -> Result<Option<Game>, ImageRefusal>
             Ok(game) => Ok(Some(game)),
             Err(_) => Ok(None),
         },
-        Err(Unread::Fault(_)) => Ok(None),
-        Err(Unread::Memory) => Err(ImageRefusal::Memory),
+        Err(ReadError::Fault(_)) => Ok(None),
+        Err(ReadError::Memory) => Err(ImageRefusal::Memory),
     }
 }
 

@@ -2,7 +2,7 @@
 
 ghost use Rattle.paw_game.specs.Image.{exit_image, exits_image};
 ghost use Rattle.std.specs.Prelude.{ℕ, List, []};
-ghost use Rattle.paw_image.specs.Damage.{exit_kept, after_exits_of, after_exits};
+ghost use Rattle.paw_image.specs.Damage.{checked_exit, after_exits_of, after_exits};
 ghost use Rattle.paw_image.specs.inner.Marks.{Marks};
 ghost use Rattle.paw_faults.specs.inner.Gives.{Gives};
 ghost use Rattle.paw_image.specs.inner.Reading.{leading_exit, exits_at};
@@ -64,14 +64,14 @@ impl Row for Exits {
 }
 
 /// The verb of the exit at the front, which isn't one of the marked verbs, and the bytes after the exit.
-#[tactic(auto, unfolding(crate::specs::Damage::exit_kept))]
+#[tactic(auto, unfolding(crate::specs::Damage::checked_exit))]
 fn read_exit<'a>(
     rules: &FieldRules,
     marks: &[bool; 256],
     bytes: &'a [u8],
 ) -> Result<(u8, &'a [u8]), ReadFault>
     ensures gives { (verbs : List ℕ) → Marks marks.now verbs →
-        Gives (λ x. (x.0, x.1.now)) result (exit_kept rules.now verbs bytes.now) }
+        Gives (λ x. (x.0, x.1.now)) result (checked_exit rules.now verbs bytes.now) }
 {
     let (verb, places) = read_byte(bytes)?;
     if !rules.game.is_verb_value(verb) || marks[verb as usize] {

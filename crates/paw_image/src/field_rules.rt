@@ -17,9 +17,9 @@ pub struct FieldRules<'a> {
 }
 
 impl<'a> Model for FieldRules<'a> {
-    ghost use Rattle.paw_image.specs.Damage.{Preface};
+    ghost use Rattle.paw_image.specs.Damage.{ImagePreface};
 
-    ghost Value = { Preface };
+    ghost Value = { ImagePreface };
 
     ghost view = { λ r. record { version = r.version; counts = r.game.counts; words = r.game.words } };
 }

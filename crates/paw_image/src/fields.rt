@@ -2,14 +2,14 @@
 
 ghost use Rattle.std.specs.Prelude.{◌≡◌, ◌^◌, ◌<◌, ◌++◌, length, OnErr, OnOk};
 ghost use Rattle.paw_game.specs.Image.{two_bytes};
-ghost use Rattle.paw_image.specs.Damage.{number_kept};
+ghost use Rattle.paw_image.specs.Damage.{checked_number};
 ghost use Rattle.paw_image.specs.Reading.{byte_at, bytes_at, number_at};
 ghost use Rattle.paw_faults.specs.inner.Gives.{Gives};
 ghost use Rattle.paw_image.specs.inner.Reading.{IsFault, pair_at};
-ghost use Rattle.paw_faults.specs.declared.unread.Unread.TheVariants as unread;
+ghost use Rattle.paw_faults.specs.declared.read_error.ReadError.TheVariants as unread;
 
 use crate::fault::ReadFault;
-use paw_faults::unread::Unread;
+use paw_faults::read_error::ReadError;
 use std::alloc::AllocError;
 
 /// The byte at the front.
@@ -18,7 +18,7 @@ pub fn read_byte(bytes: &[u8]) -> Result<(u8, &[u8]), ReadFault>
     ensures fails { OnErr result (IsFault (byte_at bytes.now)) }
 {
     match bytes {
-        [] => Err(Unread::Fault(0)),
+        [] => Err(ReadError::Fault(0)),
         [byte, rest @ ..] => Ok((*byte, rest)),
     }
 }
@@ -39,7 +39,7 @@ pub fn read_bytes(count: usize, bytes: &[u8]) -> Result<(&[u8], &[u8]), ReadFaul
     ensures fails { OnErr result (IsFault (bytes_at count bytes.now)) }
 {
     if bytes.len() < count {
-        return Err(Unread::Fault(bytes.len()));
+        return Err(ReadError::Fault(bytes.len()));
     }
     Ok(bytes.split_at(count))
 }
@@ -51,7 +51,7 @@ pub fn read_array<const N: usize>(bytes: &[u8]) -> Result<([u8; N], &[u8]), Read
 {
     match bytes.split_first_chunk::<N>() {
         Some((front, rest)) => Ok((*front, rest)),
-        None => Err(Unread::Fault(bytes.len())),
+        None => Err(ReadError::Fault(bytes.len())),
     }
 }
 
@@ -67,7 +67,7 @@ pub fn read_number(bytes: &[u8]) -> Result<(u16, &[u8]), ReadFault>
 
 /// The number at the front, which lies between two others, both included.
 pub fn read_within(least: usize, most: usize, bytes: &[u8]) -> Result<(u16, &[u8]), ReadFault>
-    ensures gives { Gives (λ x. (x.0, x.1.now)) result (number_kept least most bytes.now) }
+    ensures gives { Gives (λ x. (x.0, x.1.now)) result (checked_number least most bytes.now) }
 {
     let (number, rest) = read_number(bytes)?;
     if (number as usize) < least || number as usize > most {
@@ -80,7 +80,7 @@ pub fn read_within(least: usize, most: usize, bytes: &[u8]) -> Result<(u16, &[u8
 pub fn fault_at(bytes: &[u8]) -> ReadFault
     ensures value { result ≡ unread.Fault (length bytes.now) }
 {
-    Unread::Fault(bytes.len())
+    ReadError::Fault(bytes.len())
 }
 
 /// Writes a number as two bytes at the end, the low one first.

@@ -1,6 +1,6 @@
 // The fields at the front of an image, up to its words, each tested by its rule.
 
-ghost use Rattle.paw_image.specs.Damage.{version_kept, counts_kept, front};
+ghost use Rattle.paw_image.specs.Damage.{checked_version, checked_counts, front};
 ghost use Rattle.paw_image.specs.inner.Offsets.{preface_of};
 ghost use Rattle.paw_faults.specs.inner.Gives.{Gives};
 
@@ -28,9 +28,9 @@ pub struct Front {
 }
 
 /// The version after the mark.
-#[tactic(auto, unfolding(crate::specs::Damage::version_kept))]
+#[tactic(auto, unfolding(crate::specs::Damage::checked_version))]
 fn read_version(bytes: &[u8]) -> Result<(Version, &[u8]), ReadFault>
-    ensures gives { Gives (λ x. (x.0, x.1.now)) result (version_kept bytes.now) }
+    ensures gives { Gives (λ x. (x.0, x.1.now)) result (checked_version bytes.now) }
 {
     let (mark, versions) = read_array(bytes)?;
     if mark != MARK {
@@ -45,9 +45,9 @@ fn read_version(bytes: &[u8]) -> Result<(Version, &[u8]), ReadFault>
 }
 
 /// How many rows each list has.
-#[tactic(auto, unfolding(crate::specs::Damage::counts_kept))]
+#[tactic(auto, unfolding(crate::specs::Damage::checked_counts))]
 fn read_counts(bytes: &[u8]) -> Result<(Counts, &[u8]), ReadFault>
-    ensures gives { Gives (λ x. (x.0, x.1.now)) result (counts_kept bytes.now) }
+    ensures gives { Gives (λ x. (x.0, x.1.now)) result (checked_counts bytes.now) }
 {
     let (words, rest) = read_within(0, WORD_LIMIT, bytes)?;
     let (system, rest) = read_within(0, SYSTEM_LIMIT, rest)?;

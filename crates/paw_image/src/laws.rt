@@ -7,7 +7,7 @@ ghost use Rattle.paw_game.specs.Valid.{Valid};
 ghost use Rattle.paw_game.specs.Image.{image};
 ghost use Rattle.paw_image.specs.Damage.{bad};
 ghost use Rattle.paw_image.specs.Images.{IsImage};
-ghost use Rattle.paw_image.specs.inner.Images.{AreBytes};
+ghost use Rattle.paw_image.specs.inner.Images.{EachIsByte};
 
 /// Two valid games with the same image are the same.
 pub fn image_tells_the_game()
@@ -16,6 +16,6 @@ pub fn image_tells_the_game()
 
 /// Bytes break no rule exactly where they are the image of a valid game, and no more than an image may have.
 pub fn bad_tells_images()
-    ensures whole { (bytes : Bytes) → AreBytes bytes → bad bytes ≡ None → (g : GameLists) × IsImage bytes g }
+    ensures whole { (bytes : Bytes) → EachIsByte bytes → bad bytes ≡ None → (g : GameLists) × IsImage bytes g }
     ensures image { (bytes : Bytes) (g : GameLists) → IsImage bytes g → bad bytes ≡ None }
 {}

@@ -1,7 +1,7 @@
 //! The image of a game: the bytes that stand for it in a file, read and written.
 #![tactic(auto)]
 
-mod at_place;
+mod at_offset;
 mod damage;
 pub mod decoder;
 pub mod encoder;

@@ -1,7 +1,7 @@
 // Marks in the condacts of entries, so that a condact is found without those far before it.
 
 ghost use Rattle.std.specs.Prelude.{◌≡◌, ◌+◌, ◌*◌, ◌≤◌, ◌<◌, ◌^◌, IfOk, OnOk, drop, length};
-ghost use Rattle.paw_image.specs.inner.CondactMarks.{marks_of, AreMarks, IsEnd, KeepsPlaces, MarkEntries, MarkEntry};
+ghost use Rattle.paw_image.specs.inner.CondactMarks.{marks_of, AreMarks, IsEnd, BeginsWithList, MarkEntries, MarkEntry};
 ghost use Rattle.paw_image.specs.Damage.{after_condact, after_entry, each};
 ghost use Rattle.paw_image.specs.inner.Offsets.{begins};
 ghost use Rattle.paw_faults.specs.inner.Gives.{Gives};
@@ -12,7 +12,7 @@ use crate::fields::{fault_at, read_byte};
 use crate::in_place::pass_each;
 use paw_base::limits::ENTRY_LIMIT;
 use paw_base::parts::Condact;
-use paw_game::values::is_any;
+use paw_game::values::is_wildcard;
 use std::alloc::Global;
 
 /// Where the condacts of a table's entries go on after each eight of them.
@@ -49,7 +49,7 @@ fn pass_condacts<'a>(
 ) -> Result<&'a [u8], ReadFault>
     ensures gives { Gives (λ x. x.now) result (each (after_condact rules.now) count bytes.now) }
     ensures marks { OnOk result (AreMarks (drop (length marks.old.items) marks.new.items) count bytes.now) }
-    ensures keeps { OnOk result (KeepsPlaces marks.old.items marks.new.items) }
+    ensures keeps { OnOk result (BeginsWithList marks.old.items marks.new.items) }
     ensures few { OnOk result (length marks.new.items ≤ length marks.old.items + 31) }
 {
     let eights = count.saturating_sub(1) / 8;
@@ -70,15 +70,15 @@ fn pass_entry<'a>(
 ) -> Result<&'a [u8], ReadFault>
     ensures gives { Gives (λ x. x.now) result (after_entry rules.now bytes.now) }
     ensures marks { OnOk result (MarkEntry (drop (length marks.old.items) marks.new.items) bytes.now) }
-    ensures keeps { OnOk result (KeepsPlaces marks.old.items marks.new.items) }
+    ensures keeps { OnOk result (BeginsWithList marks.old.items marks.new.items) }
     ensures few { OnOk result (length marks.new.items ≤ length marks.old.items + 31) }
 {
     let (verb, nouns) = read_byte(bytes)?;
-    if !is_any(verb) && !rules.game.is_verb_value(verb) {
+    if !is_wildcard(verb) && !rules.game.is_verb_value(verb) {
         return Err(fault_at(bytes));
     }
     let (noun, counts) = read_byte(nouns)?;
-    if !is_any(noun) && !rules.game.is_noun(noun) {
+    if !is_wildcard(noun) && !rules.game.is_noun(noun) {
         return Err(fault_at(nouns));
     }
     let (count, rest) = read_byte(counts)?;

@@ -31,7 +31,7 @@ pub struct Order {
 }
 
 /// The rank of an entry in the order of verb, noun and number.
-fn ranked(verb: u8, noun: u8, entry: u16) -> u32
+fn rank_of_entry(verb: u8, noun: u8, entry: u16) -> u32
     ensures value { result ≡ ranked verb noun entry }
 {
     (verb as u32 * 256 + noun as u32) * 65536 + entry as u32
@@ -41,7 +41,7 @@ fn ranked(verb: u8, noun: u8, entry: u16) -> u32
 fn rank(head: &Head) -> u32
     ensures value { result ≡ rank head.now }
 {
-    ranked(head.verb, head.noun, head.entry)
+    rank_of_entry(head.verb, head.noun, head.entry)
 }
 
 /// The byte at a place; 0 past the end.
@@ -137,7 +137,7 @@ fn run_of(order: &Order, verb: u8) -> &[Head]
 }
 
 /// The place of the first head whose rank isn't below this one.
-fn place_of(run: &[Head], least: u32) -> usize
+fn index_of_rank(run: &[Head], least: u32) -> usize
     requires rises { Rises run.now }
     ensures parts { IsPartitionPoint (λ h. nat_lt (rank h) least ≡ true) (λ h. nat_lt (rank h) least ≡ false)
         run.now result }
@@ -155,8 +155,8 @@ fn search_with(run: &[Head], verb: u8, noun: u8, from: u16) -> Option<u16>
     requires verb { All (λ h. h.verb ≡ verb) run.now }
     ensures least { IsLeast (IsMatch run.now (λ h. h.noun == noun) from) result }
 {
-    let least = ranked(verb, noun, from);
-    let at = place_of(run, least);
+    let least = rank_of_entry(verb, noun, from);
+    let at = index_of_rank(run, least);
     match run.get(at) {
         Some(head) if head.noun == noun => Some(head.entry),
         _ => None,

@@ -18,7 +18,7 @@ use crate::rows::{
 };
 use paw_base::parts::Condact;
 use paw_base::rows::{ParamKind, condact_row};
-use paw_faults::unread::Unread;
+use paw_faults::read_error::ReadError;
 use paw_game::parts::{Condacts, Entry, Table};
 use std::alloc::{AllocError, Global};
 
@@ -32,7 +32,7 @@ fn read_code(bytes: &[u8]) -> Result<((u8, (ParamKind, ParamKind)), &[u8]), Read
     let (code, rest) = read_byte(bytes)?;
     match condact_row(code) {
         Some(row) => Ok(((code, (row.first, row.second)), rest)),
-        None => Err(Unread::Fault(bytes.len())),
+        None => Err(ReadError::Fault(bytes.len())),
     }
 }
 

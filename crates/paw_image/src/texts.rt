@@ -4,7 +4,7 @@ ghost use Rattle.std.specs.Prelude.{OnErr};
 ghost use Rattle.paw_game.specs.Image.{text_image};
 ghost use Rattle.paw_image.specs.Damage.{after_text};
 ghost use Rattle.paw_faults.specs.inner.Gives.{Gives};
-ghost use Rattle.paw_image.specs.inner.Reading.{IsFault, text_at};
+ghost use Rattle.paw_image.specs.inner.Reading.{IsFault, sized_text_at};
 ghost use Rattle.paw_image.specs.inner.Sizes.{FitsText};
 
 use crate::fault::ReadFault;
@@ -18,17 +18,17 @@ use paw_game::texts::is_printed;
 use std::alloc::{AllocError, Global};
 
 /// The text at the front, lent.
-#[tactic(auto, using(crate::proofs::Faults::fault_steps), unfolding(crate::specs::inner::Reading::text_at))]
+#[tactic(auto, using(crate::proofs::Faults::fault_steps), unfolding(crate::specs::inner::Reading::sized_text_at))]
 pub fn read_text(bytes: &[u8]) -> Result<(&[u8], &[u8]), ReadFault>
-    ensures gives { Gives (λ x. (x.0.now, x.1.now)) result (text_at bytes.now) }
-    ensures fails { OnErr result (IsFault (text_at bytes.now)) }
+    ensures gives { Gives (λ x. (x.0.now, x.1.now)) result (sized_text_at bytes.now) }
+    ensures fails { OnErr result (IsFault (sized_text_at bytes.now)) }
 {
     let (length, rest) = read_number(bytes)?;
     read_bytes(length as usize, rest)
 }
 
 impl ReadRow for Text {
-    ghost reading = { text_at };
+    ghost reading = { sized_text_at };
 
     fn read(alloc: Global, bytes: &[u8]) -> Result<(Text, &[u8]), ReadFault> {
         let (text, rest) = read_text(bytes)?;

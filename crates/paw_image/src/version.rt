@@ -6,7 +6,7 @@ ghost use Rattle.paw_base.specs.Condacts.{is_indirect};
 ghost use Rattle.paw_base.specs.inner.Condacts.{IsPlainCode, condact_row_of};
 ghost use Rattle.paw_game.specs.Image.{any_indirect, has_indirect, version_of};
 ghost use Rattle.paw_image.specs.Damage.{may_stand};
-ghost use Rattle.paw_image.specs.inner.Reading.{byte_of};
+ghost use Rattle.paw_image.specs.inner.Reading.{version_byte};
 
 use paw_base::codes::INDIRECT;
 use paw_base::parts::Condact;
@@ -25,7 +25,7 @@ pub enum Version {
 impl Version {
     /// The byte that stands for the version.
     pub fn byte(self) -> u8
-        ensures value { result ≡ byte_of self }
+        ensures value { result ≡ version_byte self }
     {
         match self {
             Version::One => 1,
@@ -58,7 +58,7 @@ fn plain_row(code: u8) -> Option<CondactRow>
 /// The version of the image of these lists.
 #[tactic(auto, unfolding(paw_game::specs::Image::version_of))]
 pub fn version_of(parts: &GameParts) -> Version
-    ensures value { byte_of result ≡ version_of parts.now }
+    ensures value { version_byte result ≡ version_of parts.now }
 {
     if has_indirect(&parts.tables) {
         Version::Two

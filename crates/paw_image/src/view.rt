@@ -11,7 +11,7 @@ ghost use Rattle.paw_image.specs.inner.Images.{IfDamaged};
 ghost use Rattle.paw_image.specs.inner.Offsets.{entries_of};
 ghost use Rattle.paw_image.specs.inner.Views.{game_read, rows_begin, span_at};
 
-use crate::at_place::{condact_in, entry_in, exit_at, facts_in, head_in, text_in};
+use crate::at_offset::{condact_in, entry_in, exit_at, facts_in, head_in, text_in};
 use crate::damage::pass_whole;
 use crate::offsets::{Offsets, TableIndex};
 use crate::order::next_in;

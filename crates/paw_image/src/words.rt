@@ -2,7 +2,7 @@
 
 ghost use Rattle.paw_game.specs.Image.{word_image};
 ghost use Rattle.std.specs.Prelude.{◌≡◌, []};
-ghost use Rattle.paw_image.specs.Damage.{word_kept, words_above};
+ghost use Rattle.paw_image.specs.Damage.{checked_word, words_above};
 ghost use Rattle.paw_faults.specs.inner.Gives.{Gives};
 ghost use Rattle.paw_image.specs.inner.Words.{last_letters};
 ghost use Rattle.paw_image.specs.inner.Sizes.{FitsWord};
@@ -32,9 +32,9 @@ impl Row for Word {
 }
 
 /// The word at the front, which stands above these letters.
-#[tactic(auto, unfolding(crate::specs::Damage::word_kept))]
-fn read_kept<'a>(before: &[u8], bytes: &'a [u8]) -> Result<(Word, &'a [u8]), ReadFault>
-    ensures gives { Gives (λ x. (x.0, x.1.now)) result (word_kept before.now bytes.now) }
+#[tactic(auto, unfolding(crate::specs::Damage::checked_word))]
+fn read_checked<'a>(before: &[u8], bytes: &'a [u8]) -> Result<(Word, &'a [u8]), ReadFault>
+    ensures gives { Gives (λ x. (x.0, x.1.now)) result (checked_word before.now bytes.now) }
 {
     let (letters, values) = read_array(bytes)?;
     if !are_letters(&letters) || !before.cmp(letters.as_slice()).is_lt() {
@@ -77,7 +77,7 @@ pub fn read_words(
     let mut words = Vec::new(alloc);
     let mut rest = bytes;
     for _ in 0..count {
-        let (word, after) = read_kept(last_letters(&words), rest)?;
+        let (word, after) = read_checked(last_letters(&words), rest)?;
         words.push(word)?;
         rest = after;
     }

@@ -7,7 +7,7 @@ use Rattle.paw_journal.specs.declared.layout.Slot.{Slot}
 use Rattle.paw_journal.specs.declared.layout.Slot.TheVariants as which
 use Rattle.paw_journal.specs.Session.{recover, recover_by, chosen, kept_digests, slot, session_length, header_length, slot_length}
 use Rattle.paw_journal.specs.inner.Steps.{IsWithin, chosen_session}
-use Rattle.paw_journal.specs.inner.Store.{InStore, Leaves, IsEither}
+use Rattle.paw_journal.specs.inner.Store.{InStore, CrashLeavesSuch, IsOldOrNew}
 use Rattle.paw_journal.specs.inner.Room.{slot_number}
 use Rattle.paw_journal.proofs.Parts.{put_one, put_below, put_above}
 use Rattle.paw_journal.proofs.Puts.{put_long, stretch_past}
@@ -36,7 +36,7 @@ either_slot b k low = grind arith
 
 -- while the selector is written a crash leaves what one of the slots shows
 pub choosing : (k : ℕ) (old : List ℕ) (d : Disk) → k < 2 → length old ≡ session_length → IsWithin 1 2 old d →
-    Leaves (IsEither (recover_by (1 - k) old) (recover_by k old)) d
+    CrashLeavesSuch (IsOldOrNew (recover_by (1 - k) old) (recover_by k old)) d
 choosing k old d low long h image l =
     let n : length image ≡ length old = within_long 1 2 old image d h l in
     let same : (i : ℕ) → i < length old → (i < 1) ⊎ (2 ≤ i) → get_or image i 0 ≡ get_or old i 0 = within_same 1 2 old image d h l in
@@ -46,7 +46,7 @@ choosing k old d low long h image l =
     ]
 
 pub in_choosing : (k : ℕ) (s : Standing) (m : Moment) → k < 2 → length s.disk.bytes ≡ session_length → IsStable s.disk →
-    InWrite s 1 1 m → InStore s (Leaves (IsEither (recover_by (1 - k) s.disk.bytes) (recover_by k s.disk.bytes))) m
+    InWrite s 1 1 m → InStore s (CrashLeavesSuch (IsOldOrNew (recover_by (1 - k) s.disk.bytes) (recover_by k s.disk.bytes))) m
 in_choosing k s m low long h w = in_moved_write 1 2 1 1 s s _ m (moved_none 1 2 s h) (omega arith) (omega arith)
     (omega arith) (λ d i. choosing k s.disk.bytes d low long i) w
 
@@ -55,9 +55,9 @@ pub chose : (x : ℕ) (s t : Standing) (n : ℕ) → length s.disk.bytes ≡ ses
 chose x s t n long h e = moved_wrote 1 2 1 1 n (x ∷ []) s s t (moved_none 1 2 s h) (omega arith) (omega arith) (omega arith) (omega arith) e
 
 pub in_chosen : (k : ℕ) (s t : Standing) (m : Moment) → k < 2 → length s.disk.bytes ≡ session_length → IsMoved 1 2 s t →
-    InSync t m → InStore s (Leaves (IsEither (recover_by (1 - k) s.disk.bytes) (recover_by k s.disk.bytes))) m
+    InSync t m → InStore s (CrashLeavesSuch (IsOldOrNew (recover_by (1 - k) s.disk.bytes) (recover_by k s.disk.bytes))) m
 in_chosen k s t m low long h w = in_moved_sync 1 2 s t
-    (IsEither (recover_by (1 - k) s.disk.bytes) (recover_by k s.disk.bytes)) m h
+    (IsOldOrNew (recover_by (1 - k) s.disk.bytes) (recover_by k s.disk.bytes)) m h
     (λ d i. choosing k s.disk.bytes d low long i) w
 
 -- the selector is the slot's

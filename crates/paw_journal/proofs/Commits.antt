@@ -7,13 +7,13 @@ use Rattle.paw_journal.specs.declared.journal.Journal.{Journal}
 use Rattle.paw_journal.specs.declared.layout.Slot.{Slot}
 use Rattle.paw_journal.specs.declared.layout.Slot.TheVariants as which
 use Rattle.paw_journal.specs.declared.drafting.SlotState.{SlotState}
-use Rattle.paw_journal.specs.declared.drafting.Draft.{Draft}
+use Rattle.paw_journal.specs.declared.drafting.CommitDraft.{CommitDraft}
 use Rattle.paw_journal.specs.Session.{Shown, recover, recover_by, chosen, slot, slot_length, session_length}
 use Rattle.paw_journal.specs.Session.{slot_shows, stretch, kept_digests, piece_length, state_length, committed, committed_in}
 use Rattle.paw_journal.specs.inner.Room.{Room, kept_slot, kept_of, with_slot_kept, KeepsSlots, slot_number}
 use Rattle.paw_journal.specs.inner.Written.{most_written}
 use Rattle.paw_journal.specs.inner.Steps.{IsSpare, IsFilling, Drafts, start_of, written_slot, written_session, chosen_session}
-use Rattle.paw_journal.specs.inner.Store.{IsBeside}
+use Rattle.paw_journal.specs.inner.Store.{ChangesStoreOnly}
 use Rattle.paw_journal.specs.inner.Journal.{IsAtRest, KeptIn}
 use Rattle.paw_journal.specs.declared.layout.TheConstants.{PIECE_AT}
 use Rattle.paw_journal.specs.Session.{header_length}
@@ -31,11 +31,11 @@ keeps_of which.First room bytes h = h.first
 keeps_of which.Second room bytes h = h.second
 
 -- what was drafted in a buffer was drafted in what shows the buffer
-pub drafts_as : (kept : Option SlotState) (state bytes held : List ℕ) (draft : Draft) → held ≡ bytes →
+pub drafts_as : (kept : Option SlotState) (state bytes held : List ℕ) (draft : CommitDraft) → held ≡ bytes →
     Drafts kept state bytes draft → Drafts kept state held draft
 drafts_as kept state bytes held draft e d = subst (λ b. Drafts kept state b draft) (sym e) d
 
-module _ (k : ℕ) (draft : Draft) (kept : Option SlotState) (state bytes piece : List ℕ) (s t : Standing)
+module _ (k : ℕ) (draft : CommitDraft) (kept : Option SlotState) (state bytes piece : List ℕ) (s t : Standing)
     (f : IsFilling k s t) (d : Drafts kept state bytes draft) (e : kept ≡ kept_slot (slot k s.disk.bytes))
     (w : slot k t.disk.bytes ≡ written_slot draft bytes piece (slot k s.disk.bytes)) (short : length piece ≤ 65535)
   where
@@ -70,13 +70,13 @@ spare_of journal room s w h e = record {
 }
 
 -- a store that was written and synced is at rest
-pub rests_on : (bytes : List ℕ) (s t : Standing) → IsAtRest s → IsBeside s t → t.disk ≡ stable bytes → IsAtRest t
+pub rests_on : (bytes : List ℕ) (s t : Standing) → IsAtRest s → ChangesStoreOnly s t → t.disk ≡ stable bytes → IsAtRest t
 rests_on bytes s t h b e = record {
   attached = subst (λ a. IsSome a) (sym b.attached) h.attached;
   stable = subst (λ d. IsStable d) (sym e) (stable_is bytes);
 }
 
-module _ (w : Slot) (draft : Draft) (kept : Option SlotState) (state bytes piece : List ℕ) (s t : Standing)
+module _ (w : Slot) (draft : CommitDraft) (kept : Option SlotState) (state bytes piece : List ℕ) (s t : Standing)
     (spare : IsSpare (slot_number w) s.disk.bytes) (d : Drafts kept state bytes draft) (short : length piece ≤ 65535)
     (e : t.disk ≡ stable (written_session (slot_number w) draft bytes piece s.disk.bytes))
   where
@@ -84,7 +84,7 @@ module _ (w : Slot) (draft : Draft) (kept : Option SlotState) (state bytes piece
     slot_as = rewritten_long draft.at draft.records bytes piece (slot (slot_number w) s.disk.bytes) d.inside short
         (slot_long (slot_number w) s.disk.bytes (slot_small w) spare.made.long)
 
-    pub written_filling : IsBeside s t → IsFilling (slot_number w) s t
+    pub written_filling : ChangesStoreOnly s t → IsFilling (slot_number w) s t
     written_filling b = filling_put (slot_number w) (written_slot draft bytes piece (slot (slot_number w) s.disk.bytes)) s t (slot_small w) spare b slot_as e
 
     pub written_in : slot (slot_number w) t.disk.bytes ≡ written_slot draft bytes piece (slot (slot_number w) s.disk.bytes)
@@ -108,7 +108,7 @@ module _ (w : Slot) (draft : Draft) (kept : Option SlotState) (state bytes piece
         fits k m n h l long = omega arith
 
 -- once that slot is chosen, all is as a commit leaves it
-pub committed_exact : (w used : Slot) (draft : Draft) (kept : Option SlotState) (state bytes piece : List ℕ) (s t u : Standing) →
+pub committed_exact : (w used : Slot) (draft : CommitDraft) (kept : Option SlotState) (state bytes piece : List ℕ) (s t u : Standing) →
     Drafts kept state bytes draft → kept ≡ kept_slot (slot (slot_number w) s.disk.bytes) →
     slot_number w ≡ 1 - slot_number used → chosen s.disk.bytes ≡ slot_number used →
     t.disk ≡ stable (written_session (slot_number w) draft bytes piece s.disk.bytes) →
@@ -138,7 +138,7 @@ committed_slots which.Second x old now a b c h f g o n same = record {
 }
 
 -- how much it wrote
-pub committed_few : (w : Slot) (k : ℕ) (room : Room) (old bytes state piece : List ℕ) (draft : Draft) →
+pub committed_few : (w : Slot) (k : ℕ) (room : Room) (old bytes state piece : List ℕ) (draft : CommitDraft) →
     KeepsSlots room old → slot_number w ≡ k → Drafts (kept_of w room) state bytes draft →
     length bytes + length piece + 4 ≤ most_written (kept_slot (slot k old)) state piece
 committed_few w k room old bytes state piece draft h e d =

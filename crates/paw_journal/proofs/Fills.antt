@@ -5,8 +5,8 @@ use Rattle.paw_stage.specs.Stage.{Standing, wrote}
 use Rattle.paw_stage.specs.Moments.{Moment, Passes, InWrite, InSync}
 use Rattle.paw_stage.proofs.Time.{Passes_on}
 use Rattle.paw_journal.specs.Session.{recover, recover_by, is_version, slot, chosen, kept_digests, session_length, header_length, slot_length}
-use Rattle.paw_journal.specs.inner.Store.{IsBeside, InStore, Leaves, LeavesSame}
-use Rattle.paw_journal.specs.inner.Steps.{IsMade, IsSpare, IsWithin, IsFilling, KeepsFilling, start_of}
+use Rattle.paw_journal.specs.inner.Store.{ChangesStoreOnly, InStore, CrashLeavesSuch, LeavesSame}
+use Rattle.paw_journal.specs.inner.Steps.{IsMade, IsSpare, IsWithin, IsFilling, IsStillFilling, start_of}
 use Rattle.paw_journal.proofs.Parts.{stretch_same}
 use Rattle.paw_journal.proofs.Puts.{stretch_put, stretch_long, put_nothing, put_between}
 use Rattle.paw_journal.proofs.Recovers.{recover_is, recover_by_same, same_digests}
@@ -30,7 +30,7 @@ slot_hidden k j image old low e n long same =
 -- while the other slot is written a crash leaves what was shown before
 pub filling : (k : ℕ) (old : List ℕ) (d : Disk) → k < 2 → length old ≡ session_length → chosen old ≡ 1 - k →
     IsWithin (header_length + slot_length * k) (header_length + slot_length * k + slot_length) old d →
-    Leaves (λ r. r ≡ recover old) d
+    CrashLeavesSuch (λ r. r ≡ recover old) d
 filling k old d low long other h image l =
     let n : length image ≡ length old = within_long _ _ old image d h l in
     let e : chosen image ≡ 1 - k = ap (λ b. b % 2) (within_same _ _ old image d h l 1 (omega arith) (inl (omega arith))) ∙ other in
@@ -55,19 +55,19 @@ filling_wrote k at a new s t u h e fits w =
 
 pub in_filling_write : (k at a n : ℕ) (s t : Standing) (m : Moment) → IsFilling k s t →
     at ≡ header_length + slot_length * k + a → a + n ≤ slot_length → InWrite t at n m →
-    InStore s (Leaves (λ r. r ≡ recover s.disk.bytes)) m
+    InStore s (CrashLeavesSuch (λ r. r ≡ recover s.disk.bytes)) m
 in_filling_write k at a n s t m h e fits w =
     let l = h.low in
     let b = h.made.long in
-    in_moved_write _ _ at n s t (Leaves (λ r. r ≡ recover s.disk.bytes)) m (moved k s t h) (omega arith) (omega arith)
+    in_moved_write _ _ at n s t (CrashLeavesSuch (λ r. r ≡ recover s.disk.bytes)) m (moved k s t h) (omega arith) (omega arith)
     (omega arith) (λ d i. filling k s.disk.bytes d h.low h.made.long h.other i) w
 
-pub in_filling_sync : (k : ℕ) (s t : Standing) (m : Moment) → IsFilling k s t → InSync t m → InStore s (Leaves (λ r. r ≡ recover s.disk.bytes)) m
+pub in_filling_sync : (k : ℕ) (s t : Standing) (m : Moment) → IsFilling k s t → InSync t m → InStore s (CrashLeavesSuch (λ r. r ≡ recover s.disk.bytes)) m
 in_filling_sync k s t m h w = in_moved_sync _ _ s t (λ r. r ≡ recover s.disk.bytes) m (moved k s t h)
     (λ d i. filling k s.disk.bytes d h.low h.made.long h.other i) w
 
 -- the moments of what is written to such a slot, and then of what follows
-pub parts_on : (k : ℕ) (s t : Standing) (x y z : ℕ) (p q r : ℕ → Moment → Type 0) → KeepsFilling k s t →
+pub parts_on : (k : ℕ) (s t : Standing) (x y z : ℕ) (p q r : ℕ → Moment → Type 0) → IsStillFilling k s t →
     ((first : Standing) → IsFilling k first s → Passes x y p q (LeavesSame first)) →
     ((first : Standing) → IsFilling k first t → Passes y z q r (LeavesSame first)) →
     (first : Standing) → IsFilling k first s → Passes x z p r (LeavesSame first)
@@ -108,7 +108,7 @@ pub filled_stable : (k : ℕ) (new : List ℕ) (s t u : Standing) → IsFilling 
 filled_stable k new s t u h l e q = ap (λ x. x.disk) q ∙ ap stable (filled_bytes k new s t h l e)
 
 -- and so the session is being filled, where nothing is unsynced
-pub filling_put : (k : ℕ) (new : List ℕ) (s t : Standing) → k < 2 → IsSpare k s.disk.bytes → IsBeside s t →
+pub filling_put : (k : ℕ) (new : List ℕ) (s t : Standing) → k < 2 → IsSpare k s.disk.bytes → ChangesStoreOnly s t →
     length new ≡ slot_length → t.disk ≡ stable (put (start_of k) new s.disk.bytes) → IsFilling k s t
 filling_put k new s t low spare beside l e =
     let fits : start_of k + length new ≤ length s.disk.bytes = room k (length new) (length s.disk.bytes) low l spare.made.long in

@@ -2,7 +2,8 @@
 use Rattle.std.proofs.Common.{◌≡◌, ◌≢◌, ℕ, ◌%◌, ◌<◌, true, false, List, [], length, take, refl, sym, ap, ◌∙◌, arith, get_or, inl, inr}
 use Rattle.std.proofs.lemmas.List.{get_or-take, nil_from_length}
 use Rattle.paw_journal.specs.declared.refusal.SessionPart.TheVariants as part
-use Rattle.paw_journal.specs.Session.{Unmade, Damaged, recover, recover_by, slot, mark, version, is_version, stretch, header_length, session_length, made_mark}
+use Rattle.paw_journal.specs.Session.{Unmade, Damaged, recover, recover_by, slot, session_mark, version, is_version, stretch, header_length, session_length}
+use Rattle.paw_journal.specs.Session.{made_mark}
 use Rattle.paw_journal.specs.inner.Session.{digests_of}
 use Rattle.paw_journal.specs.inner.Steps.{Introduces}
 use Rattle.paw_journal.proofs.Parts.{stretch_stretch}
@@ -18,20 +19,20 @@ pub other_length : (size : ℕ) (bytes whole : List ℕ) → size ≡ length who
     bytes ≡ take 1 whole → recover whole ≡ Unmade size (get_or bytes 0 0)
 other_length size bytes whole e ne b =
     unmade_is whole (inl (λ q. ne (e ∙ q)))
-    ∙ (ap (λ n. Unmade n (mark whole)) (sym e) ∙ ap (Unmade size) (sym (first_byte 1 0 bytes whole (omega arith) b)))
+    ∙ (ap (λ n. Unmade n (session_mark whole)) (sym e) ∙ ap (Unmade size) (sym (first_byte 1 0 bytes whole (omega arith) b)))
 
 pub other_mark : (bytes whole : List ℕ) → length whole ≡ session_length → bytes ≡ take header_length whole →
     get_or bytes 0 0 ≢ made_mark → recover whole ≡ Unmade session_length (get_or bytes 0 0)
 other_mark bytes whole n b ne =
-    let m : get_or bytes 0 0 ≡ mark whole = first_byte 128 0 bytes whole (omega arith) b in
+    let m : get_or bytes 0 0 ≡ session_mark whole = first_byte 128 0 bytes whole (omega arith) b in
     unmade_is whole (inr (λ q. ne (m ∙ q)))
-    ∙ (ap (λ n. Unmade n (mark whole)) n ∙ ap (Unmade session_length) (sym m))
+    ∙ (ap (λ n. Unmade n (session_mark whole)) n ∙ ap (Unmade session_length) (sym m))
 
 pub other_version : (bytes whole : List ℕ) → length whole ≡ session_length → bytes ≡ take header_length whole →
     get_or bytes 0 0 ≡ made_mark → is_version (get_or bytes 2 0) ≡ false → recover whole ≡ Damaged part.Header 2
 unfolding recover recover_by
 other_version bytes whole n b m ne =
-    let k : mark whole ≡ made_mark = sym (first_byte 128 0 bytes whole (omega arith) b) ∙ m in
+    let k : session_mark whole ≡ made_mark = sym (first_byte 128 0 bytes whole (omega arith) b) ∙ m in
     let v : is_version (version whole) ≡ false = ap is_version (sym (first_byte 128 2 bytes whole (omega arith) b)) ∙ ne in
     rw (n, k, v) refl
 

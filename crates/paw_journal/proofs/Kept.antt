@@ -6,14 +6,14 @@ use Rattle.std.proofs.lemmas.List.{append-nil}
 use Rattle.paw_stage.specs.Disk.{put}
 use Rattle.paw_journal.specs.declared.refusal.SessionPart.TheVariants as part
 use Rattle.paw_journal.specs.declared.drafting.SlotState.{SlotState}
-use Rattle.paw_journal.specs.declared.drafting.Draft.{Draft}
+use Rattle.paw_journal.specs.declared.drafting.CommitDraft.{CommitDraft}
 use Rattle.paw_journal.specs.Session.{Digests, Damaged, Shown, stretch, two_byte_number, base, changes, changed, first_unsound, slot_changes, slot_state}
 use Rattle.paw_journal.specs.Session.{has_state, differing, differences, slot_head, rewritten, records_with, takes_changes, committed_slot}
 use Rattle.paw_journal.specs.Session.{is_current, form_length, slot_version}
 use Rattle.paw_journal.specs.Session.{shown_state, zeros, slot_piece, slot_shows, shown_unless, most_changes, piece_length, state_length}
 use Rattle.paw_journal.specs.inner.Room.{kept_slot}
 use Rattle.paw_journal.specs.inner.Written.{most_written}
-use Rattle.paw_journal.specs.inner.Steps.{Turns, Drafts}
+use Rattle.paw_journal.specs.inner.Steps.{ChangesInto, Drafts}
 use Rattle.paw_journal.specs.declared.layout.TheConstants.{VERSION, BASE_AT, CHANGES_AT, PIECE_AT}
 use Rattle.paw_journal.specs.Session.{base_length, slot_length}
 use Rattle.paw_journal.proofs.Puts.{stretch_long, put_long, stretch_past, stretch_before, stretch_written, stretch_behind}
@@ -184,7 +184,7 @@ whole_gives state piece old n long short = record {
 }
 
 -- Change records are added after those that are there.
-behind_gives : (n c : ℕ) (was state records piece old : List ℕ) → IsKept old n was → Turns was state records →
+behind_gives : (n c : ℕ) (was state records piece old : List ℕ) → IsKept old n was → ChangesInto was state records →
     length records ≡ 4 * c → n + c ≤ most_changes → length old ≡ slot_length → length piece ≤ 65535 →
     IsKept (put 0 (slot_head (n + c)) (put PIECE_AT piece (put (CHANGES_AT + 4 * n) records old))) (n + c) state
 behind_gives n c was state records piece old h t l few long short =
@@ -271,7 +271,7 @@ drafts_whole kept state bytes e n most takes = record {
   few = λ piece. omega (arith, most piece, ap length e);
 }
 
-pub drafts_behind : (n c : ℕ) (was state bytes : List ℕ) → Turns was state bytes → length bytes ≡ 4 * c →
+pub drafts_behind : (n c : ℕ) (was state bytes : List ℕ) → ChangesInto was state bytes → length bytes ≡ 4 * c →
     n + c ≤ most_changes →
     Drafts (Some (record { records = n; state = was })) state bytes (record { at = CHANGES_AT + 4 * n; records = n + c })
 drafts_behind n c was state bytes t l few = record {
@@ -294,12 +294,12 @@ drafts_base state bytes e n = drafts_whole None state bytes e n (λ piece. omega
     (λ old is. takes_none (is_current old) (has_state old) (nat_le (records_with state old) most_changes)
     (record { records = two_byte_number 0 old; state = slot_state old }) is)
 
-pub drafts_whole_as : (state bytes : List ℕ) (kept : Option SlotState) (draft : Draft) → bytes ≡ state →
+pub drafts_whole_as : (state bytes : List ℕ) (kept : Option SlotState) (draft : CommitDraft) → bytes ≡ state →
     length state ≡ base_length → kept ≡ None → draft ≡ record { at = 64; records = 0 } → Drafts kept state bytes draft
 drafts_whole_as state bytes kept draft e n is at = rw (is, at) (drafts_base state bytes e n)
 
-pub drafts_many : (kept : SlotState) (s m : ℕ) (state records bytes : List ℕ) (draft : Draft) →
-    Turns kept.state state records → s ≡ kept.records → m ≡ length records → base_length < s + m / 4 → bytes ≡ state →
+pub drafts_many : (kept : SlotState) (s m : ℕ) (state records bytes : List ℕ) (draft : CommitDraft) →
+    ChangesInto kept.state state records → s ≡ kept.records → m ≡ length records → base_length < s + m / 4 → bytes ≡ state →
     length state ≡ base_length → draft ≡ record { at = 64; records = 0 } → Drafts (Some kept) state bytes draft
 drafts_many kept s m state records bytes draft t e f many b l at =
     let d : differing kept.state state ≡ m / 4 = omega (arith, t.many) in
@@ -313,7 +313,7 @@ drafts_many kept s m state records bytes draft t e f many b l at =
         4224 + p ≤ (if nat_le (n + d) most_changes then 128 + p + 4 * d else 4224 + p)
     most n s c d p e f many = let h : nat_le (n + d) most_changes ≡ false = grind (arith, nat_tests) in rw h (omega arith)
 
-pub drafts_few : (kept : SlotState) (s m : ℕ) (state bytes : List ℕ) → Turns kept.state state bytes → s ≡ kept.records →
+pub drafts_few : (kept : SlotState) (s m : ℕ) (state bytes : List ℕ) → ChangesInto kept.state state bytes → s ≡ kept.records →
     m ≡ length bytes → s + m / 4 ≤ base_length →
     Drafts (Some kept) state bytes (record { at = CHANGES_AT + 4 * s; records = s + m / 4 })
 drafts_few kept s m state bytes t e f few =

@@ -10,10 +10,10 @@ use Rattle.paw_stage.specs.Stage.{Standing, wrote, with_written}
 use Rattle.paw_stage.specs.Moments.{Moment, Passes, InWrite, InSync}
 use Rattle.paw_stage.proofs.Time.{Passes_map, Passes_on}
 use Rattle.paw_journal.specs.declared.layout.TheConstants.{VERSION}
-use Rattle.paw_journal.specs.Session.{Digests, IsUnmade, recover, mark, zeros, made_mark, session_length}
+use Rattle.paw_journal.specs.Session.{Digests, IsUnmade, recover, session_mark, zeros, made_mark, session_length}
 use Rattle.paw_journal.specs.Session.{made_header}
 use Rattle.paw_journal.specs.inner.Session.{digests_of}
-use Rattle.paw_journal.specs.inner.Store.{IsBeside, InStore, Leaves, LeavesUnmade}
+use Rattle.paw_journal.specs.inner.Store.{ChangesStoreOnly, InStore, CrashLeavesSuch, LeavesUnmade}
 use Rattle.paw_journal.specs.inner.Steps.{IsBlank, IsWithin}
 use Rattle.paw_journal.proofs.Parts.{put_below, put_end}
 use Rattle.paw_journal.proofs.Recovers.{unmade}
@@ -21,7 +21,7 @@ use Rattle.paw_journal.proofs.Disks.{within_long, within_same}
 use Rattle.paw_journal.proofs.Moved.{beside_none, beside_on, beside_wrote, in_write, in_sync, in_later, moved_none, moved_wrote, in_moved_write, in_moved_sync}
 
 -- a store that can't be longer than one byte holds no session
-short_leaves : (d : Disk) → d.longest ≤ 1 → Leaves IsUnmade d
+short_leaves : (d : Disk) → d.longest ≤ 1 → CrashLeavesSuch IsUnmade d
 short_leaves d h image l = unmade image (inl (λ q. omega (arith, l.no_longer)))
 
 short_write : (old d : Disk) → old.longest ≤ 1 → IsInWrite 0 1 old d → d.longest ≤ 1
@@ -31,19 +31,19 @@ short_write old d h (inr q) = let e : d.longest ≡ max old.longest 1 = ap (λ x
 pub empty_is_short : (d : Disk) → IsStable d → length d.bytes ≡ 0 → d.longest ≤ 1
 empty_is_short d h n = omega (arith, h.longest)
 
-pub in_beginning : (s : Standing) (m : Moment) → s.disk.longest ≤ 1 → InWrite s 0 1 m → InStore s (Leaves IsUnmade) m
-in_beginning s m h w = in_write s 0 1 (Leaves IsUnmade) m (λ d i. short_leaves d (short_write s.disk d h i)) w
+pub in_beginning : (s : Standing) (m : Moment) → s.disk.longest ≤ 1 → InWrite s 0 1 m → InStore s (CrashLeavesSuch IsUnmade) m
+in_beginning s m h w = in_write s 0 1 (CrashLeavesSuch IsUnmade) m (λ d i. short_leaves d (short_write s.disk d h i)) w
 
 pub in_begun : (x n : ℕ) (s t : Standing) (m : Moment) → s.disk.longest ≤ 1 →
-    t ≡ wrote s (touched 0 1 (x ∷ []) s.disk) n → InSync t m → InStore s (Leaves IsUnmade) m
+    t ≡ wrote s (touched 0 1 (x ∷ []) s.disk) n → InSync t m → InStore s (CrashLeavesSuch IsUnmade) m
 in_begun x n s t m h e w =
     let l : t.disk.longest ≤ 1 = let q : t.disk.longest ≡ max s.disk.longest 1 = ap (λ x. x.disk.longest) e in omega arith in
-    in_later s t (Leaves IsUnmade) (Leaves IsUnmade) m (beside_wrote s t _ n e) (λ d p. p) (in_sync t IsUnmade m (short_leaves t.disk l) w)
+    in_later s t (CrashLeavesSuch IsUnmade) (CrashLeavesSuch IsUnmade) m (beside_wrote s t _ n e) (λ d p. p) (in_sync t IsUnmade m (short_leaves t.disk l) w)
 
 -- where byte 0 is stable and 0, no crash leaves a session
-pub blank_leaves : (held : List ℕ) (d : Disk) → IsBlank held d → Leaves IsUnmade d
+pub blank_leaves : (held : List ℕ) (d : Disk) → IsBlank held d → CrashLeavesSuch IsUnmade d
 blank_leaves held d h image l =
-    let z : mark image ≡ 0 = l.clean 0 (omega (arith, h.long)) h.clean ∙ h.blank in
+    let z : session_mark image ≡ 0 = l.clean 0 (omega (arith, h.long)) h.clean ∙ h.blank in
     unmade image (inr (λ q. omega arith))
 
 pub blank_now : (held : List ℕ) (d : Disk) → IsBlank held d → IsBlank d.bytes d
@@ -64,14 +64,15 @@ pub blank_write : (at n : ℕ) (d m : Disk) → IsBlank d.bytes d → 1 ≤ at �
 blank_write at n d m h low high (inl e) = subst (λ x. IsBlank x.bytes x) (sym e) h
 blank_write at n d m h low high (inr q) = subst (λ x. IsBlank x.bytes x) (sym q.2) (blank_touched at n q.0 d h low high)
 
-pub in_blank_write : (at n : ℕ) (s t : Standing) (m : Moment) → IsBeside s t → IsBlank t.disk.bytes t.disk → 1 ≤ at →
-    at ≤ length t.disk.bytes → InWrite t at n m → InStore s (Leaves IsUnmade) m
+pub in_blank_write : (at n : ℕ) (s t : Standing) (m : Moment) → ChangesStoreOnly s t → IsBlank t.disk.bytes t.disk → 1 ≤ at →
+    at ≤ length t.disk.bytes → InWrite t at n m → InStore s (CrashLeavesSuch IsUnmade) m
 in_blank_write at n s t m b h low high w =
-    in_later s t (Leaves IsUnmade) (Leaves IsUnmade) m b (λ d p. p)
-    (in_write t at n (Leaves IsUnmade) m (λ d i. blank_leaves d.bytes d (blank_write at n t.disk d h low high i)) w)
+    in_later s t (CrashLeavesSuch IsUnmade) (CrashLeavesSuch IsUnmade) m b (λ d p. p)
+    (in_write t at n (CrashLeavesSuch IsUnmade) m (λ d i. blank_leaves d.bytes d (blank_write at n t.disk d h low high i)) w)
 
-pub in_blank_sync : (s t : Standing) (m : Moment) → IsBeside s t → IsBlank t.disk.bytes t.disk → InSync t m → InStore s (Leaves IsUnmade) m
-in_blank_sync s t m b h w = in_later s t (Leaves IsUnmade) (Leaves IsUnmade) m b (λ d p. p) (in_sync t IsUnmade m (blank_leaves t.disk.bytes t.disk h) w)
+pub in_blank_sync : (s t : Standing) (m : Moment) → ChangesStoreOnly s t → IsBlank t.disk.bytes t.disk → InSync t m → InStore s (CrashLeavesSuch IsUnmade) m
+in_blank_sync s t m b h w =
+    in_later s t (CrashLeavesSuch IsUnmade) (CrashLeavesSuch IsUnmade) m b (λ d p. p) (in_sync t IsUnmade m (blank_leaves t.disk.bytes t.disk h) w)
 
 pub blank_wrote : (at : ℕ) (new : List ℕ) (s t : Standing) (n c : ℕ) → IsBlank s.disk.bytes s.disk → 1 ≤ at →
     at ≤ length s.disk.bytes → t ≡ wrote s (touched at n new s.disk) c → IsBlank (put at new s.disk.bytes) t.disk
@@ -130,9 +131,10 @@ header_written digests header old n e o =
     ∙ ap (λ x. 0 ∷ x) (take_all 127 (drop 1 (made_header 0 digests)) l)))
 
 -- while the mark is written a crash leaves no session, or the one that is marked
-pub marking : (old : List ℕ) (d : Disk) → length old ≡ session_length → IsWithin 0 1 old d → Leaves (λ r. IsUnmade r ⊎ (r ≡ recover (made_mark ∷ drop 1 old))) d
+pub marking : (old : List ℕ) (d : Disk) → length old ≡ session_length → IsWithin 0 1 old d →
+    CrashLeavesSuch (λ r. IsUnmade r ⊎ (r ≡ recover (made_mark ∷ drop 1 old))) d
 marking old d long h image l =
-    elim (cases_eq (mark image) made_mark) [
+    elim (cases_eq (session_mark image) made_mark) [
       | inl e ↦ inr
           (ap recover (marked image old (within_long 0 1 old image d h l) long
           (λ i b. within_same 0 1 old image d h l (suc i) b (inr (omega arith))) e))
@@ -149,14 +151,14 @@ marking old d long h image l =
         ap (λ a. a ∷ image) e ∙ ap (λ l. made_mark ∷ l) f
 
 pub in_marking : (s : Standing) (m : Moment) → length s.disk.bytes ≡ session_length → IsStable s.disk →
-    InWrite s 0 1 m → InStore s (Leaves (λ r. IsUnmade r ⊎ (r ≡ recover (made_mark ∷ drop 1 s.disk.bytes)))) m
+    InWrite s 0 1 m → InStore s (CrashLeavesSuch (λ r. IsUnmade r ⊎ (r ≡ recover (made_mark ∷ drop 1 s.disk.bytes)))) m
 in_marking s m long h w = in_moved_write 0 1 0 1 s s
-    (Leaves (λ r. IsUnmade r ⊎ (r ≡ recover (made_mark ∷ drop 1 s.disk.bytes)))) m (moved_none 0 1 s h) (omega arith)
+    (CrashLeavesSuch (λ r. IsUnmade r ⊎ (r ≡ recover (made_mark ∷ drop 1 s.disk.bytes)))) m (moved_none 0 1 s h) (omega arith)
     (omega arith) (omega arith) (λ d i. marking s.disk.bytes d long i) w
 
 pub in_marked : (x c : ℕ) (s t : Standing) (m : Moment) → length s.disk.bytes ≡ session_length → IsStable s.disk →
     t ≡ wrote s (touched 0 1 (x ∷ []) s.disk) c → InSync t m →
-    InStore s (Leaves (λ r. IsUnmade r ⊎ (r ≡ recover (made_mark ∷ drop 1 s.disk.bytes)))) m
+    InStore s (CrashLeavesSuch (λ r. IsUnmade r ⊎ (r ≡ recover (made_mark ∷ drop 1 s.disk.bytes)))) m
 in_marked x c s t m long h e w =
     in_moved_sync 0 1 s t (λ r. IsUnmade r ⊎ (r ≡ recover (made_mark ∷ drop 1 s.disk.bytes))) m
     (moved_wrote 0 1 0 1 c (x ∷ []) s s t (moved_none 0 1 s h) (omega arith) (omega arith) (omega arith) (omega arith) e)

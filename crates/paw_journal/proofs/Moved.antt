@@ -7,17 +7,17 @@ use Rattle.paw_stage.specs.Moments.{Moment, InWrite, InSync}
 use Rattle.paw_stage.proofs.Names.{held_other, holds_same}
 use Rattle.paw_journal.specs.Session.{Recovered}
 use Rattle.paw_journal.specs.inner.Steps.{IsWithin}
-use Rattle.paw_journal.specs.inner.Store.{IsBeside, InStore, Leaves}
+use Rattle.paw_journal.specs.inner.Store.{ChangesStoreOnly, InStore, CrashLeavesSuch}
 use Rattle.paw_journal.proofs.Disks.{within_stable, within_write}
 
 held_same : (attached : Option (List ℕ)) (n bytes : List ℕ) (files : Files) → attached ≡ Some n → store_holding attached bytes files n ≡ Some bytes
 held_same attached n bytes files e = ap (λ a. store_holding a bytes files n) e ∙ holds_same n (Some bytes) files
 
-pub beside_none : (s : Standing) → IsBeside s s
+pub beside_none : (s : Standing) → ChangesStoreOnly s s
 beside_none s = record { lines = refl; asked = refl; shown = refl; attached = refl; files = λ n ne. refl; file = λ n e h. h }
 
-pub beside_wrote : (s t : Standing) (d : Disk) (n : ℕ) → t ≡ wrote s d n → IsBeside s t
-beside_wrote s t d n e = subst (λ x. IsBeside s x) (sym e) (record {
+pub beside_wrote : (s t : Standing) (d : Disk) (n : ℕ) → t ≡ wrote s d n → ChangesStoreOnly s t
+beside_wrote s t d n e = subst (λ x. ChangesStoreOnly s x) (sym e) (record {
   lines = refl;
   asked = refl;
   shown = refl;
@@ -26,18 +26,18 @@ beside_wrote s t d n e = subst (λ x. IsBeside s x) (sym e) (record {
   file = λ k a h. held_same s.attached k d.bytes s.files a;
 })
 
-pub beside_part : (s t : Standing) (at n : ℕ) → (t ≡ s) ⊎ WritesPart s t at n → IsBeside s t
-beside_part s t at n (inl e) = subst (λ x. IsBeside s x) (sym e) (beside_none s)
+pub beside_part : (s t : Standing) (at n : ℕ) → (t ≡ s) ⊎ WritesPart s t at n → ChangesStoreOnly s t
+beside_part s t at n (inl e) = subst (λ x. ChangesStoreOnly s x) (sym e) (beside_none s)
 beside_part s t at n (inr q) = beside_wrote s t q.disk q.count q.stands
 
-pub beside_sync : (s t : Standing) → t ≡ record s { disk = stable s.disk.bytes } → IsBeside s t
-beside_sync s t e = subst (λ x. IsBeside s x) (sym e)
+pub beside_sync : (s t : Standing) → t ≡ record s { disk = stable s.disk.bytes } → ChangesStoreOnly s t
+beside_sync s t e = subst (λ x. ChangesStoreOnly s x) (sym e)
     (record { lines = refl; asked = refl; shown = refl; attached = refl; files = λ n ne. refl; file = λ n a h. h })
 
-pub beside_same : (s t : Standing) → t ≡ s → IsBeside s t
-beside_same s t e = subst (λ x. IsBeside s x) (sym e) (beside_none s)
+pub beside_same : (s t : Standing) → t ≡ s → ChangesStoreOnly s t
+beside_same s t e = subst (λ x. ChangesStoreOnly s x) (sym e) (beside_none s)
 
-pub beside_on : (s t u : Standing) → IsBeside s t → IsBeside t u → IsBeside s u
+pub beside_on : (s t u : Standing) → ChangesStoreOnly s t → ChangesStoreOnly t u → ChangesStoreOnly s u
 beside_on s t u h k =
     record {
       lines = k.lines ∙ h.lines;
@@ -59,7 +59,7 @@ in_write s at n P m f h =
     }
 
 -- inside a sync a crash leaves no more than before it
-pub in_sync : (s : Standing) (P : Recovered → Type 0) (m : Moment) → Leaves P s.disk → InSync s m → InStore s (Leaves P) m
+pub in_sync : (s : Standing) (P : Recovered → Type 0) (m : Moment) → CrashLeavesSuch P s.disk → InSync s m → InStore s (CrashLeavesSuch P) m
 in_sync s P m f h = record {
   asked = h.asked;
   shown = h.shown;
@@ -69,7 +69,7 @@ in_sync s P m f h = record {
   disk = λ image l. f image (h.disk image l);
 }
 
-pub in_later : (s t : Standing) (P Q : Disk → Type 0) (m : Moment) → IsBeside s t → ((d : Disk) → P d → Q d) → InStore t P m → InStore s Q m
+pub in_later : (s t : Standing) (P Q : Disk → Type 0) (m : Moment) → ChangesStoreOnly s t → ((d : Disk) → P d → Q d) → InStore t P m → InStore s Q m
 in_later s t P Q m b f h =
     record {
       asked = h.asked ∙ b.asked;
@@ -81,7 +81,7 @@ in_later s t P Q m b f h =
 
 -- All but a stretch of the attached store stands as it did.
 pub record IsMoved (lo hi : ℕ) (s t : Standing) : Type 0 where
-  pub beside : IsBeside s t
+  pub beside : ChangesStoreOnly s t
   pub within : IsWithin lo hi s.disk.bytes t.disk
 
 pub moved_none : (lo hi : ℕ) (s : Standing) → IsStable s.disk → IsMoved lo hi s s
@@ -103,5 +103,5 @@ in_moved_write lo hi at n s t P m h low high long f w =
     in_later s t P P m h.beside (λ d p. p) (in_write t at n P m (λ d i. f d (within_write lo hi at n s.disk.bytes t.disk d h.within low high long i)) w)
 
 pub in_moved_sync : (lo hi : ℕ) (s t : Standing) (P : Recovered → Type 0) (m : Moment) → IsMoved lo hi s t →
-    ((d : Disk) → IsWithin lo hi s.disk.bytes d → Leaves P d) → InSync t m → InStore s (Leaves P) m
-in_moved_sync lo hi s t P m h f w = in_later s t (Leaves P) (Leaves P) m h.beside (λ d p. p) (in_sync t P m (f t.disk h.within) w)
+    ((d : Disk) → IsWithin lo hi s.disk.bytes d → CrashLeavesSuch P d) → InSync t m → InStore s (CrashLeavesSuch P) m
+in_moved_sync lo hi s t P m h f w = in_later s t (CrashLeavesSuch P) (CrashLeavesSuch P) m h.beside (λ d p. p) (in_sync t P m (f t.disk h.within) w)

@@ -3,7 +3,8 @@ use Rattle.std.proofs.Common.{◌≡◌, ◌≢◌, ℕ, ◌+◌, ◌*◌, ◌�
 use Rattle.std.specs.Prelude.{if◌then◌else◌, ◌==◌, ◌&&◌}
 use Rattle.std.proofs.lemmas.Bool.Decides.{nat_tests}
 use Rattle.paw_journal.specs.declared.refusal.SessionPart.TheVariants as part
-use Rattle.paw_journal.specs.Session.{Recovered, Unmade, Damaged, Shown, IsUnmade, recover, recover_by, slot_shows, slot, chosen, mark, version, is_version}
+use Rattle.paw_journal.specs.Session.{Recovered, Unmade, Damaged, Shown, IsUnmade, recover, recover_by, slot_shows, slot, chosen, session_mark, version}
+use Rattle.paw_journal.specs.Session.{is_version}
 use Rattle.paw_journal.specs.Session.{Digests, kept_digests, stretch, session_length, slot_length, header_length, made_mark}
 use Rattle.paw_journal.specs.inner.Session.{digests_of}
 use Rattle.paw_journal.specs.inner.Steps.{IsMade}
@@ -25,7 +26,7 @@ same_digests a b n same = both_digests (stretch 32 32 a) (stretch 32 32 b) (stre
     (stretch_same 64 32 a b n (λ i low high. same i (omega arith) high))
 
 -- These parts alone decide what bytes stand for.
-pub recover_by_parts : (k : ℕ) (a b : List ℕ) → length a ≡ length b → mark a ≡ mark b → version a ≡ version b →
+pub recover_by_parts : (k : ℕ) (a b : List ℕ) → length a ≡ length b → session_mark a ≡ session_mark b → version a ≡ version b →
     kept_digests a ≡ kept_digests b → slot k a ≡ slot k b → recover_by k a ≡ recover_by k b
 unfolding recover_by
 recover_by_parts k a b n m v d s = cc
@@ -46,9 +47,9 @@ unfolding recover_by
 recover_made k a h = rw (h.long, h.marked, h.versioned) refl
 
 -- bytes of another length, or without the mark, are no session
-pub unmade_is : (a : List ℕ) → (length a ≢ session_length) ⊎ (mark a ≢ made_mark) → recover a ≡ Unmade (length a) (mark a)
+pub unmade_is : (a : List ℕ) → (length a ≢ session_length) ⊎ (session_mark a ≢ made_mark) → recover a ≡ Unmade (length a) (session_mark a)
 unfolding recover recover_by
-unmade_is a h = unless (length a == session_length) (mark a == made_mark) _ _
+unmade_is a h = unless (length a == session_length) (session_mark a == made_mark) _ _
     (elim h [ inl n ↦ inl (grind (arith, nat_tests)) | inr m ↦ inr (grind (arith, nat_tests)) ])
   where
     unless : (p q : Bool) (x y : Recovered) → (p ≡ false) ⊎ (q ≡ false) → (if p && q then x else y) ≡ y
@@ -57,14 +58,14 @@ unmade_is a h = unless (length a == session_length) (mark a == made_mark) _ _
     unless true false x y e = refl
     unless false q x y e = refl
 
-pub unmade : (a : List ℕ) → (length a ≢ session_length) ⊎ (mark a ≢ made_mark) → IsUnmade (recover a)
+pub unmade : (a : List ℕ) → (length a ≢ session_length) ⊎ (session_mark a ≢ made_mark) → IsUnmade (recover a)
 unmade a h = let e = unmade_is a h in rw e tt
 
 -- bytes that show a state and a piece are those of a session that is made
 pub shown_made : (bytes : List ℕ) (digests : Digests) (state piece : List ℕ) → recover bytes ≡ Shown digests state piece → IsMade bytes
 unfolding recover recover_by
 shown_made bytes digests state piece e =
-    let t = tests (length bytes == session_length) (mark bytes == made_mark) (is_version (version bytes)) _ _ _ _ _ _ e in
+    let t = tests (length bytes == session_length) (session_mark bytes == made_mark) (is_version (version bytes)) _ _ _ _ _ _ e in
     record { long = is_true _ _ t.0; marked = is_true _ _ t.1; versioned = t.2 }
   where
     tests : (a b c : Bool) (x : Recovered) (n m : ℕ) (digests : Digests) (state piece : List ℕ) →

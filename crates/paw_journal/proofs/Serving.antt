@@ -3,8 +3,8 @@ use Rattle.std.proofs.Common.{◌≡◌, ◌↔◌, List, [], ◌∷◌, ◌++�
 use Rattle.std.specs.Prelude.{Option, Some, None}
 use Rattle.paw_stage.specs.declared.StageCall.{StageCall}
 use Rattle.paw_stage.specs.declared.Stage.{Ghosts}
-use Rattle.paw_stage.specs.Stage.{Faulted}
-use Rattle.paw_stage.specs.Across.{IsOneOf, Serves}
+use Rattle.paw_stage.specs.Stage.{CountsFailure}
+use Rattle.paw_stage.specs.Across.{IsOneOf, FailsOnlyBy}
 use Rattle.paw_stage.proofs.Counted.{Faulted_same, Faulted_on}
 
 -- ---- lists ----
@@ -28,29 +28,29 @@ behind (y ∷ more) few x h = inr (behind more few x h)
 -- ---- calls ----
 
 -- no call
-pub serves_none : {S : Type 0} (g : Ghosts S) (calls : List StageCall) (s : S) → Serves g calls None s s
+pub serves_none : {S : Type 0} (g : Ghosts S) (calls : List StageCall) (s : S) → FailsOnlyBy g calls None s s
 serves_none g calls s = record { tells = (λ t. t, λ t. t); faulted = Faulted_same (g.faults s); among = tt }
 
 -- a call that didn't fail
-pub serves_done : {S : Type 0} (g : Ghosts S) (old new : S) → g.Tells old ↔ g.Tells new → Faulted None (g.faults old) (g.faults new) →
-    Serves g [] None old new
+pub serves_done : {S : Type 0} (g : Ghosts S) (old new : S) → g.Tells old ↔ g.Tells new → CountsFailure None (g.faults old) (g.faults new) →
+    FailsOnlyBy g [] None old new
 serves_done g old new t f = record { tells = t; faulted = f; among = tt }
 
 -- calls that are among more
 pub serves_among : {S : Type 0} (g : Ghosts S) (few many : List StageCall) (failed : Option StageCall) (old new : S) →
-    ((c : StageCall) → IsOneOf few c → IsOneOf many c) → Serves g few failed old new → Serves g many failed old new
+    ((c : StageCall) → IsOneOf few c → IsOneOf many c) → FailsOnlyBy g few failed old new → FailsOnlyBy g many failed old new
 serves_among g few many None old new h s = record { tells = s.tells; faulted = s.faulted; among = tt }
 serves_among g few many (Some c) old new h s = record { tells = s.tells; faulted = s.faulted; among = h c s.among }
 
 -- calls none of which failed, and then an answer that names none
 pub serves_still : {S : Type 0} (g : Ghosts S) (few many : List StageCall) (failed : Option StageCall) (old new : S) → failed ≡ None →
-    Serves g few None old new → Serves g many failed old new
+    FailsOnlyBy g few None old new → FailsOnlyBy g many failed old new
 serves_still g few many failed old new e s =
-    subst (λ f. Serves g many f old new) (sym e) (record { tells = s.tells; faulted = s.faulted; among = tt })
+    subst (λ f. FailsOnlyBy g many f old new) (sym e) (record { tells = s.tells; faulted = s.faulted; among = tt })
 
 -- calls none of which failed, and then others
 pub serves_then : {S : Type 0} (g : Ghosts S) (first next : List StageCall) (failed : Option StageCall) (old mid new : S) →
-    Serves g first None old mid → Serves g next failed mid new → Serves g next failed old new
+    FailsOnlyBy g first None old mid → FailsOnlyBy g next failed mid new → FailsOnlyBy g next failed old new
 serves_then g first next failed old mid new a b = record {
   tells = (λ t. b.tells.0 (a.tells.0 t), λ t. a.tells.1 (b.tells.1 t));
   faulted = Faulted_on failed (g.faults old) (g.faults mid) (g.faults new) a.faulted b.faulted;

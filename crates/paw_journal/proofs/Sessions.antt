@@ -18,7 +18,7 @@ use Rattle.paw_journal.specs.inner.Room.{Room, kept_slot, with_slot_kept, KeepsS
 use Rattle.paw_journal.specs.Session.{Digests, Recovered, Shown, IsUnmade, recover, slot_shows, slot, stretch, base, chosen, kept_digests, piece_length, state_length}
 use Rattle.paw_journal.specs.Session.{session_length, slot_length, zeros, made_mark}
 use Rattle.paw_journal.specs.Session.{made_header, made_slot, made_session}
-use Rattle.paw_journal.specs.inner.Store.{IsBeside, InStore, Leaves, IsEither}
+use Rattle.paw_journal.specs.inner.Store.{ChangesStoreOnly, InStore, CrashLeavesSuch, IsOldOrNew}
 use Rattle.paw_journal.specs.inner.Steps.{Introduces}
 use Rattle.paw_journal.specs.declared.layout.TheConstants.{VERSION, BASE_AT, PIECE_AT}
 use Rattle.paw_journal.specs.Session.{base_length}
@@ -167,20 +167,22 @@ pub still_on : (b n n' : ℕ) (past since since' : ℕ → Moment → Type 0) (s
 still_on b n n' past since since' s t e h k = Passes_on b n n' past since since' (Still s) (Still t) h k (λ m q. q ∙ ap moment_of e)
 
 -- what a crash leaves of one of two sessions, in other words
-pub in_either : (s t : Standing) (a b x y : Recovered) (m : Moment) → IsBeside s t → a ≡ x → b ≡ y →
-    InStore t (Leaves (IsEither a b)) m → InStore s (Leaves (IsEither x y)) m
-in_either s t a b x y m h e f i = in_later s t (Leaves (IsEither a b)) (Leaves (IsEither x y)) m h
+pub in_either : (s t : Standing) (a b x y : Recovered) (m : Moment) → ChangesStoreOnly s t → a ≡ x → b ≡ y →
+    InStore t (CrashLeavesSuch (IsOldOrNew a b)) m → InStore s (CrashLeavesSuch (IsOldOrNew x y)) m
+in_either s t a b x y m h e f i = in_later s t (CrashLeavesSuch (IsOldOrNew a b)) (CrashLeavesSuch (IsOldOrNew x y)) m h
     (λ d p image l. elim (p image l) [ inl q ↦ inl (q ∙ e) | inr q ↦ inr (q ∙ f) ]) i
 
-pub in_first_of : (s : Standing) (a b : Recovered) (m : Moment) → IsBeside s s → InStore s (Leaves (λ r. r ≡ a)) m → InStore s (Leaves (IsEither a b)) m
-in_first_of s a b m h i = in_later s s (Leaves (λ r. r ≡ a)) (Leaves (IsEither a b)) m h (λ d p image l. inl (p image l)) i
+pub in_first_of : (s : Standing) (a b : Recovered) (m : Moment) → ChangesStoreOnly s s → InStore s (CrashLeavesSuch (λ r. r ≡ a)) m →
+    InStore s (CrashLeavesSuch (IsOldOrNew a b)) m
+in_first_of s a b m h i = in_later s s (CrashLeavesSuch (λ r. r ≡ a)) (CrashLeavesSuch (IsOldOrNew a b)) m h (λ d p image l. inl (p image l)) i
 
-pub in_unmade : (s : Standing) (b : Recovered) (m : Moment) → IsBeside s s → InStore s (Leaves IsUnmade) m → InStore s (Leaves (λ r. IsUnmade r ⊎ (r ≡ b))) m
-in_unmade s b m h i = in_later s s (Leaves IsUnmade) (Leaves (λ r. IsUnmade r ⊎ (r ≡ b))) m h (λ d p image l. inl (p image l)) i
+pub in_unmade : (s : Standing) (b : Recovered) (m : Moment) → ChangesStoreOnly s s → InStore s (CrashLeavesSuch IsUnmade) m →
+    InStore s (CrashLeavesSuch (λ r. IsUnmade r ⊎ (r ≡ b))) m
+in_unmade s b m h i = in_later s s (CrashLeavesSuch IsUnmade) (CrashLeavesSuch (λ r. IsUnmade r ⊎ (r ≡ b))) m h (λ d p image l. inl (p image l)) i
 
-pub in_unmade_or : (s t : Standing) (a b : Recovered) (m : Moment) → IsBeside s t → a ≡ b →
-    InStore t (Leaves (λ r. IsUnmade r ⊎ (r ≡ a))) m → InStore s (Leaves (λ r. IsUnmade r ⊎ (r ≡ b))) m
-in_unmade_or s t a b m h e i = in_later s t (Leaves (λ r. IsUnmade r ⊎ (r ≡ a))) (Leaves (λ r. IsUnmade r ⊎ (r ≡ b))) m
+pub in_unmade_or : (s t : Standing) (a b : Recovered) (m : Moment) → ChangesStoreOnly s t → a ≡ b →
+    InStore t (CrashLeavesSuch (λ r. IsUnmade r ⊎ (r ≡ a))) m → InStore s (CrashLeavesSuch (λ r. IsUnmade r ⊎ (r ≡ b))) m
+in_unmade_or s t a b m h e i = in_later s t (CrashLeavesSuch (λ r. IsUnmade r ⊎ (r ≡ a))) (CrashLeavesSuch (λ r. IsUnmade r ⊎ (r ≡ b))) m
     h (λ d p image l. elim (p image l) [ inl q ↦ inl q | inr q ↦ inr (q ∙ e) ]) i
 
 -- a digest that was found is another one, or the one that was looked for

@@ -10,7 +10,7 @@ use Rattle.std.proofs.lemmas.List.{length-append, length-take-le, take_all, drop
 use Rattle.std.proofs.Math.Seq.{take-suc, drop-cons, set-append_seam}
 use Rattle.paw_journal.specs.Session.{Change, changes, changed, is_sound, first_unsound}
 use Rattle.paw_journal.specs.Session.{differing, change_bytes, differences_from, differences}
-use Rattle.paw_journal.specs.inner.Steps.{Turns}
+use Rattle.paw_journal.specs.inner.Steps.{ChangesInto}
 use Rattle.paw_journal.specs.Session.{base_length}
 
 pub changes-append : (n : ℕ) (a b : List ℕ) → length a ≡ 4 * n → changes (a ++ b) ≡ changes a ++ changes b
@@ -162,7 +162,7 @@ turns_other old new records now i z h n low short ne q e =
           ∙ ap (λ l. l ++ drop (suc i) old) (sym (take-suc new i 0 l))))))));
     }
 
-pub turns_all : (old new records : List ℕ) (n : ℕ) → TurnsTo old new n records → length old ≡ n → length new ≡ n → Turns old new records
+pub turns_all : (old new records : List ℕ) (n : ℕ) → TurnsTo old new n records → length old ≡ n → length new ≡ n → ChangesInto old new records
 unfolding differences_from
 turns_all old new records n h e f = record {
   exact = sym (append-nil records) ∙ (ap (λ a. records ++ differences_from n a (drop n new)) (sym (drop_all n old (omega arith))) ∙ h.exact);

@@ -38,8 +38,8 @@ abbrev pub made_mark : ℕ
 made_mark = 80
 
 -- Byte 0 of a session.
-abbrev pub mark : Bytes → ℕ
-mark bytes = slice_index bytes 0
+abbrev pub session_mark : Bytes → ℕ
+session_mark bytes = slice_index bytes 0
 
 -- Which slot is in use: 0 or 1.
 abbrev pub chosen : Bytes → ℕ
@@ -180,9 +180,9 @@ slot_shows digests bytes =
 -- What the bytes stand for if slot k is the one in use.
 unfoldable pub recover_by : ℕ → Bytes → Recovered
 recover_by k bytes =
-    if (length bytes == session_length) && (mark bytes == made_mark)
+    if (length bytes == session_length) && (session_mark bytes == made_mark)
     then (if is_version (version bytes) then slot_shows (kept_digests bytes) (slot k bytes) else Damaged part.Header 2)
-    else Unmade (length bytes) (mark bytes)
+    else Unmade (length bytes) (session_mark bytes)
 
 -- What the bytes stand for, by the slot that is in use.
 unfoldable pub recover : Bytes → Recovered

@@ -3,7 +3,7 @@
 ghost use Rattle.std.specs.Prelude.{◌≡◌, ◌+◌, ◌*◌, ◌<◌, ◌≤◌, [], ◌++◌, length, None, IfSome};
 ghost use Rattle.std.specs.Prelude.{vec_capacity};
 ghost use Rattle.paw_journal.specs.Session.{changes, changed, first_unsound, change_bytes};
-ghost use Rattle.paw_journal.specs.inner.Steps.{Turns};
+ghost use Rattle.paw_journal.specs.inner.Steps.{ChangesInto};
 
 use crate::layout::BASE_LENGTH;
 
@@ -31,7 +31,7 @@ pub(crate) fn apply(records: &[u8], state: &mut [u8; 4096]) -> Option<usize>
 pub(crate) fn add_changes(old: &[u8; 4096], new: &[u8; 4096], records: &mut Vec<u8>)
     requires room { 4 * 4096 ≤ vec_capacity records.old }
     requires empty { records.old.items ≡ [] }
-    ensures turned { Turns old.now new.now records.new.items }
+    ensures turned { ChangesInto old.now new.now records.new.items }
     ensures few { length records.new.items ≤ 4 * 4096 }
     ensures capacity { vec_capacity records.old ≤ vec_capacity records.new }
 {

@@ -5,17 +5,17 @@ ghost use Rattle.paw_base.specs.declared.limits.TheConstants.{PIECE_LIMIT};
 ghost use Rattle.paw_stage.specs.Disk.{put};
 ghost use Rattle.paw_stage.specs.Stage.{Standing};
 ghost use Rattle.paw_stage.specs.inner.Stage.{WritesAtMost};
-ghost use Rattle.paw_stage.specs.Across.{Across, EachMoment, Serves};
-ghost use Rattle.paw_stage.specs.inner.Across.{Once, Throughout};
+ghost use Rattle.paw_stage.specs.Across.{IfTelling, EachMoment, FailsOnlyBy};
+ghost use Rattle.paw_stage.specs.inner.Across.{OnSuccess, AtEachMoment};
 ghost use Rattle.paw_journal.specs.Session.{session_length, slot_length, slot_head};
 ghost use Rattle.paw_journal.specs.inner.Room.{slot_number};
-ghost use Rattle.paw_journal.specs.inner.Store.{IsBeside, HoldsStable, LeavesSame, LeavesSlot};
-ghost use Rattle.paw_journal.specs.inner.Steps.{IsSpare, IsFilling, KeepsFilling, Fills};
+ghost use Rattle.paw_journal.specs.inner.Store.{ChangesStoreOnly, HoldsStable, LeavesSame, LeavesSlot};
+ghost use Rattle.paw_journal.specs.inner.Steps.{IsSpare, IsFilling, IsStillFilling, Fills};
 ghost use Rattle.paw_journal.specs.inner.Steps.{WritesSlot, Chooses};
 ghost use Rattle.paw_journal.specs.Journal.{writing_calls};
 ghost use Rattle.paw_journal.specs.inner.Journal.{IsAtRest, failed_stage_call};
 
-use crate::drafting::Draft;
+use crate::drafting::CommitDraft;
 use crate::layout::{PIECE_AT, SELECTOR_AT, Slot, VERSION};
 use crate::store::{sync, write};
 use paw_stage::{Stage, StageCall};
@@ -25,7 +25,7 @@ use paw_stage::{Stage, StageCall};
 pub(crate) fn write_slot<S: Stage>(
     stage: &mut S,
     which: Slot,
-    draft: Draft,
+    draft: CommitDraft,
     bytes: &[u8],
     piece: &[u8],
 ) -> Result<(), StageCall>
@@ -33,11 +33,11 @@ pub(crate) fn write_slot<S: Stage>(
     requires spare { S.Tells stage.old → IsSpare (slot_number which) (S.standing stage.old).disk.bytes }
     requires inside { draft.at + length bytes.now ≤ slot_length }
     requires short { length piece.now ≤ PIECE_LIMIT }
-    ensures serves { Serves S.Stage writing_calls (failed_stage_call result) stage.old stage.new }
-    ensures few { Across S.Stage stage.old stage.new (WritesAtMost (length bytes.now + length piece.now + 3)) }
-    ensures written { Once S.Stage stage.old stage.new result (WritesSlot which draft bytes.now piece.now) }
-    ensures beside { Across S.Stage stage.old stage.new IsBeside }
-    ensures any_moment { Throughout S.Stage stage.old stage.new LeavesSame }
+    ensures serves { FailsOnlyBy S.Stage writing_calls (failed_stage_call result) stage.old stage.new }
+    ensures few { IfTelling S.Stage stage.old stage.new (WritesAtMost (length bytes.now + length piece.now + 3)) }
+    ensures written { OnSuccess S.Stage stage.old stage.new result (WritesSlot which draft bytes.now piece.now) }
+    ensures beside { IfTelling S.Stage stage.old stage.new ChangesStoreOnly }
+    ensures any_moment { AtEachMoment S.Stage stage.old stage.new LeavesSame }
 {
     write_part(stage, which, draft.at, bytes)?;
     write_part(stage, which, PIECE_AT, piece)?;
@@ -62,11 +62,11 @@ fn write_part<S: Stage>(
     requires attached { S.Tells stage.old → IsSome (S.standing stage.old).attached }
     requires long { S.Tells stage.old → length (S.standing stage.old).disk.bytes ≡ session_length }
     requires inside { at + length bytes.now ≤ slot_length }
-    ensures serves { Serves S.Stage writing_calls (failed_stage_call result) stage.old stage.new }
-    ensures few { Across S.Stage stage.old stage.new (WritesAtMost (length bytes.now)) }
-    ensures filling { Once S.Stage stage.old stage.new result (KeepsFilling (slot_number which)) }
-    ensures written { Once S.Stage stage.old stage.new result (Fills which (put at bytes.now)) }
-    ensures beside { Across S.Stage stage.old stage.new IsBeside }
+    ensures serves { FailsOnlyBy S.Stage writing_calls (failed_stage_call result) stage.old stage.new }
+    ensures few { IfTelling S.Stage stage.old stage.new (WritesAtMost (length bytes.now)) }
+    ensures filling { OnSuccess S.Stage stage.old stage.new result (IsStillFilling (slot_number which)) }
+    ensures written { OnSuccess S.Stage stage.old stage.new result (Fills which (put at bytes.now)) }
+    ensures beside { IfTelling S.Stage stage.old stage.new ChangesStoreOnly }
     ensures any_moment { S.Tells stage.old → (first : Standing) →
         IsFilling (slot_number which) first (S.standing stage.old) →
         EachMoment S.Stage stage.old stage.new (LeavesSame first) }
@@ -81,11 +81,11 @@ fn write_part<S: Stage>(
 pub(crate) fn choose<S: Stage>(stage: &mut S, which: Slot) -> Result<(), StageCall>
     requires rests { S.Tells stage.old → IsAtRest (S.standing stage.old) }
     requires long { S.Tells stage.old → length (S.standing stage.old).disk.bytes ≡ session_length }
-    ensures serves { Serves S.Stage writing_calls (failed_stage_call result) stage.old stage.new }
-    ensures few { Across S.Stage stage.old stage.new (WritesAtMost 1) }
-    ensures chosen { Once S.Stage stage.old stage.new result (Chooses which) }
-    ensures beside { Across S.Stage stage.old stage.new IsBeside }
-    ensures any_moment { Throughout S.Stage stage.old stage.new (LeavesSlot which) }
+    ensures serves { FailsOnlyBy S.Stage writing_calls (failed_stage_call result) stage.old stage.new }
+    ensures few { IfTelling S.Stage stage.old stage.new (WritesAtMost 1) }
+    ensures chosen { OnSuccess S.Stage stage.old stage.new result (Chooses which) }
+    ensures beside { IfTelling S.Stage stage.old stage.new ChangesStoreOnly }
+    ensures any_moment { AtEachMoment S.Stage stage.old stage.new (LeavesSlot which) }
 {
     write(stage, SELECTOR_AT, &[which.selector()])?;
     sync(stage)

@@ -16,13 +16,17 @@ pub struct SlotState {
 
 /// Where a commit writes into a slot, and the number of change records that the slot then has.
 #[derive(Clone, Copy, Drop)]
-pub(crate) struct Draft {
+pub(crate) struct CommitDraft {
     pub(crate) at: usize,
     pub(crate) records: u16,
 }
 
 /// Puts together what gives a slot, of which this is kept, a new state.
-pub(crate) fn draft_over(kept: &Option<SlotState>, state: &[u8; 4096], into: &mut Vec<u8>) -> Draft
+pub(crate) fn draft_over(
+    kept: &Option<SlotState>,
+    state: &[u8; 4096],
+    into: &mut Vec<u8>,
+) -> CommitDraft
     requires room { slot_length ≤ vec_capacity into.old }
     ensures drafts { Drafts kept.now state.now into.new.items result }
     ensures capacity { slot_length ≤ vec_capacity into.new }
@@ -34,7 +38,7 @@ pub(crate) fn draft_over(kept: &Option<SlotState>, state: &[u8; 4096], into: &mu
 }
 
 // Change records to be added to those of the slot or, where these are too many, its base.
-fn draft_changes(kept: &SlotState, state: &[u8; 4096], into: &mut Vec<u8>) -> Draft
+fn draft_changes(kept: &SlotState, state: &[u8; 4096], into: &mut Vec<u8>) -> CommitDraft
     requires room { slot_length ≤ vec_capacity into.old }
     ensures drafts { Drafts (Some kept.now) state.now into.new.items result }
     ensures capacity { slot_length ≤ vec_capacity into.new }
@@ -46,14 +50,14 @@ fn draft_changes(kept: &SlotState, state: &[u8; 4096], into: &mut Vec<u8>) -> Dr
     if records > MOST_CHANGES {
         return draft_base(state, into);
     }
-    Draft {
+    CommitDraft {
         at: CHANGES_AT + CHANGE_LENGTH * standing,
         records: records as u16,
     }
 }
 
 // The base of the slot, whole.
-fn draft_base(state: &[u8; 4096], into: &mut Vec<u8>) -> Draft
+fn draft_base(state: &[u8; 4096], into: &mut Vec<u8>) -> CommitDraft
     requires room { slot_length ≤ vec_capacity into.old }
     ensures bytes { into.new.items ≡ state.now }
     ensures value { result ≡ record { at = 64; records = 0 } }
@@ -62,7 +66,7 @@ fn draft_base(state: &[u8; 4096], into: &mut Vec<u8>) -> Draft
     into.clear();
     // The room was taken before.
     into.extend_from_slice(state).unwrap();
-    Draft {
+    CommitDraft {
         at: BASE_AT,
         records: 0,
     }

@@ -3,12 +3,12 @@
 ghost use Rattle.std.specs.Prelude.{◌≡◌, [], ◌∷◌, length, OnOk, IfOk, IfErr};
 ghost use Rattle.paw_stage.specs.declared.StageCall.TheVariants as call;
 ghost use Rattle.paw_stage.specs.Moments.{Still};
-ghost use Rattle.paw_stage.specs.Across.{Across, Serves};
-ghost use Rattle.paw_stage.specs.inner.Across.{Once, Throughout};
+ghost use Rattle.paw_stage.specs.Across.{IfTelling, FailsOnlyBy};
+ghost use Rattle.paw_stage.specs.inner.Across.{OnSuccess, AtEachMoment};
 ghost use Rattle.paw_journal.specs.Session.{BelongsTo, recover, kept_digests, piece_length};
 ghost use Rattle.paw_journal.specs.inner.Session.{digests_of};
 ghost use Rattle.paw_journal.specs.inner.Written.{WritesLittle};
-ghost use Rattle.paw_journal.specs.inner.Store.{IsBeside, LeavesMade, LeavesOldOr};
+ghost use Rattle.paw_journal.specs.inner.Store.{ChangesStoreOnly, LeavesMade, LeavesOldOr};
 ghost use Rattle.paw_journal.specs.inner.Steps.{HoldsMade, HoldsCommitted, ShowsIn, ShowsNext, SameDigests};
 ghost use Rattle.paw_journal.specs.Journal.{writing_calls};
 ghost use Rattle.paw_journal.specs.inner.Journal.{IsAtRest, KeptIn, IsSessionRefused, failed_stage_call, refused_call};
@@ -50,7 +50,7 @@ impl Journal {
         requires attached { S.Tells stage.old → at.length ≡ length (S.standing stage.old).disk.bytes }
         requires empty { at.length ≡ 0 }
         requires piece_length { piece_length state.now ≡ length piece.now }
-        ensures serves { Serves S.Stage writing_calls (failed_stage_call result) stage.old stage.new }
+        ensures serves { FailsOnlyBy S.Stage writing_calls (failed_stage_call result) stage.old stage.new }
         ensures state { OnOk result (room.new.state ≡ state.now) }
         ensures piece { OnOk result (room.new.piece ≡ piece.now) }
         ensures made { S.Tells stage.old →
@@ -60,12 +60,12 @@ impl Journal {
         ensures kept { S.Tells stage.old → IfOk result (λ journal. KeptIn journal room.new (S.standing stage.new)) }
         ensures digests { S.Tells stage.old →
             OnOk result (kept_digests (S.standing stage.new).disk.bytes ≡ digests_of game.now rules.now) }
-        ensures beside { Across S.Stage stage.old stage.new IsBeside }
-        ensures any_moment { Throughout S.Stage stage.old stage.new
+        ensures beside { IfTelling S.Stage stage.old stage.new ChangesStoreOnly }
+        ensures any_moment { AtEachMoment S.Stage stage.old stage.new
             (LeavesMade (digests_of game.now rules.now) state.now piece.now) }
     {
         room.hold(state, piece);
-        room.lay_slot();
+        room.fill_new_slot();
         lay_out(stage, game, rules, room.slot())?;
         mark(stage)?;
         room.keep_made(state);
@@ -88,14 +88,14 @@ impl Journal {
     ) -> Result<Journal, JournalRefusal>
         requires rests { S.Tells stage.old → IsAtRest (S.standing stage.old) }
         requires attached { S.Tells stage.old → at.length ≡ length (S.standing stage.old).disk.bytes }
-        ensures serves { Serves S.Stage (call.Read ∷ []) (refused_call result) stage.old stage.new }
+        ensures serves { FailsOnlyBy S.Stage (call.Read ∷ []) (refused_call result) stage.old stage.new }
         ensures still { S.Tells stage.old → S.standing stage.new ≡ S.standing stage.old }
         ensures refused { S.Tells stage.old →
             IfErr result (IsSessionRefused (recover (S.standing stage.old).disk.bytes) game.now rules.now) }
         ensures kept { S.Tells stage.old → IfOk result (λ journal. KeptIn journal room.new (S.standing stage.new)) }
         ensures belongs { S.Tells stage.old →
             OnOk result (BelongsTo game.now rules.now (kept_digests (S.standing stage.new).disk.bytes)) }
-        ensures time { Throughout S.Stage stage.old stage.new Still }
+        ensures time { AtEachMoment S.Stage stage.old stage.new Still }
     {
         let header = read_header(stage, at.length)?;
         match room.read_slot(stage, header.slot) {
@@ -117,7 +117,7 @@ impl Journal {
             Ok(_) => {}
             Err(call) => return Err(JournalRefusal::Outside(call)),
         }
-        room.look(other);
+        room.load_other_state(other);
         Ok(Journal { slot: header.slot })
     }
 
@@ -136,16 +136,16 @@ impl Journal {
     ) -> Result<Journal, StageCall>
         requires kept { S.Tells stage.old → KeptIn self room.old (S.standing stage.old) }
         requires piece_length { piece_length state.now ≡ length piece.now }
-        ensures serves { Serves S.Stage writing_calls (failed_stage_call result) stage.old stage.new }
-        ensures few { Across S.Stage stage.old stage.new (WritesLittle self.slot state.now piece.now) }
+        ensures serves { FailsOnlyBy S.Stage writing_calls (failed_stage_call result) stage.old stage.new }
+        ensures few { IfTelling S.Stage stage.old stage.new (WritesLittle self.slot state.now piece.now) }
         ensures state { OnOk result (room.new.state ≡ state.now) }
         ensures piece { OnOk result (room.new.piece ≡ piece.now) }
-        ensures exact { Once S.Stage stage.old stage.new result (HoldsCommitted state.now piece.now) }
-        ensures shown { Once S.Stage stage.old stage.new result (ShowsNext state.now piece.now) }
+        ensures exact { OnSuccess S.Stage stage.old stage.new result (HoldsCommitted state.now piece.now) }
+        ensures shown { OnSuccess S.Stage stage.old stage.new result (ShowsNext state.now piece.now) }
         ensures kept { S.Tells stage.old → IfOk result (λ journal. KeptIn journal room.new (S.standing stage.new)) }
-        ensures digests { Once S.Stage stage.old stage.new result SameDigests }
-        ensures beside { Across S.Stage stage.old stage.new IsBeside }
-        ensures any_moment { Throughout S.Stage stage.old stage.new (LeavesOldOr state.now piece.now) }
+        ensures digests { OnSuccess S.Stage stage.old stage.new result SameDigests }
+        ensures beside { IfTelling S.Stage stage.old stage.new ChangesStoreOnly }
+        ensures any_moment { AtEachMoment S.Stage stage.old stage.new (LeavesOldOr state.now piece.now) }
     {
         let slot = self.slot.other();
         let draft = room.draft(slot, state);

@@ -2,11 +2,11 @@
 
 ghost use Rattle.std.specs.Prelude.{◌≡◌, ◌+◌, ◌≤◌, [], ◌∷◌, length, IsSome, OnOk};
 ghost use Rattle.paw_stage.specs.Disk.{put};
-ghost use Rattle.paw_stage.specs.Across.{Across, Serves};
-ghost use Rattle.paw_stage.specs.inner.Across.{Once, Throughout};
+ghost use Rattle.paw_stage.specs.Across.{IfTelling, FailsOnlyBy};
+ghost use Rattle.paw_stage.specs.inner.Across.{OnSuccess, AtEachMoment};
 ghost use Rattle.paw_journal.specs.Session.{session_length, header_length, slot_length, made_header};
 ghost use Rattle.paw_journal.specs.inner.Session.{digests_of, laid_session, marked};
-ghost use Rattle.paw_journal.specs.inner.Store.{IsBeside, HoldsStable, LaysSlots, LeavesUnmade, LeavesMarked};
+ghost use Rattle.paw_journal.specs.inner.Store.{ChangesStoreOnly, HoldsStable, LaysSlots, LeavesUnmade, LeavesMarked};
 ghost use Rattle.paw_journal.specs.inner.Steps.{IsBlank};
 ghost use Rattle.paw_journal.specs.Journal.{writing_calls};
 ghost use Rattle.paw_journal.specs.inner.Journal.{IsAtRest, failed_stage_call};
@@ -19,13 +19,13 @@ use crate::store::{sync, write};
 use paw_stage::{Stage, StageCall};
 
 // Begins a session in the attached store, which is empty: its first byte is 0, and stable.
-fn begin<S: Stage>(stage: &mut S) -> Result<(), StageCall>
+fn write_blank_mark<S: Stage>(stage: &mut S) -> Result<(), StageCall>
     requires rests { S.Tells stage.old → IsAtRest (S.standing stage.old) }
     requires empty { S.Tells stage.old → length (S.standing stage.old).disk.bytes ≡ 0 }
-    ensures serves { Serves S.Stage writing_calls (failed_stage_call result) stage.old stage.new }
+    ensures serves { FailsOnlyBy S.Stage writing_calls (failed_stage_call result) stage.old stage.new }
     ensures blank { S.Tells stage.old → OnOk result (IsBlank (0 ∷ []) (S.standing stage.new).disk) }
-    ensures beside { Across S.Stage stage.old stage.new IsBeside }
-    ensures any_moment { Throughout S.Stage stage.old stage.new LeavesUnmade }
+    ensures beside { IfTelling S.Stage stage.old stage.new ChangesStoreOnly }
+    ensures any_moment { AtEachMoment S.Stage stage.old stage.new LeavesUnmade }
 {
     write(stage, MARK_AT, &[0])?;
     sync(stage)
@@ -35,11 +35,11 @@ fn begin<S: Stage>(stage: &mut S) -> Result<(), StageCall>
 fn write_header<S: Stage>(stage: &mut S, game: &[u8; 32], rules: &[u8; 32]) -> Result<(), StageCall>
     requires attached { S.Tells stage.old → IsSome (S.standing stage.old).attached }
     requires blank { S.Tells stage.old → IsBlank (0 ∷ []) (S.standing stage.old).disk }
-    ensures serves { Serves S.Stage writing_calls (failed_stage_call result) stage.old stage.new }
+    ensures serves { FailsOnlyBy S.Stage writing_calls (failed_stage_call result) stage.old stage.new }
     ensures blank { S.Tells stage.old →
         OnOk result (IsBlank (made_header 0 (digests_of game.now rules.now)) (S.standing stage.new).disk) }
-    ensures beside { Across S.Stage stage.old stage.new IsBeside }
-    ensures any_moment { Throughout S.Stage stage.old stage.new LeavesUnmade }
+    ensures beside { IfTelling S.Stage stage.old stage.new ChangesStoreOnly }
+    ensures any_moment { AtEachMoment S.Stage stage.old stage.new LeavesUnmade }
 {
     let header = header_of(game, rules);
     write(stage, SELECTOR_AT, &header[1..])
@@ -70,10 +70,10 @@ fn write_slots<S: Stage>(stage: &mut S, bytes: &[u8]) -> Result<(), StageCall>
     requires blank { S.Tells stage.old → IsBlank (S.standing stage.old).disk.bytes (S.standing stage.old).disk }
     requires header { S.Tells stage.old → length (S.standing stage.old).disk.bytes ≡ header_length }
     requires slot { length bytes.now ≡ slot_length }
-    ensures serves { Serves S.Stage writing_calls (failed_stage_call result) stage.old stage.new }
-    ensures written { Once S.Stage stage.old stage.new result (LaysSlots bytes.now) }
-    ensures beside { Across S.Stage stage.old stage.new IsBeside }
-    ensures any_moment { Throughout S.Stage stage.old stage.new LeavesUnmade }
+    ensures serves { FailsOnlyBy S.Stage writing_calls (failed_stage_call result) stage.old stage.new }
+    ensures written { OnSuccess S.Stage stage.old stage.new result (LaysSlots bytes.now) }
+    ensures beside { IfTelling S.Stage stage.old stage.new ChangesStoreOnly }
+    ensures any_moment { AtEachMoment S.Stage stage.old stage.new LeavesUnmade }
 {
     write(stage, Slot::First.start(), bytes)?;
     write(stage, Slot::Second.start(), bytes)?;
@@ -91,12 +91,13 @@ pub(crate) fn lay_out<S: Stage>(
     requires rests { S.Tells stage.old → IsAtRest (S.standing stage.old) }
     requires empty { S.Tells stage.old → length (S.standing stage.old).disk.bytes ≡ 0 }
     requires slot { length bytes.now ≡ slot_length }
-    ensures serves { Serves S.Stage writing_calls (failed_stage_call result) stage.old stage.new }
-    ensures laid { Once S.Stage stage.old stage.new result (λ old. HoldsStable (laid_session (digests_of game.now rules.now) bytes.now)) }
-    ensures beside { Across S.Stage stage.old stage.new IsBeside }
-    ensures any_moment { Throughout S.Stage stage.old stage.new LeavesUnmade }
+    ensures serves { FailsOnlyBy S.Stage writing_calls (failed_stage_call result) stage.old stage.new }
+    ensures laid { OnSuccess S.Stage stage.old stage.new result
+        (λ old. HoldsStable (laid_session (digests_of game.now rules.now) bytes.now)) }
+    ensures beside { IfTelling S.Stage stage.old stage.new ChangesStoreOnly }
+    ensures any_moment { AtEachMoment S.Stage stage.old stage.new LeavesUnmade }
 {
-    begin(stage)?;
+    write_blank_mark(stage)?;
     write_header(stage, game, rules)?;
     write_slots(stage, bytes)
 }
@@ -105,10 +106,10 @@ pub(crate) fn lay_out<S: Stage>(
 pub(crate) fn mark<S: Stage>(stage: &mut S) -> Result<(), StageCall>
     requires rests { S.Tells stage.old → IsAtRest (S.standing stage.old) }
     requires long { S.Tells stage.old → length (S.standing stage.old).disk.bytes ≡ session_length }
-    ensures serves { Serves S.Stage writing_calls (failed_stage_call result) stage.old stage.new }
-    ensures marked { Once S.Stage stage.old stage.new result (λ old. HoldsStable (marked old.disk.bytes)) }
-    ensures beside { Across S.Stage stage.old stage.new IsBeside }
-    ensures any_moment { Throughout S.Stage stage.old stage.new LeavesMarked }
+    ensures serves { FailsOnlyBy S.Stage writing_calls (failed_stage_call result) stage.old stage.new }
+    ensures marked { OnSuccess S.Stage stage.old stage.new result (λ old. HoldsStable (marked old.disk.bytes)) }
+    ensures beside { IfTelling S.Stage stage.old stage.new ChangesStoreOnly }
+    ensures any_moment { AtEachMoment S.Stage stage.old stage.new LeavesMarked }
 {
     write(stage, MARK_AT, &[MADE])?;
     sync(stage)

@@ -4,7 +4,7 @@ ghost use Rattle.std.specs.Prelude.{◌≡◌, ◌-◌, ◌≤◌, ◌++◌, len
 ghost use Rattle.paw_journal.specs.Session.{Digests, slot_length, base_length, state_length, is_current, has_state, zeros};
 ghost use Rattle.paw_journal.specs.Session.{slot_version, form_length};
 ghost use Rattle.paw_journal.specs.inner.Session.{IsDamagedAt};
-ghost use Rattle.paw_journal.specs.inner.Room.{kept_slot, state_in};
+ghost use Rattle.paw_journal.specs.inner.Room.{kept_slot, slot_with_records};
 
 use crate::changes::apply;
 use crate::drafting::SlotState;
@@ -22,7 +22,7 @@ pub(crate) fn state_in(slot: &[u8]) -> Result<SlotState, u64>
     requires whole { length slot.now ≡ slot_length }
     ensures whole { OnOk result (has_state slot.now ≡ true) }
     ensures broken { OnErr result (has_state slot.now ≡ false) }
-    ensures value { IfOk result (λ kept. kept ≡ state_in slot.now) }
+    ensures value { IfOk result (λ kept. kept ≡ slot_with_records slot.now) }
     ensures damaged { (digests : Digests) → IfErr result (IsDamagedAt digests slot.now) }
 {
     let count = number_at(slot, 0);

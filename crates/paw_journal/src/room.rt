@@ -4,17 +4,18 @@ ghost use Rattle.std.specs.Prelude.{true, ◌≡◌, ◌+◌, ◌≤◌, [], ◌
 ghost use Rattle.paw_base.specs.declared.limits.TheConstants.{PIECE_LIMIT};
 ghost use Rattle.paw_stage.specs.declared.StageCall.TheVariants as call;
 ghost use Rattle.paw_stage.specs.Moments.{Still};
-ghost use Rattle.paw_stage.specs.Across.{Serves};
-ghost use Rattle.paw_stage.specs.inner.Across.{Throughout};
+ghost use Rattle.paw_stage.specs.Across.{FailsOnlyBy};
+ghost use Rattle.paw_stage.specs.inner.Across.{AtEachMoment};
 ghost use Rattle.paw_journal.specs.Session.{Digests, slot_length, session_length, zeros, has_state, made_slot};
 ghost use Rattle.paw_journal.specs.declared.layout.TheConstants.{VERSION};
 ghost use Rattle.paw_journal.specs.inner.Session.{IsDamagedAt};
-ghost use Rattle.paw_journal.specs.inner.Room.{kept_slot, kept_of, with_slot_kept, with_made, with_state, state_in};
-ghost use Rattle.paw_journal.specs.inner.Room.{HasRead, ShowsSlot, KeepsRead};
+ghost use Rattle.paw_journal.specs.inner.Room.{kept_slot, kept_of, with_slot_kept, with_made, with_state};
+ghost use Rattle.paw_journal.specs.inner.Room.{slot_with_records};
+ghost use Rattle.paw_journal.specs.inner.Room.{HasReadSlot, ShowsSlot, KeepsRead};
 ghost use Rattle.paw_journal.specs.inner.Steps.{Drafts};
 ghost use Rattle.paw_journal.specs.inner.Journal.{failed_stage_call};
 
-use crate::drafting::{Draft, SlotState, draft_over};
+use crate::drafting::{CommitDraft, SlotState, draft_over};
 use crate::layout::{BASE_AT, PIECE_AT, SLOT_LENGTH, SLOT_VERSION_AT, Slot, VERSION, number_at};
 use crate::reading::{brought_up, is_current, kept_in, state_in};
 use crate::store::read;
@@ -136,7 +137,7 @@ impl Room {
     }
 
     /// Puts together what a commit of this state writes into a slot besides its head and the piece.
-    pub(crate) fn draft(&mut self, which: Slot, state: &[u8; 4096]) -> Draft
+    pub(crate) fn draft(&mut self, which: Slot, state: &[u8; 4096]) -> CommitDraft
         ensures drafts { Drafts (kept_of which self.old) state.now self.new.slot result }
         ensures same { self.new ≡ record self.old { slot = self.new.slot } }
     {
@@ -147,7 +148,7 @@ impl Room {
     }
 
     /// Puts a whole slot together, as it is made.
-    pub(crate) fn lay_slot(&mut self)
+    pub(crate) fn fill_new_slot(&mut self)
         requires short { length self.old.piece ≤ PIECE_LIMIT }
         ensures value { self.new ≡ record self.old { slot = made_slot self.old.state self.old.piece } }
     {
@@ -199,12 +200,12 @@ impl Room {
     ) -> Result<(), StageCall>
         requires attached { S.Tells stage.old → IsSome (S.standing stage.old).attached }
         requires whole { S.Tells stage.old → length (S.standing stage.old).disk.bytes ≡ session_length }
-        ensures serves { Serves S.Stage (call.Read ∷ []) (failed_stage_call result) stage.old stage.new }
+        ensures serves { FailsOnlyBy S.Stage (call.Read ∷ []) (failed_stage_call result) stage.old stage.new }
         ensures still { S.Tells stage.old → S.standing stage.new ≡ S.standing stage.old }
         ensures same { self.new ≡ record self.old { slot = self.new.slot } }
-        ensures read { S.Tells stage.old → OnOk result (HasRead which (S.standing stage.old) self.new) }
+        ensures read { S.Tells stage.old → OnOk result (HasReadSlot which (S.standing stage.old) self.new) }
         ensures length { length self.new.slot ≡ slot_length }
-        ensures time { Throughout S.Stage stage.old stage.new Still }
+        ensures time { AtEachMoment S.Stage stage.old stage.new Still }
     {
         // The memory was taken by `new`.
         self.slot.resize(SLOT_LENGTH, 0).unwrap();
@@ -230,7 +231,7 @@ impl Room {
     fn take_slot(&mut self, which: Slot, kept: SlotState)
         requires whole { length self.old.slot ≡ slot_length }
         requires sound { has_state self.old.slot ≡ true }
-        requires taken { kept ≡ state_in self.old.slot }
+        requires taken { kept ≡ slot_with_records self.old.slot }
         ensures shown { (digests : Digests) → ShowsSlot digests self.old self.new }
         ensures kept { KeepsRead which self.old self.new }
     {
@@ -245,7 +246,7 @@ impl Room {
     }
 
     /// Keeps the state of this slot, which was read, where it has one.
-    pub(crate) fn look(&mut self, which: Slot)
+    pub(crate) fn load_other_state(&mut self, which: Slot)
         requires whole { length self.old.slot ≡ slot_length }
         ensures kept { self.new ≡ with_slot_kept which (kept_slot self.old.slot) self.old }
     {

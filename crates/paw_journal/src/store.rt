@@ -6,9 +6,9 @@ ghost use Rattle.paw_stage.specs.Disk.{IsStable};
 ghost use Rattle.paw_stage.specs.Stage.{Unattached, WritesSome, part_of, with_written, settled};
 ghost use Rattle.paw_stage.specs.inner.Stage.{WritesAtMost};
 ghost use Rattle.paw_stage.specs.Moments.{Still, InAttach, InWrite, InSync};
-ghost use Rattle.paw_stage.specs.Across.{Across, Serves};
-ghost use Rattle.paw_stage.specs.inner.Across.{Once, Throughout};
-ghost use Rattle.paw_journal.specs.inner.Store.{IsBeside, Opens};
+ghost use Rattle.paw_stage.specs.Across.{IfTelling, FailsOnlyBy};
+ghost use Rattle.paw_stage.specs.inner.Across.{OnSuccess, AtEachMoment};
+ghost use Rattle.paw_journal.specs.inner.Store.{ChangesStoreOnly, Opens};
 ghost use Rattle.paw_journal.specs.inner.Journal.{IsAtRest, failed_stage_call};
 
 use paw_stage::{Stage, StageCall};
@@ -26,12 +26,12 @@ pub struct Attached {
 /// Attach where the call of the stage failed. The store attached before is then still attached, or none is.
 pub fn attach<S: Stage>(stage: &mut S, name: &str) -> Result<Attached, StageCall>
     requires synced { S.Tells stage.old → IsStable (S.standing stage.old).disk }
-    ensures serves { Serves S.Stage (call.Attach ∷ []) (failed_stage_call result) stage.old stage.new }
+    ensures serves { FailsOnlyBy S.Stage (call.Attach ∷ []) (failed_stage_call result) stage.old stage.new }
     ensures attached { S.Tells stage.old → IfOk result (Opens (S.standing stage.old) (S.standing stage.new) name.now) }
     ensures length { S.Tells stage.old → IfOk result (λ at. at.length ≡ length (S.standing stage.new).disk.bytes) }
     ensures rests { S.Tells stage.old → OnOk result (IsAtRest (S.standing stage.new)) }
     ensures left { S.Tells stage.old → OnErr result (Unattached (S.standing stage.old) (S.standing stage.new)) }
-    ensures time { Throughout S.Stage stage.old stage.new (λ s. InAttach s (S.standing stage.new) name.now) }
+    ensures time { AtEachMoment S.Stage stage.old stage.new (λ s. InAttach s (S.standing stage.new) name.now) }
 {
     match stage.attach(name) {
         Ok(length) => Ok(Attached { length }),
@@ -46,10 +46,10 @@ pub fn attach<S: Stage>(stage: &mut S, name: &str) -> Result<Attached, StageCall
 pub(crate) fn read<S: Stage>(stage: &mut S, at: u64, into: &mut [u8]) -> Result<(), StageCall>
     requires attached { S.Tells stage.old → IsSome (S.standing stage.old).attached }
     requires within { S.Tells stage.old → at + length into.old ≤ length (S.standing stage.old).disk.bytes }
-    ensures serves { Serves S.Stage (call.Read ∷ []) (failed_stage_call result) stage.old stage.new }
+    ensures serves { FailsOnlyBy S.Stage (call.Read ∷ []) (failed_stage_call result) stage.old stage.new }
     ensures still { S.Tells stage.old → S.standing stage.new ≡ S.standing stage.old }
     ensures read { S.Tells stage.old → OnOk result (into.new ≡ part_of (S.standing stage.old) at (length into.old)) }
-    ensures time { Throughout S.Stage stage.old stage.new Still }
+    ensures time { AtEachMoment S.Stage stage.old stage.new Still }
 {
     match stage.read_at(at, into) {
         Ok(_) => Ok(()),
@@ -64,11 +64,11 @@ pub(crate) fn read<S: Stage>(stage: &mut S, at: u64, into: &mut [u8]) -> Result<
 pub(crate) fn write<S: Stage>(stage: &mut S, at: u64, bytes: &[u8]) -> Result<(), StageCall>
     requires attached { S.Tells stage.old → IsSome (S.standing stage.old).attached }
     requires within { S.Tells stage.old → at ≤ length (S.standing stage.old).disk.bytes }
-    ensures serves { Serves S.Stage (call.Write ∷ []) (failed_stage_call result) stage.old stage.new }
-    ensures few { Across S.Stage stage.old stage.new (WritesAtMost (length bytes.now)) }
-    ensures written { Once S.Stage stage.old stage.new result (λ old new. new ≡ with_written at bytes.now old) }
-    ensures part { Across S.Stage stage.old stage.new (λ old new. OnErr result (WritesSome old new at bytes.now)) }
-    ensures time { Throughout S.Stage stage.old stage.new (λ s. InWrite s at (length bytes.now)) }
+    ensures serves { FailsOnlyBy S.Stage (call.Write ∷ []) (failed_stage_call result) stage.old stage.new }
+    ensures few { IfTelling S.Stage stage.old stage.new (WritesAtMost (length bytes.now)) }
+    ensures written { OnSuccess S.Stage stage.old stage.new result (λ old new. new ≡ with_written at bytes.now old) }
+    ensures part { IfTelling S.Stage stage.old stage.new (λ old new. OnErr result (WritesSome old new at bytes.now)) }
+    ensures time { AtEachMoment S.Stage stage.old stage.new (λ s. InWrite s at (length bytes.now)) }
 {
     match stage.write_at(at, bytes) {
         Ok(_) => Ok(()),
@@ -81,12 +81,12 @@ pub(crate) fn write<S: Stage>(stage: &mut S, at: u64, bytes: &[u8]) -> Result<()
 /// # Errors
 /// Sync where the call of the stage failed.
 pub(crate) fn sync<S: Stage>(stage: &mut S) -> Result<(), StageCall>
-    ensures serves { Serves S.Stage (call.Sync ∷ []) (failed_stage_call result) stage.old stage.new }
+    ensures serves { FailsOnlyBy S.Stage (call.Sync ∷ []) (failed_stage_call result) stage.old stage.new }
     ensures few { S.Tells stage.old → (S.standing stage.new).written ≡ (S.standing stage.old).written }
-    ensures synced { Once S.Stage stage.old stage.new result (λ old new. new ≡ settled old) }
+    ensures synced { OnSuccess S.Stage stage.old stage.new result (λ old new. new ≡ settled old) }
     ensures part { S.Tells stage.old → OnErr result (S.standing stage.new ≡ S.standing stage.old) }
-    ensures beside { Across S.Stage stage.old stage.new IsBeside }
-    ensures time { Throughout S.Stage stage.old stage.new InSync }
+    ensures beside { IfTelling S.Stage stage.old stage.new ChangesStoreOnly }
+    ensures time { AtEachMoment S.Stage stage.old stage.new InSync }
 {
     match stage.sync() {
         Ok(_) => Ok(()),

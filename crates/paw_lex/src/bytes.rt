@@ -2,7 +2,7 @@
 
 ghost use Rattle.std.specs.Prelude.{◌≡◌, not, true, false, MatchOption};
 ghost use Rattle.std.specs.List.{list_any};
-ghost use Rattle.paw_lex.specs.inner.Lines.{bytes_of, LiesIn};
+ghost use Rattle.paw_lex.specs.inner.Lines.{line_bytes, LiesIn};
 ghost use Rattle.paw_lex.specs.Bytes.{is_comment, is_allowed, has_forbidden_byte};
 
 use crate::lines::Line;
@@ -49,7 +49,7 @@ fn has_forbidden_byte(text: bool, line: &[u8]) -> bool
 /// to `~`, and any other line tabs too. `text` says whether it is a text line.
 pub fn byte_fault(source: &[u8], line: &Line, text: bool) -> Option<LexFault>
     requires span { LiesIn source.now line.now }
-    ensures value { let forbidden = has_forbidden_byte text (bytes_of source.now line.now) in
+    ensures value { let forbidden = has_forbidden_byte text (line_bytes source.now line.now) in
         MatchOption result (forbidden ≡ false)
         (λ fault. (forbidden ≡ true)
         × (fault ≡ record { line = line.now.number; kind = SourceKind.Text })) }

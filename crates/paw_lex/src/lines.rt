@@ -6,7 +6,7 @@ ghost use Rattle.std.specs.List.{position_or_len};
 ghost use Rattle.std.specs.Str.Lines.{lines, strip_carriage_return};
 ghost use Rattle.paw_base.specs.declared.limits.TheConstants.{SOURCE_LIMIT};
 ghost use Rattle.paw_lex.specs.Lines.{lines_of};
-ghost use Rattle.paw_lex.specs.inner.Lines.{bytes_of, LiesIn, IsLineEnd};
+ghost use Rattle.paw_lex.specs.inner.Lines.{line_bytes, LiesIn, IsLineEnd};
 
 use memchr::memchr;
 use std::marker::Model;
@@ -31,7 +31,7 @@ struct Cut {
 }
 
 /// The place of the first byte with this value, or the length where there is none.
-fn place_of_first(bytes: &[u8], byte: u8) -> usize
+fn offset_of_first(bytes: &[u8], byte: u8) -> usize
     ensures value { result ≡ position_or_len (λ b. b == byte) bytes.now }
     ensures within { result ≤ length bytes.now }
 {
@@ -62,7 +62,7 @@ fn first_line(text: &[u8]) -> Option<Cut>
     if text.is_empty() {
         return None;
     }
-    let end = place_of_first(text, b'\n');
+    let end = offset_of_first(text, b'\n');
     if end == text.len() {
         return Some(Cut {
             line: end,
@@ -120,7 +120,7 @@ impl<'a> Lines<'a> {
     {
         Lines {
             source,
-            end: place_of_first(source, END_MARK),
+            end: offset_of_first(source, END_MARK),
             at: 0,
             given: 0,
         }
@@ -131,7 +131,7 @@ impl<'a> Lines<'a> {
     /// there is none. Lines are numbered from 1, and there are no more of them than bytes.
     pub fn next(&mut self) -> Option<Line>
         ensures lines { MatchOption result (self.old.left ≡ [])
-            (λ line. self.old.left ≡ bytes_of self.old.source line ∷ self.new.left) }
+            (λ line. self.old.left ≡ line_bytes self.old.source line ∷ self.new.left) }
         ensures numbers { IfSome result (λ line. (line.number ≡ self.old.given + 1)
             × (line.number ≡ self.new.given) × (line.number ≤ length self.old.source)) }
 

@@ -11,18 +11,18 @@ use Rattle.paw_phrase.specs.declared.Found.{Found}
 use Rattle.paw_phrase.specs.declared.Found.TheVariants as found
 use Rattle.paw_phrase.specs.declared.next.Part.{Part}
 use Rattle.paw_phrase.specs.declared.next.Part.TheVariants as part
-use Rattle.paw_phrase.specs.declared.next.Draft.{Draft}
+use Rattle.paw_phrase.specs.declared.next.PhraseDraft.{PhraseDraft}
 use Rattle.paw_phrase.specs.Phrase.{Mark, marks, is_parting, from_phrase, phrase_tokens, bytes_after}
 use Rattle.paw_phrase.specs.Sentence.{blank, with_word, with_tokens, finished, Parsed, IsSentence, IsUnknown, IsNoPhrase, parsed_marks, parsed}
 use Rattle.paw_phrase.specs.inner.Draft.{part_of_word, phrase_part_of, with_part, started, draft_outcome}
 
 -- After a part the draft goes on, or its phrase has ended.
-abbrev pub after_part : Option Draft → Parsed → (Draft → Parsed) → Parsed
+abbrev pub after_part : Option PhraseDraft → Parsed → (PhraseDraft → Parsed) → Parsed
 after_part None stop go = stop
 after_part (Some d) stop go = go d
 
 -- What a draft ends as where it is read on over these marks.
-unfoldable pub along : GameLists → ℕ → List Mark → Draft → Parsed
+unfoldable pub along : GameLists → ℕ → List Mark → PhraseDraft → Parsed
 along g e [] d = draft_outcome e d []
 along g e (m ∷ ms) d = after_part (with_part (phrase_part_of g m.token) d) (draft_outcome e d m.after) (along g e ms)
 
@@ -54,7 +54,7 @@ means : (g : GameLists) (t : Option (List ℕ)) → Means g t (phrase_part_of g 
 means g None = refl
 means g (Some letters) = word_means g letters (word_at g letters) refl
 
-abbrev draft : Found → Sentence → Draft
+abbrev draft : Found → Sentence → PhraseDraft
 draft f s = record { found = f; words = s }
 
 -- What the tokens of a phrase are, where s is filled before them.
@@ -154,7 +154,7 @@ unfolding parsed
 along-started g bytes e n a = with_no_token g e (marks bytes) (blank n a) ∙ parsed_from-marks g e n a (from_phrase g (marks bytes))
 
 -- One mark more is read, from the bytes from i on.
-pub along-mark : (g : GameLists) (e : ℕ) (s : List ℕ) (i k : ℕ) (t : Option (List ℕ)) (d : Draft) (p : Part) (next : Option Draft)
+pub along-mark : (g : GameLists) (e : ℕ) (s : List ℕ) (i k : ℕ) (t : Option (List ℕ)) (d : PhraseDraft) (p : Part) (next : Option PhraseDraft)
     (whole : Parsed) → whole ≡ along g e (marks (drop i s)) d
     → marks (take (length s - i) (drop i s))
     ≡ record { token = t; after = drop k (take (length s - i) (drop i s)) } ∷ marks (drop k (take (length s - i) (drop i s)))
@@ -169,7 +169,7 @@ along-mark g e s i k t d p next whole so_far first is_part is_next =
     ∙ ap (λ x. after_part x (draft_outcome e d (drop (i + k) s)) go) (sym (is_next ∙ ap (λ q. with_part q d) is_part))
 
 -- No mark is left.
-pub along-end : (g : GameLists) (e : ℕ) (s : List ℕ) (i : ℕ) (d : Draft) (whole : Parsed) → whole ≡ along g e (marks (drop i s)) d
+pub along-end : (g : GameLists) (e : ℕ) (s : List ℕ) (i : ℕ) (d : PhraseDraft) (whole : Parsed) → whole ≡ along g e (marks (drop i s)) d
     → marks (take (length s - i) (drop i s)) ≡ [] → whole ≡ draft_outcome e d (drop (length s) s)
 unfolding along
 along-end g e s i d whole so_far none =

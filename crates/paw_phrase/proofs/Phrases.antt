@@ -10,7 +10,7 @@ use Rattle.paw_phrase.specs.declared.Sentence.{Sentence}
 use Rattle.paw_phrase.specs.Phrase.{is_separator, Mark, token_mark, separator_mark, marks_from, marks, is_parting, from_phrase}
 use Rattle.paw_phrase.specs.Phrase.{bytes_after}
 use Rattle.paw_phrase.specs.Sentence.{Parsed, IsSentence, IsUnknown, IsNoPhrase, parsed_marks, parsed}
-pub use Rattle.paw_phrase.specs.inner.Leaving.{Leaves}
+pub use Rattle.paw_phrase.specs.inner.Leaving.{LeavesBytes}
 
 -- The bytes that stay pending: all after the first few.
 pub record IsRest (pending rest : List ℕ) : Type 0 where
@@ -97,38 +97,38 @@ bytes_after-each P g [] none h = none
 bytes_after-each P g (m ∷ ms) none h =
     elim (is_parting g m.token) as (λ v. P (cond v m.after (bytes_after g ms))) [ true ↦ h.0 | false ↦ bytes_after-each P g ms none h.1 ]
 
-pub leaves : (P : List ℕ → Type 0) (b : Bool) (s : Sentence) (rest : List ℕ) → P rest → Leaves P (cond b (IsSentence s rest) (IsUnknown rest))
+pub leaves : (P : List ℕ → Type 0) (b : Bool) (s : Sentence) (rest : List ℕ) → P rest → LeavesBytes P (cond b (IsSentence s rest) (IsUnknown rest))
 leaves P true s rest h = h
 leaves P false s rest h = h
 
 parsed_marks-rest : (g : GameLists) (pending : List ℕ) (e n a : ℕ) (ms : List Mark) → Each (IsRest pending) ms
-    → Leaves (IsRest pending) (parsed_marks g e n a ms)
+    → LeavesBytes (IsRest pending) (parsed_marks g e n a ms)
 parsed_marks-rest g pending e n a [] h = tt
 parsed_marks-rest g pending e n a (m ∷ ms) h =
     leaves (IsRest pending) _ _ (bytes_after g (m ∷ ms)) (bytes_after-each (IsRest pending) g (m ∷ ms) (rest-none pending m.after h.0) h)
 
 -- What stays pending is what stands after the first few bytes.
-pub parsed-rest : (g : GameLists) (pending : List ℕ) (earlier noun adjective : ℕ) → Leaves (IsRest pending) (parsed g pending earlier noun adjective)
+pub parsed-rest : (g : GameLists) (pending : List ℕ) (earlier noun adjective : ℕ) → LeavesBytes (IsRest pending) (parsed g pending earlier noun adjective)
 unfolding parsed
 parsed-rest g pending e n a = parsed_marks-rest g pending e n a (from_phrase g (marks pending))
     (from_phrase-each (IsRest pending) g (marks pending) (marks-rest pending))
 
-leaves-map : (P Q : List ℕ → Type 0) → ((rest : List ℕ) → P rest → Q rest) → (p : Parsed) → Leaves P p → Leaves Q p
+leaves-map : (P Q : List ℕ → Type 0) → ((rest : List ℕ) → P rest → Q rest) → (p : Parsed) → LeavesBytes P p → LeavesBytes Q p
 leaves-map P Q f (IsSentence s rest) h = f rest h
 leaves-map P Q f (IsUnknown rest) h = f rest h
 leaves-map P Q f IsNoPhrase h = tt
 
 -- A phrase that is taken makes what is pending shorter.
 pub parsed-shorter : (g : GameLists) (pending : List ℕ) (earlier noun adjective : ℕ)
-    → Leaves (λ rest. length rest < length pending) (parsed g pending earlier noun adjective)
+    → LeavesBytes (λ rest. length rest < length pending) (parsed g pending earlier noun adjective)
 parsed-shorter g pending e n a =
     leaves-map (IsRest pending) (λ rest. length rest < length pending) (rest-shorter pending) (parsed g pending e n a) (parsed-rest g pending e n a)
 
 -- The same for a phrase that is known to be a sentence, or unknown.
 pub sentence-rest : (g : GameLists) (pending : List ℕ) (earlier noun adjective : ℕ) (s : Sentence) (rest : List ℕ)
     → parsed g pending earlier noun adjective ≡ IsSentence s rest → IsRest pending rest
-sentence-rest g pending e n a s rest is = subst (Leaves (IsRest pending)) is (parsed-rest g pending e n a)
+sentence-rest g pending e n a s rest is = subst (LeavesBytes (IsRest pending)) is (parsed-rest g pending e n a)
 
 pub unknown-rest : (g : GameLists) (pending : List ℕ) (earlier noun adjective : ℕ) (rest : List ℕ)
     → parsed g pending earlier noun adjective ≡ IsUnknown rest → IsRest pending rest
-unknown-rest g pending e n a rest is = subst (Leaves (IsRest pending)) is (parsed-rest g pending e n a)
+unknown-rest g pending e n a rest is = subst (LeavesBytes (IsRest pending)) is (parsed-rest g pending e n a)

@@ -12,7 +12,7 @@ use Rattle.paw_game.specs.Valid.{are_letters, is_within, is_word, words_rise, Va
 use Rattle.paw_game.specs.Tables.{word_of, word_at}
 use Rattle.paw_phrase.specs.declared.Sentence.{Sentence}
 use Rattle.paw_phrase.specs.Phrase.{Mark, marks, from_phrase, phrase_tokens, bytes_after}
-use Rattle.paw_phrase.specs.Sentence.{blank, or_value, with_noun, with_adjective, with_pronoun, with_word, with_tokens, with_verb, with_meaning}
+use Rattle.paw_phrase.specs.Sentence.{blank, or_value, with_noun, with_adjective, with_pronoun, with_word, with_tokens, with_verb, with_new_pronoun}
 use Rattle.paw_phrase.specs.Sentence.{finished, Parsed, IsSentence, IsUnknown, IsNoPhrase, parsed_marks, parsed}
 
 -- Each part of the sentence is a byte.
@@ -86,7 +86,7 @@ with_verb-bytes e s h k =
     let kept = or_value-byte s.verb _ k.verb (stands_for (ltb s.noun 20)) in
     assumption
 
-with_meaning-bytes : (s : Sentence) → AreBytes s → AreBytes (with_meaning s)
+with_meaning-bytes : (s : Sentence) → AreBytes s → AreBytes (with_new_pronoun s)
 with_meaning-bytes s k =
     let meant : AreBytes (record s { pronoun_noun = s.noun; pronoun_adjective = s.adjective }) = assumption in
     either AreBytes _ _ _ meant k

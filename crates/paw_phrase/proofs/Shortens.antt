@@ -6,7 +6,7 @@ use Rattle.paw_game.specs.Game.{GameLists}
 use Rattle.paw_phrase.specs.Phrase.{is_separator, Mark, token_mark, separator_mark, marks_from, marks, is_parting, from_phrase}
 use Rattle.paw_phrase.specs.Phrase.{bytes_after}
 use Rattle.paw_phrase.specs.Sentence.{parsed_marks, parsed}
-use Rattle.paw_phrase.specs.inner.Leaving.{Leaves, IsTwoLess, PhrasesTakeTwo}
+use Rattle.paw_phrase.specs.inner.Leaving.{LeavesBytes, IsTwoLess, PhrasesTakeTwo}
 use Rattle.paw_phrase.proofs.Phrases.{leaves}
 
 -- Fewer bytes stand after each mark than after the one before, and fewer than n after the first.
@@ -59,8 +59,8 @@ two_less pending rest n less (inr fewer) = inr (omega (arith, less, fewer))
 
 -- The phrase begins at this mark, or after it where the mark separates phrases.
 at_mark : (g : GameLists) (pending : List ℕ) (e n a : ℕ) (m : Mark) (ms : List Mark) (v : Bool) → is_parting g m.token ≡ v
-    → Fall (length pending) (m ∷ ms) → Leaves (IsTwoLess pending) (parsed_marks g e n a (from_phrase g ms))
-    → Leaves (IsTwoLess pending) (parsed_marks g e n a (cond v (from_phrase g ms) (m ∷ ms)))
+    → Fall (length pending) (m ∷ ms) → LeavesBytes (IsTwoLess pending) (parsed_marks g e n a (from_phrase g ms))
+    → LeavesBytes (IsTwoLess pending) (parsed_marks g e n a (cond v (from_phrase g ms) (m ∷ ms)))
 at_mark g pending e n a m ms true is h behind = behind
 at_mark g pending e n a m ms false is h behind =
     leaves (IsTwoLess pending) _ _ (bytes_after g (m ∷ ms))
@@ -68,7 +68,7 @@ at_mark g pending e n a m ms false is h behind =
     (two_less pending (bytes_after g ms) (length m.after) h.0 (bytes_after-fall g (length m.after) ms h.1)))
 
 parsed_marks-fall : (g : GameLists) (pending : List ℕ) (e n a : ℕ) (ms : List Mark) → Fall (length pending) ms
-    → Leaves (IsTwoLess pending) (parsed_marks g e n a (from_phrase g ms))
+    → LeavesBytes (IsTwoLess pending) (parsed_marks g e n a (from_phrase g ms))
 parsed_marks-fall g pending e n a [] h = tt
 parsed_marks-fall g pending e n a (m ∷ ms) h =
     at_mark g pending e n a m ms (is_parting g m.token) refl h

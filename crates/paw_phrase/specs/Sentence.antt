@@ -69,14 +69,14 @@ abbrev pub with_verb : ℕ → Sentence → Sentence
 with_verb earlier s = record s { verb = or_value s.verb (if nat_lt s.noun FIRST_PLAIN_NOUN then s.noun else earlier) }
 
 -- A first noun that a pronoun may stand for becomes, with its adjective, the meaning of pronouns from now on.
-abbrev pub with_meaning : Sentence → Sentence
-with_meaning s =
+abbrev pub with_new_pronoun : Sentence → Sentence
+with_new_pronoun s =
     if nat_le FIRST_NAMED_NOUN s.noun && nat_le s.noun GREATEST_WORD
     then record s { pronoun_noun = s.noun; pronoun_adjective = s.adjective } else s
 
 -- The sentence that the words of a phrase make, where the sentence before has this verb.
 abbrev pub finished : ℕ → Sentence → Sentence
-finished earlier s = with_meaning (with_verb earlier s)
+finished earlier s = with_new_pronoun (with_verb earlier s)
 
 -- What the next phrase of the pending bytes is: a sentence, or a phrase with no known word, each with the bytes that
 -- stay pending; or no phrase.

@@ -22,15 +22,15 @@ enum Part {
 
 /// A phrase as far as it is read: whether it has begun and has a known word, and what its words fill.
 #[derive(Clone, Copy, Drop)]
-struct Draft {
+struct PhraseDraft {
     found: Found,
     words: Sentence,
 }
 
 /// A phrase that was read to its end, and where the bytes after it begin.
 #[derive(Clone, Copy, Drop)]
-struct Reading {
-    draft: Draft,
+struct PhraseReading {
+    draft: PhraseDraft,
     end: usize,
 }
 
@@ -48,13 +48,13 @@ fn part_of<T: Tables>(tables: &T, token: Option<[u8; WORD_LENGTH]>) -> Part
     }
 }
 
-impl Draft {
+impl PhraseDraft {
     /// An unknown token begins a phrase.
-    fn with_unknown(self) -> Draft
+    fn with_unknown(self) -> PhraseDraft
         ensures value { result ≡ record self { found = or_nothing self.found } }
     {
         match self.found {
-            Found::Empty => Draft {
+            Found::Empty => PhraseDraft {
                 found: Found::Nothing,
                 words: self.words,
             },
@@ -63,7 +63,7 @@ impl Draft {
     }
 
     /// The draft with one part more; None where the phrase ends.
-    fn with(self, part: Part) -> Option<Draft>
+    fn with(self, part: Part) -> Option<PhraseDraft>
         ensures value { result ≡ with_part part self }
     {
         match part {
@@ -75,7 +75,7 @@ impl Draft {
             Part::Word { value, class } => {
                 let mut words = self.words;
                 words.add(value, class);
-                Some(Draft {
+                Some(PhraseDraft {
                     found: Found::Sentence,
                     words,
                 })
@@ -85,12 +85,12 @@ impl Draft {
 }
 
 /// The next phrase of these bytes, where a pronoun stands for this noun and adjective.
-fn read_phrase<T: Tables>(tables: &T, bytes: &[u8], noun: u8, adjective: u8) -> Reading
+fn read_phrase<T: Tables>(tables: &T, bytes: &[u8], noun: u8, adjective: u8) -> PhraseReading
     ensures within { result.end ≤ length bytes.now }
     ensures value { (earlier : ℕ) → parsed (T.game tables.now) bytes.now earlier noun adjective
         ≡ draft_outcome earlier result.draft (drop result.end bytes.now) }
 {
-    let mut draft = Draft {
+    let mut draft = PhraseDraft {
         found: Found::Empty,
         words: Sentence::blank(noun, adjective),
     };
@@ -99,10 +99,10 @@ fn read_phrase<T: Tables>(tables: &T, bytes: &[u8], noun: u8, adjective: u8) -> 
         end += mark.end;
         match draft.with(part_of(tables, mark.token)) {
             Some(longer) => draft = longer,
-            None => return Reading { draft, end },
+            None => return PhraseReading { draft, end },
         }
     }
-    Reading {
+    PhraseReading {
         draft,
         end: bytes.len(),
     }

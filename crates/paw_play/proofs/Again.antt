@@ -15,7 +15,7 @@ use Rattle.paw_state.proofs.Ruled.{each_of}
 use Rattle.paw_stage.specs.declared.StageCall.{StageCall}
 use Rattle.paw_stage.specs.declared.StageCall.TheVariants as call
 use Rattle.paw_stage.specs.declared.Stage.{Ghosts}
-use Rattle.paw_stage.specs.Across.{IsOneOf, Serves, EachMoment, InTwoParts}
+use Rattle.paw_stage.specs.Across.{IsOneOf, FailsOnlyBy, EachMoment, InTwoParts}
 use Rattle.paw_journal.specs.inner.Session.{digests_of}
 use Rattle.paw_journal.specs.inner.Journal.{IsSessionRefused, outside}
 use Rattle.paw_journal.specs.declared.refusal.JournalRefusal.{JournalRefusal}
@@ -127,8 +127,8 @@ read_sessions c (inl e) = inr (inl e)
 read_sessions c (inr h) = absurd h
 
 -- A search that found no session ended with the call that failed.
-pub serves_refused : {S : Type 0} (g : Ghosts S) (r : JournalRefusal) (old new : S) → Serves g (call.Read ∷ []) (outside r) old new →
-    Serves g session_calls (call_of_end (end_of r)) old new
+pub serves_refused : {S : Type 0} (g : Ghosts S) (r : JournalRefusal) (old new : S) → FailsOnlyBy g (call.Read ∷ []) (outside r) old new →
+    FailsOnlyBy g session_calls (call_of_end (end_of r)) old new
 serves_refused g (refusal.Unmade n mark) old new s = serves_among g (call.Read ∷ []) session_calls None old new read_sessions s
 serves_refused g (refusal.Damaged part at) old new s = serves_among g (call.Read ∷ []) session_calls None old new read_sessions s
 serves_refused g (refusal.WrongGame kept found) old new s = serves_among g (call.Read ∷ []) session_calls None old new read_sessions s

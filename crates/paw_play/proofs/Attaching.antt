@@ -9,7 +9,7 @@ use Rattle.paw_journal.specs.Session.{IsUnmade, recover, recover_by}
 use Rattle.paw_play.specs.Played.{PlayedSession}
 use Rattle.paw_play.specs.Keeping.{InPlay, InMaking, InNewSession}
 use Rattle.paw_play.specs.Play.{attached_to, store_bytes}
-use Rattle.paw_play.specs.inner.OnTheWay.{IsStore}
+use Rattle.paw_play.specs.inner.OnTheWay.{IsRestingStore}
 
 no_bytes : (bytes : List ℕ) → length bytes ≡ 0 → bytes ≡ []
 no_bytes [] h = refl
@@ -34,7 +34,7 @@ other_file old name n ne = other_by name n old.files (old.files name) ne
 
 -- ---- the store ----
 
-pub store_attached : (old : Standing) (name : List ℕ) → IsStore name (attached_to old name)
+pub store_attached : (old : Standing) (name : List ℕ) → IsRestingStore name (attached_to old name)
 store_attached old name = record { attached = refl; stable = stable_is (store_bytes old name); file = is_there name old.files }
 
 pub store_empty : (old new : Standing) (name : List ℕ) (n : ℕ) → AttachesTo old new name (Ok n) → n ≡ 0 → store_bytes old name ≡ []

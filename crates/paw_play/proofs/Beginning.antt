@@ -9,12 +9,12 @@ use Rattle.paw_stage.specs.declared.StageCall.{StageCall}
 use Rattle.paw_stage.specs.declared.StageCall.TheVariants as call
 use Rattle.paw_journal.proofs.Disks.{stable_leaves}
 use Rattle.paw_reading.specs.Turn.{reading, text_of}
-use Rattle.paw_turn.specs.inner.Player.{Seat, IsSeated, StandsClosed}
+use Rattle.paw_turn.specs.inner.Player.{PlayerView, IsSeated, StandsClosed}
 use Rattle.paw_turn.specs.inner.Player.{PlaysTo as StepsTo}
 use Rattle.paw_turn.specs.declared.Step.{Step}
 use Rattle.paw_turn.specs.declared.Step.TheVariants as step
 use Rattle.paw_journal.specs.Session.{Digests, Shown, IsUnmade, recover, kept_digests, made_session}
-use Rattle.paw_journal.specs.inner.Store.{IsBeside, InStore, Leaves}
+use Rattle.paw_journal.specs.inner.Store.{ChangesStoreOnly, InStore, CrashLeavesSuch}
 use Rattle.paw_stage.specs.Across.{IsOneOf}
 use Rattle.paw_journal.specs.Journal.{writing_calls}
 use Rattle.paw_play.specs.declared.PlayEnd.{PlayEnd}
@@ -27,7 +27,7 @@ use Rattle.paw_play.specs.Play.{with_store}
 use Rattle.paw_play.specs.inner.Calls.{unless_ended}
 use Rattle.paw_play.specs.inner.Telling.{Plain}
 use Rattle.paw_turn.specs.inner.Player.{IsStanding}
-use Rattle.paw_play.specs.inner.OnTheWay.{IsWalking, Told, refusal_of, seat_state, seat_base, IsStore}
+use Rattle.paw_play.specs.inner.OnTheWay.{IsWalking, Told, refusal_of, seat_state, seat_base, IsRestingStore}
 use Rattle.paw_play.specs.inner.OnTheWay.{BegunAs, Begins, begun_with}
 use Rattle.paw_play.proofs.Kept.{KeepsLines, step_kept}
 use Rattle.paw_play.proofs.Written.{made_bytes}
@@ -37,13 +37,13 @@ use Rattle.paw_play.proofs.Walking.{walk_begins, text_shown}
 use Rattle.paw_effects.specs.Story.{Story}
 
 -- all but the store stands as it did
-pub beside_is : (first kept : Standing) → IsBeside first kept → kept ≡ with_store kept first
+pub beside_is : (first kept : Standing) → ChangesStoreOnly first kept → kept ≡ with_store kept first
 beside_is first kept b =
     ap (λ x. record kept { lines = x }) b.lines ∙ ap (λ x. record kept { lines = first.lines; asked = x }) b.asked
     ∙ ap (λ x. record kept { lines = first.lines; asked = first.asked; shown = x }) b.shown
 
 -- the piece before the first line is spent, or calls too deep
-pub begin_refused : {F : Type 0} (g : Story) (s : PlayedSession) (first : Standing) (found : Step) (next : Seat F)
+pub begin_refused : {F : Type 0} (g : Story) (s : PlayedSession) (first : Standing) (found : Step) (next : PlayerView F)
     (o : PlayEnd) → StepsTo g s.whole found next [] [] → refusal_of found ≡ Some o → BegunAs s first first o
 begin_refused g s first (step.Waits p) next o plays e = cc
 begin_refused g s first step.Ended next o plays e = cc
@@ -51,25 +51,25 @@ begin_refused g s first (step.Spent kind) next o plays e = let k : o ≡ end.Spe
 begin_refused g s first (step.TooDeep table) next o plays e = let k : o ≡ end.TooDeep table = cc in let r = plays.1 [] in rw k (r.0, r.1, refl)
 
 -- the piece before the first line was played, and the store was written, once it was attached
-pub record Begun {F : Type 0} (g : Story) (s : PlayedSession) (first kept : Standing) (next : Seat F) (found : Step) : Type 0 where
+pub record Begun {F : Type 0} (g : Story) (s : PlayedSession) (first kept : Standing) (next : PlayerView F) (found : Step) : Type 0 where
   pub new_one : s.before ≡ 0
-  pub store : IsStore s.name first
+  pub store : IsRestingStore s.name first
   pub seated : IsSeated next
   pub last : next.last ≡ found
   pub plays : StepsTo g s.whole found next [] []
   pub shows : IsStanding found
-  pub beside : IsBeside first kept
+  pub beside : ChangesStoreOnly first kept
 
-pub begun : {F : Type 0} (g : Story) (seed : ℕ) (digests : Digests) (name : List ℕ) (first kept : Standing) (next : Seat F) (found : Step) →
-    IsStore name first → IsSeated next → next.last ≡ found → StepsTo g (reading g seed) found next [] [] → None ≡ refusal_of found →
-    IsBeside first kept → Begun g (begun_with g seed digests name) first kept next found
+pub begun : {F : Type 0} (g : Story) (seed : ℕ) (digests : Digests) (name : List ℕ) (first kept : Standing) (next : PlayerView F) (found : Step) →
+    IsRestingStore name first → IsSeated next → next.last ≡ found → StepsTo g (reading g seed) found next [] [] → None ≡ refusal_of found →
+    ChangesStoreOnly first kept → Begun g (begun_with g seed digests name) first kept next found
 begun g seed digests name first kept next found store seated last plays fine beside = assumption (shows_piece found fine)
 
 -- what a session shows, by its parts
 pub shown_as : (digests : Digests) {state kept piece text : List ℕ} → state ≡ kept → piece ≡ text → Shown digests state piece ≡ Shown digests kept text
 shown_as digests e f = cc
 
-module _ {F : Type 0} {g : Story} {s : PlayedSession} {first kept : Standing} {next : Seat F} {found : Step} (b : Begun g s first kept next found) where
+module _ {F : Type 0} {g : Story} {s : PlayedSession} {first kept : Standing} {next : PlayerView F} {found : Step} (b : Begun g s first kept next found) where
   machine_stands : StandsClosed found next.machine
   machine_stands = subst (λ q. StandsClosed q next.machine) b.last b.seated.machine
 
@@ -86,7 +86,7 @@ module _ {F : Type 0} {g : Story} {s : PlayedSession} {first kept : Standing} {n
   not_this f other e = let a : Some s.name ≡ Some f = sym b.store.attached ∙ e in other (cc)
 
   -- inside the making
-  pub in_making : (m : Moment) → InStore first (Leaves (λ r. IsUnmade r ⊎ (r ≡ Shown s.digests (seat_state 0 next) next.piece))) m → InMaking s first m
+  pub in_making : (m : Moment) → InStore first (CrashLeavesSuch (λ r. IsUnmade r ⊎ (r ≡ Shown s.digests (seat_state 0 next) next.piece))) m → InMaking s first m
   in_making m i = record {
     asked = i.asked;
     shown = i.shown;

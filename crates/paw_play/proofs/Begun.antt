@@ -3,7 +3,7 @@ use Rattle.std.proofs.Common.{◌≡◌, ◌∙◌, ℕ, List, refl, sym, ap, su
 use Rattle.paw_effects.specs.Story.{Story, story_of}
 use Rattle.paw_game.specs.Game.{GameLists}
 use Rattle.paw_world.specs.World.{World}
-use Rattle.paw_turn.specs.inner.Player.{Seat, IsNew}
+use Rattle.paw_turn.specs.inner.Player.{PlayerView, IsNew}
 use Rattle.paw_stage.specs.Stage.{Standing}
 use Rattle.paw_stage.specs.declared.StageCall.TheVariants as call
 use Rattle.paw_journal.specs.Session.{Digests}
@@ -25,11 +25,11 @@ begun_plays s first now (end.Outside call.Sync) b = unmade call.Sync (inr (inl r
 begun_plays s first now o b = plays o b
 
 -- a new player has a seed of its own
-pub own_seed : {F : Type 0} (fresh : Seat F) (seed : ℕ) → IsNew fresh seed → IsNew fresh fresh.world.seed
+pub own_seed : {F : Type 0} (fresh : PlayerView F) (seed : ℕ) → IsNew fresh seed → IsNew fresh fresh.world.seed
 own_seed fresh seed is = subst (IsNew fresh) (sym (ap (λ (w : World). w.seed) is.world)) is
 
 -- a session that a new player plays, by what was found of its routines
-pub session_of : {F : Type 0} (fresh : Seat F) (g : GameLists) (X : List (List ℕ)) (seed : ℕ) (game rules measured name : List ℕ) →
+pub session_of : {F : Type 0} (fresh : PlayerView F) (g : GameLists) (X : List (List ℕ)) (seed : ℕ) (game rules measured name : List ℕ) →
     IsNew fresh seed → fresh.game ≡ g → rules ≡ measured →
     begun_with (story_of fresh.game X) fresh.world.seed (digests_of game rules) name ≡ begun_with (story_of g X) seed (digests_of game measured) name
 session_of fresh g X seed game rules measured name is of same =

@@ -4,14 +4,14 @@ use Rattle.std.specs.Prelude.{IfSome, IfOk, IfErr}
 use Rattle.paw_stage.specs.Stage.{Standing}
 use Rattle.paw_stage.specs.declared.StageCall.{StageCall}
 use Rattle.paw_stage.specs.declared.Stage.{Ghosts}
-use Rattle.paw_stage.specs.Across.{IsOneOf, Serves}
+use Rattle.paw_stage.specs.Across.{IsOneOf, FailsOnlyBy}
 use Rattle.paw_journal.specs.Journal.{writing_calls}
 use Rattle.paw_journal.specs.declared.journal.Journal.{Journal}
 use Rattle.paw_journal.specs.inner.Room.{Room}
 use Rattle.paw_journal.specs.inner.Journal.{KeptIn}
 use Rattle.paw_play.specs.declared.PlayEnd.{PlayEnd}
 use Rattle.paw_play.specs.Calls.{walk_calls, play_calls, session_calls}
-use Rattle.paw_play.specs.inner.Calls.{IsNotForCall, call_of_end, failed_so_far, failed_or, unless_ended}
+use Rattle.paw_play.specs.inner.Calls.{IsNotForCall, call_of_end, failed_so_far, end_failed_or, unless_ended}
 use Rattle.paw_play.specs.inner.OnTheWay.{Told, HoldsSession}
 use Rattle.paw_play.specs.declared.line.Session.{Session}
 use Rattle.paw_turn.specs.declared.Step.{Step}
@@ -53,8 +53,8 @@ pub refused_unless : {A : Type 0} (o : Option PlayEnd) (a : A) → IfSome o IsNo
 refused_unless None a h = tt
 refused_unless (Some o) a h = h
 
-pub serves_unless : {S A : Type 0} (g : Ghosts S) (o : Option PlayEnd) (a : A) (old new : S) → Serves g walk_calls (failed_so_far o) old new →
-    Serves g play_calls (failed_or (unless_ended o a)) old new
+pub serves_unless : {S A : Type 0} (g : Ghosts S) (o : Option PlayEnd) (a : A) (old new : S) → FailsOnlyBy g walk_calls (failed_so_far o) old new →
+    FailsOnlyBy g play_calls (end_failed_or (unless_ended o a)) old new
 serves_unless g None a old new s = serves_among g walk_calls play_calls None old new walk_plays s
 serves_unless g (Some o) a old new s = serves_among g walk_calls play_calls (call_of_end o) old new walk_plays s
 

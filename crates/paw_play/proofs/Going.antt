@@ -9,7 +9,7 @@ use Rattle.paw_effects.specs.declared.act.Prompt.TheVariants as prompt
 use Rattle.paw_reading.specs.declared.places.Frame.{Frame}
 use Rattle.paw_reading.specs.Run.{Run, Step}
 use Rattle.paw_reading.specs.declared.places.Halt.TheVariants as halt
-use Rattle.paw_reading.specs.Turn.{Ending, WaitsAt, Halted, Unended, reading, on, pieces_of, text_of}
+use Rattle.paw_reading.specs.Turn.{Ending, WaitsAt, Halted, Unended, reading, going_on_from, pieces_of, text_of}
 use Rattle.paw_reading.specs.inner.GoingOn.{with_lines}
 use Rattle.paw_reading.specs.inner.Longer.{ending_with_past, with_past, without_past}
 use Rattle.paw_reading.specs.inner.Pieces.{Counted}
@@ -18,7 +18,7 @@ use Rattle.paw_reading.proofs.Followed.{going_on_is_reading}
 use Rattle.paw_reading.proofs.Past.{past_stays, longer_reading}
 use Rattle.paw_process.proofs.Again.{path_again}
 use Rattle.paw_journal.specs.Session.{Digests, Recovered, Shown, recover}
-use Rattle.paw_state.specs.State.{State, Keeps, FitsFields}
+use Rattle.paw_state.specs.State.{State, IsValidState, FitsFields}
 use Rattle.paw_state.specs.State.{state_bytes}
 use Rattle.paw_state.proofs.Lawful.{bytes_tell_the_state}
 use Rattle.paw_state.specs.Record.{last_piece, state_at}
@@ -28,7 +28,7 @@ use Rattle.paw_play.specs.Played.{ShowsState, going_on}
 
 -- where a reading stops its state keeps the rules, and nothing of a piece is open; so much was read in each closed piece
 pub record Settles (g : GameLists) (n : ℕ) (p : Prompt) (path : List Frame) (r : Run) : Type 0 where
-  pub keeps : Keeps g (state_at n p path r)
+  pub keeps : IsValidState g (state_at n p path r)
   pub fits : FitsFields (state_at n p path r)
   pub current : r.current ≡ []
   pub read : r.read ≡ []
@@ -105,8 +105,8 @@ abbrev taken_up : Run → List ℕ → List (List ℕ) → Run
 taken_up r piece fs = record r { current = []; read = []; pieces = piece ∷ []; traces = []; events = fs }
 
 goes_from : (g : Story) (n : ℕ) (p : Prompt) (path : List Frame) (r : Run) (piece : List ℕ) (fs : List (List ℕ)) →
-    going_on g (state_at n p path r) piece fs ≡ on g p path (taken_up r piece fs)
-goes_from g n p path r piece fs = ap (λ (q : List Frame). on g p q (taken_up r piece fs)) (path_again path r.turning)
+    going_on g (state_at n p path r) piece fs ≡ going_on_from g p path (taken_up r piece fs)
+goes_from g n p path r piece fs = ap (λ (q : List Frame). going_on_from g p q (taken_up r piece fs)) (path_again path r.turning)
 
 taken_past : (r : Run) (piece : List ℕ) (fs : List (List ℕ)) → r.current ≡ [] → r.read ≡ [] → r.events ≡ [] →
     taken_up r piece fs ≡ with_past (piece ∷ []) [] (with_lines fs (without_past r))
@@ -134,10 +134,10 @@ module _ (g : Story) (seed : ℕ) (es fs : List (List ℕ)) where
   waiting_goes p path r is k counted = (
     all_pieces (length es) r.pieces r.events counted.1 counted.0,
     k.traced ∙ all_pieces (length es) r.pieces r.events counted.1 counted.0,
-    on g p path (with_lines fs (without_past r)),
+    going_on_from g p path (with_lines fs (without_past r)),
     longer_reading g seed es fs p path r is,
     goes_from g (length es) p path r (last_piece r.pieces) fs
-        ∙ ap (on g p path) (taken_past r (last_piece r.pieces) fs k.current k.read counted.0)
+        ∙ ap (going_on_from g p path) (taken_past r (last_piece r.pieces) fs k.current k.read counted.0)
         ∙ past_stays g (last_piece r.pieces ∷ []) [] p path (with_lines fs (without_past r)),
   )
 
@@ -155,7 +155,7 @@ module _ (g : Story) (seed : ℕ) (es fs : List (List ℕ)) where
 
   ended_goes : (e : Ending) → reading g seed es ≡ e → IsSettled g.game (length es) e → Counted (length es) e →
       (digests other : Digests) (r : Recovered) (kept : IsKept digests (length es) e r)
-      → (st : State) (piece : List ℕ) → Valid g.game → Keeps g.game st → FitsFields st → r ≡ Shown other (kept_bytes st) piece
+      → (st : State) (piece : List ℕ) → Valid g.game → IsValidState g.game st → FitsFields st → r ≡ Shown other (kept_bytes st) piece
       → (st.events ≡ length es) × GoesOnFrom e st piece
   unfolding kept_bytes
   ended_goes (WaitsAt p path s) is k counted digests other r kept st piece v keeps fits shown =

@@ -6,7 +6,7 @@ use Rattle.paw_effects.specs.declared.act.Prompt.TheVariants as prompt
 use Rattle.paw_reading.specs.Run.{Step as Read}
 use Rattle.paw_reading.specs.declared.places.Halt.TheVariants as halt
 use Rattle.paw_reading.specs.Turn.{Ending, WaitsAt, Halted}
-use Rattle.paw_turn.specs.inner.Player.{Seat, run_at, PlaysTo, StandsClosed}
+use Rattle.paw_turn.specs.inner.Player.{PlayerView, run_at, PlaysTo, StandsClosed}
 use Rattle.paw_turn.specs.declared.Step.{Step}
 use Rattle.paw_turn.specs.declared.Step.TheVariants as step
 use Rattle.paw_journal.specs.Session.{Digests, Recovered, Shown}
@@ -34,11 +34,11 @@ last_more (p ∷ []) piece = refl
 last_more (p ∷ q ∷ pieces) piece = last_more (q ∷ pieces) piece
 
 -- the state of a player's parts, with these frames and a piece of this length
-abbrev parts : {F : Type 0} → ℕ → Prompt → Seat F → Frames → ℕ → State
+abbrev parts : {F : Type 0} → ℕ → Prompt → PlayerView F → Frames → ℕ → State
 parts events p next frames n = record { world = next.world; frames = frames; pending = next.pending; prompt = p; events = events; piece = n }
 
 -- what a session shows of them, by the path of the machine and the last piece that was closed
-shown_at : {F : Type 0} (digests : Digests) (events : ℕ) (p : Prompt) (path : List Frame) (next : Seat F) (pieces : List (List ℕ)) →
+shown_at : {F : Type 0} (digests : Digests) (events : ℕ) (p : Prompt) (path : List Frame) (next : PlayerView F) (pieces : List (List ℕ)) →
     kept next.machine ≡ frames_at path next.machine.turning →
     Shown digests (kept_bytes (parts events p next (kept next.machine) (length next.piece))) next.piece
     ≡ Shown digests (kept_bytes (parts events p next (frames_at path next.machine.turning) (length (last_piece (pieces ++ next.piece ∷ [])))))
@@ -49,14 +49,14 @@ shown_at digests events p path next pieces is =
     (sym (last_more pieces next.piece))
 
 -- where a player waits, its session keeps the reading
-waits_kept : {F : Type 0} (digests : Digests) (events : ℕ) (e : Ending) (p : Prompt) (next : Seat F) (pieces : List (List ℕ))
+waits_kept : {F : Type 0} (digests : Digests) (events : ℕ) (e : Ending) (p : Prompt) (next : PlayerView F) (pieces : List (List ℕ))
     (traces : List (List Read)) → next.last ≡ step.Waits p →
     e ≡ WaitsAt p (reverse next.machine.frames) (run_at next (pieces ++ next.piece ∷ []) traces []) →
     IsKept digests events e (Shown digests (seat_state events next) next.piece)
 waits_kept digests events e p next pieces traces last is =
     rw (is, last) (record { played = tt; shown = shown_at digests events p (reverse next.machine.frames) next pieces refl })
 
-over_kept : {F : Type 0} (digests : Digests) (events : ℕ) (e : Ending) (next : Seat F) (pieces : List (List ℕ)) (traces : List (List Read)) →
+over_kept : {F : Type 0} (digests : Digests) (events : ℕ) (e : Ending) (next : PlayerView F) (pieces : List (List ℕ)) (traces : List (List Read)) →
     next.last ≡ step.Ended → next.machine.frames ≡ [] →
     e ≡ Halted halt.Over (run_at next (pieces ++ next.piece ∷ []) traces []) →
     IsKept digests events e (Shown digests (seat_state events next) next.piece)
@@ -67,7 +67,7 @@ over_kept digests events e next pieces traces last closed is = rw (is, last) (re
 })
 
 -- a step that brings a piece leads to a player whose session keeps the reading
-pub step_kept : {F : Type 0} (g : Story) (digests : Digests) (events : ℕ) (whole : EndingOf) (s : Step) (next : Seat F) (pieces : List (List ℕ))
+pub step_kept : {F : Type 0} (g : Story) (digests : Digests) (events : ℕ) (whole : EndingOf) (s : Step) (next : PlayerView F) (pieces : List (List ℕ))
     (traces : List (List Read)) → IsStanding s → next.last ≡ s →
     StandsClosed s next.machine → PlaysTo g whole s next pieces traces → IsKept digests events (whole []) (Shown digests (seat_state events next) next.piece)
 step_kept g digests events whole (step.Waits p) next pieces traces shows last stands plays =

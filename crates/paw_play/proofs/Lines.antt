@@ -12,7 +12,7 @@ use Rattle.paw_base.specs.inner.Piece.{Puts}
 use Rattle.paw_base.proofs.Table.{plain_is}
 use Rattle.paw_game.proofs.Kept.{first_of_and, second_of_and}
 use Rattle.paw_reading.specs.Run.{Step}
-use Rattle.paw_play.specs.Traces.{place_text, answer_text, step_line, more_line}
+use Rattle.paw_play.specs.Traces.{step_address, answer_text, step_line, more_line}
 
 -- what fits is put
 pub put_whole : (ok : Bool) (old new text : List ℕ) → Puts old new ok text → length old + length text ≤ 65535 → new ≡ old ++ text
@@ -72,7 +72,7 @@ answer_short : (yes : Bool) → length (answer_text yes) ≤ 5
 answer_short true = omega arith
 answer_short false = omega arith
 
-pub place_short : (table entry at : ℕ) → table < 2 ^ 8 → entry < 2 ^ 16 → at < 2 ^ 8 → length (place_text table entry at) ≤ 13
+pub place_short : (table entry at : ℕ) → table < 2 ^ 8 → entry < 2 ^ 16 → at < 2 ^ 8 → length (step_address table entry at) ≤ 13
 place_short table entry at low few under =
     let t : length (decimal table) ≤ 3 = length-decimal-le 3 table (omega arith) (omega (arith, low)) (omega (arith, low)) in
     let e : length (decimal entry) ≤ 5 = length-decimal-le 5 entry (omega arith) (omega (arith, few)) (omega (arith, few)) in
@@ -85,9 +85,9 @@ place_short table entry at low few under =
     omega (arith, t, e, a, one, two, three, four, dot)
 
 -- a line of a step is of at most 27 bytes
-pub line_short : (step : Step) → length (place_text step.table step.entry step.at) ≤ 13 → length (step_line step) ≤ 27
+pub line_short : (step : Step) → length (step_address step.table step.entry step.at) ≤ 13 → length (step_line step) ≤ 27
 line_short step place =
-    let text : List ℕ = place_text step.table step.entry step.at in
+    let text : List ℕ = step_address step.table step.entry step.at in
     let one = length-append text (codes " " ++ (name_of step.code ++ answer_text step.yes)) in
     let two = length-append (codes " ") (name_of step.code ++ answer_text step.yes) in
     let three = length-append (name_of step.code) (answer_text step.yes) in

@@ -16,7 +16,7 @@ use Rattle.paw_journal.specs.Session.{form_length, slot_version, base_length}
 use Rattle.paw_journal.proofs.Recovers.{shown_made, recover_is, recover_made}
 use Rattle.paw_journal.proofs.Fills.{slot_long}
 use Rattle.paw_journal.proofs.Slots.{state_long}
-use Rattle.paw_state.specs.State.{State, Keeps, FitsFields}
+use Rattle.paw_state.specs.State.{State, IsValidState, FitsFields}
 use Rattle.paw_state.specs.Record.{last_piece, state_at}
 use Rattle.paw_state.proofs.Lawful.{long_state}
 use Rattle.paw_state.proofs.Unkept.{ends_in_zeros}
@@ -63,7 +63,7 @@ chosen_first bytes digests state piece first e =
 
 -- ---- the state where a reading ended ----
 
-state_same : (g : GameLists) (v : Valid g) (st : State) → Keeps g st → FitsFields st → st.world.kept ≡ no_positions
+state_same : (g : GameLists) (v : Valid g) (st : State) → IsValidState g st → FitsFields st → st.world.kept ≡ no_positions
     → (bytes : List ℕ) (digests : Digests) (state piece : List ℕ) → form_length (slot_version (slot (chosen bytes) bytes)) ≡ first_length
     → recover bytes ≡ Shown digests state piece
     → take first_length state ≡ take first_length (kept_bytes st) → recover bytes ≡ Shown digests (kept_bytes st) piece

@@ -13,26 +13,26 @@ use Rattle.paw_stage.specs.declared.StageCall.{StageCall}
 use Rattle.paw_stage.specs.declared.Asked.{Asked}
 use Rattle.paw_stage.specs.declared.Asked.TheVariants as asked
 use Rattle.paw_journal.proofs.Disks.{stable_leaves}
-use Rattle.paw_reading.specs.Turn.{on, text_of}
-use Rattle.paw_turn.specs.inner.Player.{Seat, run_at, IsSeated, StandsClosed}
+use Rattle.paw_reading.specs.Turn.{going_on_from, text_of}
+use Rattle.paw_turn.specs.inner.Player.{PlayerView, run_at, IsSeated, StandsClosed}
 use Rattle.paw_turn.specs.inner.Player.{PlaysTo as StepsTo}
 use Rattle.paw_turn.specs.declared.Step.{Step}
 use Rattle.paw_turn.specs.declared.Step.TheVariants as step
 use Rattle.paw_journal.specs.Session.{Shown, recover, kept_digests, committed}
-use Rattle.paw_journal.specs.inner.Store.{IsBeside, InStore, Leaves, IsEither}
+use Rattle.paw_journal.specs.inner.Store.{ChangesStoreOnly, InStore, CrashLeavesSuch, IsOldOrNew}
 use Rattle.paw_stage.specs.Across.{IsOneOf}
 use Rattle.paw_journal.specs.Journal.{writing_calls}
 use Rattle.paw_play.specs.declared.PlayEnd.{PlayEnd}
 use Rattle.paw_play.specs.declared.PlayEnd.TheVariants as end
 use Rattle.paw_play.specs.Walk.{first_lines, text_for, advanced, Walks}
 use Rattle.paw_play.specs.Played.{PlayedSession}
-use Rattle.paw_play.specs.Keeping.{AgreesWith, KeepsUpWith, InPlay, StaysAttached, RestsWith, KeepsAllButLast}
+use Rattle.paw_play.specs.Keeping.{AgreesWith, IsUpToDateWith, InPlay, StaysAttached, RestsWith, KeepsAllButLast}
 use Rattle.paw_play.specs.Play.{with_store, Uncommitted, PlaysOn}
 use Rattle.paw_play.specs.inner.Calls.{unless_ended}
 use Rattle.paw_play.specs.inner.Telling.{Plain}
 use Rattle.paw_turn.specs.inner.Player.{IsStanding}
-use Rattle.paw_play.specs.inner.OnTheWay.{IsWalking, WalksTo, Told, refusal_of, seat_state, seat_base, IsPlaying, PlaysTo}
-use Rattle.paw_play.specs.Written.{bytes_before, bytes_after}
+use Rattle.paw_play.specs.inner.OnTheWay.{IsWalking, WalksTo, Told, refusal_of, seat_state, seat_base, IsPlaying, PlaysLineTo}
+use Rattle.paw_play.specs.Written.{bytes_before, store_bytes_after}
 use Rattle.paw_play.proofs.Kept.{KeepsLines, step_kept}
 use Rattle.paw_play.proofs.Written.{more_bytes}
 use Rattle.paw_play.proofs.Resting.{rests_on}
@@ -44,7 +44,7 @@ use Rattle.paw_effects.specs.Story.{Story}
 -- ---- at a prompt ----
 
 keeps_all : (s : PlayedSession) (lines : List (List ℕ)) (n : ℕ) (text bytes : List ℕ) → AgreesWith s lines n text bytes →
-    KeepsUpWith s lines n text bytes
+    IsUpToDateWith s lines n text bytes
 keeps_all s lines zero text bytes h = h
 keeps_all s lines (suc n) text bytes h = inl h
 
@@ -53,20 +53,20 @@ whole_text : (s : PlayedSession) (lines : List (List ℕ)) (n : ℕ) (text : Lis
 whole_text s lines n text e = ([], append-nil text ∙ sym e)
 
 -- the text so far
-text_is : {F : Type 0} (g : Story) (s : PlayedSession) (first now : Standing) (seat : Seat F) (n : ℕ)
+text_is : {F : Type 0} (g : Story) (s : PlayedSession) (first now : Standing) (seat : PlayerView F) (n : ℕ)
     (w : IsPlaying g s first now seat n) → IsSeated seat →
     text_for s.whole first.lines n ≡ concat w.walking.pieces
 text_is g s first now seat n w seated = text_so_far Plain g s.whole n (with_store now first) now seat w.walking seated
 
-asked_is : {F : Type 0} (g : Story) (s : PlayedSession) (first now : Standing) (seat : Seat F) (n : ℕ) → IsPlaying g s first now seat n
+asked_is : {F : Type 0} (g : Story) (s : PlayedSession) (first now : Standing) (seat : PlayerView F) (n : ℕ) → IsPlaying g s first now seat n
     → now.asked ≡ first.asked + n
 asked_is g s first now seat n w = ap (λ (q : Standing). q.asked) w.walking.stands
 
-shown_is : {F : Type 0} (g : Story) (s : PlayedSession) (first now : Standing) (seat : Seat F) (n : ℕ)
+shown_is : {F : Type 0} (g : Story) (s : PlayedSession) (first now : Standing) (seat : PlayerView F) (n : ℕ)
     (w : IsPlaying g s first now seat n) → now.shown ≡ first.shown ++ concat w.walking.pieces
 shown_is g s first now seat n w = ap (λ (q : Standing). q.shown) w.walking.stands
 
-agrees_now : {F : Type 0} (g : Story) (s : PlayedSession) (first now : Standing) (seat : Seat F) (n : ℕ)
+agrees_now : {F : Type 0} (g : Story) (s : PlayedSession) (first now : Standing) (seat : PlayerView F) (n : ℕ)
     (w : IsPlaying g s first now seat n) → IsSeated seat → (image : List ℕ) → MayLeave now.disk image →
     AgreesWith s first.lines n (concat w.walking.pieces) image
 agrees_now g s first now seat n w seated image may = (
@@ -75,7 +75,7 @@ agrees_now g s first now seat n w seated image may = (
 )
 
 -- at a prompt
-pub at_prompt : {F : Type 0} (g : Story) (s : PlayedSession) (first now : Standing) (seat : Seat F) (n : ℕ) →
+pub at_prompt : {F : Type 0} (g : Story) (s : PlayedSession) (first now : Standing) (seat : PlayerView F) (n : ℕ) →
     IsPlaying g s first now seat n → IsSeated seat → InPlay s first (moment_of now)
 at_prompt g s first now seat n w seated = record {
   taken = n;
@@ -92,7 +92,7 @@ at_prompt g s first now seat n w seated = record {
 }
 
 -- inside an ask that takes a line
-line_asked : {F : Type 0} (g : Story) (s : PlayedSession) (first now : Standing) (seat : Seat F) (n : ℕ) →
+line_asked : {F : Type 0} (g : Story) (s : PlayedSession) (first now : Standing) (seat : PlayerView F) (n : ℕ) →
     IsPlaying g s first now seat n → IsSeated seat → suc n ≤ length first.lines → s.before + suc n ≤ EVENT_LIMIT →
     InPlay s first (record (moment_of now) { asked = now.asked + 1 })
 line_asked g s first now seat n w seated there few = record {
@@ -109,13 +109,14 @@ line_asked g s first now seat n w seated there few = record {
   leaves = λ image may. inr (agrees_now g s first now seat n w seated image may);
 }
 
-is_there : {F : Type 0} (g : Story) (s : PlayedSession) (first now mid : Standing) (seat : Seat F) (n : ℕ) (line : List ℕ) →
+is_there : {F : Type 0} (g : Story) (s : PlayedSession) (first now mid : Standing) (seat : PlayerView F) (n : ℕ) (line : List ℕ) →
     IsPlaying g s first now seat n → now.lines ≡ line ∷ mid.lines → suc n ≤ length first.lines
 is_there g s first now mid seat n line w e =
     (drop_more first.lines n line mid.lines (ap (λ (q : Standing). q.lines) (sym w.walking.stands) ∙ e)).1
 
 -- inside an ask
-pub in_ask : {F : Type 0} {g : Story} {s : PlayedSession} {first now : Standing} {seat : Seat F} {n : ℕ} (w : IsPlaying g s first now seat n) (mid : Standing)
+pub in_ask : {F : Type 0} {g : Story} {s : PlayedSession} {first now : Standing} {seat : PlayerView F} {n : ℕ} (w : IsPlaying g s first now seat n)
+    (mid : Standing)
     (a : Asked) (into : List ℕ) → IsSeated seat → s.before + suc n ≤ EVENT_LIMIT → AsksTo now mid a into → (m : Moment) → InAsk now a m → InPlay s first m
 in_ask {F} {g} {s} {first} {now} {seat} {n} w mid (asked.Line k) into seated few asks m (inl e) =
     subst (InPlay s first) (sym e) (at_prompt g s first now seat n w seated)
@@ -129,13 +130,13 @@ in_ask {F} {g} {s} {first} {now} {seat} {n} w mid asked.Failed into seated few a
 -- ---- the store after a commit ----
 
 -- after the ask that took a line
-mid_attached : {F : Type 0} (g : Story) (s : PlayedSession) (first now mid : Standing) (seat : Seat F) (n : ℕ) →
+mid_attached : {F : Type 0} (g : Story) (s : PlayedSession) (first now mid : Standing) (seat : PlayerView F) (n : ℕ) →
     IsPlaying g s first now seat n → mid ≡ record now { lines = mid.lines; asked = now.asked + 1 } →
     mid.attached ≡ Some s.name
 mid_attached g s first now mid seat n w e = ap (λ (q : Standing). q.attached) e ∙ w.rests.attached
 
 -- a line was taken that brought a piece
-pub record Taken {F : Type 0} (g : Story) (s : PlayedSession) (most n events : ℕ) (first now mid : Standing) (seat next : Seat F) (given line : List ℕ)
+pub record Taken {F : Type 0} (g : Story) (s : PlayedSession) (most n events : ℕ) (first now mid : Standing) (seat next : PlayerView F) (given line : List ℕ)
     (found : Step) (w : IsPlaying g s first now seat n) : Type 0 where
   pub few : n < most
   pub seated : IsSeated seat
@@ -144,26 +145,26 @@ pub record Taken {F : Type 0} (g : Story) (s : PlayedSession) (most n events : �
   pub lines : now.lines ≡ line ∷ mid.lines
   pub cut : given ≡ take 255 line
   pub took : mid ≡ record now { lines = mid.lines; asked = now.asked + 1 }
-  pub plays : StepsTo g (λ more. on g w.walking.prompt (reverse seat.machine.frames) (run_at seat w.walking.pieces w.walking.traces (given ∷ more)))
+  pub plays : StepsTo g (λ more. going_on_from g w.walking.prompt (reverse seat.machine.frames) (run_at seat w.walking.pieces w.walking.traces (given ∷ more)))
       found next w.walking.pieces w.walking.traces
   pub shows : IsStanding found
   pub counts : events ≡ s.before + suc n
   pub fit : events ≤ EVENT_LIMIT
 
-pub taken : {F : Type 0} (g : Story) (s : PlayedSession) (most n events : ℕ) (first now mid : Standing) (seat next : Seat F) (given line : List ℕ)
+pub taken : {F : Type 0} (g : Story) (s : PlayedSession) (most n events : ℕ) (first now mid : Standing) (seat next : PlayerView F) (given line : List ℕ)
     (found : Step) (w : IsPlaying g s first now seat n) → n < most → IsSeated seat → IsSeated next → next.last ≡ found →
     now.lines ≡ line ∷ mid.lines → given ≡ take 255 line → mid ≡ record now { lines = mid.lines; asked = now.asked + 1 } →
-    StepsTo g (λ more. on g w.walking.prompt (reverse seat.machine.frames) (run_at seat w.walking.pieces w.walking.traces (given ∷ more)))
+    StepsTo g (λ more. going_on_from g w.walking.prompt (reverse seat.machine.frames) (run_at seat w.walking.pieces w.walking.traces (given ∷ more)))
     found next w.walking.pieces w.walking.traces → None ≡ refusal_of found → events ≡ s.before + suc n → events ≤ EVENT_LIMIT →
     Taken g s most n events first now mid seat next given line found w
 taken g s most n events first now mid seat next given line found w few seated then_seated last lines cut took plays fine counts fit =
     assumption (shows_piece found fine)
 
-module _ {F : Type 0} {g : Story} {s : PlayedSession} {most n events : ℕ} {first now mid : Standing} {seat next : Seat F} {given line : List ℕ} {found : Step}
+module _ {F : Type 0} {g : Story} {s : PlayedSession} {most n events : ℕ} {first now mid : Standing} {seat next : PlayerView F} {given line : List ℕ} {found : Step}
     {w : IsPlaying g s first now seat n} (t : Taken g s most n events first now mid seat next given line found w) where
   -- the text of all lines that were taken
   whole_is : s.whole (first_lines (suc n) first.lines)
-      ≡ on g w.walking.prompt (reverse seat.machine.frames) (run_at seat w.walking.pieces w.walking.traces (given ∷ []))
+      ≡ going_on_from g w.walking.prompt (reverse seat.machine.frames) (run_at seat w.walking.pieces w.walking.traces (given ∷ []))
   whole_is = read_after Plain g s.whole n (with_store now first) now mid seat given line w.walking t.lines t.cut
 
   machine_stands : StandsClosed found next.machine
@@ -204,7 +205,7 @@ module _ {F : Type 0} {g : Story} {s : PlayedSession} {most n events : ℕ} {fir
 
   -- inside the commit
   pub in_commit : (m : Moment) → InStore mid
-      (Leaves (IsEither (recover mid.disk.bytes)
+      (CrashLeavesSuch (IsOldOrNew (recover mid.disk.bytes)
       (Shown (kept_digests mid.disk.bytes) (seat_state events next) next.piece))) m → InPlay s first m
   in_commit m i = record {
     taken = suc n;
@@ -235,7 +236,7 @@ module _ {F : Type 0} {g : Story} {s : PlayedSession} {most n events : ℕ} {fir
       before_it = subst (λ (q : Standing). KeepsLines s first.lines n (recover q.disk.bytes)) (sym t.took) w.rests.keeps
 
   -- once it is committed
-  module _ (kept : Standing) (beside : IsBeside mid kept) where
+  module _ (kept : Standing) (beside : ChangesStoreOnly mid kept) where
     -- the walk, with the store as it stands after the commit
     walking_with : IsWalking Plain g s.whole (with_store kept first) (with_store kept now) seat n
     walking_with = record {
@@ -284,7 +285,7 @@ module _ {F : Type 0} {g : Story} {s : PlayedSession} {most n events : ℕ} {fir
         (digests : kept_digests kept.disk.bytes ≡ kept_digests mid.disk.bytes)
         (wrote : kept.disk.bytes ≡ committed (seat_base events next) next.piece mid.disk.bytes) where
       -- one commit was made of the bytes before
-      bytes_more : kept.disk.bytes ≡ bytes_after s first.lines (suc n) (bytes_before s first.disk.bytes)
+      bytes_more : kept.disk.bytes ≡ store_bytes_after s first.lines (suc n) (bytes_before s first.disk.bytes)
       bytes_more =
           more_bytes s n first.lines (seat_state events next) next.piece
           (bytes_before s first.disk.bytes) mid.disk.bytes kept.disk.bytes keeps_more wrote
@@ -343,7 +344,7 @@ module _ {F : Type 0} {g : Story} {s : PlayedSession} {most n events : ℕ} {fir
 
       -- The session is at the next prompt, or playing on has ended, with the piece shown or not.
       pub plays_to : {A : Type 0} (a : A) (new : Standing) (o : Option PlayEnd) → Told kept new next.piece found o →
-          PlaysTo g s most first new next n (unless_ended o a)
+          PlaysLineTo g s most first new next n (unless_ended o a)
       plays_to a new None told = record {
         walking = subst (λ (q : Standing). IsWalking Plain g s.whole (with_store q first) new next (suc n)) (sym told.2) (walks_then new None told);
         rests = rests_then new (kept.shown ++ next.piece) told.2;
@@ -365,7 +366,7 @@ module _ {F : Type 0} {g : Story} {s : PlayedSession} {most n events : ℕ} {fir
       plays_to a new (Some _) told = absurd told
 
 -- all the lines that a session may have were taken
-pub long_play : {F : Type 0} (g : Story) (s : PlayedSession) (most n : ℕ) (first now : Standing) (seat : Seat F) →
+pub long_play : {F : Type 0} (g : Story) (s : PlayedSession) (most n : ℕ) (first now : Standing) (seat : PlayerView F) →
     IsPlaying g s first now seat n → IsSeated seat → n ≡ most → PlaysOn s most first now (end.Long EVENT_LIMIT)
 long_play g s most n first now seat w seated all = record {
   shows = long_walk Plain g s.whole most n (with_store now first) now seat w.walking seated all;
@@ -374,7 +375,7 @@ long_play g s most n first now seat w seated all = record {
 
 -- ---- where nothing is committed ----
 
-module _ {F : Type 0} (g : Story) (s : PlayedSession) (most n : ℕ) (first now : Standing) (seat : Seat F)
+module _ {F : Type 0} (g : Story) (s : PlayedSession) (most n : ℕ) (first now : Standing) (seat : PlayerView F)
     (w : IsPlaying g s first now seat n) (seated : IsSeated seat) (few : n < most) where
   -- no line is left
   pub no_line : (new : Standing) → AsksTo now new asked.End [] → PlaysOn s most first new end.InputEnded
@@ -389,9 +390,9 @@ module _ {F : Type 0} (g : Story) (s : PlayedSession) (most n : ℕ) (first now 
     session = (n, asked_is g s first now seat n w, w.rests);
   })
 
-  module _ (mid : Standing) (next : Seat F) (given line : List ℕ) (found : Step) (then_seated : IsSeated next) (last : next.last ≡ found)
+  module _ (mid : Standing) (next : PlayerView F) (given line : List ℕ) (found : Step) (then_seated : IsSeated next) (last : next.last ≡ found)
       (lines : now.lines ≡ line ∷ mid.lines) (cut : given ≡ take 255 line) (took : mid ≡ record now { lines = mid.lines; asked = now.asked + 1 })
-      (plays : StepsTo g (λ more. on g w.walking.prompt (reverse seat.machine.frames)
+      (plays : StepsTo g (λ more. going_on_from g w.walking.prompt (reverse seat.machine.frames)
       (run_at seat w.walking.pieces w.walking.traces (given ∷ more))) found next w.walking.pieces w.walking.traces)
     where
       refused_rests : KeepsAllButLast s first mid

@@ -13,11 +13,11 @@ use Rattle.paw_effects.specs.declared.act.Prompt.{Prompt}
 use Rattle.paw_effects.specs.declared.act.Prompt.TheVariants as prompt
 use Rattle.paw_reading.specs.declared.places.Frame.{Frame}
 use Rattle.paw_reading.specs.Run.{Run}
-use Rattle.paw_reading.specs.Turn.{Ending, WaitsAt, on, text_of}
+use Rattle.paw_reading.specs.Turn.{Ending, WaitsAt, going_on_from, text_of}
 use Rattle.paw_process.specs.inner.OpenTables.{OpenTables}
 use Rattle.paw_process.specs.Kept.{frames_at}
 use Rattle.paw_process.proofs.Again.{path_again}
-use Rattle.paw_turn.specs.inner.Player.{Seat, run_with, IsSeated, StandsClosed}
+use Rattle.paw_turn.specs.inner.Player.{PlayerView, run_with, IsSeated, StandsClosed}
 use Rattle.paw_turn.specs.inner.Parts.{prompt_step, seat_at}
 use Rattle.paw_turn.specs.declared.Step.TheVariants as step
 use Rattle.paw_journal.specs.Session.{Digests, Shown, recover, kept_digests}
@@ -33,7 +33,7 @@ use Rattle.paw_play.specs.Walk.{advanced}
 use Rattle.paw_play.specs.Played.{PlayedSession, ShowsState, going_on, from_state}
 use Rattle.paw_play.specs.Keeping.{InPlay, RestsWith}
 use Rattle.paw_play.specs.Play.{with_store, PlaysOn}
-use Rattle.paw_play.specs.inner.OnTheWay.{IsPlaying, IsStore, ShowsAgain}
+use Rattle.paw_play.specs.inner.OnTheWay.{IsPlaying, IsRestingStore, ShowsAgain}
 use Rattle.paw_play.proofs.Resting.{rests_on}
 use Rattle.paw_play.proofs.Written.{had_bytes}
 use Rattle.paw_play.proofs.Walking.{on_waits, first_stands}
@@ -45,9 +45,9 @@ abbrev pub run_from : World → OpenTables → PendingLine → List ℕ → List
 run_from w m p piece lines = run_with w m p (piece ∷ []) [] lines
 
 pub goes_on_from : (g : Story) (w : World) (m : OpenTables) (p : PendingLine) (at : Prompt) (events n : ℕ) (piece : List ℕ) (lines : List (List ℕ)) →
-    going_on g (state_of w m p at events n) piece lines ≡ on g at (reverse m.frames) (run_from w m p piece lines)
+    going_on g (state_of w m p at events n) piece lines ≡ going_on_from g at (reverse m.frames) (run_from w m p piece lines)
 goes_on_from g w m p at events n piece lines =
-    ap (λ (path : List Frame). on g at path (run_from w m p piece lines)) (path_again (reverse m.frames) m.turning)
+    ap (λ (path : List Frame). going_on_from g at path (run_from w m p piece lines)) (path_again (reverse m.frames) m.turning)
 
 -- ---- by the prompt ----
 
@@ -63,7 +63,7 @@ module _ (digests : Digests) (g : Story) (w : World) (m : OpenTables) (p : Pendi
   waits_kept at e is = rw is (record { played = tt; shown = ap (λ q. Shown digests (kept_bytes q) piece) (same_state at) })
 
   pub kept_at : (at : Prompt) → StandsClosed (prompt_step at) m →
-      IsKept digests (events + 0) (on g at (reverse m.frames) (run_from w m p piece []))
+      IsKept digests (events + 0) (going_on_from g at (reverse m.frames) (run_from w m p piece []))
       (Shown digests (kept_bytes (state_of w m p at events n)) piece)
   kept_at prompt.Main h = waits_kept prompt.Main _ (on_waits g prompt.Main m (run_from w m p piece []) h)
   kept_at prompt.Quit h = waits_kept prompt.Quit _ (on_waits g prompt.Quit m (run_from w m p piece []) h)
@@ -76,7 +76,7 @@ module _ (digests : Digests) (g : Story) (w : World) (m : OpenTables) (p : Pendi
         h.frames);
   }
 
-  pub text_at : (at : Prompt) → StandsClosed (prompt_step at) m → text_of (on g at (reverse m.frames) (run_from w m p piece [])) ≡ piece
+  pub text_at : (at : Prompt) → StandsClosed (prompt_step at) m → text_of (going_on_from g at (reverse m.frames) (run_from w m p piece [])) ≡ piece
   text_at prompt.Main h = ap text_of (on_waits g prompt.Main m (run_from w m p piece []) h) ∙ append-nil piece
   text_at prompt.Quit h = ap text_of (on_waits g prompt.Quit m (run_from w m p piece []) h) ∙ append-nil piece
   text_at prompt.Again h = ap text_of (on_waits g prompt.Again m (run_from w m p piece []) h) ∙ append-nil piece
@@ -86,16 +86,16 @@ module _ (digests : Digests) (g : Story) (w : World) (m : OpenTables) (p : Pendi
 -- ---- a player of these parts ----
 
 pub seat_game : {F : Type 0} (g : GameLists) (routines : Routines F) (w : World) (m : OpenTables) (p : PendingLine)
-    (at : Prompt) (seat : Seat F) → seat ≡ seat_at g routines w m p at → seat.game ≡ g
-seat_game {F} g routines w m p at seat is = ap (λ (q : Seat F). q.game) is
+    (at : Prompt) (seat : PlayerView F) → seat ≡ seat_at g routines w m p at → seat.game ≡ g
+seat_game {F} g routines w m p at seat is = ap (λ (q : PlayerView F). q.game) is
 
 pub seat_routines : {F : Type 0} (g : GameLists) (routines : Routines F) (w : World) (m : OpenTables) (p : PendingLine)
-    (at : Prompt) (seat : Seat F) → seat ≡ seat_at g routines w m p at → seat.routines ≡ routines
-seat_routines {F} g routines w m p at seat is = ap (λ (q : Seat F). q.routines) is
+    (at : Prompt) (seat : PlayerView F) → seat ≡ seat_at g routines w m p at → seat.routines ≡ routines
+seat_routines {F} g routines w m p at seat is = ap (λ (q : PlayerView F). q.routines) is
 
 pub seat_draws : {F : Type 0} (g : GameLists) (routines : Routines F) (w : World) (m : OpenTables) (p : PendingLine)
-    (at : Prompt) (seat : Seat F) → seat ≡ seat_at g routines w m p at → seat.world.draws ≡ w.draws
-seat_draws {F} g routines w m p at seat is = ap (λ (q : Seat F). q.world.draws) is
+    (at : Prompt) (seat : PlayerView F) → seat ≡ seat_at g routines w m p at → seat.world.draws ≡ w.draws
+seat_draws {F} g routines w m p at seat is = ap (λ (q : PlayerView F). q.world.draws) is
 
 waits_at : (at : Prompt) → at ≢ prompt.Over → prompt_step at ≡ step.Waits at
 waits_at prompt.Main h = refl
@@ -111,17 +111,18 @@ abbrev pub read_session : Story → List ℕ → List ℕ → Restored → Stand
 read_session g name piece r first = from_state g (state_read r) piece (kept_digests first.disk.bytes) name
 
 -- a player was made of what was read of the state of the attached store
-pub record MadeOfRead {F : Type 0} (g : Story) (name piece : List ℕ) (r : Restored) (first : Standing) (routines : Routines F) (seat : Seat F) : Type 0 where
+pub record MadeOfRead {F : Type 0} (g : Story) (name piece : List ℕ) (r : Restored) (first : Standing) (routines : Routines F)
+    (seat : PlayerView F) : Type 0 where
   pub long : length piece ≡ r.piece
   pub is : seat ≡ seat_at g.game routines r.world r.machine r.pending r.prompt
   pub seated : IsSeated seat
-  pub store : IsStore name first
+  pub store : IsRestingStore name first
   pub state : ShowsState g.game (kept_digests first.disk.bytes) first.disk.bytes (state_read r) piece
 
-module _ {F : Type 0} {g : Story} {name piece : List ℕ} {r : Restored} {first : Standing} {routines : Routines F} {seat : Seat F}
+module _ {F : Type 0} {g : Story} {name piece : List ℕ} {r : Restored} {first : Standing} {routines : Routines F} {seat : PlayerView F}
     (u : MadeOfRead g name piece r first routines seat) where
   machine_stands : StandsClosed (prompt_step r.prompt) r.machine
-  machine_stands = subst (λ (q : Seat F). StandsClosed q.last q.machine) u.is u.seated.machine
+  machine_stands = subst (λ (q : PlayerView F). StandsClosed q.last q.machine) u.is u.seated.machine
 
   text_is : text_of (going_on g (state_read r) piece []) ≡ piece
   text_is = ap text_of (goes_on_from g r.world r.machine r.pending r.prompt r.events r.piece piece [])
@@ -208,7 +209,7 @@ module _ {F : Type 0} {g : Story} {name piece : List ℕ} {r : Restored} {first 
       refl,
       record {
         reading = goes_on_from g r.world r.machine r.pending r.prompt r.events r.piece piece []
-            ∙ ap (λ q. on g q (reverse r.machine.frames) (run_from r.world r.machine r.pending piece [])) told.0;
+            ∙ ap (λ q. going_on_from g q (reverse r.machine.frames) (run_from r.world r.machine r.pending piece [])) told.0;
         there = omega arith;
         stands = stands_with new piece told.1 ∙ ap (advanced (with_store new first) 0) (sym (append-nil piece));
       },

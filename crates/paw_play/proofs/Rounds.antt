@@ -22,7 +22,7 @@ use Rattle.paw_play.specs.declared.PlayEnd.TheVariants as end
 use Rattle.paw_play.specs.Walk.{first_lines}
 use Rattle.paw_play.specs.Stands.{Stands, IsPlayedWith}
 use Rattle.paw_play.specs.Played.{PlayedSession, begun, from_lines}
-use Rattle.paw_play.specs.Keeping.{KeptBy, KeepsUpWith, InPlay, InNewSession, RestsWith}
+use Rattle.paw_play.specs.Keeping.{KeptBy, IsUpToDateWith, InPlay, InNewSession, RestsWith}
 use Rattle.paw_play.specs.Play.{PlaysOn, MadeAndPlayed, NewSession, GoesOn, NotYet, attached_to, store_bytes}
 use Rattle.paw_play.specs.Play.{memory, halts, unmade, plays, unattached, occupied, plays_in, unread}
 use Rattle.paw_play.specs.Laws.{RoundStop, cut_at, came_to, Round, MayBeLeft, BeginsOver, AtRest, StopsWith, AreRounds, left_after}
@@ -80,7 +80,7 @@ KeptOf s old stop left = (n : ℕ) × AreKept old stop n × (n ≤ length old.li
 module _ (s : PlayedSession) (old : Standing) where
   -- of one that a crash cut off all that were taken, or all but the last
   kept_up : (m : Moment) (n : ℕ) (text left : List ℕ) → n ≤ length old.lines → s.before + n ≤ EVENT_LIMIT → m.asked ≡ old.asked + n →
-      KeepsUpWith s old.lines n text left → KeptOf s old (cut_at m) left
+      IsUpToDateWith s old.lines n text left → KeptOf s old (cut_at m) left
   kept_up m zero text left there few asked kept = (0, inl asked, there, few, kept.0)
   kept_up m (suc n) text left there few asked (inl kept) = (suc n, inl asked, there, few, kept.0)
   kept_up m (suc n) text left there few asked (inr kept) = (n, inr asked, omega (arith, there), omega (arith, few), kept.0)

@@ -15,15 +15,15 @@ use Rattle.paw_routines.specs.declared.routines.Routines.{Routines}
 use Rattle.paw_stage.specs.Stage.{Standing}
 use Rattle.paw_process.specs.Kept.{waiting_code}
 use Rattle.paw_process.specs.inner.Kept.{kept}
-use Rattle.paw_process.specs.inner.Kept.{restored, waiting_at, StandsAt}
+use Rattle.paw_process.specs.inner.Kept.{restored, waiting_at, WaitsAtPrompt}
 use Rattle.paw_process.proofs.Restored.{stands_at}
 use Rattle.paw_process.proofs.Again.{restored_kept}
 use Rattle.paw_turn.specs.inner.Parts.{Fits, IsPending, prompt_step, seat_at}
-use Rattle.paw_turn.specs.inner.Player.{Seat, StandsClosed, IsSeated}
+use Rattle.paw_turn.specs.inner.Player.{PlayerView, StandsClosed, IsSeated}
 use Rattle.paw_turn.proofs.Seating.{restored_fits}
 use Rattle.paw_journal.specs.Session.{Digests, Shown, recover, kept_digests, piece_length, state_length}
 use Rattle.paw_journal.proofs.ShownPieces.{shown_long, buffer_long}
-use Rattle.paw_state.specs.State.{State, Keeps, FitsFields, HoldsBytes}
+use Rattle.paw_state.specs.State.{State, IsValidState, FitsFields, HoldsBytes}
 use Rattle.paw_state.specs.inner.State.{state_of}
 use Rattle.paw_state.specs.State.{state_bytes}
 use Rattle.paw_state.specs.declared.Restored.{Restored}
@@ -33,7 +33,7 @@ use Rattle.paw_state.proofs.Ruled.{each_of}
 use Rattle.paw_state.proofs.Lawful.{bytes_tell_the_state, long_state}
 use Rattle.paw_play.specs.Session.{kept_bytes, IsKept}
 use Rattle.paw_play.specs.Played.{ShowsState, going_on, from_state}
-use Rattle.paw_play.specs.inner.OnTheWay.{IsStore}
+use Rattle.paw_play.specs.inner.OnTheWay.{IsRestingStore}
 use Rattle.paw_play.proofs.Resuming.{goes_on_from, kept_at, text_at, seat_game, read_session, MadeOfRead}
 
 -- a buffer begins with the bytes of a state
@@ -65,7 +65,7 @@ position_from g n None same alike placed holds = tt
 position_from g n (Some q) same alike placed holds = record { flags = alike.flags; bytes = holds.0; each = alike.places ∙ same; places = placed }
 
 -- the world of a state that keeps the rules is one of the game
-world_of : (g : GameLists) (s : State) → Keeps g s → FitsFields s → IsWorldOf g s.world
+world_of : (g : GameLists) (s : State) → IsValidState g s → FitsFields s → IsWorldOf g s.world
 world_of g s k fits =
     let places = (each_of g s k).places in
     record {
@@ -77,7 +77,7 @@ world_of g s k fits =
       kept = λ i d low. position_from g (length s.world.places) _ k.world.places (k.sound.kept.each i d low) (places.1.1 i d low) (fits.kept i d low);
     }
 
-closed_line : (at : Prompt) (m : OpenTables) (bytes : List ℕ) → StandsAt at m → IfNone (waiting_code at) (bytes ≡ []) → m.frames ≡ [] → bytes ≡ []
+closed_line : (at : Prompt) (m : OpenTables) (bytes : List ℕ) → WaitsAtPrompt at m → IfNone (waiting_code at) (bytes ≡ []) → m.frames ≡ [] → bytes ≡ []
 closed_line prompt.Main m bytes s p e = p
 closed_line prompt.Quit m bytes s p e = absurd (omega (arith, s.tables.some, ap length e))
 closed_line prompt.Again m bytes s p e = absurd (omega (arith, s.tables.some, ap length e))
@@ -85,7 +85,7 @@ closed_line prompt.Key m bytes s p e = absurd (omega (arith, s.tables.some, ap l
 closed_line prompt.Over m bytes s p e = p
 
 -- what is pending in it may be pending at its prompt
-pending_of : (g : GameLists) (s : State) (m : OpenTables) → Keeps g s → FitsFields s → StandsAt s.prompt m → IsPending m s.pending
+pending_of : (g : GameLists) (s : State) (m : OpenTables) → IsValidState g s → FitsFields s → WaitsAtPrompt s.prompt m → IsPending m s.pending
 pending_of g s m k fits stands =
     record { bytes = record { short = k.line; bytes = fits.line }; taken = closed_line s.prompt m s.pending.bytes stands (each_of g s k).pending; earlier = fits.earlier }
 
@@ -97,10 +97,10 @@ read_fits g bytes r is =
 
 -- ---- a player that was made of what was read ----
 
-pub resumed : {F : Type 0} (g : Story) (name buffer state piece : List ℕ) (r : Restored) (first : Standing) (routines : Routines F) (seat : Seat F) →
+pub resumed : {F : Type 0} (g : Story) (name buffer state piece : List ℕ) (r : Restored) (first : Standing) (routines : Routines F) (seat : PlayerView F) →
     recover first.disk.bytes ≡ Shown (kept_digests first.disk.bytes) (take state_length state) piece → buffer ≡ state → IsRead g.game buffer r →
     piece_length buffer ≡ r.piece →
-    seat ≡ seat_at g.game routines r.world r.machine r.pending r.prompt → IsSeated seat → IsStore name first →
+    seat ≡ seat_at g.game routines r.world r.machine r.pending r.prompt → IsSeated seat → IsRestingStore name first →
     MadeOfRead g name piece r first routines seat
 resumed g name buffer state piece r first routines seat shown same read long is seated store =
     let bytes : List ℕ = first.disk.bytes in
@@ -116,7 +116,7 @@ resumed g name buffer state piece r first routines seat shown same read long is 
     }
 
 -- the store shows no other state and piece
-pub one_session : {F : Type 0} (g : Story) (name piece : List ℕ) (r : Restored) (first : Standing) (routines : Routines F) (seat : Seat F)
+pub one_session : {F : Type 0} (g : Story) (name piece : List ℕ) (r : Restored) (first : Standing) (routines : Routines F) (seat : PlayerView F)
     (digests : Digests) (st : State) (other : List ℕ) → MadeOfRead g name piece r first routines seat →
     ShowsState g.game digests first.disk.bytes st other → read_session g name piece r first ≡ from_state g st other digests name
 one_session g name piece r first routines seat digests st other u shows =
@@ -138,7 +138,7 @@ module _ (g : Story) (digests : Digests) (bytes : List ℕ) (st : State) (piece 
   stands : StandsClosed (prompt_step st.prompt) machine
   unfolding machine
   stands =
-      let at : StandsAt st.prompt (restored st.frames (waiting_at st.prompt)) =
+      let at : WaitsAtPrompt st.prompt (restored st.frames (waiting_at st.prompt)) =
       stands_at g.game st.prompt st.frames valid shows.keeps.rows (each_of g.game st shows.keeps).frames in
       (restored_fits g.game st.prompt st.frames st.world (restored st.frames (waiting_at st.prompt)) st.pending (world_of g.game st shows.keeps shows.fits)
       (pending_of g.game st (restored st.frames (waiting_at st.prompt)) shows.keeps shows.fits at) shows.keeps.rows refl at (each_of g.game st shows.keeps).frames).machine

@@ -15,11 +15,11 @@ use Rattle.paw_reading.specs.declared.places.Frame.{Frame}
 use Rattle.paw_reading.specs.Run.{Run, Step as Read}
 use Rattle.paw_reading.specs.declared.places.Halt.{Halt}
 use Rattle.paw_reading.specs.Turn.{WaitsAt, Halted}
-use Rattle.paw_turn.specs.inner.Player.{Seat, run_at}
+use Rattle.paw_turn.specs.inner.Player.{PlayerView, run_at}
 use Rattle.paw_turn.specs.declared.Step.{Step}
 use Rattle.paw_turn.specs.declared.Step.TheVariants as step
 use Rattle.paw_play.specs.Traces.{step_line, more_line, steps_text, traced_pieces}
-use Rattle.paw_play.specs.inner.Telling.{Telling, Plain, Stepped, kept_text, seat_text, HaveSteps}
+use Rattle.paw_play.specs.inner.Telling.{ShowSteps, Plain, Stepped, kept_text, seat_text, HaveSteps}
 use Rattle.paw_play.specs.inner.Telling.{told_pieces, told_run, told_ending}
 use Rattle.paw_turn.specs.inner.Player.{IsStanding}
 use Rattle.paw_play.specs.inner.OnTheWay.{refusal_of}
@@ -49,7 +49,7 @@ traced_more (p ∷ pieces) (t ∷ traces) piece steps each =
     ap (λ xs. (steps_text t ++ p) ∷ xs) (traced_more pieces traces piece steps (omega (arith, each)))
 
 -- one piece more of a player
-pub pieces_more : {F : Type 0} (telling : Telling) (next : Seat F) (pieces : List (List ℕ)) (traces : List (List Read)) (steps : List Read) →
+pub pieces_more : {F : Type 0} (telling : ShowSteps) (next : PlayerView F) (pieces : List (List ℕ)) (traces : List (List Read)) (steps : List Read) →
     HaveSteps telling pieces traces → next.machine.steps ≡ kept_steps steps →
     concat (told_pieces telling (pieces ++ next.piece ∷ []) (traces ++ steps ∷ [])) ≡ concat (told_pieces telling pieces traces) ++ seat_text telling next
 pieces_more Plain next pieces traces steps each kept = joined_more pieces next.piece
@@ -58,44 +58,44 @@ pieces_more Stepped next pieces traces steps each kept =
     ∙ ap (λ t. concat (traced_pieces pieces traces) ++ (t ++ next.piece)) (sym (kept_told next.machine.steps steps kept))
 
 -- and it has its steps
-pub steps_more : (telling : Telling) (pieces : List (List ℕ)) (traces : List (List Read)) (piece : List ℕ) (steps : List Read) →
+pub steps_more : (telling : ShowSteps) (pieces : List (List ℕ)) (traces : List (List Read)) (piece : List ℕ) (steps : List Read) →
     HaveSteps telling pieces traces → HaveSteps telling (pieces ++ piece ∷ []) (traces ++ steps ∷ [])
 steps_more Plain pieces traces piece steps each = tt
 steps_more Stepped pieces traces piece steps each = omega (arith, length-append traces (steps ∷ []), length-append pieces (piece ∷ []), each)
 
 -- Before the first piece there is none to show.
-pub told_none : (telling : Telling) → concat (told_pieces telling [] []) ≡ []
+pub told_none : (telling : ShowSteps) → concat (told_pieces telling [] []) ≡ []
 told_none Plain = refl
 told_none Stepped = refl
 
-pub steps_none : (telling : Telling) → HaveSteps telling [] []
+pub steps_none : (telling : ShowSteps) → HaveSteps telling [] []
 steps_none Plain = tt
 steps_none Stepped = refl
 
 -- ---- endings ----
 
-pub waits_told : (telling : Telling) (p : Prompt) (path : List Frame) (r : Run) →
+pub waits_told : (telling : ShowSteps) (p : Prompt) (path : List Frame) (r : Run) →
     told_ending telling (WaitsAt p path r) ≡ WaitsAt p path (told_run telling r)
 waits_told Plain p path r = refl
 waits_told Stepped p path r = refl
 
-pub halts_told : (telling : Telling) (halt : Halt) (r : Run) → told_ending telling (Halted halt r) ≡ Halted halt (told_run telling r)
+pub halts_told : (telling : ShowSteps) (halt : Halt) (r : Run) → told_ending telling (Halted halt r) ≡ Halted halt (told_run telling r)
 halts_told Plain halt r = refl
 halts_told Stepped halt r = refl
 
 -- How pieces are shown changes nothing of the lines to come.
-pub same_lines : (telling : Telling) (r : Run) → (told_run telling r).events ≡ r.events
+pub same_lines : (telling : ShowSteps) (r : Run) → (told_run telling r).events ≡ r.events
 same_lines Plain r = refl
 same_lines Stepped r = refl
 
 -- The closed pieces of a run with these, as they are shown.
-pub told_is : (telling : Telling) (r : Run) (pieces : List (List ℕ)) (traces : List (List Read)) → r.pieces ≡ pieces → r.traces ≡ traces →
+pub told_is : (telling : ShowSteps) (r : Run) (pieces : List (List ℕ)) (traces : List (List Read)) → r.pieces ≡ pieces → r.traces ≡ traces →
     concat (told_run telling r).pieces ≡ concat (told_pieces telling pieces traces)
 told_is Plain r pieces traces e f = ap concat e
 told_is Stepped r pieces traces e f = ap (λ ps. concat (traced_pieces ps r.traces)) e ∙ ap (λ ts. concat (traced_pieces pieces ts)) f
 
 -- the text of a player's last piece comes last
-pub told_more : {F : Type 0} (telling : Telling) (next : Seat F) (pieces : List (List ℕ)) (traces : List (List Read)) (steps : List Read) →
+pub told_more : {F : Type 0} (telling : ShowSteps) (next : PlayerView F) (pieces : List (List ℕ)) (traces : List (List Read)) (steps : List Read) →
     HaveSteps telling pieces traces → next.machine.steps ≡ kept_steps steps →
     concat (told_run telling (run_at next (pieces ++ next.piece ∷ []) (traces ++ steps ∷ []) [])).pieces
     ≡ concat (told_pieces telling pieces traces) ++ seat_text telling next

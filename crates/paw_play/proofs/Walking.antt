@@ -14,17 +14,17 @@ use Rattle.paw_reading.specs.declared.places.Halt.{Halt}
 use Rattle.paw_reading.specs.declared.places.Halt.TheVariants as halt
 use Rattle.paw_reading.specs.Reading.{Waits, asked}
 use Rattle.paw_reading.specs.GoingOn.{on_path}
-use Rattle.paw_reading.specs.Turn.{WaitsAt, at_main, reading, on, text_of}
+use Rattle.paw_reading.specs.Turn.{WaitsAt, at_main, reading, going_on_from, text_of}
 use Rattle.paw_process.specs.inner.OpenTables.{OpenTables}
 use Rattle.paw_world.specs.World.{World}
-use Rattle.paw_turn.specs.inner.Player.{Seat, run_at, PlayHalts, PlaysTo, StandsAt, StandsClosed, IsSeated, IsNew}
+use Rattle.paw_turn.specs.inner.Player.{PlayerView, run_at, PlayHalts, PlaysTo, StandsAt, StandsClosed, IsSeated, IsNew}
 use Rattle.paw_turn.specs.declared.Step.{Step}
 use Rattle.paw_turn.specs.declared.Step.TheVariants as step
 use Rattle.paw_play.specs.declared.PlayEnd.{PlayEnd}
 use Rattle.paw_play.specs.declared.PlayEnd.TheVariants as end
 use Rattle.paw_stage.specs.declared.StageCall.TheVariants as call
 use Rattle.paw_play.specs.Walk.{EndingOf, first_lines, advanced, text_before, PartShown, WalkWaits, WalkHalts}
-use Rattle.paw_play.specs.inner.Telling.{Telling, seat_text, told_pieces, HaveSteps, told_run, told_ending, told_as}
+use Rattle.paw_play.specs.inner.Telling.{ShowSteps, seat_text, told_pieces, HaveSteps, told_run, told_ending, with_shown_steps}
 use Rattle.paw_turn.specs.inner.Player.{IsStanding}
 use Rattle.paw_play.specs.inner.OnTheWay.{IsWalking, Told, WalksTo}
 use Rattle.paw_play.proofs.Telling.{pieces_more, told_more, steps_more, told_none, steps_none, waits_told, halts_told, same_lines, told_is}
@@ -96,9 +96,9 @@ some_path frames h = omega (arith, length-reverse frames)
 
 -- a player that waits, with no line left
 pub on_waits : (g : Story) (p : Prompt) (m : OpenTables) (r : Run) → StandsAt p m →
-    on g p (reverse m.frames) (record r { events = [] }) ≡ WaitsAt p (reverse m.frames) (record r { events = [] })
+    going_on_from g p (reverse m.frames) (record r { events = [] }) ≡ WaitsAt p (reverse m.frames) (record r { events = [] })
 unfolding at_main
-on_waits g prompt.Main m r h = ap (λ fs. on g prompt.Main (reverse fs) (record r { events = [] })) h.frames
+on_waits g prompt.Main m r h = ap (λ fs. going_on_from g prompt.Main (reverse fs) (record r { events = [] })) h.frames
     ∙ ap (λ fs. WaitsAt prompt.Main (reverse fs) (record r { events = [] })) (sym h.frames)
 on_waits g prompt.Quit m r h = rw (path_waits g prompt.Quit 0 (reverse m.frames) r (some_path m.frames h.tables.tables.some)) refl
 on_waits g prompt.Again m r h = rw (path_waits g prompt.Again 0 (reverse m.frames) r (some_path m.frames h.tables.tables.some)) refl
@@ -108,9 +108,9 @@ on_waits g prompt.Over m r h = absurd h
 -- ---- a walk at a prompt ----
 
 -- what was read of the lines so far waits, and its text was shown
-waiting : {F : Type 0} (telling : Telling) (g : Story) (whole : EndingOf) (n : ℕ) (first now : Standing) (seat : Seat F) →
+waiting : {F : Type 0} (telling : ShowSteps) (g : Story) (whole : EndingOf) (n : ℕ) (first now : Standing) (seat : PlayerView F) →
     IsWalking telling g whole first now seat n → IsSeated seat →
-    WalkWaits (told_as telling whole) first now n
+    WalkWaits (with_shown_steps telling whole) first now n
 waiting telling g whole n first now seat w seated =
     let stands : StandsAt w.prompt seat.machine = subst (λ s. StandsClosed s seat.machine) w.waits seated.machine in
     let path : List Frame = reverse seat.machine.frames in
@@ -119,7 +119,7 @@ waiting telling g whole n first now seat w seated =
       path,
       told_run telling r,
       record {
-        reading = ap (told_as telling whole) (sym (append-nil (first_lines n first.lines)))
+        reading = ap (with_shown_steps telling whole) (sym (append-nil (first_lines n first.lines)))
             ∙ ap (told_ending telling) (w.goes_on [] ∙ on_waits g w.prompt seat.machine r stands) ∙ waits_told telling w.prompt path r;
         there = w.there;
         stands = w.stands ∙ ap (advanced first n) (sym (told_is telling r w.pieces w.traces refl refl));
@@ -127,19 +127,19 @@ waiting telling g whole n first now seat w seated =
     )
 
 -- the text of what was read of the lines so far
-pub text_so_far : {F : Type 0} (telling : Telling) (g : Story) (whole : EndingOf) (n : ℕ) (first now : Standing) (seat : Seat F)
+pub text_so_far : {F : Type 0} (telling : ShowSteps) (g : Story) (whole : EndingOf) (n : ℕ) (first now : Standing) (seat : PlayerView F)
     (w : IsWalking telling g whole first now seat n) → IsSeated seat →
-    text_of (told_as telling whole (first_lines n first.lines)) ≡ concat (told_pieces telling w.pieces w.traces)
+    text_of (with_shown_steps telling whole (first_lines n first.lines)) ≡ concat (told_pieces telling w.pieces w.traces)
 unfolding waiting
 text_so_far telling g whole n first now seat w seated =
     ap text_of (waiting telling g whole n first now seat w seated).3.reading
     ∙ told_is telling (run_at seat w.pieces w.traces []) w.pieces w.traces refl refl
 
 -- the text of a step that brings a piece
-pub text_shown : {F : Type 0} (telling : Telling) (g : Story) (whole : EndingOf) (s : Step) (next : Seat F)
+pub text_shown : {F : Type 0} (telling : ShowSteps) (g : Story) (whole : EndingOf) (s : Step) (next : PlayerView F)
     (pieces : List (List ℕ)) (traces : List (List Read)) → HaveSteps telling pieces traces → IsStanding s → StandsClosed s next.machine →
     PlaysTo g whole s next pieces traces →
-    text_of (told_as telling whole []) ≡ concat (told_pieces telling pieces traces) ++ seat_text telling next
+    text_of (with_shown_steps telling whole []) ≡ concat (told_pieces telling pieces traces) ++ seat_text telling next
 text_shown telling g whole (step.Waits p) next pieces traces each h m plays =
     let r : Run = run_at next (pieces ++ next.piece ∷ []) (traces ++ plays.0 ∷ []) [] in
     ap (λ e. text_of (told_ending telling e)) (plays.1.1 [] ∙ on_waits g p next.machine r m)
@@ -157,11 +157,11 @@ pub shown_nothing : (mid : Standing) → mid ≡ record mid { shown = mid.shown 
 shown_nothing mid = ap (λ t. record mid { shown = t }) (sym (append-nil mid.shown))
 
 -- How a step ends after n lines, where `after` is the reading of those that are left then.
-module _ {F : Type 0} (telling : Telling) (g : Story) (whole after : EndingOf) (n : ℕ) (first mid new : Standing) (next : Seat F) (s : Step)
+module _ {F : Type 0} (telling : ShowSteps) (g : Story) (whole after : EndingOf) (n : ℕ) (first mid new : Standing) (next : PlayerView F) (s : Step)
     (pieces : List (List ℕ)) (traces : List (List Read)) (each : HaveSteps telling pieces traces)
     (last : next.last ≡ s) (seated : IsSeated next) (there : n ≤ length first.lines)
     (whole_after : (more : List (List ℕ)) → whole (first_lines n first.lines ++ more) ≡ after more)
-    (earlier : text_before (told_as telling whole) first.lines n ≡ concat (told_pieces telling pieces traces))
+    (earlier : text_before (with_shown_steps telling whole) first.lines n ≡ concat (told_pieces telling pieces traces))
     (stands_with : (part : List ℕ) → new ≡ record mid { shown = mid.shown ++ part } →
     new ≡ advanced first n (concat (told_pieces telling pieces traces) ++ part))
     (plays : PlaysTo g after s next pieces traces) where
@@ -170,7 +170,7 @@ module _ {F : Type 0} (telling : Telling) (g : Story) (whole after : EndingOf) (
 
   -- part of the text was shown
   shown_part : IsStanding s → 0 < length (seat_text telling next) → (m : ℕ) →
-      new ≡ record mid { shown = mid.shown ++ take m (seat_text telling next) } → PartShown (told_as telling whole) first new n
+      new ≡ record mid { shown = mid.shown ++ take m (seat_text telling next) } → PartShown (with_shown_steps telling whole) first new n
   shown_part shows some m e = record {
     shown = concat (told_pieces telling pieces traces) ++ take m (seat_text telling next);
     rest = drop m (seat_text telling next);
@@ -186,12 +186,12 @@ module _ {F : Type 0} (telling : Telling) (g : Story) (whole after : EndingOf) (
       machine_stands : StandsClosed s next.machine
       machine_stands = subst (λ q. StandsClosed q next.machine) last seated.machine
 
-      all : text_of (told_as telling whole (first_lines n first.lines)) ≡ concat (told_pieces telling pieces traces) ++ seat_text telling next
+      all : text_of (with_shown_steps telling whole (first_lines n first.lines)) ≡ concat (told_pieces telling pieces traces) ++ seat_text telling next
       all = ap (λ e. text_of (told_ending telling e)) read_all ∙ text_shown telling g after s next pieces traces each shows machine_stands plays
 
   -- the reading has ended for good, and no more was shown
   halts : (most : ℕ) → n ≤ most → (halt : Halt) → PlayHalts after halt next pieces traces → new ≡ mid →
-      WalkHalts (told_as telling whole) most first new halt
+      WalkHalts (with_shown_steps telling whole) most first new halt
   halts most few halt stopped same =
       let e = stopped.1 [] in (
         n,
@@ -244,7 +244,7 @@ module _ {F : Type 0} (telling : Telling) (g : Story) (whole after : EndingOf) (
 
 -- ---- one line more ----
 
-module _ {F : Type 0} (telling : Telling) (g : Story) (whole : EndingOf) (n : ℕ) (first now mid : Standing) (seat : Seat F) (given line : List ℕ)
+module _ {F : Type 0} (telling : ShowSteps) (g : Story) (whole : EndingOf) (n : ℕ) (first now mid : Standing) (seat : PlayerView F) (given line : List ℕ)
     (w : IsWalking telling g whole first now seat n) (lines : now.lines ≡ line ∷ mid.lines) (cut : given ≡ take 255 line) where
   line_stands : drop n first.lines ≡ line ∷ mid.lines
   line_stands = ap (λ (q : Standing). q.lines) (sym w.stands) ∙ lines
@@ -254,23 +254,23 @@ module _ {F : Type 0} (telling : Telling) (g : Story) (whole : EndingOf) (n : �
 
   whole_after : (more : List (List ℕ)) →
       whole (first_lines (suc n) first.lines ++ more)
-      ≡ on g w.prompt (reverse seat.machine.frames) (run_at seat w.pieces w.traces (given ∷ more))
+      ≡ going_on_from g w.prompt (reverse seat.machine.frames) (run_at seat w.pieces w.traces (given ∷ more))
   whole_after more =
       ap whole (lines_more first.lines n line mid.lines more line_stands)
       ∙ w.goes_on (take 255 line ∷ more)
-      ∙ ap (λ l. on g w.prompt (reverse seat.machine.frames) (run_at seat w.pieces w.traces (l ∷ more))) (sym cut)
+      ∙ ap (λ l. going_on_from g w.prompt (reverse seat.machine.frames) (run_at seat w.pieces w.traces (l ∷ more))) (sym cut)
 
-  pub read_after : whole (first_lines (suc n) first.lines) ≡ on g w.prompt (reverse seat.machine.frames) (run_at seat w.pieces w.traces (given ∷ []))
+  pub read_after : whole (first_lines (suc n) first.lines) ≡ going_on_from g w.prompt (reverse seat.machine.frames) (run_at seat w.pieces w.traces (given ∷ []))
   read_after = ap whole (sym (append-nil (first_lines (suc n) first.lines))) ∙ whole_after []
 
-pub walks_on : {F : Type 0} (telling : Telling) (g : Story) (whole : EndingOf) (most n : ℕ) (first now mid new : Standing)
-    (seat next : Seat F) (given line : List ℕ) (s : Step) (o : Option PlayEnd)
+pub walks_on : {F : Type 0} (telling : ShowSteps) (g : Story) (whole : EndingOf) (most n : ℕ) (first now mid new : Standing)
+    (seat next : PlayerView F) (given line : List ℕ) (s : Step) (o : Option PlayEnd)
     (w : IsWalking telling g whole first now seat n) → n < most → IsSeated seat → IsSeated next → next.last ≡ s →
     now.lines ≡ line ∷ mid.lines → given ≡ take 255 line → mid ≡ record now { lines = mid.lines; asked = now.asked + 1 } →
-    PlaysTo g (λ more. on g w.prompt (reverse seat.machine.frames) (run_at seat w.pieces w.traces (given ∷ more))) s next w.pieces w.traces →
+    PlaysTo g (λ more. going_on_from g w.prompt (reverse seat.machine.frames) (run_at seat w.pieces w.traces (given ∷ more))) s next w.pieces w.traces →
     Told mid new (seat_text telling next) s o → WalksTo telling g whole most first new next (suc n) o
 walks_on telling g whole most n first now mid new seat next given line s o w few seated then_seated last lines cut took plays told =
-    comes_to telling g whole (λ more. on g w.prompt (reverse seat.machine.frames) (run_at seat w.pieces w.traces (given ∷ more)))
+    comes_to telling g whole (λ more. going_on_from g w.prompt (reverse seat.machine.frames) (run_at seat w.pieces w.traces (given ∷ more)))
     (suc n) first mid new next s w.pieces w.traces w.each last then_seated
     (one_more telling g whole n first now mid seat given line w lines cut)
     (whole_after telling g whole n first now mid seat given line w lines cut)
@@ -278,11 +278,11 @@ walks_on telling g whole most n first now mid new seat next given line s o w few
     (λ part e. stands_after first now mid new n (concat (told_pieces telling w.pieces w.traces)) part line w.stands lines took e)
     plays most (omega (arith, few)) o told
 
-module _ {F : Type 0} (telling : Telling) (g : Story) (whole : EndingOf) (most n : ℕ) (first now new : Standing) (seat : Seat F)
+module _ {F : Type 0} (telling : ShowSteps) (g : Story) (whole : EndingOf) (most n : ℕ) (first now new : Standing) (seat : PlayerView F)
     (w : IsWalking telling g whole first now seat n) (seated : IsSeated seat) where
   -- no line is left
   pub none_left : n < most → (now.lines ≡ []) × (new ≡ now) →
-      (length first.lines < most) × WalkWaits (told_as telling whole) first new (length first.lines)
+      (length first.lines < most) × WalkWaits (with_shown_steps telling whole) first new (length first.lines)
   none_left few e =
       let all : n ≡ length first.lines = drop_all first.lines n (ap (λ (q : Standing). q.lines) (sym w.stands) ∙ e.0) w.there in
       let at = waiting telling g whole n first now seat w seated in
@@ -290,15 +290,15 @@ module _ {F : Type 0} (telling : Telling) (g : Story) (whole : EndingOf) (most n
 
   -- the lines can't be asked for
   pub none_asked : n < most → new ≡ now →
-      (m : ℕ) × (m < most) × WalkWaits (told_as telling whole) first new m
+      (m : ℕ) × (m < most) × WalkWaits (with_shown_steps telling whole) first new m
   none_asked few e =
       let at = waiting telling g whole n first now seat w seated in
       (n, few, (at.0, at.1, at.2, rw e at.3))
 
 -- all the lines that a session may have were taken
-pub long_walk : {F : Type 0} (telling : Telling) (g : Story) (whole : EndingOf) (most n : ℕ) (first now : Standing) (seat : Seat F) →
+pub long_walk : {F : Type 0} (telling : ShowSteps) (g : Story) (whole : EndingOf) (most n : ℕ) (first now : Standing) (seat : PlayerView F) →
     IsWalking telling g whole first now seat n → IsSeated seat → n ≡ most →
-    (EVENT_LIMIT ≡ EVENT_LIMIT) × WalkWaits (told_as telling whole) first now most
+    (EVENT_LIMIT ≡ EVENT_LIMIT) × WalkWaits (with_shown_steps telling whole) first now most
 long_walk telling g whole most n first now seat w seated all =
     let at = waiting telling g whole n first now seat w seated in
     (refl, (at.0, at.1, at.2, rw (← all) at.3))
@@ -309,7 +309,7 @@ pub first_stands : (old new : Standing) (part : List ℕ) → new ≡ record old
 first_stands old new part e = let a : old.asked + 0 ≡ old.asked = omega arith in e ∙ rw a refl
 
 -- After piece 0 the walk is at the first prompt, or has ended this way.
-pub walk_begins : {F : Type 0} (telling : Telling) (g : Story) (whole : EndingOf) (most : ℕ) (old new : Standing) (seat : Seat F) (s : Step)
+pub walk_begins : {F : Type 0} (telling : ShowSteps) (g : Story) (whole : EndingOf) (most : ℕ) (old new : Standing) (seat : PlayerView F) (s : Step)
     (o : Option PlayEnd) → IsSeated seat → seat.last ≡ s →
     PlaysTo g whole s seat [] [] → Told old new (seat_text telling seat) s o → WalksTo telling g whole most old new seat 0 o
 walk_begins telling g whole most old new seat s o seated last plays told =
@@ -318,7 +318,7 @@ walk_begins telling g whole most old new seat s o seated last plays told =
     plays most (omega arith) o told
 
 -- a player that was new has played piece 0
-pub walk_starts : {F : Type 0} (telling : Telling) (g : Story) (seed most : ℕ) (old new : Standing) (fresh seat : Seat F) (s : Step)
+pub walk_starts : {F : Type 0} (telling : ShowSteps) (g : Story) (seed most : ℕ) (old new : Standing) (fresh seat : PlayerView F) (s : Step)
     (o : Option PlayEnd) → IsNew fresh seed → IsSeated seat → seat.last ≡ s →
     PlaysTo g (reading g fresh.world.seed) s seat [] [] → Told old new (seat_text telling seat) s o →
     WalksTo telling g (reading g seed) most old new seat 0 o

@@ -8,7 +8,7 @@ use Rattle.paw_state.specs.Record.{last_piece}
 use Rattle.paw_play.specs.Session.{state_after, IsKept}
 use Rattle.paw_play.specs.Walk.{first_lines}
 use Rattle.paw_play.specs.Played.{PlayedSession}
-use Rattle.paw_play.specs.Written.{base_after, bytes_before, bytes_after}
+use Rattle.paw_play.specs.Written.{base_after, bytes_before, store_bytes_after}
 
 -- what a session shows, part by part
 shown_state_is : (d : Digests) (a p b q : List ℕ) → Shown d a p ≡ Shown d b q → a ≡ b
@@ -40,12 +40,12 @@ made_same digests state base piece last e f = ap (λ x. made_session digests x p
 -- one commit more
 pub more_bytes : (s : PlayedSession) (n : ℕ) (lines : List (List ℕ)) (state piece begun old new : List ℕ) →
     IsKept s.digests (s.before + suc n) (s.whole (first_lines (suc n) lines)) (Shown s.digests state piece) →
-    new ≡ committed (state ++ zeros (base_length - state_length)) piece old → old ≡ bytes_after s lines n begun →
-    new ≡ bytes_after s lines (suc n) begun
+    new ≡ committed (state ++ zeros (base_length - state_length)) piece old → old ≡ store_bytes_after s lines n begun →
+    new ≡ store_bytes_after s lines (suc n) begun
 more_bytes s n lines state piece begun old new k wrote before =
     let e : Ending = s.whole (first_lines (suc n) lines) in
     wrote ∙ committed_same (state ++ zeros (base_length - state_length)) (base_after (s.before + suc n) e)
-    piece (last_piece (pieces_of e)) old (bytes_after s lines n begun)
+    piece (last_piece (pieces_of e)) old (store_bytes_after s lines n begun)
     (base_is s.digests (s.before + suc n) e state piece k)
     (piece_is s.digests (s.before + suc n) e state piece k) before
 

@@ -16,7 +16,7 @@ use Rattle.paw_play.specs.declared.PlayEnd.TheVariants as end
 use Rattle.paw_play.specs.Session.{IsKept}
 use Rattle.paw_play.specs.Walk.{end_halt, first_lines, text_for, text_before}
 use Rattle.paw_play.specs.Played.{PlayedSession}
-use Rattle.paw_play.specs.Written.{bytes_before, bytes_after}
+use Rattle.paw_play.specs.Written.{bytes_before, store_bytes_after}
 
 -- The bytes of a store keep the session's reading of the first n lines.
 abbrev pub KeptBy : PlayedSession → Lines → ℕ → Bytes → Type 0
@@ -27,9 +27,9 @@ abbrev pub AgreesWith : PlayedSession → Lines → ℕ → Text → Bytes → T
 AgreesWith s lines n text bytes = KeptBy s lines n bytes × ((rest : Text) × (text ++ rest ≡ text_for s.whole lines n))
 
 -- The bytes keep the n lines that were taken, or all but the last.
-abbrev pub KeepsUpWith : PlayedSession → Lines → ℕ → Text → Bytes → Type 0
-KeepsUpWith s lines zero text bytes = AgreesWith s lines zero text bytes
-KeepsUpWith s lines (suc n) text bytes = AgreesWith s lines (suc n) text bytes ⊎ AgreesWith s lines n text bytes
+abbrev pub IsUpToDateWith : PlayedSession → Lines → ℕ → Text → Bytes → Type 0
+IsUpToDateWith s lines zero text bytes = AgreesWith s lines zero text bytes
+IsUpToDateWith s lines (suc n) text bytes = AgreesWith s lines (suc n) text bytes ⊎ AgreesWith s lines n text bytes
 
 -- A moment at which a session is played. Since the call began n lines were taken, and a text was shown that holds the
 -- text for all but the last of them. Whatever a crash leaves of the store keeps all these lines, or all but the last,
@@ -45,7 +45,7 @@ pub record InPlay (s : PlayedSession) (old : Standing) (m : Moment) : Type 0 whe
   pub before : text ≡ text_before s.whole old.lines taken ++ last
   pub attached : m.attached ≡ Some s.name
   pub files : (n : Name) → n ≢ s.name → m.files n ≡ old.files n
-  pub leaves : (image : Bytes) → MayLeave m.disk image → KeepsUpWith s old.lines taken text image
+  pub leaves : (image : Bytes) → MayLeave m.disk image → IsUpToDateWith s old.lines taken text image
 
 -- A moment at which a session is made: whatever a crash leaves of the store is no session, or keeps no lines yet.
 -- Nothing was asked or shown, and no other file has changed.
@@ -76,7 +76,7 @@ pub record RestsWith (s : PlayedSession) (old new : Standing) (n : ℕ) : Type 0
   pub file : new.files s.name ≡ Some new.disk.bytes
   pub others : (f : Name) → f ≢ s.name → new.files f ≡ old.files f
   pub keeps : KeptBy s old.lines n new.disk.bytes
-  pub bytes : new.disk.bytes ≡ bytes_after s old.lines n (bytes_before s old.disk.bytes)
+  pub bytes : new.disk.bytes ≡ store_bytes_after s old.lines n (bytes_before s old.disk.bytes)
 
 -- The store keeps all lines that were taken.
 abbrev pub KeepsAll : PlayedSession → Standing → Standing → Type 0

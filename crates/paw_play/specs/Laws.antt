@@ -17,7 +17,7 @@ use Rattle.paw_reading.specs.Reading.{closes_piece}
 use Rattle.paw_reading.specs.Turn.{WaitsAt, reading, pieces_of}
 use Rattle.paw_reading.specs.Bounds.{ValidStory}
 use Rattle.paw_journal.specs.Session.{Digests, IsUnmade, recover}
-use Rattle.paw_state.specs.State.{State, Keeps, FitsFields}
+use Rattle.paw_state.specs.State.{State, IsValidState, FitsFields}
 use Rattle.paw_state.specs.Record.{last_piece, state_at}
 use Rattle.paw_play.specs.declared.PlayEnd.{PlayEnd}
 use Rattle.paw_play.specs.declared.PlayEnd.TheVariants as end
@@ -64,7 +64,7 @@ pub record KeptLinesStand : Type 0 where
 -- rules of the game; going on ends as the whole reading does, at the same prompt and in the same world; and the pieces
 -- of the whole reading are those before, and then those that going on adds.
 pub record GoesOnAsRead (g : Story) (seed : Seed) (es fs : Lines) (st : State) (piece : Text) : Type 0 where
-  pub keeps : Keeps g.game st
+  pub keeps : IsValidState g.game st
   pub fits : FitsFields st
   pub ends : going_on g st piece fs ≡ reading_since g seed es fs
   pub pieces : pieces_of (reading g seed (es ++ fs)) ≡

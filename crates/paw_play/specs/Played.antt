@@ -4,9 +4,9 @@ use Rattle.paw_base.specs.Bytes.{Bytes, Lines, Name, Seed, Text}
 use Rattle.paw_game.specs.Game.{GameLists}
 use Rattle.paw_effects.specs.Story.{Story}
 use Rattle.paw_reading.specs.Run.{Run}
-use Rattle.paw_reading.specs.Turn.{reading, on}
+use Rattle.paw_reading.specs.Turn.{reading, going_on_from}
 use Rattle.paw_journal.specs.Session.{Digests, Shown, recover}
-use Rattle.paw_state.specs.State.{State, Keeps, FitsFields}
+use Rattle.paw_state.specs.State.{State, IsValidState, FitsFields}
 use Rattle.paw_play.specs.Walk.{EndingOf}
 use Rattle.paw_play.specs.Session.{story_digests, IsOfStory, kept_bytes}
 use Rattle.paw_play.specs.Stands.{Stands, IsPlayedWith, reading_since}
@@ -44,7 +44,7 @@ resumed_run st piece lines = record {
 
 -- The reading that goes on from a state whose last piece was this one.
 abbrev pub going_on : Story → State → Text → EndingOf
-going_on g st piece lines = on g st.prompt (take st.frames.count st.frames.rows) (resumed_run st piece lines)
+going_on g st piece lines = going_on_from g st.prompt (take st.frames.count st.frames.rows) (resumed_run st piece lines)
 
 -- The session of a story that goes on from a state whose last piece was this one.
 abbrev pub from_state : Story → State → Text → Digests → Name → PlayedSession
@@ -53,7 +53,7 @@ from_state g st piece digests name =
 
 -- The bytes of a store hold a session with these digests, which shows this state of the game and this piece.
 pub record ShowsState (g : GameLists) (digests : Digests) (bytes : Bytes) (st : State) (piece : Text) : Type 0 where
-  pub keeps : Keeps g st
+  pub keeps : IsValidState g st
   pub fits : FitsFields st
   pub shown : recover bytes ≡ Shown digests (kept_bytes st) piece
 

@@ -11,8 +11,8 @@ use Rattle.paw_play.specs.Walk.{EndingOf}
 -- ---- the text of steps ----
 
 -- The place of a condact: its table, its entry there, and its number in the entry, each counted from 0.
-abbrev pub place_text : ℕ → ℕ → ℕ → Text
-place_text table entry at = decimal table ++ (codes "." ++ (decimal entry ++ (codes "." ++ decimal at)))
+abbrev pub step_address : ℕ → ℕ → ℕ → Text
+step_address table entry at = decimal table ++ (codes "." ++ (decimal entry ++ (codes "." ++ decimal at)))
 
 -- How the line of a step ends: with yes, or with no for a condition that failed.
 abbrev pub answer_text : Bool → Text
@@ -20,7 +20,8 @@ answer_text passed = if passed then codes " yes\n" else codes " no\n"
 
 -- The line of a step, such as 1.0.0 LISTOBJ yes.
 abbrev pub step_line : Step → Text
-step_line step = place_text step.table step.entry step.at ++ (codes " " ++ (name_of step.code ++ answer_text step.yes))
+step_line step =
+    step_address step.table step.entry step.at ++ (codes " " ++ (name_of step.code ++ answer_text step.yes))
 
 -- The line with the number of steps that aren't shown; none where all are.
 abbrev pub more_line : ℕ → Text

@@ -20,8 +20,8 @@ bytes_before s (b ∷ bytes) = b ∷ bytes
 
 -- The bytes of this store after the first n lines of the session. Each line makes one commit: of the state in which the
 -- reading of the lines up to it ends, and of its last piece.
-abbrev pub bytes_after : PlayedSession → Lines → ℕ → Bytes → Bytes
-bytes_after s lines zero bytes = bytes
-bytes_after s lines (suc n) bytes =
+abbrev pub store_bytes_after : PlayedSession → Lines → ℕ → Bytes → Bytes
+store_bytes_after s lines zero bytes = bytes
+store_bytes_after s lines (suc n) bytes =
     committed (base_after (s.before + suc n) (s.whole (first_lines (suc n) lines)))
-    (last_piece (pieces_of (s.whole (first_lines (suc n) lines)))) (bytes_after s lines n bytes)
+    (last_piece (pieces_of (s.whole (first_lines (suc n) lines)))) (store_bytes_after s lines n bytes)

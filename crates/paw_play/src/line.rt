@@ -2,24 +2,24 @@
 
 ghost use Rattle.std.specs.Prelude.{◌≡◌, ◌+◌, ◌*◌, ◌<◌, ◌≤◌, take, length, IfOk, IfErr};
 ghost use Rattle.paw_base.specs.declared.limits.TheConstants.{EVENT_LIMIT, READ_LIMIT};
-ghost use Rattle.paw_stage.specs.Across.{Across, EachMoment, Serves};
-ghost use Rattle.paw_stage.specs.inner.Across.{Once, Throughout};
+ghost use Rattle.paw_stage.specs.Across.{IfTelling, EachMoment, FailsOnlyBy};
+ghost use Rattle.paw_stage.specs.inner.Across.{OnSuccess, AtEachMoment};
 ghost use Rattle.paw_turn.specs.inner.Player.{IsSeated};
 ghost use Rattle.paw_turn.specs.inner.Parts.{IsStanding};
 ghost use Rattle.paw_journal.specs.Session.{state_length, piece_length};
-ghost use Rattle.paw_journal.specs.inner.Store.{IsBeside};
+ghost use Rattle.paw_journal.specs.inner.Store.{ChangesStoreOnly};
 ghost use Rattle.paw_journal.specs.inner.Steps.{SameDigests};
 ghost use Rattle.paw_journal.specs.Journal.{writing_calls};
 ghost use Rattle.paw_journal.specs.inner.Journal.{KeptIn, failed_stage_call};
 ghost use Rattle.paw_play.specs.Keeping.{InPlay};
-ghost use Rattle.paw_play.specs.inner.OnTheWay.{EachStory, EachPlaying, Commits, InCommit, Writes, PlaysTo};
+ghost use Rattle.paw_play.specs.inner.OnTheWay.{EachStory, EachPlaying, Commits, InCommit, Writes, PlaysLineTo};
 ghost use Rattle.paw_play.specs.inner.OnTheWay.{seat_state, seat_base, MayPlay, StillPlays, HoldsSession};
 ghost use Rattle.paw_play.specs.Calls.{play_calls};
-ghost use Rattle.paw_play.specs.inner.Calls.{IsNotForCall, failed_or, unless_ended};
+ghost use Rattle.paw_play.specs.inner.Calls.{IsNotForCall, end_failed_or, unless_ended};
 
 use crate::PlayEnd;
 use crate::preface::Nothing;
-use crate::walk::{refused, told};
+use crate::walk::{end_without_piece, show_step};
 use paw_base::limits::LINE_LIMIT;
 use paw_game::tables::Tables;
 use paw_journal::{Journal, Room};
@@ -70,13 +70,13 @@ pub fn commit<S: Stage, T: Tables, F: Fn(u8, u8) -> u8>(
     requires seated { IsSeated player.now }
     requires standing { IsStanding player.now.last }
     requires kept { S.Tells stage.old → KeptIn journal room.old (S.standing stage.old) }
-    ensures serves { Serves S.Stage writing_calls (failed_stage_call result) stage.old stage.new }
-    ensures exact { Once S.Stage stage.old stage.new result (Writes events player.now) }
-    ensures shown { Once S.Stage stage.old stage.new result (Commits events player.now) }
+    ensures serves { FailsOnlyBy S.Stage writing_calls (failed_stage_call result) stage.old stage.new }
+    ensures exact { OnSuccess S.Stage stage.old stage.new result (Writes events player.now) }
+    ensures shown { OnSuccess S.Stage stage.old stage.new result (Commits events player.now) }
     ensures kept { S.Tells stage.old → IfOk result (λ kept. KeptIn kept room.new (S.standing stage.new)) }
-    ensures digests { Once S.Stage stage.old stage.new result SameDigests }
-    ensures beside { Across S.Stage stage.old stage.new IsBeside }
-    ensures any_moment { Throughout S.Stage stage.old stage.new (InCommit events player.now) }
+    ensures digests { OnSuccess S.Stage stage.old stage.new result SameDigests }
+    ensures beside { IfTelling S.Stage stage.old stage.new ChangesStoreOnly }
+    ensures any_moment { AtEachMoment S.Stage stage.old stage.new (InCommit events player.now) }
 {
     let mut state = [0u8; STATE_ROOM];
     put_state(player, events, &mut state);
@@ -104,15 +104,15 @@ pub(crate) fn play_line<S: Stage, T: Tables, F: Fn(u8, u8) -> u8>(
     requires few { session.events < EVENT_LIMIT }
     requires kept { S.Tells stage.old → KeptIn session.journal room.old (S.standing stage.old) }
     ensures player { StillPlays (player.old.world.draws + READ_LIMIT) player.old player.new }
-    ensures serves { Serves S.Stage play_calls (failed_or result) stage.old stage.new }
+    ensures serves { FailsOnlyBy S.Stage play_calls (end_failed_or result) stage.old stage.new }
     ensures refused { IfErr result IsNotForCall }
     ensures session { IfOk result
         (HoldsSession (S.Tells stage.old) (session.events + 1) room.new (S.standing stage.new)) }
-    ensures meaning { Across S.Stage stage.old stage.new (λ old new.
+    ensures meaning { IfTelling S.Stage stage.old stage.new (λ old new.
         EachStory F.Fn player.old.routines player.old.game (λ g.
         EachPlaying g player.old session.events old (λ s most n first.
-        PlaysTo g s most first new player.new n result))) }
-    ensures any_moment { Across S.Stage stage.old stage.new (λ old new.
+        PlaysLineTo g s most first new player.new n result))) }
+    ensures any_moment { IfTelling S.Stage stage.old stage.new (λ old new.
         EachStory F.Fn player.old.routines player.old.game (λ g.
         EachPlaying g player.old session.events old (λ s most n first.
         EachMoment S.Stage stage.old stage.new (InPlay s first)))) }
@@ -123,7 +123,7 @@ pub(crate) fn play_line<S: Stage, T: Tables, F: Fn(u8, u8) -> u8>(
         Asked::End => return Err(PlayEnd::InputEnded),
         Asked::Failed => return Err(PlayEnd::Outside(StageCall::Ask)),
     };
-    if let Some(end) = refused(step) {
+    if let Some(end) = end_without_piece(step) {
         return Err(end);
     }
     let events = session.events + 1;
@@ -132,7 +132,7 @@ pub(crate) fn play_line<S: Stage, T: Tables, F: Fn(u8, u8) -> u8>(
         Err(call) => return Err(PlayEnd::Outside(call)),
     };
     unless_ended(
-        told(&mut Nothing, stage, player, step),
+        show_step(&mut Nothing, stage, player, step),
         Session { journal, events },
     )
 }

@@ -6,7 +6,7 @@ ghost use Rattle.paw_base.specs.Bytes.{Name};
 ghost use Rattle.paw_base.specs.declared.limits.TheConstants.{EVENT_LIMIT, READ_LIMIT};
 ghost use Rattle.paw_game.specs.Image.{image};
 ghost use Rattle.paw_stage.specs.Disk.{IsStable};
-ghost use Rattle.paw_stage.specs.Across.{Across, EachMoment, InTwoParts, Serves};
+ghost use Rattle.paw_stage.specs.Across.{IfTelling, EachMoment, InTwoParts, FailsOnlyBy};
 ghost use Rattle.paw_routines.specs.Routines.{HaveRows};
 ghost use Rattle.paw_routines.specs.Measure.{measure};
 ghost use Rattle.paw_journal.specs.inner.Session.{digests_of};
@@ -14,15 +14,15 @@ ghost use Rattle.paw_journal.specs.inner.Journal.{IsAtRest, KeptIn};
 ghost use Rattle.paw_play.specs.Played.{begun};
 ghost use Rattle.paw_play.specs.Keeping.{InPlay, InNewSession};
 ghost use Rattle.paw_play.specs.Play.{NotYet, PlaysOn, MadeAndPlayed, NewSession, store_bytes};
-ghost use Rattle.paw_play.specs.inner.OnTheWay.{EachStory, EachStarting, Begins, IsStore, begun_with};
+ghost use Rattle.paw_play.specs.inner.OnTheWay.{EachStory, EachStarting, Begins, IsRestingStore, begun_with};
 ghost use Rattle.paw_play.specs.inner.OnTheWay.{MayPlay, MayBegin, StillPlays, IsAttached, HoldsSession};
 ghost use Rattle.paw_play.specs.Calls.{play_calls, session_calls};
-ghost use Rattle.paw_play.specs.inner.Calls.{IsNotForCall, call_of_end, failed_or};
+ghost use Rattle.paw_play.specs.inner.Calls.{IsNotForCall, call_of_end, end_failed_or};
 
 use crate::PlayEnd;
 use crate::line::{Session, play_line, put_state, unless_ended};
 use crate::preface::Nothing;
-use crate::walk::{refused, told};
+use crate::walk::{end_without_piece, show_step};
 use paw_base::limits::EVENT_LIMIT;
 use paw_game::tables::Tables;
 use paw_journal::{Attached, Journal, Room, attach};
@@ -42,13 +42,13 @@ pub(crate) fn play_lines<S: Stage, T: Tables, F: Fn(u8, u8) -> u8>(
     requires player { MayPlay F.Fn (READ_LIMIT * (session.events + 1)) player.old }
     requires few { session.events ≤ EVENT_LIMIT }
     requires kept { S.Tells stage.old → KeptIn session.journal room.old (S.standing stage.old) }
-    ensures serves { Serves S.Stage play_calls (call_of_end result) stage.old stage.new }
+    ensures serves { FailsOnlyBy S.Stage play_calls (call_of_end result) stage.old stage.new }
     ensures refused { IsNotForCall result }
-    ensures meaning { Across S.Stage stage.old stage.new (λ old new.
+    ensures meaning { IfTelling S.Stage stage.old stage.new (λ old new.
         EachStory F.Fn player.old.routines player.old.game (λ g.
         EachStarting g player.old session.events old (λ s first.
         PlaysOn s (EVENT_LIMIT - s.before) first new result))) }
-    ensures any_moment { Across S.Stage stage.old stage.new (λ old new.
+    ensures any_moment { IfTelling S.Stage stage.old stage.new (λ old new.
         EachStory F.Fn player.old.routines player.old.game (λ g.
         EachStarting g player.old session.events old (λ s first.
         EachMoment S.Stage stage.old stage.new (InPlay s first)))) }
@@ -66,7 +66,7 @@ pub(crate) fn play_lines<S: Stage, T: Tables, F: Fn(u8, u8) -> u8>(
 }
 
 /// Plays the piece before the first line; makes a session with it in the attached store, which is empty, and shows it.
-fn begin<S: Stage, T: Tables, F: Fn(u8, u8) -> u8>(
+fn make_session<S: Stage, T: Tables, F: Fn(u8, u8) -> u8>(
     stage: &mut S,
     player: &mut Player<'_, T, F>,
     room: &mut Room,
@@ -78,19 +78,19 @@ fn begin<S: Stage, T: Tables, F: Fn(u8, u8) -> u8>(
     requires empty { at.length ≡ 0 }
     requires attached { S.Tells stage.old → IsAttached at (S.standing stage.old) }
     ensures player { StillPlays READ_LIMIT player.old player.new }
-    ensures serves { Serves S.Stage play_calls (failed_or result) stage.old stage.new }
+    ensures serves { FailsOnlyBy S.Stage play_calls (end_failed_or result) stage.old stage.new }
     ensures refused { IfErr result IsNotForCall }
     ensures session { IfOk result (HoldsSession (S.Tells stage.old) 0 room.new (S.standing stage.new)) }
-    ensures meaning { Across S.Stage stage.old stage.new (λ old new.
-        EachStory F.Fn player.old.routines player.old.game (λ g. (name : Name) → IsStore name old →
+    ensures meaning { IfTelling S.Stage stage.old stage.new (λ old new.
+        EachStory F.Fn player.old.routines player.old.game (λ g. (name : Name) → IsRestingStore name old →
         Begins g (begun_with g player.old.world.seed (digests_of game.now rules.now) name) old new player.new result)) }
-    ensures any_moment { Across S.Stage stage.old stage.new (λ old new.
-        EachStory F.Fn player.old.routines player.old.game (λ g. (name : Name) → IsStore name old →
+    ensures any_moment { IfTelling S.Stage stage.old stage.new (λ old new.
+        EachStory F.Fn player.old.routines player.old.game (λ g. (name : Name) → IsRestingStore name old →
         EachMoment S.Stage stage.old stage.new
         (InNewSession (begun_with g player.old.world.seed (digests_of game.now rules.now) name) old))) }
 {
     let step = player.start();
-    if let Some(end) = refused(step) {
+    if let Some(end) = end_without_piece(step) {
         return Err(end);
     }
     let mut state = [0u8; STATE_ROOM];
@@ -100,7 +100,7 @@ fn begin<S: Stage, T: Tables, F: Fn(u8, u8) -> u8>(
         Err(call) => return Err(PlayEnd::Outside(call)),
     };
     unless_ended(
-        told(&mut Nothing, stage, player, step),
+        show_step(&mut Nothing, stage, player, step),
         Session { journal, events: 0 },
     )
 }
@@ -119,13 +119,13 @@ fn play_in<S: Stage, T: Tables, F: Fn(u8, u8) -> u8>(
     requires empty { at.length ≡ 0 }
     requires rests { S.Tells stage.old → IsAtRest (S.standing stage.old) }
     requires attached { S.Tells stage.old → at.length ≡ length (S.standing stage.old).disk.bytes }
-    ensures serves { Serves S.Stage play_calls (call_of_end result) stage.old stage.new }
+    ensures serves { FailsOnlyBy S.Stage play_calls (call_of_end result) stage.old stage.new }
     ensures refused { IsNotForCall result }
-    ensures plays { Across S.Stage stage.old stage.new (λ old new.
-        EachStory F.Fn routines.now (T.game tables.now) (λ g. (name : Name) → IsStore name old →
+    ensures plays { IfTelling S.Stage stage.old stage.new (λ old new.
+        EachStory F.Fn routines.now (T.game tables.now) (λ g. (name : Name) → IsRestingStore name old →
         MadeAndPlayed (begun_with g seed (digests_of game.now (measure g.rows)) name) old new result)) }
-    ensures any_moment { Across S.Stage stage.old stage.new (λ old new.
-        EachStory F.Fn routines.now (T.game tables.now) (λ g. (name : Name) → IsStore name old →
+    ensures any_moment { IfTelling S.Stage stage.old stage.new (λ old new.
+        EachStory F.Fn routines.now (T.game tables.now) (λ g. (name : Name) → IsRestingStore name old →
         EachMoment S.Stage stage.old stage.new
         (InNewSession (begun_with g seed (digests_of game.now (measure g.rows)) name) old))) }
 {
@@ -135,7 +135,7 @@ fn play_in<S: Stage, T: Tables, F: Fn(u8, u8) -> u8>(
     let Ok(mut player) = Player::new(alloc, tables, routines, seed) else {
         return PlayEnd::Memory;
     };
-    match begin(stage, &mut player, &mut room, at, game, &routines.measure()) {
+    match make_session(stage, &mut player, &mut room, at, game, &routines.measure()) {
         Ok(session) => play_lines(stage, &mut player, &mut room, session),
         Err(end) => end,
     }
@@ -157,11 +157,11 @@ pub fn play_loop<S: Stage, T: Tables, F: Fn(u8, u8) -> u8>(
     requires rows { HaveRows F.Fn routines.now }
     requires game { game.now ≡ sha256 (image (T.game tables.now)) }
     requires synced { S.Tells stage.old → IsStable (S.standing stage.old).disk }
-    ensures serves { Serves S.Stage session_calls (call_of_end result) stage.old stage.new }
+    ensures serves { FailsOnlyBy S.Stage session_calls (call_of_end result) stage.old stage.new }
     ensures refused { IsNotForCall result }
-    ensures plays { Across S.Stage stage.old stage.new (λ old new.
+    ensures plays { IfTelling S.Stage stage.old stage.new (λ old new.
         EachStory F.Fn routines.now (T.game tables.now) (λ g. NewSession (begun g seed name.now) old new result)) }
-    ensures any_moment { Across S.Stage stage.old stage.new (λ old new.
+    ensures any_moment { IfTelling S.Stage stage.old stage.new (λ old new.
         EachStory F.Fn routines.now (T.game tables.now) (λ g. store_bytes old name.now ≡ [] →
         InTwoParts S.Stage stage.old stage.new (NotYet name.now old) (InNewSession (begun g seed name.now) old))) }
 {

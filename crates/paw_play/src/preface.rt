@@ -7,10 +7,10 @@ use std::alloc::Global;
 /// What a walk shows before each piece.
 pub trait Preface: Drop {
     ghost use Rattle.std.specs.Prelude.{◌≡◌};
-    ghost use Rattle.paw_play.specs.inner.Telling.{Telling, preface};
+    ghost use Rattle.paw_play.specs.inner.Telling.{ShowSteps, preface};
 
     /// Whether the pieces are shown as they are or traced.
-    ghost telling: { Telling };
+    ghost telling: { ShowSteps };
 
     /// Takes the memory that it needs.
     ///

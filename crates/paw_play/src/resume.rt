@@ -5,8 +5,8 @@ ghost use Rattle.sha2.specs.Sha256.{sha256};
 ghost use Rattle.paw_base.specs.Bytes.{Name, Text};
 ghost use Rattle.paw_game.specs.Image.{image};
 ghost use Rattle.paw_stage.specs.Disk.{IsStable};
-ghost use Rattle.paw_stage.specs.Across.{Across, EachMoment, InTwoParts, Serves};
-ghost use Rattle.paw_stage.specs.inner.Across.{Throughout};
+ghost use Rattle.paw_stage.specs.Across.{IfTelling, EachMoment, InTwoParts, FailsOnlyBy};
+ghost use Rattle.paw_stage.specs.inner.Across.{AtEachMoment};
 ghost use Rattle.paw_stage.specs.Moments.{InShow};
 ghost use Rattle.paw_routines.specs.Routines.{HaveRows};
 ghost use Rattle.paw_state.specs.State.{State};
@@ -15,7 +15,7 @@ ghost use Rattle.paw_journal.specs.inner.Journal.{KeptIn};
 ghost use Rattle.paw_play.specs.Played.{PlayedSession, GoesOnFrom, ShowsState, from_state};
 ghost use Rattle.paw_play.specs.Keeping.{InPlay};
 ghost use Rattle.paw_play.specs.Play.{NotYet, Resumed, PlaysAgain, GoesOn, store_bytes};
-ghost use Rattle.paw_play.specs.inner.OnTheWay.{EachStory, IsStore, ShowsAgain, end_of};
+ghost use Rattle.paw_play.specs.inner.OnTheWay.{EachStory, IsRestingStore, ShowsAgain, end_of};
 ghost use Rattle.paw_play.specs.Calls.{play_calls, session_calls};
 ghost use Rattle.paw_play.specs.inner.Calls.{IsNotForCall, call_of_end, failed_so_far};
 
@@ -34,10 +34,10 @@ use std::alloc::Global;
 
 /// Shows the last piece of a session again. None where the session waits for a line; otherwise how playing it ends.
 fn show_again<S: Stage>(stage: &mut S, piece: &[u8], prompt: Prompt) -> Option<PlayEnd>
-    ensures serves { Serves S.Stage play_calls (failed_so_far result) stage.old stage.new }
+    ensures serves { FailsOnlyBy S.Stage play_calls (failed_so_far result) stage.old stage.new }
     ensures refused { IfSome result IsNotForCall }
-    ensures meaning { Across S.Stage stage.old stage.new (λ old new. ShowsAgain old new piece.now prompt result) }
-    ensures time { Throughout S.Stage stage.old stage.new (λ s. InShow s piece.now) }
+    ensures meaning { IfTelling S.Stage stage.old stage.new (λ old new. ShowsAgain old new piece.now prompt result) }
+    ensures time { AtEachMoment S.Stage stage.old stage.new (λ s. InShow s piece.now) }
 {
     if show(stage, piece).is_err() {
         return Some(PlayEnd::Outside(StageCall::Show));
@@ -63,7 +63,7 @@ fn not_found(refusal: JournalRefusal) -> PlayEnd
 }
 
 /// Resumes the session of the attached store, whose state and piece are in the room.
-fn take_up<S: Stage, T: Tables, F: Fn(u8, u8) -> u8>(
+fn play_recovered<S: Stage, T: Tables, F: Fn(u8, u8) -> u8>(
     alloc: Global,
     stage: &mut S,
     tables: &T,
@@ -73,13 +73,13 @@ fn take_up<S: Stage, T: Tables, F: Fn(u8, u8) -> u8>(
 ) -> PlayEnd
     requires rows { HaveRows F.Fn routines.now }
     requires kept { S.Tells stage.old → KeptIn journal room.old (S.standing stage.old) }
-    ensures serves { Serves S.Stage play_calls (call_of_end result) stage.old stage.new }
+    ensures serves { FailsOnlyBy S.Stage play_calls (call_of_end result) stage.old stage.new }
     ensures refused { IsNotForCall result }
-    ensures plays { Across S.Stage stage.old stage.new (λ old new.
-        EachStory F.Fn routines.now (T.game tables.now) (λ g. (name : Name) → IsStore name old →
+    ensures plays { IfTelling S.Stage stage.old stage.new (λ old new.
+        EachStory F.Fn routines.now (T.game tables.now) (λ g. (name : Name) → IsRestingStore name old →
         Resumed g (kept_digests old.disk.bytes) name old new result)) }
-    ensures any_moment { Across S.Stage stage.old stage.new (λ old new.
-        EachStory F.Fn routines.now (T.game tables.now) (λ g. (name : Name) → IsStore name old →
+    ensures any_moment { IfTelling S.Stage stage.old stage.new (λ old new.
+        EachStory F.Fn routines.now (T.game tables.now) (λ g. (name : Name) → IsRestingStore name old →
         (d : Digests) (st : State) (piece : Text) → ShowsState g.game d old.disk.bytes st piece →
         EachMoment S.Stage stage.old stage.new (InPlay (from_state g st piece d name) old))) }
 {
@@ -120,14 +120,14 @@ pub fn resume_loop<S: Stage, T: Tables, F: Fn(u8, u8) -> u8>(
     requires game { game.now ≡ sha256 (image (T.game tables.now)) }
     requires rows { HaveRows F.Fn routines.now }
     requires synced { S.Tells stage.old → IsStable (S.standing stage.old).disk }
-    ensures serves { Serves S.Stage session_calls (call_of_end result) stage.old stage.new }
+    ensures serves { FailsOnlyBy S.Stage session_calls (call_of_end result) stage.old stage.new }
     ensures refused { IsNotForCall result }
-    ensures plays { Across S.Stage stage.old stage.new (λ old new.
+    ensures plays { IfTelling S.Stage stage.old stage.new (λ old new.
         EachStory F.Fn routines.now (T.game tables.now) (λ g. PlaysAgain g name.now old new result)) }
-    ensures goes_on { Across S.Stage stage.old stage.new (λ old new.
+    ensures goes_on { IfTelling S.Stage stage.old stage.new (λ old new.
         EachStory F.Fn routines.now (T.game tables.now) (λ g. (s : PlayedSession) →
         GoesOnFrom g name.now (store_bytes old name.now) s → GoesOn s old new result)) }
-    ensures any_moment { Across S.Stage stage.old stage.new (λ old new.
+    ensures any_moment { IfTelling S.Stage stage.old stage.new (λ old new.
         EachStory F.Fn routines.now (T.game tables.now) (λ g. (s : PlayedSession) →
         GoesOnFrom g name.now (store_bytes old name.now) s →
         InTwoParts S.Stage stage.old stage.new (NotYet name.now old) (InPlay s old))) }
@@ -145,5 +145,5 @@ pub fn resume_loop<S: Stage, T: Tables, F: Fn(u8, u8) -> u8>(
         Ok(journal) => journal,
         Err(refusal) => return not_found(refusal),
     };
-    take_up(alloc, stage, tables, routines, &mut room, journal)
+    play_recovered(alloc, stage, tables, routines, &mut room, journal)
 }

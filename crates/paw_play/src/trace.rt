@@ -5,7 +5,7 @@ ghost use Rattle.std.specs.Prelude.{◌≡◌, ◌+◌, ◌≤◌, ◌++◌, len
 ghost use Rattle.paw_base.specs.inner.Piece.{Puts};
 ghost use Rattle.paw_base.specs.Condacts.{name_of};
 ghost use Rattle.paw_base.specs.declared.limits.TheConstants.{STEP_LIMIT, PIECE_LIMIT};
-ghost use Rattle.paw_play.specs.Traces.{place_text, answer_text, step_line, more_line};
+ghost use Rattle.paw_play.specs.Traces.{step_address, answer_text, step_line, more_line};
 ghost use Rattle.paw_play.specs.inner.Telling.{kept_text};
 
 use crate::preface::Preface;
@@ -36,9 +36,9 @@ fn put_name(text: &mut Piece, code: u8) -> bool
 }
 
 /// Puts the place of a condact.
-fn put_place(text: &mut Piece, table: u8, entry: u16, at: u8) -> bool
-    ensures puts { Puts text.old text.new result (place_text table entry at) }
-    ensures short { length (place_text table entry at) ≤ 13 }
+fn put_address(text: &mut Piece, table: u8, entry: u16, at: u8) -> bool
+    ensures puts { Puts text.old text.new result (step_address table entry at) }
+    ensures short { length (step_address table entry at) ≤ 13 }
 {
     put_number(text, u32::from(table))
         && text.push(b".")
@@ -63,7 +63,7 @@ fn put_line(text: &mut Piece, step: StepRow) -> bool
     ensures puts { Puts text.old text.new result (step_line step) }
     ensures short { length (step_line step) ≤ 27 }
 {
-    put_place(text, step.table, step.entry, step.at)
+    put_address(text, step.table, step.entry, step.at)
         && text.push(b" ")
         && put_name(text, step.code)
         && put_answer(text, step.yes)

@@ -4,14 +4,14 @@ ghost use Rattle.std.specs.Prelude.{◌≡◌, ◌+◌, ◌<◌, ◌≤◌, ◌^
 ghost use Rattle.paw_base.specs.declared.limits.TheConstants.{EVENT_LIMIT, READ_LIMIT};
 ghost use Rattle.paw_routines.specs.Routines.{HaveRows};
 ghost use Rattle.paw_stage.specs.Stage.{Standing, ShowsPart, failed_in, with_shown};
-ghost use Rattle.paw_stage.specs.Across.{Across, Serves};
-ghost use Rattle.paw_stage.specs.inner.Across.{Once, Throughout};
+ghost use Rattle.paw_stage.specs.Across.{IfTelling, FailsOnlyBy};
+ghost use Rattle.paw_stage.specs.inner.Across.{OnSuccess, AtEachMoment};
 ghost use Rattle.paw_stage.specs.declared.StageCall.TheVariants as call;
 ghost use Rattle.paw_reading.specs.Turn.{reading};
 ghost use Rattle.paw_stage.specs.Moments.{InShow};
 ghost use Rattle.paw_turn.specs.inner.Player.{IsSeated};
 ghost use Rattle.paw_play.specs.Walk.{EndingOf, Walks};
-ghost use Rattle.paw_play.specs.inner.Telling.{seat_text, told_as};
+ghost use Rattle.paw_play.specs.inner.Telling.{seat_text, with_shown_steps};
 ghost use Rattle.paw_play.specs.inner.OnTheWay.{EachStory, IsWalking, WalksTo, Told, refusal_of};
 ghost use Rattle.paw_play.specs.Calls.{walk_calls};
 ghost use Rattle.paw_play.specs.inner.Calls.{IsNotForCall, call_of_end, failed_so_far};
@@ -29,7 +29,7 @@ use std::alloc::Global;
 
 /// The end of playing at a step that brings no piece, because play ended before it was closed. None where it brings
 /// one.
-pub(crate) fn refused(step: Step) -> Option<PlayEnd>
+pub(crate) fn end_without_piece(step: Step) -> Option<PlayEnd>
     ensures value { result ≡ refusal_of step }
     ensures fine { failed_so_far result ≡ None }
 {
@@ -48,13 +48,13 @@ fn show_last<P: Preface, S: Stage, T: Tables, F: Fn(u8, u8) -> u8>(
     stage: &mut S,
     player: &Player<'_, T, F>,
 ) -> Result<(), Failed>
-    ensures serves { Serves S.Stage (call.Show ∷ []) (failed_in call.Show result) stage.old stage.new }
+    ensures serves { FailsOnlyBy S.Stage (call.Show ∷ []) (failed_in call.Show result) stage.old stage.new }
     ensures some { IsErr result → 0 < length (seat_text P.telling player.now) }
-    ensures shown { Once S.Stage stage.old stage.new result (λ old new.
+    ensures shown { OnSuccess S.Stage stage.old stage.new result (λ old new.
         new ≡ with_shown (seat_text P.telling player.now) old) }
-    ensures part { Across S.Stage stage.old stage.new (λ old new.
+    ensures part { IfTelling S.Stage stage.old stage.new (λ old new.
         OnErr result (ShowsPart (seat_text P.telling player.now) old new)) }
-    ensures time { Throughout S.Stage stage.old stage.new (λ s. InShow s (seat_text P.telling player.now)) }
+    ensures time { AtEachMoment S.Stage stage.old stage.new (λ s. InShow s (seat_text P.telling player.now)) }
 {
     match show(stage, preface.text(player.steps())) {
         Ok(()) => show(stage, player.piece()),
@@ -63,20 +63,20 @@ fn show_last<P: Preface, S: Stage, T: Tables, F: Fn(u8, u8) -> u8>(
 }
 
 /// Shows what a step brought. None where the player waits for the next line; otherwise how playing ends.
-pub(crate) fn told<P: Preface, S: Stage, T: Tables, F: Fn(u8, u8) -> u8>(
+pub(crate) fn show_step<P: Preface, S: Stage, T: Tables, F: Fn(u8, u8) -> u8>(
     preface: &mut P,
     stage: &mut S,
     player: &Player<'_, T, F>,
     step: Step,
 ) -> Option<PlayEnd>
     requires last { player.now.last ≡ step }
-    ensures serves { Serves S.Stage walk_calls (failed_so_far result) stage.old stage.new }
+    ensures serves { FailsOnlyBy S.Stage walk_calls (failed_so_far result) stage.old stage.new }
     ensures refused { IfSome result IsNotForCall }
-    ensures meaning { Across S.Stage stage.old stage.new (λ old new.
+    ensures meaning { IfTelling S.Stage stage.old stage.new (λ old new.
         Told old new (seat_text P.telling player.now) step result) }
-    ensures time { Throughout S.Stage stage.old stage.new (λ s. InShow s (seat_text P.telling player.now)) }
+    ensures time { AtEachMoment S.Stage stage.old stage.new (λ s. InShow s (seat_text P.telling player.now)) }
 {
-    if let Some(end) = refused(step) {
+    if let Some(end) = end_without_piece(step) {
         return Some(end);
     }
     if show_last(preface, stage, player).is_err() {
@@ -101,10 +101,10 @@ fn walk_line<P: Preface, S: Stage, T: Tables, F: Fn(u8, u8) -> u8>(
     ensures seated { IsSeated player.new }
     ensures game { player.new.game ≡ player.old.game }
     ensures draws { player.new.world.draws ≤ player.old.world.draws + READ_LIMIT }
-    ensures serves { Serves S.Stage walk_calls (failed_so_far result) stage.old stage.new }
+    ensures serves { FailsOnlyBy S.Stage walk_calls (failed_so_far result) stage.old stage.new }
     ensures refused { IfSome result IsNotForCall }
     ensures routines { player.new.routines ≡ player.old.routines }
-    ensures meaning { Across S.Stage stage.old stage.new (λ old new.
+    ensures meaning { IfTelling S.Stage stage.old stage.new (λ old new.
         EachStory F.Fn player.old.routines player.old.game (λ g. (whole : EndingOf) (most n : ℕ) (first : Standing) →
         IsWalking P.telling g whole first old player.old n → n < most →
         WalksTo P.telling g whole most first new player.new (suc n) result)) }
@@ -113,7 +113,7 @@ fn walk_line<P: Preface, S: Stage, T: Tables, F: Fn(u8, u8) -> u8>(
     match stage.ask(&mut line) {
         Asked::Line(n) => {
             let step = player.take(&line[..n as usize]);
-            told(preface, stage, player, step)
+            show_step(preface, stage, player, step)
         }
         Asked::End => Some(PlayEnd::InputEnded),
         Asked::Failed => Some(PlayEnd::Outside(StageCall::Ask)),
@@ -129,12 +129,12 @@ fn walk_lines<P: Preface, S: Stage, T: Tables, F: Fn(u8, u8) -> u8>(
     requires seated { IsSeated player.old }
     requires rows { HaveRows F.Fn player.old.routines }
     requires draws { player.old.world.draws ≤ READ_LIMIT }
-    ensures serves { Serves S.Stage walk_calls (call_of_end result) stage.old stage.new }
+    ensures serves { FailsOnlyBy S.Stage walk_calls (call_of_end result) stage.old stage.new }
     ensures refused { IsNotForCall result }
-    ensures meaning { Across S.Stage stage.old stage.new (λ old new.
+    ensures meaning { IfTelling S.Stage stage.old stage.new (λ old new.
         EachStory F.Fn player.old.routines player.old.game (λ g. (whole : EndingOf) (first : Standing) →
         IsWalking P.telling g whole first old player.old 0 →
-        Walks (told_as P.telling whole) EVENT_LIMIT first new result)) }
+        Walks (with_shown_steps P.telling whole) EVENT_LIMIT first new result)) }
 {
     for _ in 0..EVENT_LIMIT {
         if let Some(end) = walk_line(preface, stage, player) {
@@ -156,10 +156,10 @@ pub fn walk_loop<P: Preface, S: Stage, T: Tables, F: Fn(u8, u8) -> u8>(
     seed: u64,
 ) -> PlayEnd
     requires rows { HaveRows F.Fn routines.now }
-    ensures serves { Serves S.Stage walk_calls (call_of_end result) stage.old stage.new }
+    ensures serves { FailsOnlyBy S.Stage walk_calls (call_of_end result) stage.old stage.new }
     ensures refused { IsNotForCall result }
-    ensures walks { Across S.Stage stage.old stage.new (λ old new. EachStory F.Fn routines.now (T.game tables.now)
-        (λ g. Walks (told_as P.telling (reading g seed)) EVENT_LIMIT old new result)) }
+    ensures walks { IfTelling S.Stage stage.old stage.new (λ old new. EachStory F.Fn routines.now (T.game tables.now)
+        (λ g. Walks (with_shown_steps P.telling (reading g seed)) EVENT_LIMIT old new result)) }
 {
     let Ok(mut preface) = P::new(alloc) else {
         return PlayEnd::Memory;
@@ -168,7 +168,7 @@ pub fn walk_loop<P: Preface, S: Stage, T: Tables, F: Fn(u8, u8) -> u8>(
         return PlayEnd::Memory;
     };
     let step = player.start();
-    if let Some(end) = told(&mut preface, stage, &player, step) {
+    if let Some(end) = show_step(&mut preface, stage, &player, step) {
         return end;
     }
     walk_lines(&mut preface, stage, &mut player)

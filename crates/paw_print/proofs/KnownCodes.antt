@@ -8,7 +8,7 @@ use Rattle.paw_base.specs.declared.words.TheConstants.{NOUN_CLASS}
 use Rattle.paw_base.specs.declared.parts.Condact.{Condact}
 use Rattle.paw_game.specs.declared.parts.Entry.{Entry}
 use Rattle.paw_game.specs.Game.{GameLists}
-use Rattle.paw_game.specs.Valid.{has_word, is_verb_value, is_any, is_condact, is_entry, is_table, Valid}
+use Rattle.paw_game.specs.Valid.{has_word, is_verb_value, is_wildcard, is_condact, is_entry, is_table, Valid}
 use Rattle.paw_print.specs.inner.Known.{IsKnown, IsKnownEntry, IsKnownTable}
 
 -- What a test gives at each element.
@@ -21,8 +21,8 @@ condact_known g c e = (and_parts (is_code c.code) _ e).0
 
 entry_known : (g : GameLists) (en : Entry) → is_entry g en ≡ true → IsKnownEntry en
 entry_known g en e =
-    let verb = and_parts (is_any en.verb || is_verb_value g.words en.verb) _ e in
-    let noun = and_parts (is_any en.noun || has_word g.words NOUN_CLASS en.noun) _ verb.1 in
+    let verb = and_parts (is_wildcard en.verb || is_verb_value g.words en.verb) _ e in
+    let noun = and_parts (is_wildcard en.noun || has_word g.words NOUN_CLASS en.noun) _ verb.1 in
     let condacts = and_parts (leb (length en.condacts) CONDACT_LIMIT) (list_all (is_condact g) en.condacts) noun.1 in
     all_give (is_condact g) IsKnown (condact_known g) en.condacts condacts.1
 

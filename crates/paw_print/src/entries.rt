@@ -10,7 +10,7 @@ ghost use Rattle.paw_print.specs.Canonical.{with_line_end, entry_lines, numbered
 ghost use Rattle.paw_print.specs.inner.Known.{IsKnown, IsKnownEntry, IsKnownTable};
 
 use crate::rows::{Written, end_line, write_flag, write_number, write_token};
-use crate::vocabulary::Vocabulary;
+use crate::vocabulary::WordsByValue;
 use paw_base::codes::INDIRECT;
 use paw_base::parts::Condact;
 use paw_base::rows::{ParamKind, condact_row};
@@ -19,7 +19,7 @@ use paw_game::parts::{Entry, Table};
 
 /// Writes a parameter after one space; nothing where the condact has none.
 fn write_parameter(
-    vocabulary: &Vocabulary,
+    vocabulary: &WordsByValue,
     kind: ParamKind,
     value: u8,
     out: &mut Vec<u8>,
@@ -47,7 +47,7 @@ fn is_indirect(condact: Condact) -> bool
 
 /// Writes the first parameter of a condact, which is of this kind where the condact isn't indirect.
 fn write_first(
-    vocabulary: &Vocabulary,
+    vocabulary: &WordsByValue,
     kind: ParamKind,
     condact: Condact,
     out: &mut Vec<u8>,
@@ -65,7 +65,7 @@ fn write_first(
 }
 
 /// Writes the line of a condact.
-fn write_condact(vocabulary: &Vocabulary, condact: Condact, out: &mut Vec<u8>) -> Written
+fn write_condact(vocabulary: &WordsByValue, condact: Condact, out: &mut Vec<u8>) -> Written
     requires known { IsKnown condact }
     ensures writes { OnOk result
         (out.new.items ≡ out.old.items ++ with_line_end (condact_line vocabulary.now condact)) }
@@ -78,7 +78,7 @@ fn write_condact(vocabulary: &Vocabulary, condact: Condact, out: &mut Vec<u8>) -
 }
 
 /// Writes condacts, a line for each.
-fn write_condacts(vocabulary: &Vocabulary, condacts: &[Condact], out: &mut Vec<u8>) -> Written
+fn write_condacts(vocabulary: &WordsByValue, condacts: &[Condact], out: &mut Vec<u8>) -> Written
     requires known { AllByRecursion IsKnown condacts.now }
     ensures writes { OnOk result
         (out.new.items ≡ out.old.items ++ written (map (condact_line vocabulary.now) condacts.now)) }
@@ -90,7 +90,7 @@ fn write_condacts(vocabulary: &Vocabulary, condacts: &[Condact], out: &mut Vec<u
 }
 
 /// Writes the line of an entry's words.
-fn write_head(vocabulary: &Vocabulary, entry: &Entry, out: &mut Vec<u8>) -> Written
+fn write_head(vocabulary: &WordsByValue, entry: &Entry, out: &mut Vec<u8>) -> Written
     ensures writes { OnOk result
         (out.new.items ≡ out.old.items ++ with_line_end (spaced (verb_token vocabulary.now entry.now.verb
         ∷ value_token vocabulary.now NOUN_CLASS entry.now.noun ∷ []))) }
@@ -101,7 +101,7 @@ fn write_head(vocabulary: &Vocabulary, entry: &Entry, out: &mut Vec<u8>) -> Writ
 }
 
 /// Writes an entry: its words, and its condacts.
-fn write_entry(vocabulary: &Vocabulary, entry: &Entry, out: &mut Vec<u8>) -> Written
+fn write_entry(vocabulary: &WordsByValue, entry: &Entry, out: &mut Vec<u8>) -> Written
     requires known { IsKnownEntry entry.now }
     ensures writes { OnOk result (out.new.items ≡ out.old.items ++ written (entry_lines vocabulary.now entry.now)) }
 {
@@ -121,7 +121,7 @@ fn write_table_header(number: usize, out: &mut Vec<u8>) -> Written
 
 /// Writes a table: its header, and its entries.
 fn write_table(
-    vocabulary: &Vocabulary,
+    vocabulary: &WordsByValue,
     number: usize,
     entries: &[Entry],
     out: &mut Vec<u8>,
@@ -138,7 +138,11 @@ fn write_table(
 }
 
 /// Writes the tables.
-pub(crate) fn write_tables(vocabulary: &Vocabulary, tables: &[Table], out: &mut Vec<u8>) -> Written
+pub(crate) fn write_tables(
+    vocabulary: &WordsByValue,
+    tables: &[Table],
+    out: &mut Vec<u8>,
+) -> Written
     requires known { AllByRecursion IsKnownTable tables.now }
     ensures writes { OnOk result
         (out.new.items ≡ out.old.items ++ written (numbered (table_lines vocabulary.now) 0 tables.now)) }

@@ -6,11 +6,11 @@ ghost use Rattle.paw_print.specs.Canonical.{with_line_end, exits_lines, location
 
 use crate::rows::{Written, end_line, write_header, write_number};
 use crate::texts::write_item;
-use crate::vocabulary::Vocabulary;
+use crate::vocabulary::WordsByValue;
 use paw_game::parts::{Exit, Exits};
 
 /// Writes the line of an exit.
-fn write_exit(vocabulary: &Vocabulary, exit: &Exit, out: &mut Vec<u8>) -> Written
+fn write_exit(vocabulary: &WordsByValue, exit: &Exit, out: &mut Vec<u8>) -> Written
     ensures writes { OnOk result
         (out.new.items ≡ out.old.items
         ++ with_line_end (spaced (verb_token vocabulary.now exit.now.verb ∷ decimal exit.now.to ∷ []))) }
@@ -22,7 +22,7 @@ fn write_exit(vocabulary: &Vocabulary, exit: &Exit, out: &mut Vec<u8>) -> Writte
 
 /// Writes the exits of a location; nothing where it has none.
 fn write_location(
-    vocabulary: &Vocabulary,
+    vocabulary: &WordsByValue,
     number: usize,
     exits: &[Exit],
     out: &mut Vec<u8>,
@@ -41,7 +41,7 @@ fn write_location(
 }
 
 /// Writes the section of the connections.
-pub(crate) fn write_exits(vocabulary: &Vocabulary, exits: &[Exits], out: &mut Vec<u8>) -> Written
+pub(crate) fn write_exits(vocabulary: &WordsByValue, exits: &[Exits], out: &mut Vec<u8>) -> Written
     ensures writes { OnOk result (out.new.items ≡ out.old.items ++ written (exits_lines vocabulary.now exits.now)) }
 {
     write_header(b"/CON", out)?;

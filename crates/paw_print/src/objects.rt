@@ -5,7 +5,7 @@ ghost use Rattle.paw_print.specs.Lines.{behind_spaces, kind_token, object_tokens
 ghost use Rattle.paw_print.specs.Canonical.{with_line_end, objects_lines, written};
 
 use crate::rows::{Written, end_line, write_digits, write_header, write_number, write_token};
-use crate::vocabulary::Vocabulary;
+use crate::vocabulary::WordsByValue;
 use paw_base::parts::ObjectFacts;
 use paw_base::words::{ADJECTIVE_CLASS, NOUN_CLASS};
 use paw_game::parts::ObjectRow;
@@ -35,7 +35,7 @@ fn write_place_and_kind(facts: &ObjectFacts, out: &mut Vec<u8>) -> Written
 
 /// Writes the line of an object.
 fn write_object(
-    vocabulary: &Vocabulary,
+    vocabulary: &WordsByValue,
     number: usize,
     facts: &ObjectFacts,
     out: &mut Vec<u8>,
@@ -52,7 +52,7 @@ fn write_object(
 
 /// Writes the section of the objects.
 pub(crate) fn write_objects(
-    vocabulary: &Vocabulary,
+    vocabulary: &WordsByValue,
     objects: &[ObjectRow],
     out: &mut Vec<u8>,
 ) -> Written

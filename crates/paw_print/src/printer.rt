@@ -10,7 +10,7 @@ use crate::exits::write_exits;
 use crate::objects::write_objects;
 use crate::rows::Written;
 use crate::texts::{write_object_texts, write_texts};
-use crate::vocabulary::Vocabulary;
+use crate::vocabulary::WordsByValue;
 use paw_base::fault::NoRoom;
 use paw_game::game::Game;
 use paw_game::parts::GameParts;
@@ -21,7 +21,7 @@ fn write_game(parts: &GameParts, out: &mut Vec<u8>) -> Written
     requires known { AllByRecursion IsKnownTable parts.now.tables }
     ensures writes { OnOk result (out.new.items ≡ out.old.items ++ written (canonical_lines parts.now)) }
 {
-    let vocabulary = Vocabulary::new(&parts.words);
+    let vocabulary = WordsByValue::new(&parts.words);
     vocabulary.write_words(out)?;
     write_texts(b"/STX", &parts.system, out)?;
     write_texts(b"/MTX", &parts.messages, out)?;

@@ -19,7 +19,7 @@ use std::marker::Model;
 
 /// The words of a game, and for each class and value the first of them. Contracts see the words.
 #[derive(Drop)]
-pub(crate) struct Vocabulary<'a> {
+pub(crate) struct WordsByValue<'a> {
     words: &'a [Word],
     verbs: [Option<Word>; 256],
     adverbs: [Option<Word>; 256],
@@ -28,7 +28,7 @@ pub(crate) struct Vocabulary<'a> {
     prepositions: [Option<Word>; 256],
 }
 
-impl<'a> Model for Vocabulary<'a> {
+impl<'a> Model for WordsByValue<'a> {
     ghost use Rattle.std.specs.Prelude.{List};
     ghost use Rattle.paw_base.specs.declared.words.TheConstants.{VERB_CLASS, ADVERB_CLASS, NOUN_CLASS};
     ghost use Rattle.paw_base.specs.declared.words.TheConstants.{ADJECTIVE_CLASS, PREPOSITION_CLASS};
@@ -48,11 +48,11 @@ impl<'a> Model for Vocabulary<'a> {
     } };
 }
 
-impl<'a> Vocabulary<'a> {
-    pub(crate) fn new(words: &'a [Word]) -> Vocabulary<'a>
+impl<'a> WordsByValue<'a> {
+    pub(crate) fn new(words: &'a [Word]) -> WordsByValue<'a>
         ensures value { result ≡ words.now }
     {
-        Vocabulary {
+        WordsByValue {
             words,
             verbs: first_words(words, VERB_CLASS),
             adverbs: first_words(words, ADVERB_CLASS),

@@ -20,10 +20,10 @@ use Rattle.paw_process.proofs.Rows.{length_rows}
 use Rattle.paw_process.proofs.Restored.{first_of, second, no_first}
 use Rattle.paw_process.specs.Kept.{frames_at, parameter_of}
 use Rattle.paw_process.specs.inner.Kept.{unused, kept}
-use Rattle.paw_process.specs.inner.Kept.{is_unused, row_stands, rows_fault, condact_of}
+use Rattle.paw_process.specs.inner.Kept.{is_unused, row_stands, rows_fault, condact_at_frame}
 use Rattle.paw_process.specs.Kept.{count_fits, waiting_code}
 use Rattle.paw_process.specs.inner.Kept.{loop_fault, fault_at, frames_fault}
-use Rattle.paw_process.specs.inner.Kept.{restored, waiting_at, StandsAt}
+use Rattle.paw_process.specs.inner.Kept.{restored, waiting_at, WaitsAtPrompt}
 
 -- ---- the machine again ----
 
@@ -37,14 +37,14 @@ again_at m waiting is =
     (ap (λ (s : List Frame). reverse s) (path_again (reverse m.frames) m.turning) ∙ reverse-reverse m.frames)
     ∙ ap (λ (w : Option Prompt). record { frames = m.frames; turning = m.turning; waiting = w; left = READ_LIMIT; steps = no_steps }) (sym is)
 
-pub restored_again : (p : Prompt) (m : OpenTables) → StandsAt p m → restored (kept m) (waiting_at p) ≡ refilled m
+pub restored_again : (p : Prompt) (m : OpenTables) → WaitsAtPrompt p m → restored (kept m) (waiting_at p) ≡ refilled m
 restored_again prompt.Main m stands = again_at m None stands.waiting
 restored_again prompt.Quit m stands = again_at m (Some prompt.Quit) stands.waiting
 restored_again prompt.Again m stands = again_at m (Some prompt.Again) stands.waiting
 restored_again prompt.Key m stands = again_at m (Some prompt.Key) stands.waiting
 restored_again prompt.Over m stands = again_at m None stands.waiting
 
-pub kept_again : (p : Prompt) (k : Frames) (m : OpenTables) → k ≡ kept m → StandsAt p m
+pub kept_again : (p : Prompt) (k : Frames) (m : OpenTables) → k ≡ kept m → WaitsAtPrompt p m
     → restored k (waiting_at p) ≡ refilled m
 kept_again p k m is stands = ap (λ (u : Frames). restored u (waiting_at p)) is ∙ restored_again p m stands
 
@@ -70,10 +70,10 @@ none_used : (g : GameLists) (code : ℕ) (caller : Option ℕ) (d : ℕ) (rows :
     → rows ≡ replicate (length rows) unused
 unfolding rows_fault
 none_used g code caller d [] h = refl
-none_used g code caller d (f ∷ fs) h = go (none_used g code (Some (parameter_of (condact_of g f))) (suc d) fs) (is_unused f) refl h
+none_used g code caller d (f ∷ fs) h = go (none_used g code (Some (parameter_of (condact_at_frame g f))) (suc d) fs) (is_unused f) refl h
   where
-    go : (rows_fault g code (Some (parameter_of (condact_of g f))) 0 (suc d) fs ≡ None → fs ≡ replicate (length fs) unused) → (b : Bool) → is_unused f ≡ b
-        → ◌≡◌ {A = Option ℕ} (if b then rows_fault g code (Some (parameter_of (condact_of g f))) (0 - 1) (suc d) fs else Some d) None
+    go : (rows_fault g code (Some (parameter_of (condact_at_frame g f))) 0 (suc d) fs ≡ None → fs ≡ replicate (length fs) unused) → (b : Bool) → is_unused f ≡ b
+        → ◌≡◌ {A = Option ℕ} (if b then rows_fault g code (Some (parameter_of (condact_at_frame g f))) (0 - 1) (suc d) fs else Some d) None
         → f ∷ fs ≡ replicate (length (f ∷ fs)) unused
     go later true e q = let same = unused_is f e in let rest = later q in cc (same, rest)
     go later false e q = cc
@@ -85,11 +85,11 @@ unfolding rows_fault
 used_then_not g code caller zero d rows h = let m : length rows - 0 ≡ length rows = omega arith in rw m (none_used g code caller d rows h)
 used_then_not g code caller (suc n) d [] h = let m : 0 - suc n ≡ 0 = omega arith in rw m refl
 used_then_not g code caller (suc n) d (f ∷ fs) h =
-    go (used_then_not g code (Some (parameter_of (condact_of g f))) n (suc d) fs) (row_stands g code caller (suc n) f) refl h
+    go (used_then_not g code (Some (parameter_of (condact_at_frame g f))) n (suc d) fs) (row_stands g code caller (suc n) f) refl h
   where
-    go : (rows_fault g code (Some (parameter_of (condact_of g f))) n (suc d) fs ≡ None → fs ≡ take n fs ++ replicate (length fs - n) unused)
+    go : (rows_fault g code (Some (parameter_of (condact_at_frame g f))) n (suc d) fs ≡ None → fs ≡ take n fs ++ replicate (length fs - n) unused)
         → (b : Bool) → row_stands g code caller (suc n) f ≡ b
-        → ◌≡◌ {A = Option ℕ} (if b then rows_fault g code (Some (parameter_of (condact_of g f))) (suc n - 1) (suc d) fs else Some d) None
+        → ◌≡◌ {A = Option ℕ} (if b then rows_fault g code (Some (parameter_of (condact_at_frame g f))) (suc n - 1) (suc d) fs else Some d) None
         → f ∷ fs ≡ take (suc n) (f ∷ fs) ++ replicate (length (f ∷ fs) - suc n) unused
     go later true e q =
         let m : suc n - 1 ≡ n = omega arith in

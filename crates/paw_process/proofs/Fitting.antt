@@ -15,10 +15,10 @@ use Rattle.paw_effects.specs.declared.act.Prompt.TheVariants as prompt
 use Rattle.paw_reading.specs.declared.places.Frame.{Frame}
 use Rattle.paw_reading.specs.declared.places.OpenLoop.{OpenLoop}
 use Rattle.paw_reading.specs.Turn.{first_table}
-use Rattle.paw_reading.specs.inner.Places.{LeadsTo, tables_of, IsLoopIn, AreOpenTo, AreOpenAt, ArePlaces}
+use Rattle.paw_reading.specs.inner.Places.{LeadsTo, tables_of, IsLoopIn, AreOpenTo, AreOpenAt, AreFramesAndLoop}
 use Rattle.paw_process.specs.Kept.{frames_at, has_code, may_open, parameter_of}
 use Rattle.paw_process.specs.inner.Kept.{unused}
-use Rattle.paw_process.specs.inner.Kept.{condact_of, row_stands, rows_fault}
+use Rattle.paw_process.specs.inner.Kept.{condact_at_frame, row_stands, rows_fault}
 use Rattle.paw_process.proofs.Rows.{table_of}
 use Rattle.paw_process.specs.Kept.{count_fits}
 use Rattle.paw_process.specs.inner.Kept.{is_that_table}
@@ -64,22 +64,23 @@ opened_by c u o at h = sym (eqb-true u c.a (rw at at h))
 record Row (g : GameLists) (code : ℕ) (caller : Option ℕ) (f : Frame) : Type 0 where
   opens : may_open caller f.table ≡ true
   condact : Condact
-  stands : condact_of g f ≡ Some condact
+  stands : condact_at_frame g f ≡ Some condact
   is : condact.code ≡ code
 
-row_says : (g : GameLists) (code : ℕ) (caller : Option ℕ) (f : Frame) → (may_open caller f.table && has_code code (condact_of g f)) ≡ true → Row g code caller f
+row_says : (g : GameLists) (code : ℕ) (caller : Option ℕ) (f : Frame) → (may_open caller f.table && has_code code (condact_at_frame g f)) ≡ true →
+    Row g code caller f
 row_says g code caller f h =
-    let at = coded code (condact_of g f) (second (may_open caller f.table) _ h) in
+    let at = coded code (condact_at_frame g f) (second (may_open caller f.table) _ h) in
     record { opens = first_of (may_open caller f.table) _ h; condact = at.0; stands = at.1.0; is = at.1.1 }
 
 later_rows : (g : GameLists) (code : ℕ) (caller : Option ℕ) (n d : ℕ) (f : Frame) (fs : List Frame) → rows_fault g code caller (suc n) d (f ∷ fs) ≡ None
-    → (row_stands g code caller (suc n) f ≡ true) × (rows_fault g code (Some (parameter_of (condact_of g f))) n (suc d) fs ≡ None)
+    → (row_stands g code caller (suc n) f ≡ true) × (rows_fault g code (Some (parameter_of (condact_at_frame g f))) n (suc d) fs ≡ None)
 unfolding rows_fault
 later_rows g code caller n d f fs h = go (row_stands g code caller (suc n) f) refl h
   where
     go : (b : Bool) → row_stands g code caller (suc n) f ≡ b
-        → ◌≡◌ {A = Option ℕ} (if b then rows_fault g code (Some (parameter_of (condact_of g f))) (suc n - 1) (suc d) fs else Some d) None
-        → (row_stands g code caller (suc n) f ≡ true) × (rows_fault g code (Some (parameter_of (condact_of g f))) n (suc d) fs ≡ None)
+        → ◌≡◌ {A = Option ℕ} (if b then rows_fault g code (Some (parameter_of (condact_at_frame g f))) (suc n - 1) (suc d) fs else Some d) None
+        → (row_stands g code caller (suc n) f ≡ true) × (rows_fault g code (Some (parameter_of (condact_at_frame g f))) n (suc d) fs ≡ None)
     go true e q = let m : suc n - 1 ≡ n = omega arith in (e, rw m at q)
     go false e q = cc
 
@@ -94,13 +95,13 @@ rows_lead g code caller (suc n) d (f ∷ []) size h = absurd (omega arith)
 rows_lead g code caller (suc n) d (f ∷ i ∷ fs) size h =
     let rows = later_rows g code caller (suc n) d f (i ∷ fs) h in
     let row = row_says g 85 caller f (sym (row_calls g code caller n f) ∙ rows.0) in
-    let rest = rows_lead g code (Some (parameter_of (condact_of g f))) n (suc d) (i ∷ fs) (omega arith) rows.1 in (
+    let rest = rows_lead g code (Some (parameter_of (condact_at_frame g f))) n (suc d) (i ∷ fs) (omega arith) rows.1 in (
       (
         record {
           condact = row.condact;
           stands = row.stands;
           process = row.is;
-          called = opened_by row.condact i.table (condact_of g f)
+          called = opened_by row.condact i.table (condact_at_frame g f)
               row.stands rest.1;
         },
         rest.0,
@@ -160,7 +161,7 @@ open_places g code k size h = go (count_fits (Some code) k.count) refl h
 
 -- the other way round: kept places that keep their rules are those of a run
 pub kept_places : (g : GameLists) (p : Prompt) (k : Frames) → length k.rows ≡ 11 → frames_fault g p k ≡ None
-    → ArePlaces g p (reverse (reverse (take k.count k.rows))) k.turning
+    → AreFramesAndLoop g p (reverse (reverse (take k.count k.rows))) k.turning
 kept_places g prompt.Main k size h = let closed = none_open g k h in (ap (λ (s : List Frame). reverse s) closed.frames, closed.turning)
 kept_places g prompt.Quit k size h = rw (reverse-reverse (take k.count k.rows)) (open_places g 27 k size h)
 kept_places g prompt.Again k size h = rw (reverse-reverse (take k.count k.rows)) (open_places g 31 k size h)

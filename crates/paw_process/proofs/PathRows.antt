@@ -13,7 +13,7 @@ use Rattle.paw_reading.specs.Turn.{first_table}
 use Rattle.paw_reading.specs.inner.Places.{LeadsTo, tables_of, IsLoopIn}
 use Rattle.paw_process.specs.Kept.{has_code, may_open, parameter_of}
 use Rattle.paw_process.specs.inner.Kept.{unused}
-use Rattle.paw_process.specs.inner.Kept.{condact_of, row_stands, rows_fault}
+use Rattle.paw_process.specs.inner.Kept.{condact_at_frame, row_stands, rows_fault}
 use Rattle.paw_process.specs.inner.Kept.{is_that_table}
 use Rattle.paw_process.specs.inner.Kept.{loop_fault}
 use Rattle.paw_process.proofs.Rows.{table_of}
@@ -22,7 +22,7 @@ use Rattle.paw_process.proofs.Rows.{table_of}
 pub unused_stand : (g : GameLists) (code : ℕ) (caller : Option ℕ) (d k : ℕ) → rows_fault g code caller 0 d (replicate k unused) ≡ None
 unfolding rows_fault
 unused_stand g code caller d zero = refl
-unused_stand g code caller d (suc k) = unused_stand g code (Some (parameter_of (condact_of g unused))) (suc d) k
+unused_stand g code caller d (suc k) = unused_stand g code (Some (parameter_of (condact_at_frame g unused))) (suc d) k
 
 has : (code : ℕ) (c : Condact) (o : Option Condact) → o ≡ Some c → c.code ≡ code → has_code code o ≡ true
 has code c o at is = rw (at, is) (grind (arith, nat_tests))
@@ -31,13 +31,13 @@ names : (c : Condact) (u : ℕ) (o : Option Condact) → o ≡ Some c → c.a �
 names c u o at called = rw (at, called) (grind (arith, nat_tests))
 
 row_goes : (g : GameLists) (code : ℕ) (caller : Option ℕ) (n d : ℕ) (f : Frame) (fs : List Frame) → row_stands g code caller (suc n) f ≡ true
-    → rows_fault g code (Some (parameter_of (condact_of g f))) n (suc d) fs ≡ None → rows_fault g code caller (suc n) d (f ∷ fs) ≡ None
+    → rows_fault g code (Some (parameter_of (condact_at_frame g f))) n (suc d) fs ≡ None → rows_fault g code caller (suc n) d (f ∷ fs) ≡ None
 unfolding rows_fault
 row_goes g code caller n d f fs stands later = let m : suc n - 1 ≡ n = omega arith in rw (stands, m) later
 
 -- a row before the last that is used
 pub row_calls : (g : GameLists) (code : ℕ) (caller : Option ℕ) (n : ℕ) (f : Frame)
-    → row_stands g code caller (suc (suc n)) f ≡ (may_open caller f.table && has_code 85 (condact_of g f))
+    → row_stands g code caller (suc (suc n)) f ≡ (may_open caller f.table && has_code 85 (condact_at_frame g f))
 row_calls g code caller n f =
     let some : (suc (suc n) == 0) ≡ false = grind (arith, nat_tests) in
     let more : (suc (suc n) == 1) ≡ false = grind (arith, nat_tests) in
@@ -47,13 +47,13 @@ pub path_stands : (g : GameLists) (code : ℕ) (caller : Option ℕ) (path : Lis
     → rows_fault g code caller (length path) d (path ++ replicate k unused) ≡ None
 path_stands g code caller [] d k leads opens = absurd leads
 path_stands g code caller (f ∷ []) d k leads opens =
-    row_goes g code caller 0 d f (replicate k unused) (rw (opens, has code leads.condact (condact_of g f) leads.stands leads.is) refl)
-    (unused_stand g code (Some (parameter_of (condact_of g f))) (suc d) k)
+    row_goes g code caller 0 d f (replicate k unused) (rw (opens, has code leads.condact (condact_at_frame g f) leads.stands leads.is) refl)
+    (unused_stand g code (Some (parameter_of (condact_at_frame g f))) (suc d) k)
 path_stands g code caller (f ∷ h ∷ path) d k leads opens =
     row_goes g code caller (suc (length path)) d f ((h ∷ path) ++ replicate k unused)
-    (row_calls g code caller (length path) f ∙ rw (opens, has 85 leads.0.condact (condact_of g f) leads.0.stands leads.0.process) refl)
-    (path_stands g code (Some (parameter_of (condact_of g f))) (h ∷ path) (suc d) k leads.1
-    (names leads.0.condact h.table (condact_of g f) leads.0.stands leads.0.called))
+    (row_calls g code caller (length path) f ∙ rw (opens, has 85 leads.0.condact (condact_at_frame g f) leads.0.stands leads.0.process) refl)
+    (path_stands g code (Some (parameter_of (condact_at_frame g f))) (h ∷ path) (suc d) k leads.1
+    (names leads.0.condact h.table (condact_at_frame g f) leads.0.stands leads.0.called))
 
 -- ---- and their loop ----
 

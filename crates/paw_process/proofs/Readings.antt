@@ -29,16 +29,16 @@ use Rattle.paw_reading.specs.Run.{Run, Step, closed, with_world}
 use Rattle.paw_reading.specs.declared.places.Halt.TheVariants as halt
 use Rattle.paw_reading.specs.Reading.{Out, halts, step_at, noted, printing, waits}
 use Rattle.paw_reading.specs.Reading.{acts, carried_out, after_action, loop_of, deeper}
-use Rattle.paw_reading.specs.inner.Steps.{tests, parses}
+use Rattle.paw_reading.specs.inner.Steps.{tests_condition, parses}
 use Rattle.paw_reading.specs.GoingOn.{on_path}
 use Rattle.paw_reading.specs.inner.GoingOn.{along}
 use Rattle.paw_process.specs.inner.OpenTables.{OpenTables}
 use Rattle.paw_process.specs.inner.OpenTables.{HasRead, ReadsNone, ReadsStep, below}
 use Rattle.paw_process.specs.inner.Meaning.{Held, having, ShowsHeld, run_held, with_steps, to_come, going_in, ComesTo, RunsTo}
-use Rattle.paw_process.specs.inner.Moves.{Continues, resolved, next_of, past_of, reading_at, acted_at, turning_at}
+use Rattle.paw_process.specs.inner.Moves.{Continues, resolved, next_of, past_of, reading_at, acted_at, loop_at_frames}
 use Rattle.paw_process.specs.inner.Moves.{one_at, ReadsTable, ReadsOne, after_found}
 use Rattle.paw_process.specs.inner.Phrases.{Speaks}
-use Rattle.paw_process.specs.declared.situation.Situation.{Situation}
+use Rattle.paw_process.specs.declared.surroundings.Surroundings.{Surroundings}
 use Rattle.paw_process.specs.declared.Turned.{Turned}
 use Rattle.paw_process.specs.declared.Turned.TheVariants as turned
 use Rattle.paw_process.proofs.Steps.{acted_call, acted_loop, settled_waits, reading_condact, reading_none}
@@ -48,7 +48,7 @@ use Rattle.paw_process.proofs.Stops.{goes_from, stops_spent, fit, ask_spent}
 
 module _ (g : Story) (fs : List Frame) (f : Frame) (c : Condact) (r : Run) where
   pub one_tests : is_condition c ≡ true
-      → one_at g fs f c r ≡ resolved g fs (tests g f (next_of g fs f) (past_of g fs f) c r (holds g.game r.world c))
+      → one_at g fs f c r ≡ resolved g fs (tests_condition g f (next_of g fs f) (past_of g fs f) c r (holds g.game r.world c))
   one_tests h = rw h refl
 
   pub one_acts : is_condition c ≡ false
@@ -81,14 +81,14 @@ call_at g old f u r top =
     acted_call g (below old) f u r ∙ ap (λ (s : List Frame). along g s (deeper g (length (below old)) u r)) (sym top)
 
 pub loop_at : (g : Story) (fs : List Frame) (f : Frame) (p : ℕ) (r : Run) (l : OpenLoop) (n : ℕ)
-    → l ≡ loop_of (length fs) f p → n ≡ length g.game.objects → acted_at g fs f (effect.Loop p) r ≡ turning_at g fs l n r
+    → l ≡ loop_of (length fs) f p → n ≡ length g.game.objects → acted_at g fs f (effect.Loop p) r ≡ loop_at_frames g fs l n r
 loop_at g fs f p r l n e q = rw (e, q) (acted_loop g fs f p r)
 
 pub ask_at : (g : Story) (old fs : List Frame) (f : Frame) (p : Prompt) (r : Run) → old ≡ f ∷ fs
     → acted_at g fs f (effect.Ask p) r ≡ on_path g p 0 (reverse old) (closed r)
 ask_at g old fs f p r top = settled_waits g fs f p r ∙ rw top refl
 
-pub parse_at : (g : Story) (fs : List Frame) (f : Frame) (x : Found) (s : Situation) (m : OpenTables) (w : World) (p : PendingLine) (r : Run)
+pub parse_at : (g : Story) (fs : List Frame) (f : Frame) (x : Found) (s : Surroundings) (m : OpenTables) (w : World) (p : PendingLine) (r : Run)
     → Speaks g.game x s.world w s.pending p
     → resolved g fs (parses g f (next_of g fs f) (past_of g fs f) (run_held (having s m) r))
     ≡ going_in g (after_found x f ∷ fs) (run_held (having (record s { world = w; pending = p }) m) r)
@@ -122,7 +122,7 @@ carrying_on g fs f d r =
     after_action g (deeper g (length fs)) (length fs) f (next_of g fs f) (past_of g fs f) d.act.effect (carried_out d r)
 
 -- an action is carried out
-pub act_at : (g : Story) (fs : List Frame) (f : Frame) (d : Done) (s s' : Situation) (m m' : OpenTables) (a : Act) (r : Run)
+pub act_at : (g : Story) (fs : List Frame) (f : Frame) (d : Done) (s s' : Surroundings) (m m' : OpenTables) (a : Act) (r : Run)
     → length s.piece + length d.text ≤ 65535 → s'.piece ≡ s.piece ++ d.text → s'.world ≡ d.world → a ≡ d.act
     → s'.pending ≡ record s.pending { bytes = if a.drop_line then [] else s.pending.bytes }
     → m'.turning ≡ (if a.cancel_loop then None else m.turning)
@@ -132,7 +132,7 @@ act_at g fs f d s s' m m' a r low ep ew ea eq eo =
     ap (resolved g fs) (fit (run_held (having s m) r) d.text (carrying_on g fs f d) low) ∙ rw (eq, eo, ep, ew, ea) refl
 
 -- an action that isn't spent is carried out, and reading goes on
-pub act_follows : (g : Story) (old mid : OpenTables) (f : Frame) (c : Condact) (s s' : Situation) (a : Act) (r : Run)
+pub act_follows : (g : Story) (old mid : OpenTables) (f : Frame) (c : Condact) (s s' : Surroundings) (a : Act) (r : Run)
     → is_condition c ≡ false → Does (effect_of g s.world c) s.piece s'.piece s'.world a → (a.effect ≡ effect.Spent → ⊥)
     → s'.pending ≡ record s.pending { bytes = if a.drop_line then [] else s.pending.bytes }
     → mid ≡ record old { turning = if a.cancel_loop then None else old.turning }
@@ -147,7 +147,7 @@ act_follows g old mid f c s s' a r kind does unspent eq em =
     ∙ act_at g (below old.frames) f d s s' old cancelled a (noted f c true r) m.0 m.1 m.2 m.3 eq refl)
 
 -- an action whose text doesn't fit
-pub act_spends : (g : Story) (old : OpenTables) (f : Frame) (c : Condact) (s s' : Situation) (a : Act) (r : Run)
+pub act_spends : (g : Story) (old : OpenTables) (f : Frame) (c : Condact) (s s' : Surroundings) (a : Act) (r : Run)
     → is_condition c ≡ false → Does (effect_of g s.world c) s.piece s'.piece s'.world a → effect.Spent ≡ a.effect
     → one_at g (below old.frames) f c (run_held (having s old) r) ≡ halts (halt.Spent spent.Text) (noted f c true (run_held (having s old) r))
 act_spends g old f c s s' a r kind does is =
@@ -168,7 +168,7 @@ moved_none old new fs turning waiting e =
 pub step_then : (step : Step) (old mid new : OpenTables) → ReadsStep step old mid → ReadsNone mid new → ReadsStep step old new
 step_then step old mid new one none = record { left = omega (arith, one.left, none.left); steps = none.steps ∙ one.steps }
 
-module _ (g : Story) (old mid : OpenTables) (f : Frame) (c : Condact) (s : Situation) (left : ℕ) (steps : KeptSteps) where
+module _ (g : Story) (old mid : OpenTables) (f : Frame) (c : Condact) (s : Surroundings) (left : ℕ) (steps : KeptSteps) where
   pub test_yes : (w : World) (new : OpenTables) → is_condition c ≡ true
       → truth.Yes ≡ (holds g.game s.world c).answer → w ≡ (holds g.game s.world c).world
       → ReadsStep (step_at f c true) old mid → mid ≡ record old { left = left; steps = steps }
@@ -191,7 +191,7 @@ module _ (g : Story) (old mid : OpenTables) (f : Frame) (c : Condact) (s : Situa
     λ r. rw (en, em) (test_fails g (below old.frames) f c (run_held (having s old) r) w kind answer is),
   )
 
-  pub test_ask : (w : World) (new : OpenTables) (s' : Situation) (t : Option Turned) → is_condition c ≡ true
+  pub test_ask : (w : World) (new : OpenTables) (s' : Surroundings) (t : Option Turned) → is_condition c ≡ true
       → truth.Ask ≡ (holds g.game s.world c).answer → w ≡ (holds g.game s.world c).world
       → ReadsStep (step_at f c true) old mid → mid ≡ record old { left = left; steps = steps } → ReadsNone mid new
       → ((r : Run) → Continues g (resolved g (below mid.frames)
@@ -207,7 +207,7 @@ module _ (g : Story) (old mid : OpenTables) (f : Frame) (c : Condact) (s : Situa
         (rw em at (asks (noted f c true r))),
   )
 
-  pub act_on : (s' s'' : Situation) (cancelled new : OpenTables) (a : Act) (t : Option Turned) → is_condition c ≡ false
+  pub act_on : (s' s'' : Surroundings) (cancelled new : OpenTables) (a : Act) (t : Option Turned) → is_condition c ≡ false
       → Does (effect_of g s.world c) s.piece s'.piece s'.world a → (a.effect ≡ effect.Spent → ⊥)
       → s'.pending ≡ record s.pending { bytes = if a.drop_line then [] else s.pending.bytes }
       → ReadsStep (step_at f c true) old mid → mid ≡ record old { left = left; steps = steps }
@@ -224,7 +224,7 @@ module _ (g : Story) (old mid : OpenTables) (f : Frame) (c : Condact) (s : Situa
         (rw (ec, em) at (follows (noted f c true r))),
   )
 
-  pub act_ends : (s' : Situation) (new : OpenTables) (a : Act) (t : Option Turned) → is_condition c ≡ false
+  pub act_ends : (s' : Surroundings) (new : OpenTables) (a : Act) (t : Option Turned) → is_condition c ≡ false
       → Does (effect_of g s.world c) s.piece s'.piece s'.world a → effect.Spent ≡ a.effect
       → ReadsStep (step_at f c true) old mid → ReadsNone mid new → t ≡ Some (turned.Spent spent.Text)
       → ReadsOne g (below old.frames) f c (having s old) t (having s' new)

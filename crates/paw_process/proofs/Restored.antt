@@ -18,11 +18,11 @@ use Rattle.paw_reading.specs.declared.places.Frame.{Frame}
 use Rattle.paw_reading.specs.declared.places.OpenLoop.{OpenLoop}
 use Rattle.paw_process.specs.Kept.{has_code, may_open, parameter_of}
 use Rattle.paw_process.specs.inner.Kept.{is_that_table}
-use Rattle.paw_process.specs.inner.Kept.{condact_of, row_stands, rows_fault}
+use Rattle.paw_process.specs.inner.Kept.{condact_at_frame, row_stands, rows_fault}
 use Rattle.paw_process.proofs.Rows.{table_of}
 use Rattle.paw_process.specs.Kept.{count_fits}
 use Rattle.paw_process.specs.inner.Kept.{loop_stands, loop_fault, fault_at, frames_fault}
-use Rattle.paw_process.specs.inner.Kept.{restored, waiting_at, StandsAt}
+use Rattle.paw_process.specs.inner.Kept.{restored, waiting_at, WaitsAtPrompt}
 use Rattle.paw_process.specs.declared.kept.Frames.{Frames}
 use Rattle.paw_process.specs.inner.OpenTables.{below, IsAtCondact, AtCondacts, InTable, IsLoopWithin, LoopFits, IsWaiting, IsClosed}
 
@@ -39,12 +39,12 @@ rows_first g code caller n d rows f fs e h = rw (e, h) refl
 
 pub rows_later : (g : GameLists) (code : ℕ) (caller : Option ℕ) (n d : ℕ) (rows : List Frame) (f : Frame) (fs : List Frame) → rows ≡ f ∷ fs
     → row_stands g code caller n f ≡ true
-    → rows_fault g code (Some (parameter_of (condact_of g f))) (n - 1) (suc d) fs ≡ rows_fault g code caller n d rows
+    → rows_fault g code (Some (parameter_of (condact_at_frame g f))) (n - 1) (suc d) fs ≡ rows_fault g code caller n d rows
 unfolding rows_fault
 rows_later g code caller n d rows f fs e h = rw (e, h) refl
 
 -- a row that is used stands at a condact
-coded : (g : GameLists) (f : Frame) (code : ℕ) (o : Option Condact) → Valid g → condact_of g f ≡ o → has_code code o ≡ true → IsAtCondact f
+coded : (g : GameLists) (f : Frame) (code : ℕ) (o : Option Condact) → Valid g → condact_at_frame g f ≡ o → has_code code o ≡ true → IsAtCondact f
 coded g f code None v e h = cc
 coded g f code (Some c) v e h = record {
   at = condact-early g v f.table f.entry f.at c e;
@@ -62,7 +62,7 @@ second false b h = cc
 used_row : (g : GameLists) (code : ℕ) (caller : Option ℕ) (n : ℕ) (f : Frame) → Valid g → row_stands g code caller (suc n) f ≡ true → IsAtCondact f
 used_row g code caller n f v h =
     let t : (suc n == 0) ≡ false = grind (arith, nat_tests) in
-    coded g f (if suc n == 1 then code else 85) (condact_of g f) v refl (second (may_open caller f.table) _ (rw t at h))
+    coded g f (if suc n == 1 then code else 85) (condact_at_frame g f) v refl (second (may_open caller f.table) _ (rw t at h))
 
 pub at_condacts : (g : GameLists) (code : ℕ) (caller : Option ℕ) (n d : ℕ) (rows : List Frame) → Valid g → rows_fault g code caller n d rows ≡ None
     → AtCondacts (take n rows)
@@ -71,11 +71,11 @@ at_condacts g code caller zero d [] v h = tt
 at_condacts g code caller zero d (f ∷ fs) v h = tt
 at_condacts g code caller (suc n) d [] v h = tt
 at_condacts g code caller (suc n) d (f ∷ fs) v h =
-    go (at_condacts g code (Some (parameter_of (condact_of g f))) n (suc d) fs v) (row_stands g code caller (suc n) f) refl h
+    go (at_condacts g code (Some (parameter_of (condact_at_frame g f))) n (suc d) fs v) (row_stands g code caller (suc n) f) refl h
   where
-    go : (rows_fault g code (Some (parameter_of (condact_of g f))) n (suc d) fs ≡ None → AtCondacts (take n fs)) → (b : Bool)
+    go : (rows_fault g code (Some (parameter_of (condact_at_frame g f))) n (suc d) fs ≡ None → AtCondacts (take n fs)) → (b : Bool)
         → row_stands g code caller (suc n) f ≡ b
-        → ◌≡◌ {A = Option ℕ} (if b then rows_fault g code (Some (parameter_of (condact_of g f))) (suc n - 1) (suc d) fs else Some d) None
+        → ◌≡◌ {A = Option ℕ} (if b then rows_fault g code (Some (parameter_of (condact_at_frame g f))) (suc n - 1) (suc d) fs else Some d) None
         → IsAtCondact f × AtCondacts (take n fs)
     go later true e q =
         let m : suc n - 1 ≡ n = omega arith in (used_row g code caller n f v e, later (rw m at q))
@@ -165,7 +165,8 @@ none_open g k h = go (count_fits None k.count) refl h
         record { frames = rw z refl; turning = loop_gone k.turning z fits.1; waiting = refl }
     go false e q = cc
 
-pub stands_at : (g : GameLists) (p : Prompt) (k : Frames) → Valid g → length k.rows ≡ 11 → frames_fault g p k ≡ None → StandsAt p (restored k (waiting_at p))
+pub stands_at : (g : GameLists) (p : Prompt) (k : Frames) → Valid g → length k.rows ≡ 11 → frames_fault g p k ≡ None →
+    WaitsAtPrompt p (restored k (waiting_at p))
 stands_at g prompt.Main k v size h = none_open g k h
 stands_at g prompt.Quit k v size h = waits_at g prompt.Quit 27 k v size h
 stands_at g prompt.Again k v size h = waits_at g prompt.Again 31 k v size h

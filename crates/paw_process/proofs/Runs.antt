@@ -9,12 +9,12 @@ use Rattle.paw_process.specs.inner.OpenTables.{IsReading}
 use Rattle.paw_process.specs.inner.Meaning.{Held, going_in, RunsTo}
 use Rattle.paw_process.specs.inner.Moves.{ReadsTable}
 use Rattle.paw_process.specs.inner.Running.{IsRunning}
-use Rattle.paw_process.specs.inner.Steps.{IsReady, IsAfterStep}
+use Rattle.paw_process.specs.inner.Steps.{IsReady, IsAfterReading}
 use Rattle.paw_process.specs.declared.Turned.{Turned}
 use Rattle.paw_process.proofs.Readings.{reads_nothing, reads_on, runs_to}
 
 module _ {F : Type 0} (calls : Shared F (ℕ × (ℕ × Unit {0})) ℕ) (routines : Routines F) (g : GameLists) where
-  pub running_starts : (h : Held) → IsReady g h.machine h.situation.world → IsRunning calls routines g h h
+  pub running_starts : (h : Held) → IsReady g h.machine h.surroundings.world → IsRunning calls routines g h h
   running_starts h ready = record {
     reads = λ X rows.
         reads_nothing (story_of g X) (going_in (story_of g X) h.machine.frames) h None h (record { left = refl; steps = refl }) (λ r. refl);
@@ -24,7 +24,7 @@ module _ {F : Type 0} (calls : Shared F (ℕ × (ℕ × Unit {0})) ℕ) (routine
 
   pub running_on : (first now new : Held) → IsRunning calls routines g first now
       → ((X : List (List ℕ)) → AreRowsOf calls routines X → ReadsTable (story_of g X) (going_in (story_of g X) now.machine.frames) now None new)
-      → IsReading new.machine → IsAfterStep g now new → IsRunning calls routines g first new
+      → IsReading new.machine → IsAfterReading g now new → IsRunning calls routines g first new
   running_on first now new h reads reading after = record {
     reads = λ X rows.
         reads_on (story_of g X) (going_in (story_of g X) first.machine.frames) first now None new (h.reads X rows) (reads X rows);

@@ -15,8 +15,8 @@ use Rattle.paw_reading.specs.declared.places.Frame.{Frame}
 use Rattle.paw_reading.specs.declared.places.OpenLoop.{OpenLoop}
 use Rattle.paw_reading.specs.Run.{Run, closed, without_loop}
 use Rattle.paw_reading.specs.declared.places.Halt.TheVariants as halt
-use Rattle.paw_reading.specs.Reading.{Redescribes, Halts, Out, Left, Stopped, halts, at_level, again}
-use Rattle.paw_reading.specs.Reading.{taken, turns, loop_of, waits, plain, looped, deeper, rest, reads_one}
+use Rattle.paw_reading.specs.Reading.{Redescribes, Halts, Out, Left, Stopped, halts, at_level, next_object_or}
+use Rattle.paw_reading.specs.Reading.{taken, over_objects, loop_of, waits, from_place, rest_of_loop, deeper, rest_of_table, reads_one}
 use Rattle.paw_reading.specs.GoingOn.{on_path}
 use Rattle.paw_reading.specs.inner.GoingOn.{along}
 use Rattle.paw_reading.proofs.Onward.{taken_again}
@@ -26,22 +26,22 @@ use Rattle.paw_reading.proofs.Rules.{plain_match, plain_inside, again_closed, af
 use Rattle.paw_reading.proofs.Along.{along_stopped, on_path_reverse}
 use Rattle.paw_process.specs.inner.Objects.{is_next, least_taken}
 use Rattle.paw_process.specs.inner.Meaning.{going_in}
-use Rattle.paw_process.specs.inner.Moves.{resolved, next_of, past_of, reading_at, acted_at, turning_at}
+use Rattle.paw_process.specs.inner.Moves.{resolved, next_of, past_of, reading_at, acted_at, loop_at_frames}
 
 -- ---- the loop ----
 
 module _ (g : Story) (lv : ℕ) (l : OpenLoop) (body : Run → Out) where
   -- the loop over the last n objects
   abbrev over : ℕ → Run → Out
-  over n r = turns g lv (record l { last = 0 }) body n r
+  over n r = over_objects g lv (record l { last = 0 }) body n r
 
   -- the loop once it has taken an object, with n objects after it
   abbrev taking : ℕ → ℕ → Run → Out
-  taking o n r = again lv (λ _. over n) (body (taken g.game l o r))
+  taking o n r = next_object_or lv (λ _. over n) (body (taken g.game l o r))
 
   -- no object is left
   turns_none : (n : ℕ) (r : Run) → least_taken g.game r.world l.place n ≡ None → over n r ≡ Left true (without_loop r)
-  unfolding turns least_taken
+  unfolding over_objects least_taken
   turns_none zero r h = refl
   turns_none (suc n) r h = go (turns_none n r) (is_next g.game r.world l.place (length g.game.objects - suc n)) h
     where
@@ -54,7 +54,7 @@ module _ (g : Story) (lv : ℕ) (l : OpenLoop) (body : Run → Out) where
   -- the next object
   turns_some : (n : ℕ) (r : Run) (o : ℕ) → n ≤ length g.game.objects → least_taken g.game r.world l.place n ≡ Some o
       → over n r ≡ taking o (length g.game.objects - suc o) r
-  unfolding turns least_taken
+  unfolding over_objects least_taken
   turns_some zero r o low h = cc
   turns_some (suc n) r o low h = go (turns_some n r o (omega arith)) (is_next g.game r.world l.place (length g.game.objects - suc n)) h
     where
@@ -69,13 +69,13 @@ module _ (g : Story) (lv : ℕ) (l : OpenLoop) (body : Run → Out) where
 
 -- a loop with no object left
 pub turning_none : (g : Story) (fs : List Frame) (l : OpenLoop) (n : ℕ) (r : Run) → least_taken g.game r.world l.place n ≡ None
-    → turning_at g fs l n r ≡ along g fs (Left true (without_loop r))
+    → loop_at_frames g fs l n r ≡ along g fs (Left true (without_loop r))
 turning_none g fs l n r h = ap (along g fs) (turns_none g (length fs) l _ n r h)
 
 -- a loop takes the next object
 pub turning_some : (g : Story) (fs : List Frame) (l : OpenLoop) (n : ℕ) (r : Run) (o : ℕ) → l.level ≡ length fs → n ≤ length g.game.objects
     → least_taken g.game r.world l.place n ≡ Some o
-    → turning_at g fs l n r ≡ along g fs (rest g (length fs) l.table l.entry (suc l.at) true (taken g.game l o r))
+    → loop_at_frames g fs l n r ≡ along g fs (rest_of_table g (length fs) l.table l.entry (suc l.at) true (taken g.game l o r))
 turning_some g fs l n r o own low h =
     ap (along g fs) (turns_some g (length fs) l _ n r o low h
     ∙ taken_again g (deeper g (length fs)) (length fs) l o _ own
@@ -89,24 +89,24 @@ settled_left g fs a r h = rw h refl
 
 -- at the level of the open loop
 pub settled_looped : (g : Story) (fs : List Frame) (a : Bool) (r : Run) (l : OpenLoop) → r.turning ≡ Some l → l.level ≡ length fs
-    → resolved g fs (Left a r) ≡ turning_at g fs l (length g.game.objects - suc l.last) r
+    → resolved g fs (Left a r) ≡ loop_at_frames g fs l (length g.game.objects - suc l.last) r
 settled_looped g fs a r l h own =
     let q : at_level (length fs) r.turning ≡ Some l = rw h (at_level_own (length fs) l own) in rw q refl
 
 -- ---- actions ----
 
 pub acted_go : (g : Story) (fs : List Frame) (f : Frame) (r : Run)
-    → acted_at g fs f effect.Go r ≡ along g fs (rest g (length fs) f.table f.entry (f.at + 1) true r)
+    → acted_at g fs f effect.Go r ≡ along g fs (rest_of_table g (length fs) f.table f.entry (f.at + 1) true r)
 acted_go g fs f r = rw add-one refl
 
 pub acted_call : (g : Story) (fs : List Frame) (f : Frame) (u : ℕ) (r : Run) → acted_at g fs f (effect.Call u) r ≡ along g (f ∷ fs) (deeper g (length fs) u r)
 acted_call g fs f u r = ap (along g fs) (after_call_again g (deeper g (length fs)) (length fs) f (past_of g fs f) (deeper g (length fs) u r))
 
 pub acted_loop : (g : Story) (fs : List Frame) (f : Frame) (p : ℕ) (r : Run)
-    → acted_at g fs f (effect.Loop p) r ≡ turning_at g fs (loop_of (length fs) f p) (length g.game.objects) r
+    → acted_at g fs f (effect.Loop p) r ≡ loop_at_frames g fs (loop_of (length fs) f p) (length g.game.objects) r
 acted_loop g fs f p r =
     let sub : ℕ → Run → Out = deeper g (length fs) in
-    ap (along g fs) (again_closed g sub (length fs) (looped g sub (length fs)) _
+    ap (along g fs) (again_closed g sub (length fs) (rest_of_loop g sub (length fs)) _
     (turns_closes g (length fs) (loop_of (length fs) f p) (past_of g fs f true) refl
     (plain_keeps g sub (length fs) (deeper_keeps g (length fs)) f.table f.entry (suc f.at) true) (length g.game.objects) r))
 
@@ -132,7 +132,7 @@ going_inside g fs f r h =
 
 -- before an entry
 going_before : (g : Story) (fs : List Frame) (f : Frame) (r : Run) → f.at ≡ 0
-    → going_in g (f ∷ fs) r ≡ resolved g fs (plain g (deeper g (length fs)) (length fs) f.table f.entry 0 f.acted r)
+    → going_in g (f ∷ fs) r ≡ resolved g fs (from_place g (deeper g (length fs)) (length fs) f.table f.entry 0 f.acted r)
 going_before g fs f r h = rw h refl
 
 pub going_left : (g : Story) (fs : List Frame) (f : Frame) (r : Run) → f.at ≡ 0
@@ -150,7 +150,7 @@ going_match g fs f r found zero_at h =
 
 -- past the last condact of an entry
 pub reading_end : (g : Story) (fs : List Frame) (f : Frame) (r : Run) → condact_at g.game f.table f.entry f.at ≡ None
-    → reading_at g fs f r ≡ along g fs (rest g (length fs) f.table (f.entry + 1) 0 f.acted r)
+    → reading_at g fs f r ≡ along g fs (rest_of_table g (length fs) f.table (f.entry + 1) 0 f.acted r)
 reading_end g fs f r h =
     ap (resolved g fs) (inside_end g (deeper g (length fs)) (length fs) f.table f.entry f.at f.acted r h) ∙ rw add-one refl
 

@@ -65,7 +65,7 @@ pub fn past_table(f: Frame) -> Frame
 
 /// Where reading goes on after an answer at this prompt: for QUIT, at the next condact after yes, and past the table
 /// after no; for a key, at the next condact, with an action carried out.
-pub fn answered(waiting: Option<Prompt>, f: Frame, yes: bool) -> Frame
+pub fn frame_after_answer(waiting: Option<Prompt>, f: Frame, yes: bool) -> Frame
     requires at { f.at < 255 }
     ensures quit { waiting ≡ Some prompt.Quit → result ≡ after_quit yes f }
     ensures key { waiting ≡ Some prompt.Key → result ≡ after_key f }

@@ -7,8 +7,8 @@ mod kept;
 mod machine;
 mod objects;
 mod phrase;
-mod situation;
 mod step;
+mod surroundings;
 
 pub use kept::{
     FrameFault, Frames, count_fits, has_code, is_place, may_open, parameter_of, waiting_code,
@@ -17,7 +17,7 @@ pub use machine::{MOST_FRAMES, Machine};
 use paw_base::fault::SpentKind;
 use paw_effects::act::Prompt;
 pub use phrase::take_phrase;
-pub use situation::Situation;
+pub use surroundings::Surroundings;
 
 /// Why the machine stopped: the outermost table was left, with an action carried out or not; the location is to be
 /// described again; the game waits at a prompt; the open piece would read or hold too much; or a table was called at

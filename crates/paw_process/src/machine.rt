@@ -8,23 +8,23 @@ ghost use Rattle.paw_effects.specs.declared.act.Prompt.{Prompt as AtPrompt};
 ghost use Rattle.paw_effects.specs.declared.act.Prompt.TheVariants as prompt;
 ghost use Rattle.paw_reading.specs.Reading.{step_at};
 ghost use Rattle.paw_reading.specs.Turn.{first_table};
-ghost use Rattle.paw_reading.specs.inner.Places.{ArePlaces};
+ghost use Rattle.paw_reading.specs.inner.Places.{AreFramesAndLoop};
 ghost use Rattle.paw_process.specs.declared.machine.TheConstants.{MOST_FRAMES};
 ghost use Rattle.paw_process.specs.inner.OpenTables.{OpenTables};
 ghost use Rattle.paw_process.specs.inner.OpenTables.{below, ReadsStep, IsReading, IsClosed};
 ghost use Rattle.paw_process.specs.inner.OpenTables.{new_machine, refilled, table_begun};
 ghost use Rattle.paw_process.specs.inner.Kept.{kept as kept_of};
 ghost use Rattle.paw_process.specs.inner.Kept.{frames_fault};
-ghost use Rattle.paw_process.specs.inner.Kept.{restored, waiting_at, StandsAt};
+ghost use Rattle.paw_process.specs.inner.Kept.{restored, waiting_at, WaitsAtPrompt};
 ghost use Rattle.paw_process.specs.inner.Meaning.{InStories, having, RunsTo, IsStopped, AwaitsAnswer};
 ghost use Rattle.paw_process.specs.inner.Meaning.{AnswersQuit, AnswersKey};
-ghost use Rattle.paw_process.specs.inner.Steps.{IsReady, IsAfterStep};
+ghost use Rattle.paw_process.specs.inner.Steps.{IsReady, IsAfterReading};
 
 use crate::Turned;
-use crate::frame::{answered, start_of};
+use crate::frame::{frame_after_answer, start_of};
 use crate::kept::{FrameFault, Frames, frames_fault, waiting_at};
-use crate::situation::Situation;
-use crate::step::Rulebook;
+use crate::step::StoryReader;
+use crate::surroundings::Surroundings;
 use paw_base::limits::{LEVEL_LIMIT, READ_LIMIT};
 use paw_base::parts::Condact;
 use paw_base::steps::{StepRow, Steps};
@@ -124,7 +124,7 @@ impl Machine {
     {
         let waiting = self.take_waiting();
         let f = self.top();
-        self.set_top(answered(waiting, f, yes));
+        self.set_top(frame_after_answer(waiting, f, yes));
     }
 
     /// Reads on to the next stop. Where it waits, the text of the open piece is complete, and the machine's frames show
@@ -135,20 +135,20 @@ impl Machine {
         &mut self,
         tables: &T,
         routines: &Routines<F>,
-        situation: &mut Situation,
+        surroundings: &mut Surroundings,
     ) -> Turned
-        requires ready { IsReady (T.game tables.now) self.old situation.old.world }
+        requires ready { IsReady (T.game tables.now) self.old surroundings.old.world }
         requires rows { HaveRows F.Fn routines.now }
-        requires draws { situation.old.world.draws + self.old.left < 2 ^ 64 }
+        requires draws { surroundings.old.world.draws + self.old.left < 2 ^ 64 }
         ensures meaning { InStories F.Fn routines.now (T.game tables.now) (λ g.
-            RunsTo g (having situation.old self.old) result (having situation.new self.new)) }
+            RunsTo g (having surroundings.old self.old) result (having surroundings.new self.new)) }
         ensures stopped { IsStopped result self.new }
-        ensures after { IsAfterStep (T.game tables.now) (having situation.old self.old)
-            (having situation.new self.new) }
+        ensures after { IsAfterReading (T.game tables.now) (having surroundings.old self.old)
+            (having surroundings.new self.new) }
     {
-        let rulebook = Rulebook { tables, routines };
+        let reader = StoryReader { tables, routines };
         loop {
-            match rulebook.step(self, situation) {
+            match reader.read_next(self, surroundings) {
                 Some(turned) => return turned,
                 None => {}
             }
@@ -159,9 +159,9 @@ impl Machine {
     /// machine with a full budget and no steps; and they can be restored wherever they are places of a run.
     pub fn frames(&self) -> Frames
         ensures value { result ≡ kept_of self.now }
-        ensures again { (p : AtPrompt) → StandsAt p self.now → restored result (waiting_at p) ≡ refilled self.now }
+        ensures again { (p : AtPrompt) → WaitsAtPrompt p self.now → restored result (waiting_at p) ≡ refilled self.now }
         ensures sound { (g : GameLists) (p : AtPrompt) →
-            ArePlaces g p (reverse self.now.frames) self.now.turning → frames_fault g p result ≡ None }
+            AreFramesAndLoop g p (reverse self.now.frames) self.now.turning → frames_fault g p result ≡ None }
     {
         let mut rows = [start_of(0); MOST_FRAMES];
         rows[..self.count].copy_from_slice(&self.rows[..self.count]);
@@ -186,8 +186,8 @@ impl Machine {
         prompt: Prompt,
     ) -> Result<Machine, FrameFault>
         ensures value { IfOk result (λ m. m ≡ restored kept.now (waiting_at prompt)) }
-        ensures stands { IfOk result (λ m. StandsAt prompt m) }
-        ensures places { IfOk result (λ m. ArePlaces (T.game tables.now) prompt (reverse m.frames) m.turning) }
+        ensures stands { IfOk result (λ m. WaitsAtPrompt prompt m) }
+        ensures places { IfOk result (λ m. AreFramesAndLoop (T.game tables.now) prompt (reverse m.frames) m.turning) }
         ensures again { IfOk result (λ m. kept_of m ≡ kept.now) }
         ensures sound { IfOk result (λ m. frames_fault (T.game tables.now) prompt kept.now ≡ None) }
         ensures fault { IfErr result (λ e. frames_fault (T.game tables.now) prompt kept.now ≡ Some e.depth) }
@@ -272,7 +272,7 @@ impl Machine {
     }
 
     /// Makes this the open loop, or leaves none open.
-    pub(crate) fn set_turning(&mut self, turning: Option<OpenLoop>)
+    pub(crate) fn set_open_loop(&mut self, turning: Option<OpenLoop>)
         ensures value { self.new ≡ record self.old { turning = turning } }
     {
         self.turning = turning;

@@ -12,7 +12,7 @@ use paw_base::flags::{
 };
 use paw_base::parts::ObjectFacts;
 use paw_base::words::NO_WORD;
-use paw_effects::does::refer;
+use paw_effects::condact::refer;
 use paw_game::tables::Tables;
 use paw_world::world::World;
 

@@ -21,10 +21,12 @@ ghost use Rattle.paw_reading.specs.inner.GoingOn.{along};
 ghost use Rattle.paw_process.specs.inner.OpenTables.{below, ReadsNone, AtCondacts};
 ghost use Rattle.paw_process.specs.inner.OpenTables.{IsLoopWithin, LoopFits, IsReading};
 ghost use Rattle.paw_process.specs.inner.Meaning.{InStories, having, going_in, run_held};
-ghost use Rattle.paw_process.specs.inner.Moves.{Continues, StandsOrTurned, turning_as, looping, resolved, acted_at};
-ghost use Rattle.paw_process.specs.inner.Moves.{next_of, past_of, turning_at, reading_at, Enters, EntersNone, ReadsTable, ReadsOne};
-ghost use Rattle.paw_process.specs.inner.Steps.{IsReady, IsInnermost, MayReadOne, MayStep, HasMoved, HasStepped};
-ghost use Rattle.paw_process.specs.inner.Work.{work, frames_work, Progress};
+ghost use Rattle.paw_process.specs.inner.Moves.{Continues, StandsOrStopped, with_open_loop, looping, resolved};
+ghost use Rattle.paw_process.specs.inner.Moves.{acted_at};
+ghost use Rattle.paw_process.specs.inner.Moves.{next_of, past_of, loop_at_frames, reading_at, Enters, EntersNone};
+ghost use Rattle.paw_process.specs.inner.Moves.{ReadsTable, ReadsOne};
+ghost use Rattle.paw_process.specs.inner.Steps.{IsReady, IsInnermost, MayReadOne, MayReadNext, HasMoved, HasStepped};
+ghost use Rattle.paw_process.specs.inner.Work.{machine_work, frames_work, Progress};
 ghost use Rattle.paw_world.specs.inner.Places.{left_above};
 
 use crate::Turned;
@@ -32,13 +34,13 @@ use crate::frame::{after_found, next_entry, past, start_of};
 use crate::machine::{MOST_FRAMES, Machine};
 use crate::objects::{next_taken, take};
 use crate::phrase::take_phrase;
-use crate::situation::Situation;
+use crate::surroundings::Surroundings;
 use paw_base::fault::SpentKind;
 use paw_base::flags::{NOUN_FLAG, VERB_FLAG};
 use paw_base::messages::QUIT_MESSAGE;
 use paw_base::parts::Condact;
 use paw_effects::act::{Act, Effect, Prompt, Truth};
-use paw_effects::does::{act, is_condition, test};
+use paw_effects::condact::{act, is_condition, test};
 use paw_effects::text::put;
 use paw_game::tables::Tables;
 use paw_phrase::Pending;
@@ -57,7 +59,7 @@ fn drop_line(pending: &mut Pending, done: Act)
 
 /// The game that is read, and the routines that it calls.
 #[derive(Drop)]
-pub(crate) struct Rulebook<'a, T: Tables, F: Fn(u8, u8) -> u8> {
+pub(crate) struct StoryReader<'a, T: Tables, F: Fn(u8, u8) -> u8> {
     pub(crate) tables: &'a T,
     pub(crate) routines: &'a Routines<F>,
 }
@@ -69,7 +71,7 @@ impl Machine {
         requires no_loop { LoopFits (length (below self.old.frames)) self.old.turning }
         ensures meaning { (g : Story) (r : Run) →
             Continues g (along g (below self.old.frames) (Left acted r)) result self.new.frames r }
-        ensures stands { StandsOrTurned result self.new }
+        ensures stands { StandsOrStopped result self.new }
         ensures same { self.new ≡ record self.old { frames = self.new.frames } }
         ensures falls { frames_work self.new.frames < frames_work self.old.frames }
     {
@@ -97,9 +99,10 @@ impl Machine {
         requires place { AtCondacts self.old.frames }
         ensures meaning { (g : Story) (r : Run) →
             Continues g
-            (along g self.old.frames (deeper g (length (below self.old.frames)) table (turning_as self.old.turning r)))
-            result self.new.frames (turning_as self.new.turning r) }
-        ensures stands { StandsOrTurned result self.new }
+            (along g self.old.frames
+            (deeper g (length (below self.old.frames)) table (with_open_loop self.old.turning r)))
+            result self.new.frames (with_open_loop self.new.turning r) }
+        ensures stands { StandsOrStopped result self.new }
         ensures left { ReadsNone self.old self.new }
     {
         if self.depth() == MOST_FRAMES {
@@ -129,12 +132,12 @@ impl Machine {
         ensures value { self.new ≡ record self.old { turning = if done.cancel_loop then None else self.old.turning } }
     {
         if done.cancel_loop {
-            self.set_turning(None);
+            self.set_open_loop(None);
         }
     }
 }
 
-impl<T: Tables, F: Fn(u8, u8) -> u8> Rulebook<'_, T, F> {
+impl<T: Tables, F: Fn(u8, u8) -> u8> StoryReader<'_, T, F> {
     /// Lets the innermost table's loop take its next object above this one, or its first one. With none left the loop
     /// is closed, and the table is left with an action carried out.
     fn next_object(
@@ -148,16 +151,17 @@ impl<T: Tables, F: Fn(u8, u8) -> u8> Rulebook<'_, T, F> {
         requires own { IsLoopWithin (length machine.old.frames) l }
         requires level { l.level ≡ length (below machine.old.frames) }
         ensures meaning { (X : RoutineRows) (r : Run) → let g = story_of (T.game self.now.tables.now) X in
-            Continues g (turning_at g (below machine.old.frames) l (left_above world.old.places above)
+            Continues g (loop_at_frames g (below machine.old.frames) l (left_above world.old.places above)
             (looping world.old machine.old.turning r))
             result machine.new.frames (looping world.new machine.new.turning r) }
         ensures after { HasMoved (T.game self.now.tables.now) machine.old world.old result machine.new world.new }
-        ensures falls { machine.old.turning ≡ Some l → above ≡ Some l.last → work machine.new < work machine.old }
+        ensures falls { machine.old.turning ≡ Some l → above ≡ Some l.last →
+            machine_work machine.new < machine_work machine.old }
     {
         match next_taken(self.tables, world, l.place, above) {
             Some(o) => {
                 take(self.tables, world, o);
-                machine.set_turning(Some(OpenLoop {
+                machine.set_open_loop(Some(OpenLoop {
                     level: l.level,
                     table: l.table,
                     entry: l.entry,
@@ -174,7 +178,7 @@ impl<T: Tables, F: Fn(u8, u8) -> u8> Rulebook<'_, T, F> {
                 None
             }
             None => {
-                machine.set_turning(None);
+                machine.set_open_loop(None);
                 machine.leave(true)
             }
         }
@@ -187,7 +191,7 @@ impl<T: Tables, F: Fn(u8, u8) -> u8> Rulebook<'_, T, F> {
             Continues g (resolved g (below machine.old.frames) (Left acted (looping world.old machine.old.turning r)))
             result machine.new.frames (looping world.new machine.new.turning r) }
         ensures after { HasMoved (T.game self.now.tables.now) machine.old world.old result machine.new world.new }
-        ensures falls { work machine.new < work machine.old }
+        ensures falls { machine_work machine.new < machine_work machine.old }
     {
         let level = machine.depth() - 1;
         match machine.turning() {
@@ -202,19 +206,23 @@ impl<T: Tables, F: Fn(u8, u8) -> u8> Rulebook<'_, T, F> {
     }
 
     /// Takes the next phrase: after a sentence reading goes on at the next entry, otherwise at the next condact.
-    fn parse(&self, machine: &mut Machine, situation: &mut Situation, f: Frame)
-        requires ready { IsReady (T.game self.now.tables.now) machine.old situation.old.world }
+    fn parse(&self, machine: &mut Machine, surroundings: &mut Surroundings, f: Frame)
+        requires ready { IsReady (T.game self.now.tables.now) machine.old surroundings.old.world }
         requires at { IsInnermost f machine.old }
         ensures meaning { (X : RoutineRows) (r : Run) → let g = story_of (T.game self.now.tables.now) X in
             resolved g (below machine.old.frames)
             (parses g f (next_of g (below machine.old.frames) f) (past_of g (below machine.old.frames) f)
-            (run_held (having situation.old machine.old) r))
-            ≡ going_in g machine.new.frames (run_held (having situation.new machine.new) r) }
+            (run_held (having surroundings.old machine.old) r))
+            ≡ going_in g machine.new.frames (run_held (having surroundings.new machine.new) r) }
         ensures same { machine.new ≡ record machine.old { frames = machine.new.frames } }
-        ensures after { HasMoved (T.game self.now.tables.now) machine.old situation.old.world None
-            machine.new situation.new.world }
+        ensures after { HasMoved (T.game self.now.tables.now) machine.old surroundings.old.world None
+            machine.new surroundings.new.world }
     {
-        let found = take_phrase(self.tables, &mut situation.world, &mut situation.pending);
+        let found = take_phrase(
+            self.tables,
+            &mut surroundings.world,
+            &mut surroundings.pending,
+        );
         machine.set_top(after_found(found, f));
     }
 
@@ -222,36 +230,37 @@ impl<T: Tables, F: Fn(u8, u8) -> u8> Rulebook<'_, T, F> {
     fn follow(
         &self,
         machine: &mut Machine,
-        situation: &mut Situation,
+        surroundings: &mut Surroundings,
         f: Frame,
         effect: Effect,
     ) -> Option<Turned>
-        requires ready { IsReady (T.game self.now.tables.now) machine.old situation.old.world }
+        requires ready { IsReady (T.game self.now.tables.now) machine.old surroundings.old.world }
         requires at { IsInnermost f machine.old }
         ensures meaning { (X : RoutineRows) (r : Run) → let g = story_of (T.game self.now.tables.now) X in
-            Continues g (acted_at g (below machine.old.frames) f effect (run_held (having situation.old machine.old) r))
-            result machine.new.frames (run_held (having situation.new machine.new) r) }
-        ensures after { HasMoved (T.game self.now.tables.now) machine.old situation.old.world result
-            machine.new situation.new.world }
+            Continues g
+            (acted_at g (below machine.old.frames) f effect (run_held (having surroundings.old machine.old) r))
+            result machine.new.frames (run_held (having surroundings.new machine.new) r) }
+        ensures after { HasMoved (T.game self.now.tables.now) machine.old surroundings.old.world result
+            machine.new surroundings.new.world }
     {
         match effect {
             Effect::Go => {
                 machine.set_top(past(f, true));
                 None
             }
-            Effect::Exit(acted) => self.leave_level(machine, &mut situation.world, acted),
+            Effect::Exit(acted) => self.leave_level(machine, &mut surroundings.world, acted),
             Effect::Redescribe => machine.stop(Turned::Redescribe),
             Effect::Call(table) => machine.call(table),
             Effect::Loop(place) => {
                 let l = machine.loop_at(f, place);
-                self.next_object(machine, &mut situation.world, l, None)
+                self.next_object(machine, &mut surroundings.world, l, None)
             }
             Effect::Ask(prompt) => {
                 machine.set_waiting(Some(prompt));
                 Some(Turned::Waits(prompt))
             }
             Effect::Parse => {
-                self.parse(machine, situation, f);
+                self.parse(machine, surroundings, f);
                 None
             }
             Effect::Spent => machine.stop(Turned::Spent(SpentKind::Text)),
@@ -262,19 +271,19 @@ impl<T: Tables, F: Fn(u8, u8) -> u8> Rulebook<'_, T, F> {
     fn test(
         &self,
         machine: &mut Machine,
-        situation: &mut Situation,
+        surroundings: &mut Surroundings,
         f: Frame,
         c: Condact,
     ) -> Option<Turned>
-        requires may { MayReadOne (T.game self.now.tables.now) f c machine.old situation.old.world }
+        requires may { MayReadOne (T.game self.now.tables.now) f c machine.old surroundings.old.world }
         requires kind { is_condition c ≡ true }
         ensures meaning { (X : RoutineRows) → let g = story_of (T.game self.now.tables.now) X in
-            ReadsOne g (below machine.old.frames) f c (having situation.old machine.old) result
-            (having situation.new machine.new) }
-        ensures after { HasStepped (T.game self.now.tables.now) (having situation.old machine.old) result
-            (having situation.new machine.new) }
+            ReadsOne g (below machine.old.frames) f c (having surroundings.old machine.old) result
+            (having surroundings.new machine.new) }
+        ensures after { HasStepped (T.game self.now.tables.now) (having surroundings.old machine.old) result
+            (having surroundings.new machine.new) }
     {
-        match test(self.tables, &mut situation.world, c) {
+        match test(self.tables, &mut surroundings.world, c) {
             Truth::Yes => {
                 machine.note(f, c, true);
                 machine.set_top(past(f, f.acted));
@@ -287,31 +296,31 @@ impl<T: Tables, F: Fn(u8, u8) -> u8> Rulebook<'_, T, F> {
             }
             Truth::Ask => {
                 machine.note(f, c, true);
-                self.ask(machine, situation)
+                self.ask(machine, surroundings)
             }
         }
     }
 
     /// Asks QUIT's question, and waits for the answer.
-    fn ask(&self, machine: &mut Machine, situation: &mut Situation) -> Option<Turned>
-        requires ready { IsReady (T.game self.now.tables.now) machine.old situation.old.world }
+    fn ask(&self, machine: &mut Machine, surroundings: &mut Surroundings) -> Option<Turned>
+        requires ready { IsReady (T.game self.now.tables.now) machine.old surroundings.old.world }
         requires place { AtCondacts machine.old.frames }
         ensures meaning { (X : RoutineRows) (f : Frame) (r : Run) →
             machine.old.frames ≡ f ∷ below machine.old.frames →
             let g = story_of (T.game self.now.tables.now) X in
             Continues g (resolved g (below machine.old.frames)
-            (printing (put_text g.game situation.old.world QUIT_MESSAGE)
+            (printing (put_text g.game surroundings.old.world QUIT_MESSAGE)
             (waits g prompt.Quit f (past_of g (below machine.old.frames) f))
-            (run_held (having situation.old machine.old) r)))
-            result machine.new.frames (run_held (having situation.new machine.new) r) }
-        ensures after { HasMoved (T.game self.now.tables.now) machine.old situation.old.world result
-            machine.new situation.new.world }
-        ensures world { situation.new.world ≡ situation.old.world }
+            (run_held (having surroundings.old machine.old) r)))
+            result machine.new.frames (run_held (having surroundings.new machine.new) r) }
+        ensures after { HasMoved (T.game self.now.tables.now) machine.old surroundings.old.world result
+            machine.new surroundings.new.world }
+        ensures world { surroundings.new.world ≡ surroundings.old.world }
     {
         if !put(
             self.tables,
-            &situation.world,
-            &mut situation.piece,
+            &surroundings.world,
+            &mut surroundings.piece,
             QUIT_MESSAGE,
         ) {
             return machine.stop(Turned::Spent(SpentKind::Text));
@@ -324,33 +333,33 @@ impl<T: Tables, F: Fn(u8, u8) -> u8> Rulebook<'_, T, F> {
     fn act(
         &self,
         machine: &mut Machine,
-        situation: &mut Situation,
+        surroundings: &mut Surroundings,
         f: Frame,
         c: Condact,
     ) -> Option<Turned>
         requires rows { HaveRows F.Fn self.now.routines.now }
-        requires may { MayReadOne (T.game self.now.tables.now) f c machine.old situation.old.world }
+        requires may { MayReadOne (T.game self.now.tables.now) f c machine.old surroundings.old.world }
         requires kind { is_condition c ≡ false }
         ensures meaning { InStories F.Fn self.now.routines.now (T.game self.now.tables.now) (λ g.
-            ReadsOne g (below machine.old.frames) f c (having situation.old machine.old) result
-            (having situation.new machine.new)) }
-        ensures after { HasStepped (T.game self.now.tables.now) (having situation.old machine.old) result
-            (having situation.new machine.new) }
+            ReadsOne g (below machine.old.frames) f c (having surroundings.old machine.old) result
+            (having surroundings.new machine.new)) }
+        ensures after { HasStepped (T.game self.now.tables.now) (having surroundings.old machine.old) result
+            (having surroundings.new machine.new) }
     {
         machine.note(f, c, true);
         let done = act(
             self.tables,
-            &mut situation.world,
+            &mut surroundings.world,
             self.routines,
-            &mut situation.piece,
+            &mut surroundings.piece,
             c,
         );
         match done.effect {
             Effect::Spent => machine.stop(Turned::Spent(SpentKind::Text)),
             effect => {
-                drop_line(&mut situation.pending, done);
+                drop_line(&mut surroundings.pending, done);
                 machine.cancel_loop(done);
-                self.follow(machine, situation, f, effect)
+                self.follow(machine, surroundings, f, effect)
             }
         }
     }
@@ -359,50 +368,57 @@ impl<T: Tables, F: Fn(u8, u8) -> u8> Rulebook<'_, T, F> {
     fn read(
         &self,
         machine: &mut Machine,
-        situation: &mut Situation,
+        surroundings: &mut Surroundings,
         f: Frame,
         c: Condact,
     ) -> Option<Turned>
-        requires may { MayStep F.Fn self.now.routines.now (T.game self.now.tables.now) machine.old situation.old.world }
+        requires may { MayReadNext F.Fn self.now.routines.now
+            (T.game self.now.tables.now) machine.old surroundings.old.world }
         requires at { IsInnermost f machine.old }
         requires found { condact_at (T.game self.now.tables.now) f.table f.entry f.at ≡ Some c }
         requires condact { is_right (T.game self.now.tables.now) c ≡ true }
         ensures meaning { InStories F.Fn self.now.routines.now (T.game self.now.tables.now) (λ g.
             ReadsTable g (reading_at g (below machine.old.frames) f)
-            (having situation.old machine.old) result (having situation.new machine.new)) }
+            (having surroundings.old machine.old) result (having surroundings.new machine.new)) }
         ensures counts { IsNone result → machine.old.left ≡ machine.new.left + 1 }
-        ensures after { HasStepped (T.game self.now.tables.now) (having situation.old machine.old) result
-            (having situation.new machine.new) }
+        ensures after { HasStepped (T.game self.now.tables.now) (having surroundings.old machine.old) result
+            (having surroundings.new machine.new) }
     {
         if !machine.may_read() {
             return machine.stop(Turned::Spent(SpentKind::Condacts));
         }
         if is_condition(c) {
-            self.test(machine, situation, f, c)
+            self.test(machine, surroundings, f, c)
         } else {
-            self.act(machine, situation, f, c)
+            self.act(machine, surroundings, f, c)
         }
     }
 
     /// Goes on with the condacts of the innermost frame's entry.
-    fn inside(&self, machine: &mut Machine, situation: &mut Situation, f: Frame) -> Option<Turned>
-        requires may { MayStep F.Fn self.now.routines.now (T.game self.now.tables.now) machine.old situation.old.world }
+    fn inside(
+        &self,
+        machine: &mut Machine,
+        surroundings: &mut Surroundings,
+        f: Frame,
+    ) -> Option<Turned>
+        requires may { MayReadNext F.Fn self.now.routines.now
+            (T.game self.now.tables.now) machine.old surroundings.old.world }
         requires top { machine.old.frames ≡ f ∷ below machine.old.frames }
         requires entry { f.entry < ENTRY_LIMIT }
         requires valid { Valid (T.game self.now.tables.now) }
         ensures meaning { InStories F.Fn self.now.routines.now (T.game self.now.tables.now) (λ g.
             ReadsTable g (reading_at g (below machine.old.frames) f)
-            (having situation.old machine.old) result (having situation.new machine.new)) }
+            (having surroundings.old machine.old) result (having surroundings.new machine.new)) }
         ensures progress { IsNone result → Progress machine.old machine.new }
-        ensures after { HasStepped (T.game self.now.tables.now) (having situation.old machine.old) result
-            (having situation.new machine.new) }
+        ensures after { HasStepped (T.game self.now.tables.now) (having surroundings.old machine.old) result
+            (having surroundings.new machine.new) }
     {
         match self.tables.condact(f.table, f.entry, f.at) {
             None => {
                 machine.set_top(next_entry(f));
                 None
             }
-            Some(c) => self.read(machine, situation, f, c),
+            Some(c) => self.read(machine, surroundings, f, c),
         }
     }
 
@@ -428,23 +444,28 @@ impl<T: Tables, F: Fn(u8, u8) -> u8> Rulebook<'_, T, F> {
     }
 
     /// Makes one step of reading: from the start of an entry to the next one that matches, and a condact there.
-    pub(crate) fn step(&self, machine: &mut Machine, situation: &mut Situation) -> Option<Turned>
-        requires may { MayStep F.Fn self.now.routines.now (T.game self.now.tables.now) machine.old situation.old.world }
+    pub(crate) fn read_next(
+        &self,
+        machine: &mut Machine,
+        surroundings: &mut Surroundings,
+    ) -> Option<Turned>
+        requires may { MayReadNext F.Fn self.now.routines.now
+            (T.game self.now.tables.now) machine.old surroundings.old.world }
         ensures meaning { InStories F.Fn self.now.routines.now (T.game self.now.tables.now) (λ g.
-            ReadsTable g (going_in g machine.old.frames) (having situation.old machine.old) result
-            (having situation.new machine.new)) }
+            ReadsTable g (going_in g machine.old.frames) (having surroundings.old machine.old) result
+            (having surroundings.new machine.new)) }
         ensures progress { IsNone result → Progress machine.old machine.new }
-        ensures after { HasStepped (T.game self.now.tables.now) (having situation.old machine.old) result
-            (having situation.new machine.new) }
+        ensures after { HasStepped (T.game self.now.tables.now) (having surroundings.old machine.old) result
+            (having surroundings.new machine.new) }
     {
         // The clause of this call says that the game is valid, which the proof needs. The compiler leaves the call out.
         let _counts = self.tables.counts();
         let f = machine.top();
-        match self.enter(&situation.world, f) {
-            None => self.leave_level(machine, &mut situation.world, f.acted),
+        match self.enter(&surroundings.world, f) {
+            None => self.leave_level(machine, &mut surroundings.world, f.acted),
             Some(entered) => {
                 machine.set_top(entered);
-                self.inside(machine, situation, entered)
+                self.inside(machine, surroundings, entered)
             }
         }
     }

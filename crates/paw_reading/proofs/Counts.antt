@@ -20,8 +20,9 @@ use Rattle.paw_reading.specs.Run.{Run, closed, fits, printed, with_world, withou
 use Rattle.paw_reading.specs.Run.{reply, is_yes, is_no, taken_phrase}
 use Rattle.paw_reading.specs.declared.places.Halt.TheVariants as halt
 use Rattle.paw_reading.specs.Reading.{Redescribes, Restarts, Halts, Out, Left, Waits, Stopped, halts, noted, after_call}
-use Rattle.paw_reading.specs.Reading.{at_level, again, is_taken, taken, turns, loop_of, over, answered, asked, waits, after_test}
-use Rattle.paw_reading.specs.Reading.{after_parse, after_action, carried_out, acts, reads_one, plain, looped, reads, called, deeper, rest}
+use Rattle.paw_reading.specs.Reading.{at_level, next_object_or, is_taken, taken, over_objects, loop_of, over, answered, asked, waits, after_test}
+use Rattle.paw_reading.specs.Reading.{after_parse, after_action, carried_out, acts, reads_one, from_place, rest_of_loop, read_at_level, called, deeper}
+use Rattle.paw_reading.specs.Reading.{rest_of_table}
 use Rattle.paw_reading.specs.Reading.{table_read, coming_phrase, game_over}
 use Rattle.paw_reading.specs.Turn.{TurnPhase, AtDescribe, AtTimeFrame, AtPhrase, AtResponse, Ending, Halted, saying, described, time_frame_passed}
 use Rattle.paw_reading.specs.Turn.{view_text, counted, prompt_text, at_main, after_phrase, refusal_text, connected, after_left}
@@ -53,18 +54,19 @@ closed_counts r = let e : length (closed r).pieces ≡ length r.pieces + 1 = len
 
 -- ---- loops and calls ----
 
-again_counts : (lv : ℕ) (next : OpenLoop → Run → Out) → ((l : OpenLoop) → IsCounting (next l)) → (v : ℕ) (x : Out) → Counts v x → Counts v (again lv next x)
+again_counts : (lv : ℕ) (next : OpenLoop → Run → Out) → ((l : OpenLoop) → IsCounting (next l)) → (v : ℕ) (x : Out) → Counts v x →
+    Counts v (next_object_or lv next x)
 again_counts lv next h v (Left a r) k = open_or_not (Counts v) (λ l. next l r) (Left a r) (at_level lv r.turning) (λ l e. h l v r k) (λ e. k)
 again_counts lv next h v (Waits p path r) k = k
 again_counts lv next h v (Stopped stop r) k = k
 
-turns_count : (g : Story) (lv : ℕ) (l : OpenLoop) (body : Run → Out) → IsCounting body → (n : ℕ) → IsCounting (turns g lv l body n)
-unfolding turns
+turns_count : (g : Story) (lv : ℕ) (l : OpenLoop) (body : Run → Out) → IsCounting body → (n : ℕ) → IsCounting (over_objects g lv l body n)
+unfolding over_objects
 turns_count g lv l body h zero v r k = k
 turns_count g lv l body h (suc n) v r k =
     let o : ℕ = length g.game.objects - suc n in
     either (Counts v) (is_taken g.game r.world l o) _ _
-    (again_counts lv (λ _. turns g lv l body n) (λ m. turns_count g lv l body h n) v (body (taken g.game l o r)) (h v (taken g.game l o r) k))
+    (again_counts lv (λ _. over_objects g lv l body n) (λ m. turns_count g lv l body h n) v (body (taken g.game l o r)) (h v (taken g.game l o r) k))
     (turns_count g lv l body h n v r k)
 
 after_call_counts : (f : Frame) (go : Bool → Run → Out) → AreCounting go → (v : ℕ) (x : Out) → Counts v x → Counts v (after_call f go x)
@@ -140,18 +142,18 @@ module _ (g : Story) (sub : ℕ → Run → Out) (lv : ℕ) (calls : CallsCounti
 
   -- ---- tables ----
 
-  plain_counts : (t e k : ℕ) → AreCounting (plain g sub lv t e k)
+  plain_counts : (t e k : ℕ) → AreCounting (from_place g sub lv t e k)
   plain_counts t e k a v r h =
       plain_goes (λ s x. (n : ℕ) → count s ≡ n → Counts n x) g sub lv t (λ b s n j. j) (λ s n j. j)
       (λ i m b next go hn hg c s few n j.
       reads_one_counts (record { table = t; entry = i; at = m; acted = b }) next go (λ d w q i'. hn d q w i') (λ d w q i'. hg d q w i') c n s j)
       e k a r v h
 
-  looped_counts : (l : OpenLoop) → IsCounting (looped g sub lv l)
+  looped_counts : (l : OpenLoop) → IsCounting (rest_of_loop g sub lv l)
   looped_counts l = turns_count g lv (record l { last = 0 }) _ (plain_counts l.table l.entry (suc l.at) true) (length g.game.objects - suc l.last)
 
-  reads_count : (t e k : ℕ) → AreCounting (reads g sub lv t e k)
-  reads_count t e k a v r h = again_counts lv (looped g sub lv) looped_counts v _ (plain_counts t e k a v r h)
+  reads_count : (t e k : ℕ) → AreCounting (read_at_level g sub lv t e k)
+  reads_count t e k a v r h = again_counts lv (rest_of_loop g sub lv) looped_counts v _ (plain_counts t e k a v r h)
 
 called_counts : (g : Story) (n lv : ℕ) → CallsCounting (called g n lv)
 unfolding called

@@ -7,7 +7,7 @@ use Rattle.paw_effects.specs.Story.{Story}
 use Rattle.paw_game.specs.Tables.{exit_at}
 use Rattle.paw_world.specs.World.{flag, with_flag}
 use Rattle.paw_phrase.specs.Sentence.{Parsed, IsSentence, IsUnknown, IsNoPhrase}
-use Rattle.paw_phrase.proofs.Phrases.{Leaves, parsed-shorter}
+use Rattle.paw_phrase.proofs.Phrases.{LeavesBytes, parsed-shorter}
 use Rattle.paw_effects.specs.declared.act.Prompt.{Prompt}
 use Rattle.paw_effects.specs.declared.act.Prompt.TheVariants as prompt
 use Rattle.paw_effects.specs.Texts.{say_text}
@@ -104,7 +104,7 @@ at_main_ends g n go h r (line ∷ lines) k =
     by_test false false hx hy hz = hz
 
 after_phrase_ends : (g : Story) (n : ℕ) (go : TurnPhase → Run → Ending) → EndsWithin n go → (r : Run) → 4 * left_to_read r ≤ n → (p : Parsed) →
-    Leaves (λ rest. length rest < length r.pending) p → after_phrase g go r p ≢ Unended
+    LeavesBytes (λ rest. length rest < length r.pending) p → after_phrase g go r p ≢ Unended
 after_phrase_ends g n go h r k (IsSentence s rest) less = h AtResponse _ (omega arith)
 after_phrase_ends g n go h r k (IsUnknown rest) less =
     let text : List ℕ = unknown_text g.game r.world in

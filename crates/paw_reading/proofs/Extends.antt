@@ -25,9 +25,9 @@ use Rattle.paw_reading.specs.Run.{Run, Step, closed, fits, printed, with_world, 
 use Rattle.paw_reading.specs.Run.{is_yes, is_no, taken_phrase}
 use Rattle.paw_reading.specs.declared.places.Halt.TheVariants as halt
 use Rattle.paw_reading.specs.Reading.{Restarts, Out, Left, Waits, Stopped, halts, noted, printing, after_call, at_level}
-use Rattle.paw_reading.specs.Reading.{again, is_taken, taken, turns, loop_of, over, answered, asked, waits, after_test}
-use Rattle.paw_reading.specs.Reading.{after_parse, after_action, carried_out, acts, reads_one, is_for_now, inside, plain, looped, deeper}
-use Rattle.paw_reading.specs.Reading.{rest, coming_phrase, game_over}
+use Rattle.paw_reading.specs.Reading.{next_object_or, is_taken, taken, over_objects, loop_of, over, answered, asked, waits, after_test}
+use Rattle.paw_reading.specs.Reading.{after_parse, after_action, carried_out, acts, reads_one, is_for_now, rest_of_entry, from_place, rest_of_loop, deeper}
+use Rattle.paw_reading.specs.Reading.{rest_of_table, coming_phrase, game_over}
 use Rattle.paw_reading.specs.inner.Steps.{goodbye, quit_question}
 use Rattle.paw_reading.specs.GoingOn.{on_path}
 use Rattle.paw_reading.proofs.Keeps.{Keeps, at_level_own, at_level_is, turns_closes, plain_keeps, looped_closes, deeper_keeps}
@@ -51,14 +51,14 @@ module _ (g : Story) (ps : List (List ℕ)) (ts : List (List Step)) (lines : Lis
 
   -- reading on at the entry after a frame's, and at the condact after it
   abbrev next_of : ℕ → Frame → Bool → Run → Out
-  next_of lv f = plain g (deeper g lv) lv f.table (suc f.entry) 0
+  next_of lv f = from_place g (deeper g lv) lv f.table (suc f.entry) 0
 
   abbrev past_of : ℕ → Frame → Bool → Run → Out
-  past_of lv f = plain g (deeper g lv) lv f.table f.entry (suc f.at)
+  past_of lv f = from_place g (deeper g lv) lv f.table f.entry (suc f.at)
 
   -- a level's open loop goes on
   abbrev loops : ℕ → Out → Out
-  loops lv x = again lv (looped g (deeper g lv) lv) x
+  loops lv x = next_object_or lv (rest_of_loop g (deeper g lv) lv) x
 
   -- The same, where the level's open loop is yet to go on.
   abbrev settles : ℕ → Out → Out
@@ -135,10 +135,10 @@ module _ (g : Story) (ps : List (List ℕ)) (ts : List (List Step)) (lines : Lis
 
     -- ---- the loop ----
 
-    settles_turns : (l : OpenLoop) → l.level ≡ lv → IsSettling lv (plain g (deeper g lv) lv l.table l.entry (suc l.at) true) → (n : ℕ) →
+    settles_turns : (l : OpenLoop) → l.level ≡ lv → IsSettling lv (from_place g (deeper g lv) lv l.table l.entry (suc l.at) true) → (n : ℕ) →
         n ≤ length g.game.objects →
-        IsSettling lv (turns g lv (record l { last = 0 }) (plain g (deeper g lv) lv l.table l.entry (suc l.at) true) n)
-    unfolding turns
+        IsSettling lv (over_objects g lv (record l { last = 0 }) (from_place g (deeper g lv) lv l.table l.entry (suc l.at) true) n)
+    unfolding over_objects
     settles_turns l own hb zero low r = refl
     settles_turns l own hb (suc n) low r =
         settles_or (is_taken g.game r.world l (length g.game.objects - suc n)) _ _ _ _
@@ -146,20 +146,20 @@ module _ (g : Story) (ps : List (List ℕ)) (ts : List (List Step)) (lines : Lis
         (settles_turns l own hb n (omega arith) r)
       where
         body : Run → Out
-        body = plain g (deeper g lv) lv l.table l.entry (suc l.at) true
+        body = from_place g (deeper g lv) lv l.table l.entry (suc l.at) true
 
         more : Run → Out
-        more = turns g lv (record l { last = 0 }) body n
+        more = over_objects g lv (record l { last = 0 }) body n
 
         keeps : (o : ℕ) (s : Run) → Keeps (Some (record l { last = o })) (body (taken g.game l o s))
         keeps o s = plain_keeps g (deeper g lv) lv (deeper_keeps g lv) l.table l.entry (suc l.at) true (taken g.game l o s)
 
         after : (o : ℕ) → length g.game.objects - suc o ≡ n → IsSettling lv more → (y : Out) → Keeps (Some (record l { last = o })) y →
-            settles lv y ≡ settles lv (again lv (λ _. more) y)
+            settles lv y ≡ settles lv (next_object_or lv (λ _. more) y)
         after o e ih (Left a s) (inl k) =
             let q : at_level lv s.turning ≡ Some (record l { last = o }) = rw k (at_level_own lv (record l { last = o }) own) in
             rw (q, e)
-            (sym (again_closed g (deeper g lv) lv (looped g (deeper g lv) lv) (more (around ps ts lines s))
+            (sym (again_closed g (deeper g lv) lv (rest_of_loop g (deeper g lv) lv) (more (around ps ts lines s))
             (turns_closes g lv (record l { last = 0 }) body own (plain_keeps g (deeper g lv) lv (deeper_keeps g lv) l.table l.entry (suc l.at) true) n
             (around ps ts lines s)))
             ∙ ih s)
@@ -168,12 +168,14 @@ module _ (g : Story) (ps : List (List ℕ)) (ts : List (List Step)) (lines : Lis
         after o e ih (Stopped stop s) k = refl
 
         takes : (o : ℕ) → length g.game.objects - suc o ≡ n → IsSettling lv more →
-            loops lv (again lv (λ _. more) (body (taken g.game l o (around ps ts lines r)))) ≡ settles lv (again lv (λ _. more) (body (taken g.game l o r)))
+            loops lv (next_object_or lv (λ _. more) (body (taken g.game l o (around ps ts lines r))))
+            ≡ settles lv (next_object_or lv (λ _. more) (body (taken g.game l o r)))
         takes o e ih =
-            let p : again lv (λ _. turns g lv (record l { last = 0 }) body (length g.game.objects - suc o)) (body (taken g.game l o (around ps ts lines r)))
+            let p : next_object_or lv (λ _. over_objects g lv (record l { last = 0 }) body (length g.game.objects - suc o))
+            (body (taken g.game l o (around ps ts lines r)))
             ≡ loops lv (body (taken g.game l o (around ps ts lines r))) =
             taken_again g (deeper g lv) lv l o _ own (keeps o (around ps ts lines r)) in
-            let q : again lv (λ _. more) (body (taken g.game l o (around ps ts lines r))) ≡ loops lv (body (taken g.game l o (around ps ts lines r))) =
+            let q : next_object_or lv (λ _. more) (body (taken g.game l o (around ps ts lines r))) ≡ loops lv (body (taken g.game l o (around ps ts lines r))) =
             rw e at p in
             ap (λ x. loops lv x) q ∙ again_again g (deeper g lv) lv (deeper_keeps g lv) (body (taken g.game l o (around ps ts lines r)))
             ∙ hb (taken g.game l o r)
@@ -221,16 +223,16 @@ module _ (g : Story) (ps : List (List ℕ)) (ts : List (List Step)) (lines : Lis
 
       -- ---- entries, tables ----
 
-      settles_inside : (t e : ℕ) → ((a : Bool) → IsSettling lv (plain g (deeper g lv) lv t (suc e) 0 a)) → (m k : ℕ) →
+      settles_inside : (t e : ℕ) → ((a : Bool) → IsSettling lv (from_place g (deeper g lv) lv t (suc e) 0 a)) → (m k : ℕ) →
           length (condacts_of (entry_at g.game t e)) ≤ k + m →
-          (a : Bool) → IsSettling lv (inside g (deeper g lv) lv t e k a)
+          (a : Bool) → IsSettling lv (rest_of_entry g (deeper g lv) lv t e k a)
       settles_inside t e hn zero k low a r =
           let n : condact_at g.game t e k ≡ None = slice_get_past (condacts_of (entry_at g.game t e)) k (omega arith) in
           rw (inside_end g (deeper g lv) lv t e k a (around ps ts lines r) n, inside_end g (deeper g lv) lv t e k a r n) (hn a r)
       settles_inside t e hn (suc m) k low a r = at_condact (condact_at g.game t e k) refl (settles_inside t e hn m (suc k) (omega arith))
         where
-          at_condact : (o : Option Condact) → condact_at g.game t e k ≡ o → ((b : Bool) → IsSettling lv (inside g (deeper g lv) lv t e (suc k) b)) →
-              loops lv (inside g (deeper g lv) lv t e k a (around ps ts lines r)) ≡ settles lv (inside g (deeper g lv) lv t e k a r)
+          at_condact : (o : Option Condact) → condact_at g.game t e k ≡ o → ((b : Bool) → IsSettling lv (rest_of_entry g (deeper g lv) lv t e (suc k) b)) →
+              loops lv (rest_of_entry g (deeper g lv) lv t e k a (around ps ts lines r)) ≡ settles lv (rest_of_entry g (deeper g lv) lv t e k a r)
           at_condact None n ih = rw (inside_end g (deeper g lv) lv t e k a (around ps ts lines r) n, inside_end g (deeper g lv) lv t e k a r n) (hn a r)
           at_condact (Some c) n ih =
               rw (inside_condact g (deeper g lv) lv t e k a (around ps ts lines r) c n, inside_condact g (deeper g lv) lv t e k a r c n)
@@ -238,20 +240,20 @@ module _ (g : Story) (ps : List (List ℕ)) (ts : List (List Step)) (lines : Lis
               (halts (halt.Spent spent.Condacts) r)
               (settles_one (record { table = t; entry = e; at = k; acted = a }) hn ih c r) refl)
 
-      settles_entries : (t m e : ℕ) → length (table_at g.game t) ≤ e + m → (a : Bool) → IsSettling lv (plain g (deeper g lv) lv t e 0 a)
+      settles_entries : (t m e : ℕ) → length (table_at g.game t) ≤ e + m → (a : Bool) → IsSettling lv (from_place g (deeper g lv) lv t e 0 a)
       settles_entries t zero e low a r =
           let n : entry_at g.game t e ≡ None = slice_get_past (table_at g.game t) e (omega arith) in
           rw (plain_end g (deeper g lv) lv t e a (around ps ts lines r) n, plain_end g (deeper g lv) lv t e a r n) refl
       settles_entries t (suc m) e low a r = at_entry (entry_at g.game t e) refl (settles_entries t m (suc e) (omega arith))
         where
-          at_entry : (o : Option Entry) → entry_at g.game t e ≡ o → ((b : Bool) → IsSettling lv (plain g (deeper g lv) lv t (suc e) 0 b)) →
-              loops lv (plain g (deeper g lv) lv t e 0 a (around ps ts lines r)) ≡ settles lv (plain g (deeper g lv) lv t e 0 a r)
+          at_entry : (o : Option Entry) → entry_at g.game t e ≡ o → ((b : Bool) → IsSettling lv (from_place g (deeper g lv) lv t (suc e) 0 b)) →
+              loops lv (from_place g (deeper g lv) lv t e 0 a (around ps ts lines r)) ≡ settles lv (from_place g (deeper g lv) lv t e 0 a r)
           at_entry None n ih = rw (plain_end g (deeper g lv) lv t e a (around ps ts lines r) n, plain_end g (deeper g lv) lv t e a r n) refl
           at_entry (Some en) n ih =
               rw (plain_entry g (deeper g lv) lv t e en a (around ps ts lines r) n, plain_entry g (deeper g lv) lv t e en a r n)
               (settles_or (is_for_now r en) _ _ _ _ (settles_inside t e ih (length (condacts_of (entry_at g.game t e))) 0 (omega arith) a r) (ih a r))
 
-      settles_plain : (t e k : ℕ) (a : Bool) → IsSettling lv (plain g (deeper g lv) lv t e k a)
+      settles_plain : (t e k : ℕ) (a : Bool) → IsSettling lv (from_place g (deeper g lv) lv t e k a)
       settles_plain t e zero a = settles_entries t (length (table_at g.game t)) e (omega arith) a
       settles_plain t e (suc k) a =
           settles_inside t e (settles_entries t (length (table_at g.game t)) (suc e) (omega arith)) (length (condacts_of (entry_at g.game t e))) (suc k)
@@ -268,20 +270,20 @@ module _ (g : Story) (ps : List (List ℕ)) (ts : List (List Step)) (lines : Lis
       settles_extends (Left a r) = by_loop (at_level lv r.turning) refl
         where
           by_loop : (o : Option OpenLoop) → at_level lv r.turning ≡ o →
-              loops lv (Left a (around ps ts lines r)) ≡ extends lv (option_map_or (λ l. looped g (deeper g lv) lv l r) o (Left a r))
+              loops lv (Left a (around ps ts lines r)) ≡ extends lv (option_map_or (λ l. rest_of_loop g (deeper g lv) lv l r) o (Left a r))
           by_loop None e = rw e refl
           by_loop (Some l) e =
               let own : l.level ≡ lv = (at_level_is lv r.turning l e).0 in
               rw e
-              (sym (again_closed g (deeper g lv) lv (looped g (deeper g lv) lv) (looped g (deeper g lv) lv l (around ps ts lines r))
+              (sym (again_closed g (deeper g lv) lv (rest_of_loop g (deeper g lv) lv) (rest_of_loop g (deeper g lv) lv l (around ps ts lines r))
               (looped_closes g (deeper g lv) lv (deeper_keeps g lv) l (around ps ts lines r) own))
               ∙ settles_turns l own (settles_plain l.table l.entry (suc l.at) true) (length g.game.objects - suc l.last) (omega arith) r
-              ∙ settles_closed (looped g (deeper g lv) lv l r) (looped_closes g (deeper g lv) lv (deeper_keeps g lv) l r own))
+              ∙ settles_closed (rest_of_loop g (deeper g lv) lv l r) (looped_closes g (deeper g lv) lv (deeper_keeps g lv) l r own))
       settles_extends (Waits p path r) = refl
       settles_extends (Stopped stop r) = refl
 
-      reads_extend : (t e k : ℕ) (a : Bool) (r : Run) → rest g lv t e k a (around ps ts lines r) ≡ extends lv (rest g lv t e k a r)
-      reads_extend t e k a r = settles_plain t e k a r ∙ settles_extends (plain g (deeper g lv) lv t e k a r)
+      reads_extend : (t e k : ℕ) (a : Bool) (r : Run) → rest_of_table g lv t e k a (around ps ts lines r) ≡ extends lv (rest_of_table g lv t e k a r)
+      reads_extend t e k a r = settles_plain t e k a r ∙ settles_extends (from_place g (deeper g lv) lv t e k a r)
 
       asked_extends : (p : Prompt) (f : Frame) (r : Run) → on_path g p lv (f ∷ []) (around ps ts lines r) ≡ extends lv (on_path g p lv (f ∷ []) r)
       asked_extends p f r =
@@ -298,11 +300,12 @@ module _ (g : Story) (ps : List (List ℕ)) (ts : List (List Step)) (lines : Lis
       let low : lv < 10 = omega arith in
       rw (deeper_rest g lv u (around ps ts lines r) low, deeper_rest g lv u r low) (reads_extend (suc lv) (calls_extend n (suc lv) (omega arith)) u 0 0 false r)
 
-  pub rest_extends : (lv t e k : ℕ) (a : Bool) (r : Run) → rest g lv t e k a (around ps ts lines r) ≡ extends lv (rest g lv t e k a r)
+  pub rest_extends : (lv t e k : ℕ) (a : Bool) (r : Run) → rest_of_table g lv t e k a (around ps ts lines r) ≡ extends lv (rest_of_table g lv t e k a r)
   rest_extends lv = reads_extend lv (calls_extend (10 - lv) lv refl)
 
   after_call_extends : (lv : ℕ) (f : Frame) (x : Out) → Stops x →
-      after_call f (rest g lv f.table f.entry (suc f.at)) (extends (suc lv) x) ≡ extends lv (after_call f (rest g lv f.table f.entry (suc f.at)) x)
+      after_call f (rest_of_table g lv f.table f.entry (suc f.at)) (extends (suc lv) x)
+      ≡ extends lv (after_call f (rest_of_table g lv f.table f.entry (suc f.at)) x)
   after_call_extends lv f (Left b r) k = rest_extends lv f.table f.entry (suc f.at) (f.acted || b) r
   after_call_extends lv f (Waits p [] r) k = absurd (k.some refl)
   after_call_extends lv f (Waits p (h ∷ path) r) k = refl

@@ -33,9 +33,9 @@ use Rattle.paw_reading.specs.declared.places.OpenLoop.{OpenLoop}
 use Rattle.paw_reading.specs.Run.{Run, closed, fits, printed, with_world, anew, is_ignored, heard, reply, is_yes, is_no, taken_phrase}
 use Rattle.paw_reading.specs.declared.places.Halt.TheVariants as halt
 use Rattle.paw_reading.specs.Reading.{Restarts, Halts, Out, Left, Waits, Stopped, halts, noted, after_call, at_level}
-use Rattle.paw_reading.specs.Reading.{again, is_taken, named, taken, turns, loop_of, over, answered, asked, after_test, after_parse}
-use Rattle.paw_reading.specs.Reading.{after_action, carried_out, acts, reads_one, condacts, is_for_now, entries, plain, looped, reads}
-use Rattle.paw_reading.specs.Reading.{called, deeper, rest, table_read, game_over, waits}
+use Rattle.paw_reading.specs.Reading.{next_object_or, is_taken, named, taken, over_objects, loop_of, over, answered, asked, after_test, after_parse}
+use Rattle.paw_reading.specs.Reading.{after_action, carried_out, acts, reads_one, condacts, is_for_now, entries, from_place, rest_of_loop, read_at_level}
+use Rattle.paw_reading.specs.Reading.{called, deeper, rest_of_table, table_read, game_over, waits}
 use Rattle.paw_reading.specs.GoingOn.{on_path}
 use Rattle.paw_reading.specs.Turn.{first_table}
 use Rattle.paw_reading.specs.inner.Steps.{goodbye, quit_question}
@@ -172,7 +172,7 @@ module _ (g : Story) (v : Valid g.game) (ts : List ℕ) (lv : ℕ) (deep : lengt
   Inside x = Held g.game (ts ++ u ∷ []) ts u x
 
   again_held : (next : OpenLoop → Run → Out) → ((l : OpenLoop) (r : Run) → at_level lv r.turning ≡ Some l → IsSound r → Held g.game ts ts u (next l r))
-      → (x : Out) → Inside x → Held g.game ts ts u (again lv next x)
+      → (x : Out) → Inside x → Held g.game ts ts u (next_object_or lv next x)
   again_held next h (Left a r) k =
       open_or_not (Held g.game ts ts u) (λ l. next l r) (Left a r) (at_level lv r.turning) (λ l e. h l r e k)
       (λ none. narrowed g.game ts lv u r.world r.turning deep none k)
@@ -181,13 +181,13 @@ module _ (g : Story) (v : Valid g.game) (ts : List ℕ) (lv : ℕ) (deep : lengt
 
   turns_held : (l : OpenLoop) (body : Run → Out) → ((o : ℕ) → o < length g.game.objects → IsLoopIn g.game (ts ++ u ∷ []) (record l { last = o }))
       → ((r : Run) → IsSound r → Inside (body r)) → (n : ℕ) → n ≤ length g.game.objects → (r : Run) → IsPlaced g.game r.world
-      → Held g.game ts ts u (turns g lv l body n r)
-  unfolding turns
+      → Held g.game ts ts u (over_objects g lv l body n r)
+  unfolding over_objects
   turns_held l body at h zero few r of = record { of = of; loop = tt }
   turns_held l body at h (suc n) few r of =
       let o : ℕ = length g.game.objects - suc n in
       either (Held g.game ts ts u) (is_taken g.game r.world l o) _ _
-      (again_held (λ _. turns g lv l body n) (λ m s e k. turns_held l body at h n (omega arith) s k.of) (body (taken g.game l o r))
+      (again_held (λ _. over_objects g lv l body n) (λ m s e k. turns_held l body at h n (omega arith) s k.of) (body (taken g.game l o r))
       (h (taken g.game l o r) (record { of = taken_placed g.game l o r of; loop = at o (omega arith) })))
       (turns_held l body at h n (omega arith) r of)
 
@@ -331,23 +331,23 @@ module _ (g : Story) (v : Valid g.game) (ts : List ℕ) (lv : ℕ) (deep : lengt
         (all_left (condacts_of (entry_at g.game u e)) ∙ ap condacts_of at.0) a r h)
         (entries_held (suc e) es at.1 a r h)
 
-    plain_held : (e k : ℕ) → GoesHeld (ts ++ u ∷ []) (plain g sub lv u e k)
+    plain_held : (e k : ℕ) → GoesHeld (ts ++ u ∷ []) (from_place g sub lv u e k)
     plain_held e zero a r h = entries_held e (drop e (table_at g.game u)) refl a r h
     plain_held e (suc k) a r h =
         condacts_held e _ (entries_held (suc e) (drop (suc e) (table_at g.game u)) refl) (suc k) (drop (suc k) (condacts_of (entry_at g.game u e))) refl a r h
 
-    looped_held : (l : OpenLoop) (r : Run) → at_level lv r.turning ≡ Some l → IsSound r → Held g.game ts ts u (looped g sub lv l r)
+    looped_held : (l : OpenLoop) (r : Run) → at_level lv r.turning ≡ Some l → IsSound r → Held g.game ts ts u (rest_of_loop g sub lv l r)
     looped_held l r e h =
         let at = at_level_is lv r.turning l e in
         let is : IsLoopIn g.game (ts ++ u ∷ []) l = subst (λ o. IfSome o (IsLoopIn g.game (ts ++ u ∷ []))) at.1 h.loop in
         let own : u ≡ l.table = same_Some u l.table (sym (get_last ts u) ∙ subst (λ n. slice_get (ts ++ u ∷ []) n ≡ Some l.table) (at.0 ∙ sym deep) is.level) in
-        turns_held (record l { last = 0 }) (plain g sub lv l.table l.entry (suc l.at) true)
+        turns_held (record l { last = 0 }) (from_place g sub lv l.table l.entry (suc l.at) true)
         (λ o few. record { level = is.level; doall = is.doall; place = is.place; last = few })
-        (subst (λ t. (s : Run) → IsSound s → Inside (plain g sub lv t l.entry (suc l.at) true s)) own (plain_held l.entry (suc l.at) true))
+        (subst (λ t. (s : Run) → IsSound s → Inside (from_place g sub lv t l.entry (suc l.at) true s)) own (plain_held l.entry (suc l.at) true))
         (length g.game.objects - suc l.last) (omega arith) r h.of
 
-    reads_held : (e k : ℕ) → GoesHeld ts (reads g sub lv u e k)
-    reads_held e k a r h = again_held (looped g sub lv) looped_held _ (plain_held e k a r h)
+    reads_held : (e k : ℕ) → GoesHeld ts (read_at_level g sub lv u e k)
+    reads_held e k a r h = again_held (rest_of_loop g sub lv) looped_held _ (plain_held e k a r h)
 
 -- ---- levels ----
 
@@ -367,7 +367,7 @@ deeper_held : (g : Story) (v : Valid g.game) (ts : List ℕ) (lv u : ℕ) → le
 deeper_held g v ts lv u deep low = called_held g v (10 - lv) lv (ts ++ u ∷ []) (one_more ts u lv deep) (omega arith)
 
 rest_held : (g : Story) (v : Valid g.game) (ts : List ℕ) (lv u e k : ℕ) → length ts ≡ lv → lv ≤ 10
-    → (a : Bool) (r : Run) → Sound g.game (ts ++ u ∷ []) r.world r.turning → Held g.game ts ts u (rest g lv u e k a r)
+    → (a : Bool) (r : Run) → Sound g.game (ts ++ u ∷ []) r.world r.turning → Held g.game ts ts u (rest_of_table g lv u e k a r)
 rest_held g v ts lv u e k deep low a r h = reads_held g v ts lv deep low u (deeper g lv) (deeper_held g v ts lv u deep low) e k a r h
 
 -- a table that is read from its start
@@ -382,7 +382,7 @@ pub path_held : (g : Story) (v : Valid g.game) (p : Prompt) (code : ℕ) (ts : L
     → Sound g.game (ts ++ tables_of (f ∷ path)) r.world r.turning
     → Held g.game ts ts f.table (on_path g p lv (f ∷ path) r)
 path_held g v p code ts lv f [] r deep asks few leads k =
-    again_held g v ts lv deep (omega arith) f.table (looped g (deeper g lv) lv)
+    again_held g v ts lv deep (omega arith) f.table (rest_of_loop g (deeper g lv) lv)
     (looped_held g v ts lv deep (omega arith) f.table (deeper g lv) (deeper_held g v ts lv f.table deep (omega arith))) _
     (asked_held g v ts lv deep (omega arith) f.table p f code _ asks refl leads
     (plain_held g v ts lv deep (omega arith) f.table (deeper g lv) (deeper_held g v ts lv f.table deep (omega arith)) f.entry (suc f.at)) r r.events k)

@@ -21,9 +21,9 @@ use Rattle.paw_reading.specs.declared.places.Frame.{Frame}
 use Rattle.paw_reading.specs.declared.places.OpenLoop.{OpenLoop}
 use Rattle.paw_reading.specs.Run.{Run, closed, fits, printed, with_world, anew, is_ignored, heard, reply, is_yes, is_no, taken_phrase}
 use Rattle.paw_reading.specs.declared.places.Halt.TheVariants as halt
-use Rattle.paw_reading.specs.Reading.{Restarts, Out, Left, Waits, Stopped, halts, noted, after_call, at_level, again}
-use Rattle.paw_reading.specs.Reading.{taken, turns, loop_of, over, answered, asked, after_test, after_parse, after_action, carried_out}
-use Rattle.paw_reading.specs.Reading.{acts, reads_one, plain, looped, reads, called, deeper, game_over, printing}
+use Rattle.paw_reading.specs.Reading.{Restarts, Out, Left, Waits, Stopped, halts, noted, after_call, at_level, next_object_or}
+use Rattle.paw_reading.specs.Reading.{taken, over_objects, loop_of, over, answered, asked, after_test, after_parse, after_action, carried_out}
+use Rattle.paw_reading.specs.Reading.{acts, reads_one, from_place, rest_of_loop, read_at_level, called, deeper, game_over, printing}
 use Rattle.paw_reading.specs.Reading.{waits}
 use Rattle.paw_reading.specs.inner.Steps.{goodbye, quit_question}
 use Rattle.paw_reading.proofs.EachCondact.{plain_goes}
@@ -87,7 +87,7 @@ at_level_is lv (Some l') l h =
 
 -- a loop of the level that goes on by what closes it is closed
 again_closes : (lv : ℕ) (l : OpenLoop) (next : OpenLoop → Run → Out) → l.level ≡ lv → ((m : OpenLoop) (r : Run) → Keeps None (next m r)) → (x : Out) →
-    Keeps (Some l) x → Keeps None (again lv next x)
+    Keeps (Some l) x → Keeps None (next_object_or lv next x)
 again_closes lv l next own h (Left a r) k =
     open_or_not (Keeps None) (λ m. next m r) (Left a r) (at_level lv r.turning) (λ m e. h m r)
     (λ none. elim k [ inl e ↦ let q : at_level lv r.turning ≡ Some l = rw e (at_level_own lv l own) in cc | inr e ↦ inr e ])
@@ -95,8 +95,8 @@ again_closes lv l next own h (Waits p path r) k = tt
 again_closes lv l next own h (Stopped stop r) k = tt
 
 pub turns_closes : (g : Story) (lv : ℕ) (l : OpenLoop) (body : Run → Out) → l.level ≡ lv → ((r : Run) → Keeps r.turning (body r)) → (n : ℕ) (r : Run) →
-    Keeps None (turns g lv l body n r)
-unfolding turns
+    Keeps None (over_objects g lv l body n r)
+unfolding over_objects
 turns_closes g lv l body own h zero r = inr refl
 turns_closes g lv l body own h (suc n) r =
     let o : ℕ = length g.game.objects - suc n in
@@ -176,23 +176,23 @@ module _ (g : Story) (sub : ℕ → Run → Out) (lv : ℕ) (calls : CallsKeepin
 
   -- ---- tables ----
 
-  pub plain_keeps : (t e k : ℕ) → GoesKeeping (plain g sub lv t e k)
+  pub plain_keeps : (t e k : ℕ) → GoesKeeping (from_place g sub lv t e k)
   plain_keeps t =
       plain_goes (λ r x. Keeps r.turning x) g sub lv t (λ a r. inl refl) (λ r. tt)
       (λ e k a next go hn hg c r few. reads_one_keeps (record { table = t; entry = e; at = k; acted = a }) next go hn hg c r)
 
-  pub looped_closes : (l : OpenLoop) (r : Run) → l.level ≡ lv → Keeps None (looped g sub lv l r)
+  pub looped_closes : (l : OpenLoop) (r : Run) → l.level ≡ lv → Keeps None (rest_of_loop g sub lv l r)
   looped_closes l r own =
       turns_closes g lv (record l { last = 0 }) _ own (plain_keeps l.table l.entry (suc l.at) true) (length g.game.objects - suc l.last) r
 
-  again_keeps : (o : Option OpenLoop) (x : Out) → Keeps o x → Keeps o (again lv (looped g sub lv) x)
+  again_keeps : (o : Option OpenLoop) (x : Out) → Keeps o x → Keeps o (next_object_or lv (rest_of_loop g sub lv) x)
   again_keeps o (Left a r) k =
-      open_or_not (Keeps o) (λ l. looped g sub lv l r) (Left a r) (at_level lv r.turning)
+      open_or_not (Keeps o) (λ l. rest_of_loop g sub lv l r) (Left a r) (at_level lv r.turning)
       (λ l e. Keeps_none o _ (looped_closes l r (at_level_is lv r.turning l e).0)) (λ none. k)
   again_keeps o (Waits p path r) k = tt
   again_keeps o (Stopped stop r) k = tt
 
-  pub reads_keeps : (t e k : ℕ) → GoesKeeping (reads g sub lv t e k)
+  pub reads_keeps : (t e k : ℕ) → GoesKeeping (read_at_level g sub lv t e k)
   reads_keeps t e k a r = again_keeps r.turning _ (plain_keeps t e k a r)
 
 -- a table that is called keeps the loop

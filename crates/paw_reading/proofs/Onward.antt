@@ -10,12 +10,12 @@ use Rattle.paw_effects.specs.declared.act.Effect.TheVariants as effect
 use Rattle.paw_reading.specs.declared.places.Frame.{Frame}
 use Rattle.paw_reading.specs.declared.places.OpenLoop.{OpenLoop}
 use Rattle.paw_reading.specs.Run.{Run, without_loop, heard}
-use Rattle.paw_reading.specs.Reading.{Out, Left, Waits, Stopped, after_call, at_level, again, is_taken, taken, turns, loop_of, over, asked}
-use Rattle.paw_reading.specs.Reading.{reads_one, entries, is_for_now, inside, plain, looped, deeper, rest, game_over}
+use Rattle.paw_reading.specs.Reading.{Out, Left, Waits, Stopped, after_call, at_level, next_object_or, is_taken, taken, over_objects, loop_of, over, asked}
+use Rattle.paw_reading.specs.Reading.{reads_one, entries, is_for_now, rest_of_entry, from_place, rest_of_loop, deeper, rest_of_table, game_over}
 use Rattle.paw_reading.specs.inner.Steps.{goodbye}
 use Rattle.paw_reading.specs.GoingOn.{on_path}
 use Rattle.paw_reading.specs.inner.Rules.{past, at_frame, leaves, looks, goes, MayRead, ReadsEntries, ReadsCondacts, FollowsActions}
-use Rattle.paw_reading.specs.inner.Rules.{TurnsLoops, AnswersPrompts, ReadingOn}
+use Rattle.paw_reading.specs.inner.Rules.{LoopRules, AnswersPrompts, ReadingOn}
 use Rattle.paw_reading.proofs.Lists.{drop_none, drop_some}
 use Rattle.paw_reading.proofs.Keeps.{Keeps, prints, at_level_own, turns_closes, plain_keeps, deeper_keeps}
 use Rattle.paw_reading.proofs.Rules.{within_budget, within_none, inside_end, inside_condact, again_closed, after_call_again, deeper_rest, deeper_none}
@@ -24,13 +24,13 @@ use Rattle.paw_reading.proofs.Rules.{within_budget, within_none, inside_end, ins
 
 module _ (g : Story) (sub : ℕ → Run → Out) (lv : ℕ) where
   -- past the last entry
-  pub plain_end : (t e : ℕ) (a : Bool) (r : Run) → entry_at g.game t e ≡ None → plain g sub lv t e 0 a r ≡ Left a r
+  pub plain_end : (t e : ℕ) (a : Bool) (r : Run) → entry_at g.game t e ≡ None → from_place g sub lv t e 0 a r ≡ Left a r
   unfolding entries
   plain_end t e a r h = rw (drop_none (table_at g.game t) e h) refl
 
   -- at an entry
   pub plain_entry : (t e : ℕ) (en : Entry) (a : Bool) (r : Run) → entry_at g.game t e ≡ Some en →
-      plain g sub lv t e 0 a r ≡ (if is_for_now r en then inside g sub lv t e 0 a r else plain g sub lv t (suc e) 0 a r)
+      from_place g sub lv t e 0 a r ≡ (if is_for_now r en then rest_of_entry g sub lv t e 0 a r else from_place g sub lv t (suc e) 0 a r)
   unfolding entries
   plain_entry t e en a r h = rw (drop_some (table_at g.game t) e en h, h) refl
 
@@ -38,8 +38,8 @@ module _ (g : Story) (sub : ℕ → Run → Out) (lv : ℕ) where
 
 -- the loop of which an object was taken is the one that is open
 pub taken_again : (g : Story) (sub : ℕ → Run → Out) (lv : ℕ) (l : OpenLoop) (o : ℕ) (x : Out) → l.level ≡ lv → Keeps (Some (record l { last = o })) x →
-    again lv (λ _. turns g lv (record l { last = 0 }) (plain g sub lv l.table l.entry (suc l.at) true) (length g.game.objects - suc o)) x
-    ≡ again lv (looped g sub lv) x
+    next_object_or lv (λ _. over_objects g lv (record l { last = 0 }) (from_place g sub lv l.table l.entry (suc l.at) true) (length g.game.objects - suc o)) x
+    ≡ next_object_or lv (rest_of_loop g sub lv) x
 taken_again g sub lv l o (Left a r) own (inl k) =
     let q : at_level lv r.turning ≡ Some (record l { last = o }) = rw k (at_level_own lv (record l { last = o }) own) in rw q refl
 taken_again g sub lv l o (Left a r) own (inr k) = rw k refl
@@ -50,8 +50,8 @@ taken_again g sub lv l o (Stopped stop r) own k = refl
 
 module _ (g : Story) (lv : ℕ) where
   -- what the loop of the level makes of equal readings
-  same : {x y : Out} → x ≡ y → again lv (looped g (deeper g lv) lv) x ≡ again lv (looped g (deeper g lv) lv) y
-  same e = ap (again lv (looped g (deeper g lv) lv)) e
+  same : {x y : Out} → x ≡ y → next_object_or lv (rest_of_loop g (deeper g lv) lv) x ≡ next_object_or lv (rest_of_loop g (deeper g lv) lv) y
+  same e = ap (next_object_or lv (rest_of_loop g (deeper g lv) lv)) e
 
   reads_entries : ReadsEntries g lv
   reads_entries = record {
@@ -64,8 +64,8 @@ module _ (g : Story) (lv : ℕ) where
 
   -- one condact
   one_read : (f : Frame) (c : Condact) (r : Run) → MayRead g f c r →
-      at_frame g lv f r ≡ again lv (looped g (deeper g lv) lv)
-      (reads_one g (deeper g lv) lv f (plain g (deeper g lv) lv f.table (suc f.entry) 0) (plain g (deeper g lv) lv f.table f.entry (suc f.at)) c r)
+      at_frame g lv f r ≡ next_object_or lv (rest_of_loop g (deeper g lv) lv)
+      (reads_one g (deeper g lv) lv f (from_place g (deeper g lv) lv f.table (suc f.entry) 0) (from_place g (deeper g lv) lv f.table f.entry (suc f.at)) c r)
   one_read f c r h =
       same (inside_condact g (deeper g lv) lv f.table f.entry f.at f.acted r c h.stands ∙ within_budget r _ h.left)
 
@@ -92,9 +92,9 @@ module _ (g : Story) (lv : ℕ) where
     go = λ f r. refl;
     exit = λ f a r. refl;
     redescribe = λ f r. refl;
-    call = λ f u r low. after_call_again g (deeper g lv) lv f (plain g (deeper g lv) lv f.table f.entry (suc f.at)) (deeper g lv u r)
+    call = λ f u r low. after_call_again g (deeper g lv) lv f (from_place g (deeper g lv) lv f.table f.entry (suc f.at)) (deeper g lv u r)
         ∙ ap (after_call f (past g lv f)) (deeper_rest g lv u r low);
-    deep = λ f u r h. same (ap (after_call f (plain g (deeper g lv) lv f.table f.entry (suc f.at))) (deeper_none g lv u r h));
+    deep = λ f u r h. same (ap (after_call f (from_place g (deeper g lv) lv f.table f.entry (suc f.at))) (deeper_none g lv u r h));
     loop = begins;
     ask = λ f p r. refl;
     sentence = λ f s bytes r h. rw h refl;
@@ -105,29 +105,29 @@ module _ (g : Story) (lv : ℕ) where
 
   -- of the last objects, counted by n
   passes : (l : OpenLoop) (n o : ℕ) (r : Run) → length g.game.objects - suc n ≡ o → is_taken g.game r.world l o ≡ false →
-      turns g lv (record l { last = 0 }) (plain g (deeper g lv) lv l.table l.entry (suc l.at) true) (suc n) r
-      ≡ turns g lv (record l { last = 0 }) (plain g (deeper g lv) lv l.table l.entry (suc l.at) true) n r
-  unfolding turns
+      over_objects g lv (record l { last = 0 }) (from_place g (deeper g lv) lv l.table l.entry (suc l.at) true) (suc n) r
+      ≡ over_objects g lv (record l { last = 0 }) (from_place g (deeper g lv) lv l.table l.entry (suc l.at) true) n r
+  unfolding over_objects
   passes l n o r e h = rw (e, h) refl
 
   takes_one : (l : OpenLoop) (n o : ℕ) (r : Run) → l.level ≡ lv → length g.game.objects - suc n ≡ o → length g.game.objects - suc o ≡ n →
       is_taken g.game r.world l o ≡ true →
-      turns g lv (record l { last = 0 }) (plain g (deeper g lv) lv l.table l.entry (suc l.at) true) (suc n) r
-      ≡ rest g lv l.table l.entry (suc l.at) true (taken g.game l o r)
-  unfolding turns
+      over_objects g lv (record l { last = 0 }) (from_place g (deeper g lv) lv l.table l.entry (suc l.at) true) (suc n) r
+      ≡ rest_of_table g lv l.table l.entry (suc l.at) true (taken g.game l o r)
+  unfolding over_objects
   takes_one l n o r own e n_is h =
       rw (e, h) (rw n_is at (taken_again g (deeper g lv) lv l o _ own
       (plain_keeps g (deeper g lv) lv (deeper_keeps g lv) l.table l.entry (suc l.at) true (taken g.game l o r))))
 
   none_more : (l : OpenLoop) (n : ℕ) (r : Run) → n ≡ 0 →
-      turns g lv (record l { last = 0 }) (plain g (deeper g lv) lv l.table l.entry (suc l.at) true) n r ≡ Left true (without_loop r)
-  unfolding turns
+      over_objects g lv (record l { last = 0 }) (from_place g (deeper g lv) lv l.table l.entry (suc l.at) true) n r ≡ Left true (without_loop r)
+  unfolding over_objects
   none_more l n r e = rw e refl
 
   looks_above : (a : Bool) (l : OpenLoop) (r : Run) → r.turning ≡ Some l → l.level ≡ lv → leaves g lv a r ≡ looks g lv l (suc l.last) r
   looks_above a l r e own = let q : at_level lv r.turning ≡ Some l = rw e (at_level_own lv l own) in rw q refl
 
-  turns_loops : TurnsLoops g lv
+  turns_loops : LoopRules g lv
   turns_loops = record {
     left = λ a r h. rw h refl;
     looks_on = looks_above;
@@ -147,8 +147,8 @@ module _ (g : Story) (lv : ℕ) where
       here ∙ ap (λ es. Waits p (f ∷ []) (record r { events = es })) (sym h)
 
   -- the end of the game is final
-  over_stays : (r : Run) → again lv (looped g (deeper g lv) lv) (over g r) ≡ over g r
-  over_stays r = prints (λ x. again lv (looped g (deeper g lv) lv) x ≡ x) (goodbye g r) game_over r refl refl
+  over_stays : (r : Run) → next_object_or lv (rest_of_loop g (deeper g lv) lv) (over g r) ≡ over g r
+  over_stays r = prints (λ x. next_object_or lv (rest_of_loop g (deeper g lv) lv) x ≡ x) (goodbye g r) game_over r refl refl
 
   answers_prompts : AnswersPrompts g lv
   unfolding asked

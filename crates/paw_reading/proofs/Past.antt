@@ -13,12 +13,12 @@ use Rattle.paw_effects.specs.declared.act.Prompt.TheVariants as prompt
 use Rattle.paw_reading.specs.declared.places.Frame.{Frame}
 use Rattle.paw_reading.specs.Run.{Run, Step, closed, fits, printed, with_world, line_dropped, is_timeout, is_ignored, heard, taken_phrase}
 use Rattle.paw_reading.specs.declared.places.Halt.TheVariants as halt
-use Rattle.paw_reading.specs.Reading.{Redescribes, Restarts, Halts, Out, Left, Waits, Stopped, rest, table_read, coming_phrase}
+use Rattle.paw_reading.specs.Reading.{Redescribes, Restarts, Halts, Out, Left, Waits, Stopped, rest_of_table, table_read, coming_phrase}
 use Rattle.paw_reading.specs.GoingOn.{on_path}
 use Rattle.paw_reading.specs.inner.GoingOn.{with_lines}
 use Rattle.paw_reading.specs.Turn.{TurnPhase, AtDescribe, AtTimeFrame, AtPhrase, AtResponse, Ending, WaitsAt, Halted, Unended, saying}
 use Rattle.paw_reading.specs.Turn.{described, time_frame_passed, view_text, counted, prompt_text, at_main, after_phrase, refusal_text}
-use Rattle.paw_reading.specs.Turn.{connected, after_left, table_done, turn, phases_left, first_table, goes_on, on, reading}
+use Rattle.paw_reading.specs.Turn.{connected, after_left, table_done, turn, phases_left, first_table, goes_on, going_on_from, reading}
 use Rattle.paw_reading.specs.Turn.{text_of, timeout_text}
 use Rattle.paw_reading.specs.inner.Steps.{line_set, in_table, unknown_text}
 use Rattle.paw_reading.specs.inner.Longer.{with_past, without_past, ending_with_past, PastStays, LongerReading, LongerText}
@@ -154,9 +154,9 @@ past_stays g ps ts p path r = goes_on_past g ps ts (phases_left r) p path r
 -- the reading of more lines has the pieces of some, and then those of going on
 pub longer_reading : LongerReading
 longer_reading g seed es fs p path r e =
-    let whole : reading g seed (es ++ fs) ≡ on g p path (with_lines fs r) = rw e at (going_on_is_reading g seed es fs) in
+    let whole : reading g seed (es ++ fs) ≡ going_on_from g p path (with_lines fs r) = rw e at (going_on_is_reading g seed es fs) in
     let apart : with_past r.pieces r.traces (with_lines fs (without_past r)) ≡ with_lines fs r = rw (append-nil r.pieces, append-nil r.traces) refl in
-    whole ∙ ap (on g p path) (sym apart) ∙ past_stays g r.pieces r.traces p path (with_lines fs (without_past r))
+    whole ∙ ap (going_on_from g p path) (sym apart) ∙ past_stays g r.pieces r.traces p path (with_lines fs (without_past r))
 
 past_text : (ps : List (List ℕ)) (ts : List (List Step)) (x : Ending) → x ≢ Unended →
     text_of (ending_with_past ps ts x) ≡ concat ps ++ text_of x
@@ -168,5 +168,5 @@ past_text ps ts Unended h = absurd (h refl)
 pub longer_text : LongerText
 longer_text g seed es fs p path r e =
     ap text_of (longer_reading g seed es fs p path r e)
-    ∙ past_text r.pieces r.traces (on g p path (with_lines fs (without_past r))) (going_on_ends g p path (with_lines fs (without_past r)))
-    ∙ ap (λ x. text_of x ++ text_of (on g p path (with_lines fs (without_past r)))) (sym e)
+    ∙ past_text r.pieces r.traces (going_on_from g p path (with_lines fs (without_past r))) (going_on_ends g p path (with_lines fs (without_past r)))
+    ∙ ap (λ x. text_of x ++ text_of (going_on_from g p path (with_lines fs (without_past r)))) (sym e)

@@ -22,14 +22,14 @@ use Rattle.paw_reading.specs.declared.places.OpenLoop.{OpenLoop}
 use Rattle.paw_reading.specs.Run.{Run, Step, closed, fits, printed, with_world, line_dropped, is_timeout, is_ignored, heard, taken_phrase}
 use Rattle.paw_reading.specs.declared.places.Halt.TheVariants as halt
 use Rattle.paw_reading.specs.Reading.{Redescribes, Restarts, Halts, Out, Left, Waits, Stopped, table_read, coming_phrase}
-use Rattle.paw_reading.specs.Turn.{TurnPhase, AtDescribe, AtTimeFrame, AtPhrase, AtResponse, Ending, WaitsAt, Halted, reading, on, saying}
+use Rattle.paw_reading.specs.Turn.{TurnPhase, AtDescribe, AtTimeFrame, AtPhrase, AtResponse, Ending, WaitsAt, Halted, reading, going_on_from, saying}
 use Rattle.paw_reading.specs.Turn.{described, time_frame_passed, view_text, counted, prompt_text, at_main, after_phrase, refusal_text}
 use Rattle.paw_reading.specs.Turn.{connected, after_left, table_done, turn, phases_left, opening, first_table, goes_on, timeout_text}
 use Rattle.paw_reading.specs.inner.Steps.{line_set, in_table, unknown_text}
 use Rattle.paw_reading.specs.Bounds.{IsLine, ValidStory}
 use Rattle.paw_reading.specs.inner.Bounds.{IsBounded}
 use Rattle.paw_reading.specs.inner.Longer.{without_past, with_past, ending_with_past}
-use Rattle.paw_reading.specs.inner.Places.{LeadsTo, tables_of, AreOpenTo, ArePlaces, IsLineTaken, StandsRightly, StopsRightly, StopsBounded}
+use Rattle.paw_reading.specs.inner.Places.{LeadsTo, tables_of, AreOpenTo, AreFramesAndLoop, IsLineTaken, StandsRightly, StopsRightly, StopsBounded}
 use Rattle.paw_reading.specs.inner.Places.{ReadingsStopRightly, GoingOnStopsRightly, ReadingsAreBounded, GoingOnIsBounded}
 use Rattle.paw_reading.proofs.Held.{Sound, Held, none_open, table_held, path_held}
 use Rattle.paw_reading.proofs.Keeps.{either}
@@ -60,7 +60,7 @@ open_to g code t path w o low few first leads k = record { few = few; outermost 
 
 -- a wait in tables
 waits_rightly : (g : GameLists) (t code : ℕ) (p : Prompt) (path : List Frame) (r : Run) → t ≤ 2 → AsksAt code p → length path ≤ 11 → first_table path ≡ t
-    → LeadsTo g code path → Sound g (tables_of path) r.world r.turning → (p ≢ prompt.Over) × ArePlaces g p path r.turning
+    → LeadsTo g code path → Sound g (tables_of path) r.world r.turning → (p ≢ prompt.Over) × AreFramesAndLoop g p path r.turning
 waits_rightly g t code prompt.Main path r low asks few first leads k = absurd asks
 waits_rightly g t code prompt.Quit path r low asks few first leads k =
     (λ e. cc, open_to g 27 t path r.world r.turning low few first (subst (λ c. LeadsTo g c path) asks leads) k)
@@ -78,7 +78,7 @@ some_path g code (f ∷ path) r leads = λ e. cc
 
 -- what a run that stops keeps of its places and its line
 record IsPlacedRightly (g : GameLists) (p : Prompt) (path : List Frame) (r : Run) : Type 0 where
-  places : ArePlaces g p path r.turning
+  places : AreFramesAndLoop g p path r.turning
   line : IsLineTaken path r
 
 abbrev StopsPlaced : GameLists → Ending → Type 0
@@ -252,7 +252,7 @@ rests g seed n p path r k bound lines = record {
 -- going on
 pub going_on_is_bounded : GoingOnIsBounded
 going_on_is_bounded g seed n p path r valid lines k bound =
-    stop_bounded g valid seed n (on g p path r) (going_on_sounds g valid seed n p path r (rests g.game seed n p path r k bound lines))
+    stop_bounded g valid seed n (going_on_from g p path r) (going_on_sounds g valid seed n p path r (rests g.game seed n p path r k bound lines))
 
 -- without what was closed before
 apart : (r : Run) → with_past r.pieces r.traces (without_past r) ≡ r
@@ -286,10 +286,10 @@ going_on_stops_rightly g p path r valid lines k =
     (k.world.of.facts, (k.world.of.locations, (k.world.places, (stands_in g.game r.world.saved k.world.saved, all_stand g.game r.world.kept k.world.kept))))
     (record { places = at.places; line = at.line }) in
     let sounds = going_on_sounds g valid r.world.seed r.world.draws p path s resting in
-    let rightly = stop_rightly g valid r.world.seed r.world.draws (on g p path s) placed sounds in
-    subst (λ x. StopsRightly g.game (on g p path x)) (apart r)
+    let rightly = stop_rightly g valid r.world.seed r.world.draws (going_on_from g p path s) placed sounds in
+    subst (λ x. StopsRightly g.game (going_on_from g p path x)) (apart r)
     (subst (StopsRightly g.game) (sym (past_stays g r.pieces r.traces p path s))
-    (placed_past g.game r.pieces r.traces (on g p path s) rightly))
+    (placed_past g.game r.pieces r.traces (going_on_from g p path s) rightly))
   where
     stands_in : (h : GameLists) (saved : Option Position) → MayBePosition h saved → StandsIn h saved
     stands_in h None at = tt

@@ -18,8 +18,8 @@ use Rattle.paw_reading.specs.declared.places.Frame.{Frame}
 use Rattle.paw_reading.specs.declared.places.OpenLoop.{OpenLoop}
 use Rattle.paw_reading.specs.Run.{Run}
 use Rattle.paw_reading.specs.declared.places.Halt.TheVariants as halt
-use Rattle.paw_reading.specs.Reading.{Out, Left, Waits, Stopped, halts, within, after_call, at_level, again}
-use Rattle.paw_reading.specs.Reading.{reads_one, condacts, is_for_now, entries, inside, plain, looped, called, deeper, rest}
+use Rattle.paw_reading.specs.Reading.{Out, Left, Waits, Stopped, halts, within, after_call, at_level, next_object_or}
+use Rattle.paw_reading.specs.Reading.{reads_one, condacts, is_for_now, entries, rest_of_entry, from_place, rest_of_loop, called, deeper, rest_of_table}
 use Rattle.paw_reading.proofs.Lists.{drop_none, drop_some, drop_more}
 use Rattle.paw_reading.proofs.Keeps.{Keeps, CallsKeeping, at_level_is, looped_closes}
 
@@ -32,13 +32,14 @@ within_none r x h = let t : nat_lt (length r.read) READ_LIMIT ≡ false = grind 
 
 module _ (g : Story) (sub : ℕ → Run → Out) (lv : ℕ) where
   -- past the last condact of an entry
-  pub inside_end : (t e k : ℕ) (a : Bool) (r : Run) → condact_at g.game t e k ≡ None → inside g sub lv t e k a r ≡ plain g sub lv t (suc e) 0 a r
+  pub inside_end : (t e k : ℕ) (a : Bool) (r : Run) → condact_at g.game t e k ≡ None → rest_of_entry g sub lv t e k a r ≡ from_place g sub lv t (suc e) 0 a r
   unfolding condacts
   inside_end t e k a r h = rw (drop_none (condacts_of (entry_at g.game t e)) k h) refl
 
   -- at a condact
-  pub inside_condact : (t e k : ℕ) (a : Bool) (r : Run) (c : Condact) → condact_at g.game t e k ≡ Some c → inside g sub lv t e k a r
-      ≡ within r (reads_one g sub lv (record { table = t; entry = e; at = k; acted = a }) (plain g sub lv t (suc e) 0) (plain g sub lv t e (suc k)) c r)
+  pub inside_condact : (t e k : ℕ) (a : Bool) (r : Run) (c : Condact) → condact_at g.game t e k ≡ Some c → rest_of_entry g sub lv t e k a r
+      ≡ within r
+      (reads_one g sub lv (record { table = t; entry = e; at = k; acted = a }) (from_place g sub lv t (suc e) 0) (from_place g sub lv t e (suc k)) c r)
   unfolding condacts
   inside_condact t e k a r c h = rw (drop_some (condacts_of (entry_at g.game t e)) k c h) refl
 
@@ -57,56 +58,59 @@ module _ (g : Story) (sub : ℕ → Run → Out) (lv : ℕ) where
 
   -- the first of these entries that matches
   entries_some : (t e : ℕ) (es : List Entry) (a : Bool) (r : Run) (found : ℕ) → drop e (table_at g.game t) ≡ es →
-      first_match (flag r.world 33) (flag r.world 34) e es ≡ Some found → entries g sub lv t e es a r ≡ inside g sub lv t found 0 a r
+      first_match (flag r.world 33) (flag r.world 34) e es ≡ Some found → entries g sub lv t e es a r ≡ rest_of_entry g sub lv t found 0 a r
   unfolding entries
   entries_some t e [] a r found d h = cc
   entries_some t e (en ∷ es) a r found d h =
       go (entries_some t (suc e) es a r found (drop_more (table_at g.game t) es e en d).1) (is_for_now r en) h
     where
-      here : (j : ℕ) → e ≡ j → condacts g sub lv t e (entries g sub lv t (suc e) es) 0 en.condacts a r ≡ inside g sub lv t j 0 a r
+      here : (j : ℕ) → e ≡ j → condacts g sub lv t e (entries g sub lv t (suc e) es) 0 en.condacts a r ≡ rest_of_entry g sub lv t j 0 a r
       here j q = let m = drop_more (table_at g.game t) es e en d in rw (← q, m.0, m.1) refl
 
-      go : (first_match (flag r.world 33) (flag r.world 34) (suc e) es ≡ Some found → entries g sub lv t (suc e) es a r ≡ inside g sub lv t found 0 a r) →
+      go : (first_match (flag r.world 33) (flag r.world 34) (suc e) es ≡ Some found → entries g sub lv t (suc e) es a r
+          ≡ rest_of_entry g sub lv t found 0 a r) →
           (b : Bool) → ◌≡◌ {A = Option ℕ} (if b then Some e else first_match (flag r.world 33) (flag r.world 34) (suc e) es) (Some found) →
           (if b then condacts g sub lv t e (entries g sub lv t (suc e) es) 0 en.condacts a r else entries g sub lv t (suc e) es a r)
-          ≡ inside g sub lv t found 0 a r
+          ≡ rest_of_entry g sub lv t found 0 a r
       go later true q = let j : e ≡ found = cc in here found j
       go later false q = later q
 
   -- before an entry, where none matches any more
-  pub plain_left : (t e : ℕ) (a : Bool) (r : Run) → match_at g.game t e (flag r.world 33) (flag r.world 34) ≡ None → plain g sub lv t e 0 a r ≡ Left a r
+  pub plain_left : (t e : ℕ) (a : Bool) (r : Run) → match_at g.game t e (flag r.world 33) (flag r.world 34) ≡ None → from_place g sub lv t e 0 a r ≡ Left a r
   plain_left t e a r h = entries_none t e (drop e (table_at g.game t)) a r h
 
   -- before an entry, where this one matches next
   pub plain_match : (t e found : ℕ) (a : Bool) (r : Run) → match_at g.game t e (flag r.world 33) (flag r.world 34) ≡ Some found →
-      plain g sub lv t e 0 a r ≡ inside g sub lv t found 0 a r
+      from_place g sub lv t e 0 a r ≡ rest_of_entry g sub lv t found 0 a r
   plain_match t e found a r h = entries_some t e (drop e (table_at g.game t)) a r found refl h
 
   -- in an entry
-  pub plain_inside : (t e k : ℕ) (a : Bool) (r : Run) → 0 < k → plain g sub lv t e k a r ≡ inside g sub lv t e k a r
+  pub plain_inside : (t e k : ℕ) (a : Bool) (r : Run) → 0 < k → from_place g sub lv t e k a r ≡ rest_of_entry g sub lv t e k a r
   plain_inside t e zero a r h = absurd (omega arith)
   plain_inside t e (suc k) a r h = refl
 
   -- past the last entry
-  pub plain_past : (t e : ℕ) (a : Bool) (r : Run) → length (table_at g.game t) ≤ e → plain g sub lv t e 0 a r ≡ Left a r
+  pub plain_past : (t e : ℕ) (a : Bool) (r : Run) → length (table_at g.game t) ≤ e → from_place g sub lv t e 0 a r ≡ Left a r
   unfolding entries
   plain_past t e a r h = rw (drop_none (table_at g.game t) e (slice_get_past (table_at g.game t) e h)) refl
 
   -- ---- the loop of the level ----
 
   -- what is closed already stays
-  pub again_closed : (next : OpenLoop → Run → Out) (x : Out) → Keeps None x → again lv next x ≡ x
+  pub again_closed : (next : OpenLoop → Run → Out) (x : Out) → Keeps None x → next_object_or lv next x ≡ x
   again_closed next (Left a r) (inl k) = rw k refl
   again_closed next (Left a r) (inr k) = rw k refl
   again_closed next (Waits p path r) k = refl
   again_closed next (Stopped stop r) k = refl
 
   -- once is as good as twice
-  pub again_again : CallsKeeping sub → (x : Out) → again lv (looped g sub lv) (again lv (looped g sub lv) x) ≡ again lv (looped g sub lv) x
+  pub again_again : CallsKeeping sub → (x : Out) → next_object_or lv (rest_of_loop g sub lv) (next_object_or lv (rest_of_loop g sub lv) x)
+      ≡ next_object_or lv (rest_of_loop g sub lv) x
   again_again calls (Left a r) = go (at_level lv r.turning) refl
     where
       go : (o : Option OpenLoop) → at_level lv r.turning ≡ o →
-          again lv (looped g sub lv) (option_map_or (λ l. looped g sub lv l r) o (Left a r)) ≡ option_map_or (λ l. looped g sub lv l r) o (Left a r)
+          next_object_or lv (rest_of_loop g sub lv) (option_map_or (λ l. rest_of_loop g sub lv l r) o (Left a r))
+          ≡ option_map_or (λ l. rest_of_loop g sub lv l r) o (Left a r)
       go None e = rw e refl
       go (Some l) e = again_closed _ _ (looped_closes g sub lv calls l r (at_level_is lv r.turning l e).0)
   again_again calls (Waits p path r) = refl
@@ -114,13 +118,13 @@ module _ (g : Story) (sub : ℕ → Run → Out) (lv : ℕ) where
 
   -- the loop goes on after the call
   pub after_call_again : (f : Frame) (go : Bool → Run → Out) (x : Out) →
-      again lv (looped g sub lv) (after_call f go x) ≡ after_call f (λ a r. again lv (looped g sub lv) (go a r)) x
+      next_object_or lv (rest_of_loop g sub lv) (after_call f go x) ≡ after_call f (λ a r. next_object_or lv (rest_of_loop g sub lv) (go a r)) x
   after_call_again f go (Left b r) = refl
   after_call_again f go (Waits p path r) = refl
   after_call_again f go (Stopped stop r) = refl
 
 -- a table that is called is read at the next level
-pub deeper_rest : (g : Story) (lv u : ℕ) (r : Run) → lv < 10 → deeper g lv u r ≡ rest g (suc lv) u 0 0 false r
+pub deeper_rest : (g : Story) (lv u : ℕ) (r : Run) → lv < 10 → deeper g lv u r ≡ rest_of_table g (suc lv) u 0 0 false r
 unfolding called
 deeper_rest g lv u r h = let e : 10 - lv ≡ suc (10 - suc lv) = omega arith in rw e refl
 

@@ -25,9 +25,9 @@ use Rattle.paw_reading.specs.declared.places.OpenLoop.{OpenLoop}
 use Rattle.paw_reading.specs.Run.{Run, closed, fits, printed, with_world, line_dropped, anew, is_timeout, is_ignored, heard, reply, is_yes, is_no, taken_phrase}
 use Rattle.paw_reading.specs.declared.places.Halt.TheVariants as halt
 use Rattle.paw_reading.specs.Reading.{Restarts, Redescribes, Halts, Out, Left, Waits, Stopped, halts, noted, after_call, at_level}
-use Rattle.paw_reading.specs.Reading.{again, is_taken, named, taken, turns, loop_of, over, answered, asked, after_test, after_parse}
-use Rattle.paw_reading.specs.Reading.{after_action, carried_out, acts, reads_one, condacts, is_for_now, entries, plain, looped, reads}
-use Rattle.paw_reading.specs.Reading.{called, deeper, rest, table_read, game_over, waits, coming_phrase}
+use Rattle.paw_reading.specs.Reading.{next_object_or, is_taken, named, taken, over_objects, loop_of, over, answered, asked, after_test, after_parse}
+use Rattle.paw_reading.specs.Reading.{after_action, carried_out, acts, reads_one, condacts, is_for_now, entries, from_place, rest_of_loop, read_at_level}
+use Rattle.paw_reading.specs.Reading.{called, deeper, rest_of_table, table_read, game_over, waits, coming_phrase}
 use Rattle.paw_reading.specs.GoingOn.{on_path}
 use Rattle.paw_reading.specs.Turn.{TurnPhase, AtDescribe, AtTimeFrame, AtPhrase, AtResponse, Ending, Halted, saying}
 use Rattle.paw_reading.specs.Turn.{described, time_frame_passed, view_text, counted, prompt_text, at_main, after_phrase, refusal_text}
@@ -68,18 +68,20 @@ module _ (g : Story) (never : NeverSaves g.game) (ks : List (Option Position)) w
   taken_kept : (l : OpenLoop) (o : ℕ) (r : Run) → Is r → Is (taken g.game l o r)
   taken_kept l o r k = referred_kept ks (with_flag (named r.world (facts_at g.game o)) 50 o) o (named_kept r.world (facts_at g.game o) k)
 
-  again_keeps : (lv : ℕ) (next : OpenLoop → Run → Out) → ((l : OpenLoop) (r : Run) → Is r → Keeps (next l r)) → (x : Out) → Keeps x → Keeps (again lv next x)
+  again_keeps : (lv : ℕ) (next : OpenLoop → Run → Out) → ((l : OpenLoop) (r : Run) → Is r → Keeps (next l r)) → (x : Out) → Keeps x →
+      Keeps (next_object_or lv next x)
   again_keeps lv next h (Left a r) k = open_or_not Keeps (λ l. next l r) (Left a r) (at_level lv r.turning) (λ l e. h l r k) (λ e. k)
   again_keeps lv next h (Waits p path r) k = k
   again_keeps lv next h (Stopped stop r) k = k
 
-  turns_keep : (lv : ℕ) (l : OpenLoop) (body : Run → Out) → ((r : Run) → Is r → Keeps (body r)) → (n : ℕ) (r : Run) → Is r → Keeps (turns g lv l body n r)
-  unfolding turns
+  turns_keep : (lv : ℕ) (l : OpenLoop) (body : Run → Out) → ((r : Run) → Is r → Keeps (body r)) → (n : ℕ) (r : Run) → Is r →
+      Keeps (over_objects g lv l body n r)
+  unfolding over_objects
   turns_keep lv l body h zero r k = k
   turns_keep lv l body h (suc n) r k =
       let o : ℕ = length g.game.objects - suc n in
       either Keeps (is_taken g.game r.world l o) _ _
-      (again_keeps lv (λ _. turns g lv l body n) (λ m s. turns_keep lv l body h n s) (body (taken g.game l o r))
+      (again_keeps lv (λ _. over_objects g lv l body n) (λ m s. turns_keep lv l body h n s) (body (taken g.game l o r))
       (h (taken g.game l o r) (taken_kept l o r k)))
       (turns_keep lv l body h n r k)
 
@@ -167,19 +169,19 @@ module _ (g : Story) (never : NeverSaves g.game) (ks : List (Option Position)) w
         (all_left (condacts_of (entry_at g.game t e)) ∙ ap condacts_of at.0) a r h)
         (entries_keep t (suc e) es at.1 a r h)
 
-    plain_keeps : (t e k : ℕ) → GoesKeeping (plain g sub lv t e k)
+    plain_keeps : (t e k : ℕ) → GoesKeeping (from_place g sub lv t e k)
     plain_keeps t e zero a r h = entries_keep t e (drop e (table_at g.game t)) refl a r h
     plain_keeps t e (suc k) a r h =
         condacts_keep t e _ (entries_keep t (suc e) (drop (suc e) (table_at g.game t)) refl) (suc k) (drop (suc k) (condacts_of (entry_at g.game t e)))
         refl a r h
 
-    looped_keeps : (l : OpenLoop) (r : Run) → Is r → Keeps (looped g sub lv l r)
+    looped_keeps : (l : OpenLoop) (r : Run) → Is r → Keeps (rest_of_loop g sub lv l r)
     looped_keeps l r =
-        turns_keep lv (record l { last = 0 }) (plain g sub lv l.table l.entry (suc l.at) true) (plain_keeps l.table l.entry (suc l.at) true)
+        turns_keep lv (record l { last = 0 }) (from_place g sub lv l.table l.entry (suc l.at) true) (plain_keeps l.table l.entry (suc l.at) true)
         (length g.game.objects - suc l.last) r
 
-    reads_keep : (t e k : ℕ) → GoesKeeping (reads g sub lv t e k)
-    reads_keep t e k a r h = again_keeps lv (looped g sub lv) looped_keeps _ (plain_keeps t e k a r h)
+    reads_keep : (t e k : ℕ) → GoesKeeping (read_at_level g sub lv t e k)
+    reads_keep t e k a r h = again_keeps lv (rest_of_loop g sub lv) looped_keeps _ (plain_keeps t e k a r h)
 
   -- ---- levels ----
 
@@ -191,7 +193,7 @@ module _ (g : Story) (never : NeverSaves g.game) (ks : List (Option Position)) w
   deeper_keeps : (lv : ℕ) → CallsKeeping (deeper g lv)
   deeper_keeps lv = called_keeps (10 - lv) lv
 
-  rest_keeps : (lv t e k : ℕ) → GoesKeeping (rest g lv t e k)
+  rest_keeps : (lv t e k : ℕ) → GoesKeeping (rest_of_table g lv t e k)
   rest_keeps lv t e k a r h = reads_keep (deeper g lv) lv (deeper_keeps lv) t e k a r h
 
   table_keeps : (t : ℕ) (r : Run) → Is r → Keeps (table_read g t r)
@@ -200,7 +202,7 @@ module _ (g : Story) (never : NeverSaves g.game) (ks : List (Option Position)) w
   path_keeps : (p : Prompt) (lv : ℕ) (path : List Frame) (r : Run) → Is r → Keeps (on_path g p lv path r)
   path_keeps p lv [] r h = h
   path_keeps p lv (f ∷ []) r h =
-      again_keeps lv (looped g (deeper g lv) lv) (looped_keeps (deeper g lv) lv (deeper_keeps lv)) _
+      again_keeps lv (rest_of_loop g (deeper g lv) lv) (looped_keeps (deeper g lv) lv (deeper_keeps lv)) _
       (asked_keeps p f _ (plain_keeps (deeper g lv) lv (deeper_keeps lv) f.table f.entry (suc f.at)) r r.events h)
   path_keeps p lv (f ∷ i ∷ path) r h =
       after_call_keeps f _ (rest_keeps lv f.table f.entry (suc f.at)) _ (path_keeps p (suc lv) (i ∷ path) r h)

@@ -13,7 +13,7 @@ use Rattle.paw_base.specs.declared.fault.SpentKind.TheVariants as spent
 use Rattle.paw_game.specs.declared.parts.Entry.{Entry}
 use Rattle.paw_game.specs.Game.{GameLists}
 use Rattle.paw_game.specs.Tables.{table_at, entry_at, condacts_of, facts_at, exit_at}
-use Rattle.paw_game.specs.Valid.{Valid, is_condact, is_entry, is_any, is_verb_value, has_word}
+use Rattle.paw_game.specs.Valid.{Valid, is_condact, is_entry, is_wildcard, is_verb_value, has_word}
 use Rattle.paw_game.proofs.Kept.{first_of_and, second_of_and, table_kept, entry_kept, exit-leads}
 use Rattle.paw_world.specs.World.{World, flag, with_flag, is_dark, is_unlit, fallen, fallen_if}
 use Rattle.paw_phrase.specs.declared.Sentence.{Sentence}
@@ -36,13 +36,13 @@ use Rattle.paw_reading.specs.Run.{Run, closed, fits, printed, with_world, withou
 use Rattle.paw_reading.specs.Run.{with_timeout, reply, is_yes, is_no, spoken, taken_phrase}
 use Rattle.paw_reading.specs.declared.places.Halt.TheVariants as halt
 use Rattle.paw_reading.specs.Reading.{Redescribes, Restarts, Halts, Out, Left, Waits, Stopped, halts, noted, printing}
-use Rattle.paw_reading.specs.Reading.{after_call, at_level, again, is_taken, named, taken, turns, loop_of, over, answered, asked, waits}
+use Rattle.paw_reading.specs.Reading.{after_call, at_level, next_object_or, is_taken, named, taken, over_objects, loop_of, over, answered, asked, waits}
 use Rattle.paw_reading.specs.Reading.{after_test, after_parse, after_action, carried_out, acts, reads_one, condacts, is_for_now, entries}
-use Rattle.paw_reading.specs.Reading.{plain, looped, reads, called, deeper, table_read, game_over, coming_phrase}
+use Rattle.paw_reading.specs.Reading.{from_place, rest_of_loop, read_at_level, called, deeper, table_read, game_over, coming_phrase}
 use Rattle.paw_reading.specs.GoingOn.{on_path}
 use Rattle.paw_reading.specs.Turn.{TurnPhase, AtDescribe, AtTimeFrame, AtPhrase, AtResponse, Ending, WaitsAt, Halted, saying, described, time_frame_passed}
 use Rattle.paw_reading.specs.Turn.{view_text, counted, prompt_text, at_main, after_phrase, refusal_text, connected, after_left}
-use Rattle.paw_reading.specs.Turn.{table_done, turn, phases_left, opening, reading, first_table, goes_on, on, timeout_text}
+use Rattle.paw_reading.specs.Turn.{table_done, turn, phases_left, opening, reading, first_table, goes_on, going_on_from, timeout_text}
 use Rattle.paw_reading.specs.inner.Steps.{goodbye, quit_question, line_set, in_table, unknown_text}
 use Rattle.paw_reading.proofs.EachCondact.{by_test}
 use Rattle.paw_reading.proofs.Keeps.{either, open_or_not}
@@ -247,19 +247,20 @@ module _ (g : Story) (valid : ValidStory g) (seed base : ℕ) where
   -- ---- loops and calls ----
 
   again_sounds : (lv : ℕ) (next : OpenLoop → Run → Out) → ((l : OpenLoop) (r : Run) → Is r → Sounds (next l r)) → (x : Out) → Sounds x →
-      Sounds (again lv next x)
+      Sounds (next_object_or lv next x)
   again_sounds lv next h (Left a r) k = open_or_not Sounds (λ l. next l r) (Left a r) (at_level lv r.turning) (λ l e. h l r k) (λ e. k)
   again_sounds lv next h (Waits p path r) k = k
   again_sounds lv next h (Stopped stop r) k = k
 
-  turns_sound : (lv : ℕ) (l : OpenLoop) (body : Run → Out) → ((r : Run) → Is r → Sounds (body r)) → (n : ℕ) (r : Run) → Is r → Sounds (turns g lv l body n r)
-  unfolding turns
+  turns_sound : (lv : ℕ) (l : OpenLoop) (body : Run → Out) → ((r : Run) → Is r → Sounds (body r)) → (n : ℕ) (r : Run) → Is r →
+      Sounds (over_objects g lv l body n r)
+  unfolding over_objects
   turns_sound lv l body h zero r k = no_loop r k None
   turns_sound lv l body h (suc n) r k =
       let o : ℕ = length g.game.objects - suc n in
       let small : o < 256 = omega (arith, few_objects g.game v) in
       either Sounds (is_taken g.game r.world l o) _ _
-      (again_sounds lv (λ _. turns g lv l body n) (λ m s j. turns_sound lv l body h n s j) (body (taken g.game l o r))
+      (again_sounds lv (λ _. over_objects g lv l body n) (λ m s j. turns_sound lv l body h n s j) (body (taken g.game l o r))
       (h (taken g.game l o r) (taken_so l o r small k)))
       (turns_sound lv l body h n r k)
 
@@ -372,7 +373,8 @@ module _ (g : Story) (valid : ValidStory g) (seed base : ℕ) where
     entry_condacts : (en : Entry) → IsTrue (is_entry g.game en) → IsTrue (list_all (is_condact g.game) en.condacts)
     entry_condacts en h =
         second_of_and (nat_le (length en.condacts) 255) _
-        (second_of_and (is_any en.noun || has_word g.game.words 2 en.noun) _ (second_of_and (is_any en.verb || is_verb_value g.game.words en.verb) _ h))
+        (second_of_and (is_wildcard en.noun || has_word g.game.words 2 en.noun) _
+        (second_of_and (is_wildcard en.verb || is_verb_value g.game.words en.verb) _ h))
 
     entries_sound : (t e : ℕ) (es : List Entry) → IsTrue (list_all (is_entry g.game) es) → GoesSound (entries g sub lv t e es)
     unfolding entries
@@ -391,7 +393,7 @@ module _ (g : Story) (valid : ValidStory g) (seed base : ℕ) where
     all_condacts None h = refl
     all_condacts (Some en) h = entry_condacts en (h en refl)
 
-    plain_sounds : (t e k : ℕ) → GoesSound (plain g sub lv t e k)
+    plain_sounds : (t e k : ℕ) → GoesSound (from_place g sub lv t e k)
     plain_sounds t e zero a r h = entries_sound t e (drop e (table_at g.game t)) (kept_drop (is_entry g.game) e (table_at g.game t) (table_entries t)) a r h
     plain_sounds t e (suc k) a r h =
         condacts_sound t e _ (entries_sound t (suc e) (drop (suc e) (table_at g.game t))
@@ -400,11 +402,11 @@ module _ (g : Story) (valid : ValidStory g) (seed base : ℕ) where
         (kept_drop (is_condact g.game) (suc k) (condacts_of (entry_at g.game t e))
         (all_condacts (entry_at g.game t e) (λ en q. entry_kept g.game v t e en q))) a r h
 
-    looped_sounds : (l : OpenLoop) (r : Run) → Is r → Sounds (looped g sub lv l r)
+    looped_sounds : (l : OpenLoop) (r : Run) → Is r → Sounds (rest_of_loop g sub lv l r)
     looped_sounds l r h = turns_sound lv (record l { last = 0 }) _ (plain_sounds l.table l.entry (suc l.at) true) (length g.game.objects - suc l.last) r h
 
-    reads_sound : (t e k : ℕ) → GoesSound (reads g sub lv t e k)
-    reads_sound t e k a r h = again_sounds lv (looped g sub lv) looped_sounds _ (plain_sounds t e k a r h)
+    reads_sound : (t e k : ℕ) → GoesSound (read_at_level g sub lv t e k)
+    reads_sound t e k a r h = again_sounds lv (rest_of_loop g sub lv) looped_sounds _ (plain_sounds t e k a r h)
 
   called_sounds : (n lv : ℕ) → CallsSound (called g n lv)
   unfolding called
@@ -418,7 +420,7 @@ module _ (g : Story) (valid : ValidStory g) (seed base : ℕ) where
   path_sounds : (p : Prompt) (lv : ℕ) (path : List Frame) (r : Run) → Rests r → Sounds (on_path g p lv path r)
   path_sounds p lv [] r k = k.sound
   path_sounds p lv (f ∷ []) r k =
-      again_sounds lv (looped g (deeper g lv) lv) (looped_sounds (deeper g lv) lv (called_sounds (10 - lv) lv)) _
+      again_sounds lv (rest_of_loop g (deeper g lv) lv) (looped_sounds (deeper g lv) lv (called_sounds (10 - lv) lv)) _
       (asked_sounds p f _ (plain_sounds (deeper g lv) lv (called_sounds (10 - lv) lv) f.table f.entry (suc f.at)) r r.events k k.sound.lines)
   path_sounds p lv (f ∷ h ∷ path) r k =
       after_call_sounds f _ (reads_sound (deeper g lv) lv (called_sounds (10 - lv) lv) f.table f.entry (suc f.at)) _ (path_sounds p (suc lv) (h ∷ path) r k)
@@ -563,5 +565,5 @@ module _ (g : Story) (valid : ValidStory g) (seed base : ℕ) where
   goes_on_sounds n prompt.Key path r k = in_table_sounds n prompt.Key path r k
   goes_on_sounds n prompt.Over path r k = k
 
-  pub going_on_sounds : (p : Prompt) (path : List Frame) (r : Run) → Rests r → EndsSound (on g p path r)
+  pub going_on_sounds : (p : Prompt) (path : List Frame) (r : Run) → Rests r → EndsSound (going_on_from g p path r)
   going_on_sounds p path r k = goes_on_sounds (phases_left r) p path r k

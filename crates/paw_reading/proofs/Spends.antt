@@ -8,7 +8,7 @@ use Rattle.paw_base.specs.declared.fault.SpentKind.TheVariants as spent
 use Rattle.paw_effects.specs.Story.{Story}
 use Rattle.paw_world.specs.World.{flag}
 use Rattle.paw_phrase.specs.Sentence.{Parsed, IsSentence, IsUnknown, IsNoPhrase}
-use Rattle.paw_phrase.proofs.Phrases.{Leaves, parsed-shorter}
+use Rattle.paw_phrase.proofs.Phrases.{LeavesBytes, parsed-shorter}
 use Rattle.paw_effects.specs.declared.act.Prompt.{Prompt}
 use Rattle.paw_effects.specs.declared.act.Prompt.TheVariants as prompt
 use Rattle.paw_effects.specs.declared.act.Truth.{Truth}
@@ -21,9 +21,10 @@ use Rattle.paw_reading.specs.declared.places.Frame.{Frame}
 use Rattle.paw_reading.specs.declared.places.OpenLoop.{OpenLoop}
 use Rattle.paw_reading.specs.Run.{Run, closed, fits, printed, with_world, anew, is_ignored, heard, reply, is_yes, is_no, taken_phrase}
 use Rattle.paw_reading.specs.declared.places.Halt.TheVariants as halt
-use Rattle.paw_reading.specs.Reading.{Restarts, Halts, Out, Left, Waits, Stopped, halts, noted, after_call, at_level, again}
-use Rattle.paw_reading.specs.Reading.{is_taken, taken, turns, loop_of, over, answered, asked, after_test, after_parse, after_action}
-use Rattle.paw_reading.specs.Reading.{carried_out, acts, reads_one, plain, looped, reads, called, deeper, rest, table_read, coming_phrase}
+use Rattle.paw_reading.specs.Reading.{Restarts, Halts, Out, Left, Waits, Stopped, halts, noted, after_call, at_level, next_object_or}
+use Rattle.paw_reading.specs.Reading.{is_taken, taken, over_objects, loop_of, over, answered, asked, after_test, after_parse, after_action}
+use Rattle.paw_reading.specs.Reading.{carried_out, acts, reads_one, from_place, rest_of_loop, read_at_level, called, deeper, rest_of_table, table_read}
+use Rattle.paw_reading.specs.Reading.{coming_phrase}
 use Rattle.paw_reading.specs.Reading.{game_over, waits}
 use Rattle.paw_reading.specs.GoingOn.{on_path}
 use Rattle.paw_reading.specs.Turn.{left_to_read}
@@ -64,19 +65,21 @@ CallsSpending sub = (u : ℕ) → IsSpending (sub u)
 
 -- ---- loops and calls ----
 
-again_spends : (lv : ℕ) (next : OpenLoop → Run → Out) → ((l : OpenLoop) → IsSpending (next l)) → (v : ℕ) (x : Out) → Spends v x → Spends v (again lv next x)
+again_spends : (lv : ℕ) (next : OpenLoop → Run → Out) → ((l : OpenLoop) → IsSpending (next l)) → (v : ℕ) (x : Out) → Spends v x →
+    Spends v (next_object_or lv next x)
 again_spends lv next h v (Left a r) k =
     open_or_not (Spends v) (λ l. next l r) (Left a r) (at_level lv r.turning) (λ l e. Spends_up (left_to_read r) v k (next l r) (h l r)) (λ e. k)
 again_spends lv next h v (Waits p path r) k = tt
 again_spends lv next h v (Stopped stop r) k = k
 
-turns_spend : (g : Story) (lv : ℕ) (l : OpenLoop) (body : Run → Out) → IsSpending body → (n : ℕ) → IsSpending (turns g lv l body n)
-unfolding turns
+turns_spend : (g : Story) (lv : ℕ) (l : OpenLoop) (body : Run → Out) → IsSpending body → (n : ℕ) → IsSpending (over_objects g lv l body n)
+unfolding over_objects
 turns_spend g lv l body h zero r = omega arith
 turns_spend g lv l body h (suc n) r =
     let o : ℕ = length g.game.objects - suc n in
     either (Spends (left_to_read r)) (is_taken g.game r.world l o) _ _
-    (again_spends lv (λ _. turns g lv l body n) (λ m s. turns_spend g lv l body h n s) (left_to_read r) (body (taken g.game l o r)) (h (taken g.game l o r)))
+    (again_spends lv (λ _. over_objects g lv l body n) (λ m s. turns_spend g lv l body h n s) (left_to_read r) (body (taken g.game l o r))
+    (h (taken g.game l o r)))
     (turns_spend g lv l body h n r)
 
 after_call_spends : (f : Frame) (go : Bool → Run → Out) → AreSpending go → (v : ℕ) (x : Out) → Spends v x → Spends v (after_call f go x)
@@ -111,7 +114,7 @@ asked_spends g p f go h r (line ∷ lines) =
 -- ---- one condact ----
 
 after_parse_spends : (f : Frame) (next go : Bool → Run → Out) → AreSpending next → AreSpending go → (r : Run) (p : Parsed) →
-    Leaves (λ rest. length rest < length r.pending) p → Spends (left_to_read r) (after_parse f next go r p)
+    LeavesBytes (λ rest. length rest < length r.pending) p → Spends (left_to_read r) (after_parse f next go r p)
 after_parse_spends f next go hn hg r (IsSentence s rest) k =
     Spends_up (left_to_read (taken_phrase s rest r)) _ (omega arith) _ (hn f.acted (taken_phrase s rest r))
 after_parse_spends f next go hn hg r (IsUnknown rest) k =
@@ -169,18 +172,18 @@ module _ (g : Story) (sub : ℕ → Run → Out) (lv : ℕ) (calls : CallsSpendi
 
   -- ---- tables ----
 
-  plain_spends : (t e k : ℕ) → AreSpending (plain g sub lv t e k)
+  plain_spends : (t e k : ℕ) → AreSpending (from_place g sub lv t e k)
   plain_spends t =
       plain_goes (λ r x. Spends (left_to_read r) x) g sub lv t (λ a r. omega arith) (λ r. tt)
       (λ e k a next go hn hg c r few. reads_one_spends (record { table = t; entry = e; at = k; acted = a }) next go hn hg c r few)
 
-  looped_spends : (l : OpenLoop) → IsSpending (looped g sub lv l)
+  looped_spends : (l : OpenLoop) → IsSpending (rest_of_loop g sub lv l)
   looped_spends l r = turns_spend g lv (record l { last = 0 }) _ (plain_spends l.table l.entry (suc l.at) true) (length g.game.objects - suc l.last) r
 
-  pub again_looped_spends : (v : ℕ) (x : Out) → Spends v x → Spends v (again lv (looped g sub lv) x)
-  again_looped_spends v x k = again_spends lv (looped g sub lv) looped_spends v x k
+  pub again_looped_spends : (v : ℕ) (x : Out) → Spends v x → Spends v (next_object_or lv (rest_of_loop g sub lv) x)
+  again_looped_spends v x k = again_spends lv (rest_of_loop g sub lv) looped_spends v x k
 
-  reads_spend : (t e k : ℕ) → AreSpending (reads g sub lv t e k)
+  reads_spend : (t e k : ℕ) → AreSpending (read_at_level g sub lv t e k)
   reads_spend t e k a r = again_looped_spends (left_to_read r) _ (plain_spends t e k a r)
 
 called_spend : (g : Story) (n lv : ℕ) → CallsSpending (called g n lv)
@@ -189,7 +192,7 @@ called_spend g zero lv u r = tt
 called_spend g (suc n) lv u r = reads_spend g (called g n (suc lv)) (suc lv) (called_spend g n (suc lv)) u 0 0 false r
 
 -- reading on at a level spends
-pub rest_spends : (g : Story) (lv t e k : ℕ) → AreSpending (rest g lv t e k)
+pub rest_spends : (g : Story) (lv t e k : ℕ) → AreSpending (rest_of_table g lv t e k)
 rest_spends g lv t e k a r = reads_spend g (deeper g lv) lv (called_spend g (10 - lv) lv) t e k a r
 
 pub table_spends : (g : Story) (t : ℕ) → IsSpending (table_read g t)

@@ -20,9 +20,9 @@ use Rattle.paw_reading.specs.declared.places.Frame.{Frame}
 use Rattle.paw_reading.specs.declared.places.OpenLoop.{OpenLoop}
 use Rattle.paw_reading.specs.Run.{Run, closed, fits, printed, with_world, anew, is_ignored, heard, reply, is_yes, is_no, taken_phrase}
 use Rattle.paw_reading.specs.declared.places.Halt.TheVariants as halt
-use Rattle.paw_reading.specs.Reading.{Restarts, Out, Left, Waits, Stopped, halts, noted, after_call, at_level, again, is_taken}
-use Rattle.paw_reading.specs.Reading.{taken, turns, loop_of, over, answered, asked, after_test, after_parse, after_action, carried_out}
-use Rattle.paw_reading.specs.Reading.{acts, reads_one, plain, looped, reads, called, deeper, rest, table_read, game_over}
+use Rattle.paw_reading.specs.Reading.{Restarts, Out, Left, Waits, Stopped, halts, noted, after_call, at_level, next_object_or, is_taken}
+use Rattle.paw_reading.specs.Reading.{taken, over_objects, loop_of, over, answered, asked, after_test, after_parse, after_action, carried_out}
+use Rattle.paw_reading.specs.Reading.{acts, reads_one, from_place, rest_of_loop, read_at_level, called, deeper, rest_of_table, table_read, game_over}
 use Rattle.paw_reading.specs.Reading.{waits}
 use Rattle.paw_reading.specs.GoingOn.{on_path}
 use Rattle.paw_reading.specs.Turn.{first_table}
@@ -57,14 +57,14 @@ module _ (t : ℕ) where
 
   again_stays : (lv : ℕ) (next : OpenLoop → Run → Out) →
       ((l : OpenLoop) (r : Run) → at_level lv r.turning ≡ Some l → IsLoopOf t r.turning → Stays t lv (next l r))
-      → (x : Out) → Stays t lv x → Stays t lv (again lv next x)
+      → (x : Out) → Stays t lv x → Stays t lv (next_object_or lv next x)
   again_stays lv next h (Left a r) k = open_or_not (Stays t lv) (λ l. next l r) (Left a r) (at_level lv r.turning) (λ l e. h l r e k) (λ none. k)
   again_stays lv next h (Waits p path r) k = k
   again_stays lv next h (Stopped stop r) k = tt
 
   turns_stays : (g : Story) (lv : ℕ) (l : OpenLoop) (body : Run → Out) → IsOwn l.level l.table → ((r : Run) → IsLoopOf t r.turning → Stays t lv (body r))
-      → (n : ℕ) (r : Run) → Stays t lv (turns g lv l body n r)
-  unfolding turns
+      → (n : ℕ) (r : Run) → Stays t lv (over_objects g lv l body n r)
+  unfolding over_objects
   turns_stays g lv l body own h zero r = tt
   turns_stays g lv l body own h (suc n) r =
       let o : ℕ = length g.game.objects - suc n in
@@ -149,33 +149,33 @@ module _ (t : ℕ) where
 
     -- ---- tables ----
 
-    plain_stays : (u e k : ℕ) → IsOwn lv u → GoesStaying lv (plain g sub lv u e k)
+    plain_stays : (u e k : ℕ) → IsOwn lv u → GoesStaying lv (from_place g sub lv u e k)
     plain_stays u e k own =
         plain_goes (λ r x. IsLoopOf t r.turning → Stays t lv x) g sub lv u (λ a r h. h) (λ r h. tt)
         (λ i m a next go hn hg c r few h. reads_one_stays (record { table = u; entry = i; at = m; acted = a }) next go own hn hg c r h) e k
 
-    looped_stays : (l : OpenLoop) (r : Run) → at_level lv r.turning ≡ Some l → IsLoopOf t r.turning → Stays t lv (looped g sub lv l r)
+    looped_stays : (l : OpenLoop) (r : Run) → at_level lv r.turning ≡ Some l → IsLoopOf t r.turning → Stays t lv (rest_of_loop g sub lv l r)
     looped_stays l r e h =
         let at = at_level_is lv r.turning l e in
         let own : IsOwn l.level l.table = subst (IsLoopOf t) at.1 h in
         turns_stays g lv (record l { last = 0 }) _ own
         (plain_stays l.table l.entry (suc l.at) (λ z. own (at.0 ∙ z)) true) (length g.game.objects - suc l.last) r
 
-    reads_stay : (u e k : ℕ) → IsOwn lv u → GoesStaying lv (reads g sub lv u e k)
-    reads_stay u e k own a r h = again_stays lv (looped g sub lv) looped_stays _ (plain_stays u e k own a r h)
+    reads_stay : (u e k : ℕ) → IsOwn lv u → GoesStaying lv (read_at_level g sub lv u e k)
+    reads_stay u e k own a r h = again_stays lv (rest_of_loop g sub lv) looped_stays _ (plain_stays u e k own a r h)
 
   called_stays : (g : Story) (n lv : ℕ) → CallsStaying lv (called g n lv)
   unfolding called
   called_stays g zero lv u r h = tt
   called_stays g (suc n) lv u r h = reads_stay g (called g n (suc lv)) (suc lv) (called_stays g n (suc lv)) u 0 0 (λ z. cc) false r h
 
-  pub rest_stays : (g : Story) (lv u e k : ℕ) → IsOwn lv u → GoesStaying lv (rest g lv u e k)
+  pub rest_stays : (g : Story) (lv u e k : ℕ) → IsOwn lv u → GoesStaying lv (rest_of_table g lv u e k)
   rest_stays g lv u e k own a r h = reads_stay g (deeper g lv) lv (called_stays g (10 - lv) lv) u e k own a r h
 
   path_stays : (g : Story) (p : Prompt) (lv : ℕ) (f : Frame) (path : List Frame) (r : Run) → IsInner p → IsOwn lv f.table → IsLoopOf t r.turning
       → Stays t lv (on_path g p lv (f ∷ path) r)
   path_stays g p lv f [] r inner own h =
-      again_stays lv (looped g (deeper g lv) lv) (looped_stays g (deeper g lv) lv (called_stays g (10 - lv) lv)) _
+      again_stays lv (rest_of_loop g (deeper g lv) lv) (looped_stays g (deeper g lv) lv (called_stays g (10 - lv) lv)) _
       (asked_stays g p lv f _ inner own (plain_stays g (deeper g lv) lv (called_stays g (10 - lv) lv) f.table f.entry (suc f.at) own) r r.events h)
   path_stays g p lv f (i ∷ path) r inner own h =
       after_call_stays lv f _ own (rest_stays g lv f.table f.entry (suc f.at) own) _ (path_stays g p (suc lv) i path r inner (λ z. cc) h)

@@ -16,9 +16,9 @@ use Rattle.paw_reading.specs.declared.places.Frame.{Frame}
 use Rattle.paw_reading.specs.declared.places.OpenLoop.{OpenLoop}
 use Rattle.paw_reading.specs.Run.{Run, closed, fits, printed, with_world, anew, is_ignored, heard, reply, is_yes, is_no, taken_phrase}
 use Rattle.paw_reading.specs.declared.places.Halt.TheVariants as halt
-use Rattle.paw_reading.specs.Reading.{Restarts, Halts, Out, Left, Waits, Stopped, halts, noted, after_call, at_level, again}
-use Rattle.paw_reading.specs.Reading.{is_taken, taken, turns, loop_of, over, answered, asked, after_test, after_parse, after_action}
-use Rattle.paw_reading.specs.Reading.{carried_out, acts, reads_one, plain, looped, reads, called, deeper, rest, game_over}
+use Rattle.paw_reading.specs.Reading.{Restarts, Halts, Out, Left, Waits, Stopped, halts, noted, after_call, at_level, next_object_or}
+use Rattle.paw_reading.specs.Reading.{is_taken, taken, over_objects, loop_of, over, answered, asked, after_test, after_parse, after_action}
+use Rattle.paw_reading.specs.Reading.{carried_out, acts, reads_one, from_place, rest_of_loop, read_at_level, called, deeper, rest_of_table, game_over}
 use Rattle.paw_reading.specs.Reading.{waits}
 use Rattle.paw_reading.specs.inner.Steps.{goodbye, quit_question}
 use Rattle.paw_reading.specs.GoingOn.{on_path}
@@ -44,18 +44,18 @@ CallsStopping sub = (u : ℕ) (r : Run) → Stops (sub u r)
 
 -- ---- loops and calls ----
 
-again_stops : (lv : ℕ) (next : OpenLoop → Run → Out) → ((l : OpenLoop) (r : Run) → Stops (next l r)) → (x : Out) → Stops x → Stops (again lv next x)
+again_stops : (lv : ℕ) (next : OpenLoop → Run → Out) → ((l : OpenLoop) (r : Run) → Stops (next l r)) → (x : Out) → Stops x → Stops (next_object_or lv next x)
 again_stops lv next h (Left a r) k = open_or_not Stops (λ l. next l r) (Left a r) (at_level lv r.turning) (λ l e. h l r) (λ e. tt)
 again_stops lv next h (Waits p path r) k = k
 again_stops lv next h (Stopped stop r) k = k
 
-turns_stop : (g : Story) (lv : ℕ) (l : OpenLoop) (body : Run → Out) → ((r : Run) → Stops (body r)) → (n : ℕ) (r : Run) → Stops (turns g lv l body n r)
-unfolding turns
+turns_stop : (g : Story) (lv : ℕ) (l : OpenLoop) (body : Run → Out) → ((r : Run) → Stops (body r)) → (n : ℕ) (r : Run) → Stops (over_objects g lv l body n r)
+unfolding over_objects
 turns_stop g lv l body h zero r = tt
 turns_stop g lv l body h (suc n) r =
     let o : ℕ = length g.game.objects - suc n in
     either Stops (is_taken g.game r.world l o) _ _
-    (again_stops lv (λ _. turns g lv l body n) (λ m s. turns_stop g lv l body h n s) (body (taken g.game l o r)) (h (taken g.game l o r)))
+    (again_stops lv (λ _. over_objects g lv l body n) (λ m s. turns_stop g lv l body h n s) (body (taken g.game l o r)) (h (taken g.game l o r)))
     (turns_stop g lv l body h n r)
 
 pub after_call_stops : (f : Frame) (go : Bool → Run → Out) → AreStopping go → (x : Out) → Stops x → Stops (after_call f go x)
@@ -119,18 +119,18 @@ module _ (g : Story) (sub : ℕ → Run → Out) (lv : ℕ) (calls : CallsStoppi
 
   -- ---- tables ----
 
-  plain_stops : (t e k : ℕ) → AreStopping (plain g sub lv t e k)
+  plain_stops : (t e k : ℕ) → AreStopping (from_place g sub lv t e k)
   plain_stops t =
       plain_goes (λ r x. Stops x) g sub lv t (λ a r. tt) (λ r. tt)
       (λ e k a next go hn hg c r few. reads_one_stops (record { table = t; entry = e; at = k; acted = a }) next go hn hg c r)
 
-  looped_stops : (l : OpenLoop) (r : Run) → Stops (looped g sub lv l r)
+  looped_stops : (l : OpenLoop) (r : Run) → Stops (rest_of_loop g sub lv l r)
   looped_stops l r = turns_stop g lv (record l { last = 0 }) _ (plain_stops l.table l.entry (suc l.at) true) (length g.game.objects - suc l.last) r
 
-  again_looped_stops : (x : Out) → Stops x → Stops (again lv (looped g sub lv) x)
-  again_looped_stops x k = again_stops lv (looped g sub lv) looped_stops x k
+  again_looped_stops : (x : Out) → Stops x → Stops (next_object_or lv (rest_of_loop g sub lv) x)
+  again_looped_stops x k = again_stops lv (rest_of_loop g sub lv) looped_stops x k
 
-  reads_stop : (t e k : ℕ) → AreStopping (reads g sub lv t e k)
+  reads_stop : (t e k : ℕ) → AreStopping (read_at_level g sub lv t e k)
   reads_stop t e k a r = again_looped_stops _ (plain_stops t e k a r)
 
 called_stops : (g : Story) (n lv : ℕ) → CallsStopping (called g n lv)
@@ -142,7 +142,7 @@ pub deeper_stops : (g : Story) (lv : ℕ) → CallsStopping (deeper g lv)
 deeper_stops g lv = called_stops g (10 - lv) lv
 
 -- reading on at a level stops so
-pub rest_stops : (g : Story) (lv t e k : ℕ) → AreStopping (rest g lv t e k)
+pub rest_stops : (g : Story) (lv t e k : ℕ) → AreStopping (rest_of_table g lv t e k)
 rest_stops g lv t e k a r = reads_stop g (deeper g lv) lv (deeper_stops g lv) t e k a r
 
 -- so does going on along a path

@@ -5,16 +5,16 @@ use Rattle.paw_effects.specs.declared.act.Prompt.{Prompt}
 use Rattle.paw_effects.specs.declared.act.Prompt.TheVariants as prompt
 use Rattle.paw_reading.specs.declared.places.Frame.{Frame}
 use Rattle.paw_reading.specs.Run.{Run}
-use Rattle.paw_reading.specs.Reading.{Waits, after_call, asked, rest}
+use Rattle.paw_reading.specs.Reading.{Waits, after_call, asked, rest_of_table}
 use Rattle.paw_reading.specs.GoingOn.{on_path}
-use Rattle.paw_reading.specs.Turn.{WaitsAt, at_main, table_done, turn, phases_left, first_table, on}
+use Rattle.paw_reading.specs.Turn.{WaitsAt, at_main, table_done, turn, phases_left, first_table, going_on_from}
 use Rattle.paw_reading.specs.inner.Turn.{MayWaitAlong, WaitsOn}
 
 path_waits : (g : Story) (p : Prompt) (lv : ℕ) (f : Frame) (path : List Frame) (r : Run) →
     on_path g p lv (f ∷ path) (record r { events = [] }) ≡ Waits p (f ∷ path) (record r { events = [] })
 unfolding asked
 path_waits g p lv f [] r = refl
-path_waits g p lv f (h ∷ path) r = ap (after_call f (rest g lv f.table f.entry (suc f.at))) (path_waits g p (suc lv) h path r)
+path_waits g p lv f (h ∷ path) r = ap (after_call f (rest_of_table g lv f.table f.entry (suc f.at))) (path_waits g p (suc lv) h path r)
 
 -- along some frames
 pub some_waits : (g : Story) (p : Prompt) (path : List Frame) (r : Run) → 0 < length path →
@@ -27,7 +27,7 @@ in_tables : (g : Story) (n : ℕ) (p : Prompt) (path : List Frame) (r : Run) →
 in_tables g n p path r some = ap (table_done g (turn g n) (first_table path)) (some_waits g p path r some)
 
 at_once : (g : Story) (p : Prompt) (path : List Frame) (r : Run) → MayWaitAlong p path →
-    on g p path (record r { events = [] }) ≡ WaitsAt p path (record r { events = [] })
+    going_on_from g p path (record r { events = [] }) ≡ WaitsAt p path (record r { events = [] })
 unfolding at_main
 at_once g prompt.Main path r none = rw none refl
 at_once g prompt.Quit path r some = in_tables g (phases_left (record r { events = [] })) prompt.Quit path r some
@@ -37,4 +37,4 @@ at_once g prompt.Over path r some = absurd some
 
 pub waits_on : WaitsOn
 waits_on g p path r may none =
-    let same : record r { events = [] } ≡ r = rw none refl in subst (λ s. on g p path s ≡ WaitsAt p path s) same (at_once g p path r may)
+    let same : record r { events = [] } ≡ r = rw none refl in subst (λ s. going_on_from g p path s ≡ WaitsAt p path s) same (at_once g p path r may)

@@ -99,9 +99,9 @@ at_level lv None = None
 at_level lv (Some l) = if l.level == lv then Some l else None
 
 -- Where a table is left at the level of the open loop, reading goes on with the loop's next object; all else stays.
-abbrev pub again : ℕ → (OpenLoop → Run → Out) → Out → Out
-again lv next (Left a r) = option_map_or (λ l. next l r) (at_level lv r.turning) (Left a r)
-again lv next x = x
+abbrev pub next_object_or : ℕ → (OpenLoop → Run → Out) → Out → Out
+next_object_or lv next (Left a r) = option_map_or (λ l. next l r) (at_level lv r.turning) (Left a r)
+next_object_or lv next x = x
 
 -- Whether the sentence excepts an object: its second noun is the object's, and so is its second adjective, if any.
 abbrev pub is_excepted : World → ObjectFacts → Bool
@@ -130,12 +130,12 @@ taken g l o r = record r {
 
 -- Runs the loop over its last n objects, in rising order. For each that it takes, body is read; after the last the loop
 -- is closed, and the table is left with an action carried out.
-unfoldable pub turns : Story → ℕ → OpenLoop → (Run → Out) → ℕ → Run → Out
-turns g lv l body zero r = Left true (without_loop r)
-turns g lv l body (suc n) r =
+unfoldable pub over_objects : Story → ℕ → OpenLoop → (Run → Out) → ℕ → Run → Out
+over_objects g lv l body zero r = Left true (without_loop r)
+over_objects g lv l body (suc n) r =
     if is_taken g.game r.world l (length g.game.objects - suc n)
-    then again lv (λ _. turns g lv l body n) (body (taken g.game l (length g.game.objects - suc n) r))
-    else turns g lv l body n r
+    then next_object_or lv (λ _. over_objects g lv l body n) (body (taken g.game l (length g.game.objects - suc n) r))
+    else over_objects g lv l body n r
 
 -- The loop that the DOALL at this frame opens over a place.
 abbrev pub loop_of : ℕ → Frame → ℕ → OpenLoop
@@ -201,7 +201,8 @@ after_action g sub lv f next go effect.Go r = go true r
 after_action g sub lv f next go (effect.Exit a) r = Left a r
 after_action g sub lv f next go effect.Redescribe r = Stopped Redescribes (without_loop r)
 after_action g sub lv f next go (effect.Call u) r = after_call f go (sub u r)
-after_action g sub lv f next go (effect.Loop p) r = turns g lv (loop_of lv f p) (go true) (length g.game.objects) r
+after_action g sub lv f next go (effect.Loop p) r =
+    over_objects g lv (loop_of lv f p) (go true) (length g.game.objects) r
 after_action g sub lv f next go (effect.Ask p) r = waits g p f go r
 after_action g sub lv f next go effect.Parse r = after_parse f next go r (coming_phrase g r)
 after_action g sub lv f next go effect.Spent r = halts (halt.Spent spent.Text) r
@@ -249,39 +250,39 @@ entries g sub lv t e (en ∷ es) acted r =
     else entries g sub lv t (suc e) es acted r
 
 -- Reads on from condact k of entry e, without testing the entry's verb and noun.
-abbrev pub inside : Story → Called → ℕ → ℕ → ℕ → ℕ → Bool → Run → Out
-inside g sub lv t e k =
+abbrev pub rest_of_entry : Story → Called → ℕ → ℕ → ℕ → ℕ → Bool → Run → Out
+rest_of_entry g sub lv t e k =
     condacts g sub lv t e (entries g sub lv t (suc e) (drop (suc e) (table_at g.game t))) k
     (drop k (condacts_of (entry_at g.game t e)))
 
 -- Reads on from a place to the end of the table. At condact 0 the entry's verb and noun are tested first.
-abbrev pub plain : Story → Called → ℕ → ℕ → ℕ → ℕ → Bool → Run → Out
-plain g sub lv t e zero = entries g sub lv t e (drop e (table_at g.game t))
-plain g sub lv t e (suc k) = inside g sub lv t e (suc k)
+abbrev pub from_place : Story → Called → ℕ → ℕ → ℕ → ℕ → Bool → Run → Out
+from_place g sub lv t e zero = entries g sub lv t e (drop e (table_at g.game t))
+from_place g sub lv t e (suc k) = rest_of_entry g sub lv t e (suc k)
 
 -- Goes on with the open loop: looks for the next object after the one that it took last, and reads on after its DOALL.
-abbrev pub looped : Story → Called → ℕ → OpenLoop → Run → Out
-looped g sub lv l =
-    let body = plain g sub lv l.table l.entry (suc l.at) true in
-    turns g lv (record l { last = 0 }) body (length g.game.objects - suc l.last)
+abbrev pub rest_of_loop : Story → Called → ℕ → OpenLoop → Run → Out
+rest_of_loop g sub lv l =
+    let body = from_place g sub lv l.table l.entry (suc l.at) true in
+    over_objects g lv (record l { last = 0 }) body (length g.game.objects - suc l.last)
 
 -- Reads on at a level, with the loop that may be open there.
-abbrev pub reads : Story → Called → ℕ → ℕ → ℕ → ℕ → Bool → Run → Out
-reads g sub lv t e k acted r = again lv (looped g sub lv) (plain g sub lv t e k acted r)
+abbrev pub read_at_level : Story → Called → ℕ → ℕ → ℕ → ℕ → Bool → Run → Out
+read_at_level g sub lv t e k acted r = next_object_or lv (rest_of_loop g sub lv) (from_place g sub lv t e k acted r)
 
 -- Reads a table called from level lv, where n more levels may open; with none left the call is too deep, and play ends.
 unfoldable pub called : Story → ℕ → ℕ → ℕ → Run → Out
 called g zero lv u r = halts (halt.TooDeep u) r
-called g (suc n) lv u r = reads g (called g n (suc lv)) (suc lv) u 0 0 false r
+called g (suc n) lv u r = read_at_level g (called g n (suc lv)) (suc lv) u 0 0 false r
 
 -- Reads a table called from level lv; levels go from 0 to 10.
 abbrev pub deeper : Story → ℕ → ℕ → Run → Out
 deeper g lv = called g (LEVEL_LIMIT - lv) lv
 
 -- Reads on at level lv in table t, from condact k of entry e.
-abbrev pub rest : Story → ℕ → ℕ → ℕ → ℕ → Bool → Run → Out
-rest g lv = reads g (deeper g lv) lv
+abbrev pub rest_of_table : Story → ℕ → ℕ → ℕ → ℕ → Bool → Run → Out
+rest_of_table g lv = read_at_level g (deeper g lv) lv
 
 -- Reads a table at level 0 from its start.
 abbrev pub table_read : Story → ℕ → Run → Out
-table_read g t = rest g 0 t 0 0 false
+table_read g t = rest_of_table g 0 t 0 0 false

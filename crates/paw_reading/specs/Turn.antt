@@ -203,5 +203,5 @@ goes_on g n prompt.Over path r = Halted halt.Over r
 goes_on g n p path r = table_done g (turn g n) (first_table path) (on_path g p 0 path r)
 
 -- Goes on from a prompt with the run's lines, to the end of the reading.
-abbrev pub on : Story → Prompt → List Frame → Run → Ending
-on g p path r = goes_on g (phases_left r) p path r
+abbrev pub going_on_from : Story → Prompt → List Frame → Run → Ending
+going_on_from g p path r = goes_on g (phases_left r) p path r

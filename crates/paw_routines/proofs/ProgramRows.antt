@@ -4,7 +4,7 @@ use Rattle.std.specs.Fn.{Shared}
 use Rattle.std.proofs.lemmas.Nat.{ones_le_self}
 use Rattle.paw_routines.specs.Rows.{StandFor}
 use Rattle.paw_routines.proofs.FunctionRows.{rows_of, stand_for}
-use Rattle.paw_routines.specs.Program.{given}
+use Rattle.paw_routines.specs.Program.{program_routine}
 
 small_in : (a b : Bool) (x : ℕ) → x < 256 → (if a then 255 - x else if b then x / 2 else count_ones x) < 256
 small_in true b x small = omega arith
@@ -14,6 +14,7 @@ small_in false false x small = omega (arith, ones_le_self x)
 -- Rows stand for this number of routines, which may be called everywhere and give these values.
 pub given_stand : {F : Type 0} {count : ℕ} (calls : Shared F (ℕ × (ℕ × Unit {0})) ℕ) (f : F)
     → ((n x : ℕ) → n < count → x < 256 → calls.pre f (n, (x, tt)))
-    → ((n x y : ℕ) → n < count → x < 256 → y < 256 → calls.post f (n, (x, tt)) y → y ≡ given n x)
+    → ((n x y : ℕ) → n < count → x < 256 → y < 256 → calls.post f (n, (x, tt)) y → y ≡ program_routine n x)
     → (X : List (List ℕ)) × StandFor calls f count X
-given_stand {F} {count} calls f callable gives = (rows_of given count, stand_for calls f given count (λ n x below small. small_in (n == 0) (n == 1) x small) callable gives)
+given_stand {F} {count} calls f callable gives =
+    (rows_of program_routine count, stand_for calls f program_routine count (λ n x below small. small_in (n == 0) (n == 1) x small) callable gives)

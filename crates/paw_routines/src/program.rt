@@ -1,14 +1,14 @@
 // The routines of the programs.
 
 ghost use Rattle.std.specs.Prelude.{◌≡◌};
-ghost use Rattle.paw_routines.specs.Program.{given};
+ghost use Rattle.paw_routines.specs.Program.{program_routine};
 
 /// How many routines the programs have.
 pub const ROUTINES: u8 = 3;
 
 /// What they give for a byte: 0 its complement, 1 its half, 2 the number of its one bits.
 pub fn give(n: u8, x: u8) -> u8
-    ensures value { result ≡ given n x }
+    ensures value { result ≡ program_routine n x }
 {
     match n {
         0 => 255 - x,

@@ -14,12 +14,12 @@ use Rattle.paw_grammar.specs.declared.section.Section.{Section}
 use Rattle.paw_grammar.specs.declared.section.Section.TheVariants as section
 use Rattle.paw_faults.specs.Bind.{◌>>=◌}
 use Rattle.paw_grammar.specs.Numbers.{number}
-use Rattle.paw_grammar.specs.inner.Numbers.{capped}
+use Rattle.paw_grammar.specs.inner.Numbers.{capped_value}
 use Rattle.paw_grammar.specs.GrammarState.{Spelt}
 use Rattle.paw_grammar.specs.GrammarTexts.{text_item, texts_of, with_texts, text_limit, is_in_text}
 use Rattle.paw_grammar.specs.GrammarHeads.{new_text, new_exits, item_in, slash_line}
-use Rattle.paw_grammar.specs.Spells.{begins_with_slash, begins_with_blank, is_text_line, text_added, tokens_added, step}
-use Rattle.paw_source.specs.inner.Drafts.{IsSmall}
+use Rattle.paw_grammar.specs.Spells.{begins_with_slash, begins_with_blank, is_text_line, text_added, tokens_added, after_line}
+use Rattle.paw_source.specs.inner.Drafts.{IsShortDraft}
 
 and_false : (b : Bool) → (b && false) ≡ false
 and_false true = refl
@@ -62,7 +62,7 @@ exits_capped d n few =
           past d (min n 4294967295) also ∙ sym (past d n e)
     ] refl
 
-item_capped : (s : Section) (d : Spelt) (n : ℕ) → IsSmall d → item_in s d (min n 4294967295) ≡ item_in s d n
+item_capped : (s : Section) (d : Spelt) (n : ℕ) → IsShortDraft d → item_in s d (min n 4294967295) ≡ item_in s d n
 item_capped section.Before d n small = refl
 item_capped section.Voc d n small = refl
 item_capped section.Stx d n small = new_text_capped section.Stx d n small.system
@@ -73,7 +73,8 @@ item_capped section.Con d n small = exits_capped d n small.locations
 item_capped section.Obj d n small = refl
 item_capped section.Pro d n small = refl
 
-pub slash_capped : (d : Spelt) (name : List ℕ) (o : Option ℕ) (ts : List (List ℕ)) → IsSmall d → slash_line d name (capped o) ts ≡ slash_line d name o ts
+pub slash_capped : (d : Spelt) (name : List ℕ) (o : Option ℕ) (ts : List (List ℕ)) → IsShortDraft d → slash_line d name (capped_value o) ts
+    ≡ slash_line d name o ts
 slash_capped d name None ts small = refl
 slash_capped d name (Some n) [] small = item_capped d.section d n small
 slash_capped d name (Some n) (t ∷ ts) small = refl
@@ -84,19 +85,19 @@ past_three : {A : Type 0} (x y z rest : A) (a b c : Bool) → a ≡ false → b 
 past_three x y z rest a b c p q r = rw (p, q, r) refl
 
 -- A line of tokens that begins with `/`, of which the first token was taken and its number read.
-pub slash_read : (p : ℕ) (d : Spelt) (l name rest : List ℕ) (left : List (List ℕ)) (o : Option ℕ) → IsSmall d
+pub slash_read : (p : ℕ) (d : Spelt) (l name rest : List ℕ) (left : List (List ℕ)) (o : Option ℕ) → IsShortDraft d
     → is_comment l ≡ false → has_forbidden_byte false l ≡ false → begins_with_slash l ≡ true → tokens_of l ≡ name ∷ left
-    → rest ≡ drop 1 name → o ≡ capped (number rest) → slash_line d name o left ≡ step p d l
-unfolding step
+    → rest ≡ drop 1 name → o ≡ capped_value (number rest) → slash_line d name o left ≡ after_line p d l
+unfolding after_line
 slash_read p d l name rest left o small comment allowed slash tokens cut read =
     let blank = begins_with_blank l in
     let no_text : is_text_line d l ≡ false = rw slash (and_false (is_in_text d)) in
     let no_fault = ap (λ (b : Bool). has_forbidden_byte b l) no_text ∙ allowed in
-    let is : step p d l ≡ tokens_added p d (begins_with_slash l) blank (tokens_of l) =
+    let is : after_line p d l ≡ tokens_added p d (begins_with_slash l) blank (tokens_of l) =
     past_three (Ok d) (Err kind.Text) (text_added d l) _ (is_comment l) (has_forbidden_byte (is_text_line d l) l)
     (is_text_line d l) comment no_fault no_text in
     ap (λ (x : Option ℕ). slash_line d name x left) read
-    ∙ ap (λ (x : List ℕ). slash_line d name (capped (number x)) left) cut
+    ∙ ap (λ (x : List ℕ). slash_line d name (capped_value (number x)) left) cut
     ∙ slash_capped d name (number (drop 1 name)) left small
     ∙ sym (ap (λ (x : List (List ℕ)). tokens_added p d true blank x) tokens)
     ∙ sym (ap (λ (b : Bool). tokens_added p d b blank (tokens_of l)) slash)

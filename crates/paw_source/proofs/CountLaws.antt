@@ -26,7 +26,7 @@ use Rattle.paw_grammar.specs.GrammarHeads.{next_header, section_opened, plain_he
 use Rattle.paw_grammar.specs.GrammarHeads.{pro_header, header_of, new_text}
 use Rattle.paw_grammar.specs.GrammarHeads.{new_exits, item_in, slash_line}
 use Rattle.paw_grammar.specs.GrammarRows.{voc_row, exit_row, con_row, object_row, bounds_of, entry_row, more_row, pro_row, row_in}
-use Rattle.paw_grammar.specs.Spells.{begins_with_slash, begins_with_blank, is_text_line, text_added, tokens_added, step, begins_table}
+use Rattle.paw_grammar.specs.Spells.{begins_with_slash, begins_with_blank, is_text_line, text_added, tokens_added, after_line, begins_table}
 use Rattle.paw_source.specs.inner.Laws.{after_lines, CountsTables}
 use Rattle.paw_source.proofs.Faultless.{passes, holds, bound, ok_is, at_end}
 use Rattle.paw_source.proofs.Headers.{table_opened}
@@ -196,8 +196,8 @@ no_slash_no_table l a h =
       | false ↦ λ e. refl
     ] h
 
-pub step_counts : (p : ℕ) (d e : Spelt) (l : List ℕ) → step p d l ≡ Ok e → length e.tables ≡ length d.tables + cond (begins_table l) 1 0
-unfolding step
+pub step_counts : (p : ℕ) (d e : Spelt) (l : List ℕ) → after_line p d l ≡ Ok e → length e.tables ≡ length d.tables + cond (begins_table l) 1 0
+unfolding after_line
 step_counts p d e l h =
     elim (is_comment l) as (λ b. is_comment l ≡ b
     → cond b (Ok d)
@@ -224,7 +224,7 @@ pub counts_tables : CountsTables
 unfolding after_lines
 counts_tables p d e [] h = let same = ap tables (ok_is d e h) in omega (arith, same)
 counts_tables p d e (l ∷ ls) h =
-    let a = bound (step p d l) (λ x. after_lines p x ls) e h in
+    let a = bound (after_line p d l) (λ x. after_lines p x ls) e h in
     let one = step_counts p d a.0 l a.1 in
     let others = counts_tables p a.0 e ls a.2 in
     let more = sum_by-cons (λ x. cond (begins_table x) 1 0) l ls in

@@ -17,7 +17,7 @@ use Rattle.paw_game.specs.declared.parts.Word.{Word}
 use Rattle.paw_game.specs.declared.parts.Exit.{Exit}
 use Rattle.paw_game.specs.declared.parts.Entry.{Entry}
 use Rattle.paw_game.specs.Game.{GameLists}
-use Rattle.paw_game.specs.Valid.{words_kept, is_text, is_exits, are_facts, is_table}
+use Rattle.paw_game.specs.Valid.{words_are_valid, is_text, exits_are_valid, facts_are_valid, is_table}
 use Rattle.paw_lex.specs.Bytes.{is_comment, has_forbidden_byte}
 use Rattle.paw_lex.specs.Tokens.{tokens_of}
 use Rattle.paw_grammar.specs.declared.section.Section.{Section}
@@ -31,7 +31,7 @@ use Rattle.paw_grammar.specs.GrammarHeads.{next_header, section_opened, plain_he
 use Rattle.paw_grammar.specs.GrammarHeads.{lacks_rows, pro_header, header_of, new_text}
 use Rattle.paw_grammar.specs.GrammarHeads.{new_exits, item_in, slash_line}
 use Rattle.paw_grammar.specs.GrammarRows.{voc_row, exit_row, con_row, object_row, obj_row, bounds_of, entry_row, more_row, pro_row, row_in}
-use Rattle.paw_grammar.specs.Spells.{begins_with_slash, begins_with_blank, is_text_line, text_added, tokens_added, step}
+use Rattle.paw_grammar.specs.Spells.{begins_with_slash, begins_with_blank, is_text_line, text_added, tokens_added, after_line}
 use Rattle.paw_source.proofs.Faultless.{passes, holds, bound, ok_is, at_end}
 use Rattle.paw_source.proofs.Headers.{with_table, table_opened}
 use Rattle.paw_source.proofs.TextLaws.{all_set, all_get, all_pushed, text_item_ok, text_line_ok}
@@ -98,7 +98,7 @@ from_section s d here h = subst (λ (t : Section). InOrder t d) (sym here) h
 
 -- Words and texts have rules of their own.
 pub record HeadsKept (ws : List Word) (ss ms ns ls : List (List ℕ)) : Type 0 where
-  pub words : words_kept ws ≡ true
+  pub words : words_are_valid ws ≡ true
   pub system : TextsKept SYSTEM_LIMIT ss
   pub messages : TextsKept MESSAGE_LIMIT ms
   pub names : TextsKept OBJECT_LIMIT ns
@@ -109,8 +109,8 @@ Heads d = HeadsKept d.words d.system d.messages d.names d.locations
 
 pub record Keeps (p : ℕ) (d : Spelt) : Type 0 where
   pub heads : Heads d
-  pub exits : RowsKept (is_exits d.words (length d.locations)) (length d.locations) d.exits
-  pub facts : RowsKept (are_facts d.words (length d.locations)) (length d.names) d.facts
+  pub exits : RowsKept (exits_are_valid d.words (length d.locations)) (length d.locations) d.exits
+  pub facts : RowsKept (facts_are_valid d.words (length d.locations)) (length d.names) d.facts
   pub tables : (g : GameLists) → Has (bounds_of p d) d.words g → list_all (is_table g) d.tables ≡ true
   pub few_tables : length d.tables ≤ TABLE_LIMIT
   pub order : InOrder d.section d
@@ -123,11 +123,11 @@ no_rows p d heads none order =
     record {
       heads = heads;
       exits = record {
-        all = ap (list_all (is_exits d.words (length d.locations))) none.exits;
+        all = ap (list_all (exits_are_valid d.words (length d.locations))) none.exits;
         few = omega (arith, no_exits);
       };
       facts = record {
-        all = ap (list_all (are_facts d.words (length d.locations))) none.facts;
+        all = ap (list_all (facts_are_valid d.words (length d.locations))) none.facts;
         few = omega (arith, no_facts);
       };
       tables = λ g has. ap (list_all (is_table g)) none.tables;
@@ -203,13 +203,13 @@ new_text_keeps p s n d e here k h =
     let new = text_item_ok (text_limit s) n (texts_of s d) b.0 old.all b.1 in
     subst (Keeps p) (ok_is (with_texts s false b.0 d) e b.2) (texts_keep p s false b.0 d here k (record { all = new.0; few = new.1 }))
 
-empty_exits : (ws : List Word) (locations n : ℕ) → list_all (is_exits ws locations) (replicate n []) ≡ true
+empty_exits : (ws : List Word) (locations n : ℕ) → list_all (exits_are_valid ws locations) (replicate n []) ≡ true
 empty_exits ws locations zero = refl
 empty_exits ws locations (suc n) = empty_exits ws locations n
 
 pub filled_exits : (ws : List Word) (locations n : ℕ) (es : List (List Exit))
-    → list_all (is_exits ws locations) es ≡ true → list_all (is_exits ws locations) (es ++ replicate n []) ≡ true
-filled_exits ws locations n es all = rw (list_all-append (is_exits ws locations) es (replicate n []), all, empty_exits ws locations n) refl
+    → list_all (exits_are_valid ws locations) es ≡ true → list_all (exits_are_valid ws locations) (es ++ replicate n []) ≡ true
+filled_exits ws locations n es all = rw (list_all-append (exits_are_valid ws locations) es (replicate n []), all, empty_exits ws locations n) refl
 
 pub filled_length : (n : ℕ) (es : List (List Exit)) → length (es ++ replicate n []) ≡ length es + n
 filled_length n es =
@@ -223,7 +223,7 @@ or_false false b h = (refl, h)
 
 -- Other exits, that keep the rules too.
 exits_keep : (p : ℕ) (d : Spelt) (es : List (List Exit)) → d.section ≡ section.Con → Keeps p d
-    → RowsKept (is_exits d.words (length d.locations)) (length d.locations) es → Keeps p (record d { exits = es })
+    → RowsKept (exits_are_valid d.words (length d.locations)) (length d.locations) es → Keeps p (record d { exits = es })
 exits_keep p d es here k exits = record {
   heads = k.heads;
   exits = exits;
@@ -354,12 +354,12 @@ con_row_keeps p d e ts here k h =
     Ok (record d { exits = with_last xs d.exits })) e h in
     let b = bound (exit_row d.words (length d.locations) (last_or [] d.exits) ts) (λ xs. Ok (record d { exits = with_last xs d.exits })) e a.1 in
     let made : Spelt = record d { exits = with_last b.0 d.exits } in
-    let old : is_exits d.words (length d.locations) (last_or [] d.exits) ≡ true =
-    all_get (is_exits d.words (length d.locations)) d.exits (length d.exits - 1) [] k.exits.all refl in
+    let old : exits_are_valid d.words (length d.locations) (last_or [] d.exits) ≡ true =
+    all_get (exits_are_valid d.words (length d.locations)) d.exits (length d.exits - 1) [] k.exits.all refl in
     let new = exit_row_ok d.words (length d.locations) (last_or [] d.exits) b.0 ts k.heads.words old b.1 in
     let long = length-set d.exits (length d.exits - 1) b.0 in
     let few = k.exits.few in
-    let all = all_set (is_exits d.words (length d.locations)) d.exits (length d.exits - 1) b.0 k.exits.all new in
+    let all = all_set (exits_are_valid d.words (length d.locations)) d.exits (length d.exits - 1) b.0 k.exits.all new in
     subst (Keeps p) (ok_is made e b.2)
     (exits_keep p d made.exits here k (record { all = all; few = omega (arith, long, few) }))
 
@@ -375,7 +375,7 @@ obj_row_keeps p d e ts here k h =
       heads = k.heads;
       exits = k.exits;
       facts = record {
-        all = all_pushed (are_facts d.words (length d.locations)) d.facts b.0 k.facts.all new.facts;
+        all = all_pushed (facts_are_valid d.words (length d.locations)) d.facts b.0 k.facts.all new.facts;
         few = omega (arith, long, room);
       };
       tables = k.tables;
@@ -434,8 +434,8 @@ no_slash true true h = absurd cc
 no_slash true false h = refl
 no_slash false b h = absurd cc
 
-pub step_keeps : (p : ℕ) (d e : Spelt) (l : List ℕ) → Keeps p d → step p d l ≡ Ok e → Keeps p e
-unfolding step
+pub step_keeps : (p : ℕ) (d e : Spelt) (l : List ℕ) → Keeps p d → after_line p d l ≡ Ok e → Keeps p e
+unfolding after_line
 step_keeps p d e l k h =
     let others : Result Spelt SourceKind = tokens_added p d (begins_with_slash l) (begins_with_blank l) (tokens_of l) in
     elim (is_comment l) as (λ b. is_comment l ≡ b

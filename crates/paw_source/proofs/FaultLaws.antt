@@ -11,21 +11,21 @@ use Rattle.paw_game.specs.Image.{image}
 use Rattle.paw_lex.specs.Lines.{lines_of}
 use Rattle.paw_faults.specs.Bind.{◌>>=◌}
 use Rattle.paw_grammar.specs.GrammarState.{Spelt, nothing_yet, game_of}
-use Rattle.paw_grammar.specs.Spells.{step, begins_table, fault, at_line, whole, spelled_after, spelled}
+use Rattle.paw_grammar.specs.Spells.{after_line, begins_table, fault, at_line, whole, spelled_after, spelled}
 use Rattle.paw_source.specs.inner.Laws.{after_lines, HasFault, HasNone, NamesTheFirst, IsNamedRightly}
 
 found : (p n : ℕ) (d : Spelt) (before : List (List ℕ)) (line : List ℕ) (behind : List (List ℕ)) (e : Spelt)
-    (k : SourceKind) → after_lines p d before ≡ Ok e → step p e line ≡ Err k
+    (k : SourceKind) → after_lines p d before ≡ Ok e → after_line p e line ≡ Err k
     → spelled_after p n d (before ++ line ∷ behind) ≡ Err (fault (suc (n + length before)) k)
 unfolding spelled_after after_lines
 found p n d [] line behind e k none here =
     let same : d ≡ e = cc in
-    let also : step p d line ≡ Err k = ap (λ (x : Spelt). step p x line) same ∙ here in
+    let also : after_line p d line ≡ Err k = ap (λ (x : Spelt). after_line p x line) same ∙ here in
     let number : suc n ≡ suc (n + 0) = omega arith in
     rw also (ap (λ (m : ℕ). Err (fault m k)) number)
 found p n d (l ∷ before) line behind e k none here =
     let number : suc (suc n + length before) ≡ suc (n + length (l ∷ before)) = omega arith in
-    elim (step p d l) as (λ r. (r >>= λ x. after_lines p x before) ≡ Ok e
+    elim (after_line p d l) as (λ r. (r >>= λ x. after_lines p x before) ≡ Ok e
     → at_line (suc n) r (λ x. spelled_after p (suc n) x (before ++ line ∷ behind))
     ≡ Err (fault (suc (n + length (l ∷ before))) k)) [
       | Ok x ↦ λ h. found p (suc n) x before line behind e k h here ∙ ap (λ (m : ℕ). Err (fault m k)) number
@@ -76,7 +76,7 @@ named p n d [] f h =
     let at = ended n d f h in
     inr (omega (arith, at), record { draft = d; no_fault = refl })
 named p n d (l ∷ ls) f h =
-    elim (step p d l) as (λ r. step p d l ≡ r → at_line (suc n) r (λ x. spelled_after p (suc n) x ls) ≡ Err f → Named p n d (l ∷ ls) f) [
+    elim (after_line p d l) as (λ r. after_line p d l ≡ r → at_line (suc n) r (λ x. spelled_after p (suc n) x ls) ≡ Err f → Named p n d (l ∷ ls) f) [
       | Err j ↦ λ e g.
           let same = err_is (fault (suc n) j) f g in
           let at = ap (λ (x : SourceFault). x.line) same in

@@ -13,13 +13,13 @@ use Rattle.paw_base.specs.declared.parts.ObjectFacts.{ObjectFacts}
 use Rattle.paw_game.specs.declared.parts.Word.{Word}
 use Rattle.paw_game.specs.Game.{GameLists}
 use Rattle.paw_game.specs.Image.{image}
-use Rattle.paw_game.specs.Valid.{Valid, is_text, is_object, are_facts, is_table, rows_kept, is_exits, is_within}
+use Rattle.paw_game.specs.Valid.{Valid, is_text, is_object, facts_are_valid, is_table, rows_are_valid, exits_are_valid, is_within}
 use Rattle.paw_lex.specs.Lines.{lines_of}
 use Rattle.paw_grammar.specs.declared.section.Section.{Section}
 use Rattle.paw_grammar.specs.declared.section.Section.TheVariants as section
 use Rattle.paw_grammar.specs.GrammarState.{Spelt, nothing_yet, objects_of, all_exits, game_of}
 use Rattle.paw_grammar.specs.GrammarRows.{bounds_of}
-use Rattle.paw_grammar.specs.Spells.{step, begins_table, at_line, fault, whole, spelled_after, spelled}
+use Rattle.paw_grammar.specs.Spells.{after_line, begins_table, at_line, fault, whole, spelled_after, spelled}
 use Rattle.paw_source.specs.inner.Laws.{after_lines, DraftsAreValid, SpellsValidGames}
 use Rattle.paw_source.proofs.Faultless.{passes, bound, ok_is}
 use Rattle.paw_source.proofs.TextLaws.{both}
@@ -27,7 +27,7 @@ use Rattle.paw_source.proofs.RowLaws.{Has}
 use Rattle.paw_source.proofs.DraftLaws.{TextsKept, NoRows, AtTables, InOrder, Keeps, filled_exits, filled_length, step_keeps}
 use Rattle.paw_source.proofs.CountLaws.{step_counts, counts_tables}
 
-texts_valid : (limit : ℕ) (ts : List (List ℕ)) → TextsKept limit ts → rows_kept limit is_text ts ≡ true
+texts_valid : (limit : ℕ) (ts : List (List ℕ)) → TextsKept limit ts → rows_are_valid limit is_text ts ≡ true
 texts_valid limit ts k =
     let few = k.few in
     both (nat_le (length ts) limit) (list_all is_text ts) (grind (arith, nat_tests, few)) k.all
@@ -41,14 +41,14 @@ objects_count (t ∷ ts) [] h = absurd (omega arith)
 objects_count (t ∷ ts) (f ∷ fs) h = ap suc (objects_count ts fs (omega (arith, h)))
 
 objects_all : (ws : List Word) (locations : ℕ) (ts : List (List ℕ)) (fs : List ObjectFacts)
-    → list_all is_text ts ≡ true → list_all (are_facts ws locations) fs ≡ true
+    → list_all is_text ts ≡ true → list_all (facts_are_valid ws locations) fs ≡ true
     → list_all (is_object ws locations) (objects_of ts fs) ≡ true
 unfolding objects_of
 objects_all ws locations [] fs a b = refl
 objects_all ws locations (t ∷ ts) [] a b = refl
 objects_all ws locations (t ∷ ts) (f ∷ fs) a b =
     let p = and_parts (is_text t) (list_all is_text ts) a in
-    let q = and_parts (are_facts ws locations f) (list_all (are_facts ws locations) fs) b in
+    let q = and_parts (facts_are_valid ws locations f) (list_all (facts_are_valid ws locations) fs) b in
     rw (p.0, q.0) (objects_all ws locations ts fs p.1 q.1)
 
 -- ---- the order of the sections
@@ -95,10 +95,10 @@ valid_game p d k three counted =
           (list_all (is_object d.words (length d.locations)) (objects_of d.names d.facts))
           (grind (arith, nat_tests, count, few_names))
           (objects_all d.words (length d.locations) d.names d.facts k.heads.names.all k.facts.all);
-      locations = both (nat_le LOCATION_LEAST (length d.locations)) (rows_kept LOCATION_LIMIT is_text d.locations) (grind (arith, nat_tests, some))
+      locations = both (nat_le LOCATION_LEAST (length d.locations)) (rows_are_valid LOCATION_LIMIT is_text d.locations) (grind (arith, nat_tests, some))
           (texts_valid LOCATION_LIMIT d.locations k.heads.locations);
       exits = both (eqb (length (all_exits (length d.locations) d.exits)) (length d.locations))
-          (list_all (is_exits d.words (length d.locations)) (all_exits (length d.locations) d.exits))
+          (list_all (exits_are_valid d.words (length d.locations)) (all_exits (length d.locations) d.exits))
           (grind (arith, nat_tests, long, few_exits))
           (filled_exits d.words (length d.locations) (length d.locations - length d.exits) d.exits k.exits.all);
       tables = both (is_within TABLE_LEAST TABLE_LIMIT (length d.tables)) (list_all (is_table (game_of d)) d.tables)
@@ -119,7 +119,7 @@ reading_valid : (p n : ℕ) (d : Spelt) (ls : List (List ℕ)) (g : GameLists) �
 unfolding spelled_after
 reading_valid p n d [] g k counted h = whole_valid p n d g k (omega (arith, counted)) h
 reading_valid p n d (l ∷ ls) g k counted h =
-    elim (step p d l) as (λ r. step p d l ≡ r → at_line (suc n) r (λ e. spelled_after p (suc n) e ls) ≡ Ok g → Valid g) [
+    elim (after_line p d l) as (λ r. after_line p d l ≡ r → at_line (suc n) r (λ e. spelled_after p (suc n) e ls) ≡ Ok g → Valid g) [
       | Ok e ↦ λ s f.
           let one = step_counts p d e l s in
           let more = sum_by-cons (λ x. cond (begins_table x) 1 0) l ls in
@@ -149,7 +149,7 @@ after_keeps : (p : ℕ) (d e : Spelt) (ls : List (List ℕ)) → Keeps p d → a
 unfolding after_lines
 after_keeps p d e [] k h = subst (Keeps p) (ok_is d e h) k
 after_keeps p d e (l ∷ ls) k h =
-    let a = bound (step p d l) (λ x. after_lines p x ls) e h in
+    let a = bound (after_line p d l) (λ x. after_lines p x ls) e h in
     after_keeps p a.0 e ls (step_keeps p d a.0 l k a.1) a.2
 
 pub drafts_are_valid : DraftsAreValid

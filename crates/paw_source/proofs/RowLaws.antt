@@ -26,13 +26,13 @@ use Rattle.paw_game.specs.declared.parts.Exit.{Exit}
 use Rattle.paw_game.specs.declared.parts.Entry.{Entry}
 use Rattle.paw_base.specs.declared.parts.ObjectFacts.{ObjectFacts}
 use Rattle.paw_game.specs.Game.{GameLists, counts_of}
-use Rattle.paw_game.specs.Valid.{words_kept, has_word, is_verb_value, is_any, is_within, is_place, are_exits}
-use Rattle.paw_game.specs.Valid.{is_exits, are_facts, is_parameter, is_condact, is_entry, is_table, is_word}
+use Rattle.paw_game.specs.Valid.{words_are_valid, has_word, is_verb_value, is_wildcard, is_within, is_place, are_exits}
+use Rattle.paw_game.specs.Valid.{exits_are_valid, facts_are_valid, is_parameter, is_condact, is_entry, is_table, is_word}
 use Rattle.paw_grammar.specs.declared.bounds.Bounds.{Bounds}
 use Rattle.paw_faults.specs.Bind.{◌>>=◌}
 use Rattle.paw_grammar.specs.Tokens.{read_by, at_most, at_is_next}
 use Rattle.paw_grammar.specs.Numbers.{number, in_range, number_within, number_below, row_number}
-use Rattle.paw_grammar.specs.Vocabulary.{place_among, word, class, object_kind, declared, word_or_none, verb_word, entry_verb, entry_noun}
+use Rattle.paw_grammar.specs.Vocabulary.{index_among, word, class, object_kind, declared, word_or_none, verb_word, entry_verb, entry_noun}
 use Rattle.paw_grammar.specs.Condacts.{first_place, any_place, place_names, place_up_to, table, parameter}
 use Rattle.paw_grammar.specs.Condacts.{is_indirect_before, flag_behind_at, first_parameter, code_of}
 use Rattle.paw_grammar.specs.Condacts.{condact, condacts_in, with_more_condacts, more_condacts}
@@ -45,7 +45,7 @@ use Rattle.paw_source.proofs.TextLaws.{all_set, all_at, all_pushed, both}
 
 -- ---- words
 
-pub voc_row_ok : (ws vs : List Word) (ts : List (List ℕ)) → words_kept ws ≡ true → voc_row ws ts ≡ Ok vs → words_kept vs ≡ true
+pub voc_row_ok : (ws vs : List Word) (ts : List (List ℕ)) → words_are_valid ws ≡ true → voc_row ws ts ≡ Ok vs → words_are_valid vs ≡ true
 unfolding voc_row
 voc_row_ok ws vs ts kept h =
     bound_then _ (word ts) _ vs h (λ a a_ok h.
@@ -146,7 +146,8 @@ verbs_low ws locations (y ∷ ys) q all kept h =
     ] refl h
 
 -- Verb values that differ are at most 255.
-pub exits_few : (ws : List Word) (locations : ℕ) (xs : List Exit) → words_kept ws ≡ true → are_exits ws locations xs ≡ true → is_exits ws locations xs ≡ true
+pub exits_few : (ws : List Word) (locations : ℕ) (xs : List Exit) → words_are_valid ws ≡ true → are_exits ws locations xs ≡ true →
+    exits_are_valid ws locations xs ≡ true
 exits_few ws locations xs words kept =
     let all = (and_parts (list_all is_word ws) _ (and_parts (nat_le (length ws) WORD_LIMIT) _ words).1).0 in
     let few = length-le_from_distinct_below (map (λ (x : Exit). x.verb) xs) 255 (verbs_distinct ws locations xs kept)
@@ -154,8 +155,8 @@ exits_few ws locations xs words kept =
     let long = length-map xs (λ (x : Exit). x.verb) in
     both (nat_le (length xs) EXIT_LIMIT) (are_exits ws locations xs) (grind (arith, nat_tests, few, long)) kept
 
-pub exit_row_ok : (ws : List Word) (locations : ℕ) (xs ys : List Exit) (ts : List (List ℕ)) → words_kept ws ≡ true
-    → is_exits ws locations xs ≡ true → exit_row ws locations xs ts ≡ Ok ys → is_exits ws locations ys ≡ true
+pub exit_row_ok : (ws : List Word) (locations : ℕ) (xs ys : List Exit) (ts : List (List ℕ)) → words_are_valid ws ≡ true
+    → exits_are_valid ws locations xs ≡ true → exit_row ws locations xs ts ≡ Ok ys → exits_are_valid ws locations ys ≡ true
 unfolding exit_row
 exit_row_ok ws locations xs ys ts words kept h =
     bound_then _ (verb_word ws ts) _ ys h (λ a a_ok h.
@@ -178,11 +179,11 @@ place_within last named locations ts x h =
     in_range_ok (λ n. nat_lt n locations || is_within NOT_CREATED_PLACE last n) b.0 x b.2
 
 first_place_ok : (locations : ℕ) (ts : List (List ℕ)) (x : ℕ × List (List ℕ)) → first_place locations ts ≡ Ok x → is_place locations x.0 ≡ true
-first_place_ok locations ts x h = place_within CARRIED_PLACE (place_among place_names) locations ts x h
+first_place_ok locations ts x h = place_within CARRIED_PLACE (index_among place_names) locations ts x h
 
 pub record ObjectRowKept (ws : List Word) (locations next count : ℕ) (f : ObjectFacts) : Type 0 where
   pub room : next < count
-  pub facts : are_facts ws locations f ≡ true
+  pub facts : facts_are_valid ws locations f ≡ true
 
 pub object_row_ok : (ws : List Word) (locations next count : ℕ) (ts : List (List ℕ)) (f : ObjectFacts)
     → object_row ws locations next count ts ≡ Ok f → ObjectRowKept ws locations next count f
@@ -228,7 +229,7 @@ table_ok tables ts x h =
 
 place_ok : (locations : ℕ) (ts : List (List ℕ)) (x : ℕ × List (List ℕ)) → any_place locations ts ≡ Ok x
     → (nat_lt x.0 locations || is_within NOT_CREATED_PLACE HERE_PLACE x.0) ≡ true
-place_ok locations ts x h = place_within HERE_PLACE (place_among (place_names ++ codes "HERE" ∷ [])) locations ts x h
+place_ok locations ts x h = place_within HERE_PLACE (index_among (place_names ++ codes "HERE" ∷ [])) locations ts x h
 
 parameter_ok : (bounds : Bounds) (ws : List Word) (g : GameLists) (k : ParamKind) (ts : List (List ℕ))
     (x : ℕ × List (List ℕ)) → Has bounds ws g → parameter bounds ws k ts ≡ Ok x → is_parameter (counts_of g) g.words k x.0 ≡ true
@@ -321,8 +322,8 @@ entry_row_ok bounds ws g es fs ts has kept h =
     let made : Entry = record { verb = a.0.0; noun = b.0.0; condacts = c.0 } in
     let d = holds (nat_lt (length es) ENTRY_LIMIT) fault.TooBig (Ok (es ++ made ∷ [])) fs c.2 in
     let cs = more_condacts_ok bounds ws g [] b.0.1 c.0 has refl c.1 in
-    let v : (is_any a.0.0 || is_verb_value g.words a.0.0) ≡ true = rw has.words (entry_verb_ok ws ts a.0 a.1) in
-    let n : (is_any b.0.0 || has_word g.words NOUN_CLASS b.0.0) ≡ true =
+    let v : (is_wildcard a.0.0 || is_verb_value g.words a.0.0) ≡ true = rw has.words (entry_verb_ok ws ts a.0 a.1) in
+    let n : (is_wildcard b.0.0 || has_word g.words NOUN_CLASS b.0.0) ≡ true =
     rw has.words (entry_noun_ok ws a.0.1 b.0 b.1) in
     let one : is_entry g made ≡ true = rw (v, n, cs.0, cs.1) refl in
     let old = (and_parts (nat_le (length es) ENTRY_LIMIT) (list_all (is_entry g) es) kept).1 in
@@ -337,17 +338,17 @@ with_condacts : (g : GameLists) (e : Entry) (cs : List Condact) → is_entry g e
     → nat_le (length cs) CONDACT_LIMIT ≡ true
     → list_all (is_condact g) cs ≡ true → is_entry g (record e { condacts = cs }) ≡ true
 with_condacts g e cs kept few all =
-    let p = and_parts (is_any e.verb || is_verb_value g.words e.verb) ((is_any e.noun || has_word g.words NOUN_CLASS e.noun)
+    let p = and_parts (is_wildcard e.verb || is_verb_value g.words e.verb) ((is_wildcard e.noun || has_word g.words NOUN_CLASS e.noun)
     && (nat_le (length e.condacts) CONDACT_LIMIT && list_all (is_condact g) e.condacts)) kept in
-    let q = and_parts (is_any e.noun || has_word g.words NOUN_CLASS e.noun)
+    let q = and_parts (is_wildcard e.noun || has_word g.words NOUN_CLASS e.noun)
     (nat_le (length e.condacts) CONDACT_LIMIT && list_all (is_condact g) e.condacts) p.1 in
     rw (p.0, q.0, few, all) refl
 
 its_condacts : (g : GameLists) (e : Entry) → is_entry g e ≡ true → list_all (is_condact g) e.condacts ≡ true
 its_condacts g e kept =
-    let p = and_parts (is_any e.verb || is_verb_value g.words e.verb) ((is_any e.noun || has_word g.words NOUN_CLASS e.noun)
+    let p = and_parts (is_wildcard e.verb || is_verb_value g.words e.verb) ((is_wildcard e.noun || has_word g.words NOUN_CLASS e.noun)
     && (nat_le (length e.condacts) CONDACT_LIMIT && list_all (is_condact g) e.condacts)) kept in
-    let q = and_parts (is_any e.noun || has_word g.words NOUN_CLASS e.noun)
+    let q = and_parts (is_wildcard e.noun || has_word g.words NOUN_CLASS e.noun)
     (nat_le (length e.condacts) CONDACT_LIMIT && list_all (is_condact g) e.condacts) p.1 in
     (and_parts (nat_le (length e.condacts) CONDACT_LIMIT) (list_all (is_condact g) e.condacts) q.1).1
 

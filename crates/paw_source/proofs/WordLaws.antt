@@ -19,10 +19,10 @@ use Rattle.paw_base.specs.Condacts.{capitals}
 use Rattle.paw_base.specs.declared.limits.TheConstants.{WORD_LIMIT}
 use Rattle.paw_base.specs.declared.words.TheConstants.{VERB_CLASS, NOUN_CLASS, ANY_WORD, NO_WORD, FIRST_PLAIN_NOUN}
 use Rattle.paw_game.specs.declared.parts.Word.{Word}
-use Rattle.paw_game.specs.Valid.{is_letter, is_filled, are_letters, is_word, words_rise, words_kept, has_word, is_verb_value, is_word_or_none, is_any}
+use Rattle.paw_game.specs.Valid.{is_letter, is_filled, are_letters, is_word, words_rise, words_are_valid, has_word, is_verb_value, is_word_or_none, is_wildcard}
 use Rattle.paw_game.specs.Tables.{word_of}
 use Rattle.paw_grammar.specs.Tokens.{is_named}
-use Rattle.paw_grammar.specs.Vocabulary.{is_word_token, letters_of, letters_in, word, class_names, place_among}
+use Rattle.paw_grammar.specs.Vocabulary.{is_word_token, letters_of, letters_in, word, class_names, index_among}
 use Rattle.paw_grammar.specs.Vocabulary.{class, words_with, declared, in_class, as_verb, known, or_none}
 use Rattle.paw_grammar.specs.Vocabulary.{or_any, word_or_none, verb_word, entry_verb, entry_noun}
 use Rattle.paw_source.proofs.Faultless.{passes, ok_is, some_is, read_ok}
@@ -89,7 +89,7 @@ word_ok ts x h =
 
 pub class_ok : (ts : List (List ℕ)) (x : ℕ × List (List ℕ)) → class ts ≡ Ok x → nat_le x.0 6 ≡ true
 class_ok ts x h =
-    let r = read_ok kind.Word (place_among class_names) ts x h in
+    let r = read_ok kind.Word (index_among class_names) ts x h in
     let within = (position-Some (is_named r.0) class_names x.0 [] r.1).0 in
     grind (arith, nat_tests, within)
 
@@ -167,7 +167,7 @@ put_words w (u ∷ us) one all =
     ]
 
 -- A word that is declared leaves the words in order, and no more than 2,000.
-pub declared_ok : (w : Word) (ws vs : List Word) → is_word w ≡ true → words_kept ws ≡ true → declared w ws ≡ Ok vs → words_kept vs ≡ true
+pub declared_ok : (w : Word) (ws vs : List Word) → is_word w ≡ true → words_are_valid ws ≡ true → declared w ws ≡ Ok vs → words_are_valid vs ≡ true
 declared_ok w ws vs one kept h =
     let p = and_parts (nat_le (length ws) WORD_LIMIT) (list_all is_word ws && words_rise ws) kept in
     let q = and_parts (list_all is_word ws) (words_rise ws) p.1 in
@@ -241,9 +241,9 @@ none_or f t v good from h =
       | false ↦ λ e. rw (from e) (elim (eqb v NO_WORD) as (λ b. (b || true) ≡ true) [ true ↦ refl | false ↦ refl ])
     ] h
 
-any_or : (f : List ℕ → Option ℕ) (t : List ℕ) (v : ℕ) (good : Bool) → (f t ≡ Some v → good ≡ true) → or_any f t ≡ Some v → (is_any v || good) ≡ true
+any_or : (f : List ℕ → Option ℕ) (t : List ℕ) (v : ℕ) (good : Bool) → (f t ≡ Some v → good ≡ true) → or_any f t ≡ Some v → (is_wildcard v || good) ≡ true
 any_or f t v good from h =
-    elim (bytes_eq t (42 ∷ [])) as (λ b. cond b (Some ANY_WORD) (or_none f t) ≡ Some v → (is_any v || good) ≡ true) [
+    elim (bytes_eq t (42 ∷ [])) as (λ b. cond b (Some ANY_WORD) (or_none f t) ≡ Some v → (is_wildcard v || good) ≡ true) [
       | true ↦ λ e. rw (← some_is ANY_WORD v e) refl
       | false ↦ λ e. let n = none_or f t v good from e in elim (eqb v ANY_WORD) as (λ b. ((b || eqb v NO_WORD) || good) ≡ true) [ true ↦ refl | false ↦ n ]
     ] h
@@ -253,12 +253,13 @@ word_or_none_ok ws c ts x h =
     let r = read_ok kind.Word (or_none (λ t. in_class c (known ws t))) ts x h in
     none_or (λ t. in_class c (known ws t)) r.0 x.0 (has_word ws c x.0) (class_has ws c x.0 (known ws r.0) (known_has ws r.0)) r.1
 
-pub entry_verb_ok : (ws : List Word) (ts : List (List ℕ)) (x : ℕ × List (List ℕ)) → entry_verb ws ts ≡ Ok x → (is_any x.0 || is_verb_value ws x.0) ≡ true
+pub entry_verb_ok : (ws : List Word) (ts : List (List ℕ)) (x : ℕ × List (List ℕ)) → entry_verb ws ts ≡ Ok x → (is_wildcard x.0 || is_verb_value ws x.0) ≡ true
 entry_verb_ok ws ts x h =
     let r = read_ok kind.Word (or_any (λ t. as_verb (known ws t))) ts x h in
     any_or (λ t. as_verb (known ws t)) r.0 x.0 (is_verb_value ws x.0) (verb_has ws x.0 (known ws r.0) (known_has ws r.0)) r.1
 
-pub entry_noun_ok : (ws : List Word) (ts : List (List ℕ)) (x : ℕ × List (List ℕ)) → entry_noun ws ts ≡ Ok x → (is_any x.0 || has_word ws NOUN_CLASS x.0) ≡ true
+pub entry_noun_ok : (ws : List Word) (ts : List (List ℕ)) (x : ℕ × List (List ℕ)) → entry_noun ws ts ≡ Ok x → (is_wildcard x.0 || has_word ws NOUN_CLASS x.0)
+    ≡ true
 entry_noun_ok ws ts x h =
     let r = read_ok kind.Word (or_any (λ t. in_class NOUN_CLASS (known ws t))) ts x h in
     any_or (λ t. in_class NOUN_CLASS (known ws t)) r.0 x.0 (has_word ws NOUN_CLASS x.0) (class_has ws NOUN_CLASS x.0 (known ws r.0) (known_has ws r.0)) r.1

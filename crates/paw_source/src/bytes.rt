@@ -2,7 +2,7 @@
 
 ghost use Rattle.std.specs.Prelude.{◌≡◌};
 ghost use Rattle.paw_lex.specs.Bytes.{has_forbidden_byte};
-ghost use Rattle.paw_lex.specs.inner.Lines.{bytes_of, LiesIn};
+ghost use Rattle.paw_lex.specs.inner.Lines.{line_bytes, LiesIn};
 ghost use Rattle.paw_grammar.specs.Spells.{begins_with_blank, begins_with_slash};
 
 use paw_lex::{Line, byte_fault};
@@ -21,7 +21,7 @@ pub(crate) fn begins_with_blank(line: &[u8]) -> bool
 
 pub(crate) fn has_forbidden_byte(source: &[u8], line: &Line, text: bool) -> bool
     requires span { LiesIn source.now line.now }
-    ensures value { result ≡ has_forbidden_byte text (bytes_of source.now line.now) }
+    ensures value { result ≡ has_forbidden_byte text (line_bytes source.now line.now) }
 {
     byte_fault(source, line, text).is_some()
 }

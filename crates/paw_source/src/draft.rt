@@ -1,7 +1,7 @@
 // What the lines that were read spell.
 
 ghost use Rattle.std.specs.Prelude.{◌≡◌, ◌<◌, true, length, Err, IfOk};
-ghost use Rattle.paw_faults.specs.declared.unread.Unread.TheVariants.{Fault};
+ghost use Rattle.paw_faults.specs.declared.read_error.ReadError.TheVariants.{Fault};
 ghost use Rattle.paw_grammar.specs.inner.Condacts.{AreSmall};
 ghost use Rattle.paw_faults.specs.inner.Gives.{Gives};
 ghost use Rattle.paw_grammar.specs.GrammarState.{game_of, nothing_yet};
@@ -20,12 +20,12 @@ use crate::texts::{text_item, text_line};
 use paw_base::fault::{NoRoom, SourceKind};
 use paw_base::limits::{LOCATION_LIMIT, MESSAGE_LIMIT, OBJECT_LIMIT, SYSTEM_LIMIT, TABLE_LIMIT};
 use paw_base::parts::ObjectFacts;
-use paw_faults::unread::Unread;
+use paw_faults::read_error::ReadError;
 use paw_game::parts::{Exits, GameParts, Table, Text};
 use paw_grammar::bounds::Bounds;
 use paw_grammar::condacts::Scope;
 use paw_grammar::numbers::byte_below;
-use paw_grammar::refusal::ReadError;
+use paw_grammar::refusal::LineError;
 use paw_grammar::section::Section;
 use paw_grammar::tokens::{Tokens, is_named};
 use paw_grammar::vocabulary::Vocabulary;
@@ -74,10 +74,10 @@ impl Model for Draft {
 }
 
 /// A fault of a line.
-fn fault(kind: SourceKind) -> Result<(), ReadError>
+fn fault(kind: SourceKind) -> Result<(), LineError>
     ensures value { result ≡ Err (Fault kind) }
 {
-    Err(Unread::Fault(kind))
+    Err(ReadError::Fault(kind))
 }
 
 /// The section whose header comes next.
@@ -171,7 +171,7 @@ impl Draft {
     }
 
     /// Adds a text line.
-    pub(crate) fn text(&mut self, line: &[u8]) -> Result<(), ReadError>
+    pub(crate) fn text(&mut self, line: &[u8]) -> Result<(), LineError>
         requires in_text { is_in_text self.old ≡ true }
         ensures gives { Gives (λ _. self.new) result (text_added self.old line.now) }
     {
@@ -196,18 +196,18 @@ impl Draft {
         name: &[u8],
         item: Option<u32>,
         tokens: &mut Tokens,
-    ) -> Result<(), ReadError>
+    ) -> Result<(), LineError>
         ensures gives { Gives (λ _. self.new) result (slash_line self.old name.now item tokens.old) }
     {
         if let Some(number) = item {
-            tokens.ended()?;
+            tokens.end_line()?;
             return self.item(alloc, number);
         }
         self.header(alloc, name, tokens)
     }
 
     /// Begins the item of this number in the section that is open.
-    fn item(&mut self, alloc: Global, number: u32) -> Result<(), ReadError>
+    fn item(&mut self, alloc: Global, number: u32) -> Result<(), LineError>
         ensures gives { Gives (λ _. self.new) result (item_in self.old.section self.old number) }
     {
         match self.section {
@@ -222,7 +222,7 @@ impl Draft {
     }
 
     /// Begins the text of this number in the section that is open.
-    fn new_text(&mut self, alloc: Global, number: u32) -> Result<(), ReadError>
+    fn new_text(&mut self, alloc: Global, number: u32) -> Result<(), LineError>
         requires texts { 0 < text_limit self.old.section }
         ensures gives { Gives (λ _. self.new) result (new_text self.old.section self.old number) }
     {
@@ -239,7 +239,7 @@ impl Draft {
     }
 
     /// Begins the exits of the location of this number; those passed over have none.
-    fn new_exits(&mut self, alloc: Global, number: u32) -> Result<(), ReadError>
+    fn new_exits(&mut self, alloc: Global, number: u32) -> Result<(), LineError>
         ensures gives { Gives (λ _. self.new) result (new_exits self.old number) }
     {
         let number = number as usize;
@@ -251,7 +251,7 @@ impl Draft {
     }
 
     /// Reads a header, which has to be the next in order.
-    fn header(&mut self, alloc: Global, name: &[u8], tokens: &mut Tokens) -> Result<(), ReadError>
+    fn header(&mut self, alloc: Global, name: &[u8], tokens: &mut Tokens) -> Result<(), LineError>
         ensures gives { Gives (λ _. self.new) result (header self.old name.now tokens.old) }
     {
         if !is_named(name, next_name(self.section)) {
@@ -261,7 +261,7 @@ impl Draft {
     }
 
     /// Opens the next section, by the tokens after the name of its header.
-    fn open(&mut self, alloc: Global, next: Section, tokens: &mut Tokens) -> Result<(), ReadError>
+    fn open(&mut self, alloc: Global, next: Section, tokens: &mut Tokens) -> Result<(), LineError>
         ensures gives { Gives (λ _. self.new) result (header_of next self.old tokens.old) }
     {
         match next {
@@ -278,21 +278,21 @@ impl Draft {
     }
 
     /// Opens a section whose header has no further token.
-    fn plain_header(&mut self, section: Section, tokens: &mut Tokens) -> Result<(), ReadError>
+    fn plain_header(&mut self, section: Section, tokens: &mut Tokens) -> Result<(), LineError>
         requires table { HasTable section 0 }
         ensures gives { Gives (λ _. self.new) result (plain_header section self.old tokens.old) }
     {
-        tokens.ended()?;
+        tokens.end_line()?;
         self.section = section;
         self.begun = false;
         Ok(())
     }
 
     /// Opens the section of the exits, which needs a location.
-    fn con_header(&mut self, tokens: &mut Tokens) -> Result<(), ReadError>
+    fn con_header(&mut self, tokens: &mut Tokens) -> Result<(), LineError>
         ensures gives { Gives (λ _. self.new) result (con_header self.old tokens.old) }
     {
-        tokens.ended()?;
+        tokens.end_line()?;
         if self.locations.is_empty() {
             return fault(SourceKind::Missing);
         }
@@ -302,14 +302,14 @@ impl Draft {
     }
 
     /// Opens the next table, whose number the header has; the first one needs a row for each object.
-    fn pro_header(&mut self, alloc: Global, tokens: &mut Tokens) -> Result<(), ReadError>
+    fn pro_header(&mut self, alloc: Global, tokens: &mut Tokens) -> Result<(), LineError>
         ensures gives { Gives (λ _. self.new) result (pro_header self.old tokens.old) }
     {
         let number = byte_below(tokens, TABLE_NUMBERS)?;
         if number as usize != self.tables.len() {
             return fault(SourceKind::Section);
         }
-        tokens.ended()?;
+        tokens.end_line()?;
         if self.tables.is_empty() && self.facts.len() < self.names.len() {
             return fault(SourceKind::Missing);
         }
@@ -331,7 +331,7 @@ impl Draft {
         tables: u32,
         blank: bool,
         tokens: &mut Tokens,
-    ) -> Result<(), ReadError>
+    ) -> Result<(), LineError>
         ensures gives { Gives (λ _. self.new) result (row_in self.old.section tables self.old blank tokens.old) }
     {
         match self.section {
@@ -346,7 +346,7 @@ impl Draft {
     }
 
     /// Reads a row of `/CON`: an exit of the location of the last item.
-    fn con_row(&mut self, tokens: &mut Tokens) -> Result<(), ReadError>
+    fn con_row(&mut self, tokens: &mut Tokens) -> Result<(), LineError>
         ensures gives { Gives (λ _. self.new) result (con_row self.old tokens.old) }
     {
         if self.exits.is_empty() {
@@ -359,7 +359,7 @@ impl Draft {
     }
 
     /// Reads a row of `/OBJ`: the facts of the next object.
-    fn obj_row(&mut self, tokens: &mut Tokens) -> Result<(), ReadError>
+    fn obj_row(&mut self, tokens: &mut Tokens) -> Result<(), LineError>
         ensures gives { Gives (λ _. self.new) result (obj_row self.old tokens.old) }
     {
         let locations = self.locations.len() as u16;
@@ -391,7 +391,7 @@ impl Draft {
         tables: u32,
         more: bool,
         tokens: &mut Tokens,
-    ) -> Result<(), ReadError>
+    ) -> Result<(), LineError>
         requires some { 0 < length self.old.tables }
         ensures gives { Gives (λ _. self.new) result (pro_row tables self.old more tokens.old) }
     {

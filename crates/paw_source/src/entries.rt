@@ -7,10 +7,10 @@ ghost use Rattle.paw_grammar.specs.GrammarRows.{entry_row, more_row};
 
 use paw_base::fault::SourceKind;
 use paw_base::limits::ENTRY_LIMIT;
-use paw_faults::unread::Unread;
+use paw_faults::read_error::ReadError;
 use paw_game::parts::{Condacts, Entry, Table};
 use paw_grammar::condacts::Scope;
-use paw_grammar::refusal::ReadError;
+use paw_grammar::refusal::LineError;
 use paw_grammar::tokens::Tokens;
 use std::alloc::Global;
 
@@ -25,7 +25,7 @@ pub(crate) fn entry_row(
     scope: &Scope,
     table: &mut Table,
     tokens: &mut Tokens,
-) -> Result<(), ReadError>
+) -> Result<(), LineError>
     ensures gives { Gives (λ _. table.new) result (entry_row scope.now.bounds scope.now.words table.old tokens.old) }
 {
     let verb = scope.words.entry_verb(tokens)?;
@@ -33,7 +33,7 @@ pub(crate) fn entry_row(
     let mut rows = Vec::new(alloc);
     scope.more_condacts(tokens, &mut rows)?;
     if table.rows.len() >= ENTRY_LIMIT {
-        return Err(Unread::Fault(SourceKind::TooBig));
+        return Err(ReadError::Fault(SourceKind::TooBig));
     }
     table.rows.push(Entry {
         verb,
@@ -53,11 +53,11 @@ pub(crate) fn more_row(
     scope: &Scope,
     table: &mut Table,
     tokens: &mut Tokens,
-) -> Result<(), ReadError>
+) -> Result<(), LineError>
     ensures gives { Gives (λ _. table.new) result (more_row scope.now.bounds scope.now.words table.old tokens.old) }
 {
     if table.rows.is_empty() {
-        return Err(Unread::Fault(SourceKind::Section));
+        return Err(ReadError::Fault(SourceKind::Section));
     }
     let last = table.rows.len() - 1;
     let entry = &mut table.rows[last];
@@ -69,7 +69,7 @@ fn add_condacts(
     scope: &Scope,
     condacts: &mut Condacts,
     tokens: &mut Tokens,
-) -> Result<(), ReadError>
+) -> Result<(), LineError>
     ensures gives { Gives (λ _. condacts.new) result
         (more_condacts scope.now.bounds scope.now.words condacts.old tokens.old) }
 {

@@ -6,10 +6,10 @@ ghost use Rattle.paw_faults.specs.inner.Gives.{Gives};
 ghost use Rattle.paw_grammar.specs.GrammarRows.{exit_row};
 
 use paw_base::fault::SourceKind;
-use paw_faults::unread::Unread;
+use paw_faults::read_error::ReadError;
 use paw_game::parts::{Exit, Exits};
 use paw_grammar::numbers::byte_below;
-use paw_grammar::refusal::ReadError;
+use paw_grammar::refusal::LineError;
 use paw_grammar::tokens::Tokens;
 use paw_grammar::vocabulary::Vocabulary;
 use std::alloc::{AllocError, Global};
@@ -44,15 +44,15 @@ pub(crate) fn exit_row(
     locations: u16,
     exits: &mut Exits,
     tokens: &mut Tokens,
-) -> Result<(), ReadError>
+) -> Result<(), LineError>
     requires locations { locations ≤ 256 }
     ensures gives { Gives (λ _. exits.new) result (exit_row words.now locations exits.old tokens.old) }
 {
     let verb = words.verb_word(tokens)?;
     let to = byte_below(tokens, locations)?;
-    tokens.ended()?;
+    tokens.end_line()?;
     if has_exit(&exits.rows, verb) {
-        return Err(Unread::Fault(SourceKind::Duplicate));
+        return Err(ReadError::Fault(SourceKind::Duplicate));
     }
     exits.rows.push(Exit { verb, to })?;
     Ok(())

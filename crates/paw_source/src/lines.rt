@@ -1,15 +1,15 @@
 // A line of a source.
 
-ghost use Rattle.paw_lex.specs.inner.Lines.{bytes_of, LiesIn};
+ghost use Rattle.paw_lex.specs.inner.Lines.{line_bytes, LiesIn};
 ghost use Rattle.paw_faults.specs.inner.Gives.{Gives};
-ghost use Rattle.paw_grammar.specs.Spells.{step};
+ghost use Rattle.paw_grammar.specs.Spells.{after_line};
 
 use crate::bytes::{begins_with_blank, begins_with_slash, has_forbidden_byte};
 use crate::draft::Draft;
 use paw_base::fault::SourceKind;
-use paw_faults::unread::Unread;
+use paw_faults::read_error::ReadError;
 use paw_grammar::numbers::number;
-use paw_grammar::refusal::ReadError;
+use paw_grammar::refusal::LineError;
 use paw_grammar::tokens::{Tokens, without_first};
 use paw_lex::{Line, is_comment};
 use std::alloc::Global;
@@ -19,16 +19,16 @@ impl Draft {
     ///
     /// # Errors
     /// The first fault of the line.
-    #[tactic(auto, unfolding(paw_grammar::specs::Spells::step))]
+    #[tactic(auto, unfolding(paw_grammar::specs::Spells::after_line))]
     pub(crate) fn line(
         &mut self,
         alloc: Global,
         tables: u32,
         source: &[u8],
         line: &Line,
-    ) -> Result<(), ReadError>
+    ) -> Result<(), LineError>
         requires span { LiesIn source.now line.now }
-        ensures gives { Gives (λ _. self.new) result (step tables self.old (bytes_of source.now line.now)) }
+        ensures gives { Gives (λ _. self.new) result (after_line tables self.old (line_bytes source.now line.now)) }
     {
         // Shows the proof that the draft's lists are short.
         let _ = &self.section;
@@ -39,7 +39,7 @@ impl Draft {
         let slash = begins_with_slash(bytes);
         let text = self.is_in_text() && !slash;
         if has_forbidden_byte(source, line, text) {
-            return Err(Unread::Fault(SourceKind::Text));
+            return Err(ReadError::Fault(SourceKind::Text));
         }
         if text {
             return self.text(bytes);

@@ -11,7 +11,7 @@ use paw_base::words::{ADJECTIVE_CLASS, GREATEST_WORD, LEAST_WORD, NOUN_CLASS};
 use paw_game::parts::Word;
 use paw_grammar::numbers::{number_within, row_number};
 use paw_grammar::places::first_place;
-use paw_grammar::refusal::ReadError;
+use paw_grammar::refusal::LineError;
 use paw_grammar::tokens::Tokens;
 use paw_grammar::vocabulary::Vocabulary;
 use paw_grammar::words::{class, object_kind, word};
@@ -22,13 +22,13 @@ use paw_grammar::words::{class, object_kind, word};
 /// The first fault of the row: those of its three tokens, Extra, Duplicate where its letters are declared, and TooBig
 /// where there are 2,000 words.
 #[tactic(auto, unfolding(paw_grammar::specs::GrammarRows::voc_row))]
-pub(crate) fn voc_row(words: &mut Vocabulary, tokens: &mut Tokens) -> Result<(), ReadError>
+pub(crate) fn voc_row(words: &mut Vocabulary, tokens: &mut Tokens) -> Result<(), LineError>
     ensures gives { Gives (λ _. words.new) result (voc_row words.old tokens.old) }
 {
     let letters = word(tokens)?;
     let value = number_within(tokens, LEAST_WORD, GREATEST_WORD)?;
     let class = class(tokens)?;
-    tokens.ended()?;
+    tokens.end_line()?;
     words.declare(Word {
         letters,
         value,
@@ -47,7 +47,7 @@ pub(crate) fn object_row(
     row: u16,
     count: u16,
     tokens: &mut Tokens,
-) -> Result<ObjectFacts, ReadError>
+) -> Result<ObjectFacts, LineError>
     requires locations { locations ≤ LOCATION_LIMIT }
     ensures value { Gives (λ facts. facts) result (object_row words.now locations row count tokens.old) }
     ensures room { OnOk result (row < count) }
@@ -58,7 +58,7 @@ pub(crate) fn object_row(
     let (container, wearable) = object_kind(tokens)?;
     let noun = words.word_or_none(NOUN_CLASS, tokens)?;
     let adjective = words.word_or_none(ADJECTIVE_CLASS, tokens)?;
-    tokens.ended()?;
+    tokens.end_line()?;
     Ok(ObjectFacts {
         noun,
         adjective,

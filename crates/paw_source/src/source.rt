@@ -5,7 +5,7 @@ ghost use Rattle.std.specs.List.{count_by, slice_index_or};
 ghost use Rattle.paw_game.specs.Image.{image};
 ghost use Rattle.paw_game.specs.Valid.{Valid};
 ghost use Rattle.paw_lex.specs.Lines.{lines_of};
-ghost use Rattle.paw_lex.specs.inner.Lines.{bytes_of, LiesIn};
+ghost use Rattle.paw_lex.specs.inner.Lines.{line_bytes, LiesIn};
 ghost use Rattle.paw_base.specs.declared.limits.TheConstants.{IMAGE_LIMIT, SOURCE_LIMIT, TABLE_LEAST};
 ghost use Rattle.paw_grammar.specs.Tokens.{is_named};
 ghost use Rattle.paw_grammar.specs.GrammarState.{Spelt, game_of, nothing_yet};
@@ -19,9 +19,9 @@ use crate::laws::drafts_are_valid;
 use crate::refusal::SourceRefusal;
 use paw_base::fault::{SourceFault, SourceKind};
 use paw_base::limits::{IMAGE_LIMIT, SOURCE_LIMIT, TABLE_LEAST};
-use paw_faults::unread::Unread;
+use paw_faults::read_error::ReadError;
 use paw_game::game::Game;
-use paw_grammar::refusal::ReadError;
+use paw_grammar::refusal::LineError;
 use paw_grammar::tokens::{Tokens, is_named};
 use paw_image::encoder::image_length;
 use paw_lex::{Line, Lines};
@@ -40,7 +40,7 @@ fn is_pro(tokens: &mut Tokens) -> bool
 /// Whether a line begins with `/` and its first token is `/PRO`.
 fn begins_table(source: &[u8], line: &Line) -> bool
     requires span { LiesIn source.now line.now }
-    ensures value { result ≡ begins_table (bytes_of source.now line.now) }
+    ensures value { result ≡ begins_table (line_bytes source.now line.now) }
 {
     begins_with_slash(&source[line.from..line.to]) && is_pro(&mut Tokens::new(source, line))
 }
@@ -61,12 +61,12 @@ fn count_tables(source: &[u8]) -> u32
 }
 
 /// The refusal of a source for a line that is refused.
-fn at_line(line: u32, refused: ReadError) -> SourceRefusal
+fn at_line(line: u32, refused: LineError) -> SourceRefusal
     ensures value { result ≡ refused_at_line line refused }
 {
     match refused {
-        Unread::Memory => SourceRefusal::Memory,
-        Unread::Fault(kind) => SourceRefusal::Fault(SourceFault { line, kind }),
+        ReadError::Memory => SourceRefusal::Memory,
+        ReadError::Fault(kind) => SourceRefusal::Fault(SourceFault { line, kind }),
     }
 }
 
@@ -79,13 +79,13 @@ fn whole(alloc: Global, lines: u32, draft: Draft) -> Result<Game, SourceRefusal>
 {
     let line = lines + 1;
     if draft.tables() < TABLE_LEAST {
-        return Err(at_line(line, Unread::Fault(SourceKind::Missing)));
+        return Err(at_line(line, ReadError::Fault(SourceKind::Missing)));
     }
     let parts = draft.into_parts(alloc)?;
     // The lines of a draft keep the rules of a game.
     let game = Game::new(parts).unwrap();
     if image_length(&game) > IMAGE_LIMIT as u64 {
-        return Err(at_line(line, Unread::Fault(SourceKind::TooBig)));
+        return Err(at_line(line, ReadError::Fault(SourceKind::TooBig)));
     }
     Ok(game)
 }
@@ -124,7 +124,7 @@ pub fn read_source(alloc: Global, bytes: &[u8]) -> Result<Game, SourceRefusal>
     ensures small { IfOk result (λ game. length (image game) ≤ IMAGE_LIMIT) }
 {
     if bytes.len() > SOURCE_LIMIT {
-        return Err(at_line(0, Unread::Fault(SourceKind::TooBig)));
+        return Err(at_line(0, ReadError::Fault(SourceKind::TooBig)));
     }
     drafts_are_valid();
     let tables = count_tables(bytes);

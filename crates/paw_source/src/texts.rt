@@ -8,9 +8,9 @@ ghost use Rattle.paw_grammar.specs.GrammarTexts.{text_item, text_line, with_line
 
 use paw_base::fault::SourceKind;
 use paw_base::limits::TEXT_LIMIT;
-use paw_faults::unread::Unread;
+use paw_faults::read_error::ReadError;
 use paw_game::parts::Text;
-use paw_grammar::refusal::ReadError;
+use paw_grammar::refusal::LineError;
 use std::alloc::Global;
 
 /// Begins a text after the others of its section, which may have `limit` texts.
@@ -22,15 +22,15 @@ pub(crate) fn text_item(
     texts: &mut Vec<Text>,
     limit: usize,
     number: u32,
-) -> Result<(), ReadError>
+) -> Result<(), LineError>
     ensures meaning { Gives (λ _. texts.new.items) result (text_item limit number texts.old.items) }
     ensures few { length texts.old.items ≤ limit → length texts.new.items ≤ limit }
 {
     if number as usize != texts.len() {
-        return Err(Unread::Fault(SourceKind::Range));
+        return Err(ReadError::Fault(SourceKind::Range));
     }
     if texts.len() >= limit {
-        return Err(Unread::Fault(SourceKind::TooBig));
+        return Err(ReadError::Fault(SourceKind::TooBig));
     }
     texts.push(Text {
         rows: Vec::new(alloc),
@@ -42,7 +42,7 @@ pub(crate) fn text_item(
 ///
 /// # Errors
 /// TooBig where the text would pass 4,095 bytes.
-pub(crate) fn text_line(texts: &mut Vec<Text>, begun: bool, line: &[u8]) -> Result<(), ReadError>
+pub(crate) fn text_line(texts: &mut Vec<Text>, begun: bool, line: &[u8]) -> Result<(), LineError>
     requires some { 0 < length texts.old.items }
     ensures meaning { Gives (λ _. texts.new.items) result (text_line begun line.now texts.old.items) }
     ensures kept { length texts.new.items ≡ length texts.old.items }
@@ -53,11 +53,11 @@ pub(crate) fn text_line(texts: &mut Vec<Text>, begun: bool, line: &[u8]) -> Resu
 }
 
 /// Adds a line to a text.
-fn join(text: &mut Text, begun: bool, line: &[u8]) -> Result<(), ReadError>
+fn join(text: &mut Text, begun: bool, line: &[u8]) -> Result<(), LineError>
     ensures gives { Gives (λ _. text.new) result (at_most TEXT_LIMIT (with_line begun text.old line.now)) }
 {
     if !has_room(text.rows.len(), begun, line.len()) {
-        return Err(Unread::Fault(SourceKind::TooBig));
+        return Err(ReadError::Fault(SourceKind::TooBig));
     }
     if begun {
         text.rows.push(b'\n')?;

@@ -6,7 +6,7 @@ use Rattle.std.proofs.lemmas.Slice.Eq.{bytes_eq-Decides}
 use Rattle.paw_stage.specs.Disk.{Disk, put, stable}
 use Rattle.paw_stage.specs.Stage.{Standing, Saves, bytes_or_none, opened}
 use Rattle.paw_stage.specs.Moments.{Moment, moment_of, Passes, InAsk, InSave, InAttach, InWrite, InSync}
-use Rattle.paw_stage.specs.inner.Done.{DoneCall, fresh, step_done, after, filed, is_attached, saved, attached_store}
+use Rattle.paw_stage.specs.inner.Done.{DoneCall, fresh, standing_after, after, filed, is_attached, saved, attached_store}
 use Rattle.paw_stage.specs.inner.Done.{wrote_store, synced_store}
 use Rattle.paw_stage.specs.inner.Replay.{MayStand, StandsInside, since_of}
 use Rattle.paw_stage.specs.declared.log.CallKind.{CallKind}
@@ -25,13 +25,13 @@ standing_with lines ds = record (after fresh ds) { lines = lines }
 
 -- What stands after a call that was recorded.
 pub stood : (m n : Memory) (l : Logged) (d : DoneCall) → m.log ≡ l → n.log ≡ logged d l → n.lines ≡ m.lines →
-    standing_of n ≡ record (step_done (after fresh m.log.calls) d) { lines = m.lines }
+    standing_of n ≡ record (standing_after (after fresh m.log.calls) d) { lines = m.lines }
 unfolding standing_with
 stood m n l d em en el =
     let calls : n.log.calls ≡ m.log.calls ++ d ∷ [] = ap (λ (k : Logged). k.calls) en ∙ ap (λ (k : Logged). k.calls ++ d ∷ []) (sym em) in
     let a : standing_with n.lines n.log.calls ≡ standing_with m.lines n.log.calls = ap (λ k. standing_with k n.log.calls) el in
     let b : standing_with m.lines n.log.calls ≡ standing_with m.lines (m.log.calls ++ d ∷ []) = ap (standing_with m.lines) calls in
-    let last : after fresh (m.log.calls ++ d ∷ []) ≡ step_done (after fresh m.log.calls) d = after-push fresh m.log.calls d in
+    let last : after fresh (m.log.calls ++ d ∷ []) ≡ standing_after (after fresh m.log.calls) d = after-push fresh m.log.calls d in
     a ∙ (b ∙ ap {A = Standing} (λ s. record s { lines = m.lines }) last)
 
 -- The moments of a call that was recorded.

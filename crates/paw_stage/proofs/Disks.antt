@@ -4,7 +4,7 @@ use Rattle.std.specs.Prelude.{nat_le, nat_lt, ◌&&◌, ◌||◌, ◌==◌, if�
 use Rattle.std.proofs.lemmas.Bool.Decides.{nat_tests}
 use Rattle.paw_stage.specs.Disk.{Disk, Range, is_dirty, MayLeave, put, touched, stable}
 use Rattle.paw_stage.specs.Stage.{Standing, bytes_or_none}
-use Rattle.paw_stage.specs.inner.Done.{DoneCall, step_done, stepped, fresh, after, is_attached}
+use Rattle.paw_stage.specs.inner.Done.{DoneCall, standing_after, stepped, fresh, after, is_attached}
 use Rattle.paw_stage.specs.inner.Crash.{spoiled_if, spoiled, crashed}
 use Rattle.paw_stage.specs.declared.log.CallKind.{CallKind}
 use Rattle.paw_stage.specs.declared.log.CallKind.TheVariants as kind
@@ -62,7 +62,7 @@ stepped_is kind.Show name bytes s h = h
 
 later_disk : (s : Standing) (ds : List DoneCall) → IsDisk s.disk → IsDisk (after s ds).disk
 later_disk s [] h = h
-later_disk s (d ∷ ds) h = later_disk (step_done s d) ds (stepped_is d.kind d.name d.bytes s h)
+later_disk s (d ∷ ds) h = later_disk (standing_after s d) ds (stepped_is d.kind d.name d.bytes s h)
 
 pub after_disk : (ds : List DoneCall) → IsDisk (after fresh ds).disk
 after_disk ds = later_disk fresh ds (stable_is [])

@@ -6,13 +6,13 @@ use Rattle.std.proofs.Math.Seq.{take-append_seam, drop-append_seam, take-length}
 use Rattle.std.proofs.lemmas.List.{take-append-le, drop-append-le, length-drop, map-append, take_more, drop_more}
 use Rattle.std.proofs.lemmas.List.Sums.{fold-append}
 use Rattle.paw_stage.specs.Stage.{Standing}
-use Rattle.paw_stage.specs.inner.Done.{DoneCall, step_done, after}
+use Rattle.paw_stage.specs.inner.Done.{DoneCall, standing_after, after}
 use Rattle.paw_stage.specs.inner.Log.{done_in, all_done, AreLaid}
 use Rattle.paw_stage.specs.declared.log.Call.{Call}
 
 -- What stands after one call more.
-pub after-push : (s : Standing) (ds : List DoneCall) (d : DoneCall) → after s (ds ++ d ∷ []) ≡ step_done (after s ds) d
-after-push s ds d = fold-append step_done s ds (d ∷ [])
+pub after-push : (s : Standing) (ds : List DoneCall) (d : DoneCall) → after s (ds ++ d ∷ []) ≡ standing_after (after s ds) d
+after-push s ds d = fold-append standing_after s ds (d ∷ [])
 
 -- A part of the room stays when the room grows.
 slice_range-append : (room extra : List ℕ) (a b : ℕ) → a ≤ b → b ≤ length room → slice_range (room ++ extra) a b ≡ slice_range room a b

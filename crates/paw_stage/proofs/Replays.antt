@@ -5,7 +5,7 @@ use Rattle.std.specs.Prelude.{Some}
 use Rattle.std.proofs.Math.Seq.{take-length}
 use Rattle.paw_stage.specs.Stage.{Standing}
 use Rattle.paw_stage.specs.Moments.{Moment, moment_of, Passes}
-use Rattle.paw_stage.specs.inner.Done.{DoneCall, fresh, step_done, stepped, after}
+use Rattle.paw_stage.specs.inner.Done.{DoneCall, fresh, standing_after, stepped, after}
 use Rattle.paw_stage.specs.inner.Replay.{MayStand, StandsInside, StoodInside, since_of}
 use Rattle.paw_stage.specs.declared.log.CallKind.{CallKind}
 use Rattle.paw_stage.specs.declared.log.CallKind.TheVariants as kind
@@ -41,21 +41,21 @@ split : (s : Standing) (ds : List DoneCall) (d : DoneCall) (m : Moment) → Stoo
 split s [] d m (inl h) = inr h
 split s [] d m (inr h) = absurd h
 split s (x ∷ ds) d m (inl h) = inl (inl h)
-split s (x ∷ ds) d m (inr h) = elim (split (step_done s x) ds d m h) [ inl k ↦ inl (inr k) | inr k ↦ inr k ]
+split s (x ∷ ds) d m (inr h) = elim (split (standing_after s x) ds d m h) [ inl k ↦ inl (inr k) | inr k ↦ inr k ]
 
 first : (s : Standing) (ds : List DoneCall) (d : DoneCall) (m : Moment) → StoodInside s ds m → StoodInside s (ds ++ d ∷ []) m
 first s [] d m h = absurd h
 first s (x ∷ ds) d m (inl h) = inl h
-first s (x ∷ ds) d m (inr h) = inr (first (step_done s x) ds d m h)
+first s (x ∷ ds) d m (inr h) = inr (first (standing_after s x) ds d m h)
 
 last : (s : Standing) (ds : List DoneCall) (d : DoneCall) (m : Moment) → StandsInside (after s ds) d m → StoodInside s (ds ++ d ∷ []) m
 last s [] d m h = inl h
-last s (x ∷ ds) d m h = inr (last (step_done s x) ds d m h)
+last s (x ∷ ds) d m h = inr (last (standing_after s x) ds d m h)
 
 after_split : (s : Standing) (t : ℕ) (ds : List DoneCall) → after (after s (take t ds)) (drop t ds) ≡ after s ds
 after_split s zero ds = refl
 after_split s (suc t) [] = refl
-after_split s (suc t) (d ∷ ds) = after_split (step_done s d) t ds
+after_split s (suc t) (d ∷ ds) = after_split (standing_after s d) t ds
 
 take_push : (t : ℕ) (ds : List DoneCall) (d : DoneCall) → t ≤ length ds → (take t (ds ++ d ∷ []) ≡ take t ds) × (drop t (ds ++ d ∷ []) ≡ drop t ds ++ d ∷ [])
 take_push zero ds d h = (refl, refl)

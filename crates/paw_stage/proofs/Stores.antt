@@ -7,7 +7,7 @@ use Rattle.std.proofs.lemmas.List.{take-append-le, drop-append-le, take_all, len
 use Rattle.std.proofs.lemmas.Slice.Eq.{bytes_eq-Decides}
 use Rattle.paw_stage.specs.Disk.{Disk, is_dirty, stable}
 use Rattle.paw_stage.specs.Stage.{Standing}
-use Rattle.paw_stage.specs.inner.Done.{DoneCall, fresh, step_done, after, is_attached}
+use Rattle.paw_stage.specs.inner.Done.{DoneCall, fresh, standing_after, after, is_attached}
 use Rattle.paw_stage.specs.inner.Seen.{writes, is_written, IsStore, IsNamed, FindsStore}
 use Rattle.paw_stage.specs.inner.Log.{done_in}
 use Rattle.paw_stage.specs.declared.log.Call.{Call}
@@ -38,12 +38,12 @@ is_written-push (x ∷ ds) d i =
 
 -- A call that neither attaches nor syncs.
 kept_store : (ds : List DoneCall) (d : DoneCall) (name : List ℕ) (n : ℕ) → IsStore ds name n →
-    (step_done (after fresh ds) d).attached ≡ (after fresh ds).attached →
-    (step_done (after fresh ds) d).disk.synced ≡ (after fresh ds).disk.synced
-    → ((i : ℕ) → is_dirty (step_done (after fresh ds) d).disk.dirty i
+    (standing_after (after fresh ds) d).attached ≡ (after fresh ds).attached →
+    (standing_after (after fresh ds) d).disk.synced ≡ (after fresh ds).disk.synced
+    → ((i : ℕ) → is_dirty (standing_after (after fresh ds) d).disk.dirty i
     ≡ (writes d.kind (length d.bytes) i || is_dirty (after fresh ds).disk.dirty i)) → IsStore (ds ++ d ∷ []) name n
 kept_store ds d name n h ea es ed =
-    let last : after fresh (ds ++ d ∷ []) ≡ step_done (after fresh ds) d = after-push fresh ds d in
+    let last : after fresh (ds ++ d ∷ []) ≡ standing_after (after fresh ds) d = after-push fresh ds d in
     let front : take n (ds ++ d ∷ []) ≡ take n ds = take-append-le n ds (d ∷ []) h.within in
     let back : drop n (ds ++ d ∷ []) ≡ drop n ds ++ d ∷ [] = drop-append-le n ds (d ∷ []) h.within in
     record {
@@ -58,10 +58,10 @@ kept_store ds d name n h ea es ed =
     }
 
 -- A call after which all of the store's bytes are synced.
-settled_store : (ds : List DoneCall) (d : DoneCall) (name bytes : List ℕ) → (step_done (after fresh ds) d).attached ≡ Some name →
-    (step_done (after fresh ds) d).disk ≡ stable bytes → IsStore (ds ++ d ∷ []) name (length ds + 1)
+settled_store : (ds : List DoneCall) (d : DoneCall) (name bytes : List ℕ) → (standing_after (after fresh ds) d).attached ≡ Some name →
+    (standing_after (after fresh ds) d).disk ≡ stable bytes → IsStore (ds ++ d ∷ []) name (length ds + 1)
 settled_store ds d name bytes ea ed =
-    let last : after fresh (ds ++ d ∷ []) ≡ step_done (after fresh ds) d = after-push fresh ds d in
+    let last : after fresh (ds ++ d ∷ []) ≡ standing_after (after fresh ds) d = after-push fresh ds d in
     let size : length (ds ++ d ∷ []) ≡ length ds + 1 = length-append ds (d ∷ []) in
     let all : take (length ds + 1) (ds ++ d ∷ []) ≡ ds ++ d ∷ [] = take_all (length ds + 1) (ds ++ d ∷ []) (omega arith) in
     let disk : (after fresh (ds ++ d ∷ [])).disk ≡ stable bytes = ap (λ (s : Standing). s.disk) last ∙ ed in
@@ -90,9 +90,9 @@ IsQuiet kind.Sync = ⊥
 IsQuiet _ = Unit {0}
 
 kept_finds : (room : List ℕ) (ds : List DoneCall) (d : DoneCall) (store : Option Store) → FindsStore room ds store →
-    (step_done (after fresh ds) d).attached ≡ (after fresh ds).attached →
-    (step_done (after fresh ds) d).disk.synced ≡ (after fresh ds).disk.synced
-    → ((i : ℕ) → is_dirty (step_done (after fresh ds) d).disk.dirty i
+    (standing_after (after fresh ds) d).attached ≡ (after fresh ds).attached →
+    (standing_after (after fresh ds) d).disk.synced ≡ (after fresh ds).disk.synced
+    → ((i : ℕ) → is_dirty (standing_after (after fresh ds) d).disk.dirty i
     ≡ (writes d.kind (length d.bytes) i || is_dirty (after fresh ds).disk.dirty i)) →
     FindsStore room (ds ++ d ∷ []) store
 kept_finds room ds d None h ea es ed = ap (λ (s : Standing). s.attached) (after-push fresh ds d) ∙ (ea ∙ h)

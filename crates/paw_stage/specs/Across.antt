@@ -2,7 +2,7 @@
 -- and `g` has what the stage reports.
 use Rattle.std.specs.Prelude.{◌≡◌, ◌↔◌, ◌⊎◌, ◌≤◌, ℕ, List, [], ◌∷◌, Option, IfSome}
 use Rattle.paw_stage.specs.declared.StageCall.{StageCall}
-use Rattle.paw_stage.specs.Stage.{Standing, Faulted}
+use Rattle.paw_stage.specs.Stage.{Standing, CountsFailure}
 use Rattle.paw_stage.specs.Moments.{Moment, Moments}
 use Rattle.paw_stage.specs.declared.Stage.{Ghosts}
 
@@ -13,15 +13,15 @@ IsOneOf (y ∷ ys) x = (x ≡ y) ⊎ IsOneOf ys x
 
 -- The stage reports what stands at it (`Tells`) after the calls exactly where it did before. If one of them failed it
 -- is one of these, and its count of faults rose, and no other.
-pub record Serves {S : Type 0} (g : Ghosts S) (calls : List StageCall) (failed : Option StageCall) (old new : S)
+pub record FailsOnlyBy {S : Type 0} (g : Ghosts S) (calls : List StageCall) (failed : Option StageCall) (old new : S)
     : Type 0 where
   pub tells : g.Tells old ↔ g.Tells new
-  pub faulted : Faulted failed (g.faults old) (g.faults new)
+  pub faulted : CountsFailure failed (g.faults old) (g.faults new)
   pub among : IfSome failed (IsOneOf calls)
 
 -- Where the stage reports what stands at it, this holds between what stood before and what stands after.
-abbrev pub Across : {S : Type 0} → Ghosts S → S → S → (Standing → Standing → Type 0) → Type 0
-Across g old new Holds = g.Tells old → Holds (g.standing old) (g.standing new)
+abbrev pub IfTelling : {S : Type 0} → Ghosts S → S → S → (Standing → Standing → Type 0) → Type 0
+IfTelling g old new Holds = g.Tells old → Holds (g.standing old) (g.standing new)
 
 -- The moments of the calls are those before them, and others for which `Inside` holds.
 abbrev pub EachMoment : {S : Type 0} → Ghosts S → S → S → (Moment → Type 0) → Type 0

@@ -60,9 +60,9 @@ Rose old new = (old < new) ⊎ ((old ≡ 2 ^ 64 - 1) × (new ≡ 2 ^ 64 - 1))
 
 -- What one call, or several in a row, did to the counts of faults: the count of the call that failed rose, and no other
 -- changed. Where none failed, none changed.
-abbrev pub Faulted : Option StageCall → (StageCall → ℕ) → (StageCall → ℕ) → Type 0
-Faulted None old new = (c : StageCall) → new c ≡ old c
-Faulted (Some failed) old new = Rose (old failed) (new failed) × ((c : StageCall) → c ≢ failed → new c ≡ old c)
+abbrev pub CountsFailure : Option StageCall → (StageCall → ℕ) → (StageCall → ℕ) → Type 0
+CountsFailure None old new = (c : StageCall) → new c ≡ old c
+CountsFailure (Some failed) old new = Rose (old failed) (new failed) × ((c : StageCall) → c ≢ failed → new c ≡ old c)
 
 -- The call that failed, if it did, by its answer.
 abbrev pub failed_in : {A : Type 0} → StageCall → Result A Failed → Option StageCall

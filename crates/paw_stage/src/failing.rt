@@ -1,7 +1,7 @@
 // A stage in memory of which the listed calls fail.
 
 ghost use Rattle.std.specs.Prelude.{◌≡◌};
-ghost use Rattle.paw_stage.specs.inner.Faults.{no_faults};
+ghost use Rattle.paw_stage.specs.inner.Faults.{no_failures};
 ghost use Rattle.paw_stage.specs.inner.Failing.{listing_of, is_listed, call_counted};
 
 use crate::MemoryStage;
@@ -42,7 +42,7 @@ impl Refusals for Listed {
 impl RefusingStage<Listed> {
     /// A stage over this one, of which the calls with these numbers fail. They need not be in order.
     pub fn new(inner: MemoryStage, calls: Vec<u64>) -> FailStage
-        ensures value { result ≡ record { inner = inner; rule = listing_of calls.items; counts = no_faults } }
+        ensures value { result ≡ record { inner = inner; rule = listing_of calls.items; counts = no_failures } }
     {
         RefusingStage::over(inner, Listed { calls, next: 0 })
     }

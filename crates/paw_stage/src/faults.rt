@@ -1,14 +1,14 @@
 // A count of faults for each call, kept by every stage.
 
 ghost use Rattle.std.specs.Prelude.{◌≡◌, Some};
-ghost use Rattle.paw_stage.specs.inner.Faults.{count_of, no_faults, raised, counted};
-ghost use Rattle.paw_stage.specs.Stage.{Faulted, failed_in};
+ghost use Rattle.paw_stage.specs.inner.Faults.{count_of, no_failures, raised, counts_after};
+ghost use Rattle.paw_stage.specs.Stage.{CountsFailure, failed_in};
 
 use crate::{Failed, StageCall};
 
 /// How often each call has failed. A count never falls, and stops at its last value, 2^64 - 1.
 #[derive(Clone, Copy, Drop, PartialEq, Eq, Debug)]
-pub struct FaultCounts {
+pub struct FailureCounts {
     pub load: u64,
     pub absent: u64,
     pub save: u64,
@@ -20,12 +20,12 @@ pub struct FaultCounts {
     pub show: u64,
 }
 
-impl FaultCounts {
+impl FailureCounts {
     /// No call has failed yet.
-    pub fn none() -> FaultCounts
-        ensures value { result ≡ no_faults }
+    pub fn none() -> FailureCounts
+        ensures value { result ≡ no_failures }
     {
-        FaultCounts {
+        FailureCounts {
             load: 0,
             absent: 0,
             save: 0,
@@ -41,7 +41,7 @@ impl FaultCounts {
     /// Counts one more fault of a call. Its own count rises, and no other changes.
     pub fn raise(&mut self, call: StageCall)
         ensures raised { self.new ≡ raised call self.old }
-        ensures faulted { Faulted (Some call) (count_of self.old) (count_of self.new) }
+        ensures faulted { CountsFailure (Some call) (count_of self.old) (count_of self.new) }
     {
         match call {
             StageCall::Load => self.load = self.load.saturating_add(1),
@@ -57,10 +57,14 @@ impl FaultCounts {
     }
 
     /// Counts one more fault of a call where it failed, and hands on what it answered.
-    pub fn answered<T>(&mut self, call: StageCall, answer: Result<T, Failed>) -> Result<T, Failed>
+    pub fn count_answer<T>(
+        &mut self,
+        call: StageCall,
+        answer: Result<T, Failed>,
+    ) -> Result<T, Failed>
         ensures same { result ≡ answer }
-        ensures counted { self.new ≡ counted (failed_in call result) self.old }
-        ensures faulted { Faulted (failed_in call result) (count_of self.old) (count_of self.new) }
+        ensures counted { self.new ≡ counts_after (failed_in call result) self.old }
+        ensures faulted { CountsFailure (failed_in call result) (count_of self.old) (count_of self.new) }
     {
         if answer.is_err() {
             self.raise(call);

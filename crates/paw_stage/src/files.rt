@@ -2,7 +2,7 @@
 
 ghost use Rattle.std.specs.Prelude.{◌≡◌, OnOk};
 ghost use Rattle.std.specs.Path.{path_bytes};
-ghost use Rattle.paw_stage.specs.inner.Files.{StandsAt, GivesAt, TakesAt, folder_of};
+ghost use Rattle.paw_stage.specs.inner.Files.{StaysWhereItWas, GivesAt, TakesAt, folder_of};
 
 use crate::streams::{read_first, write_whole};
 use crate::{Failed, LoadRefusal};
@@ -167,7 +167,7 @@ fn file_size_in(limits: &[u8]) -> Option<u64> {
 
 // Goes to a place of a file.
 fn seek_to<F: Seek>(file: &mut F, at: u64) -> Result<(), Failed>
-    ensures stands { OnOk result (StandsAt (F.stream_position file.old) (F.stream_position file.new) at) }
+    ensures stands { OnOk result (StaysWhereItWas (F.stream_position file.old) (F.stream_position file.new) at) }
 {
     match file.seek(SeekFrom::Start(at)) {
         Ok(_) => Ok(()),

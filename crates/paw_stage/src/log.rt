@@ -8,7 +8,7 @@ ghost use Rattle.paw_stage.specs.Stage.{Standing, bytes_or_none};
 ghost use Rattle.paw_stage.specs.inner.Stage.{IfAttached};
 ghost use Rattle.paw_stage.specs.inner.Done.{call_of, call_at, added, fresh, stepped, after, calls_made, right_after};
 ghost use Rattle.paw_stage.specs.inner.Crash.{crashed, HasNoStore};
-ghost use Rattle.paw_stage.specs.inner.Log.{has_room, logged, call_logged, all_done, AreLaid, KeepsText};
+ghost use Rattle.paw_stage.specs.inner.Log.{has_room, logged, call_logged, all_done, AreLaid, IsTextOfCall};
 ghost use Rattle.paw_stage.specs.inner.Seen.{HasLength};
 
 use crate::replay::{
@@ -60,11 +60,11 @@ impl Model for Log {
 
     ghost Value = { Logged };
 
-    ghost use Rattle.paw_stage.specs.inner.LogInside.{logged_in, IsLogKept};
+    ghost use Rattle.paw_stage.specs.inner.LogInside.{logged_in, IsLogSound};
 
     ghost view = { logged_in };
 
-    ghost invariant = { IsLogKept };
+    ghost invariant = { IsLogSound };
 }
 
 impl Log {
@@ -127,14 +127,14 @@ impl Log {
     }
 
     /// The text shown.
-    pub fn shown(&self) -> &[u8]
+    pub fn text_shown(&self) -> &[u8]
         ensures value { result.now ≡ (after fresh self.now.calls).shown }
     {
         self.text.as_slice()
     }
 
     /// The number of bytes that were written to stores.
-    pub fn written(&self) -> usize
+    pub fn bytes_sent(&self) -> usize
         ensures value { result ≡ (after fresh self.now.calls).written }
     {
         self.written
@@ -267,7 +267,7 @@ fn record_call(calls: &mut Vec<Call>, room: &mut Vec<u8>, kind: CallKind, name: 
 // Adds to the text what a call showed.
 fn show_text(text: &mut Vec<u8>, kind: CallKind, bytes: &[u8])
     requires fits { vec_len text.old + length bytes.now ≤ vec_capacity text.old }
-    ensures shown { KeepsText kind bytes.now text.old.items text.new.items }
+    ensures shown { IsTextOfCall kind bytes.now text.old.items text.new.items }
     ensures len { vec_len text.new ≤ vec_len text.old + length bytes.now }
     ensures capacity { vec_capacity text.old ≤ vec_capacity text.new }
 {

@@ -9,7 +9,7 @@ ghost use Rattle.paw_stage.specs.declared.StageCall.TheVariants as call;
 ghost use Rattle.paw_stage.specs.declared.LoadRefusal.TheVariants as refusal;
 ghost use Rattle.paw_stage.specs.declared.Asked.TheVariants as asked;
 ghost use Rattle.paw_stage.specs.Disk.{MayLeave, IsStable};
-ghost use Rattle.paw_stage.specs.Stage.{Faulted, failed_in, failed_load, failed_ask, IsCut};
+ghost use Rattle.paw_stage.specs.Stage.{CountsFailure, failed_in, failed_load, failed_ask, IsCut};
 ghost use Rattle.paw_stage.specs.inner.Stage.{IfAttached};
 ghost use Rattle.paw_stage.specs.Stage.{LoadsTo, SavesTo, AttachesTo, ReadsTo, WritesTo, SyncsTo, AsksTo, ShowsTo};
 ghost use Rattle.paw_stage.specs.Moments.{Still, InAsk, InShow, InSave, InAttach, InWrite, InSync};
@@ -18,13 +18,13 @@ ghost use Rattle.paw_stage.specs.inner.Crash.{crashed, HasNoStore};
 ghost use Rattle.paw_stage.specs.inner.Done.{loaded_file, saved, attached_store, read_store};
 ghost use Rattle.paw_stage.specs.inner.Done.{wrote_store, synced_store, took};
 ghost use Rattle.paw_stage.specs.inner.Done.{end_done, showed, call_at, calls_made, right_after};
-ghost use Rattle.paw_stage.specs.inner.Memory.{empty, standing_of, clock_of, moments_of, only_moment, Throughout};
+ghost use Rattle.paw_stage.specs.inner.Memory.{empty, standing_of, clock_of, moments_of, only_moment, AtEachMoment};
 ghost use Rattle.paw_stage.specs.inner.Memory.{can_note, recorded, failed, Notes, found_none};
 ghost use Rattle.paw_stage.specs.inner.Memory.{line_taken, with_file, with_line_left};
 ghost use Rattle.paw_stage.specs.inner.Filed.{file_holds};
 
 use crate::log::{CallKind, Log};
-use crate::{Asked, Failed, FaultCounts, LoadRefusal, Stage, StageCall};
+use crate::{Asked, Failed, FailureCounts, LoadRefusal, Stage, StageCall};
 use paw_base::fault::NoRoom;
 use paw_base::limits::LINE_LIMIT;
 use paw_base::lists::Rows;
@@ -48,7 +48,7 @@ type Line = Rows<u8>;
 pub struct MemoryStage {
     lines: VecDeque<Line>,
     log: Log,
-    counts: FaultCounts,
+    counts: FailureCounts,
 }
 
 impl Model for MemoryStage {
@@ -67,7 +67,7 @@ impl MemoryStage {
         Ok(MemoryStage {
             lines: VecDeque::new(alloc),
             log: Log::new(alloc, calls as usize, bytes as usize)?,
-            counts: FaultCounts::none(),
+            counts: FailureCounts::none(),
         })
     }
 
@@ -101,14 +101,14 @@ impl MemoryStage {
     pub fn shown(&self) -> &[u8]
         ensures value { result.now ≡ (standing_of self.now).shown }
     {
-        self.log.shown()
+        self.log.text_shown()
     }
 
     /// The number of bytes that were written to stores.
     pub fn written(&self) -> u64
         ensures value { result ≡ (standing_of self.now).written }
     {
-        self.log.written() as u64
+        self.log.bytes_sent() as u64
     }
 
     /// The attached store as a crash may leave it, and no bytes where none is attached. Pick 0 gives the bytes at the
@@ -156,10 +156,10 @@ impl Stage for MemoryStage {
     ghost since = { moments_of };
 
     fn load(&mut self, alloc: Global, name: &str, most: usize) -> Result<Vec<u8>, LoadRefusal>
-        ensures faulted { Faulted (failed_load result) (count_of self.old.counts) (count_of self.new.counts) }
+        ensures faulted { CountsFailure (failed_load result) (count_of self.old.counts) (count_of self.new.counts) }
         ensures still { standing_of self.new ≡ standing_of self.old }
         ensures answer { LoadsTo (standing_of self.old) name.now most result }
-        ensures time { Throughout self.old self.new Still }
+        ensures time { AtEachMoment self.old self.new Still }
 
         // It fails exactly where there is no room, and then leaves no trace but its count.
         ensures exact { (result ≡ Err refusal.Failed) ↔ IsFalse (can_note (loaded_file name.now) self.old) }
@@ -182,9 +182,10 @@ impl Stage for MemoryStage {
     }
 
     fn save(&mut self, name: &str, bytes: &[u8]) -> Result<(), Failed>
-        ensures faulted { Faulted (failed_in call.Save result) (count_of self.old.counts) (count_of self.new.counts) }
+        ensures faulted { CountsFailure (failed_in call.Save result) (count_of self.old.counts)
+            (count_of self.new.counts) }
         ensures answer { SavesTo (standing_of self.old) (standing_of self.new) name.now bytes.now result }
-        ensures time { Throughout self.old self.new (λ s. InSave s name.now) }
+        ensures time { AtEachMoment self.old self.new (λ s. InSave s name.now) }
         ensures noted { Notes call.Save (saved name.now bytes.now) result self.old self.new }
     {
         if !self.log.add(CallKind::Save, name.as_bytes(), bytes) {
@@ -196,9 +197,10 @@ impl Stage for MemoryStage {
 
     fn attach(&mut self, name: &str) -> Result<u64, Failed>
         requires synced { IsStable (standing_of self.old).disk }
-        ensures faulted { Faulted (failed_in call.Attach result) (count_of self.old.counts) (count_of self.new.counts) }
+        ensures faulted { CountsFailure (failed_in call.Attach result) (count_of self.old.counts)
+            (count_of self.new.counts) }
         ensures answer { AttachesTo (standing_of self.old) (standing_of self.new) name.now result }
-        ensures time { Throughout self.old self.new (λ s. InAttach s (standing_of self.new) name.now) }
+        ensures time { AtEachMoment self.old self.new (λ s. InAttach s (standing_of self.new) name.now) }
         ensures noted { Notes call.Attach (attached_store name.now) result self.old self.new }
     {
         if !self.log.add(CallKind::Attach, name.as_bytes(), &[]) {
@@ -211,10 +213,11 @@ impl Stage for MemoryStage {
     fn read_at(&mut self, at: u64, into: &mut [u8]) -> Result<(), Failed>
         requires attached { IsSome (standing_of self.old).attached }
         requires within { at + length into.old ≤ length (standing_of self.old).disk.bytes }
-        ensures faulted { Faulted (failed_in call.Read result) (count_of self.old.counts) (count_of self.new.counts) }
+        ensures faulted { CountsFailure (failed_in call.Read result) (count_of self.old.counts)
+            (count_of self.new.counts) }
         ensures still { standing_of self.new ≡ standing_of self.old }
         ensures answer { ReadsTo (standing_of self.old) at (length into.old) into.new result }
-        ensures time { Throughout self.old self.new Still }
+        ensures time { AtEachMoment self.old self.new Still }
         ensures noted { Notes call.Read read_store result self.old self.new }
     {
         if !self.log.add(CallKind::Read, &[], &[]) {
@@ -228,9 +231,10 @@ impl Stage for MemoryStage {
     fn write_at(&mut self, at: u64, bytes: &[u8]) -> Result<(), Failed>
         requires attached { IsSome (standing_of self.old).attached }
         requires within { at ≤ length (standing_of self.old).disk.bytes }
-        ensures faulted { Faulted (failed_in call.Write result) (count_of self.old.counts) (count_of self.new.counts) }
+        ensures faulted { CountsFailure (failed_in call.Write result) (count_of self.old.counts)
+            (count_of self.new.counts) }
         ensures answer { WritesTo (standing_of self.old) (standing_of self.new) at bytes.now result }
-        ensures time { Throughout self.old self.new (λ s. InWrite s at (length bytes.now)) }
+        ensures time { AtEachMoment self.old self.new (λ s. InWrite s at (length bytes.now)) }
         ensures noted { Notes call.Write (wrote_store at bytes.now) result self.old self.new }
     {
         if !self.log.add(CallKind::Write(at), &[], bytes) {
@@ -241,9 +245,10 @@ impl Stage for MemoryStage {
     }
 
     fn sync(&mut self) -> Result<(), Failed>
-        ensures faulted { Faulted (failed_in call.Sync result) (count_of self.old.counts) (count_of self.new.counts) }
+        ensures faulted { CountsFailure (failed_in call.Sync result) (count_of self.old.counts)
+            (count_of self.new.counts) }
         ensures answer { SyncsTo (standing_of self.old) (standing_of self.new) result }
-        ensures time { Throughout self.old self.new InSync }
+        ensures time { AtEachMoment self.old self.new InSync }
         ensures noted { Notes call.Sync synced_store result self.old self.new }
     {
         if !self.log.add(CallKind::Sync, &[], &[]) {
@@ -254,9 +259,9 @@ impl Stage for MemoryStage {
     }
 
     fn ask(&mut self, into: &mut [u8; LINE_LIMIT]) -> Asked
-        ensures faulted { Faulted (failed_ask result) (count_of self.old.counts) (count_of self.new.counts) }
+        ensures faulted { CountsFailure (failed_ask result) (count_of self.old.counts) (count_of self.new.counts) }
         ensures answer { AsksTo (standing_of self.old) (standing_of self.new) result into.new }
-        ensures time { Throughout self.old self.new (λ s. InAsk s result) }
+        ensures time { AtEachMoment self.old self.new (λ s. InAsk s result) }
 
         // It fails exactly where there is no room, and then leaves no trace but its count.
         ensures exact { (result ≡ asked.Failed) ↔ IsFalse (can_note took self.old) }
@@ -280,9 +285,10 @@ impl Stage for MemoryStage {
     }
 
     fn show(&mut self, text: &[u8]) -> Result<(), Failed>
-        ensures faulted { Faulted (failed_in call.Show result) (count_of self.old.counts) (count_of self.new.counts) }
+        ensures faulted { CountsFailure (failed_in call.Show result) (count_of self.old.counts)
+            (count_of self.new.counts) }
         ensures answer { ShowsTo (standing_of self.old) (standing_of self.new) text.now result }
-        ensures time { Throughout self.old self.new (λ s. InShow s text.now) }
+        ensures time { AtEachMoment self.old self.new (λ s. InShow s text.now) }
         ensures noted { Notes call.Show (showed text.now) result self.old self.new }
     {
         if !self.log.add(CallKind::Show, &[], text) {

@@ -2,14 +2,14 @@
 
 ghost use Rattle.std.specs.Prelude.{◌≡◌};
 ghost use Rattle.paw_stage.specs.declared.StageCall.TheVariants as call;
-ghost use Rattle.paw_stage.specs.Stage.{Faulted, failed_in, failed_load, failed_ask};
-ghost use Rattle.paw_stage.specs.inner.Faults.{count_of, no_faults, counted};
+ghost use Rattle.paw_stage.specs.Stage.{CountsFailure, failed_in, failed_load, failed_ask};
+ghost use Rattle.paw_stage.specs.inner.Faults.{count_of, no_failures, counts_after};
 ghost use Rattle.paw_stage.specs.inner.Done.{fresh};
 
 use crate::files::{longest_file, read_file, read_part, sync_bytes, write_file, write_part};
 use crate::input::LineReader;
 use crate::streams::write_whole;
-use crate::{Asked, Failed, FaultCounts, LoadRefusal, Stage, StageCall};
+use crate::{Asked, Failed, FailureCounts, LoadRefusal, Stage, StageCall};
 use opening::open_store;
 use paw_base::limits::LINE_LIMIT;
 use std::alloc::{Alloc, Global};
@@ -44,13 +44,13 @@ pub struct RealStage<R: Files<File = File> + Input + Print + Alloc + Drop> {
     input: LineReader<R::Reader>,
     store: Option<File>,
     longest: u64,
-    counts: FaultCounts,
+    counts: FailureCounts,
 }
 
 impl<R: Files<File = File> + Input + Print + Alloc + Drop> Model for RealStage<R> {
-    ghost use Rattle.paw_stage.specs.declared.faults.FaultCounts.{FaultCounts};
+    ghost use Rattle.paw_stage.specs.declared.faults.FailureCounts.{FailureCounts};
 
-    ghost Value = { FaultCounts };
+    ghost Value = { FailureCounts };
 
     ghost view = { λ s. s.counts };
 }
@@ -58,7 +58,7 @@ impl<R: Files<File = File> + Input + Print + Alloc + Drop> Model for RealStage<R
 impl<R: Files<File = File> + Input + Print + Alloc + Drop> RealStage<R> {
     /// The files and standard streams of this runtime. No call has failed yet.
     pub fn new(rt: R) -> RealStage<R>
-        ensures value { result ≡ no_faults }
+        ensures value { result ≡ no_failures }
     {
         let input = LineReader::new(rt.reader());
         let longest = longest_file(&rt);
@@ -67,7 +67,7 @@ impl<R: Files<File = File> + Input + Print + Alloc + Drop> RealStage<R> {
             input,
             store: None,
             longest,
-            counts: FaultCounts::none(),
+            counts: FailureCounts::none(),
         }
     }
 }
@@ -85,10 +85,10 @@ impl<R: Files<File = File> + Input + Print + Alloc + Drop> Stage for RealStage<R
 
     // Only a name that is missing is Absent: a folder, or a file that may not be read, is Failed.
     fn load(&mut self, alloc: Global, name: &str, most: usize) -> Result<Vec<u8>, LoadRefusal>
-        ensures faulted { Faulted (failed_load result) (count_of self.old) (count_of self.new) }
+        ensures faulted { CountsFailure (failed_load result) (count_of self.old) (count_of self.new) }
 
         // A count rises exactly at a failure.
-        ensures counted { self.new ≡ counted (failed_load result) self.old }
+        ensures counted { self.new ≡ counts_after (failed_load result) self.old }
     {
         let loaded = read_file(&self.rt, alloc, name, most);
         match loaded {
@@ -101,72 +101,72 @@ impl<R: Files<File = File> + Input + Print + Alloc + Drop> Stage for RealStage<R
     }
 
     fn save(&mut self, name: &str, bytes: &[u8]) -> Result<(), Failed>
-        ensures faulted { Faulted (failed_in call.Save result) (count_of self.old) (count_of self.new) }
+        ensures faulted { CountsFailure (failed_in call.Save result) (count_of self.old) (count_of self.new) }
 
         // A count rises exactly at a failure.
-        ensures counted { self.new ≡ counted (failed_in call.Save result) self.old }
+        ensures counted { self.new ≡ counts_after (failed_in call.Save result) self.old }
     {
         let saved = write_file(&self.rt, name, bytes, self.longest);
-        self.counts.answered(StageCall::Save, saved)
+        self.counts.count_answer(StageCall::Save, saved)
     }
 
     fn attach(&mut self, name: &str) -> Result<u64, Failed>
-        ensures faulted { Faulted (failed_in call.Attach result) (count_of self.old) (count_of self.new) }
+        ensures faulted { CountsFailure (failed_in call.Attach result) (count_of self.old) (count_of self.new) }
 
         // A count rises exactly at a failure.
-        ensures counted { self.new ≡ counted (failed_in call.Attach result) self.old }
+        ensures counted { self.new ≡ counts_after (failed_in call.Attach result) self.old }
     {
         self.store = None;
         let opened = open_store(&self.rt, name);
-        let (file, length) = self.counts.answered(StageCall::Attach, opened)?;
+        let (file, length) = self.counts.count_answer(StageCall::Attach, opened)?;
         self.store = Some(file);
         Ok(length)
     }
 
     fn read_at(&mut self, at: u64, into: &mut [u8]) -> Result<(), Failed>
-        ensures faulted { Faulted (failed_in call.Read result) (count_of self.old) (count_of self.new) }
+        ensures faulted { CountsFailure (failed_in call.Read result) (count_of self.old) (count_of self.new) }
 
         // A count rises exactly at a failure.
-        ensures counted { self.new ≡ counted (failed_in call.Read result) self.old }
+        ensures counted { self.new ≡ counts_after (failed_in call.Read result) self.old }
     {
         let store = self.store.as_mut();
         let read = store.map_or(Err(Failed), |file| read_part(file, at, into));
-        self.counts.answered(StageCall::Read, read)
+        self.counts.count_answer(StageCall::Read, read)
     }
 
     fn write_at(&mut self, at: u64, bytes: &[u8]) -> Result<(), Failed>
-        ensures faulted { Faulted (failed_in call.Write result) (count_of self.old) (count_of self.new) }
+        ensures faulted { CountsFailure (failed_in call.Write result) (count_of self.old) (count_of self.new) }
 
         // A count rises exactly at a failure.
-        ensures counted { self.new ≡ counted (failed_in call.Write result) self.old }
+        ensures counted { self.new ≡ counts_after (failed_in call.Write result) self.old }
     {
         if at.saturating_add(bytes.len() as u64) > self.longest {
-            return self.counts.answered(StageCall::Write, Err(Failed));
+            return self.counts.count_answer(StageCall::Write, Err(Failed));
         }
         let store = self.store.as_mut();
         let written = store.map_or(Err(Failed), |file| write_part(file, at, bytes));
-        self.counts.answered(StageCall::Write, written)
+        self.counts.count_answer(StageCall::Write, written)
     }
 
     fn sync(&mut self) -> Result<(), Failed>
-        ensures faulted { Faulted (failed_in call.Sync result) (count_of self.old) (count_of self.new) }
+        ensures faulted { CountsFailure (failed_in call.Sync result) (count_of self.old) (count_of self.new) }
 
         // A count rises exactly at a failure.
-        ensures counted { self.new ≡ counted (failed_in call.Sync result) self.old }
+        ensures counted { self.new ≡ counts_after (failed_in call.Sync result) self.old }
     {
         let store = self.store.as_ref();
         let synced = store.map_or(Err(Failed), |file| sync_bytes(file));
         if synced.is_err() {
             self.store = None;
         }
-        self.counts.answered(StageCall::Sync, synced)
+        self.counts.count_answer(StageCall::Sync, synced)
     }
 
     fn ask(&mut self, into: &mut [u8; LINE_LIMIT]) -> Asked
-        ensures faulted { Faulted (failed_ask result) (count_of self.old) (count_of self.new) }
+        ensures faulted { CountsFailure (failed_ask result) (count_of self.old) (count_of self.new) }
 
         // A count rises exactly at a failure.
-        ensures counted { self.new ≡ counted (failed_ask result) self.old }
+        ensures counted { self.new ≡ counts_after (failed_ask result) self.old }
     {
         let asked = self.input.next_line(into);
         if asked == Asked::Failed {
@@ -176,13 +176,13 @@ impl<R: Files<File = File> + Input + Print + Alloc + Drop> Stage for RealStage<R
     }
 
     fn show(&mut self, text: &[u8]) -> Result<(), Failed>
-        ensures faulted { Faulted (failed_in call.Show result) (count_of self.old) (count_of self.new) }
+        ensures faulted { CountsFailure (failed_in call.Show result) (count_of self.old) (count_of self.new) }
 
         // A count rises exactly at a failure.
-        ensures counted { self.new ≡ counted (failed_in call.Show result) self.old }
+        ensures counted { self.new ≡ counts_after (failed_in call.Show result) self.old }
     {
         let shown = write_whole(&mut io::writer(&self.rt), text);
-        self.counts.answered(StageCall::Show, shown)
+        self.counts.count_answer(StageCall::Show, shown)
     }
 
     ghost only_now = { λ s m no. absurd no };

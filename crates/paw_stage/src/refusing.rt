@@ -6,19 +6,19 @@ ghost use Rattle.paw_stage.specs.declared.StageCall.TheVariants as call;
 ghost use Rattle.paw_stage.specs.declared.LoadRefusal.TheVariants as refusal;
 ghost use Rattle.paw_stage.specs.declared.Asked.TheVariants as asked;
 ghost use Rattle.paw_stage.specs.Disk.{IsStable};
-ghost use Rattle.paw_stage.specs.Stage.{Faulted, failed_in, failed_load, failed_ask};
+ghost use Rattle.paw_stage.specs.Stage.{CountsFailure, failed_in, failed_load, failed_ask};
 ghost use Rattle.paw_stage.specs.Stage.{LoadsTo, SavesTo, AttachesTo, ReadsTo, WritesTo, SyncsTo, AsksTo, ShowsTo};
 ghost use Rattle.paw_stage.specs.Moments.{Still, InAsk, InShow, InSave, InAttach, InWrite, InSync};
-ghost use Rattle.paw_stage.specs.inner.Faults.{no_faults};
+ghost use Rattle.paw_stage.specs.inner.Faults.{no_failures};
 ghost use Rattle.paw_stage.specs.inner.Done.{loaded_file, saved, attached_store, read_store};
 ghost use Rattle.paw_stage.specs.inner.Done.{wrote_store, synced_store, took};
 ghost use Rattle.paw_stage.specs.inner.Done.{end_done, showed};
 ghost use Rattle.paw_stage.specs.inner.Memory.{clock_of, moments_of, only_moment, recorded, found_none, line_taken};
 ghost use Rattle.paw_stage.specs.inner.Filed.{file_holds};
-ghost use Rattle.paw_stage.specs.inner.Refusing.{faults_of, standing_of, Throughout};
-ghost use Rattle.paw_stage.specs.inner.Refusing.{refused, passed, FailsBelow, CannotPass, Forwards};
+ghost use Rattle.paw_stage.specs.inner.Refusing.{failures_of, standing_of, AtEachMoment};
+ghost use Rattle.paw_stage.specs.inner.Refusing.{refused, passed_on, FailsBelow, CannotPass, Forwards};
 
-use crate::{Asked, Failed, FaultCounts, LoadRefusal, MemoryStage, Stage, StageCall};
+use crate::{Asked, Failed, FailureCounts, LoadRefusal, MemoryStage, Stage, StageCall};
 use paw_base::limits::LINE_LIMIT;
 use std::alloc::Global;
 use std::marker::Model;
@@ -50,7 +50,7 @@ pub trait Refusals {
 pub struct RefusingStage<R: Drop> {
     inner: MemoryStage,
     rule: R,
-    counts: FaultCounts,
+    counts: FailureCounts,
 }
 
 impl<R: Drop> Model for RefusingStage<R> {
@@ -64,12 +64,12 @@ impl<R: Drop> Model for RefusingStage<R> {
 impl<R: Refusals + Drop> RefusingStage<R> {
     /// A stage over this one, of which a rule makes some calls fail. No call has failed here yet.
     pub(crate) fn over(inner: MemoryStage, rule: R) -> RefusingStage<R>
-        ensures value { result ≡ record { inner = inner; rule = rule; counts = no_faults } }
+        ensures value { result ≡ record { inner = inner; rule = rule; counts = no_failures } }
     {
         RefusingStage {
             inner,
             rule,
-            counts: FaultCounts::none(),
+            counts: FailureCounts::none(),
         }
     }
 
@@ -86,25 +86,25 @@ impl<R: Refusals + Drop> Stage for RefusingStage<R> {
 
     ghost standing = { standing_of };
 
-    ghost faults = { faults_of };
+    ghost faults = { failures_of };
 
     ghost clock = { λ s. clock_of s.inner };
 
     ghost since = { λ s. moments_of s.inner };
 
     fn load(&mut self, alloc: Global, name: &str, most: usize) -> Result<Vec<u8>, LoadRefusal>
-        ensures faulted { Faulted (failed_load result) (faults_of self.old) (faults_of self.new) }
+        ensures faulted { CountsFailure (failed_load result) (failures_of self.old) (failures_of self.new) }
         ensures still { standing_of self.new ≡ standing_of self.old }
         ensures answer { LoadsTo (standing_of self.old) name.now most result }
-        ensures time { Throughout self.old self.new Still }
+        ensures time { AtEachMoment self.old self.new Still }
 
         // It fails exactly where the rule refuses it, or where there is no room below.
         ensures exact { (result ≡ Err refusal.Failed) ↔ CannotPass R.refuses (loaded_file name.now) self.old }
         ensures refused { IsTrue (R.refuses self.old.rule) → self.new ≡ refused R.later call.Load self.old }
         ensures failed { result ≡ Err refusal.Failed → FailsBelow R.refuses R.later call.Load self.old self.new }
-        ensures noted { OnOk result (self.new ≡ passed R.later (recorded (loaded_file name.now)) self.old) }
-        ensures absent { result ≡ Err refusal.Absent → self.new ≡ passed R.later (found_none name.now) self.old }
-        ensures wanting { result ≡ Err refusal.Memory → self.new ≡ passed R.later (recorded (loaded_file name.now))
+        ensures noted { OnOk result (self.new ≡ passed_on R.later (recorded (loaded_file name.now)) self.old) }
+        ensures absent { result ≡ Err refusal.Absent → self.new ≡ passed_on R.later (found_none name.now) self.old }
+        ensures wanting { result ≡ Err refusal.Memory → self.new ≡ passed_on R.later (recorded (loaded_file name.now))
             self.old }
     {
         if self.rule.refuses_next() {
@@ -115,9 +115,9 @@ impl<R: Refusals + Drop> Stage for RefusingStage<R> {
     }
 
     fn save(&mut self, name: &str, bytes: &[u8]) -> Result<(), Failed>
-        ensures faulted { Faulted (failed_in call.Save result) (faults_of self.old) (faults_of self.new) }
+        ensures faulted { CountsFailure (failed_in call.Save result) (failures_of self.old) (failures_of self.new) }
         ensures answer { SavesTo (standing_of self.old) (standing_of self.new) name.now bytes.now result }
-        ensures time { Throughout self.old self.new (λ s. InSave s name.now) }
+        ensures time { AtEachMoment self.old self.new (λ s. InSave s name.now) }
         ensures forwarded { Forwards R.refuses R.later call.Save (saved name.now bytes.now) result self.old self.new }
     {
         if self.rule.refuses_next() {
@@ -129,9 +129,9 @@ impl<R: Refusals + Drop> Stage for RefusingStage<R> {
 
     fn attach(&mut self, name: &str) -> Result<u64, Failed>
         requires synced { IsStable (standing_of self.old).disk }
-        ensures faulted { Faulted (failed_in call.Attach result) (faults_of self.old) (faults_of self.new) }
+        ensures faulted { CountsFailure (failed_in call.Attach result) (failures_of self.old) (failures_of self.new) }
         ensures answer { AttachesTo (standing_of self.old) (standing_of self.new) name.now result }
-        ensures time { Throughout self.old self.new (λ s. InAttach s (standing_of self.new) name.now) }
+        ensures time { AtEachMoment self.old self.new (λ s. InAttach s (standing_of self.new) name.now) }
         ensures forwarded { Forwards R.refuses R.later call.Attach (attached_store name.now) result self.old self.new }
     {
         if self.rule.refuses_next() {
@@ -144,10 +144,10 @@ impl<R: Refusals + Drop> Stage for RefusingStage<R> {
     fn read_at(&mut self, at: u64, into: &mut [u8]) -> Result<(), Failed>
         requires attached { IsSome (standing_of self.old).attached }
         requires within { at + length into.old ≤ length (standing_of self.old).disk.bytes }
-        ensures faulted { Faulted (failed_in call.Read result) (faults_of self.old) (faults_of self.new) }
+        ensures faulted { CountsFailure (failed_in call.Read result) (failures_of self.old) (failures_of self.new) }
         ensures still { standing_of self.new ≡ standing_of self.old }
         ensures answer { ReadsTo (standing_of self.old) at (length into.old) into.new result }
-        ensures time { Throughout self.old self.new Still }
+        ensures time { AtEachMoment self.old self.new Still }
         ensures forwarded { Forwards R.refuses R.later call.Read read_store result self.old self.new }
     {
         if self.rule.refuses_next() {
@@ -160,9 +160,9 @@ impl<R: Refusals + Drop> Stage for RefusingStage<R> {
     fn write_at(&mut self, at: u64, bytes: &[u8]) -> Result<(), Failed>
         requires attached { IsSome (standing_of self.old).attached }
         requires within { at ≤ length (standing_of self.old).disk.bytes }
-        ensures faulted { Faulted (failed_in call.Write result) (faults_of self.old) (faults_of self.new) }
+        ensures faulted { CountsFailure (failed_in call.Write result) (failures_of self.old) (failures_of self.new) }
         ensures answer { WritesTo (standing_of self.old) (standing_of self.new) at bytes.now result }
-        ensures time { Throughout self.old self.new (λ s. InWrite s at (length bytes.now)) }
+        ensures time { AtEachMoment self.old self.new (λ s. InWrite s at (length bytes.now)) }
         ensures forwarded { Forwards R.refuses R.later call.Write (wrote_store at bytes.now) result self.old self.new }
     {
         if self.rule.refuses_next() {
@@ -173,9 +173,9 @@ impl<R: Refusals + Drop> Stage for RefusingStage<R> {
     }
 
     fn sync(&mut self) -> Result<(), Failed>
-        ensures faulted { Faulted (failed_in call.Sync result) (faults_of self.old) (faults_of self.new) }
+        ensures faulted { CountsFailure (failed_in call.Sync result) (failures_of self.old) (failures_of self.new) }
         ensures answer { SyncsTo (standing_of self.old) (standing_of self.new) result }
-        ensures time { Throughout self.old self.new InSync }
+        ensures time { AtEachMoment self.old self.new InSync }
         ensures forwarded { Forwards R.refuses R.later call.Sync synced_store result self.old self.new }
     {
         if self.rule.refuses_next() {
@@ -186,16 +186,16 @@ impl<R: Refusals + Drop> Stage for RefusingStage<R> {
     }
 
     fn ask(&mut self, into: &mut [u8; LINE_LIMIT]) -> Asked
-        ensures faulted { Faulted (failed_ask result) (faults_of self.old) (faults_of self.new) }
+        ensures faulted { CountsFailure (failed_ask result) (failures_of self.old) (failures_of self.new) }
         ensures answer { AsksTo (standing_of self.old) (standing_of self.new) result into.new }
-        ensures time { Throughout self.old self.new (λ s. InAsk s result) }
+        ensures time { AtEachMoment self.old self.new (λ s. InAsk s result) }
 
         // It fails exactly where the rule refuses it, or where there is no room below.
         ensures exact { (result ≡ asked.Failed) ↔ CannotPass R.refuses took self.old }
         ensures refused { IsTrue (R.refuses self.old.rule) → self.new ≡ refused R.later call.Ask self.old }
         ensures failed { result ≡ asked.Failed → FailsBelow R.refuses R.later call.Ask self.old self.new }
-        ensures noted { (n : ℕ) → result ≡ asked.Line n → self.new ≡ passed R.later line_taken self.old }
-        ensures noted_end { result ≡ asked.End → self.new ≡ passed R.later (recorded end_done) self.old }
+        ensures noted { (n : ℕ) → result ≡ asked.Line n → self.new ≡ passed_on R.later line_taken self.old }
+        ensures noted_end { result ≡ asked.End → self.new ≡ passed_on R.later (recorded end_done) self.old }
     {
         if self.rule.refuses_next() {
             self.counts.raise(StageCall::Ask);
@@ -205,9 +205,9 @@ impl<R: Refusals + Drop> Stage for RefusingStage<R> {
     }
 
     fn show(&mut self, text: &[u8]) -> Result<(), Failed>
-        ensures faulted { Faulted (failed_in call.Show result) (faults_of self.old) (faults_of self.new) }
+        ensures faulted { CountsFailure (failed_in call.Show result) (failures_of self.old) (failures_of self.new) }
         ensures answer { ShowsTo (standing_of self.old) (standing_of self.new) text.now result }
-        ensures time { Throughout self.old self.new (λ s. InShow s text.now) }
+        ensures time { AtEachMoment self.old self.new (λ s. InShow s text.now) }
         ensures forwarded { Forwards R.refuses R.later call.Show (showed text.now) result self.old self.new }
     {
         if self.rule.refuses_next() {

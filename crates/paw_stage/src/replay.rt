@@ -8,7 +8,7 @@ ghost use Rattle.paw_stage.specs.declared.log.CallKind.TheVariants as kind;
 ghost use Rattle.paw_stage.specs.Disk.{put};
 ghost use Rattle.paw_stage.specs.Stage.{Standing, file_bytes};
 ghost use Rattle.paw_stage.specs.inner.Stage.{IfAttached};
-ghost use Rattle.paw_stage.specs.inner.Done.{DoneCall, step_done, call_at, is_call, calls_made, right_after};
+ghost use Rattle.paw_stage.specs.inner.Done.{DoneCall, standing_after, call_at, is_call, calls_made, right_after};
 ghost use Rattle.paw_stage.specs.inner.Crash.{crashed, all_spoiled, HasNoStore};
 ghost use Rattle.paw_stage.specs.inner.Log.{done_in, all_done, replayed, AreLaid, IsEndOf};
 ghost use Rattle.paw_stage.specs.inner.Seen.{HasLength, Sees, IsFiled, IsNamed, FindsStore};
@@ -43,7 +43,7 @@ pub fn call_at<'a>(calls: &[Call], room: &'a [u8], number: usize) -> Option<(Cal
     ensures value { option_map (λ c. (c.0, c.1.now)) result ≡ call_at (all_done room.now calls.now) number }
 {
     let call = calls.get(number)?;
-    Some((call.kind, part(room, call.from, call.mid)))
+    Some((call.kind, slice_of(room, call.from, call.mid)))
 }
 
 /// The length of a file, where it is there.
@@ -247,7 +247,7 @@ fn spoil_after(call: Call, room: &[u8], store: &mut [u8])
     requires order { (call.from ≤ call.mid) × (call.mid ≤ call.to) × (call.to ≤ length room.now) }
     ensures spoiled { Spoils (writes call.kind (length (done_in room.now call).bytes)) store.old store.new }
 {
-    let bytes = part(room, call.mid, call.to);
+    let bytes = slice_of(room, call.mid, call.to);
     if let CallKind::Write(place) = call.kind {
         let place = (place as usize).min(store.len());
         spoil_range(place, bytes.len(), store);
@@ -302,11 +302,11 @@ fn seen_after(call: Call, room: &[u8], name: &[u8], at: usize, into: &mut [u8], 
     requires order { (call.from ≤ call.mid) × (call.mid ≤ call.to) × (call.to ≤ length room.now) }
     requires small { seen.len ≤ call.from }
     ensures sees { (s : Standing) → IsFiled s → Sees s name.now at seen into.old →
-        Sees (step_done s (done_in room.now call)) name.now at result into.new }
+        Sees (standing_after s (done_in room.now call)) name.now at result into.new }
     ensures small { result.len ≤ call.to }
 {
-    let named = part(room, call.from, call.mid) == name;
-    let bytes = part(room, call.mid, call.to);
+    let named = slice_of(room, call.from, call.mid) == name;
+    let bytes = slice_of(room, call.mid, call.to);
     match call.kind {
         CallKind::Add => if named {
             seen_filed(bytes, at, into, seen)
@@ -396,7 +396,7 @@ fn name_of(room: &[u8], store: Store) -> &[u8]
     requires within { store.opened.mid ≤ length room.now }
     ensures value { result.now ≡ slice_range room.now store.opened.from store.opened.mid }
 {
-    part(room, store.opened.from, store.opened.mid)
+    slice_of(room, store.opened.from, store.opened.mid)
 }
 
 // The attached store, where one is attached.
@@ -459,7 +459,7 @@ fn store_filed(call: Call, room: &[u8], done: usize, store: Option<Store>) -> Op
 {
     match store {
         None => None,
-        Some(s) => if part(room, call.from, call.mid) == name_of(room, s) {
+        Some(s) => if slice_of(room, call.from, call.mid) == name_of(room, s) {
             store_synced(done, store)
         } else {
             store
@@ -468,7 +468,7 @@ fn store_filed(call: Call, room: &[u8], done: usize, store: Option<Store>) -> Op
 }
 
 // A part of the room.
-fn part(room: &[u8], from: usize, to: usize) -> &[u8]
+fn slice_of(room: &[u8], from: usize, to: usize) -> &[u8]
     requires order { from ≤ to }
     requires within { to ≤ length room.now }
     ensures value { result.now ≡ slice_range room.now from to }

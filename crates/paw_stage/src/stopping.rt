@@ -1,7 +1,7 @@
 // A stage in memory that stops after a number of calls.
 
 ghost use Rattle.std.specs.Prelude.{◌≡◌, ◌-◌, ◌==◌};
-ghost use Rattle.paw_stage.specs.inner.Faults.{no_faults};
+ghost use Rattle.paw_stage.specs.inner.Faults.{no_failures};
 
 use crate::MemoryStage;
 use crate::refusing::{Refusals, RefusingStage};
@@ -30,7 +30,7 @@ impl Refusals for Stopping {
 impl RefusingStage<Stopping> {
     /// A stage over this one, which passes on `passes` calls and then fails every one.
     pub fn new(inner: MemoryStage, passes: u64) -> StopStage
-        ensures value { result ≡ record { inner = inner; rule = record { passes = passes }; counts = no_faults } }
+        ensures value { result ≡ record { inner = inner; rule = record { passes = passes }; counts = no_failures } }
     {
         RefusingStage::over(inner, Stopping { passes })
     }

@@ -17,7 +17,7 @@ use Rattle.paw_process.specs.declared.kept.Frames.{Frames}
 use Rattle.paw_process.specs.Kept.{waiting_code}
 use Rattle.paw_state.specs.declared.layout.TheConstants.{SAVED, HELD_LENGTH, ROWS, LINE, KEPT}
 use Rattle.paw_state.specs.declared.fields.Fields.{Fields}
-use Rattle.paw_state.specs.declared.held.Held.{Held}
+use Rattle.paw_state.specs.declared.position_field.PositionField.{PositionField}
 use Rattle.paw_state.specs.State.{State}
 use Rattle.paw_state.specs.inner.State.{KeepsEach}
 use Rattle.paw_state.specs.State.{zeros, filled, held_of, prompt_code, fields_of}
@@ -52,7 +52,7 @@ places_back : (g : GameLists) (at : ℕ) (places : List ℕ) → Valid g → len
 places_back g at places v size h = filled_take (at + length g.objects) (length g.objects) places size (few_objects g v) (zeros_behind g at places h)
 
 -- a position without a fault
-held_back : (g : GameLists) (at : ℕ) (h : Held) → Valid g → IsSizedHeld h → held_fault g at h ≡ None → held_of (held_in (length g.objects) h) ≡ h
+held_back : (g : GameLists) (at : ℕ) (h : PositionField) → Valid g → IsSizedHeld h → held_fault g at h ≡ None → held_of (held_in (length g.objects) h) ≡ h
 held_back g at h v z q =
     let p = two (rule at (nat_le h.there 1)) (if h.there == 0 then absent_fault at h else places_fault g (at + 257) h.places) q in
     go h.there (leb-true h.there 1 (rule_holds at (nat_le h.there 1) p.0)) p.1
@@ -68,7 +68,7 @@ held_back g at h v z q =
         same_held _ (record { there = 1; flags = h.flags; places = h.places }) refl refl (places_back g (at + 257) h.places v z.places k)
     go (suc (suc n)) low k = absurd (omega (arith, low))
 
-kept_back : (g : GameLists) (at : ℕ) (kept : List Held) → Valid g → All IsSizedHeld kept → kept_fault g at kept ≡ None
+kept_back : (g : GameLists) (at : ℕ) (kept : List PositionField) → Valid g → All IsSizedHeld kept → kept_fault g at kept ≡ None
     → map held_of (map (held_in (length g.objects)) kept) ≡ kept
 unfolding kept_fault
 kept_back g at [] v z h = refl

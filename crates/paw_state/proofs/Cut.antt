@@ -11,9 +11,9 @@ use Rattle.paw_state.specs.declared.layout.TheConstants.{FLAGS, PLACES, SAVED, H
 use Rattle.paw_state.specs.declared.layout.TheConstants.{COUNT, ROWS, LOOPING, LOOP_LEVEL, LOOP_TABLE, LOOP_ENTRY}
 use Rattle.paw_state.specs.declared.layout.TheConstants.{LOOP_AT, LOOP_PLACE, LOOP_LAST, EARLIER, PENDING, LINE, PIECE}
 use Rattle.paw_state.specs.declared.layout.TheConstants.{KEPT}
-use Rattle.paw_state.specs.declared.fields.Row.{Row}
+use Rattle.paw_state.specs.declared.fields.FrameField.{FrameField}
 use Rattle.paw_state.specs.declared.fields.Fields.{Fields}
-use Rattle.paw_state.specs.declared.held.Held.{Held}
+use Rattle.paw_state.specs.declared.position_field.PositionField.{PositionField}
 use Rattle.std.specs.List.{concat}
 use Rattle.paw_state.specs.Fields.{IsSizedHeld, AreSized}
 use Rattle.paw_state.specs.inner.Fields.{eight_bytes, row_bytes, loop_bytes, held_bytes}
@@ -40,12 +40,12 @@ eight_cut bytes at n h low = ap (from_le_bytes w64) h ∙ from_le_bytes-to_le_by
 
 -- ---- a position ----
 
-pub same_held : (a b : Held) → a.there ≡ b.there → a.flags ≡ b.flags → a.places ≡ b.places → a ≡ b
+pub same_held : (a b : PositionField) → a.there ≡ b.there → a.flags ≡ b.flags → a.places ≡ b.places → a ≡ b
 same_held a b there flags places =
-    let e : ◌≡◌ {A = Held} (record { there = a.there; flags = a.flags; places = a.places })
+    let e : ◌≡◌ {A = PositionField} (record { there = a.there; flags = a.flags; places = a.places })
     (record { there = b.there; flags = b.flags; places = b.places }) = cc in e
 
-held_cut : (h : Held) (q : List ℕ) → IsSizedHeld h → held_at (held_bytes h ++ q) ≡ h
+held_cut : (h : PositionField) (q : List ℕ) → IsSizedHeld h → held_at (held_bytes h ++ q) ≡ h
 unfolding held_bytes
 held_cut h q s =
     let bytes = held_bytes h ++ q in
@@ -53,12 +53,12 @@ held_cut h q s =
     let h2 : drop 257 bytes ≡ concat (h.places ∷ []) ++ q = later bytes h.flags q (h.places ∷ []) 1 256 h1 s.flags in
     same_held (held_at bytes) h refl (here bytes h.flags q (h.places ∷ []) 1 256 h1 s.flags) (here bytes h.places q [] 257 255 h2 s.places)
 
-pub length-held : (h : Held) → IsSizedHeld h → length (held_bytes h) ≡ HELD_LENGTH
+pub length-held : (h : PositionField) → IsSizedHeld h → length (held_bytes h) ≡ HELD_LENGTH
 unfolding held_bytes
 length-held h s = simp length-append (omega (arith, s.flags, s.places))
 
 -- Where a position stands, and what follows it.
-held_here : (bytes : List ℕ) (h : Held) (q : List ℕ) (at : ℕ) → IsSizedHeld h → drop at bytes ≡ held_bytes h ++ q
+held_here : (bytes : List ℕ) (h : PositionField) (q : List ℕ) (at : ℕ) → IsSizedHeld h → drop at bytes ≡ held_bytes h ++ q
     → (held_at (drop at bytes) ≡ h) × (drop (at + HELD_LENGTH) bytes ≡ q)
 held_here bytes h q at s e = (ap held_at e ∙ held_cut h q s, behind bytes (held_bytes h) q at HELD_LENGTH e (length-held h s))
 
@@ -118,16 +118,16 @@ number_cut bytes f q s h =
 
 -- ---- tables ----
 
-row_cut : (r : Row) (q : List ℕ) → r.entry < 2 ^ 16 → row_at (row_bytes r ++ q) ≡ r
+row_cut : (r : FrameField) (q : List ℕ) → r.entry < 2 ^ 16 → row_at (row_bytes r ++ q) ≡ r
 row_cut r q low = let e = two_cut (row_bytes r ++ q) 1 r.entry refl low in rw e refl
 
-pub rows_cut : (rows : List Row) (q : List ℕ) → All (λ r. r.entry < 2 ^ 16) rows → rows_at (length rows) (flat_map row_bytes rows ++ q) ≡ rows
+pub rows_cut : (rows : List FrameField) (q : List ℕ) → All (λ r. r.entry < 2 ^ 16) rows → rows_at (length rows) (flat_map row_bytes rows ++ q) ≡ rows
 unfolding rows_at
 rows_cut [] q low = refl
 rows_cut (r ∷ rs) q low =
     ap (λ (l : List ℕ). rows_at (suc (length rs)) l) (append_assoc (row_bytes r) (flat_map row_bytes rs) q)
-    ∙ (ap (λ (x : Row). x ∷ rows_at (length rs) (flat_map row_bytes rs ++ q)) (row_cut r (flat_map row_bytes rs ++ q) (low 0 r (omega arith)))
-    ∙ ap (λ (xs : List Row). r ∷ xs) (rows_cut rs q (λ k d h. low (suc k) d (omega (arith, h)))))
+    ∙ (ap (λ (x : FrameField). x ∷ rows_at (length rs) (flat_map row_bytes rs ++ q)) (row_cut r (flat_map row_bytes rs ++ q) (low 0 r (omega arith)))
+    ∙ ap (λ (xs : List FrameField). r ∷ xs) (rows_cut rs q (λ k d h. low (suc k) d (omega (arith, h)))))
 
 same_loop : (k l : OpenLoop) → k.level ≡ l.level → k.table ≡ l.table → k.entry ≡ l.entry → k.at ≡ l.at → k.place ≡ l.place → k.last ≡ l.last → k ≡ l
 same_loop k l level table entry at place last =
@@ -213,12 +213,12 @@ pending_cut bytes f q s h0 =
 -- ---- kept positions ----
 
 -- One of them, and the others after it.
-one_cut : (bytes q : List ℕ) (h : Held) (hs : List Held) (at : ℕ) → IsSizedHeld h → drop at bytes ≡ flat_map held_bytes (h ∷ hs) ++ q
+one_cut : (bytes q : List ℕ) (h : PositionField) (hs : List PositionField) (at : ℕ) → IsSizedHeld h → drop at bytes ≡ flat_map held_bytes (h ∷ hs) ++ q
     → (held_at (drop at bytes) ≡ h) × (drop (at + HELD_LENGTH) bytes ≡ flat_map held_bytes hs ++ q)
 one_cut bytes q h hs at s e =
     held_here bytes h (flat_map held_bytes hs ++ q) at s (e ∙ append_assoc (held_bytes h) (flat_map held_bytes hs) q)
 
-four_cut : (bytes q : List ℕ) (kept : List Held) → length kept ≡ 4 → All IsSizedHeld kept → drop KEPT bytes ≡ flat_map held_bytes kept ++ q
+four_cut : (bytes q : List ℕ) (kept : List PositionField) → length kept ≡ 4 → All IsSizedHeld kept → drop KEPT bytes ≡ flat_map held_bytes kept ++ q
     → (fields_at bytes).kept ≡ kept
 four_cut bytes q [] n s h0 = absurd (omega (arith, n))
 four_cut bytes q (a ∷ []) n s h0 = absurd (omega (arith, n))
@@ -298,7 +298,7 @@ pending-length : (f : Fields) → AreSized f → length (pending_bytes f) ≡ 25
 unfolding pending_bytes
 pending-length f s = simp length-append (omega (arith, s.line))
 
-length-helds : (hs : List Held) → All IsSizedHeld hs → length (flat_map held_bytes hs) ≡ HELD_LENGTH * length hs
+length-helds : (hs : List PositionField) → All IsSizedHeld hs → length (flat_map held_bytes hs) ≡ HELD_LENGTH * length hs
 length-helds [] s = refl
 length-helds (h ∷ hs) s =
     let rest = length-helds hs (λ k d low. s (suc k) d (omega (arith, low))) in

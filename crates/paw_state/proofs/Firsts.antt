@@ -15,9 +15,9 @@ use Rattle.paw_process.specs.inner.Kept.{is_that_table}
 use Rattle.paw_state.specs.declared.layout.TheConstants.{PLACES, SAVED, HELD_LENGTH, SEED, DRAWS, EVENTS, PROMPT, COUNT}
 use Rattle.paw_state.specs.declared.layout.TheConstants.{ROWS, LOOPING, LOOP_LEVEL, LOOP_TABLE, LOOP_ENTRY, LOOP_AT}
 use Rattle.paw_state.specs.declared.layout.TheConstants.{LOOP_PLACE, LOOP_LAST, EARLIER, PENDING, LINE, PIECE, KEPT}
-use Rattle.paw_state.specs.declared.fields.Row.{Row}
+use Rattle.paw_state.specs.declared.fields.FrameField.{FrameField}
 use Rattle.paw_state.specs.declared.fields.Fields.{Fields}
-use Rattle.paw_state.specs.declared.held.Held.{Held}
+use Rattle.paw_state.specs.declared.position_field.PositionField.{PositionField}
 use Rattle.paw_state.specs.Fields.{Field, one_by_one, if_there, bytes_of, fault_from, place_holds, held_fields}
 use Rattle.paw_state.specs.inner.Faults.{inside}
 use Rattle.paw_state.specs.Fields.{row_fields, rows_fields, loop_fields, IsSizedHeld, AreSized}
@@ -25,7 +25,7 @@ use Rattle.paw_state.specs.inner.Faults.{fields_fault}
 use Rattle.paw_state.specs.Fields.{prompt_of as listed_prompt}
 use Rattle.paw_state.specs.inner.Faults.{rule, first, first_not, is_zero, places_fault, absent_fault, held_fault, kept_fault}
 use Rattle.paw_state.specs.inner.Faults.{numbers_fault, prompt_of, prompt_fault, row_fault, row_fields_fault}
-use Rattle.paw_state.specs.inner.Faults.{no_loop_fault, loop_fields_fault, turning_fault, frame_fields_fault, pending_fault, parts_fault}
+use Rattle.paw_state.specs.inner.Faults.{no_loop_fault, loop_fields_fault, open_loop_fault, frame_fields_fault, pending_fault, parts_fault}
 use Rattle.paw_state.proofs.Cut.{length-held}
 use Rattle.paw_state.proofs.Written.{length-rows}
 use Rattle.paw_state.proofs.Listed.{each_bytes, there_bytes, held_same, row_same, rows_same, loop_same, listed}
@@ -157,7 +157,7 @@ there_is g n at (f ∷ fs) e = rw e (ap (λ (o : Option ℕ). if f.holds g then 
 
 -- ---- positions ----
 
-held_there : (g : GameLists) (at : ℕ) (h : Held) (b : Bool) → IsSizedHeld h → (h.there == 0) ≡ b
+held_there : (g : GameLists) (at : ℕ) (h : PositionField) (b : Bool) → IsSizedHeld h → (h.there == 0) ≡ b
     → fault_from g (at + 1) (if_there h.there (flag_fields h.flags ++ place_fields h.places))
     ≡ (if b then absent_fault at h else places_fault g (at + 257) h.places)
 held_there g at h true s e =
@@ -176,13 +176,13 @@ held_there g at h false s e =
     ∙ step g (at + 1) 256 (flag_fields h.flags) (place_fields h.places) None (places_fault g (at + 257) h.places)
     (free g (at + 1) 0 h.flags) long (rw k (places_same g (at + 257) h.places))
 
-pub held_faults : (g : GameLists) (at : ℕ) (h : Held) → IsSizedHeld h → fault_from g at (held_fields h) ≡ held_fault g at h
+pub held_faults : (g : GameLists) (at : ℕ) (h : PositionField) → IsSizedHeld h → fault_from g at (held_fields h) ≡ held_fault g at h
 unfolding fault_from
 held_faults g at h s =
     ruled at (nat_le h.there 1) _ _
     (held_there g at h (h.there == 0) s refl ∙ sym (or_none (if h.there == 0 then absent_fault at h else places_fault g (at + 257) h.places)))
 
-pub kept_faults : (g : GameLists) (at : ℕ) (hs : List Held) → All IsSizedHeld hs → fault_from g at (flat_map held_fields hs) ≡ kept_fault g at hs
+pub kept_faults : (g : GameLists) (at : ℕ) (hs : List PositionField) → All IsSizedHeld hs → fault_from g at (flat_map held_fields hs) ≡ kept_fault g at hs
 unfolding fault_from kept_fault
 kept_faults g at [] s = refl
 kept_faults g at (h ∷ hs) s =
@@ -202,7 +202,7 @@ four_rules at true true false d = ap Some (omega arith)
 four_rules at true true true false = ap Some (omega arith)
 four_rules at true true true true = refl
 
-row_faults : (g : GameLists) (code : ℕ) (caller : GameLists → Option ℕ) (n at : ℕ) (r : Row)
+row_faults : (g : GameLists) (code : ℕ) (caller : GameLists → Option ℕ) (n at : ℕ) (r : FrameField)
     → fault_from g at (row_fields code caller n r) ≡ row_fault g code (caller g) n at r
 unfolding fault_from if_there
 row_faults g code caller n at r = go (n == 0)
@@ -227,7 +227,7 @@ row_faults g code caller n at r = go (n == 0)
     go true = four_rules at (r.table == 0) (r.entry == 0) (r.at == 0) (r.acted == 0)
     go false = four_rules at opens heads codes (nat_le r.acted 1)
 
-pub rows_faults : (g : GameLists) (code : ℕ) (caller : GameLists → Option ℕ) (n at : ℕ) (rs : List Row)
+pub rows_faults : (g : GameLists) (code : ℕ) (caller : GameLists → Option ℕ) (n at : ℕ) (rs : List FrameField)
     → fault_from g at (rows_fields code caller n rs) ≡ row_fields_fault g code (caller g) n at rs
 unfolding fault_from rows_fields row_fields_fault
 rows_faults g code caller n at [] = refl
@@ -251,7 +251,7 @@ six_rules true true true true true false = refl
 six_rules true true true true true true = refl
 
 -- a row of this table
-table_same : (t : ℕ) (o : Option Row) → option_map_or (λ r. t == r.table) o false ≡ is_that_table (option_map (λ r. r.table) o) t
+table_same : (t : ℕ) (o : Option FrameField) → option_map_or (λ r. t == r.table) o false ≡ is_that_table (option_map (λ r. r.table) o) t
 table_same t None = refl
 table_same t (Some r) = refl
 
@@ -325,7 +325,7 @@ earlier_faults g f s =
     ∙ ap (λ (o : Option ℕ). option_or (option_or (rule PENDING (is_some code || (f.pending == 0))) o) kept) (sym (or_none zeros_from))))
 
 looping_faults : (g : GameLists) (f : Fields) → HasLengths f
-    → fault_from g LOOPING (from_looping f) ≡ option_or (turning_fault g f) (option_or (pending_fault f) (kept_fault g KEPT f.kept))
+    → fault_from g LOOPING (from_looping f) ≡ option_or (open_loop_fault g f) (option_or (pending_fault f) (kept_fault g KEPT f.kept))
 unfolding fault_from
 looping_faults g f s =
     let low = nat_le f.looping (if f.count == 0 then 0 else 1) in
@@ -338,7 +338,7 @@ looping_faults g f s =
     ∙ (sym (or_assoc (rule LOOPING low) turns later) ∙ ap (λ (o : Option ℕ). option_or (option_or (rule LOOPING low) o) later) (sym (or_none turns)))
 
 rows_then : (g : GameLists) (f : Fields) → HasLengths f → fault_from g ROWS (table_rows f ++ from_looping f)
-    ≡ option_or (frame_fields_fault g f) (option_or (turning_fault g f) (option_or (pending_fault f) (kept_fault g KEPT f.kept)))
+    ≡ option_or (frame_fields_fault g f) (option_or (open_loop_fault g f) (option_or (pending_fault f) (kept_fault g KEPT f.kept)))
 rows_then g f s =
     step g ROWS 55 (table_rows f) (from_looping f) (frame_fields_fault g f) _
     (rows_faults g (unwrap_or (inside f) 0) (λ g. None) f.count ROWS f.rows
@@ -358,12 +358,12 @@ five_rules true true true true x = refl
 
 seed_faults : (g : GameLists) (f : Fields) → HasLengths f → fault_from g SEED (from_seed f)
     ≡ option_or (numbers_fault f) (option_or (prompt_fault f) (option_or (frame_fields_fault g f)
-    (option_or (turning_fault g f) (option_or (pending_fault f) (kept_fault g KEPT f.kept)))))
+    (option_or (open_loop_fault g f) (option_or (pending_fault f) (kept_fault g KEPT f.kept)))))
 unfolding fault_from
 seed_faults g f s =
     let few = nat_le f.events EVENT_LIMIT in
     let drawn = nat_le f.draws (READ_LIMIT * (f.events + 1)) in
-    let later = option_or (frame_fields_fault g f) (option_or (turning_fault g f) (option_or (pending_fault f) (kept_fault g KEPT f.kept))) in
+    let later = option_or (frame_fields_fault g f) (option_or (open_loop_fault g f) (option_or (pending_fault f) (kept_fault g KEPT f.kept))) in
     five_rules few drawn (nat_le f.prompt 4) (count_fits (inside f) f.count) (fault_from g ROWS (table_rows f ++ from_looping f))
     ∙ (ap (λ (o : Option ℕ). option_or (numbers_fault f) (option_or (first
     (rule PROMPT (nat_le f.prompt 4) ∷ rule COUNT (count_fits (inside f) f.count) ∷ [])) o))
@@ -379,7 +379,7 @@ faults_same g f s =
     let places = places_fault g PLACES f.places in
     let saved = held_fault g SAVED f.saved in
     let later = option_or (numbers_fault f) (option_or (prompt_fault f) (option_or (frame_fields_fault g f)
-    (option_or (turning_fault g f) (option_or (pending_fault f) kept)))) in
+    (option_or (open_loop_fault g f) (option_or (pending_fault f) kept)))) in
     let from_saved = step g SAVED HELD_LENGTH (held_fields f.saved) (from_seed f) saved later (held_faults g SAVED f.saved s.saved)
     (ap length (held_same f.saved) ∙ length-held f.saved s.saved) (seed_faults g f s) in
     let from_places = step g 256 255 (place_fields f.places) (held_fields f.saved ++ from_seed f) places (option_or saved later) (places_same g 256 f.places)
@@ -388,7 +388,7 @@ faults_same g f s =
     ∙ (step g 0 256 (flag_fields f.flags) (place_fields f.places ++ (held_fields f.saved ++ from_seed f)) None (option_or places (option_or saved later))
     (free g 0 0 f.flags) (ap length (each_bytes _ 0 f.flags) ∙ s.flags) from_places
     ∙ ap (λ (o : Option ℕ). option_or places (option_or saved (option_or (numbers_fault f) (option_or (prompt_fault f) (option_or (frame_fields_fault g f)
-    (option_or (turning_fault g f) (option_or (pending_fault f) o))))))) (sym (or_none kept)))
+    (option_or (open_loop_fault g f) (option_or (pending_fault f) o))))))) (sym (or_none kept)))
 
 -- fields of which the arrays have their lengths
 pub lengths_sized : (f : Fields) → AreSized f → HasLengths f

@@ -21,7 +21,7 @@ use Rattle.paw_process.specs.inner.Kept.{rows_fault as machine_rows, loop_fault 
 use Rattle.paw_process.proofs.Restored.{no_first as no_machine_first}
 use Rattle.paw_state.specs.declared.layout.TheConstants.{SAVED, HELD_LENGTH, ROWS, LINE, KEPT}
 use Rattle.paw_state.specs.declared.fields.Fields.{Fields}
-use Rattle.paw_state.specs.declared.held.Held.{Held}
+use Rattle.paw_state.specs.declared.position_field.PositionField.{PositionField}
 use Rattle.paw_effects.specs.inner.Worlds.{ArePlacesOf}
 use Rattle.paw_state.specs.State.{State}
 use Rattle.paw_state.specs.inner.State.{KeepsEach}
@@ -64,7 +64,7 @@ machine_sound g code k h = go (count_fits code k.count) refl h
 objects_length : (g : GameLists) (places : List ℕ) → Valid g → length places ≡ 255 → length (take (length g.objects) places) ≡ length g.objects
 objects_length g places v size = omega (arith, length-take (length g.objects) places, few_objects g v)
 
-held_kept : (g : GameLists) (at : ℕ) (h : Held) → Valid g → IsSizedHeld h → held_fault g at h ≡ None → IsHeldOf g (held_in (length g.objects) h)
+held_kept : (g : GameLists) (at : ℕ) (h : PositionField) → Valid g → IsSizedHeld h → held_fault g at h ≡ None → IsHeldOf g (held_in (length g.objects) h)
 held_kept g at h v z q = go (h.there == 0)
     (two (rule at (nat_le h.there 1)) (if h.there == 0 then absent_fault at h else places_fault g (at + 257) h.places) q).1
   where
@@ -77,7 +77,7 @@ held_kept g at h v z q = go (h.there == 0)
       places = all_so (is_place (length g.locations)) (at + 257) (take (length g.objects) h.places) (objects_stand g (at + 257) h.places k);
     }
 
-kept_kept : (g : GameLists) (at : ℕ) (kept : List Held) → Valid g → All IsSizedHeld kept → kept_fault g at kept ≡ None
+kept_kept : (g : GameLists) (at : ℕ) (kept : List PositionField) → Valid g → All IsSizedHeld kept → kept_fault g at kept ≡ None
     → All (IsHeldOf g) (map (held_in (length g.objects)) kept)
 unfolding kept_fault
 kept_kept g at [] v z h = λ k d low. absurd (omega (arith, low))

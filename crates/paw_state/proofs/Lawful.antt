@@ -5,8 +5,8 @@ use Rattle.paw_base.specs.declared.layout.TheConstants.{STATE_LENGTH}
 use Rattle.paw_game.specs.Game.{GameLists}
 use Rattle.paw_game.specs.Valid.{Valid}
 use Rattle.paw_process.specs.inner.Kept.{kept}
-use Rattle.paw_process.specs.inner.Kept.{restored, waiting_at, StandsAt}
-use Rattle.paw_state.specs.State.{State, Keeps, FitsFields, AreBytes}
+use Rattle.paw_process.specs.inner.Kept.{restored, waiting_at, WaitsAtPrompt}
+use Rattle.paw_state.specs.State.{State, IsValidState, FitsFields, AreBytes}
 use Rattle.paw_state.specs.State.{fields_of, state_bytes}
 use Rattle.paw_state.specs.inner.Fields.{field_bytes}
 use Rattle.paw_state.specs.inner.Fields.{fields_at}
@@ -69,7 +69,7 @@ bytes_are g bytes v n b h =
     ∙ (ap field_bytes (state_back g (fields_at bytes) v (sized_at bytes n b) (sound_at g bytes n b h)) ∙ fields_join bytes n b))
 
 pub state_kept : (g : GameLists) (bytes : List ℕ) → Valid g → STATE_LENGTH ≤ length bytes → AreBytes bytes → unfit g bytes ≡ None
-    → Keeps g (state_in g (fields_at bytes))
+    → IsValidState g (state_in g (fields_at bytes))
 state_kept g bytes v n b h =
     keeps_of g (state_in g (fields_at bytes)) (keeps_in g (fields_at bytes) v (sized_at bytes n b) (sound_at g bytes n b h))
 
@@ -96,7 +96,7 @@ bytes_tell_the_state g s t v ks hs kt ht e =
     let f : fields_of s ≡ fields_of t = sym a ∙ (ap (λ (l : List ℕ). fields_at (l ++ [])) same ∙ b) in
     sym (fields_back g s es) ∙ (ap (state_in g) f ∙ fields_back g t et)
 
-pub long_state : (g : GameLists) (s : State) → Valid g → Keeps g s → FitsFields s → AreLong s
+pub long_state : (g : GameLists) (s : State) → Valid g → IsValidState g s → FitsFields s → AreLong s
 long_state g s v k h =
     let z = sized_of g s v (each_of g s k) h in
     record { all = ap length (state_same s) ∙ length-fields (fields_of s) z; kept = kept-length (fields_of s) z }
@@ -109,10 +109,11 @@ written_is_fit g s rest v k h =
 -- ---- what is read ----
 
 pub is_read : (g : GameLists) (bytes : List ℕ) (r : Restored) → Valid g → STATE_LENGTH ≤ length bytes → AreBytes bytes → unfit g bytes ≡ None
-    → state_read r ≡ state_in g (fields_at bytes) → r.machine ≡ restored (kept r.machine) (waiting_at r.prompt) → StandsAt r.prompt r.machine → IsRead g bytes r
+    → state_read r ≡ state_in g (fields_at bytes) → r.machine ≡ restored (kept r.machine) (waiting_at r.prompt) → WaitsAtPrompt r.prompt r.machine →
+    IsRead g bytes r
 is_read g bytes r v n b h e machine at = record {
   are = bytes_are g bytes v n b h ∙ ap state_bytes (sym e);
-  keeps = subst (Keeps g) (sym e) (state_kept g bytes v n b h);
+  keeps = subst (IsValidState g) (sym e) (state_kept g bytes v n b h);
   fits = subst FitsFields (sym e) (fits_at g bytes n b);
   machine = machine;
   stands = at;

@@ -10,9 +10,9 @@ use Rattle.paw_game.specs.Image.{two_bytes}
 use Rattle.paw_game.specs.Tables.{condact_at}
 use Rattle.paw_reading.specs.declared.places.OpenLoop.{OpenLoop}
 use Rattle.paw_process.specs.Kept.{parameter_of, count_fits}
-use Rattle.paw_state.specs.declared.fields.Row.{Row}
+use Rattle.paw_state.specs.declared.fields.FrameField.{FrameField}
 use Rattle.paw_state.specs.declared.fields.Fields.{Fields}
-use Rattle.paw_state.specs.declared.held.Held.{Held}
+use Rattle.paw_state.specs.declared.position_field.PositionField.{PositionField}
 use Rattle.paw_state.specs.State.{State, fields_of, state_bytes}
 use Rattle.paw_state.specs.Fields.{Field, byte, two, eight, one_by_one, if_there, bytes_of, place_holds, held_fields, row_fields, rows_fields}
 use Rattle.paw_state.specs.inner.Faults.{inside}
@@ -33,7 +33,7 @@ there_bytes n (f ∷ fs) = ap (λ (l : List ℕ). f.bytes ++ l) (there_bytes n f
 pub join : (xs ys : List Field) (x y : List ℕ) → bytes_of xs ≡ x → bytes_of ys ≡ y → bytes_of (xs ++ ys) ≡ x ++ y
 join xs ys x y e k = flat_map-append (λ (f : Field). f.bytes) xs ys ∙ (ap (λ (l : List ℕ). l ++ bytes_of ys) e ∙ ap (λ (l : List ℕ). x ++ l) k)
 
-pub held_same : (h : Held) → bytes_of (held_fields h) ≡ held_bytes h
+pub held_same : (h : PositionField) → bytes_of (held_fields h) ≡ held_bytes h
 unfolding held_bytes
 held_same h =
     let flags = one_by_one (λ i flag g. true) 0 h.flags in
@@ -43,14 +43,14 @@ held_same h =
     ∙ (join flags places h.flags h.places (each_bytes (λ i flag g. true) 0 h.flags) (each_bytes place_holds 0 h.places)
     ∙ ap (λ (l : List ℕ). h.flags ++ l) (sym (append-nil h.places))))
 
-pub kept_same : (hs : List Held) → bytes_of (flat_map held_fields hs) ≡ flat_map held_bytes hs
+pub kept_same : (hs : List PositionField) → bytes_of (flat_map held_fields hs) ≡ flat_map held_bytes hs
 kept_same [] = refl
 kept_same (h ∷ hs) = join (held_fields h) (flat_map held_fields hs) (held_bytes h) (flat_map held_bytes hs) (held_same h) (kept_same hs)
 
-pub row_same : (code : ℕ) (caller : GameLists → Option ℕ) (n : ℕ) (r : Row) → bytes_of (row_fields code caller n r) ≡ row_bytes r
+pub row_same : (code : ℕ) (caller : GameLists → Option ℕ) (n : ℕ) (r : FrameField) → bytes_of (row_fields code caller n r) ≡ row_bytes r
 row_same code caller n r = there_bytes n _
 
-pub rows_same : (code : ℕ) (caller : GameLists → Option ℕ) (n : ℕ) (rs : List Row) → bytes_of (rows_fields code caller n rs) ≡ flat_map row_bytes rs
+pub rows_same : (code : ℕ) (caller : GameLists → Option ℕ) (n : ℕ) (rs : List FrameField) → bytes_of (rows_fields code caller n rs) ≡ flat_map row_bytes rs
 unfolding rows_fields
 rows_same code caller n [] = refl
 rows_same code caller n (r ∷ rs) =

@@ -20,11 +20,11 @@ use Rattle.paw_process.proofs.Restored.{first_of, second}
 use Rattle.paw_process.proofs.Rows.{table_of}
 use Rattle.paw_state.specs.declared.layout.TheConstants.{LOOP_LEVEL, LOOP_TABLE, LOOP_ENTRY, LOOP_AT, LOOP_PLACE}
 use Rattle.paw_state.specs.declared.layout.TheConstants.{LOOP_LAST}
-use Rattle.paw_state.specs.declared.fields.Row.{Row}
+use Rattle.paw_state.specs.declared.fields.FrameField.{FrameField}
 use Rattle.paw_state.specs.declared.fields.Fields.{Fields}
 use Rattle.paw_state.specs.State.{row_of}
 use Rattle.paw_state.specs.inner.State.{loop_or_zeros}
-use Rattle.paw_state.specs.inner.Parts.{frame_in, turning_in, frames_in}
+use Rattle.paw_state.specs.inner.Parts.{frame_in, open_loop_in, frames_in}
 use Rattle.paw_state.specs.inner.Faults.{rule, first, no_loop_fault, loop_fields_fault}
 use Rattle.paw_state.proofs.Found.{rule_holds, no_rule, no_first, none_first}
 use Rattle.paw_state.proofs.Rows.{both, four, four_none, head_there}
@@ -35,7 +35,7 @@ abbrev pub presence : {A : Type 0} → Option A → ℕ
 presence o = if is_some o then 1 else 0
 
 -- the table of a row that may be there
-abbrev row_table : Option Row → Option ℕ
+abbrev row_table : Option FrameField → Option ℕ
 row_table o = option_map (λ r. r.table) o
 
 six : (a b c d e f : Option ℕ) → first (a ∷ b ∷ c ∷ d ∷ e ∷ f ∷ []) ≡ None → (a ≡ None) × (b ≡ None) × (c ≡ None) × (d ≡ None) × (e ≡ None) × (f ≡ None)
@@ -66,7 +66,7 @@ zeros_loop l h =
     let e : ◌≡◌ {A = OpenLoop} (record { level = 0; table = 0; entry = 0; at = 0; place = 0; last = 0 })
     (record { level = l.level; table = l.table; entry = l.entry; at = l.at; place = l.place; last = l.last }) = cc in e
 
-pub turning_back : (g : GameLists) (f : Fields) → turning_rest g f ≡ None → loop_or_zeros (turning_in f) ≡ f.turning
+pub turning_back : (g : GameLists) (f : Fields) → turning_rest g f ≡ None → loop_or_zeros (open_loop_in f) ≡ f.turning
 turning_back g f h = go (f.looping == 0) h
   where
     go : (b : Bool) → (if b then no_loop_fault f.turning else loop_fields_fault g f f.turning) ≡ None
@@ -87,11 +87,11 @@ looping_low n m h = go (m == 0) h
     go true q = let k = leb-true n 0 q in omega arith
     go false q = leb-true n 1 q
 
-same_table : (o : Option Row) → row_table o ≡ table_of (option_map frame_in o)
+same_table : (o : Option FrameField) → row_table o ≡ table_of (option_map frame_in o)
 same_table None = refl
 same_table (Some r) = refl
 
-row_of_level : (rows : List Row) (i : ℕ) → row_table (slice_get rows i) ≡ table_of (slice_get (map frame_in rows) i)
+row_of_level : (rows : List FrameField) (i : ℕ) → row_table (slice_get rows i) ≡ table_of (slice_get (map frame_in rows) i)
 row_of_level rows i = same_table (slice_get rows i) ∙ ap table_of (sym (slice_get-map frame_in rows i))
 
 stands : (g : GameLists) (f : Fields) (l : OpenLoop) → loop_fields_fault g f l ≡ None → loop_stands g (frames_in f) l ≡ true
@@ -108,7 +108,7 @@ stands g f l h =
     (both (is_place (length g.locations) l.place) (nat_lt l.last (length g.objects))
     (rule_holds LOOP_PLACE (is_place (length g.locations) l.place) p.4) (rule_holds LOOP_LAST (nat_lt l.last (length g.objects)) p.5))))
 
-pub loop_sound : (g : GameLists) (f : Fields) → turning_rest g f ≡ None → machine_fault g (frames_in f) (turning_in f) ≡ None
+pub loop_sound : (g : GameLists) (f : Fields) → turning_rest g f ≡ None → machine_fault g (frames_in f) (open_loop_in f) ≡ None
 loop_sound g f h = go (f.looping == 0) h
   where
     go : (b : Bool) → (if b then no_loop_fault f.turning else loop_fields_fault g f f.turning) ≡ None
@@ -137,7 +137,7 @@ loop_found g k f count rows h = go k.turning h
         let code = first_of (has_code 86 (condact_at g l.table l.entry l.at)) _ s2 in
         let low : nat_lt l.level f.count ≡ true = ap (nat_lt l.level) count ∙ first_of (nat_lt l.level k.count) _ s in
         let table : is_that_table (row_table (slice_get f.rows l.level)) l.table ≡ true =
-        ap (λ (rs : List Row). is_that_table (row_table (slice_get rs l.level)) l.table) rows
+        ap (λ (rs : List FrameField). is_that_table (row_table (slice_get rs l.level)) l.table) rows
         ∙ (ap (λ (o : Option ℕ). is_that_table o l.table) (sym (frame_of_level k.rows l.level))
         ∙ first_of (is_that_table (table_of (slice_get k.rows l.level)) l.table) _ s1) in
         six_none (rule LOOP_LEVEL (nat_lt l.level f.count)) (rule LOOP_TABLE (is_that_table (row_table (slice_get f.rows l.level)) l.table))

@@ -8,10 +8,10 @@ use Rattle.paw_game.specs.Game.{GameLists}
 use Rattle.paw_game.specs.Tables.{condacts_of, entry_at, head_at, condact_at}
 use Rattle.paw_reading.specs.declared.places.Frame.{Frame}
 use Rattle.paw_process.specs.Kept.{may_open, has_code, parameter_of}
-use Rattle.paw_process.specs.inner.Kept.{condact_of, is_unused, row_stands}
+use Rattle.paw_process.specs.inner.Kept.{condact_at_frame, is_unused, row_stands}
 use Rattle.paw_process.specs.inner.Kept.{rows_fault as machine_fault}
 use Rattle.paw_process.proofs.Restored.{first_of, second}
-use Rattle.paw_state.specs.declared.fields.Row.{Row}
+use Rattle.paw_state.specs.declared.fields.FrameField.{FrameField}
 use Rattle.paw_state.specs.State.{row_of}
 use Rattle.paw_state.specs.inner.Parts.{frame_in}
 use Rattle.std.specs.Option.{option_or}
@@ -34,13 +34,13 @@ four_none a b c d ka kb kc kd =
 
 -- ---- rows without a fault ----
 
-record IsUnusedRow (r : Row) : Type 0 where
+record IsUnusedRow (r : FrameField) : Type 0 where
   table : (r.table == 0) ≡ true
   entry : (r.entry == 0) ≡ true
   at : (r.at == 0) ≡ true
   acted : (r.acted == 0) ≡ true
 
-unused_row : (at : ℕ) (r : Row) → unused_fault at r ≡ None → IsUnusedRow r
+unused_row : (at : ℕ) (r : FrameField) → unused_fault at r ≡ None → IsUnusedRow r
 unused_row at r h =
     let p = four (rule at (r.table == 0)) (rule (at + 1) (r.entry == 0)) (rule (at + 3) (r.at == 0)) (rule (at + 4) (r.acted == 0)) h in
     record {
@@ -50,12 +50,12 @@ unused_row at r h =
       acted = rule_holds (at + 4) (r.acted == 0) p.3;
     }
 
-record IsUsedRow (g : GameLists) (code : ℕ) (caller : Option ℕ) (r : Row) : Type 0 where
+record IsUsedRow (g : GameLists) (code : ℕ) (caller : Option ℕ) (r : FrameField) : Type 0 where
   table : may_open caller r.table ≡ true
   condact : has_code code (condact_at g r.table r.entry r.at) ≡ true
   acted : nat_le r.acted 1 ≡ true
 
-used_row : (g : GameLists) (code : ℕ) (caller : Option ℕ) (at : ℕ) (r : Row) → used_fault g code caller at r ≡ None → IsUsedRow g code caller r
+used_row : (g : GameLists) (code : ℕ) (caller : Option ℕ) (at : ℕ) (r : FrameField) → used_fault g code caller at r ≡ None → IsUsedRow g code caller r
 used_row g code caller at r h =
     let p = four (rule at (may_open caller r.table)) (rule (at + 1) (is_some (head_at g r.table r.entry)))
     (rule (at + 3) (has_code code (condact_at g r.table r.entry r.at))) (rule (at + 4) (nat_le r.acted 1)) h in
@@ -69,12 +69,12 @@ no_action : (acted : ℕ) → (acted == 0) ≡ true → not (acted == 1) ≡ tru
 no_action acted h = let z : acted ≡ 0 = eqb-true acted 0 h in rw z refl
 
 -- a row without a fault stands as a frame
-row_sound : (g : GameLists) (code : ℕ) (caller : Option ℕ) (n at : ℕ) (r : Row) → row_fault g code caller n at r ≡ None
+row_sound : (g : GameLists) (code : ℕ) (caller : Option ℕ) (n at : ℕ) (r : FrameField) → row_fault g code caller n at r ≡ None
     → row_stands g code caller n (frame_in r) ≡ true
 row_sound g code caller n at r h = go (n == 0) h
   where
     go : (b : Bool) → (if b then unused_fault at r else used_fault g (if n == 1 then code else 85) caller at r) ≡ None
-        → (if b then is_unused (frame_in r) else may_open caller r.table && has_code (if n == 1 then code else 85) (condact_of g (frame_in r))) ≡ true
+        → (if b then is_unused (frame_in r) else may_open caller r.table && has_code (if n == 1 then code else 85) (condact_at_frame g (frame_in r))) ≡ true
     go true k =
         let u = unused_row at r k in
         both (r.table == 0) _ u.table (both (r.entry == 0) _ u.entry (both (r.at == 0) _ u.at (no_action r.acted u.acted)))
@@ -83,7 +83,7 @@ row_sound g code caller n at r h = go (n == 0) h
         both (may_open caller r.table) _ u.table u.condact
 
 -- and its byte for an action is 0 or 1
-row_acted : (g : GameLists) (code : ℕ) (caller : Option ℕ) (n at : ℕ) (r : Row) → row_fault g code caller n at r ≡ None → r.acted ≤ 1
+row_acted : (g : GameLists) (code : ℕ) (caller : Option ℕ) (n at : ℕ) (r : FrameField) → row_fault g code caller n at r ≡ None → r.acted ≤ 1
 row_acted g code caller n at r h = go (n == 0) h
   where
     go : (b : Bool) → (if b then unused_fault at r else used_fault g (if n == 1 then code else 85) caller at r) ≡ None → r.acted ≤ 1
@@ -95,10 +95,10 @@ acted_back zero low = refl
 acted_back (suc zero) low = refl
 acted_back (suc (suc n)) low = absurd (omega (arith, low))
 
-row_back : (r : Row) → r.acted ≤ 1 → row_of (frame_in r) ≡ r
+row_back : (r : FrameField) → r.acted ≤ 1 → row_of (frame_in r) ≡ r
 row_back r low = ap (λ (acted : ℕ). record { table = r.table; entry = r.entry; at = r.at; acted = acted }) (acted_back r.acted low)
 
-pub rows_sound : (g : GameLists) (code : ℕ) (caller : Option ℕ) (n at d : ℕ) (rows : List Row) → row_fields_fault g code caller n at rows ≡ None
+pub rows_sound : (g : GameLists) (code : ℕ) (caller : Option ℕ) (n at d : ℕ) (rows : List FrameField) → row_fields_fault g code caller n at rows ≡ None
     → machine_fault g code caller n d (map frame_in rows) ≡ None
 unfolding row_fields_fault machine_fault
 rows_sound g code caller n at d [] h = refl
@@ -106,7 +106,7 @@ rows_sound g code caller n at d (r ∷ rs) h =
     let p = no_first (row_fault g code caller n at r) (row_fields_fault g code (called_table g r) (n - 1) (at + 5) rs) h in
     rw (row_sound g code caller n at r p.0) (rows_sound g code (called_table g r) (n - 1) (at + 5) (suc d) rs p.1)
 
-pub rows_back : (g : GameLists) (code : ℕ) (caller : Option ℕ) (n at : ℕ) (rows : List Row) → row_fields_fault g code caller n at rows ≡ None
+pub rows_back : (g : GameLists) (code : ℕ) (caller : Option ℕ) (n at : ℕ) (rows : List FrameField) → row_fields_fault g code caller n at rows ≡ None
     → map row_of (map frame_in rows) ≡ rows
 unfolding row_fields_fault
 rows_back g code caller n at [] h = refl
@@ -139,7 +139,7 @@ frame_sound : (g : GameLists) (code : ℕ) (caller : Option ℕ) (n at : ℕ) (f
     → row_fault g code caller n at (row_of f) ≡ None
 frame_sound g code caller n at f h = go (n == 0) h
   where
-    go : (b : Bool) → (if b then is_unused f else may_open caller f.table && has_code (if n == 1 then code else 85) (condact_of g f)) ≡ true
+    go : (b : Bool) → (if b then is_unused f else may_open caller f.table && has_code (if n == 1 then code else 85) (condact_at_frame g f)) ≡ true
         → (if b then unused_fault at (row_of f) else used_fault g (if n == 1 then code else 85) caller at (row_of f)) ≡ None
     go true k =
         let l1 = second (f.table == 0) _ k in
@@ -158,13 +158,13 @@ pub frames_sound : (g : GameLists) (code : ℕ) (caller : Option ℕ) (n at d : 
     → row_fields_fault g code caller n at (map row_of frames) ≡ None
 unfolding row_fields_fault machine_fault
 frames_sound g code caller n at d [] h = refl
-frames_sound g code caller n at d (f ∷ fs) h = go (frames_sound g code (Some (parameter_of (condact_of g f))) (n - 1) (at + 5) (suc d) fs)
+frames_sound g code caller n at d (f ∷ fs) h = go (frames_sound g code (Some (parameter_of (condact_at_frame g f))) (n - 1) (at + 5) (suc d) fs)
     (row_stands g code caller n f) refl h
   where
-    go : (machine_fault g code (Some (parameter_of (condact_of g f))) (n - 1) (suc d) fs ≡ None
-        → row_fields_fault g code (Some (parameter_of (condact_of g f))) (n - 1) (at + 5) (map row_of fs) ≡ None)
+    go : (machine_fault g code (Some (parameter_of (condact_at_frame g f))) (n - 1) (suc d) fs ≡ None
+        → row_fields_fault g code (Some (parameter_of (condact_at_frame g f))) (n - 1) (at + 5) (map row_of fs) ≡ None)
         → (b : Bool) → row_stands g code caller n f ≡ b
-        → ◌≡◌ {A = Option ℕ} (if b then machine_fault g code (Some (parameter_of (condact_of g f))) (n - 1) (suc d) fs else Some d) None
+        → ◌≡◌ {A = Option ℕ} (if b then machine_fault g code (Some (parameter_of (condact_at_frame g f))) (n - 1) (suc d) fs else Some d) None
         → option_or (row_fault g code caller n at (row_of f)) (row_fields_fault g code (called_table g (row_of f)) (n - 1) (at + 5) (map row_of fs)) ≡ None
     go later true e q = none_first (row_fault g code caller n at (row_of f)) _ (frame_sound g code caller n at f e) (later q)
     go later false e q = cc

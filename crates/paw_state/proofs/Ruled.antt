@@ -16,7 +16,7 @@ use Rattle.paw_process.specs.Kept.{waiting_code}
 use Rattle.paw_process.specs.inner.Kept.{fault_at}
 use Rattle.paw_state.specs.declared.layout.TheConstants.{SAVED, HELD_LENGTH, KEPT}
 use Rattle.paw_state.specs.Fields.{IsSizedHeld}
-use Rattle.paw_state.specs.State.{State, Keeps, filled, held_of, row_of, fields_of}
+use Rattle.paw_state.specs.State.{State, IsValidState, filled, held_of, row_of, fields_of}
 use Rattle.paw_state.specs.inner.State.{KeepsEach}
 use Rattle.paw_state.specs.inner.Faults.{rule, places_fault, held_fault, kept_fault, prompt_of, parts_fault}
 use Rattle.paw_state.specs.inner.Parts.{frames_in}
@@ -67,7 +67,7 @@ kept_from g at n (o ∷ os) same alike h =
     All-cons (StandsIn g) o os (saved_from g at n o same (alike 0 o (omega arith)) p.0)
     (kept_from g (at + HELD_LENGTH) n os same (λ i d low. alike (suc i) d (omega (arith, low))) p.1)
 
-pub each_of : (g : GameLists) (s : State) → Keeps g s → KeepsEach g s
+pub each_of : (g : GameLists) (s : State) → IsValidState g s → KeepsEach g s
 each_of g s k =
     let f = fields_of s in
     let none : parts_fault g f ≡ None = sym (faults_same g f (lengths_of g s k.world k.sound k.rows k.line)) ∙ k.fields in
@@ -96,7 +96,7 @@ each_of g s k =
 
 -- ---- to fields ----
 
-pub keeps_of : (g : GameLists) (s : State) → KeepsEach g s → Keeps g s
+pub keeps_of : (g : GameLists) (s : State) → KeepsEach g s → IsValidState g s
 keeps_of g s k = record {
   world = k.world;
   sound = k.sound;

@@ -6,8 +6,8 @@ use Rattle.std.proofs.Math.Seq.{drop-cons, take-suc-set}
 use Rattle.std.proofs.lemmas.List.{drop-drop, drop_all, take_all}
 use Rattle.paw_game.specs.Game.{GameLists}
 use Rattle.paw_state.specs.declared.layout.TheConstants.{HELD_LENGTH, ROWS}
-use Rattle.paw_state.specs.declared.fields.Row.{Row}
-use Rattle.paw_state.specs.declared.held.Held.{Held}
+use Rattle.paw_state.specs.declared.fields.FrameField.{FrameField}
+use Rattle.paw_state.specs.declared.position_field.PositionField.{PositionField}
 use Rattle.paw_state.specs.inner.Fields.{row_at, rows_at}
 use Rattle.std.specs.Option.{option_or}
 use Rattle.paw_state.specs.inner.Faults.{rule, first_not, held_fault, kept_fault, row_fault, row_fields_fault, called_table}
@@ -55,43 +55,45 @@ at_end p at i bytes low h = sym (none_left p (at + i)) ∙ (ap (first_not p (at 
 
 -- ---- rows ----
 
-pub no_rows : (g : GameLists) (code : ℕ) (caller : Option ℕ) (n at : ℕ) (rows : List Row) → length rows ≡ 0 → None ≡ row_fields_fault g code caller n at rows
+pub no_rows : (g : GameLists) (code : ℕ) (caller : Option ℕ) (n at : ℕ) (rows : List FrameField) → length rows ≡ 0 → None
+    ≡ row_fields_fault g code caller n at rows
 unfolding row_fields_fault
 no_rows g code caller n at [] h = refl
 no_rows g code caller n at (r ∷ rs) h = absurd (omega arith)
 
-first_row : (g : GameLists) (code : ℕ) (caller : Option ℕ) (n at : ℕ) (rows : List Row) (r : Row) (rs : List Row) → rows ≡ r ∷ rs
+first_row : (g : GameLists) (code : ℕ) (caller : Option ℕ) (n at : ℕ) (rows : List FrameField) (r : FrameField) (rs : List FrameField) → rows ≡ r ∷ rs
     → option_or (row_fault g code caller n at r) (row_fields_fault g code (called_table g r) (n - 1) (at + 5) rs) ≡ row_fields_fault g code caller n at rows
 unfolding row_fields_fault
 first_row g code caller n at rows r rs e = rw e refl
 
-pub row_stops : (g : GameLists) (code : ℕ) (caller : Option ℕ) (n at x : ℕ) (rows : List Row) (r : Row) (rs : List Row) → rows ≡ r ∷ rs
+pub row_stops : (g : GameLists) (code : ℕ) (caller : Option ℕ) (n at x : ℕ) (rows : List FrameField) (r : FrameField) (rs : List FrameField) → rows ≡ r ∷ rs
     → Some x ≡ row_fault g code caller n at r → Some x ≡ row_fields_fault g code caller n at rows
 row_stops g code caller n at x rows r rs e h =
     ap (λ (o : Option ℕ). option_or o (row_fields_fault g code (called_table g r) (n - 1) (at + 5) rs)) h ∙ first_row g code caller n at rows r rs e
 
-pub row_passes : (g : GameLists) (code : ℕ) (caller : Option ℕ) (n at : ℕ) (rows : List Row) (r : Row) (rs : List Row) → rows ≡ r ∷ rs
+pub row_passes : (g : GameLists) (code : ℕ) (caller : Option ℕ) (n at : ℕ) (rows : List FrameField) (r : FrameField) (rs : List FrameField) → rows ≡ r ∷ rs
     → None ≡ row_fault g code caller n at r → row_fields_fault g code (called_table g r) (n - 1) (at + 5) rs ≡ row_fields_fault g code caller n at rows
 row_passes g code caller n at rows r rs e h =
     ap (λ (o : Option ℕ). option_or o (row_fields_fault g code (called_table g r) (n - 1) (at + 5) rs)) h ∙ first_row g code caller n at rows r rs e
 
 -- ---- kept positions ----
 
-pub kept_none : (g : GameLists) (at : ℕ) (kept : List Held) → length kept ≡ 0 → None ≡ kept_fault g at kept
+pub kept_none : (g : GameLists) (at : ℕ) (kept : List PositionField) → length kept ≡ 0 → None ≡ kept_fault g at kept
 unfolding kept_fault
 kept_none g at [] h = refl
 kept_none g at (k ∷ ks) h = absurd (omega arith)
 
-first_kept : (g : GameLists) (at : ℕ) (kept : List Held) (k : Held) (ks : List Held) → kept ≡ k ∷ ks
+first_kept : (g : GameLists) (at : ℕ) (kept : List PositionField) (k : PositionField) (ks : List PositionField) → kept ≡ k ∷ ks
     → option_or (held_fault g at k) (kept_fault g (at + HELD_LENGTH) ks) ≡ kept_fault g at kept
 unfolding kept_fault
 first_kept g at kept k ks e = rw e refl
 
-pub kept_stops : (g : GameLists) (at x : ℕ) (kept : List Held) (k : Held) (ks : List Held) → kept ≡ k ∷ ks → Some x ≡ held_fault g at k
+pub kept_stops : (g : GameLists) (at x : ℕ) (kept : List PositionField) (k : PositionField) (ks : List PositionField) → kept ≡ k ∷ ks → Some x
+    ≡ held_fault g at k
     → Some x ≡ kept_fault g at kept
 kept_stops g at x kept k ks e h = ap (λ (o : Option ℕ). option_or o (kept_fault g (at + HELD_LENGTH) ks)) h ∙ first_kept g at kept k ks e
 
-pub kept_passes : (g : GameLists) (at : ℕ) (kept : List Held) (k : Held) (ks : List Held) → kept ≡ k ∷ ks → None ≡ held_fault g at k
+pub kept_passes : (g : GameLists) (at : ℕ) (kept : List PositionField) (k : PositionField) (ks : List PositionField) → kept ≡ k ∷ ks → None ≡ held_fault g at k
     → kept_fault g (at + HELD_LENGTH) ks ≡ kept_fault g at kept
 kept_passes g at kept k ks e h = ap (λ (o : Option ℕ). option_or o (kept_fault g (at + HELD_LENGTH) ks)) h ∙ first_kept g at kept k ks e
 
@@ -107,16 +109,16 @@ rows_more zero bytes = refl
 rows_more (suc n) bytes =
     let k : 5 + 5 * n ≡ 5 * suc n = omega arith in
     let e : drop (5 * n) (drop 5 bytes) ≡ drop (5 * suc n) bytes = drop-drop (5 * n) 5 bytes ∙ ap (λ (i : ℕ). drop i bytes) k in
-    ap (λ (rs : List Row). row_at bytes ∷ rs) (rows_more n (drop 5 bytes) ∙ ap (λ (l : List ℕ). rows_at n (drop 5 bytes) ++ row_at l ∷ []) e)
+    ap (λ (rs : List FrameField). row_at bytes ∷ rs) (rows_more n (drop 5 bytes) ∙ ap (λ (l : List ℕ). rows_at n (drop 5 bytes) ++ row_at l ∷ []) e)
 
 -- one row more is read
-pub row_read : (rows : List Row) (n : ℕ) (r : Row) (bytes : List ℕ) → n < length rows → take n rows ≡ rows_at n (drop ROWS bytes)
+pub row_read : (rows : List FrameField) (n : ℕ) (r : FrameField) (bytes : List ℕ) → n < length rows → take n rows ≡ rows_at n (drop ROWS bytes)
     → r ≡ row_at (drop (ROWS + 5 * n) bytes) → take (n + 1) (set rows n r) ≡ rows_at (n + 1) (drop ROWS bytes)
 row_read rows n r bytes low h e =
     let d : drop (5 * n) (drop ROWS bytes) ≡ drop (ROWS + 5 * n) bytes = drop-drop (5 * n) ROWS bytes in
     rw (add-one, e, sym d) (take-suc-set rows n (row_at (drop (5 * n) (drop ROWS bytes))) low
-    ∙ (ap (λ (rs : List Row). rs ++ row_at (drop (5 * n) (drop ROWS bytes)) ∷ []) h ∙ sym (rows_more n (drop ROWS bytes))))
+    ∙ (ap (λ (rs : List FrameField). rs ++ row_at (drop (5 * n) (drop ROWS bytes)) ∷ []) h ∙ sym (rows_more n (drop ROWS bytes))))
 
-pub rows_read : (rows : List Row) (n : ℕ) (bytes : List ℕ) → length rows ≡ 11 → n ≡ 11 → take n rows ≡ rows_at n (drop ROWS bytes)
+pub rows_read : (rows : List FrameField) (n : ℕ) (bytes : List ℕ) → length rows ≡ 11 → n ≡ 11 → take n rows ≡ rows_at n (drop ROWS bytes)
     → rows ≡ rows_at 11 (drop ROWS bytes)
 rows_read rows n bytes k e h = sym (take_all 11 rows (omega arith)) ∙ subst (λ (i : ℕ). take i rows ≡ rows_at i (drop ROWS bytes)) e h

@@ -18,7 +18,7 @@ use Rattle.paw_reading.specs.declared.places.Frame.{Frame}
 use Rattle.paw_reading.specs.declared.places.OpenLoop.{OpenLoop}
 use Rattle.paw_process.specs.declared.kept.Frames.{Frames}
 use Rattle.paw_process.specs.Kept.{may_open, has_code, parameter_of}
-use Rattle.paw_process.specs.inner.Kept.{condact_of, is_unused, row_stands}
+use Rattle.paw_process.specs.inner.Kept.{condact_at_frame, is_unused, row_stands}
 use Rattle.paw_process.specs.Kept.{waiting_code}
 use Rattle.paw_process.specs.inner.Kept.{is_that_table}
 use Rattle.paw_process.specs.inner.Kept.{loop_stands}
@@ -28,8 +28,8 @@ use Rattle.paw_process.proofs.Restored.{first_of, second}
 use Rattle.paw_state.specs.declared.layout.TheConstants.{FLAGS, PLACES, SAVED, HELD_FLAGS, HELD_PLACES, HELD_LENGTH}
 use Rattle.paw_state.specs.declared.layout.TheConstants.{SEED, DRAWS, EVENTS, ROWS, LOOP_ENTRY, EARLIER, PENDING, LINE}
 use Rattle.paw_state.specs.declared.layout.TheConstants.{PIECE, KEPT}
-use Rattle.paw_state.specs.declared.fields.Row.{Row}
-use Rattle.paw_state.specs.declared.held.Held.{Held}
+use Rattle.paw_state.specs.declared.fields.FrameField.{FrameField}
+use Rattle.paw_state.specs.declared.position_field.PositionField.{PositionField}
 use Rattle.paw_state.specs.State.{State, AreBytes, HoldsBytes, FitsFields}
 use Rattle.paw_state.specs.inner.State.{KeepsEach}
 use Rattle.paw_state.specs.State.{held_of, row_of, fields_of}
@@ -63,7 +63,8 @@ entries_low : (n : ℕ) (bytes : List ℕ) → AreBytes bytes → All (λ r. r.e
 unfolding rows_at
 entries_low zero bytes h = λ k d low. absurd (omega (arith, low))
 entries_low (suc n) bytes h =
-    All-cons (λ (r : Row). r.entry < 2 ^ 16) (row_at bytes) (rows_at n (drop 5 bytes)) (two_low bytes 1 h) (entries_low n (drop 5 bytes) (drop_bytes 5 bytes h))
+    All-cons (λ (r : FrameField). r.entry < 2 ^ 16) (row_at bytes) (rows_at n (drop 5 bytes)) (two_low bytes 1 h)
+    (entries_low n (drop 5 bytes) (drop_bytes 5 bytes h))
 
 held_sized : (bytes : List ℕ) (at : ℕ) → at + HELD_LENGTH ≤ length bytes → IsSizedHeld (held_at (drop at bytes))
 held_sized bytes at n = record {
@@ -73,7 +74,7 @@ held_sized bytes at n = record {
 
 kept_sized : (bytes : List ℕ) → STATE_LENGTH ≤ length bytes → All IsSizedHeld (fields_at bytes).kept
 kept_sized bytes n =
-    let held : ℕ → Held = λ at. held_at (drop at bytes) in
+    let held : ℕ → PositionField = λ at. held_at (drop at bytes) in
     All-cons IsSizedHeld (held KEPT) (held (kept_place 1) ∷ held (kept_place 2) ∷ held (kept_place 3) ∷ []) (held_sized bytes KEPT (omega arith))
     (All-cons IsSizedHeld (held (kept_place 1)) (held (kept_place 2) ∷ held (kept_place 3) ∷ []) (held_sized bytes (kept_place 1) (omega arith))
     (All-cons IsSizedHeld (held (kept_place 2)) (held (kept_place 3) ∷ []) (held_sized bytes (kept_place 2) (omega arith))
@@ -99,7 +100,7 @@ sized_at bytes n h = record {
 
 -- ---- the state that is read ----
 
-held_fits : (n : ℕ) (h : Held) → AreBytes h.flags → AreBytes h.places → HoldsBytes (held_in n h)
+held_fits : (n : ℕ) (h : PositionField) → AreBytes h.flags → AreBytes h.places → HoldsBytes (held_in n h)
 held_fits n h flags places = go (h.there == 0)
   where
     go : (b : Bool) → HoldsBytes (if b then None else Some (record { flags = h.flags; places = take n h.places }))
@@ -142,22 +143,23 @@ coded g t e k code (Some c) v is h = let low = condact-small g v t e k c is in o
 row_entry : (g : GameLists) (code : ℕ) (caller : Option ℕ) (n : ℕ) (f : Frame) → Valid g → row_stands g code caller n f ≡ true → f.entry < 2 ^ 16
 row_entry g code caller n f v h = go (n == 0) h
   where
-    go : (b : Bool) → (if b then is_unused f else may_open caller f.table && has_code (if n == 1 then code else 85) (condact_of g f)) ≡ true → f.entry < 2 ^ 16
+    go : (b : Bool) → (if b then is_unused f else may_open caller f.table && has_code (if n == 1 then code else 85) (condact_at_frame g f)) ≡ true →
+        f.entry < 2 ^ 16
     go true q = let z : f.entry ≡ 0 = eqb-true f.entry 0 (first_of (f.entry == 0) _ (second (f.table == 0) _ q)) in omega arith
-    go false q = coded g f.table f.entry f.at (if n == 1 then code else 85) (condact_of g f) v refl (second (may_open caller f.table) _ q)
+    go false q = coded g f.table f.entry f.at (if n == 1 then code else 85) (condact_at_frame g f) v refl (second (may_open caller f.table) _ q)
 
 entries_fit : (g : GameLists) (code : ℕ) (caller : Option ℕ) (n d : ℕ) (frames : List Frame) → Valid g → machine_rows g code caller n d frames ≡ None
     → All (λ r. r.entry < 2 ^ 16) (map row_of frames)
 unfolding machine_rows
 entries_fit g code caller n d [] v h = λ k e low. absurd (omega (arith, low))
-entries_fit g code caller n d (f ∷ fs) v h = go (entries_fit g code (Some (parameter_of (condact_of g f))) (n - 1) (suc d) fs v)
+entries_fit g code caller n d (f ∷ fs) v h = go (entries_fit g code (Some (parameter_of (condact_at_frame g f))) (n - 1) (suc d) fs v)
     (row_stands g code caller n f) refl h
   where
-    go : (machine_rows g code (Some (parameter_of (condact_of g f))) (n - 1) (suc d) fs ≡ None → All (λ r. r.entry < 2 ^ 16) (map row_of fs))
+    go : (machine_rows g code (Some (parameter_of (condact_at_frame g f))) (n - 1) (suc d) fs ≡ None → All (λ r. r.entry < 2 ^ 16) (map row_of fs))
         → (b : Bool) → row_stands g code caller n f ≡ b
-        → ◌≡◌ {A = Option ℕ} (if b then machine_rows g code (Some (parameter_of (condact_of g f))) (n - 1) (suc d) fs else Some d) None
+        → ◌≡◌ {A = Option ℕ} (if b then machine_rows g code (Some (parameter_of (condact_at_frame g f))) (n - 1) (suc d) fs else Some d) None
         → All (λ r. r.entry < 2 ^ 16) (map row_of (f ∷ fs))
-    go later true e q = All-cons (λ (r : Row). r.entry < 2 ^ 16) (row_of f) (map row_of fs) (row_entry g code caller n f v e) (later q)
+    go later true e q = All-cons (λ (r : FrameField). r.entry < 2 ^ 16) (row_of f) (map row_of fs) (row_entry g code caller n f v e) (later q)
     go later false e q = cc
 
 loop_fits : (g : GameLists) (k : Frames) (o : Option OpenLoop) → Valid g → machine_loop g k o ≡ None → (loop_or_zeros o).entry < 2 ^ 16

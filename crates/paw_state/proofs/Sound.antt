@@ -9,7 +9,7 @@ use Rattle.paw_state.specs.declared.layout.TheConstants.{LINE, KEPT}
 use Rattle.paw_state.specs.declared.fields.Fields.{Fields}
 use Rattle.std.specs.Option.{option_or}
 use Rattle.paw_state.specs.inner.Faults.{rule, first, first_not, is_zero, places_fault, held_fault, kept_fault, numbers_fault, prompt_of, prompt_fault}
-use Rattle.paw_state.specs.inner.Faults.{frame_fields_fault, no_loop_fault, loop_fields_fault, turning_fault, pending_fault, parts_fault}
+use Rattle.paw_state.specs.inner.Faults.{frame_fields_fault, no_loop_fault, loop_fields_fault, open_loop_fault, pending_fault, parts_fault}
 use Rattle.paw_state.proofs.Found.{rule_holds, no_rule, no_first, none_first}
 
 -- where no loop is open the loop's bytes are 0; else the loop keeps its rules
@@ -62,7 +62,7 @@ eight_none a b c d e f g h ka kb kc kd ke kf kg kh =
 pub sound_of : (g : GameLists) (f : Fields) → parts_fault g f ≡ None → AreSound g f
 sound_of g f h =
     let p =
-    eight (places_fault g PLACES f.places) (held_fault g SAVED f.saved) (numbers_fault f) (prompt_fault f) (frame_fields_fault g f) (turning_fault g f)
+    eight (places_fault g PLACES f.places) (held_fault g SAVED f.saved) (numbers_fault f) (prompt_fault f) (frame_fields_fault g f) (open_loop_fault g f)
     (pending_fault f) (kept_fault g KEPT f.kept) h in
     let n = two (rule EVENTS (nat_le f.events EVENT_LIMIT)) (rule DRAWS (nat_le f.draws (READ_LIMIT * (f.events + 1)))) p.2 in
     let q = two (rule PROMPT (nat_le f.prompt 4)) (rule COUNT (count_fits (waiting_code (prompt_of f.prompt)) f.count)) p.3 in
@@ -86,7 +86,7 @@ sound_of g f h =
 
 pub none_of : (g : GameLists) (f : Fields) → AreSound g f → parts_fault g f ≡ None
 none_of g f s =
-    eight_none (places_fault g PLACES f.places) (held_fault g SAVED f.saved) (numbers_fault f) (prompt_fault f) (frame_fields_fault g f) (turning_fault g f)
+    eight_none (places_fault g PLACES f.places) (held_fault g SAVED f.saved) (numbers_fault f) (prompt_fault f) (frame_fields_fault g f) (open_loop_fault g f)
     (pending_fault f) (kept_fault g KEPT f.kept) s.places s.saved
     (two_none (rule EVENTS (nat_le f.events EVENT_LIMIT)) (rule DRAWS (nat_le f.draws (READ_LIMIT * (f.events + 1))))
     (no_rule EVENTS (nat_le f.events EVENT_LIMIT) s.events) (no_rule DRAWS (nat_le f.draws (READ_LIMIT * (f.events + 1))) s.draws))

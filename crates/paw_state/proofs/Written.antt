@@ -8,7 +8,7 @@ use Rattle.std.proofs.lemmas.Slice.{take-put_mid, drop-put_mid}
 use borrow.Rule.Slice.PartMut.{put_mid}
 use Rattle.paw_base.specs.declared.layout.TheConstants.{STATE_LENGTH}
 use Rattle.paw_state.specs.declared.layout.TheConstants.{STATE_ROOM}
-use Rattle.paw_state.specs.declared.fields.Row.{Row}
+use Rattle.paw_state.specs.declared.fields.FrameField.{FrameField}
 use Rattle.std.specs.List.{concat}
 use Rattle.paw_state.specs.State.{zeros, filled}
 use Rattle.paw_state.specs.inner.Fields.{row_bytes}
@@ -56,11 +56,11 @@ filled_behind bytes new h = rw (h, zeros_all 255) (ap (λ (l : List ℕ). bytes 
 
 -- ---- rows ----
 
-pub length-rows : (rows : List Row) → length (flat_map row_bytes rows) ≡ 5 * length rows
+pub length-rows : (rows : List FrameField) → length (flat_map row_bytes rows) ≡ 5 * length rows
 length-rows [] = refl
 length-rows (r ∷ rs) = length-append (row_bytes r) (flat_map row_bytes rs) ∙ (ap (λ n. 5 + n) (length-rows rs) ∙ omega arith)
 
-pub room_for_row : (rows : List Row) (old new : List ℕ) (i : ℕ) → i < length rows → length rows ≡ 11 → new ≡ old ++ flat_map row_bytes (take i rows)
+pub room_for_row : (rows : List FrameField) (old new : List ℕ) (i : ℕ) → i < length rows → length rows ≡ 11 → new ≡ old ++ flat_map row_bytes (take i rows)
     → length old + 55 ≤ STATE_ROOM → length new + 5 ≤ STATE_ROOM
 room_for_row rows old new i low size h room =
     let n : length new ≡ length old + 5 * length (take i rows) =

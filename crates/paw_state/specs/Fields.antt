@@ -17,9 +17,9 @@ use Rattle.paw_effects.specs.declared.act.Prompt.TheVariants as prompt
 use Rattle.paw_reading.specs.declared.places.OpenLoop.{OpenLoop}
 use Rattle.paw_process.specs.declared.machine.TheConstants.{MOST_FRAMES}
 use Rattle.paw_process.specs.Kept.{waiting_code, may_open, has_code, parameter_of, count_fits}
-use Rattle.paw_state.specs.declared.fields.Row.{Row}
+use Rattle.paw_state.specs.declared.fields.FrameField.{FrameField}
 use Rattle.paw_state.specs.declared.fields.Fields.{Fields}
-use Rattle.paw_state.specs.declared.held.Held.{Held}
+use Rattle.paw_state.specs.declared.position_field.PositionField.{PositionField}
 
 -- ---- fields ----
 
@@ -68,7 +68,7 @@ abbrev pub place_holds : ℕ → ℕ → GameLists → Bool
 place_holds i place g = if nat_lt i (length g.objects) then is_place (length g.locations) place else place == 0
 
 -- The fields of a position: 1 where it is there, its flags, and its places.
-abbrev pub held_fields : Held → List Field
+abbrev pub held_fields : PositionField → List Field
 held_fields h =
     byte h.there (λ g. nat_le h.there 1)
     ∷ if_there h.there (one_by_one (λ i flag g. true) 0 h.flags ++ one_by_one place_holds 0 h.places)
@@ -76,7 +76,7 @@ held_fields h =
 -- The fields of a row, the first of n used ones (all 0 where n is 0): table, entry, condact, 1 where an action was
 -- carried out. Its table is the one called, or 0, 1 or 2 for the outermost. The last used row is at the condact with
 -- this code, each other at a PROCESS.
-abbrev pub row_fields : ℕ → (GameLists → Option ℕ) → ℕ → Row → List Field
+abbrev pub row_fields : ℕ → (GameLists → Option ℕ) → ℕ → FrameField → List Field
 row_fields code caller n r = if_there n (
     byte r.table (λ g. may_open (caller g) r.table)
     ∷ two r.entry (λ g. is_some (head_at g r.table r.entry))
@@ -85,7 +85,7 @@ row_fields code caller n r = if_there n (
     ∷ [])
 
 -- The fields of rows, the first n of which are used; the PROCESS of each calls the table of the next.
-unfoldable pub rows_fields : ℕ → (GameLists → Option ℕ) → ℕ → List Row → List Field
+unfoldable pub rows_fields : ℕ → (GameLists → Option ℕ) → ℕ → List FrameField → List Field
 rows_fields code caller n [] = []
 rows_fields code caller n (r ∷ rs) =
     row_fields code caller n r
@@ -133,7 +133,7 @@ state_fields f =
     ∷ flat_map held_fields f.kept
 
 -- The arrays of a position have their full lengths.
-pub record IsSizedHeld (h : Held) : Type 0 where
+pub record IsSizedHeld (h : PositionField) : Type 0 where
   pub flags : length h.flags ≡ FLAG_COUNT
   pub places : length h.places ≡ OBJECT_LIMIT
 

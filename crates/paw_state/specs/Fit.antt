@@ -5,12 +5,12 @@ use Rattle.paw_base.specs.Bytes.{Bytes}
 use Rattle.paw_game.specs.Game.{GameLists}
 use Rattle.paw_state.specs.declared.fields.Fields.{Fields}
 use Rattle.paw_state.specs.Fields.{AreSized, bytes_of, state_fields, fault_from}
-use Rattle.paw_state.specs.State.{State, Keeps, FitsFields, state_bytes}
+use Rattle.paw_state.specs.State.{State, IsValidState, FitsFields, state_bytes}
 
 -- Bytes are fit for a game if the first STATE_LENGTH of them are those of a state that keeps its rules.
 pub record Fit (g : GameLists) (bytes : Bytes) : Type 0 where
   pub state : State
-  pub keeps : Keeps g state
+  pub keeps : IsValidState g state
   pub fits : FitsFields state
   pub are : take STATE_LENGTH bytes ≡ state_bytes state
 

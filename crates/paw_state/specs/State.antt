@@ -15,9 +15,9 @@ pub use Rattle.paw_effects.specs.Standing.{AreBytes}
 use Rattle.paw_reading.specs.declared.places.Frame.{Frame}
 use Rattle.paw_process.specs.declared.machine.TheConstants.{MOST_FRAMES}
 use Rattle.paw_process.specs.declared.kept.Frames.{Frames}
-use Rattle.paw_state.specs.declared.fields.Row.{Row}
+use Rattle.paw_state.specs.declared.fields.FrameField.{FrameField}
 use Rattle.paw_state.specs.declared.fields.Fields.{Fields}
-use Rattle.paw_state.specs.declared.held.Held.{Held}
+use Rattle.paw_state.specs.declared.position_field.PositionField.{PositionField}
 use Rattle.paw_state.specs.Fields.{bytes_of, state_fields, fault_from}
 
 -- What a session keeps of play: the world; the frames of the open tables; the pending line; the prompt; the number of
@@ -37,7 +37,7 @@ abbrev pub filled : ℕ → Bytes → Bytes
 filled n bytes = bytes ++ zeros (n - length bytes)
 
 -- The fields of a position, with its flags and places; all of them 0 where there is no position.
-abbrev pub held_of : Option Position → Held
+abbrev pub held_of : Option Position → PositionField
 held_of None = record { there = 0; flags = zeros FLAG_COUNT; places = zeros OBJECT_LIMIT }
 held_of (Some q) = record { there = 1; flags = q.flags; places = filled OBJECT_LIMIT q.places }
 
@@ -50,7 +50,7 @@ prompt_code prompt.Key = 3
 prompt_code prompt.Over = 4
 
 -- The row of a frame, with 1 where an action was carried out.
-abbrev pub row_of : Frame → Row
+abbrev pub row_of : Frame → FrameField
 row_of f = record { table = f.table; entry = f.entry; at = f.at; acted = (if f.acted then 1 else 0) }
 
 -- The fields of a state; the one for a loop is 1 where a loop is open.
@@ -82,7 +82,7 @@ state_bytes s = bytes_of (state_fields (fields_of s))
 
 -- The rules of a state: the world is the game's, and sound; there are eleven rows for open tables; at most 255 bytes are
 -- pending; and each of its fields keeps its rule.
-pub record Keeps (g : GameLists) (s : State) : Type 0 where
+pub record IsValidState (g : GameLists) (s : State) : Type 0 where
   pub world : IsOf g s.world
   pub sound : IsWorld s.world
   pub rows : length s.frames.rows ≡ MOST_FRAMES

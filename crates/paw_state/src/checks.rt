@@ -8,18 +8,18 @@ ghost use Rattle.paw_state.specs.declared.layout.TheConstants.{HELD_LENGTH, ROW_
 ghost use Rattle.paw_state.specs.inner.Faults.{rule, first_not, is_zero, places_fault, absent_fault, held_fault};
 ghost use Rattle.paw_state.specs.inner.Faults.{kept_fault, numbers_fault, prompt_of, prompt_fault, unused_fault};
 ghost use Rattle.paw_state.specs.inner.Faults.{used_fault, row_fault, row_fields_fault, no_loop_fault};
-ghost use Rattle.paw_state.specs.inner.Faults.{loop_fields_fault, turning_fault, frame_fields_fault, pending_fault};
+ghost use Rattle.paw_state.specs.inner.Faults.{loop_fields_fault, open_loop_fault, frame_fields_fault, pending_fault};
 ghost use Rattle.paw_state.specs.inner.Faults.{parts_fault};
 ghost use Rattle.paw_state.specs.inner.Faults.{fault_of};
 
 use crate::StateFault;
-use crate::fields::{Fields, Row};
-use crate::held::Held;
+use crate::fields::{Fields, FrameField};
 use crate::layout::{
     COUNT, DRAWS, EVENTS, HELD_FLAGS, HELD_LENGTH, HELD_PLACES, KEPT, LINE, LOOP_AT, LOOP_ENTRY,
     LOOP_LAST, LOOP_LEVEL, LOOP_PLACE, LOOP_TABLE, LOOPING, PENDING, PLACES, PROMPT, ROW_ACTED,
     ROW_AT, ROW_ENTRY, ROW_LENGTH, ROWS, SAVED,
 };
+use crate::position_field::PositionField;
 use paw_base::codes::{DOALL, PROCESS};
 use paw_base::limits::{EVENT_LIMIT, READ_LIMIT};
 use paw_effects::act::Prompt;
@@ -76,7 +76,7 @@ fn check_places<T: Tables>(tables: &T, at: usize, places: &[u8; 255]) -> Result<
 }
 
 /// Checks the flags and the places of a position that isn't there.
-fn check_absent(at: usize, held: &Held) -> Result<(), StateFault>
+fn check_absent(at: usize, held: &PositionField) -> Result<(), StateFault>
     requires near { at + HELD_LENGTH ≤ STATE_ROOM }
     ensures value { fault_of result ≡ absent_fault at held.now }
 {
@@ -85,7 +85,7 @@ fn check_absent(at: usize, held: &Held) -> Result<(), StateFault>
 }
 
 /// Checks a position that may be there.
-fn check_held<T: Tables>(tables: &T, at: usize, held: &Held) -> Result<(), StateFault>
+fn check_held<T: Tables>(tables: &T, at: usize, held: &PositionField) -> Result<(), StateFault>
     requires near { at + HELD_LENGTH ≤ STATE_ROOM }
     ensures value { fault_of result ≡ held_fault (T.game tables.now) at held.now }
 {
@@ -98,7 +98,7 @@ fn check_held<T: Tables>(tables: &T, at: usize, held: &Held) -> Result<(), State
 }
 
 /// Checks these positions, the first of which stands at this place.
-fn check_kept<T: Tables>(tables: &T, at: usize, kept: &[Held]) -> Result<(), StateFault>
+fn check_kept<T: Tables>(tables: &T, at: usize, kept: &[PositionField]) -> Result<(), StateFault>
     requires near { at + HELD_LENGTH * length kept.now ≤ STATE_ROOM }
     ensures value { fault_of result ≡ kept_fault (T.game tables.now) at kept.now }
 {
@@ -142,7 +142,7 @@ fn check_prompt(fields: &Fields) -> Result<(), StateFault>
 }
 
 /// Checks a row that isn't used.
-fn check_unused(at: usize, row: &Row) -> Result<(), StateFault>
+fn check_unused(at: usize, row: &FrameField) -> Result<(), StateFault>
     requires near { at < STATE_ROOM }
     ensures value { fault_of result ≡ unused_fault at row.now }
 {
@@ -158,7 +158,7 @@ fn check_used<T: Tables>(
     code: u8,
     caller: Option<u8>,
     at: usize,
-    row: &Row,
+    row: &FrameField,
 ) -> Result<(), StateFault>
     requires near { at < STATE_ROOM }
     ensures value { fault_of result ≡ used_fault (T.game tables.now) code caller at row.now }
@@ -177,7 +177,7 @@ fn check_row<T: Tables>(
     caller: Option<u8>,
     used: u8,
     at: usize,
-    row: &Row,
+    row: &FrameField,
 ) -> Result<(), StateFault>
     requires near { at < STATE_ROOM }
     ensures value { fault_of result ≡ row_fault (T.game tables.now) code caller used at row.now }
@@ -196,7 +196,7 @@ fn check_rows<T: Tables>(
     caller: Option<u8>,
     used: u8,
     at: usize,
-    rows: &[Row],
+    rows: &[FrameField],
 ) -> Result<(), StateFault>
     requires near { at + ROW_LENGTH * length rows.now < STATE_ROOM }
     ensures value { fault_of result ≡ row_fields_fault (T.game tables.now) code caller used at rows.now }
@@ -251,7 +251,7 @@ fn check_loop<T: Tables>(tables: &T, fields: &Fields, turning: &OpenLoop) -> Res
 }
 
 /// Whether the row of this level belongs to this table.
-fn is_table_at(rows: &[Row], level: u8, table: u8) -> bool
+fn is_table_at(rows: &[FrameField], level: u8, table: u8) -> bool
     ensures value { result ≡ is_that_table (option_map (λ r. r.table) (slice_get rows.now level)) table }
 {
     match rows.get(level as usize) {
@@ -261,8 +261,8 @@ fn is_table_at(rows: &[Row], level: u8, table: u8) -> bool
 }
 
 /// Checks whether a loop is open, and its bytes.
-fn check_turning<T: Tables>(tables: &T, fields: &Fields) -> Result<(), StateFault>
-    ensures value { fault_of result ≡ turning_fault (T.game tables.now) fields.now }
+fn check_open_loop<T: Tables>(tables: &T, fields: &Fields) -> Result<(), StateFault>
+    ensures value { fault_of result ≡ open_loop_fault (T.game tables.now) fields.now }
 {
     let most = if fields.count == 0 { 0 } else { 1 };
     rule(LOOPING, fields.looping <= most)?;
@@ -293,7 +293,7 @@ pub(crate) fn check<T: Tables>(tables: &T, fields: &Fields) -> Result<(), StateF
     check_numbers(fields)?;
     check_prompt(fields)?;
     check_frames(tables, fields)?;
-    check_turning(tables, fields)?;
+    check_open_loop(tables, fields)?;
     check_pending(fields)?;
     check_kept(tables, KEPT, &fields.kept)
 }

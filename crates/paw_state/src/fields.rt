@@ -8,7 +8,7 @@ ghost use Rattle.paw_state.specs.declared.layout.TheConstants.{HELD_LENGTH, SEED
 ghost use Rattle.paw_state.specs.declared.layout.TheConstants.{LOOP_LEVEL, EARLIER, KEPT};
 ghost use Rattle.paw_state.specs.declared.layout.TheConstants.{STATE_ROOM};
 ghost use Rattle.paw_state.specs.inner.Parts.{frame_in};
-ghost use Rattle.paw_state.specs.inner.Writer.{Writes};
+ghost use Rattle.paw_state.specs.inner.Writer.{WritesField};
 ghost use Rattle.paw_state.specs.State.{AreBytes};
 ghost use Rattle.paw_state.specs.State.{zeros, row_of};
 ghost use Rattle.paw_state.specs.inner.Fields.{two_at, eight_at, row_at, rows_at};
@@ -16,12 +16,12 @@ ghost use Rattle.paw_state.specs.inner.Fields.{row_bytes, loop_bytes, world_byte
 ghost use Rattle.paw_state.specs.inner.Fields.{fields_at};
 ghost use Rattle.paw_state.specs.inner.Fields.{pending_bytes, kept_position_bytes, field_bytes};
 
-use crate::held::Held;
 use crate::layout::{
     COUNT, DRAWS, EARLIER, EVENTS, FLAGS, HELD_LENGTH, KEPT, LINE, LOOP_AT, LOOP_ENTRY, LOOP_LAST,
     LOOP_LEVEL, LOOP_PLACE, LOOP_TABLE, LOOPING, PENDING, PIECE, PLACES, PROMPT, ROW_ACTED, ROW_AT,
     ROW_ENTRY, ROW_LENGTH, ROWS, SAVED, SEED, STATE_ROOM,
 };
+use crate::position_field::PositionField;
 use crate::writer::Writer;
 use paw_base::limits::POSITION_COUNT;
 use paw_process::MOST_FRAMES;
@@ -29,16 +29,16 @@ use paw_reading::places::{Frame, OpenLoop};
 
 /// A frame, as it is kept: a byte says whether an action was carried out.
 #[derive(Clone, Copy, Drop)]
-pub(crate) struct Row {
+pub(crate) struct FrameField {
     pub(crate) table: u8,
     pub(crate) entry: u16,
     pub(crate) at: u8,
     pub(crate) acted: u8,
 }
 
-impl Row {
+impl FrameField {
     /// A row that isn't used.
-    pub(crate) const EMPTY: Row = Row {
+    pub(crate) const EMPTY: FrameField = FrameField {
         table: 0,
         entry: 0,
         at: 0,
@@ -46,10 +46,10 @@ impl Row {
     };
 
     /// The row of a frame.
-    pub(crate) fn of(frame: &Frame) -> Row
+    pub(crate) fn of(frame: &Frame) -> FrameField
         ensures value { result ≡ row_of frame.now }
     {
-        Row {
+        FrameField {
             table: frame.table,
             entry: frame.entry,
             at: frame.at,
@@ -75,20 +75,20 @@ impl Row {
 pub(crate) struct Fields {
     pub(crate) flags: [u8; 256],
     pub(crate) places: [u8; 255],
-    pub(crate) saved: Held,
+    pub(crate) saved: PositionField,
     pub(crate) seed: u64,
     pub(crate) draws: u64,
     pub(crate) events: u64,
     pub(crate) prompt: u8,
     pub(crate) count: u8,
-    pub(crate) rows: [Row; MOST_FRAMES],
+    pub(crate) rows: [FrameField; MOST_FRAMES],
     pub(crate) looping: u8,
     pub(crate) turning: OpenLoop,
     pub(crate) earlier: u8,
     pub(crate) pending: u8,
     pub(crate) line: [u8; 255],
     pub(crate) piece: u16,
-    pub(crate) kept: [Held; POSITION_COUNT],
+    pub(crate) kept: [PositionField; POSITION_COUNT],
 }
 
 /// The N bytes from a place on.
@@ -118,23 +118,23 @@ fn eight_at(bytes: &[u8; STATE_ROOM], at: usize) -> u64
 }
 
 /// The kept positions.
-fn kept_at(bytes: &[u8; STATE_ROOM]) -> [Held; POSITION_COUNT]
+fn kept_at(bytes: &[u8; STATE_ROOM]) -> [PositionField; POSITION_COUNT]
     ensures value { result ≡ (fields_at bytes.now).kept }
 {
     [
-        Held::at(bytes, KEPT),
-        Held::at(bytes, KEPT + HELD_LENGTH),
-        Held::at(bytes, KEPT + 2 * HELD_LENGTH),
-        Held::at(bytes, KEPT + 3 * HELD_LENGTH),
+        PositionField::at(bytes, KEPT),
+        PositionField::at(bytes, KEPT + HELD_LENGTH),
+        PositionField::at(bytes, KEPT + 2 * HELD_LENGTH),
+        PositionField::at(bytes, KEPT + 3 * HELD_LENGTH),
     ]
 }
 
 /// The row at a place.
-fn row_at(bytes: &[u8; STATE_ROOM], at: usize) -> Row
+fn row_at(bytes: &[u8; STATE_ROOM], at: usize) -> FrameField
     requires inside { at + ROW_LENGTH ≤ STATE_ROOM }
     ensures value { result ≡ row_at (drop at bytes.now) }
 {
-    Row {
+    FrameField {
         table: bytes[at],
         entry: two_at(bytes, at + ROW_ENTRY),
         at: bytes[at + ROW_AT],
@@ -143,10 +143,10 @@ fn row_at(bytes: &[u8; STATE_ROOM], at: usize) -> Row
 }
 
 /// All rows.
-fn rows_at(bytes: &[u8; STATE_ROOM]) -> [Row; MOST_FRAMES]
+fn rows_at(bytes: &[u8; STATE_ROOM]) -> [FrameField; MOST_FRAMES]
     ensures value { result ≡ rows_at MOST_FRAMES (drop ROWS bytes.now) }
 {
-    let mut rows = [Row::EMPTY; MOST_FRAMES];
+    let mut rows = [FrameField::EMPTY; MOST_FRAMES];
     for i in 0..MOST_FRAMES {
         rows[i] = row_at(bytes, ROWS + ROW_LENGTH * i);
     }
@@ -177,7 +177,7 @@ impl Fields {
         Fields {
             flags: array_at(bytes, FLAGS),
             places: array_at(bytes, PLACES),
-            saved: Held::at(bytes, SAVED),
+            saved: PositionField::at(bytes, SAVED),
             seed: eight_at(bytes, SEED),
             draws: eight_at(bytes, DRAWS),
             events: eight_at(bytes, EVENTS),
@@ -213,7 +213,7 @@ impl Fields {
     #[tactic(auto, unfolding(crate::specs::inner::Fields::world_bytes))]
     fn put_world(&self, writer: &mut Writer)
         requires room { length writer.old + SEED ≤ STATE_ROOM }
-        ensures writes { Writes (world_bytes self.now) SEED writer.old writer.new }
+        ensures writes { WritesField (world_bytes self.now) SEED writer.old writer.new }
     {
         writer.put(&self.flags);
         writer.put(&self.places);
@@ -224,7 +224,7 @@ impl Fields {
     #[tactic(auto, unfolding(crate::specs::inner::Fields::number_bytes))]
     fn put_numbers(&self, writer: &mut Writer)
         requires room { length writer.old + (PROMPT - SEED) ≤ STATE_ROOM }
-        ensures writes { Writes (number_bytes self.now) (PROMPT - SEED) writer.old writer.new }
+        ensures writes { WritesField (number_bytes self.now) (PROMPT - SEED) writer.old writer.new }
     {
         writer.put(&self.seed.to_le_bytes());
         writer.put(&self.draws.to_le_bytes());
@@ -235,7 +235,7 @@ impl Fields {
     #[tactic(auto, unfolding(crate::specs::inner::Fields::table_bytes))]
     fn put_tables(&self, writer: &mut Writer)
         requires room { length writer.old + (EARLIER - PROMPT) ≤ STATE_ROOM }
-        ensures writes { Writes (table_bytes self.now) (EARLIER - PROMPT) writer.old writer.new }
+        ensures writes { WritesField (table_bytes self.now) (EARLIER - PROMPT) writer.old writer.new }
     {
         writer.put(&[self.prompt, self.count]);
         self.put_rows(writer);
@@ -246,7 +246,7 @@ impl Fields {
     /// Writes the rows of the open tables.
     fn put_rows(&self, writer: &mut Writer)
         requires room { length writer.old + (LOOPING - ROWS) ≤ STATE_ROOM }
-        ensures writes { Writes (flat_map row_bytes self.now.rows) (LOOPING - ROWS) writer.old writer.new }
+        ensures writes { WritesField (flat_map row_bytes self.now.rows) (LOOPING - ROWS) writer.old writer.new }
     {
         for row in &self.rows {
             let [low, high] = row.entry.to_le_bytes();
@@ -257,7 +257,7 @@ impl Fields {
     /// Writes the open loop.
     fn put_loop(&self, writer: &mut Writer)
         requires room { length writer.old + (EARLIER - LOOP_LEVEL) ≤ STATE_ROOM }
-        ensures writes { Writes (loop_bytes self.now.turning) (EARLIER - LOOP_LEVEL) writer.old writer.new }
+        ensures writes { WritesField (loop_bytes self.now.turning) (EARLIER - LOOP_LEVEL) writer.old writer.new }
     {
         let turning = &self.turning;
         writer.put(&[turning.level, turning.table]);
@@ -269,7 +269,7 @@ impl Fields {
     #[tactic(auto, unfolding(crate::specs::inner::Fields::pending_bytes))]
     fn put_pending(&self, writer: &mut Writer)
         requires room { length writer.old + (KEPT - EARLIER) ≤ STATE_ROOM }
-        ensures writes { Writes (pending_bytes self.now) (KEPT - EARLIER) writer.old writer.new }
+        ensures writes { WritesField (pending_bytes self.now) (KEPT - EARLIER) writer.old writer.new }
     {
         writer.put(&[self.earlier, self.pending]);
         writer.put(&self.line);
@@ -280,7 +280,8 @@ impl Fields {
     #[tactic(auto, unfolding(crate::specs::inner::Fields::kept_position_bytes))]
     fn put_kept(&self, writer: &mut Writer)
         requires room { length writer.old + POSITION_COUNT * HELD_LENGTH ≤ STATE_ROOM }
-        ensures writes { Writes (kept_position_bytes self.now) (POSITION_COUNT * HELD_LENGTH) writer.old writer.new }
+        ensures writes { WritesField (kept_position_bytes self.now)
+            (POSITION_COUNT * HELD_LENGTH) writer.old writer.new }
     {
         for held in &self.kept {
             held.put(writer);

@@ -3,9 +3,9 @@
 
 mod checks;
 mod fields;
-mod held;
 pub mod laws;
 mod layout;
+mod position_field;
 mod read;
 #[cfg(test)]
 mod tests;

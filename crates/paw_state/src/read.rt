@@ -5,7 +5,7 @@ ghost use Rattle.std.specs.Prelude.{length, map, replicate, slice_set, IsOk, IfO
 ghost use Rattle.paw_base.specs.declared.limits.TheConstants.{POSITION_COUNT};
 ghost use Rattle.paw_process.specs.inner.Kept.{kept};
 ghost use Rattle.paw_process.specs.inner.Kept.{frames_fault};
-ghost use Rattle.paw_process.specs.inner.Kept.{restored, waiting_at, StandsAt};
+ghost use Rattle.paw_process.specs.inner.Kept.{restored, waiting_at, WaitsAtPrompt};
 ghost use Rattle.paw_state.specs.declared.layout.TheConstants.{PIECE};
 ghost use Rattle.paw_state.specs.inner.Faults.{parts_fault};
 ghost use Rattle.paw_world.specs.World.{kept_position};
@@ -14,9 +14,9 @@ ghost use Rattle.paw_state.specs.Fit.{Fit, Unfit};
 ghost use Rattle.paw_state.specs.inner.Fit.{state_read, IsRead};
 
 use crate::checks::{check, prompt_of};
-use crate::fields::{Fields, Row};
-use crate::held::Held;
+use crate::fields::{Fields, FrameField};
 use crate::layout::STATE_ROOM;
+use crate::position_field::PositionField;
 use crate::{Restored, StateFault};
 use paw_base::limits::POSITION_COUNT;
 use paw_effects::act::Prompt;
@@ -40,11 +40,11 @@ pub fn read_state<T: Tables>(tables: &T, bytes: &[u8; STATE_ROOM]) -> Result<Res
 {
     let fields = Fields::at(bytes);
     check(tables, &fields)?;
-    Ok(restored(tables, &fields))
+    Ok(restore_fields(tables, &fields))
 }
 
 /// Makes this the saved position, if it is there.
-fn put_saved(world: &mut World, held: &Held)
+fn put_saved(world: &mut World, held: &PositionField)
     requires few { length world.old.places ≤ 255 }
     ensures none { held.now.there ≡ 0 → world.new ≡ world.old }
     ensures saved { held.now.there ≢ 0 → SetsSaved held.now world.old world.new }
@@ -58,7 +58,7 @@ fn put_saved(world: &mut World, held: &Held)
 }
 
 /// Makes this the kept position of this number, which had none.
-fn put_kept(world: &mut World, n: u8, held: &Held)
+fn put_kept(world: &mut World, n: u8, held: &PositionField)
     requires few { n < POSITION_COUNT }
     requires none { kept_position world.old n ≡ None }
     ensures value { world.new ≡ record world.old {
@@ -73,7 +73,7 @@ fn put_kept(world: &mut World, n: u8, held: &Held)
 }
 
 /// Makes these the kept positions, none of which was kept before.
-fn put_all_kept(world: &mut World, kept: &[Held; POSITION_COUNT])
+fn put_all_kept(world: &mut World, kept: &[PositionField; POSITION_COUNT])
     requires none { world.old.kept ≡ replicate POSITION_COUNT None }
     ensures value { world.new ≡ record world.old { kept = map (held_in (length world.old.places)) kept.now } }
 {
@@ -111,7 +111,7 @@ fn frames_in(fields: &Fields) -> Frames
 }
 
 /// Rows as frames.
-fn frame_rows(rows: &[Row; MOST_FRAMES]) -> [Frame; MOST_FRAMES]
+fn frame_rows(rows: &[FrameField; MOST_FRAMES]) -> [Frame; MOST_FRAMES]
     ensures value { result ≡ map frame_in rows.now }
 {
     let mut frames = [rows[0].frame(); MOST_FRAMES];
@@ -122,11 +122,11 @@ fn frame_rows(rows: &[Row; MOST_FRAMES]) -> [Frame; MOST_FRAMES]
 }
 
 /// The parts of a game that these fields describe, which keep their rules.
-fn restored<T: Tables>(tables: &T, fields: &Fields) -> Restored
+fn restore_fields<T: Tables>(tables: &T, fields: &Fields) -> Restored
     requires sound { parts_fault (T.game tables.now) fields.now ≡ None }
     ensures state { state_read result ≡ state_in (T.game tables.now) fields.now }
     ensures machine { result.machine ≡ restored (kept result.machine) (waiting_at result.prompt) }
-    ensures stands { StandsAt result.prompt result.machine }
+    ensures stands { WaitsAtPrompt result.prompt result.machine }
 {
     let prompt = prompt_of(fields.prompt);
     let pending = fields.pending as usize;
@@ -145,7 +145,7 @@ fn machine_in<T: Tables>(tables: &T, fields: &Fields, prompt: Prompt) -> Machine
     requires sound { frames_fault (T.game tables.now) prompt (frames_in fields.now) ≡ None }
     ensures value { result ≡ restored (kept result) (waiting_at prompt) }
     ensures kept { kept result ≡ frames_in fields.now }
-    ensures stands { StandsAt prompt result }
+    ensures stands { WaitsAtPrompt prompt result }
 {
     match Machine::restore(tables, &frames_in(fields), prompt) {
         Ok(machine) => machine,

@@ -408,7 +408,7 @@ fn kept_positions_come_back(rt: HostRuntime) -> Result<(), Fail> {
     );
     let read = read_state(&game, &bytes)?;
     assert_eq!(rt; written(&read), bytes);
-    assert!(rt; !read.world.kept(0) && !read.world.kept(2));
+    assert!(rt; !read.world.has_kept(0) && !read.world.has_kept(2));
     let (kept_flags, kept_places) = read.world.kept_position(1).expect(&rt, "a kept position");
     assert_eq!(rt; kept_flags[200], 5);
     assert_eq!(rt; kept_places, [252, 253].as_slice());

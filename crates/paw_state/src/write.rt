@@ -12,9 +12,9 @@ ghost use Rattle.paw_state.specs.State.{zeros, filled, held_of, prompt_code, row
 ghost use Rattle.paw_state.specs.State.{fields_of, state_bytes};
 ghost use Rattle.paw_state.specs.inner.State.{loop_or_zeros};
 
-use crate::fields::{Fields, Row};
-use crate::held::Held;
+use crate::fields::{Fields, FrameField};
 use crate::layout::STATE_ROOM;
+use crate::position_field::PositionField;
 use paw_base::limits::POSITION_COUNT;
 use paw_effects::act::Prompt;
 use paw_phrase::Pending;
@@ -49,7 +49,7 @@ pub fn write_state(
 }
 
 /// The same flags. The clause says that they are bytes.
-fn copied(flags: &[u8]) -> [u8; 256]
+fn flag_array(flags: &[u8]) -> [u8; 256]
     requires all { length flags.now ≡ 256 }
     ensures value { result ≡ flags.now }
     ensures bytes { AreBytes flags.now }
@@ -60,7 +60,7 @@ fn copied(flags: &[u8]) -> [u8; 256]
 }
 
 /// These bytes, filled up with zeros to 255.
-fn filled(bytes: &[u8]) -> [u8; 255]
+fn place_array(bytes: &[u8]) -> [u8; 255]
     requires few { length bytes.now ≤ 255 }
     ensures value { result ≡ filled 255 bytes.now }
     ensures bytes { AreBytes bytes.now }
@@ -84,12 +84,12 @@ fn prompt_code(prompt: Prompt) -> u8
 }
 
 /// Frames as rows.
-fn rows_of(frames: &[Frame; MOST_FRAMES]) -> [Row; MOST_FRAMES]
+fn rows_of(frames: &[Frame; MOST_FRAMES]) -> [FrameField; MOST_FRAMES]
     ensures value { result ≡ map row_of frames.now }
 {
-    let mut rows = [Row::EMPTY; MOST_FRAMES];
+    let mut rows = [FrameField::EMPTY; MOST_FRAMES];
     for i in 0..MOST_FRAMES {
-        rows[i] = Row::of(&frames[i]);
+        rows[i] = FrameField::of(&frames[i]);
     }
     rows
 }
@@ -112,45 +112,45 @@ fn loop_or_zeros(turning: Option<OpenLoop>) -> OpenLoop
 }
 
 /// The fields of a position with these flags and places.
-fn held(flags: &[u8; 256], places: &[u8]) -> Held
+fn position_field(flags: &[u8; 256], places: &[u8]) -> PositionField
     requires few { length places.now ≤ 255 }
     ensures value { result ≡ held_of (Some (record { flags = flags.now; places = places.now })) }
     ensures bytes { HoldsBytes (Some (record { flags = flags.now; places = places.now })) }
 {
-    Held {
+    PositionField {
         there: 1,
-        flags: copied(flags),
-        places: filled(places),
+        flags: flag_array(flags),
+        places: place_array(places),
     }
 }
 
 /// The fields of the saved position, if there is one.
-fn saved_of(world: &World) -> Held
+fn saved_of(world: &World) -> PositionField
     requires few { IsWorld world.now }
     ensures value { result ≡ held_of world.now.saved }
     ensures bytes { HoldsBytes world.now.saved }
 {
     match world.saved_position() {
-        None => Held::NONE,
-        Some((flags, places)) => held(flags, places),
+        None => PositionField::NONE,
+        Some((flags, places)) => position_field(flags, places),
     }
 }
 
 /// The fields of the kept position of this number, if it was kept.
-fn kept_of(world: &World, n: u8) -> Held
+fn kept_of(world: &World, n: u8) -> PositionField
     requires few { IsWorld world.now }
     requires known { n < POSITION_COUNT }
     ensures value { result ≡ held_of (kept_position world.now n) }
     ensures bytes { HoldsBytes (kept_position world.now n) }
 {
     match world.kept_position(n) {
-        None => Held::NONE,
-        Some((flags, places)) => held(flags, places),
+        None => PositionField::NONE,
+        Some((flags, places)) => position_field(flags, places),
     }
 }
 
 /// The fields of the kept positions.
-fn all_kept(world: &World) -> [Held; POSITION_COUNT]
+fn all_kept(world: &World) -> [PositionField; POSITION_COUNT]
     requires few { IsWorld world.now }
     ensures value { result ≡ map held_of world.now.kept }
     ensures bytes { All HoldsBytes world.now.kept }
@@ -178,8 +178,8 @@ fn fields_of(
 {
     let line = pending.bytes();
     Fields {
-        flags: copied(world.flags()),
-        places: filled(world.places()),
+        flags: flag_array(world.flags()),
+        places: place_array(world.places()),
         saved: saved_of(world),
         seed: world.seed(),
         draws: world.draws(),
@@ -191,7 +191,7 @@ fn fields_of(
         turning: loop_or_zeros(frames.turning),
         earlier: pending.earlier(),
         pending: line.len() as u8,
-        line: filled(line),
+        line: place_array(line),
         piece,
         kept: all_kept(world),
     }

@@ -3,7 +3,7 @@
 ghost use Rattle.std.specs.Prelude.{◌≡◌, ◌+◌, ◌-◌, ◌≤◌, [], ◌++◌, length};
 ghost use Rattle.paw_state.specs.declared.layout.TheConstants.{STATE_ROOM};
 ghost use Rattle.paw_state.specs.State.{zeros};
-ghost use Rattle.paw_state.specs.inner.Writer.{Writes};
+ghost use Rattle.paw_state.specs.inner.Writer.{WritesField};
 
 use crate::layout::STATE_ROOM;
 use std::marker::Model;
@@ -41,7 +41,7 @@ impl Writer {
     /// Writes a field after the others.
     pub(crate) fn put(&mut self, field: &[u8])
         requires room { length self.old + length field.now ≤ STATE_ROOM }
-        ensures writes { Writes field.now (length field.now) self.old self.new }
+        ensures writes { WritesField field.now (length field.now) self.old self.new }
     {
         let end = self.count + field.len();
         self.bytes[self.count..end].copy_from_slice(field);

@@ -9,13 +9,13 @@ use Rattle.paw_game.specs.Image.{image}
 use Rattle.paw_lex.specs.Bytes.{is_printed_byte}
 use Rattle.paw_faults.specs.Bind.{◌>>=◌}
 use Rattle.paw_grammar.specs.GrammarState.{Spelt, game_of}
-use Rattle.paw_grammar.specs.Spells.{step, at_line, whole, spelled_after}
+use Rattle.paw_grammar.specs.Spells.{after_line, at_line, whole, spelled_after}
 use Rattle.paw_source.specs.inner.Laws.{after_lines}
 use Rattle.paw_source.proofs.Faultless.{ok_is}
 
 -- after d the line has no fault, and then e is spelled; its bytes are printed
 pub record LineReads (p : ℕ) (d : Spelt) (l : List ℕ) (e : Spelt) : Type 0 where
-  pub is : step p d l ≡ Ok e
+  pub is : after_line p d l ≡ Ok e
   pub printed : list_all is_printed_byte l ≡ true
 
 -- after d the lines have no fault, and then e is spelled; their bytes are printed
@@ -38,7 +38,7 @@ after_lines-append : (p : ℕ) (d : Spelt) (ls ms : List (List ℕ)) → after_l
 unfolding after_lines
 after_lines-append p d [] ms = refl
 after_lines-append p d (l ∷ ls) ms =
-    elim (step p d l) as (λ r. (r >>= λ e. after_lines p e (ls ++ ms)) ≡ ((r >>= λ e. after_lines p e ls) >>= λ e. after_lines p e ms)) [
+    elim (after_line p d l) as (λ r. (r >>= λ e. after_lines p e (ls ++ ms)) ≡ ((r >>= λ e. after_lines p e ls) >>= λ e. after_lines p e ms)) [
       | Ok e ↦ after_lines-append p e ls ms
       | Err k ↦ refl
     ]
@@ -55,7 +55,7 @@ reading_is : (p n : ℕ) (d e : Spelt) (ls : List (List ℕ)) → after_lines p 
 unfolding after_lines spelled_after
 reading_is p n d e [] h many small = ap (whole n) (ok_is d e h) ∙ rw (many, small) refl
 reading_is p n d e (l ∷ ls) h many small =
-    elim (step p d l) as (λ r. (r >>= λ x. after_lines p x ls) ≡ Ok e → at_line (suc n) r (λ x. spelled_after p (suc n) x ls) ≡ Ok (game_of e)) [
+    elim (after_line p d l) as (λ r. (r >>= λ x. after_lines p x ls) ≡ Ok e → at_line (suc n) r (λ x. spelled_after p (suc n) x ls) ≡ Ok (game_of e)) [
       | Ok x ↦ λ g. reading_is p (suc n) x e ls g many small
       | Err k ↦ λ g. absurd cc
     ] h

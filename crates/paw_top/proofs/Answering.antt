@@ -5,7 +5,7 @@ use Rattle.paw_base.specs.declared.fault.SourceFault.{SourceFault}
 use Rattle.paw_game.specs.Game.{GameLists}
 use Rattle.paw_stage.specs.declared.Stage.{Ghosts}
 use Rattle.paw_stage.specs.declared.StageCall.{StageCall}
-use Rattle.paw_stage.specs.Across.{Serves}
+use Rattle.paw_stage.specs.Across.{FailsOnlyBy}
 use Rattle.paw_journal.specs.declared.refusal.JournalRefusal.TheVariants as refusal
 use Rattle.paw_play.specs.inner.Calls.{call_of_end}
 use Rattle.paw_play.specs.declared.PlayEnd.{PlayEnd}
@@ -24,9 +24,9 @@ failed_same _ = refl
 
 -- a game that is loaded and then played
 pub played_serves : {S : Type 0} {g : Ghosts S} {old mid new : S} (calls : List StageCall) (o : PlayEnd) (p : Outcome) → p ≡ outcome_of o →
-    Serves g load_calls None old mid → Serves g calls (call_of_end o) mid new → Serves g (load_calls ++ calls) (failed_call p) old new
+    FailsOnlyBy g load_calls None old mid → FailsOnlyBy g calls (call_of_end o) mid new → FailsOnlyBy g (load_calls ++ calls) (failed_call p) old new
 played_serves {S} {g} {old} {mid} {new} calls o p e first last =
-    subst (λ f. Serves g (load_calls ++ calls) f old new) (sym (ap failed_call e ∙ failed_same o))
+    subst (λ f. FailsOnlyBy g (load_calls ++ calls) f old new) (sym (ap failed_call e ∙ failed_same o))
     (serves_then g _ _ _ old mid new first (serves_among g calls _ _ mid new (behind load_calls calls) last))
 
 -- a source that is refused made no call fail

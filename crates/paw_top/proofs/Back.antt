@@ -7,7 +7,7 @@ use Rattle.paw_game.specs.Game.{GameLists}
 use Rattle.paw_game.specs.Image.{image}
 use Rattle.paw_grammar.specs.Spells.{spelled}
 use Rattle.paw_print.specs.Canonical.{canonical_of}
-use Rattle.paw_top.specs.Compile.{Kept, image_line}
+use Rattle.paw_top.specs.Compile.{SavedAndShown, image_line}
 use Rattle.paw_top.specs.Compile as compile
 use Rattle.paw_top.specs.Decompile as decompile
 use Rattle.paw_stage.specs.Stage.{Standing}
@@ -39,4 +39,4 @@ comes_back itself image_name source target bytes text old shown before after fil
     let m : spelled text ≡ Ok g = ap spelled c
     ∙ itself g i.valid (subst (λ l. length l ≤ IMAGE_LIMIT) i.spelled i.short) (subst (λ l. length l ≤ SOURCE_LIMIT) c short) in
     let same : image h ≡ bytes = ap image (sym (same_game text spells.0 g h (sym spells.1 ∙ there) spells.2 m)) ∙ sym i.spelled ∙ b in
-    subst (λ l. Kept before after target l (image_line (length l))) same f
+    subst (λ l. SavedAndShown before after target l (image_line (length l))) same f

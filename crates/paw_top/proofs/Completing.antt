@@ -9,12 +9,12 @@ use Rattle.paw_game.specs.Game.{GameLists}
 use Rattle.paw_grammar.specs.Spells.{spelled}
 use Rattle.paw_image.specs.Images.{IsImage}
 use Rattle.paw_image.proofs.ImageLaws.{one_game}
-use Rattle.paw_stage.specs.Stage.{Standing, Faulted}
+use Rattle.paw_stage.specs.Stage.{Standing, CountsFailure}
 use Rattle.paw_stage.specs.declared.StageCall.{StageCall}
 use Rattle.paw_stage.specs.declared.StageCall.TheVariants as call
 use Rattle.paw_top.specs.Answers.{failed_call}
 use Rattle.paw_top.specs.Compile as compile
-use Rattle.paw_top.specs.Completes.{NoFault, IsUnhindered}
+use Rattle.paw_top.specs.Completes.{NoFailure, IsUnhindered}
 use Rattle.paw_top.specs.inner.Completes.{IsWalked, CompletesSource, CompletesCompile, CompletesImage, CompletesWrap, Comes}
 use Rattle.paw_top.specs.Decompile as decompile
 use Rattle.paw_top.specs.Loads.{Holds, HoldsDamage}
@@ -32,7 +32,7 @@ use Rattle.paw_top.specs.declared.outcome.Outcome.TheVariants as outcome
 use Rattle.paw_top.specs.declared.outcome.MemoryAt.{MemoryAt}
 
 -- where no count of faults rose, but maybe that of loads that found no file, only such a load may have failed
-only_absent : (failed : Option StageCall) (first last : StageCall → ℕ) → Faulted failed first last → NoFault first last →
+only_absent : (failed : Option StageCall) (first last : StageCall → ℕ) → CountsFailure failed first last → NoFailure first last →
     IfSome failed (λ c. c ≡ call.LoadAbsent)
 only_absent None first last out none = tt
 only_absent (Some call.LoadAbsent) first last out none = refl
@@ -45,7 +45,7 @@ only_absent (Some call.Sync) first last out none = absurd (none call.Sync (λ q.
 only_absent (Some call.Ask) first last out none = absurd (none call.Ask (λ q. cc) out.0)
 only_absent (Some call.Show) first last out none = absurd (none call.Show (λ q. cc) out.0)
 
-pub unhindered : (o : Outcome) (first last : StageCall → ℕ) → Faulted (failed_call o) first last → NoFault first last → IsUnhindered o
+pub unhindered : (o : Outcome) (first last : StageCall → ℕ) → CountsFailure (failed_call o) first last → NoFailure first last → IsUnhindered o
 unhindered o first last out none = only_absent (failed_call o) first last out none
 
 -- no call has failed but such a load

@@ -11,7 +11,7 @@ use Rattle.std.proofs.lemmas.List.{append-nil}
 use Rattle.std.proofs.lemmas.Str.Parse.{IsNumeralModel, numerals_by_value}
 use Rattle.paw_grammar.specs.Tokens.{begins_with_at}
 use Rattle.paw_grammar.specs.Numbers.{number, number_with}
-use Rattle.paw_grammar.specs.Spells.{begins_with_slash, step}
+use Rattle.paw_grammar.specs.Spells.{begins_with_slash, after_line}
 use Rattle.paw_grammar.specs.GrammarState.{Spelt}
 use Rattle.paw_grammar.specs.GrammarHeads.{item_in, slash_line}
 use Rattle.paw_print.specs.Lines.{item_token}
@@ -62,9 +62,9 @@ pub plain-flag : (n : ℕ) → n ≤ 65535 → is_plain (64 ∷ decimal n) ≡ t
 plain-flag n h = decimal_clean n h
 
 -- an item is begun in the section that is read
-pub item_begins : (p : ℕ) (d : Spelt) (n : ℕ) → n ≤ 65535 → step p d (item_token n) ≡ item_in d.section d n
+pub item_begins : (p : ℕ) (d : Spelt) (n : ℕ) → n ≤ 65535 → after_line p d (item_token n) ≡ item_in d.section d n
 item_begins p d n h =
-    ap (step p d) (sym (append-nil (item_token n)))
+    ap (after_line p d) (sym (append-nil (item_token n)))
     ∙ slash_step p d (decimal n) [] (rw (plain-item n h) refl)
     ∙ ap (λ x. slash_line d (47 ∷ decimal n) x []) (number-decimal n h)
 

@@ -9,7 +9,7 @@ use Rattle.std.proofs.lemmas.List.Folds.{list_any-append}
 use Rattle.paw_base.specs.declared.limits.TheConstants.{LOCATION_LIMIT}
 use Rattle.paw_game.specs.declared.parts.Word.{Word}
 use Rattle.paw_game.specs.declared.parts.Exit.{Exit}
-use Rattle.paw_game.specs.Valid.{is_verb_value, are_exits, is_exits}
+use Rattle.paw_game.specs.Valid.{is_verb_value, are_exits, exits_are_valid}
 use Rattle.paw_grammar.specs.declared.section.Section.TheVariants as section
 use Rattle.paw_grammar.specs.Vocabulary.{verb_word}
 use Rattle.paw_grammar.specs.GrammarState.{Spelt}
@@ -174,18 +174,18 @@ reads_then p d es fs ls ms n all first rest = record { exits = rest.exits; reads
 
 pub locations_read : (p : ℕ) (d : Spelt) (es all : List (List Exit)) (n m : ℕ) (xss : List (List Exit)) →
     d.section ≡ section.Con → Scene d → Filled es n all → n ≡ length all → m ≡ n + length xss
-    → m ≤ length d.locations → list_all (is_exits d.words (length d.locations)) xss ≡ true →
+    → m ≤ length d.locations → list_all (exits_are_valid d.words (length d.locations)) xss ≡ true →
     ReadsExits p d es (numbered (location_lines d.words) n xss) m (all ++ xss)
 locations_read p d es all n m [] at scene f is end within h =
     let same : m ≡ n = omega arith in
     rw (append-nil all, same) (record { exits = es; reads = reads_none p (record d { exits = es }); filled = f })
 locations_read p d es all n m ([] ∷ xss) at scene f is end within h =
-    let both = and_parts (is_exits d.words (length d.locations) []) (list_all (is_exits d.words (length d.locations)) xss) h in
+    let both = and_parts (exits_are_valid d.words (length d.locations) []) (list_all (exits_are_valid d.words (length d.locations)) xss) h in
     let next : suc n ≡ length (all ++ [] ∷ []) = omega (arith, length-append all ([] ∷ [])) in
     rw (append_assoc all ([] ∷ []) xss) at
     (locations_read p d es (all ++ [] ∷ []) (suc n) m xss at scene (filled_none es n all f) next (omega arith) within both.1)
 locations_read p d es all n m ((x ∷ xs) ∷ xss) at scene f is end within h =
-    let both = and_parts (is_exits d.words (length d.locations) (x ∷ xs)) (list_all (is_exits d.words (length d.locations)) xss) h in
+    let both = and_parts (exits_are_valid d.words (length d.locations) (x ∷ xs)) (list_all (exits_are_valid d.words (length d.locations)) xss) h in
     let these = and_parts (leb (length (x ∷ xs)) 255) (are_exits d.words (length d.locations) (x ∷ xs)) both.0 in
     let next : suc n ≡ length (all ++ (x ∷ xs) ∷ []) = omega (arith, length-append all ((x ∷ xs) ∷ [])) in
     let item = con_item_step p d es all n at scene f (omega arith) in

@@ -14,7 +14,7 @@ use Rattle.std.proofs.lemmas.Map.Text.{is_eq-slice_cmp}
 use Rattle.std.proofs.lemmas.Slice.Eq.{bytes_eq-Decides}
 use Rattle.paw_base.specs.declared.fault.SourceKind.{SourceKind}
 use Rattle.paw_game.specs.declared.parts.Word.{Word}
-use Rattle.paw_game.specs.Valid.{are_letters, is_within, is_word, words_rise, has_word, is_verb_value, is_word_or_none, is_any}
+use Rattle.paw_game.specs.Valid.{are_letters, is_within, is_word, words_rise, has_word, is_verb_value, is_word_or_none, is_wildcard}
 use Rattle.paw_game.specs.Tables.{word_of}
 use Rattle.paw_grammar.specs.Tokens.{begins_with_at}
 use Rattle.paw_grammar.specs.Vocabulary.{known, in_class, as_verb, word_or_none, verb_word, entry_verb, entry_noun}
@@ -164,10 +164,10 @@ word_or_none_back ws class value words h =
     ]
 
 -- the noun of an entry
-pub entry_noun_back : (ws : List Word) (value : ℕ) → Words ws → (is_any value || has_word ws 2 value) ≡ true →
+pub entry_noun_back : (ws : List Word) (value : ℕ) → Words ws → (is_wildcard value || has_word ws 2 value) ≡ true →
     ReadsBack (value_token ws 2 value) (entry_noun ws) value
 entry_noun_back ws value words h =
-    elim (or_cases (is_any value) (has_word ws 2 value) h) [
+    elim (or_cases (is_wildcard value) (has_word ws 2 value) h) [
       | inl any ↦ elim (or_cases (eqb value 1) (eqb value 255) any) [
         | inl e ↦ rw (eqb-true value 1 e) (record { plain = refl; slash = refl; at = refl; is = λ ts. refl })
         | inr e ↦ rw (eqb-true value 255 e) (record { plain = refl; slash = refl; at = refl; is = λ ts. refl })
@@ -251,10 +251,10 @@ verb_word_back ws value words h =
     })
 
 -- the verb of an entry
-pub entry_verb_back : (ws : List Word) (value : ℕ) → Words ws → (is_any value || is_verb_value ws value) ≡ true →
+pub entry_verb_back : (ws : List Word) (value : ℕ) → Words ws → (is_wildcard value || is_verb_value ws value) ≡ true →
     ReadsBack (verb_token ws value) (entry_verb ws) value
 entry_verb_back ws value words h =
-    elim (or_cases (is_any value) (is_verb_value ws value) h) [
+    elim (or_cases (is_wildcard value) (is_verb_value ws value) h) [
       | inl any ↦ elim (or_cases (eqb value 1) (eqb value 255) any) [
         | inl e ↦ rw (eqb-true value 1 e) (record { plain = refl; slash = refl; at = refl; is = λ ts. refl })
         | inr e ↦ rw (eqb-true value 255 e) (record { plain = refl; slash = refl; at = refl; is = λ ts. refl })

@@ -11,7 +11,7 @@ use Rattle.paw_base.specs.declared.fault.SourceKind.{SourceKind}
 use Rattle.paw_base.specs.declared.parts.ObjectFacts.{ObjectFacts}
 use Rattle.paw_game.specs.declared.parts.Word.{Word}
 use Rattle.paw_game.specs.declared.parts.ObjectRow.{ObjectRow}
-use Rattle.paw_game.specs.Valid.{is_within, is_word_or_none, is_place, is_text, are_facts, is_object}
+use Rattle.paw_game.specs.Valid.{is_within, is_word_or_none, is_place, is_text, facts_are_valid, is_object}
 use Rattle.paw_grammar.specs.declared.section.Section.TheVariants as section
 use Rattle.paw_faults.specs.Bind.{◌>>=◌}
 use Rattle.paw_grammar.specs.Vocabulary.{kind_named, word_or_none}
@@ -74,7 +74,7 @@ place_small locations p few h =
     ]
 
 facts_row : (ws : List Word) (locations n count : ℕ) (f : ObjectFacts) → Words ws → locations ≤ LOCATION_LIMIT → n < count →
-    count ≤ 65535 → are_facts ws locations f ≡ true → FactsRow ws locations n count f
+    count ≤ 65535 → facts_are_valid ws locations f ≡ true → FactsRow ws locations n count f
 facts_row ws locations n count f words few below most h =
     let noun = and_parts (is_word_or_none ws 2 f.noun) _ h in
     let adjective = and_parts (is_word_or_none ws 3 f.adjective) _ noun.1 in
@@ -131,7 +131,7 @@ pub objects_read : (p : ℕ) (d : Spelt) (fs : List ObjectFacts) (n : ℕ) (os :
 objects_read p d fs n [] at scene is room most h = rw (append-nil fs) (reads_none p (record d { facts = fs }))
 objects_read p d fs n (o ∷ os) at scene is room most h =
     let both = and_parts (is_object d.words (length d.locations) o) (list_all (is_object d.words (length d.locations)) os) h in
-    let facts = and_parts (is_text o.text) (are_facts d.words (length d.locations) o.facts) both.0 in
+    let facts = and_parts (is_text o.text) (facts_are_valid d.words (length d.locations) o.facts) both.0 in
     let row = facts_row d.words (length d.locations) (length fs) (length d.names) o.facts scene.words scene.few (omega arith) (omega arith) facts.1 in
     let long = length-append fs (o.facts ∷ []) in
     let same : (fs ++ o.facts ∷ []) ++ map (λ x. x.facts) os ≡ fs ++ o.facts ∷ map (λ x. x.facts) os = append_assoc fs (o.facts ∷ []) (map (λ x. x.facts) os) in

@@ -14,7 +14,7 @@ use Rattle.paw_grammar.specs.GrammarTexts.{is_in_text}
 use Rattle.paw_grammar.specs.GrammarHeads.{slash_line}
 use Rattle.paw_grammar.specs.GrammarRows.{row_in}
 use Rattle.paw_grammar.specs.Numbers.{number}
-use Rattle.paw_grammar.specs.Spells.{step, begins_with_slash, is_text_line, text_added}
+use Rattle.paw_grammar.specs.Spells.{after_line, begins_with_slash, is_text_line, text_added}
 use Rattle.paw_print.specs.Lines.{behind_spaces, spaced}
 
 -- a byte that may stand in a token: printed, no space and no `;`
@@ -107,8 +107,8 @@ no_forbidden_byte text l h = and_right (not (is_comment l)) _ (none_forbidden te
 
 -- a line of tokens, of which the first has no stroke
 pub row_step : (p : ℕ) (d : Spelt) (t : List ℕ) (ts : List (List ℕ)) → list_all is_plain (t ∷ ts) ≡ true → begins_with_slash t ≡ false → is_in_text d ≡ false
-    → step p d (spaced (t ∷ ts)) ≡ row_in d.section p d false (t ∷ ts)
-unfolding step
+    → after_line p d (spaced (t ∷ ts)) ≡ row_in d.section p d false (t ∷ ts)
+unfolding after_line
 row_step p d [] ts h slash out = absurd cc
 row_step p d (b ∷ bs) ts h slash out =
     let all = and_parts (is_plain (b ∷ bs)) (list_all is_plain ts) h in
@@ -126,8 +126,8 @@ row_step p d (b ∷ bs) ts h slash out =
 
 -- A line of tokens after spaces.
 pub more_step : (p : ℕ) (d : Spelt) (t : List ℕ) (ts : List (List ℕ)) → list_all is_plain (t ∷ ts) ≡ true → is_in_text d ≡ false
-    → step p d (behind_spaces (t ∷ ts)) ≡ row_in d.section p d true (t ∷ ts)
-unfolding step
+    → after_line p d (behind_spaces (t ∷ ts)) ≡ row_in d.section p d true (t ∷ ts)
+unfolding after_line
 more_step p d t ts h out =
     let l : List ℕ = behind_spaces (t ∷ ts) in
     let text : is_text_line d l ≡ false = rw out refl in
@@ -135,8 +135,8 @@ more_step p d t ts h out =
 
 -- a line of tokens, of which the first begins with a stroke
 pub slash_step : (p : ℕ) (d : Spelt) (bs : List ℕ) (ts : List (List ℕ)) → list_all is_plain ((47 ∷ bs) ∷ ts) ≡ true
-    → step p d (spaced ((47 ∷ bs) ∷ ts)) ≡ slash_line d (47 ∷ bs) (number bs) ts
-unfolding step
+    → after_line p d (spaced ((47 ∷ bs) ∷ ts)) ≡ slash_line d (47 ∷ bs) (number bs) ts
+unfolding after_line
 slash_step p d bs ts h =
     let l : List ℕ = spaced ((47 ∷ bs) ∷ ts) in
     let text : is_text_line d l ≡ false = and_right (is_in_text d) false refl in
@@ -144,8 +144,8 @@ slash_step p d bs ts h =
 
 -- a line of a text: printed bytes, of which the first is neither `/` nor `;`
 pub text_step : (p : ℕ) (d : Spelt) (l : List ℕ) → list_all is_printed_byte l ≡ true → begins_with_slash l ≡ false → is_comment l ≡ false → is_in_text d ≡ true
-    → step p d l ≡ text_added d l
-unfolding step
+    → after_line p d l ≡ text_added d l
+unfolding after_line
 text_step p d l h slash comment text =
     let in_text : is_text_line d l ≡ true = rw (text, slash) refl in
     rw (comment, none_forbidden (is_text_line d l) l h, in_text) refl

@@ -13,7 +13,7 @@ use Rattle.paw_game.specs.declared.parts.Word.{Word}
 use Rattle.paw_game.specs.declared.parts.Exit.{Exit}
 use Rattle.paw_game.specs.declared.parts.Entry.{Entry}
 use Rattle.paw_game.specs.Game.{GameLists}
-use Rattle.paw_game.specs.Valid.{has_word, is_verb_value, is_any, is_condact, is_entry, is_table}
+use Rattle.paw_game.specs.Valid.{has_word, is_verb_value, is_wildcard, is_condact, is_entry, is_table}
 use Rattle.paw_grammar.specs.declared.section.Section.TheVariants as section
 use Rattle.paw_faults.specs.Bind.{◌>>=◌}
 use Rattle.paw_grammar.specs.Vocabulary.{entry_verb, entry_noun}
@@ -131,8 +131,8 @@ entries_read : (p : ℕ) (g : GameLists) (exits : List (List Exit)) (ts : List (
 entries_read p g exits ts done [] s few h = rw (append-nil done) (reads_none p (spelt_of g exits (ts ++ done ∷ [])))
 entries_read p g exits ts done (e ∷ es) s few h =
     let both = and_parts (is_entry g e) (list_all (is_entry g) es) h in
-    let verb = and_parts (is_any e.verb || is_verb_value g.words e.verb) _ both.0 in
-    let noun = and_parts (is_any e.noun || has_word g.words 2 e.noun) _ verb.1 in
+    let verb = and_parts (is_wildcard e.verb || is_verb_value g.words e.verb) _ both.0 in
+    let noun = and_parts (is_wildcard e.noun || has_word g.words 2 e.noun) _ verb.1 in
     let cs = and_parts (leb (length e.condacts) 255) (list_all (is_condact g) e.condacts) noun.1 in
     let row : EntryRow g.words e = record { verb = entry_verb_back g.words e.verb s.words verb.0; noun = entry_noun_back g.words e.noun s.words noun.0 } in
     let room : length done < ENTRY_LIMIT = omega (arith, length-append done (e ∷ es), few) in

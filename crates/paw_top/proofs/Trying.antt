@@ -14,7 +14,7 @@ use Rattle.paw_play.specs.declared.PlayEnd.TheVariants as play
 use Rattle.paw_trial.specs.declared.TrialEnd.{TrialEnd}
 use Rattle.paw_trial.specs.declared.TrialEnd.TheVariants as end
 use Rattle.paw_trial.specs.Trial.{trial_reading}
-use Rattle.paw_trial.specs.inner.Trial.{IsTextOf, trial_end, StopsAs}
+use Rattle.paw_trial.specs.inner.Trial.{IsTextOf, trial_end, TrialStopsAs}
 use Rattle.paw_top.specs.declared.outcome.Outcome.{Outcome}
 use Rattle.paw_top.specs.declared.outcome.Outcome.TheVariants as outcome
 use Rattle.paw_top.specs.declared.outcome.MemoryAt.TheVariants as memory
@@ -38,7 +38,7 @@ ended n s halt.Over r is = halts play.Ended halt.Over r refl is refl
 ended n s (halt.Spent kind) r is = halts (play.Spent kind) (halt.Spent kind) r refl is refl
 ended n s (halt.TooDeep table) r is = halts (play.TooDeep table) (halt.TooDeep table) r refl is refl
 
-pub halted : (n : ℕ) (s : Standing) (stop : TrialEnd) (e : Ending) → trial_reading n ≡ e → StopsAs stop e → Tries n s s (stopped stop)
+pub halted : (n : ℕ) (s : Standing) (stop : TrialEnd) (e : Ending) → trial_reading n ≡ e → TrialStopsAs stop e → Tries n s s (stopped stop)
 halted n s end.Memory e is h = wanting refl
 halted n s stop (Halted halt r) is h = subst (λ x. Tries n s s (stopped x)) (sym h) (ended n s halt r is)
 halted n s stop e is h = absurd h

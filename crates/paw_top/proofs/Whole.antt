@@ -11,7 +11,7 @@ use Rattle.paw_game.specs.declared.parts.Entry.{Entry}
 use Rattle.paw_game.specs.declared.parts.ObjectRow.{ObjectRow}
 use Rattle.paw_game.specs.Game.{GameLists}
 use Rattle.paw_game.specs.Image.{image}
-use Rattle.paw_game.specs.Valid.{is_word, words_rise, is_text, is_object, is_exits, is_table, are_facts, is_within, rows_kept, Valid}
+use Rattle.paw_game.specs.Valid.{is_word, words_rise, is_text, is_object, exits_are_valid, is_table, facts_are_valid, is_within, rows_are_valid, Valid}
 use Rattle.paw_lex.specs.Lines.{lines_of}
 use Rattle.paw_lex.proofs.Printed.{lines_of-printed_lines}
 use Rattle.paw_grammar.specs.declared.section.Section.{Section}
@@ -51,7 +51,7 @@ record Rules (g : GameLists) : Type 0 where
   few_locations : length g.locations ≤ LOCATION_LIMIT
   locations : list_all is_text g.locations ≡ true
   one_each : length g.exits ≡ length g.locations
-  exits : list_all (is_exits g.words (length g.locations)) g.exits ≡ true
+  exits : list_all (exits_are_valid g.words (length g.locations)) g.exits ≡ true
   some_tables : 3 ≤ length g.tables
   few_tables : length g.tables ≤ 256
   tables : list_all (is_table g) g.tables ≡ true
@@ -63,9 +63,9 @@ rules g v =
     let system = and_parts (leb (length g.system) 256) (list_all is_text g.system) v.system in
     let messages = and_parts (leb (length g.messages) 256) (list_all is_text g.messages) v.messages in
     let objects = and_parts (leb (length g.objects) 255) (list_all (is_object g.words (length g.locations)) g.objects) v.objects in
-    let some = and_parts (leb 1 (length g.locations)) (rows_kept LOCATION_LIMIT is_text g.locations) v.locations in
+    let some = and_parts (leb 1 (length g.locations)) (rows_are_valid LOCATION_LIMIT is_text g.locations) v.locations in
     let locations = and_parts (leb (length g.locations) LOCATION_LIMIT) (list_all is_text g.locations) some.1 in
-    let exits = and_parts (eqb (length g.exits) (length g.locations)) (list_all (is_exits g.words (length g.locations)) g.exits) v.exits in
+    let exits = and_parts (eqb (length g.exits) (length g.locations)) (list_all (exits_are_valid g.words (length g.locations)) g.exits) v.exits in
     let tables = and_parts (is_within 3 256 (length g.tables)) (list_all (is_table g) g.tables) v.tables in
     let range = and_parts (leb 3 (length g.tables)) (leb (length g.tables) 256) tables.0 in
     record {
@@ -96,7 +96,7 @@ texts_of_objects : (ws : List Word) (locations : ℕ) (os : List ObjectRow) →
 texts_of_objects ws locations [] h = refl
 texts_of_objects ws locations (o ∷ os) h =
     let both = and_parts (is_object ws locations o) (list_all (is_object ws locations) os) h in
-    and_from _ _ (and_parts (is_text o.text) (are_facts ws locations o.facts) both.0).0 (texts_of_objects ws locations os both.1)
+    and_from _ _ (and_parts (is_text o.text) (facts_are_valid ws locations o.facts) both.0).0 (texts_of_objects ws locations os both.1)
 
 -- ---- sections ----
 

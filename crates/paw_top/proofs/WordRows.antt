@@ -18,7 +18,7 @@ use Rattle.paw_game.specs.Valid.{are_letters, is_within, is_word, words_rise}
 use Rattle.paw_game.specs.Tables.{word_of}
 use Rattle.paw_grammar.specs.declared.section.Section.TheVariants as section
 use Rattle.paw_faults.specs.Bind.{◌>>=◌}
-use Rattle.paw_grammar.specs.Vocabulary.{class_names, place_among, words_with}
+use Rattle.paw_grammar.specs.Vocabulary.{class_names, index_among, words_with}
 use Rattle.paw_grammar.specs.GrammarState.{Spelt}
 use Rattle.paw_grammar.specs.GrammarTexts.{is_in_text}
 use Rattle.paw_grammar.specs.GrammarRows.{voc_row}
@@ -33,7 +33,7 @@ use Rattle.paw_top.proofs.After.{LineReads, Reads, reads_none, reads_line}
 
 record ClassName (c : ℕ) : Type 0 where
   plain : is_plain (class_name c) ≡ true
-  read : place_among class_names (class_name c) ≡ Some c
+  read : index_among class_names (class_name c) ≡ Some c
 
 class_back : (c : ℕ) → leb c 6 ≡ true → ClassName c
 class_back zero h = record { plain = refl; read = refl }

@@ -21,14 +21,15 @@ abbrev pub image_line : ℕ → Text
 image_line size = codes "IMAGE " ++ (decimal size ++ codes " BYTES\n")
 
 -- The file of this name now holds these bytes, and then this text was shown; all else stays.
-abbrev pub Kept : Standing → Standing → Name → Bytes → Text → Type 0
-Kept old new name bytes text = (mid : Standing) × Saves old mid name (Some bytes) × (new ≡ with_shown text mid)
+abbrev pub SavedAndShown : Standing → Standing → Name → Bytes → Text → Type 0
+SavedAndShown old new name bytes text = (mid : Standing) × Saves old mid name (Some bytes) × (new ≡ with_shown text mid)
 
 -- How compiling ends, and what it leaves.
 pub data Compiles (source target : Name) (old new : Standing) : Outcome → Type 0 where
   -- The source spells a game, the target holds its image, and the line was shown.
   done : (g : GameLists) → HoldsSource old source (Ok g) →
-      Kept old new target (image g) (image_line (length (image g))) → Compiles source target old new outcome.Done
+      SavedAndShown old new target (image g) (image_line (length (image g))) →
+      Compiles source target old new outcome.Done
   -- The source has a fault; nothing is changed.
   refused : (fault : SourceFault) → HoldsSource old source (Err fault) → new ≡ old →
       Compiles source target old new (outcome.SourceRefused fault)
@@ -42,7 +43,7 @@ pub data Compiles (source target : Name) (old new : Standing) : Outcome → Type
       Compiles source target old new (outcome.Outside call.Save)
   -- The line couldn't be shown: the target holds the image, and a first part of the line was shown.
   unshown : (g : GameLists) (n : ℕ) → HoldsSource old source (Ok g) →
-      Kept old new target (image g) (take n (image_line (length (image g)))) →
+      SavedAndShown old new target (image g) (take n (image_line (length (image g)))) →
       Compiles source target old new (outcome.Outside call.Show)
   -- Memory was lacking; nothing is changed.
   memory : (at : MemoryAt) → new ≡ old → Compiles source target old new (outcome.Memory at)

@@ -7,8 +7,8 @@ use Rattle.paw_top.specs.Answers.{failed_call}
 use Rattle.paw_top.specs.declared.outcome.Outcome.{Outcome}
 
 -- No count of faults rose, except maybe that of loads that found no file.
-abbrev pub NoFault : (StageCall → ℕ) → (StageCall → ℕ) → Type 0
-NoFault old new = (c : StageCall) → c ≢ call.LoadAbsent → ¬ Rose (old c) (new c)
+abbrev pub NoFailure : (StageCall → ℕ) → (StageCall → ℕ) → Type 0
+NoFailure old new = (c : StageCall) → c ≢ call.LoadAbsent → ¬ Rose (old c) (new c)
 
 -- The answer names no failed call, except maybe a load that found no file: so the command did what it is for, or
 -- refused what it was given, or memory was lacking.

@@ -9,7 +9,7 @@ use Rattle.paw_game.specs.Image.{image}
 use Rattle.paw_grammar.specs.Spells.{Spells, spelled, fault}
 use Rattle.paw_print.specs.Canonical.{canonical_of}
 use Rattle.paw_stage.specs.Stage.{Standing}
-use Rattle.paw_top.specs.Compile.{Compiles, Kept, image_line}
+use Rattle.paw_top.specs.Compile.{Compiles, SavedAndShown, image_line}
 use Rattle.paw_top.specs.Decompile.{Decompiles}
 use Rattle.paw_top.specs.declared.outcome.Outcome.TheVariants as outcome
 
@@ -27,7 +27,7 @@ ComesBack =
     old.files image_name ≡ Some bytes
     → Decompiles image_name old shown outcome.Done → shown.shown ≡ old.shown ++ text → before.files source ≡ Some text
     → length text ≤ SOURCE_LIMIT → Compiles source target before after outcome.Done
-    → Kept before after target bytes (image_line (length bytes))
+    → SavedAndShown before after target bytes (image_line (length bytes))
 
 -- A canonical source that is longer than a source may be spells nothing: it is TooBig at line 0.
 abbrev pub LongIsTooBig : Type 0

@@ -1,8 +1,8 @@
 // What each command has in rows: words that form none, and the calls that it makes.
 
 use crate::outcome::{MemoryAt, Outcome};
+use crate::running_tests::{run, settle, settle_and_run};
 use crate::session_tests::{PLAY, RESUME, earlier_form, stage_of};
-use crate::settled::{run, settle, settle_and_run};
 use paw_stage::{CallKind, MemoryStage};
 use paw_wrap::WRAP_LIMIT;
 use std::alloc::Global;

@@ -7,7 +7,7 @@ ghost use Rattle.std.specs.Char.{is_ascii_digit};
 ghost use Rattle.std.specs.List.{list_all};
 ghost use Rattle.paw_base.specs.Bytes.{RoutineRows};
 ghost use Rattle.paw_routines.specs.Routines.{AreRowsOf, HaveRows};
-ghost use Rattle.paw_stage.specs.Across.{Across, InTwoParts, Serves, IsOneOf};
+ghost use Rattle.paw_stage.specs.Across.{IfTelling, InTwoParts, FailsOnlyBy, IsOneOf};
 ghost use Rattle.paw_stage.specs.Disk.{IsStable};
 ghost use Rattle.paw_top.specs.Answers.{IfMemory, failed_call};
 ghost use Rattle.paw_top.specs.Commands.{command_of, meaning, no_more, next_file, next_number};
@@ -266,11 +266,11 @@ impl<'a> Command<'a> {
         requires rows { HaveRows F.Fn routines.now }
         requires synced { S.Tells stage.old → IsStable (S.standing stage.old).disk }
         ensures form { result ≢ outcome.Usage }
-        ensures serves { Serves S.Stage (meaning (meant self.now)).calls (failed_call result) stage.old stage.new }
+        ensures serves { FailsOnlyBy S.Stage (meaning (meant self.now)).calls (failed_call result) stage.old stage.new }
         ensures memory { IfMemory result (IsOneOf (meaning (meant self.now)).memory) }
-        ensures comes { Across S.Stage stage.old stage.new (λ old new. (X : RoutineRows) →
+        ensures comes { IfTelling S.Stage stage.old stage.new (λ old new. (X : RoutineRows) →
             AreRowsOf F.Fn routines.now X → (meaning (meant self.now)).comes X old new result) }
-        ensures moments { Across S.Stage stage.old stage.new (λ old new. (X : RoutineRows) →
+        ensures moments { IfTelling S.Stage stage.old stage.new (λ old new. (X : RoutineRows) →
             AreRowsOf F.Fn routines.now X →
             (meaning (meant self.now)).moments (InTwoParts S.Stage stage.old stage.new) X old) }
     {

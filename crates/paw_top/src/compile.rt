@@ -5,7 +5,7 @@ ghost use Rattle.paw_game.specs.Game.{GameLists};
 ghost use Rattle.paw_game.specs.Image.{image};
 ghost use Rattle.paw_base.specs.declared.limits.TheConstants.{IMAGE_LIMIT};
 ghost use Rattle.paw_grammar.specs.Spells.{spelled};
-ghost use Rattle.paw_stage.specs.Across.{Across, Serves, IsOneOf};
+ghost use Rattle.paw_stage.specs.Across.{IfTelling, FailsOnlyBy, IsOneOf};
 ghost use Rattle.paw_stage.specs.declared.StageCall.TheVariants as call;
 ghost use Rattle.paw_top.specs.Answers.{IfMemory, load_calls, load_memory, failed_call};
 ghost use Rattle.paw_top.specs.Compile.{Compiles, image_line};
@@ -13,7 +13,7 @@ ghost use Rattle.paw_top.specs.inner.Compile.{IsRefusal, SavesSo};
 ghost use Rattle.paw_top.specs.declared.outcome.Outcome.TheVariants as outcome;
 ghost use Rattle.paw_top.specs.declared.outcome.MemoryAt.TheVariants as memory;
 
-use crate::load::{given, load};
+use crate::load::{load, or_return};
 use crate::outcome::{MemoryAt, Outcome};
 use crate::show::tell;
 use paw_base::limits::SOURCE_LIMIT;
@@ -66,10 +66,11 @@ fn line_of(alloc: Global, size: usize) -> Result<String, Outcome>
 
 /// Saves an image, and then shows a line.
 fn keep<S: Stage>(stage: &mut S, name: &str, image: &[u8], line: &[u8]) -> Outcome
-    ensures serves { Serves S.Stage (call.Save ∷ call.Show ∷ []) (failed_call result) stage.old stage.new }
+    ensures serves { FailsOnlyBy S.Stage (call.Save ∷ call.Show ∷ []) (failed_call result) stage.old stage.new }
     ensures form { result ≢ outcome.Usage }
     ensures memory { IfMemory result (λ at. ⊥) }
-    ensures keeps { Across S.Stage stage.old stage.new (λ old new. SavesSo name.now image.now line.now old new result) }
+    ensures keeps { IfTelling S.Stage stage.old stage.new
+        (λ old new. SavesSo name.now image.now line.now old new result) }
 {
     if stage.save(name, image).is_err() {
         return Outcome::Outside(StageCall::Save);
@@ -79,16 +80,16 @@ fn keep<S: Stage>(stage: &mut S, name: &str, image: &[u8], line: &[u8]) -> Outco
 
 /// Compiles a source file to an image file, and shows how many bytes the image has.
 pub(crate) fn compile<S: Stage>(alloc: Global, stage: &mut S, source: &str, image: &str) -> Outcome
-    ensures serves { Serves S.Stage (call.Save ∷ call.Show ∷ load_calls) (failed_call result) stage.old stage.new }
+    ensures serves { FailsOnlyBy S.Stage (call.Save ∷ call.Show ∷ load_calls) (failed_call result) stage.old stage.new }
     ensures form { result ≢ outcome.Usage }
     ensures memory { IfMemory result (IsOneOf (memory.Source ∷ load_memory)) }
-    ensures compiles { Across S.Stage stage.old stage.new (λ old new. Compiles source.now image.now old new result) }
+    ensures compiles { IfTelling S.Stage stage.old stage.new (λ old new. Compiles source.now image.now old new result) }
 {
-    let bytes = given!(load(alloc, stage, source, SOURCE_LIMIT));
+    let bytes = or_return!(load(alloc, stage, source, SOURCE_LIMIT));
     let made = match image_of(alloc, bytes.as_slice()) {
         Ok(made) => made,
         Err(refusal) => return refusal,
     };
-    let line = given!(line_of(alloc, made.len()));
+    let line = or_return!(line_of(alloc, made.len()));
     keep(stage, image, made.as_slice(), line.as_bytes())
 }

@@ -2,7 +2,7 @@
 // refused.
 
 use crate::outcome::{MemoryAt, Outcome};
-use crate::settled::{run, settle, settle_and_run};
+use crate::running_tests::{run, settle, settle_and_run};
 use paw_base::fault::{SourceFault, SourceKind};
 use paw_stage::{Asked, FailStage, MemoryStage, Stage, StageCall};
 use std::alloc::{AllocError, Global};

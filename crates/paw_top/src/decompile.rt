@@ -4,14 +4,14 @@ ghost use Rattle.std.specs.Prelude.{◌≡◌, ◌≢◌, ◌∷◌, string_byte
 ghost use Rattle.paw_check.specs.Shown.{verdict_text};
 ghost use Rattle.paw_check.specs.Verdicts.{bounds};
 ghost use Rattle.paw_stage.specs.declared.StageCall.TheVariants as call;
-ghost use Rattle.paw_stage.specs.Across.{Serves, IsOneOf};
+ghost use Rattle.paw_stage.specs.Across.{FailsOnlyBy, IsOneOf};
 ghost use Rattle.paw_top.specs.Answers.{IfMemory, load_calls, load_memory, failed_call};
 ghost use Rattle.paw_top.specs.Check.{Checks};
 ghost use Rattle.paw_top.specs.Decompile.{Decompiles};
 ghost use Rattle.paw_top.specs.declared.outcome.MemoryAt.TheVariants as memory;
 ghost use Rattle.paw_top.specs.declared.outcome.Outcome.TheVariants as outcome;
 
-use crate::load::{given, load};
+use crate::load::{load, or_return};
 use crate::open::game_in;
 use crate::outcome::{MemoryAt, Outcome};
 use crate::show::tell;
@@ -24,13 +24,13 @@ use std::alloc::Global;
 
 /// Shows the canonical source of the game of an image file.
 pub(crate) fn decompile<S: Stage>(alloc: Global, stage: &mut S, image: &str) -> Outcome
-    ensures serves { Serves S.Stage (call.Show ∷ load_calls) (failed_call result) stage.old stage.new }
+    ensures serves { FailsOnlyBy S.Stage (call.Show ∷ load_calls) (failed_call result) stage.old stage.new }
     ensures form { result ≢ outcome.Usage }
     ensures memory { IfMemory result (IsOneOf (memory.Print ∷ load_memory)) }
     ensures decompiles { S.Tells stage.old → Decompiles image.now (S.standing stage.old) (S.standing stage.new) result }
 {
-    let bytes = given!(load(alloc, stage, image, IMAGE_LIMIT));
-    let game = given!(game_in(alloc, bytes.as_slice()));
+    let bytes = or_return!(load(alloc, stage, image, IMAGE_LIMIT));
+    let game = or_return!(game_in(alloc, bytes.as_slice()));
     let Ok(source) = canonical(alloc, &game) else {
         return Outcome::Memory(MemoryAt::Print);
     };
@@ -39,13 +39,13 @@ pub(crate) fn decompile<S: Stage>(alloc: Global, stage: &mut S, image: &str) -> 
 
 /// Shows what any play of the game of an image file takes at most, or the first cause why no bound of that is known.
 pub(crate) fn check<S: Stage>(alloc: Global, stage: &mut S, image: &str) -> Outcome
-    ensures serves { Serves S.Stage (call.Show ∷ load_calls) (failed_call result) stage.old stage.new }
+    ensures serves { FailsOnlyBy S.Stage (call.Show ∷ load_calls) (failed_call result) stage.old stage.new }
     ensures form { result ≢ outcome.Usage }
     ensures memory { IfMemory result (IsOneOf (memory.Check ∷ load_memory)) }
     ensures checks { S.Tells stage.old → Checks image.now (S.standing stage.old) (S.standing stage.new) result }
 {
-    let bytes = given!(load(alloc, stage, image, IMAGE_LIMIT));
-    let game = given!(game_in(alloc, bytes.as_slice()));
+    let bytes = or_return!(load(alloc, stage, image, IMAGE_LIMIT));
+    let game = or_return!(game_in(alloc, bytes.as_slice()));
     let Ok(text) = verdict_of(alloc, &game) else {
         return Outcome::Memory(MemoryAt::Check);
     };

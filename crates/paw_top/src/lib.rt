@@ -16,10 +16,10 @@ mod load;
 mod open;
 pub mod outcome;
 #[cfg(test)]
+mod running_tests;
+#[cfg(test)]
 mod session_tests;
 mod sessions;
-#[cfg(test)]
-mod settled;
 mod show;
 #[cfg(test)]
 mod source_tests;

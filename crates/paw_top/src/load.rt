@@ -2,8 +2,8 @@
 
 ghost use Rattle.std.specs.Prelude.{◌≢◌, IfOk, IfErr};
 ghost use Rattle.paw_stage.specs.Moments.{Still};
-ghost use Rattle.paw_stage.specs.Across.{Across, Serves, IsOneOf};
-ghost use Rattle.paw_stage.specs.inner.Across.{Throughout};
+ghost use Rattle.paw_stage.specs.Across.{IfTelling, FailsOnlyBy, IsOneOf};
+ghost use Rattle.paw_stage.specs.inner.Across.{AtEachMoment};
 ghost use Rattle.paw_top.specs.Answers.{IfMemory, load_calls, load_memory};
 ghost use Rattle.paw_top.specs.inner.Answers.{failed_or};
 ghost use Rattle.paw_top.specs.inner.Loads.{LoadsSome, LoadsNone};
@@ -14,7 +14,7 @@ use paw_stage::{LoadRefusal, Stage, StageCall};
 use std::alloc::Global;
 
 /// The value of a step; where the step gives an outcome instead, the command returns that.
-macro_rules! given {
+macro_rules! or_return {
     ($result:expr) => {
         match $result {
             Ok(given) => given,
@@ -23,7 +23,7 @@ macro_rules! given {
     };
 }
 
-pub(crate) use given;
+pub(crate) use or_return;
 
 /// The bytes of a file, its first `most + 1` where it is longer, or why there are none.
 pub(crate) fn load<S: Stage>(
@@ -32,13 +32,13 @@ pub(crate) fn load<S: Stage>(
     name: &str,
     most: usize,
 ) -> Result<Vec<u8>, Outcome>
-    ensures serves { Serves S.Stage load_calls (failed_or result) stage.old stage.new }
+    ensures serves { FailsOnlyBy S.Stage load_calls (failed_or result) stage.old stage.new }
     ensures form { IfErr result (λ o. o ≢ outcome.Usage) }
     ensures memory { IfErr result (λ o. IfMemory o (IsOneOf load_memory)) }
-    ensures some { Across S.Stage stage.old stage.new (λ old new.
+    ensures some { IfTelling S.Stage stage.old stage.new (λ old new.
         IfOk result (λ v. LoadsSome name.now most old new v.items)) }
     ensures none { S.Tells stage.old → IfErr result (LoadsNone name.now (S.standing stage.old) (S.standing stage.new)) }
-    ensures time { Throughout S.Stage stage.old stage.new Still }
+    ensures time { AtEachMoment S.Stage stage.old stage.new Still }
 {
     match stage.load(alloc, name, most) {
         Ok(bytes) => Ok(bytes),

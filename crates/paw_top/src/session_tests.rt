@@ -1,7 +1,7 @@
 // Sessions over stages in memory: rounds of one session, stores that give none, and calls that fail.
 
 use crate::outcome::Outcome;
-use crate::settled::{run, settle, settle_and_run, settle_and_run_with_none};
+use crate::running_tests::{run, settle, settle_and_run, settle_and_run_with_none};
 use paw_journal::{SessionPart, digest};
 use paw_stage::{FailStage, MemoryStage, Stage, StageCall};
 use std::alloc::Global;

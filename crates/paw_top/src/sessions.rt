@@ -3,13 +3,13 @@
 ghost use Rattle.std.specs.Prelude.{◌≡◌, ◌≢◌, [], ◌∷◌, ◌++◌};
 ghost use Rattle.paw_base.specs.Bytes.{RoutineRows};
 ghost use Rattle.paw_effects.specs.Story.{Story};
-ghost use Rattle.paw_play.specs.inner.Telling.{told_as};
+ghost use Rattle.paw_play.specs.inner.Telling.{with_shown_steps};
 ghost use Rattle.paw_play.specs.Calls.{walk_calls, session_calls};
 ghost use Rattle.paw_play.specs.Keeping.{InNewSession, InPlay};
 ghost use Rattle.paw_play.specs.Play.{NotYet, store_bytes};
 ghost use Rattle.paw_play.specs.Played.{PlayedSession, GoesOnFrom, begun};
 ghost use Rattle.paw_reading.specs.Turn.{reading};
-ghost use Rattle.paw_stage.specs.Across.{Across, InTwoParts, Serves, IsOneOf};
+ghost use Rattle.paw_stage.specs.Across.{IfTelling, InTwoParts, FailsOnlyBy, IsOneOf};
 ghost use Rattle.paw_routines.specs.Routines.{AreRowsOf, HaveRows};
 ghost use Rattle.paw_stage.specs.Disk.{IsStable};
 ghost use Rattle.paw_top.specs.Answers.{IfMemory, load_calls, load_memory, failed_call};
@@ -19,7 +19,7 @@ ghost use Rattle.paw_top.specs.Walk.{WalksAs};
 ghost use Rattle.paw_top.specs.declared.outcome.MemoryAt.TheVariants as memory;
 ghost use Rattle.paw_top.specs.declared.outcome.Outcome.TheVariants as outcome;
 
-use crate::load::{given, load};
+use crate::load::{load, or_return};
 use crate::open::view_in;
 use crate::outcome::{Outcome, outcome_of};
 use paw_base::limits::IMAGE_LIMIT;
@@ -41,15 +41,15 @@ pub(crate) fn walk<P: Preface, S: Stage, F: Fn(u8, u8) -> u8>(
     seed: u64,
 ) -> Outcome
     requires rows { HaveRows F.Fn routines.now }
-    ensures serves { Serves S.Stage (load_calls ++ walk_calls) (failed_call result) stage.old stage.new }
-    ensures walks { Across S.Stage stage.old stage.new (λ old new. (X : RoutineRows) →
+    ensures serves { FailsOnlyBy S.Stage (load_calls ++ walk_calls) (failed_call result) stage.old stage.new }
+    ensures walks { IfTelling S.Stage stage.old stage.new (λ old new. (X : RoutineRows) →
         AreRowsOf F.Fn routines.now X →
-        WalksAs (λ s n. told_as P.telling (reading s n)) X image.now seed old new result) }
+        WalksAs (λ s n. with_shown_steps P.telling (reading s n)) X image.now seed old new result) }
     ensures form { result ≢ outcome.Usage }
     ensures memory { IfMemory result (IsOneOf (memory.Play ∷ load_memory)) }
 {
-    let bytes = given!(load(alloc, stage, image, IMAGE_LIMIT));
-    let view = given!(view_in(alloc, bytes.as_slice()));
+    let bytes = or_return!(load(alloc, stage, image, IMAGE_LIMIT));
+    let view = or_return!(view_in(alloc, bytes.as_slice()));
     outcome_of(walk_loop::<P, _, _, _>(alloc, stage, &view, routines, seed))
 }
 
@@ -64,17 +64,17 @@ pub(crate) fn play<S: Stage, F: Fn(u8, u8) -> u8>(
 ) -> Outcome
     requires rows { HaveRows F.Fn routines.now }
     requires synced { S.Tells stage.old → IsStable (S.standing stage.old).disk }
-    ensures serves { Serves S.Stage (load_calls ++ session_calls) (failed_call result) stage.old stage.new }
+    ensures serves { FailsOnlyBy S.Stage (load_calls ++ session_calls) (failed_call result) stage.old stage.new }
     ensures form { result ≢ outcome.Usage }
     ensures memory { IfMemory result (IsOneOf (memory.Play ∷ load_memory)) }
-    ensures plays { Across S.Stage stage.old stage.new (λ old new. (X : RoutineRows) →
+    ensures plays { IfTelling S.Stage stage.old stage.new (λ old new. (X : RoutineRows) →
         AreRowsOf F.Fn routines.now X → PlaysNewIn X image.now store.now seed old new result) }
-    ensures any_moment { Across S.Stage stage.old stage.new (λ old new. (s : Story) →
+    ensures any_moment { IfTelling S.Stage stage.old stage.new (λ old new. (s : Story) →
         AreRowsOf F.Fn routines.now s.rows → Holds old image.now s.game → store_bytes old store.now ≡ [] →
         InTwoParts S.Stage stage.old stage.new (NotYet store.now old) (InNewSession (begun s seed store.now) old)) }
 {
-    let bytes = given!(load(alloc, stage, image, IMAGE_LIMIT));
-    let view = given!(view_in(alloc, bytes.as_slice()));
+    let bytes = or_return!(load(alloc, stage, image, IMAGE_LIMIT));
+    let view = or_return!(view_in(alloc, bytes.as_slice()));
     let kept = digest(view.bytes());
     outcome_of(play_loop(alloc, stage, &view, routines, seed, &kept, store))
 }
@@ -89,21 +89,21 @@ pub(crate) fn resume<S: Stage, F: Fn(u8, u8) -> u8>(
 ) -> Outcome
     requires synced { S.Tells stage.old → IsStable (S.standing stage.old).disk }
     requires rows { HaveRows F.Fn routines.now }
-    ensures serves { Serves S.Stage (load_calls ++ session_calls) (failed_call result) stage.old stage.new }
+    ensures serves { FailsOnlyBy S.Stage (load_calls ++ session_calls) (failed_call result) stage.old stage.new }
     ensures form { result ≢ outcome.Usage }
     ensures memory { IfMemory result (IsOneOf (memory.Play ∷ load_memory)) }
-    ensures plays { Across S.Stage stage.old stage.new (λ old new. (X : RoutineRows) →
+    ensures plays { IfTelling S.Stage stage.old stage.new (λ old new. (X : RoutineRows) →
         AreRowsOf F.Fn routines.now X → PlaysAgainIn X image.now store.now old new result) }
-    ensures goes_on { Across S.Stage stage.old stage.new (λ old new. (g : Story) (s : PlayedSession) →
+    ensures goes_on { IfTelling S.Stage stage.old stage.new (λ old new. (g : Story) (s : PlayedSession) →
         AreRowsOf F.Fn routines.now g.rows → Holds old image.now g.game →
         GoesOnFrom g store.now (store_bytes old store.now) s → GoesOnIn image.now g.game s old new result) }
-    ensures any_moment { Across S.Stage stage.old stage.new (λ old new. (g : Story) (s : PlayedSession) →
+    ensures any_moment { IfTelling S.Stage stage.old stage.new (λ old new. (g : Story) (s : PlayedSession) →
         AreRowsOf F.Fn routines.now g.rows → Holds old image.now g.game →
         GoesOnFrom g store.now (store_bytes old store.now) s →
         InTwoParts S.Stage stage.old stage.new (NotYet store.now old) (InPlay s old)) }
 {
-    let bytes = given!(load(alloc, stage, image, IMAGE_LIMIT));
-    let view = given!(view_in(alloc, bytes.as_slice()));
+    let bytes = or_return!(load(alloc, stage, image, IMAGE_LIMIT));
+    let view = or_return!(view_in(alloc, bytes.as_slice()));
     let kept = digest(view.bytes());
     outcome_of(resume_loop(alloc, stage, &view, routines, &kept, store))
 }

@@ -2,7 +2,7 @@
 
 use crate::compile_tests::{LANTERN, SMALLEST};
 use crate::outcome::Outcome;
-use crate::settled::settle_and_run;
+use crate::running_tests::settle_and_run;
 use paw_base::fault::SpentKind;
 use paw_stage::{LoadRefusal, MemoryStage, Stage};
 use std::alloc::{AllocError, Global};

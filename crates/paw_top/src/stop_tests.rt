@@ -1,7 +1,7 @@
 // A session whose program stops in a call, or of which one call fails: where it stands when it is resumed.
 
 use crate::outcome::Outcome;
-use crate::settled::settle_and_run;
+use crate::running_tests::settle_and_run;
 use paw_stage::{
     CallKind, FailStage, MemoryStage, Refusals, RefusingStage, Stage, StageCall, StopStage,
 };

@@ -2,7 +2,7 @@
 
 use crate::commands::USAGE;
 use crate::outcome::{MemoryAt, Outcome};
-use crate::settled::{run, settle, settle_and_run};
+use crate::running_tests::{run, settle, settle_and_run};
 use paw_base::fault::SpentKind;
 use paw_base::limits::EVENT_LIMIT;
 use paw_journal::SessionPart;

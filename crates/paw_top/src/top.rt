@@ -3,11 +3,11 @@
 ghost use Rattle.std.specs.Prelude.{◌≡◌, ◌↔◌, None, IfSome};
 ghost use Rattle.paw_base.specs.Bytes.{RoutineRows};
 ghost use Rattle.paw_routines.specs.Routines.{AreRowsOf, HaveRows};
-ghost use Rattle.paw_stage.specs.Across.{Across, InTwoParts, Serves, IsOneOf};
+ghost use Rattle.paw_stage.specs.Across.{IfTelling, InTwoParts, FailsOnlyBy, IsOneOf};
 ghost use Rattle.paw_stage.specs.Disk.{IsStable};
 ghost use Rattle.paw_top.specs.Answers.{IfMemory, failed_call};
 ghost use Rattle.paw_top.specs.Commands.{asked_for, meaning};
-ghost use Rattle.paw_top.specs.Completes.{NoFault, IsUnhindered};
+ghost use Rattle.paw_top.specs.Completes.{NoFailure, IsUnhindered};
 ghost use Rattle.paw_top.specs.declared.outcome.Outcome.TheVariants as outcome;
 
 use crate::commands::command_of;
@@ -51,14 +51,14 @@ pub fn paw<S: Stage, F: Fn(u8, u8) -> u8>(
     ensures usage { (result ≡ outcome.Usage) ↔ (asked_for words.now ≡ None) }
     ensures idle { asked_for words.now ≡ None → stage.new ≡ stage.old }
     ensures serves { IfSome (asked_for words.now) (λ c.
-        Serves S.Stage (meaning c).calls (failed_call result) stage.old stage.new) }
+        FailsOnlyBy S.Stage (meaning c).calls (failed_call result) stage.old stage.new) }
     ensures memory { IfSome (asked_for words.now) (λ c. IfMemory result (IsOneOf (meaning c).memory)) }
-    ensures comes { Across S.Stage stage.old stage.new (λ old new. IfSome (asked_for words.now) (λ c.
+    ensures comes { IfTelling S.Stage stage.old stage.new (λ old new. IfSome (asked_for words.now) (λ c.
         (X : RoutineRows) → AreRowsOf F.Fn routines.now X → (meaning c).comes X old new result)) }
-    ensures moments { Across S.Stage stage.old stage.new (λ old new. IfSome (asked_for words.now) (λ c.
+    ensures moments { IfTelling S.Stage stage.old stage.new (λ old new. IfSome (asked_for words.now) (λ c.
         (X : RoutineRows) → AreRowsOf F.Fn routines.now X →
         (meaning c).moments (InTwoParts S.Stage stage.old stage.new) X old)) }
-    ensures completes { NoFault (S.faults stage.old) (S.faults stage.new) → IsUnhindered result }
+    ensures completes { NoFailure (S.faults stage.old) (S.faults stage.new) → IsUnhindered result }
 {
     match command_of(words) {
         Some(command) => command.run(alloc, stage, routines),

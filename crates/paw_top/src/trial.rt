@@ -3,9 +3,9 @@
 ghost use Rattle.std.specs.Prelude.{◌≡◌, ◌≢◌, ℕ, [], ◌∷◌, None};
 ghost use Rattle.paw_stage.specs.Stage.{Standing};
 ghost use Rattle.paw_stage.specs.declared.StageCall.TheVariants as call;
-ghost use Rattle.paw_stage.specs.Across.{Serves, IsOneOf};
+ghost use Rattle.paw_stage.specs.Across.{FailsOnlyBy, IsOneOf};
 ghost use Rattle.paw_trial.specs.Trial.{trial_reading};
-ghost use Rattle.paw_trial.specs.inner.Trial.{StopsAs};
+ghost use Rattle.paw_trial.specs.inner.Trial.{TrialStopsAs};
 ghost use Rattle.paw_top.specs.Answers.{IfMemory, failed_call};
 ghost use Rattle.paw_top.specs.Tries.{Tries};
 ghost use Rattle.paw_top.specs.declared.outcome.MemoryAt.TheVariants as memory;
@@ -22,7 +22,7 @@ fn stopped_as(end: TrialEnd) -> Outcome
     ensures form { result ≢ outcome.Usage }
     ensures memory { IfMemory result (IsOneOf (memory.Trial ∷ [])) }
     ensures fine { failed_call result ≡ None }
-    ensures tries { (n : ℕ) (s : Standing) → StopsAs end (trial_reading n) → Tries n s s result }
+    ensures tries { (n : ℕ) (s : Standing) → TrialStopsAs end (trial_reading n) → Tries n s s result }
 {
     match end {
         TrialEnd::Ended => Outcome::Ended,
@@ -34,7 +34,7 @@ fn stopped_as(end: TrialEnd) -> Outcome
 
 /// Plays the trial of this number, and shows its line.
 pub(crate) fn trial<S: Stage>(alloc: Global, stage: &mut S, n: u16) -> Outcome
-    ensures serves { Serves S.Stage (call.Show ∷ []) (failed_call result) stage.old stage.new }
+    ensures serves { FailsOnlyBy S.Stage (call.Show ∷ []) (failed_call result) stage.old stage.new }
     ensures form { result ≢ outcome.Usage }
     ensures memory { IfMemory result (IsOneOf (memory.Trial ∷ [])) }
     ensures tries { S.Tells stage.old → Tries n (S.standing stage.old) (S.standing stage.new) result }

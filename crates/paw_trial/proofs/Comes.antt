@@ -26,10 +26,10 @@ use Rattle.paw_gen.specs.Trial.{trial_lines}
 use Rattle.paw_trial.specs.declared.TrialEnd.{TrialEnd}
 use Rattle.paw_trial.specs.declared.TrialEnd.TheVariants as end
 use Rattle.paw_trial.specs.Trial.{trial_story, trial_reading}
-use Rattle.paw_trial.specs.inner.Trial.{trial_end, StopsAs}
-use Rattle.paw_trial.specs.declared.setting.Half.{Half}
-use Rattle.paw_trial.specs.declared.setting.Half.TheVariants as half
-use Rattle.paw_trial.specs.inner.Session.{Waits, first_half, second_half, lines_of, lines_by, IsReadyFor, PlaysHalf, ComesTo, stop_of, store_name}
+use Rattle.paw_trial.specs.inner.Trial.{trial_end, TrialStopsAs}
+use Rattle.paw_trial.specs.declared.setup.Half.{Half}
+use Rattle.paw_trial.specs.declared.setup.Half.TheVariants as half
+use Rattle.paw_trial.specs.inner.Session.{Waits, first_half, second_half, half_lines, lines_by, IsReadyFor, PlaysHalf, HoldsOrStops, stop_of, trial_store}
 use Rattle.paw_trial.proofs.Lines.{first_are, second_are, both_halves, plays_first, all_taken, taken_and_left}
 use Rattle.paw_trial.proofs.Stops.{stops_later, stops_since, waits_since}
 
@@ -42,8 +42,8 @@ module _ (old new : Memory) (lines : List (List ℕ)) (is : new ≡ record old {
   pub added_stable : IsStable (standing_of old).disk → IsStable (standing_of new).disk
   added_stable stable = subst (λ (m : Memory). IsStable (standing_of m).disk) (sym is) stable
 
-  added_bytes : store_bytes (standing_of old) store_name ≡ store_bytes (standing_of new) store_name
-  added_bytes = ap (λ (m : Memory). store_bytes (standing_of m) store_name) (sym is)
+  added_bytes : store_bytes (standing_of old) trial_store ≡ store_bytes (standing_of new) trial_store
+  added_bytes = ap (λ (m : Memory). store_bytes (standing_of m) trial_store) (sym is)
 
 -- nothing is unsynced at a stage that is ready for a half
 pub ready_stable : (h : Half) (n : ℕ) (m : Memory) → IsReadyFor h n m → IsStable (standing_of m).disk
@@ -51,7 +51,7 @@ ready_stable half.First n m is = subst (λ (x : Memory). IsStable (standing_of x
 ready_stable half.Second n m holds = holds.stable
 
 -- A trial stops as the reading that has ended so.
-stops_as : (halt : Halt) (r : Run) → StopsAs (trial_end halt) (Halted halt r)
+stops_as : (halt : Halt) (r : Run) → TrialStopsAs (trial_end halt) (Halted halt r)
 stops_as halt.Over r = refl
 stops_as (halt.Spent kind) r = refl
 stops_as (halt.TooDeep table) r = refl
@@ -72,24 +72,24 @@ stop_halted play.Memory halt e = cc
 -- Lines are played after others, with more lines after them, by a session of the store whose reading ends as that of
 -- the others and these; what it keeps stands for them.
 module _ (n : ℕ) (es lines rest : List (List ℕ)) (all : (es ++ lines) ++ rest ≡ trial_lines n) (are : All IsLine lines) (s : PlayedSession)
-    (named : s.name ≡ store_name)
-    (stops : (stop : TrialEnd) (fs : List (List ℕ)) → StopsAs stop (s.whole fs) → StopsAs stop (reading (trial_story n) n (es ++ fs)))
+    (named : s.name ≡ trial_store)
+    (stops : (stop : TrialEnd) (fs : List (List ℕ)) → TrialStopsAs stop (s.whole fs) → TrialStopsAs stop (reading (trial_story n) n (es ++ fs)))
     (waits : (fs : List (List ℕ)) → Waits (s.whole fs) → Waits (reading (trial_story n) n (es ++ fs)))
     (stands : (k : ℕ) (bytes : List ℕ) → k ≤ length lines → s.before + k ≤ EVENT_LIMIT → KeptBy s lines k bytes →
     Stands (trial_story n) n (es ++ first_lines k lines) bytes) where
   -- a trial that stops after k of them
-  stopped : (stop : TrialEnd) (k : ℕ) → StopsAs stop (s.whole (first_lines k lines)) → StopsAs stop (trial_reading n)
+  stopped : (stop : TrialEnd) (k : ℕ) → TrialStopsAs stop (s.whole (first_lines k lines)) → TrialStopsAs stop (trial_reading n)
   stopped stop k h = stops_later n (es ++ first_lines k lines) (drop k lines ++ rest) stop
       (taken_and_left es lines rest k are ∙ all) (stops stop (first_lines k lines) h)
 
   halted : (halt : Halt) (most : ℕ) (old new : Standing) → old.lines ≡ lines → WalkHalts s.whole most (with_store new old) new halt →
-      StopsAs (trial_end halt) (trial_reading n)
+      TrialStopsAs (trial_end halt) (trial_reading n)
   halted halt most old new is shows =
       stopped (trial_end halt) shows.0
-      (subst (StopsAs (trial_end halt)) (sym (sym (ap (λ x. s.whole (first_lines shows.0 x)) is) ∙ shows.4.reading))
+      (subst (TrialStopsAs (trial_end halt)) (sym (sym (ap (λ x. s.whole (first_lines shows.0 x)) is) ∙ shows.4.reading))
       (stops_as halt shows.2))
 
-  half_comes : (most : ℕ) (old new : Standing) (o : PlayEnd) → old.lines ≡ lines → PlaysOn s most old new o → ComesTo n (es ++ lines) new (stop_of o)
+  half_comes : (most : ℕ) (old new : Standing) (o : PlayEnd) → old.lines ≡ lines → PlaysOn s most old new o → HoldsOrStops n (es ++ lines) new (stop_of o)
   half_comes most old new play.InputEnded is p =
       let reads = p.shows.1.3 in
       let count : p.session.0 ≡ length lines = omega (arith, p.session.1, ap (λ (x : Standing). x.asked) reads.stands, ap length is) in
@@ -120,54 +120,54 @@ module _ (n : ℕ) (es lines rest : List (List ℕ)) (all : (es ++ lines) ++ res
 -- ---- the first half ----
 
 module _ (n : ℕ) (old new : Standing) (is : old.lines ≡ first_half n) where
-  made : (o : PlayEnd) → MadeAndPlayed (begun (trial_story n) n store_name) old new o → ComesTo n (first_half n) new (stop_of o)
+  made : (o : PlayEnd) → MadeAndPlayed (begun (trial_story n) n trial_store) old new o → HoldsOrStops n (first_half n) new (stop_of o)
   made _ (memory e) = tt
   made _ (halts o halt r by cut e same) =
-      subst (λ x. ComesTo n (first_half n) new x) (sym (stop_halted o halt by))
-      (stops_later n [] (trial_lines n) (trial_end halt) refl (subst (StopsAs (trial_end halt)) (sym e) (stops_as halt r)))
+      subst (λ x. HoldsOrStops n (first_half n) new x) (sym (stop_halted o halt by))
+      (stops_later n [] (trial_lines n) (trial_end halt) refl (subst (TrialStopsAs (trial_end halt)) (sym e) (stops_as halt r)))
   made _ (unmade c w e stays) = tt
   made _ (plays o p) =
-      half_comes n [] (first_half n) (second_half n) (both_halves n) (first_are n) (begun (trial_story n) n store_name) refl
-      (λ stop fs h. h) (λ fs h. h) (λ k bytes there few kept. begun_stands (trial_story n) n (first_half n) store_name k bytes there (omega (arith, few)) kept)
+      half_comes n [] (first_half n) (second_half n) (both_halves n) (first_are n) (begun (trial_story n) n trial_store) refl
+      (λ stop fs h. h) (λ fs h. h) (λ k bytes there few kept. begun_stands (trial_story n) n (first_half n) trial_store k bytes there (omega (arith, few)) kept)
       EVENT_LIMIT old new o is p
 
 first_comes : (n : ℕ) (old new : Standing) (o : PlayEnd) → old.lines ≡ first_half n →
-    NewSession (begun (trial_story n) n store_name) old new o → ComesTo n (first_half n) new (stop_of o)
+    NewSession (begun (trial_story n) n trial_store) old new o → HoldsOrStops n (first_half n) new (stop_of o)
 first_comes n old new _ is (unattached u) = tt
 first_comes n old new _ is (occupied some e) = tt
-first_comes n old new _ is (plays_in o empty p) = made n (attached_to old store_name) new is o p
+first_comes n old new _ is (plays_in o empty p) = made n (attached_to old trial_store) new is o p
 
 -- ---- the second half ----
 
-module _ (n : ℕ) (old new : Standing) (is : old.lines ≡ second_half n) (stands : Stands (trial_story n) n (first_half n) (store_bytes old store_name)) where
-  taken_up : (o : PlayEnd) → GoesOn (from_lines (trial_story n) n (first_half n) stands.digests store_name) old new o →
-      ComesTo n (first_half n ++ second_half n) new (stop_of o)
+module _ (n : ℕ) (old new : Standing) (is : old.lines ≡ second_half n) (stands : Stands (trial_story n) n (first_half n) (store_bytes old trial_store)) where
+  taken_up : (o : PlayEnd) → GoesOn (from_lines (trial_story n) n (first_half n) stands.digests trial_store) old new o →
+      HoldsOrStops n (first_half n ++ second_half n) new (stop_of o)
   taken_up _ (of.unattached u) = tt
   taken_up _ (of.unread e) = tt
   taken_up _ (of.memory e) = tt
   taken_up _ (of.plays o p) =
       half_comes n (first_half n) (second_half n) [] (append-nil (first_half n ++ second_half n) ∙ both_halves n)
-      (second_are n) (from_lines (trial_story n) n (first_half n) stands.digests store_name) refl
+      (second_are n) (from_lines (trial_story n) n (first_half n) stands.digests trial_store) refl
       (λ stop fs h. stops_since (length (first_half n)) stop (reading (trial_story n) n (first_half n ++ fs)) h)
       (λ fs h. waits_since (length (first_half n)) (reading (trial_story n) n (first_half n ++ fs)) h)
-      (λ k bytes there few kept. later_stands (trial_story n) n (first_half n) (second_half n) stands.digests store_name k bytes stands.belongs there few kept)
-      (EVENT_LIMIT - length (first_half n)) (attached_to old store_name) new o is p
+      (λ k bytes there few kept. later_stands (trial_story n) n (first_half n) (second_half n) stands.digests trial_store k bytes stands.belongs there few kept)
+      (EVENT_LIMIT - length (first_half n)) (attached_to old trial_store) new o is p
 
 second_comes : (n : ℕ) (old new : Standing) (o : PlayEnd) → n < 65536 → old.lines ≡ second_half n →
-    Stands (trial_story n) n (first_half n) (store_bytes old store_name) →
-    PlaysAgain (trial_story n) store_name old new o → ComesTo n (trial_lines n) new (stop_of o)
+    Stands (trial_story n) n (first_half n) (store_bytes old trial_store) →
+    PlaysAgain (trial_story n) trial_store old new o → HoldsOrStops n (trial_lines n) new (stop_of o)
 second_comes n old new o low is stands p =
     let played = plays_first n low in
-    subst (λ lines. ComesTo n lines new (stop_of o)) (both_halves n)
+    subst (λ lines. HoldsOrStops n lines new (stop_of o)) (both_halves n)
     (taken_up n old new is stands o
-    (again_goes_on (trial_story n) store_name old new (from_lines (trial_story n) n (first_half n) stands.digests store_name) played.valid.game
+    (again_goes_on (trial_story n) trial_store old new (from_lines (trial_story n) n (first_half n) stands.digests trial_store) played.valid.game
     (behind n (first_half n) played stands) o p))
 
 -- ---- either half ----
 
 pub played_half : (h : Half) (n : ℕ) (old added : Memory) (new : Standing) (o : PlayEnd) → n < 65536 → IsReadyFor h n old →
-    added ≡ record old { lines = old.lines ++ lines_of h n } → PlaysHalf h n (standing_of added) new o →
-    ComesTo n (lines_by h n) new (stop_of o)
+    added ≡ record old { lines = old.lines ++ half_lines h n } → PlaysHalf h n (standing_of added) new o →
+    HoldsOrStops n (lines_by h n) new (stop_of o)
 played_half half.First n old added new o low is e p =
     first_comes n (standing_of added) new o (added_lines old added (first_half n) e (ap (λ (m : Memory). m.lines) is)) p
 played_half half.Second n old added new o low holds e p =

@@ -9,23 +9,23 @@ use Rattle.paw_gen.specs.Trial.{trial_lines}
 use Rattle.paw_trial.specs.declared.TrialEnd.{TrialEnd}
 use Rattle.paw_trial.specs.declared.TrialEnd.TheVariants as end
 use Rattle.paw_trial.specs.Trial.{trial_story, trial_reading}
-use Rattle.paw_trial.specs.inner.Trial.{StopsAs}
+use Rattle.paw_trial.specs.inner.Trial.{TrialStopsAs}
 use Rattle.paw_trial.specs.inner.Session.{Waits}
 
 -- more lines change nothing
-stays : (g : Story) (fs : List (List ℕ)) (stop : TrialEnd) (e : Ending) → StopsAs stop e → StopsAs stop (followed g fs e)
+stays : (g : Story) (fs : List (List ℕ)) (stop : TrialEnd) (e : Ending) → TrialStopsAs stop e → TrialStopsAs stop (followed g fs e)
 stays g fs end.Memory e h = tt
 stays g fs stop (Halted halt r) h = h
 stays g fs stop e h = absurd h
 
-pub stops_later : (n : ℕ) (es fs : List (List ℕ)) (stop : TrialEnd) → es ++ fs ≡ trial_lines n → StopsAs stop (reading (trial_story n) n es) →
-    StopsAs stop (trial_reading n)
+pub stops_later : (n : ℕ) (es fs : List (List ℕ)) (stop : TrialEnd) → es ++ fs ≡ trial_lines n → TrialStopsAs stop (reading (trial_story n) n es) →
+    TrialStopsAs stop (trial_reading n)
 stops_later n es fs stop all h =
-    subst (λ lines. StopsAs stop (reading (trial_story n) n lines)) all
-    (subst (StopsAs stop) (sym (going_on_is_reading (trial_story n) n es fs)) (stays (trial_story n) fs stop (reading (trial_story n) n es) h))
+    subst (λ lines. TrialStopsAs stop (reading (trial_story n) n lines)) all
+    (subst (TrialStopsAs stop) (sym (going_on_is_reading (trial_story n) n es fs)) (stays (trial_story n) fs stop (reading (trial_story n) n es) h))
 
 -- A reading ends alike from whichever of its pieces it is shown.
-pub stops_since : (n : ℕ) (stop : TrialEnd) (e : Ending) → StopsAs stop (ending_since n e) → StopsAs stop e
+pub stops_since : (n : ℕ) (stop : TrialEnd) (e : Ending) → TrialStopsAs stop (ending_since n e) → TrialStopsAs stop e
 stops_since n end.Memory e h = tt
 stops_since n stop (Halted halt r) h = h
 stops_since n stop e h = absurd h

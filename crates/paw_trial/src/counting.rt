@@ -9,7 +9,7 @@ ghost use Rattle.paw_trial.specs.inner.Session.{HoldsLines, IsTallyOf, tally_in}
 
 use crate::Tally;
 use crate::halves::STORE;
-use crate::setting::Setting;
+use crate::setup::TrialSetup;
 use paw_base::fault::NoRoom;
 use paw_base::flags::{CARRIED_FLAG, HIGH_TURNS_FLAG, LOCATION_FLAG, LOW_TURNS_FLAG};
 use paw_journal::{Journal, Room, attach};
@@ -34,9 +34,9 @@ fn counts_in(state: &[u8; STATE_ROOM]) -> Tally
 ///
 /// # Errors
 /// NoRoom for lack of memory, or where a call of the stage failed.
-pub(crate) fn counted<F: Fn(u8, u8) -> u8>(
+pub(crate) fn count_session<F: Fn(u8, u8) -> u8>(
     alloc: Global,
-    setting: &Setting,
+    setting: &TrialSetup,
     routines: &Routines<F>,
     stage: &mut MemoryStage,
 ) -> Result<Tally, NoRoom>

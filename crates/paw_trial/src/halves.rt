@@ -4,9 +4,9 @@ ghost use Rattle.std.specs.Prelude.{◌≡◌, ◌++◌, [], IfOk, OnOk};
 ghost use Rattle.paw_stage.specs.Disk.{IsStable};
 ghost use Rattle.paw_stage.specs.inner.Memory.{empty, standing_of};
 ghost use Rattle.paw_routines.specs.Routines.{AreRowsOf};
-ghost use Rattle.paw_trial.specs.inner.Session.{lines_by, IsReadyFor, PlaysHalf, ComesTo, stop_of};
+ghost use Rattle.paw_trial.specs.inner.Session.{lines_by, IsReadyFor, PlaysHalf, HoldsOrStops, stop_of};
 
-use crate::setting::{Half, Setting};
+use crate::setup::{Half, TrialSetup};
 use crate::{TrialEnd, end_of};
 use paw_base::fault::NoRoom;
 use paw_game::parts::Text;
@@ -58,7 +58,7 @@ fn stop_of(end: PlayEnd) -> Option<TrialEnd>
 /// resumed.
 fn play_lines<F: Fn(u8, u8) -> u8>(
     alloc: Global,
-    setting: &Setting,
+    setting: &TrialSetup,
     half: Half,
     routines: &Routines<F>,
     stage: &mut MemoryStage,
@@ -79,14 +79,14 @@ fn play_lines<F: Fn(u8, u8) -> u8>(
 /// Plays a half of the lines. None where the session then waits for another line.
 pub(crate) fn play_half<F: Fn(u8, u8) -> u8>(
     alloc: Global,
-    setting: &Setting,
+    setting: &TrialSetup,
     half: Half,
     routines: &Routines<F>,
     stage: &mut MemoryStage,
 ) -> Option<TrialEnd>
     requires rows { AreRowsOf F.Fn routines.now [] }
     requires ready { IsReadyFor half setting.now stage.old }
-    ensures plays { ComesTo setting.now (lines_by half setting.now) (standing_of stage.new) result }
+    ensures plays { HoldsOrStops setting.now (lines_by half setting.now) (standing_of stage.new) result }
 {
     let Ok(()) = add_lines(alloc, stage, setting.half(half)) else {
         return Some(TrialEnd::Memory);

@@ -6,7 +6,7 @@ ghost use Rattle.paw_trial.specs.inner.Trial.{trial_end};
 
 mod counting;
 mod halves;
-mod setting;
+mod setup;
 #[cfg(test)]
 mod tests;
 mod trial;

@@ -2,12 +2,12 @@
 
 ghost use Rattle.std.specs.Prelude.{IfOk, IfErr, string_bytes};
 ghost use Rattle.paw_trial.specs.Trial.{trial_reading};
-ghost use Rattle.paw_trial.specs.inner.Trial.{IsTextOf, StopsAs};
+ghost use Rattle.paw_trial.specs.inner.Trial.{IsTextOf, TrialStopsAs};
 ghost use Rattle.paw_trial.specs.inner.Session.{IsTallyOf};
 
-use crate::counting::counted;
+use crate::counting::count_session;
 use crate::halves::{new_stage, play_half};
-use crate::setting::{Half, Setting};
+use crate::setup::{Half, TrialSetup};
 use crate::{Tally, TrialEnd};
 use paw_base::fault::NoRoom;
 use paw_gen::{line_count, location_count, object_count};
@@ -34,11 +34,11 @@ fn line_of(alloc: Global, n: u16, tally: Tally) -> Result<String, NoRoom>
 }
 
 /// Plays both halves, and gives what the session counts then.
-fn played(alloc: Global, n: u16) -> Result<Tally, TrialEnd>
+fn play_halves(alloc: Global, n: u16) -> Result<Tally, TrialEnd>
     ensures counts { IfOk result (IsTallyOf (trial_reading n)) }
-    ensures stops { IfErr result (λ e. StopsAs e (trial_reading n)) }
+    ensures stops { IfErr result (λ e. TrialStopsAs e (trial_reading n)) }
 {
-    let Ok(setting) = Setting::new(alloc, n) else {
+    let Ok(setting) = TrialSetup::new(alloc, n) else {
         return Err(TrialEnd::Memory);
     };
     let Ok(mut stage) = new_stage(alloc) else {
@@ -52,7 +52,7 @@ fn played(alloc: Global, n: u16) -> Result<Tally, TrialEnd>
     if let Some(end) = play_half(alloc, &setting, Half::Second, &routines, &mut stage) {
         return Err(end);
     }
-    match counted(alloc, &setting, &routines, &mut stage) {
+    match count_session(alloc, &setting, &routines, &mut stage) {
         Ok(tally) => Ok(tally),
         Err(NoRoom) => Err(TrialEnd::Memory),
     }
@@ -66,9 +66,9 @@ fn played(alloc: Global, n: u16) -> Result<Tally, TrialEnd>
 /// Ended, Spent and TooDeep where that reading ends so. Memory for lack of memory, or where a call of the stage failed.
 pub fn trial_line(alloc: Global, n: u16) -> Result<String, TrialEnd>
     ensures line { IfOk result (λ line. IsTextOf n (trial_reading n) (string_bytes line)) }
-    ensures stops { IfErr result (λ e. StopsAs e (trial_reading n)) }
+    ensures stops { IfErr result (λ e. TrialStopsAs e (trial_reading n)) }
 {
-    let tally = played(alloc, n)?;
+    let tally = play_halves(alloc, n)?;
     match line_of(alloc, n, tally) {
         Ok(line) => Ok(line),
         Err(NoRoom) => Err(TrialEnd::Memory),

@@ -9,7 +9,7 @@ use Rattle.paw_effects.specs.declared.act.Prompt.{Prompt}
 use Rattle.paw_effects.specs.declared.act.Prompt.TheVariants as prompt
 use Rattle.paw_reading.specs.declared.places.Frame.{Frame}
 use Rattle.paw_reading.specs.Run.{Run, closed, is_timeout, is_ignored, with_timeout, reply, is_yes}
-use Rattle.paw_reading.specs.Reading.{Out, Waits, after_call, asked, rest}
+use Rattle.paw_reading.specs.Reading.{Out, Waits, after_call, asked, rest_of_table}
 use Rattle.paw_reading.specs.GoingOn.{on_path}
 use Rattle.paw_reading.specs.Turn.{table_done, turn, first_table}
 use Rattle.paw_reading.specs.inner.Places.{IsLoopOf}
@@ -20,7 +20,7 @@ use Rattle.paw_process.specs.declared.Turned.{Turned}
 use Rattle.paw_turn.specs.declared.Step.TheVariants as step
 use Rattle.paw_turn.specs.declared.phase.Next.{Next}
 use Rattle.paw_turn.specs.declared.phase.Next.TheVariants as next
-use Rattle.paw_turn.specs.declared.turn.Turn.{Turn}
+use Rattle.paw_turn.specs.declared.turn.PlayState.{PlayState}
 use Rattle.paw_turn.specs.inner.Player.{StandsAt}
 use Rattle.paw_turn.specs.inner.Phases.{Past, run_now, having_read, HasReadSome, GoesOnAs, MovesAfter, PlaysAs}
 use Rattle.paw_turn.specs.inner.Phases.{RunsAs, from_prompt, from_path, StopsInTable, AwaitsAt, in_world}
@@ -37,7 +37,7 @@ path_ignores : (g : Story) (p : Prompt) (lv : ℕ) (f : Frame) (path : List Fram
 unfolding asked
 path_ignores g p lv f [] r line lines ignored = rw ignored refl
 path_ignores g p lv f (h ∷ path) r line lines ignored =
-    ap (after_call f (rest g lv f.table f.entry (suc f.at))) (path_ignores g p (suc lv) h path r line lines ignored)
+    ap (after_call f (rest_of_table g lv f.table f.entry (suc f.at))) (path_ignores g p (suc lv) h path r line lines ignored)
 
 some_ignores : (g : Story) (p : Prompt) (path : List Frame) (r : Run) (line : List ℕ) (lines : List (List ℕ)) → 0 < length path
     → is_ignored r.world line ≡ true → on_path g p 0 path (to_come (line ∷ lines) r) ≡ on_path g p 0 path (closed (to_come lines r))
@@ -45,7 +45,7 @@ some_ignores g p [] r line lines some ignored = absurd (omega arith)
 some_ignores g p (f ∷ path) r line lines some ignored = path_ignores g p 0 f path r line lines ignored
 
 -- a prompt in tables at which an ignored line comes
-in_table_ignored : (g : Story) (p : Prompt) (old : Turn) (line : List ℕ) → 0 < length old.machine.frames → is_ignored old.situation.world line ≡ true
+in_table_ignored : (g : Story) (p : Prompt) (old : PlayState) (line : List ℕ) → 0 < length old.machine.frames → is_ignored old.surroundings.world line ≡ true
     → (n : ℕ) (past : Past) (lines : List (List ℕ))
     → table_done g (turn g n) (first_table (reverse old.machine.frames)) (on_path g p 0 (reverse old.machine.frames) (run_now old past (line ∷ lines)))
     ≡ table_done g (turn g n) (first_table (reverse old.machine.frames)) (on_path g p 0 (reverse old.machine.frames) (closed (run_now old past lines)))
@@ -55,7 +55,7 @@ in_table_ignored g p old line some ignored n past lines =
     (some_ignores g p (reverse old.machine.frames) (run_now old past []) line lines many ignored)
 
 -- an ignored line closes an empty piece, and the game waits on
-pub ignored_plays : (g : Story) (p : Prompt) (old : Turn) (line : List ℕ) → StandsAt p old.machine → is_ignored old.situation.world line ≡ true
+pub ignored_plays : (g : Story) (p : Prompt) (old : PlayState) (line : List ℕ) → StandsAt p old.machine → is_ignored old.surroundings.world line ≡ true
     → PlaysAs g (from_prompt g p old line) old (next.Stop (step.Waits p)) old
 ignored_plays g prompt.Main old line stands ignored past has = main_ignored g old line ignored past has
 ignored_plays g prompt.Quit old line stands ignored past has =
@@ -68,9 +68,9 @@ ignored_plays g prompt.Over old line stands ignored past has = absurd stands
 
 -- ---- the answer to QUIT, and a key ----
 
-answered_path : (g : Story) (p : Prompt) (old : Turn) (line : List ℕ) (w : World) (m : OpenTables) (agrees : Bool)
-    → AwaitsAt p old.machine → Valid g.game → is_ignored old.situation.world line ≡ false → is_yes (reply line) ≡ agrees
-    → w ≡ with_timeout (is_timeout line) old.situation.world
+answered_path : (g : Story) (p : Prompt) (old : PlayState) (line : List ℕ) (w : World) (m : OpenTables) (agrees : Bool)
+    → AwaitsAt p old.machine → Valid g.game → is_ignored old.surroundings.world line ≡ false → is_yes (reply line) ≡ agrees
+    → w ≡ with_timeout (is_timeout line) old.surroundings.world
     → (old.machine.waiting ≡ Some prompt.Quit → AnswersQuit agrees old.machine.frames m.frames)
     → (old.machine.waiting ≡ Some prompt.Key → AnswersKey old.machine.frames m.frames)
     → m.turning ≡ old.machine.turning
@@ -85,16 +85,16 @@ answered_path g prompt.Key old line w m agrees awaits valid hears same world qui
 answered_path g prompt.Over old line w m agrees awaits valid hears same world quit key turning past lines = absurd awaits
 
 -- the machine reads on where it was answered
-pub answered_runs : (g : Story) (p : Prompt) (old mid : Turn) (line : List ℕ) (w : World) (m : OpenTables) (agrees : Bool) (turned : Turned)
-    → AwaitsAt p old.machine → Valid g.game → is_ignored old.situation.world line ≡ false → is_yes (reply line) ≡ agrees
-    → w ≡ with_timeout (is_timeout line) old.situation.world
+pub answered_runs : (g : Story) (p : Prompt) (old mid : PlayState) (line : List ℕ) (w : World) (m : OpenTables) (agrees : Bool) (turned : Turned)
+    → AwaitsAt p old.machine → Valid g.game → is_ignored old.surroundings.world line ≡ false → is_yes (reply line) ≡ agrees
+    → w ≡ with_timeout (is_timeout line) old.surroundings.world
     → (old.machine.waiting ≡ Some prompt.Quit → AnswersQuit agrees old.machine.frames m.frames)
     → (old.machine.waiting ≡ Some prompt.Key → AnswersKey old.machine.frames m.frames)
     → m.turning ≡ old.machine.turning → ReadsNone old.machine m
-    → RunsTo g (having (record old.situation { world = w }) m) turned (having mid.situation mid.machine)
+    → RunsTo g (having (record old.surroundings { world = w }) m) turned (having mid.surroundings mid.machine)
     → RunsAs g (from_path g p old line) old turned mid
 answered_runs g p old mid line w m agrees turned awaits valid hears same world quit key turning none runs past has =
-    let h : Turn = record (in_world w old) { machine = m } in
+    let h : PlayState = record (in_world w old) { machine = m } in
     let t = runs (run_now h past [])
     (record { world = refl; pending = refl; earlier = refl; turning = refl; current = refl; read = has_still past.read old.machine m has none }) in (
       t.0,
@@ -107,7 +107,7 @@ answered_runs g p old mid line w m agrees turned awaits valid hears same world q
     )
 
 -- a prompt in tables from which going on is read
-awaited : (g : Story) (p : Prompt) (old : Turn) (line : List ℕ) → AwaitsAt p old.machine → (n : ℕ) (past : Past) (lines : List (List ℕ))
+awaited : (g : Story) (p : Prompt) (old : PlayState) (line : List ℕ) → AwaitsAt p old.machine → (n : ℕ) (past : Past) (lines : List (List ℕ))
     → from_prompt g p old line n past lines ≡ table_done g (turn g n) (first_table (reverse old.machine.frames)) (from_path g p old line past lines)
 awaited g prompt.Main old line awaits n past lines = absurd awaits
 awaited g prompt.Quit old line awaits n past lines = refl
@@ -115,7 +115,7 @@ awaited g prompt.Again old line awaits n past lines = absurd awaits
 awaited g prompt.Key old line awaits n past lines = refl
 awaited g prompt.Over old line awaits n past lines = absurd awaits
 
-pub answer_plays : (g : Story) (p : Prompt) (t : ℕ) (old mid new : Turn) (line : List ℕ) (turned : Turned) (nx : Next)
+pub answer_plays : (g : Story) (p : Prompt) (t : ℕ) (old mid new : PlayState) (line : List ℕ) (turned : Turned) (nx : Next)
     → AwaitsAt p old.machine → t ≡ first_table (reverse old.machine.frames)
     → RunsAs g (from_path g p old line) old turned mid → MovesAfter g t turned mid nx new → ReadsNone mid.machine new.machine
     → PlaysAs g (from_prompt g p old line) old nx new
@@ -133,7 +133,7 @@ answer_plays g p t old mid new line turned nx awaits first runs moves same past 
       ),
     )
 
-pub runs_left : (g : Story) (x : Past → List (List ℕ) → Out) (old mid : Turn) (turned : Turned) → HasReadSome old.machine → RunsAs g x old turned mid
+pub runs_left : (g : Story) (x : Past → List (List ℕ) → Out) (old mid : PlayState) (turned : Turned) → HasReadSome old.machine → RunsAs g x old turned mid
     → mid.machine.left ≤ old.machine.left
 runs_left g x old mid turned budget runs =
     let some = some_past old budget in
@@ -145,7 +145,7 @@ wait_after : (g : Story) (q p : Prompt) (from path : List Frame) (r s : Run) →
 wait_after g q p [] path r s inner some loop is = absurd (omega arith)
 wait_after g q p (f ∷ from) path r s inner some loop is = path_waits g q p f from path r s inner loop is
 
-pub answered_stops : (g : Story) (p : Prompt) (old mid : Turn) (line : List ℕ) (turned : Turned) → AwaitsAt p old.machine → HasReadSome old.machine
+pub answered_stops : (g : Story) (p : Prompt) (old mid : PlayState) (line : List ℕ) (turned : Turned) → AwaitsAt p old.machine → HasReadSome old.machine
     → RunsAs g (from_path g p old line) old turned mid → IsStopped turned mid.machine
     → StopsInTable (first_table (reverse old.machine.frames)) turned mid.machine
 answered_stops g prompt.Main old mid line turned awaits budget = absurd awaits

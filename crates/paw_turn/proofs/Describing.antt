@@ -9,48 +9,48 @@ use Rattle.paw_reading.specs.Turn.{AtDescribe, described, view_text, table_done,
 use Rattle.paw_turn.specs.declared.Step.TheVariants as step
 use Rattle.paw_turn.specs.declared.phase.Next.{Next}
 use Rattle.paw_turn.specs.declared.phase.Next.TheVariants as next
-use Rattle.paw_turn.specs.declared.turn.Turn.{Turn}
+use Rattle.paw_turn.specs.declared.turn.PlayState.{PlayState}
 use Rattle.paw_process.specs.inner.OpenTables.{HasRead}
 use Rattle.paw_turn.specs.inner.Phases.{run_now, GoesOnAs, ReadsTurn, having_read, in_world, with_piece}
 use Rattle.paw_turn.proofs.Says.{said, unsaid}
 
 -- once the location is described table 1 is read
-pub described_reads : (g : Story) (old mid new : Turn) (nx : Next) (w : World) → w ≡ described old.situation.world
-    → length old.situation.piece + length (view_text g.game w) ≤ 65535
-    → mid ≡ with_piece (old.situation.piece ++ view_text g.game w) (in_world w old)
+pub described_reads : (g : Story) (old mid new : PlayState) (nx : Next) (w : World) → w ≡ described old.surroundings.world
+    → length old.surroundings.piece + length (view_text g.game w) ≤ 65535
+    → mid ≡ with_piece (old.surroundings.piece ++ view_text g.game w) (in_world w old)
     → ReadsTurn g (λ n r. table_done g (turn g n) 1 (table_read g 1 r)) mid nx new
     → ReadsTurn g (λ n r. turn g (suc n) AtDescribe r) old nx new
 unfolding turn
 described_reads g old mid new nx w world fits is reads past has =
-    let full : World → Turn = λ v. with_piece (old.situation.piece ++ view_text g.game v) (in_world v old) in
-    let fits' = subst (λ v. length old.situation.piece + length (view_text g.game v) ≤ 65535) world fits in
-    let from = subst (λ (m : Turn). ReadsTurn g (λ n r. table_done g (turn g n) 1 (table_read g 1 r)) m nx new) (is ∙ ap full world) reads in
+    let full : World → PlayState = λ v. with_piece (old.surroundings.piece ++ view_text g.game v) (in_world v old) in
+    let fits' = subst (λ v. length old.surroundings.piece + length (view_text g.game v) ≤ 65535) world fits in
+    let from = subst (λ (m : PlayState). ReadsTurn g (λ n r. table_done g (turn g n) 1 (table_read g 1 r)) m nx new) (is ∙ ap full world) reads in
     let t = from past has in (
       t.0,
       (
         t.1.0,
         λ n lines.
             subst (GoesOnAs g n nx new.machine.frames (run_now new (having_read t.0 past) lines))
-            (sym (said (view_text g.game (described old.situation.world)) (λ s. table_done g (turn g n) 1 (table_read g 1 s))
-            (with_world (described old.situation.world) (run_now old past lines)) fits'))
+            (sym (said (view_text g.game (described old.surroundings.world)) (λ s. table_done g (turn g n) 1 (table_read g 1 s))
+            (with_world (described old.surroundings.world) (run_now old past lines)) fits'))
             (t.1.1 n lines),
       ),
     )
 
 -- a description that doesn't fit
-pub described_not : (g : Story) (old new : Turn) (w : World) → w ≡ described old.situation.world
-    → 65535 < length old.situation.piece + length (view_text g.game w) → new.machine ≡ old.machine
+pub described_not : (g : Story) (old new : PlayState) (w : World) → w ≡ described old.surroundings.world
+    → 65535 < length old.surroundings.piece + length (view_text g.game w) → new.machine ≡ old.machine
     → ReadsTurn g (λ n r. turn g (suc n) AtDescribe r) old (next.Stop (step.Spent spent.Text)) new
 unfolding turn
 described_not g old new w world past_fits same past has =
-    let past_fits' = subst (λ v. 65535 < length old.situation.piece + length (view_text g.game v)) world past_fits in (
+    let past_fits' = subst (λ v. 65535 < length old.surroundings.piece + length (view_text g.game v)) world past_fits in (
       past.read,
       (
         subst (HasRead past.read) (sym same) has,
         λ n lines. (
-          with_world (described old.situation.world) (run_now old past lines),
-          unsaid (view_text g.game (described old.situation.world)) (λ s. table_done g (turn g n) 1 (table_read g 1 s))
-              (with_world (described old.situation.world) (run_now old past lines)) past_fits',
+          with_world (described old.surroundings.world) (run_now old past lines),
+          unsaid (view_text g.game (described old.surroundings.world)) (λ s. table_done g (turn g n) 1 (table_read g 1 s))
+              (with_world (described old.surroundings.world) (run_now old past lines)) past_fits',
           record { pieces = refl; traces = refl; events = refl },
         ),
       ),

@@ -13,17 +13,17 @@ use Rattle.paw_process.specs.declared.Turned.TheVariants as turned
 use Rattle.paw_turn.specs.declared.phase.Phase.TheVariants as phase
 use Rattle.paw_turn.specs.declared.phase.Next.{Next}
 use Rattle.paw_turn.specs.declared.phase.Next.TheVariants as next
-use Rattle.paw_turn.specs.declared.turn.Turn.{Turn}
+use Rattle.paw_turn.specs.declared.turn.PlayState.{PlayState}
 use Rattle.paw_turn.specs.inner.Phases.{Past, run_now, HasReadSome, ReadsTurn, PlaysAs, having_read, left_of, table_rank}
 use Rattle.paw_turn.specs.inner.Phases.{work, Falls, FallsAfter, RunsAs, from_table, Leaves, Uses}
 use Rattle.paw_reading.proofs.Spends.{Spends, table_spends}
 
-pub falls_up : (a b : ℕ) (n : Next) (new : Turn) → a ≤ b → Falls a n new → Falls b n new
+pub falls_up : (a b : ℕ) (n : Next) (new : PlayState) → a ≤ b → Falls a n new → Falls b n new
 falls_up a b (next.Go s) new h falls = omega arith
 falls_up a b (next.Stop step) new h falls = tt
 
 -- some past of a machine
-pub some_past : (h : Turn) → HasReadSome h.machine → (past : Past) × HasRead past.read h.machine
+pub some_past : (h : PlayState) → HasReadSome h.machine → (past : Past) × HasRead past.read h.machine
 some_past h some = (record { read = some.0; pieces = []; traces = [] }, some.1)
 
 -- a new machine has read nothing
@@ -38,16 +38,16 @@ pub equal_none : (old new : OpenTables) → new ≡ old → ReadsNone old new
 equal_none old new e = record { left = ap (λ (m : OpenTables). m.left) e; steps = ap (λ (m : OpenTables). m.steps) e }
 
 -- what was played was read
-pub plays_read : (g : Story) (whole : ℕ → Past → List (List ℕ) → Ending) (old : Turn) (n : Next) (new : Turn) → PlaysAs g whole old n new
+pub plays_read : (g : Story) (whole : ℕ → Past → List (List ℕ) → Ending) (old : PlayState) (n : Next) (new : PlayState) → PlaysAs g whole old n new
     → HasReadSome old.machine → HasReadSome new.machine
 plays_read g whole old n new plays some = let k = plays (record { read = some.0; pieces = []; traces = [] }) some.1 in (k.0, k.1.0)
 
-pub reads_read : (g : Story) (x : ℕ → Run → Ending) (old : Turn) (n : Next) (new : Turn) → ReadsTurn g x old n new → HasReadSome old.machine
+pub reads_read : (g : Story) (x : ℕ → Run → Ending) (old : PlayState) (n : Next) (new : PlayState) → ReadsTurn g x old n new → HasReadSome old.machine
     → HasReadSome new.machine
 reads_read g x old n new reads some = let k = reads (record { read = some.0; pieces = []; traces = [] }) some.1 in (k.0, k.1.0)
 
 -- the run of a machine shows what may still be read
-left_shown : (h : Turn) (past : Past) → HasRead past.read h.machine → left_to_read (run_now h past []) ≡ left_of h
+left_shown : (h : PlayState) (past : Past) → HasRead past.read h.machine → left_to_read (run_now h past []) ≡ left_of h
 left_shown h past has = omega (arith, has.left)
 
 leaves_by : (g : Story) (turned : Turned) (fs : List Frame) (first r : Run) (x : Out) (old new : ℕ) → ComesTo g turned fs r x
@@ -58,7 +58,8 @@ leaves_by g turned.Redescribe fs first r x old new comes e f spends =
     let h : left_to_read r < left_to_read first = subst (Spends (left_to_read first)) comes spends in omega arith
 leaves_by g turned fs first r x old new comes e f spends = tt
 
-pub uses : (g : Story) (t : ℕ) (old mid : Turn) (turned : Turned) → HasReadSome old.machine → RunsAs g (from_table g t old) old turned mid → Uses turned old mid
+pub uses : (g : Story) (t : ℕ) (old mid : PlayState) (turned : Turned) → HasReadSome old.machine → RunsAs g (from_table g t old) old turned mid →
+    Uses turned old mid
 uses g t old mid turned budget runs =
     let some = some_past old budget in
     let run = runs some.0 some.1 in
@@ -77,10 +78,10 @@ table_rank_low (suc zero) = lit≤ tt
 table_rank_low (suc (suc t)) = lit≤ tt
 
 -- with the phase after a table there is less to do
-pub table_falls : (t : ℕ) (turned : Turned) (old mid new : Turn) (n : Next) → Uses turned old mid → FallsAfter t turned mid n new
+pub table_falls : (t : ℕ) (turned : Turned) (old mid new : PlayState) (n : Next) → Uses turned old mid → FallsAfter t turned mid n new
     → Falls (4 * left_of old + table_rank t) n new
 table_falls t (turned.Left acted) old mid new n used falls = falls_up _ _ n new (omega (arith, used.leaves)) falls
 table_falls t turned.Redescribe old mid new n used falls =
     subst (λ (m : Next). Falls (4 * left_of old + table_rank t) m new) (sym falls.0)
-    (subst (λ (h : Turn). work phase.Describe h < 4 * left_of old + table_rank t) (sym falls.1) (omega (arith, used.leaves, table_rank_low t)))
+    (subst (λ (h : PlayState). work phase.Describe h < 4 * left_of old + table_rank t) (sym falls.1) (omega (arith, used.leaves, table_rank_low t)))
 table_falls t turned old mid new n used falls = falls _

@@ -10,13 +10,13 @@ use Rattle.paw_turn.specs.declared.Step.TheVariants as step
 use Rattle.paw_turn.specs.declared.phase.Phase.TheVariants as phase
 use Rattle.paw_turn.specs.declared.phase.Next.{Next}
 use Rattle.paw_turn.specs.declared.phase.Next.TheVariants as next
-use Rattle.paw_turn.specs.declared.turn.Turn.{Turn}
+use Rattle.paw_turn.specs.declared.turn.PlayState.{PlayState}
 use Rattle.paw_process.specs.inner.OpenTables.{ReadsNone}
 use Rattle.paw_turn.proofs.Falling.{has_still, equal_none}
-use Rattle.paw_turn.specs.inner.Phases.{Past, run_now, at_phase, GoesOnAs, Moves, PlaysAs, from_prompt, in_world, with_line}
+use Rattle.paw_turn.specs.inner.Phases.{Past, run_now, at_phase, GoesOnAs, Moves, PlaysAs, from_prompt, in_world, with_world_and_line}
 
 -- where the whole is what moves on, and no condact is read
-pub moves_play : (g : Story) (whole : ℕ → Past → List (List ℕ) → Ending) (x : ℕ → Run → Ending) (old mid new : Turn) (nx : Next)
+pub moves_play : (g : Story) (whole : ℕ → Past → List (List ℕ) → Ending) (x : ℕ → Run → Ending) (old mid new : PlayState) (nx : Next)
     → ((m : ℕ) (past : Past) (lines : List (List ℕ)) → whole m past lines ≡ x m (run_now mid past lines))
     → Moves g x mid nx new → ReadsNone old.machine new.machine → PlaysAs g whole old nx new
 moves_play g whole x old mid new nx same moves none past has = (
@@ -29,8 +29,9 @@ moves_play g whole x old mid new nx same moves none past has = (
 )
 
 -- a timeout says message 35, and the time frame comes
-pub timeout_heard : (g : Story) (old new : Turn) (line : List ℕ) (w : World) (nx : Next) → is_ignored old.situation.world line ≡ false → is_timeout line ≡ true
-    → w ≡ with_timeout true old.situation.world
+pub timeout_heard : (g : Story) (old new : PlayState) (line : List ℕ) (w : World) (nx : Next) → is_ignored old.surroundings.world line ≡ false →
+    is_timeout line ≡ true
+    → w ≡ with_timeout true old.surroundings.world
     → Moves g (λ n r. saying (say_text g.game w 35) (turn g n (at_phase phase.TimeFrame)) r) (in_world w old) nx new
     → new.machine ≡ old.machine → PlaysAs g (from_prompt g prompt.Main old line) old nx new
 unfolding at_main
@@ -44,26 +45,26 @@ timeout_heard g old new line w nx heard timeout world moves machine =
     is m past lines = rw (heard, timeout, world) refl
 
 -- a line that is pending now
-abbrev taking_line : List ℕ → Turn → Turn
-taking_line line h = with_line (with_timeout false h.situation.world) (record { bytes = line; earlier = 255 }) h
+abbrev taking_line : List ℕ → PlayState → PlayState
+taking_line line h = with_world_and_line (with_timeout false h.surroundings.world) (record { bytes = line; earlier = 255 }) h
 
 -- any other line is pending now
-pub line_heard : (g : Story) (old new : Turn) (line : List ℕ) → is_ignored old.situation.world line ≡ false → is_timeout line ≡ false
+pub line_heard : (g : Story) (old new : PlayState) (line : List ℕ) → is_ignored old.surroundings.world line ≡ false → is_timeout line ≡ false
     → new ≡ taking_line line old
     → PlaysAs g (from_prompt g prompt.Main old line) old (next.Go phase.Phrase) new
 unfolding at_main
 line_heard g old new line heard timeout is =
     moves_play g (from_prompt g prompt.Main old line) (λ n r. turn g n AtPhrase r) old new new (next.Go phase.Phrase)
-    (λ m past lines. subst (λ (h : Turn). from_prompt g prompt.Main old line m past lines ≡ turn g m AtPhrase (run_now h past lines)) (sym is)
+    (λ m past lines. subst (λ (h : PlayState). from_prompt g prompt.Main old line m past lines ≡ turn g m AtPhrase (run_now h past lines)) (sym is)
     (at m past lines))
-    (λ past n lines. refl) (equal_none old.machine new.machine (ap (λ (h : Turn). h.machine) is))
+    (λ past n lines. refl) (equal_none old.machine new.machine (ap (λ (h : PlayState). h.machine) is))
   where
     at : (m : ℕ) (past : Past) (lines : List (List ℕ)) → from_prompt g prompt.Main old line m past lines
         ≡ turn g m AtPhrase (run_now (taking_line line old) past lines)
     at m past lines = rw (heard, timeout) refl
 
 -- an ignored line closes an empty piece, and the game waits on
-pub main_ignored : (g : Story) (old : Turn) (line : List ℕ) → is_ignored old.situation.world line ≡ true
+pub main_ignored : (g : Story) (old : PlayState) (line : List ℕ) → is_ignored old.surroundings.world line ≡ true
     → PlaysAs g (from_prompt g prompt.Main old line) old (next.Stop (step.Waits prompt.Main)) old
 unfolding at_main
 main_ignored g old line ignored past has = (past.read, (has, λ n lines. (n, is n lines)))

@@ -6,7 +6,7 @@ use Rattle.paw_world.specs.World.{World, flag}
 use Rattle.paw_phrase.specs.declared.Found.TheVariants as found
 use Rattle.paw_phrase.specs.Pending.{PendingLine}
 use Rattle.paw_phrase.specs.Sentence.{Parsed, IsUnknown, IsNoPhrase}
-use Rattle.paw_phrase.proofs.Phrases.{Leaves, parsed-shorter}
+use Rattle.paw_phrase.proofs.Phrases.{LeavesBytes, parsed-shorter}
 use Rattle.paw_effects.specs.Texts.{say_text}
 use Rattle.paw_reading.specs.Run.{Run}
 use Rattle.paw_reading.specs.Turn.{Ending, AtPhrase, AtResponse, saying, counted, after_phrase, turn}
@@ -14,46 +14,46 @@ use Rattle.paw_process.specs.inner.Phrases.{next_phrase, Speaks}
 use Rattle.paw_turn.specs.declared.phase.Next.{Next}
 use Rattle.paw_turn.specs.declared.phase.Next.TheVariants as next
 use Rattle.paw_turn.specs.declared.phase.Phase.TheVariants as phase
-use Rattle.paw_turn.specs.declared.turn.Turn.{Turn}
-use Rattle.paw_turn.specs.inner.Phases.{run_now, GoesOnAs, Moves, at_phase, with_line}
+use Rattle.paw_turn.specs.declared.turn.PlayState.{PlayState}
+use Rattle.paw_turn.specs.inner.Phases.{run_now, GoesOnAs, Moves, at_phase, with_world_and_line}
 
 -- the phase with what the next phrase is
 abbrev pub phrased : Story → ℕ → Run → Parsed → Ending
 phrased g n r = after_phrase g (turn g n) r
 
 -- a sentence counts a turn and is responded to
-pub sentence_moves : (g : Story) (old new : Turn) (w : World)
-    → Speaks g.game found.Sentence old.situation.world w old.situation.pending new.situation.pending
-    → new.situation.world ≡ counted w → new.machine ≡ old.machine → new.situation.piece ≡ old.situation.piece
+pub sentence_moves : (g : Story) (old new : PlayState) (w : World)
+    → Speaks g.game found.Sentence old.surroundings.world w old.surroundings.pending new.surroundings.pending
+    → new.surroundings.world ≡ counted w → new.machine ≡ old.machine → new.surroundings.piece ≡ old.surroundings.piece
     → Moves g (λ n r. turn g (suc n) AtPhrase r) old (next.Go phase.Response) new
 unfolding turn
 sentence_moves g old new w speaks world machine piece past n lines =
     ap (phrased g n (run_now old past lines)) speaks.1 ∙ ap (turn g n AtResponse) cc
 
 -- at an unknown phrase message 6 is said, and the rest of the line is dropped
-pub unknown_moves : (g : Story) (old new : Turn) (nx : Next) (rest : List ℕ) (w : World) (p : PendingLine)
-    → next_phrase g.game old.situation.world old.situation.pending ≡ IsUnknown rest → w ≡ old.situation.world
-    → p ≡ record { bytes = []; earlier = old.situation.pending.earlier }
-    → Moves g (λ n r. saying (say_text g.game w 6) (turn g n (at_phase phase.TimeFrame)) r) (with_line w p old) nx new
+pub unknown_moves : (g : Story) (old new : PlayState) (nx : Next) (rest : List ℕ) (w : World) (p : PendingLine)
+    → next_phrase g.game old.surroundings.world old.surroundings.pending ≡ IsUnknown rest → w ≡ old.surroundings.world
+    → p ≡ record { bytes = []; earlier = old.surroundings.pending.earlier }
+    → Moves g (λ n r. saying (say_text g.game w 6) (turn g n (at_phase phase.TimeFrame)) r) (with_world_and_line w p old) nx new
     → Moves g (λ n r. turn g (suc n) AtPhrase r) old nx new
 unfolding turn
 unknown_moves g old new nx rest w p is world pending moves past n lines =
     let M : World → PendingLine → Type 0 = λ w' p'. Moves g (λ n' r. saying (say_text g.game w' 6) (turn g n' (at_phase phase.TimeFrame)) r)
-    (with_line w' p' old) nx new in
-    let from = subst (λ w'. M w' (record { bytes = []; earlier = old.situation.pending.earlier })) world (subst (M w) pending moves) in
+    (with_world_and_line w' p' old) nx new in
+    let from = subst (λ w'. M w' (record { bytes = []; earlier = old.surroundings.pending.earlier })) world (subst (M w) pending moves) in
     subst (GoesOnAs g n nx new.machine.frames (run_now new past lines))
     (sym (ap (phrased g n (run_now old past lines)) is))
     (from past n lines)
 
 -- with no phrase left comes the prompt
-pub none_moves : (g : Story) (old new : Turn) (nx : Next) (w : World) (p : PendingLine)
-    → next_phrase g.game old.situation.world old.situation.pending ≡ IsNoPhrase → w ≡ old.situation.world → p ≡ old.situation.pending
-    → Moves g (λ n r. after_phrase g (turn g n) r IsNoPhrase) (with_line w p old) nx new
+pub none_moves : (g : Story) (old new : PlayState) (nx : Next) (w : World) (p : PendingLine)
+    → next_phrase g.game old.surroundings.world old.surroundings.pending ≡ IsNoPhrase → w ≡ old.surroundings.world → p ≡ old.surroundings.pending
+    → Moves g (λ n r. after_phrase g (turn g n) r IsNoPhrase) (with_world_and_line w p old) nx new
     → Moves g (λ n r. turn g (suc n) AtPhrase r) old nx new
 unfolding turn
 none_moves g old new nx w p is world pending moves past n lines =
-    let M : World → PendingLine → Type 0 = λ w' p'. Moves g (λ n' r. after_phrase g (turn g n') r IsNoPhrase) (with_line w' p' old) nx new in
-    let from = subst (λ w'. M w' old.situation.pending) world (subst (M w) pending moves) in
+    let M : World → PendingLine → Type 0 = λ w' p'. Moves g (λ n' r. after_phrase g (turn g n') r IsNoPhrase) (with_world_and_line w' p' old) nx new in
+    let from = subst (λ w'. M w' old.surroundings.pending) world (subst (M w) pending moves) in
     subst (GoesOnAs g n nx new.machine.frames (run_now new past lines))
     (sym (ap (phrased g n (run_now old past lines)) is))
     (from past n lines)
@@ -61,8 +61,8 @@ none_moves g old new nx w p is world pending moves past n lines =
 -- a phrase that is taken makes what is pending shorter
 pub sentence_shorter : (g : GameLists) (w : World) (p q : PendingLine) (w' : World) → Speaks g found.Sentence w w' p q → length q.bytes < length p.bytes
 sentence_shorter g w p q w' speaks =
-    subst (Leaves (λ (rest : List ℕ). length rest < length p.bytes)) speaks.1 (parsed-shorter g p.bytes p.earlier (flag w 46) (flag w 47))
+    subst (LeavesBytes (λ (rest : List ℕ). length rest < length p.bytes)) speaks.1 (parsed-shorter g p.bytes p.earlier (flag w 46) (flag w 47))
 
 pub unknown_shorter : (g : GameLists) (w : World) (p q : PendingLine) (w' : World) → Speaks g found.Nothing w w' p q → length q.bytes < length p.bytes
 unknown_shorter g w p q w' speaks =
-    subst (Leaves (λ (rest : List ℕ). length rest < length p.bytes)) speaks.0 (parsed-shorter g p.bytes p.earlier (flag w 46) (flag w 47))
+    subst (LeavesBytes (λ (rest : List ℕ). length rest < length p.bytes)) speaks.0 (parsed-shorter g p.bytes p.earlier (flag w 46) (flag w 47))

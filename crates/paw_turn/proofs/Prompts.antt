@@ -7,16 +7,16 @@ use Rattle.paw_reading.specs.Run.{line_dropped, closed}
 use Rattle.paw_reading.specs.Turn.{at_main, prompt_text, after_phrase, turn}
 use Rattle.paw_turn.specs.declared.Step.TheVariants as step
 use Rattle.paw_turn.specs.declared.phase.Next.TheVariants as next
-use Rattle.paw_turn.specs.declared.turn.Turn.{Turn}
+use Rattle.paw_turn.specs.declared.turn.PlayState.{PlayState}
 use Rattle.paw_turn.specs.inner.Phases.{run_now, Moves}
 use Rattle.paw_turn.proofs.Says.{unsaid}
 
 -- a prompt that doesn't fit
-pub prompt_unsaid : (g : Story) (old new : Turn) → 65535 < length old.situation.piece + length (prompt_text g.game old.situation.world)
+pub prompt_unsaid : (g : Story) (old new : PlayState) → 65535 < length old.surroundings.piece + length (prompt_text g.game old.surroundings.world)
     → Moves g (λ n r. after_phrase g (turn g n) r IsNoPhrase) old (next.Stop (step.Spent spent.Text)) new
 prompt_unsaid g old new h past n lines = (
   line_dropped (run_now old past lines),
-  unsaid (prompt_text g.game old.situation.world)
+  unsaid (prompt_text g.game old.surroundings.world)
       (λ x. at_main g (turn g n) (closed x) x.events) (line_dropped (run_now old past lines))
       h,
   record { pieces = refl; traces = refl; events = refl },

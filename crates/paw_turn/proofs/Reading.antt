@@ -9,22 +9,22 @@ use Rattle.paw_process.specs.inner.OpenTables.{HasRead, ReadsNone, table_begun}
 use Rattle.paw_process.specs.inner.Meaning.{having, RunsTo}
 use Rattle.paw_process.specs.declared.Turned.{Turned}
 use Rattle.paw_turn.specs.declared.phase.Next.{Next}
-use Rattle.paw_turn.specs.declared.turn.Turn.{Turn}
+use Rattle.paw_turn.specs.declared.turn.PlayState.{PlayState}
 use Rattle.paw_turn.proofs.Falling.{has_still}
 use Rattle.paw_turn.specs.inner.Phases.{run_now, having_read, Moves, ReadsTurn, MovesAfter, RunsAs, from_table}
 
 -- the machine has read the table that it opened
-pub begun_runs : (g : Story) (t : ℕ) (old mid : Turn) (m : OpenTables) (turned : Turned) → m ≡ table_begun t old.machine
-    → RunsTo g (having old.situation m) turned (having mid.situation mid.machine)
+pub begun_runs : (g : Story) (t : ℕ) (old mid : PlayState) (m : OpenTables) (turned : Turned) → m ≡ table_begun t old.machine
+    → RunsTo g (having old.surroundings m) turned (having mid.surroundings mid.machine)
     → RunsAs g (from_table g t old) old turned mid
 begun_runs g t old mid m turned is runs past has =
-    let from = subst (λ (n : OpenTables). RunsTo g (having old.situation n) turned (having mid.situation mid.machine)) is runs in
+    let from = subst (λ (n : OpenTables). RunsTo g (having old.surroundings n) turned (having mid.surroundings mid.machine)) is runs in
     let t = from (run_now old past [])
     (record { world = refl; pending = refl; earlier = refl; turning = refl; current = refl; read = record { left = has.left; steps = has.steps } }) in
     (t.0, (t.1, λ lines. t.2 lines))
 
 -- what the machine has read, and how the turn goes on
-pub read_on : (g : Story) (t : ℕ) (old mid new : Turn) (turned : Turned) (nx : Next)
+pub read_on : (g : Story) (t : ℕ) (old mid new : PlayState) (turned : Turned) (nx : Next)
     → RunsAs g (from_table g t old) old turned mid → MovesAfter g t turned mid nx new → ReadsNone mid.machine new.machine
     → ReadsTurn g (λ n r. table_done g (turn g n) t (table_read g t r)) old nx new
 read_on g t old mid new turned nx runs moves same past has =
@@ -38,17 +38,18 @@ read_on g t old mid new turned nx runs moves same past has =
     )
 
 -- a phase in which nothing is read
-pub moves_read : (g : Story) (x : ℕ → Run → Ending) (old new : Turn) (nx : Next) → Moves g x old nx new → new.machine ≡ old.machine → ReadsTurn g x old nx new
+pub moves_read : (g : Story) (x : ℕ → Run → Ending) (old new : PlayState) (nx : Next) → Moves g x old nx new → new.machine ≡ old.machine →
+    ReadsTurn g x old nx new
 moves_read g x old new nx moves same past has =
     (past.read, (subst (HasRead past.read) (sym same) has, λ n lines. moves past n lines))
 
 -- the time frame reads table 2, and the response table 0
-pub time_frame_reads : (g : Story) (old new : Turn) (nx : Next) → ReadsTurn g (λ n r. table_done g (turn g n) 2 (table_read g 2 r)) old nx new
+pub time_frame_reads : (g : Story) (old new : PlayState) (nx : Next) → ReadsTurn g (λ n r. table_done g (turn g n) 2 (table_read g 2 r)) old nx new
     → ReadsTurn g (λ n r. turn g (suc n) AtTimeFrame r) old nx new
 unfolding turn
 time_frame_reads g old new nx reads = reads
 
-pub response_reads : (g : Story) (old new : Turn) (nx : Next) → ReadsTurn g (λ n r. table_done g (turn g n) 0 (table_read g 0 r)) old nx new
+pub response_reads : (g : Story) (old new : PlayState) (nx : Next) → ReadsTurn g (λ n r. table_done g (turn g n) 0 (table_read g 0 r)) old nx new
     → ReadsTurn g (λ n r. turn g (suc n) AtResponse r) old nx new
 unfolding turn
 response_reads g old new nx reads = reads

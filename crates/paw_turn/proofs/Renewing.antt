@@ -16,14 +16,14 @@ use Rattle.paw_reading.specs.declared.places.Frame.{Frame}
 use Rattle.paw_reading.specs.declared.places.OpenLoop.{OpenLoop}
 use Rattle.paw_reading.specs.Run.{Run, closed, fits, printed, without_loop, line_dropped, anew, is_timeout, is_ignored, heard, with_timeout, reply, is_no}
 use Rattle.paw_reading.specs.declared.places.Halt.TheVariants as halt
-use Rattle.paw_reading.specs.Reading.{Restarts, Out, Stopped, halts, after_call, again, asked, looped, deeper, rest}
+use Rattle.paw_reading.specs.Reading.{Restarts, Out, Stopped, halts, after_call, next_object_or, asked, rest_of_loop, deeper, rest_of_table}
 use Rattle.paw_reading.specs.GoingOn.{on_path}
 use Rattle.paw_reading.specs.Turn.{Ending, Halted, AtDescribe, TurnPhase, table_done, turn, first_table}
 use Rattle.paw_process.specs.inner.Meaning.{to_come}
 use Rattle.paw_turn.specs.declared.Step.TheVariants as step
 use Rattle.paw_turn.specs.declared.phase.Phase.TheVariants as phase
 use Rattle.paw_turn.specs.declared.phase.Next.TheVariants as next
-use Rattle.paw_turn.specs.declared.turn.Turn.{Turn}
+use Rattle.paw_turn.specs.declared.turn.PlayState.{PlayState}
 use Rattle.paw_process.specs.inner.OpenTables.{ReadsNone}
 use Rattle.paw_turn.proofs.Falling.{has_still}
 use Rattle.paw_turn.specs.inner.Phases.{Past, run_from, run_now, PlaysAs, from_prompt, ChangesFlags, or_spent}
@@ -38,7 +38,8 @@ abbrev answer_of : Story → List ℕ → Run → Out
 answer_of g line r =
     final (is_no (reply line)) (fits r (say_text g.game r.world 14)) (closed (without_loop (line_dropped (printed (say_text g.game r.world 14) r)))) r (anew r)
 
-final_again : (lv : ℕ) (next : OpenLoop → Run → Out) (declines fit : Bool) (e s d : Run) → again lv next (final declines fit e s d) ≡ final declines fit e s d
+final_again : (lv : ℕ) (next : OpenLoop → Run → Out) (declines fit : Bool) (e s d : Run) → next_object_or lv next (final declines fit e s d)
+    ≡ final declines fit e s d
 final_again lv next true true e s d = refl
 final_again lv next true false e s d = refl
 final_again lv next false fit e s d = refl
@@ -52,10 +53,10 @@ final_call f go false fit e s d = refl
 path_again : (g : Story) (lv : ℕ) (f : Frame) (path : List Frame) (r : Run) (line : List ℕ) (lines : List (List ℕ)) → is_ignored r.world line ≡ false
     → on_path g prompt.Again lv (f ∷ path) (to_come (line ∷ lines) r) ≡ answer_of g line (heard line (to_come lines r))
 unfolding asked
-path_again g lv f [] r line lines hears = rw hears (final_again lv (looped g (deeper g lv) lv) _ _ _ _ _)
+path_again g lv f [] r line lines hears = rw hears (final_again lv (rest_of_loop g (deeper g lv) lv) _ _ _ _ _)
 path_again g lv f (h ∷ path) r line lines hears =
-    ap (after_call f (rest g lv f.table f.entry (suc f.at))) (path_again g (suc lv) h path r line lines hears)
-    ∙ final_call f (rest g lv f.table f.entry (suc f.at)) _ _ _ _ _
+    ap (after_call f (rest_of_table g lv f.table f.entry (suc f.at))) (path_again g (suc lv) h path r line lines hears)
+    ∙ final_call f (rest_of_table g lv f.table f.entry (suc f.at)) _ _ _ _ _
 
 some_again : (g : Story) (path : List Frame) (r : Run) (line : List ℕ) (lines : List (List ℕ)) → 0 < length path → is_ignored r.world line ≡ false
     → on_path g prompt.Again 0 path (to_come (line ∷ lines) r) ≡ answer_of g line (heard line (to_come lines r))
@@ -63,7 +64,7 @@ some_again g [] r line lines some hears = absurd (omega arith)
 some_again g (f ∷ path) r line lines some hears = path_again g 0 f path r line lines hears
 
 -- the whole is the answer
-again_is : (g : Story) (old : Turn) (line : List ℕ) → 0 < length old.machine.frames → is_ignored old.situation.world line ≡ false
+again_is : (g : Story) (old : PlayState) (line : List ℕ) → 0 < length old.machine.frames → is_ignored old.surroundings.world line ≡ false
     → (n : ℕ) (past : Past) (lines : List (List ℕ))
     → from_prompt g prompt.Again old line n past lines
     ≡ table_done g (turn g n) (first_table (reverse old.machine.frames)) (answer_of g line (heard line (run_now old past lines)))
@@ -85,11 +86,11 @@ final_spends : (g : Story) (go : TurnPhase → Run → Ending) (t : ℕ) (declin
 final_spends g go t declines fit e s d is fitting = rw (is, fitting) refl
 
 -- at any answer but no the game starts anew
-pub again_restarts : (g : Story) (old new : Turn) (line : List ℕ) → 0 < length old.machine.frames → is_ignored old.situation.world line ≡ false
+pub again_restarts : (g : Story) (old new : PlayState) (line : List ℕ) → 0 < length old.machine.frames → is_ignored old.surroundings.world line ≡ false
     → is_no (reply line) ≡ false
-    → new.situation.world ≡ restarted (with_timeout (is_timeout line) old.situation.world) → new.situation.pending.bytes ≡ []
-    → new.situation.pending.earlier ≡ 255
-    → new.machine.turning ≡ None → ReadsNone old.machine new.machine → new.situation.piece ≡ old.situation.piece
+    → new.surroundings.world ≡ restarted (with_timeout (is_timeout line) old.surroundings.world) → new.surroundings.pending.bytes ≡ []
+    → new.surroundings.pending.earlier ≡ 255
+    → new.machine.turning ≡ None → ReadsNone old.machine new.machine → new.surroundings.piece ≡ old.surroundings.piece
     → PlaysAs g (from_prompt g prompt.Again old line) old (next.Go phase.Describe) new
 again_restarts g old new line some hears declines world bytes earlier turning none piece past has = (
   past.read,
@@ -104,27 +105,28 @@ again_restarts g old new line some hears declines world bytes earlier turning no
 )
 
 -- at no the game is over, and the run is what is held
-again_ends : (g : Story) (old new : Turn) (line : List ℕ) (w : World) → 0 < length old.machine.frames
-    → is_ignored old.situation.world line ≡ false → is_no (reply line) ≡ true
-    → w ≡ with_timeout (is_timeout line) old.situation.world → length old.situation.piece + length (say_text g.game w 14) ≤ 65535
-    → new.situation.piece ≡ old.situation.piece ++ say_text g.game w 14
-    → new.situation.world ≡ w → new.situation.pending.bytes ≡ [] → new.situation.pending.earlier ≡ old.situation.pending.earlier → new.machine.turning ≡ None
+again_ends : (g : Story) (old new : PlayState) (line : List ℕ) (w : World) → 0 < length old.machine.frames
+    → is_ignored old.surroundings.world line ≡ false → is_no (reply line) ≡ true
+    → w ≡ with_timeout (is_timeout line) old.surroundings.world → length old.surroundings.piece + length (say_text g.game w 14) ≤ 65535
+    → new.surroundings.piece ≡ old.surroundings.piece ++ say_text g.game w 14
+    → new.surroundings.world ≡ w → new.surroundings.pending.bytes ≡ [] → new.surroundings.pending.earlier ≡ old.surroundings.pending.earlier →
+    new.machine.turning ≡ None
     → ReadsNone old.machine new.machine
     → PlaysAs g (from_prompt g prompt.Again old line) old (next.Stop step.Ended) new
 again_ends g old new line w some hears declines world fit piece stays bytes earlier turning none past has =
-    let fit' = subst (λ v. length old.situation.piece + length (say_text g.game v 14) ≤ 65535) world fit in
-    let piece' = subst (λ v. new.situation.piece ≡ old.situation.piece ++ say_text g.game v 14) world piece in
+    let fit' = subst (λ v. length old.surroundings.piece + length (say_text g.game v 14) ≤ 65535) world fit in
+    let piece' = subst (λ v. new.surroundings.piece ≡ old.surroundings.piece ++ say_text g.game v 14) world piece in
     let world' = stays ∙ world in
-    let text : List ℕ = say_text g.game (with_timeout (is_timeout line) old.situation.world) 14 in
-    let t : nat_le (length old.situation.piece + length text) 65535 ≡ true = grind (arith, nat_tests, fit') in (
+    let text : List ℕ = say_text g.game (with_timeout (is_timeout line) old.surroundings.world) 14 in
+    let t : nat_le (length old.surroundings.piece + length text) 65535 ≡ true = grind (arith, nat_tests, fit') in (
       past.read,
       (
         has_still past.read old.machine new.machine has none,
         λ n lines. (
           n,
           again_is g old line some hears n past lines ∙ (final_ends g (turn g n) _ _ _ _ _ _ declines t
-              ∙ ap (Halted halt.Over) (held_is past lines (with_timeout (is_timeout line) old.situation.world) (old.situation.piece ++ text)
-              new.situation.world new.situation.pending.bytes new.situation.pending.earlier new.machine.turning new.situation.piece
+              ∙ ap (Halted halt.Over) (held_is past lines (with_timeout (is_timeout line) old.surroundings.world) (old.surroundings.piece ++ text)
+              new.surroundings.world new.surroundings.pending.bytes new.surroundings.pending.earlier new.machine.turning new.surroundings.piece
               world' bytes earlier turning piece')),
         ),
       ),
@@ -132,20 +134,20 @@ again_ends g old new line w some hears declines world fit piece stays bytes earl
   where
     held_is : (past : Past) (lines : List (List ℕ)) (u : World) (text : List ℕ)
         (v : World) (b : List ℕ) (e : ℕ) (o : Option OpenLoop) (q : List ℕ)
-        → v ≡ u → b ≡ [] → e ≡ old.situation.pending.earlier → o ≡ None → q ≡ text
-        → closed (run_from u [] old.situation.pending.earlier None text past lines) ≡ closed (run_from v b e o q past lines)
+        → v ≡ u → b ≡ [] → e ≡ old.surroundings.pending.earlier → o ≡ None → q ≡ text
+        → closed (run_from u [] old.surroundings.pending.earlier None text past lines) ≡ closed (run_from v b e o q past lines)
     held_is past lines u text v b e o q world bytes earlier turning piece = rw (world, bytes, earlier, turning, piece) refl
 
 -- where the farewell doesn't fit the piece is spent
-again_spends : (g : Story) (old new : Turn) (line : List ℕ) (w : World) → 0 < length old.machine.frames
-    → is_ignored old.situation.world line ≡ false → is_no (reply line) ≡ true
-    → w ≡ with_timeout (is_timeout line) old.situation.world → 65535 < length old.situation.piece + length (say_text g.game w 14)
+again_spends : (g : Story) (old new : PlayState) (line : List ℕ) (w : World) → 0 < length old.machine.frames
+    → is_ignored old.surroundings.world line ≡ false → is_no (reply line) ≡ true
+    → w ≡ with_timeout (is_timeout line) old.surroundings.world → 65535 < length old.surroundings.piece + length (say_text g.game w 14)
     → ReadsNone old.machine new.machine
     → PlaysAs g (from_prompt g prompt.Again old line) old (next.Stop (step.Spent spent.Text)) new
 again_spends g old new line w some hears declines world full none past has =
-    let full' = subst (λ v. 65535 < length old.situation.piece + length (say_text g.game v 14)) world full in
-    let text : List ℕ = say_text g.game (with_timeout (is_timeout line) old.situation.world) 14 in
-    let t : nat_le (length old.situation.piece + length text) 65535 ≡ false = grind (arith, nat_tests, full') in (
+    let full' = subst (λ v. 65535 < length old.surroundings.piece + length (say_text g.game v 14)) world full in
+    let text : List ℕ = say_text g.game (with_timeout (is_timeout line) old.surroundings.world) 14 in
+    let t : nat_le (length old.surroundings.piece + length text) 65535 ≡ false = grind (arith, nat_tests, full') in (
       past.read,
       (
         has_still past.read old.machine new.machine has none,
@@ -161,10 +163,11 @@ again_spends g old new line w some hears declines world full none past has =
     )
 
 -- at no the game is over where the farewell fits, and else the piece is spent
-pub again_told : (g : Story) (old new : Turn) (line : List ℕ) (w : World) (told : Bool) → 0 < length old.machine.frames
-    → is_ignored old.situation.world line ≡ false → is_no (reply line) ≡ true
-    → w ≡ with_timeout (is_timeout line) old.situation.world → Puts old.situation.piece new.situation.piece told (say_text g.game w 14)
-    → new.situation.world ≡ w → new.situation.pending.bytes ≡ [] → new.situation.pending.earlier ≡ old.situation.pending.earlier → new.machine.turning ≡ None
+pub again_told : (g : Story) (old new : PlayState) (line : List ℕ) (w : World) (told : Bool) → 0 < length old.machine.frames
+    → is_ignored old.surroundings.world line ≡ false → is_no (reply line) ≡ true
+    → w ≡ with_timeout (is_timeout line) old.surroundings.world → Puts old.surroundings.piece new.surroundings.piece told (say_text g.game w 14)
+    → new.surroundings.world ≡ w → new.surroundings.pending.bytes ≡ [] → new.surroundings.pending.earlier ≡ old.surroundings.pending.earlier →
+    new.machine.turning ≡ None
     → ReadsNone old.machine new.machine
     → PlaysAs g (from_prompt g prompt.Again old line) old (or_spent told (next.Stop step.Ended)) new
 again_told g old new line w true some hears declines world puts stays bytes earlier turning none =

@@ -20,7 +20,7 @@ use Rattle.paw_effects.proofs.Worlds.{world_is, start_so}
 use Rattle.paw_reading.specs.declared.places.Frame.{Frame}
 use Rattle.paw_reading.specs.declared.places.OpenLoop.{OpenLoop}
 use Rattle.paw_reading.specs.Turn.{first_table}
-use Rattle.paw_reading.specs.inner.Places.{ArePlaces, IsLoopOf}
+use Rattle.paw_reading.specs.inner.Places.{AreFramesAndLoop, IsLoopOf}
 use Rattle.paw_phrase.specs.Pending.{PendingLine}
 use Rattle.paw_process.specs.inner.OpenTables.{OpenTables}
 use Rattle.paw_process.specs.inner.OpenTables.{IsWaiting, IsClosed, new_machine, refilled}
@@ -29,7 +29,7 @@ use Rattle.paw_process.specs.inner.Kept.{rows_fault, loop_stands, loop_fault}
 use Rattle.paw_process.specs.Kept.{count_fits, waiting_code}
 use Rattle.paw_process.specs.inner.Kept.{fault_at, frames_fault}
 use Rattle.paw_process.specs.inner.Kept.{restored, waiting_at}
-use Rattle.paw_process.specs.inner.Kept.{StandsAt as MachineStandsAt}
+use Rattle.paw_process.specs.inner.Kept.{WaitsAtPrompt as MachineStandsAt}
 use Rattle.paw_process.specs.declared.kept.Frames.{Frames}
 use Rattle.paw_process.proofs.Restored.{first_of, second, no_first}
 use Rattle.paw_process.proofs.Rows.{table_of}
@@ -37,9 +37,9 @@ use Rattle.paw_process.proofs.Again.{restored_again}
 use Rattle.paw_process.proofs.Fitting.{places_fit, kept_places}
 use Rattle.paw_turn.specs.declared.Step.{Step}
 use Rattle.paw_turn.specs.declared.Step.TheVariants as step
-use Rattle.paw_turn.specs.inner.Player.{Seat, WaitsIn, StandsClosed, StandRightly, IsSeated, IsNew}
+use Rattle.paw_turn.specs.inner.Player.{PlayerView, WaitsIn, StandsClosed, StandRightly, IsSeated, IsNew}
 use Rattle.paw_turn.specs.inner.Phases.{MayGoOn, HasReadSome, seat_of}
-use Rattle.paw_turn.specs.declared.turn.Turn.{Turn}
+use Rattle.paw_turn.specs.declared.turn.PlayState.{PlayState}
 use Rattle.paw_turn.proofs.Standing.{unreversed}
 use Rattle.paw_turn.proofs.Falling.{none_yet}
 use Rattle.paw_turn.specs.inner.Parts.{prompt_step, prompt_at, IsStanding, Fits, seat_at, seated_again, RestoredFits}
@@ -91,7 +91,7 @@ restored_fits g at k w m p world pending size is stands sound = record {
   machine = stands_again g at k m is stands sound;
   rightly = record {
     world = world;
-    places = subst (λ (n : OpenTables). ArePlaces g at (reverse n.frames) n.turning) (sym is) (kept_places g at k size sound);
+    places = subst (λ (n : OpenTables). AreFramesAndLoop g at (reverse n.frames) n.turning) (sym is) (kept_places g at k size sound);
     line = λ none. pending.taken (unreversed m.frames none);
     pending = pending.bytes;
     earlier = pending.earlier;
@@ -121,7 +121,7 @@ machine_stands (step.Waits prompt.Over) m stands standing = absurd stands
 machine_stands step.Ended m stands standing = stands
 machine_stands s m stands standing = absurd standing
 
-module _ {F : Type 0} (p : Seat F) (seated : IsSeated p) (standing : IsStanding p.last) where
+module _ {F : Type 0} (p : PlayerView F) (seated : IsSeated p) (standing : IsStanding p.last) where
   -- its parts fit its game
   pub parts_fit : Fits p.game p.world p.machine p.pending (prompt_at p.last)
   parts_fit = record {
@@ -185,7 +185,8 @@ machine_alike prompt.Key m left steps k = waits_alike prompt.Key m left steps k
 machine_alike prompt.Over m left steps k = closed_alike m left steps k
 
 -- with its own parts, and a machine that was restored from what is kept of its own, a player fits its game
-pub taken_fits : {F : Type 0} (p : Seat F) (m : OpenTables) → IsSeated p → IsStanding p.last → m ≡ restored (kept p.machine) (waiting_at (prompt_at p.last))
+pub taken_fits : {F : Type 0} (p : PlayerView F) (m : OpenTables) → IsSeated p → IsStanding p.last → m
+    ≡ restored (kept p.machine) (waiting_at (prompt_at p.last))
     → Fits p.game p.world m p.pending (prompt_at p.last)
 taken_fits p m seated standing is =
     let fits = parts_fit p seated standing in
@@ -198,7 +199,7 @@ taken_fits p m seated standing is =
     })
 
 -- so do parts that are the same as its own
-pub same_fits : {F : Type 0} (p : Seat F) (g : GameLists) (w : World) (m : OpenTables) (q : PendingLine) (at : Prompt) → IsSeated p → IsStanding p.last
+pub same_fits : {F : Type 0} (p : PlayerView F) (g : GameLists) (w : World) (m : OpenTables) (q : PendingLine) (at : Prompt) → IsSeated p → IsStanding p.last
     → g ≡ p.game → w ≡ p.world → m ≡ restored (kept p.machine) (waiting_at at) → q ≡ p.pending → at ≡ prompt_at p.last → Fits g w m q at
 same_fits p g w m q at seated standing game world machine pending prompt_is =
     let fits = taken_fits p m seated standing (subst (λ (a : Prompt). m ≡ restored (kept p.machine) (waiting_at a)) prompt_is machine) in
@@ -207,7 +208,7 @@ same_fits p g w m q at seated standing game world machine pending prompt_is =
 
 -- ---- a player that starts anew ----
 
-pub begun : {F : Type 0} (p : Seat F) (seed : ℕ) → Valid p.game → p.world ≡ opening_world p.game seed → p.pending ≡ record { bytes = []; earlier = 255 }
+pub begun : {F : Type 0} (p : PlayerView F) (seed : ℕ) → Valid p.game → p.world ≡ opening_world p.game seed → p.pending ≡ record { bytes = []; earlier = 255 }
     → p.machine ≡ new_machine → p.last ≡ step.Waits prompt.Main → IsSeated p
 begun p seed valid world pending machine last = record {
   valid = valid;
@@ -223,26 +224,26 @@ begun p seed valid world pending machine last = record {
   });
 }
 
-pub renewed : {F : Type 0} (p q : Seat F) (seed : ℕ) → IsSeated p → q.game ≡ p.game → q.world ≡ opening_world q.game seed
+pub renewed : {F : Type 0} (p q : PlayerView F) (seed : ℕ) → IsSeated p → q.game ≡ p.game → q.world ≡ opening_world q.game seed
     → q.pending ≡ record { bytes = []; earlier = 255 } → q.machine ≡ new_machine → q.last ≡ step.Waits prompt.Main → IsSeated q
 renewed p q seed seated game = begun q seed (subst Valid (sym game) seated.valid)
 
 -- a new player may play its first piece
-pub new_ready : {F : Type 0} (g : GameLists) (routines : Routines F) (h : Turn) (last : Step) → Valid g
-    → IsNew (seat_of g routines h last) h.situation.world.seed → MayGoOn g h
+pub new_ready : {F : Type 0} (g : GameLists) (routines : Routines F) (h : PlayState) (last : Step) → Valid g
+    → IsNew (seat_of g routines h last) h.surroundings.world.seed → MayGoOn g h
 new_ready g routines h last v fresh =
     let left : h.machine.left ≡ READ_LIMIT = ap (λ (m : OpenTables). m.left) fresh.machine in
-    let draws : h.situation.world.draws ≡ 0 = ap (λ (w : World). w.draws) fresh.world in
+    let draws : h.surroundings.world.draws ≡ 0 = ap (λ (w : World). w.draws) fresh.world in
     record {
       playable = record {
-        world = subst (IsOf g) (sym fresh.world) (start_so g v h.situation.world.seed).of;
+        world = subst (IsOf g) (sym fresh.world) (start_so g v h.surroundings.world.seed).of;
         budget = omega (arith, left);
         draws = omega (arith, left, draws);
       };
       closed = subst IsClosed (sym fresh.machine) (record { frames = refl; turning = refl; waiting = refl });
     }
 
-pub new_read : {F : Type 0} (g : GameLists) (routines : Routines F) (h : Turn) (last : Step)
-    → IsNew (seat_of g routines h last) h.situation.world.seed → HasReadSome h.machine
+pub new_read : {F : Type 0} (g : GameLists) (routines : Routines F) (h : PlayState) (last : Step)
+    → IsNew (seat_of g routines h last) h.surroundings.world.seed → HasReadSome h.machine
 new_read g routines h last fresh =
     ([], none_yet h.machine fresh.machine)

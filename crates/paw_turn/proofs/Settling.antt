@@ -10,7 +10,7 @@ use Rattle.paw_reading.specs.declared.places.OpenLoop.{OpenLoop}
 use Rattle.paw_reading.specs.Run.{Run, Step as Read, closed}
 use Rattle.paw_reading.specs.declared.places.Halt.{Halt}
 use Rattle.paw_reading.specs.declared.places.Halt.TheVariants as halt
-use Rattle.paw_reading.specs.Turn.{Ending, Unended, AtDescribe, turns_from, phases_left, opening, reading, on}
+use Rattle.paw_reading.specs.Turn.{Ending, Unended, AtDescribe, turns_from, phases_left, opening, reading, going_on_from}
 use Rattle.paw_reading.proofs.Ends.{ends_once, going_on_ends, goes_on_once}
 use Rattle.paw_process.specs.inner.OpenTables.{OpenTables}
 use Rattle.paw_process.specs.inner.OpenTables.{HasRead}
@@ -18,9 +18,9 @@ use Rattle.paw_turn.specs.declared.Step.{Step}
 use Rattle.paw_turn.specs.declared.Step.TheVariants as step
 use Rattle.paw_turn.specs.declared.phase.Phase.TheVariants as phase
 use Rattle.paw_turn.specs.declared.phase.Next.TheVariants as next
-use Rattle.paw_turn.specs.declared.turn.Turn.{Turn}
+use Rattle.paw_turn.specs.declared.turn.PlayState.{PlayState}
 use Rattle.paw_turn.proofs.Falling.{none_yet}
-use Rattle.paw_turn.specs.inner.Player.{Seat, PlaysTo, PlayHalts, IsNew, run_at}
+use Rattle.paw_turn.specs.inner.Player.{PlayerView, PlaysTo, PlayHalts, IsNew, run_at}
 use Rattle.paw_turn.specs.inner.Phases.{Past, run_from, run_now, having_read, TurnHalts, StopsAs, PlaysAs}
 use Rattle.paw_turn.specs.inner.Phases.{Plays, from_phase, from_prompt, seat_of, turn_settled, opened_piece}
 
@@ -30,7 +30,7 @@ Once whole total = (m : ℕ) (lines : List (List ℕ)) → whole m lines ≢ Une
 
 -- where some phases of the whole end it for good, with no piece to show, it ends so
 halts : {F : Type 0} (whole : ℕ → List (List ℕ) → Ending) (total : List (List ℕ) → Ending) → Once whole total
-    → (halt : Halt) (p : Seat F) (new : Turn) (past : Past) → p.piece ≡ []
+    → (halt : Halt) (p : PlayerView F) (new : PlayState) (past : Past) → p.piece ≡ []
     → ((n : ℕ) (lines : List (List ℕ)) → (m : ℕ) × TurnHalts halt (run_now new past lines) (whole m lines))
     → PlayHalts total halt p past.pieces past.traces
 halts whole total once halt p new past none stops = (
@@ -43,7 +43,7 @@ halts whole total once halt p new past none stops = (
 
 -- where some phases of the whole stop, it stops
 settles : {F : Type 0} (g : Story) (routines : Routines F) (whole : ℕ → List (List ℕ) → Ending) (total : List (List ℕ) → Ending) → Once whole total
-    → (s last : Step) (new : Turn) (past : Past) → HasRead past.read new.machine
+    → (s last : Step) (new : PlayState) (past : Past) → HasRead past.read new.machine
     → ((n : ℕ) (lines : List (List ℕ)) → (m : ℕ) × StopsAs g n s new.machine.frames (run_now new past lines) (whole m lines))
     → PlaysTo g total s (seat_of g.game routines (turn_settled s new) last) past.pieces past.traces
 settles g routines whole total once (step.Waits p) last new past has stops = (
@@ -76,38 +76,38 @@ abbrev before : List (List ℕ) → List (List Read) → Past
 before pieces traces = record { read = []; pieces = pieces; traces = traces }
 
 -- a new player's first piece is that of the reading
-pub start_plays : {F : Type 0} (g : Story) (routines : Routines F) (old new : Turn) (s last : Step) → Plays g phase.Describe old (next.Stop s) new
-    → IsNew (seat_of g.game routines old last) old.situation.world.seed
-    → PlaysTo g (reading g old.situation.world.seed) s (seat_of g.game routines (turn_settled s new) s) [] []
+pub start_plays : {F : Type 0} (g : Story) (routines : Routines F) (old new : PlayState) (s last : Step) → Plays g phase.Describe old (next.Stop s) new
+    → IsNew (seat_of g.game routines old last) old.surroundings.world.seed
+    → PlaysTo g (reading g old.surroundings.world.seed) s (seat_of g.game routines (turn_settled s new) s) [] []
 start_plays g routines old new s last plays fresh =
     let bytes = ap (λ (q : PendingLine). q.bytes) fresh.pending in
     let earlier = ap (λ (q : PendingLine). q.earlier) fresh.pending in
     let turning = ap (λ (m : OpenTables). m.turning) fresh.machine in
     let t = plays (before [] []) (none_yet old.machine fresh.machine) in
-    settles g routines (λ m lines. from_phase g phase.Describe old m (before [] []) lines) (reading g old.situation.world.seed)
+    settles g routines (λ m lines. from_phase g phase.Describe old m (before [] []) lines) (reading g old.surroundings.world.seed)
     (λ m lines differs.
-    let h = old.situation in
+    let h = old.surroundings in
     let same : run_now old (before [] []) lines ≡ opening g h.world.seed lines =
     opens h.world h.pending.bytes h.pending.earlier old.machine.turning h.piece lines fresh.world bytes earlier turning fresh.piece in
     ends_once g m AtDescribe (run_now old (before [] []) lines) differs ∙ ap (turns_from g AtDescribe) same)
     s s new (having_read t.0 (before [] [])) t.1.0 t.1.1
   where
     opens : (w : World) (bytes : List ℕ) (earlier : ℕ) (turning : Option OpenLoop) (piece : List ℕ) (lines : List (List ℕ))
-        → w ≡ opening_world g.game old.situation.world.seed → bytes ≡ [] → earlier ≡ 255 → turning ≡ None → piece ≡ []
-        → run_from w bytes earlier turning piece (before [] []) lines ≡ opening g old.situation.world.seed lines
+        → w ≡ opening_world g.game old.surroundings.world.seed → bytes ≡ [] → earlier ≡ 255 → turning ≡ None → piece ≡ []
+        → run_from w bytes earlier turning piece (before [] []) lines ≡ opening g old.surroundings.world.seed lines
     opens w bytes earlier turning piece lines world b e t p = rw (world, b, e, t, p) refl
 
 -- a line leads from a player's prompt to the next
-pub take_plays : {F : Type 0} (g : Story) (routines : Routines F) (p : Prompt) (old new : Turn) (line : List ℕ) (s : Step)
+pub take_plays : {F : Type 0} (g : Story) (routines : Routines F) (p : Prompt) (old new : PlayState) (line : List ℕ) (s : Step)
     → (pieces : List (List ℕ)) (traces : List (List Read))
     → PlaysAs g (from_prompt g p (opened_piece old) line) (opened_piece old) (next.Stop s) new
     → let seat = seat_of g.game routines old (step.Waits p) in
-    PlaysTo g (λ lines. on g p (reverse old.machine.frames) (run_at seat pieces traces (line ∷ lines))) s
+    PlaysTo g (λ lines. going_on_from g p (reverse old.machine.frames) (run_at seat pieces traces (line ∷ lines))) s
     (seat_of g.game routines (turn_settled s new) s) pieces traces
 take_plays g routines p old new line s pieces traces plays =
     let t = plays (before pieces traces) (record { left = refl; steps = refl }) in
     let seat = seat_of g.game routines old (step.Waits p) in
     settles g routines (λ m lines. from_prompt g p (opened_piece old) line m (before pieces traces) lines)
-    (λ lines. on g p (reverse old.machine.frames) (run_at seat pieces traces (line ∷ lines)))
+    (λ lines. going_on_from g p (reverse old.machine.frames) (run_at seat pieces traces (line ∷ lines)))
     (λ m lines. goes_on_once g m p (reverse old.machine.frames) (run_at seat pieces traces (line ∷ lines)))
     s s new (having_read t.0 (before pieces traces)) t.1.0 t.1.1

@@ -16,7 +16,7 @@ use Rattle.paw_effects.specs.Standing.{AreBytes}
 use Rattle.paw_effects.specs.Story.{Story, story_of}
 use Rattle.paw_reading.specs.declared.places.Frame.{Frame}
 use Rattle.paw_reading.specs.Run.{Step as Read}
-use Rattle.paw_reading.specs.Turn.{Ending, reading, on}
+use Rattle.paw_reading.specs.Turn.{Ending, reading, going_on_from}
 use Rattle.paw_reading.specs.inner.Turn.{MayWaitAlong}
 use Rattle.paw_reading.specs.Bounds.{IsLine, ValidStory}
 use Rattle.paw_reading.specs.inner.Places.{StandsRightly, StopsRightly}
@@ -26,9 +26,9 @@ use Rattle.paw_process.specs.inner.OpenTables.{OpenTables}
 use Rattle.paw_process.specs.inner.OpenTables.{IsClosed}
 use Rattle.paw_turn.specs.declared.Step.{Step}
 use Rattle.paw_turn.specs.declared.Step.TheVariants as step
-use Rattle.paw_turn.specs.declared.turn.Turn.{Turn}
+use Rattle.paw_turn.specs.declared.turn.PlayState.{PlayState}
 use Rattle.paw_turn.specs.inner.Phases.{seat_of, turn_settled}
-use Rattle.paw_turn.specs.inner.Player.{Seat, PlaysTo, StandsClosed, StandsAt, WaitsIn, StandRightly, IsSeated, IsStanding, prompt_at, run_at, run_with}
+use Rattle.paw_turn.specs.inner.Player.{PlayerView, PlaysTo, StandsClosed, StandsAt, WaitsIn, StandRightly, IsSeated, IsStanding, prompt_at, run_at, run_with}
 
 -- rows that stand for routines make a story of a valid game
 pub valid_story : {F : Type 0} (calls : Shared F (ℕ × (ℕ × Unit {0})) ℕ) (routines : Routines F) (g : GameLists) (X : List (List ℕ)) → Valid g
@@ -79,7 +79,7 @@ stands_over g w m p pieces traces closed k =
       read = refl;
     }
 
-stands_at : {F : Type 0} (g : Story) (whole : List (List ℕ) → Ending) (s : Step) (p : Seat F) (pieces : List (List ℕ)) (traces : List (List Read))
+stands_at : {F : Type 0} (g : Story) (whole : List (List ℕ) → Ending) (s : Step) (p : PlayerView F) (pieces : List (List ℕ)) (traces : List (List Read))
     → StandsClosed s p.machine
     → PlaysTo g whole s p pieces traces → StopsRightly g.game (whole []) → IsStanding s → StandRightly g.game (prompt_at s) p.world p.machine p.pending
 stands_at g whole (step.Waits q) p pieces traces stands plays rightly standing =
@@ -93,7 +93,7 @@ stands_at g whole step.Ended p pieces traces closed plays rightly standing =
 stands_at g whole s p pieces traces closed plays rightly standing = absurd standing
 
 -- a player that was started
-pub started : {F : Type 0} (g : Story) (seed : ℕ) (s : Step) (p : Seat F) → ValidStory g → StandsClosed s p.machine → PlaysTo g (reading g seed) s p [] []
+pub started : {F : Type 0} (g : Story) (seed : ℕ) (s : Step) (p : PlayerView F) → ValidStory g → StandsClosed s p.machine → PlaysTo g (reading g seed) s p [] []
     → IsStanding s → StandRightly g.game (prompt_at s) p.world p.machine p.pending
 started g seed s p v stands plays =
     stands_at g (reading g seed) s p [] [] stands plays (readings_stop_rightly g seed [] v (λ k d low. absurd (omega arith)))
@@ -103,31 +103,32 @@ one_line line is zero d low = is
 one_line line is (suc k) d low = absurd (omega arith)
 
 -- a player that took a line where it stood at a prompt
-pub taken_on : {F : Type 0} (g : Story) (old new : Seat F) (line : List ℕ) (q : Prompt) (s : Step) → ValidStory g → old.game ≡ g.game → IsSeated old
+pub taken_on : {F : Type 0} (g : Story) (old new : PlayerView F) (line : List ℕ) (q : Prompt) (s : Step) → ValidStory g → old.game ≡ g.game → IsSeated old
     → old.last ≡ step.Waits q → IsLine line
-    → StandsClosed s new.machine → PlaysTo g (λ lines. on g q (reverse old.machine.frames) (run_at old [] [] (line ∷ lines))) s new [] []
+    → StandsClosed s new.machine → PlaysTo g (λ lines. going_on_from g q (reverse old.machine.frames) (run_at old [] [] (line ∷ lines))) s new [] []
     → IsStanding s → StandRightly g.game (prompt_at s) new.world new.machine new.pending
 taken_on g old new line q s v game seated waits is stands plays =
     let standing : IsStanding old.last = subst IsStanding (sym waits) tt in
     let at : StandRightly g.game q old.world old.machine old.pending =
     subst (λ h. StandRightly h q old.world old.machine old.pending) game
     (subst (λ t. StandRightly old.game (prompt_at t) old.world old.machine old.pending) waits (seated.rightly standing)) in
-    stands_at g (λ lines. on g q (reverse old.machine.frames) (run_at old [] [] (line ∷ lines))) s new [] [] stands plays
+    stands_at g (λ lines. going_on_from g q (reverse old.machine.frames) (run_at old [] [] (line ∷ lines))) s new [] [] stands plays
     (going_on_stops_rightly g q (reverse old.machine.frames) (run_at old [] [] (line ∷ [])) v (one_line line is)
     (stands_alike g.game q (reverse old.machine.frames) old.world old.machine old.pending [] [] [] [] [] (line ∷ []) at))
 
 -- ---- a player that is seated still ----
 
 -- it is where it stands rightly in a game that is its own
-seated_so : {F : Type 0} (g own : GameLists) (routines : Routines F) (mid h : Turn) (s : Step) → own ≡ g → Valid g → h ≡ turn_settled s mid
+seated_so : {F : Type 0} (g own : GameLists) (routines : Routines F) (mid h : PlayState) (s : Step) → own ≡ g → Valid g → h ≡ turn_settled s mid
     → StandsClosed s mid.machine
-    → (StandsClosed s h.machine → IsStanding s → StandRightly g (prompt_at s) h.situation.world h.machine h.situation.pending)
+    → (StandsClosed s h.machine → IsStanding s → StandRightly g (prompt_at s) h.surroundings.world h.machine h.surroundings.pending)
     → IsSeated (seat_of own routines h s)
 seated_so g own routines mid h s game valid settled stopped rightly =
-    let stands = subst (λ (t : Turn). StandsClosed s t.machine) (sym settled) stopped in
+    let stands = subst (λ (t : PlayState). StandsClosed s t.machine) (sym settled) stopped in
     subst (λ k. IsSeated (seat_of k routines h s)) (sym game) (record { valid = valid; machine = stands; rightly = rightly stands })
 
-pub start_seated : {F : Type 0} (calls : Shared F (ℕ × (ℕ × Unit {0})) ℕ) (routines : Routines F) (old : Seat F) (own : GameLists) (mid h : Turn) (s : Step)
+pub start_seated : {F : Type 0} (calls : Shared F (ℕ × (ℕ × Unit {0})) ℕ) (routines : Routines F) (old : PlayerView F) (own : GameLists) (mid h : PlayState)
+    (s : Step)
     (X : List (List ℕ)) → AreRowsOf calls old.routines X → IsSeated old → own ≡ old.game → h ≡ turn_settled s mid → StandsClosed s mid.machine
     → PlaysTo (story_of old.game X) (reading (story_of old.game X) old.world.seed) s (seat_of own routines h s) [] []
     → IsSeated (seat_of own routines h s)
@@ -136,10 +137,11 @@ start_seated calls routines old own mid h s X rows seated game settled stopped p
     (λ stands. started (story_of old.game X) old.world.seed s (seat_of own routines h s)
     (valid_story calls old.routines old.game X seated.valid rows) stands plays)
 
-pub take_seated : {F : Type 0} (calls : Shared F (ℕ × (ℕ × Unit {0})) ℕ) (routines : Routines F) (old : Seat F) (own : GameLists) (mid h : Turn) (s : Step)
+pub take_seated : {F : Type 0} (calls : Shared F (ℕ × (ℕ × Unit {0})) ℕ) (routines : Routines F) (old : PlayerView F) (own : GameLists) (mid h : PlayState)
+    (s : Step)
     (X : List (List ℕ)) (q : Prompt) (line : List ℕ) → AreRowsOf calls old.routines X → IsSeated old → own ≡ old.game → h ≡ turn_settled s mid
     → StandsClosed s mid.machine → old.last ≡ step.Waits q → IsLine line
-    → PlaysTo (story_of old.game X) (λ lines. on (story_of old.game X) q (reverse old.machine.frames) (run_at old [] [] (line ∷ lines))) s
+    → PlaysTo (story_of old.game X) (λ lines. going_on_from (story_of old.game X) q (reverse old.machine.frames) (run_at old [] [] (line ∷ lines))) s
     (seat_of own routines h s) [] []
     → IsSeated (seat_of own routines h s)
 take_seated calls routines old own mid h s X q line rows seated game settled stopped waits is plays =

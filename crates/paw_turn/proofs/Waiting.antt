@@ -13,7 +13,7 @@ use Rattle.paw_process.specs.inner.OpenTables.{IsWaiting, IsClosed}
 use Rattle.paw_process.specs.inner.Meaning.{IsStopped}
 use Rattle.paw_process.specs.declared.Turned.{Turned}
 use Rattle.paw_process.specs.declared.Turned.TheVariants as turned
-use Rattle.paw_turn.specs.declared.turn.Turn.{Turn}
+use Rattle.paw_turn.specs.declared.turn.PlayState.{PlayState}
 use Rattle.paw_turn.specs.inner.Phases.{Past, run_now, having_read, HasReadSome, RunsAs, from_table, WaitsInTable, StopsInTable}
 use Rattle.paw_reading.proofs.Stays.{WaitsThere, table_waits}
 use Rattle.paw_reading.proofs.Waiting.{some_waits}
@@ -30,7 +30,7 @@ waits_in prompt.Key t m waits there =
 waits_in prompt.Over t m waits there = there.inner
 
 -- where a machine stopped in a table, if what it read waits there
-pub stops_in : (g : Story) (t : ℕ) (x : Past → List (List ℕ) → Out) (old mid : Turn) (turned : Turned) → HasReadSome old.machine
+pub stops_in : (g : Story) (t : ℕ) (x : Past → List (List ℕ) → Out) (old mid : PlayState) (turned : Turned) → HasReadSome old.machine
     → ((past : Past) (p : Prompt) (path : List Frame) (s : Run) → x past [] ≡ Waits p path s → WaitsThere t 0 p path s.turning)
     → RunsAs g x old turned mid → IsStopped turned mid.machine → StopsInTable t turned mid.machine
 stops_in g t x old mid (turned.Waits p) budget there runs stopped =
@@ -42,7 +42,7 @@ stops_in g t x old mid (turned.Waits p) budget there runs stopped =
     (there some.0 p (reverse mid.machine.frames) r (run.1.1 [] ∙ some_waits g p (reverse mid.machine.frames) r many))
 stops_in g t x old mid turned budget there runs stopped = stopped
 
-pub table_stops : (g : Story) (t : ℕ) (old mid : Turn) (turned : Turned) → HasReadSome old.machine → IsClosed old.machine
+pub table_stops : (g : Story) (t : ℕ) (old mid : PlayState) (turned : Turned) → HasReadSome old.machine → IsClosed old.machine
     → RunsAs g (from_table g t old) old turned mid → IsStopped turned mid.machine → StopsInTable t turned mid.machine
 table_stops g t old mid turned budget none =
     stops_in g t (from_table g t old) old mid turned budget (λ past p path s is. table_waits g t (run_now old past []) s p path none.turning is)

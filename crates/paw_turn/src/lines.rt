@@ -13,10 +13,10 @@ ghost use Rattle.paw_process.specs.inner.Meaning.{InStories};
 ghost use Rattle.paw_turn.specs.declared.phase.Next.TheVariants as next;
 ghost use Rattle.paw_turn.specs.inner.Player.{WaitsIn};
 ghost use Rattle.paw_turn.specs.inner.Phases.{PlaysAs, RunsAs, from_prompt, from_path, IsPlayable};
-ghost use Rattle.paw_turn.specs.inner.Phases.{MayHear, MayAnswer, Stays, KeepsGame, StopsInTable};
+ghost use Rattle.paw_turn.specs.inner.Phases.{MayHear, MayAnswer, Stays, StaysInGame, StopsInTable};
 
 use crate::phase::{Next, Phase};
-use crate::turn::{Rulebook, Turn, halting, or_spent};
+use crate::turn::{PlayState, TurnRules, halting, or_spent};
 use crate::{Step, flags};
 use paw_base::flags::TIMEOUT_FLAG;
 use paw_base::messages::{GOODBYE_MESSAGE, TIMEOUT_MESSAGE};
@@ -61,116 +61,117 @@ fn begins_with(capital: u8, line: &[u8]) -> bool
     false
 }
 
-impl Turn {
+impl PlayState {
     /// Takes a line that isn't ignored at the main prompt: a timeout says message 35 and leads to the time frame; any
     /// other line becomes the pending one.
     fn hear_line<T: Tables>(&mut self, tables: &T, line: &[u8]) -> Next
         requires line { length line.now ≤ LINE_LIMIT }
-        requires heard { is_ignored self.old.situation.world line.now ≡ false }
+        requires heard { is_ignored self.old.surroundings.world line.now ≡ false }
         requires playable { IsPlayable (T.game tables.now) self.old }
         requires closed { IsClosed self.old.machine }
         ensures meaning { (X : RoutineRows) → let g = story_of (T.game tables.now) X in
             PlaysAs g (from_prompt g prompt.Main self.old line.now) self.old result self.new }
-        ensures keeps { KeepsGame (T.game tables.now) self.old result self.new }
+        ensures keeps { StaysInGame (T.game tables.now) self.old result self.new }
     {
         if is_timeout(line) {
-            flags::tell_timeout(&mut self.situation.world, true);
+            flags::tell_timeout(&mut self.surroundings.world, true);
             self.say(tables, TIMEOUT_MESSAGE, Phase::TimeFrame)
         } else {
-            flags::tell_timeout(&mut self.situation.world, false);
-            self.situation.pending.set(line);
+            flags::tell_timeout(&mut self.surroundings.world, false);
+            self.surroundings.pending.set(line);
             Next::Go(Phase::Phrase)
         }
     }
 
     /// Takes the answer to END's question that isn't ignored: at no the game is over, and otherwise it starts anew.
     fn hear_again<T: Tables>(&mut self, tables: &T, line: &[u8]) -> Next
-        requires heard { is_ignored self.old.situation.world line.now ≡ false }
+        requires heard { is_ignored self.old.surroundings.world line.now ≡ false }
         requires playable { IsPlayable (T.game tables.now) self.old }
         requires waits { WaitsIn prompt.Again self.old.machine }
         ensures meaning { (X : RoutineRows) → let g = story_of (T.game tables.now) X in
             PlaysAs g (from_prompt g prompt.Again self.old line.now) self.old result self.new }
-        ensures keeps { KeepsGame (T.game tables.now) self.old result self.new }
+        ensures keeps { StaysInGame (T.game tables.now) self.old result self.new }
     {
-        flags::tell_timeout(&mut self.situation.world, is_timeout(line));
+        flags::tell_timeout(&mut self.surroundings.world, is_timeout(line));
         self.machine.close();
         if !begins_with(b'N', reply(line)) {
-            self.situation.world.restart();
-            self.situation.pending.set(&[]);
+            self.surroundings.world.restart();
+            self.surroundings.pending.set(&[]);
             return Next::Go(Phase::Describe);
         }
-        self.situation.pending.drop_line();
+        self.surroundings.pending.drop_line();
         let said = say(
             tables,
-            &self.situation.world,
-            &mut self.situation.piece,
+            &self.surroundings.world,
+            &mut self.surroundings.piece,
             GOODBYE_MESSAGE,
         );
         or_spent(said, halting(Halt::Over))
     }
 }
 
-impl<T: Tables, F: Fn(u8, u8) -> u8> Rulebook<'_, T, F> {
+impl<T: Tables, F: Fn(u8, u8) -> u8> TurnRules<'_, T, F> {
     /// Takes a line at a prompt, and plays on to the next one or to the end.
-    pub(crate) fn take(&self, held: &mut Turn, prompt: Prompt, line: &[u8]) -> Step
+    pub(crate) fn take(&self, state: &mut PlayState, prompt: Prompt, line: &[u8]) -> Step
         requires line { length line.now ≤ LINE_LIMIT }
         requires rows { HaveRows F.Fn self.now.routines.now }
-        requires ready { MayHear (T.game self.now.tables.now) prompt held.old }
+        requires ready { MayHear (T.game self.now.tables.now) prompt state.old }
         ensures meaning { InStories F.Fn self.now.routines.now (T.game self.now.tables.now) (λ g.
-            PlaysAs g (from_prompt g prompt held.old line.now) held.old (next.Stop result) held.new) }
-        ensures keeps { KeepsGame (T.game self.now.tables.now) held.old (next.Stop result) held.new }
+            PlaysAs g (from_prompt g prompt state.old line.now) state.old (next.Stop result) state.new) }
+        ensures keeps { StaysInGame (T.game self.now.tables.now) state.old (next.Stop result) state.new }
     {
-        match self.hear(held, prompt, line) {
-            Next::Go(phase) => self.play(held, phase),
+        match self.hear(state, prompt, line) {
+            Next::Go(phase) => self.play(state, phase),
             Next::Stop(step) => step,
         }
     }
 
     /// Takes a line at a prompt. One that is ignored changes nothing.
-    fn hear(&self, held: &mut Turn, prompt: Prompt, line: &[u8]) -> Next
+    fn hear(&self, state: &mut PlayState, prompt: Prompt, line: &[u8]) -> Next
         requires line { length line.now ≤ LINE_LIMIT }
         requires rows { HaveRows F.Fn self.now.routines.now }
-        requires ready { MayHear (T.game self.now.tables.now) prompt held.old }
+        requires ready { MayHear (T.game self.now.tables.now) prompt state.old }
         ensures meaning { InStories F.Fn self.now.routines.now (T.game self.now.tables.now) (λ g.
-            PlaysAs g (from_prompt g prompt held.old line.now) held.old result held.new) }
-        ensures keeps { KeepsGame (T.game self.now.tables.now) held.old result held.new }
+            PlaysAs g (from_prompt g prompt state.old line.now) state.old result state.new) }
+        ensures keeps { StaysInGame (T.game self.now.tables.now) state.old result state.new }
     {
-        if is_ignored(&held.situation.world, line) {
+        if is_ignored(&state.surroundings.world, line) {
             return Next::Stop(Step::Waits(prompt));
         }
         match prompt {
-            Prompt::Main => held.hear_line(self.tables, line),
-            Prompt::Quit | Prompt::Key => self.hear_answer(held, prompt, line),
-            Prompt::Again => held.hear_again(self.tables, line),
+            Prompt::Main => state.hear_line(self.tables, line),
+            Prompt::Quit | Prompt::Key => self.hear_answer(state, prompt, line),
+            Prompt::Again => state.hear_again(self.tables, line),
             Prompt::Over => unreachable!(),
         }
     }
 
     /// Takes the answer to QUIT's question, or a key, that isn't ignored, and goes on where the tables wait.
-    fn hear_answer(&self, held: &mut Turn, prompt: Prompt, line: &[u8]) -> Next
+    fn hear_answer(&self, state: &mut PlayState, prompt: Prompt, line: &[u8]) -> Next
         requires rows { HaveRows F.Fn self.now.routines.now }
-        requires ready { MayAnswer (T.game self.now.tables.now) prompt line.now held.old }
+        requires ready { MayAnswer (T.game self.now.tables.now) prompt line.now state.old }
         ensures meaning { InStories F.Fn self.now.routines.now (T.game self.now.tables.now) (λ g.
-            PlaysAs g (from_prompt g prompt held.old line.now) held.old result held.new) }
-        ensures keeps { KeepsGame (T.game self.now.tables.now) held.old result held.new }
+            PlaysAs g (from_prompt g prompt state.old line.now) state.old result state.new) }
+        ensures keeps { StaysInGame (T.game self.now.tables.now) state.old result state.new }
     {
-        let table = held.machine.first_table();
-        let turned = self.run_answered(held, prompt, line);
-        held.after_table(self.tables, table, turned)
+        let table = state.machine.first_table();
+        let turned = self.run_answered(state, prompt, line);
+        state.after_table(self.tables, table, turned)
     }
 
     /// Gives the machine an answer that isn't ignored, and lets it read on to its next stop.
-    fn run_answered(&self, held: &mut Turn, prompt: Prompt, line: &[u8]) -> Turned
+    fn run_answered(&self, state: &mut PlayState, prompt: Prompt, line: &[u8]) -> Turned
         requires rows { HaveRows F.Fn self.now.routines.now }
-        requires ready { MayAnswer (T.game self.now.tables.now) prompt line.now held.old }
+        requires ready { MayAnswer (T.game self.now.tables.now) prompt line.now state.old }
         ensures runs { InStories F.Fn self.now.routines.now (T.game self.now.tables.now) (λ g.
-            RunsAs g (from_path g prompt held.old line.now) held.old result held.new) }
-        ensures stops { StopsInTable (first_table (reverse held.old.machine.frames)) result held.new.machine }
-        ensures stays { Stays (T.game self.now.tables.now) held.old held.new }
+            RunsAs g (from_path g prompt state.old line.now) state.old result state.new) }
+        ensures stops { StopsInTable (first_table (reverse state.old.machine.frames)) result state.new.machine }
+        ensures stays { Stays (T.game self.now.tables.now) state.old state.new }
     {
-        flags::tell_timeout(&mut held.situation.world, is_timeout(line));
-        held.machine.answer(begins_with(b'Y', reply(line)));
-        held.machine
-            .run(self.tables, self.routines, &mut held.situation)
+        flags::tell_timeout(&mut state.surroundings.world, is_timeout(line));
+        state.machine.answer(begins_with(b'Y', reply(line)));
+        state
+            .machine
+            .run(self.tables, self.routines, &mut state.surroundings)
     }
 }

@@ -8,7 +8,7 @@ ghost use Rattle.paw_effects.specs.Story.{story_of};
 ghost use Rattle.paw_effects.specs.declared.act.Prompt.{Prompt as AtPrompt};
 ghost use Rattle.paw_effects.specs.declared.act.Prompt.TheVariants as prompt;
 ghost use Rattle.paw_reading.specs.Run.{Step as Read};
-ghost use Rattle.paw_reading.specs.Turn.{reading, on};
+ghost use Rattle.paw_reading.specs.Turn.{reading, going_on_from};
 ghost use Rattle.paw_process.specs.inner.Kept.{kept};
 ghost use Rattle.paw_process.specs.inner.Kept.{frames_fault};
 ghost use Rattle.paw_turn.specs.declared.Step.TheVariants as step;
@@ -18,14 +18,14 @@ ghost use Rattle.paw_turn.specs.inner.Player.{IsNew, IsSeated, IsFinished, Plays
 use crate::Step;
 use crate::parts::{Parts, prompt_at, step_at};
 use crate::phase::Phase;
-use crate::turn::{Rulebook, Turn};
+use crate::turn::{PlayState, TurnRules};
 use paw_base::fault::NoRoom;
 use paw_base::piece::Piece;
 use paw_base::steps::Steps;
 use paw_effects::act::Prompt;
 use paw_game::tables::Tables;
 use paw_phrase::Pending;
-use paw_process::{Machine, Situation};
+use paw_process::{Machine, Surroundings};
 use paw_routines::routines::Routines;
 use paw_world::world::World;
 use std::alloc::Global;
@@ -38,23 +38,23 @@ mod tests;
 /// the piece of text that the line brought. It takes all its memory when it is made.
 #[derive(Drop)]
 pub struct Player<'a, T: Tables, F: Fn(u8, u8) -> u8> {
-    rulebook: Rulebook<'a, T, F>,
-    turn: Turn,
+    rules: TurnRules<'a, T, F>,
+    turn: PlayState,
     last: Step,
 }
 
 impl<'a, T: Tables, F: Fn(u8, u8) -> u8> Model for Player<'a, T, F> {
-    ghost use Rattle.paw_turn.specs.inner.Player.{Seat};
+    ghost use Rattle.paw_turn.specs.inner.Player.{PlayerView};
 
-    ghost Value = { Seat F };
+    ghost Value = { PlayerView F };
 
     ghost view = { λ p. record {
-      game = T.game p.rulebook.tables.now;
-      routines = p.rulebook.routines.now;
-      world = p.turn.situation.world;
-      pending = p.turn.situation.pending;
+      game = T.game p.rules.tables.now;
+      routines = p.rules.routines.now;
+      world = p.turn.surroundings.world;
+      pending = p.turn.surroundings.pending;
       machine = p.turn.machine;
-      piece = p.turn.situation.piece;
+      piece = p.turn.surroundings.piece;
       last = p.last;
     } };
 }
@@ -78,8 +78,8 @@ impl<'a, T: Tables, F: Fn(u8, u8) -> u8> Player<'a, T, F> {
     {
         let piece = Piece::new(alloc)?;
         Ok(Player {
-            rulebook: Rulebook { tables, routines },
-            turn: Turn::new(tables, seed, piece),
+            rules: TurnRules { tables, routines },
+            turn: PlayState::new(tables, seed, piece),
             last: Step::Waits(Prompt::Main),
         })
     }
@@ -107,9 +107,9 @@ impl<'a, T: Tables, F: Fn(u8, u8) -> u8> Player<'a, T, F> {
         let _counts = tables.counts();
         let piece = Piece::new(alloc)?;
         Ok(Player {
-            rulebook: Rulebook { tables, routines },
-            turn: Turn {
-                situation: Situation {
+            rules: TurnRules { tables, routines },
+            turn: PlayState {
+                surroundings: Surroundings {
                     world,
                     pending,
                     piece,
@@ -129,7 +129,7 @@ impl<'a, T: Tables, F: Fn(u8, u8) -> u8> Player<'a, T, F> {
         ensures last { self.new.last ≡ step.Waits prompt.Main }
         ensures seated { IsSeated self.new }
     {
-        self.turn.renew(self.rulebook.tables, seed);
+        self.turn.renew(self.rules.tables, seed);
         self.last = Step::Waits(Prompt::Main);
     }
 
@@ -158,7 +158,7 @@ impl<'a, T: Tables, F: Fn(u8, u8) -> u8> Player<'a, T, F> {
         ensures seated { IsSeated self.new }
         ensures draws { self.new.world.draws ≤ self.old.world.draws + READ_LIMIT }
     {
-        let step = self.rulebook.play(&mut self.turn, Phase::Describe);
+        let step = self.rules.play(&mut self.turn, Phase::Describe);
         self.turn.settle(step);
         self.last = step;
         step
@@ -178,7 +178,7 @@ impl<'a, T: Tables, F: Fn(u8, u8) -> u8> Player<'a, T, F> {
             (p : AtPrompt) → self.old.last ≡ step.Waits p → (pieces : Texts) (traces : List (List Read)) →
             let g = story_of self.old.game X in
             let frames = self.old.machine.frames in
-            PlaysTo g (λ lines. on g p (reverse frames) (run_at self.old pieces traces (line.now ∷ lines)))
+            PlaysTo g (λ lines. going_on_from g p (reverse frames) (run_at self.old pieces traces (line.now ∷ lines)))
             result self.new pieces traces }
         ensures finished { IsFinished self.old.last →
             (result ≡ self.old.last) × (self.new ≡ record self.old { piece = [] }) }
@@ -190,7 +190,7 @@ impl<'a, T: Tables, F: Fn(u8, u8) -> u8> Player<'a, T, F> {
             return self.last;
         };
         self.turn.open_piece();
-        let step = self.rulebook.take(&mut self.turn, prompt, line);
+        let step = self.rules.take(&mut self.turn, prompt, line);
         self.turn.settle(step);
         self.last = step;
         step
@@ -230,9 +230,9 @@ impl<'a, T: Tables, F: Fn(u8, u8) -> u8> Player<'a, T, F> {
             frames_fault self.now.game (prompt_at self.now.last) (kept self.now.machine) ≡ None }
     {
         Parts {
-            world: &self.turn.situation.world,
+            world: &self.turn.surroundings.world,
             machine: &self.turn.machine,
-            pending: &self.turn.situation.pending,
+            pending: &self.turn.surroundings.pending,
             prompt: prompt_at(self.last),
         }
     }

@@ -21,7 +21,7 @@ ghost use Rattle.paw_turn.specs.declared.phase.Phase.TheVariants as phase;
 ghost use Rattle.paw_turn.specs.declared.phase.Next.TheVariants as next;
 ghost use Rattle.paw_turn.specs.inner.Phases.{at_phase, turn_settled, opened_piece, Moves};
 ghost use Rattle.paw_turn.specs.inner.Phases.{ReadsTurn, Plays, MovesAfter};
-ghost use Rattle.paw_turn.specs.inner.Phases.{IsPlayable, MayGoOn, MayRead, Stays, KeepsGame};
+ghost use Rattle.paw_turn.specs.inner.Phases.{IsPlayable, MayGoOn, MayReadTables, Stays, StaysInGame};
 ghost use Rattle.paw_turn.specs.inner.Phases.{StopsInTable};
 ghost use Rattle.paw_turn.specs.inner.Phases.{with_piece, left_of, work, Falls};
 ghost use Rattle.paw_turn.specs.inner.Phases.{halting, or_spent, table_rank, FallsAfter, RunsAs, from_table, Uses};
@@ -41,21 +41,21 @@ use paw_effects::opening::opening_world;
 use paw_effects::text::{place_text, put, say};
 use paw_game::tables::Tables;
 use paw_phrase::{Found, Pending};
-use paw_process::{Machine, Situation, Turned, take_phrase};
+use paw_process::{Machine, Surroundings, Turned, take_phrase};
 use paw_reading::places::Halt;
 use paw_routines::routines::Routines;
 use paw_world::world::World;
 
-/// A turn in work: the situation that it changes, and the machine.
+/// The state of play within a turn: the surroundings that reading changes, and the machine.
 #[derive(Drop)]
-pub(crate) struct Turn {
-    pub(crate) situation: Situation,
+pub(crate) struct PlayState {
+    pub(crate) surroundings: Surroundings,
     pub(crate) machine: Machine,
 }
 
 /// The game that turns are played in, and the routines that it calls.
 #[derive(Drop)]
-pub(crate) struct Rulebook<'a, T: Tables, F: Fn(u8, u8) -> u8> {
+pub(crate) struct TurnRules<'a, T: Tables, F: Fn(u8, u8) -> u8> {
     pub(crate) tables: &'a T,
     pub(crate) routines: &'a Routines<F>,
 }
@@ -78,17 +78,17 @@ pub(crate) fn or_spent(shown: bool, next: Next) -> Next
     }
 }
 
-impl Turn {
+impl PlayState {
     /// A turn at the start of a game, with this piece.
-    pub(crate) fn new<T: Tables>(tables: &T, seed: u64, piece: Piece) -> Turn
+    pub(crate) fn new<T: Tables>(tables: &T, seed: u64, piece: Piece) -> PlayState
         ensures valid { Valid (T.game tables.now) }
-        ensures world { result.situation.world ≡ opening_world (T.game tables.now) seed }
-        ensures pending { result.situation.pending ≡ record { bytes = []; earlier = NO_WORD } }
+        ensures world { result.surroundings.world ≡ opening_world (T.game tables.now) seed }
+        ensures pending { result.surroundings.pending ≡ record { bytes = []; earlier = NO_WORD } }
         ensures machine { result.machine ≡ new_machine }
-        ensures piece { result.situation.piece ≡ piece }
+        ensures piece { result.surroundings.piece ≡ piece }
     {
-        Turn {
-            situation: Situation {
+        PlayState {
+            surroundings: Surroundings {
                 world: opening_world(tables, seed),
                 pending: Pending::new(),
                 piece,
@@ -99,10 +99,10 @@ impl Turn {
 
     /// Goes back to the start of a game, with an empty piece.
     pub(crate) fn renew<T: Tables>(&mut self, tables: &T, seed: u64)
-        ensures world { self.new.situation.world ≡ opening_world (T.game tables.now) seed }
-        ensures pending { self.new.situation.pending ≡ record { bytes = []; earlier = NO_WORD } }
+        ensures world { self.new.surroundings.world ≡ opening_world (T.game tables.now) seed }
+        ensures pending { self.new.surroundings.pending ≡ record { bytes = []; earlier = NO_WORD } }
         ensures machine { self.new.machine ≡ new_machine }
-        ensures piece { self.new.situation.piece ≡ [] }
+        ensures piece { self.new.surroundings.piece ≡ [] }
     {
         let world = opening_world(tables, seed);
         self.seat(world, Machine::new(), Pending::new());
@@ -111,21 +111,21 @@ impl Turn {
     /// Goes on with these parts in the place of its own, and with an empty piece.
     pub(crate) fn seat(&mut self, world: World, machine: Machine, pending: Pending)
         ensures value { self.new ≡ record {
-          situation = record { world = world; pending = pending; piece = [] };
+          surroundings = record { world = world; pending = pending; piece = [] };
           machine = machine;
         } }
     {
-        self.situation.world = world;
+        self.surroundings.world = world;
         self.machine = machine;
-        self.situation.pending = pending;
-        self.situation.piece.clear();
+        self.surroundings.pending = pending;
+        self.surroundings.piece.clear();
     }
 
     /// Begins a new piece: it is empty, and may read all condacts that a piece may.
     pub(crate) fn open_piece(&mut self)
         ensures value { self.new ≡ opened_piece self.old }
     {
-        self.situation.piece.clear();
+        self.surroundings.piece.clear();
         self.machine.refill();
     }
 
@@ -133,15 +133,15 @@ impl Turn {
     pub(crate) fn clear_piece(&mut self)
         ensures value { self.new ≡ with_piece [] self.old }
     {
-        self.situation.piece.clear();
+        self.surroundings.piece.clear();
     }
 
     /// The text of the piece.
     pub(crate) fn piece(&self) -> &[u8]
-        ensures value { result.now ≡ self.now.situation.piece }
+        ensures value { result.now ≡ self.now.surroundings.piece }
         ensures short { length result.now ≤ PIECE_LIMIT }
     {
-        self.situation.piece.bytes()
+        self.surroundings.piece.bytes()
     }
 
     /// Takes the text out of a piece of which nothing is to be shown.
@@ -150,20 +150,20 @@ impl Turn {
     {
         match halt_of(step) {
             None | Some(Halt::Over) => {}
-            Some(_) => self.situation.piece.clear(),
+            Some(_) => self.surroundings.piece.clear(),
         }
     }
 
     /// Says a system message, unless the piece has no room for it.
     fn put_message<T: Tables>(&mut self, tables: &T, message: u8) -> bool
-        ensures puts { Puts self.old.situation.piece self.new.situation.piece result
-            (say_text (T.game tables.now) self.old.situation.world message) }
-        ensures same { self.new ≡ with_piece self.new.situation.piece self.old }
+        ensures puts { Puts self.old.surroundings.piece self.new.surroundings.piece result
+            (say_text (T.game tables.now) self.old.surroundings.world message) }
+        ensures same { self.new ≡ with_piece self.new.surroundings.piece self.old }
     {
         say(
             tables,
-            &self.situation.world,
-            &mut self.situation.piece,
+            &self.surroundings.world,
+            &mut self.surroundings.piece,
             message,
         )
     }
@@ -173,49 +173,49 @@ impl Turn {
         requires ready { MayGoOn (T.game tables.now) self.old }
         ensures meaning { (X : RoutineRows) → let g = story_of (T.game tables.now) X in
             Moves g
-            (λ n r. saying (say_text (T.game tables.now) self.old.situation.world message)
+            (λ n r. saying (say_text (T.game tables.now) self.old.surroundings.world message)
             (turn g n (at_phase phase)) r)
             self.old result self.new }
-        ensures same { self.new ≡ with_piece self.new.situation.piece self.old }
+        ensures same { self.new ≡ with_piece self.new.surroundings.piece self.old }
         ensures falls { Falls (work phase self.old + 1) result self.new }
-        ensures keeps { KeepsGame (T.game tables.now) self.old result self.new }
+        ensures keeps { StaysInGame (T.game tables.now) self.old result self.new }
     {
         or_spent(self.put_message(tables, message), Next::Go(phase))
     }
 
     /// Shows where the game is: a message where it is dark without light, and otherwise the location's text.
     fn show_view<T: Tables>(&mut self, tables: &T) -> bool
-        ensures puts { Puts self.old.situation.piece self.new.situation.piece result
-            (view_text (T.game tables.now) self.old.situation.world) }
-        ensures same { self.new ≡ with_piece self.new.situation.piece self.old }
+        ensures puts { Puts self.old.surroundings.piece self.new.surroundings.piece result
+            (view_text (T.game tables.now) self.old.surroundings.world) }
+        ensures same { self.new ≡ with_piece self.new.surroundings.piece self.old }
     {
-        if flags::is_unlit(&self.situation.world) {
+        if flags::is_unlit(&self.surroundings.world) {
             self.put_message(tables, DARK_MESSAGE)
         } else {
             place_text(
                 tables,
-                &self.situation.world,
-                &mut self.situation.piece,
-                self.situation.world.flag(LOCATION_FLAG),
+                &self.surroundings.world,
+                &mut self.surroundings.piece,
+                self.surroundings.world.flag(LOCATION_FLAG),
             )
         }
     }
 
     /// Shows the prompt.
     fn show_prompt<T: Tables>(&mut self, tables: &T) -> bool
-        ensures puts { Puts self.old.situation.piece self.new.situation.piece result
-            (prompt_text (T.game tables.now) self.old.situation.world) }
-        ensures same { self.new ≡ with_piece self.new.situation.piece self.old }
+        ensures puts { Puts self.old.surroundings.piece self.new.surroundings.piece result
+            (prompt_text (T.game tables.now) self.old.surroundings.world) }
+        ensures same { self.new ≡ with_piece self.new.surroundings.piece self.old }
     {
-        let message = match self.situation.world.flag(PROMPT_FLAG) {
+        let message = match self.surroundings.world.flag(PROMPT_FLAG) {
             0 => PROMPT_MESSAGE,
             message => message,
         };
         self.put_message(tables, message)
             && put(
                 tables,
-                &self.situation.world,
-                &mut self.situation.piece,
+                &self.surroundings.world,
+                &mut self.surroundings.piece,
                 LINE_MESSAGE,
             )
     }
@@ -225,11 +225,11 @@ impl Turn {
         requires ready { MayGoOn (T.game tables.now) self.old }
         ensures meaning { (X : RoutineRows) → let g = story_of (T.game tables.now) X in
             Moves g (λ n r. after_phrase g (turn g n) r IsNoPhrase) self.old result self.new }
-        ensures keeps { KeepsGame (T.game tables.now) self.old result self.new }
+        ensures keeps { StaysInGame (T.game tables.now) self.old result self.new }
         ensures falls { (most : ℕ) → Falls most result self.new }
         ensures machine { self.new.machine ≡ self.old.machine }
     {
-        self.situation.pending.drop_line();
+        self.surroundings.pending.drop_line();
         if self.show_prompt(tables) {
             Next::Stop(Step::Waits(Prompt::Main))
         } else {
@@ -243,12 +243,12 @@ impl Turn {
         ensures meaning { (X : RoutineRows) → let g = story_of (T.game tables.now) X in
             Moves g (λ n r. saying (refusal_text (T.game tables.now) r.world) (turn g n AtTimeFrame) (line_dropped r))
             self.old result self.new }
-        ensures keeps { KeepsGame (T.game tables.now) self.old result self.new }
+        ensures keeps { StaysInGame (T.game tables.now) self.old result self.new }
         ensures falls { Falls (work phase.Response self.old) result self.new }
         ensures machine { self.new.machine ≡ self.old.machine }
     {
-        self.situation.pending.drop_line();
-        let message = if self.situation.world.flag(VERB_FLAG) < FIRST_PLAIN_VERB {
+        self.surroundings.pending.drop_line();
+        let message = if self.surroundings.world.flag(VERB_FLAG) < FIRST_PLAIN_VERB {
             NO_WAY_MESSAGE
         } else {
             IMPOSSIBLE_MESSAGE
@@ -261,14 +261,14 @@ impl Turn {
         requires ready { MayGoOn (T.game tables.now) self.old }
         ensures meaning { (X : RoutineRows) → let g = story_of (T.game tables.now) X in
             Moves g (λ n r. after_left g (turn g n) 0 false r) self.old result self.new }
-        ensures keeps { KeepsGame (T.game tables.now) self.old result self.new }
+        ensures keeps { StaysInGame (T.game tables.now) self.old result self.new }
         ensures falls { Falls (work phase.Response self.old) result self.new }
         ensures machine { self.new.machine ≡ self.old.machine }
     {
-        let here = self.situation.world.flag(LOCATION_FLAG);
-        match tables.exit(here, self.situation.world.flag(VERB_FLAG)) {
+        let here = self.surroundings.world.flag(LOCATION_FLAG);
+        match tables.exit(here, self.surroundings.world.flag(VERB_FLAG)) {
             Some(to) => {
-                self.situation.world.set_flag(LOCATION_FLAG, to);
+                self.surroundings.world.set_flag(LOCATION_FLAG, to);
                 Next::Go(Phase::Describe)
             }
             None => self.refuse(tables),
@@ -280,7 +280,7 @@ impl Turn {
         requires ready { MayGoOn (T.game tables.now) self.old }
         ensures meaning { (X : RoutineRows) → let g = story_of (T.game tables.now) X in
             Moves g (λ n r. after_left g (turn g n) table acted r) self.old result self.new }
-        ensures keeps { KeepsGame (T.game tables.now) self.old result self.new }
+        ensures keeps { StaysInGame (T.game tables.now) self.old result self.new }
         ensures falls { Falls (4 * left_of self.old + table_rank table) result self.new }
         ensures machine { self.new.machine ≡ self.old.machine }
     {
@@ -289,7 +289,7 @@ impl Turn {
             RESPONSE_TABLE => self.connect(tables),
             DESCRIBED_TABLE => Next::Go(Phase::TimeFrame),
             _ => {
-                flags::pass_time_frame(&mut self.situation.world);
+                flags::pass_time_frame(&mut self.surroundings.world);
                 Next::Go(Phase::Phrase)
             }
         }
@@ -302,7 +302,7 @@ impl Turn {
         ensures meaning { (X : RoutineRows) →
             MovesAfter (story_of (T.game tables.now) X) table turned self.old result self.new }
         ensures left { ReadsNone self.old.machine self.new.machine }
-        ensures keeps { KeepsGame (T.game tables.now) self.old result self.new }
+        ensures keeps { StaysInGame (T.game tables.now) self.old result self.new }
         ensures falls { FallsAfter table turned self.old result self.new }
     {
         match turned {
@@ -320,21 +320,21 @@ impl Turn {
         requires ready { MayGoOn (T.game tables.now) self.old }
         ensures meaning { (X : RoutineRows) → let g = story_of (T.game tables.now) X in
             Moves g (λ n r. turn g (suc n) AtPhrase r) self.old result self.new }
-        ensures keeps { KeepsGame (T.game tables.now) self.old result self.new }
+        ensures keeps { StaysInGame (T.game tables.now) self.old result self.new }
         ensures falls { Falls (work phase.Phrase self.old) result self.new }
         ensures machine { self.new.machine ≡ self.old.machine }
     {
         match take_phrase(
             tables,
-            &mut self.situation.world,
-            &mut self.situation.pending,
+            &mut self.surroundings.world,
+            &mut self.surroundings.pending,
         ) {
             Found::Sentence => {
-                flags::count_turn(&mut self.situation.world);
+                flags::count_turn(&mut self.surroundings.world);
                 Next::Go(Phase::Response)
             }
             Found::Nothing => {
-                self.situation.pending.drop_line();
+                self.surroundings.pending.drop_line();
                 self.say(tables, UNKNOWN_MESSAGE, Phase::TimeFrame)
             }
             Found::Empty => self.prompt(tables),
@@ -342,75 +342,76 @@ impl Turn {
     }
 }
 
-impl<T: Tables, F: Fn(u8, u8) -> u8> Rulebook<'_, T, F> {
+impl<T: Tables, F: Fn(u8, u8) -> u8> TurnRules<'_, T, F> {
     /// Reads table 0, 1 or 2 from its start, up to the machine's next stop.
-    fn run_table(&self, held: &mut Turn, table: u8) -> Turned
-        requires may { MayRead F.Fn self.now.routines.now (T.game self.now.tables.now) held.old }
+    fn run_table(&self, state: &mut PlayState, table: u8) -> Turned
+        requires may { MayReadTables F.Fn self.now.routines.now (T.game self.now.tables.now) state.old }
         ensures runs { InStories F.Fn self.now.routines.now (T.game self.now.tables.now) (λ g.
-            RunsAs g (from_table g table held.old) held.old result held.new) }
-        ensures stops { StopsInTable table result held.new.machine }
-        ensures uses { Uses result held.old held.new }
-        ensures stays { Stays (T.game self.now.tables.now) held.old held.new }
+            RunsAs g (from_table g table state.old) state.old result state.new) }
+        ensures stops { StopsInTable table result state.new.machine }
+        ensures uses { Uses result state.old state.new }
+        ensures stays { Stays (T.game self.now.tables.now) state.old state.new }
     {
-        held.machine.begin(table);
-        held.machine
-            .run(self.tables, self.routines, &mut held.situation)
+        state.machine.begin(table);
+        state
+            .machine
+            .run(self.tables, self.routines, &mut state.surroundings)
     }
 
     /// Reads table 0, 1 or 2, and goes on after it.
-    fn read_table(&self, held: &mut Turn, table: u8) -> Next
-        requires may { MayRead F.Fn self.now.routines.now (T.game self.now.tables.now) held.old }
+    fn read_table(&self, state: &mut PlayState, table: u8) -> Next
+        requires may { MayReadTables F.Fn self.now.routines.now (T.game self.now.tables.now) state.old }
         ensures meaning { InStories F.Fn self.now.routines.now (T.game self.now.tables.now) (λ g.
-            ReadsTurn g (λ n r. table_done g (turn g n) table (table_read g table r)) held.old result held.new) }
-        ensures keeps { KeepsGame (T.game self.now.tables.now) held.old result held.new }
-        ensures falls { Falls (4 * left_of held.old + table_rank table) result held.new }
+            ReadsTurn g (λ n r. table_done g (turn g n) table (table_read g table r)) state.old result state.new) }
+        ensures keeps { StaysInGame (T.game self.now.tables.now) state.old result state.new }
+        ensures falls { Falls (4 * left_of state.old + table_rank table) result state.new }
     {
-        let turned = self.run_table(held, table);
-        held.after_table(self.tables, table, turned)
+        let turned = self.run_table(state, table);
+        state.after_table(self.tables, table, turned)
     }
 
     /// Describes the location, and reads table 1.
-    fn describe(&self, held: &mut Turn) -> Next
-        requires may { MayRead F.Fn self.now.routines.now (T.game self.now.tables.now) held.old }
+    fn describe(&self, state: &mut PlayState) -> Next
+        requires may { MayReadTables F.Fn self.now.routines.now (T.game self.now.tables.now) state.old }
         ensures meaning { InStories F.Fn self.now.routines.now (T.game self.now.tables.now) (λ g.
-            ReadsTurn g (λ n r. turn g (suc n) AtDescribe r) held.old result held.new) }
-        ensures keeps { KeepsGame (T.game self.now.tables.now) held.old result held.new }
-        ensures falls { Falls (work phase.Describe held.old) result held.new }
+            ReadsTurn g (λ n r. turn g (suc n) AtDescribe r) state.old result state.new) }
+        ensures keeps { StaysInGame (T.game self.now.tables.now) state.old result state.new }
+        ensures falls { Falls (work phase.Describe state.old) result state.new }
     {
-        flags::describe(&mut held.situation.world);
-        if held.show_view(self.tables) {
-            self.read_table(held, DESCRIBED_TABLE)
+        flags::describe(&mut state.surroundings.world);
+        if state.show_view(self.tables) {
+            self.read_table(state, DESCRIBED_TABLE)
         } else {
             halting(Halt::Spent(SpentKind::Text))
         }
     }
 
     /// Goes through one phase.
-    fn phase(&self, held: &mut Turn, phase: Phase) -> Next
-        requires may { MayRead F.Fn self.now.routines.now (T.game self.now.tables.now) held.old }
+    fn phase(&self, state: &mut PlayState, phase: Phase) -> Next
+        requires may { MayReadTables F.Fn self.now.routines.now (T.game self.now.tables.now) state.old }
         ensures meaning { InStories F.Fn self.now.routines.now (T.game self.now.tables.now) (λ g.
-            ReadsTurn g (λ n r. turn g (suc n) (at_phase phase) r) held.old result held.new) }
-        ensures keeps { KeepsGame (T.game self.now.tables.now) held.old result held.new }
-        ensures falls { Falls (work phase held.old) result held.new }
+            ReadsTurn g (λ n r. turn g (suc n) (at_phase phase) r) state.old result state.new) }
+        ensures keeps { StaysInGame (T.game self.now.tables.now) state.old result state.new }
+        ensures falls { Falls (work phase state.old) result state.new }
     {
         match phase {
-            Phase::Describe => self.describe(held),
-            Phase::TimeFrame => self.read_table(held, FRAME_TABLE),
-            Phase::Phrase => held.phrase(self.tables),
-            Phase::Response => self.read_table(held, RESPONSE_TABLE),
+            Phase::Describe => self.describe(state),
+            Phase::TimeFrame => self.read_table(state, FRAME_TABLE),
+            Phase::Phrase => state.phrase(self.tables),
+            Phase::Response => self.read_table(state, RESPONSE_TABLE),
         }
     }
 
     /// Plays on from a phase to the next prompt, or to the end.
-    pub(crate) fn play(&self, held: &mut Turn, first: Phase) -> Step
-        requires may { MayRead F.Fn self.now.routines.now (T.game self.now.tables.now) held.old }
+    pub(crate) fn play(&self, state: &mut PlayState, first: Phase) -> Step
+        requires may { MayReadTables F.Fn self.now.routines.now (T.game self.now.tables.now) state.old }
         ensures meaning { InStories F.Fn self.now.routines.now (T.game self.now.tables.now) (λ g.
-            Plays g first held.old (next.Stop result) held.new) }
-        ensures keeps { KeepsGame (T.game self.now.tables.now) held.old (next.Stop result) held.new }
+            Plays g first state.old (next.Stop result) state.new) }
+        ensures keeps { StaysInGame (T.game self.now.tables.now) state.old (next.Stop result) state.new }
     {
         let mut phase = first;
         loop {
-            match self.phase(held, phase) {
+            match self.phase(state, phase) {
                 Next::Go(next) => phase = next,
                 Next::Stop(step) => return step,
             }

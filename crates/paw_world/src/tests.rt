@@ -194,14 +194,14 @@ fn saved_flag(rt: &impl Abort, world: &World, f: u8) -> u8 {
 
 fn kept_flag(rt: &impl Abort, world: &World, n: u8, f: u8) -> u8 {
     assert!(rt; n < 4);
-    assert!(rt; world.kept(n));
+    assert!(rt; world.has_kept(n));
     world.kept_flag(n, f)
 }
 
 fn kept_place(rt: &impl Abort, world: &World, n: u8, o: u8) -> u8 {
     assert!(rt; n < 4);
     assert!(rt; o < world.objects());
-    assert!(rt; world.kept(n));
+    assert!(rt; world.has_kept(n));
     world.kept_place(n, o)
 }
 
@@ -209,7 +209,7 @@ fn kept_place(rt: &impl Abort, world: &World, n: u8, o: u8) -> u8 {
 fn kept_positions(rt: HostRuntime) {
     let mut world = World::new(&[thing(254, 1, false); 2], 252, 7);
     for n in 0u8..4 {
-        assert!(rt; !world.kept(n));
+        assert!(rt; !world.has_kept(n));
     }
     move_to(&rt, &mut world, 0, 3);
     world.set_flag(30, 9);
@@ -229,7 +229,7 @@ fn kept_positions(rt: HostRuntime) {
     assert_eq!(rt; place(&rt, &world, 0), 3);
     assert_eq!(rt; world.first_at(254, None), Some(1));
     assert_eq!(rt; saved_flag(&rt, &world, 30), 9);
-    assert!(rt; world.kept(1) && world.kept(3));
+    assert!(rt; world.has_kept(1) && world.has_kept(3));
     assert_eq!(rt; kept_flag(&rt, &world, 3, 255), 7);
     let (_, places) = world.kept_position(3).expect(&rt, "a kept position");
     assert_eq!(rt; places, [4, 254].as_slice());

@@ -77,7 +77,7 @@ impl World {
         ensures value { result ≡ starting_world facts.now locations seed }
     {
         World {
-            facts: filled(facts),
+            facts: facts_array(facts),
             locations,
             flags: opening_flags(facts),
             places: Places::opening(facts),
@@ -274,7 +274,7 @@ impl World {
     }
 
     /// Whether the position of this number was kept.
-    pub fn kept(&self, n: u8) -> bool
+    pub fn has_kept(&self, n: u8) -> bool
         requires known { n < POSITION_COUNT }
         ensures value { result ≡ is_some (kept_position self.now n) }
     {
@@ -426,7 +426,7 @@ impl World {
 }
 
 /// These facts, followed by others up to the greatest number of objects.
-fn filled(facts: &[ObjectFacts]) -> [ObjectFacts; OBJECT_LIMIT]
+fn facts_array(facts: &[ObjectFacts]) -> [ObjectFacts; OBJECT_LIMIT]
     requires few { length facts.now ≤ OBJECT_LIMIT }
     ensures begins { take (length facts.now) result ≡ facts.now }
 {

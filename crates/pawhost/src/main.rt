@@ -3,7 +3,7 @@
 
 ghost use Rattle.std.specs.Prelude.{◌≡◌};
 ghost use Rattle.std.specs.Process.{exit_status};
-ghost use Rattle.paw_host.specs.Outcomes.{status_of};
+ghost use Rattle.paw_host.specs.Outcomes.{host_status};
 
 use paw_host::host::host;
 use paw_host::outcome::{HostOutcome, NO_MEMORY};
@@ -25,7 +25,7 @@ fn words_of<R: Env + AllocGlobal>(rt: &R) -> io::Result<Vec<String>> {
 
 // The exit of the program.
 fn exit_of(outcome: HostOutcome) -> ExitCode
-    ensures status { exit_status result ≡ status_of outcome }
+    ensures status { exit_status result ≡ host_status outcome }
 {
     ExitCode::from(outcome.status())
 }

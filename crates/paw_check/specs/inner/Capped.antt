@@ -6,7 +6,7 @@ use Rattle.std.specs.Option.{unwrap_or}
 use Rattle.paw_base.specs.declared.codes.TheConstants.{DOALL}
 use Rattle.paw_base.specs.declared.parts.Condact.{Condact}
 use Rattle.paw_game.specs.declared.parts.Entry.{Entry}
-use Rattle.paw_game.specs.Valid.{is_any}
+use Rattle.paw_game.specs.Valid.{is_wildcard}
 use Rattle.paw_check.specs.Calls.{is_call_of}
 use Rattle.paw_check.specs.Costs.{with_call, counting}
 
@@ -17,7 +17,7 @@ abbrev pub capped : ℕ → ℕ
 capped n = min n (2 ^ 32 - 1)
 
 -- A row of 256 numbers holds these, by verb, or by table.
-pub record Holds (row : List ℕ) (f : ℕ → ℕ) : Type 0 where
+pub record HoldsCapped (row : List ℕ) (f : ℕ → ℕ) : Type 0 where
   pub long : length row ≡ 256
   pub each : (v : ℕ) → v < 256 → slice_index_or row v 0 ≡ capped (f v)
 
@@ -28,7 +28,7 @@ cell_at rows t v = slice_index_or (unwrap_or (slice_get rows t) []) v 0
 -- ---- flags ----
 
 -- The flags of 256 tables, once these were marked as well.
-pub record Marks (old new : List Bool) (p : ℕ → Bool) : Type 0 where
+pub record MarksTables (old new : List Bool) (p : ℕ → Bool) : Type 0 where
   pub long : length new ≡ length old
   pub each : (u : ℕ) → u < 256 → slice_index_or new u false ≡ (slice_index_or old u false || p u)
 
@@ -53,7 +53,7 @@ is_doall c = c.code == DOALL
 
 -- Whether an entry counts for every verb.
 abbrev pub is_for_every : Bool → Entry → Bool
-is_for_every changing e = changing || is_any e.verb
+is_for_every changing e = changing || is_wildcard e.verb
 
 -- A sum over the condacts of entries that count for every verb.
 abbrev pub over_every : Bool → (List Condact → ℕ) → List Entry → ℕ

@@ -31,12 +31,12 @@ QuestionsPrintWithin = OfEach (λ g w c. (holds g.game w c).answer ≡ truth.Ask
     length (put_text g.game (holds g.game w c).world QUIT_MESSAGE) ≤ most_text g.game c)
 
 -- A condition leaves the verb as it is, unless it is one that may write it.
-abbrev pub ConditionsKeepVerb : Type 0
-ConditionsKeepVerb =
+abbrev pub ConditionsLeaveVerb : Type 0
+ConditionsLeaveVerb =
     OfEach (λ g w c. may_write_verb c ≡ false → flag (holds g.game w c).world VERB_FLAG ≡ flag w VERB_FLAG)
 
 -- An action leaves the verb as it is, unless it may write it, or leaves all tables to describe the location.
-abbrev pub ActionsKeepVerb : Type 0
-ActionsKeepVerb = OfEach (λ g w c. may_write_verb c ≡ false →
+abbrev pub ActionsLeaveVerb : Type 0
+ActionsLeaveVerb = OfEach (λ g w c. may_write_verb c ≡ false →
     (flag (effect_of g w c).world VERB_FLAG ≡ flag w VERB_FLAG)
     ⊎ ((effect_of g w c).act.effect ≡ effect.Redescribe))

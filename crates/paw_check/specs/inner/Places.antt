@@ -4,7 +4,7 @@ use Rattle.std.specs.List.{list_any}
 use Rattle.std.specs.Option.{unwrap_or, option_map_or}
 use Rattle.paw_base.specs.declared.parts.Condact.{Condact}
 use Rattle.paw_game.specs.declared.parts.Entry.{Entry}
-use Rattle.paw_check.specs.Calls.{is_call}
+use Rattle.paw_check.specs.Calls.{calls_table}
 use Rattle.paw_check.specs.Verbs.{may_write_verb}
 use Rattle.paw_check.specs.Verdicts.{redescribes, entry_with}
 use Rattle.paw_check.specs.declared.places.Wanted.{Wanted}
@@ -12,7 +12,7 @@ use Rattle.paw_check.specs.declared.places.Wanted.TheVariants as wanted
 
 -- Whether a condact is of this kind.
 abbrev pub is_wanted : Wanted → Condact → Bool
-is_wanted wanted.Call c = is_call c
+is_wanted wanted.Call c = calls_table c
 is_wanted wanted.Description c = redescribes c
 is_wanted wanted.VerbWriter c = may_write_verb c
 
@@ -21,10 +21,10 @@ abbrev pub entry_wanted : Wanted → List Entry → Option ℕ
 entry_wanted w entries = entry_with (is_wanted w) entries
 
 -- The first of the tables with these numbers that has one, and its first entry with one.
-abbrev pub place_wanted : Wanted → List (List Entry) → List ℕ → Option (ℕ × ℕ)
-place_wanted w tables [] = None
-place_wanted w tables (t ∷ ts) =
-    option_map_or (λ e. Some (t, e)) (entry_wanted w (unwrap_or (slice_get tables t) [])) (place_wanted w tables ts)
+abbrev pub spot_wanted : Wanted → List (List Entry) → List ℕ → Option (ℕ × ℕ)
+spot_wanted w tables [] = None
+spot_wanted w tables (t ∷ ts) =
+    option_map_or (λ e. Some (t, e)) (entry_wanted w (unwrap_or (slice_get tables t) [])) (spot_wanted w tables ts)
 
 -- Whether one of these entries has a condact that passes.
 abbrev pub any_in_entries : (Condact → Bool) → List Entry → Bool

@@ -7,12 +7,12 @@ use Rattle.paw_check.specs.Bounds.{most_view, most_refusal, most_prompt}
 use Rattle.paw_check.specs.Measures.{most_at, most_of, most_put, most_said}
 use Rattle.paw_check.specs.Prints.{most_list, most_list_or_said, most_inventory, most_count, most_score, most_of_action}
 use Rattle.paw_check.specs.declared.prints.Prints.{Prints}
-use Rattle.paw_check.specs.inner.Capped.{Holds, capped}
+use Rattle.paw_check.specs.inner.Capped.{HoldsCapped, capped}
 
 -- What is kept is what the definitions give for this game.
 pub record ArePrints (g : GameLists) (p : Prints) : Type 0 where
-  pub system : Holds p.system (most_put g)
-  pub messages : Holds p.messages (most_at g g.messages)
+  pub system : HoldsCapped p.system (most_put g)
+  pub messages : HoldsCapped p.messages (most_at g g.messages)
   pub any_system : p.any_system ≡ capped (most_of g g.system)
   pub any_message : p.any_message ≡ capped (most_of g g.messages)
   pub action : p.action ≡ capped (most_of_action g)

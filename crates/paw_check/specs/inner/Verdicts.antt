@@ -9,7 +9,7 @@ use Rattle.paw_check.specs.Bounds.{most_condacts, most_piece}
 use Rattle.paw_check.specs.Verdicts.{above, first_cause}
 
 -- The verdict of a game with these levels of calls, in which neither calls nor descriptions are a cause.
-abbrev pub counted : GameLists → ℕ → Verdict
-counted g levels =
+abbrev pub bound_or_cause : GameLists → ℕ → Verdict
+bound_or_cause g levels =
     first_cause (verdict.Bound levels (most_condacts g) (most_piece g))
     ((cause.Condacts, above READ_LIMIT (most_condacts g)) ∷ (cause.Text, above PIECE_LIMIT (most_piece g)) ∷ [])

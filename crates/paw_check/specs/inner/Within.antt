@@ -28,7 +28,7 @@ pub record IsBound (condacts text : ℕ) (g : GameLists) : Type 0 where
 
 -- A run outside tables, or one that has just left them: it is in a world of its game, at most `pending` bytes of its
 -- line are left, no loop is open, the lines to come are lines, and each closed piece is within the bound.
-pub record IsReady (condacts text pending : ℕ) (g : GameLists) (r : Run) : Type 0 where
+pub record IsReadyWithin (condacts text pending : ℕ) (g : GameLists) (r : Run) : Type 0 where
   pub world : IsWorldOf g r.world
   pub earlier : r.earlier < 256
   pub line : length r.pending ≤ pending
@@ -48,8 +48,8 @@ abbrev pub reads_of : GameLists → ℕ → ℕ
 reads_of g t = most_cost g (λ c. 1) t
 
 -- The most bytes that are printed while a table is read.
-abbrev pub text_of : GameLists → ℕ → ℕ
-text_of g t = most_cost g (most_text g) t
+abbrev pub table_text : GameLists → ℕ → ℕ
+table_text g t = most_cost g (most_text g) t
 
 -- A table is left, or describes the location again, with at most this much of the open piece used, and no more of the
 -- line left than before. Or the game starts anew after an answer: then nothing of the open piece is used, and nothing of
@@ -57,12 +57,12 @@ text_of g t = most_cost g (most_text g) t
 -- and no call is too deep.
 abbrev pub TableWithin : (condacts text pending : ℕ) → GameLists → (reads bytes : ℕ) → Out → Type 0
 TableWithin condacts text pending g reads bytes (Left acted r) =
-    IsReady condacts text pending g r × HasUsed reads bytes r
+    IsReadyWithin condacts text pending g r × HasUsed reads bytes r
 TableWithin condacts text pending g reads bytes (Waits p path r) = PiecesWithin condacts text r
 TableWithin condacts text pending g reads bytes (Stopped Redescribes r) =
-    IsReady condacts text pending g r × HasUsed reads bytes r
+    IsReadyWithin condacts text pending g r × HasUsed reads bytes r
 TableWithin condacts text pending g reads bytes (Stopped Restarts r) =
-    IsReady condacts text 0 g r × HasUsed 0 0 r
+    IsReadyWithin condacts text 0 g r × HasUsed 0 0 r
 TableWithin condacts text pending g reads bytes (Stopped (Halts halt.Over) r) = PiecesWithin condacts text r
 TableWithin condacts text pending g reads bytes (Stopped (Halts _) r) = ⊥
 
@@ -71,9 +71,11 @@ TableWithin condacts text pending g reads bytes (Stopped (Halts _) r) = ⊥
 abbrev pub TablesWithin : Type 0
 TablesWithin =
     (g : Story) (condacts text pending reads bytes t : ℕ) (r : Run) → ValidStory g → call_too_deep g.game ≡ None →
-    IsBound condacts text g.game → t ≤ FRAME_TABLE → IsReady condacts text pending g.game r → HasUsed reads bytes r →
-    reads + reads_of g.game t ≤ condacts → bytes + text_of g.game t ≤ text →
-    TableWithin condacts text pending g.game (reads + reads_of g.game t) (bytes + text_of g.game t) (table_read g t r)
+    IsBound condacts text g.game → t ≤ FRAME_TABLE → IsReadyWithin condacts text pending g.game r →
+    HasUsed reads bytes r →
+    reads + reads_of g.game t ≤ condacts → bytes + table_text g.game t ≤ text →
+    TableWithin condacts text pending g.game (reads + reads_of g.game t) (bytes + table_text g.game t)
+    (table_read g t r)
 
 -- ---- tables that don't describe again ----
 

@@ -14,7 +14,7 @@ use Rattle.paw_game.specs.declared.parts.GamePart.{GamePart}
 use Rattle.paw_game.specs.declared.parts.GamePart.TheVariants as part
 use Rattle.paw_game.specs.declared.parts.GameFault.{GameFault}
 use Rattle.paw_game.specs.Game.{GameLists}
-use Rattle.paw_game.specs.Valid.{is_word, is_text, is_object, is_exits, is_table}
+use Rattle.paw_game.specs.Valid.{is_word, is_text, is_object, exits_are_valid, is_table}
 
 -- The row to name of a part with this many rows: the most that it may have where it has more, their number where it has
 -- fewer than the least, and otherwise the first bad row.
@@ -43,7 +43,8 @@ unfoldable pub objects_fault : List Word → ℕ → List ObjectRow → Option �
 objects_fault ws locations os = part_row_fault 0 OBJECT_LIMIT (length os) (first_bad (is_object ws locations) os)
 
 unfoldable pub exits_fault : List Word → ℕ → List (List Exit) → Option ℕ
-exits_fault ws locations es = part_row_fault locations locations (length es) (first_bad (is_exits ws locations) es)
+exits_fault ws locations es =
+    part_row_fault locations locations (length es) (first_bad (exits_are_valid ws locations) es)
 
 unfoldable pub tables_fault : GameLists → Option ℕ
 tables_fault g = part_row_fault TABLE_LEAST TABLE_LIMIT (length g.tables) (first_bad (is_table g) g.tables)

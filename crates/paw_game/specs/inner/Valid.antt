@@ -2,8 +2,8 @@
 use Rattle.std.specs.Prelude.{Bool}
 use Rattle.paw_base.specs.declared.parts.Condact.{Condact}
 use Rattle.paw_game.specs.Game.{GameLists}
-use Rattle.paw_game.specs.Valid.{keeps_kinds, is_argument}
+use Rattle.paw_game.specs.Valid.{fits_kinds, is_argument}
 
 -- Whether a condact can be carried out: a word in it may be any byte.
 abbrev pub is_right : GameLists → Condact → Bool
-is_right g c = keeps_kinds (is_argument g) c
+is_right g c = fits_kinds (is_argument g) c

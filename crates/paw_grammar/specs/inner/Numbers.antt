@@ -5,10 +5,10 @@ use Rattle.paw_grammar.specs.Tokens.{Reads, read_by}
 use Rattle.paw_grammar.specs.Numbers.{number}
 
 -- A number as four bytes hold it: 4,294,967,295 stands for every number above it too.
-abbrev pub capped : Option ℕ → Option ℕ
-capped None = None
-capped (Some n) = Some (min n 4294967295)
+abbrev pub capped_value : Option ℕ → Option ℕ
+capped_value None = None
+capped_value (Some n) = Some (min n 4294967295)
 
 -- The next number, as four bytes hold it.
 abbrev pub capped_number : Reads ℕ
-capped_number ts = read_by kind.Number (λ t. capped (number t)) ts
+capped_number ts = read_by kind.Number (λ t. capped_value (number t)) ts

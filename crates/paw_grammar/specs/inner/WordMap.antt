@@ -2,10 +2,10 @@
 use Rattle.std.specs.Prelude.{List, map}
 use Rattle.paw_base.specs.Bytes.{Letters}
 use Rattle.paw_game.specs.declared.parts.Word.{Word}
-use Rattle.paw_grammar.specs.declared.vocabulary.Meaning.{Meaning}
+use Rattle.paw_grammar.specs.declared.vocabulary.WordMeaning.{WordMeaning}
 
-abbrev pub word_from : Letters × Meaning → Word
+abbrev pub word_from : Letters × WordMeaning → Word
 word_from e = record { letters = e.0; value = e.1.value; class = e.1.class }
 
-abbrev pub words_in : List (Letters × Meaning) → List Word
+abbrev pub words_in : List (Letters × WordMeaning) → List Word
 words_in entries = map word_from entries

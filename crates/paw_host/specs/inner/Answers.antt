@@ -10,8 +10,8 @@ use Rattle.paw_stage.specs.declared.StageCall.TheVariants as call
 use Rattle.paw_effects.specs.Story.{Story}
 use Rattle.paw_effects.specs.declared.act.Prompt.{Prompt}
 use Rattle.paw_reading.specs.Run.{Step as Read}
-use Rattle.paw_reading.specs.Turn.{reading, on, pieces_of}
-use Rattle.paw_turn.specs.inner.Player.{Seat, run_at}
+use Rattle.paw_reading.specs.Turn.{reading, going_on_from, pieces_of}
+use Rattle.paw_turn.specs.inner.Player.{PlayerView, run_at}
 use Rattle.paw_turn.specs.declared.Step.{Step}
 use Rattle.paw_turn.specs.declared.Step.TheVariants as step
 use Rattle.paw_journal.specs.Session.{IsUnmade, recover}
@@ -23,27 +23,27 @@ use Rattle.paw_state.specs.Record.{last_piece}
 use Rattle.paw_play.specs.Walk.{EndingOf}
 use Rattle.paw_play.specs.Stands.{Stands, IsPlayedWith, reading_since}
 use Rattle.paw_play.specs.Laws.{ShowsSome, MayBeLeft}
-use Rattle.paw_host.specs.Replies.{Session, Absent, At, Answer, begun, is_over}
+use Rattle.paw_host.specs.Replies.{NamedSession, Absent, At, Answer, begun_answer, is_over}
 use Rattle.paw_host.specs.Promise.{Stores, LeftOfMaking}
 use Rattle.paw_host.specs.declared.answer.Opened.{Opened}
 
 -- The word for a step that brings no piece.
-abbrev pub word_of : Step → Option Text
-word_of (step.Waits p) = None
-word_of step.Ended = None
-word_of (step.Spent kind) = Some (codes "spent")
-word_of (step.TooDeep table) = Some (codes "too deep")
+abbrev pub refusal_word_of : Step → Option Text
+refusal_word_of (step.Waits p) = None
+refusal_word_of step.Ended = None
+refusal_word_of (step.Spent kind) = Some (codes "spent")
+refusal_word_of (step.TooDeep table) = Some (codes "too deep")
 
 -- A player sits where the reading of these lines ended: whatever lines follow, their reading, from some piece on, goes
 -- on from the player's prompt; or the player has ended, and the reading is over.
-pub record SitsAt {F : Type 0} (g : Story) (seed : Seed) (es : Lines) (seat : Seat F) : Type 0 where
+pub record SitsAt {F : Type 0} (g : Story) (seed : Seed) (es : Lines) (seat : PlayerView F) : Type 0 where
   pub whole : EndingOf
   pub follows : ((fs : Lines) → whole fs ≡ reading g seed (es ++ fs))
       ⊎ ((fs : Lines) → whole fs ≡ reading_since g seed es fs)
   pub pieces : Texts
   pub traces : List (List Read)
   pub waits : (p : Prompt) → seat.last ≡ step.Waits p → (fs : Lines) →
-      whole fs ≡ on g p (reverse seat.machine.frames) (run_at seat pieces traces fs)
+      whole fs ≡ going_on_from g p (reverse seat.machine.frames) (run_at seat pieces traces fs)
   pub over : seat.last ≡ step.Ended → is_over (reading g seed es) ≡ true
 
 -- The reply grew by the body of an answer, and the store keeps the answer's session.
@@ -53,11 +53,12 @@ pub record Answers (g : Story) (a : Answer) (before after : Text) (bytes : Bytes
 
 -- What beginning the game in the attached store leaves: the piece before the first line is spent or calls too deep, as
 -- the reply says; or the player sits at the first prompt, the store keeps it, and the reply has the piece.
-abbrev pub BeginsTo : {F : Type 0} → Story → Seed → Text → Text → Seat F → Bytes → Option Opened → Type 0
-BeginsTo g seed before after seat bytes None = (begun g seed).session ≡ Absent × (after ≡ before ++ (begun g seed).body)
+abbrev pub BeginsTo : {F : Type 0} → Story → Seed → Text → Text → PlayerView F → Bytes → Option Opened → Type 0
+BeginsTo g seed before after seat bytes None =
+    (begun_answer g seed).session ≡ Absent × (after ≡ before ++ (begun_answer g seed).body)
 BeginsTo g seed before after seat bytes (Some s) =
-    SitsAt g seed [] seat × Stands g seed [] bytes × ((begun g seed).session ≡ At seed [])
-    × (after ≡ before ++ (begun g seed).body)
+    SitsAt g seed [] seat × Stands g seed [] bytes × ((begun_answer g seed).session ≡ At seed [])
+    × (after ≡ before ++ (begun_answer g seed).body)
 
 -- A beginning leaves the attached store as it was; or the store keeps the session that is made, by its journal.
 abbrev pub LeavesBegun : Room → Standing → Standing → Option Opened → Type 0
@@ -65,7 +66,7 @@ LeavesBegun room old new None = new ≡ old
 LeavesBegun room old new (Some s) = KeptIn s.journal room new
 
 -- What resuming the session of these bytes leaves; where they stand for lines, the player sits after those.
-abbrev pub TakesUp : {F : Type 0} → Story → Room → Seat F → Bytes → Option Opened → Type 0
+abbrev pub TakesUp : {F : Type 0} → Story → Room → PlayerView F → Bytes → Option Opened → Type 0
 TakesUp g room seat bytes None = ¬ ShowsSome g bytes
 TakesUp g room seat bytes (Some s) = ShowsSome g bytes × ((seed : Seed) (es : Lines) → IsPlayedWith g seed es →
     Stands g seed es bytes →
@@ -77,13 +78,13 @@ abbrev pub InFile : (Bytes → Type 0) → Standing → Moment → Type 0
 InFile Left old m = InStore old (λ (d : Disk). (image : Bytes) → MayLeave d image → Left image) m
 
 -- The bytes are those of one session or of another.
-abbrev pub StoresEither : Story → Session → Session → Bytes → Type 0
+abbrev pub StoresEither : Story → NamedSession → NamedSession → Bytes → Type 0
 StoresEither g before after bytes = Stores g before bytes ⊎ Stores g after bytes
 
 -- The bytes are none, or those of a session that is made, which then is one that stands at no lines.
 abbrev pub LeftOfBeginning : Story → Seed → Bytes → Type 0
 LeftOfBeginning g seed bytes =
-    (bytes ≡ []) ⊎ (((begun g seed).session ≡ At seed []) × (IsUnmade (recover bytes) ⊎ Stands g seed [] bytes))
+    (bytes ≡ []) ⊎ (((begun_answer g seed).session ≡ At seed []) × (IsUnmade (recover bytes) ⊎ Stands g seed [] bytes))
 
 -- All stands as it did, except for the file of this name, and for which store is attached.
 pub record IsAside (name : Name) (old new : Standing) : Type 0 where
@@ -95,7 +96,7 @@ pub record IsAside (name : Name) (old new : Standing) : Type 0 where
 -- A moment at which a session is asked for something: only the file of its name may differ from what stood, and whatever a
 -- crash leaves of that is of the session before; or the store is attached, and it is of the session after, or of one that
 -- is made.
-pub record InAnswer (g : Story) (seed : Seed) (name : Name) (before after : Session) (old : Standing) (m : Moment)
+pub record InAnswer (g : Story) (seed : Seed) (name : Name) (before after : NamedSession) (old : Standing) (m : Moment)
     : Type 0 where
   pub asked : m.asked ≡ old.asked
   pub shown : m.shown ≡ old.shown
@@ -106,7 +107,7 @@ pub record InAnswer (g : Story) (seed : Seed) (name : Name) (before after : Sess
       ⊎ ((m.attached ≡ Some name) × (Stores g after bytes ⊎ LeftOfMaking g seed before after bytes))
 
 -- The bytes are of one session or of another, or of one that is made.
-abbrev pub LeftOf : Story → Seed → Session → Session → Bytes → Type 0
+abbrev pub LeftOf : Story → Seed → NamedSession → NamedSession → Bytes → Type 0
 LeftOf g seed before after bytes = Stores g before bytes ⊎ Stores g after bytes ⊎ LeftOfMaking g seed before after bytes
 
 -- The calls by which a session is asked for something.

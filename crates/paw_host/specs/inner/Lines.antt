@@ -10,14 +10,14 @@ use Rattle.paw_stage.specs.declared.StageCall.{StageCall}
 use Rattle.paw_host.specs.Names.{Request, is_name, store_name}
 use Rattle.paw_host.specs.Replies.{Sessions, reply_to, sessions_with, sessions_after}
 use Rattle.paw_host.specs.Promise.{MayBe, AllStore, EachLeft, Answered, attached_with, MayAttach}
-use Rattle.paw_host.specs.Outcomes.{failed_call}
+use Rattle.paw_host.specs.Outcomes.{host_failure}
 use Rattle.paw_host.specs.declared.outcome.HostOutcome.{HostOutcome}
 use Rattle.paw_host.specs.declared.outcome.HostOutcome.TheVariants as outcome
 
 -- The call that failed, if an outcome has come.
-abbrev pub failed_so_far : Option HostOutcome → Option StageCall
-failed_so_far None = None
-failed_so_far (Some o) = failed_call o
+abbrev pub host_failure_so_far : Option HostOutcome → Option StageCall
+host_failure_so_far None = None
+host_failure_so_far (Some o) = host_failure o
 
 -- Each of the sessions may be.
 abbrev pub AllMay : Story → Sessions → Type 0
@@ -73,8 +73,8 @@ ServesTo g seed first old new n (Some (outcome.Outside c)) = Unit {0}
 ServesTo g seed first old new n (Some _) = ⊥
 
 -- What is asked for is done, and the reply is made.
-abbrev pub Does : Story → Seed → Sessions → Option Request → Text → Standing → Standing → Type 0
-Does g seed sessions request text old new =
+abbrev pub AnswersRequest : Story → Seed → Sessions → Option Request → Text → Standing → Standing → Type 0
+AnswersRequest g seed sessions request text old new =
     (text ≡ reply_to g seed sessions request) × IsDone g (sessions_with g seed sessions request) request old new
 
 -- A moment at which a line's request is carried out.

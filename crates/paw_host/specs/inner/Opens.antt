@@ -8,29 +8,29 @@ use Rattle.paw_image.specs.Images.{IsImage}
 use Rattle.paw_stage.specs.Stage.{Standing}
 use Rattle.paw_stage.specs.declared.StageCall.{StageCall}
 use Rattle.paw_stage.specs.declared.StageCall.TheVariants as call
-use Rattle.paw_host.specs.Outcomes.{failed_call}
+use Rattle.paw_host.specs.Outcomes.{host_failure}
 use Rattle.paw_host.specs.declared.outcome.HostOutcome.{HostOutcome}
 use Rattle.paw_host.specs.declared.outcome.HostOutcome.TheVariants as outcome
 
 -- The call that failed, where there is an outcome only if something failed.
-abbrev pub failed_or : {A : Type 0} → Result A HostOutcome → Option StageCall
-failed_or (Ok a) = None
-failed_or (Err o) = failed_call o
+abbrev pub host_failure_or : {A : Type 0} → Result A HostOutcome → Option StageCall
+host_failure_or (Ok a) = None
+host_failure_or (Err o) = host_failure o
 
 -- A load that gave these bytes: the whole file, or one byte more than an image may have; nothing is changed.
-abbrev pub LoadsSome : Name → Standing → Standing → Bytes → Type 0
-LoadsSome name old new given =
+abbrev pub ReadsImage : Name → Standing → Standing → Bytes → Type 0
+ReadsImage name old new given =
     (bytes : Bytes) × (old.files name ≡ Some bytes) × (given ≡ take (IMAGE_LIMIT + 1) bytes) × (new ≡ old)
 
 -- A load that gave nothing, by its answer; nothing is changed.
-abbrev pub LoadsNone : Name → Standing → Standing → HostOutcome → Type 0
-LoadsNone name old new (outcome.Outside call.LoadAbsent) = (old.files name ≡ None) × (new ≡ old)
-LoadsNone name old new (outcome.Outside call.Load) = new ≡ old
-LoadsNone name old new outcome.Memory = new ≡ old
-LoadsNone name old new _ = ⊥
+abbrev pub ReadsNoImage : Name → Standing → Standing → HostOutcome → Type 0
+ReadsNoImage name old new (outcome.Outside call.LoadAbsent) = (old.files name ≡ None) × (new ≡ old)
+ReadsNoImage name old new (outcome.Outside call.Load) = new ≡ old
+ReadsNoImage name old new outcome.Memory = new ≡ old
+ReadsNoImage name old new _ = ⊥
 
 -- Why bytes give no game: they are no image of a valid one, or memory was lacking.
-abbrev pub GivesNone : Bytes → HostOutcome → Type 0
-GivesNone bytes (outcome.ImageDamaged at) = ((g : GameLists) → ¬ IsImage bytes g) × (bad bytes ≡ Some at)
-GivesNone bytes outcome.Memory = Unit {0}
-GivesNone bytes _ = ⊥
+abbrev pub OpensNone : Bytes → HostOutcome → Type 0
+OpensNone bytes (outcome.ImageDamaged at) = ((g : GameLists) → ¬ IsImage bytes g) × (bad bytes ≡ Some at)
+OpensNone bytes outcome.Memory = Unit {0}
+OpensNone bytes _ = ⊥

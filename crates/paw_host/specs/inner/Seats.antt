@@ -9,22 +9,22 @@ use Rattle.paw_game.specs.Image.{image}
 use Rattle.paw_routines.specs.Measure.{measure}
 use Rattle.paw_routines.specs.Routines.{AreRowsOf, HaveRows}
 use Rattle.paw_routines.specs.declared.routines.Routines.{Routines}
-use Rattle.paw_turn.specs.inner.Player.{Seat, IsSeated}
+use Rattle.paw_turn.specs.inner.Player.{PlayerView, IsSeated}
 use Rattle.paw_turn.specs.inner.Parts.{IsStanding}
 
 -- A player that is seated, at the game and with the routines that it had.
-pub record Stays {F : Type 0} (old new : Seat F) : Type 0 where
+pub record StaysSeated {F : Type 0} (old new : PlayerView F) : Type 0 where
   pub seated : IsSeated new
   pub game : new.game ≡ old.game
   pub routines : new.routines ≡ old.routines
 
 -- A player that stays, and of whose numbers no more were drawn than one piece draws.
-pub record PlaysAnew {F : Type 0} (old new : Seat F) : Type 0 where
-  pub stays : Stays old new
+pub record PlaysAnew {F : Type 0} (old new : PlayerView F) : Type 0 where
+  pub stays : StaysSeated old new
   pub draws : new.world.draws ≤ READ_LIMIT
 
 -- A player that stands, after as many lines as a session may have.
-pub record StandsAfter {F : Type 0} (events : ℕ) (seat : Seat F) : Type 0 where
+pub record StandsAfter {F : Type 0} (events : ℕ) (seat : PlayerView F) : Type 0 where
   pub few : events ≤ EVENT_LIMIT
   pub standing : IsStanding seat.last
   pub draws : seat.world.draws ≤ READ_LIMIT * (events + 1)
@@ -41,7 +41,7 @@ pub record AreDigestsOf {F : Type 0} (calls : Shared F (ℕ × (ℕ × Unit {0})
 
 -- A player of the hosted game: its game is that of these tables, and these are the digests of what it plays with.
 pub record IsHosted {F : Type 0} (calls : Shared F (ℕ × (ℕ × Unit {0})) ℕ) (tables : GameLists) (game rules : Bytes)
-    (seat : Seat F) : Type 0 where
+    (seat : PlayerView F) : Type 0 where
   pub seated : IsSeated seat
   pub rows : HaveRows calls seat.routines
   pub same : seat.game ≡ tables

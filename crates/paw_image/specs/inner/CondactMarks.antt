@@ -20,8 +20,8 @@ AreMarks marks count condacts =
     (k : ℕ) → suc k * 8 < count → (mark : ℕ) × (slice_get marks k ≡ Some mark) × GoesOnAt (suc k * 8) condacts mark
 
 -- Every number of a list stands in another list at the same place.
-abbrev pub KeepsPlaces : (old new : List ℕ) → Type 0
-KeepsPlaces old new = (k x : ℕ) → slice_get old k ≡ Some x → slice_get new k ≡ Some x
+abbrev pub BeginsWithList : (old new : List ℕ) → Type 0
+BeginsWithList old new = (k x : ℕ) → slice_get old k ≡ Some x → slice_get new k ≡ Some x
 
 -- The first of the marks are those of the entry at the front.
 abbrev pub MarkEntry : List ℕ → Bytes → Type 0

@@ -5,8 +5,8 @@ use Rattle.paw_image.specs.declared.refusal.ImageRefusal.{ImageRefusal}
 use Rattle.paw_image.specs.declared.refusal.ImageRefusal.TheVariants as refusal
 
 -- Each number is a byte.
-abbrev pub AreBytes : List ℕ → Type 0
-AreBytes bytes = (i : ℕ) → slice_index bytes i < 256
+abbrev pub EachIsByte : List ℕ → Type 0
+EachIsByte bytes = (i : ℕ) → slice_index bytes i < 256
 
 -- A fact of the place that a refusal names.
 abbrev pub AtDamage : ImageRefusal → (ℕ → Type 0) → Type 0

@@ -9,7 +9,7 @@ use Rattle.paw_image.specs.declared.head.Front.{Front}
 use Rattle.paw_image.specs.declared.offsets.Offsets.{Offsets}
 use Rattle.paw_image.specs.declared.offsets.TableIndex.{TableIndex}
 use Rattle.paw_image.specs.inner.CondactMarks.{IsEnd, IsMarked}
-use Rattle.paw_image.specs.Damage.{Preface, Passing, front, each, number_kept, after_text}
+use Rattle.paw_image.specs.Damage.{ImagePreface, Passing, front, each, checked_number, after_text}
 use Rattle.paw_image.specs.Damage.{after_object, after_exits, after_entry, after_table}
 use Rattle.paw_image.specs.inner.Orders.{IsOrder}
 use Rattle.paw_faults.specs.Bind.{◌>>=◌}
@@ -36,34 +36,34 @@ unfoldable pub begins : (Bytes → Passing) → ℕ → ℕ → Bytes → List �
 begins row total zero bytes = []
 begins row total (suc n) bytes = (total - length bytes) ∷ on_rest (begins row total n) (row bytes)
 
-abbrev pub entries_after : Preface → ℕ → Result (ℕ × Bytes) ℕ → List ℕ
+abbrev pub entries_after : ImagePreface → ℕ → Result (ℕ × Bytes) ℕ → List ℕ
 entries_after d total (Ok count) = begins (after_entry d) total count.0 count.1
 entries_after d total (Err left) = []
 
 -- Where the entries of the table at the front begin.
-unfoldable pub entries_begin : Preface → ℕ → Bytes → List ℕ
-entries_begin d total bytes = entries_after d total (number_kept 0 ENTRY_LIMIT bytes)
+unfoldable pub entries_begin : ImagePreface → ℕ → Bytes → List ℕ
+entries_begin d total bytes = entries_after d total (checked_number 0 ENTRY_LIMIT bytes)
 
 -- The same for a number of tables.
-unfoldable pub tables_begin : Preface → ℕ → ℕ → Bytes → List (List ℕ)
+unfoldable pub tables_begin : ImagePreface → ℕ → ℕ → Bytes → List (List ℕ)
 tables_begin d total zero bytes = []
 tables_begin d total (suc n) bytes =
     entries_begin d total bytes ∷ on_rest (tables_begin d total n) (after_table d bytes)
 
 -- The bytes after the system messages, then after the lists up to each further one.
-abbrev pub to_messages : Preface → Bytes → Passing
+abbrev pub to_messages : ImagePreface → Bytes → Passing
 to_messages d bytes = each after_text d.counts.system bytes
 
-abbrev pub to_objects : Preface → Bytes → Passing
+abbrev pub to_objects : ImagePreface → Bytes → Passing
 to_objects d bytes = to_messages d bytes >>= each after_text d.counts.messages
 
-abbrev pub to_locations : Preface → Bytes → Passing
+abbrev pub to_locations : ImagePreface → Bytes → Passing
 to_locations d bytes = to_objects d bytes >>= each (after_object d) d.counts.objects
 
-abbrev pub to_exits : Preface → Bytes → Passing
+abbrev pub to_exits : ImagePreface → Bytes → Passing
 to_exits d bytes = to_locations d bytes >>= each after_text d.counts.locations
 
-abbrev pub to_tables : Preface → Bytes → Passing
+abbrev pub to_tables : ImagePreface → Bytes → Passing
 to_tables d bytes = to_exits d bytes >>= each (after_exits d) d.counts.locations
 
 -- Where the entries of each table begin, as the index has it.
@@ -71,7 +71,7 @@ abbrev pub entries_of : List TableIndex → List (List ℕ)
 entries_of ts = map (λ t. t.entries.items) ts
 
 -- Where the rows of each list begin, as the lists after the words are passed over.
-pub record AreGoneOver (d : Preface) (total : ℕ) (bytes : Bytes) (p : Offsets) : Type 0 where
+pub record AreGoneOver (d : ImagePreface) (total : ℕ) (bytes : Bytes) (p : Offsets) : Type 0 where
   pub system : p.system.items ≡ begins after_text total d.counts.system bytes
   pub messages : p.messages.items ≡ on_rest (begins after_text total d.counts.messages) (to_messages d bytes)
   pub objects : p.objects.items ≡ on_rest (begins (after_object d) total d.counts.objects) (to_objects d bytes)
@@ -80,7 +80,7 @@ pub record AreGoneOver (d : Preface) (total : ℕ) (bytes : Bytes) (p : Offsets)
   pub tables : entries_of p.tables.items ≡ on_rest (tables_begin d total d.counts.tables) (to_tables d bytes)
 
 -- The front as the code has it.
-abbrev pub preface_of : Front → Preface
+abbrev pub preface_of : Front → ImagePreface
 preface_of f = record { version = f.version; counts = f.counts; words = f.words.items }
 
 -- The front, the bytes after it and the offsets that result where the bytes are passed over.

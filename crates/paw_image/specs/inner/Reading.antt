@@ -15,7 +15,7 @@ use Rattle.paw_game.specs.Game.{GameLists}
 use Rattle.paw_game.specs.Image.{version_of}
 use Rattle.paw_image.specs.declared.version.Version.{Version}
 use Rattle.paw_image.specs.declared.version.Version.TheVariants.{One, Two}
-use Rattle.paw_image.specs.Damage.{Preface, front}
+use Rattle.paw_image.specs.Damage.{ImagePreface, front}
 use Rattle.paw_faults.specs.Bind.{◌>>=◌}
 use Rattle.paw_image.specs.Reading.{Reading, byte_at, bytes_at, number_at}
 
@@ -52,8 +52,8 @@ few_at row bytes = do
 -- ---- rows ----
 
 -- A length of two bytes, and the text.
-unfoldable pub text_at : Bytes → Reading Text
-text_at bytes = do
+unfoldable pub sized_text_at : Bytes → Reading Text
+sized_text_at bytes = do
   len ← number_at bytes
   bytes_at len.0 len.1
 
@@ -80,7 +80,7 @@ leading_facts bytes = do
 -- A text, and the facts of the object.
 unfoldable pub object_at : Bytes → Reading ObjectRow
 object_at bytes = do
-  text ← text_at bytes
+  text ← sized_text_at bytes
   facts ← leading_facts text.1
   Ok (record { text = text.0; facts = facts.0 }, facts.1)
 
@@ -142,24 +142,24 @@ game_with words system messages objects locations exits tables = record {
 }
 
 -- The lists after the words, with these numbers of rows; each location has its exits.
-unfoldable pub lists_at : Preface → Bytes → Reading GameLists
+unfoldable pub lists_at : ImagePreface → Bytes → Reading GameLists
 lists_at d bytes = do
-  system ← leading_rows text_at d.counts.system bytes
-  messages ← leading_rows text_at d.counts.messages system.1
+  system ← leading_rows sized_text_at d.counts.system bytes
+  messages ← leading_rows sized_text_at d.counts.messages system.1
   objects ← leading_rows object_at d.counts.objects messages.1
-  locations ← leading_rows text_at d.counts.locations objects.1
+  locations ← leading_rows sized_text_at d.counts.locations objects.1
   exits ← leading_rows exits_at d.counts.locations locations.1
   tables ← leading_rows leading_table d.counts.tables exits.1
   Ok (game_with d.words system.0 messages.0 objects.0 locations.0 exits.0 tables.0, tables.1)
 
 -- The byte that stands for a version.
-abbrev pub byte_of : Version → ℕ
-byte_of One = 1
-byte_of Two = 2
+abbrev pub version_byte : Version → ℕ
+version_byte One = 1
+version_byte Two = 2
 
 -- All of the bytes, with none after the lists, whose version is the one that they need.
 unfoldable pub all_of : Bytes → Result GameLists ℕ
 all_of bytes = do
   d ← front bytes
   lists ← lists_at d.0 d.1
-  if (length lists.1 == 0) && (byte_of d.0.version == version_of lists.0) then Ok lists.0 else Err (length lists.1)
+  if (length lists.1 == 0) && (version_byte d.0.version == version_of lists.0) then Ok lists.0 else Err (length lists.1)

@@ -8,7 +8,7 @@ use Rattle.paw_game.specs.declared.parts.Exit.{Exit}
 use Rattle.paw_image.specs.Damage.{Passing, each}
 use Rattle.paw_faults.specs.Bind.{◌>>=◌}
 use Rattle.paw_image.specs.Reading.{Reading}
-use Rattle.paw_image.specs.inner.Reading.{text_at, leading_facts, leading_condact}
+use Rattle.paw_image.specs.inner.Reading.{sized_text_at, leading_facts, leading_condact}
 
 -- The value that was read, where there is one.
 abbrev pub value_of : {A : Type 0} → Reading A → Option A
@@ -17,7 +17,7 @@ value_of (Err left) = None
 
 -- The facts of an object whose text stands at the front.
 abbrev pub after_text_facts : Bytes → Reading ObjectFacts
-after_text_facts bytes = text_at bytes >>= λ text. leading_facts text.1
+after_text_facts bytes = sized_text_at bytes >>= λ text. leading_facts text.1
 
 -- The facts of the object at the front.
 unfoldable pub facts_here : Bytes → Option ObjectFacts

@@ -17,12 +17,12 @@ slot_number which.First = 0
 slot_number which.Second = 1
 
 -- The state of a slot, with the number of its change records.
-abbrev pub state_in : Bytes → SlotState
-state_in bytes = record { records = two_byte_number 0 bytes; state = slot_state bytes }
+abbrev pub slot_with_records : Bytes → SlotState
+slot_with_records bytes = record { records = two_byte_number 0 bytes; state = slot_state bytes }
 
 -- The same, for a commit to go on from; none where it has no state, or is of an older version.
 abbrev pub kept_slot : List ℕ → Option SlotState
-kept_slot bytes = if is_current bytes && has_state bytes then Some (state_in bytes) else None
+kept_slot bytes = if is_current bytes && has_state bytes then Some (slot_with_records bytes) else None
 
 -- The bytes on their way to the store or from it, the state and the piece that the session shows, and the states of
 -- both slots.
@@ -55,8 +55,8 @@ with_made state room = record room {
 }
 
 -- The slot that was read is this slot of the store.
-abbrev pub HasRead : Slot → Standing → Room → Type 0
-HasRead which s room = room.slot ≡ slot (slot_number which) s.disk.bytes
+abbrev pub HasReadSlot : Slot → Standing → Room → Type 0
+HasReadSlot which s room = room.slot ≡ slot (slot_number which) s.disk.bytes
 
 -- The room shows what the slot that was read shows.
 abbrev pub ShowsSlot : Digests → Room → Room → Type 0

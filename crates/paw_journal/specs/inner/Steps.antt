@@ -6,29 +6,30 @@ use Rattle.paw_base.specs.declared.limits.TheConstants.{PIECE_LIMIT}
 use Rattle.paw_stage.specs.Disk.{Disk, is_dirty, put}
 use Rattle.paw_stage.specs.Stage.{Standing}
 use Rattle.paw_journal.specs.declared.drafting.SlotState.{SlotState}
-use Rattle.paw_journal.specs.declared.drafting.Draft.{Draft}
+use Rattle.paw_journal.specs.declared.drafting.CommitDraft.{CommitDraft}
 use Rattle.paw_journal.specs.declared.layout.Slot.{Slot}
 use Rattle.paw_journal.specs.declared.finding.Header.{Header}
-use Rattle.paw_journal.specs.Session.{session_length, header_length, slot_length, made_mark, mark, chosen, version}
+use Rattle.paw_journal.specs.Session.{session_length, header_length, slot_length, made_mark, session_mark, chosen}
+use Rattle.paw_journal.specs.Session.{version}
 use Rattle.paw_journal.specs.Session.{is_version}
 use Rattle.paw_journal.specs.Session.{Digests, kept_digests, changes, changed, first_unsound, slot, recover}
 use Rattle.paw_journal.specs.inner.Session.{digests_of, session_shown}
 use Rattle.paw_journal.specs.Session.{made_session, differing, differences, rewritten, committed_slot, committed}
 use Rattle.paw_journal.specs.inner.Room.{slot_number, kept_slot}
 use Rattle.paw_journal.specs.inner.Written.{most_written}
-use Rattle.paw_journal.specs.inner.Store.{IsBeside, HoldsStable}
+use Rattle.paw_journal.specs.inner.Store.{ChangesStoreOnly, HoldsStable}
 
 -- A session is made of these bytes.
 pub record IsMade (bytes : Bytes) : Type 0 where
   pub long : length bytes ≡ session_length
-  pub marked : mark bytes ≡ made_mark
+  pub marked : session_mark bytes ≡ made_mark
   pub versioned : is_version (version bytes) ≡ true
 
 -- The store has these bytes, and no crash leaves the mark of a session: byte 0 is stable, and it is 0.
 pub record IsBlank (held : Bytes) (d : Disk) : Type 0 where
   pub bytes : d.bytes ≡ held
   pub long : 1 ≤ length d.synced
-  pub blank : mark d.bytes ≡ 0
+  pub blank : session_mark d.bytes ≡ 0
   pub clean : is_dirty d.dirty 0 ≡ false
 
 -- What a header says of a session that is made of these bytes: the slot in use, and whose session it is.
@@ -54,12 +55,12 @@ pub record IsFilling (k : ℕ) (old new : Standing) : Type 0 where
   pub low : k < 2
   pub made : IsMade old.disk.bytes
   pub other : chosen old.disk.bytes ≡ 1 - k
-  pub beside : IsBeside old new
+  pub beside : ChangesStoreOnly old new
   pub within : IsWithin (start_of k) (start_of k + slot_length) old.disk.bytes new.disk
 
 -- A session that is being filled still is.
-abbrev pub KeepsFilling : ℕ → Standing → Standing → Type 0
-KeepsFilling k old new = (first : Standing) → IsFilling k first old → IsFilling k first new
+abbrev pub IsStillFilling : ℕ → Standing → Standing → Type 0
+IsStillFilling k old new = (first : Standing) → IsFilling k first old → IsFilling k first new
 
 -- A session is made of the store's bytes, and this slot isn't in use.
 pub record IsSpare (k : ℕ) (bytes : Bytes) : Type 0 where
@@ -99,18 +100,18 @@ abbrev pub IsHeaderOf : Bytes → Header → Type 0
 IsHeaderOf bytes header = Introduces (slot_number header.slot) (header_digests header) bytes
 
 -- Change records that turn one state into another, one for each position that differs.
-pub record Turns (old new records : Bytes) : Type 0 where
+pub record ChangesInto (old new records : Bytes) : Type 0 where
   pub exact : records ≡ differences old new
   pub many : length records ≡ 4 * differing old new
   pub sound : first_unsound (changes records) ≡ None
   pub turned : changed (changes records) old ≡ new
 
 -- The bytes of a slot once a commit has written it.
-abbrev pub written_slot : Draft → Bytes → Text → Bytes → Bytes
+abbrev pub written_slot : CommitDraft → Bytes → Text → Bytes → Bytes
 written_slot draft bytes piece old = rewritten draft.at bytes draft.records piece old
 
 -- The bytes of a session once a commit has written this slot, and not chosen it yet.
-abbrev pub written_session : ℕ → Draft → Bytes → Text → Bytes → Bytes
+abbrev pub written_session : ℕ → CommitDraft → Bytes → Text → Bytes → Bytes
 written_session k draft bytes piece old = put (start_of k) (written_slot draft bytes piece (slot k old)) old
 
 -- The bytes of a session once this slot is chosen.
@@ -118,7 +119,7 @@ abbrev pub chosen_session : ℕ → Bytes → Bytes
 chosen_session k old = put 1 (k ∷ []) old
 
 -- A commit has written this slot, and not chosen it yet: a crash leaves just the bytes of such a session.
-abbrev pub WritesSlot : Slot → Draft → Bytes → Text → Standing → Standing → Type 0
+abbrev pub WritesSlot : Slot → CommitDraft → Bytes → Text → Standing → Standing → Type 0
 WritesSlot which draft bytes piece old new =
     HoldsStable (written_session (slot_number which) draft bytes piece old.disk.bytes) new
 
@@ -128,7 +129,7 @@ Chooses which old new = HoldsStable (chosen_session (slot_number which) old.disk
 
 -- What a commit writes into a slot besides its head and the piece, so that the slot is what a commit makes of it, has
 -- this state, and no more bytes are written than a commit may write.
-pub record Drafts (kept : Option SlotState) (state bytes : Bytes) (draft : Draft) : Type 0 where
+pub record Drafts (kept : Option SlotState) (state bytes : Bytes) (draft : CommitDraft) : Type 0 where
   pub inside : draft.at + length bytes ≤ slot_length
   pub exact : (old piece : Bytes) → kept_slot old ≡ kept →
       written_slot draft bytes piece old ≡ committed_slot state piece old

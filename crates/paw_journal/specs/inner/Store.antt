@@ -11,7 +11,7 @@ use Rattle.paw_journal.specs.inner.Session.{session_shown, marked}
 use Rattle.paw_journal.specs.inner.Room.{slot_number}
 
 -- All but the attached store stands as it did. Where its file held the bytes of the store, it still does.
-pub record IsBeside (old new : Standing) : Type 0 where
+pub record ChangesStoreOnly (old new : Standing) : Type 0 where
   pub lines : new.lines ≡ old.lines
   pub asked : new.asked ≡ old.asked
   pub shown : new.shown ≡ old.shown
@@ -29,16 +29,16 @@ pub record InStore (old : Standing) (Inside : Disk → Type 0) (m : Moment) : Ty
   pub disk : Inside m.disk
 
 -- Whatever a crash leaves of the disk stands for such a session.
-abbrev pub Leaves : (Recovered → Type 0) → Disk → Type 0
-Leaves Such d = (image : Bytes) → MayLeave d image → Such (recover image)
+abbrev pub CrashLeavesSuch : (Recovered → Type 0) → Disk → Type 0
+CrashLeavesSuch Such d = (image : Bytes) → MayLeave d image → Such (recover image)
 
 -- What the store stands for if it chooses this slot.
 abbrev pub shown_by : ℕ → Standing → Recovered
 shown_by k s = recover_by k s.disk.bytes
 
 -- What is recovered is one of these two.
-abbrev pub IsEither : Recovered → Recovered → Recovered → Type 0
-IsEither old new r = (r ≡ old) ⊎ (r ≡ new)
+abbrev pub IsOldOrNew : Recovered → Recovered → Recovered → Type 0
+IsOldOrNew old new r = (r ≡ old) ⊎ (r ≡ new)
 
 -- What is recovered is no session, or this one.
 abbrev pub IsUnmadeOr : Recovered → Recovered → Type 0
@@ -60,11 +60,11 @@ LaysSlots bytes old new = HoldsStable (old.disk.bytes ++ bytes ++ bytes) new
 
 -- A crash leaves no session.
 abbrev pub LeavesUnmade : Standing → Moment → Type 0
-LeavesUnmade old m = InStore old (Leaves IsUnmade) m
+LeavesUnmade old m = InStore old (CrashLeavesSuch IsUnmade) m
 
 -- A crash leaves no session, or one that shows this.
 abbrev pub LeavesUnmadeOr : Recovered → Standing → Moment → Type 0
-LeavesUnmadeOr made old m = InStore old (Leaves (IsUnmadeOr made)) m
+LeavesUnmadeOr made old m = InStore old (CrashLeavesSuch (IsUnmadeOr made)) m
 
 -- A crash leaves no session, or the one that is made with these digests, this state and this piece.
 abbrev pub LeavesMade : Digests → Bytes → Text → Standing → Moment → Type 0
@@ -76,14 +76,17 @@ LeavesMarked old m = LeavesUnmadeOr (recover (marked old.disk.bytes)) old m
 
 -- A crash leaves what the session showed before.
 abbrev pub LeavesSame : Standing → Moment → Type 0
-LeavesSame old m = InStore old (Leaves (λ r. r ≡ recover old.disk.bytes)) m
+LeavesSame old m = InStore old (CrashLeavesSuch (λ r. r ≡ recover old.disk.bytes)) m
 
 -- A crash leaves what the one slot shows, or the other.
 abbrev pub LeavesSlot : Slot → Standing → Moment → Type 0
 LeavesSlot which old m =
-    InStore old (Leaves (IsEither (shown_by (1 - slot_number which) old) (shown_by (slot_number which) old))) m
+    InStore old
+    (CrashLeavesSuch (IsOldOrNew (shown_by (1 - slot_number which) old) (shown_by (slot_number which) old))) m
 
 -- A crash leaves what the session showed before, or this state and this piece, with the digests that it has.
 abbrev pub LeavesOldOr : Bytes → Text → Standing → Moment → Type 0
 LeavesOldOr state piece old m =
-    InStore old (Leaves (IsEither (recover old.disk.bytes) (session_shown (kept_digests old.disk.bytes) state piece))) m
+    InStore old
+    (CrashLeavesSuch
+    (IsOldOrNew (recover old.disk.bytes) (session_shown (kept_digests old.disk.bytes) state piece))) m

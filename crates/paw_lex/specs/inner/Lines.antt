@@ -13,8 +13,8 @@ pub record Walk : Type 0 where
   pub left : Lines
 
 -- The bytes of a line of the source.
-abbrev pub bytes_of : Bytes → Line → Bytes
-bytes_of source line = slice_range source line.from line.to
+abbrev pub line_bytes : Bytes → Line → Bytes
+line_bytes source line = slice_range source line.from line.to
 
 -- The span of a line lies in the source.
 abbrev pub LiesIn : Bytes → Line → Type 0

@@ -8,7 +8,7 @@ use Rattle.paw_phrase.specs.declared.Found.{Found}
 use Rattle.paw_phrase.specs.declared.Found.TheVariants as found
 use Rattle.paw_phrase.specs.declared.next.Part.{Part}
 use Rattle.paw_phrase.specs.declared.next.Part.TheVariants as part
-use Rattle.paw_phrase.specs.declared.next.Draft.{Draft}
+use Rattle.paw_phrase.specs.declared.next.PhraseDraft.{PhraseDraft}
 use Rattle.paw_phrase.specs.Sentence.{blank, with_word, finished, Parsed, IsSentence, IsUnknown, IsNoPhrase}
 
 abbrev pub part_of_word : Option (ℕ × ℕ) → Part
@@ -21,7 +21,7 @@ phrase_part_of g None = part.Break
 phrase_part_of g (Some letters) = part_of_word (word_at g letters)
 
 -- A phrase that has begun ends at a break.
-abbrev pub past_break : Found → Draft → Option Draft
+abbrev pub past_break : Found → PhraseDraft → Option PhraseDraft
 past_break found.Empty d = Some d
 past_break found.Nothing d = None
 past_break found.Sentence d = None
@@ -33,20 +33,20 @@ or_nothing found.Nothing = found.Nothing
 or_nothing found.Sentence = found.Sentence
 
 -- The draft with one more part; None where the phrase ends.
-abbrev pub with_part : Part → Draft → Option Draft
+abbrev pub with_part : Part → PhraseDraft → Option PhraseDraft
 with_part part.Break d = past_break d.found d
 with_part part.Unknown d = Some (record d { found = or_nothing d.found })
 with_part (part.Word value class) d = Some (record { found = found.Sentence; words = with_word value class d.words })
 
 -- A draft of which nothing is read yet.
-abbrev pub started : ℕ → ℕ → Draft
+abbrev pub started : ℕ → ℕ → PhraseDraft
 started noun adjective = record { found = found.Empty; words = blank noun adjective }
 
 -- What a draft is where its phrase ends, with the bytes after it.
-abbrev pub found_outcome : ℕ → Found → Draft → Bytes → Parsed
+abbrev pub found_outcome : ℕ → Found → PhraseDraft → Bytes → Parsed
 found_outcome earlier found.Sentence d rest = IsSentence (finished earlier d.words) rest
 found_outcome earlier found.Nothing d rest = IsUnknown rest
 found_outcome earlier found.Empty d rest = IsNoPhrase
 
-abbrev pub draft_outcome : ℕ → Draft → Bytes → Parsed
+abbrev pub draft_outcome : ℕ → PhraseDraft → Bytes → Parsed
 draft_outcome earlier d rest = found_outcome earlier d.found d rest

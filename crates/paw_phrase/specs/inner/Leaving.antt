@@ -5,10 +5,10 @@ use Rattle.paw_game.specs.Game.{GameLists}
 use Rattle.paw_phrase.specs.Sentence.{Parsed, IsSentence, IsUnknown, IsNoPhrase, parsed}
 
 -- A fact of the bytes that a phrase leaves.
-abbrev pub Leaves : (Bytes → Type 0) → Parsed → Type 0
-Leaves P (IsSentence s rest) = P rest
-Leaves P (IsUnknown rest) = P rest
-Leaves P IsNoPhrase = Unit {0}
+abbrev pub LeavesBytes : (Bytes → Type 0) → Parsed → Type 0
+LeavesBytes P (IsSentence s rest) = P rest
+LeavesBytes P (IsUnknown rest) = P rest
+LeavesBytes P IsNoPhrase = Unit {0}
 
 -- Nothing is left, or at least two bytes less.
 abbrev pub IsTwoLess : Bytes → Bytes → Type 0
@@ -17,4 +17,4 @@ IsTwoLess pending rest = (rest ≡ []) ⊎ (length rest + 2 ≤ length pending)
 -- So it is after each phrase that is taken.
 abbrev pub PhrasesTakeTwo : Type 0
 PhrasesTakeTwo = (g : GameLists) (pending : Bytes) (earlier noun adjective : ℕ)
-    → Leaves (IsTwoLess pending) (parsed g pending earlier noun adjective)
+    → LeavesBytes (IsTwoLess pending) (parsed g pending earlier noun adjective)

@@ -23,9 +23,9 @@ failed_so_far None = None
 failed_so_far (Some o) = call_of_end o
 
 -- The call that failed, where playing has ended only if there is no answer.
-abbrev pub failed_or : {A : Type 0} → Result A PlayEnd → Option StageCall
-failed_or (Ok a) = None
-failed_or (Err o) = call_of_end o
+abbrev pub end_failed_or : {A : Type 0} → Result A PlayEnd → Option StageCall
+end_failed_or (Ok a) = None
+end_failed_or (Err o) = call_of_end o
 
 -- Playing goes on with this, or has ended.
 abbrev pub unless_ended : {A : Type 0} → Option PlayEnd → A → Result A PlayEnd

@@ -18,14 +18,14 @@ use Rattle.paw_effects.specs.declared.act.Prompt.TheVariants as prompt
 use Rattle.paw_reading.specs.Run.{Run, Step as Read}
 use Rattle.paw_reading.specs.declared.places.Halt.{Halt}
 use Rattle.paw_reading.specs.declared.places.Halt.TheVariants as halt
-use Rattle.paw_reading.specs.Turn.{Halted, reading, on}
-use Rattle.paw_turn.specs.inner.Player.{step_of, step_halt, brings_piece, Seat, run_at, IsSeated, IsNew}
+use Rattle.paw_reading.specs.Turn.{Halted, reading, going_on_from}
+use Rattle.paw_turn.specs.inner.Player.{step_of, step_halt, brings_piece, PlayerView, run_at, IsSeated, IsNew}
 use Rattle.paw_turn.specs.inner.Parts.{prompt_at, IsStanding}
 use Rattle.paw_turn.specs.declared.Step.{Step}
 use Rattle.paw_turn.specs.declared.Step.TheVariants as step
 use Rattle.paw_base.specs.Bytes.{Bytes, Lines, Name, RoutineRows, Seed, Text, Texts, zeros}
 use Rattle.paw_journal.specs.Session.{Digests, Recovered, Shown, recover, kept_digests, base_length, state_length, committed}
-use Rattle.paw_journal.specs.inner.Store.{InStore, Leaves, IsEither}
+use Rattle.paw_journal.specs.inner.Store.{InStore, CrashLeavesSuch, IsOldOrNew}
 use Rattle.paw_journal.specs.inner.Room.{Room}
 use Rattle.paw_journal.specs.inner.Journal.{IsAtRest, KeptIn}
 use Rattle.paw_journal.specs.declared.store.Attached.{Attached}
@@ -40,22 +40,22 @@ use Rattle.paw_play.specs.Walk.{end_halt, EndingOf, first_lines, text_for, text_
 use Rattle.paw_play.specs.Played.{PlayedSession}
 use Rattle.paw_play.specs.Keeping.{StaysAttached, RestsWith}
 use Rattle.paw_play.specs.Play.{PlaysOn, with_store}
-use Rattle.paw_play.specs.inner.Telling.{Telling, Plain, HaveSteps, told_pieces, told_as}
+use Rattle.paw_play.specs.inner.Telling.{ShowSteps, Plain, HaveSteps, told_pieces, with_shown_steps}
 
 -- ---- a walk ----
 
 -- The bytes of the state of a player, after this number of lines of its session.
-abbrev pub seat_state : {F : Type 0} → ℕ → Seat F → Bytes
+abbrev pub seat_state : {F : Type 0} → ℕ → PlayerView F → Bytes
 seat_state events p = kept_bytes (state_of p.world p.machine p.pending (prompt_at p.last) events (length p.piece))
 
 -- The same as they are written: filled up with zeros.
-abbrev pub seat_base : {F : Type 0} → ℕ → Seat F → Bytes
+abbrev pub seat_base : {F : Type 0} → ℕ → PlayerView F → Bytes
 seat_base events p = seat_state events p ++ zeros (base_length - state_length)
 
 -- The walk is at a prompt: n lines were taken, these pieces were shown, with their prefaces, and whatever lines come,
 -- the reading of all goes on from the player.
-pub record IsWalking {F : Type 0} (telling : Telling) (g : Story) (whole : EndingOf) (old now : Standing)
-    (seat : Seat F)
+pub record IsWalking {F : Type 0} (telling : ShowSteps) (g : Story) (whole : EndingOf) (old now : Standing)
+    (seat : PlayerView F)
     (n : ℕ) : Type 0 where
   pub prompt : Prompt
   pub waits : seat.last ≡ step.Waits prompt
@@ -64,7 +64,7 @@ pub record IsWalking {F : Type 0} (telling : Telling) (g : Story) (whole : Endin
   pub each : HaveSteps telling pieces traces
   pub goes_on : (more : Lines) →
       whole (first_lines n old.lines ++ more)
-      ≡ on g prompt (reverse seat.machine.frames) (run_at seat pieces traces more)
+      ≡ going_on_from g prompt (reverse seat.machine.frames) (run_at seat pieces traces more)
   pub there : n ≤ length old.lines
   pub stands : now ≡ advanced old n (concat (told_pieces telling pieces traces))
 
@@ -89,10 +89,10 @@ Told old new piece s (Some (end.Outside call.Show)) =
 Told old new piece s (Some o) = MatchOption (end_halt o) ⊥ (λ halt. (s ≡ step_of halt) × (new ≡ old))
 
 -- After n lines the walk is at a prompt, or has ended this way.
-abbrev pub WalksTo : {F : Type 0} → Telling → Story → EndingOf → ℕ → Standing → Standing → Seat F → ℕ →
+abbrev pub WalksTo : {F : Type 0} → ShowSteps → Story → EndingOf → ℕ → Standing → Standing → PlayerView F → ℕ →
     Option PlayEnd → Type 0
 WalksTo telling g whole most first now seat n None = IsWalking telling g whole first now seat n
-WalksTo telling g whole most first now seat n (Some o) = Walks (told_as telling whole) most first now o
+WalksTo telling g whole most first now seat n (Some o) = Walks (with_shown_steps telling whole) most first now o
 
 -- ---- a session ----
 
@@ -102,7 +102,7 @@ begun_with g seed digests name = record { whole = reading g seed; before = 0; di
 
 -- The session is at a prompt: the walk is, the store keeps all lines that were taken, and the text of the last piece
 -- came last.
-pub record IsPlaying {F : Type 0} (g : Story) (s : PlayedSession) (first now : Standing) (seat : Seat F)
+pub record IsPlaying {F : Type 0} (g : Story) (s : PlayedSession) (first now : Standing) (seat : PlayerView F)
     (n : ℕ) : Type 0 where
   pub walking : IsWalking Plain g s.whole (with_store now first) now seat n
   pub rests : RestsWith s first now n
@@ -111,13 +111,13 @@ pub record IsPlaying {F : Type 0} (g : Story) (s : PlayedSession) (first now : S
   pub grown : text_for s.whole first.lines n ≡ text_before s.whole first.lines n ++ last
 
 -- After one more line the session is at the next prompt, or playing on has ended this way.
-abbrev pub PlaysTo : {A F : Type 0} → Story → PlayedSession → ℕ → Standing → Standing → Seat F → ℕ →
+abbrev pub PlaysLineTo : {A F : Type 0} → Story → PlayedSession → ℕ → Standing → Standing → PlayerView F → ℕ →
     Result A PlayEnd → Type 0
-PlaysTo g s most first now seat n (Ok a) = IsPlaying g s first now seat (suc n)
-PlaysTo g s most first now seat n (Err o) = PlaysOn s most first now o
+PlaysLineTo g s most first now seat n (Ok a) = IsPlaying g s first now seat (suc n)
+PlaysLineTo g s most first now seat n (Err o) = PlaysOn s most first now o
 
 -- The store of this name is attached and at rest, and its file holds its bytes.
-pub record IsStore (name : Name) (s : Standing) : Type 0 where
+pub record IsRestingStore (name : Name) (s : Standing) : Type 0 where
   pub attached : s.attached ≡ Some name
   pub stable : IsStable s.disk
   pub file : s.files name ≡ Some s.disk.bytes
@@ -131,7 +131,8 @@ BegunAs s first now (end.Outside call.Sync) = (now ≡ with_store now first) × 
 BegunAs s first now o = PlaysOn s EVENT_LIMIT first now o
 
 -- The session is at its first prompt, or making it has ended this way.
-abbrev pub Begins : {A F : Type 0} → Story → PlayedSession → Standing → Standing → Seat F → Result A PlayEnd → Type 0
+abbrev pub Begins : {A F : Type 0} → Story → PlayedSession → Standing → Standing → PlayerView F → Result A PlayEnd →
+    Type 0
 Begins g s first now seat (Ok a) = IsPlaying g s first now seat 0
 Begins g s first now seat (Err o) = BegunAs s first now o
 
@@ -154,19 +155,19 @@ end_of (refusal.Outside c) = end.Outside c
 -- ---- a player and its session, between calls ----
 
 -- A player may take lines: it has a seat, its routines have rows, and it drew at most this many numbers.
-pub record MayPlay {F : Type 0} (calls : Shared F (ℕ × (ℕ × Unit {0})) ℕ) (draws : ℕ) (p : Seat F) : Type 0 where
+pub record MayPlay {F : Type 0} (calls : Shared F (ℕ × (ℕ × Unit {0})) ℕ) (draws : ℕ) (p : PlayerView F) : Type 0 where
   pub seated : IsSeated p
   pub rows : HaveRows calls p.routines
   pub drew : p.world.draws ≤ draws
 
 -- A player was made just now: it has a seat, its routines have rows, and it has played nothing.
-pub record MayBegin {F : Type 0} (calls : Shared F (ℕ × (ℕ × Unit {0})) ℕ) (p : Seat F) : Type 0 where
+pub record MayBegin {F : Type 0} (calls : Shared F (ℕ × (ℕ × Unit {0})) ℕ) (p : PlayerView F) : Type 0 where
   pub seated : IsSeated p
   pub rows : HaveRows calls p.routines
   pub new : IsNew p p.world.seed
 
 -- The player still plays the same game with the same routines, and drew at most this many numbers.
-pub record StillPlays {F : Type 0} (draws : ℕ) (old new : Seat F) : Type 0 where
+pub record StillPlays {F : Type 0} (draws : ℕ) (old new : PlayerView F) : Type 0 where
   pub seated : IsSeated new
   pub game : new.game ≡ old.game
   pub routines : new.routines ≡ old.routines
@@ -191,29 +192,31 @@ EachStory calls routines game Holds = (X : RoutineRows) → AreRowsOf calls rout
 
 -- A fact about each session that is at its prompt with this player, after this number of lines in all: n were taken
 -- since `first` stood, of at most `most`.
-abbrev pub EachPlaying : {F : Type 0} → Story → Seat F → ℕ → Standing →
+abbrev pub EachPlaying : {F : Type 0} → Story → PlayerView F → ℕ → Standing →
     (PlayedSession → ℕ → ℕ → Standing → Type 0) → Type 0
 EachPlaying g seat events now Holds =
     (s : PlayedSession) (most n : ℕ) (first : Standing) → IsPlaying g s first now seat n → events ≡ s.before + n →
     n < most → Holds s most n first
 
 -- A fact about each session that is at the prompt where it begins or is resumed, after this number of lines in all.
-abbrev pub EachStarting : {F : Type 0} → Story → Seat F → ℕ → Standing → (PlayedSession → Standing → Type 0) → Type 0
+abbrev pub EachStarting : {F : Type 0} → Story → PlayerView F → ℕ → Standing → (PlayedSession → Standing → Type 0) →
+    Type 0
 EachStarting g seat events now Holds =
     (s : PlayedSession) (first : Standing) → IsPlaying g s first now seat 0 → events ≡ s.before → Holds s first
 
 -- What the session of a store shows after this player was committed to it, with this number of lines.
-abbrev pub shown_then : {F : Type 0} → ℕ → Seat F → Standing → Recovered
+abbrev pub shown_then : {F : Type 0} → ℕ → PlayerView F → Standing → Recovered
 shown_then events seat s = Shown (kept_digests s.disk.bytes) (seat_state events seat) seat.piece
 
 -- The player was committed to the session.
-abbrev pub Commits : {F : Type 0} → ℕ → Seat F → Standing → Standing → Type 0
+abbrev pub Commits : {F : Type 0} → ℕ → PlayerView F → Standing → Standing → Type 0
 Commits events seat old new = recover new.disk.bytes ≡ shown_then events seat old
 
 -- The store's bytes are what the commit of the player makes of what they were.
-abbrev pub Writes : {F : Type 0} → ℕ → Seat F → Standing → Standing → Type 0
+abbrev pub Writes : {F : Type 0} → ℕ → PlayerView F → Standing → Standing → Type 0
 Writes events seat old new = new.disk.bytes ≡ committed (seat_base events seat) seat.piece old.disk.bytes
 
 -- A moment at which a crash leaves what the session showed before, or the player.
-abbrev pub InCommit : {F : Type 0} → ℕ → Seat F → Standing → Moment → Type 0
-InCommit events seat old m = InStore old (Leaves (IsEither (recover old.disk.bytes) (shown_then events seat old))) m
+abbrev pub InCommit : {F : Type 0} → ℕ → PlayerView F → Standing → Moment → Type 0
+InCommit events seat old m =
+    InStore old (CrashLeavesSuch (IsOldOrNew (recover old.disk.bytes) (shown_then events seat old))) m

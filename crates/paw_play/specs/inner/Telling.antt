@@ -5,48 +5,48 @@ use Rattle.paw_base.specs.inner.Steps.{KeptSteps}
 use Rattle.paw_base.specs.declared.limits.TheConstants.{STEP_LIMIT}
 use Rattle.paw_reading.specs.Run.{Run, Step as Read}
 use Rattle.paw_reading.specs.Turn.{Ending}
-use Rattle.paw_turn.specs.inner.Player.{Seat}
+use Rattle.paw_turn.specs.inner.Player.{PlayerView}
 use Rattle.paw_play.specs.Traces.{step_line, more_line, traced_pieces, traced_run, traced_ending}
 use Rattle.paw_play.specs.Walk.{EndingOf}
 
 -- Whether each piece is shown as it is, or after the text of its steps.
-pub data Telling : Type 0 where
-  Plain : Telling
-  Stepped : Telling
+pub data ShowSteps : Type 0 where
+  Plain : ShowSteps
+  Stepped : ShowSteps
 
 -- The text of the steps that are kept.
 abbrev pub kept_text : KeptSteps → Text
 kept_text kept = flat_map step_line (take STEP_LIMIT kept.rows) ++ more_line (kept.count - STEP_LIMIT)
 
 -- What is shown before a piece, by what is kept of its steps.
-abbrev pub preface : Telling → KeptSteps → Text
+abbrev pub preface : ShowSteps → KeptSteps → Text
 preface Plain kept = []
 preface Stepped kept = kept_text kept
 
 -- What is shown for a player's last piece.
-abbrev pub seat_text : {F : Type 0} → Telling → Seat F → Text
+abbrev pub seat_text : {F : Type 0} → ShowSteps → PlayerView F → Text
 seat_text telling p = preface telling p.machine.steps ++ p.piece
 
 -- Closed pieces with their steps, as they are shown.
-abbrev pub told_pieces : Telling → Texts → List (List Read) → Texts
+abbrev pub told_pieces : ShowSteps → Texts → List (List Read) → Texts
 told_pieces Plain pieces traces = pieces
 told_pieces Stepped pieces traces = traced_pieces pieces traces
 
 -- Where pieces are shown after their steps, each has its own.
-abbrev pub HaveSteps : Telling → Texts → List (List Read) → Type 0
+abbrev pub HaveSteps : ShowSteps → Texts → List (List Read) → Type 0
 HaveSteps Plain pieces traces = Unit {0}
 HaveSteps Stepped pieces traces = length traces ≡ length pieces
 
 -- The run, with its pieces shown this way.
-abbrev pub told_run : Telling → Run → Run
+abbrev pub told_run : ShowSteps → Run → Run
 told_run Plain r = r
 told_run Stepped r = traced_run r
 
 -- The ending, with its pieces shown this way.
-abbrev pub told_ending : Telling → Ending → Ending
+abbrev pub told_ending : ShowSteps → Ending → Ending
 told_ending Plain e = e
 told_ending Stepped e = traced_ending e
 
 -- The reading, with its pieces shown this way.
-abbrev pub told_as : Telling → EndingOf → EndingOf
-told_as telling whole lines = told_ending telling (whole lines)
+abbrev pub with_shown_steps : ShowSteps → EndingOf → EndingOf
+with_shown_steps telling whole lines = told_ending telling (whole lines)

@@ -41,12 +41,12 @@ restored k waiting = record {
 -- ---- the rules ----
 
 -- Inside tables the machine waits at the prompt; at other prompts nothing is open.
-abbrev pub StandsAt : Prompt → OpenTables → Type 0
-StandsAt prompt.Main m = IsClosed m
-StandsAt prompt.Quit m = IsWaiting prompt.Quit m
-StandsAt prompt.Again m = IsWaiting prompt.Again m
-StandsAt prompt.Key m = IsWaiting prompt.Key m
-StandsAt prompt.Over m = IsClosed m
+abbrev pub WaitsAtPrompt : Prompt → OpenTables → Type 0
+WaitsAtPrompt prompt.Main m = IsClosed m
+WaitsAtPrompt prompt.Quit m = IsWaiting prompt.Quit m
+WaitsAtPrompt prompt.Again m = IsWaiting prompt.Again m
+WaitsAtPrompt prompt.Key m = IsWaiting prompt.Key m
+WaitsAtPrompt prompt.Over m = IsClosed m
 
 -- The prompt, if it is one inside tables.
 abbrev pub waiting_at : Prompt → Option Prompt
@@ -57,8 +57,8 @@ waiting_at prompt.Key = Some prompt.Key
 waiting_at prompt.Over = None
 
 -- The condact at which a frame stands.
-abbrev pub condact_of : GameLists → Frame → Option Condact
-condact_of g f = condact_at g f.table f.entry f.at
+abbrev pub condact_at_frame : GameLists → Frame → Option Condact
+condact_at_frame g f = condact_at g f.table f.entry f.at
 
 -- Whether a row is unused.
 abbrev pub is_unused : Frame → Bool
@@ -69,7 +69,7 @@ is_unused f = (f.table == 0) && ((f.entry == 0) && ((f.at == 0) && not f.acted))
 abbrev pub row_stands : GameLists → ℕ → Option ℕ → ℕ → Frame → Bool
 row_stands g code caller n f =
     if n == 0 then is_unused f
-    else may_open caller f.table && has_code (if n == 1 then code else PROCESS) (condact_of g f)
+    else may_open caller f.table && has_code (if n == 1 then code else PROCESS) (condact_at_frame g f)
 
 -- The depth of the first row that breaks a rule, counted from d on, where n of the rows are used; each PROCESS calls
 -- the next row's table.
@@ -77,7 +77,7 @@ unfoldable pub rows_fault : GameLists → ℕ → Option ℕ → ℕ → ℕ →
 rows_fault g code caller n d [] = None
 rows_fault g code caller n d (f ∷ fs) =
     if row_stands g code caller n f
-    then rows_fault g code (Some (parameter_of (condact_of g f))) (n - 1) (suc d) fs else Some d
+    then rows_fault g code (Some (parameter_of (condact_at_frame g f))) (n - 1) (suc d) fs else Some d
 
 -- Whether there is a table, and it is this one.
 abbrev pub is_that_table : Option ℕ → ℕ → Bool

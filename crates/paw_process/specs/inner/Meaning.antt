@@ -13,12 +13,12 @@ use Rattle.paw_reading.specs.declared.places.Frame.{Frame}
 use Rattle.paw_reading.specs.Run.{Run, Step, closed, is_ignored, heard, reply, is_yes}
 use Rattle.paw_reading.specs.declared.places.Halt.{Halt}
 use Rattle.paw_reading.specs.declared.places.Halt.TheVariants as halt
-use Rattle.paw_reading.specs.Reading.{Redescribes, Out, Left, Stopped, halts, rest}
+use Rattle.paw_reading.specs.Reading.{Redescribes, Out, Left, Stopped, halts, rest_of_table}
 use Rattle.paw_reading.specs.GoingOn.{on_path}
 use Rattle.paw_reading.specs.inner.GoingOn.{along}
 use Rattle.paw_process.specs.inner.OpenTables.{OpenTables}
 use Rattle.paw_process.specs.inner.OpenTables.{HasRead, IsWaiting, IsClosed}
-use Rattle.paw_process.specs.declared.situation.Situation.{Situation}
+use Rattle.paw_process.specs.declared.surroundings.Surroundings.{Surroundings}
 use Rattle.paw_process.specs.declared.Turned.{Turned}
 use Rattle.paw_process.specs.declared.Turned.TheVariants as turned
 
@@ -33,30 +33,30 @@ InStories calls routines g P = (X : RoutineRows) → AreRowsOf calls routines X 
 
 -- What stands between two stops: the surroundings that reading changes, and the machine.
 pub record Held : Type 0 where
-  pub situation : Situation
+  pub surroundings : Surroundings
   pub machine : OpenTables
 
 -- This situation and this machine.
-abbrev pub having : Situation → OpenTables → Held
-having s m = record { situation = s; machine = m }
+abbrev pub having : Surroundings → OpenTables → Held
+having s m = record { surroundings = s; machine = m }
 
 -- A run shows what stands, with the condacts that the open piece has read.
 pub record ShowsHeld (r : Run) (h : Held) : Type 0 where
-  pub world : r.world ≡ h.situation.world
-  pub pending : r.pending ≡ h.situation.pending.bytes
-  pub earlier : r.earlier ≡ h.situation.pending.earlier
+  pub world : r.world ≡ h.surroundings.world
+  pub pending : r.pending ≡ h.surroundings.pending.bytes
+  pub earlier : r.earlier ≡ h.surroundings.pending.earlier
   pub turning : r.turning ≡ h.machine.turning
-  pub current : r.current ≡ h.situation.piece
+  pub current : r.current ≡ h.surroundings.piece
   pub read : HasRead r.read h.machine
 
 -- The run with what stands now.
 abbrev pub run_held : Held → Run → Run
 run_held h r = record r {
-  world = h.situation.world;
-  pending = h.situation.pending.bytes;
-  earlier = h.situation.pending.earlier;
+  world = h.surroundings.world;
+  pending = h.surroundings.pending.bytes;
+  earlier = h.surroundings.pending.earlier;
   turning = h.machine.turning;
-  current = h.situation.piece;
+  current = h.surroundings.piece;
 }
 
 -- The run with these condacts read as well.
@@ -72,7 +72,7 @@ to_come lines r = record r { events = lines }
 -- Goes on in the open tables, the innermost first.
 abbrev pub going_in : Story → List Frame → Run → Out
 going_in g [] r = Left false r
-going_in g (f ∷ fs) r = along g fs (rest g (length fs) f.table f.entry f.at f.acted r)
+going_in g (f ∷ fs) r = along g fs (rest_of_table g (length fs) f.table f.entry f.at f.acted r)
 
 -- The closed pieces, their steps, and the lines to come are the same.
 pub record SamePast (old new : Run) : Type 0 where

@@ -12,7 +12,8 @@ use Rattle.paw_effects.specs.declared.act.Effect.{Effect}
 use Rattle.paw_reading.specs.declared.places.Frame.{Frame}
 use Rattle.paw_reading.specs.declared.places.OpenLoop.{OpenLoop}
 use Rattle.paw_reading.specs.Run.{Run, Step}
-use Rattle.paw_reading.specs.Reading.{Out, Left, again, turns, looped, deeper, plain, inside}
+use Rattle.paw_reading.specs.Reading.{Out, Left, next_object_or, over_objects, rest_of_loop, deeper, from_place}
+use Rattle.paw_reading.specs.Reading.{rest_of_entry}
 use Rattle.paw_reading.specs.Reading.{after_action, step_at, noted, reads_one}
 use Rattle.paw_reading.specs.inner.GoingOn.{along}
 use Rattle.paw_process.specs.inner.OpenTables.{OpenTables}
@@ -26,13 +27,13 @@ Continues g x None fs r = x ≡ going_in g fs r
 Continues g x (Some t) fs r = ComesTo g t fs r x
 
 -- The machine may read on, or is as it is after a stop.
-abbrev pub StandsOrTurned : Option Turned → OpenTables → Type 0
-StandsOrTurned None m = IsReading m
-StandsOrTurned (Some t) m = IsStopped t m
+abbrev pub StandsOrStopped : Option Turned → OpenTables → Type 0
+StandsOrStopped None m = IsReading m
+StandsOrStopped (Some t) m = IsStopped t m
 
 -- The run with this open loop.
-abbrev pub turning_as : Option OpenLoop → Run → Run
-turning_as o r = record r { turning = o }
+abbrev pub with_open_loop : Option OpenLoop → Run → Run
+with_open_loop o r = record r { turning = o }
 
 -- The run with this world and this open loop.
 abbrev pub looping : World → Option OpenLoop → Run → Run
@@ -40,20 +41,20 @@ looping w o r = record r { world = w; turning = o }
 
 -- How the reading ends where the innermost table, above these frames, ends this way: its level's open loop goes on.
 abbrev pub resolved : Story → List Frame → Out → Out
-resolved g fs x = along g fs (again (length fs) (looped g (deeper g (length fs)) (length fs)) x)
+resolved g fs x = along g fs (next_object_or (length fs) (rest_of_loop g (deeper g (length fs)) (length fs)) x)
 
 -- Reads on in the innermost table at the entry after this frame's.
 abbrev pub next_of : Story → List Frame → Frame → Bool → Run → Out
-next_of g fs f = plain g (deeper g (length fs)) (length fs) f.table (suc f.entry) 0
+next_of g fs f = from_place g (deeper g (length fs)) (length fs) f.table (suc f.entry) 0
 
 -- Reads on in the innermost table at the condact after this frame's.
 abbrev pub past_of : Story → List Frame → Frame → Bool → Run → Out
-past_of g fs f = plain g (deeper g (length fs)) (length fs) f.table f.entry (suc f.at)
+past_of g fs f = from_place g (deeper g (length fs)) (length fs) f.table f.entry (suc f.at)
 
 -- Reads the condacts of this frame's entry from its condact on.
 abbrev pub reading_at : Story → List Frame → Frame → Run → Out
 reading_at g fs f r =
-    resolved g fs (inside g (deeper g (length fs)) (length fs) f.table f.entry f.at f.acted r)
+    resolved g fs (rest_of_entry g (deeper g (length fs)) (length fs) f.table f.entry f.at f.acted r)
 
 -- Goes on in the innermost table after an action.
 abbrev pub acted_at : Story → List Frame → Frame → Effect → Run → Out
@@ -61,10 +62,10 @@ acted_at g fs f e r =
     resolved g fs (after_action g (deeper g (length fs)) (length fs) f (next_of g fs f) (past_of g fs f) e r)
 
 -- Lets a loop of the innermost table take the next of the last n objects.
-abbrev pub turning_at : Story → List Frame → OpenLoop → ℕ → Run → Out
-turning_at g fs l n r =
-    along g fs (turns g (length fs) (record l { last = 0 })
-    (plain g (deeper g (length fs)) (length fs) l.table l.entry (suc l.at) true) n r)
+abbrev pub loop_at_frames : Story → List Frame → OpenLoop → ℕ → Run → Out
+loop_at_frames g fs l n r =
+    along g fs (over_objects g (length fs) (record l { last = 0 })
+    (from_place g (deeper g (length fs)) (length fs) l.table l.entry (suc l.at) true) n r)
 
 -- Reading as x says leads from what stood to what stands now: there are condacts that were read, of which the machine
 -- keeps the steps, so that, whatever lines come, the machine goes on to what x is, or has stopped at it.

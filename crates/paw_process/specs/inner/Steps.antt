@@ -12,7 +12,7 @@ use Rattle.paw_reading.specs.declared.places.Frame.{Frame}
 use Rattle.paw_process.specs.inner.OpenTables.{OpenTables}
 use Rattle.paw_process.specs.inner.OpenTables.{below, ReadsNone, IsAtCondact, IsReading}
 use Rattle.paw_process.specs.inner.Meaning.{Held}
-use Rattle.paw_process.specs.inner.Moves.{StandsOrTurned}
+use Rattle.paw_process.specs.inner.Moves.{StandsOrStopped}
 use Rattle.paw_process.specs.declared.Turned.{Turned}
 
 -- The machine may read on, in a world of the game.
@@ -21,7 +21,7 @@ pub record IsReady (g : GameLists) (m : OpenTables) (w : World) : Type 0 where
   pub game : IsOf g w
 
 -- One step may be made: the routines have rows, and the world can make a draw for each condact that is left.
-pub record MayStep {F : Type 0} (calls : Shared F (ℕ × (ℕ × Unit {0})) ℕ) (routines : Routines F) (g : GameLists)
+pub record MayReadNext {F : Type 0} (calls : Shared F (ℕ × (ℕ × Unit {0})) ℕ) (routines : Routines F) (g : GameLists)
     (m : OpenTables) (w : World) : Type 0 where
   pub ready : IsReady g m w
   pub rows : HaveRows calls routines
@@ -43,17 +43,17 @@ pub record MayReadOne (g : GameLists) (f : Frame) (c : Condact) (m : OpenTables)
 -- The machine may read on or has stopped; no condact is read, the world is the game's still, and nothing is drawn.
 pub record HasMoved (g : GameLists) (old : OpenTables) (w : World) (t : Option Turned)
     (new : OpenTables) (w' : World) : Type 0 where
-  pub stands : StandsOrTurned t new
+  pub stands : StandsOrStopped t new
   pub left : ReadsNone old new
   pub game : IsOf g w'
   pub draws : w'.draws ≡ w.draws
 
 -- The world is the game's still, and each draw is paid for by a condact.
-pub record IsAfterStep (g : GameLists) (old new : Held) : Type 0 where
-  pub game : IsOf g new.situation.world
-  pub draws : new.situation.world.draws + new.machine.left ≤ old.situation.world.draws + old.machine.left
+pub record IsAfterReading (g : GameLists) (old new : Held) : Type 0 where
+  pub game : IsOf g new.surroundings.world
+  pub draws : new.surroundings.world.draws + new.machine.left ≤ old.surroundings.world.draws + old.machine.left
 
 -- A step is made: the machine may read on or has stopped, and the world is as a step leaves it.
 pub record HasStepped (g : GameLists) (old : Held) (t : Option Turned) (new : Held) : Type 0 where
-  pub stands : StandsOrTurned t new.machine
-  pub step : IsAfterStep g old new
+  pub stands : StandsOrStopped t new.machine
+  pub step : IsAfterReading g old new

@@ -16,10 +16,10 @@ loop_work None = 0
 loop_work (Some l) = (256 - l.last) * 5000
 
 -- What is left to do between two condacts that are read.
-abbrev pub work : OpenTables → ℕ
-work m = frames_work m.frames + loop_work m.turning
+abbrev pub machine_work : OpenTables → ℕ
+machine_work m = frames_work m.frames + loop_work m.turning
 
 -- A condact was counted, or less is left to do.
 pub data Progress (old new : OpenTables) : Type 0 where
   counts : new.left + 1 ≡ old.left → Progress old new
-  falls : new.left ≡ old.left → work new < work old → Progress old new
+  falls : new.left ≡ old.left → machine_work new < machine_work old → Progress old new

@@ -5,13 +5,13 @@ use Rattle.paw_base.specs.Bytes.{Lines}
 use Rattle.paw_effects.specs.Story.{Story}
 use Rattle.paw_reading.specs.declared.places.Frame.{Frame}
 use Rattle.paw_reading.specs.Run.{Run}
-use Rattle.paw_reading.specs.Reading.{Out, Left, Waits, Stopped, after_call, rest}
+use Rattle.paw_reading.specs.Reading.{Out, Left, Waits, Stopped, after_call, rest_of_table}
 use Rattle.paw_reading.specs.GoingOn.{on_path}
 
 -- Goes on with what each open table was left with, the innermost first.
 abbrev pub along : Story → List Frame → Out → Out
 along g [] x = x
-along g (f ∷ fs) x = along g fs (after_call f (rest g (length fs) f.table f.entry (suc f.at)) x)
+along g (f ∷ fs) x = along g fs (after_call f (rest_of_table g (length fs) f.table f.entry (suc f.at)) x)
 
 -- The run with these lines after those that are left.
 abbrev pub with_lines : Lines → Run → Run

@@ -5,17 +5,18 @@ use Rattle.paw_effects.specs.Story.{Story}
 use Rattle.paw_effects.specs.declared.act.Prompt.{Prompt}
 use Rattle.paw_reading.specs.declared.places.Frame.{Frame}
 use Rattle.paw_reading.specs.Run.{Run, Step}
-use Rattle.paw_reading.specs.Reading.{rest}
+use Rattle.paw_reading.specs.Reading.{rest_of_table}
 use Rattle.paw_reading.specs.GoingOn.{on_path}
 use Rattle.paw_reading.specs.inner.GoingOn.{with_lines, extended}
-use Rattle.paw_reading.specs.Turn.{TurnPhase, Ending, WaitsAt, Halted, Unended, turns_from, reading, text_of, on}
+use Rattle.paw_reading.specs.Turn.{TurnPhase, Ending, WaitsAt, Halted, Unended, turns_from, reading, text_of}
+use Rattle.paw_reading.specs.Turn.{going_on_from}
 use Rattle.paw_reading.specs.inner.Turn.{followed}
 
 -- Reading on with more lines is reading on, and then: a reading that waits has closed the same pieces, and goes on with
 -- the lines along its path; any other ends in the same way, and leaves the lines.
 abbrev pub TablesGoOn : Type 0
 TablesGoOn = (g : Story) (lines : Lines) (lv t e k : ℕ) (acted : Bool) (r : Run) →
-    rest g lv t e k acted (with_lines lines r) ≡ extended g lines lv (rest g lv t e k acted r)
+    rest_of_table g lv t e k acted (with_lines lines r) ≡ extended g lines lv (rest_of_table g lv t e k acted r)
 
 -- The same holds of going on along a path.
 abbrev pub PathsGoOn : Type 0
@@ -39,7 +40,7 @@ with_past pieces traces r = record r { pieces = pieces ++ r.pieces; traces = tra
 
 -- Goes on from a prompt with these lines, and without the closed pieces.
 abbrev pub goes_on_with : Story → Prompt → List Frame → Lines → Run → Ending
-goes_on_with g p path lines r = on g p path (with_lines lines (without_past r))
+goes_on_with g p path lines r = going_on_from g p path (with_lines lines (without_past r))
 
 -- A reading that ends this way, with these closed pieces before its own.
 abbrev pub ending_with_past : Texts → List (List Step) → Ending → Ending
@@ -51,7 +52,7 @@ ending_with_past pieces traces Unended = Unended
 abbrev pub PastStays : Type 0
 PastStays =
     (g : Story) (pieces : Texts) (traces : List (List Step)) (p : Prompt) (path : List Frame) (r : Run) →
-    on g p path (with_past pieces traces r) ≡ ending_with_past pieces traces (on g p path r)
+    going_on_from g p path (with_past pieces traces r) ≡ ending_with_past pieces traces (going_on_from g p path r)
 
 -- Where the reading of some lines waits, the reading of more has its pieces, and then those of going on from there; it
 -- ends as going on does.

@@ -18,7 +18,7 @@ use Rattle.paw_reading.specs.Run.{Run}
 use Rattle.paw_reading.specs.Bounds.{IsLine, ValidStory}
 use Rattle.paw_reading.specs.inner.Bounds.{IsBounded}
 use Rattle.paw_reading.specs.declared.places.Halt.TheVariants as halt
-use Rattle.paw_reading.specs.Turn.{Ending, WaitsAt, Halted, reading, first_table, on}
+use Rattle.paw_reading.specs.Turn.{Ending, WaitsAt, Halted, reading, first_table, going_on_from}
 use Rattle.paw_reading.specs.Places.{waiting_code}
 
 -- A condact with this code stands at this place.
@@ -69,8 +69,8 @@ AreOpenAt g None path turning = (path ≡ []) × (turning ≡ None)
 AreOpenAt g (Some code) path turning = AreOpenTo g code path turning
 
 -- The places of a run that waits at this prompt, or is over: in tables it waits at the prompt's condact.
-abbrev pub ArePlaces : GameLists → Prompt → List Frame → Option OpenLoop → Type 0
-ArePlaces g p path turning = AreOpenAt g (waiting_code p) path turning
+abbrev pub AreFramesAndLoop : GameLists → Prompt → List Frame → Option OpenLoop → Type 0
+AreFramesAndLoop g p path turning = AreOpenAt g (waiting_code p) path turning
 
 -- With no table open nothing is left of the line.
 abbrev pub IsLineTaken : List Frame → Run → Type 0
@@ -80,7 +80,7 @@ IsLineTaken path r = path ≡ [] → r.pending ≡ []
 -- with no table open nothing is left; the earlier verb is a byte; and the open piece is empty, with nothing read in it.
 pub record StandsRightly (g : GameLists) (p : Prompt) (path : List Frame) (r : Run) : Type 0 where
   pub world : IsWorldOf g r.world
-  pub places : ArePlaces g p path r.turning
+  pub places : AreFramesAndLoop g p path r.turning
   pub line : IsLineTaken path r
   pub pending : IsLine r.pending
   pub earlier : r.earlier < 256
@@ -104,7 +104,7 @@ ReadingsStopRightly =
 abbrev pub GoingOnStopsRightly : Type 0
 GoingOnStopsRightly =
     (g : Story) (p : Prompt) (path : List Frame) (r : Run) → ValidStory g → All IsLine r.events →
-    StandsRightly g.game p path r → StopsRightly g.game (on g p path r)
+    StandsRightly g.game p path r → StopsRightly g.game (going_on_from g p path r)
 
 -- A reading that waits, or is over, keeps the bounds.
 abbrev pub StopsBounded : Seed → ℕ → Ending → Type 0
@@ -121,4 +121,4 @@ ReadingsAreBounded =
 abbrev pub GoingOnIsBounded : Type 0
 GoingOnIsBounded =
     (g : Story) (seed n : ℕ) (p : Prompt) (path : List Frame) (r : Run) → ValidStory g → All IsLine r.events →
-    StandsRightly g.game p path r → IsBounded seed n r → StopsBounded seed n (on g p path r)
+    StandsRightly g.game p path r → IsBounded seed n r → StopsBounded seed n (going_on_from g p path r)

@@ -23,9 +23,10 @@ use Rattle.paw_reading.specs.Run.{Run, closed, fits, printed, with_world, withou
 use Rattle.paw_reading.specs.Run.{is_ignored, heard, reply, is_yes, is_no, taken_phrase}
 use Rattle.paw_reading.specs.declared.places.Halt.TheVariants as halt
 use Rattle.paw_reading.specs.Reading.{Redescribes, Restarts, Out, Left, Waits, Stopped}
-use Rattle.paw_reading.specs.Reading.{halts, noted, after_call, at_level, again, is_taken, taken, turns, loop_of}
+use Rattle.paw_reading.specs.Reading.{halts, noted, after_call, at_level, next_object_or, is_taken, taken, over_objects}
+use Rattle.paw_reading.specs.Reading.{loop_of}
 use Rattle.paw_reading.specs.Reading.{over, coming_phrase, after_action, carried_out, frame_at}
-use Rattle.paw_reading.specs.Reading.{is_for_now, inside, plain, looped, deeper, rest}
+use Rattle.paw_reading.specs.Reading.{is_for_now, rest_of_entry, from_place, rest_of_loop, deeper, rest_of_table}
 use Rattle.paw_reading.specs.inner.Steps.{quit_question}
 use Rattle.paw_reading.specs.GoingOn.{on_path}
 
@@ -33,38 +34,40 @@ use Rattle.paw_reading.specs.GoingOn.{on_path}
 
 -- Reads on at the condact after a frame's.
 abbrev pub past : Story → ℕ → Frame → Bool → Run → Out
-past g lv f acted r = rest g lv f.table f.entry (suc f.at) acted r
+past g lv f acted r = rest_of_table g lv f.table f.entry (suc f.at) acted r
 
 -- Reads on at the entry after a frame's.
 abbrev pub next : Story → ℕ → Frame → Bool → Run → Out
-next g lv f acted r = rest g lv f.table (suc f.entry) 0 acted r
+next g lv f acted r = rest_of_table g lv f.table (suc f.entry) 0 acted r
 
 -- Reads on at a frame's condact, without testing its entry's verb and noun.
 abbrev pub at_frame : Story → ℕ → Frame → Run → Out
-at_frame g lv f r = again lv (looped g (deeper g lv) lv) (inside g (deeper g lv) lv f.table f.entry f.at f.acted r)
+at_frame g lv f r =
+    next_object_or lv (rest_of_loop g (deeper g lv) lv)
+    (rest_of_entry g (deeper g lv) lv f.table f.entry f.at f.acted r)
 
 -- Leaves the table at a level.
 abbrev pub leaves : Story → ℕ → Bool → Run → Out
-leaves g lv acted r = again lv (looped g (deeper g lv) lv) (Left acted r)
+leaves g lv acted r = next_object_or lv (rest_of_loop g (deeper g lv) lv) (Left acted r)
 
 -- Lets a loop look for its next object from number o on, and read on after its DOALL.
 abbrev pub looks : Story → ℕ → OpenLoop → ℕ → Run → Out
 looks g lv l o r =
-    let body = plain g (deeper g lv) lv l.table l.entry (suc l.at) true in
-    turns g lv (record l { last = 0 }) body (length g.game.objects - o) r
+    let body = from_place g (deeper g lv) lv l.table l.entry (suc l.at) true in
+    over_objects g lv (record l { last = 0 }) body (length g.game.objects - o) r
 
 -- Reads the table from the condact after a frame's, whatever loop is open.
 abbrev pub plain_past : Story → ℕ → Frame → Bool → Run → Out
-plain_past g lv f = plain g (deeper g lv) lv f.table f.entry (suc f.at)
+plain_past g lv f = from_place g (deeper g lv) lv f.table f.entry (suc f.at)
 
 -- Reads the table from the entry after a frame's, whatever loop is open.
 abbrev pub plain_next : Story → ℕ → Frame → Bool → Run → Out
-plain_next g lv f = plain g (deeper g lv) lv f.table (suc f.entry) 0
+plain_next g lv f = from_place g (deeper g lv) lv f.table (suc f.entry) 0
 
 -- How reading goes on after the action at a frame.
 abbrev pub goes : Story → ℕ → Frame → Effect → Run → Out
 goes g lv f e r =
-    again lv (looped g (deeper g lv) lv)
+    next_object_or lv (rest_of_loop g (deeper g lv) lv)
     (after_action g (deeper g lv) lv f (plain_next g lv f) (plain_past g lv f) e r)
 
 -- The run after a condition.
@@ -116,12 +119,14 @@ hearing line lines r = heard line (record r { events = lines })
 -- Entries: after the last the table is left; one that doesn't match now is passed over; the condacts of one that
 -- matches are read, and after the last of them comes the next entry.
 pub record ReadsEntries (g : Story) (lv : ℕ) : Type 0 where
-  pub past_last : (t e : ℕ) (a : Bool) (r : Run) → entry_at g.game t e ≡ None → rest g lv t e 0 a r ≡ leaves g lv a r
+  pub past_last : (t e : ℕ) (a : Bool) (r : Run) → entry_at g.game t e ≡ None → rest_of_table g lv t e 0 a r
+      ≡ leaves g lv a r
   pub passed_over : (t e : ℕ) (en : Entry) (a : Bool) (r : Run) → entry_at g.game t e ≡ Some en →
-      is_for_now r en ≡ false → rest g lv t e 0 a r ≡ rest g lv t (suc e) 0 a r
+      is_for_now r en ≡ false → rest_of_table g lv t e 0 a r ≡ rest_of_table g lv t (suc e) 0 a r
   pub matched : (t e : ℕ) (en : Entry) (a : Bool) (r : Run) → entry_at g.game t e ≡ Some en →
-      is_for_now r en ≡ true → rest g lv t e 0 a r ≡ at_frame g lv (frame_at t e 0 a) r
-  pub in_entry : (t e k : ℕ) (a : Bool) (r : Run) → rest g lv t e (suc k) a r ≡ at_frame g lv (frame_at t e (suc k) a) r
+      is_for_now r en ≡ true → rest_of_table g lv t e 0 a r ≡ at_frame g lv (frame_at t e 0 a) r
+  pub in_entry : (t e k : ℕ) (a : Bool) (r : Run) → rest_of_table g lv t e (suc k) a r
+      ≡ at_frame g lv (frame_at t e (suc k) a) r
   pub past_condacts : (f : Frame) (r : Run) → condact_at g.game f.table f.entry f.at ≡ None →
       at_frame g lv f r ≡ next g lv f f.acted r
 
@@ -151,7 +156,7 @@ pub record FollowsActions (g : Story) (lv : ℕ) : Type 0 where
   pub exit : (f : Frame) (a : Bool) (r : Run) → goes g lv f (effect.Exit a) r ≡ leaves g lv a r
   pub redescribe : (f : Frame) (r : Run) → goes g lv f effect.Redescribe r ≡ Stopped Redescribes (without_loop r)
   pub call : (f : Frame) (u : ℕ) (r : Run) → lv < LEVEL_LIMIT →
-      goes g lv f (effect.Call u) r ≡ after_call f (past g lv f) (rest g (suc lv) u 0 0 false r)
+      goes g lv f (effect.Call u) r ≡ after_call f (past g lv f) (rest_of_table g (suc lv) u 0 0 false r)
   pub deep : (f : Frame) (u : ℕ) (r : Run) → LEVEL_LIMIT ≤ lv → goes g lv f (effect.Call u) r ≡ halts (halt.TooDeep u) r
   pub loop : (f : Frame) (p : ℕ) (r : Run) → goes g lv f (effect.Loop p) r ≡ looks g lv (loop_of lv f p) 0 r
   pub ask : (f : Frame) (p : Prompt) (r : Run) → goes g lv f (effect.Ask p) r ≡ on_path g p lv (f ∷ []) (closed r)
@@ -166,7 +171,7 @@ pub record FollowsActions (g : Story) (lv : ℕ) : Type 0 where
 -- The object loop: a table is left where no loop is open at its level; otherwise the loop goes on above the object that
 -- it took last. It takes the least object that it may take now, and reads on after its DOALL; with none left it is
 -- closed, and the table is left.
-pub record TurnsLoops (g : Story) (lv : ℕ) : Type 0 where
+pub record LoopRules (g : Story) (lv : ℕ) : Type 0 where
   pub left : (a : Bool) (r : Run) → at_level lv r.turning ≡ None → leaves g lv a r ≡ Left a r
   pub looks_on : (a : Bool) (l : OpenLoop) (r : Run) → r.turning ≡ Some l → l.level ≡ lv →
       leaves g lv a r ≡ looks g lv l (suc l.last) r
@@ -174,7 +179,7 @@ pub record TurnsLoops (g : Story) (lv : ℕ) : Type 0 where
       is_taken g.game r.world l o ≡ false → looks g lv l o r ≡ looks g lv l (suc o) r
   pub takes : (l : OpenLoop) (o : ℕ) (r : Run) → l.level ≡ lv → o < length g.game.objects →
       is_taken g.game r.world l o ≡ true →
-      looks g lv l o r ≡ rest g lv l.table l.entry (suc l.at) true (taken g.game l o r)
+      looks g lv l o r ≡ rest_of_table g lv l.table l.entry (suc l.at) true (taken g.game l o r)
   pub none_left : (l : OpenLoop) (o : ℕ) (r : Run) → length g.game.objects ≤ o →
       looks g lv l o r ≡ Left true (without_loop r)
 
@@ -206,5 +211,5 @@ pub record ReadingOn : Type 0 where
   pub entries : (g : Story) (lv : ℕ) → ReadsEntries g lv
   pub condacts : (g : Story) (lv : ℕ) → ReadsCondacts g lv
   pub actions : (g : Story) (lv : ℕ) → FollowsActions g lv
-  pub loops : (g : Story) (lv : ℕ) → TurnsLoops g lv
+  pub loops : (g : Story) (lv : ℕ) → LoopRules g lv
   pub prompts : (g : Story) (lv : ℕ) → AnswersPrompts g lv

@@ -8,7 +8,7 @@ use Rattle.paw_effects.specs.Story.{Story}
 use Rattle.paw_effects.specs.declared.act.Prompt.{Prompt}
 use Rattle.paw_reading.specs.declared.places.Frame.{Frame}
 use Rattle.paw_reading.specs.Run.{Run}
-use Rattle.paw_reading.specs.Turn.{Ending, WaitsAt, Halted, Unended, reading, on}
+use Rattle.paw_reading.specs.Turn.{Ending, WaitsAt, Halted, Unended, reading, going_on_from}
 use Rattle.paw_reading.specs.Saving.{NeverSaves}
 
 -- Four positions, none of which is there.
@@ -32,4 +32,4 @@ ReadingsKeepNoPosition =
 abbrev pub GoingOnKeepsPositions : Type 0
 GoingOnKeepsPositions =
     (g : Story) (p : Prompt) (path : List Frame) (r : Run) → NeverSaves g.game →
-    EndsKeeping r.world.kept (on g p path r)
+    EndsKeeping r.world.kept (going_on_from g p path r)

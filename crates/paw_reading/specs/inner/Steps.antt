@@ -28,8 +28,8 @@ abbrev pub quit_question : Story → Run → Text
 quit_question g r = put_text g.game r.world QUIT_MESSAGE
 
 -- Tests a condition, and goes on in the world that its test leaves.
-abbrev pub tests : Story → Frame → Onward → Onward → Condact → Run → Tested → Out
-tests g f next go c r tested = after_test g f next go c (with_world tested.world r) tested.answer
+abbrev pub tests_condition : Story → Frame → Onward → Onward → Condact → Run → Tested → Out
+tests_condition g f next go c r tested = after_test g f next go c (with_world tested.world r) tested.answer
 
 -- Lets PARSE take the next phrase: a sentence leads to the next entry.
 abbrev pub parses : Story → Frame → Onward → Onward → Run → Out

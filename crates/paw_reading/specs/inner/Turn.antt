@@ -8,13 +8,14 @@ use Rattle.paw_effects.specs.declared.act.Prompt.TheVariants as prompt
 use Rattle.paw_reading.specs.declared.places.Frame.{Frame}
 use Rattle.paw_reading.specs.Run.{Run}
 use Rattle.paw_reading.specs.inner.GoingOn.{with_lines}
-use Rattle.paw_reading.specs.Turn.{TurnPhase, Ending, WaitsAt, Halted, Unended, turn, turns_from, reading, goes_on, on}
+use Rattle.paw_reading.specs.Turn.{TurnPhase, Ending, WaitsAt, Halted, Unended, turn, turns_from, reading, goes_on}
+use Rattle.paw_reading.specs.Turn.{going_on_from}
 
 -- ---- going on ----
 
 -- A reading that waits goes on with these lines; any other stays as it ended, with the lines untaken.
 abbrev pub followed : Story → Lines → Ending → Ending
-followed g lines (WaitsAt p path r) = on g p path (with_lines lines r)
+followed g lines (WaitsAt p path r) = going_on_from g p path (with_lines lines r)
 followed g lines (Halted halt r) = Halted halt (with_lines lines r)
 followed g lines Unended = Unended
 
@@ -31,12 +32,12 @@ EndsOnce = (g : Story) (n : ℕ) (s : TurnPhase) (r : Run) →
 
 -- Going on from a prompt ends: the phases that are granted are enough.
 abbrev pub GoingOnEnds : Type 0
-GoingOnEnds = (g : Story) (p : Prompt) (path : List Frame) (r : Run) → on g p path r ≢ Unended
+GoingOnEnds = (g : Story) (p : Prompt) (path : List Frame) (r : Run) → going_on_from g p path r ≢ Unended
 
 -- More phases, or fewer that are enough, change nothing in going on.
 abbrev pub GoesOnOnce : Type 0
 GoesOnOnce = (g : Story) (n : ℕ) (p : Prompt) (path : List Frame) (r : Run) →
-    goes_on g n p path r ≢ Unended → goes_on g n p path r ≡ on g p path r
+    goes_on g n p path r ≢ Unended → goes_on g n p path r ≡ going_on_from g p path r
 
 -- Inside tables a run waits along the frames of those that are open, and at the main prompt none is.
 abbrev pub MayWaitAlong : Prompt → List Frame → Type 0
@@ -49,7 +50,7 @@ MayWaitAlong prompt.Over path = ⊥
 -- With no line going on is the wait itself.
 abbrev pub WaitsOn : Type 0
 WaitsOn = (g : Story) (p : Prompt) (path : List Frame) (r : Run) → MayWaitAlong p path → r.events ≡ [] →
-    on g p path r ≡ WaitsAt p path r
+    going_on_from g p path r ≡ WaitsAt p path r
 
 -- Reading more lines is reading some, and going on with the others.
 abbrev pub GoingOnIsReading : Type 0

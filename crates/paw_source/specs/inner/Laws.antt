@@ -10,12 +10,12 @@ use Rattle.paw_faults.specs.Bind.{◌>>=◌}
 use Rattle.paw_lex.specs.Lines.{lines_of}
 use Rattle.paw_grammar.specs.GrammarState.{Spelt, nothing_yet, game_of}
 use Rattle.paw_base.specs.declared.fault.SourceFault.{SourceFault}
-use Rattle.paw_grammar.specs.Spells.{step, begins_table, fault, spelled, Spells}
+use Rattle.paw_grammar.specs.Spells.{after_line, begins_table, fault, spelled, Spells}
 
 -- What the lines spell after what is spelled already, where none of them has a fault.
 unfoldable pub after_lines : ℕ → Spelt → Lines → Result Spelt SourceKind
 after_lines p d [] = Ok d
-after_lines p d (l ∷ ls) = step p d l >>= λ e. after_lines p e ls
+after_lines p d (l ∷ ls) = after_line p d l >>= λ e. after_lines p e ls
 
 -- A line with a fault of this kind comes after n lines with none.
 pub record HasFault (p : ℕ) (d : Spelt) (ls : Lines) (n : ℕ) (k : SourceKind) : Type 0 where
@@ -26,7 +26,7 @@ pub record HasFault (p : ℕ) (d : Spelt) (ls : Lines) (n : ℕ) (k : SourceKind
   pub parts : ls ≡ before ++ line ∷ behind
   pub place : length before ≡ n
   pub no_fault : after_lines p d before ≡ Ok draft
-  pub fault : step p draft line ≡ Err k
+  pub fault : after_line p draft line ≡ Err k
 
 -- No line has a fault.
 pub record HasNone (p : ℕ) (d : Spelt) (ls : Lines) : Type 0 where

@@ -3,8 +3,8 @@ use Rattle.std.specs.Prelude.{◌≡◌, ℕ, Result, Ok, Err}
 use Rattle.paw_base.specs.declared.fault.SourceFault.{SourceFault}
 use Rattle.paw_game.specs.Game.{GameLists}
 use Rattle.paw_base.specs.declared.fault.SourceKind.{SourceKind}
-use Rattle.paw_faults.specs.declared.unread.Unread.{Unread}
-use Rattle.paw_faults.specs.declared.unread.Unread.TheVariants as unread
+use Rattle.paw_faults.specs.declared.read_error.ReadError.{ReadError}
+use Rattle.paw_faults.specs.declared.read_error.ReadError.TheVariants as unread
 use Rattle.paw_grammar.specs.Spells.{fault}
 use Rattle.paw_source.specs.declared.refusal.SourceRefusal.{SourceRefusal}
 use Rattle.paw_source.specs.declared.refusal.SourceRefusal.TheVariants as refusal
@@ -15,7 +15,7 @@ RefusesSource (refusal.Fault f) spelled = spelled ≡ Err f
 RefusesSource refusal.Memory spelled = Unit {0}
 
 -- The refusal of a source where a line is refused.
-abbrev pub refused_at_line : ℕ → Unread SourceKind → SourceRefusal
+abbrev pub refused_at_line : ℕ → ReadError SourceKind → SourceRefusal
 refused_at_line n unread.Memory = refusal.Memory
 refused_at_line n (unread.Fault kind) = refusal.Fault (fault n kind)
 

@@ -4,12 +4,12 @@ use Rattle.std.specs.Prelude.{Result, OnOk}
 use Rattle.paw_stage.specs.Stage.{Standing}
 use Rattle.paw_stage.specs.Moments.{Moment}
 use Rattle.paw_stage.specs.declared.Stage.{Ghosts}
-use Rattle.paw_stage.specs.Across.{Across, EachMoment}
+use Rattle.paw_stage.specs.Across.{IfTelling, EachMoment}
 
 -- The same, but only where the calls were done.
-abbrev pub Once : {S A E : Type 0} → Ghosts S → S → S → Result A E → (Standing → Standing → Type 0) → Type 0
-Once g old new result Holds = Across g old new (λ before after. OnOk result (Holds before after))
+abbrev pub OnSuccess : {S A E : Type 0} → Ghosts S → S → S → Result A E → (Standing → Standing → Type 0) → Type 0
+OnSuccess g old new result Holds = IfTelling g old new (λ before after. OnOk result (Holds before after))
 
 -- Where the stage reports what stands at it, `Inside` holds for each moment of the calls, by what stood before.
-abbrev pub Throughout : {S : Type 0} → Ghosts S → S → S → (Standing → Moment → Type 0) → Type 0
-Throughout g old new Inside = g.Tells old → EachMoment g old new (Inside (g.standing old))
+abbrev pub AtEachMoment : {S : Type 0} → Ghosts S → S → S → (Standing → Moment → Type 0) → Type 0
+AtEachMoment g old new Inside = g.Tells old → EachMoment g old new (Inside (g.standing old))

@@ -91,12 +91,12 @@ stepped kind.End name bytes s = s
 stepped kind.Show name bytes s = with_shown bytes s
 
 -- What stands after a call.
-abbrev pub step_done : Standing → DoneCall → Standing
-step_done s d = stepped d.kind d.name d.bytes s
+abbrev pub standing_after : Standing → DoneCall → Standing
+standing_after s d = stepped d.kind d.name d.bytes s
 
 -- What stands after these calls, one after the other.
 abbrev pub after : Standing → List DoneCall → Standing
-after s ds = fold step_done s ds
+after s ds = fold standing_after s ds
 
 -- Whether this is a call of the stage, and not a file that was put there between them.
 abbrev pub is_call : CallKind → Bool

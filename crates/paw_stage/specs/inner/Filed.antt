@@ -7,7 +7,7 @@ use Rattle.paw_stage.specs.Disk.{Disk, put, stable}
 use Rattle.std.proofs.lemmas.Slice.Eq.{bytes_eq-Decides}
 use Rattle.paw_stage.specs.Stage.{Standing, Files, file_holding, store_holding, made_if_missing}
 use Rattle.paw_stage.specs.Stage.{bytes_or_none, file_bytes}
-use Rattle.paw_stage.specs.inner.Done.{DoneCall, fresh, step_done, stepped, after, is_attached}
+use Rattle.paw_stage.specs.inner.Done.{DoneCall, fresh, standing_after, stepped, after, is_attached}
 use Rattle.paw_stage.specs.inner.Seen.{IsFiled}
 use Rattle.paw_stage.specs.inner.Memory.{Memory, standing_of}
 use Rattle.paw_stage.specs.declared.log.CallKind.{CallKind}
@@ -55,7 +55,7 @@ stepped_filed kind.Show name bytes s h n e = h n e
 
 later_filed : (s : Standing) (ds : List DoneCall) → IsFiled s → IsFiled (after s ds)
 later_filed s [] h = h
-later_filed s (d ∷ ds) h = later_filed (step_done s d) ds (stepped_filed d.kind d.name d.bytes s h)
+later_filed s (d ∷ ds) h = later_filed (standing_after s d) ds (stepped_filed d.kind d.name d.bytes s h)
 
 pub after_filed : (ds : List DoneCall) → IsFiled (after fresh ds)
 after_filed ds = later_filed fresh ds (λ n e. cc)

@@ -5,16 +5,16 @@ use Rattle.std.specs.Path.{path_parent}
 use Rattle.paw_base.specs.Bytes.{Bytes, Name}
 
 -- A file whose place was known before stands at this one.
-abbrev pub StandsAt : Option ℕ → Option ℕ → ℕ → Type 0
-StandsAt old new at = IfSome old (λ _. new ≡ Some at)
+abbrev pub StaysWhereItWas : Option ℕ → Option ℕ → ℕ → Type 0
+StaysWhereItWas old new at = IfSome old (λ _. new ≡ Some at)
 
 -- From this place on a file gave these bytes, or took them, as far as it shows its place and its bytes.
 module _ {F : Type 0} (place : F → Option ℕ) (known : F → Option (List ℕ)) (old new : F) (at : ℕ) (bytes : Bytes) where
   abbrev pub GivesAt : Type 0
-  GivesAt = (there : F) × StandsAt (place old) (place there) at × Consumes (known there) (known new) bytes
+  GivesAt = (there : F) × StaysWhereItWas (place old) (place there) at × Consumes (known there) (known new) bytes
 
   abbrev pub TakesAt : Type 0
-  TakesAt = (there : F) × StandsAt (place old) (place there) at × Appends (known there) (known new) bytes
+  TakesAt = (there : F) × StaysWhereItWas (place old) (place there) at × Appends (known there) (known new) bytes
 
 -- A reader that gives these bytes gave the first n of them.
 abbrev pub GivesFirst : Option Bytes → ℕ → Bytes → Type 0

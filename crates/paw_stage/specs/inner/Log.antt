@@ -41,8 +41,8 @@ abbrev pub replayed : Bytes → List Call → Standing
 replayed room calls = after fresh (all_done room calls)
 
 -- A text is what was shown before a call of this kind, and another is that after it.
-abbrev pub KeepsText : CallKind → Bytes → Text → Text → Type 0
-KeepsText kind bytes old new =
+abbrev pub IsTextOfCall : CallKind → Bytes → Text → Text → Type 0
+IsTextOfCall kind bytes old new =
     (s : Standing) (name : Name) → s.shown ≡ old → (stepped kind name bytes s).shown ≡ new
 
 -- The places of calls that lie one after the other, between start and end.

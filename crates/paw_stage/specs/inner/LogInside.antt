@@ -13,7 +13,7 @@ logged_in l = record {
 
 -- The calls lie one after the other in the room, the text is what they showed, the number of bytes written to stores is
 -- theirs, and the spare calls and bytes have room.
-pub record IsLogKept (l : Inside) : Type 0 where
+pub record IsLogSound (l : Inside) : Type 0 where
   pub laid : AreLaid l.calls.items 0 (length l.room.items)
   pub text : l.text.items ≡ (replayed l.room.items l.calls.items).shown
   pub written : l.written ≡ (replayed l.room.items l.calls.items).written

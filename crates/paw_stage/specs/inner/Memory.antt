@@ -4,10 +4,10 @@ use Rattle.std.specs.Prelude.{Result, OnOk, OnErr, IsErr}
 use Rattle.paw_base.specs.Bytes.{Bytes, Line, Lines, Name}
 use Rattle.paw_stage.specs.declared.StageCall.{StageCall}
 use Rattle.paw_stage.specs.declared.StageCall.TheVariants as call
-use Rattle.paw_stage.specs.declared.faults.FaultCounts.{FaultCounts}
+use Rattle.paw_stage.specs.declared.faults.FailureCounts.{FailureCounts}
 use Rattle.paw_stage.specs.Stage.{Standing}
 use Rattle.paw_stage.specs.Moments.{Moment, Moments, moment_of}
-use Rattle.paw_stage.specs.inner.Faults.{raised, no_faults}
+use Rattle.paw_stage.specs.inner.Faults.{raised, no_failures}
 use Rattle.paw_stage.specs.inner.Done.{DoneCall, size_of, added, loaded_file, took, fresh, after}
 use Rattle.paw_stage.specs.inner.Replay.{since_of, only_now}
 use Rattle.paw_stage.specs.inner.Log.{Logged, has_room, logged, call_logged}
@@ -15,14 +15,14 @@ use Rattle.paw_stage.specs.inner.Log.{Logged, has_room, logged, call_logged}
 pub record Memory : Type 0 where
   pub lines : Lines
   pub log : Logged
-  pub counts : FaultCounts
+  pub counts : FailureCounts
 
 -- A stage with nothing in it, and spare room for these numbers of calls and bytes.
 abbrev pub empty : ℕ → ℕ → Memory
 empty calls bytes = record {
   lines = [];
   log = record { calls = []; calls_left = calls; bytes_left = bytes };
-  counts = no_faults;
+  counts = no_failures;
 }
 
 -- What stands at it: what its calls, played again, make of nothing, and the lines that are left.
@@ -68,8 +68,8 @@ Notes c d result old new =
     × OnOk result (new ≡ recorded d old)
 
 -- The moments of a call are those before it, and others for which `Inside` holds, by what stood before.
-abbrev pub Throughout : Memory → Memory → (Standing → Moment → Type 0) → Type 0
-Throughout old new Inside = Moments clock_of moments_of old new (Inside (standing_of old))
+abbrev pub AtEachMoment : Memory → Memory → (Standing → Moment → Type 0) → Type 0
+AtEachMoment old new Inside = Moments clock_of moments_of old new (Inside (standing_of old))
 
 -- The stage after a load that found no file: the load was recorded, and counts as a fault.
 abbrev pub found_none : Name → Memory → Memory

@@ -2,7 +2,7 @@
 use Rattle.std.specs.Prelude.{◌≡◌, ◌⊎◌, ℕ, ◌+◌, ◌-◌, ◌^◌, min, Bool, IsTrue, IsFalse, ◌↔◌}
 use Rattle.std.specs.Prelude.{Result, OnOk, OnErr, IsErr}
 use Rattle.paw_stage.specs.declared.StageCall.{StageCall}
-use Rattle.paw_stage.specs.declared.faults.FaultCounts.{FaultCounts}
+use Rattle.paw_stage.specs.declared.faults.FailureCounts.{FailureCounts}
 use Rattle.paw_stage.specs.Stage.{Standing}
 use Rattle.paw_stage.specs.Moments.{Moment}
 use Rattle.paw_stage.specs.inner.Faults.{count_of, raised}
@@ -14,31 +14,31 @@ use Rattle.paw_stage.specs.inner.Memory.{Memory, can_note, recorded, failed}
 pub record Refusing (R : Type 0) : Type 0 where
   pub inner : Memory
   pub rule : R
-  pub counts : FaultCounts
+  pub counts : FailureCounts
 
 -- How often a call has failed here or below, up to the last value of a count.
-abbrev pub faults_of : {R : Type 0} → Refusing R → StageCall → ℕ
-faults_of s c = min (count_of s.counts c + count_of s.inner.counts c) (2 ^ 64 - 1)
+abbrev pub failures_of : {R : Type 0} → Refusing R → StageCall → ℕ
+failures_of s c = min (count_of s.counts c + count_of s.inner.counts c) (2 ^ 64 - 1)
 
 -- What stands at it: what stands at the stage below.
 abbrev pub standing_of : {R : Type 0} → Refusing R → Standing
 standing_of s = memory.standing_of s.inner
 
 -- The moments of a call: those of the stage below.
-abbrev pub Throughout : {R : Type 0} → Refusing R → Refusing R → (Standing → Moment → Type 0) → Type 0
-Throughout old new Inside = memory.Throughout old.inner new.inner Inside
+abbrev pub AtEachMoment : {R : Type 0} → Refusing R → Refusing R → (Standing → Moment → Type 0) → Type 0
+AtEachMoment old new Inside = memory.AtEachMoment old.inner new.inner Inside
 
 -- The stage after a call that was made to fail. It isn't passed on. Then the rule is the later one.
 abbrev pub refused : {R : Type 0} → (R → R) → StageCall → Refusing R → Refusing R
 refused later c s = record { inner = s.inner; rule = later s.rule; counts = raised c s.counts }
 
 -- The stage after a call that was passed on and did this below.
-abbrev pub passed : {R : Type 0} → (R → R) → (Memory → Memory) → Refusing R → Refusing R
-passed later did s = record { inner = did s.inner; rule = later s.rule; counts = s.counts }
+abbrev pub passed_on : {R : Type 0} → (R → R) → (Memory → Memory) → Refusing R → Refusing R
+passed_on later did s = record { inner = did s.inner; rule = later s.rule; counts = s.counts }
 
 -- What a call leaves that was passed on and failed below.
 abbrev pub FailsBelow : {R : Type 0} → (R → Bool) → (R → R) → StageCall → Refusing R → Refusing R → Type 0
-FailsBelow refuses later c old new = IsFalse (refuses old.rule) → new ≡ passed later (failed c) old
+FailsBelow refuses later c old new = IsFalse (refuses old.rule) → new ≡ passed_on later (failed c) old
 
 -- A call isn't done: the rule makes it fail, or there is no room for it below.
 abbrev pub CannotPass : {R : Type 0} → (R → Bool) → DoneCall → Refusing R → Type 0
@@ -49,4 +49,4 @@ abbrev pub Forwards : {R A E : Type 0} → (R → Bool) → (R → R) → StageC
     Refusing R → Type 0
 Forwards refuses later c d result old new =
     (IsErr result ↔ CannotPass refuses d old) × (IsTrue (refuses old.rule) → new ≡ refused later c old)
-    × OnErr result (FailsBelow refuses later c old new) × OnOk result (new ≡ passed later (recorded d) old)
+    × OnErr result (FailsBelow refuses later c old new) × OnOk result (new ≡ passed_on later (recorded d) old)

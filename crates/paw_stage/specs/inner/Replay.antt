@@ -5,7 +5,7 @@ use Rattle.paw_base.specs.Bytes.{Bytes, Name}
 use Rattle.paw_stage.specs.Disk.{touched}
 use Rattle.paw_stage.specs.Stage.{Standing, made_if_missing, opened, wrote, settled}
 use Rattle.paw_stage.specs.Moments.{Moment, moment_of}
-use Rattle.paw_stage.specs.inner.Done.{DoneCall, fresh, filed, step_done, after}
+use Rattle.paw_stage.specs.inner.Done.{DoneCall, fresh, filed, standing_after, after}
 use Rattle.paw_stage.specs.declared.log.CallKind.{CallKind}
 use Rattle.paw_stage.specs.declared.log.CallKind.TheVariants as kind
 
@@ -38,7 +38,7 @@ StandsInside s d m = MayStand d.kind d.name d.bytes s m
 -- What may have stood inside one of these calls, the first of which began with s.
 abbrev pub StoodInside : Standing → List DoneCall → Moment → Type 0
 StoodInside s [] m = ⊥
-StoodInside s (d ∷ ds) m = StandsInside s d m ⊎ StoodInside (step_done s d) ds m
+StoodInside s (d ∷ ds) m = StandsInside s d m ⊎ StoodInside (standing_after s d) ds m
 
 -- The moments since this number of calls were done: what stands after all of them, and what stood inside the later
 -- ones.

@@ -18,9 +18,9 @@ use Rattle.paw_state.specs.declared.layout.TheConstants.{PLACES, SAVED, HELD_FLA
 use Rattle.paw_state.specs.declared.layout.TheConstants.{EVENTS, PROMPT, COUNT, ROWS, ROW_LENGTH, ROW_ENTRY, ROW_AT}
 use Rattle.paw_state.specs.declared.layout.TheConstants.{ROW_ACTED, LOOPING, LOOP_LEVEL, LOOP_TABLE, LOOP_ENTRY}
 use Rattle.paw_state.specs.declared.layout.TheConstants.{LOOP_AT, LOOP_PLACE, LOOP_LAST, PENDING, LINE, KEPT}
-use Rattle.paw_state.specs.declared.fields.Row.{Row}
+use Rattle.paw_state.specs.declared.fields.FrameField.{FrameField}
 use Rattle.paw_state.specs.declared.fields.Fields.{Fields}
-use Rattle.paw_state.specs.declared.held.Held.{Held}
+use Rattle.paw_state.specs.declared.position_field.PositionField.{PositionField}
 use Rattle.paw_state.specs.declared.StateFault.{StateFault}
 use Rattle.paw_state.specs.Fields.{fault_from, state_fields}
 use Rattle.paw_state.specs.Fields.{prompt_of as listed_prompt}
@@ -55,7 +55,7 @@ places_fault g at places = first (
     ∷ [])
 
 -- The first fault of a position that isn't there: its flags and its places are 0.
-abbrev pub absent_fault : ℕ → Held → Option ℕ
+abbrev pub absent_fault : ℕ → PositionField → Option ℕ
 absent_fault at h = first (
     first_not is_zero (at + HELD_FLAGS) h.flags
     ∷ first_not is_zero (at + HELD_PLACES) h.places
@@ -63,14 +63,14 @@ absent_fault at h = first (
 
 -- The first fault of a position: 0 or 1 says whether it is there; one that isn't has zeros alone, and the places of one
 -- that is are like those of now.
-abbrev pub held_fault : GameLists → ℕ → Held → Option ℕ
+abbrev pub held_fault : GameLists → ℕ → PositionField → Option ℕ
 held_fault g at h = first (
     rule at (nat_le h.there 1)
     ∷ (if h.there == 0 then absent_fault at h else places_fault g (at + HELD_PLACES) h.places)
     ∷ [])
 
 -- The first fault of positions that stand one after the other from this place on.
-unfoldable pub kept_fault : GameLists → ℕ → List Held → Option ℕ
+unfoldable pub kept_fault : GameLists → ℕ → List PositionField → Option ℕ
 kept_fault g at [] = None
 kept_fault g at (h ∷ hs) = option_or (held_fault g at h) (kept_fault g (at + HELD_LENGTH) hs)
 
@@ -100,7 +100,7 @@ prompt_fault f = first (
     ∷ [])
 
 -- The first fault of an unused row: it is 0.
-abbrev pub unused_fault : ℕ → Row → Option ℕ
+abbrev pub unused_fault : ℕ → FrameField → Option ℕ
 unused_fault at r = first (
     rule at (r.table == 0)
     ∷ rule (at + ROW_ENTRY) (r.entry == 0)
@@ -110,7 +110,7 @@ unused_fault at r = first (
 
 -- The first fault of a used row: it is of the table that was called (the outermost of table 0, 1 or 2), and stands at a
 -- condact with this code.
-abbrev pub used_fault : GameLists → ℕ → Option ℕ → ℕ → Row → Option ℕ
+abbrev pub used_fault : GameLists → ℕ → Option ℕ → ℕ → FrameField → Option ℕ
 used_fault g code caller at r = first (
     rule at (may_open caller r.table)
     ∷ rule (at + ROW_ENTRY) (is_some (head_at g r.table r.entry))
@@ -119,17 +119,17 @@ used_fault g code caller at r = first (
     ∷ [])
 
 -- The first fault of a row from which on n are used: the last is at the prompt's condact, each other at a PROCESS.
-abbrev pub row_fault : GameLists → ℕ → Option ℕ → ℕ → ℕ → Row → Option ℕ
+abbrev pub row_fault : GameLists → ℕ → Option ℕ → ℕ → ℕ → FrameField → Option ℕ
 row_fault g code caller n at r =
     if n == 0 then unused_fault at r else used_fault g (if n == 1 then code else PROCESS) caller at r
 
 -- The table that the PROCESS of a row calls.
-abbrev pub called_table : GameLists → Row → Option ℕ
+abbrev pub called_table : GameLists → FrameField → Option ℕ
 called_table g r = Some (parameter_of (condact_at g r.table r.entry r.at))
 
 -- The first fault of rows that stand from this place on, of which n are used, the first of them of the table that was
 -- called.
-unfoldable pub row_fields_fault : GameLists → ℕ → Option ℕ → ℕ → ℕ → List Row → Option ℕ
+unfoldable pub row_fields_fault : GameLists → ℕ → Option ℕ → ℕ → ℕ → List FrameField → Option ℕ
 row_fields_fault g code caller n at [] = None
 row_fields_fault g code caller n at (r ∷ rs) =
     option_or (row_fault g code caller n at r) (row_fields_fault g code (called_table g r) (n - 1) (at + ROW_LENGTH) rs)
@@ -157,8 +157,8 @@ loop_fields_fault g f l = first (
     ∷ [])
 
 -- The first fault of the loop: 0 or 1 says whether one is open, and 0 where no table is; one that isn't is all 0.
-abbrev pub turning_fault : GameLists → Fields → Option ℕ
-turning_fault g f = first (
+abbrev pub open_loop_fault : GameLists → Fields → Option ℕ
+open_loop_fault g f = first (
     rule LOOPING (nat_le f.looping (if f.count == 0 then 0 else 1))
     ∷ (if f.looping == 0 then no_loop_fault f.turning else loop_fields_fault g f f.turning)
     ∷ [])
@@ -183,7 +183,7 @@ parts_fault g f = first (
     ∷ numbers_fault f
     ∷ prompt_fault f
     ∷ frame_fields_fault g f
-    ∷ turning_fault g f
+    ∷ open_loop_fault g f
     ∷ pending_fault f
     ∷ kept_fault g KEPT f.kept
     ∷ [])

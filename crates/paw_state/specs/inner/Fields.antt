@@ -12,9 +12,9 @@ use Rattle.paw_state.specs.declared.layout.TheConstants.{SEED, DRAWS, EVENTS, PR
 use Rattle.paw_state.specs.declared.layout.TheConstants.{ROW_ENTRY, ROW_AT, ROW_ACTED, LOOPING, LOOP_LEVEL, LOOP_TABLE}
 use Rattle.paw_state.specs.declared.layout.TheConstants.{LOOP_ENTRY, LOOP_AT, LOOP_PLACE, LOOP_LAST, EARLIER, PENDING}
 use Rattle.paw_state.specs.declared.layout.TheConstants.{LINE, PIECE, KEPT}
-use Rattle.paw_state.specs.declared.fields.Row.{Row}
+use Rattle.paw_state.specs.declared.fields.FrameField.{FrameField}
 use Rattle.paw_state.specs.declared.fields.Fields.{Fields}
-use Rattle.paw_state.specs.declared.held.Held.{Held}
+use Rattle.paw_state.specs.declared.position_field.PositionField.{PositionField}
 
 -- ---- from fields to bytes ----
 
@@ -23,7 +23,7 @@ abbrev pub eight_bytes : ℕ → Bytes
 eight_bytes n = to_le_bytes w64 n
 
 -- The bytes of a frame: table, entry, condact, and 1 where an action was carried out.
-abbrev pub row_bytes : Row → Bytes
+abbrev pub row_bytes : FrameField → Bytes
 row_bytes r = r.table ∷ (two_bytes r.entry ++ r.at ∷ r.acted ∷ [])
 
 -- The bytes of the open loop: level, table, entry, condact, place, last object.
@@ -31,7 +31,7 @@ abbrev pub loop_bytes : OpenLoop → Bytes
 loop_bytes l = l.level ∷ l.table ∷ (two_bytes l.entry ++ l.at ∷ l.place ∷ l.last ∷ [])
 
 -- The bytes of a position that may be there: whether it is, its flags, and its places.
-unfoldable pub held_bytes : Held → Bytes
+unfoldable pub held_bytes : PositionField → Bytes
 held_bytes h = concat ((h.there ∷ []) ∷ h.flags ∷ h.places ∷ [])
 
 -- The bytes of flags and places, now and in the saved position.
@@ -71,7 +71,7 @@ abbrev pub eight_at : Bytes → ℕ → ℕ
 eight_at bytes at = from_le_bytes w64 (slice_range bytes at (at + 8))
 
 -- The row in these bytes, from the first on.
-abbrev pub row_at : Bytes → Row
+abbrev pub row_at : Bytes → FrameField
 row_at bytes = record {
   table = slice_index bytes 0;
   entry = two_at bytes ROW_ENTRY;
@@ -80,7 +80,7 @@ row_at bytes = record {
 }
 
 -- The position in these bytes, from the first on.
-abbrev pub held_at : Bytes → Held
+abbrev pub held_at : Bytes → PositionField
 held_at bytes = record {
   there = slice_index bytes 0;
   flags = slice_range bytes HELD_FLAGS HELD_PLACES;
@@ -88,7 +88,7 @@ held_at bytes = record {
 }
 
 -- This number of rows, from the first byte on.
-unfoldable pub rows_at : ℕ → Bytes → List Row
+unfoldable pub rows_at : ℕ → Bytes → List FrameField
 rows_at zero bytes = []
 rows_at (suc n) bytes = row_at bytes ∷ rows_at n (drop ROW_LENGTH bytes)
 

@@ -4,9 +4,9 @@ use Rattle.std.specs.Prelude.{◌≡◌, ℕ, Option, take}
 use Rattle.paw_base.specs.Bytes.{Bytes}
 use Rattle.paw_game.specs.Game.{GameLists}
 use Rattle.paw_process.specs.inner.Kept.{kept}
-use Rattle.paw_process.specs.inner.Kept.{restored, waiting_at, StandsAt}
+use Rattle.paw_process.specs.inner.Kept.{restored, waiting_at, WaitsAtPrompt}
 use Rattle.paw_state.specs.declared.Restored.{Restored}
-use Rattle.paw_state.specs.State.{State, Keeps, FitsFields}
+use Rattle.paw_state.specs.State.{State, IsValidState, FitsFields}
 use Rattle.paw_state.specs.inner.State.{state_of}
 use Rattle.paw_state.specs.State.{state_bytes}
 use Rattle.paw_state.specs.inner.Faults.{fields_fault}
@@ -24,7 +24,7 @@ state_read r = state_of r.world r.machine r.pending r.prompt r.events r.piece
 -- prompt with a full budget.
 pub record IsRead (g : GameLists) (bytes : Bytes) (r : Restored) : Type 0 where
   pub are : take STATE_LENGTH bytes ≡ state_bytes (state_read r)
-  pub keeps : Keeps g (state_read r)
+  pub keeps : IsValidState g (state_read r)
   pub fits : FitsFields (state_read r)
   pub machine : r.machine ≡ restored (kept r.machine) (waiting_at r.prompt)
-  pub stands : StandsAt r.prompt r.machine
+  pub stands : WaitsAtPrompt r.prompt r.machine

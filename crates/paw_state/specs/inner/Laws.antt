@@ -4,7 +4,7 @@ use Rattle.std.specs.Prelude.{◌≡◌, ℕ, ◌≤◌, ◌++◌, Some, None, l
 use Rattle.paw_base.specs.Bytes.{Bytes}
 use Rattle.paw_game.specs.Game.{GameLists}
 use Rattle.paw_game.specs.Valid.{Valid}
-use Rattle.paw_state.specs.State.{State, Keeps, FitsFields, AreBytes}
+use Rattle.paw_state.specs.State.{State, IsValidState, FitsFields, AreBytes}
 use Rattle.paw_state.specs.declared.fields.Fields.{Fields}
 use Rattle.paw_state.specs.Fields.{AreSized, bytes_of, state_fields}
 use Rattle.paw_state.specs.State.{state_bytes}
@@ -29,11 +29,11 @@ FitOrUnfit =
 -- Two states of a game with the same bytes are the same.
 abbrev pub BytesTellTheState : Type 0
 BytesTellTheState =
-    (g : GameLists) (s t : State) → Valid g → Keeps g s → FitsFields s → Keeps g t → FitsFields t →
+    (g : GameLists) (s t : State) → Valid g → IsValidState g s → FitsFields s → IsValidState g t → FitsFields t →
     state_bytes s ≡ state_bytes t → s ≡ t
 
 -- A state has a fixed number of bytes, which are fit for the game, whatever follows them.
 abbrev pub WrittenIsFit : Type 0
 WrittenIsFit =
-    (g : GameLists) (s : State) (rest : Bytes) → Valid g → Keeps g s → FitsFields s →
+    (g : GameLists) (s : State) (rest : Bytes) → Valid g → IsValidState g s → FitsFields s →
     (length (state_bytes s) ≡ STATE_LENGTH) × Fit g (state_bytes s ++ rest)

@@ -6,14 +6,14 @@ use Rattle.paw_phrase.specs.Pending.{PendingLine}
 use Rattle.paw_reading.specs.declared.places.Frame.{Frame}
 use Rattle.paw_reading.specs.declared.places.OpenLoop.{OpenLoop}
 use Rattle.paw_process.specs.declared.kept.Frames.{Frames}
-use Rattle.paw_state.specs.declared.fields.Row.{Row}
+use Rattle.paw_state.specs.declared.fields.FrameField.{FrameField}
 use Rattle.paw_state.specs.declared.fields.Fields.{Fields}
-use Rattle.paw_state.specs.declared.held.Held.{Held}
+use Rattle.paw_state.specs.declared.position_field.PositionField.{PositionField}
 use Rattle.paw_state.specs.State.{State}
 use Rattle.paw_state.specs.inner.Faults.{prompt_of}
 
 -- The position, if it is there: its flags, and the places of this number of objects.
-abbrev pub held_in : ℕ → Held → Option Position
+abbrev pub held_in : ℕ → PositionField → Option Position
 held_in objects h = if h.there == 0 then None else Some (record { flags = h.flags; places = take objects h.places })
 
 -- The world of the game with these flags, places, positions and draws.
@@ -30,16 +30,16 @@ world_in g f = record {
 }
 
 -- The frame of a row.
-abbrev pub frame_in : Row → Frame
+abbrev pub frame_in : FrameField → Frame
 frame_in r = record { table = r.table; entry = r.entry; at = r.at; acted = (r.acted == 1) }
 
 -- The open loop, if there is one.
-abbrev pub turning_in : Fields → Option OpenLoop
-turning_in f = if f.looping == 0 then None else Some f.turning
+abbrev pub open_loop_in : Fields → Option OpenLoop
+open_loop_in f = if f.looping == 0 then None else Some f.turning
 
 -- The frames of the open tables, and the open loop.
 abbrev pub frames_in : Fields → Frames
-frames_in f = record { count = f.count; rows = map frame_in f.rows; turning = turning_in f }
+frames_in f = record { count = f.count; rows = map frame_in f.rows; turning = open_loop_in f }
 
 -- The pending bytes, and the earlier verb.
 abbrev pub pending_in : Fields → PendingLine
@@ -57,7 +57,7 @@ state_in g f = record {
 }
 
 -- The flags and the places of a position become those of the world, now and saved.
-abbrev pub SetsSaved : Held → World → World → Type 0
+abbrev pub SetsSaved : PositionField → World → World → Type 0
 SetsSaved h old new =
     new ≡ record old {
       flags = h.flags;

@@ -18,16 +18,16 @@ use Rattle.paw_play.specs.Play.{store_bytes, NewSession, PlaysAgain}
 use Rattle.paw_play.specs.Stands.{Stands}
 use Rattle.paw_gen.specs.Trial.{trial_lines}
 use Rattle.paw_trial.specs.Trial.{trial_story, trial_reading}
-use Rattle.paw_trial.specs.inner.Trial.{trial_end, StopsAs}
-use Rattle.paw_trial.specs.declared.setting.Half.{Half}
-use Rattle.paw_trial.specs.declared.setting.Half.TheVariants as half
+use Rattle.paw_trial.specs.inner.Trial.{trial_end, TrialStopsAs}
+use Rattle.paw_trial.specs.declared.setup.Half.{Half}
+use Rattle.paw_trial.specs.declared.setup.Half.TheVariants as half
 use Rattle.paw_trial.specs.declared.TrialEnd.{TrialEnd}
 use Rattle.paw_trial.specs.declared.TrialEnd.TheVariants as end
 use Rattle.paw_trial.specs.declared.Tally.{Tally}
 
 -- The name of the store.
-abbrev pub store_name : Name
-store_name = codes "trial"
+abbrev pub trial_store : Name
+trial_store = codes "trial"
 
 -- The first half of the lines of a trial, rounded down.
 abbrev pub first_half : ℕ → Lines
@@ -38,9 +38,9 @@ abbrev pub second_half : ℕ → Lines
 second_half n = drop (length (trial_lines n) / 2) (trial_lines n)
 
 -- The lines of a half.
-abbrev pub lines_of : Half → ℕ → Lines
-lines_of half.First n = first_half n
-lines_of half.Second n = second_half n
+abbrev pub half_lines : Half → ℕ → Lines
+half_lines half.First n = first_half n
+half_lines half.Second n = second_half n
 
 -- The lines that are played once a half is.
 abbrev pub lines_by : Half → ℕ → Lines
@@ -58,7 +58,7 @@ pub record HoldsLines (n : ℕ) (es : Lines) (s : Standing) : Type 0 where
   pub stable : IsStable s.disk
   pub none : s.lines ≡ []
   pub waits : Waits (reading (trial_story n) n es)
-  pub stands : Stands (trial_story n) n es (store_bytes s store_name)
+  pub stands : Stands (trial_story n) n es (store_bytes s trial_store)
 
 -- A stage is ready for a half: it is new, or it holds the first half.
 abbrev pub IsReadyFor : Half → ℕ → Memory → Type 0
@@ -67,13 +67,13 @@ IsReadyFor half.Second n m = HoldsLines n (first_half n) (standing_of m)
 
 -- The lines of a half are played: with a new session, or with that session resumed.
 abbrev pub PlaysHalf : Half → ℕ → Standing → Standing → PlayEnd → Type 0
-PlaysHalf half.First n old new end = NewSession (begun (trial_story n) n store_name) old new end
-PlaysHalf half.Second n old new end = PlaysAgain (trial_story n) store_name old new end
+PlaysHalf half.First n old new end = NewSession (begun (trial_story n) n trial_store) old new end
+PlaysHalf half.Second n old new end = PlaysAgain (trial_story n) trial_store old new end
 
 -- The session holds these lines, or the trial stops.
-abbrev pub ComesTo : ℕ → Lines → Standing → Option TrialEnd → Type 0
-ComesTo n es new None = HoldsLines n es new
-ComesTo n es new (Some stop) = StopsAs stop (trial_reading n)
+abbrev pub HoldsOrStops : ℕ → Lines → Standing → Option TrialEnd → Type 0
+HoldsOrStops n es new None = HoldsLines n es new
+HoldsOrStops n es new (Some stop) = TrialStopsAs stop (trial_reading n)
 
 -- How a trial stops where playing ends this way; it goes on where no line is left.
 abbrev pub stop_of : PlayEnd → Option TrialEnd

@@ -20,7 +20,7 @@ trial_end (halt.Spent kind) = end.Spent kind
 trial_end (halt.TooDeep table) = end.TooDeep table
 
 -- A trial has no text where the reading has ended for good, or where memory was wanting.
-abbrev pub StopsAs : TrialEnd → Ending → Type 0
-StopsAs end.Memory e = Unit {0}
-StopsAs stop (Halted halt r) = stop ≡ trial_end halt
-StopsAs _ _ = ⊥
+abbrev pub TrialStopsAs : TrialEnd → Ending → Type 0
+TrialStopsAs end.Memory e = Unit {0}
+TrialStopsAs stop (Halted halt r) = stop ≡ trial_end halt
+TrialStopsAs _ _ = ⊥

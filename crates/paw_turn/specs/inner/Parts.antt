@@ -11,7 +11,7 @@ use Rattle.paw_routines.specs.declared.routines.Routines.{Routines}
 use Rattle.paw_effects.specs.inner.Standing.{IsWorldOf}
 use Rattle.paw_effects.specs.Story.{Story}
 use Rattle.paw_reading.specs.Run.{Step as Read}
-use Rattle.paw_reading.specs.Turn.{on}
+use Rattle.paw_reading.specs.Turn.{going_on_from}
 use Rattle.paw_reading.specs.Bounds.{IsLine}
 use Rattle.paw_process.specs.declared.machine.TheConstants.{MOST_FRAMES}
 use Rattle.paw_process.specs.inner.OpenTables.{OpenTables}
@@ -19,12 +19,12 @@ use Rattle.paw_process.specs.inner.Kept.{kept}
 use Rattle.paw_process.specs.inner.Kept.{frames_fault}
 use Rattle.paw_process.specs.inner.OpenTables.{refilled}
 use Rattle.paw_process.specs.inner.Kept.{restored, waiting_at}
-use Rattle.paw_process.specs.inner.Kept.{StandsAt as MachineStandsAt}
+use Rattle.paw_process.specs.inner.Kept.{WaitsAtPrompt as MachineStandsAt}
 use Rattle.paw_process.specs.declared.kept.Frames.{Frames}
 use Rattle.paw_turn.specs.declared.Step.{Step}
 use Rattle.paw_turn.specs.declared.Step.TheVariants as step
 pub use Rattle.paw_turn.specs.inner.Player.{prompt_at, IsStanding}
-use Rattle.paw_turn.specs.inner.Player.{Seat, IsSeated, StandsClosed, StandRightly, run_at}
+use Rattle.paw_turn.specs.inner.Player.{PlayerView, IsSeated, StandsClosed, StandRightly, run_at}
 
 -- How the last line of a player ended: the player waits at this prompt, or the game is over.
 abbrev pub prompt_step : Prompt → Step
@@ -41,7 +41,7 @@ pub record Fits (g : GameLists) (w : World) (m : OpenTables) (p : PendingLine) (
   pub rightly : StandRightly g at w m p
 
 -- The player of a game that stands at a prompt with these parts, and shows no piece.
-abbrev pub seat_at : {F : Type 0} → GameLists → Routines F → World → OpenTables → PendingLine → Prompt → Seat F
+abbrev pub seat_at : {F : Type 0} → GameLists → Routines F → World → OpenTables → PendingLine → Prompt → PlayerView F
 seat_at g routines w m p at = record {
   game = g;
   routines = routines;
@@ -55,14 +55,14 @@ seat_at g routines w m p at = record {
 -- ---- laws ----
 
 -- With no table open nothing is left of the line.
-abbrev pub IsLineTaken : OpenTables → PendingLine → Type 0
-IsLineTaken m p = m.frames ≡ [] → p.bytes ≡ []
+abbrev pub HasTakenLine : OpenTables → PendingLine → Type 0
+HasTakenLine m p = m.frames ≡ [] → p.bytes ≡ []
 
 -- What is pending is a line of at most 255 bytes, of which nothing is left where no table is open; the earlier verb is
 -- a byte.
 pub record IsPending (m : OpenTables) (p : PendingLine) : Type 0 where
   pub bytes : IsLine p.bytes
-  pub taken : IsLineTaken m p
+  pub taken : HasTakenLine m p
   pub earlier : p.earlier < 256
 
 -- Parts that a session gives back fit: a world of the game, a machine restored for it, what may be pending there.
@@ -73,7 +73,7 @@ RestoredFits =
     m ≡ restored k (waiting_at at) → MachineStandsAt at m → frames_fault g at k ≡ None → Fits g w m p at
 
 -- The player that stands with what is kept of a player's machine, and with its other parts.
-abbrev pub seated_again : {F : Type 0} → Seat F → Seat F
+abbrev pub seated_again : {F : Type 0} → PlayerView F → PlayerView F
 seated_again p =
     let at = prompt_at p.last in
     seat_at p.game p.routines p.world (restored (kept p.machine) (waiting_at at)) p.pending at
@@ -81,15 +81,15 @@ seated_again p =
 -- A player seated with its own parts is the same, except that it shows no piece, keeps no steps, and has a full budget.
 abbrev pub SeatedAgain : Type 0 → Type 0
 SeatedAgain F =
-    (p : Seat F) → IsSeated p → IsStanding p.last →
+    (p : PlayerView F) → IsSeated p → IsStanding p.last →
     seated_again p ≡ record p { piece = []; machine = refilled p.machine }
 
 -- What follows from lines depends on neither the last piece, nor the budget that it left, nor its steps: each line
 -- opens a piece of its own.
 abbrev pub GoesOnAlike : Type 0 → Type 0
 GoesOnAlike F =
-    (g : Story) (p : Seat F) (at : Prompt) (piece : Text) (left : ℕ) (steps : KeptSteps)
+    (g : Story) (p : PlayerView F) (at : Prompt) (piece : Text) (left : ℕ) (steps : KeptSteps)
     (pieces : Texts) (traces : List (List Read)) (lines : Lines) →
-    let other : Seat F = record p { piece = piece; machine = record p.machine { left = left; steps = steps } } in
-    on g at (reverse p.machine.frames) (run_at other pieces traces lines)
-    ≡ on g at (reverse p.machine.frames) (run_at p pieces traces lines)
+    let other : PlayerView F = record p { piece = piece; machine = record p.machine { left = left; steps = steps } } in
+    going_on_from g at (reverse p.machine.frames) (run_at other pieces traces lines)
+    ≡ going_on_from g at (reverse p.machine.frames) (run_at p pieces traces lines)

@@ -35,8 +35,8 @@ use Rattle.paw_turn.specs.declared.phase.Phase.{Phase}
 use Rattle.paw_turn.specs.declared.phase.Phase.TheVariants as phase
 use Rattle.paw_turn.specs.declared.phase.Next.{Next}
 use Rattle.paw_turn.specs.declared.phase.Next.TheVariants as next
-use Rattle.paw_turn.specs.declared.turn.Turn.{Turn}
-use Rattle.paw_turn.specs.inner.Player.{step_of, step_halt, brings_piece, Seat, WaitsIn, StandsAt, StandsClosed}
+use Rattle.paw_turn.specs.declared.turn.PlayState.{PlayState}
+use Rattle.paw_turn.specs.inner.Player.{step_of, step_halt, brings_piece, PlayerView, WaitsIn, StandsAt, StandsClosed}
 
 -- ---- runs ----
 
@@ -62,9 +62,9 @@ run_from w bytes earlier turning text past lines = record {
 }
 
 -- The run that shows what stands in a turn, with this past and these lines to come.
-abbrev pub run_now : Turn → Past → Lines → Run
+abbrev pub run_now : PlayState → Past → Lines → Run
 run_now h past lines =
-    let s = h.situation in
+    let s = h.surroundings in
     run_from s.world s.pending.bytes s.pending.earlier h.machine.turning s.piece past lines
 
 -- The open piece has read some condacts.
@@ -101,54 +101,54 @@ GoesOnAs g n (next.Go s) fs r x = x ≡ turn g n (at_phase s) r
 GoesOnAs g n (next.Stop step) fs r x = StopsAs g n step fs r x
 
 -- What x says leads from what stood to what stands now, and no condact is read.
-abbrev pub Moves : Story → (ℕ → Run → Ending) → Turn → Next → Turn → Type 0
+abbrev pub Moves : Story → (ℕ → Run → Ending) → PlayState → Next → PlayState → Type 0
 Moves g x old next new =
     (past : Past) (n : ℕ) (lines : Lines) →
     GoesOnAs g n next new.machine.frames (run_now new past lines) (x n (run_now old past lines))
 
 -- What x says leads from what stood to what stands now: there is what the open piece has read by then.
-abbrev pub ReadsTurn : Story → (ℕ → Run → Ending) → Turn → Next → Turn → Type 0
+abbrev pub ReadsTurn : Story → (ℕ → Run → Ending) → PlayState → Next → PlayState → Type 0
 ReadsTurn g x old next new =
     (past : Past) → HasRead past.read old.machine → (read : List Read) × (HasRead read new.machine
     × ((n : ℕ) (lines : Lines) →
     GoesOnAs g n next new.machine.frames (run_now new (having_read read past) lines) (x n (run_now old past lines))))
 
 -- A reading, with enough phases granted, leads from what stood to what stands now.
-abbrev pub PlaysAs : Story → (ℕ → Past → Lines → Ending) → Turn → Next → Turn → Type 0
+abbrev pub PlaysAs : Story → (ℕ → Past → Lines → Ending) → PlayState → Next → PlayState → Type 0
 PlaysAs g whole old next new =
     (past : Past) → HasRead past.read old.machine → (read : List Read) × (HasRead read new.machine
     × ((n : ℕ) (lines : Lines) →
     (m : ℕ) × GoesOnAs g n next new.machine.frames (run_now new (having_read read past) lines) (whole m past lines)))
 
 -- The turn from a phase on.
-abbrev pub from_phase : Story → Phase → Turn → ℕ → Past → Lines → Ending
+abbrev pub from_phase : Story → Phase → PlayState → ℕ → Past → Lines → Ending
 from_phase g s h m past lines = turn g m (at_phase s) (run_now h past lines)
 
 -- Going on from a prompt with a line.
-abbrev pub from_prompt : Story → Prompt → Turn → Line → ℕ → Past → Lines → Ending
+abbrev pub from_prompt : Story → Prompt → PlayState → Line → ℕ → Past → Lines → Ending
 from_prompt g p h line m past lines = goes_on g m p (reverse h.machine.frames) (run_now h past (line ∷ lines))
 
 -- Some phases from the first on lead from what stood to what stands now.
-abbrev pub Plays : Story → Phase → Turn → Next → Turn → Type 0
+abbrev pub Plays : Story → Phase → PlayState → Next → PlayState → Type 0
 Plays g first old next new = PlaysAs g (from_phase g first old) old next new
 
 -- The machine has read as x says, from what stood to a stop.
-abbrev pub RunsAs : Story → (Past → Lines → Out) → Turn → Turned → Turn → Type 0
+abbrev pub RunsAs : Story → (Past → Lines → Out) → PlayState → Turned → PlayState → Type 0
 RunsAs g x old turned new =
     (past : Past) → HasRead past.read old.machine → (steps : List Read) × (HasRead (past.read ++ steps) new.machine
     × ((lines : Lines) →
     ComesTo g turned new.machine.frames (run_now new (having_read (past.read ++ steps) past) lines) (x past lines)))
 
 -- The reading of a table from its start.
-abbrev pub from_table : Story → ℕ → Turn → Past → Lines → Out
+abbrev pub from_table : Story → ℕ → PlayState → Past → Lines → Out
 from_table g t h past lines = table_read g t (run_now h past lines)
 
 -- Going on in the open tables, with a line.
-abbrev pub from_path : Story → Prompt → Turn → Line → Past → Lines → Out
+abbrev pub from_path : Story → Prompt → PlayState → Line → Past → Lines → Out
 from_path g p h line past lines = on_path g p 0 (reverse h.machine.frames) (run_now h past (line ∷ lines))
 
 -- A table at level 0 ended where the machine stopped; the turn goes on from there, and no condact is read.
-abbrev pub MovesAfter : Story → ℕ → Turned → Turn → Next → Turn → Type 0
+abbrev pub MovesAfter : Story → ℕ → Turned → PlayState → Next → PlayState → Type 0
 MovesAfter g t turned old next new =
     (past : Past) (n : ℕ) (lines : Lines) (x : Out) →
     ComesTo g turned old.machine.frames (run_now old past lines) x →
@@ -157,25 +157,25 @@ MovesAfter g t turned old next new =
 -- ---- what stands between two phases ----
 
 -- The world is the game's, and it can make all draws that the piece may still ask for.
-pub record IsPlayable (g : GameLists) (h : Turn) : Type 0 where
-  pub world : IsOf g h.situation.world
+pub record IsPlayable (g : GameLists) (h : PlayState) : Type 0 where
+  pub world : IsOf g h.surroundings.world
   pub budget : h.machine.left ≤ READ_LIMIT
-  pub draws : h.situation.world.draws + h.machine.left < 2 ^ 64
+  pub draws : h.surroundings.world.draws + h.machine.left < 2 ^ 64
 
 -- A phase may begin: no table is open.
-pub record MayGoOn (g : GameLists) (h : Turn) : Type 0 where
+pub record MayGoOn (g : GameLists) (h : PlayState) : Type 0 where
   pub playable : IsPlayable g h
   pub closed : IsClosed h.machine
 
 -- Tables may be read in a phase.
-pub record MayRead {F : Type 0} (calls : Shared F (ℕ × (ℕ × Unit {0})) ℕ) (routines : Routines F)
-    (g : GameLists) (h : Turn) : Type 0 where
+pub record MayReadTables {F : Type 0} (calls : Shared F (ℕ × (ℕ × Unit {0})) ℕ) (routines : Routines F)
+    (g : GameLists) (h : PlayState) : Type 0 where
   pub rows : HaveRows calls routines
   pub read : HasReadSome h.machine
   pub ready : MayGoOn g h
 
 -- A line may be taken at this prompt.
-pub record MayHear (g : GameLists) (p : Prompt) (h : Turn) : Type 0 where
+pub record MayHear (g : GameLists) (p : Prompt) (h : PlayState) : Type 0 where
   pub valid : Valid g
   pub read : HasReadSome h.machine
   pub playable : IsPlayable g h
@@ -187,13 +187,13 @@ StandsBefore (next.Go s) m = IsClosed m
 StandsBefore (next.Stop step) m = StandsClosed step m
 
 -- The world is the game's still, and each draw is paid for by a condact.
-pub record Stays (g : GameLists) (old new : Turn) : Type 0 where
-  pub world : IsOf g new.situation.world
+pub record Stays (g : GameLists) (old new : PlayState) : Type 0 where
+  pub world : IsOf g new.surroundings.world
   pub left : new.machine.left ≤ old.machine.left
-  pub draws : new.situation.world.draws + new.machine.left ≤ old.situation.world.draws + old.machine.left
+  pub draws : new.surroundings.world.draws + new.machine.left ≤ old.surroundings.world.draws + old.machine.left
 
 -- The same holds after a phase, and the machine stands as what comes next needs it.
-pub record KeepsGame (g : GameLists) (old : Turn) (next : Next) (new : Turn) : Type 0 where
+pub record StaysInGame (g : GameLists) (old : PlayState) (next : Next) (new : PlayState) : Type 0 where
   pub stays : Stays g old new
   pub machine : StandsBefore next new.machine
 
@@ -213,22 +213,22 @@ StopsInTable t _ m = IsClosed m
 -- ---- turns end ----
 
 -- How much may still be read.
-abbrev pub left_of : Turn → ℕ
-left_of h = length h.situation.pending.bytes + h.machine.left
+abbrev pub left_of : PlayState → ℕ
+left_of h = length h.surroundings.pending.bytes + h.machine.left
 
 -- The rank of a phase: each leads to one of a lower rank, unless something was read.
-abbrev pub rank : Phase → ℕ
-rank phase.Phrase = 1
-rank phase.TimeFrame = 2
-rank phase.Describe = 3
-rank phase.Response = 4
+abbrev pub phase_rank : Phase → ℕ
+phase_rank phase.Phrase = 1
+phase_rank phase.TimeFrame = 2
+phase_rank phase.Describe = 3
+phase_rank phase.Response = 4
 
 -- A measure of what is left to do: four for each thing that may still be read, and the rank of the phase.
-abbrev pub work : Phase → Turn → ℕ
-work s h = 4 * left_of h + rank s
+abbrev pub work : Phase → PlayState → ℕ
+work s h = 4 * left_of h + phase_rank s
 
 -- With the next phase there is less to do.
-abbrev pub Falls : ℕ → Next → Turn → Type 0
+abbrev pub Falls : ℕ → Next → PlayState → Type 0
 Falls most (next.Go s) new = work s new < most
 Falls most (next.Stop step) new = Unit {0}
 
@@ -239,7 +239,7 @@ Leaves turned.Redescribe old new = new < old
 Leaves _ old new = Unit {0}
 
 -- What a table's reading uses up.
-pub record Uses (turned : Turned) (old new : Turn) : Type 0 where
+pub record Uses (turned : Turned) (old new : PlayState) : Type 0 where
   pub left : new.machine.left ≤ old.machine.left
   pub leaves : Leaves turned (left_of old) (left_of new)
 
@@ -273,7 +273,7 @@ table_rank (suc (suc t)) = 2
 
 -- Once a table is left there is less to do than in its phase; where the location is described again, nothing was done
 -- yet.
-abbrev pub FallsAfter : ℕ → Turned → Turn → Next → Turn → Type 0
+abbrev pub FallsAfter : ℕ → Turned → PlayState → Next → PlayState → Type 0
 FallsAfter t (turned.Left acted) old next new = Falls (4 * left_of old + table_rank t) next new
 FallsAfter t turned.Redescribe old n new = (n ≡ next.Go phase.Describe) × (new ≡ old)
 FallsAfter t _ old next new = (m : ℕ) → Falls m next new
@@ -289,8 +289,8 @@ AwaitsAt prompt.Key m = WaitsIn prompt.Key m
 AwaitsAt prompt.Over m = ⊥
 
 -- This line answers the prompt: it isn't ignored, and the machine waits for it.
-pub record MayAnswer (g : GameLists) (p : Prompt) (line : Line) (h : Turn) : Type 0 where
-  pub heard : is_ignored h.situation.world line ≡ false
+pub record MayAnswer (g : GameLists) (p : Prompt) (line : Line) (h : PlayState) : Type 0 where
+  pub heard : is_ignored h.surroundings.world line ≡ false
   pub valid : Valid g
   pub read : HasReadSome h.machine
   pub playable : IsPlayable g h
@@ -299,37 +299,37 @@ pub record MayAnswer (g : GameLists) (p : Prompt) (line : Line) (h : Turn) : Typ
 -- ---- players ----
 
 -- The view of a player that contracts have.
-abbrev pub seat_of : {F : Type 0} → GameLists → Routines F → Turn → Step → Seat F
+abbrev pub seat_of : {F : Type 0} → GameLists → Routines F → PlayState → Step → PlayerView F
 seat_of g routines h last = record {
   game = g;
   routines = routines;
-  world = h.situation.world;
-  pending = h.situation.pending;
+  world = h.surroundings.world;
+  pending = h.surroundings.pending;
   machine = h.machine;
-  piece = h.situation.piece;
+  piece = h.surroundings.piece;
   last = last;
 }
 
 -- The turn with this world.
-abbrev pub in_world : World → Turn → Turn
-in_world w h = record h { situation = record h.situation { world = w } }
+abbrev pub in_world : World → PlayState → PlayState
+in_world w h = record h { surroundings = record h.surroundings { world = w } }
 
 -- The turn with this world and this pending line.
-abbrev pub with_line : World → PendingLine → Turn → Turn
-with_line w p h = record h { situation = record h.situation { world = w; pending = p } }
+abbrev pub with_world_and_line : World → PendingLine → PlayState → PlayState
+with_world_and_line w p h = record h { surroundings = record h.surroundings { world = w; pending = p } }
 
 -- The turn with this piece.
-abbrev pub with_piece : Text → Turn → Turn
-with_piece piece h = record h { situation = record h.situation { piece = piece } }
+abbrev pub with_piece : Text → PlayState → PlayState
+with_piece piece h = record h { surroundings = record h.surroundings { piece = piece } }
 
 -- The piece that is shown: nothing where play ended before the piece was closed.
 abbrev pub shown : Step → Text → Text
 shown s piece = if brings_piece s then piece else []
 
 -- The turn with the piece that is shown after this end of a line.
-abbrev pub turn_settled : Step → Turn → Turn
-turn_settled step h = with_piece (shown step h.situation.piece) h
+abbrev pub turn_settled : Step → PlayState → PlayState
+turn_settled step h = with_piece (shown step h.surroundings.piece) h
 
 -- The turn with a new piece to be read.
-abbrev pub opened_piece : Turn → Turn
-opened_piece h = record h { situation = record h.situation { piece = [] }; machine = refilled h.machine }
+abbrev pub opened_piece : PlayState → PlayState
+opened_piece h = record h { surroundings = record h.surroundings { piece = [] }; machine = refilled h.machine }

@@ -18,7 +18,7 @@ use Rattle.paw_reading.specs.Run.{Run, Step as Read}
 use Rattle.paw_reading.specs.Reading.{closes_piece}
 use Rattle.paw_reading.specs.declared.places.Halt.{Halt}
 use Rattle.paw_reading.specs.declared.places.Halt.TheVariants as halt
-use Rattle.paw_reading.specs.Turn.{Ending, Halted, first_table, on}
+use Rattle.paw_reading.specs.Turn.{Ending, Halted, first_table, going_on_from}
 use Rattle.paw_reading.specs.inner.Places.{IsLoopOf, StandsRightly}
 use Rattle.paw_process.specs.inner.OpenTables.{OpenTables}
 use Rattle.paw_process.specs.inner.OpenTables.{IsWaiting, IsClosed, new_machine}
@@ -48,7 +48,7 @@ brings_piece s = option_map_or closes_piece (step_halt s) true
 
 -- A player between two lines: its game and the routines that it calls, the world, what is left of the line, the open
 -- tables with the steps of the last piece, the text of that piece, and how its last line ended.
-pub record Seat (F : Type 0) : Type 0 where
+pub record PlayerView (F : Type 0) : Type 0 where
   pub game : GameLists
   pub routines : Routines F
   pub world : World
@@ -72,11 +72,11 @@ run_with w m p pieces traces lines = record {
 }
 
 -- The run that a player stands for.
-abbrev pub run_at : {F : Type 0} → Seat F → Texts → List (List Read) → Lines → Run
+abbrev pub run_at : {F : Type 0} → PlayerView F → Texts → List (List Read) → Lines → Run
 run_at p pieces traces lines = run_with p.world p.machine p.pending pieces traces lines
 
 -- Whatever lines come after, the whole reading of them ends this way, with no further piece and none to show.
-abbrev pub PlayHalts : {F : Type 0} → (Lines → Ending) → Halt → Seat F → Texts → List (List Read) → Type 0
+abbrev pub PlayHalts : {F : Type 0} → (Lines → Ending) → Halt → PlayerView F → Texts → List (List Read) → Type 0
 PlayHalts whole halt new pieces traces =
     (new.piece ≡ []) × ((lines : Lines) → (r : Run) × (whole lines ≡ Halted halt r)
     × (r.pieces ≡ pieces) × (r.traces ≡ traces) × (r.events ≡ lines))
@@ -84,11 +84,12 @@ PlayHalts whole halt new pieces traces =
 -- Playing on in a story ends this way. Whatever lines come after, the whole reading of them goes on from the player's
 -- prompt with one more piece; or is over with one more piece, as the player stands; or is spent, or a call is too deep,
 -- with no further piece and none to show. Of the piece that was closed the player keeps the steps.
-abbrev pub PlaysTo : {F : Type 0} → Story → (Lines → Ending) → Step → Seat F → Texts → List (List Read) → Type 0
+abbrev pub PlaysTo : {F : Type 0} → Story → (Lines → Ending) → Step → PlayerView F → Texts → List (List Read) → Type 0
 PlaysTo g whole (step.Waits p) new pieces traces =
     (read : List Read) × ((new.machine.steps ≡ kept_steps read) × ((lines : Lines) →
     whole lines
-    ≡ on g p (reverse new.machine.frames) (run_at new (pieces ++ new.piece ∷ []) (traces ++ read ∷ []) lines)))
+    ≡ going_on_from g p (reverse new.machine.frames)
+    (run_at new (pieces ++ new.piece ∷ []) (traces ++ read ∷ []) lines)))
 PlaysTo g whole step.Ended new pieces traces =
     (read : List Read) × ((new.machine.steps ≡ kept_steps read) × ((lines : Lines) →
     whole lines ≡ Halted halt.Over (run_at new (pieces ++ new.piece ∷ []) (traces ++ read ∷ []) lines)))
@@ -131,13 +132,13 @@ abbrev pub StandRightly : GameLists → Prompt → World → OpenTables → Pend
 StandRightly g at w m p = StandsRightly g at (reverse m.frames) (run_with w m p [] [] [])
 
 -- A player of a valid game may take lines: where it stands at a prompt it stands as a run may.
-pub record IsSeated {F : Type 0} (p : Seat F) : Type 0 where
+pub record IsSeated {F : Type 0} (p : PlayerView F) : Type 0 where
   pub valid : Valid p.game
   pub machine : StandsClosed p.last p.machine
   pub rightly : IsStanding p.last → StandRightly p.game (prompt_at p.last) p.world p.machine p.pending
 
 -- A player that is new: the game is at its start, and no piece was made.
-pub record IsNew {F : Type 0} (p : Seat F) (seed : Seed) : Type 0 where
+pub record IsNew {F : Type 0} (p : PlayerView F) (seed : Seed) : Type 0 where
   pub world : p.world ≡ opening_world p.game seed
   pub pending : p.pending ≡ record { bytes = []; earlier = NO_WORD }
   pub machine : p.machine ≡ new_machine

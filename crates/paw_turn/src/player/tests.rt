@@ -8,7 +8,7 @@ ghost use Rattle.paw_turn.specs.inner.Player.{IsSeated, IsStanding};
 
 use super::Player;
 use crate::Step;
-use crate::turn::Turn;
+use crate::turn::PlayState;
 use game::{asking_game, endless_game};
 use paw_base::codes::{ANYKEY, DOALL, END, GT, LET, MINUS, OK, PROCESS, QUIT};
 use paw_base::fault::SpentKind;
@@ -17,7 +17,7 @@ use paw_base::steps::StepRow;
 use paw_effects::act::Prompt;
 use paw_game::game::Game;
 use paw_phrase::Pending;
-use paw_process::{Machine, Situation};
+use paw_process::{Machine, Surroundings};
 use paw_routines::routines::Routines;
 use paw_world::world::World;
 use std::process::Abort;
@@ -208,10 +208,10 @@ fn taken_apart<F: Fn(u8, u8) -> u8>(player: Player<'_, Game, F>) -> Result<Apart
 {
     let prompt = player.parts().prompt;
     let frames = player.parts().machine.frames();
-    let machine = Machine::restore(player.rulebook.tables, &frames, prompt)?;
+    let machine = Machine::restore(player.rules.tables, &frames, prompt)?;
     let Player { turn, .. } = player;
-    let Turn { situation, .. } = turn;
-    let Situation { world, pending, .. } = situation;
+    let PlayState { surroundings, .. } = turn;
+    let Surroundings { world, pending, .. } = surroundings;
     let pending = Pending::of(pending.bytes(), pending.earlier());
     Ok(Apart {
         world,
@@ -235,8 +235,8 @@ fn taken_up<'a, R: AllocGlobal, F: Fn(u8, u8) -> u8>(
     if between == Between::Nothing || !is_standing(player.last) {
         return Ok(player);
     }
-    let game = player.rulebook.tables;
-    let routines = player.rulebook.routines;
+    let game = player.rules.tables;
+    let routines = player.rules.routines;
     let apart = taken_apart(player)?;
     if between == Between::Adopting {
         let other = Player::adopt(

@@ -9,6 +9,6 @@ returns-in_err-wanted c =
 pub returns : goal.returns
 returns c =
     record {
-      value = c.place_of.ensures.value
+      value = c.index_of_name.ensures.value
           ∙ rw c.in_ok-wanted.ensures.value (code_of_filled_up c.args.name.now c.in_ok-wanted.ensures.plain);
     }

@@ -3,7 +3,7 @@ use Rattle.paw_base.specs.declared.limits.TheConstants.{LEVEL_LIMIT}
 use Rattle.paw_game.specs.Game.{GameLists}
 use Rattle.paw_check.specs.Verdicts.{bounds}
 use Rattle.paw_check.specs.declared.places.Wanted.TheVariants as wanted
-use Rattle.paw_check.specs.inner.Verdicts.{counted}
+use Rattle.paw_check.specs.inner.Verdicts.{bound_or_cause}
 use Rattle.paw_check.proofs.DecidingLaws.{bounds_calls, bounds_described, bounds_counted, found_in, any_found}
 use Rattle.paw_check.proofs.deciding.check.Goals as goal
 
@@ -22,8 +22,8 @@ returns-in-Some-place c =
     let round = found_in g wanted.Description _ _ _ _ c.in-Some-place.ensures.value tables (c.as_slice-2.ensures.value ∙ c.in_ok-described.ensures.all) in
     record { value = sym (bounds_described g c.in-Some-place.table c.in-Some-place.entry deep round) ∙ ap bounds c.parts-parts.ensures.value }
 
-pub counted-requires-clause-changing : goal.counted-requires-clause-changing
-counted-requires-clause-changing c =
+pub bound_or_cause-requires-clause-changing : goal.bound_or_cause-requires-clause-changing
+bound_or_cause-requires-clause-changing c =
     let tables = c.as_slice-tables.ensures.value ∙ ap (λ (h : GameLists). h.tables) c.parts.view_is in
     any_found c.parts-parts.result.now wanted.VerbWriter _ _ _ c.is_in-changing.result c.is_in-changing.ensures.value tables
     (c.as_slice-3.ensures.value ∙ c.in_ok-reached.ensures.all)
@@ -34,6 +34,6 @@ returns c =
     let tables = c.as_slice-tables.ensures.value ∙ ap (λ (h : GameLists). h.tables) c.parts.view_is in
     let deep = found_in g wanted.Call _ _ _ _ c.in_default.ensures.value tables (c.as_slice.ensures.value ∙ c.in_ok-reached.ensures.deepest) in
     let round = found_in g wanted.Description _ _ _ _ c.in_default-place.ensures.value tables (c.as_slice-2.ensures.value ∙ c.in_ok-described.ensures.all) in
-    let same : counted g c.in_ok-reached.reached.levels ≡ bounds c.args.game.now =
-    ap (counted g) c.in_ok-reached.ensures.levels ∙ sym (bounds_counted g deep round) ∙ ap bounds c.parts-parts.ensures.value in
-    record { value = rw (sym same) c.counted.ensures.value }
+    let same : bound_or_cause g c.in_ok-reached.reached.levels ≡ bounds c.args.game.now =
+    ap (bound_or_cause g) c.in_ok-reached.ensures.levels ∙ sym (bounds_counted g deep round) ∙ ap bounds c.parts-parts.ensures.value in
+    record { value = rw (sym same) c.bound_or_cause.ensures.value }

@@ -7,7 +7,7 @@ use Rattle.paw_stage.proofs.Time.{Passes_map, Passes_on}
 use Rattle.paw_journal.specs.inner.Journal.{failed_stage_call}
 use Rattle.paw_journal.proofs.Serving.{serves_among, serves_then}
 use Rattle.paw_effects.specs.Story.{Story, story_of}
-use Rattle.paw_host.specs.Replies.{Session, Absent, answer}
+use Rattle.paw_host.specs.Replies.{NamedSession, Absent, answer}
 use Rattle.paw_host.specs.Promise.{Stores}
 use Rattle.paw_host.specs.inner.Answers.{Answers, InAnswer, InFile, LeftOf}
 use Rattle.paw_host.proofs.Calls.{writes_answer, reads_answer, attaches_answer}
@@ -19,7 +19,7 @@ use Rattle.paw_host.proofs.answer.answer.Goals as goal
 -- ---- the attach ----
 
 -- nothing is answered while the store is attached
-attaches : (g : Over) (c : After-attach g) (tells : g.S.Stage.Tells c.args.stage.now) (X : List (List ℕ)) (before after : Session)
+attaches : (g : Over) (c : After-attach g) (tells : g.S.Stage.Tells c.args.stage.now) (X : List (List ℕ)) (before after : NamedSession)
     → Stores (story_of c.args.player.now.game X) before (file_bytes (g.S.Stage.standing c.args.stage.now) c.args.store.now)
     → (g.S.Stage.standing c.attach.new.stage ≡ opened c.args.store.now (g.S.Stage.standing c.args.stage.now))
     ⊎ Unattached (g.S.Stage.standing c.args.stage.now) (g.S.Stage.standing c.attach.new.stage)

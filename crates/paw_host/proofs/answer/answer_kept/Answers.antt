@@ -7,12 +7,12 @@ use Rattle.paw_stage.specs.Moments.{Passes}
 use Rattle.paw_stage.proofs.Time.{Passes_map, Passes_on}
 use Rattle.paw_routines.specs.Routines.{AreRowsOf, HaveRows}
 use Rattle.paw_journal.specs.inner.Journal.{IsAtRest, failed_stage_call}
-use Rattle.paw_journal.specs.inner.Store.{IsBeside}
+use Rattle.paw_journal.specs.inner.Store.{ChangesStoreOnly}
 use Rattle.paw_journal.proofs.Moved.{beside_same}
 use Rattle.paw_journal.proofs.Serving.{serves_then, serves_among}
 use Rattle.paw_effects.specs.Story.{Story, story_of}
 use Rattle.paw_play.specs.Stands.{Stands}
-use Rattle.paw_host.specs.Replies.{Session, At, taken, answer}
+use Rattle.paw_host.specs.Replies.{NamedSession, At, answer_taking, answer}
 use Rattle.paw_host.specs.Promise.{Stores}
 use Rattle.paw_host.specs.inner.Answers.{SitsAt, Answers, InFile, StoresEither}
 use Rattle.paw_host.proofs.Calls.{reads_kept, writes_kept}
@@ -86,7 +86,7 @@ returns-in-Some-clause-serves g c =
 
 pub returns-in-Some-clause-beside : goal.returns-in-Some-clause-beside
 returns-in-Some-clause-beside g c = λ tells.
-    subst (λ q. IsBeside q (g.S.Stage.standing c.take_text.new.stage)) (c.take_up.ensures.still tells)
+    subst (λ q. ChangesStoreOnly q (g.S.Stage.standing c.take_text.new.stage)) (c.take_up.ensures.still tells)
     (c.take_text.ensures.beside (c.take_up.ensures.serves.tells.0 tells))
 
 pub returns-in-Some-clause-meaning : goal.returns-in-Some-clause-meaning
@@ -107,7 +107,7 @@ returns-in-Some-clause-meaning g c = λ tells X rows before may stores.
     (λ first es played stands.
     let u = t.1 first es played stands in
     subst (λ (h : GameLists). OnOk c.take_text.result
-    (Answers (story_of h X) (taken (story_of h X) first es text) c.args.reply.now c.take_text.new.reply new.disk.bytes)) game
+    (Answers (story_of h X) (answer_taking (story_of h X) first es text) c.args.reply.now c.take_text.new.reply new.disk.bytes)) game
     (c.take_text.ensures.meaning (c.take_up.ensures.serves.tells.0 tells) X own first es
     (subst (λ (h : GameLists). SitsAt (story_of h X) first es c.take_up.new.player) (sym game) u.0) u.1
     (subst (λ (h : GameLists). Stands (story_of h X) first es mid.disk.bytes) (sym game)
@@ -132,7 +132,7 @@ returns-in-Some-clause-any_moment g c = λ tells X rows before may stores.
     (g.S.Stage.since c.take_text.new.stage) (InFile (StoresEither story b a.session) old)) before text may stores t.0
     (λ first es played stands here.
     let u = t.1 first es played stands in
-    let after : Session = (taken story first es text).session in
+    let after : Session = (answer_taking story first es text).session in
     Passes_on _ _ _ _ _ _ (InFile (StoresEither story (At first es) after) old) _
     (Passes_map _ _ _ _ _ (InFile (StoresEither story (At first es) after) old) (c.take_up.ensures.time tells)
     (λ m i. still_in_file story (At first es) after old m rests here i))
@@ -141,7 +141,7 @@ returns-in-Some-clause-any_moment g c = λ tells X rows before may stores.
     (subst (λ (h : GameLists). Stands (story_of h X) first es mid.disk.bytes) (sym game)
     (subst (λ (q : Standing). Stands story first es q.disk.bytes) (sym (c.take_up.ensures.still tells)) stands)))
     (λ m i. subst (λ q. InFile (StoresEither story (At first es) after) q m) (c.take_up.ensures.still tells)
-    (subst (λ (h : GameLists). InFile (StoresEither (story_of h X) (At first es) (taken (story_of h X) first es text).session) mid m) game i)))
+    (subst (λ (h : GameLists). InFile (StoresEither (story_of h X) (At first es) (answer_taking (story_of h X) first es text).session) mid m) game i)))
     stores)
 
 -- ---- none is ----

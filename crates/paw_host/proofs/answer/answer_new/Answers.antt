@@ -11,7 +11,7 @@ use Rattle.paw_journal.proofs.Moved.{beside_on}
 use Rattle.paw_journal.proofs.Serving.{serves_then}
 use Rattle.paw_effects.specs.Story.{Story, story_of}
 use Rattle.paw_play.specs.Stands.{Stands}
-use Rattle.paw_host.specs.Replies.{Absent, At, taken, answer}
+use Rattle.paw_host.specs.Replies.{Absent, At, answer_taking, answer}
 use Rattle.paw_host.specs.inner.Answers.{SitsAt, Answers, InFile, LeftOf, StoresEither}
 use Rattle.paw_host.proofs.Answering.{not_begun, just_begun, begun_then, in_new_begun, in_new_taking}
 use Rattle.paw_host.proofs.Reaching.{no_bytes}
@@ -88,7 +88,8 @@ returns-in-Some-clause-meaning g c = λ tells X rows.
     on_ok_weaker c.take_text.result
     (λ a. subst (λ t. Answers story (answer story seed Absent t) c.args.reply.now c.take_text.new.reply new.disk.bytes) (sym is)
     (begun_then story seed text c.args.reply.now c.begin.new.reply c.take_text.new.reply new.disk.bytes b.2 b.3
-    (subst (λ (h : GameLists). Answers (story_of h X) (taken (story_of h X) seed [] text) c.begin.new.reply c.take_text.new.reply new.disk.bytes) c.begin.ensures.anew.stays.game a)))
+    (subst (λ (h : GameLists). Answers (story_of h X)
+    (answer_taking (story_of h X) seed [] text) c.begin.new.reply c.take_text.new.reply new.disk.bytes) c.begin.ensures.anew.stays.game a)))
     (c.take_text.ensures.meaning (c.begin.ensures.serves.tells.0 tells) X own seed [] sits (rw c.in-Ok-Some.field-0-is at c.in-Ok-Some.ensures.opened).0 stands)
 
 pub returns-in-Some-clause-any_moment : goal.returns-in-Some-clause-any_moment
@@ -110,7 +111,8 @@ returns-in-Some-clause-any_moment g c = λ tells X rows.
     (c.begin.ensures.any_moment tells X rows) (λ m i. in_new_begun story seed (Some text) old m i))
     (c.take_text.ensures.any_moment (c.begin.ensures.serves.tells.0 tells) X own seed [] sits (rw c.in-Ok-Some.field-0-is at c.in-Ok-Some.ensures.opened).0 stands)
     (λ m i. in_new_taking story seed text old mid m b.2 (c.begin.ensures.beside tells)
-    (subst (λ (h : GameLists). InFile (StoresEither (story_of h X) (At seed []) (taken (story_of h X) seed [] text).session) mid m) c.begin.ensures.anew.stays.game i)))
+    (subst (λ (h : GameLists). InFile
+    (StoresEither (story_of h X) (At seed []) (answer_taking (story_of h X) seed [] text).session) mid m) c.begin.ensures.anew.stays.game i)))
 
 -- ---- none is ----
 

@@ -11,7 +11,7 @@ use Rattle.paw_effects.specs.Story.{Story, story_of}
 use Rattle.paw_turn.specs.inner.Parts.{prompt_at}
 use Rattle.paw_play.specs.Stands.{Stands}
 use Rattle.paw_play.specs.inner.OnTheWay.{seat_state}
-use Rattle.paw_host.specs.Replies.{At, taken}
+use Rattle.paw_host.specs.Replies.{At, answer_taking}
 use Rattle.paw_host.specs.inner.Answers.{InFile, SitsAt, StoresEither}
 use Rattle.paw_host.proofs.Sitting.{shows_by}
 use Rattle.paw_host.proofs.Taking.{over_answer, full_answer, refused_answer, took, in_taking, digests_are}
@@ -70,7 +70,7 @@ commits : (g : Over) (c : After-commit g) (tells : g.S.Stage.Tells c.args.stage.
     → SitsAt (story_of c.args.player.now.game X) seed es c.args.player.now → c.args.opened.events ≡ length es
     → Stands (story_of c.args.player.now.game X) seed es (g.S.Stage.standing c.args.stage.now).disk.bytes
     → EachMoment g.S.Stage c.args.stage.now c.commit.new.stage (InFile (StoresEither (story_of c.args.player.now.game X) (At seed es)
-    (taken (story_of c.args.player.now.game X) seed es c.args.text.now).session) (g.S.Stage.standing c.args.stage.now))
+    (answer_taking (story_of c.args.player.now.game X) seed es c.args.text.now).session) (g.S.Stage.standing c.args.stage.now))
 commits g c tells X rows seed es s count stands =
     let story : Story = story_of c.args.player.now.game X in
     let old : Standing = g.S.Stage.standing c.args.stage.now in
@@ -79,7 +79,8 @@ commits g c tells X rows seed es s count stands =
     let few : length es < EVENT_LIMIT = omega (arith, c.if-is_full.ensures.cases, count) in
     let plays = c.take-step.ensures.meaning X rows p last s.pieces s.traces in
     let shows = shows_by c.take-step.result c.in_default.ensures.value in
-    Passes_map _ _ _ _ _ (InFile (StoresEither story (At seed es) (taken story seed es c.args.text.now).session) old) (c.commit.ensures.any_moment tells)
+    Passes_map _ _ _ _ _ (InFile (StoresEither story (At seed es) (answer_taking story seed es c.args.text.now).session) old)
+    (c.commit.ensures.any_moment tells)
     (λ m i. in_taking s c.requires.seated c.args.text.now p last few c.take-step.result c.take-step.new.self c.take-step.ensures.last c.take-step.ensures.seated plays
     (c.args.opened.events + 1) old m shows (omega (arith, count)) stands _ _ (c.requires.kept tells).shown i)
 

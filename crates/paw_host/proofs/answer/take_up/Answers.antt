@@ -14,10 +14,10 @@ use Rattle.paw_journal.specs.inner.Session.{session_shown}
 use Rattle.paw_state.specs.declared.StateFault.{StateFault}
 use Rattle.paw_state.specs.declared.Restored.{Restored}
 use Rattle.paw_state.specs.Fit.{Fit}
-use Rattle.paw_state.specs.State.{Keeps}
+use Rattle.paw_state.specs.State.{IsValidState}
 use Rattle.paw_state.specs.inner.Fit.{IsRead, state_read}
 use Rattle.paw_state.proofs.Ruled.{each_of}
-use Rattle.paw_turn.specs.inner.Player.{Seat, IsSeated}
+use Rattle.paw_turn.specs.inner.Player.{PlayerView, IsSeated}
 use Rattle.paw_turn.specs.inner.Parts.{Fits, IsStanding, prompt_step, seat_at}
 use Rattle.paw_world.specs.World.{World}
 use Rattle.paw_process.specs.inner.OpenTables.{OpenTables}
@@ -25,7 +25,7 @@ use Rattle.paw_phrase.specs.Pending.{PendingLine}
 use Rattle.paw_routines.specs.declared.routines.Routines.{Routines}
 use Rattle.paw_play.specs.Session.{IsOfStory}
 use Rattle.paw_play.proofs.Showing.{read_fits}
-use Rattle.paw_host.specs.inner.Seats.{StandsAfter, Stays}
+use Rattle.paw_host.specs.inner.Seats.{StandsAfter, StaysSeated}
 use Rattle.paw_host.proofs.Opening.{taken_up, unfit_shows_none}
 use Rattle.paw_host.proofs.answer.take_up.Goals as goal
 
@@ -40,22 +40,22 @@ stands_step prompt.Again = tt
 stands_step prompt.Key = tt
 stands_step prompt.Over = tt
 
-stands_at : {F : Type 0} (g : GameLists) (routines : Routines F) (w : World) (m : OpenTables) (p : PendingLine) (at : Prompt) (seat : Seat F) →
+stands_at : {F : Type 0} (g : GameLists) (routines : Routines F) (w : World) (m : OpenTables) (p : PendingLine) (at : Prompt) (seat : PlayerView F) →
     seat ≡ seat_at g routines w m p at → IsStanding seat.last
-stands_at {F} g routines w m p at seat is = subst IsStanding (sym (ap (λ (q : Seat F). q.last) is)) (stands_step at)
+stands_at {F} g routines w m p at seat is = subst IsStanding (sym (ap (λ (q : PlayerView F). q.last) is)) (stands_step at)
 
-stands_after : {F : Type 0} (g h : GameLists) (routines : Routines F) (r : Restored) (seat : Seat F) → Keeps g (state_read r) →
+stands_after : {F : Type 0} (g h : GameLists) (routines : Routines F) (r : Restored) (seat : PlayerView F) → IsValidState g (state_read r) →
     seat ≡ seat_at h routines r.world r.machine r.pending r.prompt → StandsAfter r.events seat
 stands_after {F} g h routines r seat keeps is = record {
   few = (each_of g (state_read r) keeps).events;
   standing = stands_at h routines r.world r.machine r.pending r.prompt seat is;
-  draws = subst (λ (w : World). w.draws ≤ READ_LIMIT * (r.events + 1)) (sym (ap (λ (q : Seat F). q.world) is)) (each_of g (state_read r) keeps).draws;
+  draws = subst (λ (w : World). w.draws ≤ READ_LIMIT * (r.events + 1)) (sym (ap (λ (q : PlayerView F). q.world) is)) (each_of g (state_read r) keeps).draws;
 }
 
-stays_at : {F : Type 0} (w : World) (m : OpenTables) (p : PendingLine) (at : Prompt) (old new : Seat F) → IsSeated new →
-    new ≡ seat_at old.game old.routines w m p at → Stays old new
+stays_at : {F : Type 0} (w : World) (m : OpenTables) (p : PendingLine) (at : Prompt) (old new : PlayerView F) → IsSeated new →
+    new ≡ seat_at old.game old.routines w m p at → StaysSeated old new
 stays_at {F} w m p at old new seated is =
-    record { seated = seated; game = ap (λ (q : Seat F). q.game) is; routines = ap (λ (q : Seat F). q.routines) is }
+    record { seated = seated; game = ap (λ (q : PlayerView F). q.game) is; routines = ap (λ (q : PlayerView F). q.routines) is }
 
 of_story : (g : Story) (game rules bytes : List ℕ) → game ≡ sha256 (image g.game) → rules ≡ measure g.rows → BelongsTo game rules (kept_digests bytes) →
     IsOfStory g (kept_digests bytes)

@@ -8,7 +8,7 @@ use Rattle.paw_stage.proofs.Time.{Passes_map, Passes_on}
 use Rattle.paw_journal.proofs.Serving.{in_front, behind, serves_among, serves_still, serves_then}
 use Rattle.paw_play.specs.Calls.{session_calls}
 use Rattle.paw_host.specs.Hosts.{load_calls}
-use Rattle.paw_host.specs.Outcomes.{failed_call}
+use Rattle.paw_host.specs.Outcomes.{host_failure}
 use Rattle.paw_host.specs.Promise.{BeginsWith, InHost}
 use Rattle.paw_host.proofs.Hosting.{at_first}
 use Rattle.paw_host.proofs.Loading.{holds_loaded, same_story, unloaded, undecoded, hosted}
@@ -75,13 +75,13 @@ returns-clause-moments g c = λ tells. rw c.in-Some.ensures.value
     (λ m i. subst (λ s. InHost s seed first old m) same (subst (λ q. InHost (story_of game X) seed first q m) f.3 i)))
 
 pub returns-in-Err-clause-serves : goal.returns-in-Err-clause-serves
-returns-in-Err-clause-serves g c = serves_among g.S.Stage _ _ (failed_call c.in-Err.outcome) _ _ (in_front load_calls session_calls) c.in-Err.ensures.serves
+returns-in-Err-clause-serves g c = serves_among g.S.Stage _ _ (host_failure c.in-Err.outcome) _ _ (in_front load_calls session_calls) c.in-Err.ensures.serves
 
 pub returns-in-Err-view_in-clause-serves : goal.returns-in-Err-view_in-clause-serves
 returns-in-Err-view_in-clause-serves g c =
-    serves_still g.S.Stage load_calls _ (failed_call c.in-Err-view_in.outcome) _ _ c.in-Err-view_in.ensures.fine c.in-Ok.ensures.serves
+    serves_still g.S.Stage load_calls _ (host_failure c.in-Err-view_in.outcome) _ _ c.in-Err-view_in.ensures.fine c.in-Ok.ensures.serves
 
 pub returns-clause-serves : goal.returns-clause-serves
 returns-clause-serves g c =
-    serves_then g.S.Stage load_calls _ (failed_call c.host_game.result) _ _ _ c.in-Ok.ensures.serves
-    (serves_among g.S.Stage _ _ (failed_call c.host_game.result) _ _ (behind load_calls session_calls) c.host_game.ensures.serves)
+    serves_then g.S.Stage load_calls _ (host_failure c.host_game.result) _ _ _ c.in-Ok.ensures.serves
+    (serves_among g.S.Stage _ _ (host_failure c.host_game.result) _ _ (behind load_calls session_calls) c.host_game.ensures.serves)

@@ -3,7 +3,7 @@ use Rattle.std.specs.Prelude.{OnOk, ℕ}
 use Rattle.paw_stage.specs.Stage.{Standing}
 use Rattle.paw_stage.specs.Moments.{Passes}
 use Rattle.paw_journal.specs.Session.{Digests, Recovered, Shown, recover, kept_digests, committed}
-use Rattle.paw_journal.specs.inner.Store.{InStore, Leaves, IsEither}
+use Rattle.paw_journal.specs.inner.Store.{InStore, CrashLeavesSuch, IsOldOrNew}
 use Rattle.paw_play.specs.inner.OnTheWay.{seat_state, seat_base}
 use Rattle.paw_play.proofs.line.commit.Goals as goal
 
@@ -35,7 +35,7 @@ returns-clause-any_moment g c = λ tells.
     let old : Standing = g.S.Stage.standing c.args.stage.now in
     subst (λ (x : Recovered). Passes (g.S.Stage.clock c.args.stage.now) (g.S.Stage.clock c.commit.new.stage)
     (g.S.Stage.since c.args.stage.now) (g.S.Stage.since c.commit.new.stage)
-    (InStore old (Leaves (IsEither (recover old.disk.bytes) x))))
+    (InStore old (CrashLeavesSuch (IsOldOrNew (recover old.disk.bytes) x))))
     (same_shown (kept_digests old.disk.bytes) _ c.piece.result.now (seat_state c.args.events c.args.player.now)
     c.args.player.now.piece c.put_state.ensures.state c.piece.ensures.value)
     (c.commit.ensures.any_moment tells)

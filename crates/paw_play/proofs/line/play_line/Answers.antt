@@ -33,18 +33,18 @@ returns-clause-serves g c =
     rw c.unless_ended.ensures.value
     (serves_then g.S.Stage _ _ _ _ _ _ (serves_then g.S.Stage _ _ None _ _ _
     (serves_done g.S.Stage _ _ c.ask.ensures.tells c.in-Line.ensures.faulted) c.in-Ok.ensures.serves)
-    (serves_unless g.S.Stage c.told.result _ _ _ c.told.ensures.serves))
+    (serves_unless g.S.Stage c.show_step.result _ _ _ c.show_step.ensures.serves))
 
 pub returns-clause-refused : goal.returns-clause-refused
-returns-clause-refused g c = rw c.unless_ended.ensures.value (refused_unless c.told.result _ c.told.ensures.refused)
+returns-clause-refused g c = rw c.unless_ended.ensures.value (refused_unless c.show_step.result _ c.show_step.ensures.refused)
 
 pub returns-clause-session : goal.returns-clause-session
 returns-clause-session g c =
     let mid = g.S.Stage.standing c.commit.new.stage in
     rw c.unless_ended.ensures.value
-    (holds_unless (g.S.Stage.Tells c.args.stage.now) (c.args.session.events + 1) _ mid (g.S.Stage.standing c.told.new.stage) _ c.take-step.result
-    c.told.result _ refl (λ tells. c.in-Ok.ensures.kept (c.ask.ensures.tells.0 tells))
-    (λ tells. c.told.ensures.meaning (c.commit.ensures.serves.tells.0 (c.ask.ensures.tells.0 tells))))
+    (holds_unless (g.S.Stage.Tells c.args.stage.now) (c.args.session.events + 1) _ mid (g.S.Stage.standing c.show_step.new.stage) _ c.take-step.result
+    c.show_step.result _ refl (λ tells. c.in-Ok.ensures.kept (c.ask.ensures.tells.0 tells))
+    (λ tells. c.show_step.ensures.meaning (c.commit.ensures.serves.tells.0 (c.ask.ensures.tells.0 tells))))
 
 pub returns-in-End-clause-meaning : goal.returns-in-End-clause-meaning
 returns-in-End-clause-meaning g c = λ tells X rows s most n first w events few.
@@ -106,7 +106,7 @@ returns-clause-meaning g c = λ tells X rows s most n first w events few.
     let now = c.ask.ensures.tells.0 tells in
     rw c.unless_ended.ensures.value (plays_to t (g.S.Stage.standing c.commit.new.stage) (c.commit.ensures.beside now)
     (c.in-Ok.ensures.kept now).rests.stable (c.in-Ok.ensures.shown now) (c.in-Ok.ensures.digests now) (c.in-Ok.ensures.exact now)
-    _ (g.S.Stage.standing c.told.new.stage) c.told.result (c.told.ensures.meaning (c.commit.ensures.serves.tells.0 now)))
+    _ (g.S.Stage.standing c.show_step.new.stage) c.show_step.result (c.show_step.ensures.meaning (c.commit.ensures.serves.tells.0 now)))
 
 pub returns-clause-any_moment : goal.returns-clause-any_moment
 returns-clause-any_moment g c = λ tells X rows s most n first w events few.
@@ -120,6 +120,6 @@ returns-clause-any_moment g c = λ tells X rows s most n first w events few.
     (Passes_map _ _ _ _ _ (InPlay s first) (c.in-Line.ensures.time tells) (in_ask w (g.S.Stage.standing c.ask.new.self) (asked.Line c.in-Line.n)
     c.ask.new.into c.requires.player.seated (omega (arith, events, c.requires.few)) (c.in-Line.ensures.answer tells)))
     (c.commit.ensures.any_moment now) (in_commit t))
-    (c.told.ensures.time (c.commit.ensures.serves.tells.0 now))
+    (c.show_step.ensures.time (c.commit.ensures.serves.tells.0 now))
     (in_show t (g.S.Stage.standing c.commit.new.stage) (c.commit.ensures.beside now) (c.in-Ok.ensures.kept now).rests.stable (c.in-Ok.ensures.shown now)
     (c.in-Ok.ensures.digests now) (c.in-Ok.ensures.exact now))

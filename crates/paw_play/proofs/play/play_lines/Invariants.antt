@@ -4,7 +4,7 @@ use Rattle.paw_base.specs.declared.limits.TheConstants.{EVENT_LIMIT}
 use Rattle.paw_routines.specs.Routines.{AreRowsOf, HaveRows}
 use Rattle.paw_effects.specs.Story.{story_of}
 use Rattle.paw_stage.specs.Stage.{Standing}
-use Rattle.paw_stage.specs.Across.{Serves}
+use Rattle.paw_stage.specs.Across.{FailsOnlyBy}
 use Rattle.paw_stage.specs.Moments.{Passes}
 use Rattle.paw_turn.specs.inner.Player.{IsSeated}
 use Rattle.paw_journal.specs.inner.Journal.{KeptIn}
@@ -24,7 +24,7 @@ invariant-loop g l = record {
   from : l.fn.session.events ≤ l.counter;
   few : l.counter ≤ EVENT_LIMIT;
   draws : l.player.world.draws ≤ READ_LIMIT * (l.counter + 1);
-  serves : Serves g.S.Stage play_calls None l.fn.stage l.stage;
+  serves : FailsOnlyBy g.S.Stage play_calls None l.fn.stage l.stage;
   kept : g.S.Stage.Tells l.fn.stage → KeptIn l.session.journal l.room (g.S.Stage.standing l.stage);
   playing : g.S.Stage.Tells l.fn.stage → (X : List (List ℕ)) → AreRowsOf g.F.Fn l.fn.player.routines X → (s : PlayedSession) (first : Standing) →
       IsPlaying (story_of l.fn.player.game X) s first (g.S.Stage.standing l.fn.stage) l.fn.player 0 → l.fn.session.events ≡ s.before →

@@ -13,7 +13,7 @@ use Rattle.paw_play.specs.Session.{IsOfStory}
 use Rattle.paw_play.specs.Played.{ShowsState, from_state}
 use Rattle.paw_play.specs.Keeping.{InPlay}
 use Rattle.paw_play.specs.Play.{NotYet, Resumed, store_bytes, unattached, wanting, plays_up, attached_to}
-use Rattle.paw_play.specs.inner.OnTheWay.{IsStore, end_of}
+use Rattle.paw_play.specs.inner.OnTheWay.{IsRestingStore, end_of}
 use Rattle.paw_play.proofs.Attaching.{store_attached}
 use Rattle.paw_play.proofs.Standing.{is_shown, again_goes_on}
 use Rattle.paw_play.proofs.Parts.{attach_failed}
@@ -24,8 +24,8 @@ use Rattle.paw_play.specs.Calls.{play_calls}
 use Rattle.paw_play.proofs.Following.{play_sessions}
 use Rattle.paw_play.proofs.resume.resume_loop.Goals as goal
 
-pub take_up-requires-clause-kept : goal.take_up-requires-clause-kept
-take_up-requires-clause-kept g c = λ tells. c.in-Ok-find.ensures.kept (c.find.ensures.serves.tells.1 tells)
+pub play_recovered-requires-clause-kept : goal.play_recovered-requires-clause-kept
+play_recovered-requires-clause-kept g c = λ tells. c.in-Ok-find.ensures.kept (c.find.ensures.serves.tells.1 tells)
 
 pub returns-in-Err-clause-plays : goal.returns-in-Err-clause-plays
 returns-in-Err-clause-plays g c = λ tells X rows.
@@ -58,7 +58,7 @@ returns-clause-plays g c = λ tells X rows.
     let old = g.S.Stage.standing c.args.stage.now in
     let name = c.args.name.now in
     let after_find = g.S.Stage.standing c.find.new.stage in
-    let after_take_up = g.S.Stage.standing c.take_up.new.stage in
+    let after_take_up = g.S.Stage.standing c.play_recovered.new.stage in
     let a = c.in-Ok.ensures.attached tells in
     let now = c.attach.ensures.serves.tells.0 tells in
     let digests : Digests = kept_digests after_find.disk.bytes in
@@ -66,10 +66,10 @@ returns-clause-plays g c = λ tells X rows.
     subst (λ r. BelongsTo (sha256 (image (g.T.Tables.game c.args.tables.now))) r digests) (c.measure.ensures.value X rows)
     (subst (λ d. BelongsTo d c.measure.result digests) c.requires.game (c.in-Ok-find.ensures.belongs now)) in
     let is : after_find ≡ attached_to old name = c.find.ensures.still now ∙ a.1 in
-    let store : IsStore name after_find = subst (IsStore name) (sym is) (store_attached old name) in
-    plays_up c.take_up.result digests belongs
-    (subst (λ q. Resumed story digests name q after_take_up c.take_up.result) is
-    (c.take_up.ensures.plays (c.find.ensures.serves.tells.0 now) X rows name store))
+    let store : IsRestingStore name after_find = subst (IsRestingStore name) (sym is) (store_attached old name) in
+    plays_up c.play_recovered.result digests belongs
+    (subst (λ q. Resumed story digests name q after_take_up c.play_recovered.result) is
+    (c.play_recovered.ensures.plays (c.find.ensures.serves.tells.0 now) X rows name store))
 
 -- ---- by the session that goes on ----
 
@@ -137,11 +137,11 @@ returns-clause-any_moment g c = λ tells X rows s from.
     let attached = (c.in-Ok.ensures.attached tells).1 in
     let after_find : Standing = g.S.Stage.standing c.find.new.stage in
     let is : after_find ≡ attached_to old name = c.find.ensures.still now ∙ attached in
-    let store : IsStore name after_find = subst (IsStore name) (sym is) (store_attached old name) in
+    let store : IsRestingStore name after_find = subst (IsRestingStore name) (sym is) (store_attached old name) in
     let there = subst (λ (q : Standing). ShowsState game k.digests q.disk.bytes k.state k.piece) (sym is) k.shows in
-    let up = c.take_up.ensures.any_moment (c.find.ensures.serves.tells.0 now) X rows name store k.digests k.state k.piece there in
-    subst (λ q. InTwoParts g.S.Stage c.args.stage.now c.take_up.new.stage (NotYet name old) (InPlay q old)) k.same
-    (taken_up_again g.S.Stage g.met.S.Stage.only_now g.met.S.Stage.counts_now c.args.stage.now c.attach.new.stage c.take_up.new.stage
+    let up = c.play_recovered.ensures.any_moment (c.find.ensures.serves.tells.0 now) X rows name store k.digests k.state k.piece there in
+    subst (λ q. InTwoParts g.S.Stage c.args.stage.now c.play_recovered.new.stage (NotYet name old) (InPlay q old)) k.same
+    (taken_up_again g.S.Stage g.met.S.Stage.only_now g.met.S.Stage.counts_now c.args.stage.now c.attach.new.stage c.play_recovered.new.stage
     story k.digests name k.state k.piece valid k.shows now attached (c.in-Ok.ensures.time tells)
     (Passes_on _ _ _ _ _ _ (InPlay session old) _
     (found_again g.S.Stage c.args.stage.now c.attach.new.stage c.find.new.stage
@@ -165,6 +165,6 @@ returns-in-Err-find-clause-serves g c =
 
 pub returns-clause-serves : goal.returns-clause-serves
 returns-clause-serves g c =
-    serves_then g.S.Stage _ _ (call_of_end c.take_up.result) _ _ _ (serves_then g.S.Stage _ _ None _ _ _
+    serves_then g.S.Stage _ _ (call_of_end c.play_recovered.result) _ _ _ (serves_then g.S.Stage _ _ None _ _ _
     c.in-Ok.ensures.serves c.in-Ok-find.ensures.serves)
-    (serves_among g.S.Stage _ _ (call_of_end c.take_up.result) _ _ play_sessions c.take_up.ensures.serves)
+    (serves_among g.S.Stage _ _ (call_of_end c.play_recovered.result) _ _ play_sessions c.play_recovered.ensures.serves)

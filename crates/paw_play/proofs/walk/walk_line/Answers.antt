@@ -9,9 +9,9 @@ pub returns-in-Line-clause-meaning : goal.returns-in-Line-clause-meaning
 returns-in-Line-clause-meaning g c = λ tells X rows whole most n first w few.
     let a = c.in-Line.ensures.answer tells in
     walks_on g.P.Preface.telling (story_of c.args.player.now.game X) whole most n first _ _ _ c.args.player.now c.take-step.new.self _ a.0
-    c.take-step.result c.told.result w few c.requires.seated c.take-step.ensures.seated
+    c.take-step.result c.show_step.result w few c.requires.seated c.take-step.ensures.seated
     c.take-step.ensures.last a.1 a.2.same a.3 (c.take-step.ensures.meaning X rows w.prompt w.waits w.pieces w.traces)
-    (c.told.ensures.meaning (c.ask.ensures.tells.0 tells))
+    (c.show_step.ensures.meaning (c.ask.ensures.tells.0 tells))
 
 pub returns-in-End-clause-meaning : goal.returns-in-End-clause-meaning
 returns-in-End-clause-meaning g c = λ tells X rows whole most n first w few. none_left
@@ -24,8 +24,8 @@ returns-in-Failed-clause-meaning g c = λ tells X rows whole most n first w few.
     (c.in-Failed.ensures.answer tells)
 
 pub returns-in-Line-clause-serves : goal.returns-in-Line-clause-serves
-returns-in-Line-clause-serves g c = serves_then g.S.Stage _ _ (failed_so_far c.told.result) _ _ _
-    (serves_done g.S.Stage _ _ c.ask.ensures.tells c.in-Line.ensures.faulted) c.told.ensures.serves
+returns-in-Line-clause-serves g c = serves_then g.S.Stage _ _ (failed_so_far c.show_step.result) _ _ _
+    (serves_done g.S.Stage _ _ c.ask.ensures.tells c.in-Line.ensures.faulted) c.show_step.ensures.serves
 
 pub returns-in-End-clause-serves : goal.returns-in-End-clause-serves
 returns-in-End-clause-serves g c = record { tells = c.ask.ensures.tells; faulted = c.in-End.ensures.faulted; among = tt }

@@ -1,7 +1,7 @@
 use Rattle.std.proofs.Common.{◌≡◌, ◌+◌, ◌*◌, ◌≤◌, ℕ, List, None}
 use Rattle.paw_base.specs.declared.limits.TheConstants.{READ_LIMIT}
 use Rattle.paw_stage.specs.Stage.{Standing}
-use Rattle.paw_stage.specs.Across.{Serves}
+use Rattle.paw_stage.specs.Across.{FailsOnlyBy}
 use Rattle.paw_turn.specs.inner.Player.{IsSeated}
 use Rattle.paw_play.specs.Calls.{walk_calls}
 use Rattle.paw_play.specs.Walk.{EndingOf}
@@ -16,7 +16,7 @@ invariant-loop g l = record {
   seated : IsSeated l.player;
   game : l.player.game ≡ l.fn.player.game;
   draws : l.player.world.draws ≤ READ_LIMIT * (l.counter + 1);
-  serves : Serves g.S.Stage walk_calls None l.fn.stage l.stage;
+  serves : FailsOnlyBy g.S.Stage walk_calls None l.fn.stage l.stage;
   routines : l.player.routines ≡ l.fn.player.routines;
   rows : HaveRows g.F.Fn l.player.routines;
   walking : g.S.Stage.Tells l.fn.stage → (X : List (List ℕ)) → AreRowsOf g.F.Fn l.fn.player.routines X → (whole : EndingOf) (first : Standing) →

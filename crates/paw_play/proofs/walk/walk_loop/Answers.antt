@@ -3,7 +3,7 @@ use Rattle.paw_base.specs.declared.limits.TheConstants.{EVENT_LIMIT}
 use Rattle.paw_routines.specs.Routines.{AreRowsOf, HaveRows}
 use Rattle.paw_reading.specs.Turn.{reading}
 use Rattle.paw_play.specs.Walk.{Walks}
-use Rattle.paw_play.specs.inner.Telling.{told_as}
+use Rattle.paw_play.specs.inner.Telling.{with_shown_steps}
 use Rattle.paw_play.specs.inner.OnTheWay.{IsWalking}
 use Rattle.paw_play.proofs.Walking.{walk_starts}
 use Rattle.paw_journal.proofs.Serving.{serves_then}
@@ -20,8 +20,8 @@ walk_lines-requires-clause-rows g c = subst (λ r. HaveRows g.F.Fn r) (sym (c.st
 pub returns-in-Some-clause-walks : goal.returns-in-Some-clause-walks
 returns-in-Some-clause-walks g c = λ tells X rows.
     let own = subst (λ r. AreRowsOf g.F.Fn r X) (sym c.in-Ok-new.ensures.routines) rows in
-    subst (λ k. Walks (told_as g.P.Preface.telling (reading (story_of k X) c.args.seed)) EVENT_LIMIT (g.S.Stage.standing c.args.stage.now)
-    (g.S.Stage.standing c.told.new.stage) c.in-Some.end) c.in-Ok-new.ensures.game
+    subst (λ k. Walks (with_shown_steps g.P.Preface.telling (reading (story_of k X) c.args.seed)) EVENT_LIMIT (g.S.Stage.standing c.args.stage.now)
+    (g.S.Stage.standing c.show_step.new.stage) c.in-Some.end) c.in-Ok-new.ensures.game
     (walk_starts g.P.Preface.telling (story_of c.in-Ok-new.player.game X) c.args.seed EVENT_LIMIT _ _ c.in-Ok-new.player
     c.start-step.new.self c.start-step.result (Some c.in-Some.end) c.in-Ok-new.ensures.new c.start-step.ensures.seated
     c.start-step.ensures.last (c.start-step.ensures.meaning X own) (c.in-Some.ensures.meaning tells))
@@ -35,12 +35,12 @@ returns-clause-walks g c = λ tells X rows.
     let later = subst (λ r. AreRowsOf g.F.Fn r X) (sym (c.start-step.ensures.routines ∙ c.in-Ok-new.ensures.routines)) rows in
     let walking = walk_starts telling story c.args.seed EVENT_LIMIT _ _ c.in-Ok-new.player c.start-step.new.self c.start-step.result
     None c.in-Ok-new.ensures.new c.start-step.ensures.seated
-    c.start-step.ensures.last (c.start-step.ensures.meaning X own) (c.in_default-told.ensures.meaning tells) in
-    subst (λ k. Walks (told_as telling (reading (story_of k X) c.args.seed)) EVENT_LIMIT old (g.S.Stage.standing c.walk_lines.new.stage)
+    c.start-step.ensures.last (c.start-step.ensures.meaning X own) (c.in_default-show_step.ensures.meaning tells) in
+    subst (λ k. Walks (with_shown_steps telling (reading (story_of k X) c.args.seed)) EVENT_LIMIT old (g.S.Stage.standing c.walk_lines.new.stage)
     c.walk_lines.result) c.in-Ok-new.ensures.game
-    (c.walk_lines.ensures.meaning (c.told.ensures.serves.tells.0 tells) X later _ old
-    (subst (λ k. IsWalking telling (story_of k X) (reading story c.args.seed) old (g.S.Stage.standing c.told.new.stage)
+    (c.walk_lines.ensures.meaning (c.show_step.ensures.serves.tells.0 tells) X later _ old
+    (subst (λ k. IsWalking telling (story_of k X) (reading story c.args.seed) old (g.S.Stage.standing c.show_step.new.stage)
     c.start-step.new.self 0) (sym c.start-step.ensures.game) walking))
 
 pub returns-clause-serves : goal.returns-clause-serves
-returns-clause-serves g c = serves_then g.S.Stage _ _ (call_of_end c.walk_lines.result) _ _ _ c.in_default-told.ensures.serves c.walk_lines.ensures.serves
+returns-clause-serves g c = serves_then g.S.Stage _ _ (call_of_end c.walk_lines.result) _ _ _ c.in_default-show_step.ensures.serves c.walk_lines.ensures.serves

@@ -11,5 +11,5 @@ returns-then-has_exit c =
     let has : list_any (λ (x : Exit). eqb x.verb c.in_ok-verb.verb) c.args.exits.now ≡ true =
     ap (list_any (λ (x : Exit). eqb x.verb c.in_ok-verb.verb)) (sym rows) ∙ sym c.has_exit.ensures.value ∙ c.if-has_exit.true in
     record {
-      gives = rw (c.in_ok-verb.ensures.gives, c.in_ok-to.ensures.gives, c.in_ok-ended.ensures.gives, has) refl;
+      gives = rw (c.in_ok-verb.ensures.gives, c.in_ok-to.ensures.gives, c.in_ok-end_line.ensures.gives, has) refl;
     }

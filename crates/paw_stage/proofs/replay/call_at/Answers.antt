@@ -8,15 +8,15 @@ use Rattle.paw_stage.specs.inner.Log.{all_done, done_in}
 use Rattle.paw_stage.proofs.Logs.{laid-at}
 use Rattle.paw_stage.proofs.replay.call_at.Goals as goal
 
-pub part-requires-clause-order : goal.part-requires-clause-order
-part-requires-clause-order c =
+pub slice_of-requires-clause-order : goal.slice_of-requires-clause-order
+slice_of-requires-clause-order c =
     let call = c.in_ok-call.call.now in
     let got = c.in_ok-call.ensures.lookup in
     let laid = laid-at c.args.calls.now 0 (length c.args.room.now) c.args.number call c.requires.laid got.3.0 in
     subst (λ (x : Call). x.from ≤ x.mid) (sym got.1) laid.0
 
-pub part-requires-clause-within : goal.part-requires-clause-within
-part-requires-clause-within c =
+pub slice_of-requires-clause-within : goal.slice_of-requires-clause-within
+slice_of-requires-clause-within c =
     let call = c.in_ok-call.call.now in
     let got = c.in_ok-call.ensures.lookup in
     let laid = laid-at c.args.calls.now 0 (length c.args.room.now) c.args.number call c.requires.laid got.3.0 in
@@ -33,6 +33,6 @@ returns c = record {
       slice_get_read calls (length calls) c.args.number call refl got.3.0 got.1 in
       let done : slice_get (all_done room calls) c.args.number ≡ Some (done_in room call) =
       slice_get-map (done_in room) calls c.args.number ∙ ap (option_map (done_in room)) there in
-      ap (λ name. Some (call.kind, name)) c.part.ensures.value
+      ap (λ name. Some (call.kind, name)) c.slice_of.ensures.value
       ∙ sym (ap (λ o. option_map (λ (d : DoneCall). (d.kind, d.name)) o) done);
 }

@@ -10,8 +10,8 @@ returns-then-seen-clause-sees c s filed h =
     let room = c.args.room.now in
     let call = c.args.call in
     let bytes = slice_range room call.mid call.to in
-    let is = rw c.part-bytes.ensures.value at c.seen_written.ensures.seen in
-    let laid = rw c.part-bytes.ensures.value at c.seen_written.ensures.laid in
+    let is = rw c.slice_of-bytes.ensures.value at c.seen_written.ensures.seen in
+    let laid = rw c.slice_of-bytes.ensures.value at c.seen_written.ensures.laid in
     subst (λ k. Sees (stepped k (slice_range room call.from call.mid) bytes s) c.args.name.now c.args.at
     c.seen_written.result c.seen_written.new.into) (sym c.in-Write.is)
     (sees_written s c.args.name.now c.args.at c.in-Write.place bytes c.args.into.now c.seen_written.new.into c.args.seen

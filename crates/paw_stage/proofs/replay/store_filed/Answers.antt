@@ -14,7 +14,7 @@ returns-then-eq c = record {
       let s = c.in-Some.s in
       let found : FindsStore room ds (Some s) = subst (λ o. FindsStore room ds o) c.in-Some.is h in
       let same : slice_range room call.from call.mid ≡ slice_range room s.opened.from s.opened.mid =
-      sym c.part.ensures.value ∙ ((bytes_eq-Decides c.part.result.now c.name_of.result.now).0 (sym c.if-eq.ensures)
+      sym c.slice_of.ensures.value ∙ ((bytes_eq-Decides c.slice_of.result.now c.name_of.result.now).0 (sym c.if-eq.ensures)
       ∙ c.name_of.ensures.value) in
       subst (λ o. FindsStore room (ds ++ done_in room call ∷ []) o) (sym (c.store_synced.ensures.some s refl)) (
         found.0,
@@ -35,7 +35,7 @@ returns-else-eq c = record {
         saved_other ds call.kind (slice_range room s.opened.from s.opened.mid)
             (slice_range room call.from call.mid) (slice_range room call.mid call.to) s.synced w
             (λ e. let f : false ≡ true = c.if-eq.ensures
-            ∙ (bytes_eq-Decides c.part.result.now c.name_of.result.now).1 (c.part.ensures.value ∙ (e
+            ∙ (bytes_eq-Decides c.slice_of.result.now c.name_of.result.now).1 (c.slice_of.ensures.value ∙ (e
             ∙ sym c.name_of.ensures.value)) in cc)
             found.1,
       );

@@ -1,12 +1,12 @@
 use Rattle.std.proofs.Common.{◌∙◌, arith}
 use Rattle.std.proofs.lemmas.List.{length-set}
-use Rattle.paw_state.specs.declared.fields.Row.{Row}
+use Rattle.paw_state.specs.declared.fields.FrameField.{FrameField}
 use Rattle.paw_state.specs.inner.Parts.{frame_in}
 use Rattle.paw_state.proofs.Written.{mapped_more, mapped_all}
 use Rattle.paw_state.proofs.read.frame_rows.Goals as goal
 
 -- what stands for a row past the last
-abbrev empty : Row
+abbrev empty : FrameField
 empty = record { table = 0; entry = 0; at = 0; acted = 0 }
 
 pub loop-i-preserved : goal.loop-i-preserved

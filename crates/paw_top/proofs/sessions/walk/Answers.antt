@@ -5,7 +5,7 @@ use Rattle.paw_effects.specs.Story.{story_of}
 use Rattle.paw_reading.specs.Turn.{reading}
 use Rattle.paw_play.specs.Calls.{walk_calls}
 use Rattle.paw_play.specs.Walk.{Walks}
-use Rattle.paw_play.specs.inner.Telling.{told_as}
+use Rattle.paw_play.specs.inner.Telling.{with_shown_steps}
 use Rattle.paw_top.specs.Ends.{plays}
 use Rattle.paw_top.specs.Answers.{load_calls}
 use Rattle.paw_top.proofs.Answering.{played_serves}
@@ -28,7 +28,7 @@ returns-clause-walks g c = λ tells X rows.
     let game = game_read c.in-Ok-view_in.given in
     rw c.outcome_of.ensures.value
     (plays game c.walk_loop.result (holds_given c.args.image.now _ _ _ _ game c.as_slice.ensures.value f c.in-Ok-view_in.ensures.found)
-    (subst (λ s. Walks (told_as g.P.Preface.telling (reading (story_of game X) c.args.seed)) EVENT_LIMIT s new c.walk_loop.result) f.3
+    (subst (λ s. Walks (with_shown_steps g.P.Preface.telling (reading (story_of game X) c.args.seed)) EVENT_LIMIT s new c.walk_loop.result) f.3
     (c.walk_loop.ensures.walks (c.load.ensures.serves.tells.0 tells) X rows)))
 
 pub returns-in-Err-clause-serves : goal.returns-in-Err-clause-serves

@@ -5,7 +5,7 @@ use Rattle.paw_stage.specs.Moments.{moment_of}
 use Rattle.paw_journal.proofs.Serving.{serves_none, serves_then}
 use Rattle.paw_routines.specs.Routines.{AreRowsOf}
 use Rattle.paw_effects.specs.Story.{story_of}
-use Rattle.paw_host.specs.Outcomes.{failed_call}
+use Rattle.paw_host.specs.Outcomes.{host_failure}
 use Rattle.paw_host.specs.Hosts.{HasTaken}
 use Rattle.paw_host.specs.Promise.{Answered, InHost}
 use Rattle.paw_host.specs.inner.Lines.{IsServing, ServesTo}
@@ -26,7 +26,7 @@ loop-init g c = record {
 }
 
 pub returns-in-Some-clause-serves : goal.returns-in-Some-clause-serves
-returns-in-Some-clause-serves g c = serves_then g.S.Stage _ _ (failed_call c.in-Some.outcome) _ _ _ c.loop.invariant.serves c.in-Some.ensures.serves
+returns-in-Some-clause-serves g c = serves_then g.S.Stage _ _ (host_failure c.in-Some.outcome) _ _ _ c.loop.invariant.serves c.in-Some.ensures.serves
 
 pub returns-in-Some-clause-ends : goal.returns-in-Some-clause-ends
 returns-in-Some-clause-ends g c = λ tells.

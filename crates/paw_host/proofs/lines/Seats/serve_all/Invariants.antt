@@ -1,6 +1,6 @@
 use Rattle.std.proofs.Common.{◌≡◌, ◌≤◌, ℕ, List, None}
 use Rattle.paw_stage.specs.Disk.{IsStable}
-use Rattle.paw_stage.specs.Across.{Serves}
+use Rattle.paw_stage.specs.Across.{FailsOnlyBy}
 use Rattle.paw_stage.specs.Moments.{Passes}
 use Rattle.paw_routines.specs.Routines.{AreRowsOf}
 use Rattle.paw_effects.specs.Story.{story_of}
@@ -9,16 +9,16 @@ use Rattle.paw_host.specs.Replies.{Sessions}
 use Rattle.paw_host.specs.Hosts.{HasTaken}
 use Rattle.paw_host.specs.Promise.{BeginsWith, InHost}
 use Rattle.paw_host.specs.inner.Lines.{IsServing}
-use Rattle.paw_host.specs.inner.Seats.{Stays}
+use Rattle.paw_host.specs.inner.Seats.{StaysSeated}
 use Rattle.paw_host.specs.declared.lines.TheConstants.{HOST_LIMIT}
 use Rattle.paw_host.proofs.lines.Seats.serve_all.Given as goal
 
 -- i lines were answered
 abbrev pub invariant-loop : goal.invariant-loop
 invariant-loop g l = record {
-  stays : Stays l.fn.self.player l.self.player;
+  stays : StaysSeated l.fn.self.player l.self.player;
   few : l.counter ≤ HOST_LIMIT;
-  serves : Serves g.S.Stage session_calls None l.fn.stage l.stage;
+  serves : FailsOnlyBy g.S.Stage session_calls None l.fn.stage l.stage;
   synced : g.S.Stage.Tells l.stage → IsStable (g.S.Stage.standing l.stage).disk;
   taken : g.S.Stage.Tells l.fn.stage → HasTaken (g.S.Stage.standing l.fn.stage) (g.S.Stage.standing l.stage) l.counter;
   serving : g.S.Stage.Tells l.fn.stage → (X : List (List ℕ)) → AreRowsOf g.F.Fn l.fn.self.player.routines X → (first : Sessions) →

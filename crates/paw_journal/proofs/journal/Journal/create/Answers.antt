@@ -19,7 +19,7 @@ module _ (g : Over) (c : After-slot g) where
 
   slots : c.slot.result.now ≡ made_slot c.args.state.now c.args.piece.now
   slots = c.slot.ensures.value
-      ∙ (ap (λ r. r.slot) c.lay_slot.ensures.value ∙ ap (λ r. made_slot r.state r.piece) c.hold.ensures.value)
+      ∙ (ap (λ r. r.slot) c.fill_new_slot.ensures.value ∙ ap (λ r. made_slot r.state r.piece) c.hold.ensures.value)
 
   long : length c.slot.result.now ≡ slot_length
   long = ap length slots ∙ length_slot c.args.state.now c.args.piece.now c.told-state short
@@ -94,9 +94,9 @@ returns-clause-kept g c tells =
     made_keeps (digests_of c.args.game.now c.args.rules.now) _ _ _ _ _ _ (c.requires.rests tells)
     ((c.in_ok-mark.ensures.beside later).attached ∙ (c.in_ok-lay_out.ensures.beside tells).attached)
     (c.in_ok-mark.ensures.marked later) (made g at.After-mark few (slots g at.After-slot) tells)
-    (ap (λ r. r.state) c.keep_made.ensures.value ∙ (ap (λ r. r.state) c.lay_slot.ensures.value
+    (ap (λ r. r.state) c.keep_made.ensures.value ∙ (ap (λ r. r.state) c.fill_new_slot.ensures.value
     ∙ ap (λ r. r.state) c.hold.ensures.value))
-    (ap (λ r. r.piece) c.keep_made.ensures.value ∙ (ap (λ r. r.piece) c.lay_slot.ensures.value
+    (ap (λ r. r.piece) c.keep_made.ensures.value ∙ (ap (λ r. r.piece) c.fill_new_slot.ensures.value
     ∙ ap (λ r. r.piece) c.hold.ensures.value))
     (ap (λ r. r.first) c.keep_made.ensures.value) (ap (λ r. r.second) c.keep_made.ensures.value)
     (c.told-game, c.told-rules) c.told-state few c.requires.piece_length

@@ -8,11 +8,11 @@ returns-clause-quit c waits =
     let taken = c.take_waiting-waiting.ensures.rest in
     answers_quit c.args.yes c.args.self.now.frames c.set_top.new.self.frames c.top-f.result (rw taken at c.top-f.ensures.value)
     ((rw taken at (ap (λ m. m.frames) c.set_top.ensures.value)) ∙ ap (λ f. f ∷ below c.args.self.now.frames)
-    (c.answered.ensures.quit (c.take_waiting-waiting.ensures.was ∙ waits)))
+    (c.frame_after_answer.ensures.quit (c.take_waiting-waiting.ensures.was ∙ waits)))
 
 pub returns-clause-key : goal.returns-clause-key
 returns-clause-key c waits =
     let taken = c.take_waiting-waiting.ensures.rest in
     answers_key c.args.self.now.frames c.set_top.new.self.frames c.top-f.result (rw taken at c.top-f.ensures.value)
     ((rw taken at (ap (λ m. m.frames) c.set_top.ensures.value)) ∙ ap (λ f. f ∷ below c.args.self.now.frames)
-    (c.answered.ensures.key (c.take_waiting-waiting.ensures.was ∙ waits)))
+    (c.frame_after_answer.ensures.key (c.take_waiting-waiting.ensures.was ∙ waits)))

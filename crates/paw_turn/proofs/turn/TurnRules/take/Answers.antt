@@ -1,0 +1,33 @@
+use Rattle.std.proofs.Common.{arith}
+use Rattle.paw_effects.specs.Story.{story_of}
+use Rattle.paw_turn.proofs.Playing.{plays_then}
+use Rattle.paw_turn.proofs.Falling.{plays_read}
+use Rattle.paw_turn.specs.declared.phase.Next.TheVariants as next
+use Rattle.paw_turn.specs.inner.Phases.{from_prompt}
+use Rattle.paw_turn.proofs.turn.TurnRules.take.Goals as goal
+
+pub returns-in-Go-clause-meaning : goal.returns-in-Go-clause-meaning
+returns-in-Go-clause-meaning g c X rows =
+    plays_then (story_of (g.T.Tables.game c.args.self.now.tables.now) X) _ c.in-Go.phase c.args.state.now c.hear.new.state c.play.new.state
+    (next.Stop c.play.result) (c.in-Go.ensures.meaning X rows) (c.play.ensures.meaning X rows)
+
+pub play-requires : goal.play-requires
+play-requires g c =
+    let own = story_of (g.T.Tables.game c.args.self.now.tables.now) c.requires.rows.0 in
+    let keeps = c.in-Go.ensures.keeps in
+    let playable = c.requires.ready.playable in
+    record {
+      may = record {
+        rows = c.requires.rows;
+        read = plays_read own (from_prompt own c.args.prompt c.args.state.now c.args.line.now) c.args.state.now
+            (next.Go c.in-Go.phase) c.hear.new.state (c.in-Go.ensures.meaning c.requires.rows.0 c.requires.rows.1) c.requires.ready.read;
+        ready = record {
+          playable = record {
+            world = keeps.stays.world;
+            budget = omega (arith, keeps.stays.left, playable.budget);
+            draws = omega (arith, keeps.stays.draws, playable.draws);
+          };
+          closed = keeps.machine;
+        };
+      };
+    }
