@@ -1,5 +1,6 @@
 -- Each plays as if alone.
-use Rattle.std.proofs.Common.{◌≡◌, ◌⊎◌, inl, inr, ℕ, suc, ◌+◌, ◌≤◌, List, [], ◌∷◌, ◌++◌, Option, Some, None, Bool, true, false}
+use Rattle.std.proofs.Common.{◌≡◌, ◌⊎◌, inl, inr, ℕ, suc, ◌+◌, ◌≤◌, List, [], ◌∷◌, ◌++◌, Option, Some, None, Bool, true}
+use Rattle.std.proofs.Common.{false}
 use Rattle.std.proofs.Common.{refl, sym, ap, ◌∙◌, subst, length, map, nat_le, arith, append_assoc}
 use Rattle.std.specs.Prelude.{codes, if◌then◌else◌}
 use Rattle.std.specs.Str.{bytes_eq}
@@ -20,8 +21,10 @@ use Rattle.paw_reading.proofs.Followed.{going_on_is_reading}
 use Rattle.paw_reading.proofs.Past.{longer_reading}
 use Rattle.paw_state.specs.Record.{last_piece}
 use Rattle.paw_host.specs.Names.{Request, request_of}
-use Rattle.paw_host.specs.Replies.{Absent, At, Sessions, Answer, gone_on, answer, is_over, sessions_with, sessions_after}
-use Rattle.paw_host.specs.Laws.{asked_first, asked_of, answered_first, answered_to, session_after, answers_of, EachPlaysAlone, PiecesAreAnswered}
+use Rattle.paw_host.specs.Replies.{Absent, At, Sessions, Answer, gone_on, answer, is_over, sessions_with}
+use Rattle.paw_host.specs.Replies.{sessions_after}
+use Rattle.paw_host.specs.Laws.{asked_first, asked_of, answered_first, answered_to, session_after, answers_of}
+use Rattle.paw_host.specs.Laws.{EachPlaysAlone, PiecesAreAnswered}
 
 -- ---- one name among others ----
 

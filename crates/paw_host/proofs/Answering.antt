@@ -1,5 +1,6 @@
 -- Answers that are put together of the parts of a session's work.
-use Rattle.std.proofs.Common.{◌≡◌, ◌⊎◌, inl, inr, ℕ, List, [], ◌∷◌, ◌++◌, refl, sym, ap, ◌∙◌, subst, true, false, Bool, length}
+use Rattle.std.proofs.Common.{◌≡◌, ◌⊎◌, inl, inr, ℕ, List, [], ◌∷◌, ◌++◌, refl, sym, ap, ◌∙◌, subst, true, false, Bool}
+use Rattle.std.proofs.Common.{length}
 use Rattle.std.proofs.Common.{append_assoc, nat_le, Option, Some, None}
 use Rattle.std.specs.Prelude.{codes, if◌then◌else◌}
 use Rattle.paw_base.specs.declared.limits.TheConstants.{EVENT_LIMIT}
@@ -11,7 +12,8 @@ use Rattle.paw_stage.specs.Moments.{Moment}
 use Rattle.paw_journal.specs.Session.{IsUnmade, recover}
 use Rattle.paw_journal.specs.inner.Store.{ChangesStoreOnly}
 use Rattle.paw_play.specs.Stands.{Stands}
-use Rattle.paw_host.specs.Replies.{NamedSession, Absent, At, Refused, Answer, gone_on, begun_answer, begun_with_text, answer_taking, answer, is_over}
+use Rattle.paw_host.specs.Replies.{NamedSession, Absent, At, Refused, Answer, gone_on, begun_answer, begun_with_text}
+use Rattle.paw_host.specs.Replies.{answer_taking, answer, is_over}
 use Rattle.paw_host.specs.Promise.{Stores, LeftOfMaking}
 use Rattle.paw_host.specs.inner.Answers.{Answers, InFile, LeftOf, LeftOfBeginning, StoresEither}
 

@@ -1,5 +1,6 @@
 -- Sessions stay such as may be, whatever is asked of them.
-use Rattle.std.proofs.Common.{◌≡◌, inl, inr, ℕ, ◌<◌, ◌^◌, List, [], ◌∷◌, ◌++◌, refl, sym, subst, true, false, Bool, length, nat_le, Option, Some, None}
+use Rattle.std.proofs.Common.{◌≡◌, inl, inr, ℕ, ◌<◌, ◌^◌, List, [], ◌∷◌, ◌++◌, refl, sym, subst, true, false, Bool}
+use Rattle.std.proofs.Common.{length, nat_le, Option, Some, None}
 use Rattle.std.specs.Prelude.{codes, if◌then◌else◌}
 use Rattle.std.proofs.lemmas.List.Elements.{All-append, All-cons, All-nil}
 use Rattle.paw_base.specs.declared.limits.TheConstants.{EVENT_LIMIT}
@@ -9,7 +10,8 @@ use Rattle.paw_reading.specs.declared.places.Halt.TheVariants as halt
 use Rattle.paw_reading.specs.Turn.{Ending, WaitsAt, Halted, Unended, reading}
 use Rattle.paw_play.specs.Stands.{IsPlayedWith}
 use Rattle.paw_host.specs.Names.{Request, is_name}
-use Rattle.paw_host.specs.Replies.{NamedSession, Absent, At, Refused, Sessions, gone_on, begun_answer, begun_with_text, answer_taking, answer, is_over}
+use Rattle.paw_host.specs.Replies.{NamedSession, Absent, At, Refused, Sessions, gone_on, begun_answer, begun_with_text}
+use Rattle.paw_host.specs.Replies.{answer_taking, answer, is_over}
 use Rattle.paw_host.specs.Replies.{sessions_with}
 use Rattle.paw_host.specs.Promise.{MayBe}
 use Rattle.paw_host.specs.inner.Lines.{AllMay}

@@ -1,5 +1,6 @@
 -- The host, from line to line: what stands, and what stands at each moment.
-use Rattle.std.proofs.Common.{◌≡◌, inl, inr, ℕ, zero, suc, ◌+◌, ◌<◌, ◌≤◌, ◌^◌, ◌==◌, List, [], ◌∷◌, ◌++◌, Option, Some, None, Bool, true, false}
+use Rattle.std.proofs.Common.{◌≡◌, inl, inr, ℕ, zero, suc, ◌+◌, ◌<◌, ◌≤◌, ◌^◌, ◌==◌, List, [], ◌∷◌, ◌++◌, Option, Some}
+use Rattle.std.proofs.Common.{None, Bool, true, false}
 use Rattle.std.proofs.Common.{refl, sym, ap, ◌∙◌, subst, length, take, drop, arith, append_assoc}
 use Rattle.std.specs.Prelude.{All, position, IfSome, if◌then◌else◌}
 use Rattle.std.proofs.lemmas.List.{append-nil, take-append-drop, length-drop, length-take}
@@ -17,17 +18,20 @@ use Rattle.paw_play.specs.Calls.{session_calls}
 use Rattle.paw_play.proofs.Walking.{drop_more, drop_all}
 use Rattle.paw_host.specs.Names.{Request, parted, parted_at, request_in, request_of, is_name, store_name}
 use Rattle.paw_host.specs.Replies.{Sessions, reply_to, sessions_with, sessions_after, replies}
-use Rattle.paw_host.specs.Promise.{Stores, AllStore, AllLeft, EachLeft, IsUpToDate, IsNotOf, InHost, Answered, BeginsWith, attached_with, attached_after}
+use Rattle.paw_host.specs.Promise.{Stores, AllStore, AllLeft, EachLeft, IsUpToDate, IsNotOf, InHost, Answered}
+use Rattle.paw_host.specs.Promise.{BeginsWith, attached_with, attached_after}
 use Rattle.paw_host.specs.Promise.{MayAttach, AttachedIn}
 use Rattle.paw_host.specs.Hosts.{HasTaken, Ends, Hosts}
 use Rattle.paw_host.specs.Outcomes.{host_failure}
 use Rattle.paw_host.specs.declared.lines.TheConstants.{HOST_LIMIT}
 use Rattle.paw_host.specs.declared.outcome.HostOutcome.{HostOutcome}
 use Rattle.paw_host.specs.declared.outcome.HostOutcome.TheVariants as outcome
-use Rattle.paw_host.specs.inner.Lines.{AllMay, AnswersRequest, Doing, IsDone, InWork, IsServing, SameLines, ServesTo, TakesTo}
+use Rattle.paw_host.specs.inner.Lines.{AllMay, AnswersRequest, Doing, IsDone, InWork, IsServing, SameLines, ServesTo}
+use Rattle.paw_host.specs.inner.Lines.{TakesTo}
 use Rattle.paw_host.proofs.Continuing.{IfLine, all_may}
 use Rattle.paw_host.proofs.Reaching.{FilesHold, rest_left}
-use Rattle.paw_host.proofs.Serving.{sessions_more, replies_more, not_of_more, last_line, attached_more, attached_now, attached_in, each_done, with_attached}
+use Rattle.paw_host.proofs.Serving.{sessions_more, replies_more, not_of_more, last_line, attached_more, attached_now}
+use Rattle.paw_host.proofs.Serving.{attached_in, each_done, with_attached}
 
 -- the files of all sessions, at rest
 all_left : (g : Story) (sessions : Sessions) (s : Standing) → AllStore g sessions s → IsStable s.disk → FilesHold s → AllLeft g sessions (moment_of s)

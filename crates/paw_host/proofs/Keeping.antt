@@ -1,5 +1,6 @@
 -- Answers of a session that was kept.
-use Rattle.std.proofs.Common.{◌≡◌, inl, ℕ, ◌<◌, List, [], ◌++◌, refl, sym, ap, ◌∙◌, subst, length, arith, Option, Some, None}
+use Rattle.std.proofs.Common.{◌≡◌, inl, ℕ, ◌<◌, List, [], ◌++◌, refl, sym, ap, ◌∙◌, subst, length, arith, Option, Some}
+use Rattle.std.proofs.Common.{None}
 use Rattle.std.specs.Prelude.{codes}
 use Rattle.paw_effects.specs.Story.{Story}
 use Rattle.paw_reading.specs.Turn.{reading, pieces_of}

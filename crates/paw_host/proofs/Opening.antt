@@ -1,5 +1,8 @@
 -- Sessions that are begun, and sessions that are taken up.
-use Rattle.std.proofs.Common.{◌≡◌, ◌≢◌, inl, inr, ℕ, ◌+◌, ◌*◌, ◌<◌, List, [], ◌∷◌, ◌++◌, refl, sym, ap, ◌∙◌, subst, true, take, length, arith}
+use Rattle.std.proofs.Common.{◌≡◌, ◌≢◌, inl, inr, ℕ, ◌+◌, ◌*◌, ◌<◌, List, [], ◌∷◌, ◌++◌, refl, sym, ap, ◌∙◌, subst}
+use Rattle.std.proofs.Common.{true, take, length, get_or, arith}
+use Rattle.std.proofs.Common.{◌≡◌, ◌≢◌, inl, inr, ℕ, ◌+◌, ◌*◌, ◌<◌, List, [], ◌∷◌, ◌++◌, refl, sym, ap, ◌∙◌, subst}
+use Rattle.std.proofs.Common.{true, take, length, arith}
 use Rattle.std.proofs.Common.{Some, codes}
 use Rattle.std.proofs.lemmas.List.{append-nil, take_all}
 use Rattle.std.specs.Prelude.{reverse}
@@ -20,7 +23,8 @@ use Rattle.paw_turn.specs.declared.Step.TheVariants as step
 use Rattle.paw_routines.specs.declared.routines.Routines.{Routines}
 use Rattle.paw_stage.specs.declared.StageCall.{StageCall}
 use Rattle.paw_routines.specs.Measure.{measure}
-use Rattle.paw_state.specs.declared.layout.TheConstants.{PIECE, STATE_LENGTH}
+use Rattle.paw_base.specs.declared.layout.TheConstants.{STATE_LENGTH}
+use Rattle.paw_state.specs.declared.layout.TheConstants.{PIECE}
 use Rattle.paw_journal.specs.Session.{Digests, Unmade, Damaged, Shown, recover, state_length, piece_length}
 use Rattle.paw_journal.proofs.ShownPieces.{buffer_long}
 use Rattle.paw_journal.specs.inner.Session.{session_shown}

@@ -1,5 +1,6 @@
 -- The host, from line to line.
-use Rattle.std.proofs.Common.{◌≡◌, ◌≢◌, ◌⊎◌, inl, inr, ℕ, zero, suc, ◌≤◌, List, [], ◌∷◌, ◌++◌, Option, Some, None, true, false}
+use Rattle.std.proofs.Common.{◌≡◌, ◌≢◌, ◌⊎◌, inl, inr, ℕ, zero, suc, ◌≤◌, List, [], ◌∷◌, ◌++◌, Option, Some, None, true}
+use Rattle.std.proofs.Common.{false}
 use Rattle.std.proofs.Common.{refl, sym, ap, ◌∙◌, subst, length, take, drop, bytes_eq, arith, append_assoc}
 use Rattle.std.proofs.lemmas.List.{append-nil, append_cancel_right}
 use Rattle.std.proofs.lemmas.Slice.Eq.{bytes_eq-Decides}
@@ -10,8 +11,10 @@ use Rattle.paw_stage.specs.Stage.{Standing, file_bytes, bytes_or_none}
 use Rattle.paw_stage.specs.Moments.{Moment, moment_of}
 use Rattle.paw_play.specs.Laws.{MayBeLeft}
 use Rattle.paw_host.specs.Names.{Request, request_of, is_name, store_name}
-use Rattle.paw_host.specs.Replies.{NamedSession, Sessions, with_named_session, answer, reply_text, reply_to, sessions_with, sessions_after, replies}
-use Rattle.paw_host.specs.Promise.{Stores, AllStore, EachLeft, AllLeft, IsNotOf, LeftOfMaking, attached_with, attached_after, MayAttach, AttachedIn}
+use Rattle.paw_host.specs.Replies.{NamedSession, Sessions, with_named_session, answer, reply_text, reply_to}
+use Rattle.paw_host.specs.Replies.{sessions_with, sessions_after, replies}
+use Rattle.paw_host.specs.Promise.{Stores, AllStore, EachLeft, AllLeft, IsNotOf, LeftOfMaking, attached_with}
+use Rattle.paw_host.specs.Promise.{attached_after, MayAttach, AttachedIn}
 use Rattle.paw_host.specs.inner.Answers.{Answers, InAnswer, IsAside}
 use Rattle.paw_host.specs.inner.Lines.{IsNotFor, IsDone, InWork, AnswersRequest, Doing}
 use Rattle.paw_host.proofs.Reaching.{FilesHold, rest_left}

@@ -22,8 +22,10 @@ digests_on calls g h r s game rules e f d =
 pub hosted_on : {F : Type 0} {calls : Shared F (ℕ × (ℕ × Unit {0})) ℕ} {tables : GameLists} {game rules : List ℕ} {a b : PlayerView F} →
     IsHosted calls tables game rules a → StaysSeated a b → IsHosted calls tables game rules b
 hosted_on {calls} {game} {rules} {a} {b} h k = record {
-  seated = k.seated;
-  rows = subst (HaveRows calls) (sym k.routines) h.rows;
+  prepared = record {
+    seated = k.seated;
+    rows = subst (HaveRows calls) (sym k.routines) h.prepared.rows;
+    digests = digests_on calls a.game b.game a.routines b.routines game rules (sym k.game) (sym k.routines) h.prepared.digests;
+  };
   same = k.game ∙ h.same;
-  digests = digests_on calls a.game b.game a.routines b.routines game rules (sym k.game) (sym k.routines) h.digests;
 }

@@ -5,3 +5,4 @@ pub mod Words
 pub mod Opens
 pub mod Lines
 pub mod Seats
+pub mod Store

@@ -6,9 +6,7 @@ ghost use Rattle.std.specs.Option.{option_copied};
 ghost use Rattle.paw_base.specs.Bytes.{Lines, Seed};
 ghost use Rattle.paw_base.specs.declared.limits.TheConstants.{EVENT_LIMIT, LINE_LIMIT, PIECE_LIMIT};
 ghost use Rattle.paw_stage.specs.Disk.{IsStable};
-ghost use Rattle.paw_stage.specs.Moments.{Still};
-ghost use Rattle.paw_stage.specs.Across.{IfTelling, EachMoment, FailsOnlyBy};
-ghost use Rattle.paw_stage.specs.inner.Across.{AtEachMoment};
+ghost use Rattle.paw_stage.specs.Across.{IfTelling};
 ghost use Rattle.paw_stage.specs.declared.StageCall.TheVariants as call;
 ghost use Rattle.paw_routines.specs.Routines.{HaveRows};
 ghost use Rattle.paw_reading.specs.Turn.{reading};
@@ -26,7 +24,9 @@ ghost use Rattle.paw_host.specs.Promise.{MayBe, Stores};
 ghost use Rattle.paw_host.specs.inner.Answers.{refusal_word_of, SitsAt, Answers, BeginsTo, TakesUp};
 ghost use Rattle.paw_host.specs.inner.Answers.{InFile, InAnswer, IsAside, StoresEither, LeftOf, LeftOfBeginning};
 ghost use Rattle.paw_host.specs.inner.Answers.{answer_calls, LeavesBegun};
-ghost use Rattle.paw_host.specs.inner.Seats.{AreDigestsOf, IsHosted, PlaysAnew, StandsAfter, StaysSeated};
+ghost use Rattle.paw_host.specs.inner.Seats.{AreDigestsOf, IsHosted, IsPrepared, MayTake, PlaysAnew};
+ghost use Rattle.paw_host.specs.inner.Seats.{StandsAfter, StaysSeated};
+ghost use Rattle.paw_host.specs.inner.Store.{IsAttachedAtRest, IsAttachedStable, LeavesStage, Promises, ReadsOnly};
 ghost use Rattle.paw_host.specs.declared.reply.TheConstants.{REPLY_LIMIT};
 
 use crate::reply::Reply;
@@ -93,25 +93,20 @@ fn begin<S: Stage, T: Tables, F: Fn(u8, u8) -> u8>(
     rules: &[u8; 32],
     seed: u64,
 ) -> Result<Option<Opened>, StageCall>
-    requires seated { IsSeated player.old }
-    requires rows { HaveRows F.Fn player.old.routines }
-    requires digests { AreDigestsOf F.Fn player.old.game player.old.routines game.now rules.now }
+    requires player { IsPrepared F.Fn game.now rules.now player.old }
     requires empty { at.length ≡ 0 }
-    requires rests { S.Tells stage.old → IsAtRest (S.standing stage.old) }
-    requires attached { S.Tells stage.old → at.length ≡ length (S.standing stage.old).disk.bytes }
+    requires store { IsAttachedAtRest S.Stage at stage.old }
     requires room { length reply.old + PIECE_LIMIT ≤ REPLY_LIMIT }
     ensures anew { PlaysAnew player.old player.new }
     ensures opened { IfOk result (λ found. IfSome found (λ s. (s.events ≡ 0) × StandsAfter s.events player.new)) }
     ensures short { length reply.new ≤ length reply.old + PIECE_LIMIT }
-    ensures serves { FailsOnlyBy S.Stage writing_calls (failed_stage_call result) stage.old stage.new }
-    ensures leaves { IfTelling S.Stage stage.old stage.new (λ old new. IfOk result (LeavesBegun room.new old new)) }
-    ensures beside { IfTelling S.Stage stage.old stage.new ChangesStoreOnly }
-    ensures meaning { IfTelling S.Stage stage.old stage.new (λ old new.
+    ensures leaves { LeavesStage S.Stage writing_calls (failed_stage_call result) ChangesStoreOnly
+        (λ old new. IfOk result (LeavesBegun room.new old new)) stage.old stage.new }
+    ensures promises { IfTelling S.Stage stage.old stage.new (λ old new.
         EachStory F.Fn player.old.routines player.old.game (λ g.
-        IfOk result (BeginsTo g seed reply.old reply.new player.new new.disk.bytes))) }
-    ensures any_moment { IfTelling S.Stage stage.old stage.new (λ old new.
-        EachStory F.Fn player.old.routines player.old.game (λ g.
-        EachMoment S.Stage stage.old stage.new (InFile (LeftOfBeginning g seed) old))) }
+        Promises S.Stage stage.old stage.new
+        (IfOk result (BeginsTo g seed reply.old reply.new player.new new.disk.bytes))
+        (InFile (LeftOfBeginning g seed) old))) }
 {
     let step = start_anew(player, seed);
     if let Some(word) = refusal_word(step) {
@@ -141,15 +136,12 @@ fn take_up<S: Stage, T: Tables, F: Fn(u8, u8) -> u8>(
     requires seated { IsSeated player.old }
     requires same { player.old.game ≡ T.game tables.now }
     requires digests { AreDigestsOf F.Fn player.old.game player.old.routines game.now rules.now }
-    requires rests { S.Tells stage.old → IsAtRest (S.standing stage.old) }
-    requires attached { S.Tells stage.old → at.length ≡ length (S.standing stage.old).disk.bytes }
+    requires store { IsAttachedAtRest S.Stage at stage.old }
     ensures stays { StaysSeated player.old player.new }
     ensures opened { IfOk result (λ found. IfSome found (λ s. StandsAfter s.events player.new)) }
-    ensures serves { FailsOnlyBy S.Stage (call.Read ∷ []) (failed_stage_call result) stage.old stage.new }
-    ensures still { S.Tells stage.old → S.standing stage.new ≡ S.standing stage.old }
+    ensures reads { ReadsOnly S.Stage (failed_stage_call result) stage.old stage.new }
     ensures kept { S.Tells stage.old →
         IfOk result (λ found. IfSome found (λ s. KeptIn s.journal room.new (S.standing stage.new))) }
-    ensures time { AtEachMoment S.Stage stage.old stage.new Still }
     ensures meaning { IfTelling S.Stage stage.old stage.new (λ old new.
         EachStory F.Fn player.old.routines player.old.game (λ g.
         IfOk result (TakesUp g room.new player.new old.disk.bytes))) }
@@ -208,25 +200,19 @@ fn take_text<S: Stage, T: Tables, F: Fn(u8, u8) -> u8>(
     opened: Opened,
     text: &[u8],
 ) -> Result<(), StageCall>
-    requires seated { IsSeated player.old }
-    requires rows { HaveRows F.Fn player.old.routines }
-    requires opened { StandsAfter opened.events player.old }
+    requires player { MayTake F.Fn opened.events player.old }
     requires short { length text.now ≤ LINE_LIMIT }
     requires kept { S.Tells stage.old → KeptIn opened.journal room.old (S.standing stage.old) }
     requires room { length reply.old + PIECE_LIMIT ≤ REPLY_LIMIT }
     ensures stays { StaysSeated player.old player.new }
     ensures short { length reply.new ≤ length reply.old + PIECE_LIMIT }
-    ensures serves { FailsOnlyBy S.Stage writing_calls (failed_stage_call result) stage.old stage.new }
-    ensures rests { S.Tells stage.old → OnOk result (IsAtRest (S.standing stage.new)) }
-    ensures beside { IfTelling S.Stage stage.old stage.new ChangesStoreOnly }
-    ensures meaning { IfTelling S.Stage stage.old stage.new (λ old new.
+    ensures leaves { LeavesStage S.Stage writing_calls (failed_stage_call result) ChangesStoreOnly
+        (λ old new. OnOk result (IsAtRest new)) stage.old stage.new }
+    ensures promises { IfTelling S.Stage stage.old stage.new (λ old new.
         EachStory F.Fn player.old.routines player.old.game (λ g. (seed : Seed) (es : Lines) →
         SitsAt g seed es player.old → opened.events ≡ length es → Stands g seed es old.disk.bytes →
-        OnOk result (Answers g (answer_taking g seed es text.now) reply.old reply.new new.disk.bytes))) }
-    ensures any_moment { IfTelling S.Stage stage.old stage.new (λ old new.
-        EachStory F.Fn player.old.routines player.old.game (λ g. (seed : Seed) (es : Lines) →
-        SitsAt g seed es player.old → opened.events ≡ length es → Stands g seed es old.disk.bytes →
-        EachMoment S.Stage stage.old stage.new
+        Promises S.Stage stage.old stage.new
+        (OnOk result (Answers g (answer_taking g seed es text.now) reply.old reply.new new.disk.bytes))
         (InFile (StoresEither g (At seed es) (answer_taking g seed es text.now).session) old))) }
 {
     if is_over(player) {
@@ -270,25 +256,19 @@ fn answer_new<S: Stage, T: Tables, F: Fn(u8, u8) -> u8>(
     hosted: &Hosted<'_, T>,
     text: Option<&[u8]>,
 ) -> Result<(), StageCall>
-    requires seated { IsSeated player.old }
-    requires rows { HaveRows F.Fn player.old.routines }
-    requires digests { AreDigestsOf F.Fn player.old.game player.old.routines hosted.now.game hosted.now.rules }
+    requires player { IsPrepared F.Fn hosted.now.game hosted.now.rules player.old }
     requires short { IfSome text (λ t. length t.now ≤ LINE_LIMIT) }
     requires empty { at.length ≡ 0 }
-    requires rests { S.Tells stage.old → IsAtRest (S.standing stage.old) }
-    requires attached { S.Tells stage.old → at.length ≡ length (S.standing stage.old).disk.bytes }
+    requires store { IsAttachedAtRest S.Stage at stage.old }
     requires room { length reply.old ≤ 20 }
     ensures stays { StaysSeated player.old player.new }
     ensures short { length reply.new ≤ length reply.old + 2 * PIECE_LIMIT }
-    ensures serves { FailsOnlyBy S.Stage writing_calls (failed_stage_call result) stage.old stage.new }
-    ensures rests { S.Tells stage.old → OnOk result (IsAtRest (S.standing stage.new)) }
-    ensures beside { IfTelling S.Stage stage.old stage.new ChangesStoreOnly }
-    ensures meaning { IfTelling S.Stage stage.old stage.new (λ old new.
+    ensures leaves { LeavesStage S.Stage writing_calls (failed_stage_call result) ChangesStoreOnly
+        (λ old new. OnOk result (IsAtRest new)) stage.old stage.new }
+    ensures promises { IfTelling S.Stage stage.old stage.new (λ old new.
         EachStory F.Fn player.old.routines player.old.game (λ g.
-        OnOk result (Answers g (answer g hosted.now.seed Absent (option_copied text.entry)) reply.old reply.new new.disk.bytes))) }
-    ensures any_moment { IfTelling S.Stage stage.old stage.new (λ old new.
-        EachStory F.Fn player.old.routines player.old.game (λ g.
-        EachMoment S.Stage stage.old stage.new
+        Promises S.Stage stage.old stage.new
+        (OnOk result (Answers g (answer g hosted.now.seed Absent (option_copied text.entry)) reply.old reply.new new.disk.bytes))
         (InFile (LeftOf g hosted.now.seed Absent (answer g hosted.now.seed Absent (option_copied text.entry)).session) old))) }
 {
     let opened = match begin(
@@ -324,22 +304,17 @@ fn answer_kept<S: Stage, T: Tables, F: Fn(u8, u8) -> u8>(
     requires hosted { IsHosted F.Fn (T.game hosted.now.tables.now) hosted.now.game hosted.now.rules player.old }
     requires short { IfSome text (λ t. length t.now ≤ LINE_LIMIT) }
     requires some { 0 < at.length }
-    requires rests { S.Tells stage.old → IsAtRest (S.standing stage.old) }
-    requires attached { S.Tells stage.old → at.length ≡ length (S.standing stage.old).disk.bytes }
+    requires store { IsAttachedAtRest S.Stage at stage.old }
     requires room { length reply.old ≤ 20 }
     ensures stays { StaysSeated player.old player.new }
     ensures short { length reply.new ≤ length reply.old + 2 * PIECE_LIMIT }
-    ensures serves { FailsOnlyBy S.Stage (call.Read ∷ writing_calls) (failed_stage_call result) stage.old stage.new }
-    ensures rests { S.Tells stage.old → OnOk result (IsAtRest (S.standing stage.new)) }
-    ensures beside { IfTelling S.Stage stage.old stage.new ChangesStoreOnly }
-    ensures meaning { IfTelling S.Stage stage.old stage.new (λ old new.
+    ensures leaves { LeavesStage S.Stage (call.Read ∷ writing_calls) (failed_stage_call result) ChangesStoreOnly
+        (λ old new. OnOk result (IsAtRest new)) stage.old stage.new }
+    ensures promises { IfTelling S.Stage stage.old stage.new (λ old new.
         EachStory F.Fn player.old.routines player.old.game (λ g. (before : NamedSession) → MayBe g before →
         Stores g before old.disk.bytes →
-        OnOk result (Answers g (answer g hosted.now.seed before (option_copied text.entry)) reply.old reply.new new.disk.bytes))) }
-    ensures any_moment { IfTelling S.Stage stage.old stage.new (λ old new.
-        EachStory F.Fn player.old.routines player.old.game (λ g. (before : NamedSession) → MayBe g before →
-        Stores g before old.disk.bytes →
-        EachMoment S.Stage stage.old stage.new
+        Promises S.Stage stage.old stage.new
+        (OnOk result (Answers g (answer g hosted.now.seed before (option_copied text.entry)) reply.old reply.new new.disk.bytes))
         (InFile (StoresEither g before (answer g hosted.now.seed before (option_copied text.entry)).session) old))) }
 {
     let opened = match take_up(
@@ -383,18 +358,13 @@ pub(crate) fn answer<S: Stage, T: Tables, F: Fn(u8, u8) -> u8>(
     requires room { length reply.old ≤ 20 }
     ensures stays { StaysSeated player.old player.new }
     ensures short { length reply.new ≤ length reply.old + 2 * PIECE_LIMIT }
-    ensures serves { FailsOnlyBy S.Stage answer_calls (failed_stage_call result) stage.old stage.new }
-    ensures synced { S.Tells stage.old → OnOk result (IsStable (S.standing stage.new).disk) }
-    ensures aside { IfTelling S.Stage stage.old stage.new (IsAside store.now) }
-    ensures attached { IfTelling S.Stage stage.old stage.new (λ old new. OnOk result (new.attached ≡ Some store.now)) }
-    ensures meaning { IfTelling S.Stage stage.old stage.new (λ old new.
+    ensures leaves { LeavesStage S.Stage answer_calls (failed_stage_call result) (IsAside store.now)
+        (λ old new. OnOk result (IsAttachedStable store.now new)) stage.old stage.new }
+    ensures promises { IfTelling S.Stage stage.old stage.new (λ old new.
         EachStory F.Fn player.old.routines player.old.game (λ g. (before : NamedSession) → MayBe g before →
         Stores g before (file_bytes old store.now) →
-        OnOk result (Answers g (answer g hosted.now.seed before (option_copied text.entry)) reply.old reply.new (file_bytes new store.now)))) }
-    ensures any_moment { IfTelling S.Stage stage.old stage.new (λ old new.
-        EachStory F.Fn player.old.routines player.old.game (λ g. (before : NamedSession) → MayBe g before →
-        Stores g before (file_bytes old store.now) →
-        EachMoment S.Stage stage.old stage.new
+        Promises S.Stage stage.old stage.new
+        (OnOk result (Answers g (answer g hosted.now.seed before (option_copied text.entry)) reply.old reply.new (file_bytes new store.now)))
         (InAnswer g hosted.now.seed store.now before (answer g hosted.now.seed before (option_copied text.entry)).session old))) }
 {
     let at = match attach(stage, store) {

@@ -17,6 +17,7 @@ ghost use Rattle.paw_host.specs.declared.outcome.HostOutcome.TheVariants as outc
 ghost use Rattle.paw_host.specs.inner.Names.{asks};
 ghost use Rattle.paw_host.specs.inner.Answers.{answer_calls};
 ghost use Rattle.paw_host.specs.inner.Seats.{IsHosted, StaysSeated};
+ghost use Rattle.paw_host.specs.inner.Store.{LeavesStage};
 ghost use Rattle.paw_host.specs.inner.Lines.{AllMay, AnswersRequest, Doing, EachServing, SameLines, ServesTo, TakesTo};
 ghost use Rattle.paw_host.specs.inner.Lines.{host_failure_so_far};
 
@@ -90,9 +91,8 @@ impl<'a, T: Tables, F: Fn(u8, u8) -> u8> Seats<'a, T, F> {
         requires short { IfSome request.text (λ t. length t.now ≤ LINE_LIMIT) }
         requires synced { S.Tells stage.old → IsStable (S.standing stage.old).disk }
         ensures stays { StaysSeated self.old.player self.new.player }
-        ensures serves { FailsOnlyBy S.Stage answer_calls (failed_stage_call result) stage.old stage.new }
-        ensures synced { S.Tells stage.old → OnOk result (IsStable (S.standing stage.new).disk) }
-        ensures lines { IfTelling S.Stage stage.old stage.new SameLines }
+        ensures leaves { LeavesStage S.Stage answer_calls (failed_stage_call result) SameLines
+            (λ old new. OnOk result (IsStable new.disk)) stage.old stage.new }
         ensures done { IfTelling S.Stage stage.old stage.new (λ old new.
             EachStory F.Fn self.old.player.routines self.old.player.game (λ g. (sessions : Sessions) →
             AllMay g sessions → AllStore g sessions old →
@@ -132,9 +132,8 @@ impl<'a, T: Tables, F: Fn(u8, u8) -> u8> Seats<'a, T, F> {
         requires short { length line.now ≤ LINE_LIMIT }
         requires synced { S.Tells stage.old → IsStable (S.standing stage.old).disk }
         ensures stays { StaysSeated self.old.player self.new.player }
-        ensures serves { FailsOnlyBy S.Stage answer_calls (failed_stage_call result) stage.old stage.new }
-        ensures synced { S.Tells stage.old → OnOk result (IsStable (S.standing stage.new).disk) }
-        ensures lines { IfTelling S.Stage stage.old stage.new SameLines }
+        ensures leaves { LeavesStage S.Stage answer_calls (failed_stage_call result) SameLines
+            (λ old new. OnOk result (IsStable new.disk)) stage.old stage.new }
         ensures done { IfTelling S.Stage stage.old stage.new (λ old new.
             EachStory F.Fn self.old.player.routines self.old.player.game (λ g. (sessions : Sessions) →
             AllMay g sessions → AllStore g sessions old →

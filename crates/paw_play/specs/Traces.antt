@@ -6,7 +6,6 @@ use Rattle.paw_base.specs.Condacts.{name_of}
 use Rattle.paw_base.specs.declared.limits.TheConstants.{STEP_LIMIT}
 use Rattle.paw_reading.specs.Run.{Run, Step}
 use Rattle.paw_reading.specs.Turn.{Ending, WaitsAt, Halted, Unended}
-use Rattle.paw_play.specs.Walk.{EndingOf}
 
 -- ---- the text of steps ----
 

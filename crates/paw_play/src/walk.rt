@@ -12,7 +12,7 @@ ghost use Rattle.paw_stage.specs.Moments.{InShow};
 ghost use Rattle.paw_turn.specs.inner.Player.{IsSeated};
 ghost use Rattle.paw_play.specs.Walk.{EndingOf, Walks};
 ghost use Rattle.paw_play.specs.inner.Telling.{seat_text, with_shown_steps};
-ghost use Rattle.paw_play.specs.inner.OnTheWay.{EachStory, IsWalking, WalksTo, Told, refusal_of};
+ghost use Rattle.paw_play.specs.inner.OnTheWay.{EachStory, IsWalking, StillPlays, WalksTo, Told, refusal_of};
 ghost use Rattle.paw_play.specs.Calls.{walk_calls};
 ghost use Rattle.paw_play.specs.inner.Calls.{IsNotForCall, call_of_end, failed_so_far};
 
@@ -98,12 +98,9 @@ fn walk_line<P: Preface, S: Stage, T: Tables, F: Fn(u8, u8) -> u8>(
     requires seated { IsSeated player.old }
     requires rows { HaveRows F.Fn player.old.routines }
     requires draws { player.old.world.draws + READ_LIMIT < 2 ^ 64 }
-    ensures seated { IsSeated player.new }
-    ensures game { player.new.game ≡ player.old.game }
-    ensures draws { player.new.world.draws ≤ player.old.world.draws + READ_LIMIT }
+    ensures player { StillPlays (player.old.world.draws + READ_LIMIT) player.old player.new }
     ensures serves { FailsOnlyBy S.Stage walk_calls (failed_so_far result) stage.old stage.new }
     ensures refused { IfSome result IsNotForCall }
-    ensures routines { player.new.routines ≡ player.old.routines }
     ensures meaning { IfTelling S.Stage stage.old stage.new (λ old new.
         EachStory F.Fn player.old.routines player.old.game (λ g. (whole : EndingOf) (most n : ℕ) (first : Standing) →
         IsWalking P.telling g whole first old player.old n → n < most →

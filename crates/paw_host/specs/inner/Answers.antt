@@ -1,5 +1,6 @@
 -- What an answer stands on, inside a call.
-use Rattle.std.specs.Prelude.{◌≡◌, ◌≢◌, ◌⊎◌, List, [], ◌∷◌, ◌++◌, length, take, true, reverse, codes, Option, Some, None}
+use Rattle.std.specs.Prelude.{◌≡◌, ◌≢◌, ◌⊎◌, List, [], ◌∷◌, ◌++◌, length, take, true, reverse, codes, Option, Some}
+use Rattle.std.specs.Prelude.{None}
 use Rattle.paw_base.specs.Bytes.{Bytes, Lines, Name, Seed, Text, Texts}
 use Rattle.paw_base.specs.declared.limits.TheConstants.{PIECE_LIMIT}
 use Rattle.paw_stage.specs.Disk.{Disk, MayLeave}

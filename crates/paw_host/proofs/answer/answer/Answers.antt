@@ -11,7 +11,10 @@ use Rattle.paw_host.specs.Replies.{NamedSession, Absent, answer}
 use Rattle.paw_host.specs.Promise.{Stores}
 use Rattle.paw_host.specs.inner.Answers.{Answers, InAnswer, InFile, LeftOf}
 use Rattle.paw_host.proofs.Calls.{writes_answer, reads_answer, attaches_answer}
-use Rattle.paw_host.proofs.Reaching.{in_attach, answer_before, answer_in_new, answer_in_kept, none_stored, no_bytes, attached_still, on_ok, aside_beside, aside_unattached}
+use Rattle.paw_host.proofs.Reaching.{in_attach, answer_before, answer_in_new, answer_in_kept, none_stored, no_bytes}
+use Rattle.paw_host.proofs.Reaching.{attached_still, on_ok, aside_beside, aside_unattached}
+use Rattle.paw_host.proofs.Reaching.{in_attach, answer_before, answer_in_new, answer_in_kept, none_stored, no_bytes}
+use Rattle.paw_host.proofs.Reaching.{attached_still, aside_beside, aside_unattached}
 use Rattle.paw_host.proofs.answer.answer.Given.{Over}
 use Rattle.paw_host.proofs.answer.answer.Goals.{After-attach}
 use Rattle.paw_host.proofs.answer.answer.Goals as goal
@@ -36,39 +39,42 @@ attaches g c tells X before after stores how =
 
 -- ---- the attach failed ----
 
-pub returns-in-Err-clause-serves : goal.returns-in-Err-clause-serves
-returns-in-Err-clause-serves g c = serves_among g.S.Stage _ _ (Some c.in-Err.call) _ _ attaches_answer c.in-Err.ensures.serves
+pub returns-in-Err-clause-leaves : goal.returns-in-Err-clause-leaves
+returns-in-Err-clause-leaves g c = record {
+  serves = serves_among g.S.Stage _ _ (Some c.in-Err.call) _ _ attaches_answer c.in-Err.ensures.serves;
+  beside = λ tells. aside_unattached c.args.store.now _ _ (c.in-Err.ensures.left tells);
+  left = λ tells. tt;
+}
 
-pub returns-in-Err-clause-aside : goal.returns-in-Err-clause-aside
-returns-in-Err-clause-aside g c = λ tells. aside_unattached c.args.store.now _ _ (c.in-Err.ensures.left tells)
-
-pub returns-in-Err-clause-any_moment : goal.returns-in-Err-clause-any_moment
-returns-in-Err-clause-any_moment g c = λ tells X rows before may stores.
-    attaches g (goal.at.returns-in-Err-clause-any_moment g c).After-attach tells X before _ stores (inr (c.in-Err.ensures.left tells))
+pub returns-in-Err-clause-promises : goal.returns-in-Err-clause-promises
+returns-in-Err-clause-promises g c = λ tells X rows before may stores.
+    record {
+      meaning = tt;
+      any_moment =
+          attaches g (goal.at.returns-in-Err-clause-promises g c).After-attach tells X before _ stores (inr (c.in-Err.ensures.left tells));
+    }
 
 -- ---- a new session ----
 
-pub returns-then-at-eq0-clause-serves : goal.returns-then-at-eq0-clause-serves
-returns-then-at-eq0-clause-serves g c =
-    serves_then g.S.Stage _ _ (failed_stage_call c.answer_new.result) _ _ _ c.in-Ok.ensures.serves
-    (serves_among g.S.Stage _ _ (failed_stage_call c.answer_new.result) _ _ writes_answer c.answer_new.ensures.serves)
+pub returns-then-at-eq0-clause-leaves : goal.returns-then-at-eq0-clause-leaves
+returns-then-at-eq0-clause-leaves g c = record {
+  serves =
+      serves_then g.S.Stage _ _ (failed_stage_call c.answer_new.result) _ _ _ c.in-Ok.ensures.serves
+      (serves_among g.S.Stage _ _ (failed_stage_call c.answer_new.result) _ _ writes_answer c.answer_new.ensures.leaves.serves);
+  beside = λ tells.
+      aside_beside c.args.store.now (g.S.Stage.standing c.args.stage.now) (g.S.Stage.standing c.attach.new.stage) (g.S.Stage.standing c.answer_new.new.stage)
+      (c.in-Ok.ensures.attached tells).1 (c.answer_new.ensures.leaves.beside (c.attach.ensures.serves.tells.0 tells));
+  left = λ tells.
+      let now = c.attach.ensures.serves.tells.0 tells in
+      on_ok_weaker c.answer_new.result (λ r. record {
+        stable = r.stable;
+        attached = attached_still c.args.store.now (g.S.Stage.standing c.args.stage.now) (g.S.Stage.standing c.attach.new.stage)
+            (g.S.Stage.standing c.answer_new.new.stage) (c.in-Ok.ensures.attached tells).1 (c.answer_new.ensures.leaves.beside now);
+      }) (c.answer_new.ensures.leaves.left now);
+}
 
-pub returns-then-at-eq0-clause-synced : goal.returns-then-at-eq0-clause-synced
-returns-then-at-eq0-clause-synced g c = λ tells.
-    on_ok_weaker c.answer_new.result (λ r. r.stable) (c.answer_new.ensures.rests (c.attach.ensures.serves.tells.0 tells))
-
-pub returns-then-at-eq0-clause-aside : goal.returns-then-at-eq0-clause-aside
-returns-then-at-eq0-clause-aside g c = λ tells.
-    aside_beside c.args.store.now (g.S.Stage.standing c.args.stage.now) (g.S.Stage.standing c.attach.new.stage) (g.S.Stage.standing c.answer_new.new.stage)
-    (c.in-Ok.ensures.attached tells).1 (c.answer_new.ensures.beside (c.attach.ensures.serves.tells.0 tells))
-
-pub returns-then-at-eq0-clause-attached : goal.returns-then-at-eq0-clause-attached
-returns-then-at-eq0-clause-attached g c = λ tells.
-    on_ok c.answer_new.result (attached_still c.args.store.now (g.S.Stage.standing c.args.stage.now) (g.S.Stage.standing c.attach.new.stage)
-    (g.S.Stage.standing c.answer_new.new.stage) (c.in-Ok.ensures.attached tells).1 (c.answer_new.ensures.beside (c.attach.ensures.serves.tells.0 tells)))
-
-pub returns-then-at-eq0-clause-meaning : goal.returns-then-at-eq0-clause-meaning
-returns-then-at-eq0-clause-meaning g c = λ tells X rows before may stores.
+pub returns-then-at-eq0-clause-promises : goal.returns-then-at-eq0-clause-promises
+returns-then-at-eq0-clause-promises g c = λ tells X rows before may stores.
     let story : Story = story_of c.args.player.now.game X in
     let seed = c.args.hosted.now.seed in
     let name = c.args.store.now in
@@ -79,54 +85,44 @@ returns-then-at-eq0-clause-meaning g c = λ tells X rows before may stores.
     let now = c.attach.ensures.serves.tells.0 tells in
     let a = c.in-Ok.ensures.attached tells in
     let none = none_stored story before (file_bytes old name) (no_bytes (file_bytes old name) (sym a.0 ∙ c.if-at-eq0.true)) stores in
-    let there = g.met.S.Stage.files_hold c.answer_new.new.stage name (c.answer_new.ensures.serves.tells.0 now)
-    (attached_still name old mid new a.1 (c.answer_new.ensures.beside now)) in
-    on_ok_weaker c.answer_new.result
-    (λ h. subst (λ s. Answers story (answer story seed s text) c.args.reply.now c.answer_new.new.reply (file_bytes new name)) (sym none)
-    (subst (λ b. Answers story (answer story seed Absent text) c.args.reply.now c.answer_new.new.reply b) (sym there) h))
-    (c.answer_new.ensures.meaning now X rows)
-
-pub returns-then-at-eq0-clause-any_moment : goal.returns-then-at-eq0-clause-any_moment
-returns-then-at-eq0-clause-any_moment g c = λ tells X rows before may stores.
-    let story : Story = story_of c.args.player.now.game X in
-    let seed = c.args.hosted.now.seed in
-    let name = c.args.store.now in
-    let text = option_copied c.args.text in
-    let old : Standing = g.S.Stage.standing c.args.stage.now in
-    let mid : Standing = g.S.Stage.standing c.attach.new.stage in
-    let now = c.attach.ensures.serves.tells.0 tells in
-    let a = c.in-Ok.ensures.attached tells in
-    let none = none_stored story before (file_bytes old name) (no_bytes (file_bytes old name) (sym a.0 ∙ c.if-at-eq0.true)) stores in
-    let after : Session = (answer story seed before text).session in
-    Passes_on _ _ _ _ _ _ (InAnswer story seed name before after old) _
-    (attaches g (goal.at.returns-then-at-eq0-clause-any_moment g c).After-attach tells X before after stores (inl a.1))
-    (c.answer_new.ensures.any_moment now X rows)
-    (λ m i. answer_in_new story seed name before after old mid m stores none a.1
-    (subst (λ s. InFile (LeftOf story seed Absent (answer story seed s text).session) mid m) (sym none) i))
+    let there = g.met.S.Stage.files_hold c.answer_new.new.stage name (c.answer_new.ensures.leaves.serves.tells.0 now)
+    (attached_still name old mid new a.1 (c.answer_new.ensures.leaves.beside now)) in
+    let after : NamedSession = (answer story seed before text).session in
+    record {
+      meaning =
+          on_ok_weaker c.answer_new.result
+          (λ h. subst (λ s. Answers story (answer story seed s text) c.args.reply.now c.answer_new.new.reply (file_bytes new name)) (sym none)
+          (subst (λ b. Answers story (answer story seed Absent text) c.args.reply.now c.answer_new.new.reply b) (sym there) h))
+          (c.answer_new.ensures.promises now X rows).meaning;
+      any_moment =
+          Passes_on _ _ _ _ _ _ (InAnswer story seed name before after old) _
+          (attaches g (goal.at.returns-then-at-eq0-clause-promises g c).After-attach tells X before after stores (inl a.1))
+          (c.answer_new.ensures.promises now X rows).any_moment
+          (λ m i. answer_in_new story seed name before after old mid m stores none a.1
+          (subst (λ s. InFile (LeftOf story seed Absent (answer story seed s text).session) mid m) (sym none) i));
+    }
 
 -- ---- one that was kept ----
 
-pub returns-else-at-eq0-clause-serves : goal.returns-else-at-eq0-clause-serves
-returns-else-at-eq0-clause-serves g c =
-    serves_then g.S.Stage _ _ (failed_stage_call c.answer_kept.result) _ _ _ c.in-Ok.ensures.serves
-    (serves_among g.S.Stage _ _ (failed_stage_call c.answer_kept.result) _ _ reads_answer c.answer_kept.ensures.serves)
+pub returns-else-at-eq0-clause-leaves : goal.returns-else-at-eq0-clause-leaves
+returns-else-at-eq0-clause-leaves g c = record {
+  serves =
+      serves_then g.S.Stage _ _ (failed_stage_call c.answer_kept.result) _ _ _ c.in-Ok.ensures.serves
+      (serves_among g.S.Stage _ _ (failed_stage_call c.answer_kept.result) _ _ reads_answer c.answer_kept.ensures.leaves.serves);
+  beside = λ tells.
+      aside_beside c.args.store.now (g.S.Stage.standing c.args.stage.now) (g.S.Stage.standing c.attach.new.stage) (g.S.Stage.standing c.answer_kept.new.stage)
+      (c.in-Ok.ensures.attached tells).1 (c.answer_kept.ensures.leaves.beside (c.attach.ensures.serves.tells.0 tells));
+  left = λ tells.
+      let now = c.attach.ensures.serves.tells.0 tells in
+      on_ok_weaker c.answer_kept.result (λ r. record {
+        stable = r.stable;
+        attached = attached_still c.args.store.now (g.S.Stage.standing c.args.stage.now) (g.S.Stage.standing c.attach.new.stage)
+            (g.S.Stage.standing c.answer_kept.new.stage) (c.in-Ok.ensures.attached tells).1 (c.answer_kept.ensures.leaves.beside now);
+      }) (c.answer_kept.ensures.leaves.left now);
+}
 
-pub returns-else-at-eq0-clause-synced : goal.returns-else-at-eq0-clause-synced
-returns-else-at-eq0-clause-synced g c = λ tells.
-    on_ok_weaker c.answer_kept.result (λ r. r.stable) (c.answer_kept.ensures.rests (c.attach.ensures.serves.tells.0 tells))
-
-pub returns-else-at-eq0-clause-aside : goal.returns-else-at-eq0-clause-aside
-returns-else-at-eq0-clause-aside g c = λ tells.
-    aside_beside c.args.store.now (g.S.Stage.standing c.args.stage.now) (g.S.Stage.standing c.attach.new.stage) (g.S.Stage.standing c.answer_kept.new.stage)
-    (c.in-Ok.ensures.attached tells).1 (c.answer_kept.ensures.beside (c.attach.ensures.serves.tells.0 tells))
-
-pub returns-else-at-eq0-clause-attached : goal.returns-else-at-eq0-clause-attached
-returns-else-at-eq0-clause-attached g c = λ tells.
-    on_ok c.answer_kept.result (attached_still c.args.store.now (g.S.Stage.standing c.args.stage.now) (g.S.Stage.standing c.attach.new.stage)
-    (g.S.Stage.standing c.answer_kept.new.stage) (c.in-Ok.ensures.attached tells).1 (c.answer_kept.ensures.beside (c.attach.ensures.serves.tells.0 tells)))
-
-pub returns-else-at-eq0-clause-meaning : goal.returns-else-at-eq0-clause-meaning
-returns-else-at-eq0-clause-meaning g c = λ tells X rows before may stores.
+pub returns-else-at-eq0-clause-promises : goal.returns-else-at-eq0-clause-promises
+returns-else-at-eq0-clause-promises g c = λ tells X rows before may stores.
     let story : Story = story_of c.args.player.now.game X in
     let name = c.args.store.now in
     let old : Standing = g.S.Stage.standing c.args.stage.now in
@@ -134,25 +130,19 @@ returns-else-at-eq0-clause-meaning g c = λ tells X rows before may stores.
     let new : Standing = g.S.Stage.standing c.answer_kept.new.stage in
     let now = c.attach.ensures.serves.tells.0 tells in
     let a = c.in-Ok.ensures.attached tells in
-    let there = g.met.S.Stage.files_hold c.answer_kept.new.stage name (c.answer_kept.ensures.serves.tells.0 now)
-    (attached_still name old mid new a.1 (c.answer_kept.ensures.beside now)) in
+    let there = g.met.S.Stage.files_hold c.answer_kept.new.stage name (c.answer_kept.ensures.leaves.serves.tells.0 now)
+    (attached_still name old mid new a.1 (c.answer_kept.ensures.leaves.beside now)) in
     let here = subst (λ (q : Standing). Stores story before q.disk.bytes) (sym a.1) stores in
-    on_ok_weaker c.answer_kept.result
-    (λ h. subst (λ b. Answers story (answer story c.args.hosted.now.seed before (option_copied c.args.text)) c.args.reply.now c.answer_kept.new.reply b) (sym there) h)
-    (c.answer_kept.ensures.meaning now X rows before may here)
-
-pub returns-else-at-eq0-clause-any_moment : goal.returns-else-at-eq0-clause-any_moment
-returns-else-at-eq0-clause-any_moment g c = λ tells X rows before may stores.
-    let story : Story = story_of c.args.player.now.game X in
     let seed = c.args.hosted.now.seed in
-    let name = c.args.store.now in
-    let old : Standing = g.S.Stage.standing c.args.stage.now in
-    let mid : Standing = g.S.Stage.standing c.attach.new.stage in
-    let now = c.attach.ensures.serves.tells.0 tells in
-    let a = c.in-Ok.ensures.attached tells in
-    let after : Session = (answer story seed before (option_copied c.args.text)).session in
-    let here = subst (λ (q : Standing). Stores story before q.disk.bytes) (sym a.1) stores in
-    Passes_on _ _ _ _ _ _ (InAnswer story seed name before after old) _
-    (attaches g (goal.at.returns-else-at-eq0-clause-any_moment g c).After-attach tells X before after stores (inl a.1))
-    (c.answer_kept.ensures.any_moment now X rows before may here)
-    (λ m i. answer_in_kept story seed name before after old mid m stores a.1 i)
+    let after : NamedSession = (answer story seed before (option_copied c.args.text)).session in
+    record {
+      meaning =
+          on_ok_weaker c.answer_kept.result
+          (λ h. subst (λ b. Answers story (answer story c.args.hosted.now.seed before (option_copied c.args.text)) c.args.reply.now c.answer_kept.new.reply b) (sym there) h)
+          (c.answer_kept.ensures.promises now X rows before may here).meaning;
+      any_moment =
+          Passes_on _ _ _ _ _ _ (InAnswer story seed name before after old) _
+          (attaches g (goal.at.returns-else-at-eq0-clause-promises g c).After-attach tells X before after stores (inl a.1))
+          (c.answer_kept.ensures.promises now X rows before may here).any_moment
+          (λ m i. answer_in_kept story seed name before after old mid m stores a.1 i);
+    }

@@ -1,4 +1,4 @@
-use Rattle.std.proofs.Common.{◌≡◌, ◌++◌, ◌∙◌, List, ℕ, sym, ap, subst}
+use Rattle.std.proofs.Common.{◌≡◌, ◌++◌, ◌∙◌, List, ℕ, refl, sym, ap, subst}
 use Rattle.paw_stage.specs.Stage.{Standing}
 use Rattle.paw_stage.proofs.Time.{Passes_map, Passes_none}
 use Rattle.paw_journal.proofs.Moved.{beside_none}
@@ -20,55 +20,62 @@ same_digests a b c d e f = ap (λ x. digests_of x b) e ∙ ap (digests_of c) f
 same_shown : (d e : Digests) (s t p q : List ℕ) → d ≡ e → s ≡ t → p ≡ q → ◌≡◌ {A = Recovered} (Shown d s p) (Shown e t q)
 same_shown d e s t p q a b c = ap (λ x. Shown x s p) a ∙ ap (λ x. Shown e x p) b ∙ ap (λ x. Shown e t x) c
 
-pub returns-in-Some-clause-serves : goal.returns-in-Some-clause-serves
-returns-in-Some-clause-serves g c = serves_none g.S.Stage _ _
+pub returns-in-Some-clause-leaves : goal.returns-in-Some-clause-leaves
+returns-in-Some-clause-leaves g c =
+    record { serves = serves_none g.S.Stage _ _; beside = λ tells. beside_none _; left = λ tells. refl }
 
-pub returns-in-Some-clause-beside : goal.returns-in-Some-clause-beside
-returns-in-Some-clause-beside g c = λ tells. beside_none _
+pub returns-in-Err-clause-leaves : goal.returns-in-Err-clause-leaves
+returns-in-Err-clause-leaves g c =
+    record { serves = c.in-Err.ensures.serves; beside = c.create.ensures.beside; left = λ tells. tt }
 
-pub returns-in-Some-clause-meaning : goal.returns-in-Some-clause-meaning
-returns-in-Some-clause-meaning g c = λ tells X rows.
+pub returns-clause-leaves : goal.returns-clause-leaves
+returns-clause-leaves g c =
+    record { serves = c.in-Ok.ensures.serves; beside = c.create.ensures.beside; left = c.in-Ok.ensures.kept }
+
+pub returns-in-Some-clause-promises : goal.returns-in-Some-clause-promises
+returns-in-Some-clause-promises g c = λ tells X rows.
     let r = first_refused (story_of c.args.player.now.game X) c.args.seed c.start_anew-step.result c.start_anew-step.new.player c.start_anew-step.ensures.last
     c.start_anew-step.ensures.anew.stays.seated (c.start_anew-step.ensures.meaning X rows) c.in-Some.word.now c.in-Some.ensures.value in
-    (ap (λ (a : Answer). a.session) r, c.push.ensures.value ∙ ap (λ (a : Answer). c.args.reply.now ++ a.body) (sym r))
+    record {
+      meaning = (ap (λ (a : Answer). a.session) r, c.push.ensures.value ∙ ap (λ (a : Answer). c.args.reply.now ++ a.body) (sym r));
+      any_moment = Passes_none _ _ _;
+    }
 
-pub returns-in-Some-clause-any_moment : goal.returns-in-Some-clause-any_moment
-returns-in-Some-clause-any_moment g c = λ tells X rows. Passes_none _ _ _
-
-pub returns-in-Err-clause-any_moment : goal.returns-in-Err-clause-any_moment
-returns-in-Err-clause-any_moment g c = λ tells X rows.
+pub returns-in-Err-clause-promises : goal.returns-in-Err-clause-promises
+returns-in-Err-clause-promises g c = λ tells X rows.
     let story : Story = story_of c.args.player.now.game X in
     let old : Standing = g.S.Stage.standing c.args.stage.now in
     let shows = shows_by c.start_anew-step.result c.in_default.ensures.value in
-    Passes_map _ _ _ _ _ (InFile (LeftOfBeginning story c.args.seed) old) (c.create.ensures.any_moment tells)
-    (λ m i. in_beginning story c.args.seed c.start_anew-step.result c.start_anew-step.new.player c.start_anew-step.ensures.last c.start_anew-step.ensures.anew.stays.seated
-    (c.start_anew-step.ensures.meaning X rows) _ old m shows c.put_state.ensures.state
-    (subst (λ p. LeavesMade (story_digests story) c.put_state.new.into p old m) c.piece.ensures.value
-    (subst (λ d. LeavesMade d c.put_state.new.into c.piece.result.now old m)
-    (same_digests _ _ _ _ c.requires.digests.digest (c.requires.digests.measured X rows)) i)))
+    record {
+      meaning = tt;
+      any_moment = Passes_map _ _ _ _ _ (InFile (LeftOfBeginning story c.args.seed) old) (c.create.ensures.any_moment tells)
+          (λ m i. in_beginning story c.args.seed c.start_anew-step.result c.start_anew-step.new.player c.start_anew-step.ensures.last c.start_anew-step.ensures.anew.stays.seated
+          (c.start_anew-step.ensures.meaning X rows) _ old m shows c.put_state.ensures.state
+          (subst (λ p. LeavesMade (story_digests story) c.put_state.new.into p old m) c.piece.ensures.value
+          (subst (λ d. LeavesMade d c.put_state.new.into c.piece.result.now old m)
+          (same_digests _ _ _ _ c.requires.player.digests.digest (c.requires.player.digests.measured X rows)) i)));
+    }
 
-pub returns-clause-meaning : goal.returns-clause-meaning
-returns-clause-meaning g c = λ tells X rows.
+pub returns-clause-promises : goal.returns-clause-promises
+returns-clause-promises g c = λ tells X rows.
     let story : Story = story_of c.args.player.now.game X in
+    let old : Standing = g.S.Stage.standing c.args.stage.now in
     let shows = shows_by c.start_anew-step.result c.in_default.ensures.value in
     let plays = c.start_anew-step.ensures.meaning X rows in
     let r = first_answer story c.args.seed c.start_anew-step.result c.start_anew-step.new.player c.start_anew-step.ensures.last
-    c.start_anew-step.ensures.anew.stays.seated plays shows in (
-      sits story c.args.seed c.start_anew-step.result c.start_anew-step.new.player c.start_anew-step.ensures.last c.start_anew-step.ensures.anew.stays.seated plays shows,
-      first_stands story c.args.seed c.start_anew-step.result c.start_anew-step.new.player c.start_anew-step.ensures.last c.start_anew-step.ensures.anew.stays.seated plays _ shows
-          (c.in-Ok.ensures.shown tells ∙ same_shown _ _ _ _ _ _ (same_digests _ _ _ _ c.requires.digests.digest (c.requires.digests.measured X rows)) c.put_state.ensures.state c.piece.ensures.value),
-      ap (λ (a : Answer). a.session) r,
-      c.push-2.ensures.value ∙ ap (λ x. c.args.reply.now ++ x) c.piece-2.ensures.value ∙ ap (λ (a : Answer). c.args.reply.now ++ a.body) (sym r),
-    )
-
-pub returns-clause-any_moment : goal.returns-clause-any_moment
-returns-clause-any_moment g c = λ tells X rows.
-    let story : Story = story_of c.args.player.now.game X in
-    let old : Standing = g.S.Stage.standing c.args.stage.now in
-    let shows = shows_by c.start_anew-step.result c.in_default.ensures.value in
-    Passes_map _ _ _ _ _ (InFile (LeftOfBeginning story c.args.seed) old) (c.create.ensures.any_moment tells)
-    (λ m i. in_beginning story c.args.seed c.start_anew-step.result c.start_anew-step.new.player c.start_anew-step.ensures.last c.start_anew-step.ensures.anew.stays.seated
-    (c.start_anew-step.ensures.meaning X rows) _ old m shows c.put_state.ensures.state
-    (subst (λ p. LeavesMade (story_digests story) c.put_state.new.into p old m) c.piece.ensures.value
-    (subst (λ d. LeavesMade d c.put_state.new.into c.piece.result.now old m)
-    (same_digests _ _ _ _ c.requires.digests.digest (c.requires.digests.measured X rows)) i)))
+    c.start_anew-step.ensures.anew.stays.seated plays shows in
+    record {
+      meaning = (
+        sits story c.args.seed c.start_anew-step.result c.start_anew-step.new.player c.start_anew-step.ensures.last c.start_anew-step.ensures.anew.stays.seated plays shows,
+        first_stands story c.args.seed c.start_anew-step.result c.start_anew-step.new.player c.start_anew-step.ensures.last c.start_anew-step.ensures.anew.stays.seated plays _ shows
+            (c.in-Ok.ensures.shown tells ∙ same_shown _ _ _ _ _ _ (same_digests _ _ _ _ c.requires.player.digests.digest (c.requires.player.digests.measured X rows)) c.put_state.ensures.state c.piece.ensures.value),
+        ap (λ (a : Answer). a.session) r,
+        c.push-2.ensures.value ∙ ap (λ x. c.args.reply.now ++ x) c.piece-2.ensures.value ∙ ap (λ (a : Answer). c.args.reply.now ++ a.body) (sym r),
+      );
+      any_moment = Passes_map _ _ _ _ _ (InFile (LeftOfBeginning story c.args.seed) old) (c.create.ensures.any_moment tells)
+          (λ m i. in_beginning story c.args.seed c.start_anew-step.result c.start_anew-step.new.player c.start_anew-step.ensures.last c.start_anew-step.ensures.anew.stays.seated
+          (c.start_anew-step.ensures.meaning X rows) _ old m shows c.put_state.ensures.state
+          (subst (λ p. LeavesMade (story_digests story) c.put_state.new.into p old m) c.piece.ensures.value
+          (subst (λ d. LeavesMade d c.put_state.new.into c.piece.result.now old m)
+          (same_digests _ _ _ _ c.requires.player.digests.digest (c.requires.player.digests.measured X rows)) i)));
+    }

@@ -19,50 +19,56 @@ use Rattle.paw_host.proofs.answer.take_text.Given.{Over}
 use Rattle.paw_host.proofs.answer.take_text.Goals.{After-commit}
 use Rattle.paw_host.proofs.answer.take_text.Goals as goal
 
-pub returns-then-is_over-clause-serves : goal.returns-then-is_over-clause-serves
-returns-then-is_over-clause-serves g c = serves_none g.S.Stage _ _
+pub returns-then-is_over-clause-leaves : goal.returns-then-is_over-clause-leaves
+returns-then-is_over-clause-leaves g c = record {
+  serves = serves_none g.S.Stage _ _;
+  beside = λ tells. beside_none _;
+  left = λ tells. (c.requires.kept tells).rests;
+}
 
-pub returns-then-is_over-clause-beside : goal.returns-then-is_over-clause-beside
-returns-then-is_over-clause-beside g c = λ tells. beside_none _
+pub returns-then-is_over-clause-promises : goal.returns-then-is_over-clause-promises
+returns-then-is_over-clause-promises g c = λ tells X rows seed es s count stands.
+    record {
+      meaning =
+          rw (over_answer s c.requires.player.seated c.args.text.now c.if-is_over.ensures.cases) (record { body = c.push.ensures.value; stores = stands });
+      any_moment = Passes_none _ _ _;
+    }
 
-pub returns-then-is_over-clause-meaning : goal.returns-then-is_over-clause-meaning
-returns-then-is_over-clause-meaning g c = λ tells X rows seed es s count stands.
-    rw (over_answer s c.requires.seated c.args.text.now c.if-is_over.ensures.cases) (record { body = c.push.ensures.value; stores = stands })
+pub returns-then-is_full-clause-leaves : goal.returns-then-is_full-clause-leaves
+returns-then-is_full-clause-leaves g c = record {
+  serves = serves_none g.S.Stage _ _;
+  beside = λ tells. beside_none _;
+  left = λ tells. (c.requires.kept tells).rests;
+}
 
-pub returns-then-is_over-clause-any_moment : goal.returns-then-is_over-clause-any_moment
-returns-then-is_over-clause-any_moment g c = λ tells X rows seed es s count stands. Passes_none _ _ _
+pub returns-then-is_full-clause-promises : goal.returns-then-is_full-clause-promises
+returns-then-is_full-clause-promises g c = λ tells X rows seed es s count stands.
+    record {
+      meaning =
+          rw (full_answer s c.requires.player.seated c.args.text.now (prompt_at c.args.player.now.last) c.if-is_over.ensures.cases
+          (omega (arith, c.if-is_full.ensures.cases, count))) (record { body = c.push-then-is_full.ensures.value; stores = stands });
+      any_moment = Passes_none _ _ _;
+    }
 
-pub returns-then-is_full-clause-serves : goal.returns-then-is_full-clause-serves
-returns-then-is_full-clause-serves g c = serves_none g.S.Stage _ _
+pub returns-in-Some-clause-leaves : goal.returns-in-Some-clause-leaves
+returns-in-Some-clause-leaves g c = record {
+  serves = serves_none g.S.Stage _ _;
+  beside = λ tells. beside_none _;
+  left = λ tells. (c.requires.kept tells).rests;
+}
 
-pub returns-then-is_full-clause-beside : goal.returns-then-is_full-clause-beside
-returns-then-is_full-clause-beside g c = λ tells. beside_none _
-
-pub returns-then-is_full-clause-meaning : goal.returns-then-is_full-clause-meaning
-returns-then-is_full-clause-meaning g c = λ tells X rows seed es s count stands.
-    rw (full_answer s c.requires.seated c.args.text.now (prompt_at c.args.player.now.last) c.if-is_over.ensures.cases
-    (omega (arith, c.if-is_full.ensures.cases, count))) (record { body = c.push-then-is_full.ensures.value; stores = stands })
-
-pub returns-then-is_full-clause-any_moment : goal.returns-then-is_full-clause-any_moment
-returns-then-is_full-clause-any_moment g c = λ tells X rows seed es s count stands. Passes_none _ _ _
-
-pub returns-in-Some-clause-serves : goal.returns-in-Some-clause-serves
-returns-in-Some-clause-serves g c = serves_none g.S.Stage _ _
-
-pub returns-in-Some-clause-beside : goal.returns-in-Some-clause-beside
-returns-in-Some-clause-beside g c = λ tells. beside_none _
-
-pub returns-in-Some-clause-meaning : goal.returns-in-Some-clause-meaning
-returns-in-Some-clause-meaning g c = λ tells X rows seed es s count stands.
+pub returns-in-Some-clause-promises : goal.returns-in-Some-clause-promises
+returns-in-Some-clause-promises g c = λ tells X rows seed es s count stands.
     let p = prompt_at c.args.player.now.last in
     let last = c.if-is_over.ensures.cases in
     let few : length es < EVENT_LIMIT = omega (arith, c.if-is_full.ensures.cases, count) in
-    rw (refused_answer s c.requires.seated c.args.text.now p last few c.take-step.result c.take-step.new.self c.take-step.ensures.last c.take-step.ensures.seated
-    (c.take-step.ensures.meaning X rows p last s.pieces s.traces) c.in-Some.word.now c.in-Some.ensures.value)
-    (record { body = c.push-in-Some.ensures.value; stores = stands })
-
-pub returns-in-Some-clause-any_moment : goal.returns-in-Some-clause-any_moment
-returns-in-Some-clause-any_moment g c = λ tells X rows seed es s count stands. Passes_none _ _ _
+    record {
+      meaning =
+          rw (refused_answer s c.requires.player.seated c.args.text.now p last few c.take-step.result c.take-step.new.self c.take-step.ensures.last c.take-step.ensures.seated
+          (c.take-step.ensures.meaning X rows p last s.pieces s.traces) c.in-Some.word.now c.in-Some.ensures.value)
+          (record { body = c.push-in-Some.ensures.value; stores = stands });
+      any_moment = Passes_none _ _ _;
+    }
 
 -- whether the commit was done or failed, its moments are of the line that was taken
 commits : (g : Over) (c : After-commit g) (tells : g.S.Stage.Tells c.args.stage.now) (X : List (List ℕ))
@@ -81,38 +87,45 @@ commits g c tells X rows seed es s count stands =
     let shows = shows_by c.take-step.result c.in_default.ensures.value in
     Passes_map _ _ _ _ _ (InFile (StoresEither story (At seed es) (answer_taking story seed es c.args.text.now).session) old)
     (c.commit.ensures.any_moment tells)
-    (λ m i. in_taking s c.requires.seated c.args.text.now p last few c.take-step.result c.take-step.new.self c.take-step.ensures.last c.take-step.ensures.seated plays
+    (λ m i. in_taking s c.requires.player.seated c.args.text.now p last few c.take-step.result c.take-step.new.self c.take-step.ensures.last c.take-step.ensures.seated plays
     (c.args.opened.events + 1) old m shows (omega (arith, count)) stands _ _ (c.requires.kept tells).shown i)
 
-pub returns-in-Err-clause-any_moment : goal.returns-in-Err-clause-any_moment
-returns-in-Err-clause-any_moment g c = λ tells X rows seed es s count stands.
-    commits g (goal.at.returns-in-Err-clause-any_moment g c).After-commit tells X rows seed es s count stands
+pub returns-in-Err-clause-leaves : goal.returns-in-Err-clause-leaves
+returns-in-Err-clause-leaves g c = record {
+  serves = c.in-Err.ensures.serves;
+  beside = c.commit.ensures.beside;
+  left = λ tells. tt;
+}
 
-pub returns-clause-meaning : goal.returns-clause-meaning
-returns-clause-meaning g c = λ tells X rows seed es s count stands.
+pub returns-in-Err-clause-promises : goal.returns-in-Err-clause-promises
+returns-in-Err-clause-promises g c = λ tells X rows seed es s count stands.
+    record {
+      meaning = tt;
+      any_moment =
+          commits g (goal.at.returns-in-Err-clause-promises g c).After-commit tells X rows seed es s count stands;
+    }
+
+pub returns-clause-leaves : goal.returns-clause-leaves
+returns-clause-leaves g c = record {
+  serves = c.in-Ok.ensures.serves;
+  beside = c.commit.ensures.beside;
+  left = λ tells. (c.in-Ok.ensures.kept tells).rests;
+}
+
+pub returns-clause-promises : goal.returns-clause-promises
+returns-clause-promises g c = λ tells X rows seed es s count stands.
     let p = prompt_at c.args.player.now.last in
     let last = c.if-is_over.ensures.cases in
     let few : length es < EVENT_LIMIT = omega (arith, c.if-is_full.ensures.cases, count) in
     let plays = c.take-step.ensures.meaning X rows p last s.pieces s.traces in
     let shows = shows_by c.take-step.result c.in_default.ensures.value in
     let next = c.take-step.new.self in
-    took s c.requires.seated c.args.text.now p last few c.take-step.result next c.take-step.ensures.last c.take-step.ensures.seated plays
-    stands.digests c.args.reply.now _ _ (c.args.opened.events + 1) stands.belongs shows (omega (arith, count))
-    (c.in-Ok.ensures.shown tells ∙ ap (λ d. Shown d (seat_state (c.args.opened.events + 1) next) next.piece) (digests_are (story_of c.args.player.now.game X) seed es _ _ _ stands (c.requires.kept tells).shown))
-    (c.push-2.ensures.value ∙ ap (λ x. c.args.reply.now ++ x) c.piece.ensures.value)
-
-pub returns-clause-any_moment : goal.returns-clause-any_moment
-returns-clause-any_moment g c = λ tells X rows seed es s count stands.
-    commits g (goal.at.returns-clause-any_moment g c).After-commit tells X rows seed es s count stands
-
-pub returns-then-is_over-clause-rests : goal.returns-then-is_over-clause-rests
-returns-then-is_over-clause-rests g c = λ tells. (c.requires.kept tells).rests
-
-pub returns-then-is_full-clause-rests : goal.returns-then-is_full-clause-rests
-returns-then-is_full-clause-rests g c = λ tells. (c.requires.kept tells).rests
-
-pub returns-in-Some-clause-rests : goal.returns-in-Some-clause-rests
-returns-in-Some-clause-rests g c = λ tells. (c.requires.kept tells).rests
-
-pub returns-clause-rests : goal.returns-clause-rests
-returns-clause-rests g c = λ tells. (c.in-Ok.ensures.kept tells).rests
+    record {
+      meaning =
+          took s c.requires.player.seated c.args.text.now p last few c.take-step.result next c.take-step.ensures.last c.take-step.ensures.seated plays
+          stands.digests c.args.reply.now _ _ (c.args.opened.events + 1) stands.belongs shows (omega (arith, count))
+          (c.in-Ok.ensures.shown tells ∙ ap (λ d. Shown d (seat_state (c.args.opened.events + 1) next) next.piece) (digests_are (story_of c.args.player.now.game X) seed es _ _ _ stands (c.requires.kept tells).shown))
+          (c.push-2.ensures.value ∙ ap (λ x. c.args.reply.now ++ x) c.piece.ensures.value);
+      any_moment =
+          commits g (goal.at.returns-clause-promises g c).After-commit tells X rows seed es s count stands;
+    }

@@ -10,10 +10,12 @@ use Rattle.paw_host.proofs.host.host_game.Goals as goal
 
 pub serve_all-requires-clause-hosted : goal.serve_all-requires-clause-hosted
 serve_all-requires-clause-hosted g c = record {
-  seated = c.in-Ok.ensures.seated;
-  rows = subst (HaveRows g.F.Fn) (sym c.in-Ok.ensures.routines) c.requires.rows;
+  prepared = record {
+    seated = c.in-Ok.ensures.seated;
+    rows = subst (HaveRows g.F.Fn) (sym c.in-Ok.ensures.routines) c.requires.rows;
+    digests = digests_on g.F.Fn _ _ _ _ _ _ (sym c.in-Ok.ensures.game) (sym c.in-Ok.ensures.routines) c.requires.digests;
+  };
   same = c.in-Ok.ensures.game;
-  digests = digests_on g.F.Fn _ _ _ _ _ _ (sym c.in-Ok.ensures.game) (sym c.in-Ok.ensures.routines) c.requires.digests;
 }
 
 pub returns-in-Ok-clause-meaning : goal.returns-in-Ok-clause-meaning

@@ -4,7 +4,6 @@ use Rattle.paw_stage.proofs.Time.{Passes_on, Passes_none}
 use Rattle.paw_stage.specs.Across.{InTwoParts}
 use Rattle.sha2.specs.Sha256.{sha256}
 use Rattle.paw_game.specs.Image.{image}
-use Rattle.paw_routines.specs.Measure.{measure}
 use Rattle.paw_journal.specs.Session.{Digests, BelongsTo, recover, kept_digests}
 use Rattle.paw_journal.specs.inner.Journal.{IsSessionRefused}
 use Rattle.paw_effects.specs.Story.{Story, story_of}
@@ -17,7 +16,8 @@ use Rattle.paw_play.specs.inner.OnTheWay.{IsRestingStore, end_of}
 use Rattle.paw_play.proofs.Attaching.{store_attached}
 use Rattle.paw_play.proofs.Standing.{is_shown, again_goes_on}
 use Rattle.paw_play.proofs.Parts.{attach_failed}
-use Rattle.paw_play.proofs.Again.{taken_up_again, found_again, in_taking_up, refused_again, not_for_call, serves_refused}
+use Rattle.paw_play.proofs.Again.{taken_up_again, found_again, in_taking_up, refused_again, not_for_call}
+use Rattle.paw_play.proofs.Again.{serves_refused}
 use Rattle.paw_stage.specs.declared.StageCall.TheVariants as call
 use Rattle.paw_journal.proofs.Serving.{in_front, serves_among, serves_still, serves_then, the_only_one}
 use Rattle.paw_play.specs.Calls.{play_calls}

@@ -17,11 +17,11 @@ pub loop-preserved : goal.loop-preserved
 loop-preserved g c =
     let after_walk_line = g.S.Stage.standing c.walk_line.new.stage in
     record {
-      seated = c.walk_line.ensures.seated;
-      game = c.walk_line.ensures.game ∙ c.loop.invariant.game;
-      routines = c.walk_line.ensures.routines ∙ c.loop.invariant.routines;
-      rows = rw c.walk_line.ensures.routines c.loop.invariant.rows;
-      draws = omega (arith, c.walk_line.ensures.draws, c.loop.invariant.draws);
+      seated = c.walk_line.ensures.player.seated;
+      game = c.walk_line.ensures.player.game ∙ c.loop.invariant.game;
+      routines = c.walk_line.ensures.player.routines ∙ c.loop.invariant.routines;
+      rows = rw c.walk_line.ensures.player.routines c.loop.invariant.rows;
+      draws = omega (arith, c.walk_line.ensures.player.drew, c.loop.invariant.draws);
       serves = serves_then g.S.Stage _ _ None _ _ _ c.loop.invariant.serves c.in_default.ensures.serves;
       walking = λ tells X rows whole first start.
           let w = c.loop.invariant.walking tells X rows whole first start in
@@ -30,7 +30,7 @@ loop-preserved g c =
           EVENT_LIMIT c.loop.counter first w few in
           let n : suc c.loop.counter ≡ c.loop.counter + 1 = omega arith in
           subst (λ k. IsWalking g.P.Preface.telling (story_of k X) whole first after_walk_line c.walk_line.new.player (c.loop.counter + 1))
-          (sym c.walk_line.ensures.game)
+          (sym c.walk_line.ensures.player.game)
           (subst (λ k. IsWalking g.P.Preface.telling (story_of c.loop.player.game X) whole first after_walk_line c.walk_line.new.player k) n on);
     }
 

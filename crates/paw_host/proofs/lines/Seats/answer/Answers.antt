@@ -13,11 +13,19 @@ use Rattle.paw_host.proofs.lines.Seats.answer.Goals as goal
 pub begin-requires : goal.begin-requires
 begin-requires g c = record { short = leb-true (length c.args.request.name.now) 16 (name_short c.args.request.name.now c.requires.name) }
 
-pub returns-in-Err-clause-lines : goal.returns-in-Err-clause-lines
-returns-in-Err-clause-lines g c = λ tells. let a = c.answer.ensures.aside tells in record { lines = a.lines; asked = a.asked }
+pub returns-in-Err-clause-leaves : goal.returns-in-Err-clause-leaves
+returns-in-Err-clause-leaves g c = record {
+  serves = c.in-Err.ensures.leaves.serves;
+  beside = λ tells. let a = c.answer.ensures.leaves.beside tells in record { lines = a.lines; asked = a.asked };
+  left = λ tells. tt;
+}
 
-pub returns-clause-lines : goal.returns-clause-lines
-returns-clause-lines g c = λ tells. let a = c.answer.ensures.aside tells in record { lines = a.lines; asked = a.asked }
+pub returns-clause-leaves : goal.returns-clause-leaves
+returns-clause-leaves g c = record {
+  serves = c.in-Ok.ensures.leaves.serves;
+  beside = λ tells. let a = c.answer.ensures.leaves.beside tells in record { lines = a.lines; asked = a.asked };
+  left = λ tells. (c.in-Ok.ensures.leaves.left tells).stable;
+}
 
 pub returns-clause-done : goal.returns-clause-done
 returns-clause-done g c = λ tells X rows sessions may stores.
@@ -28,7 +36,8 @@ returns-clause-done g c = λ tells X rows sessions may stores.
     let old = g.S.Stage.standing c.args.stage.now in
     let here = subst (λ x. Stores story (sessions name) (file_bytes old x)) (sym is) (stores name c.requires.name) in
     does_request story c.args.hosted.now.seed sessions old _ (asks c.args.request) store _ _ _ stores c.requires.name is
-    (c.answer.ensures.aside tells) (c.in-Ok.ensures.attached tells) c.begin.ensures.value (c.in-Ok.ensures.meaning tells X rows (sessions name) (may name c.requires.name) here)
+    (c.answer.ensures.leaves.beside tells) (c.in-Ok.ensures.leaves.left tells).attached c.begin.ensures.value
+    (c.in-Ok.ensures.promises tells X rows (sessions name) (may name c.requires.name) here).meaning
     c.push.ensures.value
 
 pub returns-in-Err-clause-any_moment : goal.returns-in-Err-clause-any_moment
@@ -38,7 +47,7 @@ returns-in-Err-clause-any_moment g c = λ tells X rows sessions may stores.
     let is = c.as_str.ensures.value ∙ c.set.ensures.value in
     let old = g.S.Stage.standing c.args.stage.now in
     let here = subst (λ x. Stores story (sessions name) (file_bytes old x)) (sym is) (stores name c.requires.name) in
-    Passes_map _ _ _ _ _ (Doing story c.args.hosted.now.seed sessions _ old) (c.answer.ensures.any_moment tells X rows (sessions name) (may name c.requires.name) here)
+    Passes_map _ _ _ _ _ (Doing story c.args.hosted.now.seed sessions _ old) (c.answer.ensures.promises tells X rows (sessions name) (may name c.requires.name) here).any_moment
     (λ m i. doing_request story c.args.hosted.now.seed sessions old (asks c.args.request) c.as_str.result.now m stores is i)
 
 pub returns-clause-any_moment : goal.returns-clause-any_moment
@@ -48,5 +57,5 @@ returns-clause-any_moment g c = λ tells X rows sessions may stores.
     let is = c.as_str.ensures.value ∙ c.set.ensures.value in
     let old = g.S.Stage.standing c.args.stage.now in
     let here = subst (λ x. Stores story (sessions name) (file_bytes old x)) (sym is) (stores name c.requires.name) in
-    Passes_map _ _ _ _ _ (Doing story c.args.hosted.now.seed sessions _ old) (c.answer.ensures.any_moment tells X rows (sessions name) (may name c.requires.name) here)
+    Passes_map _ _ _ _ _ (Doing story c.args.hosted.now.seed sessions _ old) (c.answer.ensures.promises tells X rows (sessions name) (may name c.requires.name) here).any_moment
     (λ m i. doing_request story c.args.hosted.now.seed sessions old (asks c.args.request) c.as_str.result.now m stores is i)

@@ -28,18 +28,18 @@ returns-in-Failed-clause-serves g c = record { tells = c.ask.ensures.tells; faul
 pub returns-in-Err-clause-serves : goal.returns-in-Err-clause-serves
 returns-in-Err-clause-serves g c =
     serves_then g.S.Stage _ _ (Some c.in-Err.call) _ _ _ (serves_done g.S.Stage _ _ c.ask.ensures.tells c.in-Line.ensures.faulted)
-    (serves_among g.S.Stage _ _ (Some c.in-Err.call) _ _ answers_serve c.in-Err.ensures.serves)
+    (serves_among g.S.Stage _ _ (Some c.in-Err.call) _ _ answers_serve c.in-Err.ensures.leaves.serves)
 
 pub returns-in-Ok-show-clause-serves : goal.returns-in-Ok-show-clause-serves
 returns-in-Ok-show-clause-serves g c =
     serves_then g.S.Stage _ _ None _ _ _ (serves_then g.S.Stage _ _ None _ _ _
-    (serves_done g.S.Stage _ _ c.ask.ensures.tells c.in-Line.ensures.faulted) c.in-Ok.ensures.serves)
+    (serves_done g.S.Stage _ _ c.ask.ensures.tells c.in-Line.ensures.faulted) c.in-Ok.ensures.leaves.serves)
     (serves_among g.S.Stage _ _ None _ _ shows_serve c.in-Ok-show.ensures.serves)
 
 pub returns-in-Err-show-clause-serves : goal.returns-in-Err-show-clause-serves
 returns-in-Err-show-clause-serves g c =
     serves_then g.S.Stage _ _ (Some call.Show) _ _ _ (serves_then g.S.Stage _ _ None _ _ _
-    (serves_done g.S.Stage _ _ c.ask.ensures.tells c.in-Line.ensures.faulted) c.in-Ok.ensures.serves)
+    (serves_done g.S.Stage _ _ c.ask.ensures.tells c.in-Line.ensures.faulted) c.in-Ok.ensures.leaves.serves)
     (serves_among g.S.Stage _ _ (Some call.Show) _ _ shows_serve c.in-Err-show.ensures.serves)
 
 pub reply-requires-clause-synced : goal.reply-requires-clause-synced
@@ -50,15 +50,15 @@ reply-requires-clause-synced g c = λ tells.
 pub returns-in-Ok-show-clause-synced : goal.returns-in-Ok-show-clause-synced
 returns-in-Ok-show-clause-synced g c = λ tells.
     let asked = c.ask.ensures.tells.0 tells in
-    shown_settled (g.S.Stage.standing c.reply.new.stage) (g.S.Stage.standing c.show.new.stage) c.bytes.result.now (c.in-Ok-show.ensures.shown (c.reply.ensures.serves.tells.0 asked)) (c.in-Ok.ensures.synced asked)
+    shown_settled (g.S.Stage.standing c.reply.new.stage) (g.S.Stage.standing c.show.new.stage) c.bytes.result.now (c.in-Ok-show.ensures.shown (c.reply.ensures.leaves.serves.tells.0 asked)) (c.in-Ok.ensures.leaves.left asked)
 
 pub returns-in-Ok-show-clause-takes : goal.returns-in-Ok-show-clause-takes
 returns-in-Ok-show-clause-takes g c = λ tells.
     let a = c.in-Line.ensures.answer tells in
     let asked = c.ask.ensures.tells.0 tells in
     took_one (g.S.Stage.standing c.args.stage.now) (g.S.Stage.standing c.ask.new.self) (g.S.Stage.standing c.reply.new.stage)
-    (g.S.Stage.standing c.show.new.stage) a.0 c.bytes.result.now a.1 a.3 (c.reply.ensures.lines asked)
-    (c.in-Ok-show.ensures.shown (c.reply.ensures.serves.tells.0 asked))
+    (g.S.Stage.standing c.show.new.stage) a.0 c.bytes.result.now a.1 a.3 (c.reply.ensures.leaves.beside asked)
+    (c.in-Ok-show.ensures.shown (c.reply.ensures.leaves.serves.tells.0 asked))
 
 pub returns-in-End-clause-meaning : goal.returns-in-End-clause-meaning
 returns-in-End-clause-meaning g c = λ tells X rows first start n small bytes s.
@@ -77,9 +77,9 @@ returns-in-Ok-show-clause-meaning g c = λ tells X rows first start n small byte
     let asked = c.ask.ensures.tells.0 tells in
     let holds : FilesHold old = λ name e. g.met.S.Stage.files_hold c.args.stage.now name tells e in
     let does = c.in-Ok.ensures.done asked X rows _ s.may (mid_stores story seed first start old mid n a.0 s holds a.1 a.3) in
-    serves_next story seed first start old mid n a.0 s holds a.1 a.3 _ _ _ (cut_request a.0 _ _ _ a.2 refl) does (c.in-Ok.ensures.synced asked)
-    _ _ c.bytes.ensures.value (c.in-Ok-show.ensures.shown (c.reply.ensures.serves.tells.0 asked))
-    (valid_story g.F.Fn c.args.self.now.player.routines c.args.self.now.player.game X c.requires.hosted.seated.valid rows) small bytes
+    serves_next story seed first start old mid n a.0 s holds a.1 a.3 _ _ _ (cut_request a.0 _ _ _ a.2 refl) does (c.in-Ok.ensures.leaves.left asked)
+    _ _ c.bytes.ensures.value (c.in-Ok-show.ensures.shown (c.reply.ensures.leaves.serves.tells.0 asked))
+    (valid_story g.F.Fn c.args.self.now.player.routines c.args.self.now.player.game X c.requires.hosted.prepared.seated.valid rows) small bytes
 
 -- ---- the moments ----
 
@@ -126,13 +126,13 @@ shows g c tells X rows first start n s worked =
     let mid = g.S.Stage.standing c.ask.new.self in
     let a = c.in-Line.ensures.answer tells in
     let asked = c.ask.ensures.tells.0 tells in
-    let replied = c.reply.ensures.serves.tells.0 asked in
+    let replied = c.reply.ensures.leaves.serves.tells.0 asked in
     let holds : FilesHold old = λ name e. g.met.S.Stage.files_hold c.args.stage.now name tells e in
     let done_holds : FilesHold (g.S.Stage.standing c.reply.new.stage) = λ name e. g.met.S.Stage.files_hold c.reply.new.stage name replied e in
     let stores = mid_stores story seed first start old mid n a.0 s holds a.1 a.3 in
     Passes_on _ _ _ _ _ _ (InHost story seed first start) _ worked (c.show.ensures.time replied)
     (in_show story seed first start old mid n a.0 s holds a.1 a.3 _ _ _ (cut_request a.0 _ _ _ a.2 refl) (c.in-Ok.ensures.done asked X rows _ s.may stores)
-    (c.in-Ok.ensures.synced asked) done_holds _ c.bytes.ensures.value)
+    (c.in-Ok.ensures.leaves.left asked) done_holds _ c.bytes.ensures.value)
 
 pub returns-in-End-clause-any_moment : goal.returns-in-End-clause-any_moment
 returns-in-End-clause-any_moment g c = λ tells X rows first start n small bytes s.

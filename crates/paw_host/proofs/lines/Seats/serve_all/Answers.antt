@@ -1,4 +1,4 @@
-use Rattle.std.proofs.Common.{◌≡◌, ◌+◌, ◌∙◌, suc, None, Some, refl, sym, subst, arith}
+use Rattle.std.proofs.Common.{◌≡◌, ◌+◌, suc, None, Some, refl, sym, subst, arith}
 use Rattle.paw_base.specs.declared.limits.TheConstants.{EVENT_LIMIT}
 use Rattle.paw_stage.proofs.Time.{Passes_on, Passes_none}
 use Rattle.paw_stage.specs.Moments.{moment_of}
@@ -16,7 +16,7 @@ use Rattle.paw_host.proofs.lines.Seats.serve_all.Goals as goal
 
 pub loop-init : goal.loop-init
 loop-init g c = record {
-  stays = stays_same c.requires.hosted.seated;
+  stays = stays_same c.requires.hosted.prepared.seated;
   few = omega arith;
   serves = serves_none g.S.Stage _ _;
   synced = c.requires.synced;

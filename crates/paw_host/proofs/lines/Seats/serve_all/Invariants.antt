@@ -1,4 +1,4 @@
-use Rattle.std.proofs.Common.{◌≡◌, ◌≤◌, ℕ, List, None}
+use Rattle.std.proofs.Common.{◌≤◌, ℕ, List, None}
 use Rattle.paw_stage.specs.Disk.{IsStable}
 use Rattle.paw_stage.specs.Across.{FailsOnlyBy}
 use Rattle.paw_stage.specs.Moments.{Passes}

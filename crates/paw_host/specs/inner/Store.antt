@@ -1,0 +1,41 @@
+-- What is known of the attached store before calls, and what they did to the stage.
+use Rattle.std.specs.Prelude.{◌≡◌, ℕ, List, [], ◌∷◌, length, Option, Some}
+use Rattle.paw_stage.specs.declared.Stage.{Ghosts}
+use Rattle.paw_stage.specs.declared.StageCall.{StageCall}
+use Rattle.paw_stage.specs.declared.StageCall.TheVariants as call
+use Rattle.paw_stage.specs.Disk.{IsStable}
+use Rattle.paw_stage.specs.Stage.{Standing}
+use Rattle.paw_stage.specs.Moments.{Moment, Still}
+use Rattle.paw_stage.specs.Across.{FailsOnlyBy, IfTelling, EachMoment}
+use Rattle.paw_stage.specs.inner.Across.{AtEachMoment}
+use Rattle.paw_journal.specs.declared.store.Attached.{Attached}
+use Rattle.paw_journal.specs.inner.Journal.{IsAtRest}
+
+-- The attached store is at rest, and has the length that its attach gave.
+pub record IsAttachedAtRest {S : Type 0} (g : Ghosts S) (at : Attached) (s : S) : Type 0 where
+  pub rests : g.Tells s → IsAtRest (g.standing s)
+  pub attached : g.Tells s → at.length ≡ length (g.standing s).disk.bytes
+
+-- The store of this name is attached, and a crash leaves just its bytes.
+pub record IsAttachedStable (name : List ℕ) (s : Standing) : Type 0 where
+  pub stable : IsStable s.disk
+  pub attached : s.attached ≡ Some name
+
+-- Calls that read and change nothing: only a read may have failed, and all stands as before, at each moment too.
+pub record ReadsOnly {S : Type 0} (g : Ghosts S) (failed : Option StageCall) (old new : S) : Type 0 where
+  pub serves : FailsOnlyBy g (call.Read ∷ []) failed old new
+  pub still : g.Tells old → g.standing new ≡ g.standing old
+  pub time : AtEachMoment g old new Still
+
+-- What calls did to the stage: only these may have failed, `Beside` says what they left alone, and `Left` in which
+-- state the store is after them.
+pub record LeavesStage {S : Type 0} (g : Ghosts S) (calls : List StageCall) (failed : Option StageCall)
+    (Beside Left : Standing → Standing → Type 0) (old new : S) : Type 0 where
+  pub serves : FailsOnlyBy g calls failed old new
+  pub beside : IfTelling g old new Beside
+  pub left : IfTelling g old new Left
+
+-- What calls promise: `Done` of what they gave, and `Inside` of each moment of them, at which a crash may come.
+pub record Promises {S : Type 0} (g : Ghosts S) (old new : S) (Done : Type 0) (Inside : Moment → Type 0) : Type 0 where
+  pub meaning : Done
+  pub any_moment : EachMoment g old new Inside
