@@ -1,8 +1,8 @@
--- Words for bytes and lists of them, by what they are. Each is another name for a list of numbers, and proofs see through
--- it. That a byte is below 256 is said where it matters.
+-- Names for lists of bytes, by what the bytes are, and for seeds. Each is another name for a list of numbers, or for a
+-- number, and unfolds by itself.
 use Rattle.std.specs.Prelude.{ℕ, List, replicate}
 
--- Bytes in a row.
+-- A list of bytes, each below 256.
 abbrev pub Bytes : Type 0
 Bytes = List ℕ
 
@@ -42,7 +42,7 @@ Token = Bytes
 abbrev pub Tokens : Type 0
 Tokens = List Token
 
--- The rows of routines: a row for each routine, with its answer to each byte.
+-- The rows of routines: for each routine its answers to the bytes 0 to 255, in this order.
 abbrev pub RoutineRows : Type 0
 RoutineRows = List Bytes
 

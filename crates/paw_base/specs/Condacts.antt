@@ -1,5 +1,6 @@
 -- The condacts: their codes, their names, and what their parameters name.
-use Rattle.std.specs.Prelude.{ℕ, ◌+◌, ◌-◌, ◌==◌, ◌&&◌, ◌||◌, if◌then◌else◌, Bool, true, false, List, [], ◌∷◌, length, map, Option, codes, bytes_eq, nat_lt, nat_le, not}
+use Rattle.std.specs.Prelude.{ℕ, ◌+◌, ◌-◌, ◌==◌, ◌&&◌, ◌||◌, if◌then◌else◌, Bool, true, false, List, [], ◌∷◌, length}
+use Rattle.std.specs.Prelude.{map, Option, codes, bytes_eq, nat_lt, nat_le, not}
 use Rattle.std.specs.List.{slice_index_or, position}
 use Rattle.std.specs.Char.{to_ascii_uppercase}
 use Rattle.paw_base.specs.Bytes.{Bytes, Name}
@@ -136,7 +137,7 @@ condact_lines =
     action (codes "INPUT") Number Absent ∷  -- 107
     []
 
--- Whether a number is a plain code: one of the numbers of the lines.
+-- Whether a number is a plain code: the number of one of the lines, counted from 0.
 unfoldable pub is_plain_code : ℕ → Bool
 is_plain_code code = nat_lt code (length condact_lines)
 
@@ -165,7 +166,7 @@ is_indirect code = nat_le INDIRECT code && may_be_indirect (code - INDIRECT)
 abbrev pub is_code : ℕ → Bool
 is_code code = is_plain_code code || is_indirect code
 
--- The code of the plain condact that a condact is or stands for.
+-- The plain code for a code: the code itself, or 128 less where it is indirect.
 abbrev pub plain_code : ℕ → ℕ
 plain_code code = if is_indirect code then code - INDIRECT else code
 
@@ -173,7 +174,7 @@ plain_code code = if is_indirect code then code - INDIRECT else code
 abbrev pub indirect_line : ℕ → CondactLine
 indirect_line code = record (plain_line code) { first = Flag }
 
--- The line of a code.
+-- The line of a code, plain or indirect; for any other number, a line with no name and no parameters.
 unfoldable pub line_of : ℕ → CondactLine
 line_of code = if is_indirect code then indirect_line (code - INDIRECT) else plain_line code
 

@@ -9,7 +9,7 @@ use Rattle.paw_check.specs.Measures.{greatest, most_of, most_put, most_said}
 use Rattle.paw_check.specs.Prints.{most_text}
 use Rattle.paw_check.specs.Costs.{round_cost}
 
--- The most phrases of a line: each has at least one byte, and at least one parts it from the next.
+-- The most phrases of a line: each has at least one byte, and at least one byte stands between two of them.
 abbrev pub most_phrases : ℕ
 most_phrases = (LINE_LIMIT + 1) / 2
 

@@ -31,7 +31,8 @@ missing action.Remove = Says NOT_WORN_MESSAGE
 missing (action.TakeOut l) = Names NOT_INSIDE_MESSAGE l
 missing _ = Says NOT_CARRIED_MESSAGE  -- Drop, Wear, PutIn
 
--- The action on the object that was found. With none it is refused, as impossible where no object of the game fits.
+-- The action on the object that was found. Where none was found it is refused: as impossible, if no object of the game
+-- fits.
 abbrev pub acted_on_found : GameLists → World → Action → Option ℕ → Done
 acted_on_found g w a (Some o) = acted_on g w o a
 acted_on_found g w a None = refuses g w (if some_fits w then missing a else Says IMPOSSIBLE_MESSAGE)

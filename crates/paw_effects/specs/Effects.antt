@@ -9,7 +9,7 @@ pub use Rattle.paw_effects.specs.Referring.{referred}
 use Rattle.paw_effects.specs.Indirect.{as_plain}
 use Rattle.paw_effects.specs.Meanings.{Meaning, Tests, Acts, meaning_of}
 
--- What a meaning does; that of a condition does nothing.
+-- What a condact does, by its meaning; a condition does nothing.
 abbrev pub done_by : Meaning → Story → World → Condact → Done
 done_by (Tests holds) s w c = makes w
 done_by (Acts done) s w c = done s w c

@@ -9,11 +9,11 @@ pub use Rattle.paw_effects.specs.Tested.{Tested, truth_of, answers, moves}
 use Rattle.paw_effects.specs.Indirect.{as_plain}
 use Rattle.paw_effects.specs.Meanings.{Meaning, Tests, Acts, meaning_of, is_test}
 
--- Whether a condact is a condition, that is one that tests; an indirect condact is one where the plain one is.
+-- Whether a condact is a condition: its meaning is a test. An indirect condact is a condition where the plain one is.
 abbrev pub is_condition : Condact → Bool
 is_condition c = is_test (meaning_of (plain_code c.code))
 
--- What a meaning answers; that of an action answers no.
+-- What a condact answers, by its meaning; an action answers no.
 abbrev pub tested_by : Meaning → GameLists → World → Condact → Tested
 tested_by (Tests holds) g w c = holds g w c
 tested_by (Acts done) g w c = answers w false

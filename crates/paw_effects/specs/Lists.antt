@@ -16,7 +16,7 @@ use Rattle.paw_effects.specs.Texts.{object_text, put_text, say_text}
 abbrev pub as_lines : Texts → Text
 as_lines texts = flat_map (λ text. text ++ 10 ∷ []) texts
 
--- What joins a text to the one before it, by the texts after it: ` and ` where there are none, and otherwise `, `.
+-- What joins a text to the one before it, given the texts after it: ` and ` where there are none, and otherwise `, `.
 abbrev pub joint : {A : Type 0} → List A → Text
 joint [] = codes " and "
 joint (_ ∷ _) = codes ", "

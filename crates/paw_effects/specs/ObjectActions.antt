@@ -53,7 +53,7 @@ holds_place w l = nat_lt l (length w.places) && is_held w l
 
 -- ---- what hinders an action, and the message then ----
 
--- The tests of each action in their order, each with its message where it holds.
+-- The tests of each action in their order, each with the message that is said where it holds.
 abbrev pub hindrances : World → ℕ → Action → List (Bool × ObjectReply)
 hindrances w o action.Get =
     (is_held w o, Says HELD_MESSAGE) ∷ (not (is_here w o), Says NOT_HERE_MESSAGE)
@@ -100,7 +100,8 @@ refuses g w said =
     let act : Act = record { effect = effect.Exit true; drop_line = true; cancel_loop = ends_loop said } in
     record { text = spoken_words g w said; world = w; act = act }
 
--- An action on an object: it is refused with this message, or carried out where there is none.
+-- An action on an object: it is refused with this message, or carried out where there is no message, and then a message
+-- says so.
 abbrev pub tried : GameLists → World → ℕ → Action → Option ObjectReply → Done
 tried g w o a (Some said) = refuses g w said
 tried g w o a None = let after = moved w o (destination w a) in prints after (spoken_words g after (outcome a))

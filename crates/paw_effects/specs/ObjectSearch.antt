@@ -25,7 +25,7 @@ fits_sentence w o = option_map_or (names w) (slice_get w.facts o) false
 abbrev pub some_fits : World → Bool
 some_fits w = list_any (names w) w.facts
 
--- The object with the least number at a place that fits; nothing where none does.
+-- Of the objects at a place, the one with the least number that fits the sentence; nothing where none does.
 abbrev pub least_fitting : World → ℕ → Option ℕ
 least_fitting w p = find (fits_sentence w) (objects_at w p)
 

@@ -12,7 +12,8 @@ use Rattle.paw_world.specs.Weight.{weight}
 abbrev pub flag_of_fact : Bool → ℕ
 flag_of_fact b = if b then FACT_HOLDS else 0
 
--- The world with the flags of the object last referred to, by its facts; the same world where there is no such object.
+-- The world whose flags say of an object, by its facts, how heavy it is, whether it is a container and whether it may
+-- be worn; the same world where there is no such object.
 abbrev pub with_referred_facts : World → ℕ → Option ObjectFacts → World
 with_referred_facts w o None = w
 with_referred_facts w o (Some f) =

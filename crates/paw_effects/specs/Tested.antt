@@ -21,7 +21,8 @@ truth_of b = if b then truth.Yes else truth.No
 abbrev pub answers : World → Bool → Tested
 answers w b = record { answer = truth_of b; world = w }
 
--- MOVE takes the exit for the sentence's verb from the location in a flag, and sets the flag to where it leads.
+-- MOVE takes the exit for the sentence's verb from the location in a flag, and sets the flag to where it leads. Where
+-- there is no such exit it fails, and changes nothing.
 abbrev pub moves : GameLists → World → ℕ → Tested
 moves g w f =
     option_map_or (λ to. answers (with_flag w f to) true) (exit_at g (flag w f) (flag w VERB_FLAG)) (answers w false)

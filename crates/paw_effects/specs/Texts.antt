@@ -10,7 +10,7 @@ use Rattle.paw_world.specs.World.{World, flag}
 abbrev pub object_text : GameLists → ℕ → Text
 object_text g o = unwrap_or (option_map (λ row. row.text) (slice_get g.objects o)) []
 
--- A text with each underscore replaced by the name, in which underscores stay.
+-- A text with each underscore replaced by the name; underscores of the name itself stay.
 abbrev pub with_name : Text → Text → Text
 with_name name [] = []
 with_name name (b ∷ bs) = if b == 95 then name ++ with_name name bs else b ∷ with_name name bs

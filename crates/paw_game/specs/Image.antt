@@ -21,7 +21,7 @@ two_bytes n = to_le_bytes w16 n
 abbrev pub any_indirect : List Condact → Bool
 any_indirect cs = list_any (λ c. is_indirect c.code) cs
 
--- Whether an entry of one of the tables has such a condact.
+-- Whether an entry of one of the tables has a condact that takes its first parameter from a flag.
 unfoldable pub has_indirect : List (List Entry) → Bool
 has_indirect tables = list_any (λ es. list_any (λ e. any_indirect e.condacts) es) tables
 

@@ -15,7 +15,8 @@ use Rattle.paw_game.specs.Game.{GameLists}
 abbrev pub facts_at : GameLists → ℕ → Option ObjectFacts
 facts_at g o = option_map (λ row. row.facts) (slice_get g.objects o)
 
--- The location to which the exit of this verb leads, if there is one. In a valid game no location has two.
+-- The location to which the exit of this verb leads, if there is one. In a valid game no location has two exits for one
+-- verb.
 abbrev pub exit_of : List Exit → ℕ → Option ℕ
 exit_of xs verb = option_map (λ x. x.to) (find (λ x. x.verb == verb) xs)
 
@@ -43,7 +44,7 @@ head_at g t e = option_map (λ entry. (entry.verb, entry.noun)) (entry_at g t e)
 abbrev pub condact_at : GameLists → ℕ → ℕ → ℕ → Option Condact
 condact_at g t e k = slice_get (condacts_of (entry_at g t e)) k
 
--- Whether the word of an entry matches the value of a flag; `*` and `_` match any value.
+-- Whether the word of an entry matches the value of a flag; ANY_WORD and NO_WORD match any value.
 abbrev pub is_for : ℕ → ℕ → Bool
 is_for word flag = (word == ANY_WORD) || ((word == NO_WORD) || (word == flag))
 

@@ -49,7 +49,8 @@ abbrev pub are_letters : Bytes → Bool
 are_letters [] = false
 are_letters (c ∷ cs) = (length (c ∷ cs) == WORD_LENGTH) && (is_letter c && is_filled cs)
 
--- Whether a word keeps the rules of a single word: its letters, its value, and its class, at most that of pronouns.
+-- Whether a word by itself keeps its rules: those of its letters, of its value, and of its class, at most that of
+-- pronouns.
 abbrev pub is_word : Word → Bool
 is_word w = are_letters w.letters && (is_within LEAST_WORD GREATEST_WORD w.value && nat_le w.class PRONOUN_CLASS)
 
@@ -117,13 +118,15 @@ are_exits ws locations (x ∷ xs) =
     (is_verb_value ws x.verb && (nat_lt x.to locations && not (list_any (λ y. y.verb == x.verb) xs)))
     && are_exits ws locations xs
 
--- Whether the exits of one location keep their rules; distinct verb values alone see to it that they aren't too many.
+-- Whether the exits of one location keep their rules and aren't too many. They never are too many, since no two have
+-- the same verb value.
 abbrev pub exits_are_valid : List Word → ℕ → List Exit → Bool
 exits_are_valid ws locations xs = nat_le (length xs) EXIT_LIMIT && are_exits ws locations xs
 
 -- ---- tables ----
 
--- Whether a parameter keeps the rule of its kind, by these counts and words; a flag or a number is any byte.
+-- Whether a parameter keeps the rule of its kind: it is the number of a row that there is by these counts, or the value
+-- of one of these words. A flag or a number is any byte.
 abbrev pub is_parameter : Counts → List Word → ParamKind → ℕ → Bool
 is_parameter counts ws kind.Absent x = x == 0
 is_parameter counts ws kind.Location x = nat_lt x counts.locations
@@ -138,8 +141,8 @@ is_parameter counts ws kind.Adjective x = is_word_or_none ws ADJECTIVE_CLASS x
 is_parameter counts ws kind.Preposition x = is_word_or_none ws PREPOSITION_CLASS x
 is_parameter counts ws _ x = nat_lt x 256
 
--- Whether a value that arises in play keeps the rule of a kind. A word may be any byte here: a value that the game has
--- no word for is one that no sentence has.
+-- Whether a value that arises in play keeps the rule of a kind. Here any byte will do for a word: a value that no word
+-- of the game has is one that no sentence has.
 abbrev pub is_argument : GameLists → ParamKind → ℕ → Bool
 is_argument g kind.Adverb x = nat_lt x 256
 is_argument g kind.Noun x = nat_lt x 256
@@ -151,7 +154,8 @@ is_argument g k x = is_parameter (counts_of g) g.words k x
 abbrev pub fits_kinds : (ParamKind → ℕ → Bool) → Condact → Bool
 fits_kinds rule c = is_code c.code && (rule (first_kind c.code) c.a && rule (second_kind c.code) c.b)
 
--- Whether a condact keeps its rules: its parameters name what the game has, and those that it doesn't have are 0.
+-- Whether a condact keeps its rules: its code is that of a condact, its parameters name what the game has, and a
+-- parameter that this code doesn't have is 0.
 abbrev pub is_condact : GameLists → Condact → Bool
 is_condact g c = fits_kinds (is_parameter (counts_of g) g.words) c
 

@@ -44,8 +44,8 @@ any_place locations ts = place_up_to HERE_PLACE (index_among (place_names ++ cod
 
 -- ---- parameters ----
 
--- The number of a table, below the number of table headers. 255 stands for any number above it too: there are then more
--- than 256 headers, and one of them has a fault.
+-- The number of a table, below the number of table headers. One above 255 is read as 255: there are then more than 256
+-- headers, and one of them has a fault.
 abbrev pub table : ℕ → Reads ℕ
 table tables ts = number_below tables ts >>= λ n. Ok (min n.0 255, n.1)
 

@@ -36,7 +36,8 @@ text_limit section.Otx = OBJECT_LIMIT
 text_limit section.Ltx = LOCATION_LIMIT
 text_limit _ = 0
 
--- The texts with an empty one more. Its number is how many there were before it, which has to be below the limit.
+-- The texts with one more, which is empty. Its number is how many there were before it, which has to be below the
+-- limit.
 abbrev pub text_item : ℕ → ℕ → Texts → Result Texts SourceKind
 text_item limit n ts =
     if not (n == length ts) then Err kind.Range

@@ -46,8 +46,8 @@ tokens_added p d slash blank [] = Ok d
 tokens_added p d slash blank (t ∷ ts) =
     if slash then slash_line d t (number (drop 1 t)) ts else row_in d.section p d blank (t ∷ ts)
 
--- What is spelled after one line more, or the line's first fault; a forbidden byte counts before all others. A comment
--- spells nothing.
+-- What is spelled after one line more, or the line's first fault. A forbidden byte is found before all other faults. A
+-- comment spells nothing.
 unfoldable pub after_line : ℕ → Spelt → Line → Result Spelt SourceKind
 after_line p d l =
     if is_comment l then Ok d
@@ -82,8 +82,8 @@ unfoldable pub spelled_after : ℕ → ℕ → Spelt → Lines → Result GameLi
 spelled_after p n d [] = whole n d
 spelled_after p n d (l ∷ ls) = at_line (suc n) (after_line p d l) (λ e. spelled_after p (suc n) e ls)
 
--- The game that a source spells, or the line and the kind of its first fault. Parameters may name as many tables as
--- there are lines that begin one.
+-- The game that a source spells, or the line and the kind of its first fault. A parameter may name each table that has
+-- a header, even in a later line.
 unfoldable pub spelled : Bytes → Result GameLists SourceFault
 spelled source =
     if nat_lt SOURCE_LIMIT (length source) then Err (fault 0 kind.TooBig)

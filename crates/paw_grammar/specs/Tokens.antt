@@ -17,7 +17,7 @@ abbrev pub token : Reads Token
 token [] = Err kind.Missing
 token (t ∷ ts) = Ok (t, ts)
 
--- The end of the line; the fault Extra where there is a token more.
+-- The end of the line; the fault Extra where one more token stands there.
 abbrev pub ended : Tokens → Result (Unit {0}) SourceKind
 ended [] = Ok tt
 ended (t ∷ ts) = Err kind.Extra

@@ -1,6 +1,7 @@
 -- The promise of the host over the files of all names: what was shown, and what a crash leaves of each file, at each
 -- moment and at the end.
-use Rattle.std.specs.Prelude.{◌≡◌, ◌≢◌, ◌⊎◌, ℕ, zero, suc, ◌+◌, ◌≤◌, true, [], ◌∷◌, ◌++◌, length, take, drop, All, Option, Some, None}
+use Rattle.std.specs.Prelude.{◌≡◌, ◌≢◌, ◌⊎◌, ℕ, zero, suc, ◌+◌, ◌≤◌, true, [], ◌∷◌, ◌++◌, length, take, drop, All}
+use Rattle.std.specs.Prelude.{Option, Some, None}
 use Rattle.std.specs.List.{AllByRecursion}
 use Rattle.paw_base.specs.Bytes.{Bytes, Lines, Name, Seed, Text}
 use Rattle.paw_effects.specs.Story.{Story}
@@ -58,9 +59,9 @@ EachLeft g seed before after m = (name : Name) → is_name name ≡ true → (by
 abbrev pub IsBetween : Text → Text → Text → Type 0
 IsBetween from to text = ((more : Text) × (text ≡ from ++ more)) × ((rest : Text) × (text ++ rest ≡ to))
 
--- This number of lines was taken, and this text was shown for them. The last one is at work, and the file of each name is
--- as before it, or as after it where its store is attached. The replies to the lines before it were shown. Its own is
--- shown only once the file of each name is as after it.
+-- This number of lines was taken, and this text was shown for them. The last one is at work, and the file of each name
+-- is as before it, or as after it where its store is attached. The replies to the lines before it were shown. Its own
+-- is shown only once the file of each name is as after it.
 abbrev pub IsUpToDate : Story → Seed → Sessions → Lines → ℕ → Text → Moment → Type 0
 IsUpToDate g seed first lines zero text m = (text ≡ []) × AllLeft g first m
 IsUpToDate g seed first lines (suc n) text m =
@@ -79,7 +80,8 @@ unfoldable pub attached_after : Option Name → Lines → Option Name
 attached_after attached [] = attached
 attached_after attached (line ∷ lines) = attached_after (attached_with (request_of line) attached) lines
 
--- What may be attached while a line is at work: the store before, its name's, or none; without a name, that before.
+-- What may be attached while a line is at work: the store that was attached before, that of the line's name, or none;
+-- for a line without a name, only the store before.
 abbrev pub MayAttach : Option Request → Option Name → Option Name → Type 0
 MayAttach None before attached = attached ≡ before
 MayAttach (Some r) before attached = (attached ≡ before) ⊎ (attached ≡ Some (store_name r.name)) ⊎ (attached ≡ None)
@@ -107,8 +109,8 @@ pub record InHost (g : Story) (seed : Seed) (first : Sessions) (old : Standing) 
   pub attached : AttachedIn old.attached (take taken old.lines) m.attached
   pub others : (file : Name) → IsNotOf (take taken old.lines) file → m.files file ≡ old.files file
 
--- The first n lines were taken, and each got its reply. The file of each name is that of its session after them, and the store
--- of the last name that was asked for is attached. No other file has changed.
+-- The first n lines were taken, and each got its reply. The file of each name is that of its session after them, and
+-- the store of the last name that was asked for is attached. No other file has changed.
 pub record Answered (g : Story) (seed : Seed) (first : Sessions) (old new : Standing) (n : ℕ) : Type 0 where
   pub there : n ≤ length old.lines
   pub lines : new.lines ≡ drop n old.lines

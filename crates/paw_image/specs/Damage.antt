@@ -195,7 +195,7 @@ abbrev pub is_end : Passing → Bool
 is_end (Ok []) = true
 is_end _ = false
 
--- Whether version 2 isn't needed: it is the version, and with the codes of version 1 the lists pass to the end.
+-- Whether the version is 2 without need: read with the codes of version 1, the lists pass to the end too.
 abbrev pub needs_no_2 : Version → Passing → Bool
 needs_no_2 One with_plain_codes = false
 needs_no_2 Two with_plain_codes = is_end with_plain_codes
@@ -214,8 +214,8 @@ offset_in total (Err left) = Some (total - left)
 offset_in total (Ok []) = None
 offset_in total (Ok (b ∷ bytes)) = Some (total - length (b ∷ bytes))
 
--- The place of the first broken rule, or nothing. The first rule is that there aren't too many bytes, where the place
--- is their limit; the last is that the version, byte 4, is needed.
+-- The place of the first broken rule, or nothing. The first rule is that there are at most IMAGE_LIMIT bytes, and the
+-- place is then this limit; the last is that version 2 is needed, and the place is then that of the version, byte 4.
 unfoldable pub bad : Bytes → Option ℕ
 bad bytes =
     if nat_lt IMAGE_LIMIT (length bytes) then Some IMAGE_LIMIT

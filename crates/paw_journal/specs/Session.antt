@@ -139,12 +139,12 @@ state_length = STATE_LENGTH
 abbrev pub first_length : ℕ
 first_length = FIRST_LENGTH
 
--- How many bytes of a state a slot of this version has. One that isn't of the version that is written is read as one
--- of version 1.
+-- How many bytes of a state a slot of this version has. A slot of another version than the one that is written is read
+-- as one of version 1.
 abbrev pub form_length : ℕ → ℕ
 form_length version = if version == VERSION then state_length else first_length
 
--- The state that a slot shows: the bytes that its version has, whatever stands behind them, and zeros for the others.
+-- The state that a slot shows: the bytes that its version has, whatever stands after them, and zeros for the others.
 abbrev pub shown_state : Bytes → Bytes
 shown_state bytes =
     let n = form_length (slot_version bytes) in take n (slot_state bytes) ++ zeros (state_length - n)
@@ -197,12 +197,12 @@ IsUnmade (Shown d s p) = ⊥
 -- ---- what is written ----
 
 -- A slot as it is made: no change records, the version that is written, this state as its base, and this piece.
-abbrev pub made_slot : List ℕ → List ℕ → List ℕ
+abbrev pub made_slot : Bytes → Text → Bytes
 made_slot state piece = 0 ∷ 0 ∷ VERSION ∷ zeros 61 ++ state ++ piece ++ zeros (81920 - length piece)
 
 -- A header as it is made, with this mark and these digests: slot 0 is in use, and the version is the one that is
 -- written.
-abbrev pub made_header : ℕ → Digests → List ℕ
+abbrev pub made_header : ℕ → Digests → Bytes
 made_header mark digests = mark ∷ 0 ∷ VERSION ∷ zeros 29 ++ digests.game ++ digests.routines ++ zeros 32
 
 -- A session that is newly made: both slots have this state and this piece.
@@ -229,21 +229,23 @@ differences_from at old new = []
 abbrev pub differences : Bytes → Bytes → Bytes
 differences old new = differences_from 0 old new
 
--- The first bytes of a slot of the version that is written with so many change records.
-abbrev pub slot_head : ℕ → List ℕ
+-- The first bytes of a slot of the version that is written, with this number of change records.
+abbrev pub slot_head : ℕ → Bytes
 slot_head records = (records % 256) ∷ (records / 256) ∷ VERSION ∷ []
 
--- A slot that is of the version that is written from now on, with so many change records, this piece, and these bytes
--- from a place on. All its other bytes are as they were.
-abbrev pub rewritten : ℕ → List ℕ → ℕ → List ℕ → List ℕ → List ℕ
+-- A slot once it is given the version that is written, this number of change records, this piece, and these bytes at a
+-- place. All its other bytes stay.
+abbrev pub rewritten : ℕ → Bytes → ℕ → Text → Bytes → Bytes
 rewritten at new records piece bytes = put 0 (slot_head records) (put PIECE_AT piece (put at new bytes))
 
--- How many change records a slot has once those are added that give it this state.
+-- How many change records a slot has once those are added that give it this state: those that it has, and one for each
+-- byte at which its state differs from this one.
 abbrev pub records_with : Bytes → Bytes → ℕ
 records_with state bytes = two_byte_number 0 bytes + differing (slot_state bytes) state
 
--- A commit adds change records to a slot that is of the version that is written, has a state, and has room for them.
-abbrev pub takes_changes : List ℕ → List ℕ → Bool
+-- Whether a commit adds change records to a slot: it is of the version that is written, has a state, and has room for
+-- them.
+abbrev pub takes_changes : Bytes → Bytes → Bool
 takes_changes state bytes = is_current bytes && has_state bytes && nat_le (records_with state bytes) most_changes
 
 -- A slot after a commit gave it this state and this piece: by change records after those that it has, or by its base,

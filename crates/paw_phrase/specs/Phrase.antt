@@ -32,7 +32,7 @@ token_mark (b ∷ bs) after = record { token = Some (five_letters (b ∷ bs)); a
 abbrev pub separator_mark : ℕ → Bytes → List Mark
 separator_mark b after = if is_separator b then record { token = None; after = after } ∷ [] else []
 
--- The tokens and separators of bytes, in order, where the token bytes in `run` stand right before them.
+-- The tokens and separators of bytes, in order, where `run` is the part of a token that stands right before them.
 unfoldable pub marks_from : Token → Bytes → List Mark
 marks_from run [] = token_mark run []
 marks_from run (b ∷ bs) =
@@ -49,7 +49,7 @@ abbrev pub is_parting : GameLists → Option Letters → Bool
 is_parting g None = true
 is_parting g (Some letters) = option_map_or (λ word. word.1 == CONJUNCTION_CLASS) (word_at g letters) false
 
--- The marks from the first one on that doesn't separate phrases.
+-- The marks from the first one that doesn't separate phrases to the end.
 abbrev pub from_phrase : GameLists → List Mark → List Mark
 from_phrase g [] = []
 from_phrase g (m ∷ ms) = if is_parting g m.token then from_phrase g ms else m ∷ ms

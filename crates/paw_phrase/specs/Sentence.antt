@@ -34,13 +34,14 @@ abbrev pub with_noun : ℕ → Sentence → Sentence
 with_noun value s =
     if s.noun == NO_WORD then record s { noun = value } else record s { second_noun = or_value s.second_noun value }
 
--- An adjective belongs to the first noun while there is none yet, then to the second; a further one is ignored.
+-- An adjective belongs to the first noun while no noun is there yet, and then to the second; a further one is ignored.
 abbrev pub with_adjective : ℕ → Sentence → Sentence
 with_adjective value s =
     if s.noun == NO_WORD then record s { adjective = or_value s.adjective value }
     else record s { second_adjective = or_value s.second_adjective value }
 
--- A pronoun gives the noun and adjective that it stands for; it is ignored if it has none, or both nouns are there.
+-- A pronoun gives the noun and adjective that it stands for. It is ignored where it stands for no noun, or both nouns
+-- are there.
 abbrev pub with_pronoun : Sentence → Sentence
 with_pronoun s =
     if s.pronoun_noun == NO_WORD then s else
@@ -59,12 +60,12 @@ with_word value class s =
     if class == PREPOSITION_CLASS then record s { preposition = or_value s.preposition value } else
     if class == PRONOUN_CLASS then with_pronoun s else s
 
--- The words of the tokens are added from left to right; an unknown token is skipped.
+-- The sentence with the words of the tokens added, from left to right; an unknown token is skipped.
 abbrev pub with_tokens : GameLists → List Letters → Sentence → Sentence
 with_tokens g tokens s =
     fold (λ filled token. option_map_or (λ word. with_word word.0 word.1 filled) (word_at g token) filled) s tokens
 
--- Where there is no verb, a first noun that serves as one stands for it, and otherwise the verb of the sentence before.
+-- The sentence with a verb: its own, or else a first noun that serves as one, or else the verb of the sentence before.
 abbrev pub with_verb : ℕ → Sentence → Sentence
 with_verb earlier s = record s { verb = or_value s.verb (if nat_lt s.noun FIRST_PLAIN_NOUN then s.noun else earlier) }
 

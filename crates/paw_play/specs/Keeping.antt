@@ -1,6 +1,5 @@
--- What the store of a session keeps, moment by moment and at its end.
---
--- The lines are those that are left when a call begins.
+-- What the store of a session keeps, moment by moment and at the end of a call. The lines are those that are left when
+-- a call begins.
 use Rattle.std.specs.Prelude.{◌≡◌, ◌≢◌, ◌⊎◌, ℕ, zero, suc, ◌+◌, ◌≤◌, ◌++◌, length, Some}
 use Rattle.paw_base.specs.Bytes.{Bytes, Lines, Name, Text}
 use Rattle.std.specs.Prelude.{MatchBool, MatchOption}
@@ -31,9 +30,9 @@ abbrev pub IsUpToDateWith : PlayedSession → Lines → ℕ → Text → Bytes �
 IsUpToDateWith s lines zero text bytes = AgreesWith s lines zero text bytes
 IsUpToDateWith s lines (suc n) text bytes = AgreesWith s lines (suc n) text bytes ⊎ AgreesWith s lines n text bytes
 
--- A moment at which a session is played. Since the call began n lines were taken, and a text was shown that holds the
--- text for all but the last of them. Whatever a crash leaves of the store keeps all these lines, or all but the last,
--- and the text is a first part of the text for those. No other file has changed.
+-- A moment at which a session is played. Since the call began n lines were taken, and a text was shown, which begins
+-- with the text for all of them but the last. Whatever a crash leaves of the store keeps all these lines, or all but
+-- the last, and the text shown is a first part of the text for the lines that are kept. No other file has changed.
 pub record InPlay (s : PlayedSession) (old : Standing) (m : Moment) : Type 0 where
   pub taken : ℕ
   pub text : Text

@@ -146,7 +146,7 @@ abbrev pub left_after : Bytes → List Round → Bytes
 left_after bytes [] = bytes
 left_after bytes (r ∷ rounds) = left_after r.left rounds
 
--- How many of the lines that were taken this end of playing loses: the last one, where play ended before its piece was
+-- How many of the lines that were taken are lost where play ended this way: the last one, where its piece wasn't
 -- closed; otherwise none.
 abbrev pub lines_lost : PlayEnd → ℕ
 lines_lost o = option_map_or (λ halt. if closes_piece halt then 0 else 1) (end_halt o) 0

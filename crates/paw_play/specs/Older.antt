@@ -1,5 +1,6 @@
 -- Sessions of version 1, of which the states have no kept positions.
-use Rattle.std.specs.Prelude.{◌≡◌, ℕ, ◌≤◌, List, length, take}
+use Rattle.std.specs.Prelude.{◌≡◌, ℕ, ◌≤◌, length, take}
+use Rattle.paw_base.specs.Bytes.{Bytes, Lines, Seed}
 use Rattle.paw_base.specs.declared.limits.TheConstants.{EVENT_LIMIT}
 use Rattle.paw_effects.specs.Story.{Story}
 use Rattle.paw_reading.specs.Turn.{Ending, reading, pieces_of}
@@ -9,13 +10,13 @@ use Rattle.paw_state.specs.Record.{last_piece}
 use Rattle.paw_play.specs.Session.{IsOfStory, state_after, IsPlayed}
 use Rattle.paw_play.specs.Stands.{Stands, IsPlayedWith}
 
--- The slot in use is of version 1: it has the first 1,371 bytes of a state. It shows a state in a session with these
--- digests, whose first 1,371 bytes are those of the state where a reading ended after so many lines, and the last piece
--- of the reading.
-pub record KeepsAsOlder (digests : Digests) (events : ℕ) (e : Ending) (bytes : List ℕ) : Type 0 where
+-- The slot in use is of version 1, which has the first 1,371 bytes of a state. It shows a state in a session with these
+-- digests, and the last piece of a reading. The first 1,371 bytes of that state are those of the state where the reading
+-- ended after this number of lines.
+pub record KeepsAsOlder (digests : Digests) (events : ℕ) (e : Ending) (bytes : Bytes) : Type 0 where
   pub played : IsPlayed e
   pub first : form_length (slot_version (slot (chosen bytes) bytes)) ≡ first_length
-  pub state : List ℕ
+  pub state : Bytes
   pub shown : recover bytes ≡ Shown digests state (last_piece (pieces_of e))
   pub same : take first_length state ≡ take first_length (state_after events e)
 
@@ -27,7 +28,7 @@ pub record IsOlderSession (g : Story) (seed : Seed) (es : Lines) (bytes : Bytes)
   pub belongs : IsOfStory g digests
   pub keeps : KeepsAsOlder digests (length es) (reading g seed es) bytes
 
--- In a game that never saves an older session stands for its lines: no position is missing.
+-- In a game that never saves, an older session stands for its lines: no position is missing.
 abbrev pub OlderSessionsStand : Type 0
 OlderSessionsStand =
     (g : Story) (seed : Seed) (es : Lines) (bytes : Bytes) → IsPlayedWith g seed es → NeverSaves g.game →

@@ -101,7 +101,8 @@ pub data GoesOn (s : PlayedSession) (old new : Standing) : PlayEnd → Type 0 wh
   memory : new ≡ attached_to old s.name → GoesOn s old new end.Memory
   plays : (o : PlayEnd) → PlaysOn s (EVENT_LIMIT - s.before) (attached_to old s.name) new o → GoesOn s old new o
 
--- Why bytes of a store give no session of a story with these digests; another game is named before other routines.
+-- Why bytes of a store give no session of a story with these digests. Where both the game and the routines are others,
+-- it is the game that is named.
 abbrev pub Refuses : Digests → Bytes → JournalRefusal → Type 0
 Refuses own bytes (refusal.Unmade n mark) = recover bytes ≡ Unmade n mark
 Refuses own bytes (refusal.Damaged part at) = recover bytes ≡ Damaged part at

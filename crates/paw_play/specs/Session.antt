@@ -31,7 +31,7 @@ state_after events (WaitsAt p path r) = kept_bytes (state_at events p path r)
 state_after events (Halted halt.Over r) = kept_bytes (state_at events prompt.Over [] r)
 state_after events _ = []
 
--- The reading waits, or the game is over with its last line.
+-- The reading waits, or the game is over and no line is left.
 abbrev pub IsPlayed : Ending → Type 0
 IsPlayed (WaitsAt p path r) = Unit {0}
 IsPlayed (Halted halt.Over r) = r.events ≡ []

@@ -26,7 +26,7 @@ pub record IsPlayedWith (g : Story) (seed : Seed) (es : Lines) : Type 0 where
 
 -- ---- a reading from one of its pieces on ----
 
--- The run with its closed pieces from number n on, and the steps of those after that one.
+-- The run with its closed pieces from number n on, and the steps of the pieces from number n + 1 on.
 abbrev pub since_piece : ℕ → Run → Run
 since_piece n r = record r { pieces = drop n r.pieces; traces = drop (suc n) r.traces }
 

@@ -14,7 +14,7 @@ use Rattle.paw_reading.specs.Turn.{Ending, WaitsAt, Halted, text_of}
 use Rattle.paw_play.specs.declared.PlayEnd.{PlayEnd}
 use Rattle.paw_play.specs.declared.PlayEnd.TheVariants as end
 
--- The halt that an end of playing is, if it is one.
+-- What ended play for good, by how playing ended; nothing where playing ended for another reason.
 abbrev pub end_halt : PlayEnd → Option Halt
 end_halt end.Ended = Some halt.Over
 end_halt (end.Spent kind) = Some (halt.Spent kind)
@@ -71,8 +71,8 @@ WalkHalts whole most old new halt =
     (n : ℕ) × (n ≤ most) × (r : Run) × (r.events ≡ []) × TakesLines whole old new n (Halted halt r)
 
 -- How a walk that may take this many lines ends, and what it leaves. No line is taken after the one that ends it. None
--- is asked for beyond the most, so where the player still waits after that many the walk is Long. Where memory was
--- lacking, nothing was taken or shown.
+-- is asked for beyond this many: where the player still waits then, the walk is Long. Where memory was lacking, nothing
+-- was taken or shown.
 abbrev pub Walks : EndingOf → ℕ → Standing → Standing → PlayEnd → Type 0
 Walks whole most old new end.InputEnded = (length old.lines < most) × WalkWaits whole old new (length old.lines)
 Walks whole most old new (end.Long events) = (events ≡ EVENT_LIMIT) × WalkWaits whole old new most

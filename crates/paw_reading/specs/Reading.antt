@@ -52,7 +52,8 @@ pub data Out : Type 0 where
 abbrev pub halts : Halt → Run → Out
 halts halt r = Stopped (Halts halt) r
 
--- Play ended with its last piece closed, as it does only where the game is over. Otherwise that piece is dropped.
+-- Whether the last piece of play that ended for good is closed. It is only where the game is over; otherwise that piece
+-- is dropped.
 abbrev pub closes_piece : Halt → Bool
 closes_piece halt.Over = true
 closes_piece _ = false
@@ -85,7 +86,8 @@ printing text go r = if fits r text then go (printed text r) else halts (halt.Sp
 
 -- ---- calls ----
 
--- After a call: reading goes on once the called table was left; a wait gets the caller's frame in front; a stop stays.
+-- After a call: where the called table was left, reading goes on; where play waits in it, the frame of the caller is
+-- put before the open frames; a stop stays.
 abbrev pub after_call : Frame → Onward → Out → Out
 after_call f go (Left b r) = go (f.acted || b) r
 after_call f go (Waits p path r) = Waits p (f ∷ path) r
@@ -109,7 +111,7 @@ is_excepted w f =
     not (flag w SECOND_NOUN_FLAG == NO_WORD) && ((f.noun == flag w SECOND_NOUN_FLAG)
     && ((flag w SECOND_ADJECTIVE_FLAG == NO_WORD) || (f.adjective == flag w SECOND_ADJECTIVE_FLAG)))
 
--- Whether the loop may take an object with these facts: it is there, it has a noun, and it isn't excepted.
+-- Whether the loop may take an object with these facts: there is such an object, it has a noun, and it isn't excepted.
 abbrev pub may_be_taken : World → Option ObjectFacts → Bool
 may_be_taken w facts = option_map_or (λ f. not (f.noun == NO_WORD) && not (is_excepted w f)) facts false
 
@@ -128,8 +130,8 @@ taken g l o r = record r {
   world = referred (with_flag (named r.world (facts_at g o)) LOOP_FLAG o) o;
 }
 
--- Runs the loop over its last n objects, in rising order. For each that it takes, body is read; after the last the loop
--- is closed, and the table is left with an action carried out.
+-- Runs the loop over its last n objects, in rising order. For each that it takes, `body` is read; after the last the
+-- loop is closed, and the table is left with an action carried out.
 unfoldable pub over_objects : Story → ℕ → OpenLoop → (Run → Out) → ℕ → Run → Out
 over_objects g lv l body zero r = Left true (without_loop r)
 over_objects g lv l body (suc n) r =
@@ -173,16 +175,16 @@ waits g p f go r = asked g p f go (closed r) r.events
 
 -- ---- one condact ----
 
--- How reading goes on after a condition: go reads on at the next condact, next at the next entry; QUIT asks its
--- question.
+-- How reading goes on after a condition: where it holds, `go` reads on at the next condact; where it fails, `next`
+-- reads on at the next entry; QUIT asks its question.
 abbrev pub after_test : Story → Frame → Onward → Onward → Condact → Run → Truth → Out
 after_test g f next go c r truth.Yes = go f.acted (noted f c true r)
 after_test g f next go c r truth.No = next f.acted (noted f c false r)
 after_test g f next go c r truth.Ask =
     printing (put_text g.game r.world QUIT_MESSAGE) (waits g prompt.Quit f go) (noted f c true r)
 
--- How reading goes on after PARSE: a sentence is taken, and next reads on at the next entry; otherwise go reads on at
--- the next condact. The bytes of a phrase with no known word are dropped.
+-- How reading goes on after PARSE: where there is a sentence it is taken, and `next` reads on at the next entry;
+-- otherwise `go` reads on at the next condact. The bytes of a phrase with no known word are dropped.
 abbrev pub after_parse : Frame → Onward → Onward → Run → Parsed → Out
 after_parse f next go r (IsSentence s rest) = next f.acted (taken_phrase s rest r)
 after_parse f next go r (IsUnknown rest) = go f.acted (record r { pending = rest })
@@ -193,9 +195,9 @@ abbrev pub coming_phrase : Story → Run → Parsed
 coming_phrase g r =
     parsed g.game r.pending r.earlier (flag r.world PRONOUN_NOUN_FLAG) (flag r.world PRONOUN_ADJECTIVE_FLAG)
 
--- How reading goes on after an action: go reads on at the next condact, next at the next entry, and sub reads a table
--- one level deeper. The last row is never used: an action of the program answers Spent where its text doesn't fit, and
--- here play has ended before that.
+-- How reading goes on after an action: `go` reads on at the next condact, `next` at the next entry, and `sub` reads a
+-- table one level deeper. The last row, that of Spent, is never used: an action of the program answers Spent where a
+-- text doesn't fit, but here play has then ended before the action is carried out.
 abbrev pub after_action : Story → Called → ℕ → Frame → Onward → Onward → Effect → Run → Out
 after_action g sub lv f next go effect.Go r = go true r
 after_action g sub lv f next go (effect.Exit a) r = Left a r
@@ -232,7 +234,7 @@ reads_one g sub lv f next go c r =
 abbrev pub frame_at : ℕ → ℕ → ℕ → Bool → Frame
 frame_at t e k acted = record { table = t; entry = e; at = k; acted = acted }
 
--- Reads the condacts of an entry from number k on; after the last, next goes on with the next entry.
+-- Reads the condacts of an entry from number k on; after the last, `next` goes on with the next entry.
 unfoldable pub condacts : Story → Called → ℕ → ℕ → ℕ → Onward → ℕ → List Condact → Bool → Run → Out
 condacts g sub lv t e next k [] acted r = next acted r
 condacts g sub lv t e next k (c ∷ cs) acted r =
@@ -260,7 +262,8 @@ abbrev pub from_place : Story → Called → ℕ → ℕ → ℕ → ℕ → Boo
 from_place g sub lv t e zero = entries g sub lv t e (drop e (table_at g.game t))
 from_place g sub lv t e (suc k) = rest_of_entry g sub lv t e (suc k)
 
--- Goes on with the open loop: looks for the next object after the one that it took last, and reads on after its DOALL.
+-- Goes on with the open loop: looks for the next object after the one that was taken last, and reads on after the
+-- loop's DOALL.
 abbrev pub rest_of_loop : Story → Called → ℕ → OpenLoop → Run → Out
 rest_of_loop g sub lv l =
     let body = from_place g sub lv l.table l.entry (suc l.at) true in

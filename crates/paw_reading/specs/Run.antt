@@ -41,7 +41,7 @@ fits r text = nat_le (length r.current + length text) PIECE_LIMIT
 abbrev pub printed : Text → Run → Run
 printed text r = record r { current = r.current ++ text }
 
--- The run with this world.
+-- The run with this world in place of its own.
 abbrev pub with_world : World → Run → Run
 with_world w r = record r { world = w }
 
@@ -105,6 +105,7 @@ spoken s w =
     let second = with_flag (with_flag first SECOND_NOUN_FLAG s.second_noun) SECOND_ADJECTIVE_FLAG s.second_adjective in
     with_flag (with_flag second PRONOUN_NOUN_FLAG s.pronoun_noun) PRONOUN_ADJECTIVE_FLAG s.pronoun_adjective
 
--- The run once it took a phrase: its sentence is in the flags, and its verb is the earlier one for the next phrase.
+-- The run once it took a phrase: its sentence is in the flags, and its verb is kept for the next phrase, which may lack
+-- one.
 abbrev pub taken_phrase : Sentence → Bytes → Run → Run
 taken_phrase s rest r = record r { world = spoken s r.world; pending = rest; earlier = s.verb }

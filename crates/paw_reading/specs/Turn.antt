@@ -55,18 +55,19 @@ Sequel = Run → Ending
 abbrev pub saying : Text → Sequel → Run → Ending
 saying text go r = if fits r text then go (printed text r) else Halted (halt.Spent spent.Text) r
 
--- The world once a location is described: one flag falls always, one in the dark, and one without light.
+-- The world once a location is described: one flag falls always, one more in the dark, and one more in the dark without
+-- light.
 abbrev pub described : World → World
 described w =
     fallen_if (is_unlit w) UNLIT_VIEW_FLAG (fallen_if (is_dark w) DARK_VIEW_FLAG (fallen VIEW_FLAG w))
 
--- The world after a time frame: flags 5 to 8 fall; one more falls in the dark, and one without light.
+-- The world after a time frame: flags 5 to 8 fall; one more falls in the dark, and one more in the dark without light.
 abbrev pub time_frame_passed : World → World
 time_frame_passed w =
     let always = fallen LAST_FRAME_FLAG (fallen 7 (fallen 6 (fallen FIRST_FRAME_FLAG w))) in
     fallen_if (is_unlit w) UNLIT_FRAME_FLAG (fallen_if (is_dark w) DARK_FRAME_FLAG always)
 
--- What is shown first: a message where it is dark without light, and the location's text otherwise.
+-- What is shown of a location before table 1 is read: a message where it is dark without light, and its text otherwise.
 abbrev pub view_text : GameLists → World → Text
 view_text g w = if is_unlit w then say_text g w DARK_MESSAGE else location_text g w (flag w LOCATION_FLAG)
 
@@ -86,8 +87,8 @@ abbrev pub timeout_text : GameLists → World → Text
 timeout_text g w = say_text g (with_timeout true w) TIMEOUT_MESSAGE
 
 -- What a run does at the main prompt. With no line left it waits; an ignored line closes an empty piece, and the next
--- one is taken; a timeout says its message and leads to the time frame; any other line becomes the pending bytes, with
--- no verb before, and leads to its first phrase.
+-- one is taken; at a timeout a message is said, and the time frame comes; any other line becomes the pending bytes,
+-- with no verb before, and leads to its first phrase.
 unfoldable pub at_main : Story → (TurnPhase → Sequel) → Run → Lines → Ending
 at_main g go r [] = WaitsAt prompt.Main [] (record r { events = [] })
 at_main g go r (line ∷ lines) =
@@ -96,8 +97,9 @@ at_main g go r (line ∷ lines) =
     else if is_timeout line then saying (timeout_text g.game r.world) (go AtTimeFrame) (heard line s)
     else go AtPhrase (record s { world = with_timeout false r.world; pending = line; earlier = NO_WORD })
 
--- How a turn goes on with the next phrase. A sentence counts a turn and is responded to; no known word is refused, and
--- the rest of the line dropped; with none left the prompt is shown, the piece closed, and a line awaited.
+-- How a turn goes on with the next phrase. A sentence counts a turn and is responded to. To a phrase with no known word
+-- a message is said, and the rest of the line is dropped. Where no phrase is left the prompt is shown, the piece is
+-- closed, and a line is awaited.
 abbrev pub after_phrase : Story → (TurnPhase → Sequel) → Run → Parsed → Ending
 after_phrase g go r (IsSentence s rest) =
     go AtResponse (with_world (counted (taken_phrase s rest r).world) (taken_phrase s rest r))
@@ -105,13 +107,14 @@ after_phrase g go r (IsUnknown _) = saying (say_text g.game r.world UNKNOWN_MESS
 after_phrase g go r IsNoPhrase =
     saying (prompt_text g.game r.world) (λ s. at_main g go (closed s) s.events) (line_dropped r)
 
--- What is said where no entry answered and no exit is there: no way, for a direction; otherwise the verb is impossible.
+-- What is said where no entry answered and no exit is there: for a direction, that there is no way; for any other verb,
+-- that it is impossible.
 abbrev pub refusal_text : GameLists → World → Text
 refusal_text g w =
     say_text g w (if nat_lt (flag w VERB_FLAG) FIRST_PLAIN_VERB then NO_WAY_MESSAGE else IMPOSSIBLE_MESSAGE)
 
--- Takes the exit for the verb, and describes the location that it leads to; without an exit that is said, the line is
--- dropped, and the time frame comes.
+-- Takes the exit for the verb, and describes the location that it leads to. Where there is no such exit a message says
+-- so, the line is dropped, and the time frame comes.
 abbrev pub connected : Story → (TurnPhase → Sequel) → Run → Option ℕ → Ending
 connected g go r None = saying (refusal_text g.game r.world) (go AtTimeFrame) (line_dropped r)
 connected g go r (Some to) = go AtDescribe (with_world (with_flag r.world LOCATION_FLAG to) r)
@@ -124,8 +127,8 @@ after_left g go zero false r = connected g go r (exit_at g.game (flag r.world LO
 after_left g go (suc (suc t)) acted r = go AtPhrase (with_world (time_frame_passed r.world) r)
 after_left g go _ acted r = go AtTimeFrame r
 
--- How a turn goes on after a table at level 0: it was left, it waits, or it was stopped. After a stop, play ends for
--- good, or the location is described, again or in a game that starts anew.
+-- How a turn goes on after a table at level 0, which was left, waits, or was stopped. After a stop, play ends for good,
+-- or the location is described, again or in a game that starts anew.
 abbrev pub table_done : Story → (TurnPhase → Sequel) → ℕ → Out → Ending
 table_done g go t (Left acted r) = after_left g go t acted r
 table_done g go t (Waits p path r) = WaitsAt p path r
@@ -144,8 +147,8 @@ turn g (suc n) AtTimeFrame r = table_done g (turn g n) FRAME_TABLE (table_read g
 turn g (suc n) AtPhrase r = after_phrase g (turn g n) r (coming_phrase g r)
 turn g (suc n) AtResponse r = table_done g (turn g n) RESPONSE_TABLE (table_read g RESPONSE_TABLE r)
 
--- How much a run may still read: the rest of its line, what the open piece may still read, and what each line to come
--- brings.
+-- How much a run may still read, bytes and condacts together: the rest of its line, the condacts that the open piece
+-- may still read, and for each line to come its bytes, the condacts of a piece, and one more.
 abbrev pub left_to_read : Run → ℕ
 left_to_read r =
     length r.pending + (READ_LIMIT - length r.read) + sum_by (λ line. length line + suc READ_LIMIT) r.events

@@ -12,8 +12,8 @@ value_in (Some row) x = Some (slice_index row x)
 abbrev pub value_at : RoutineRows → ℕ → ℕ → Option ℕ
 value_at rows n x = value_in (slice_get rows n) x
 
--- Rows stand for the first `count` routines of f, one row of 256 bytes for each. f may be called for each of these
--- routines on each value from 0 to 255, and any byte that it may answer is in the row at that value.
+-- Rows stand for the first `count` routines of f, one row of 256 bytes for each. Each of these routines of f may be
+-- called on each value from 0 to 255, and a byte that it may answer there is the one that its row has at that value.
 pub record StandFor {F : Type 0} (calls : Shared F (ℕ × (ℕ × Unit {0})) ℕ) (f : F) (count : ℕ)
     (rows : RoutineRows) : Type 0 where
   pub one_each : length rows ≡ count

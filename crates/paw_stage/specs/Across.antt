@@ -11,8 +11,8 @@ abbrev pub IsOneOf : {A : Type 0} → List A → A → Type 0
 IsOneOf [] x = ⊥
 IsOneOf (y ∷ ys) x = (x ≡ y) ⊎ IsOneOf ys x
 
--- The stage reports what stands at it (`Tells`) after the calls exactly where it did before. If one of them failed it
--- is one of these, and its count of faults rose, and no other.
+-- The stage reports what stands at it (`Tells`) after the calls if and only if it did before. A call that failed is one
+-- of these, and its count of faults rose, and no other.
 pub record FailsOnlyBy {S : Type 0} (g : Ghosts S) (calls : List StageCall) (failed : Option StageCall) (old new : S)
     : Type 0 where
   pub tells : g.Tells old ↔ g.Tells new
@@ -27,8 +27,8 @@ IfTelling g old new Holds = g.Tells old → Holds (g.standing old) (g.standing n
 abbrev pub EachMoment : {S : Type 0} → Ghosts S → S → S → (Moment → Type 0) → Type 0
 EachMoment g old new Inside = Moments g.clock g.since old new Inside
 
--- Calls in two parts, of which the second begins once a store is attached: `Before` holds for each moment of the calls,
--- or it comes since the second part began, and `After` holds for all of those. There may be no second part.
+-- Calls in two parts, of which the second begins once a store is attached. `After` holds for each moment since the
+-- second part began, and `Before` for each other moment of the calls. There may be no second part.
 pub data InTwoParts {S : Type 0} (g : Ghosts S) (old new : S) (Before After : Moment → Type 0) : Type 0 where
   first_alone : EachMoment g old new Before → InTwoParts g old new Before After
   both : (turn : ℕ) → g.clock old ≤ turn → turn ≤ g.clock new → ((m : Moment) → g.since new turn m → After m) →

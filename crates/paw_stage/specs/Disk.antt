@@ -20,8 +20,8 @@ abbrev pub is_dirty : List Range → ℕ → Bool
 is_dirty [] i = false
 is_dirty (r ∷ ranges) i = (nat_le r.from i && nat_lt i r.to) || is_dirty ranges i
 
--- The bytes that a crash may leave: any where the disk was written since the last sync, and any past its length at that
--- sync, up to the greatest since. All others stay.
+-- The bytes that a crash may leave: any byte at a place that was written since the last sync, and past the length at
+-- that sync any bytes, up to the greatest length since. All others stay.
 pub record MayLeave (d : Disk) (image : Bytes) : Type 0 where
   pub no_shorter : length d.synced ≤ length image
   pub no_longer : length image ≤ d.longest
@@ -40,7 +40,7 @@ touched at n new d = record {
   dirty = record { from = at; to = at + n } ∷ d.dirty;
 }
 
--- Inside a write of n bytes, or at its end: nothing was written yet, or at most n bytes were, which may be any.
+-- Inside a write of n bytes, or at its end: nothing was written yet, or up to n bytes were, and these may be any bytes.
 abbrev pub IsInWrite : ℕ → ℕ → Disk → Disk → Type 0
 IsInWrite at n old d = (d ≡ old) ⊎ ((new : Bytes) × (length new ≤ n) × (d ≡ touched at n new old))
 

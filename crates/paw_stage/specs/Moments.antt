@@ -18,8 +18,9 @@ pub record Moment : Type 0 where
 abbrev pub moment_of : Standing → Moment
 moment_of s = record { files = s.files; asked = s.asked; shown = s.shown; attached = s.attached; disk = s.disk }
 
--- What a call does to the time, which doesn't fall, and to the moments since each time up to the call: those before it
--- stay, and only moments inside the call are added, which come since each of these times.
+-- What a call does to the time and to the moments. The time doesn't fall. For each time up to the call, the moments
+-- since it are those of before the call, and others; each of the others lies inside the call, and is one since every
+-- such time.
 pub record Passes (before now : ℕ) (past since : ℕ → Moment → Type 0) (Inside : Moment → Type 0) : Type 0 where
   pub later : before ≤ now
   pub nothing_else : (t : ℕ) (m : Moment) → t ≤ before → since t m →
@@ -54,15 +55,15 @@ pub record InSave (old : Standing) (name : Name) (m : Moment) : Type 0 where
   pub files : (m.files ≡ old.files) ⊎ ((bytes : Option Bytes) × (m.files ≡ file_holding name bytes old.files))
   pub disk : old.attached ≢ Some name → m.disk ≡ old.disk
 
--- A moment inside an attach: all stands as before it, or as before it but with a missing file made, which is empty, or
--- as after it.
+-- A moment inside an attach: all stands as before it, or as after it, or as before it with the file made, empty, where
+-- it was missing.
 abbrev pub InAttach : Standing → Standing → Name → Moment → Type 0
 InAttach old new name m =
     (m ≡ moment_of old) ⊎ (m ≡ record (moment_of old) { files = made_if_missing name (old.files name) old.files })
     ⊎ (m ≡ moment_of new)
 
 -- A moment inside a write of n bytes: the store's file may hold any bytes, and a crash leaves what it left before, or
--- any bytes in the range.
+-- any bytes in the range that is written.
 pub record InWrite (old : Standing) (at n : ℕ) (m : Moment) : Type 0 where
   pub asked : m.asked ≡ old.asked
   pub shown : m.shown ≡ old.shown

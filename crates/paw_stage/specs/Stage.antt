@@ -19,7 +19,7 @@ use Rattle.paw_stage.specs.declared.Asked.TheVariants as asked
 abbrev pub Files : Type 0
 Files = Name → Option Bytes
 
--- The files, once the file of this name holds these bytes, or is gone where there are none.
+-- The files, once the file of this name holds these bytes, or is gone where no bytes are given.
 abbrev pub file_holding : Name → Option Bytes → Files → Files
 file_holding name bytes files = λ n. if bytes_eq n name then bytes else files n
 
@@ -33,7 +33,7 @@ abbrev pub made_if_missing : Name → Option Bytes → Files → Files
 made_if_missing name None files = file_holding name (Some []) files
 made_if_missing name (Some bytes) files = files
 
--- The files, once the attached store, if there is one, holds these bytes: they are those of its file.
+-- The files, once the file of the attached store holds these bytes; the same files where no store is attached.
 abbrev pub store_holding : Option Name → Bytes → Files → Files
 store_holding None bytes files = files
 store_holding (Some name) bytes files = file_holding name (Some bytes) files

@@ -1,5 +1,7 @@
--- The fields of a state in the order of their bytes, each with its rule. Numbers of several bytes have the low one first.
-use Rattle.std.specs.Prelude.{◌≡◌, ℕ, suc, ◌+◌, ◌-◌, ◌*◌, ◌^◌, ◌<◌, ◌==◌, ◌||◌, Bool, true, false, not, List, [], ◌∷◌, ◌++◌}
+-- The fields of a state in the order of their bytes, each with its rule. Numbers of several bytes have the low one
+-- first.
+use Rattle.std.specs.Prelude.{◌≡◌, ℕ, suc, ◌+◌, ◌-◌, ◌*◌, ◌^◌, ◌<◌, ◌==◌, ◌||◌, Bool, true, false, not, List, [], ◌∷◌}
+use Rattle.std.specs.Prelude.{◌++◌}
 use Rattle.std.specs.Prelude.{Option, Some, None, All, length, flat_map, is_some, nat_lt, nat_le, slice_get}
 use Rattle.std.specs.Prelude.{slice_index_or, if◌then◌else◌}
 use Rattle.std.specs.Option.{option_map_or, unwrap_or}
@@ -41,7 +43,7 @@ two n holds = record { value = n; bytes = two_bytes n; holds = holds }
 abbrev pub eight : ℕ → (GameLists → Bool) → Field
 eight n holds = record { value = n; bytes = to_le_bytes w64 n; holds = holds }
 
--- Each of these bytes as a field, whose rule takes its number, counted from i on, and the byte.
+-- Each of these bytes as a field; the rule of a field takes the number of its byte, counted from i on, and the byte.
 unfoldable pub one_by_one : (ℕ → ℕ → GameLists → Bool) → ℕ → Bytes → List Field
 one_by_one holds i [] = []
 one_by_one holds i (b ∷ bs) = byte b (holds i b) ∷ one_by_one holds (suc i) bs
@@ -73,9 +75,9 @@ held_fields h =
     byte h.there (λ g. nat_le h.there 1)
     ∷ if_there h.there (one_by_one (λ i flag g. true) 0 h.flags ++ one_by_one place_holds 0 h.places)
 
--- The fields of a row, the first of n used ones (all 0 where n is 0): table, entry, condact, 1 where an action was
--- carried out. Its table is the one called, or 0, 1 or 2 for the outermost. The last used row is at the condact with
--- this code, each other at a PROCESS.
+-- The fields of a row, where n rows are used from this one on: table, entry, condact, and 1 where an action was carried
+-- out; all are 0 where n is 0. Its table is the one called, or 0, 1 or 2 for the outermost. The last used row is at the
+-- condact with this code, each other at a PROCESS.
 abbrev pub row_fields : ℕ → (GameLists → Option ℕ) → ℕ → FrameField → List Field
 row_fields code caller n r = if_there n (
     byte r.table (λ g. may_open (caller g) r.table)

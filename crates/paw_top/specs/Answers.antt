@@ -18,7 +18,7 @@ load_calls = call.Load ∷ call.LoadAbsent ∷ []
 
 -- ---- memory ----
 
--- A fact for the answer Memory, about the place where memory was lacking.
+-- Where the answer is Memory, this holds of the place where memory was lacking; of any other answer nothing is said.
 abbrev pub IfMemory : Outcome → (MemoryAt → Type 0) → Type 0
 IfMemory (outcome.Memory at) P = P at
 IfMemory _ P = Unit {0}

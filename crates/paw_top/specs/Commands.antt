@@ -40,8 +40,8 @@ pub data Command : Type 0 where
 
 -- ---- words ----
 
--- The words that follow the name of a command: none; or a file's name, or a number that is read this way, which usage
--- shows by these letters, and then others.
+-- The words that follow the name of a command: none; or the name of a file, or a number that is read by this function,
+-- and then the words of another form. Usage shows the name and the number by these letters.
 pub data Form : Type 0 where
   End : Form
   File : (shown : Text) (others : Form) → Form

@@ -12,8 +12,8 @@ use Rattle.paw_world.specs.World.{World, place}
 abbrev pub objects_at : World → ℕ → List ℕ
 objects_at w p = filter (λ o. place w o == p) (range_with_len 0 (length w.places))
 
--- The weight of an object with these facts, where its contents have this weight. A container whose own weight isn't 0
--- weighs its contents too, at most 255 together. Where there is no such object it is 0.
+-- The weight of an object with these facts, where its contents have this weight. In a container whose own weight isn't
+-- 0 the contents count too, and both together are at most 255. Where there is no such object it is 0.
 abbrev pub filled_weight : Option ObjectFacts → ℕ → ℕ
 filled_weight None contents = 0
 filled_weight (Some f) contents = if f.container && not (f.weight == 0) then min 255 (f.weight + contents) else f.weight

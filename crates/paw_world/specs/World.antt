@@ -121,7 +121,7 @@ is_unlit w = is_dark w && not (is_lit w)
 abbrev pub fallen : ℕ → World → World
 fallen f w = with_flag w f (flag w f - 1)
 
--- The world with a flag lower by one where this is so, and the same world otherwise.
+-- The world with a flag lower by one where this condition holds, and the same world otherwise.
 abbrev pub fallen_if : Bool → ℕ → World → World
 fallen_if b f w = if b then fallen f w else w
 

@@ -1,5 +1,6 @@
 -- Numbers as the code counts them, and what it keeps of them.
-use Rattle.std.specs.Prelude.{◌≡◌, ℕ, ◌+◌, ◌*◌, ◌-◌, ◌^◌, ◌<◌, ◌==◌, ◌||◌, min, Bool, false, List, [], length, sum_by, count_by}
+use Rattle.std.specs.Prelude.{◌≡◌, ℕ, ◌+◌, ◌*◌, ◌-◌, ◌^◌, ◌<◌, ◌==◌, ◌||◌, min, Bool, false, List, [], length, sum_by}
+use Rattle.std.specs.Prelude.{count_by}
 use Rattle.std.specs.Prelude.{filter, flat_map, slice_get, if◌then◌else◌}
 use Rattle.std.specs.List.{slice_index_or, list_any, range_with_len}
 use Rattle.std.specs.Option.{unwrap_or}

@@ -21,7 +21,7 @@ abbrev pub slot_with_records : Bytes → SlotState
 slot_with_records bytes = record { records = two_byte_number 0 bytes; state = slot_state bytes }
 
 -- The same, for a commit to go on from; none where it has no state, or is of an older version.
-abbrev pub kept_slot : List ℕ → Option SlotState
+abbrev pub kept_slot : Bytes → Option SlotState
 kept_slot bytes = if is_current bytes && has_state bytes then Some (slot_with_records bytes) else None
 
 -- The bytes on their way to the store or from it, the state and the piece that the session shows, and the states of

@@ -3,7 +3,8 @@
 use Rattle.std.specs.Prelude.{◌≡◌, ℕ, ◌∷◌, ◌++◌, take, drop}
 use Rattle.paw_base.specs.Bytes.{Bytes, Text}
 use Rattle.paw_journal.specs.declared.refusal.SessionPart.TheVariants as part
-use Rattle.paw_journal.specs.Session.{Digests, state_length, made_mark, Recovered, Damaged, Shown, slot_shows, made_header}
+use Rattle.paw_journal.specs.Session.{Digests, state_length, made_mark, Recovered, Damaged, Shown, slot_shows}
+use Rattle.paw_journal.specs.Session.{made_header}
 
 -- The digests of a game and of routines.
 abbrev pub digests_of : Bytes → Bytes → Digests

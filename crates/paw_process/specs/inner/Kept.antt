@@ -1,6 +1,7 @@
 -- What is kept of a machine that waits, and the rules that it keeps: words that contracts between crates and proofs use
 -- besides those of specs/Kept.antt.
-use Rattle.std.specs.Prelude.{ℕ, suc, ◌-◌, ◌==◌, ◌&&◌, Bool, true, false, not, List, [], ◌∷◌, Option, Some, None, reverse, take}
+use Rattle.std.specs.Prelude.{ℕ, suc, ◌-◌, ◌==◌, ◌&&◌, Bool, true, false, not, List, [], ◌∷◌, Option, Some, None}
+use Rattle.std.specs.Prelude.{reverse, take}
 use Rattle.std.specs.Prelude.{length, slice_get, nat_lt, if◌then◌else◌}
 use Rattle.std.specs.Option.{option_map, option_map_or, option_or, unwrap_or}
 use Rattle.paw_base.specs.declared.codes.TheConstants.{PROCESS, DOALL}

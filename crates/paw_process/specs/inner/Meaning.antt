@@ -90,7 +90,7 @@ turned_halt _ = None
 abbrev pub TableHalts : Halt → Run → Out → Type 0
 TableHalts halt r x = (s : Run) × (x ≡ halts halt s) × SamePast r s
 
--- What a reading comes to, where the machine turned out so, with these frames and this run: the outermost table was
+-- How a reading ends or goes on where the machine stopped so, with these frames and this run: the outermost table was
 -- left; the location is described again; the piece is closed, and the run goes on at the prompt along the frames; or
 -- play has ended for good.
 abbrev pub ComesTo : Story → Turned → List Frame → Run → Out → Type 0

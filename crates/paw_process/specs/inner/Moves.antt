@@ -1,5 +1,6 @@
 -- What each move of the machine makes of the reading.
-use Rattle.std.specs.Prelude.{◌≡◌, ℕ, suc, ◌+◌, ◌<◌, ◌≤◌, ◌++◌, Bool, true, false, List, ◌∷◌, Option, Some, None, length}
+use Rattle.std.specs.Prelude.{◌≡◌, ℕ, suc, ◌+◌, ◌<◌, ◌≤◌, ◌++◌, Bool, true, false, List, ◌∷◌, Option, Some, None}
+use Rattle.std.specs.Prelude.{length}
 use Rattle.paw_base.specs.Bytes.{Lines, RoutineRows}
 use Rattle.paw_base.specs.declared.limits.TheConstants.{ENTRY_LIMIT}
 use Rattle.paw_base.specs.declared.parts.Condact.{Condact}

@@ -19,7 +19,7 @@ trial_end halt.Over = end.Ended
 trial_end (halt.Spent kind) = end.Spent kind
 trial_end (halt.TooDeep table) = end.TooDeep table
 
--- A trial has no text where the reading has ended for good, or where memory was wanting.
+-- A trial has no text where the reading has ended for good, or where memory was lacking.
 abbrev pub TrialStopsAs : TrialEnd → Ending → Type 0
 TrialStopsAs end.Memory e = Unit {0}
 TrialStopsAs stop (Halted halt r) = stop ≡ trial_end halt
