@@ -1,5 +1,6 @@
 -- The code of a name.
-use Rattle.std.proofs.Common.{◌≡◌, ℕ, ◌<◌, ◌==◌, Bool, true, false, not, ◌&&◌, List, [], ◌∷◌, length, map, refl, sym, ap, ◌∙◌}
+use Rattle.std.proofs.Common.{◌≡◌, ℕ, ◌<◌, ◌==◌, Bool, true, false, not, ◌&&◌, List, [], ◌∷◌, length, map, refl, sym}
+use Rattle.std.proofs.Common.{ap, ◌∙◌}
 use Rattle.std.proofs.Common.{Option, Some, None, option_map, unwrap_or, subst, bytes_eq}
 use Rattle.std.specs.List.{position, prefix_len, list_all}
 use Rattle.std.proofs.lemmas.Bool.Decides.{Decides-eqb}
@@ -7,9 +8,11 @@ use Rattle.std.proofs.lemmas.Slice.Eq.{bytes_eq-Decides}
 use Rattle.std.proofs.lemmas.List.Quantifiers.{position-Some}
 use Rattle.std.proofs.Math.ListN.{length-map}
 use Rattle.paw_base.proofs.Filled.{has_space, has_space-plain, bytes_eq-filled_up, is_plain-capitals}
-use Rattle.paw_base.proofs.Table.{held, CONDACTS_are, length-condact_lines, within_code, below, each_plain, plain_is, line_plain, is_plain-name_of, HasName-name_of}
+use Rattle.paw_base.proofs.Table.{held, CONDACTS_are, length-condact_lines, within_code, below, each_plain, plain_is}
+use Rattle.paw_base.proofs.Table.{line_plain, is_plain-name_of, HasName-name_of}
 use Rattle.paw_base.specs.declared.rows.TheConstants.{CONDACTS}
-use Rattle.paw_base.specs.Condacts.{CondactLine, no_line, condact_lines, plain_line, line_of, name_of, capitals, code_named, is_indirect}
+use Rattle.paw_base.specs.Condacts.{CondactLine, no_line, condact_lines, plain_line, line_of, name_of, capitals}
+use Rattle.paw_base.specs.Condacts.{code_named, is_indirect}
 use Rattle.paw_base.specs.inner.Condacts.{filled_up, HasName, IsPlainCode, is_plain}
 
 abbrev code_with : List ℕ → Option ℕ

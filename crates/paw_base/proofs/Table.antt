@@ -1,5 +1,7 @@
 -- The table of condacts: as the code holds it, and what is true of each code.
-use Rattle.std.proofs.Common.{◌≡◌, ℕ, zero, suc, ◌-◌, ◌≤◌, ◌<◌, ◌==◌, Bool, true, false, not, ◌&&◌, ◌||◌, inl, inr, subst, arith, Option, Some, None, SomeIff, List, length, map, refl, sym, ap, ◌∙◌, nat_le, nat_lt, bytes_eq}
+use Rattle.std.proofs.Common.{◌≡◌, ℕ, zero, suc, ◌-◌, ◌≤◌, ◌<◌, ◌==◌, Bool, true, false, not, ◌&&◌, ◌||◌, inl, inr}
+use Rattle.std.proofs.Common.{subst, arith, Option, Some, None, SomeIff, List, length, map, refl, sym, ap, ◌∙◌, nat_le}
+use Rattle.std.proofs.Common.{nat_lt, bytes_eq}
 use Rattle.std.specs.Prelude.{if◌then◌else◌}
 use Rattle.std.specs.List.{slice_index_or, list_all}
 use Rattle.std.specs.Char.{is_ascii_uppercase, is_ascii_digit}
@@ -12,8 +14,11 @@ use Rattle.paw_base.specs.declared.rows.CondactRow.{CondactRow}
 use Rattle.paw_base.specs.declared.rows.ParamKind.{ParamKind}
 use Rattle.paw_base.specs.declared.rows.TheConstants.{CONDACTS}
 use Rattle.paw_base.specs.declared.codes.TheConstants.{INDIRECT, PROCESS, DOALL}
-use Rattle.paw_base.specs.Condacts.{CondactLine, is_code, is_plain_code, is_indirect, may_be_indirect, plain_code, plain_line, indirect_line, no_line, condact_lines, line_of, name_of, first_kind, second_kind, param_count, capitals}
-use Rattle.paw_base.specs.inner.Condacts.{filled_up, before_space, condact_row_of, row_of_line, HasName, IsCode, IsPlainCode, is_plain}
+use Rattle.paw_base.specs.Condacts.{CondactLine, is_code, is_plain_code, is_indirect, may_be_indirect, plain_code}
+use Rattle.paw_base.specs.Condacts.{plain_line, indirect_line, no_line, condact_lines, line_of, name_of, first_kind}
+use Rattle.paw_base.specs.Condacts.{second_kind, param_count, capitals}
+use Rattle.paw_base.specs.inner.Condacts.{filled_up, before_space, condact_row_of, row_of_line, HasName, IsCode}
+use Rattle.paw_base.specs.inner.Condacts.{IsPlainCode, is_plain}
 
 -- ---- the code's table is the definition's
 

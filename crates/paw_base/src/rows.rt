@@ -4,7 +4,8 @@ ghost use Rattle.std.specs.Prelude.{◌≡◌, ◌+◌, ℕ, true, SomeIff, IfSo
 ghost use Rattle.std.specs.List.{position};
 ghost use Rattle.paw_base.specs.Condacts.{param_count, name_of, capitals, code_named, may_be_indirect, plain_code};
 ghost use Rattle.paw_base.specs.Condacts.{plain_line, indirect_line};
-ghost use Rattle.paw_base.specs.inner.Condacts.{IsCode, IsPlainCode, HasName, is_act, is_plain, before_space, condact_row_of, row_of_line};
+ghost use Rattle.paw_base.specs.inner.Condacts.{IsCode, IsPlainCode, HasName, is_act, is_plain, before_space};
+ghost use Rattle.paw_base.specs.inner.Condacts.{condact_row_of, row_of_line};
 ghost use Rattle.paw_base.specs.inner.Condacts.{filled_up};
 
 use crate::codes::{DOALL, INDIRECT, PROCESS};

@@ -1,5 +1,6 @@
 -- Two ways of calling tables read a table alike, where they do so for each table that it calls.
-use Rattle.std.proofs.Common.{◌≡◌, ℕ, zero, suc, ◌-◌, ◌≤◌, ◌<◌, Bool, true, false, ◌||◌, List, [], ◌∷◌, Option, Some, None, inl, inr, refl}
+use Rattle.std.proofs.Common.{◌≡◌, ℕ, zero, suc, ◌-◌, ◌≤◌, ◌<◌, Bool, true, false, ◌||◌, List, [], ◌∷◌, Option, Some}
+use Rattle.std.proofs.Common.{None, inl, inr, refl}
 use Rattle.std.proofs.Common.{sym, ap, subst, ◌∙◌, length, arith}
 use Rattle.std.specs.Prelude.{if◌then◌else◌, nat_lt}
 use Rattle.std.specs.List.{AllByRecursion}
@@ -23,12 +24,16 @@ use Rattle.paw_effects.specs.Holds.{is_condition, holds}
 use Rattle.paw_effects.specs.Effects.{Done, effect_of}
 use Rattle.paw_reading.specs.declared.places.Frame.{Frame}
 use Rattle.paw_reading.specs.declared.places.OpenLoop.{OpenLoop}
-use Rattle.paw_reading.specs.Run.{Run, closed, fits, printed, with_world, without_loop, anew, is_ignored, heard, reply, is_yes, is_no}
+use Rattle.paw_reading.specs.Run.{Run, closed, fits, printed, with_world, without_loop, anew, is_ignored, heard, reply}
+use Rattle.paw_reading.specs.Run.{is_yes, is_no}
 use Rattle.paw_reading.specs.Run.{taken_phrase}
 use Rattle.paw_reading.specs.declared.places.Halt.TheVariants as halt
-use Rattle.paw_reading.specs.Reading.{Redescribes, Restarts, Halts, Out, Left, Waits, Stopped, halts, printing, noted, after_call, at_level, next_object_or}
-use Rattle.paw_reading.specs.Reading.{is_taken, taken, over_objects, loop_of, over, answered, asked, waits, after_test, after_parse, after_action}
-use Rattle.paw_reading.specs.Reading.{coming_phrase, carried_out, acts, reads_one, condacts, is_for_now, entries, from_place, rest_of_loop, read_at_level}
+use Rattle.paw_reading.specs.Reading.{Redescribes, Restarts, Halts, Out, Left, Waits, Stopped, halts, printing, noted}
+use Rattle.paw_reading.specs.Reading.{after_call, at_level, next_object_or}
+use Rattle.paw_reading.specs.Reading.{is_taken, taken, over_objects, loop_of, over, answered, asked, waits, after_test}
+use Rattle.paw_reading.specs.Reading.{after_parse, after_action}
+use Rattle.paw_reading.specs.Reading.{coming_phrase, carried_out, acts, reads_one, condacts, is_for_now, entries}
+use Rattle.paw_reading.specs.Reading.{from_place, rest_of_loop, read_at_level}
 use Rattle.paw_reading.specs.Reading.{game_over}
 use Rattle.paw_reading.specs.inner.Steps.{goodbye, quit_question}
 use Rattle.paw_reading.proofs.Keeps.{either, prints, Keeps, IsOrNone, CallsKeeping, plain_keeps}

@@ -11,7 +11,8 @@ use Rattle.paw_game.specs.Game.{GameLists}
 use Rattle.paw_game.specs.Valid.{is_argument}
 use Rattle.paw_world.specs.World.{World, flag}
 use Rattle.paw_effects.specs.Indirect.{as_plain, plain_with}
-use Rattle.paw_check.specs.Verbs.{is_among, does_one_of, writes_first, writes_second, first_may_be_verb, reaches_verb, may_write_verb}
+use Rattle.paw_check.specs.Verbs.{is_among, does_one_of, writes_first, writes_second, first_may_be_verb, reaches_verb}
+use Rattle.paw_check.specs.Verbs.{may_write_verb}
 
 -- what holds of what is carried out, and where nothing is, holds of all
 pub of_carried : {A B : Type 0} (P : B → Type 0) (f : A → B) (o : Option A) (past : B) → ((x : A) → o ≡ Some x → P (f x)) → P past

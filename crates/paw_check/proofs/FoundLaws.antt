@@ -1,5 +1,6 @@
 -- What the code finds of a table's entries is what the definition says that their reading takes.
-use Rattle.std.proofs.Common.{◌≡◌, ◌≤◌, ◌<◌, ◌⊎◌, inl, inr, ℕ, zero, suc, ◌+◌, ◌*◌, Bool, true, false, cond, List, [], ◌∷◌, length, refl, sym, ap, ◌∙◌, arith}
+use Rattle.std.proofs.Common.{◌≡◌, ◌≤◌, ◌<◌, ◌⊎◌, inl, inr, ℕ, zero, suc, ◌+◌, ◌*◌, Bool, true, false, cond, List, []}
+use Rattle.std.proofs.Common.{◌∷◌, length, refl, sym, ap, ◌∙◌, arith}
 use Rattle.std.specs.Prelude.{sum_by, count_by, slice_get}
 use Rattle.std.specs.List.{range_with_len, slice_index_or}
 use Rattle.std.specs.Option.{unwrap_or}
@@ -10,7 +11,8 @@ use Rattle.paw_game.specs.declared.parts.Entry.{Entry}
 use Rattle.paw_check.specs.Calls.{is_call_of}
 use Rattle.paw_check.specs.Costs.{with_call, counting}
 use Rattle.paw_check.specs.declared.sums.TableSums.{TableSums}
-use Rattle.paw_check.specs.inner.Capped.{HoldsCapped, capped, cell_at, dot, is_doall, over_every, over_verb, condacts_of_entries, entries_take}
+use Rattle.paw_check.specs.inner.Capped.{HoldsCapped, capped, cell_at, dot, is_doall, over_every, over_verb}
+use Rattle.paw_check.specs.inner.Capped.{condacts_of_entries, entries_take}
 use Rattle.paw_check.specs.inner.Found.{IsFound, found_sum, found_taken}
 use Rattle.paw_check.proofs.Capped.{add_alike, product_alike, from_capped}
 use Rattle.paw_check.proofs.Entries.{counting_parts, every_parts}

@@ -1,5 +1,6 @@
 -- How long a text is as it is printed.
-use Rattle.std.proofs.Common.{◌≡◌, ℕ, zero, suc, ◌+◌, ◌<◌, ◌≤◌, ◌==◌, ◌||◌, Bool, true, false, List, [], ◌∷◌, ◌++◌, refl}
+use Rattle.std.proofs.Common.{◌≡◌, ℕ, zero, suc, ◌+◌, ◌<◌, ◌≤◌, ◌==◌, ◌||◌, Bool, true, false, List, [], ◌∷◌, ◌++◌}
+use Rattle.std.proofs.Common.{refl}
 use Rattle.std.proofs.Common.{length, map, max, slice_get, arith, length-append, subst}
 use Rattle.std.specs.Prelude.{if◌then◌else◌, sum_by, decimal}
 use Rattle.std.specs.Option.{option_map, unwrap_or}

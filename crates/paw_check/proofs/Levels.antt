@@ -1,5 +1,6 @@
 -- Tables read the same with as many levels of calls as there are, and those after a description never describe again.
-use Rattle.std.proofs.Common.{◌≡◌, ℕ, zero, suc, ◌+◌, ◌≤◌, ◌<◌, true, false, List, [], ◌∷◌, ◌⊎◌, inl, inr, Option, Some, None, refl, sym}
+use Rattle.std.proofs.Common.{◌≡◌, ℕ, zero, suc, ◌+◌, ◌≤◌, ◌<◌, true, false, List, [], ◌∷◌, ◌⊎◌, inl, inr, Option, Some}
+use Rattle.std.proofs.Common.{None, refl, sym}
 use Rattle.std.proofs.Common.{subst, length, arith}
 use Rattle.std.specs.Prelude.{nat_le}
 use Rattle.std.specs.List.{list_any, list_all, AllByRecursion}
@@ -21,7 +22,8 @@ use Rattle.paw_effects.proofs.Asking.{Leads}
 use Rattle.paw_effects.proofs.EachRow.{effect_leads}
 use Rattle.paw_reading.specs.Bounds.{ValidStory}
 use Rattle.paw_reading.specs.Run.{Run}
-use Rattle.paw_reading.specs.Reading.{Redescribes, Restarts, Halts, Out, Left, Waits, Stopped, at_level, read_at_level, called, table_read}
+use Rattle.paw_reading.specs.Reading.{Redescribes, Restarts, Halts, Out, Left, Waits, Stopped, at_level, read_at_level}
+use Rattle.paw_reading.specs.Reading.{called, table_read}
 use Rattle.paw_reading.proofs.Keeps.{called_keeps}
 use Rattle.paw_check.specs.Calls.{turn_tables, table_condacts, called_below, most_levels}
 use Rattle.paw_check.specs.Verdicts.{call_too_deep, redescribes}
@@ -31,7 +33,8 @@ use Rattle.paw_check.proofs.Members.{In}
 use Rattle.paw_check.proofs.ActionFacts.{MayLead}
 use Rattle.paw_check.proofs.Leading.{effect_goes}
 use Rattle.paw_check.proofs.Alike.{AtMost, Settled, Alike, LeadsOn, plain_alike, none_at, reads_alike}
-use Rattle.paw_check.proofs.Reaching.{each_of_table, no_first, calls_below, of_game, in_reached, NoneAt, none_called, none_behind}
+use Rattle.paw_check.proofs.Reaching.{each_of_table, no_first, calls_below, of_game, in_reached, NoneAt, none_called}
+use Rattle.paw_check.proofs.Reaching.{none_behind}
 
 -- a condact after which the location is described again is one that may do so
 describing : (s : Story) (w : World) (c : Condact) → (effect_of s w c).act.effect ≡ effect.Redescribe → redescribes c ≡ true

@@ -1,5 +1,6 @@
 -- How long a list of objects is.
-use Rattle.std.proofs.Common.{◌≡◌, ℕ, suc, ◌+◌, ◌*◌, ◌≤◌, ◌==◌, Bool, true, false, List, [], ◌∷◌, ◌++◌, refl, sym, ap, subst}
+use Rattle.std.proofs.Common.{◌≡◌, ℕ, suc, ◌+◌, ◌*◌, ◌≤◌, ◌==◌, Bool, true, false, List, [], ◌∷◌, ◌++◌, refl, sym, ap}
+use Rattle.std.proofs.Common.{subst}
 use Rattle.std.proofs.Common.{length, map, max, slice_get, arith, length-append}
 use Rattle.std.specs.Prelude.{if◌then◌else◌, not, sum_by, filter}
 use Rattle.std.specs.List.{range_with_len}
@@ -8,7 +9,8 @@ use Rattle.std.proofs.lemmas.Nat.{mul-le}
 use Rattle.std.proofs.lemmas.List.Filters.{sum_by-filter_both, length-filter_both}
 use Rattle.std.proofs.lemmas.List.FromFn.{length-range_with_len}
 use Rattle.std.proofs.lemmas.List.Sums.{sum_by-cons}
-use Rattle.paw_base.specs.declared.messages.TheConstants.{SEEN_MESSAGE, INVENTORY_MESSAGE, IS_WORN_MESSAGE, EMPTY_HANDED_MESSAGE}
+use Rattle.paw_base.specs.declared.messages.TheConstants.{SEEN_MESSAGE, INVENTORY_MESSAGE, IS_WORN_MESSAGE}
+use Rattle.paw_base.specs.declared.messages.TheConstants.{EMPTY_HANDED_MESSAGE}
 use Rattle.paw_base.specs.declared.flags.TheConstants.{LOCATION_FLAG}
 use Rattle.paw_base.specs.declared.places.TheConstants.{WORN_PLACE}
 use Rattle.paw_game.specs.declared.parts.ObjectRow.{ObjectRow}
@@ -18,7 +20,8 @@ use Rattle.paw_world.specs.Weight.{objects_at}
 use Rattle.paw_effects.specs.Worlds.{IsOf}
 use Rattle.paw_effects.specs.Presence.{is_held, held_objects}
 use Rattle.paw_effects.specs.Texts.{object_text, put_text, say_text}
-use Rattle.paw_effects.specs.Lists.{as_lines, joint, others_joined, as_sentence, lists_are_sentences, list_of, list_or_say, seen_text, texts_at}
+use Rattle.paw_effects.specs.Lists.{as_lines, joint, others_joined, as_sentence, lists_are_sentences, list_of}
+use Rattle.paw_effects.specs.Lists.{list_or_say, seen_text, texts_at}
 use Rattle.paw_effects.specs.Lists.{worn_text, held_text, inventory_text, here_list_text}
 use Rattle.paw_check.specs.Measures.{most_put, most_said}
 use Rattle.paw_check.specs.Prints.{most_list, most_list_or_said, most_inventory}

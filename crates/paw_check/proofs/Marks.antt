@@ -1,16 +1,19 @@
 -- How long the marks and the counts of a game are.
-use Rattle.std.proofs.Common.{◌≡◌, ℕ, zero, suc, ◌-◌, ◌<◌, ◌≤◌, ◌==◌, Bool, true, false, List, [], ◌∷◌, ◌++◌, refl, length}
+use Rattle.std.proofs.Common.{◌≡◌, ℕ, zero, suc, ◌-◌, ◌<◌, ◌≤◌, ◌==◌, Bool, true, false, List, [], ◌∷◌, ◌++◌, refl}
+use Rattle.std.proofs.Common.{length}
 use Rattle.std.proofs.Common.{nat_le, arith, length-append}
 use Rattle.std.specs.Prelude.{if◌then◌else◌, decimal, codes}
 use Rattle.std.specs.List.{list_all, slice_index_or}
 use Rattle.std.proofs.lemmas.Bool.{and_parts, leb-true}
 use Rattle.paw_base.specs.declared.flags.TheConstants.{SCORE_FLAG, LOW_TURNS_FLAG, HIGH_TURNS_FLAG}
-use Rattle.paw_base.specs.declared.messages.TheConstants.{TURNS_MESSAGE, TURN_MESSAGE, PLURAL_MESSAGE, TURNS_END_MESSAGE}
+use Rattle.paw_base.specs.declared.messages.TheConstants.{TURNS_MESSAGE, TURN_MESSAGE, PLURAL_MESSAGE}
+use Rattle.paw_base.specs.declared.messages.TheConstants.{TURNS_END_MESSAGE}
 use Rattle.paw_base.specs.declared.messages.TheConstants.{SCORE_MESSAGE, SCORE_END_MESSAGE}
 use Rattle.paw_base.specs.declared.parts.Condact.{Condact}
 use Rattle.paw_base.specs.declared.rows.ParamKind.{ParamKind}
 use Rattle.paw_base.specs.declared.rows.ParamKind.TheVariants.{Absent}
-use Rattle.paw_base.specs.Condacts.{CondactLine, condact_lines, no_line, plain_line, indirect_line, line_of, is_indirect, name_of, first_kind, second_kind}
+use Rattle.paw_base.specs.Condacts.{CondactLine, condact_lines, no_line, plain_line, indirect_line, line_of}
+use Rattle.paw_base.specs.Condacts.{is_indirect, name_of, first_kind, second_kind}
 use Rattle.paw_game.specs.Game.{GameLists}
 use Rattle.paw_world.specs.World.{World, flag}
 use Rattle.paw_effects.specs.Standing.{AreBytes}

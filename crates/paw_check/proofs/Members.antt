@@ -1,5 +1,6 @@
 -- What stands in a list, and what is found in it.
-use Rattle.std.proofs.Common.{◌≡◌, ℕ, zero, suc, ◌+◌, ◌≤◌, ◌<◌, ◌==◌, ◌||◌, Bool, true, false, List, [], ◌∷◌, ◌++◌, ◌⊎◌, inl, inr, Option, Some, None, refl}
+use Rattle.std.proofs.Common.{◌≡◌, ℕ, zero, suc, ◌+◌, ◌≤◌, ◌<◌, ◌==◌, ◌||◌, Bool, true, false, List, [], ◌∷◌, ◌++◌, ◌⊎◌}
+use Rattle.std.proofs.Common.{inl, inr, Option, Some, None, refl}
 use Rattle.std.proofs.Common.{sym, subst, length, arith}
 use Rattle.std.specs.Prelude.{filter, nat_lt, not, cond}
 use Rattle.std.specs.List.{list_any, flat_map, range_with_len, position, position_or_len}

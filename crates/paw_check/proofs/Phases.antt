@@ -1,5 +1,6 @@
 -- Through all phases of all turns no piece takes more than it may.
-use Rattle.std.proofs.Common.{◌≡◌, ◌≢◌, ℕ, zero, suc, ◌+◌, ◌*◌, ◌≤◌, ◌<◌, Bool, true, false, List, [], ◌∷◌, Option, Some, None, refl, length, arith}
+use Rattle.std.proofs.Common.{◌≡◌, ◌≢◌, ℕ, zero, suc, ◌+◌, ◌*◌, ◌≤◌, ◌<◌, Bool, true, false, List, [], ◌∷◌, Option}
+use Rattle.std.proofs.Common.{Some, None, refl, length, arith}
 use Rattle.std.proofs.Common.{length-append}
 use Rattle.std.specs.Prelude.{if◌then◌else◌, All}
 use Rattle.std.proofs.lemmas.Bool.{le-leb}
@@ -11,11 +12,15 @@ use Rattle.paw_phrase.proofs.Phrases.{parsed-shorter}
 use Rattle.paw_phrase.proofs.Shortens.{phrases_take_two}
 use Rattle.paw_effects.specs.Story.{Story}
 use Rattle.paw_reading.specs.Bounds.{IsLine, ValidStory}
-use Rattle.paw_reading.specs.Run.{Run, closed, fits, printed, with_world, line_dropped, is_timeout, is_ignored, heard, taken_phrase}
+use Rattle.paw_reading.specs.Run.{Run, closed, fits, printed, with_world, line_dropped, is_timeout, is_ignored, heard}
+use Rattle.paw_reading.specs.Run.{taken_phrase}
 use Rattle.paw_reading.specs.declared.places.Halt.TheVariants as halt
-use Rattle.paw_reading.specs.Reading.{Redescribes, Restarts, Halts, Out, Left, Waits, Stopped, coming_phrase, table_read}
-use Rattle.paw_reading.specs.Turn.{TurnPhase, AtDescribe, AtTimeFrame, AtPhrase, AtResponse, Ending, WaitsAt, Halted, Unended, saying, described}
-use Rattle.paw_reading.specs.Turn.{time_frame_passed, view_text, counted, prompt_text, timeout_text, at_main, after_phrase, refusal_text, connected}
+use Rattle.paw_reading.specs.Reading.{Redescribes, Restarts, Halts, Out, Left, Waits, Stopped, coming_phrase}
+use Rattle.paw_reading.specs.Reading.{table_read}
+use Rattle.paw_reading.specs.Turn.{TurnPhase, AtDescribe, AtTimeFrame, AtPhrase, AtResponse, Ending, WaitsAt, Halted}
+use Rattle.paw_reading.specs.Turn.{Unended, saying, described}
+use Rattle.paw_reading.specs.Turn.{time_frame_passed, view_text, counted, prompt_text, timeout_text, at_main}
+use Rattle.paw_reading.specs.Turn.{after_phrase, refusal_text, connected}
 use Rattle.paw_reading.specs.Turn.{after_left, table_done, turn, phases_left, opening, reading}
 use Rattle.paw_reading.specs.inner.Steps.{line_set, unknown_text}
 use Rattle.paw_reading.proofs.Ends.{turns_end}
@@ -23,8 +28,10 @@ use Rattle.paw_check.specs.Promise.{EndsWithin}
 use Rattle.paw_check.specs.inner.Within.{TableWithin}
 use Rattle.paw_check.proofs.Allowances.{for_phrases, whole_line}
 use Rattle.paw_check.proofs.TurnWorlds.{described_of, time_frame_of, exit_of}
-use Rattle.paw_check.proofs.Room.{Takes, Says, TablesTake, DescribesOnly, reads_of, text_of, round_reads, round_text, reads_behind, text_behind}
-use Rattle.paw_check.proofs.Room.{with_line, with_words, with_events, heard_ready, line_ready, taken_ready, closed_ready, opening_ready}
+use Rattle.paw_check.proofs.Room.{Takes, Says, TablesTake, DescribesOnly, reads_of, text_of, round_reads, round_text}
+use Rattle.paw_check.proofs.Room.{reads_behind, text_behind}
+use Rattle.paw_check.proofs.Room.{with_line, with_words, with_events, heard_ready, line_ready, taken_ready}
+use Rattle.paw_check.proofs.Room.{closed_ready, opening_ready}
 use Rattle.paw_check.proofs.Room.{Ready, Ends, HasRoom, less, moved, said, dropped, left_room, phrase_room}
 
 -- a bound is enough for all rounds of a piece, and for what is said beside them

@@ -1,5 +1,6 @@
 -- Which tables reading may reach, level by level.
-use Rattle.std.proofs.Common.{◌≡◌, ℕ, zero, suc, ◌+◌, ◌≤◌, ◌<◌, ◌==◌, ◌||◌, Bool, true, false, List, [], ◌∷◌, ◌⊎◌, inl, inr, Option, Some}
+use Rattle.std.proofs.Common.{◌≡◌, ℕ, zero, suc, ◌+◌, ◌≤◌, ◌<◌, ◌==◌, ◌||◌, Bool, true, false, List, [], ◌∷◌, ◌⊎◌, inl}
+use Rattle.std.proofs.Common.{inr, Option, Some}
 use Rattle.std.proofs.Common.{None, refl, sym, ap, subst, length, arith, IsTrue}
 use Rattle.std.specs.Prelude.{nat_le, nat_lt, count_by, cond}
 use Rattle.std.specs.List.{list_all, list_any, flat_map, range_with_len, AllByRecursion}
@@ -20,9 +21,11 @@ use Rattle.paw_game.proofs.Kept.{first_of_and, second_of_and, table_kept}
 use Rattle.paw_game.proofs.Right.{right_condact}
 use Rattle.paw_effects.proofs.Placed.{first_kept}
 use Rattle.paw_check.specs.Verbs.{is_among}
-use Rattle.paw_check.specs.Calls.{turn_tables, all_tables, calls_table, is_call_of, table_condacts, called_below, reached_from, most_levels}
+use Rattle.paw_check.specs.Calls.{turn_tables, all_tables, calls_table, is_call_of, table_condacts, called_below}
+use Rattle.paw_check.specs.Calls.{reached_from, most_levels}
 use Rattle.paw_check.specs.Verdicts.{entry_with, first_with}
-use Rattle.paw_check.proofs.Members.{In, or_left, or_right, any_front, any_behind, any_of_joined, any_within, Found, found_within, any_weaker, in_filtered, of_filtered}
+use Rattle.paw_check.proofs.Members.{In, or_left, or_right, any_front, any_behind, any_of_joined, any_within, Found}
+use Rattle.paw_check.proofs.Members.{found_within, any_weaker, in_filtered, of_filtered}
 use Rattle.paw_check.proofs.Members.{in_range, of_range, no_position}
 
 -- ---- what a condact of a table is found by ----

@@ -10,7 +10,8 @@ use Rattle.paw_phrase.specs.inner.Leaving.{IsTwoLess}
 use Rattle.paw_effects.specs.Story.{Story}
 use Rattle.paw_effects.specs.inner.Standing.{IsWorldOf}
 use Rattle.paw_reading.specs.Bounds.{IsLine, ValidStory}
-use Rattle.paw_reading.specs.Run.{Run, closed, printed, with_world, line_dropped, is_timeout, heard, with_timeout, spoken, taken_phrase}
+use Rattle.paw_reading.specs.Run.{Run, closed, printed, with_world, line_dropped, is_timeout, heard, with_timeout}
+use Rattle.paw_reading.specs.Run.{spoken, taken_phrase}
 use Rattle.paw_reading.specs.Reading.{Out, coming_phrase, table_read}
 use Rattle.paw_reading.specs.Turn.{TurnPhase, AtDescribe, AtTimeFrame, AtPhrase, AtResponse, Ending, Unended}
 use Rattle.paw_reading.specs.Turn.{view_text, counted, prompt_text, timeout_text, refusal_text}

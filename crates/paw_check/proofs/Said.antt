@@ -1,5 +1,6 @@
 -- What a turn says beside its tables isn't longer than it is measured.
-use Rattle.std.proofs.Common.{ℕ, ◌+◌, ◌≤◌, ◌==◌, Bool, true, false, List, [], ◌∷◌, refl, length, slice_get, arith, length-append}
+use Rattle.std.proofs.Common.{ℕ, ◌+◌, ◌≤◌, ◌==◌, Bool, true, false, List, [], ◌∷◌, refl, length, slice_get, arith}
+use Rattle.std.proofs.Common.{length-append}
 use Rattle.std.specs.Prelude.{if◌then◌else◌, max, nat_lt}
 use Rattle.std.specs.Option.{unwrap_or}
 use Rattle.paw_game.specs.Game.{GameLists}

@@ -1,11 +1,15 @@
 -- How long is what may be said of an action on an object.
-use Rattle.std.proofs.Common.{◌≡◌, ℕ, ◌≤◌, Bool, true, false, List, [], ◌∷◌, ◌++◌, Option, Some, None, IfSome, refl, length, arith, length-append}
+use Rattle.std.proofs.Common.{◌≡◌, ℕ, ◌≤◌, Bool, true, false, List, [], ◌∷◌, ◌++◌, Option, Some, None, IfSome, refl}
+use Rattle.std.proofs.Common.{length, arith, length-append}
 use Rattle.std.specs.Prelude.{if◌then◌else◌}
-use Rattle.paw_base.specs.declared.messages.TheConstants.{NOT_WORN_MESSAGE, WORN_MESSAGE, HELD_MESSAGE, NOT_HERE_MESSAGE}
+use Rattle.paw_base.specs.declared.messages.TheConstants.{NOT_WORN_MESSAGE, WORN_MESSAGE, HELD_MESSAGE}
+use Rattle.paw_base.specs.declared.messages.TheConstants.{NOT_HERE_MESSAGE}
 use Rattle.paw_base.specs.declared.messages.TheConstants.{TOO_MANY_MESSAGE, NOT_CARRIED_MESSAGE, WORN_ALREADY_MESSAGE}
-use Rattle.paw_base.specs.declared.messages.TheConstants.{NOT_WEARABLE_MESSAGE, NOT_REMOVABLE_MESSAGE, HANDS_FULL_MESSAGE}
+use Rattle.paw_base.specs.declared.messages.TheConstants.{NOT_WEARABLE_MESSAGE, NOT_REMOVABLE_MESSAGE}
+use Rattle.paw_base.specs.declared.messages.TheConstants.{HANDS_FULL_MESSAGE}
 use Rattle.paw_base.specs.declared.messages.TheConstants.{TOO_HEAVY_MESSAGE, NOT_TAKEN_OUT_MESSAGE, NOT_HELD_MESSAGE}
-use Rattle.paw_base.specs.declared.messages.TheConstants.{NOT_PUT_ON_MESSAGE, NOT_INSIDE_MESSAGE, NAME_END_MESSAGE, IMPOSSIBLE_MESSAGE}
+use Rattle.paw_base.specs.declared.messages.TheConstants.{NOT_PUT_ON_MESSAGE, NOT_INSIDE_MESSAGE, NAME_END_MESSAGE}
+use Rattle.paw_base.specs.declared.messages.TheConstants.{IMPOSSIBLE_MESSAGE}
 use Rattle.paw_game.specs.Game.{GameLists}
 use Rattle.paw_world.specs.World.{World, moved}
 use Rattle.paw_effects.specs.Texts.{object_text, put_text, say_text}

@@ -1,5 +1,6 @@
 -- What reading a table does beside its condacts leaves the world one of the game, and the verb as it is.
-use Rattle.std.proofs.Common.{◌≡◌, ◌≢◌, ℕ, suc, ◌+◌, ◌<◌, ◌%◌, Bool, true, false, List, Option, Some, None, refl, ◌∙◌, All, arith}
+use Rattle.std.proofs.Common.{◌≡◌, ◌≢◌, ℕ, suc, ◌+◌, ◌<◌, ◌%◌, Bool, true, false, List, Option, Some, None, refl, ◌∙◌}
+use Rattle.std.proofs.Common.{All, arith}
 use Rattle.std.specs.Prelude.{slice_get}
 use Rattle.std.proofs.lemmas.List.{get_or-set_other}
 use Rattle.paw_base.specs.declared.parts.Condact.{Condact}

@@ -1,5 +1,6 @@
 -- What the reading of one table takes, where what its calls take is known.
-use Rattle.std.proofs.Common.{◌≡◌, ℕ, zero, suc, ◌+◌, ◌-◌, ◌≤◌, ◌<◌, Bool, true, false, ◌||◌, List, [], ◌∷◌, Option, Some, None, inl, inr}
+use Rattle.std.proofs.Common.{◌≡◌, ℕ, zero, suc, ◌+◌, ◌-◌, ◌≤◌, ◌<◌, Bool, true, false, ◌||◌, List, [], ◌∷◌, Option}
+use Rattle.std.proofs.Common.{Some, None, inl, inr}
 use Rattle.std.proofs.Common.{refl, sym, ◌∙◌, subst, length, drop, arith, IsTrue}
 use Rattle.std.specs.Prelude.{if◌then◌else◌, IfSome, All, sum_by, cond, filter}
 use Rattle.std.specs.List.{flat_map, AllByRecursion}
@@ -40,8 +41,10 @@ use Rattle.paw_reading.specs.Run.{Run, Step, closed, printed, with_world, withou
 use Rattle.paw_reading.specs.Run.{is_ignored, heard, reply, is_yes, is_no, taken_phrase}
 use Rattle.paw_reading.specs.declared.places.Halt.TheVariants as halt
 use Rattle.paw_reading.specs.Reading.{Redescribes, Restarts, Halts, Stop, Out, Left, Waits, Stopped}
-use Rattle.paw_reading.specs.Reading.{noted, after_call, at_level, next_object_or, is_taken, taken, over_objects, loop_of, over, answered, asked, waits}
-use Rattle.paw_reading.specs.Reading.{after_test, after_parse, coming_phrase, after_action, carried_out, acts, reads_one, condacts, is_for_now}
+use Rattle.paw_reading.specs.Reading.{noted, after_call, at_level, next_object_or, is_taken, taken, over_objects}
+use Rattle.paw_reading.specs.Reading.{loop_of, over, answered, asked, waits}
+use Rattle.paw_reading.specs.Reading.{after_test, after_parse, coming_phrase, after_action, carried_out, acts}
+use Rattle.paw_reading.specs.Reading.{reads_one, condacts, is_for_now}
 use Rattle.paw_reading.specs.Reading.{entries, from_place, rest_of_loop, read_at_level, game_over}
 use Rattle.paw_reading.specs.inner.Steps.{goodbye, quit_question}
 use Rattle.paw_reading.proofs.EachCondact.{by_test}
@@ -53,7 +56,8 @@ use Rattle.paw_check.proofs.TurnWorlds.{timeout_of, phrase_of}
 use Rattle.paw_check.proofs.TableWorlds.{taken_of, anew_of, acted_of, tested_of, timeout_verb, taken_verb}
 use Rattle.paw_check.proofs.ActionFacts.{MayLead}
 use Rattle.paw_check.proofs.Leading.{effect_goes}
-use Rattle.paw_check.proofs.Uses.{of_kind, used, own_of, Closed, Another, nothing, noted_use, printed_use, first_use, closed_more, may_read, may_print}
+use Rattle.paw_check.proofs.Uses.{of_kind, used, own_of, Closed, Another, nothing, noted_use, printed_use, first_use}
+use Rattle.paw_check.proofs.Uses.{closed_more, may_read, may_print}
 
 -- ---- what stands while a table is read ----
 

@@ -1,5 +1,6 @@
 -- What the code keeps of a game's texts is what the definition says that its condacts print.
-use Rattle.std.proofs.Common.{◌≡◌, ◌≤◌, ◌<◌, ◌⊎◌, inl, inr, ℕ, zero, suc, ◌+◌, ◌*◌, Bool, true, false, cond, List, [], ◌∷◌, length, map, refl, sym, ap, ◌∙◌, arith}
+use Rattle.std.proofs.Common.{◌≡◌, ◌≤◌, ◌<◌, ◌⊎◌, inl, inr, ℕ, zero, suc, ◌+◌, ◌*◌, Bool, true, false, cond, List, []}
+use Rattle.std.proofs.Common.{◌∷◌, length, map, refl, sym, ap, ◌∙◌, arith}
 use Rattle.std.specs.Prelude.{◌==◌, sum_by, slice_get, if◌then◌else◌}
 use Rattle.std.specs.List.{slice_index_or}
 use Rattle.std.specs.Option.{unwrap_or}
@@ -12,7 +13,8 @@ use Rattle.paw_base.specs.declared.parts.Condact.{Condact}
 use Rattle.paw_base.specs.Condacts.{is_indirect, plain_code}
 use Rattle.paw_game.specs.Game.{GameLists}
 use Rattle.paw_check.specs.Measures.{greatest, longest_name, most_bytes, most_at, most_of, most_put, most_said}
-use Rattle.paw_check.specs.Prints.{most_flag, most_of_action, most_inventory, most_count, most_score, most_list, most_list_or_said}
+use Rattle.paw_check.specs.Prints.{most_flag, most_of_action, most_inventory, most_count, most_score, most_list}
+use Rattle.paw_check.specs.Prints.{most_list_or_said}
 use Rattle.paw_check.specs.Prints.{most_named, most_printed, most_text, silent}
 use Rattle.paw_check.specs.declared.prints.Printed.{Printed}
 use Rattle.paw_check.specs.declared.prints.Printed.TheVariants as printed

@@ -1,5 +1,6 @@
 -- What a turn does beside its tables leaves the world one of the game.
-use Rattle.std.proofs.Common.{◌≡◌, ℕ, ◌+◌, ◌-◌, ◌<◌, ◌≤◌, ◌/◌, ◌%◌, Bool, true, false, List, Some, refl, map, length, min, arith}
+use Rattle.std.proofs.Common.{◌≡◌, ℕ, ◌+◌, ◌-◌, ◌<◌, ◌≤◌, ◌/◌, ◌%◌, Bool, true, false, List, Some, refl, map, length}
+use Rattle.std.proofs.Common.{min, arith}
 use Rattle.std.proofs.Math.Nat.{min-le_left}
 use Rattle.paw_game.specs.Game.{GameLists}
 use Rattle.paw_game.specs.Tables.{exit_at}

@@ -1,5 +1,6 @@
 -- What leaves the verb's flag of a world as it is.
-use Rattle.std.proofs.Common.{◌≡◌, ◌⊎◌, ℕ, suc, ◌+◌, ◌-◌, ◌<◌, ◌==◌, Bool, true, false, List, [], ◌∷◌, Option, Some, None}
+use Rattle.std.proofs.Common.{◌≡◌, ◌⊎◌, ℕ, suc, ◌+◌, ◌-◌, ◌<◌, ◌==◌, Bool, true, false, List, [], ◌∷◌, Option, Some}
+use Rattle.std.proofs.Common.{None}
 use Rattle.std.proofs.Common.{refl, sym, ◌∙◌, subst, length, take, drop, slice_get, arith, inr}
 use Rattle.std.specs.Prelude.{if◌then◌else◌, fold, nat_le, slice_index}
 use Rattle.std.specs.Option.{option_map_or}
@@ -7,11 +8,13 @@ use Rattle.std.proofs.lemmas.Bool.{eqb-false, leb-false}
 use Rattle.std.proofs.lemmas.List.{get_or-set_other, get_or-append_right, get_or-drop, length-take-le}
 use Rattle.paw_base.specs.declared.words.TheConstants.{NO_WORD}
 use Rattle.paw_base.specs.declared.places.TheConstants.{CARRIED_PLACE, NOT_CREATED_PLACE}
-use Rattle.paw_base.specs.declared.flags.TheConstants.{VERB_FLAG, REFERRED_FLAG, REFERRED_PLACE_FLAG, REFERRED_WEIGHT_FLAG}
+use Rattle.paw_base.specs.declared.flags.TheConstants.{VERB_FLAG, REFERRED_FLAG, REFERRED_PLACE_FLAG}
+use Rattle.paw_base.specs.declared.flags.TheConstants.{REFERRED_WEIGHT_FLAG}
 use Rattle.paw_base.specs.declared.flags.TheConstants.{REFERRED_CONTAINER_FLAG, REFERRED_WEARABLE_FLAG}
 use Rattle.paw_base.specs.declared.parts.ObjectFacts.{ObjectFacts}
 use Rattle.paw_game.specs.Game.{GameLists}
-use Rattle.paw_world.specs.World.{World, Position, flag, with_flag, place, with_place, let_go, taken_up, moved, at_position}
+use Rattle.paw_world.specs.World.{World, Position, flag, with_flag, place, with_place, let_go, taken_up, moved}
+use Rattle.paw_world.specs.World.{at_position}
 use Rattle.paw_world.specs.Weight.{weight}
 use Rattle.paw_effects.specs.declared.act.Effect.TheVariants as effect
 use Rattle.paw_effects.specs.Done.{Done}

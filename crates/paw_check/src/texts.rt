@@ -6,7 +6,8 @@ ghost use Rattle.paw_game.specs.Valid.{Valid};
 ghost use Rattle.paw_base.specs.declared.messages.TheConstants.{SEEN_MESSAGE, NOTHING_THERE_MESSAGE, IS_WORN_MESSAGE};
 ghost use Rattle.paw_check.specs.Bounds.{most_view, most_refusal};
 ghost use Rattle.paw_check.specs.Measures.{greatest, most_at, most_of, most_put, most_said};
-ghost use Rattle.paw_check.specs.Prints.{most_list, most_list_or_said, most_inventory, most_count, most_score, most_of_action};
+ghost use Rattle.paw_check.specs.Prints.{most_list, most_list_or_said, most_inventory, most_count, most_score};
+ghost use Rattle.paw_check.specs.Prints.{most_of_action};
 ghost use Rattle.paw_check.specs.inner.Capped.{HoldsCapped, capped};
 ghost use Rattle.paw_check.specs.inner.Texts.{ArePrints, most_outside, most_end};
 

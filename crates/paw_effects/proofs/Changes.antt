@@ -1,5 +1,6 @@
 -- What a condact does to the world of a game that is played.
-use Rattle.std.proofs.Common.{◌≡◌, ℕ, suc, ◌+◌, ◌-◌, ◌<◌, ◌%◌, Bool, true, false, ◌||◌, List, [], ◌∷◌, Option, Some, None, inl, inr}
+use Rattle.std.proofs.Common.{◌≡◌, ℕ, suc, ◌+◌, ◌-◌, ◌<◌, ◌%◌, Bool, true, false, ◌||◌, List, [], ◌∷◌, Option, Some}
+use Rattle.std.proofs.Common.{None, inl, inr}
 use Rattle.std.proofs.Common.{refl, sym, ap, ◌∙◌, subst, length, take, drop, slice_get, IsTrue, arith}
 use Rattle.std.specs.Option.{option_or, option_map_or}
 use Rattle.std.specs.Prelude.{find, if◌then◌else◌, nat_lt, IfSome, fold, sum_by, slice_index, All}
@@ -25,7 +26,8 @@ use Rattle.paw_game.specs.Valid.{Valid, is_argument, is_parameter, is_within}
 use Rattle.paw_game.specs.inner.Valid.{is_right}
 use Rattle.paw_game.proofs.Kept.{exit-leads}
 use Rattle.paw_game.proofs.Right.{right-first, right-second}
-use Rattle.paw_world.specs.World.{World, Position, is_somewhere, flag, with_flag, place, here, moved, with_objects_returned, at_position}
+use Rattle.paw_world.specs.World.{World, Position, is_somewhere, flag, with_flag, place, here, moved}
+use Rattle.paw_world.specs.World.{with_objects_returned, at_position}
 use Rattle.paw_world.specs.World.{drawn_on, position_of, keeping, kept_position}
 use Rattle.paw_world.specs.Draws.{random_word}
 use Rattle.paw_routines.specs.Rows.{value_in, value_at}
@@ -41,7 +43,8 @@ use Rattle.paw_effects.specs.declared.object_search.Spot.TheVariants as spot
 use Rattle.paw_effects.specs.declared.object_search.Spot.TheVariants.{Here, At}
 use Rattle.paw_effects.specs.declared.object_words.ObjectReply.{ObjectReply}
 use Rattle.paw_effects.specs.ObjectActions.{first_that_holds, hindrances, destination, tried, acted_on}
-use Rattle.paw_effects.specs.ObjectSearch.{fits_sentence, names as names_facts, least_fitting, fitting_at, first_fitting}
+use Rattle.paw_effects.specs.ObjectSearch.{fits_sentence, names as names_facts, least_fitting, fitting_at}
+use Rattle.paw_effects.specs.ObjectSearch.{first_fitting}
 use Rattle.paw_effects.specs.AutoActions.{looks_at, acted_on_found}
 use Rattle.paw_effects.specs.Referring.{referred, referred_to_none, with_referred_facts, flag_of_fact}
 use Rattle.paw_effects.specs.Meanings.{Meaning, Tests, Acts}
@@ -50,8 +53,10 @@ use Rattle.paw_effects.specs.Story.{story_of}
 use Rattle.paw_effects.specs.Holds.{answers, tested_by}
 use Rattle.paw_effects.specs.Standing.{AreBytes}
 use Rattle.paw_effects.specs.inner.Standing.{IsPositionOf, MayBePosition}
-use Rattle.paw_effects.proofs.Worlds.{byte_at, IsWorldAt, IsPlace, few_locations, few_objects, parameter_small, world_of, later, flag_small}
-use Rattle.paw_effects.proofs.Worlds.{flagged, place_of, place_is_small, here_place, named, moved_so, weight_small, returned_so}
+use Rattle.paw_effects.proofs.Worlds.{byte_at, IsWorldAt, IsPlace, few_locations, few_objects, parameter_small}
+use Rattle.paw_effects.proofs.Worlds.{world_of, later, flag_small}
+use Rattle.paw_effects.proofs.Worlds.{flagged, place_of, place_is_small, here_place, named, moved_so, weight_small}
+use Rattle.paw_effects.proofs.Worlds.{returned_so}
 
 module _ (g : GameLists) (v : Valid g) (seed n : ℕ) where
   abbrev pub Is : World → Type 0

@@ -1,5 +1,6 @@
 -- What is true of each condact: how reading goes on after it, and what it leaves of a world.
-use Rattle.std.proofs.Common.{◌≡◌, ◌≢◌, ℕ, suc, ◌+◌, ◌<◌, Bool, true, false, List, [], Option, refl, slice_get, length, All, IsTrue, arith}
+use Rattle.std.proofs.Common.{◌≡◌, ◌≢◌, ℕ, suc, ◌+◌, ◌<◌, Bool, true, false, List, [], Option, refl, slice_get, length}
+use Rattle.std.proofs.Common.{All, IsTrue, arith}
 use Rattle.std.proofs.Math.Nat.{min-le_left}
 use Rattle.std.specs.Prelude.{not}
 use Rattle.paw_base.specs.declared.codes.TheConstants.{QUIT, SAVE, PLACE, PUTO}
@@ -13,7 +14,8 @@ use Rattle.paw_game.specs.Valid.{Valid, is_condact, is_place}
 use Rattle.paw_game.specs.inner.Valid.{is_right}
 use Rattle.paw_game.proofs.Right.{right-first, right-second, right_condact}
 use Rattle.paw_routines.specs.Rows.{value_at}
-use Rattle.paw_world.specs.World.{World, Position, flag, with_flag, place, here, moved, drawn_on, kept_position, with_objects_returned}
+use Rattle.paw_world.specs.World.{World, Position, flag, with_flag, place, here, moved, drawn_on, kept_position}
+use Rattle.paw_world.specs.World.{with_objects_returned}
 use Rattle.paw_world.specs.Weight.{carried_weight}
 use Rattle.paw_effects.specs.declared.act.Act.{Act}
 use Rattle.paw_effects.specs.declared.act.Truth.TheVariants as truth
@@ -28,25 +30,35 @@ use Rattle.paw_effects.specs.ObjectSearch.{first_fitting}
 use Rattle.paw_effects.specs.ObjectActions.{acted_on}
 use Rattle.paw_effects.specs.AutoActions.{looks_at, acted_by_name}
 use Rattle.paw_effects.specs.Standing.{AreBytes}
-use Rattle.paw_effects.specs.Meanings.{Meaning, Tests, Acts, tests, doing, printing_action, changing, meanings, meaning_of}
+use Rattle.paw_effects.specs.Meanings.{Meaning, Tests, Acts, tests, doing, printing_action, changing, meanings}
+use Rattle.paw_effects.specs.Meanings.{meaning_of}
 use Rattle.paw_effects.specs.Indirect.{as_plain}
 use Rattle.paw_effects.specs.Effects.{Done, makes, effect_of, plain_effect}
 use Rattle.paw_effects.specs.Holds.{Tested, answers, holds, plain_holds}
 use Rattle.paw_effects.proofs.Rows.{Each, ◌&◌, each_meaning}
 use Rattle.paw_effects.proofs.Carried.{of_carried, carried_right}
-use Rattle.paw_effects.proofs.Asking.{Leads, LeadsOn, AsksInner, truth_told, move_told, acted_leads, named_leads, loaded_leads}
+use Rattle.paw_effects.proofs.Asking.{Leads, LeadsOn, AsksInner, truth_told, move_told, acted_leads, named_leads}
+use Rattle.paw_effects.proofs.Asking.{loaded_leads}
 use Rattle.paw_effects.proofs.Asking.{leads_by, asks_by, leads_inner, leads_as, same_code, quit_itself, save_itself}
-use Rattle.paw_effects.proofs.Placed.{IsPlaced, PlacesBy, Goes, at_place, here_place, named_is_place, moved_placed, returned_placed, dropped, if_place}
-use Rattle.paw_effects.proofs.Placed.{place_takes, puto_takes, first_kept, second_kept, not_created, swapped_placed, to_placed, autop_goes, putin_goes}
-use Rattle.paw_effects.proofs.Placed.{acted_placed, found_placed, referred_found, loaded_placed, taken_placed, kept_stands, saved_placed}
+use Rattle.paw_effects.proofs.Placed.{IsPlaced, PlacesBy, Goes, at_place, here_place, named_is_place, moved_placed}
+use Rattle.paw_effects.proofs.Placed.{returned_placed, dropped, if_place}
+use Rattle.paw_effects.proofs.Placed.{place_takes, puto_takes, first_kept, second_kept, not_created, swapped_placed}
+use Rattle.paw_effects.proofs.Placed.{to_placed, autop_goes, putin_goes}
+use Rattle.paw_effects.proofs.Placed.{acted_placed, found_placed, referred_found, loaded_placed, taken_placed}
+use Rattle.paw_effects.proofs.Placed.{kept_stands, saved_placed}
 use Rattle.paw_effects.proofs.Placed.{answered_placed, moves_placed, done_placed, tested_placed}
-use Rattle.paw_effects.proofs.Worlds.{IsPlace, argument_small, world_of, flag_small, flagged, place_of, place_is_small, here_place as here_so}
+use Rattle.paw_effects.proofs.Worlds.{IsPlace, argument_small, world_of, flag_small, flagged, place_of, place_is_small}
+use Rattle.paw_effects.proofs.Worlds.{here_place as here_so}
 use Rattle.paw_effects.proofs.Worlds.{named, moved_so, weight_small, returned_so}
-use Rattle.paw_effects.proofs.Changes.{Is, IsNext, SoBy, Puts, next, loaded_so, saved_so, drawn_so, kept_at, keeping_so, back_so, rolled_small}
-use Rattle.paw_effects.proofs.Changes.{flag_so, flags_so, carried_small, all_so, place_is, puto_is, autop_is, putin_is, not_created as not_created_so}
-use Rattle.paw_effects.proofs.Changes.{names, to, if_so, acted_so, meant_so, first_small, value_small, answered_so, named_so, swapped_so, less_small}
+use Rattle.paw_effects.proofs.Changes.{Is, IsNext, SoBy, Puts, next, loaded_so, saved_so, drawn_so, kept_at, keeping_so}
+use Rattle.paw_effects.proofs.Changes.{back_so, rolled_small}
+use Rattle.paw_effects.proofs.Changes.{flag_so, flags_so, carried_small, all_so, place_is, puto_is, autop_is, putin_is}
+use Rattle.paw_effects.proofs.Changes.{not_created as not_created_so}
+use Rattle.paw_effects.proofs.Changes.{names, to, if_so, acted_so, meant_so, first_small, value_small, answered_so}
+use Rattle.paw_effects.proofs.Changes.{named_so, swapped_so, less_small}
 use Rattle.paw_effects.proofs.Changes.{moves_so, done_so, tested_so}
-use Rattle.paw_effects.proofs.Saving.{AreKept, KeepsBy, one_kept, moved_kept, dropped_kept, acted_kept, found_kept, referred_found as kept_found}
+use Rattle.paw_effects.proofs.Saving.{AreKept, KeepsBy, one_kept, moved_kept, dropped_kept, acted_kept, found_kept}
+use Rattle.paw_effects.proofs.Saving.{referred_found as kept_found}
 use Rattle.paw_effects.proofs.Saving.{ramloaded_kept, loaded_kept, answered_kept, moves_kept, done_kept, tested_kept}
 
 -- What a meaning of this code leads to, and what it leaves.

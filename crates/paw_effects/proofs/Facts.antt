@@ -1,5 +1,6 @@
 -- The facts of a game's objects, one after the other.
-use Rattle.std.proofs.Common.{◌≡◌, ℕ, zero, suc, ◌+◌, ◌<◌, List, [], ◌∷◌, ◌++◌, Some, length, map, take, set, slice_get, sym, ap, ◌∙◌, add-one}
+use Rattle.std.proofs.Common.{◌≡◌, ℕ, zero, suc, ◌+◌, ◌<◌, List, [], ◌∷◌, ◌++◌, Some, length, map, take, set, slice_get}
+use Rattle.std.proofs.Common.{sym, ap, ◌∙◌, add-one}
 use Rattle.std.specs.Option.{option_map}
 use Rattle.std.proofs.Math.Seq.{take-suc-set}
 use Rattle.paw_base.specs.declared.parts.ObjectFacts.{ObjectFacts}

@@ -1,5 +1,6 @@
 -- Each condact leaves the objects of a world at places of the game.
-use Rattle.std.proofs.Common.{◌≡◌, ℕ, ◌==◌, ◌||◌, Bool, true, false, List, [], ◌∷◌, Option, Some, None, refl, sym, ap, ◌∙◌, subst, map}
+use Rattle.std.proofs.Common.{◌≡◌, ℕ, ◌==◌, ◌||◌, Bool, true, false, List, [], ◌∷◌, Option, Some, None, refl, sym, ap}
+use Rattle.std.proofs.Common.{◌∙◌, subst, map}
 use Rattle.std.proofs.Common.{length, slice_get, arith, inl, inr, nat_lt, IsTrue}
 use Rattle.std.specs.Prelude.{if◌then◌else◌, fold, slice_index, All}
 use Rattle.std.specs.Option.{option_map, option_map_or}
@@ -22,8 +23,10 @@ use Rattle.paw_game.specs.Valid.{Valid, is_argument, is_within, is_place, is_tex
 use Rattle.paw_game.specs.inner.Valid.{is_right}
 use Rattle.paw_game.proofs.Kept.{first_of_and, facts-start}
 use Rattle.paw_game.proofs.Right.{right-first, right-second}
-use Rattle.paw_world.specs.World.{World, Position, flag, with_flag, place, with_place, here, let_go, taken_up, moved, opening_places}
-use Rattle.paw_world.specs.World.{starting_world, restarted, with_objects_returned, at_position, position_of, keeping, kept_position}
+use Rattle.paw_world.specs.World.{World, Position, flag, with_flag, place, with_place, here, let_go, taken_up, moved}
+use Rattle.paw_world.specs.World.{opening_places}
+use Rattle.paw_world.specs.World.{starting_world, restarted, with_objects_returned, at_position, position_of, keeping}
+use Rattle.paw_world.specs.World.{kept_position}
 use Rattle.paw_effects.specs.declared.object_actions.Action.{Action}
 use Rattle.paw_effects.specs.declared.object_actions.Action.TheVariants as action
 use Rattle.paw_effects.specs.declared.object_words.ObjectReply.{ObjectReply}

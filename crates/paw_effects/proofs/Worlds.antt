@@ -1,5 +1,6 @@
 -- Worlds of a game that is played, and what keeps them so.
-use Rattle.std.proofs.Common.{◌≡◌, ℕ, zero, suc, ◌+◌, ◌-◌, ◌<◌, ◌≤◌, ◌==◌, Bool, true, false, ◌&&◌, ◌||◌, List, [], ◌∷◌, Option, Some, None}
+use Rattle.std.proofs.Common.{◌≡◌, ℕ, zero, suc, ◌+◌, ◌-◌, ◌<◌, ◌≤◌, ◌==◌, Bool, true, false, ◌&&◌, ◌||◌, List, [], ◌∷◌}
+use Rattle.std.proofs.Common.{Option, Some, None}
 use Rattle.std.proofs.Common.{inl, inr, refl, sym, ◌∙◌, subst, length, map, min, slice_get, IsTrue, arith}
 use Rattle.std.specs.Prelude.{if◌then◌else◌, not, nat_lt, nat_le, All, slice_index, slice_set, replicate, sum_by}
 use Rattle.std.specs.List.{list_all}
@@ -21,9 +22,11 @@ use Rattle.paw_game.specs.declared.parts.Word.{Word}
 use Rattle.paw_game.specs.declared.parts.ObjectRow.{ObjectRow}
 use Rattle.paw_game.specs.Game.{GameLists, counts_of}
 use Rattle.paw_game.specs.Tables.{facts_at}
-use Rattle.paw_game.specs.Valid.{Valid, is_argument, is_place, is_parameter, is_within, is_word, words_rise, are_letters, has_word, is_word_or_none, is_object, is_text}
+use Rattle.paw_game.specs.Valid.{Valid, is_argument, is_place, is_parameter, is_within, is_word, words_rise}
+use Rattle.paw_game.specs.Valid.{are_letters, has_word, is_word_or_none, is_object, is_text}
 use Rattle.paw_game.proofs.Kept.{first_of_and, second_of_and, facts_kept, facts-weight}
-use Rattle.paw_world.specs.World.{World, flag, with_flag, place, with_place, here, let_go, taken_up, moved, first_carried, flags_with}
+use Rattle.paw_world.specs.World.{World, flag, with_flag, place, with_place, here, let_go, taken_up, moved}
+use Rattle.paw_world.specs.World.{first_carried, flags_with}
 use Rattle.paw_world.specs.World.{opening_places, starting_world, restarted, with_objects_returned}
 use Rattle.paw_world.specs.Weight.{filled_weight, weight_down, weight, objects_at}
 use Rattle.paw_effects.specs.Worlds.{IsOf}

@@ -1,5 +1,6 @@
 -- Lists break no rule exactly where they are those of a valid game.
-use Rattle.std.proofs.Common.{◌≡◌, ℕ, suc, ◌+◌, ◌≤◌, ◌==◌, ◌&&◌, Bool, true, false, not, cond, List, [], ◌∷◌, length, Option, Some, None, nat_le}
+use Rattle.std.proofs.Common.{◌≡◌, ℕ, suc, ◌+◌, ◌≤◌, ◌==◌, ◌&&◌, Bool, true, false, not, cond, List, [], ◌∷◌, length}
+use Rattle.std.proofs.Common.{Option, Some, None, nat_le}
 use Rattle.std.proofs.Common.{nat_lt, refl, sym, ap, ◌∙◌, inl, inr, arith, if◌then◌else◌}
 use Rattle.std.specs.Option.{option_or, is_none}
 use Rattle.std.specs.List.{list_all, prefix_len}
@@ -15,7 +16,8 @@ use Rattle.paw_game.specs.declared.parts.Exit.{Exit}
 use Rattle.paw_game.specs.declared.parts.GamePart.{GamePart}
 use Rattle.paw_game.specs.declared.parts.GamePart.TheVariants as part
 use Rattle.paw_game.specs.Game.{GameLists}
-use Rattle.paw_game.specs.Valid.{Valid, are_letters, is_word, is_text, is_object, exits_are_valid, is_table, is_within, rows_are_valid, words_rise}
+use Rattle.paw_game.specs.Valid.{Valid, are_letters, is_word, is_text, is_object, exits_are_valid, is_table, is_within}
+use Rattle.paw_game.specs.Valid.{rows_are_valid, words_rise}
 use Rattle.paw_game.specs.Valid.{words_are_valid}
 use Rattle.paw_game.specs.inner.Fault.{part_row_fault, first_bad, bad_word, words_fault, texts_fault}
 use Rattle.paw_game.specs.inner.Fault.{objects_fault, exits_fault, tables_fault, fault_in, game_fault}

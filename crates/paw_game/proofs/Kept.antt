@@ -1,6 +1,8 @@
 -- What the rules say of the objects, texts, exits and entries of a valid game.
-use Rattle.std.proofs.Common.{◌≡◌, ℕ, zero, suc, ◌<◌, ◌≤◌, ◌==◌, ◌&&◌, ◌||◌, Bool, true, false, not, Bor, List, [], ◌∷◌, length}
-use Rattle.std.proofs.Common.{Option, Some, None, IfSome, IsTrue, nat_le, nat_lt, refl, sym, ◌∙◌, inl, inr, arith, if◌then◌else◌}
+use Rattle.std.proofs.Common.{◌≡◌, ℕ, zero, suc, ◌<◌, ◌≤◌, ◌==◌, ◌&&◌, ◌||◌, Bool, true, false, not, Bor, List, [], ◌∷◌}
+use Rattle.std.proofs.Common.{length}
+use Rattle.std.proofs.Common.{Option, Some, None, IfSome, IsTrue, nat_le, nat_lt, refl, sym, ◌∙◌, inl, inr, arith}
+use Rattle.std.proofs.Common.{if◌then◌else◌}
 use Rattle.std.specs.Prelude.{find, slice_get}
 use Rattle.std.specs.List.{All, list_all, slice_index_or}
 use Rattle.std.specs.Option.{option_copied, option_map, unwrap_or}
@@ -23,8 +25,10 @@ use Rattle.paw_game.specs.declared.parts.Entry.{Entry}
 use Rattle.paw_game.specs.declared.parts.GamePart.{GamePart}
 use Rattle.paw_game.specs.declared.parts.GamePart.TheVariants as part
 use Rattle.paw_game.specs.Game.{GameLists, counts_of}
-use Rattle.paw_game.specs.Valid.{Valid, begins_no_line, is_parameter, is_printed, is_text_byte, are_exits, facts_are_valid, fits_kinds, is_condact, is_entry}
-use Rattle.paw_game.specs.Valid.{exits_are_valid, is_object, is_place, is_table, is_text, is_word_or_none, is_verb_value, is_within, is_wildcard, has_word}
+use Rattle.paw_game.specs.Valid.{Valid, begins_no_line, is_parameter, is_printed, is_text_byte, are_exits}
+use Rattle.paw_game.specs.Valid.{facts_are_valid, fits_kinds, is_condact, is_entry}
+use Rattle.paw_game.specs.Valid.{exits_are_valid, is_object, is_place, is_table, is_text, is_word_or_none}
+use Rattle.paw_game.specs.Valid.{is_verb_value, is_within, is_wildcard, has_word}
 use Rattle.paw_game.specs.Tables.{condact_at, condacts_of, entry_at, exit_at, exit_of, facts_at, head_at, table_at}
 use Rattle.paw_game.specs.inner.Tables.{text_at}
 

@@ -1,5 +1,6 @@
 -- Condacts that can be carried out.
-use Rattle.std.proofs.Common.{arith, ◌≡◌, ℕ, ◌<◌, ◌==◌, ◌&&◌, List, [], ◌∷◌, length, Some, IsTrue, nat_le, nat_lt, inl, inr}
+use Rattle.std.proofs.Common.{arith, ◌≡◌, ℕ, ◌<◌, ◌==◌, ◌&&◌, List, [], ◌∷◌, length, Some, IsTrue, nat_le, nat_lt, inl}
+use Rattle.std.proofs.Common.{inr}
 use Rattle.std.specs.List.{list_all}
 use Rattle.std.proofs.lemmas.Bool.{or_cases}
 use Rattle.std.proofs.lemmas.Bool.Decides.{nat_tests}
@@ -14,9 +15,11 @@ use Rattle.paw_base.specs.declared.rows.ParamKind.TheVariants as kind
 use Rattle.paw_game.specs.declared.parts.Word.{Word}
 use Rattle.paw_game.specs.Game.{GameLists, counts_of}
 use Rattle.paw_game.specs.Tables.{condact_at}
-use Rattle.paw_game.specs.Valid.{Valid, are_letters, has_word, is_argument, is_condact, is_parameter, is_within, is_word, is_word_or_none, words_are_valid}
+use Rattle.paw_game.specs.Valid.{Valid, are_letters, has_word, is_argument, is_condact, is_parameter, is_within}
+use Rattle.paw_game.specs.Valid.{is_word, is_word_or_none, words_are_valid}
 use Rattle.paw_game.specs.inner.Valid.{is_right}
-use Rattle.paw_game.proofs.Kept.{first_of_and, second_of_and, code_kept, first_kept, second_kept, keeps_other, condact_kept}
+use Rattle.paw_game.proofs.Kept.{first_of_and, second_of_and, code_kept, first_kept, second_kept, keeps_other}
+use Rattle.paw_game.proofs.Kept.{condact_kept}
 
 small_value : (w : Word) (class value : ℕ) → IsTrue (is_word w) → IsTrue ((w.class == class) && (w.value == value)) → value < 256
 small_value w class value kept same =

@@ -1,5 +1,6 @@
 -- The image of the game of a trial is short.
-use Rattle.std.proofs.Common.{◌≡◌, ℕ, ◌+◌, ◌*◌, ◌≤◌, ◌<◌, true, List, [], ◌∷◌, ◌++◌, length, refl, subst, arith, length-append}
+use Rattle.std.proofs.Common.{◌≡◌, ℕ, ◌+◌, ◌*◌, ◌≤◌, ◌<◌, true, List, [], ◌∷◌, ◌++◌, length, refl, subst, arith}
+use Rattle.std.proofs.Common.{length-append}
 use Rattle.std.specs.Prelude.{◌==◌, ◌&&◌, nat_le}
 use Rattle.std.specs.List.{list_all, flat_map}
 use Rattle.std.proofs.lemmas.Bool.{and_parts}
@@ -10,8 +11,10 @@ use Rattle.paw_game.specs.declared.parts.Word.{Word}
 use Rattle.paw_game.specs.declared.parts.ObjectRow.{ObjectRow}
 use Rattle.paw_game.specs.Game.{GameLists}
 use Rattle.paw_game.specs.Valid.{is_letter, is_filled, are_letters, is_within, is_word, is_text, is_printed}
-use Rattle.paw_game.specs.Image.{image, head_image, two_bytes, word_image, text_image, object_image, weight_byte, exits_image, table_image}
-use Rattle.paw_gen.specs.Trial.{rows, object_word, object_count, location_count, trial_object, trial_object_text, trial_location_text, system_text}
+use Rattle.paw_game.specs.Image.{image, head_image, two_bytes, word_image, text_image, object_image, weight_byte}
+use Rattle.paw_game.specs.Image.{exits_image, table_image}
+use Rattle.paw_gen.specs.Trial.{rows, object_word, object_count, location_count, trial_object, trial_object_text}
+use Rattle.paw_gen.specs.Trial.{trial_location_text, system_text}
 use Rattle.paw_gen.specs.Trial.{ring_exits, answer_entries, listing, trial_game}
 use Rattle.paw_gen.proofs.Truths.{and_both, le_true, le_from, eq_from}
 use Rattle.paw_gen.proofs.Rows.{length_rows, all_rows, all_at}

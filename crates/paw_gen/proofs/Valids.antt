@@ -1,5 +1,6 @@
 -- The game of every trial is valid.
-use Rattle.std.proofs.Common.{◌≡◌, ℕ, ◌+◌, ◌*◌, ◌-◌, ◌%◌, ◌<◌, Bool, true, List, [], ◌∷◌, ◌++◌, length, drop, refl, sym, ap, ◌∙◌, subst, arith, append_assoc}
+use Rattle.std.proofs.Common.{◌≡◌, ℕ, ◌+◌, ◌*◌, ◌-◌, ◌%◌, ◌<◌, Bool, true, List, [], ◌∷◌, ◌++◌, length, drop, refl, sym}
+use Rattle.std.proofs.Common.{ap, ◌∙◌, subst, arith, append_assoc}
 use Rattle.std.specs.Prelude.{◌&&◌, ◌||◌, ◌==◌, nat_lt, nat_le}
 use Rattle.std.specs.List.{list_all, list_any}
 use Rattle.std.specs.Ordering.{is_lt, nat_cmp}
@@ -14,9 +15,11 @@ use Rattle.paw_base.specs.declared.words.TheConstants.{VERB_CLASS, NOUN_CLASS, N
 use Rattle.paw_base.specs.Condacts.{condact_lines, plain_line, line_of, is_plain_code, is_indirect}
 use Rattle.paw_game.specs.declared.parts.Word.{Word}
 use Rattle.paw_game.specs.Game.{GameLists}
-use Rattle.paw_game.specs.Valid.{Valid, is_within, is_word, is_text, words_rise, words_are_valid, has_word, is_word_or_none, is_verb_value, is_object}
+use Rattle.paw_game.specs.Valid.{Valid, is_within, is_word, is_text, words_rise, words_are_valid, has_word}
+use Rattle.paw_game.specs.Valid.{is_word_or_none, is_verb_value, is_object}
 use Rattle.paw_game.specs.Valid.{exits_are_valid, is_condact, is_table, rows_are_valid}
-use Rattle.paw_gen.specs.Trial.{rows, named_words, object_word, object_count, location_count, trial_object, trial_object_text, trial_location_text}
+use Rattle.paw_gen.specs.Trial.{rows, named_words, object_word, object_count, location_count, trial_object}
+use Rattle.paw_gen.specs.Trial.{trial_object_text, trial_location_text}
 use Rattle.paw_gen.specs.Trial.{ring_exits, condact_with, trial_game}
 use Rattle.paw_gen.specs.declared.vocabulary.TheConstants.{NORTH_WORD, SOUTH_WORD}
 use Rattle.paw_gen.proofs.Truths.{and_both, or_true, or_right, le_true, lt_true, eq_true}

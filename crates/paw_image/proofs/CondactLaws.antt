@@ -1,6 +1,7 @@
 -- Condacts that are walked over, and the marks that say where they go on.
 use Rattle.std.proofs.Common.{◌≡◌, ℕ, zero, suc, ◌+◌, ◌-◌, ◌*◌, ◌/◌, ◌%◌, ◌<◌, ◌≤◌, List, [], ◌∷◌, ◌++◌, length}
-use Rattle.std.proofs.Common.{get_or, take, drop, Option, Result, Some, Ok, Err, refl, sym, ap, subst, ◌∙◌, inl, inr, arith, suc-mul}
+use Rattle.std.proofs.Common.{get_or, take, drop, Option, Result, Some, Ok, Err, refl, sym, ap, subst, ◌∙◌, inl, inr}
+use Rattle.std.proofs.Common.{arith, suc-mul}
 use Rattle.std.specs.Prelude.{◌^◌, slice_get, OnOk}
 use Rattle.std.proofs.lemmas.Bool.{cases_lt, lt-ltb}
 use Rattle.std.proofs.lemmas.List.{length-append, get_or_append_left, take_all}

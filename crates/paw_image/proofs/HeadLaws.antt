@@ -25,8 +25,10 @@ use Rattle.paw_image.specs.declared.version.Version.{Version}
 use Rattle.paw_image.specs.declared.version.Version.TheVariants.{One, Two}
 use Rattle.paw_image.specs.Reading.{byte_at, bytes_at, number_at}
 use Rattle.paw_image.specs.inner.Reading.{version_byte}
-use Rattle.paw_image.specs.Damage.{ImagePreface, checked_number, version_told, checked_version, checked_counts, checked_word, words_above, front}
-use Rattle.paw_image.proofs.FieldLaws.{IsBytes, Takes, Takes-then, at_ok, bind_then, byte_takes, bytes_take, bytes_again}
+use Rattle.paw_image.specs.Damage.{ImagePreface, checked_number, version_told, checked_version, checked_counts}
+use Rattle.paw_image.specs.Damage.{checked_word, words_above, front}
+use Rattle.paw_image.proofs.FieldLaws.{IsBytes, Takes, Takes-then, at_ok, bind_then, byte_takes, bytes_take}
+use Rattle.paw_image.proofs.FieldLaws.{bytes_again}
 use Rattle.paw_image.proofs.FieldLaws.{number_takes}
 use Rattle.paw_image.proofs.PassRows.{within_passes}
 use Rattle.paw_image.proofs.SoundRows.{declared_as}

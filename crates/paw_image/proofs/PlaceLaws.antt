@@ -1,6 +1,7 @@
 -- What stands in an image where a row begins.
 use Rattle.std.proofs.Common.{◌≡◌, ℕ, zero, suc, ◌+◌, ◌-◌, ◌<◌, List, [], ◌∷◌, ◌++◌, length, take, drop, Option}
-use Rattle.std.proofs.Common.{Bool, true, false, cond, eqb, Some, None, Ok, refl, sym, ap, subst, ◌∙◌, append_assoc, inl, inr, arith}
+use Rattle.std.proofs.Common.{Bool, true, false, cond, eqb, Some, None, Ok, refl, sym, ap, subst, ◌∙◌, append_assoc}
+use Rattle.std.proofs.Common.{inl, inr, arith}
 use Rattle.std.specs.Prelude.{slice_get}
 use Rattle.std.specs.List.{find, flat_map, AllByRecursion}
 use Rattle.std.specs.Option.{option_map, unwrap_or}
@@ -24,8 +25,10 @@ use Rattle.paw_image.specs.inner.Reading as inner_reading
 use Rattle.paw_image.specs.Damage.{each}
 use Rattle.paw_image.specs.inner.Sizes.{FitsText, FitsObject, FitsCondact, FitsGame}
 use Rattle.paw_image.specs.inner.Offsets.{offsets, entry_offsets}
-use Rattle.paw_image.specs.inner.Rows.{value_of, facts_here, exit_in, exits_here, head_here, past_condact, nth_condact, entry_here}
-use Rattle.paw_image.specs.inner.Views.{system_begins, messages_begin, objects_begin, locations_begin, exits_begin, tables_begin_at, rows_begin}
+use Rattle.paw_image.specs.inner.Rows.{value_of, facts_here, exit_in, exits_here, head_here, past_condact, nth_condact}
+use Rattle.paw_image.specs.inner.Rows.{entry_here}
+use Rattle.paw_image.specs.inner.Views.{system_begins, messages_begin, objects_begin, locations_begin, exits_begin}
+use Rattle.paw_image.specs.inner.Views.{tables_begin_at, rows_begin}
 use Rattle.paw_image.proofs.GameLaws.{from_messages, from_objects, from_locations, from_exits, from_tables}
 use Rattle.paw_image.proofs.GameLaws.{image_is, lists_image}
 use Rattle.paw_image.proofs.HeadLaws.{front_image, front_length}

@@ -20,7 +20,8 @@ use Rattle.paw_game.specs.Image.{two_bytes, text_image, weight_byte, object_imag
 use Rattle.paw_game.specs.Image.{exits_image, parameter_image, condact_image, entry_image, table_image}
 use Rattle.paw_image.specs.Reading.{byte_at, number_at}
 use Rattle.paw_image.specs.inner.Reading.{few_at, pair_at, sized_text_at, leading_facts, object_at, leading_exit}
-use Rattle.paw_image.specs.inner.Reading.{exits_at, code_at, parameter_at, leading_condact, leading_entry, leading_table}
+use Rattle.paw_image.specs.inner.Reading.{exits_at, code_at, parameter_at, leading_condact, leading_entry}
+use Rattle.paw_image.specs.inner.Reading.{leading_table}
 use Rattle.paw_image.specs.inner.Sizes.{FitsText, FitsObject, FitsExit, FitsExits, FitsParameter, FitsCondact}
 use Rattle.paw_image.specs.inner.Sizes.{FitsEntry, FitsTable}
 use Rattle.paw_image.proofs.FieldLaws.{IsBytes, Takes, Takes-then, bind_then, kept_ok, at_ok, byte_takes}

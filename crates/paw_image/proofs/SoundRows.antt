@@ -15,13 +15,15 @@ use Rattle.paw_base.specs.declared.words.TheConstants.{NOUN_CLASS, ADJECTIVE_CLA
 use Rattle.paw_game.specs.declared.parts.Exit.{Exit}
 use Rattle.paw_game.specs.declared.parts.Entry.{Entry}
 use Rattle.paw_game.specs.Game.{GameLists, counts_of}
-use Rattle.paw_game.specs.Image.{two_bytes, text_image, exit_image, parameter_image, condact_image, entry_image, table_image}
+use Rattle.paw_game.specs.Image.{two_bytes, text_image, exit_image, parameter_image, condact_image, entry_image}
+use Rattle.paw_game.specs.Image.{table_image}
 use Rattle.paw_game.specs.Valid.{is_within, is_printed, is_text, is_word_or_none, is_place, facts_are_valid}
 use Rattle.paw_game.specs.Valid.{is_object, is_verb_value, are_exits, exits_are_valid, is_parameter}
 use Rattle.paw_game.specs.Valid.{is_wildcard, has_word}
 use Rattle.paw_faults.specs.Bind.{◌>>=◌}
 use Rattle.paw_image.specs.Reading.{byte_at, bytes_at, number_at}
-use Rattle.paw_image.specs.inner.Reading.{few_at, pair_at, leading_rows, sized_text_at, facts_with, leading_facts, object_at, leading_exit, exits_at}
+use Rattle.paw_image.specs.inner.Reading.{few_at, pair_at, leading_rows, sized_text_at, facts_with, leading_facts}
+use Rattle.paw_image.specs.inner.Reading.{object_at, leading_exit, exits_at}
 use Rattle.paw_image.specs.inner.Reading.{code_at, parameter_at, leading_condact, leading_entry, leading_table}
 use Rattle.paw_image.specs.Damage.{ImagePreface, may_stand, checked_field, each, after_text, after_facts, after_object}
 use Rattle.paw_image.specs.Damage.{checked_exit, after_exits_of, after_exits, after_parameter}
@@ -32,7 +34,8 @@ use Rattle.paw_image.specs.inner.Offsets.{offsets, entry_offsets, entries_begin,
 use Rattle.paw_image.proofs.FieldLaws.{IsBytes, at_ok, bind_then, byte_takes, number_takes}
 use Rattle.paw_image.proofs.ListLaws.{rows_take}
 use Rattle.paw_image.proofs.RowLaws.{text_takes, exit_takes, condact_takes, entry_takes, parameter_takes, table_takes}
-use Rattle.paw_image.proofs.Stands.{and_true, kept_then, bytes_length, Stands, SoundRow, rest_fits, each_sound, taken_length}
+use Rattle.paw_image.proofs.Stands.{and_true, kept_then, bytes_length, Stands, SoundRow, rest_fits, each_sound}
+use Rattle.paw_image.proofs.Stands.{taken_length}
 
 -- What the lists of a game say at their front, in an image of a version.
 abbrev pub declared_as : Version → GameLists → ImagePreface

@@ -17,9 +17,12 @@ use Rattle.paw_game.specs.declared.parts.Exit.{Exit}
 use Rattle.paw_game.specs.declared.parts.Entry.{Entry}
 use Rattle.paw_game.specs.Game.{GameLists, counts_of}
 use Rattle.paw_game.proofs.Faults.{rise_after, rise_after-none}
-use Rattle.paw_game.specs.Valid.{is_within, are_letters, is_word, has_word, is_verb_value, is_word_or_none, is_place, is_wildcard}
-use Rattle.paw_game.specs.Valid.{is_text, is_object, exits_are_valid, is_parameter, is_condact, is_entry, is_table, Valid}
-use Rattle.paw_image.specs.inner.Sizes.{FitsWord, FitsText, FitsObject, FitsExits, FitsParameter, FitsCondact, FitsEntry, FitsTable, FitsGame}
+use Rattle.paw_game.specs.Valid.{is_within, are_letters, is_word, has_word, is_verb_value, is_word_or_none, is_place}
+use Rattle.paw_game.specs.Valid.{is_wildcard}
+use Rattle.paw_game.specs.Valid.{is_text, is_object, exits_are_valid, is_parameter, is_condact, is_entry, is_table}
+use Rattle.paw_game.specs.Valid.{Valid}
+use Rattle.paw_image.specs.inner.Sizes.{FitsWord, FitsText, FitsObject, FitsExits, FitsParameter, FitsCondact}
+use Rattle.paw_image.specs.inner.Sizes.{FitsEntry, FitsTable, FitsGame}
 
 -- What a test gives at each element.
 all_give : {A : Type 0} (p : A → Bool) (P : A → Type 0) → ((x : A) → p x ≡ true → P x) → (xs : List A) → list_all p xs ≡ true → AllByRecursion P xs

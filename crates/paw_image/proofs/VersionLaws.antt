@@ -1,7 +1,9 @@
 -- The version of an image: with the codes of version 1 those tables pass in which no condact is indirect, and others
 -- don't.
-use Rattle.std.proofs.Common.{◌≡◌, ℕ, ◌&&◌, ◌||◌, Bool, true, false, not, leb, List, [], ◌∷◌, ◌++◌, length, refl, sym, ap, ◌∙◌}
-use Rattle.std.proofs.Common.{append_assoc, inl, inr, ◌⊎◌, ◌<◌, ◌≤◌, Option, Some, None, SomeIff, Result, Ok, Err, arith, lit<}
+use Rattle.std.proofs.Common.{◌≡◌, ℕ, ◌&&◌, ◌||◌, Bool, true, false, not, leb, List, [], ◌∷◌, ◌++◌, length, refl, sym}
+use Rattle.std.proofs.Common.{ap, ◌∙◌}
+use Rattle.std.proofs.Common.{append_assoc, inl, inr, ◌⊎◌, ◌<◌, ◌≤◌, Option, Some, None, SomeIff, Result, Ok, Err}
+use Rattle.std.proofs.Common.{arith, lit<}
 use Rattle.std.specs.List.{flat_map, list_all, list_any}
 use Rattle.std.proofs.lemmas.Bool.{and_parts, leb-true}
 use Rattle.paw_base.specs.Condacts.{is_plain_code, is_indirect}
@@ -15,11 +17,13 @@ use Rattle.paw_base.proofs.Table.{code_within, none_from, plain_below, plain_is,
 use Rattle.paw_game.specs.declared.parts.Entry.{Entry}
 use Rattle.paw_game.specs.Game.{GameLists}
 use Rattle.paw_game.specs.Valid.{is_wildcard, is_condact, is_entry, is_table, is_verb_value, has_word}
-use Rattle.paw_game.specs.Image.{any_indirect, has_indirect, version_of, two_bytes, condact_image, entry_image, table_image}
+use Rattle.paw_game.specs.Image.{any_indirect, has_indirect, version_of, two_bytes, condact_image, entry_image}
+use Rattle.paw_game.specs.Image.{table_image}
 use Rattle.paw_faults.specs.Bind.{◌>>=◌}
 use Rattle.paw_image.specs.declared.version.Version.{Version}
 use Rattle.paw_image.specs.declared.version.Version.TheVariants.{One, Two}
-use Rattle.paw_image.specs.Damage.{Passing, checked_field, may_stand, each, after_condact, after_entry, after_table, is_end, needs_no_2}
+use Rattle.paw_image.specs.Damage.{Passing, checked_field, may_stand, each, after_condact, after_entry, after_table}
+use Rattle.paw_image.specs.Damage.{is_end, needs_no_2}
 use Rattle.paw_image.specs.Reading.{byte_at}
 use Rattle.paw_image.specs.inner.Reading.{IsFault, version_byte}
 use Rattle.paw_image.proofs.Faults.{fault_first}

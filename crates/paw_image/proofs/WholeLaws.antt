@@ -1,5 +1,6 @@
 -- The bytes in which no rule is broken are the images of the valid games.
-use Rattle.std.proofs.Common.{◌≡◌, ℕ, ◌+◌, ◌<◌, ◌&&◌, Bool, true, false, leb, eqb, List, [], ◌∷◌, length, Some, None, Ok, Err}
+use Rattle.std.proofs.Common.{◌≡◌, ℕ, ◌+◌, ◌<◌, ◌&&◌, Bool, true, false, leb, eqb, List, [], ◌∷◌, length, Some, None}
+use Rattle.std.proofs.Common.{Ok, Err}
 use Rattle.std.proofs.Common.{refl, sym, ap, subst, ◌∙◌, inl, inr, arith}
 use Rattle.std.specs.List.{flat_map, list_all}
 use Rattle.std.proofs.lemmas.Bool.{and_parts, cases_lt, lt-ltb, le-ltb, eq-eqb}
@@ -8,7 +9,8 @@ use Rattle.std.specs.Option.{option_or}
 use Rattle.std.proofs.lemmas.Option.{none-some}
 use Rattle.paw_game.specs.Game.{GameLists}
 use Rattle.paw_game.specs.Valid.{Valid, is_within, is_word, words_rise, is_text, is_object, exits_are_valid}
-use Rattle.paw_game.specs.Image.{word_image, text_image, object_image, exits_image, table_image, image, has_indirect, version_of}
+use Rattle.paw_game.specs.Image.{word_image, text_image, object_image, exits_image, table_image, image, has_indirect}
+use Rattle.paw_game.specs.Image.{version_of}
 use Rattle.paw_game.proofs.Faults.{rise_after, rise_after-none}
 use Rattle.paw_base.specs.declared.limits.TheConstants.{IMAGE_LIMIT, WORD_LIMIT, SYSTEM_LIMIT, MESSAGE_LIMIT}
 use Rattle.paw_base.specs.declared.limits.TheConstants.{OBJECT_LIMIT, LOCATION_LEAST, LOCATION_LIMIT, TABLE_LEAST}
@@ -20,7 +22,8 @@ use Rattle.paw_image.specs.declared.version.Version.TheVariants.{One}
 use Rattle.paw_image.specs.Reading.{Reading}
 use Rattle.paw_image.specs.inner.Reading.{IsFault, sized_text_at, object_at, exits_at, lists_at, all_of, version_byte}
 use Rattle.paw_image.specs.Damage.{ImagePreface, Passing, each, after_text, after_object, after_exits, after_table}
-use Rattle.paw_image.specs.Damage.{after_lists, front, after_all, as_version_1, is_needless_after, is_needless, offset_in, bad}
+use Rattle.paw_image.specs.Damage.{after_lists, front, after_all, as_version_1, is_needless_after, is_needless}
+use Rattle.paw_image.specs.Damage.{offset_in, bad}
 use Rattle.paw_image.specs.inner.Offsets.{offsets, entry_offsets, entries_of, AreGoneOver}
 use Rattle.paw_image.specs.inner.Views.{system_begins}
 use Rattle.paw_image.specs.declared.offsets.Offsets.{Offsets}
@@ -32,7 +35,8 @@ use Rattle.paw_image.proofs.GameLaws.{lists_image, lists_take, image_is, ended, 
 use Rattle.paw_image.proofs.HeadLaws.{AreFew, front_image, front_length, Fronted, front_takes, front_passes}
 use Rattle.paw_image.proofs.Stands.{and_true, each_sound, each_passes, taken_length, taken_ends}
 use Rattle.paw_image.proofs.SoundRows.{declared_as, text_sound, object_sound, exits_sound, tables_placed, keeps_table}
-use Rattle.paw_image.proofs.VersionLaws.{tables_valid, tables_stop, needed_by, needed_byte, needed_keeps, is_needed, right_version}
+use Rattle.paw_image.proofs.VersionLaws.{tables_valid, tables_stop, needed_by, needed_byte, needed_keeps, is_needed}
+use Rattle.paw_image.proofs.VersionLaws.{right_version}
 use Rattle.paw_image.proofs.PassRows.{text_passes, object_passes, exits_pass, table_passes}
 use Rattle.paw_image.proofs.ValidLaws.{parts_of}
 

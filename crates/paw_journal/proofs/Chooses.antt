@@ -1,11 +1,13 @@
 -- The selector of a session, and what a crash leaves while it is written.
-use Rattle.std.proofs.Common.{◌≡◌, ◌≢◌, ℕ, ◌+◌, ◌-◌, ◌*◌, ◌%◌, ◌≤◌, ◌<◌, List, [], ◌∷◌, length, ap, ◌∙◌, arith, get_or, ◌⊎◌, inl, inr}
+use Rattle.std.proofs.Common.{◌≡◌, ◌≢◌, ℕ, ◌+◌, ◌-◌, ◌*◌, ◌%◌, ◌≤◌, ◌<◌, List, [], ◌∷◌, length, ap, ◌∙◌, arith, get_or}
+use Rattle.std.proofs.Common.{◌⊎◌, inl, inr}
 use Rattle.paw_stage.specs.Disk.{Disk, put, stable, IsStable, touched}
 use Rattle.paw_stage.specs.Stage.{Standing, wrote}
 use Rattle.paw_stage.specs.Moments.{Moment, InWrite, InSync}
 use Rattle.paw_journal.specs.declared.layout.Slot.{Slot}
 use Rattle.paw_journal.specs.declared.layout.Slot.TheVariants as which
-use Rattle.paw_journal.specs.Session.{recover, recover_by, chosen, kept_digests, slot, session_length, header_length, slot_length}
+use Rattle.paw_journal.specs.Session.{recover, recover_by, chosen, kept_digests, slot, session_length, header_length}
+use Rattle.paw_journal.specs.Session.{slot_length}
 use Rattle.paw_journal.specs.inner.Steps.{IsWithin, chosen_session}
 use Rattle.paw_journal.specs.inner.Store.{InStore, CrashLeavesSuch, IsOldOrNew}
 use Rattle.paw_journal.specs.inner.Room.{slot_number}

@@ -1,5 +1,6 @@
 -- What a commit leaves.
-use Rattle.std.proofs.Common.{◌≡◌, ℕ, ◌+◌, ◌-◌, ◌*◌, ◌≤◌, ◌<◌, List, [], ◌∷◌, length, take, refl, sym, ap, ◌∙◌, subst, arith}
+use Rattle.std.proofs.Common.{◌≡◌, ℕ, ◌+◌, ◌-◌, ◌*◌, ◌≤◌, ◌<◌, List, [], ◌∷◌, length, take, refl, sym, ap, ◌∙◌, subst}
+use Rattle.std.proofs.Common.{arith}
 use Rattle.std.specs.Prelude.{Option, Some, IsSome}
 use Rattle.paw_stage.specs.Disk.{put, stable, IsStable}
 use Rattle.paw_stage.specs.Stage.{Standing}
@@ -9,10 +10,12 @@ use Rattle.paw_journal.specs.declared.layout.Slot.TheVariants as which
 use Rattle.paw_journal.specs.declared.drafting.SlotState.{SlotState}
 use Rattle.paw_journal.specs.declared.drafting.CommitDraft.{CommitDraft}
 use Rattle.paw_journal.specs.Session.{Shown, recover, recover_by, chosen, slot, slot_length, session_length}
-use Rattle.paw_journal.specs.Session.{slot_shows, stretch, kept_digests, piece_length, state_length, committed, committed_in}
+use Rattle.paw_journal.specs.Session.{slot_shows, stretch, kept_digests, piece_length, state_length, committed}
+use Rattle.paw_journal.specs.Session.{committed_in}
 use Rattle.paw_journal.specs.inner.Room.{Room, kept_slot, kept_of, with_slot_kept, KeepsSlots, slot_number}
 use Rattle.paw_journal.specs.inner.Written.{most_written}
-use Rattle.paw_journal.specs.inner.Steps.{IsSpare, IsFilling, Drafts, start_of, written_slot, written_session, chosen_session}
+use Rattle.paw_journal.specs.inner.Steps.{IsSpare, IsFilling, Drafts, start_of, written_slot, written_session}
+use Rattle.paw_journal.specs.inner.Steps.{chosen_session}
 use Rattle.paw_journal.specs.inner.Store.{ChangesStoreOnly}
 use Rattle.paw_journal.specs.inner.Journal.{IsAtRest, KeptIn}
 use Rattle.paw_journal.specs.declared.layout.TheConstants.{PIECE_AT}

@@ -1,10 +1,12 @@
 -- The slot that isn't in use, and what a crash leaves while it is written.
-use Rattle.std.proofs.Common.{◌≡◌, ℕ, ◌+◌, ◌-◌, ◌*◌, ◌%◌, ◌≤◌, ◌<◌, List, length, refl, sym, ap, subst, ◌∙◌, arith, get_or, ◌⊎◌, inl}
+use Rattle.std.proofs.Common.{◌≡◌, ℕ, ◌+◌, ◌-◌, ◌*◌, ◌%◌, ◌≤◌, ◌<◌, List, length, refl, sym, ap, subst, ◌∙◌, arith}
+use Rattle.std.proofs.Common.{get_or, ◌⊎◌, inl}
 use Rattle.paw_stage.specs.Disk.{Disk, put, stable, IsStable, touched}
 use Rattle.paw_stage.specs.Stage.{Standing, wrote}
 use Rattle.paw_stage.specs.Moments.{Moment, Passes, InWrite, InSync}
 use Rattle.paw_stage.proofs.Time.{Passes_on}
-use Rattle.paw_journal.specs.Session.{recover, recover_by, is_version, slot, chosen, kept_digests, session_length, header_length, slot_length}
+use Rattle.paw_journal.specs.Session.{recover, recover_by, is_version, slot, chosen, kept_digests, session_length}
+use Rattle.paw_journal.specs.Session.{header_length, slot_length}
 use Rattle.paw_journal.specs.inner.Store.{ChangesStoreOnly, InStore, CrashLeavesSuch, LeavesSame}
 use Rattle.paw_journal.specs.inner.Steps.{IsMade, IsSpare, IsWithin, IsFilling, IsStillFilling, start_of}
 use Rattle.paw_journal.proofs.Parts.{stretch_same}

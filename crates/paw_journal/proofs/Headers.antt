@@ -1,8 +1,10 @@
 -- What the first bytes of a store say of it.
-use Rattle.std.proofs.Common.{◌≡◌, ◌≢◌, ℕ, ◌%◌, ◌<◌, true, false, List, [], length, take, refl, sym, ap, ◌∙◌, arith, get_or, inl, inr}
+use Rattle.std.proofs.Common.{◌≡◌, ◌≢◌, ℕ, ◌%◌, ◌<◌, true, false, List, [], length, take, refl, sym, ap, ◌∙◌, arith}
+use Rattle.std.proofs.Common.{get_or, inl, inr}
 use Rattle.std.proofs.lemmas.List.{get_or-take, nil_from_length}
 use Rattle.paw_journal.specs.declared.refusal.SessionPart.TheVariants as part
-use Rattle.paw_journal.specs.Session.{Unmade, Damaged, recover, recover_by, slot, session_mark, version, is_version, stretch, header_length, session_length}
+use Rattle.paw_journal.specs.Session.{Unmade, Damaged, recover, recover_by, slot, session_mark, version, is_version}
+use Rattle.paw_journal.specs.Session.{stretch, header_length, session_length}
 use Rattle.paw_journal.specs.Session.{made_mark}
 use Rattle.paw_journal.specs.inner.Session.{digests_of}
 use Rattle.paw_journal.specs.inner.Steps.{Introduces}

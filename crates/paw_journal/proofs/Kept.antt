@@ -1,5 +1,6 @@
 -- What a slot holds, and what it holds once a commit has written it.
-use Rattle.std.proofs.Common.{◌≡◌, ℕ, ◌+◌, ◌-◌, ◌*◌, ◌/◌, ◌%◌, ◌≤◌, ◌<◌, Bool, true, false, List, ◌++◌, length, take, refl, sym, ap, subst, ◌∙◌, arith}
+use Rattle.std.proofs.Common.{◌≡◌, ℕ, ◌+◌, ◌-◌, ◌*◌, ◌/◌, ◌%◌, ◌≤◌, ◌<◌, Bool, true, false, List, ◌++◌, length, take}
+use Rattle.std.proofs.Common.{refl, sym, ap, subst, ◌∙◌, arith}
 use Rattle.std.specs.Prelude.{◌==◌, Option, Some, None, if◌then◌else◌, is_none, nat_le, ◌&&◌}
 use Rattle.std.proofs.lemmas.Bool.Decides.{nat_tests}
 use Rattle.std.proofs.lemmas.List.{append-nil}
@@ -7,19 +8,23 @@ use Rattle.paw_stage.specs.Disk.{put}
 use Rattle.paw_journal.specs.declared.refusal.SessionPart.TheVariants as part
 use Rattle.paw_journal.specs.declared.drafting.SlotState.{SlotState}
 use Rattle.paw_journal.specs.declared.drafting.CommitDraft.{CommitDraft}
-use Rattle.paw_journal.specs.Session.{Digests, Damaged, Shown, stretch, two_byte_number, base, changes, changed, first_unsound, slot_changes, slot_state}
-use Rattle.paw_journal.specs.Session.{has_state, differing, differences, slot_head, rewritten, records_with, takes_changes, committed_slot}
+use Rattle.paw_journal.specs.Session.{Digests, Damaged, Shown, stretch, two_byte_number, base, changes, changed}
+use Rattle.paw_journal.specs.Session.{first_unsound, slot_changes, slot_state}
+use Rattle.paw_journal.specs.Session.{has_state, differing, differences, slot_head, rewritten, records_with}
+use Rattle.paw_journal.specs.Session.{takes_changes, committed_slot}
 use Rattle.paw_journal.specs.Session.{is_current, form_length, slot_version}
-use Rattle.paw_journal.specs.Session.{shown_state, zeros, slot_piece, slot_shows, shown_unless, most_changes, piece_length, state_length}
+use Rattle.paw_journal.specs.Session.{shown_state, zeros, slot_piece, slot_shows, shown_unless, most_changes}
+use Rattle.paw_journal.specs.Session.{piece_length, state_length}
 use Rattle.paw_journal.specs.inner.Room.{kept_slot}
 use Rattle.paw_journal.specs.inner.Written.{most_written}
 use Rattle.paw_journal.specs.inner.Steps.{ChangesInto, Drafts}
 use Rattle.paw_journal.specs.declared.layout.TheConstants.{VERSION, BASE_AT, CHANGES_AT, PIECE_AT}
 use Rattle.paw_journal.specs.Session.{base_length, slot_length}
-use Rattle.paw_journal.proofs.Puts.{stretch_long, put_long, stretch_past, stretch_before, stretch_written, stretch_behind}
+use Rattle.paw_journal.proofs.Puts.{stretch_long, put_long, stretch_past, stretch_before, stretch_written}
+use Rattle.paw_journal.proofs.Puts.{stretch_behind}
 use Rattle.paw_journal.proofs.Turning.{changes-append, changed-append, sound-append}
 
--- A slot of the version that is written has this state, after so many change records.
+-- A slot of the version that is written has this state, after this number of change records.
 pub record IsKept (bytes : List ℕ) (records : ℕ) (state : List ℕ) : Type 0 where
   pub current : is_current bytes ≡ true
   pub number : two_byte_number 0 bytes ≡ records

@@ -1,5 +1,6 @@
 -- A session that is being made, and what a crash leaves of it.
-use Rattle.std.proofs.Common.{◌≡◌, ℕ, suc, ◌+◌, ◌≤◌, ◌<◌, max, false, List, [], ◌∷◌, ◌++◌, length, take, drop, refl, sym, ap, subst, ◌∙◌, arith, get_or, inl}
+use Rattle.std.proofs.Common.{◌≡◌, ℕ, suc, ◌+◌, ◌≤◌, ◌<◌, max, false, List, [], ◌∷◌, ◌++◌, length, take, drop, refl}
+use Rattle.std.proofs.Common.{sym, ap, subst, ◌∙◌, arith, get_or, inl}
 use Rattle.std.proofs.Common.{inr, ◌⊎◌, append_assoc}
 use Rattle.std.specs.Prelude.{replicate}
 use Rattle.std.proofs.lemmas.Bool.{cases_eq}
@@ -18,7 +19,8 @@ use Rattle.paw_journal.specs.inner.Steps.{IsBlank, IsWithin}
 use Rattle.paw_journal.proofs.Parts.{put_below, put_end}
 use Rattle.paw_journal.proofs.Recovers.{unmade}
 use Rattle.paw_journal.proofs.Disks.{within_long, within_same}
-use Rattle.paw_journal.proofs.Moved.{beside_none, beside_on, beside_wrote, in_write, in_sync, in_later, moved_none, moved_wrote, in_moved_write, in_moved_sync}
+use Rattle.paw_journal.proofs.Moved.{beside_none, beside_on, beside_wrote, in_write, in_sync, in_later, moved_none}
+use Rattle.paw_journal.proofs.Moved.{moved_wrote, in_moved_write, in_moved_sync}
 
 -- a store that can't be longer than one byte holds no session
 short_leaves : (d : Disk) → d.longest ≤ 1 → CrashLeavesSuch IsUnmade d

@@ -1,6 +1,8 @@
 -- Stretches of lists of bytes.
-use Rattle.std.proofs.Common.{◌≡◌, ℕ, ◌+◌, ◌-◌, ◌≤◌, ◌<◌, min, List, [], ◌∷◌, ◌++◌, length, take, drop, sym, ap, ◌∙◌, arith, get_or, append_assoc}
-use Rattle.std.proofs.lemmas.List.{length-take, length-drop, length-append, get_or-take, get_or-drop, get_or_append_left, get_or-append_right, ext_get_or}
+use Rattle.std.proofs.Common.{◌≡◌, ℕ, ◌+◌, ◌-◌, ◌≤◌, ◌<◌, min, List, [], ◌∷◌, ◌++◌, length, take, drop, sym, ap, ◌∙◌}
+use Rattle.std.proofs.Common.{arith, get_or, append_assoc}
+use Rattle.std.proofs.lemmas.List.{length-take, length-drop, length-append, get_or-take, get_or-drop}
+use Rattle.std.proofs.lemmas.List.{get_or_append_left, get_or-append_right, ext_get_or}
 use Rattle.std.proofs.lemmas.List.{drop_all, take_all, append-nil, drop_at, get_or_at, drop-take, take-take, drop-drop}
 use Rattle.paw_stage.specs.Disk.{put}
 use Rattle.paw_journal.specs.Session.{stretch}

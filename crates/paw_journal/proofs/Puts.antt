@@ -1,12 +1,14 @@
 -- Stretches of bytes that were written to.
-use Rattle.std.proofs.Common.{◌≡◌, ℕ, ◌+◌, ◌-◌, ◌≤◌, ◌<◌, List, ◌++◌, length, take, drop, sym, ap, ◌∙◌, arith, get_or, inl, inr, ◌⊎◌}
+use Rattle.std.proofs.Common.{◌≡◌, ℕ, ◌+◌, ◌-◌, ◌≤◌, ◌<◌, List, ◌++◌, length, take, drop, sym, ap, ◌∙◌, arith, get_or}
+use Rattle.std.proofs.Common.{inl, inr, ◌⊎◌}
 use Rattle.std.proofs.lemmas.List.{get_or-drop, get_or_append_left, ext_get_or, take_at, drop-drop}
 use Rattle.std.proofs.Math.Seq.{take-add}
 use Rattle.paw_stage.specs.Disk.{put}
 use Rattle.paw_journal.specs.Session.{stretch, slot_head, rewritten}
 use Rattle.paw_journal.specs.declared.layout.TheConstants.{PIECE_AT}
 use Rattle.paw_journal.specs.Session.{slot_length}
-use Rattle.paw_journal.proofs.Parts.{stretch_at, length_stretch, stretch_same, length_put, put_below, put_above, drop_put}
+use Rattle.paw_journal.proofs.Parts.{stretch_at, length_stretch, stretch_same, length_put, put_below, put_above}
+use Rattle.paw_journal.proofs.Parts.{drop_put}
 
 pub stretch_long : (at n : ℕ) (bytes : List ℕ) → at + n ≤ length bytes → length (stretch at n bytes) ≡ n
 stretch_long at n bytes low = omega (arith, length_stretch at n bytes)

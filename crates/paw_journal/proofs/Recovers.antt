@@ -1,11 +1,14 @@
 -- What bytes stand for, by the parts that decide it.
-use Rattle.std.proofs.Common.{◌≡◌, ◌≢◌, ℕ, ◌+◌, ◌*◌, ◌≤◌, ◌<◌, Bool, true, false, List, length, refl, ap, ◌∙◌, arith, get_or, ◌⊎◌, inl, inr}
+use Rattle.std.proofs.Common.{◌≡◌, ◌≢◌, ℕ, ◌+◌, ◌*◌, ◌≤◌, ◌<◌, Bool, true, false, List, length, refl, ap, ◌∙◌, arith}
+use Rattle.std.proofs.Common.{get_or, ◌⊎◌, inl, inr}
 use Rattle.std.specs.Prelude.{if◌then◌else◌, ◌==◌, ◌&&◌}
 use Rattle.std.proofs.lemmas.Bool.Decides.{nat_tests}
 use Rattle.paw_journal.specs.declared.refusal.SessionPart.TheVariants as part
-use Rattle.paw_journal.specs.Session.{Recovered, Unmade, Damaged, Shown, IsUnmade, recover, recover_by, slot_shows, slot, chosen, session_mark, version}
+use Rattle.paw_journal.specs.Session.{Recovered, Unmade, Damaged, Shown, IsUnmade, recover, recover_by, slot_shows}
+use Rattle.paw_journal.specs.Session.{slot, chosen, session_mark, version}
 use Rattle.paw_journal.specs.Session.{is_version}
-use Rattle.paw_journal.specs.Session.{Digests, kept_digests, stretch, session_length, slot_length, header_length, made_mark}
+use Rattle.paw_journal.specs.Session.{Digests, kept_digests, stretch, session_length, slot_length, header_length}
+use Rattle.paw_journal.specs.Session.{made_mark}
 use Rattle.paw_journal.specs.inner.Session.{digests_of}
 use Rattle.paw_journal.specs.inner.Steps.{IsMade}
 use Rattle.paw_journal.proofs.Parts.{stretch_same}

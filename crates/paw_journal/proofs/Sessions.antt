@@ -1,5 +1,6 @@
 -- A session as it is made, and what the calls of a journal leave.
-use Rattle.std.proofs.Common.{◌≡◌, ◌≢◌, ℕ, ◌+◌, ◌-◌, ◌*◌, ◌≤◌, ◌<◌, List, ◌∷◌, ◌++◌, length, take, drop, refl, sym, ap, subst, ◌∙◌, arith, get_or, append_assoc}
+use Rattle.std.proofs.Common.{◌≡◌, ◌≢◌, ℕ, ◌+◌, ◌-◌, ◌*◌, ◌≤◌, ◌<◌, List, ◌∷◌, ◌++◌, length, take, drop, refl, sym, ap}
+use Rattle.std.proofs.Common.{subst, ◌∙◌, arith, get_or, append_assoc}
 use Rattle.std.proofs.Common.{inl, inr, ◌⊎◌}
 use Rattle.std.specs.Prelude.{Bool, true, false, not, replicate, Option, Some, IsSome}
 use Rattle.std.specs.Str.{bytes_eq}
@@ -15,7 +16,8 @@ use Rattle.paw_journal.specs.declared.layout.Slot.{Slot}
 use Rattle.paw_journal.specs.declared.layout.Slot.TheVariants as which
 use Rattle.paw_journal.specs.inner.Journal.{IsAtRest, KeptIn}
 use Rattle.paw_journal.specs.inner.Room.{Room, kept_slot, with_slot_kept, KeepsSlots, slot_number}
-use Rattle.paw_journal.specs.Session.{Digests, Recovered, Shown, IsUnmade, recover, slot_shows, slot, stretch, base, chosen, kept_digests, piece_length, state_length}
+use Rattle.paw_journal.specs.Session.{Digests, Recovered, Shown, IsUnmade, recover, slot_shows, slot, stretch, base}
+use Rattle.paw_journal.specs.Session.{chosen, kept_digests, piece_length, state_length}
 use Rattle.paw_journal.specs.Session.{session_length, slot_length, zeros, made_mark}
 use Rattle.paw_journal.specs.Session.{made_header, made_slot, made_session}
 use Rattle.paw_journal.specs.inner.Store.{ChangesStoreOnly, InStore, CrashLeavesSuch, IsOldOrNew}

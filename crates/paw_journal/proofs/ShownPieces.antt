@@ -1,12 +1,15 @@
 -- How long a state and a piece are that bytes show, and whose session they are of.
-use Rattle.std.proofs.Common.{◌≡◌, ℕ, ◌+◌, ◌-◌, ◌<◌, ◌≤◌, Bool, true, false, List, ◌++◌, Option, Some, None, length, take}
+use Rattle.std.proofs.Common.{◌≡◌, ℕ, ◌+◌, ◌-◌, ◌<◌, ◌≤◌, Bool, true, false, List, ◌++◌, Option, Some, None, length}
+use Rattle.std.proofs.Common.{take}
 use Rattle.std.proofs.Common.{drop, refl, sym, ap, ◌∙◌, arith, get_or}
 use Rattle.std.specs.Prelude.{if◌then◌else◌, nat_le}
 use Rattle.std.proofs.lemmas.List.{length-append, length-take-le, length-drop, get_or-take}
 use Rattle.paw_base.specs.declared.layout.TheConstants.{PIECE_LENGTH_AT}
 use Rattle.paw_journal.specs.declared.refusal.SessionPart.TheVariants as part
-use Rattle.paw_journal.specs.Session.{Digests, Damaged, Shown, recover, chosen, kept_digests, slot, slot_shows, shown_unless, first_unsound, slot_changes, slot_state}
-use Rattle.paw_journal.specs.Session.{slot_piece, shown_state, form_length, slot_version, two_byte_number, piece_length, most_changes, state_length, zeros}
+use Rattle.paw_journal.specs.Session.{Digests, Damaged, Shown, recover, chosen, kept_digests, slot, slot_shows}
+use Rattle.paw_journal.specs.Session.{shown_unless, first_unsound, slot_changes, slot_state}
+use Rattle.paw_journal.specs.Session.{slot_piece, shown_state, form_length, slot_version, two_byte_number, piece_length}
+use Rattle.paw_journal.specs.Session.{most_changes, state_length, zeros}
 use Rattle.paw_journal.specs.declared.layout.TheConstants.{PIECE_AT}
 use Rattle.paw_journal.specs.Session.{base_length, slot_length}
 use Rattle.paw_journal.proofs.Makes.{length_zeros}

@@ -1,24 +1,30 @@
 -- A slot that is put together, and one that is read.
-use Rattle.std.proofs.Common.{◌≡◌, ℕ, ◌+◌, ◌-◌, ◌*◌, ◌≤◌, ◌<◌, min, List, [], ◌∷◌, ◌++◌, get_or, length, take, drop, replicate, refl, sym, ap, ◌∙◌, true, false}
+use Rattle.std.proofs.Common.{◌≡◌, ℕ, ◌+◌, ◌-◌, ◌*◌, ◌≤◌, ◌<◌, min, List, [], ◌∷◌, ◌++◌, get_or, length, take, drop}
+use Rattle.std.proofs.Common.{replicate, refl, sym, ap, ◌∙◌, true, false}
 use Rattle.std.proofs.Common.{arith, lit≤}
-use Rattle.std.specs.Prelude.{slice_set, ◌==◌, Bool, ◌&&◌, Option, Some, None, is_none, Result, Ok, is_ok, if◌then◌else◌, nat_le}
+use Rattle.std.specs.Prelude.{slice_set, ◌==◌, Bool, ◌&&◌, Option, Some, None, is_none, Result, Ok, is_ok}
+use Rattle.std.specs.Prelude.{if◌then◌else◌, nat_le}
 use Rattle.std.proofs.lemmas.Bool.Decides.{nat_tests}
 use Rattle.std.proofs.lemmas.List.{drop-replicate}
-use Rattle.std.proofs.lemmas.List.{length-append, take-replicate, length-take-le, length-set, get_or-take, get_or_append_left, take_all, take_at}
+use Rattle.std.proofs.lemmas.List.{length-append, take-replicate, length-take-le, length-set, get_or-take}
+use Rattle.std.proofs.lemmas.List.{get_or_append_left, take_all, take_at}
 use Rattle.std.proofs.Math.Seq.{take-append-add}
 use Rattle.paw_base.specs.declared.layout.TheConstants.{PIECE_LENGTH_AT}
 use Rattle.paw_journal.specs.declared.layout.Slot.{Slot}
 use Rattle.paw_journal.specs.declared.layout.Slot.TheVariants as which
 use Rattle.paw_journal.specs.declared.drafting.SlotState.{SlotState}
 use Rattle.paw_journal.specs.declared.refusal.SessionPart.TheVariants as part
-use Rattle.paw_journal.specs.Session.{Change, Digests, Damaged, Shown, piece_length, state_length, first_length, is_current, slot_piece, stretch, two_byte_number, base}
-use Rattle.paw_journal.specs.Session.{changes, changed, first_unsound, slot_changes, slot_state, slot_shows, shown_unless, most_changes, slot}
+use Rattle.paw_journal.specs.Session.{Change, Digests, Damaged, Shown, piece_length, state_length, first_length}
+use Rattle.paw_journal.specs.Session.{is_current, slot_piece, stretch, two_byte_number, base}
+use Rattle.paw_journal.specs.Session.{changes, changed, first_unsound, slot_changes, slot_state, slot_shows}
+use Rattle.paw_journal.specs.Session.{shown_unless, most_changes, slot}
 use Rattle.paw_journal.specs.Session.{has_state, form_length, slot_version, shown_state}
 use Rattle.paw_journal.specs.Session.{slot_length, header_length, session_length, zeros}
 use Rattle.paw_journal.specs.inner.Room.{Room, kept_slot, with_slot_kept}
 use Rattle.paw_journal.specs.declared.layout.TheConstants.{VERSION, BASE_AT, CHANGES_AT, PIECE_AT}
 use Rattle.paw_journal.specs.Session.{base_length}
-use Rattle.paw_journal.proofs.Kept.{has_state_is, state_has, kept_shows, sound_shows, kept_of_both, kept_of_older, kept_of_broken}
+use Rattle.paw_journal.proofs.Kept.{has_state_is, state_has, kept_shows, sound_shows, kept_of_both, kept_of_older}
+use Rattle.paw_journal.proofs.Kept.{kept_of_broken}
 use Rattle.paw_journal.proofs.Puts.{stretch_long}
 use Rattle.paw_journal.proofs.Makes.{length_zeros}
 use Rattle.paw_journal.proofs.Parts.{length_stretch}
@@ -115,7 +121,7 @@ pub records_are : (count : ℕ) (held bytes : List ℕ) → held ≡ bytes →
 records_are count held bytes e = let n : CHANGES_AT + 4 * count - CHANGES_AT ≡ 4 * count = omega arith in
     ap (λ k. take k (drop CHANGES_AT held)) n ∙ ap (stretch CHANGES_AT (4 * count)) e
 
--- there is room for state and piece behind the head of a slot, and for as many zeros behind these
+-- There is room for state and piece after the head of a slot, and for as many zeros after these.
 pub room_for_body : (r s : Room) (piece : List ℕ) → s.slot ≡ 0 ∷ 0 ∷ VERSION ∷ [] → s.piece ≡ piece →
     r ≡ record s { slot = s.slot ++ zeros 61 } → length piece ≤ 65535 →
     length r.slot + base_length + length r.piece ≤ slot_length
@@ -169,7 +175,7 @@ state_long bytes n =
     length-changed (slot_changes bytes) (base bytes)
     ∙ stretch_long BASE_AT base_length bytes (omega arith)
 
--- a slot of any version has the bytes of a state up to those that tell the piece's length, and no more than a state has
+-- A slot of any version has the bytes of a state up to those of the piece's length, and no more than a state has.
 pub form_bounds : (version : ℕ) → (first_length ≤ form_length version) × (form_length version ≤ state_length)
 form_bounds version = bounds (version == VERSION)
   where
@@ -197,7 +203,7 @@ brought_is n k front state e f =
     ap (λ l. l ++ drop k (replicate base_length 0)) f
     ∙ (ap (λ l. take k state ++ l) (drop-replicate k base_length 0) ∙ ap (λ m. take m state ++ replicate (base_length - m) 0) e)
 
--- they tell the piece's length, whatever number of zeros stands behind them
+-- They give the piece's length, whatever number of zeros stands after them.
 pub form_names : (n count : ℕ) (state : List ℕ) → first_length ≤ n → n ≤ state_length → length state ≡ base_length →
     piece_length (take n state ++ zeros count) ≡ piece_length state
 form_names n count state many few long =

@@ -1,7 +1,8 @@
 // Reading the state of a slot.
 
 ghost use Rattle.std.specs.Prelude.{◌≡◌, ◌-◌, ◌≤◌, ◌++◌, length, take, true, false, OnOk, OnErr, IfOk, IfErr};
-ghost use Rattle.paw_journal.specs.Session.{Digests, slot_length, base_length, state_length, is_current, has_state, zeros};
+ghost use Rattle.paw_journal.specs.Session.{Digests, slot_length, base_length, state_length, is_current, has_state};
+ghost use Rattle.paw_journal.specs.Session.{zeros};
 ghost use Rattle.paw_journal.specs.Session.{slot_version, form_length};
 ghost use Rattle.paw_journal.specs.inner.Session.{IsDamagedAt};
 ghost use Rattle.paw_journal.specs.inner.Room.{kept_slot, slot_with_records};

@@ -1,5 +1,6 @@
 -- The first line of a text.
-use Rattle.std.proofs.Common.{◌≡◌, ℕ, ◌<◌, ◌≤◌, ◌+◌, ◌-◌, ◌⊎◌, not, eqb, List, [], ◌∷◌, length, take, drop, get_or, refl, sym, ap, subst, ◌∙◌, inl, inr, arith}
+use Rattle.std.proofs.Common.{◌≡◌, ℕ, ◌<◌, ◌≤◌, ◌+◌, ◌-◌, ◌⊎◌, not, eqb, List, [], ◌∷◌, length, take, drop, get_or}
+use Rattle.std.proofs.Common.{refl, sym, ap, subst, ◌∙◌, inl, inr, arith}
 use Rattle.std.specs.List.{before_first, after_first, position_or_len, slice_split, slice_range}
 use Rattle.std.specs.Str.Lines.{lines, lines_of_parts, strip_carriage_return}
 use Rattle.std.proofs.lemmas.Bool.{eqb-true, ne_eqb}
@@ -9,7 +10,8 @@ use Rattle.std.proofs.lemmas.List.Sums.{fails_before_first, passes_at_first, pre
 use Rattle.std.proofs.lemmas.List.Splits.{slice_split_none, slice_split_first, length-slice_split}
 use Rattle.paw_lex.specs.Lines.{lines_of}
 use Rattle.paw_lex.specs.inner.Lines.{IsLineEnd}
-use Rattle.paw_lex.proofs.Slices.{take-slice_range, drop-slice_range, slice_range-slice_range, before_first-drop, slice_range-one, slice_range-two}
+use Rattle.paw_lex.proofs.Slices.{take-slice_range, drop-slice_range, slice_range-slice_range, before_first-drop}
+use Rattle.paw_lex.proofs.Slices.{slice_range-one, slice_range-two}
 
 -- A part with parts after it is a line that ended.
 pub lines_of_parts-cons : (part : List ℕ) (parts : List (List ℕ)) → 0 < length parts

@@ -1,5 +1,6 @@
 -- The first token of a line.
-use Rattle.std.proofs.Common.{◌≡◌, ℕ, zero, suc, ◌<◌, ◌≤◌, ◌+◌, ◌-◌, ◌≢◌, true, false, not, cond, ◌||◌, eqb, ltb, List, [], ◌∷◌, filter, length, take}
+use Rattle.std.proofs.Common.{◌≡◌, ℕ, zero, suc, ◌<◌, ◌≤◌, ◌+◌, ◌-◌, ◌≢◌, true, false, not, cond, ◌||◌, eqb, ltb, List}
+use Rattle.std.proofs.Common.{[], ◌∷◌, filter, length, take}
 use Rattle.std.proofs.Common.{drop, get_or, refl, sym, ap, ◌∙◌, inl, inr, one-add, arith}
 use Rattle.std.specs.List.{before_first, list_all, position_or_len, prefix_len, slice_split, onto_first, slice_range}
 use Rattle.std.proofs.lemmas.Bool.{eqb-true, lt-ltb, or_right, cases_lt}

@@ -1,5 +1,6 @@
 -- Reading a phrase mark by mark gives what the phrase is.
-use Rattle.std.proofs.Common.{◌≡◌, ◌+◌, ◌-◌, ℕ, Bool, true, false, cond, eqb, List, [], ◌∷◌, ◌++◌, Option, Some, None, length, take, drop, refl, sym}
+use Rattle.std.proofs.Common.{◌≡◌, ◌+◌, ◌-◌, ℕ, Bool, true, false, cond, eqb, List, [], ◌∷◌, ◌++◌, Option, Some, None}
+use Rattle.std.proofs.Common.{length, take, drop, refl, sym}
 use Rattle.std.proofs.Common.{ap, ◌∙◌, arith}
 use Rattle.std.specs.List.{list_any}
 use Rattle.std.specs.Option.{is_some, option_to_list}
@@ -13,7 +14,8 @@ use Rattle.paw_phrase.specs.declared.next.Part.{Part}
 use Rattle.paw_phrase.specs.declared.next.Part.TheVariants as part
 use Rattle.paw_phrase.specs.declared.next.PhraseDraft.{PhraseDraft}
 use Rattle.paw_phrase.specs.Phrase.{Mark, marks, is_parting, from_phrase, phrase_tokens, bytes_after}
-use Rattle.paw_phrase.specs.Sentence.{blank, with_word, with_tokens, finished, Parsed, IsSentence, IsUnknown, IsNoPhrase, parsed_marks, parsed}
+use Rattle.paw_phrase.specs.Sentence.{blank, with_word, with_tokens, finished, Parsed, IsSentence, IsUnknown}
+use Rattle.paw_phrase.specs.Sentence.{IsNoPhrase, parsed_marks, parsed}
 use Rattle.paw_phrase.specs.inner.Draft.{part_of_word, phrase_part_of, with_part, started, draft_outcome}
 
 -- After a part the draft goes on, or its phrase has ended.

@@ -1,5 +1,6 @@
 -- The letters of a token, one by one.
-use Rattle.std.proofs.Common.{◌≡◌, ◌<◌, ◌≤◌, ◌+◌, ◌-◌, ℕ, suc, List, [], ◌∷◌, ◌++◌, length, take, replicate, map, get_or, set, refl, sym, ap, ◌∙◌}
+use Rattle.std.proofs.Common.{◌≡◌, ◌<◌, ◌≤◌, ◌+◌, ◌-◌, ℕ, suc, List, [], ◌∷◌, ◌++◌, length, take, replicate, map}
+use Rattle.std.proofs.Common.{get_or, set, refl, sym, ap, ◌∙◌}
 use Rattle.std.proofs.Common.{arith, length-append, append_assoc, add-one}
 use Rattle.std.specs.Char.{to_ascii_uppercase}
 use Rattle.std.proofs.Math.Seq.{take-suc}

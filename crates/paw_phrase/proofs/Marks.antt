@@ -1,5 +1,6 @@
 -- How the tokens and separators of some bytes follow one another.
-use Rattle.std.proofs.Common.{◌≡◌, ◌<◌, ◌≤◌, ◌+◌, ℕ, zero, suc, true, false, List, [], ◌∷◌, Some, None, length, drop, set, get_or, refl, sym, ap, ◌∙◌}
+use Rattle.std.proofs.Common.{◌≡◌, ◌<◌, ◌≤◌, ◌+◌, ℕ, zero, suc, true, false, List, [], ◌∷◌, Some, None, length, drop}
+use Rattle.std.proofs.Common.{set, get_or, refl, sym, ap, ◌∙◌}
 use Rattle.std.proofs.Common.{arith, add-one, add-zero, length-drop, drop-cons}
 use Rattle.std.specs.Char.{to_ascii_uppercase, is_ascii_alphanumeric}
 use Rattle.std.proofs.lemmas.List.{get_or-drop}

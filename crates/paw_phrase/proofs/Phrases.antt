@@ -1,5 +1,6 @@
 -- What the next phrase leaves of the pending bytes.
-use Rattle.std.proofs.Common.{◌≡◌, ◌<◌, ◌≤◌, ◌+◌, ℕ, suc, Bool, true, false, cond, List, [], ◌∷◌, ◌++◌, None, length, drop, refl, sym, ap, subst}
+use Rattle.std.proofs.Common.{◌≡◌, ◌<◌, ◌≤◌, ◌+◌, ℕ, suc, Bool, true, false, cond, List, [], ◌∷◌, ◌++◌, None, length}
+use Rattle.std.proofs.Common.{drop, refl, sym, ap, subst}
 use Rattle.std.proofs.Common.{arith, length-drop}
 use Rattle.std.specs.List.{All}
 use Rattle.std.specs.Char.{to_ascii_uppercase, is_ascii_alphanumeric}
@@ -7,7 +8,8 @@ use Rattle.std.proofs.lemmas.List.{drop_all}
 use Rattle.std.proofs.lemmas.List.Elements.{All-drop}
 use Rattle.paw_game.specs.Game.{GameLists}
 use Rattle.paw_phrase.specs.declared.Sentence.{Sentence}
-use Rattle.paw_phrase.specs.Phrase.{is_separator, Mark, token_mark, separator_mark, marks_from, marks, is_parting, from_phrase}
+use Rattle.paw_phrase.specs.Phrase.{is_separator, Mark, token_mark, separator_mark, marks_from, marks, is_parting}
+use Rattle.paw_phrase.specs.Phrase.{from_phrase}
 use Rattle.paw_phrase.specs.Phrase.{bytes_after}
 use Rattle.paw_phrase.specs.Sentence.{Parsed, IsSentence, IsUnknown, IsNoPhrase, parsed_marks, parsed}
 pub use Rattle.paw_phrase.specs.inner.Leaving.{LeavesBytes}

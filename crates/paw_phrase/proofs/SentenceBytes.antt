@@ -1,5 +1,6 @@
 -- Each part of a sentence is a byte.
-use Rattle.std.proofs.Common.{◌≡◌, ◌<◌, ◌&&◌, ℕ, Bool, true, false, cond, eqb, leb, ltb, length, List, [], ◌∷◌, Option, Some, None, IsTrue, subst, arith, lit<}
+use Rattle.std.proofs.Common.{◌≡◌, ◌<◌, ◌&&◌, ℕ, Bool, true, false, cond, eqb, leb, ltb, length, List, [], ◌∷◌, Option}
+use Rattle.std.proofs.Common.{Some, None, IsTrue, subst, arith, lit<}
 use Rattle.std.specs.List.{list_all}
 use Rattle.std.specs.Option.{option_map, option_map_or}
 use Rattle.std.specs.Str.{bytes_eq}
@@ -12,7 +13,8 @@ use Rattle.paw_game.specs.Valid.{are_letters, is_within, is_word, words_rise, Va
 use Rattle.paw_game.specs.Tables.{word_of, word_at}
 use Rattle.paw_phrase.specs.declared.Sentence.{Sentence}
 use Rattle.paw_phrase.specs.Phrase.{Mark, marks, from_phrase, phrase_tokens, bytes_after}
-use Rattle.paw_phrase.specs.Sentence.{blank, or_value, with_noun, with_adjective, with_pronoun, with_word, with_tokens, with_verb, with_new_pronoun}
+use Rattle.paw_phrase.specs.Sentence.{blank, or_value, with_noun, with_adjective, with_pronoun, with_word, with_tokens}
+use Rattle.paw_phrase.specs.Sentence.{with_verb, with_new_pronoun}
 use Rattle.paw_phrase.specs.Sentence.{finished, Parsed, IsSentence, IsUnknown, IsNoPhrase, parsed_marks, parsed}
 
 -- Each part of the sentence is a byte.

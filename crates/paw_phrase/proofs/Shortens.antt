@@ -1,9 +1,11 @@
 -- A phrase takes at least two bytes, where something is left after it.
-use Rattle.std.proofs.Common.{◌≡◌, ◌⊎◌, ◌<◌, ◌≤◌, ◌+◌, ℕ, Bool, true, false, cond, List, [], ◌∷◌, ◌++◌, None, length, refl, sym, subst, inl, inr}
+use Rattle.std.proofs.Common.{◌≡◌, ◌⊎◌, ◌<◌, ◌≤◌, ◌+◌, ℕ, Bool, true, false, cond, List, [], ◌∷◌, ◌++◌, None, length}
+use Rattle.std.proofs.Common.{refl, sym, subst, inl, inr}
 use Rattle.std.proofs.Common.{arith, length-append}
 use Rattle.std.specs.Char.{to_ascii_uppercase, is_ascii_alphanumeric}
 use Rattle.paw_game.specs.Game.{GameLists}
-use Rattle.paw_phrase.specs.Phrase.{is_separator, Mark, token_mark, separator_mark, marks_from, marks, is_parting, from_phrase}
+use Rattle.paw_phrase.specs.Phrase.{is_separator, Mark, token_mark, separator_mark, marks_from, marks, is_parting}
+use Rattle.paw_phrase.specs.Phrase.{from_phrase}
 use Rattle.paw_phrase.specs.Phrase.{bytes_after}
 use Rattle.paw_phrase.specs.Sentence.{parsed_marks, parsed}
 use Rattle.paw_phrase.specs.inner.Leaving.{LeavesBytes, IsTwoLess, PhrasesTakeTwo}

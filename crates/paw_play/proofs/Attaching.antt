@@ -1,5 +1,6 @@
 -- The attach of a session's store.
-use Rattle.std.proofs.Common.{◌≡◌, ◌≢◌, ℕ, List, [], ◌∷◌, Option, Some, None, Ok, refl, sym, ap, ◌∙◌, subst, length, inl, inr}
+use Rattle.std.proofs.Common.{◌≡◌, ◌≢◌, ℕ, List, [], ◌∷◌, Option, Some, None, Ok, refl, sym, ap, ◌∙◌, subst, length}
+use Rattle.std.proofs.Common.{inl, inr}
 use Rattle.paw_stage.specs.Disk.{MayLeave, stable}
 use Rattle.paw_stage.specs.Stage.{Standing, Files, bytes_or_none, made_if_missing, AttachesTo}
 use Rattle.paw_stage.specs.Moments.{Moment, moment_of}

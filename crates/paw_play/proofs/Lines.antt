@@ -1,12 +1,14 @@
 -- The lines of steps, and how long they are.
-use Rattle.std.proofs.Common.{◌≡◌, ℕ, zero, suc, ◌+◌, ◌-◌, ◌||◌, ◌≤◌, ◌<◌, Bool, true, false, List, [], ◌∷◌, ◌++◌, refl, ap, inl, inr, length, arith, length-append, nat_le}
+use Rattle.std.proofs.Common.{◌≡◌, ℕ, zero, suc, ◌+◌, ◌-◌, ◌||◌, ◌≤◌, ◌<◌, Bool, true, false, List, [], ◌∷◌, ◌++◌, refl}
+use Rattle.std.proofs.Common.{ap, inl, inr, length, arith, length-append, nat_le}
 use Rattle.std.specs.Prelude.{◌^◌, codes, decimal, if◌then◌else◌}
 use Rattle.std.specs.List.{slice_index_or, list_all}
 use Rattle.std.proofs.lemmas.Bool.{leb-true, cases_lt, lt-ltb}
 use Rattle.std.proofs.lemmas.Fmt.{length-decimal-le}
 use Rattle.std.proofs.lemmas.List.{get_or_past}
 use Rattle.paw_base.specs.declared.codes.TheConstants.{INDIRECT}
-use Rattle.paw_base.specs.Condacts.{CondactLine, is_plain_code, is_indirect, no_line, condact_lines, plain_line, indirect_line, line_of, name_of}
+use Rattle.paw_base.specs.Condacts.{CondactLine, is_plain_code, is_indirect, no_line, condact_lines, plain_line}
+use Rattle.paw_base.specs.Condacts.{indirect_line, line_of, name_of}
 use Rattle.paw_base.specs.inner.Condacts.{IsCode}
 use Rattle.paw_base.specs.inner.Piece.{Puts}
 use Rattle.paw_base.proofs.Table.{plain_is}

@@ -1,5 +1,6 @@
 -- An older session of a game that never saves stands for its lines.
-use Rattle.std.proofs.Common.{◌≡◌, ℕ, ◌-◌, Bool, true, false, List, [], ◌++◌, Option, Some, None, length, take, refl, sym, ap, ◌∙◌, arith}
+use Rattle.std.proofs.Common.{◌≡◌, ℕ, ◌-◌, Bool, true, false, List, [], ◌++◌, Option, Some, None, length, take, refl}
+use Rattle.std.proofs.Common.{sym, ap, ◌∙◌, arith}
 use Rattle.std.specs.Prelude.{if◌then◌else◌, nat_le}
 use Rattle.std.proofs.lemmas.List.{length-take-le, take_at}
 use Rattle.paw_game.specs.Game.{GameLists}
@@ -10,8 +11,10 @@ use Rattle.paw_reading.specs.Turn.{Ending, WaitsAt, Halted, reading}
 use Rattle.paw_reading.specs.inner.Saving.{no_positions, EndsKeeping}
 use Rattle.paw_reading.proofs.Saving.{readings_keep_no_position}
 use Rattle.paw_journal.specs.declared.refusal.SessionPart.TheVariants as part
-use Rattle.paw_journal.specs.Session.{Digests, Damaged, Shown, recover, chosen, kept_digests, slot, slot_shows, shown_unless, first_unsound, slot_changes}
-use Rattle.paw_journal.specs.Session.{slot_state, shown_state, two_byte_number, most_changes, state_length, first_length, zeros}
+use Rattle.paw_journal.specs.Session.{Digests, Damaged, Shown, recover, chosen, kept_digests, slot, slot_shows}
+use Rattle.paw_journal.specs.Session.{shown_unless, first_unsound, slot_changes}
+use Rattle.paw_journal.specs.Session.{slot_state, shown_state, two_byte_number, most_changes, state_length}
+use Rattle.paw_journal.specs.Session.{first_length, zeros}
 use Rattle.paw_journal.specs.Session.{form_length, slot_version, base_length}
 use Rattle.paw_journal.proofs.Recovers.{shown_made, recover_is, recover_made}
 use Rattle.paw_journal.proofs.Fills.{slot_long}

@@ -1,5 +1,6 @@
 -- A session, line by line.
-use Rattle.std.proofs.Common.{◌≡◌, ◌≢◌, ℕ, zero, suc, ◌+◌, ◌≤◌, ◌<◌, List, [], ◌∷◌, ◌++◌, Option, Some, None, refl, sym, ap, ◌∙◌, subst}
+use Rattle.std.proofs.Common.{◌≡◌, ◌≢◌, ℕ, zero, suc, ◌+◌, ◌≤◌, ◌<◌, List, [], ◌∷◌, ◌++◌, Option, Some, None, refl, sym}
+use Rattle.std.proofs.Common.{ap, ◌∙◌, subst}
 use Rattle.std.proofs.Common.{length, take, drop, arith, append_assoc, inl, inr}
 use Rattle.std.proofs.lemmas.List.{append-nil, take-append-drop}
 use Rattle.std.specs.Prelude.{reverse}
@@ -31,13 +32,15 @@ use Rattle.paw_play.specs.Play.{with_store, Uncommitted, PlaysOn}
 use Rattle.paw_play.specs.inner.Calls.{unless_ended}
 use Rattle.paw_play.specs.inner.Telling.{Plain}
 use Rattle.paw_turn.specs.inner.Player.{IsStanding}
-use Rattle.paw_play.specs.inner.OnTheWay.{IsWalking, WalksTo, Told, refusal_of, seat_state, seat_base, IsPlaying, PlaysLineTo}
+use Rattle.paw_play.specs.inner.OnTheWay.{IsWalking, WalksTo, Told, refusal_of, seat_state, seat_base, IsPlaying}
+use Rattle.paw_play.specs.inner.OnTheWay.{PlaysLineTo}
 use Rattle.paw_play.specs.Written.{bytes_before, store_bytes_after}
 use Rattle.paw_play.proofs.Kept.{KeepsLines, step_kept}
 use Rattle.paw_play.proofs.Written.{more_bytes}
 use Rattle.paw_play.proofs.Resting.{rests_on}
 use Rattle.paw_play.proofs.Telling.{shows_piece}
-use Rattle.paw_play.proofs.Walking.{walks_on, long_walk, none_left, none_asked, text_so_far, text_shown, read_after, drop_more}
+use Rattle.paw_play.proofs.Walking.{walks_on, long_walk, none_left, none_asked, text_so_far, text_shown, read_after}
+use Rattle.paw_play.proofs.Walking.{drop_more}
 use Rattle.paw_play.proofs.Walking.{stands_after, shown_nothing}
 use Rattle.paw_effects.specs.Story.{Story}
 

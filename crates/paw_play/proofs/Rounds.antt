@@ -1,5 +1,6 @@
 -- Rounds of a session, one after the other.
-use Rattle.std.proofs.Common.{◌⊎◌, ◌≡◌, inl, inr, ℕ, zero, suc, ◌+◌, ◌<◌, ◌≤◌, List, [], ◌∷◌, ◌++◌, Some, None, refl, sym, ap, ◌∙◌, subst}
+use Rattle.std.proofs.Common.{◌⊎◌, ◌≡◌, inl, inr, ℕ, zero, suc, ◌+◌, ◌<◌, ◌≤◌, List, [], ◌∷◌, ◌++◌, Some, None, refl}
+use Rattle.std.proofs.Common.{sym, ap, ◌∙◌, subst}
 use Rattle.std.proofs.Common.{length, take, append_assoc, append-nil, arith}
 use Rattle.std.specs.Prelude.{◌-◌, All}
 use Rattle.std.proofs.lemmas.List.{length-take}
@@ -25,7 +26,8 @@ use Rattle.paw_play.specs.Played.{PlayedSession, begun, from_lines}
 use Rattle.paw_play.specs.Keeping.{KeptBy, IsUpToDateWith, InPlay, InNewSession, RestsWith}
 use Rattle.paw_play.specs.Play.{PlaysOn, MadeAndPlayed, NewSession, GoesOn, NotYet, attached_to, store_bytes}
 use Rattle.paw_play.specs.Play.{memory, halts, unmade, plays, unattached, occupied, plays_in, unread}
-use Rattle.paw_play.specs.Laws.{RoundStop, cut_at, came_to, Round, MayBeLeft, BeginsOver, AtRest, StopsWith, AreRounds, left_after}
+use Rattle.paw_play.specs.Laws.{RoundStop, cut_at, came_to, Round, MayBeLeft, BeginsOver, AtRest, StopsWith, AreRounds}
+use Rattle.paw_play.specs.Laws.{left_after}
 use Rattle.paw_play.specs.Laws.{lines_lost, AreKept, AreKeptOf, RoundsStand}
 use Rattle.paw_play.proofs.Attaching.{store_attached}
 use Rattle.paw_play.proofs.Standing.{begun_stands, later_stands}

@@ -27,7 +27,8 @@ use Rattle.paw_state.specs.Record.{last_piece, state_at}
 use Rattle.paw_play.specs.Session.{kept_bytes, story_digests, IsOfStory, IsKept}
 use Rattle.paw_play.specs.Walk.{EndingOf, first_lines}
 use Rattle.paw_play.specs.Stands.{Stands, IsPlayedWith, ending_since, reading_since}
-use Rattle.paw_play.specs.Played.{PlayedSession, ShowsState, GoesOnFrom, from_shown, behind, begun, from_lines, from_state, going_on, resumed_run}
+use Rattle.paw_play.specs.Played.{PlayedSession, ShowsState, GoesOnFrom, from_shown, behind, begun, from_lines}
+use Rattle.paw_play.specs.Played.{from_state, going_on, resumed_run}
 use Rattle.paw_play.specs.Keeping.{KeptBy}
 use Rattle.paw_play.specs.Play.{PlaysOn, Refuses, Resumed, no_state, plays_on, PlaysAgain, refused, wanting, plays_up}
 use Rattle.paw_play.specs.Play.{GoesOn, memory, unattached, unread, plays, attached_to, store_bytes}

@@ -1,5 +1,6 @@
 -- A walk, line by line.
-use Rattle.std.proofs.Common.{◌≡◌, ℕ, zero, suc, ◌+◌, ◌≤◌, ◌<◌, List, [], ◌∷◌, ◌++◌, Option, Some, None, refl, sym, ap, ◌∙◌, subst, length, take, drop, map}
+use Rattle.std.proofs.Common.{◌≡◌, ℕ, zero, suc, ◌+◌, ◌≤◌, ◌<◌, List, [], ◌∷◌, ◌++◌, Option, Some, None, refl, sym, ap}
+use Rattle.std.proofs.Common.{◌∙◌, subst, length, take, drop, map}
 use Rattle.std.proofs.Common.{arith, append_assoc, length-append}
 use Rattle.std.proofs.lemmas.List.{append-nil, length-reverse, take-append-drop}
 use Rattle.std.specs.Prelude.{reverse}
@@ -24,10 +25,12 @@ use Rattle.paw_play.specs.declared.PlayEnd.{PlayEnd}
 use Rattle.paw_play.specs.declared.PlayEnd.TheVariants as end
 use Rattle.paw_stage.specs.declared.StageCall.TheVariants as call
 use Rattle.paw_play.specs.Walk.{EndingOf, first_lines, advanced, text_before, PartShown, WalkWaits, WalkHalts}
-use Rattle.paw_play.specs.inner.Telling.{ShowSteps, seat_text, told_pieces, HaveSteps, told_run, told_ending, with_shown_steps}
+use Rattle.paw_play.specs.inner.Telling.{ShowSteps, seat_text, told_pieces, HaveSteps, told_run, told_ending}
+use Rattle.paw_play.specs.inner.Telling.{with_shown_steps}
 use Rattle.paw_turn.specs.inner.Player.{IsStanding}
 use Rattle.paw_play.specs.inner.OnTheWay.{IsWalking, Told, WalksTo}
-use Rattle.paw_play.proofs.Telling.{pieces_more, told_more, steps_more, told_none, steps_none, waits_told, halts_told, same_lines, told_is}
+use Rattle.paw_play.proofs.Telling.{pieces_more, told_more, steps_more, told_none, steps_none, waits_told, halts_told}
+use Rattle.paw_play.proofs.Telling.{same_lines, told_is}
 use Rattle.paw_effects.specs.Story.{Story}
 
 -- ---- lines ----

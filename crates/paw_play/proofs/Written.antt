@@ -3,7 +3,8 @@ use Rattle.std.proofs.Common.{◌≡◌, ℕ, suc, ◌+◌, List, [], ◌∷◌,
 use Rattle.std.specs.Prelude.{◌-◌}
 use Rattle.paw_base.specs.Bytes.{zeros}
 use Rattle.paw_reading.specs.Turn.{Ending, pieces_of}
-use Rattle.paw_journal.specs.Session.{Digests, Shown, recover, recover_by, base_length, state_length, made_session, committed}
+use Rattle.paw_journal.specs.Session.{Digests, Shown, recover, recover_by, base_length, state_length, made_session}
+use Rattle.paw_journal.specs.Session.{committed}
 use Rattle.paw_state.specs.Record.{last_piece}
 use Rattle.paw_play.specs.Session.{state_after, IsKept}
 use Rattle.paw_play.specs.Walk.{first_lines}

@@ -34,7 +34,8 @@ use Rattle.paw_reading.specs.GoingOn.{on_path}
 use Rattle.paw_reading.specs.inner.GoingOn.{along}
 use Rattle.paw_process.specs.inner.OpenTables.{OpenTables}
 use Rattle.paw_process.specs.inner.OpenTables.{HasRead, ReadsNone, ReadsStep, below}
-use Rattle.paw_process.specs.inner.Meaning.{Held, having, ShowsHeld, run_held, with_steps, to_come, going_in, ComesTo, RunsTo}
+use Rattle.paw_process.specs.inner.Meaning.{Held, having, ShowsHeld, run_held, with_steps, to_come, going_in, ComesTo}
+use Rattle.paw_process.specs.inner.Meaning.{RunsTo}
 use Rattle.paw_process.specs.inner.Moves.{Continues, resolved, next_of, past_of, reading_at, acted_at, loop_at_frames}
 use Rattle.paw_process.specs.inner.Moves.{one_at, ReadsTable, ReadsOne, after_found}
 use Rattle.paw_process.specs.inner.Phrases.{Speaks}

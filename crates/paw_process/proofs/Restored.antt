@@ -24,7 +24,8 @@ use Rattle.paw_process.specs.Kept.{count_fits}
 use Rattle.paw_process.specs.inner.Kept.{loop_stands, loop_fault, fault_at, frames_fault}
 use Rattle.paw_process.specs.inner.Kept.{restored, waiting_at, WaitsAtPrompt}
 use Rattle.paw_process.specs.declared.kept.Frames.{Frames}
-use Rattle.paw_process.specs.inner.OpenTables.{below, IsAtCondact, AtCondacts, InTable, IsLoopWithin, LoopFits, IsWaiting, IsClosed}
+use Rattle.paw_process.specs.inner.OpenTables.{below, IsAtCondact, AtCondacts, InTable, IsLoopWithin, LoopFits}
+use Rattle.paw_process.specs.inner.OpenTables.{IsWaiting, IsClosed}
 
 -- the rows one by one
 pub rows_none : (g : GameLists) (code : ℕ) (caller : Option ℕ) (n d : ℕ) (rows : List Frame) → length rows ≡ 0 → None ≡ rows_fault g code caller n d rows

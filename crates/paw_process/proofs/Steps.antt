@@ -16,7 +16,8 @@ use Rattle.paw_reading.specs.declared.places.OpenLoop.{OpenLoop}
 use Rattle.paw_reading.specs.Run.{Run, closed, without_loop}
 use Rattle.paw_reading.specs.declared.places.Halt.TheVariants as halt
 use Rattle.paw_reading.specs.Reading.{Redescribes, Halts, Out, Left, Stopped, halts, at_level, next_object_or}
-use Rattle.paw_reading.specs.Reading.{taken, over_objects, loop_of, waits, from_place, rest_of_loop, deeper, rest_of_table, reads_one}
+use Rattle.paw_reading.specs.Reading.{taken, over_objects, loop_of, waits, from_place, rest_of_loop, deeper}
+use Rattle.paw_reading.specs.Reading.{rest_of_table, reads_one}
 use Rattle.paw_reading.specs.GoingOn.{on_path}
 use Rattle.paw_reading.specs.inner.GoingOn.{along}
 use Rattle.paw_reading.proofs.Onward.{taken_again}

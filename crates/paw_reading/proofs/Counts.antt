@@ -1,5 +1,6 @@
 -- Reading closes one piece for each line, and one before them.
-use Rattle.std.proofs.Common.{◌≡◌, ℕ, zero, suc, ◌+◌, ◌-◌, Bool, true, false, ◌||◌, List, [], ◌∷◌, Option, Some, None, refl, length, arith, length-append}
+use Rattle.std.proofs.Common.{◌≡◌, ℕ, zero, suc, ◌+◌, ◌-◌, Bool, true, false, ◌||◌, List, [], ◌∷◌, Option, Some, None}
+use Rattle.std.proofs.Common.{refl, length, arith, length-append}
 use Rattle.paw_base.specs.declared.parts.Condact.{Condact}
 use Rattle.paw_base.specs.declared.fault.SpentKind.TheVariants as spent
 use Rattle.paw_effects.specs.Story.{Story}
@@ -16,16 +17,21 @@ use Rattle.paw_effects.specs.Holds.{is_condition, holds}
 use Rattle.paw_effects.specs.Effects.{Done, effect_of}
 use Rattle.paw_reading.specs.declared.places.Frame.{Frame}
 use Rattle.paw_reading.specs.declared.places.OpenLoop.{OpenLoop}
-use Rattle.paw_reading.specs.Run.{Run, closed, fits, printed, with_world, without_loop, line_dropped, anew, is_timeout, is_ignored, heard}
+use Rattle.paw_reading.specs.Run.{Run, closed, fits, printed, with_world, without_loop, line_dropped, anew, is_timeout}
+use Rattle.paw_reading.specs.Run.{is_ignored, heard}
 use Rattle.paw_reading.specs.Run.{reply, is_yes, is_no, taken_phrase}
 use Rattle.paw_reading.specs.declared.places.Halt.TheVariants as halt
 use Rattle.paw_reading.specs.Reading.{Redescribes, Restarts, Halts, Out, Left, Waits, Stopped, halts, noted, after_call}
-use Rattle.paw_reading.specs.Reading.{at_level, next_object_or, is_taken, taken, over_objects, loop_of, over, answered, asked, waits, after_test}
-use Rattle.paw_reading.specs.Reading.{after_parse, after_action, carried_out, acts, reads_one, from_place, rest_of_loop, read_at_level, called, deeper}
+use Rattle.paw_reading.specs.Reading.{at_level, next_object_or, is_taken, taken, over_objects, loop_of, over, answered}
+use Rattle.paw_reading.specs.Reading.{asked, waits, after_test}
+use Rattle.paw_reading.specs.Reading.{after_parse, after_action, carried_out, acts, reads_one, from_place, rest_of_loop}
+use Rattle.paw_reading.specs.Reading.{read_at_level, called, deeper}
 use Rattle.paw_reading.specs.Reading.{rest_of_table}
 use Rattle.paw_reading.specs.Reading.{table_read, coming_phrase, game_over}
-use Rattle.paw_reading.specs.Turn.{TurnPhase, AtDescribe, AtTimeFrame, AtPhrase, AtResponse, Ending, Halted, saying, described, time_frame_passed}
-use Rattle.paw_reading.specs.Turn.{view_text, counted, prompt_text, at_main, after_phrase, refusal_text, connected, after_left}
+use Rattle.paw_reading.specs.Turn.{TurnPhase, AtDescribe, AtTimeFrame, AtPhrase, AtResponse, Ending, Halted, saying}
+use Rattle.paw_reading.specs.Turn.{described, time_frame_passed}
+use Rattle.paw_reading.specs.Turn.{view_text, counted, prompt_text, at_main, after_phrase, refusal_text, connected}
+use Rattle.paw_reading.specs.Turn.{after_left}
 use Rattle.paw_reading.specs.Turn.{table_done, turn, phases_left, opening, timeout_text}
 use Rattle.paw_reading.specs.inner.Steps.{goodbye, quit_question, line_set, unknown_text}
 use Rattle.paw_reading.specs.inner.Pieces.{count, Counted, PiecesOfLines}

@@ -1,5 +1,6 @@
 -- Turns end, and more phases change nothing.
-use Rattle.std.proofs.Common.{◌≡◌, ◌≢◌, ℕ, zero, suc, ◌+◌, ◌-◌, ◌*◌, ◌≤◌, ◌<◌, Bool, true, false, List, [], ◌∷◌, ◌⊎◌, inl, inr, Option}
+use Rattle.std.proofs.Common.{◌≡◌, ◌≢◌, ℕ, zero, suc, ◌+◌, ◌-◌, ◌*◌, ◌≤◌, ◌<◌, Bool, true, false, List, [], ◌∷◌, ◌⊎◌}
+use Rattle.std.proofs.Common.{inl, inr, Option}
 use Rattle.std.proofs.Common.{Some, None, refl, sym, ◌∙◌, length, arith}
 use Rattle.std.specs.Prelude.{if◌then◌else◌}
 use Rattle.paw_base.specs.declared.fault.SpentKind.TheVariants as spent
@@ -12,10 +13,12 @@ use Rattle.paw_effects.specs.declared.act.Prompt.{Prompt}
 use Rattle.paw_effects.specs.declared.act.Prompt.TheVariants as prompt
 use Rattle.paw_effects.specs.Texts.{say_text}
 use Rattle.paw_reading.specs.declared.places.Frame.{Frame}
-use Rattle.paw_reading.specs.Run.{Run, closed, fits, printed, with_world, line_dropped, is_timeout, is_ignored, heard, with_timeout}
+use Rattle.paw_reading.specs.Run.{Run, closed, fits, printed, with_world, line_dropped, is_timeout, is_ignored, heard}
+use Rattle.paw_reading.specs.Run.{with_timeout}
 use Rattle.paw_reading.specs.declared.places.Halt.TheVariants as halt
 use Rattle.paw_reading.specs.Reading.{Redescribes, Restarts, Halts, Out, Left, Waits, Stopped, table_read}
-use Rattle.paw_reading.specs.Turn.{TurnPhase, AtDescribe, AtTimeFrame, AtPhrase, AtResponse, Ending, Halted, Unended, saying, described, time_frame_passed}
+use Rattle.paw_reading.specs.Turn.{TurnPhase, AtDescribe, AtTimeFrame, AtPhrase, AtResponse, Ending, Halted, Unended}
+use Rattle.paw_reading.specs.Turn.{saying, described, time_frame_passed}
 use Rattle.paw_reading.specs.Turn.{view_text, prompt_text, at_main, after_phrase, refusal_text, connected, after_left}
 use Rattle.paw_reading.specs.Turn.{table_done, turn, left_to_read, phases_left, first_table, goes_on}
 use Rattle.paw_reading.specs.inner.Steps.{line_set, in_table, unknown_text}

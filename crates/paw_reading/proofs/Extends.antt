@@ -1,5 +1,6 @@
 -- Reading with more lines is reading with fewer, and then going on from where that waits.
-use Rattle.std.proofs.Common.{◌≡◌, ℕ, zero, suc, ◌+◌, ◌-◌, ◌≤◌, ◌<◌, Bool, true, false, ◌||◌, List, [], ◌∷◌, ◌++◌, inl, inr, Option, Some}
+use Rattle.std.proofs.Common.{◌≡◌, ℕ, zero, suc, ◌+◌, ◌-◌, ◌≤◌, ◌<◌, Bool, true, false, ◌||◌, List, [], ◌∷◌, ◌++◌, inl}
+use Rattle.std.proofs.Common.{inr, Option, Some}
 use Rattle.std.proofs.Common.{None, refl, sym, ap, ◌∙◌, length, arith, append_assoc}
 use Rattle.std.specs.Prelude.{if◌then◌else◌, nat_lt}
 use Rattle.std.specs.Option.{option_map_or}
@@ -21,17 +22,22 @@ use Rattle.paw_effects.specs.Holds.{is_condition, holds}
 use Rattle.paw_effects.specs.Effects.{Done, effect_of}
 use Rattle.paw_reading.specs.declared.places.Frame.{Frame}
 use Rattle.paw_reading.specs.declared.places.OpenLoop.{OpenLoop}
-use Rattle.paw_reading.specs.Run.{Run, Step, closed, fits, printed, with_world, without_loop, line_dropped, anew, is_ignored, heard, reply}
+use Rattle.paw_reading.specs.Run.{Run, Step, closed, fits, printed, with_world, without_loop, line_dropped, anew}
+use Rattle.paw_reading.specs.Run.{is_ignored, heard, reply}
 use Rattle.paw_reading.specs.Run.{is_yes, is_no, taken_phrase}
 use Rattle.paw_reading.specs.declared.places.Halt.TheVariants as halt
 use Rattle.paw_reading.specs.Reading.{Restarts, Out, Left, Waits, Stopped, halts, noted, printing, after_call, at_level}
-use Rattle.paw_reading.specs.Reading.{next_object_or, is_taken, taken, over_objects, loop_of, over, answered, asked, waits, after_test}
-use Rattle.paw_reading.specs.Reading.{after_parse, after_action, carried_out, acts, reads_one, is_for_now, rest_of_entry, from_place, rest_of_loop, deeper}
+use Rattle.paw_reading.specs.Reading.{next_object_or, is_taken, taken, over_objects, loop_of, over, answered, asked}
+use Rattle.paw_reading.specs.Reading.{waits, after_test}
+use Rattle.paw_reading.specs.Reading.{after_parse, after_action, carried_out, acts, reads_one, is_for_now}
+use Rattle.paw_reading.specs.Reading.{rest_of_entry, from_place, rest_of_loop, deeper}
 use Rattle.paw_reading.specs.Reading.{rest_of_table, coming_phrase, game_over}
 use Rattle.paw_reading.specs.inner.Steps.{goodbye, quit_question}
 use Rattle.paw_reading.specs.GoingOn.{on_path}
-use Rattle.paw_reading.proofs.Keeps.{Keeps, at_level_own, at_level_is, turns_closes, plain_keeps, looped_closes, deeper_keeps}
-use Rattle.paw_reading.proofs.Rules.{inside_end, inside_condact, again_closed, again_again, after_call_again, deeper_rest, deeper_none}
+use Rattle.paw_reading.proofs.Keeps.{Keeps, at_level_own, at_level_is, turns_closes, plain_keeps, looped_closes}
+use Rattle.paw_reading.proofs.Keeps.{deeper_keeps}
+use Rattle.paw_reading.proofs.Rules.{inside_end, inside_condact, again_closed, again_again, after_call_again}
+use Rattle.paw_reading.proofs.Rules.{deeper_rest, deeper_none}
 use Rattle.paw_reading.proofs.Onward.{plain_end, plain_entry, taken_again}
 use Rattle.paw_reading.proofs.Stops.{Stops, deeper_stops, path_stops}
 

@@ -1,5 +1,6 @@
 -- Turns with more lines are turns with fewer, and then going on from where these wait.
-use Rattle.std.proofs.Common.{◌≡◌, ◌≢◌, ℕ, zero, suc, ◌+◌, Bool, true, false, List, [], ◌∷◌, ◌++◌, inl, inr, Option, Some, None, refl, sym, ◌∙◌, subst, arith}
+use Rattle.std.proofs.Common.{◌≡◌, ◌≢◌, ℕ, zero, suc, ◌+◌, Bool, true, false, List, [], ◌∷◌, ◌++◌, inl, inr, Option}
+use Rattle.std.proofs.Common.{Some, None, refl, sym, ◌∙◌, subst, arith}
 use Rattle.std.specs.Prelude.{if◌then◌else◌}
 use Rattle.paw_base.specs.declared.fault.SpentKind.TheVariants as spent
 use Rattle.paw_effects.specs.Story.{Story}
@@ -9,14 +10,19 @@ use Rattle.paw_phrase.specs.Sentence.{Parsed, IsSentence, IsUnknown, IsNoPhrase}
 use Rattle.paw_effects.specs.declared.act.Prompt.{Prompt}
 use Rattle.paw_effects.specs.declared.act.Prompt.TheVariants as prompt
 use Rattle.paw_reading.specs.declared.places.Frame.{Frame}
-use Rattle.paw_reading.specs.Run.{Run, closed, fits, printed, with_world, line_dropped, is_timeout, is_ignored, heard, taken_phrase}
+use Rattle.paw_reading.specs.Run.{Run, closed, fits, printed, with_world, line_dropped, is_timeout, is_ignored, heard}
+use Rattle.paw_reading.specs.Run.{taken_phrase}
 use Rattle.paw_reading.specs.declared.places.Halt.TheVariants as halt
-use Rattle.paw_reading.specs.Reading.{Redescribes, Restarts, Halts, Out, Left, Waits, Stopped, deeper, table_read, coming_phrase}
+use Rattle.paw_reading.specs.Reading.{Redescribes, Restarts, Halts, Out, Left, Waits, Stopped, deeper, table_read}
+use Rattle.paw_reading.specs.Reading.{coming_phrase}
 use Rattle.paw_reading.specs.GoingOn.{on_path}
 use Rattle.paw_reading.specs.inner.GoingOn.{with_lines, extended}
-use Rattle.paw_reading.specs.Turn.{TurnPhase, AtDescribe, AtTimeFrame, AtPhrase, AtResponse, Ending, WaitsAt, Halted, Unended, saying}
-use Rattle.paw_reading.specs.Turn.{described, time_frame_passed, view_text, counted, prompt_text, at_main, after_phrase, refusal_text}
-use Rattle.paw_reading.specs.Turn.{connected, after_left, table_done, turn, phases_left, turns_from, opening, first_table, goes_on, timeout_text}
+use Rattle.paw_reading.specs.Turn.{TurnPhase, AtDescribe, AtTimeFrame, AtPhrase, AtResponse, Ending, WaitsAt, Halted}
+use Rattle.paw_reading.specs.Turn.{Unended, saying}
+use Rattle.paw_reading.specs.Turn.{described, time_frame_passed, view_text, counted, prompt_text, at_main, after_phrase}
+use Rattle.paw_reading.specs.Turn.{refusal_text}
+use Rattle.paw_reading.specs.Turn.{connected, after_left, table_done, turn, phases_left, turns_from, opening}
+use Rattle.paw_reading.specs.Turn.{first_table, goes_on, timeout_text}
 use Rattle.paw_reading.specs.inner.Steps.{line_set, unknown_text}
 use Rattle.paw_reading.specs.inner.Turn.{followed, GoingOnIsReading}
 use Rattle.paw_reading.specs.inner.Longer.{TurnsGoOn}
@@ -25,7 +31,8 @@ use Rattle.paw_reading.proofs.Keeps.{Keeps, reads_keeps, deeper_keeps}
 use Rattle.paw_reading.proofs.Stops.{Stops, rest_stops}
 use Rattle.paw_reading.proofs.Stays.{IsInner, Stays, rest_stays}
 use Rattle.paw_reading.proofs.Longer.{tables_go_on}
-use Rattle.paw_reading.proofs.Ends.{Refines, table_done_more, at_main_more, turn_more, many_more, turns_end, ends_once, going_on_ends}
+use Rattle.paw_reading.proofs.Ends.{Refines, table_done_more, at_main_more, turn_more, many_more, turns_end, ends_once}
+use Rattle.paw_reading.proofs.Ends.{going_on_ends}
 
 -- no loop is open where a table was left that was begun with none
 left_none : (a : Bool) (r : Run) → Keeps None (Left a r) → r.turning ≡ None

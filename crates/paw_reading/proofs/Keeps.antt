@@ -1,5 +1,6 @@
 -- A table that is left has the loop with which it was begun, or none.
-use Rattle.std.proofs.Common.{◌≡◌, ℕ, zero, suc, ◌-◌, Bool, true, false, ◌||◌, List, [], ◌∷◌, Option, Some, None, ◌⊎◌, inl, inr, refl, sym}
+use Rattle.std.proofs.Common.{◌≡◌, ℕ, zero, suc, ◌-◌, Bool, true, false, ◌||◌, List, [], ◌∷◌, Option, Some, None, ◌⊎◌}
+use Rattle.std.proofs.Common.{inl, inr, refl, sym}
 use Rattle.std.proofs.Common.{ap, ◌∙◌, subst, length, arith}
 use Rattle.std.specs.Prelude.{◌==◌, if◌then◌else◌}
 use Rattle.std.specs.Option.{option_map_or}
@@ -19,11 +20,15 @@ use Rattle.paw_effects.specs.Holds.{is_condition, holds}
 use Rattle.paw_effects.specs.Effects.{Done, effect_of}
 use Rattle.paw_reading.specs.declared.places.Frame.{Frame}
 use Rattle.paw_reading.specs.declared.places.OpenLoop.{OpenLoop}
-use Rattle.paw_reading.specs.Run.{Run, closed, fits, printed, with_world, anew, is_ignored, heard, reply, is_yes, is_no, taken_phrase}
+use Rattle.paw_reading.specs.Run.{Run, closed, fits, printed, with_world, anew, is_ignored, heard, reply, is_yes, is_no}
+use Rattle.paw_reading.specs.Run.{taken_phrase}
 use Rattle.paw_reading.specs.declared.places.Halt.TheVariants as halt
-use Rattle.paw_reading.specs.Reading.{Restarts, Out, Left, Waits, Stopped, halts, noted, after_call, at_level, next_object_or}
-use Rattle.paw_reading.specs.Reading.{taken, over_objects, loop_of, over, answered, asked, after_test, after_parse, after_action, carried_out}
-use Rattle.paw_reading.specs.Reading.{acts, reads_one, from_place, rest_of_loop, read_at_level, called, deeper, game_over, printing}
+use Rattle.paw_reading.specs.Reading.{Restarts, Out, Left, Waits, Stopped, halts, noted, after_call, at_level}
+use Rattle.paw_reading.specs.Reading.{next_object_or}
+use Rattle.paw_reading.specs.Reading.{taken, over_objects, loop_of, over, answered, asked, after_test, after_parse}
+use Rattle.paw_reading.specs.Reading.{after_action, carried_out}
+use Rattle.paw_reading.specs.Reading.{acts, reads_one, from_place, rest_of_loop, read_at_level, called, deeper}
+use Rattle.paw_reading.specs.Reading.{game_over, printing}
 use Rattle.paw_reading.specs.Reading.{waits}
 use Rattle.paw_reading.specs.inner.Steps.{goodbye, quit_question}
 use Rattle.paw_reading.proofs.EachCondact.{plain_goes}

@@ -1,5 +1,6 @@
 -- Reading on keeps its rules.
-use Rattle.std.proofs.Common.{◌≡◌, ℕ, suc, ◌-◌, Bool, true, false, [], ◌∷◌, Some, None, inl, inr, refl, sym, ap, ◌∙◌, length, arith}
+use Rattle.std.proofs.Common.{◌≡◌, ℕ, suc, ◌-◌, Bool, true, false, [], ◌∷◌, Some, None, inl, inr, refl, sym, ap, ◌∙◌}
+use Rattle.std.proofs.Common.{length, arith}
 use Rattle.std.specs.Prelude.{if◌then◌else◌}
 use Rattle.paw_base.specs.declared.parts.Condact.{Condact}
 use Rattle.paw_game.specs.declared.parts.Entry.{Entry}
@@ -10,15 +11,19 @@ use Rattle.paw_effects.specs.declared.act.Effect.TheVariants as effect
 use Rattle.paw_reading.specs.declared.places.Frame.{Frame}
 use Rattle.paw_reading.specs.declared.places.OpenLoop.{OpenLoop}
 use Rattle.paw_reading.specs.Run.{Run, without_loop, heard}
-use Rattle.paw_reading.specs.Reading.{Out, Left, Waits, Stopped, after_call, at_level, next_object_or, is_taken, taken, over_objects, loop_of, over, asked}
-use Rattle.paw_reading.specs.Reading.{reads_one, entries, is_for_now, rest_of_entry, from_place, rest_of_loop, deeper, rest_of_table, game_over}
+use Rattle.paw_reading.specs.Reading.{Out, Left, Waits, Stopped, after_call, at_level, next_object_or, is_taken, taken}
+use Rattle.paw_reading.specs.Reading.{over_objects, loop_of, over, asked}
+use Rattle.paw_reading.specs.Reading.{reads_one, entries, is_for_now, rest_of_entry, from_place, rest_of_loop, deeper}
+use Rattle.paw_reading.specs.Reading.{rest_of_table, game_over}
 use Rattle.paw_reading.specs.inner.Steps.{goodbye}
 use Rattle.paw_reading.specs.GoingOn.{on_path}
-use Rattle.paw_reading.specs.inner.Rules.{past, at_frame, leaves, looks, goes, MayRead, ReadsEntries, ReadsCondacts, FollowsActions}
+use Rattle.paw_reading.specs.inner.Rules.{past, at_frame, leaves, looks, goes, MayRead, ReadsEntries, ReadsCondacts}
+use Rattle.paw_reading.specs.inner.Rules.{FollowsActions}
 use Rattle.paw_reading.specs.inner.Rules.{LoopRules, AnswersPrompts, ReadingOn}
 use Rattle.paw_reading.proofs.Lists.{drop_none, drop_some}
 use Rattle.paw_reading.proofs.Keeps.{Keeps, prints, at_level_own, turns_closes, plain_keeps, deeper_keeps}
-use Rattle.paw_reading.proofs.Rules.{within_budget, within_none, inside_end, inside_condact, again_closed, after_call_again, deeper_rest, deeper_none}
+use Rattle.paw_reading.proofs.Rules.{within_budget, within_none, inside_end, inside_condact, again_closed}
+use Rattle.paw_reading.proofs.Rules.{after_call_again, deeper_rest, deeper_none}
 
 -- ---- entries ----
 

@@ -1,5 +1,6 @@
 -- Each reading of a valid game stops rightly.
-use Rattle.std.proofs.Common.{◌≡◌, ◌≢◌, ℕ, zero, suc, ◌+◌, ◌*◌, ◌≤◌, Bool, true, false, List, [], ◌∷◌, Option, Some, None, refl, sym, ap}
+use Rattle.std.proofs.Common.{◌≡◌, ◌≢◌, ℕ, zero, suc, ◌+◌, ◌*◌, ◌≤◌, Bool, true, false, List, [], ◌∷◌, Option, Some}
+use Rattle.std.proofs.Common.{None, refl, sym, ap}
 use Rattle.std.proofs.Common.{subst, length, arith, append-nil}
 use Rattle.std.specs.Prelude.{All}
 use Rattle.std.proofs.Math.ListN.{get_or}
@@ -19,18 +20,25 @@ use Rattle.paw_effects.proofs.Asking.{AsksAt}
 use Rattle.paw_effects.proofs.Placed.{IsPlaced, opened_placed}
 use Rattle.paw_reading.specs.declared.places.Frame.{Frame}
 use Rattle.paw_reading.specs.declared.places.OpenLoop.{OpenLoop}
-use Rattle.paw_reading.specs.Run.{Run, Step, closed, fits, printed, with_world, line_dropped, is_timeout, is_ignored, heard, taken_phrase}
+use Rattle.paw_reading.specs.Run.{Run, Step, closed, fits, printed, with_world, line_dropped, is_timeout, is_ignored}
+use Rattle.paw_reading.specs.Run.{heard, taken_phrase}
 use Rattle.paw_reading.specs.declared.places.Halt.TheVariants as halt
-use Rattle.paw_reading.specs.Reading.{Redescribes, Restarts, Halts, Out, Left, Waits, Stopped, table_read, coming_phrase}
-use Rattle.paw_reading.specs.Turn.{TurnPhase, AtDescribe, AtTimeFrame, AtPhrase, AtResponse, Ending, WaitsAt, Halted, reading, going_on_from, saying}
-use Rattle.paw_reading.specs.Turn.{described, time_frame_passed, view_text, counted, prompt_text, at_main, after_phrase, refusal_text}
-use Rattle.paw_reading.specs.Turn.{connected, after_left, table_done, turn, phases_left, opening, first_table, goes_on, timeout_text}
+use Rattle.paw_reading.specs.Reading.{Redescribes, Restarts, Halts, Out, Left, Waits, Stopped, table_read}
+use Rattle.paw_reading.specs.Reading.{coming_phrase}
+use Rattle.paw_reading.specs.Turn.{TurnPhase, AtDescribe, AtTimeFrame, AtPhrase, AtResponse, Ending, WaitsAt, Halted}
+use Rattle.paw_reading.specs.Turn.{reading, going_on_from, saying}
+use Rattle.paw_reading.specs.Turn.{described, time_frame_passed, view_text, counted, prompt_text, at_main, after_phrase}
+use Rattle.paw_reading.specs.Turn.{refusal_text}
+use Rattle.paw_reading.specs.Turn.{connected, after_left, table_done, turn, phases_left, opening, first_table, goes_on}
+use Rattle.paw_reading.specs.Turn.{timeout_text}
 use Rattle.paw_reading.specs.inner.Steps.{line_set, in_table, unknown_text}
 use Rattle.paw_reading.specs.Bounds.{IsLine, ValidStory}
 use Rattle.paw_reading.specs.inner.Bounds.{IsBounded}
 use Rattle.paw_reading.specs.inner.Longer.{without_past, with_past, ending_with_past}
-use Rattle.paw_reading.specs.inner.Places.{LeadsTo, tables_of, AreOpenTo, AreFramesAndLoop, IsLineTaken, StandsRightly, StopsRightly, StopsBounded}
-use Rattle.paw_reading.specs.inner.Places.{ReadingsStopRightly, GoingOnStopsRightly, ReadingsAreBounded, GoingOnIsBounded}
+use Rattle.paw_reading.specs.inner.Places.{LeadsTo, tables_of, AreOpenTo, AreFramesAndLoop, IsLineTaken, StandsRightly}
+use Rattle.paw_reading.specs.inner.Places.{StopsRightly, StopsBounded}
+use Rattle.paw_reading.specs.inner.Places.{ReadingsStopRightly, GoingOnStopsRightly, ReadingsAreBounded}
+use Rattle.paw_reading.specs.inner.Places.{GoingOnIsBounded}
 use Rattle.paw_reading.proofs.Held.{Sound, Held, none_open, table_held, path_held}
 use Rattle.paw_reading.proofs.Keeps.{either}
 use Rattle.paw_reading.proofs.Past.{past_stays}

@@ -1,5 +1,6 @@
 -- The rules of reading, as equations.
-use Rattle.std.proofs.Common.{◌≡◌, ℕ, zero, suc, ◌+◌, ◌-◌, ◌≤◌, ◌<◌, Bool, true, false, List, [], ◌∷◌, Option, Some, None, inl, inr, refl, length, drop, arith}
+use Rattle.std.proofs.Common.{◌≡◌, ℕ, zero, suc, ◌+◌, ◌-◌, ◌≤◌, ◌<◌, Bool, true, false, List, [], ◌∷◌, Option, Some}
+use Rattle.std.proofs.Common.{None, inl, inr, refl, length, drop, arith}
 use Rattle.std.specs.Prelude.{if◌then◌else◌, nat_lt}
 use Rattle.std.specs.Option.{option_map_or}
 use Rattle.std.proofs.lemmas.Bool.Decides.{nat_tests}
@@ -19,7 +20,8 @@ use Rattle.paw_reading.specs.declared.places.OpenLoop.{OpenLoop}
 use Rattle.paw_reading.specs.Run.{Run}
 use Rattle.paw_reading.specs.declared.places.Halt.TheVariants as halt
 use Rattle.paw_reading.specs.Reading.{Out, Left, Waits, Stopped, halts, within, after_call, at_level, next_object_or}
-use Rattle.paw_reading.specs.Reading.{reads_one, condacts, is_for_now, entries, rest_of_entry, from_place, rest_of_loop, called, deeper, rest_of_table}
+use Rattle.paw_reading.specs.Reading.{reads_one, condacts, is_for_now, entries, rest_of_entry, from_place, rest_of_loop}
+use Rattle.paw_reading.specs.Reading.{called, deeper, rest_of_table}
 use Rattle.paw_reading.proofs.Lists.{drop_none, drop_some, drop_more}
 use Rattle.paw_reading.proofs.Keeps.{Keeps, CallsKeeping, at_level_is, looped_closes}
 

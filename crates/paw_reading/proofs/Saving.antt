@@ -1,5 +1,6 @@
 -- Reading a game that never saves leaves the kept positions as they are.
-use Rattle.std.proofs.Common.{◌≡◌, ℕ, zero, suc, ◌-◌, Bool, true, false, ◌||◌, List, [], ◌∷◌, Option, Some, None, refl, ap, ◌∙◌, length, drop}
+use Rattle.std.proofs.Common.{◌≡◌, ℕ, zero, suc, ◌-◌, Bool, true, false, ◌||◌, List, [], ◌∷◌, Option, Some, None, refl}
+use Rattle.std.proofs.Common.{ap, ◌∙◌, length, drop}
 use Rattle.std.specs.Prelude.{nat_lt}
 use Rattle.paw_base.specs.declared.limits.TheConstants.{READ_LIMIT}
 use Rattle.paw_base.specs.declared.parts.Condact.{Condact}
@@ -22,16 +23,22 @@ use Rattle.paw_effects.proofs.Saving.{AreKept, referred_kept}
 use Rattle.paw_effects.proofs.EachRow.{effect_kept, condition_kept}
 use Rattle.paw_reading.specs.declared.places.Frame.{Frame}
 use Rattle.paw_reading.specs.declared.places.OpenLoop.{OpenLoop}
-use Rattle.paw_reading.specs.Run.{Run, closed, fits, printed, with_world, line_dropped, anew, is_timeout, is_ignored, heard, reply, is_yes, is_no, taken_phrase}
+use Rattle.paw_reading.specs.Run.{Run, closed, fits, printed, with_world, line_dropped, anew, is_timeout, is_ignored}
+use Rattle.paw_reading.specs.Run.{heard, reply, is_yes, is_no, taken_phrase}
 use Rattle.paw_reading.specs.declared.places.Halt.TheVariants as halt
-use Rattle.paw_reading.specs.Reading.{Restarts, Redescribes, Halts, Out, Left, Waits, Stopped, halts, noted, after_call, at_level}
-use Rattle.paw_reading.specs.Reading.{next_object_or, is_taken, named, taken, over_objects, loop_of, over, answered, asked, after_test, after_parse}
-use Rattle.paw_reading.specs.Reading.{after_action, carried_out, acts, reads_one, condacts, is_for_now, entries, from_place, rest_of_loop, read_at_level}
+use Rattle.paw_reading.specs.Reading.{Restarts, Redescribes, Halts, Out, Left, Waits, Stopped, halts, noted, after_call}
+use Rattle.paw_reading.specs.Reading.{at_level}
+use Rattle.paw_reading.specs.Reading.{next_object_or, is_taken, named, taken, over_objects, loop_of, over, answered}
+use Rattle.paw_reading.specs.Reading.{asked, after_test, after_parse}
+use Rattle.paw_reading.specs.Reading.{after_action, carried_out, acts, reads_one, condacts, is_for_now, entries}
+use Rattle.paw_reading.specs.Reading.{from_place, rest_of_loop, read_at_level}
 use Rattle.paw_reading.specs.Reading.{called, deeper, rest_of_table, table_read, game_over, waits, coming_phrase}
 use Rattle.paw_reading.specs.GoingOn.{on_path}
 use Rattle.paw_reading.specs.Turn.{TurnPhase, AtDescribe, AtTimeFrame, AtPhrase, AtResponse, Ending, Halted, saying}
-use Rattle.paw_reading.specs.Turn.{described, time_frame_passed, view_text, counted, prompt_text, at_main, after_phrase, refusal_text}
-use Rattle.paw_reading.specs.Turn.{connected, after_left, table_done, turn, phases_left, opening, first_table, goes_on, timeout_text}
+use Rattle.paw_reading.specs.Turn.{described, time_frame_passed, view_text, counted, prompt_text, at_main, after_phrase}
+use Rattle.paw_reading.specs.Turn.{refusal_text}
+use Rattle.paw_reading.specs.Turn.{connected, after_left, table_done, turn, phases_left, opening, first_table, goes_on}
+use Rattle.paw_reading.specs.Turn.{timeout_text}
 use Rattle.paw_reading.specs.Saving.{NeverSaves}
 use Rattle.paw_reading.specs.inner.Saving.{no_positions, EndsKeeping, ReadingsKeepNoPosition, GoingOnKeepsPositions}
 use Rattle.paw_reading.specs.inner.Steps.{goodbye, quit_question, line_set, unknown_text, in_table}

@@ -1,5 +1,6 @@
 -- What a reading keeps of the world, the line, the text and the lines to come.
-use Rattle.std.proofs.Common.{◌≡◌, ℕ, zero, suc, ◌+◌, ◌-◌, ◌*◌, ◌<◌, ◌≤◌, ◌/◌, ◌%◌, Bool, true, false, ◌||◌, List, [], ◌∷◌, Option, Some}
+use Rattle.std.proofs.Common.{◌≡◌, ℕ, zero, suc, ◌+◌, ◌-◌, ◌*◌, ◌<◌, ◌≤◌, ◌/◌, ◌%◌, Bool, true, false, ◌||◌, List, []}
+use Rattle.std.proofs.Common.{◌∷◌, Option, Some}
 use Rattle.std.proofs.Common.{None, refl, length, drop, min, IsTrue, arith, length-append}
 use Rattle.std.specs.Prelude.{if◌then◌else◌, nat_lt, nat_le, All}
 use Rattle.std.specs.List.{list_all}
@@ -32,22 +33,30 @@ use Rattle.paw_effects.specs.Holds.{is_condition, holds}
 use Rattle.paw_effects.specs.Effects.{Done, effect_of}
 use Rattle.paw_reading.specs.declared.places.Frame.{Frame}
 use Rattle.paw_reading.specs.declared.places.OpenLoop.{OpenLoop}
-use Rattle.paw_reading.specs.Run.{Run, closed, fits, printed, with_world, without_loop, line_dropped, anew, is_timeout, is_ignored, heard}
+use Rattle.paw_reading.specs.Run.{Run, closed, fits, printed, with_world, without_loop, line_dropped, anew, is_timeout}
+use Rattle.paw_reading.specs.Run.{is_ignored, heard}
 use Rattle.paw_reading.specs.Run.{with_timeout, reply, is_yes, is_no, spoken, taken_phrase}
 use Rattle.paw_reading.specs.declared.places.Halt.TheVariants as halt
 use Rattle.paw_reading.specs.Reading.{Redescribes, Restarts, Halts, Out, Left, Waits, Stopped, halts, noted, printing}
-use Rattle.paw_reading.specs.Reading.{after_call, at_level, next_object_or, is_taken, named, taken, over_objects, loop_of, over, answered, asked, waits}
-use Rattle.paw_reading.specs.Reading.{after_test, after_parse, after_action, carried_out, acts, reads_one, condacts, is_for_now, entries}
-use Rattle.paw_reading.specs.Reading.{from_place, rest_of_loop, read_at_level, called, deeper, table_read, game_over, coming_phrase}
+use Rattle.paw_reading.specs.Reading.{after_call, at_level, next_object_or, is_taken, named, taken, over_objects}
+use Rattle.paw_reading.specs.Reading.{loop_of, over, answered, asked, waits}
+use Rattle.paw_reading.specs.Reading.{after_test, after_parse, after_action, carried_out, acts, reads_one, condacts}
+use Rattle.paw_reading.specs.Reading.{is_for_now, entries}
+use Rattle.paw_reading.specs.Reading.{from_place, rest_of_loop, read_at_level, called, deeper, table_read, game_over}
+use Rattle.paw_reading.specs.Reading.{coming_phrase}
 use Rattle.paw_reading.specs.GoingOn.{on_path}
-use Rattle.paw_reading.specs.Turn.{TurnPhase, AtDescribe, AtTimeFrame, AtPhrase, AtResponse, Ending, WaitsAt, Halted, saying, described, time_frame_passed}
-use Rattle.paw_reading.specs.Turn.{view_text, counted, prompt_text, at_main, after_phrase, refusal_text, connected, after_left}
-use Rattle.paw_reading.specs.Turn.{table_done, turn, phases_left, opening, reading, first_table, goes_on, going_on_from, timeout_text}
+use Rattle.paw_reading.specs.Turn.{TurnPhase, AtDescribe, AtTimeFrame, AtPhrase, AtResponse, Ending, WaitsAt, Halted}
+use Rattle.paw_reading.specs.Turn.{saying, described, time_frame_passed}
+use Rattle.paw_reading.specs.Turn.{view_text, counted, prompt_text, at_main, after_phrase, refusal_text, connected}
+use Rattle.paw_reading.specs.Turn.{after_left}
+use Rattle.paw_reading.specs.Turn.{table_done, turn, phases_left, opening, reading, first_table, goes_on, going_on_from}
+use Rattle.paw_reading.specs.Turn.{timeout_text}
 use Rattle.paw_reading.specs.inner.Steps.{goodbye, quit_question, line_set, in_table, unknown_text}
 use Rattle.paw_reading.proofs.EachCondact.{by_test}
 use Rattle.paw_reading.proofs.Keeps.{either, open_or_not}
 use Rattle.paw_reading.specs.Bounds.{IsLine, ValidStory}
-use Rattle.paw_effects.proofs.Worlds.{IsWorldAt, few_locations, few_objects, facts_small, later, flag_small, flagged, start_so, anew_so}
+use Rattle.paw_effects.proofs.Worlds.{IsWorldAt, few_locations, few_objects, facts_small, later, flag_small, flagged}
+use Rattle.paw_effects.proofs.Worlds.{start_so, anew_so}
 use Rattle.paw_effects.proofs.Changes.{referred_so}
 use Rattle.paw_effects.proofs.EachRow.{effect_so, condition_so}
 

@@ -1,5 +1,6 @@
 -- The rows of routines that compute a function of their number and a value.
-use Rattle.std.proofs.Common.{◌≡◌, ℕ, ◌<◌, List, length, map, Option, None, Some, sym, ap, ◌∙◌, arith, slice_get, subst, refl}
+use Rattle.std.proofs.Common.{◌≡◌, ℕ, ◌<◌, List, length, map, Option, None, Some, sym, ap, ◌∙◌, arith, slice_get, subst}
+use Rattle.std.proofs.Common.{refl}
 use Rattle.std.specs.Prelude.{All}
 use Rattle.std.specs.List.{range_with_len}
 use Rattle.std.specs.Fn.{Shared}

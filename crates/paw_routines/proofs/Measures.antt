@@ -1,5 +1,6 @@
 -- How rows are measured: a row grows by its values, and a message by the rows.
-use Rattle.std.proofs.Common.{◌≡◌, ◌<◌, ◌+◌, ℕ, List, [], ◌∷◌, ◌++◌, Option, Some, length, take, get_or, set, inl, inr, sym, ap, ◌∙◌, arith, slice_get}
+use Rattle.std.proofs.Common.{◌≡◌, ◌<◌, ◌+◌, ℕ, List, [], ◌∷◌, ◌++◌, Option, Some, length, take, get_or, set, inl, inr}
+use Rattle.std.proofs.Common.{sym, ap, ◌∙◌, arith, slice_get}
 use Rattle.std.specs.Fn.{Shared}
 use Rattle.std.specs.List.{concat}
 use Rattle.std.proofs.lemmas.Bool.{cases_eq}

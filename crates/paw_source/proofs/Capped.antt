@@ -18,7 +18,8 @@ use Rattle.paw_grammar.specs.inner.Numbers.{capped_value}
 use Rattle.paw_grammar.specs.GrammarState.{Spelt}
 use Rattle.paw_grammar.specs.GrammarTexts.{text_item, texts_of, with_texts, text_limit, is_in_text}
 use Rattle.paw_grammar.specs.GrammarHeads.{new_text, new_exits, item_in, slash_line}
-use Rattle.paw_grammar.specs.Spells.{begins_with_slash, begins_with_blank, is_text_line, text_added, tokens_added, after_line}
+use Rattle.paw_grammar.specs.Spells.{begins_with_slash, begins_with_blank, is_text_line, text_added, tokens_added}
+use Rattle.paw_grammar.specs.Spells.{after_line}
 use Rattle.paw_source.specs.inner.Drafts.{IsShortDraft}
 
 and_false : (b : Bool) → (b && false) ≡ false

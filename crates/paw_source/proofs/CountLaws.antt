@@ -25,8 +25,10 @@ use Rattle.paw_grammar.specs.GrammarTexts.{texts_of, with_texts, text_limit, tex
 use Rattle.paw_grammar.specs.GrammarHeads.{next_header, section_opened, plain_header, con_header}
 use Rattle.paw_grammar.specs.GrammarHeads.{pro_header, header_of, new_text}
 use Rattle.paw_grammar.specs.GrammarHeads.{new_exits, item_in, slash_line}
-use Rattle.paw_grammar.specs.GrammarRows.{voc_row, exit_row, con_row, object_row, bounds_of, entry_row, more_row, pro_row, row_in}
-use Rattle.paw_grammar.specs.Spells.{begins_with_slash, begins_with_blank, is_text_line, text_added, tokens_added, after_line, begins_table}
+use Rattle.paw_grammar.specs.GrammarRows.{voc_row, exit_row, con_row, object_row, bounds_of, entry_row, more_row}
+use Rattle.paw_grammar.specs.GrammarRows.{pro_row, row_in}
+use Rattle.paw_grammar.specs.Spells.{begins_with_slash, begins_with_blank, is_text_line, text_added, tokens_added}
+use Rattle.paw_grammar.specs.Spells.{after_line, begins_table}
 use Rattle.paw_source.specs.inner.Laws.{after_lines, CountsTables}
 use Rattle.paw_source.proofs.Faultless.{passes, holds, bound, ok_is, at_end}
 use Rattle.paw_source.proofs.Headers.{table_opened}

@@ -30,8 +30,10 @@ use Rattle.paw_grammar.specs.GrammarTexts.{texts_of, with_texts, text_limit, tex
 use Rattle.paw_grammar.specs.GrammarHeads.{next_header, section_opened, plain_header, con_header}
 use Rattle.paw_grammar.specs.GrammarHeads.{lacks_rows, pro_header, header_of, new_text}
 use Rattle.paw_grammar.specs.GrammarHeads.{new_exits, item_in, slash_line}
-use Rattle.paw_grammar.specs.GrammarRows.{voc_row, exit_row, con_row, object_row, obj_row, bounds_of, entry_row, more_row, pro_row, row_in}
-use Rattle.paw_grammar.specs.Spells.{begins_with_slash, begins_with_blank, is_text_line, text_added, tokens_added, after_line}
+use Rattle.paw_grammar.specs.GrammarRows.{voc_row, exit_row, con_row, object_row, obj_row, bounds_of, entry_row}
+use Rattle.paw_grammar.specs.GrammarRows.{more_row, pro_row, row_in}
+use Rattle.paw_grammar.specs.Spells.{begins_with_slash, begins_with_blank, is_text_line, text_added, tokens_added}
+use Rattle.paw_grammar.specs.Spells.{after_line}
 use Rattle.paw_source.proofs.Faultless.{passes, holds, bound, ok_is, at_end}
 use Rattle.paw_source.proofs.Headers.{with_table, table_opened}
 use Rattle.paw_source.proofs.TextLaws.{all_set, all_get, all_pushed, text_item_ok, text_line_ok}

@@ -1,5 +1,6 @@
 -- What a source spells is a valid game.
-use Rattle.std.proofs.Common.{◌≡◌, ℕ, suc, ◌+◌, ◌-◌, ◌≤◌, true, cond, eqb, List, [], ◌∷◌, length, Ok, Err, refl, ap, subst, arith}
+use Rattle.std.proofs.Common.{◌≡◌, ℕ, suc, ◌+◌, ◌-◌, ◌≤◌, true, cond, eqb, List, [], ◌∷◌, length, Ok, Err, refl, ap}
+use Rattle.std.proofs.Common.{subst, arith}
 use Rattle.std.specs.Prelude.{nat_le, nat_lt}
 use Rattle.std.specs.List.{list_all, count_by}
 use Rattle.std.proofs.lemmas.Bool.{and_parts}
@@ -13,7 +14,8 @@ use Rattle.paw_base.specs.declared.parts.ObjectFacts.{ObjectFacts}
 use Rattle.paw_game.specs.declared.parts.Word.{Word}
 use Rattle.paw_game.specs.Game.{GameLists}
 use Rattle.paw_game.specs.Image.{image}
-use Rattle.paw_game.specs.Valid.{Valid, is_text, is_object, facts_are_valid, is_table, rows_are_valid, exits_are_valid, is_within}
+use Rattle.paw_game.specs.Valid.{Valid, is_text, is_object, facts_are_valid, is_table, rows_are_valid, exits_are_valid}
+use Rattle.paw_game.specs.Valid.{is_within}
 use Rattle.paw_lex.specs.Lines.{lines_of}
 use Rattle.paw_grammar.specs.declared.section.Section.{Section}
 use Rattle.paw_grammar.specs.declared.section.Section.TheVariants as section
@@ -24,7 +26,8 @@ use Rattle.paw_source.specs.inner.Laws.{after_lines, DraftsAreValid, SpellsValid
 use Rattle.paw_source.proofs.Faultless.{passes, bound, ok_is}
 use Rattle.paw_source.proofs.TextLaws.{both}
 use Rattle.paw_source.proofs.RowLaws.{Has}
-use Rattle.paw_source.proofs.DraftLaws.{TextsKept, NoRows, AtTables, InOrder, Keeps, filled_exits, filled_length, step_keeps}
+use Rattle.paw_source.proofs.DraftLaws.{TextsKept, NoRows, AtTables, InOrder, Keeps, filled_exits, filled_length}
+use Rattle.paw_source.proofs.DraftLaws.{step_keeps}
 use Rattle.paw_source.proofs.CountLaws.{step_counts, counts_tables}
 
 texts_valid : (limit : ℕ) (ts : List (List ℕ)) → TextsKept limit ts → rows_are_valid limit is_text ts ≡ true

@@ -27,12 +27,14 @@ use Rattle.paw_game.specs.declared.parts.Entry.{Entry}
 use Rattle.paw_base.specs.declared.parts.ObjectFacts.{ObjectFacts}
 use Rattle.paw_game.specs.Game.{GameLists, counts_of}
 use Rattle.paw_game.specs.Valid.{words_are_valid, has_word, is_verb_value, is_wildcard, is_within, is_place, are_exits}
-use Rattle.paw_game.specs.Valid.{exits_are_valid, facts_are_valid, is_parameter, is_condact, is_entry, is_table, is_word}
+use Rattle.paw_game.specs.Valid.{exits_are_valid, facts_are_valid, is_parameter, is_condact, is_entry, is_table}
+use Rattle.paw_game.specs.Valid.{is_word}
 use Rattle.paw_grammar.specs.declared.bounds.Bounds.{Bounds}
 use Rattle.paw_faults.specs.Bind.{◌>>=◌}
 use Rattle.paw_grammar.specs.Tokens.{read_by, at_most, at_is_next}
 use Rattle.paw_grammar.specs.Numbers.{number, in_range, number_within, number_below, row_number}
-use Rattle.paw_grammar.specs.Vocabulary.{index_among, word, class, object_kind, declared, word_or_none, verb_word, entry_verb, entry_noun}
+use Rattle.paw_grammar.specs.Vocabulary.{index_among, word, class, object_kind, declared, word_or_none, verb_word}
+use Rattle.paw_grammar.specs.Vocabulary.{entry_verb, entry_noun}
 use Rattle.paw_grammar.specs.Condacts.{first_place, any_place, place_names, place_up_to, table, parameter}
 use Rattle.paw_grammar.specs.Condacts.{is_indirect_before, flag_behind_at, first_parameter, code_of}
 use Rattle.paw_grammar.specs.Condacts.{condact, condacts_in, with_more_condacts, more_condacts}
@@ -40,7 +42,8 @@ use Rattle.paw_grammar.specs.GrammarState.{last_or, with_last}
 use Rattle.paw_grammar.specs.GrammarRows.{voc_row, exit_row, object_row, entry_row, no_entry, more_row}
 use Rattle.paw_grammar.proofs.Indirect.{named_plain, read_code, first_kind-indirect, second_kind-read}
 use Rattle.paw_source.proofs.Faultless.{passes, holds, bound, bound_then, ok_is, at_end, in_range_ok, number_ok}
-use Rattle.paw_source.proofs.WordLaws.{word_ok, class_ok, declared_ok, verb_word_ok, word_or_none_ok, entry_verb_ok, entry_noun_ok}
+use Rattle.paw_source.proofs.WordLaws.{word_ok, class_ok, declared_ok, verb_word_ok, word_or_none_ok, entry_verb_ok}
+use Rattle.paw_source.proofs.WordLaws.{entry_noun_ok}
 use Rattle.paw_source.proofs.TextLaws.{all_set, all_at, all_pushed, both}
 
 -- ---- words

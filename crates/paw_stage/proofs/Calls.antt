@@ -6,7 +6,8 @@ use Rattle.std.proofs.lemmas.Slice.Eq.{bytes_eq-Decides}
 use Rattle.paw_stage.specs.Disk.{Disk, put, stable}
 use Rattle.paw_stage.specs.Stage.{Standing, Saves, bytes_or_none, opened}
 use Rattle.paw_stage.specs.Moments.{Moment, moment_of, Passes, InAsk, InSave, InAttach, InWrite, InSync}
-use Rattle.paw_stage.specs.inner.Done.{DoneCall, fresh, standing_after, after, filed, is_attached, saved, attached_store}
+use Rattle.paw_stage.specs.inner.Done.{DoneCall, fresh, standing_after, after, filed, is_attached, saved}
+use Rattle.paw_stage.specs.inner.Done.{attached_store}
 use Rattle.paw_stage.specs.inner.Done.{wrote_store, synced_store}
 use Rattle.paw_stage.specs.inner.Replay.{MayStand, StandsInside, since_of}
 use Rattle.paw_stage.specs.declared.log.CallKind.{CallKind}

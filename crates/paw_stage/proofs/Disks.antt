@@ -1,5 +1,6 @@
 -- What calls leave of a store: its lengths lie in order, and each pick of a crash is among what a crash may leave.
-use Rattle.std.proofs.Common.{◌≡◌, ℕ, zero, suc, ◌+◌, ◌-◌, ◌≤◌, ◌<◌, Bool, true, false, List, [], ◌∷◌, length, min, max, refl, sym, ap, ◌∙◌, arith, slice_index}
+use Rattle.std.proofs.Common.{◌≡◌, ℕ, zero, suc, ◌+◌, ◌-◌, ◌≤◌, ◌<◌, Bool, true, false, List, [], ◌∷◌, length, min, max}
+use Rattle.std.proofs.Common.{refl, sym, ap, ◌∙◌, arith, slice_index}
 use Rattle.std.specs.Prelude.{nat_le, nat_lt, ◌&&◌, ◌||◌, ◌==◌, if◌then◌else◌}
 use Rattle.std.proofs.lemmas.Bool.Decides.{nat_tests}
 use Rattle.paw_stage.specs.Disk.{Disk, Range, is_dirty, MayLeave, put, touched, stable}

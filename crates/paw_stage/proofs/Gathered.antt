@@ -1,5 +1,6 @@
 -- One byte more of the line in work, and its end.
-use Rattle.std.proofs.Common.{◌≡◌, ◌≢◌, ◌≤◌, ◌<◌, ◌⊎◌, inl, inr, ℕ, ◌+◌, ◌-◌, Bool, true, false, List, [], ◌∷◌, ◌++◌, length, take, set, suc, min, nat_lt, sym}
+use Rattle.std.proofs.Common.{◌≡◌, ◌≢◌, ◌≤◌, ◌<◌, ◌⊎◌, inl, inr, ℕ, ◌+◌, ◌-◌, Bool, true, false, List, [], ◌∷◌, ◌++◌}
+use Rattle.std.proofs.Common.{length, take, set, suc, min, nat_lt, sym}
 use Rattle.std.proofs.Common.{ap, ◌∙◌, arith, length-append}
 use Rattle.std.specs.Prelude.{Option, Some, None, IfSome, if◌then◌else◌, ◌==◌}
 use Rattle.std.specs.Io.KnownBytes.{Consumes, IsAtEnd}
@@ -8,7 +9,8 @@ use Rattle.std.proofs.lemmas.List.{take_all, take-append-le, take-take, length-t
 use Rattle.std.proofs.Math.Seq.{take-suc-set}
 use Rattle.paw_stage.specs.inner.Input.{Gathers, GathersLine, HasLine, longest_line}
 use Rattle.paw_stage.proofs.Consumed.{Consumes_on}
-use Rattle.paw_stage.proofs.FirstLine.{HasNoEnd-push, ends_with_byte-push, drop_through-end, drop_through-whole, first_line-end, first_line-whole, first_line-long}
+use Rattle.paw_stage.proofs.FirstLine.{HasNoEnd-push, ends_with_byte-push, drop_through-end, drop_through-whole}
+use Rattle.paw_stage.proofs.FirstLine.{first_line-end, first_line-whole, first_line-long}
 
 below_or : (k : ℕ) → (k < 255) ⊎ (255 ≤ k)
 below_or k = grind arith

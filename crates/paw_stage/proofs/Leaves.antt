@@ -1,5 +1,6 @@
 -- What a crash leaves of the attached store.
-use Rattle.std.proofs.Common.{◌≡◌, ◌≢◌, ℕ, ◌+◌, ◌-◌, ◌<◌, Bool, true, false, List, [], ◌∷◌, ◌++◌, length, take, drop, slice_index, refl, sym, ap, ◌∙◌, arith}
+use Rattle.std.proofs.Common.{◌≡◌, ◌≢◌, ℕ, ◌+◌, ◌-◌, ◌<◌, Bool, true, false, List, [], ◌∷◌, ◌++◌, length, take, drop}
+use Rattle.std.proofs.Common.{slice_index, refl, sym, ap, ◌∙◌, arith}
 use Rattle.std.specs.Prelude.{Some, ◌||◌, ◌==◌, if◌then◌else◌, slice_range}
 use Rattle.std.proofs.lemmas.List.{ext_get_or, take_all, length-drop, take-map, drop-map}
 use Rattle.paw_stage.specs.Disk.{Disk, is_dirty}

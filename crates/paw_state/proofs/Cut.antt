@@ -1,5 +1,6 @@
 -- The fields that stand in the bytes of fields are these fields.
-use Rattle.std.proofs.Common.{◌≡◌, ℕ, suc, ◌+◌, ◌*◌, ◌<◌, ◌^◌, List, [], ◌∷◌, ◌++◌, length, drop, refl, sym, ap, ◌∙◌, lit<, arith}
+use Rattle.std.proofs.Common.{◌≡◌, ℕ, suc, ◌+◌, ◌*◌, ◌<◌, ◌^◌, List, [], ◌∷◌, ◌++◌, length, drop, refl, sym, ap, ◌∙◌}
+use Rattle.std.proofs.Common.{lit<, arith}
 use Rattle.std.specs.Prelude.{All, flat_map, slice_index, slice_range}
 use Rattle.std.specs.Int.{w16, w64, from_le_bytes}
 use Rattle.std.proofs.lemmas.Nat.{from_le_bytes-to_le_bytes_2, from_le_bytes-to_le_bytes_8}
@@ -18,7 +19,8 @@ use Rattle.std.specs.List.{concat}
 use Rattle.paw_state.specs.Fields.{IsSizedHeld, AreSized}
 use Rattle.paw_state.specs.inner.Fields.{eight_bytes, row_bytes, loop_bytes, held_bytes}
 use Rattle.paw_state.specs.inner.Fields.{two_at, eight_at, row_at, rows_at, held_at}
-use Rattle.paw_state.specs.inner.Fields.{world_bytes, number_bytes, table_bytes, pending_bytes, kept_position_bytes, field_bytes}
+use Rattle.paw_state.specs.inner.Fields.{world_bytes, number_bytes, table_bytes, pending_bytes, kept_position_bytes}
+use Rattle.paw_state.specs.inner.Fields.{field_bytes}
 use Rattle.paw_state.specs.inner.Fields.{fields_at}
 use Rattle.paw_state.proofs.Pieces.{kept_place, range_is, behind, byte_is}
 use Rattle.paw_state.proofs.Written.{length-rows}

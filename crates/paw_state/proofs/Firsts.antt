@@ -23,13 +23,16 @@ use Rattle.paw_state.specs.inner.Faults.{inside}
 use Rattle.paw_state.specs.Fields.{row_fields, rows_fields, loop_fields, IsSizedHeld, AreSized}
 use Rattle.paw_state.specs.inner.Faults.{fields_fault}
 use Rattle.paw_state.specs.Fields.{prompt_of as listed_prompt}
-use Rattle.paw_state.specs.inner.Faults.{rule, first, first_not, is_zero, places_fault, absent_fault, held_fault, kept_fault}
+use Rattle.paw_state.specs.inner.Faults.{rule, first, first_not, is_zero, places_fault, absent_fault, held_fault}
+use Rattle.paw_state.specs.inner.Faults.{kept_fault}
 use Rattle.paw_state.specs.inner.Faults.{numbers_fault, prompt_of, prompt_fault, row_fault, row_fields_fault}
-use Rattle.paw_state.specs.inner.Faults.{no_loop_fault, loop_fields_fault, open_loop_fault, frame_fields_fault, pending_fault, parts_fault}
+use Rattle.paw_state.specs.inner.Faults.{no_loop_fault, loop_fields_fault, open_loop_fault, frame_fields_fault}
+use Rattle.paw_state.specs.inner.Faults.{pending_fault, parts_fault}
 use Rattle.paw_state.proofs.Cut.{length-held}
 use Rattle.paw_state.proofs.Written.{length-rows}
 use Rattle.paw_state.proofs.Listed.{each_bytes, there_bytes, held_same, row_same, rows_same, loop_same, listed}
-use Rattle.paw_state.proofs.Listed.{from_piece, line_fields, from_earlier, from_looping, table_rows, from_seed, flag_fields, place_fields}
+use Rattle.paw_state.proofs.Listed.{from_piece, line_fields, from_earlier, from_looping, table_rows, from_seed}
+use Rattle.paw_state.proofs.Listed.{flag_fields, place_fields}
 
 -- ---- options ----
 

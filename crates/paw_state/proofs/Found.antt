@@ -1,7 +1,9 @@
 -- Where no fault is found.
-use Rattle.std.proofs.Common.{◌≡◌, ℕ, zero, suc, ◌-◌, ◌≤◌, Bool, true, false, List, [], ◌∷◌, Option, Some, None, length, take, drop, refl, sym, ap, ◌∙◌, arith}
+use Rattle.std.proofs.Common.{◌≡◌, ℕ, zero, suc, ◌-◌, ◌≤◌, Bool, true, false, List, [], ◌∷◌, Option, Some, None, length}
+use Rattle.std.proofs.Common.{take, drop, refl, sym, ap, ◌∙◌, arith}
 use Rattle.std.specs.Prelude.{All, IsTrue, if◌then◌else◌}
-use Rattle.std.proofs.lemmas.List.{length-take, length-drop, length-replicate, length-append, take-append-drop, take_at, drop_at}
+use Rattle.std.proofs.lemmas.List.{length-take, length-drop, length-replicate, length-append, take-append-drop, take_at}
+use Rattle.std.proofs.lemmas.List.{drop_at}
 use Rattle.std.proofs.lemmas.List.Elements.{All-cons}
 use Rattle.std.proofs.lemmas.Bool.{eqb-true}
 use Rattle.paw_state.specs.State.{zeros, filled}

@@ -1,5 +1,6 @@
 -- The bytes of the fields that stand in some bytes are these bytes.
-use Rattle.std.proofs.Common.{◌≡◌, ℕ, zero, suc, ◌+◌, ◌-◌, ◌*◌, ◌≤◌, List, [], ◌∷◌, ◌++◌, length, take, drop, refl, sym, ap, ◌∙◌, lit≤, arith}
+use Rattle.std.proofs.Common.{◌≡◌, ℕ, zero, suc, ◌+◌, ◌-◌, ◌*◌, ◌≤◌, List, [], ◌∷◌, ◌++◌, length, take, drop, refl, sym}
+use Rattle.std.proofs.Common.{ap, ◌∙◌, lit≤, arith}
 use Rattle.std.specs.Prelude.{flat_map, slice_range}
 use Rattle.std.proofs.lemmas.Nat.{le_bytes_2, le_bytes_8}
 use Rattle.std.proofs.lemmas.List.{length-drop}
@@ -13,7 +14,8 @@ use Rattle.paw_state.specs.declared.layout.TheConstants.{EARLIER, PENDING, LINE,
 use Rattle.paw_state.specs.State.{AreBytes}
 use Rattle.paw_state.specs.inner.Fields.{eight_bytes, row_bytes, loop_bytes, held_bytes}
 use Rattle.paw_state.specs.inner.Fields.{two_at, eight_at, row_at, rows_at, held_at, fields_at}
-use Rattle.paw_state.specs.inner.Fields.{world_bytes, number_bytes, table_bytes, pending_bytes, kept_position_bytes, field_bytes}
+use Rattle.paw_state.specs.inner.Fields.{world_bytes, number_bytes, table_bytes, pending_bytes, kept_position_bytes}
+use Rattle.paw_state.specs.inner.Fields.{field_bytes}
 use Rattle.paw_state.proofs.Pieces.{kept_place, range_join, byte_range, length_range, range_bytes, drop_bytes}
 use Rattle.paw_state.proofs.Pieces.{each_byte}
 

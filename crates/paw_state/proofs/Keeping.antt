@@ -1,5 +1,6 @@
 -- Rules of states, and faults of fields.
-use Rattle.std.proofs.Common.{◌≡◌, ℕ, suc, ◌+◌, ◌-◌, ◌*◌, ◌==◌, ◌||◌, Bool, true, false, List, [], ◌∷◌, Option, Some, None}
+use Rattle.std.proofs.Common.{◌≡◌, ℕ, suc, ◌+◌, ◌-◌, ◌*◌, ◌==◌, ◌||◌, Bool, true, false, List, [], ◌∷◌, Option, Some}
+use Rattle.std.proofs.Common.{None}
 use Rattle.std.proofs.Common.{length, map, take, drop, get_or, is_some, nat_le, refl, sym, ap, ◌∙◌, subst, arith}
 use Rattle.std.specs.Prelude.{All, IfNone, if◌then◌else◌}
 use Rattle.std.specs.Option.{option_or, unwrap_or}
@@ -26,7 +27,8 @@ use Rattle.paw_effects.specs.inner.Worlds.{ArePlacesOf}
 use Rattle.paw_state.specs.State.{State}
 use Rattle.paw_state.specs.inner.State.{KeepsEach}
 use Rattle.paw_state.specs.State.{zeros, filled, held_of, prompt_code, row_of, fields_of}
-use Rattle.paw_state.specs.inner.Faults.{rule, first_not, is_zero, places_fault, absent_fault, held_fault, kept_fault, prompt_of, row_fields_fault}
+use Rattle.paw_state.specs.inner.Faults.{rule, first_not, is_zero, places_fault, absent_fault, held_fault, kept_fault}
+use Rattle.paw_state.specs.inner.Faults.{prompt_of, row_fields_fault}
 use Rattle.paw_state.specs.inner.Parts.{held_in, frame_in, frames_in, state_in}
 use Rattle.paw_state.proofs.Positions.{IsHeldOf, saved_held, kept_held, held_size_for, held_placed}
 use Rattle.paw_state.specs.Fields.{IsSizedHeld, AreSized}

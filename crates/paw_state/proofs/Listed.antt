@@ -1,5 +1,6 @@
 -- The bytes of the list of fields are those of its parts.
-use Rattle.std.proofs.Common.{◌≡◌, ℕ, suc, ◌+◌, ◌-◌, ◌*◌, ◌==◌, ◌||◌, Bool, true, List, [], ◌∷◌, ◌++◌, Option, Some, None, refl, sym, ap, ◌∙◌}
+use Rattle.std.proofs.Common.{◌≡◌, ℕ, suc, ◌+◌, ◌-◌, ◌*◌, ◌==◌, ◌||◌, Bool, true, List, [], ◌∷◌, ◌++◌, Option, Some}
+use Rattle.std.proofs.Common.{None, refl, sym, ap, ◌∙◌}
 use Rattle.std.specs.Prelude.{flat_map, nat_le, nat_lt, is_some, not, if◌then◌else◌}
 use Rattle.std.specs.Option.{unwrap_or}
 use Rattle.std.proofs.lemmas.List.{append_assoc, append-nil}
@@ -14,10 +15,12 @@ use Rattle.paw_state.specs.declared.fields.FrameField.{FrameField}
 use Rattle.paw_state.specs.declared.fields.Fields.{Fields}
 use Rattle.paw_state.specs.declared.position_field.PositionField.{PositionField}
 use Rattle.paw_state.specs.State.{State, fields_of, state_bytes}
-use Rattle.paw_state.specs.Fields.{Field, byte, two, eight, one_by_one, if_there, bytes_of, place_holds, held_fields, row_fields, rows_fields}
+use Rattle.paw_state.specs.Fields.{Field, byte, two, eight, one_by_one, if_there, bytes_of, place_holds, held_fields}
+use Rattle.paw_state.specs.Fields.{row_fields, rows_fields}
 use Rattle.paw_state.specs.inner.Faults.{inside}
 use Rattle.paw_state.specs.Fields.{loop_fields, state_fields}
-use Rattle.paw_state.specs.inner.Fields.{eight_bytes, row_bytes, loop_bytes, held_bytes, world_bytes, number_bytes, table_bytes}
+use Rattle.paw_state.specs.inner.Fields.{eight_bytes, row_bytes, loop_bytes, held_bytes, world_bytes, number_bytes}
+use Rattle.paw_state.specs.inner.Fields.{table_bytes}
 use Rattle.paw_state.specs.inner.Fields.{pending_bytes, kept_position_bytes, field_bytes}
 
 pub each_bytes : (h : ℕ → ℕ → GameLists → Bool) (i : ℕ) (bs : List ℕ) → bytes_of (one_by_one h i bs) ≡ bs

@@ -15,7 +15,8 @@ use Rattle.paw_state.specs.declared.fields.FrameField.{FrameField}
 use Rattle.paw_state.specs.State.{row_of}
 use Rattle.paw_state.specs.inner.Parts.{frame_in}
 use Rattle.std.specs.Option.{option_or}
-use Rattle.paw_state.specs.inner.Faults.{rule, first, unused_fault, used_fault, row_fault, row_fields_fault, called_table}
+use Rattle.paw_state.specs.inner.Faults.{rule, first, unused_fault, used_fault, row_fault, row_fields_fault}
+use Rattle.paw_state.specs.inner.Faults.{called_table}
 use Rattle.paw_state.proofs.Found.{rule_holds, no_rule, no_first, none_first}
 
 pub both : (a b : Bool) → a ≡ true → b ≡ true → (a && b) ≡ true

@@ -1,5 +1,6 @@
 -- The rules of a state, by its fields and one by one.
-use Rattle.std.proofs.Common.{◌≡◌, ℕ, suc, ◌+◌, ◌*◌, ◌≤◌, List, [], ◌∷◌, Option, Some, None, length, map, take, get_or, nat_le, refl, sym, ◌∙◌, subst, arith}
+use Rattle.std.proofs.Common.{◌≡◌, ℕ, suc, ◌+◌, ◌*◌, ◌≤◌, List, [], ◌∷◌, Option, Some, None, length, map, take, get_or}
+use Rattle.std.proofs.Common.{nat_le, refl, sym, ◌∙◌, subst, arith}
 use Rattle.std.specs.Prelude.{All, IfNone, if◌then◌else◌}
 use Rattle.std.proofs.lemmas.List.{length-map}
 use Rattle.std.proofs.lemmas.List.Elements.{All-cons, All-map}

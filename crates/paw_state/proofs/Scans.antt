@@ -1,5 +1,6 @@
 -- Looking through bytes and rows one by one.
-use Rattle.std.proofs.Common.{◌≡◌, ℕ, zero, suc, ◌+◌, ◌-◌, ◌*◌, ◌<◌, ◌≤◌, Bool, true, false, List, [], ◌∷◌, ◌++◌, Option}
+use Rattle.std.proofs.Common.{◌≡◌, ℕ, zero, suc, ◌+◌, ◌-◌, ◌*◌, ◌<◌, ◌≤◌, Bool, true, false, List, [], ◌∷◌, ◌++◌}
+use Rattle.std.proofs.Common.{Option}
 use Rattle.std.proofs.Common.{Some, None, length, take, drop, set, get_or, refl, sym, ap, ◌∙◌, add-one, subst, arith}
 use Rattle.std.specs.Prelude.{if◌then◌else◌}
 use Rattle.std.proofs.Math.Seq.{drop-cons, take-suc-set}
@@ -10,7 +11,8 @@ use Rattle.paw_state.specs.declared.fields.FrameField.{FrameField}
 use Rattle.paw_state.specs.declared.position_field.PositionField.{PositionField}
 use Rattle.paw_state.specs.inner.Fields.{row_at, rows_at}
 use Rattle.std.specs.Option.{option_or}
-use Rattle.paw_state.specs.inner.Faults.{rule, first_not, held_fault, kept_fault, row_fault, row_fields_fault, called_table}
+use Rattle.paw_state.specs.inner.Faults.{rule, first_not, held_fault, kept_fault, row_fault, row_fields_fault}
+use Rattle.paw_state.specs.inner.Faults.{called_table}
 
 -- ---- bytes ----
 

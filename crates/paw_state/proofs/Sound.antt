@@ -8,8 +8,10 @@ use Rattle.paw_state.specs.declared.layout.TheConstants.{PLACES, SAVED, DRAWS, E
 use Rattle.paw_state.specs.declared.layout.TheConstants.{LINE, KEPT}
 use Rattle.paw_state.specs.declared.fields.Fields.{Fields}
 use Rattle.std.specs.Option.{option_or}
-use Rattle.paw_state.specs.inner.Faults.{rule, first, first_not, is_zero, places_fault, held_fault, kept_fault, numbers_fault, prompt_of, prompt_fault}
-use Rattle.paw_state.specs.inner.Faults.{frame_fields_fault, no_loop_fault, loop_fields_fault, open_loop_fault, pending_fault, parts_fault}
+use Rattle.paw_state.specs.inner.Faults.{rule, first, first_not, is_zero, places_fault, held_fault, kept_fault}
+use Rattle.paw_state.specs.inner.Faults.{numbers_fault, prompt_of, prompt_fault}
+use Rattle.paw_state.specs.inner.Faults.{frame_fields_fault, no_loop_fault, loop_fields_fault, open_loop_fault}
+use Rattle.paw_state.specs.inner.Faults.{pending_fault, parts_fault}
 use Rattle.paw_state.proofs.Found.{rule_holds, no_rule, no_first, none_first}
 
 -- where no loop is open the loop's bytes are 0; else the loop keeps its rules

@@ -1,5 +1,6 @@
--- The two bytes of a state that tell the length of the piece.
-use Rattle.std.proofs.Common.{◌≡◌, ℕ, ◌-◌, ◌+◌, ◌*◌, ◌<◌, ◌^◌, List, [], ◌∷◌, ◌++◌, length, take, drop, get_or, sym, ap, ◌∙◌, arith, append_assoc, length-append}
+-- The two bytes of a state that give the length of the piece.
+use Rattle.std.proofs.Common.{◌≡◌, ℕ, ◌+◌, ◌*◌, ◌<◌, ◌^◌, List, [], ◌∷◌, ◌++◌, length, take, drop, get_or, sym, ap}
+use Rattle.std.proofs.Common.{◌∙◌, arith, append_assoc, length-append, ◌-◌}
 use Rattle.std.proofs.lemmas.List.{append-nil, get_or_append_left, get_or-append-add, take-append-drop}
 use Rattle.paw_base.specs.declared.layout.TheConstants.{STATE_LENGTH}
 use Rattle.paw_state.proofs.Found.{length-zeros}
@@ -9,7 +10,8 @@ use Rattle.paw_state.specs.declared.layout.TheConstants.{PIECE, STATE_ROOM}
 use Rattle.paw_state.specs.declared.fields.Fields.{Fields}
 use Rattle.paw_state.specs.State.{State}
 use Rattle.paw_state.specs.State.{fields_of, state_bytes, zeros}
-use Rattle.paw_state.specs.inner.Fields.{world_bytes, number_bytes, table_bytes, pending_bytes, kept_position_bytes, field_bytes}
+use Rattle.paw_state.specs.inner.Fields.{world_bytes, number_bytes, table_bytes, pending_bytes, kept_position_bytes}
+use Rattle.paw_state.specs.inner.Fields.{field_bytes}
 
 inner_join : (d e p k : List ℕ) → (d ++ (e ++ (p ++ []))) ++ (k ++ []) ≡ (d ++ e) ++ (p ++ k)
 inner_join d e p k = simp (append_assoc, append-nil)

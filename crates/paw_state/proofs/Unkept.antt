@@ -1,5 +1,6 @@
 -- The bytes of a state that keeps no position end in zeros.
-use Rattle.std.proofs.Common.{◌≡◌, ℕ, List, [], ◌++◌, None, replicate, length, map, take, refl, sym, ap, ◌∙◌, arith, append_assoc, append-nil, length-append}
+use Rattle.std.proofs.Common.{◌≡◌, ℕ, List, [], ◌++◌, None, replicate, length, map, take, refl, sym, ap, ◌∙◌, arith}
+use Rattle.std.proofs.Common.{append_assoc, append-nil, length-append}
 use Rattle.std.specs.Prelude.{flat_map, Option}
 use Rattle.std.proofs.lemmas.List.{take_at}
 use Rattle.paw_base.specs.declared.layout.TheConstants.{STATE_LENGTH}
@@ -8,7 +9,8 @@ use Rattle.paw_state.specs.declared.layout.TheConstants.{KEPT}
 use Rattle.paw_state.specs.State.{State}
 use Rattle.paw_state.specs.declared.fields.Fields.{Fields}
 use Rattle.paw_state.specs.State.{zeros}
-use Rattle.paw_state.specs.inner.Fields.{world_bytes, number_bytes, table_bytes, pending_bytes, kept_position_bytes, held_bytes}
+use Rattle.paw_state.specs.inner.Fields.{world_bytes, number_bytes, table_bytes, pending_bytes, kept_position_bytes}
+use Rattle.paw_state.specs.inner.Fields.{held_bytes}
 use Rattle.paw_state.specs.State.{held_of, fields_of, state_bytes}
 use Rattle.paw_state.proofs.Found.{length-zeros}
 use Rattle.paw_state.proofs.Listed.{state_same}

@@ -3,7 +3,8 @@ use Rattle.std.proofs.Common.{◌≡◌, ℕ, ◌+◌, ◌-◌, ◌*◌, ◌<◌
 use Rattle.std.proofs.Common.{drop, set, get_or, replicate, refl, sym, ap, ◌∙◌, add-one, arith}
 use Rattle.std.specs.Prelude.{flat_map}
 use Rattle.std.proofs.Math.Seq.{take-suc, take-suc-set}
-use Rattle.std.proofs.lemmas.List.{append_assoc, append-nil, take_all, length-append, length-map, get_or-map, drop-drop, drop-replicate, length-take}
+use Rattle.std.proofs.lemmas.List.{append_assoc, append-nil, take_all, length-append, length-map, get_or-map, drop-drop}
+use Rattle.std.proofs.lemmas.List.{drop-replicate, length-take}
 use Rattle.std.proofs.lemmas.Slice.{take-put_mid, drop-put_mid}
 use borrow.Rule.Slice.PartMut.{put_mid}
 use Rattle.paw_base.specs.declared.layout.TheConstants.{STATE_LENGTH}

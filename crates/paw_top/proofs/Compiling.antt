@@ -10,7 +10,8 @@ use Rattle.paw_game.specs.Image.{image}
 use Rattle.paw_grammar.specs.Spells.{spelled}
 use Rattle.paw_stage.specs.Stage.{Standing}
 use Rattle.paw_stage.specs.declared.StageCall.TheVariants as call
-use Rattle.paw_top.specs.Compile.{Compiles, done, refused, absent, unloaded, unsaved, unshown, memory, HoldsSource, image_line}
+use Rattle.paw_top.specs.Compile.{Compiles, done, refused, absent, unloaded, unsaved, unshown, memory, HoldsSource}
+use Rattle.paw_top.specs.Compile.{image_line}
 use Rattle.paw_top.specs.inner.Compile.{IsRefusal, SavesSo}
 use Rattle.paw_top.specs.inner.Loads.{LoadsSome, LoadsNone}
 use Rattle.paw_top.specs.declared.outcome.Outcome.{Outcome}

@@ -1,5 +1,6 @@
 -- A command whose calls don't fail.
-use Rattle.std.proofs.Common.{◌≡◌, ◌≢◌, ◌≤◌, ◌<◌, ℕ, true, false, List, length, Option, Some, None, refl, sym, ap, ◌∙◌, subst, arith}
+use Rattle.std.proofs.Common.{◌≡◌, ◌≢◌, ◌≤◌, ◌<◌, ℕ, true, false, List, length, Option, Some, None, refl, sym, ap, ◌∙◌}
+use Rattle.std.proofs.Common.{subst, arith}
 use Rattle.std.specs.Prelude.{Result, Ok, Err, IfSome, nat_le, if◌then◌else◌}
 use Rattle.std.proofs.lemmas.Bool.Decides.{nat_tests}
 use Rattle.paw_wrap.specs.declared.columns.TheConstants.{WRAP_LIMIT}
@@ -15,7 +16,8 @@ use Rattle.paw_stage.specs.declared.StageCall.TheVariants as call
 use Rattle.paw_top.specs.Answers.{failed_call}
 use Rattle.paw_top.specs.Compile as compile
 use Rattle.paw_top.specs.Completes.{NoFailure, IsUnhindered}
-use Rattle.paw_top.specs.inner.Completes.{IsWalked, CompletesSource, CompletesCompile, CompletesImage, CompletesWrap, Comes}
+use Rattle.paw_top.specs.inner.Completes.{IsWalked, CompletesSource, CompletesCompile, CompletesImage, CompletesWrap}
+use Rattle.paw_top.specs.inner.Completes.{Comes}
 use Rattle.paw_top.specs.Decompile as decompile
 use Rattle.paw_top.specs.Loads.{Holds, HoldsDamage}
 use Rattle.paw_top.specs.Shows as shows

@@ -1,5 +1,6 @@
 -- A session whose calls don't fail.
-use Rattle.std.proofs.Common.{◌≡◌, ◌≢◌, ◌⊎◌, ℕ, ◌<◌, List, [], ◌∷◌, length, take, Some, refl, sym, ap, ◌∙◌, subst, arith, inl, inr}
+use Rattle.std.proofs.Common.{◌≡◌, ◌≢◌, ◌⊎◌, ℕ, ◌<◌, List, [], ◌∷◌, length, take, Some, refl, sym, ap, ◌∙◌, subst}
+use Rattle.std.proofs.Common.{arith, inl, inr}
 use Rattle.paw_base.specs.Bytes.{zeros}
 use Rattle.paw_game.specs.Game.{GameLists}
 use Rattle.paw_effects.specs.Story.{Story, story_of}
@@ -17,7 +18,8 @@ use Rattle.paw_play.specs.Session.{IsOfStory, kept_bytes, story_digests}
 use Rattle.paw_reading.specs.declared.places.Halt.{Halt}
 use Rattle.paw_play.specs.Walk.{end_halt, EndingOf}
 use Rattle.paw_play.specs.Play as session
-use Rattle.paw_play.specs.Play.{ShowsAs, MadeAndPlayed, NewSession, Resumed, PlaysAgain, Refuses, attached_to, store_bytes}
+use Rattle.paw_play.specs.Play.{ShowsAs, MadeAndPlayed, NewSession, Resumed, PlaysAgain, Refuses, attached_to}
+use Rattle.paw_play.specs.Play.{store_bytes}
 use Rattle.paw_play.specs.Played.{PlayedSession, ShowsState, begun}
 use Rattle.paw_play.specs.declared.PlayEnd.{PlayEnd}
 use Rattle.paw_play.specs.declared.PlayEnd.TheVariants as end

@@ -1,10 +1,12 @@
 -- The printed line of a condact is read as this condact.
-use Rattle.std.proofs.Common.{◌≡◌, ℕ, ◌+◌, ◌-◌, ◌<◌, ◌≤◌, Bool, true, false, not, ◌||◌, cond, ltb, leb, min, List, [], ◌∷◌, ◌++◌, length, map, Option, Some, Result, Ok}
+use Rattle.std.proofs.Common.{◌≡◌, ℕ, ◌+◌, ◌-◌, ◌<◌, ◌≤◌, Bool, true, false, not, ◌||◌, cond, ltb, leb, min, List, []}
+use Rattle.std.proofs.Common.{◌∷◌, ◌++◌, length, map, Option, Some, Result, Ok}
 use Rattle.std.proofs.Common.{refl, sym, ap, subst, ◌∙◌, inl, inr, arith, length-append}
 use Rattle.std.specs.List.{list_all}
 use Rattle.std.specs.Option.{ok_or}
 use Rattle.std.specs.Fmt.{decimal}
-use Rattle.std.proofs.lemmas.Bool.{and_parts, and_from, and_right, or_cases, not-true, eqb-true, leb-true, ltb-true, le-ltb, false≢true}
+use Rattle.std.proofs.lemmas.Bool.{and_parts, and_from, and_right, or_cases, not-true, eqb-true, leb-true, ltb-true}
+use Rattle.std.proofs.lemmas.Bool.{le-ltb, false≢true}
 use Rattle.std.proofs.lemmas.List.{append-nil}
 use Rattle.std.proofs.lemmas.List.Folds.{list_all-append}
 use Rattle.std.proofs.Math.ListN.{length-map}
@@ -15,7 +17,8 @@ use Rattle.paw_base.specs.declared.fault.SourceKind.TheVariants as fault
 use Rattle.paw_base.specs.declared.parts.Condact.{Condact}
 use Rattle.paw_base.specs.declared.rows.ParamKind.{ParamKind}
 use Rattle.paw_base.specs.declared.rows.ParamKind.TheVariants as kind
-use Rattle.paw_base.specs.Condacts.{is_code, is_plain_code, is_indirect, may_be_indirect, plain_code, condact_lines, plain_line, line_of, code_named, name_of}
+use Rattle.paw_base.specs.Condacts.{is_code, is_plain_code, is_indirect, may_be_indirect, plain_code, condact_lines}
+use Rattle.paw_base.specs.Condacts.{plain_line, line_of, code_named, name_of}
 use Rattle.paw_base.specs.Condacts.{first_kind, second_kind, param_count, params_of}
 use Rattle.paw_base.specs.inner.Condacts.{IsCode, IsPlainCode}
 use Rattle.paw_base.proofs.Table.{below, each_code, indirect_within, within_code}

@@ -1,9 +1,11 @@
 -- The printed exits of the locations are read as these exits.
-use Rattle.std.proofs.Common.{◌≡◌, ℕ, suc, ◌<◌, ◌≤◌, ◌+◌, ◌-◌, Bool, true, false, not, ◌&&◌, eqb, ltb, leb, List, [], ◌∷◌, ◌++◌, length, replicate, map, Ok}
+use Rattle.std.proofs.Common.{◌≡◌, ℕ, suc, ◌<◌, ◌≤◌, ◌+◌, ◌-◌, Bool, true, false, not, ◌&&◌, eqb, ltb, leb, List, []}
+use Rattle.std.proofs.Common.{◌∷◌, ◌++◌, length, replicate, map, Ok}
 use Rattle.std.proofs.Common.{refl, sym, ap, ◌∙◌, arith, length-append}
 use Rattle.std.specs.List.{list_all, list_any}
 use Rattle.std.specs.Fmt.{decimal}
-use Rattle.std.proofs.lemmas.Bool.{and_parts, and_from, or_from, or_parts, le-ltb, lt-ltb, ltb-true, eqb-false, ne_eqb, not-true, not_from_false}
+use Rattle.std.proofs.lemmas.Bool.{and_parts, and_from, or_from, or_parts, le-ltb, lt-ltb, ltb-true, eqb-false, ne_eqb}
+use Rattle.std.proofs.lemmas.Bool.{not-true, not_from_false}
 use Rattle.std.proofs.lemmas.List.{append_assoc, append-nil, replicate_more}
 use Rattle.std.proofs.lemmas.List.Folds.{list_any-append}
 use Rattle.paw_base.specs.declared.limits.TheConstants.{LOCATION_LIMIT}

@@ -1,12 +1,14 @@
 -- The token that is printed for a value of a word is read as that value.
-use Rattle.std.proofs.Common.{◌≡◌, ℕ, ◌<◌, ◌≤◌, Bool, true, false, ◌&&◌, ◌||◌, eqb, ltb, leb, cond, List, [], ◌∷◌, Some, None, Result, Ok, Ordering, refl, sym}
+use Rattle.std.proofs.Common.{◌≡◌, ℕ, ◌<◌, ◌≤◌, Bool, true, false, ◌&&◌, ◌||◌, eqb, ltb, leb, cond, List, [], ◌∷◌, Some}
+use Rattle.std.proofs.Common.{None, Result, Ok, Ordering, refl, sym}
 use Rattle.std.proofs.Common.{ap, ◌∙◌, subst, inl, inr, bytes_eq, arith}
 use Rattle.std.specs.List.{list_all, list_any, find}
 use Rattle.std.specs.Option.{option_or}
 use Rattle.std.specs.declared.cmp.Ordering.TheVariants.{Less, Equal, Greater}
 use Rattle.std.specs.Ordering.{is_eq, is_lt, nat_cmp}
 use Rattle.std.specs.Cmp.Lexicographic.{slice_cmp}
-use Rattle.std.proofs.lemmas.Bool.{and_parts, or_cases, eqb-true, eq-eqb, ne_eqb, leb-true, lt-ltb, ltb-true, false≢true}
+use Rattle.std.proofs.lemmas.Bool.{and_parts, or_cases, eqb-true, eq-eqb, ne_eqb, leb-true, lt-ltb, ltb-true}
+use Rattle.std.proofs.lemmas.Bool.{false≢true}
 use Rattle.paw_base.specs.declared.words.TheConstants.{LEAST_WORD, GREATEST_WORD}
 use Rattle.paw_grammar.specs.Spells.{begins_with_slash}
 use Rattle.std.proofs.lemmas.Cmp.{nat_list_cmp_total}
@@ -14,7 +16,8 @@ use Rattle.std.proofs.lemmas.Map.Text.{is_eq-slice_cmp}
 use Rattle.std.proofs.lemmas.Slice.Eq.{bytes_eq-Decides}
 use Rattle.paw_base.specs.declared.fault.SourceKind.{SourceKind}
 use Rattle.paw_game.specs.declared.parts.Word.{Word}
-use Rattle.paw_game.specs.Valid.{are_letters, is_within, is_word, words_rise, has_word, is_verb_value, is_word_or_none, is_wildcard}
+use Rattle.paw_game.specs.Valid.{are_letters, is_within, is_word, words_rise, has_word, is_verb_value, is_word_or_none}
+use Rattle.paw_game.specs.Valid.{is_wildcard}
 use Rattle.paw_game.specs.Tables.{word_of}
 use Rattle.paw_grammar.specs.Tokens.{begins_with_at}
 use Rattle.paw_grammar.specs.Vocabulary.{known, in_class, as_verb, word_or_none, verb_word, entry_verb, entry_noun}

@@ -1,10 +1,12 @@
 -- The printed letters of a word are read as these letters.
-use Rattle.std.proofs.Common.{◌≡◌, ℕ, suc, ◌≤◌, ◌-◌, true, false, ◌&&◌, eqb, leb, cond, List, [], ◌∷◌, ◌++◌, length, take, replicate, refl, sym, ap, ◌∙◌, inl}
+use Rattle.std.proofs.Common.{◌≡◌, ℕ, suc, ◌≤◌, ◌-◌, true, false, ◌&&◌, eqb, leb, cond, List, [], ◌∷◌, ◌++◌, length}
+use Rattle.std.proofs.Common.{take, replicate, refl, sym, ap, ◌∙◌, inl}
 use Rattle.std.proofs.Common.{inr, bytes_eq, arith}
 use Rattle.std.specs.Prelude.{codes}
 use Rattle.std.specs.List.{list_all, before_first}
 use Rattle.std.specs.Char.{to_ascii_uppercase, is_ascii_alphanumeric}
-use Rattle.std.proofs.lemmas.Bool.{and_parts, and_from, or_cases, or_left, or_right, eqb-true, ne_eqb, le-leb, leb-true, lt-ltb, not_from_false}
+use Rattle.std.proofs.lemmas.Bool.{and_parts, and_from, or_cases, or_left, or_right, eqb-true, ne_eqb, le-leb, leb-true}
+use Rattle.std.proofs.lemmas.Bool.{lt-ltb, not_from_false}
 use Rattle.std.proofs.lemmas.List.{take_all}
 use Rattle.paw_lex.proofs.Slices.{before_first-cons}
 use Rattle.paw_base.specs.Condacts.{capitals}

@@ -1,5 +1,6 @@
 -- The printed texts of a section are read as its texts.
-use Rattle.std.proofs.Common.{◌≡◌, ℕ, suc, ◌<◌, ◌≤◌, Bool, true, false, not, eqb, ltb, leb, List, [], ◌∷◌, ◌++◌, length, Result, Ok, refl, ap, ◌∙◌}
+use Rattle.std.proofs.Common.{◌≡◌, ℕ, suc, ◌<◌, ◌≤◌, Bool, true, false, not, eqb, ltb, leb, List, [], ◌∷◌, ◌++◌, length}
+use Rattle.std.proofs.Common.{Result, Ok, refl, ap, ◌∙◌}
 use Rattle.std.proofs.Common.{arith, length-append}
 use Rattle.std.specs.List.{list_all, flat_map}
 use Rattle.std.proofs.lemmas.Bool.{and_parts, leb-true, le-ltb, lt-ltb, eq-eqb, ne_eqb}
@@ -11,7 +12,8 @@ use Rattle.paw_grammar.specs.declared.section.Section.{Section}
 use Rattle.paw_grammar.specs.declared.section.Section.TheVariants as section
 use Rattle.paw_faults.specs.Bind.{◌>>=◌}
 use Rattle.paw_grammar.specs.GrammarState.{Spelt}
-use Rattle.paw_grammar.specs.GrammarTexts.{texts_of, with_texts, text_limit, text_item, is_in_text, with_line, text_line}
+use Rattle.paw_grammar.specs.GrammarTexts.{texts_of, with_texts, text_limit, text_item, is_in_text, with_line}
+use Rattle.paw_grammar.specs.GrammarTexts.{text_line}
 use Rattle.paw_grammar.specs.GrammarHeads.{new_text, item_in}
 use Rattle.paw_print.specs.Lines.{item_token, lines_of_text, text_lines}
 use Rattle.paw_print.specs.Canonical.{numbered}
@@ -19,7 +21,8 @@ use Rattle.paw_top.proofs.After.{LineReads, Reads, reads_none, reads_line, reads
 use Rattle.paw_top.proofs.Rows.{text_step, plain_printed}
 use Rattle.paw_top.proofs.Digits.{plain-item, item_begins}
 use Rattle.paw_top.proofs.Lasts.{last_or-push, with_last-push}
-use Rattle.paw_top.proofs.Split.{HasLine, has_line, split, split_some, rejoined, rejoined-split, is_line, split_is_lines, TextLine, text_line_is}
+use Rattle.paw_top.proofs.Split.{HasLine, has_line, split, split_some, rejoined, rejoined-split, is_line}
+use Rattle.paw_top.proofs.Split.{split_is_lines, TextLine, text_line_is}
 
 -- ---- the texts of a section ----
 

@@ -1,5 +1,6 @@
 -- The whole canonical source of a game is read as this game.
-use Rattle.std.proofs.Common.{◌≡◌, ℕ, ◌≤◌, ◌+◌, Bool, true, false, eqb, ltb, leb, List, [], ◌∷◌, ◌++◌, length, map, Ok, refl, sym, ap, ◌∙◌, zero-add, arith}
+use Rattle.std.proofs.Common.{◌≡◌, ℕ, ◌≤◌, ◌+◌, Bool, true, false, eqb, ltb, leb, List, [], ◌∷◌, ◌++◌, length, map, Ok}
+use Rattle.std.proofs.Common.{refl, sym, ap, ◌∙◌, zero-add, arith}
 use Rattle.std.specs.Prelude.{codes}
 use Rattle.std.specs.List.{list_all, count_by}
 use Rattle.std.proofs.Math.ListN.{length-map}
@@ -11,7 +12,8 @@ use Rattle.paw_game.specs.declared.parts.Entry.{Entry}
 use Rattle.paw_game.specs.declared.parts.ObjectRow.{ObjectRow}
 use Rattle.paw_game.specs.Game.{GameLists}
 use Rattle.paw_game.specs.Image.{image}
-use Rattle.paw_game.specs.Valid.{is_word, words_rise, is_text, is_object, exits_are_valid, is_table, facts_are_valid, is_within, rows_are_valid, Valid}
+use Rattle.paw_game.specs.Valid.{is_word, words_rise, is_text, is_object, exits_are_valid, is_table, facts_are_valid}
+use Rattle.paw_game.specs.Valid.{is_within, rows_are_valid, Valid}
 use Rattle.paw_lex.specs.Lines.{lines_of}
 use Rattle.paw_lex.proofs.Printed.{lines_of-printed_lines}
 use Rattle.paw_grammar.specs.declared.section.Section.{Section}
@@ -22,7 +24,8 @@ use Rattle.paw_grammar.specs.GrammarHeads.{section_opened, lacks_rows}
 use Rattle.paw_grammar.specs.Spells.{begins_table, spelled_after, spelled}
 use Rattle.paw_source.specs.inner.Laws.{CountsTables}
 use Rattle.paw_print.specs.Lines.{spaced, object_tokens, text_lines}
-use Rattle.paw_print.specs.Canonical.{words_lines, texts_lines, location_lines, exits_lines, objects_lines, table_lines, numbered}
+use Rattle.paw_print.specs.Canonical.{words_lines, texts_lines, location_lines, exits_lines, objects_lines, table_lines}
+use Rattle.paw_print.specs.Canonical.{numbered}
 use Rattle.paw_print.specs.Canonical.{canonical_lines, canonical_of}
 use Rattle.paw_top.specs.Round.{SpellsItself}
 use Rattle.paw_top.proofs.After.{LineReads, Reads, reads_line, reads_append, reads_whole}

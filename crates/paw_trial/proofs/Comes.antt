@@ -1,5 +1,6 @@
 -- How playing the two halves of a trial ends.
-use Rattle.std.proofs.Common.{◌≡◌, ℕ, ◌+◌, ◌<◌, ◌≤◌, List, [], ◌++◌, Some, length, drop, refl, sym, ap, ◌∙◌, subst, arith, append-nil}
+use Rattle.std.proofs.Common.{◌≡◌, ℕ, ◌+◌, ◌<◌, ◌≤◌, List, [], ◌++◌, Some, length, drop, refl, sym, ap, ◌∙◌, subst}
+use Rattle.std.proofs.Common.{arith, append-nil}
 use Rattle.std.specs.Prelude.{◌-◌, All}
 use Rattle.std.specs.Option.{option_map_or}
 use Rattle.std.proofs.lemmas.List.{drop_all}
@@ -18,7 +19,8 @@ use Rattle.paw_play.specs.Walk.{end_halt, first_lines, WalkHalts}
 use Rattle.paw_play.specs.Stands.{Stands}
 use Rattle.paw_play.specs.Played.{PlayedSession, begun, from_lines, behind}
 use Rattle.paw_play.specs.Keeping.{KeptBy}
-use Rattle.paw_play.specs.Play.{PlaysOn, MadeAndPlayed, memory, halts, unmade, plays, unattached, occupied, plays_in, NewSession, PlaysAgain, GoesOn}
+use Rattle.paw_play.specs.Play.{PlaysOn, MadeAndPlayed, memory, halts, unmade, plays, unattached, occupied, plays_in}
+use Rattle.paw_play.specs.Play.{NewSession, PlaysAgain, GoesOn}
 use Rattle.paw_play.specs.Play.{store_bytes, attached_to, with_store}
 use Rattle.paw_play.specs.Play as of
 use Rattle.paw_play.proofs.Standing.{begun_stands, later_stands, again_goes_on}
@@ -29,7 +31,8 @@ use Rattle.paw_trial.specs.Trial.{trial_story, trial_reading}
 use Rattle.paw_trial.specs.inner.Trial.{trial_end, TrialStopsAs}
 use Rattle.paw_trial.specs.declared.setup.Half.{Half}
 use Rattle.paw_trial.specs.declared.setup.Half.TheVariants as half
-use Rattle.paw_trial.specs.inner.Session.{Waits, first_half, second_half, half_lines, lines_by, IsReadyFor, PlaysHalf, HoldsOrStops, stop_of, trial_store}
+use Rattle.paw_trial.specs.inner.Session.{Waits, first_half, second_half, half_lines, lines_by, IsReadyFor, PlaysHalf}
+use Rattle.paw_trial.specs.inner.Session.{HoldsOrStops, stop_of, trial_store}
 use Rattle.paw_trial.proofs.Lines.{first_are, second_are, both_halves, plays_first, all_taken, taken_and_left}
 use Rattle.paw_trial.proofs.Stops.{stops_later, stops_since, waits_since}
 

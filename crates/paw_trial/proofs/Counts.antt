@@ -1,5 +1,6 @@
 -- What the bytes of a session's state count.
-use Rattle.std.proofs.Common.{◌≡◌, ℕ, ◌<◌, List, [], ◌∷◌, ◌++◌, length, get_or, take, sym, ap, ◌∙◌, arith, length-append}
+use Rattle.std.proofs.Common.{◌≡◌, ℕ, ◌<◌, List, [], ◌∷◌, ◌++◌, length, get_or, take, sym, ap, ◌∙◌, arith}
+use Rattle.std.proofs.Common.{length-append}
 use Rattle.std.specs.Prelude.{slice_index, codes, decimal}
 use Rattle.std.proofs.lemmas.List.{get_or_append_left, get_or-take}
 use Rattle.paw_game.specs.Game.{GameLists}
@@ -9,7 +10,8 @@ use Rattle.paw_state.specs.State.{State}
 use Rattle.paw_state.specs.Record.{state_at}
 use Rattle.std.specs.List.{concat}
 use Rattle.paw_state.specs.State.{fields_of}
-use Rattle.paw_state.specs.inner.Fields.{held_bytes, world_bytes, number_bytes, table_bytes, pending_bytes, kept_position_bytes}
+use Rattle.paw_state.specs.inner.Fields.{held_bytes, world_bytes, number_bytes, table_bytes, pending_bytes}
+use Rattle.paw_state.specs.inner.Fields.{kept_position_bytes}
 use Rattle.paw_state.proofs.Listed.{state_same}
 use Rattle.paw_play.specs.Session.{kept_bytes, IsKept}
 use Rattle.paw_play.specs.Stands.{Stands}

@@ -15,7 +15,8 @@ use Rattle.paw_reading.specs.Turn.{table_done, turn, first_table}
 use Rattle.paw_reading.specs.inner.Places.{IsLoopOf}
 use Rattle.paw_process.specs.inner.OpenTables.{OpenTables}
 use Rattle.paw_process.specs.inner.OpenTables.{ReadsNone}
-use Rattle.paw_process.specs.inner.Meaning.{having, to_come, going_in, ComesTo, RunsTo, IsStopped, AnswersQuit, AnswersKey}
+use Rattle.paw_process.specs.inner.Meaning.{having, to_come, going_in, ComesTo, RunsTo, IsStopped, AnswersQuit}
+use Rattle.paw_process.specs.inner.Meaning.{AnswersKey}
 use Rattle.paw_process.specs.declared.Turned.{Turned}
 use Rattle.paw_turn.specs.declared.Step.TheVariants as step
 use Rattle.paw_turn.specs.declared.phase.Next.{Next}

@@ -1,5 +1,6 @@
 -- What is left to do falls from phase to phase.
-use Rattle.std.proofs.Common.{◌≡◌, ℕ, zero, suc, ◌+◌, ◌*◌, ◌<◌, ◌≤◌, List, [], ◌++◌, sym, ap, ◌∙◌, subst, arith, lit≤, length-append}
+use Rattle.std.proofs.Common.{◌≡◌, ℕ, zero, suc, ◌+◌, ◌*◌, ◌<◌, ◌≤◌, List, [], ◌++◌, sym, ap, ◌∙◌, subst, arith, lit≤}
+use Rattle.std.proofs.Common.{length-append}
 use Rattle.paw_effects.specs.Story.{Story}
 use Rattle.paw_reading.specs.declared.places.Frame.{Frame}
 use Rattle.paw_reading.specs.Run.{Run, Step as Read}
@@ -14,7 +15,8 @@ use Rattle.paw_turn.specs.declared.phase.Phase.TheVariants as phase
 use Rattle.paw_turn.specs.declared.phase.Next.{Next}
 use Rattle.paw_turn.specs.declared.phase.Next.TheVariants as next
 use Rattle.paw_turn.specs.declared.turn.PlayState.{PlayState}
-use Rattle.paw_turn.specs.inner.Phases.{Past, run_now, HasReadSome, ReadsTurn, PlaysAs, having_read, left_of, table_rank}
+use Rattle.paw_turn.specs.inner.Phases.{Past, run_now, HasReadSome, ReadsTurn, PlaysAs, having_read, left_of}
+use Rattle.paw_turn.specs.inner.Phases.{table_rank}
 use Rattle.paw_turn.specs.inner.Phases.{work, Falls, FallsAfter, RunsAs, from_table, Leaves, Uses}
 use Rattle.paw_reading.proofs.Spends.{Spends, table_spends}
 

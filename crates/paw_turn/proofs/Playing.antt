@@ -6,7 +6,8 @@ use Rattle.paw_turn.specs.declared.phase.Phase.{Phase}
 use Rattle.paw_turn.specs.declared.phase.Next.{Next}
 use Rattle.paw_turn.specs.declared.phase.Next.TheVariants as next
 use Rattle.paw_turn.specs.declared.turn.PlayState.{PlayState}
-use Rattle.paw_turn.specs.inner.Phases.{Past, at_phase, run_now, having_read, GoesOnAs, ReadsTurn, PlaysAs, Plays, from_phase}
+use Rattle.paw_turn.specs.inner.Phases.{Past, at_phase, run_now, having_read, GoesOnAs, ReadsTurn, PlaysAs, Plays}
+use Rattle.paw_turn.specs.inner.Phases.{from_phase}
 
 -- nothing is played yet
 pub plays_none : (g : Story) (first : Phase) (old : PlayState) → Plays g first old (next.Go first) old

@@ -10,7 +10,8 @@ use Rattle.paw_reading.specs.declared.places.OpenLoop.{OpenLoop}
 use Rattle.paw_reading.specs.Run.{Run, Step as Read, closed}
 use Rattle.paw_reading.specs.declared.places.Halt.{Halt}
 use Rattle.paw_reading.specs.declared.places.Halt.TheVariants as halt
-use Rattle.paw_reading.specs.Turn.{Ending, Unended, AtDescribe, turns_from, phases_left, opening, reading, going_on_from}
+use Rattle.paw_reading.specs.Turn.{Ending, Unended, AtDescribe, turns_from, phases_left, opening, reading}
+use Rattle.paw_reading.specs.Turn.{going_on_from}
 use Rattle.paw_reading.proofs.Ends.{ends_once, going_on_ends, goes_on_once}
 use Rattle.paw_process.specs.inner.OpenTables.{OpenTables}
 use Rattle.paw_process.specs.inner.OpenTables.{HasRead}

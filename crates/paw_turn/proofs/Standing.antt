@@ -1,5 +1,6 @@
 -- Where a player stands that was played on.
-use Rattle.std.proofs.Common.{◌≡◌, ℕ, zero, suc, ◌<◌, List, [], ◌∷◌, ◌++◌, length, reverse, refl, sym, ap, ◌∙◌, subst, arith}
+use Rattle.std.proofs.Common.{◌≡◌, ℕ, zero, suc, ◌<◌, List, [], ◌∷◌, ◌++◌, length, reverse, refl, sym, ap, ◌∙◌, subst}
+use Rattle.std.proofs.Common.{arith}
 use Rattle.std.specs.Prelude.{All}
 use Rattle.std.specs.Fn.{Shared}
 use Rattle.std.proofs.Math.ListN.{get_or}
@@ -28,7 +29,8 @@ use Rattle.paw_turn.specs.declared.Step.{Step}
 use Rattle.paw_turn.specs.declared.Step.TheVariants as step
 use Rattle.paw_turn.specs.declared.turn.PlayState.{PlayState}
 use Rattle.paw_turn.specs.inner.Phases.{seat_of, turn_settled}
-use Rattle.paw_turn.specs.inner.Player.{PlayerView, PlaysTo, StandsClosed, StandsAt, WaitsIn, StandRightly, IsSeated, IsStanding, prompt_at, run_at, run_with}
+use Rattle.paw_turn.specs.inner.Player.{PlayerView, PlaysTo, StandsClosed, StandsAt, WaitsIn, StandRightly, IsSeated}
+use Rattle.paw_turn.specs.inner.Player.{IsStanding, prompt_at, run_at, run_with}
 
 -- rows that stand for routines make a story of a valid game
 pub valid_story : {F : Type 0} (calls : Shared F (ℕ × (ℕ × Unit {0})) ℕ) (routines : Routines F) (g : GameLists) (X : List (List ℕ)) → Valid g

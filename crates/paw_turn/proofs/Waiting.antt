@@ -14,7 +14,8 @@ use Rattle.paw_process.specs.inner.Meaning.{IsStopped}
 use Rattle.paw_process.specs.declared.Turned.{Turned}
 use Rattle.paw_process.specs.declared.Turned.TheVariants as turned
 use Rattle.paw_turn.specs.declared.turn.PlayState.{PlayState}
-use Rattle.paw_turn.specs.inner.Phases.{Past, run_now, having_read, HasReadSome, RunsAs, from_table, WaitsInTable, StopsInTable}
+use Rattle.paw_turn.specs.inner.Phases.{Past, run_now, having_read, HasReadSome, RunsAs, from_table, WaitsInTable}
+use Rattle.paw_turn.specs.inner.Phases.{StopsInTable}
 use Rattle.paw_reading.proofs.Stays.{WaitsThere, table_waits}
 use Rattle.paw_reading.proofs.Waiting.{some_waits}
 use Rattle.paw_turn.proofs.Falling.{some_past}

@@ -1,5 +1,6 @@
 -- The objects at a place, one after the other, and what they weigh.
-use Rattle.std.proofs.Common.{◌≡◌, ◌≢◌, ℕ, zero, suc, ◌+◌, ◌-◌, ◌<◌, ◌≤◌, inl, inr, List, [], ◌∷◌, length, drop, min, Some, None, Option, refl, sym}
+use Rattle.std.proofs.Common.{◌≡◌, ◌≢◌, ℕ, zero, suc, ◌+◌, ◌-◌, ◌<◌, ◌≤◌, inl, inr, List, [], ◌∷◌, length, drop, min}
+use Rattle.std.proofs.Common.{Some, None, Option, refl, sym}
 use Rattle.std.proofs.Common.{ap, ◌∙◌, arith, get_or, zero-add, Bool}
 use Rattle.std.specs.Prelude.{if◌then◌else◌, ◌==◌, IfSome, sum_by, filter, slice_index}
 use Rattle.std.specs.List.{range_with_len}

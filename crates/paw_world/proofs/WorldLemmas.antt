@@ -1,16 +1,21 @@
 -- What the words of a world leave and what they change, for proofs about code that uses a world.
-use Rattle.std.proofs.Common.{◌≡◌, ◌≢◌, ℕ, suc, ◌+◌, ◌-◌, ◌<◌, ◌≤◌, Bool, true, false, List, ◌++◌, length, take, drop, min, Option, None, Some, inl}
+use Rattle.std.proofs.Common.{◌≡◌, ◌≢◌, ℕ, suc, ◌+◌, ◌-◌, ◌<◌, ◌≤◌, Bool, true, false, List, ◌++◌, length, take, drop}
+use Rattle.std.proofs.Common.{min, Option, None, Some, inl}
 use Rattle.std.proofs.Common.{inr, refl, sym, ap, ◌∙◌, subst, arith, get_or, set, length-append, length-drop}
 use Rattle.std.specs.Prelude.{if◌then◌else◌, ◌==◌}
 use Rattle.std.specs.Option.{option_map_or}
-use Rattle.std.proofs.lemmas.List.{length-set, length-map, length-take-le, get_or-set_same, get_or-set_other, set-get_or}
+use Rattle.std.proofs.lemmas.List.{length-set, length-map, length-take-le, get_or-set_same, get_or-set_other}
+use Rattle.std.proofs.lemmas.List.{set-get_or}
 use Rattle.std.proofs.lemmas.Bool.{cases_eq}
 use Rattle.std.proofs.lemmas.Bool.Decides.{nat_tests}
 use Rattle.paw_base.specs.declared.parts.ObjectFacts.{ObjectFacts}
 use Rattle.paw_base.specs.declared.places.TheConstants.{CARRIED_PLACE}
-use Rattle.paw_world.specs.World.{World, Position, flag, with_flag, place, with_place, flags_with, first_carried, opening_places}
-use Rattle.paw_world.specs.World.{with_objects_returned, starting_world, restarted, let_go, taken_up, moved, ramsaved, ramloaded, at_position}
-use Rattle.paw_world.specs.World.{drawn_on, position_of, kept_position, keeping, IsPosition, IsSavedFor, AreSavedFor, IsWorld}
+use Rattle.paw_world.specs.World.{World, Position, flag, with_flag, place, with_place, flags_with, first_carried}
+use Rattle.paw_world.specs.World.{opening_places}
+use Rattle.paw_world.specs.World.{with_objects_returned, starting_world, restarted, let_go, taken_up, moved, ramsaved}
+use Rattle.paw_world.specs.World.{ramloaded, at_position}
+use Rattle.paw_world.specs.World.{drawn_on, position_of, kept_position, keeping, IsPosition, IsSavedFor, AreSavedFor}
+use Rattle.paw_world.specs.World.{IsWorld}
 use Rattle.paw_world.specs.inner.World.{taken_back, recalled, with_kept}
 use Rattle.paw_world.proofs.Kept.{kept_with, kept_alike, none_kept}
 

@@ -1,5 +1,6 @@
 -- What first fit does at each byte, and over a word.
-use Rattle.std.proofs.Common.{◌≡◌, ℕ, zero, suc, ◌<◌, ◌≤◌, ◌+◌, Bool, true, false, eqb, ltb, not, cond, ◌||◌, ◌⊎◌, inl, inr, one-add, List, [], ◌∷◌, map, drop, refl, ap, arith}
+use Rattle.std.proofs.Common.{◌≡◌, ℕ, zero, suc, ◌<◌, ◌≤◌, ◌+◌, Bool, true, false, eqb, ltb, not, cond, ◌||◌, ◌⊎◌, inl}
+use Rattle.std.proofs.Common.{inr, one-add, List, [], ◌∷◌, map, drop, refl, ap, arith}
 use Rattle.std.proofs.lemmas.Bool.{ltb-true, ltb-false}
 use Rattle.paw_wrap.specs.FirstFit.{space, line_feed, word_length, breaks_from}
 

@@ -1,11 +1,13 @@
 -- No choice of breaks at which each line fits has fewer than first fit.
-use Rattle.std.proofs.Common.{◌≡◌, ℕ, zero, suc, ◌<◌, ◌≤◌, ◌+◌, ◌⊎◌, true, false, eqb, List, [], ◌∷◌, Some, length, set, refl, sym, ap, ◌∙◌, inl, inr, add-zero, zero-add, arith}
+use Rattle.std.proofs.Common.{◌≡◌, ℕ, zero, suc, ◌<◌, ◌≤◌, ◌+◌, ◌⊎◌, true, false, eqb, List, [], ◌∷◌, Some, length, set}
+use Rattle.std.proofs.Common.{refl, sym, ap, ◌∙◌, inl, inr, add-zero, zero-add, arith}
 use Rattle.std.specs.Prelude.{⊤, slice_get, unwrap_or}
 use Rattle.std.specs.List.{onto_first}
 use Rattle.std.proofs.lemmas.Bool.{or_right}
 use Rattle.paw_wrap.specs.FirstFit.{space, line_feed, word_length, breaks_from, with_byte, AreSpaces, AreFewest}
 use Rattle.paw_wrap.proofs.Breaking.{Step, step, breaks_from-empty, word_length-cons}
-use Rattle.paw_wrap.proofs.LineWidths.{lines, has_space, first_line, lines-line_feed, lines-other, first_line-onto, drop-onto, FitsBehind, fits_behind}
+use Rattle.paw_wrap.proofs.LineWidths.{lines, has_space, first_line, lines-line_feed, lines-other, first_line-onto}
+use Rattle.paw_wrap.proofs.LineWidths.{drop-onto, FitsBehind, fits_behind}
 
 -- The bytes are those of the text, except that at most n spaces became LFs.
 abbrev pub Broken : List ℕ → List ℕ → ℕ → Type 0

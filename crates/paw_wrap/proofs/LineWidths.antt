@@ -1,5 +1,6 @@
 -- How long the lines of a wrapped text are.
-use Rattle.std.proofs.Common.{◌≡◌, ℕ, suc, ◌≤◌, ◌+◌, Bool, true, false, eqb, ◌||◌, List, [], ◌∷◌, length, drop, get_or, refl, sym, ap, ◌∙◌, inl, inr, arith}
+use Rattle.std.proofs.Common.{◌≡◌, ℕ, suc, ◌≤◌, ◌+◌, Bool, true, false, eqb, ◌||◌, List, [], ◌∷◌, length, drop, get_or}
+use Rattle.std.proofs.Common.{refl, sym, ap, ◌∙◌, inl, inr, arith}
 use Rattle.std.specs.List.{AllByRecursion, list_any, slice_split, onto_first}
 use Rattle.paw_wrap.specs.FirstFit.{space, line_feed, word_length, breaks_from, FitsLine}
 use Rattle.paw_wrap.proofs.Breaking.{Step, step, left_true}

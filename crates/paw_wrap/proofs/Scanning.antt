@@ -1,5 +1,6 @@
 -- How the breaks are found, word by word.
-use Rattle.std.proofs.Common.{◌≡◌, ℕ, zero, suc, ◌<◌, ◌≤◌, ◌+◌, ◌-◌, true, eqb, List, [], ◌∷◌, ◌++◌, length, take, drop, get_or, ◌≢◌, refl, sym, ap, ◌∙◌, arith}
+use Rattle.std.proofs.Common.{◌≡◌, ℕ, zero, suc, ◌<◌, ◌≤◌, ◌+◌, ◌-◌, true, eqb, List, [], ◌∷◌, ◌++◌, length, take, drop}
+use Rattle.std.proofs.Common.{get_or, ◌≢◌, refl, sym, ap, ◌∙◌, arith}
 use Rattle.std.proofs.Common.{add-one, zero-add, drop-cons, append-nil, append_assoc, length-drop}
 use Rattle.std.proofs.lemmas.Bool.{eqb-true, lt-ltb, le-ltb, ne_eqb}
 use Rattle.std.proofs.lemmas.List.{get_or-drop, drop-drop, take_all, drop_all}

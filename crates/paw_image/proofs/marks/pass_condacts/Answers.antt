@@ -2,7 +2,8 @@ use Rattle.std.proofs.Common.{◌≡◌, ℕ, suc, ◌+◌, ◌-◌, ◌*◌, �
 use Rattle.std.proofs.lemmas.List.{length-append}
 use Rattle.std.proofs.lemmas.Result.{err_from_is_err_and}
 use Rattle.paw_image.specs.Damage.{each, after_condact}
-use Rattle.paw_image.proofs.CondactLaws.{each_none, each_more, eights_fail, mark_small, mark_is, kept_before, MarkedSoFar, one_more_mark, all_marked, on_ok}
+use Rattle.paw_image.proofs.CondactLaws.{each_none, each_more, eights_fail, mark_small, mark_is, kept_before}
+use Rattle.paw_image.proofs.CondactLaws.{MarkedSoFar, one_more_mark, all_marked, on_ok}
 use Rattle.paw_image.proofs.marks.pass_condacts.Goals as goal
 
 pub loop-init : goal.loop-init

@@ -1,6 +1,7 @@
 use Rattle.std.proofs.Common.{refl}
 use Rattle.std.specs.Prelude.{Some}
-use Rattle.paw_journal.proofs.Slots.{too_many, few_changes, records_are, broken_many, broken_record, whole_slot, whole_state}
+use Rattle.paw_journal.proofs.Slots.{too_many, few_changes, records_are, broken_many, broken_record, whole_slot}
+use Rattle.paw_journal.proofs.Slots.{whole_state}
 use Rattle.paw_journal.proofs.reading.state_in.Goals as goal
 
 pub returns-then-count-gt-MOST_CHANGES-clause-broken : goal.returns-then-count-gt-MOST_CHANGES-clause-broken

@@ -2,7 +2,8 @@ use Rattle.std.proofs.Common.{Some, None, ◌+◌, refl, sym, arith, inl, inr}
 use Rattle.paw_stage.specs.declared.Asked.TheVariants as asked
 use Rattle.paw_stage.proofs.Time.{Passes_map, Passes_on}
 use Rattle.paw_play.specs.Keeping.{InPlay}
-use Rattle.paw_play.proofs.Playing.{in_ask, no_line, no_ask, plays_refused, taken, plays_not, plays_to, in_commit, in_show}
+use Rattle.paw_play.proofs.Playing.{in_ask, no_line, no_ask, plays_refused, taken, plays_not, plays_to, in_commit}
+use Rattle.paw_play.proofs.Playing.{in_show}
 use Rattle.paw_effects.specs.Story.{story_of}
 use Rattle.paw_journal.proofs.Serving.{serves_done, serves_among, serves_then}
 use Rattle.paw_play.proofs.Following.{keeps_asked, refused_unless, serves_unless, holds_unless, writing_plays}

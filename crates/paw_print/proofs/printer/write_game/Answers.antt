@@ -4,7 +4,8 @@ use Rattle.paw_game.specs.declared.parts.Word.{Word}
 use Rattle.paw_game.specs.declared.parts.Exit.{Exit}
 use Rattle.paw_game.specs.declared.parts.Entry.{Entry}
 use Rattle.paw_game.specs.declared.parts.ObjectRow.{ObjectRow}
-use Rattle.paw_print.specs.Canonical.{canonical_lines, words_lines, texts_lines, exits_lines, objects_lines, table_lines, numbered, written}
+use Rattle.paw_print.specs.Canonical.{canonical_lines, words_lines, texts_lines, exits_lines, objects_lines}
+use Rattle.paw_print.specs.Canonical.{table_lines, numbered, written}
 use Rattle.paw_print.proofs.Growing.{written_more, written_last}
 use Rattle.paw_print.proofs.printer.write_game.Goals as goal
 

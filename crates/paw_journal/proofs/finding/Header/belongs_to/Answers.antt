@@ -2,7 +2,8 @@ use Rattle.std.proofs.Common.{◌∙◌, ap, refl, inl, inr}
 use Rattle.paw_journal.specs.Session.{Shown}
 use Rattle.paw_journal.specs.inner.Session.{digests_of}
 use Rattle.paw_journal.proofs.Sessions.{other_digest, same_digest, measured, unmeasured}
-use Rattle.paw_journal.proofs.finding.Header.belongs_to.Goals.{else-ne-2-via-then-ne-2+else-ne-3, else-ne-2-via-else-ne-2}
+use Rattle.paw_journal.proofs.finding.Header.belongs_to.Goals.{else-ne-2-via-then-ne-2+else-ne-3}
+use Rattle.paw_journal.proofs.finding.Header.belongs_to.Goals.{else-ne-2-via-else-ne-2}
 use Rattle.paw_journal.proofs.finding.Header.belongs_to.Goals as goal
 
 pub returns-then-ne-3-clause-refused : goal.returns-then-ne-3-clause-refused

@@ -1,6 +1,7 @@
 use Rattle.std.proofs.Common.{arith, ◌≡◌, ◌+◌, ◌∙◌, sym, ap, min, Some}
 use Rattle.paw_world.specs.Weight.{weight_down}
-use Rattle.paw_world.proofs.Weighed.{weight_own, weight_none_left, weight_contents, no_container, weightless, heavy_container}
+use Rattle.paw_world.proofs.Weighed.{weight_own, weight_none_left, weight_contents, no_container, weightless}
+use Rattle.paw_world.proofs.Weighed.{heavy_container}
 use Rattle.paw_world.proofs.Contents.{weights_above, weights_above-some, weights_above-none}
 use Rattle.paw_world.proofs.world.World.+weigh.Goals as goal
 use Rattle.paw_world.proofs.world.World.+weigh.Goals.{weight_down-then-levels-eq0-via-then-levels-eq0}
