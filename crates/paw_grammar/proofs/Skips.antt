@@ -15,10 +15,10 @@ use Rattle.paw_base.specs.declared.limits.TheConstants.{FLAG_COUNT}
 use Rattle.paw_base.specs.declared.words.TheConstants.{ADVERB_CLASS, NOUN_CLASS, ADJECTIVE_CLASS, PREPOSITION_CLASS}
 use Rattle.paw_game.specs.declared.parts.Word.{Word}
 use Rattle.paw_grammar.specs.declared.bounds.Bounds.{Bounds}
-use Rattle.paw_faults.specs.declared.read_error.ReadError.{ReadError}
-use Rattle.paw_faults.specs.declared.read_error.ReadError.TheVariants as unread
-use Rattle.paw_faults.specs.inner.Gives.{Fails}
-use Rattle.paw_faults.specs.Bind.{◌>>=◌}
+use Rattle.paw_read_error.specs.declared.read_error.ReadError.{ReadError}
+use Rattle.paw_read_error.specs.declared.read_error.ReadError.TheVariants as unread
+use Rattle.paw_read_error.specs.inner.Gives.{Fails}
+use Rattle.paw_read_error.specs.Bind.{◌>>=◌}
 use Rattle.paw_grammar.specs.Tokens.{read_by, at_is_next}
 use Rattle.paw_grammar.specs.Numbers.{number, in_range, number_below}
 use Rattle.paw_grammar.specs.Vocabulary.{known, in_class, or_none}

@@ -12,7 +12,7 @@ use Rattle.paw_game.specs.declared.parts.Entry.{Entry}
 use Rattle.paw_base.specs.declared.parts.ObjectFacts.{ObjectFacts}
 use Rattle.paw_grammar.specs.declared.section.Section.{Section}
 use Rattle.paw_grammar.specs.declared.section.Section.TheVariants as section
-use Rattle.paw_faults.specs.Bind.{◌>>=◌}
+use Rattle.paw_read_error.specs.Bind.{◌>>=◌}
 use Rattle.paw_grammar.specs.Tokens.{ended}
 use Rattle.paw_grammar.specs.Numbers.{number_within, number_below, row_number}
 use Rattle.paw_grammar.specs.Vocabulary.{word, class, object_kind, declared, word_or_none}

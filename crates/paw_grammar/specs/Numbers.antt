@@ -8,7 +8,7 @@ use Rattle.paw_base.specs.Bytes.{Token, Tokens}
 use Rattle.paw_base.specs.declared.fault.SourceKind.{SourceKind}
 use Rattle.paw_base.specs.declared.fault.SourceKind.TheVariants as kind
 use Rattle.paw_game.specs.Valid.{is_within}
-use Rattle.paw_faults.specs.Bind.{◌>>=◌}
+use Rattle.paw_read_error.specs.Bind.{◌>>=◌}
 use Rattle.paw_grammar.specs.Tokens.{Reads, read_by}
 
 -- The value of a token of decimal digits, at least one; zeros may come first.

@@ -12,7 +12,7 @@ use Rattle.paw_game.specs.Image.{image}
 use Rattle.paw_lex.specs.Bytes.{is_comment, has_forbidden_byte}
 use Rattle.paw_lex.specs.Lines.{lines_of}
 use Rattle.paw_lex.specs.Tokens.{is_blank, tokens_of}
-use Rattle.paw_faults.specs.Bind.{◌>>=◌}
+use Rattle.paw_read_error.specs.Bind.{◌>>=◌}
 use Rattle.paw_grammar.specs.Tokens.{is_named}
 use Rattle.paw_grammar.specs.Numbers.{number}
 use Rattle.paw_grammar.specs.GrammarState.{Spelt, nothing_yet, game_of}

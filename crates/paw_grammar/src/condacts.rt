@@ -4,7 +4,7 @@ ghost use Rattle.std.specs.Prelude.{◌≡◌, ◌+◌, ◌&&◌, min};
 ghost use Rattle.paw_base.specs.declared.codes.TheConstants.{INDIRECT};
 ghost use Rattle.paw_base.specs.Condacts.{may_be_indirect};
 ghost use Rattle.paw_base.specs.inner.Condacts.{IsPlainCode};
-ghost use Rattle.paw_faults.specs.inner.Gives.{Gives};
+ghost use Rattle.paw_read_error.specs.inner.Gives.{Gives};
 ghost use Rattle.paw_grammar.specs.Numbers.{number_below};
 ghost use Rattle.paw_grammar.specs.Vocabulary.{word_or_none};
 ghost use Rattle.paw_grammar.specs.Condacts.{table, parameter, condact, condacts_in, with_more_condacts};
@@ -23,7 +23,7 @@ use paw_base::limits::CONDACT_LIMIT;
 use paw_base::parts::Condact;
 use paw_base::rows::{ParamKind, condact_named, condact_row, may_be_indirect};
 use paw_base::words::{ADJECTIVE_CLASS, ADVERB_CLASS, NOUN_CLASS, PREPOSITION_CLASS};
-use paw_faults::read_error::ReadError;
+use paw_read_error::read_error::ReadError;
 use std::marker::Model;
 
 /// How many values a flag, or a number, may have.

@@ -1,14 +1,14 @@
 // Numbers.
 
 ghost use Rattle.std.specs.Prelude.{◌≡◌, ◌<◌, ◌≤◌, OnOk};
-ghost use Rattle.paw_faults.specs.inner.Gives.{Gives};
+ghost use Rattle.paw_read_error.specs.inner.Gives.{Gives};
 ghost use Rattle.paw_grammar.specs.Numbers.{number, number_within, number_below, row_number};
 ghost use Rattle.paw_grammar.specs.inner.Numbers.{capped_value, capped_number};
 
 use crate::refusal::LineError;
 use crate::tokens::Tokens;
 use paw_base::fault::SourceKind;
-use paw_faults::read_error::ReadError;
+use paw_read_error::read_error::ReadError;
 
 /// The number that a token of decimal digits is, or 4,294,967,295 where it is above that; None for any other token.
 pub fn number(token: &[u8]) -> Option<u32>

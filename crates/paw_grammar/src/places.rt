@@ -4,7 +4,7 @@ ghost use Rattle.std.specs.Prelude.{◌≡◌, ◌<◌, ◌≤◌, ◌+◌, ◌-
 ghost use Rattle.std.specs.List.{position};
 ghost use Rattle.std.specs.Option.{option_map, option_or};
 ghost use Rattle.paw_base.specs.declared.places.TheConstants.{NOT_CREATED_PLACE};
-ghost use Rattle.paw_faults.specs.inner.Gives.{Gives};
+ghost use Rattle.paw_read_error.specs.inner.Gives.{Gives};
 ghost use Rattle.paw_grammar.specs.Tokens.{is_named};
 ghost use Rattle.paw_grammar.specs.Numbers.{number};
 ghost use Rattle.paw_grammar.specs.inner.Numbers.{capped_value};
@@ -16,7 +16,7 @@ use crate::tokens::Tokens;
 use crate::words::index_among;
 use paw_base::fault::SourceKind;
 use paw_base::places::NOT_CREATED_PLACE;
-use paw_faults::read_error::ReadError;
+use paw_read_error::read_error::ReadError;
 
 /// The names of the places 252 to 255.
 static PLACE_NAMES: [&[u8]; 4] = [b"NOTCREATED", b"WORN", b"CARRIED", b"HERE"];

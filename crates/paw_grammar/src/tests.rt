@@ -12,9 +12,9 @@ use paw_base::codes::{AUTOP, DOALL, EQ, INDIRECT, LET, MES, NOUN2, OK};
 use paw_base::fault::SourceKind;
 use paw_base::parts::Condact;
 use paw_base::words::{ADJECTIVE_CLASS, NOUN_CLASS, VERB_CLASS};
-use paw_faults::read_error::ReadError;
 use paw_game::parts::Word;
 use paw_lex::Line;
+use paw_read_error::read_error::ReadError;
 use std::alloc::Global;
 use std::test::Fail;
 

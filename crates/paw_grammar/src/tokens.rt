@@ -4,13 +4,13 @@ ghost use Rattle.std.specs.Prelude.{◌≡◌, ◌∷◌, [], MatchOption, drop}
 ghost use Rattle.paw_lex.specs.inner.Lines.{line_bytes, LiesIn};
 ghost use Rattle.paw_lex.specs.Tokens.{tokens_of};
 ghost use Rattle.paw_lex.specs.inner.Tokens.{tokens_from};
-ghost use Rattle.paw_faults.specs.inner.Gives.{Gives};
+ghost use Rattle.paw_read_error.specs.inner.Gives.{Gives};
 ghost use Rattle.paw_grammar.specs.Tokens.{token, ended, is_named, at_is_next, begins_with_at};
 
 use crate::refusal::LineError;
 use paw_base::fault::SourceKind;
-use paw_faults::read_error::ReadError;
 use paw_lex::{Line, next_token};
+use paw_read_error::read_error::ReadError;
 use std::marker::Model;
 
 /// The tokens of a line that are left; contracts see their list.

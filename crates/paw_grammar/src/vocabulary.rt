@@ -3,7 +3,7 @@
 ghost use Rattle.std.specs.Prelude.{◌≡◌, [], length, None, Ok, IfOk};
 ghost use Rattle.std.specs.Option.{ok_or};
 ghost use Rattle.paw_game.specs.Tables.{word_of};
-ghost use Rattle.paw_faults.specs.inner.Gives.{Gives};
+ghost use Rattle.paw_read_error.specs.inner.Gives.{Gives};
 ghost use Rattle.paw_grammar.specs.Vocabulary.{words_with, declared, known, in_class, as_verb, or_none};
 ghost use Rattle.paw_grammar.specs.Vocabulary.{or_any, word_or_none, verb_word, entry_verb, entry_noun};
 ghost use Rattle.paw_grammar.specs.inner.WordMap.{words_in};
@@ -14,8 +14,8 @@ use crate::words::letters_in;
 use paw_base::fault::{NoRoom, SourceKind};
 use paw_base::limits::{WORD_LENGTH, WORD_LIMIT};
 use paw_base::words::{ANY_WORD, FIRST_PLAIN_NOUN, NO_WORD, NOUN_CLASS, VERB_CLASS};
-use paw_faults::read_error::ReadError;
 use paw_game::parts::Word;
+use paw_read_error::read_error::ReadError;
 use std::alloc::Global;
 use std::collections::BTreeMap;
 use std::marker::Model;

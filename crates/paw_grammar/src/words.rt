@@ -3,7 +3,7 @@
 ghost use Rattle.std.specs.Prelude.{◌≡◌, ◌<◌, ◌&&◌};
 ghost use Rattle.std.specs.List.{list_all, position};
 ghost use Rattle.std.specs.Char.{is_ascii_alphanumeric};
-ghost use Rattle.paw_faults.specs.inner.Gives.{Gives};
+ghost use Rattle.paw_read_error.specs.inner.Gives.{Gives};
 ghost use Rattle.paw_grammar.specs.Tokens.{is_named};
 ghost use Rattle.paw_grammar.specs.Vocabulary.{is_word_token, letters_of, letters_in, word, class_names};
 ghost use Rattle.paw_grammar.specs.Vocabulary.{index_among, class, kind_named, object_kind};
@@ -12,7 +12,7 @@ use crate::refusal::LineError;
 use crate::tokens::{Tokens, is_named};
 use paw_base::fault::SourceKind;
 use paw_base::limits::WORD_LENGTH;
-use paw_faults::read_error::ReadError;
+use paw_read_error::read_error::ReadError;
 
 /// The names of the classes of words, by class; conjunctions and pronouns are the last.
 static CLASS_NAMES: [&[u8]; 7] = [

@@ -14,11 +14,11 @@ use Rattle.paw_base.specs.Condacts.{first_kind, second_kind}
 use Rattle.paw_game.specs.Image.{parameter_image, condact_image}
 use Rattle.paw_image.specs.inner.CondactMarks.{IsEnd, GoesOnAt, AreMarks, BeginsWithList, MarkEntry, MarkEntries}
 use Rattle.paw_image.specs.Damage.{ImagePreface, Passing, each, after_condact}
-use Rattle.paw_faults.specs.Bind.{◌>>=◌}
+use Rattle.paw_read_error.specs.Bind.{◌>>=◌}
 use Rattle.paw_image.specs.Reading.{byte_at}
-use Rattle.paw_faults.specs.inner.Gives.{Fails}
+use Rattle.paw_read_error.specs.inner.Gives.{Fails}
 use Rattle.paw_image.specs.inner.Rows.{past_condact, condact_after, condact_among, value_of}
-use Rattle.paw_faults.specs.declared.read_error.ReadError.{ReadError}
+use Rattle.paw_read_error.specs.declared.read_error.ReadError.{ReadError}
 use Rattle.paw_image.proofs.EndLaws.{end_whole, end_taken, end_of_end}
 use Rattle.paw_image.proofs.Faults.{fails_next}
 use Rattle.paw_image.proofs.FieldLaws.{IsBytes, at_ok, bind_then}

@@ -3,9 +3,9 @@ use Rattle.std.proofs.Common.{◌≡◌, ℕ, suc, ◌-◌, ◌+◌, ◌≤◌, 
 use Rattle.std.proofs.Common.{◌∙◌, append_assoc, arith}
 use Rattle.std.specs.List.{AllByRecursion}
 use Rattle.std.proofs.lemmas.List.{append-nil, map-append}
-use Rattle.paw_faults.specs.declared.read_error.ReadError.{ReadError}
-use Rattle.paw_faults.specs.declared.read_error.ReadError.TheVariants as fault
-use Rattle.paw_faults.specs.inner.Gives.{Fails}
+use Rattle.paw_read_error.specs.declared.read_error.ReadError.{ReadError}
+use Rattle.paw_read_error.specs.declared.read_error.ReadError.TheVariants as fault
+use Rattle.paw_read_error.specs.inner.Gives.{Fails}
 use Rattle.paw_image.specs.Damage.{ImagePreface, Passing, each, checked_exit, after_exits_of, after_table}
 use Rattle.paw_image.specs.inner.Offsets.{begins, entries_begin, entries_of, tables_begin}
 use Rattle.paw_image.specs.declared.offsets.TableIndex.{TableIndex}

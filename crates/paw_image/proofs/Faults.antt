@@ -1,11 +1,11 @@
 -- Where a first step has no value, what follows it has none.
 use Rattle.std.proofs.Common.{◌≡◌, ℕ, suc, ◌+◌, ◌-◌, ◌<◌, List, None, Result, Ok, Err, refl, sym, subst, ◌∙◌, arith}
-use Rattle.paw_faults.specs.declared.read_error.ReadError.{ReadError}
-use Rattle.paw_faults.specs.declared.read_error.ReadError.TheVariants as fault
+use Rattle.paw_read_error.specs.declared.read_error.ReadError.{ReadError}
+use Rattle.paw_read_error.specs.declared.read_error.ReadError.TheVariants as fault
 use Rattle.paw_image.specs.Damage.{Passing, each}
-use Rattle.paw_faults.specs.Bind.{◌>>=◌}
+use Rattle.paw_read_error.specs.Bind.{◌>>=◌}
 use Rattle.paw_image.specs.Reading.{Reading}
-use Rattle.paw_faults.specs.inner.Gives.{Fails}
+use Rattle.paw_read_error.specs.inner.Gives.{Fails}
 use Rattle.paw_image.specs.inner.Reading.{IsFault}
 use Rattle.paw_image.specs.inner.Rows.{value_of}
 

@@ -20,7 +20,7 @@ use Rattle.paw_game.specs.Game.{GameLists, counts_of}
 use Rattle.paw_game.specs.Valid.{is_within, are_letters, is_word}
 use Rattle.paw_game.specs.Image.{two_bytes, word_image}
 use Rattle.paw_game.proofs.Faults.{rise_after}
-use Rattle.paw_faults.specs.Bind.{◌>>=◌}
+use Rattle.paw_read_error.specs.Bind.{◌>>=◌}
 use Rattle.paw_image.specs.declared.version.Version.{Version}
 use Rattle.paw_image.specs.declared.version.Version.TheVariants.{One, Two}
 use Rattle.paw_image.specs.Reading.{byte_at, bytes_at, number_at}

@@ -3,10 +3,10 @@ use Rattle.std.proofs.Common.{◌≡◌, ℕ, ◌≤◌, List, length, Ok, Err, 
 use Rattle.paw_game.specs.Game.{GameLists}
 use Rattle.paw_game.specs.Valid.{Valid}
 use Rattle.paw_game.specs.Image.{image}
-use Rattle.paw_faults.specs.declared.read_error.ReadError.TheVariants as unread
+use Rattle.paw_read_error.specs.declared.read_error.ReadError.TheVariants as unread
 use Rattle.paw_base.specs.declared.limits.TheConstants.{IMAGE_LIMIT}
 use Rattle.paw_image.specs.Images.{IsImage}
-use Rattle.paw_faults.specs.inner.Gives.{Fails}
+use Rattle.paw_read_error.specs.inner.Gives.{Fails}
 use Rattle.paw_image.specs.inner.Reading.{all_of}
 use Rattle.paw_image.proofs.FieldLaws.{IsBytes, read_ok}
 use Rattle.paw_image.proofs.GameLaws.{all_takes, all_again}

@@ -4,11 +4,11 @@ use Rattle.std.proofs.Common.{refl, sym, ap, subst, ◌∙◌, append_assoc, ari
 use Rattle.std.specs.Prelude.{slice_get}
 use Rattle.std.proofs.lemmas.List.{append-nil, length-append}
 use Rattle.paw_game.specs.declared.parts.Word.{Word}
-use Rattle.paw_faults.specs.declared.read_error.ReadError.{ReadError}
-use Rattle.paw_faults.specs.Bind.{◌>>=◌}
+use Rattle.paw_read_error.specs.declared.read_error.ReadError.{ReadError}
+use Rattle.paw_read_error.specs.Bind.{◌>>=◌}
 use Rattle.paw_image.specs.Reading.{Reading}
 use Rattle.paw_image.specs.Damage.{checked_word, words_above}
-use Rattle.paw_faults.specs.inner.Gives.{Fails}
+use Rattle.paw_read_error.specs.inner.Gives.{Fails}
 use Rattle.paw_image.specs.inner.Reading.{leading_rows}
 use Rattle.paw_image.specs.inner.Words.{letters_if_word, last_letters}
 use Rattle.paw_image.proofs.Faults.{fails_next}

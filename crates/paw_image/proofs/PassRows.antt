@@ -15,7 +15,7 @@ use Rattle.paw_game.specs.Image.{parameter_image, condact_image, entry_image, ta
 use Rattle.paw_game.specs.Valid.{is_within, is_printed, is_text, is_word_or_none, is_place, facts_are_valid}
 use Rattle.paw_game.specs.Valid.{is_object, is_verb_value, are_exits, exits_are_valid, is_wildcard, is_parameter}
 use Rattle.paw_game.specs.Valid.{has_word}
-use Rattle.paw_faults.specs.Bind.{◌>>=◌}
+use Rattle.paw_read_error.specs.Bind.{◌>>=◌}
 use Rattle.paw_image.specs.Reading.{byte_at}
 use Rattle.paw_image.specs.Damage.{ImagePreface, may_stand, checked_field, checked_number, after_text, after_facts}
 use Rattle.paw_image.specs.Damage.{after_object}

@@ -19,7 +19,7 @@ use Rattle.paw_game.specs.Tables.{exit_of, facts_at}
 use Rattle.paw_game.specs.inner.Tables.{text_at}
 use Rattle.paw_game.specs.Image.{two_bytes, text_image, object_image, exit_image, exits_image}
 use Rattle.paw_game.specs.Image.{condact_image, entry_image, table_image, weight_byte, image}
-use Rattle.paw_faults.specs.Bind.{◌>>=◌}
+use Rattle.paw_read_error.specs.Bind.{◌>>=◌}
 use Rattle.paw_image.specs.inner.Reading.{leading_condact}
 use Rattle.paw_image.specs.inner.Reading as inner_reading
 use Rattle.paw_image.specs.Damage.{each}

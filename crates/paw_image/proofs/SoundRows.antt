@@ -20,7 +20,7 @@ use Rattle.paw_game.specs.Image.{table_image}
 use Rattle.paw_game.specs.Valid.{is_within, is_printed, is_text, is_word_or_none, is_place, facts_are_valid}
 use Rattle.paw_game.specs.Valid.{is_object, is_verb_value, are_exits, exits_are_valid, is_parameter}
 use Rattle.paw_game.specs.Valid.{is_wildcard, has_word}
-use Rattle.paw_faults.specs.Bind.{◌>>=◌}
+use Rattle.paw_read_error.specs.Bind.{◌>>=◌}
 use Rattle.paw_image.specs.Reading.{byte_at, bytes_at, number_at}
 use Rattle.paw_image.specs.inner.Reading.{few_at, pair_at, leading_rows, sized_text_at, facts_with, leading_facts}
 use Rattle.paw_image.specs.inner.Reading.{object_at, leading_exit, exits_at}

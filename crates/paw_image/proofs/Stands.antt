@@ -4,7 +4,7 @@ use Rattle.std.proofs.Common.{◌++◌, length, Result, Ok, refl, sym, ap, subst
 use Rattle.std.specs.List.{flat_map, list_all}
 use Rattle.std.proofs.lemmas.Bool.{ltb-false, and_parts}
 use Rattle.std.proofs.lemmas.List.{length-take, length-append}
-use Rattle.paw_faults.specs.Bind.{◌>>=◌}
+use Rattle.paw_read_error.specs.Bind.{◌>>=◌}
 use Rattle.paw_image.specs.Reading.{Reading, bytes_at}
 use Rattle.paw_image.specs.inner.Reading.{leading_rows}
 use Rattle.paw_image.specs.Damage.{Passing, checked_field, each}

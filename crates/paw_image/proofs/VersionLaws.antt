@@ -19,7 +19,7 @@ use Rattle.paw_game.specs.Game.{GameLists}
 use Rattle.paw_game.specs.Valid.{is_wildcard, is_condact, is_entry, is_table, is_verb_value, has_word}
 use Rattle.paw_game.specs.Image.{any_indirect, has_indirect, version_of, two_bytes, condact_image, entry_image}
 use Rattle.paw_game.specs.Image.{table_image}
-use Rattle.paw_faults.specs.Bind.{◌>>=◌}
+use Rattle.paw_read_error.specs.Bind.{◌>>=◌}
 use Rattle.paw_image.specs.declared.version.Version.{Version}
 use Rattle.paw_image.specs.declared.version.Version.TheVariants.{One, Two}
 use Rattle.paw_image.specs.Damage.{Passing, checked_field, may_stand, each, after_condact, after_entry, after_table}

@@ -23,7 +23,7 @@ use Rattle.paw_game.specs.declared.parts.Word.{Word}
 use Rattle.paw_game.specs.Game.{counts_with}
 use Rattle.paw_game.specs.Valid.{is_within, are_letters, has_word, is_verb_value}
 use Rattle.paw_game.specs.Valid.{is_word_or_none, is_printed, is_place, is_wildcard, is_parameter}
-use Rattle.paw_faults.specs.Bind.{◌>>=◌}
+use Rattle.paw_read_error.specs.Bind.{◌>>=◌}
 use Rattle.paw_image.specs.declared.version.Version.{Version}
 use Rattle.paw_image.specs.declared.version.Version.TheVariants.{One, Two}
 use Rattle.paw_image.specs.Reading.{Reading, byte_at, bytes_at, number_at}

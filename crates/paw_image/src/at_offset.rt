@@ -4,7 +4,7 @@ ghost use Rattle.std.specs.Prelude.{◌≡◌, ◌*◌, ◌/◌, ◌<◌, drop, 
 ghost use Rattle.std.specs.Option.{option_copied, option_map};
 ghost use Rattle.paw_image.specs.inner.CondactMarks.{AreMarks, MarkEntry, marks_of};
 ghost use Rattle.paw_image.specs.Damage.{each};
-ghost use Rattle.paw_faults.specs.inner.Gives.{Gives};
+ghost use Rattle.paw_read_error.specs.inner.Gives.{Gives};
 ghost use Rattle.paw_image.specs.inner.Reading.{IsFault, sized_text_at};
 ghost use Rattle.paw_image.specs.inner.Rows.{condact_after, condact_among, entry_here, exit_here, exit_in, exits_here};
 ghost use Rattle.paw_image.specs.inner.Rows.{facts_here, head_here, nth_condact, past_condact, up_to, value_of};

@@ -6,7 +6,7 @@ ghost use Rattle.paw_image.specs.Damage.{after_all, after_lists, as_version_1, b
 ghost use Rattle.paw_image.specs.Images.{IsImage};
 ghost use Rattle.paw_image.specs.inner.Images.{AtDamage, IfDamaged};
 ghost use Rattle.paw_image.specs.inner.Offsets.{IsPassed, preface_of};
-ghost use Rattle.paw_faults.specs.inner.Gives.{Gives};
+ghost use Rattle.paw_read_error.specs.inner.Gives.{Gives};
 ghost use Rattle.paw_base.specs.declared.limits.TheConstants.{IMAGE_LIMIT};
 
 use crate::fault::ReadFault;
@@ -15,7 +15,7 @@ use crate::head::{Front, read_front};
 use crate::offsets::{Offsets, pass_lists};
 use crate::refusal::ImageRefusal;
 use crate::version::Version;
-use paw_faults::read_error::ReadError;
+use paw_read_error::read_error::ReadError;
 use std::alloc::{AllocError, Global};
 
 /// Where the version stands.

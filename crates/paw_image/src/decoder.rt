@@ -11,8 +11,8 @@ use crate::damage::damage;
 use crate::parts::read_parts;
 use crate::refusal::ImageRefusal;
 use paw_base::limits::IMAGE_LIMIT;
-use paw_faults::read_error::ReadError;
 use paw_game::game::Game;
+use paw_read_error::read_error::ReadError;
 use std::alloc::Global;
 
 /// The game whose image the bytes are; None where they aren't an image.

@@ -4,7 +4,7 @@ ghost use Rattle.paw_game.specs.Image.{exit_image, exits_image};
 ghost use Rattle.std.specs.Prelude.{ℕ, List, []};
 ghost use Rattle.paw_image.specs.Damage.{checked_exit, after_exits_of, after_exits};
 ghost use Rattle.paw_image.specs.inner.Marks.{Marks};
-ghost use Rattle.paw_faults.specs.inner.Gives.{Gives};
+ghost use Rattle.paw_read_error.specs.inner.Gives.{Gives};
 ghost use Rattle.paw_image.specs.inner.Reading.{leading_exit, exits_at};
 ghost use Rattle.paw_image.specs.inner.Sizes.{FitsExit, FitsExits};
 

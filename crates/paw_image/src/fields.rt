@@ -4,12 +4,12 @@ ghost use Rattle.std.specs.Prelude.{◌≡◌, ◌^◌, ◌<◌, ◌++◌, lengt
 ghost use Rattle.paw_game.specs.Image.{two_bytes};
 ghost use Rattle.paw_image.specs.Damage.{checked_number};
 ghost use Rattle.paw_image.specs.Reading.{byte_at, bytes_at, number_at};
-ghost use Rattle.paw_faults.specs.inner.Gives.{Gives};
+ghost use Rattle.paw_read_error.specs.inner.Gives.{Gives};
 ghost use Rattle.paw_image.specs.inner.Reading.{IsFault, pair_at};
-ghost use Rattle.paw_faults.specs.declared.read_error.ReadError.TheVariants as unread;
+ghost use Rattle.paw_read_error.specs.declared.read_error.ReadError.TheVariants as unread;
 
 use crate::fault::ReadFault;
-use paw_faults::read_error::ReadError;
+use paw_read_error::read_error::ReadError;
 use std::alloc::AllocError;
 
 /// The byte at the front.

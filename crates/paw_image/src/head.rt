@@ -2,7 +2,7 @@
 
 ghost use Rattle.paw_image.specs.Damage.{checked_version, checked_counts, front};
 ghost use Rattle.paw_image.specs.inner.Offsets.{preface_of};
-ghost use Rattle.paw_faults.specs.inner.Gives.{Gives};
+ghost use Rattle.paw_read_error.specs.inner.Gives.{Gives};
 
 use crate::fault::ReadFault;
 use crate::fields::{fault_at, read_array, read_byte, read_within};

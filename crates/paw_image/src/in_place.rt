@@ -3,7 +3,7 @@
 ghost use Rattle.std.specs.Prelude.{◌≡◌, ◌≤◌, ◌<◌, ◌^◌, IfOk, length};
 ghost use Rattle.paw_image.specs.Damage.{each};
 ghost use Rattle.paw_image.specs.inner.Offsets.{begins};
-ghost use Rattle.paw_faults.specs.inner.Gives.{Gives};
+ghost use Rattle.paw_read_error.specs.inner.Gives.{Gives};
 
 use crate::fault::ReadFault;
 use crate::field_rules::FieldRules;
@@ -13,7 +13,7 @@ use std::alloc::Global;
 pub trait InPlace {
     ghost use Rattle.std.specs.Prelude.{List, ℕ};
     ghost use Rattle.paw_image.specs.Damage.{Passing, ImagePreface};
-    ghost use Rattle.paw_faults.specs.inner.Gives.{Gives};
+    ghost use Rattle.paw_read_error.specs.inner.Gives.{Gives};
 
     /// The bytes after the row at the front, or its first fault.
     ghost passing: { ImagePreface → List ℕ → Passing };

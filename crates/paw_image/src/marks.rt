@@ -4,7 +4,7 @@ ghost use Rattle.std.specs.Prelude.{◌≡◌, ◌+◌, ◌*◌, ◌≤◌, ◌<
 ghost use Rattle.paw_image.specs.inner.CondactMarks.{marks_of, AreMarks, IsEnd, BeginsWithList, MarkEntries, MarkEntry};
 ghost use Rattle.paw_image.specs.Damage.{after_condact, after_entry, each};
 ghost use Rattle.paw_image.specs.inner.Offsets.{begins};
-ghost use Rattle.paw_faults.specs.inner.Gives.{Gives};
+ghost use Rattle.paw_read_error.specs.inner.Gives.{Gives};
 
 use crate::fault::ReadFault;
 use crate::field_rules::FieldRules;

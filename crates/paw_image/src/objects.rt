@@ -3,7 +3,7 @@
 ghost use Rattle.std.specs.Prelude.{◌≡◌, ◌<◌, OnErr};
 ghost use Rattle.paw_game.specs.Image.{weight_byte, object_image};
 ghost use Rattle.paw_image.specs.Damage.{after_facts, after_object};
-ghost use Rattle.paw_faults.specs.inner.Gives.{Gives};
+ghost use Rattle.paw_read_error.specs.inner.Gives.{Gives};
 ghost use Rattle.paw_image.specs.inner.Reading.{IsFault, leading_facts, object_at};
 ghost use Rattle.paw_image.specs.inner.Rows.{after_text_facts};
 ghost use Rattle.paw_image.specs.inner.Sizes.{FitsObject};

@@ -6,7 +6,7 @@ ghost use Rattle.paw_image.specs.Damage.{each, after_lists, after_table};
 ghost use Rattle.paw_image.specs.inner.CondactMarks.{IsEnd, IsMarked};
 ghost use Rattle.paw_image.specs.inner.Orders.{IsOrder};
 ghost use Rattle.paw_image.specs.inner.Offsets.{entries_begin, entries_of, tables_begin, AreGoneOver};
-ghost use Rattle.paw_faults.specs.inner.Gives.{Gives};
+ghost use Rattle.paw_read_error.specs.inner.Gives.{Gives};
 ghost use Rattle.paw_image.specs.inner.Views.{AreMarked, AreOrdered};
 
 use crate::fault::ReadFault;

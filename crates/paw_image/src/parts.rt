@@ -4,7 +4,7 @@ ghost use Rattle.std.specs.Prelude.{◌≡◌, ◌<◌, ◌^◌, ◌++◌, lengt
 ghost use Rattle.paw_game.specs.Image.{head_image, image};
 ghost use Rattle.paw_image.specs.inner.Sizes.{FitsCounts, FitsGame};
 ghost use Rattle.paw_image.specs.inner.Offsets.{preface_of};
-ghost use Rattle.paw_faults.specs.inner.Gives.{Gives};
+ghost use Rattle.paw_read_error.specs.inner.Gives.{Gives};
 ghost use Rattle.paw_image.specs.inner.Reading.{lists_at, all_of};
 
 use crate::fault::ReadFault;

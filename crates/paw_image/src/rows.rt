@@ -2,7 +2,7 @@
 
 ghost use Rattle.std.specs.Prelude.{◌≡◌, ◌<◌, ◌^◌, ◌∷◌, ◌++◌, length, OnOk, flat_map};
 ghost use Rattle.std.specs.List.{AllByRecursion};
-ghost use Rattle.paw_faults.specs.inner.Gives.{Gives};
+ghost use Rattle.paw_read_error.specs.inner.Gives.{Gives};
 ghost use Rattle.paw_image.specs.inner.Reading.{few_at, leading_rows};
 
 use crate::fault::ReadFault;
@@ -35,7 +35,7 @@ pub trait Row {
 pub trait ReadRow: Drop {
     ghost use Rattle.std.specs.Prelude.{List, ℕ};
     ghost use Rattle.paw_image.specs.Reading.{Reading};
-    ghost use Rattle.paw_faults.specs.inner.Gives.{Gives};
+    ghost use Rattle.paw_read_error.specs.inner.Gives.{Gives};
 
     /// The row at the front of these bytes, and the bytes after it.
     ghost reading: { List ℕ → Reading Self };

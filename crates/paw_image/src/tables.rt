@@ -4,7 +4,7 @@ ghost use Rattle.std.specs.Prelude.{◌≡◌, ◌++◌, IfOk, OnErr, OnOk};
 ghost use Rattle.paw_game.specs.Image.{parameter_image, condact_image, entry_image, table_image};
 ghost use Rattle.paw_image.specs.inner.Sizes.{FitsCondact, FitsEntry, FitsTable};
 ghost use Rattle.paw_image.specs.Damage.{after_parameter, after_condact};
-ghost use Rattle.paw_faults.specs.inner.Gives.{Gives};
+ghost use Rattle.paw_read_error.specs.inner.Gives.{Gives};
 ghost use Rattle.paw_image.specs.inner.Reading.{IsFault, code_at, parameter_at};
 ghost use Rattle.paw_image.specs.inner.Reading.{leading_condact, leading_entry, leading_table};
 ghost use Rattle.paw_base.specs.Condacts.{first_kind, second_kind};
@@ -18,8 +18,8 @@ use crate::rows::{
 };
 use paw_base::parts::Condact;
 use paw_base::rows::{ParamKind, condact_row};
-use paw_faults::read_error::ReadError;
 use paw_game::parts::{Condacts, Entry, Table};
+use paw_read_error::read_error::ReadError;
 use std::alloc::{AllocError, Global};
 
 /// A code of a condact, and the kinds of its parameters.

@@ -3,7 +3,7 @@
 ghost use Rattle.std.specs.Prelude.{OnErr};
 ghost use Rattle.paw_game.specs.Image.{text_image};
 ghost use Rattle.paw_image.specs.Damage.{after_text};
-ghost use Rattle.paw_faults.specs.inner.Gives.{Gives};
+ghost use Rattle.paw_read_error.specs.inner.Gives.{Gives};
 ghost use Rattle.paw_image.specs.inner.Reading.{IsFault, sized_text_at};
 ghost use Rattle.paw_image.specs.inner.Sizes.{FitsText};
 

@@ -3,7 +3,7 @@
 ghost use Rattle.paw_game.specs.Image.{word_image};
 ghost use Rattle.std.specs.Prelude.{◌≡◌, []};
 ghost use Rattle.paw_image.specs.Damage.{checked_word, words_above};
-ghost use Rattle.paw_faults.specs.inner.Gives.{Gives};
+ghost use Rattle.paw_read_error.specs.inner.Gives.{Gives};
 ghost use Rattle.paw_image.specs.inner.Words.{last_letters};
 ghost use Rattle.paw_image.specs.inner.Sizes.{FitsWord};
 

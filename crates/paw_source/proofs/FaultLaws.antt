@@ -10,7 +10,7 @@ use Rattle.paw_base.specs.declared.fault.SourceKind.TheVariants as kind
 use Rattle.paw_base.specs.declared.fault.SourceFault.{SourceFault}
 use Rattle.paw_game.specs.Image.{image}
 use Rattle.paw_lex.specs.Lines.{lines_of}
-use Rattle.paw_faults.specs.Bind.{◌>>=◌}
+use Rattle.paw_read_error.specs.Bind.{◌>>=◌}
 use Rattle.paw_grammar.specs.GrammarState.{Spelt, nothing_yet, game_of}
 use Rattle.paw_grammar.specs.Spells.{after_line, begins_table, fault, at_line, whole, spelled_after, spelled}
 use Rattle.paw_source.specs.inner.Laws.{after_lines, HasFault, HasNone, NamesTheFirst, IsNamedRightly}

@@ -30,7 +30,7 @@ use Rattle.paw_game.specs.Valid.{words_are_valid, has_word, is_verb_value, is_wi
 use Rattle.paw_game.specs.Valid.{exits_are_valid, facts_are_valid, is_parameter, is_condact, is_entry, is_table}
 use Rattle.paw_game.specs.Valid.{is_word}
 use Rattle.paw_grammar.specs.declared.bounds.Bounds.{Bounds}
-use Rattle.paw_faults.specs.Bind.{◌>>=◌}
+use Rattle.paw_read_error.specs.Bind.{◌>>=◌}
 use Rattle.paw_grammar.specs.Tokens.{read_by, at_most, at_is_next}
 use Rattle.paw_grammar.specs.Numbers.{number, in_range, number_within, number_below, row_number}
 use Rattle.paw_grammar.specs.Vocabulary.{index_among, word, class, object_kind, declared, word_or_none, verb_word}

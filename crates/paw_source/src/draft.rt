@@ -1,9 +1,9 @@
 // What the lines that were read spell.
 
 ghost use Rattle.std.specs.Prelude.{◌≡◌, ◌<◌, true, length, Err, IfOk};
-ghost use Rattle.paw_faults.specs.declared.read_error.ReadError.TheVariants.{Fault};
+ghost use Rattle.paw_read_error.specs.declared.read_error.ReadError.TheVariants.{Fault};
 ghost use Rattle.paw_grammar.specs.inner.Condacts.{AreSmall};
-ghost use Rattle.paw_faults.specs.inner.Gives.{Gives};
+ghost use Rattle.paw_read_error.specs.inner.Gives.{Gives};
 ghost use Rattle.paw_grammar.specs.GrammarState.{game_of, nothing_yet};
 ghost use Rattle.paw_grammar.specs.GrammarTexts.{is_in_text, text_limit};
 ghost use Rattle.paw_grammar.specs.GrammarHeads.{con_header, header, header_of, item_in, new_exits, next_header};
@@ -20,7 +20,6 @@ use crate::texts::{text_item, text_line};
 use paw_base::fault::{NoRoom, SourceKind};
 use paw_base::limits::{LOCATION_LIMIT, MESSAGE_LIMIT, OBJECT_LIMIT, SYSTEM_LIMIT, TABLE_LIMIT};
 use paw_base::parts::ObjectFacts;
-use paw_faults::read_error::ReadError;
 use paw_game::parts::{Exits, GameParts, Table, Text};
 use paw_grammar::bounds::Bounds;
 use paw_grammar::condacts::Scope;
@@ -29,6 +28,7 @@ use paw_grammar::refusal::LineError;
 use paw_grammar::section::Section;
 use paw_grammar::tokens::{Tokens, is_named};
 use paw_grammar::vocabulary::Vocabulary;
+use paw_read_error::read_error::ReadError;
 use std::alloc::Global;
 use std::marker::Model;
 

@@ -1,17 +1,17 @@
 // The lines of a table.
 
 ghost use Rattle.std.specs.Prelude.{◌<◌};
-ghost use Rattle.paw_faults.specs.inner.Gives.{Gives};
+ghost use Rattle.paw_read_error.specs.inner.Gives.{Gives};
 ghost use Rattle.paw_grammar.specs.Condacts.{more_condacts};
 ghost use Rattle.paw_grammar.specs.GrammarRows.{entry_row, more_row};
 
 use paw_base::fault::SourceKind;
 use paw_base::limits::ENTRY_LIMIT;
-use paw_faults::read_error::ReadError;
 use paw_game::parts::{Condacts, Entry, Table};
 use paw_grammar::condacts::Scope;
 use paw_grammar::refusal::LineError;
 use paw_grammar::tokens::Tokens;
+use paw_read_error::read_error::ReadError;
 use std::alloc::Global;
 
 /// Adds the entry of a line to a table.

@@ -2,16 +2,16 @@
 
 ghost use Rattle.std.specs.Prelude.{◌≡◌, ◌-◌, ◌++◌, ◌==◌, ◌≤◌, [], length, replicate, OnOk};
 ghost use Rattle.std.specs.List.{list_any};
-ghost use Rattle.paw_faults.specs.inner.Gives.{Gives};
+ghost use Rattle.paw_read_error.specs.inner.Gives.{Gives};
 ghost use Rattle.paw_grammar.specs.GrammarRows.{exit_row};
 
 use paw_base::fault::SourceKind;
-use paw_faults::read_error::ReadError;
 use paw_game::parts::{Exit, Exits};
 use paw_grammar::numbers::byte_below;
 use paw_grammar::refusal::LineError;
 use paw_grammar::tokens::Tokens;
 use paw_grammar::vocabulary::Vocabulary;
+use paw_read_error::read_error::ReadError;
 use std::alloc::{AllocError, Global};
 
 /// Adds locations without exits, up to this number of locations.

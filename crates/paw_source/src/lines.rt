@@ -1,17 +1,17 @@
 // A line of a source.
 
 ghost use Rattle.paw_lex.specs.inner.Lines.{line_bytes, LiesIn};
-ghost use Rattle.paw_faults.specs.inner.Gives.{Gives};
+ghost use Rattle.paw_read_error.specs.inner.Gives.{Gives};
 ghost use Rattle.paw_grammar.specs.Spells.{after_line};
 
 use crate::bytes::{begins_with_blank, begins_with_slash, has_forbidden_byte};
 use crate::draft::Draft;
 use paw_base::fault::SourceKind;
-use paw_faults::read_error::ReadError;
 use paw_grammar::numbers::number;
 use paw_grammar::refusal::LineError;
 use paw_grammar::tokens::{Tokens, without_first};
 use paw_lex::{Line, is_comment};
+use paw_read_error::read_error::ReadError;
 use std::alloc::Global;
 
 impl Draft {

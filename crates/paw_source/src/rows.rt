@@ -2,7 +2,7 @@
 
 ghost use Rattle.std.specs.Prelude.{◌≤◌, ◌<◌, OnOk};
 ghost use Rattle.paw_base.specs.declared.limits.TheConstants.{LOCATION_LIMIT};
-ghost use Rattle.paw_faults.specs.inner.Gives.{Gives};
+ghost use Rattle.paw_read_error.specs.inner.Gives.{Gives};
 ghost use Rattle.paw_grammar.specs.GrammarRows.{voc_row, object_row};
 
 use paw_base::limits::WEIGHT_LIMIT;

@@ -19,12 +19,12 @@ use crate::laws::drafts_are_valid;
 use crate::refusal::SourceRefusal;
 use paw_base::fault::{SourceFault, SourceKind};
 use paw_base::limits::{IMAGE_LIMIT, SOURCE_LIMIT, TABLE_LEAST};
-use paw_faults::read_error::ReadError;
 use paw_game::game::Game;
 use paw_grammar::refusal::LineError;
 use paw_grammar::tokens::{Tokens, is_named};
 use paw_image::encoder::image_length;
 use paw_lex::{Line, Lines};
+use paw_read_error::read_error::ReadError;
 use std::alloc::Global;
 
 /// Whether the first token is the header of a table.

@@ -2,15 +2,15 @@
 
 ghost use Rattle.std.specs.Prelude.{◌≡◌, ◌<◌, ◌≤◌, ◌+◌, length, nat_le, suc, if◌then◌else◌};
 ghost use Rattle.paw_base.specs.declared.limits.TheConstants.{TEXT_LIMIT};
-ghost use Rattle.paw_faults.specs.inner.Gives.{Gives};
+ghost use Rattle.paw_read_error.specs.inner.Gives.{Gives};
 ghost use Rattle.paw_grammar.specs.Tokens.{at_most};
 ghost use Rattle.paw_grammar.specs.GrammarTexts.{text_item, text_line, with_line};
 
 use paw_base::fault::SourceKind;
 use paw_base::limits::TEXT_LIMIT;
-use paw_faults::read_error::ReadError;
 use paw_game::parts::Text;
 use paw_grammar::refusal::LineError;
+use paw_read_error::read_error::ReadError;
 use std::alloc::Global;
 
 /// Begins a text after the others of its section, which may have `limit` texts.

@@ -8,7 +8,7 @@ use Rattle.paw_base.specs.declared.limits.TheConstants.{IMAGE_LIMIT}
 use Rattle.paw_base.specs.declared.fault.SourceKind.{SourceKind}
 use Rattle.paw_game.specs.Image.{image}
 use Rattle.paw_lex.specs.Bytes.{is_printed_byte}
-use Rattle.paw_faults.specs.Bind.{◌>>=◌}
+use Rattle.paw_read_error.specs.Bind.{◌>>=◌}
 use Rattle.paw_grammar.specs.GrammarState.{Spelt, game_of}
 use Rattle.paw_grammar.specs.Spells.{after_line, at_line, whole, spelled_after}
 use Rattle.paw_source.specs.inner.Laws.{after_lines}

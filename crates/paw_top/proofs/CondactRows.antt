@@ -28,7 +28,7 @@ use Rattle.paw_game.specs.declared.parts.ObjectRow.{ObjectRow}
 use Rattle.paw_game.specs.Game.{GameLists, counts_of}
 use Rattle.paw_game.specs.Valid.{is_within, is_parameter, is_condact, is_word_or_none}
 use Rattle.paw_grammar.specs.declared.bounds.Bounds.{Bounds}
-use Rattle.paw_faults.specs.Bind.{◌>>=◌}
+use Rattle.paw_read_error.specs.Bind.{◌>>=◌}
 use Rattle.paw_grammar.specs.Tokens.{at_most, begins_with_at, at_is_next}
 use Rattle.paw_grammar.specs.Vocabulary.{word_or_none}
 use Rattle.paw_grammar.specs.Numbers.{in_range}

@@ -14,7 +14,7 @@ use Rattle.paw_game.specs.declared.parts.Word.{Word}
 use Rattle.paw_game.specs.declared.parts.ObjectRow.{ObjectRow}
 use Rattle.paw_game.specs.Valid.{is_within, is_word_or_none, is_place, is_text, facts_are_valid, is_object}
 use Rattle.paw_grammar.specs.declared.section.Section.TheVariants as section
-use Rattle.paw_faults.specs.Bind.{◌>>=◌}
+use Rattle.paw_read_error.specs.Bind.{◌>>=◌}
 use Rattle.paw_grammar.specs.Vocabulary.{kind_named, word_or_none}
 use Rattle.paw_grammar.specs.GrammarState.{Spelt, objects_of}
 use Rattle.paw_grammar.specs.GrammarTexts.{is_in_text}

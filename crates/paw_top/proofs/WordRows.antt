@@ -18,7 +18,7 @@ use Rattle.paw_game.specs.declared.parts.Word.{Word}
 use Rattle.paw_game.specs.Valid.{are_letters, is_within, is_word, words_rise}
 use Rattle.paw_game.specs.Tables.{word_of}
 use Rattle.paw_grammar.specs.declared.section.Section.TheVariants as section
-use Rattle.paw_faults.specs.Bind.{◌>>=◌}
+use Rattle.paw_read_error.specs.Bind.{◌>>=◌}
 use Rattle.paw_grammar.specs.Vocabulary.{class_names, index_among, words_with}
 use Rattle.paw_grammar.specs.GrammarState.{Spelt}
 use Rattle.paw_grammar.specs.GrammarTexts.{is_in_text}

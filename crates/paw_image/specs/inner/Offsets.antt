@@ -12,7 +12,7 @@ use Rattle.paw_image.specs.inner.CondactMarks.{IsEnd, IsMarked}
 use Rattle.paw_image.specs.Damage.{ImagePreface, Passing, front, each, checked_number, after_text}
 use Rattle.paw_image.specs.Damage.{after_object, after_exits, after_entry, after_table}
 use Rattle.paw_image.specs.inner.Orders.{IsOrder}
-use Rattle.paw_faults.specs.Bind.{◌>>=◌}
+use Rattle.paw_read_error.specs.Bind.{◌>>=◌}
 
 -- Where each row begins, the first of them at this place.
 abbrev pub offsets : {A : Type 0} → (A → Bytes) → ℕ → List A → List ℕ

@@ -3,8 +3,8 @@ use Rattle.std.specs.Prelude.{◌≡◌, ℕ, Result, Ok, Err}
 use Rattle.paw_base.specs.declared.fault.SourceFault.{SourceFault}
 use Rattle.paw_game.specs.Game.{GameLists}
 use Rattle.paw_base.specs.declared.fault.SourceKind.{SourceKind}
-use Rattle.paw_faults.specs.declared.read_error.ReadError.{ReadError}
-use Rattle.paw_faults.specs.declared.read_error.ReadError.TheVariants as unread
+use Rattle.paw_read_error.specs.declared.read_error.ReadError.{ReadError}
+use Rattle.paw_read_error.specs.declared.read_error.ReadError.TheVariants as unread
 use Rattle.paw_grammar.specs.Spells.{fault}
 use Rattle.paw_source.specs.declared.refusal.SourceRefusal.{SourceRefusal}
 use Rattle.paw_source.specs.declared.refusal.SourceRefusal.TheVariants as refusal

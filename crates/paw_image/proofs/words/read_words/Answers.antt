@@ -1,6 +1,6 @@
 use Rattle.std.proofs.Common.{◌≡◌, List, ℕ, Ok, subst, ap, ◌∙◌}
 use Rattle.std.proofs.lemmas.Result.{err_from_is_err_and}
-use Rattle.paw_faults.specs.inner.Gives.{Fails}
+use Rattle.paw_read_error.specs.inner.Gives.{Fails}
 use Rattle.paw_image.specs.Damage.{checked_word}
 use Rattle.paw_image.specs.inner.Words.{last_letters}
 use Rattle.paw_image.proofs.ListLoop.{goes_on, ends, is_done, word_more, no_word_more, last_is}

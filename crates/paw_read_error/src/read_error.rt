@@ -1,7 +1,7 @@
 // Why something isn't read.
 
 ghost use Rattle.std.specs.Prelude.{◌≡◌};
-ghost use Rattle.paw_faults.specs.declared.read_error.ReadError.TheVariants.{Memory};
+ghost use Rattle.paw_read_error.specs.declared.read_error.ReadError.TheVariants.{Memory};
 
 use std::alloc::{AllocError, AllocFailed};
 

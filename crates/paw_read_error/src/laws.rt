@@ -1,8 +1,8 @@
 // What an answer says of what is read.
 
 ghost use Rattle.std.specs.Prelude.{ℕ, ◌≡◌, Result, Ok, Err};
-ghost use Rattle.paw_faults.specs.inner.Gives.{Gives};
-ghost use Rattle.paw_faults.specs.declared.read_error.ReadError.TheVariants as unread;
+ghost use Rattle.paw_read_error.specs.inner.Gives.{Gives};
+ghost use Rattle.paw_read_error.specs.declared.read_error.ReadError.TheVariants as unread;
 
 /// An answer shows what is read: whatever gives the same value is the same, so is whatever gives the same fault, and
 /// nothing gives both a value and a fault.

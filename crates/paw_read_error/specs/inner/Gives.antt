@@ -1,7 +1,7 @@
 -- What a function answers that reads something, or finds a fault in it.
 use Rattle.std.specs.Prelude.{◌≡◌, Result, Ok, Err}
-use Rattle.paw_faults.specs.declared.read_error.ReadError.{ReadError}
-use Rattle.paw_faults.specs.declared.read_error.ReadError.TheVariants as unread
+use Rattle.paw_read_error.specs.declared.read_error.ReadError.{ReadError}
+use Rattle.paw_read_error.specs.declared.read_error.ReadError.TheVariants as unread
 
 -- A fault is the one that is read; lack of memory says nothing.
 abbrev pub Fails : {B F : Type 0} → ReadError F → Result B F → Type 0
