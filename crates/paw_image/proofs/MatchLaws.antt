@@ -1,72 +1,127 @@
 -- The least match in order of verb and noun is the first entry that matches.
-use Rattle.std.proofs.Common.{◌≡◌, ℕ, zero, suc, ◌+◌, ◌-◌, false, List, [], ◌∷◌}
-use Rattle.std.proofs.Common.{◌++◌, length, get_or, drop, Option, Some, IsTrue, refl, sym}
+use Rattle.std.proofs.Common.{◌≡◌, ℕ, zero, suc, ◌+◌, ◌-◌, ◌<◌, ◌≤◌, eqb, false, List, [], ◌∷◌}
+use Rattle.std.proofs.Common.{◌++◌, length, get_or, drop, Option, Some, refl, sym}
 use Rattle.std.proofs.Common.{ap, subst, ◌∙◌, append_assoc, inl, inr, arith, add-zero}
 use Rattle.std.specs.Prelude.{slice_get}
-use Rattle.std.specs.List.{flat_map, Contains}
+use Rattle.std.specs.List.{flat_map, All, Contains}
 use Rattle.std.specs.List.Sorted.{IsPermutation}
-use Rattle.std.proofs.lemmas.Bool.{cases_Bool, cases_eq, false≢true}
+use Rattle.std.proofs.lemmas.Bool.{cases_Bool, cases_eq, ne_eqb, false≢true}
 use Rattle.std.proofs.lemmas.List.{get_or-drop}
+use Rattle.std.proofs.lemmas.List.Elements.{All-cons, All-contains}
 use Rattle.std.proofs.lemmas.List.Sorted.{Contains-permutation, IsPermutation-sym}
 use Rattle.std.proofs.lemmas.Option.{none-some, same_Some, slice_get_within, get_or_from_slice_get, slice_get-get_or}
+use Rattle.paw_base.specs.declared.limits.TheConstants.{ENTRY_LIMIT}
 use Rattle.paw_game.specs.declared.parts.Entry.{Entry}
 use Rattle.paw_game.specs.Image.{entry_image}
-use Rattle.paw_game.specs.Tables.{matches}
+use Rattle.paw_game.specs.Tables.{is_for, matches}
+use Rattle.paw_game.specs.Valid.{is_wildcard}
 use Rattle.paw_game.specs.inner.Tables.{first_match}
 use Rattle.paw_game.proofs.Matches.{IsFound, found_here, found_later, slice_get-drop}
-use Rattle.paw_image.specs.declared.order.Head.{Head}
 use Rattle.paw_image.specs.declared.order.Order.{Order}
-use Rattle.paw_image.specs.inner.Orders.{heads_at, heads_of, is_match, IsOrder, IsLeast, IsMatch}
+use Rattle.paw_image.specs.inner.Orders.{is_kept_for, is_match, kept_word, ranked, ranks_at, ranks_of, IsOrder, IsLeast}
+use Rattle.paw_image.specs.inner.Orders.{IsMatch}
 use Rattle.paw_image.specs.inner.Offsets.{offsets}
 use Rattle.paw_image.proofs.OrderLaws.{IsLeast-same, one_least}
 use Rattle.paw_image.proofs.PlaceLaws.{next_at}
 
--- ---- heads ----
+-- ---- the words that are kept ----
+
+kept_small : (word : ℕ) → word < 256 → kept_word word < 256
+kept_small word small =
+    elim (cases_Bool (is_wildcard word)) [
+      | inl wild ↦ rw wild (omega arith)
+      | inr plain ↦ rw plain small
+    ]
+
+kept_is_for_other : (word flag : ℕ) → eqb word 1 ≡ false → is_kept_for (kept_word word) flag ≡ is_for word flag
+kept_is_for_other word flag other =
+    elim (cases_eq word 255) [
+      | inl none ↦ rw none refl
+      | inr plain ↦ let differs = ne_eqb word 255 plain in rw (other, differs, differs) refl
+    ]
+
+-- A word that was kept matches where the word itself does.
+kept_is_for : (word flag : ℕ) → is_kept_for (kept_word word) flag ≡ is_for word flag
+kept_is_for word flag =
+    elim (cases_eq word 1) [
+      | inl any ↦ rw any refl
+      | inr other ↦ kept_is_for_other word flag (ne_eqb word 1 other)
+    ]
+
+-- ---- ranks ----
 
 byte_at_place : (bytes front rest : List ℕ) (at k : ℕ) → drop at bytes ≡ front ++ rest → get_or bytes (at + k) 0 ≡ get_or (front ++ rest) k 0
 byte_at_place bytes front rest at k e = sym (get_or-drop at bytes k 0) ∙ ap (λ (l : List ℕ). get_or l k 0) e
 
--- The heads read where entries begin are those of the entries.
-heads_same : (bytes rest : List ℕ) (es : List Entry) (n at : ℕ) → drop at bytes ≡ flat_map entry_image es ++ rest
-    → heads_at bytes n (offsets entry_image at es) ≡ heads_of n es
-heads_same bytes rest [] n at e = refl
-heads_same bytes rest (x ∷ xs) n at e =
-    let others = flat_map entry_image xs ++ rest in
-    let here : drop at bytes ≡ entry_image x ++ others = e ∙ append_assoc (entry_image x) (flat_map entry_image xs) rest in
-    let verb : get_or bytes at 0 ≡ x.verb = ap (λ (i : ℕ). get_or bytes i 0) (sym (add-zero at)) ∙ byte_at_place bytes (entry_image x) others at 0 here in
-    let noun : get_or bytes (at + 1) 0 ≡ x.noun = byte_at_place bytes (entry_image x) others at 1 here in
-    rw (verb, noun, heads_same bytes rest xs (suc n) (at + length (entry_image x)) (next_at bytes (entry_image x) others at here)) refl
+module _ (bytes rest : List ℕ) (x : Entry) (xs : List Entry) (at : ℕ) (e : drop at bytes ≡ flat_map entry_image (x ∷ xs) ++ rest) where
+  others : List ℕ
+  others = flat_map entry_image xs ++ rest
 
--- The entry of a head.
-record OfEntry (es : List Entry) (n k : ℕ) (h : Head) : Type 0 where
+  entry_first : drop at bytes ≡ entry_image x ++ others
+  unfolding others
+  entry_first = e ∙ append_assoc (entry_image x) (flat_map entry_image xs) rest
+
+  verb_there : get_or bytes at 0 ≡ x.verb
+  verb_there = ap (λ (i : ℕ). get_or bytes i 0) (sym (add-zero at)) ∙ byte_at_place bytes (entry_image x) others at 0 entry_first
+
+  noun_there : get_or bytes (at + 1) 0 ≡ x.noun
+  noun_there = byte_at_place bytes (entry_image x) others at 1 entry_first
+
+  others_next : drop (at + length (entry_image x)) bytes ≡ flat_map entry_image xs ++ rest
+  unfolding others
+  others_next = next_at bytes (entry_image x) others at entry_first
+
+-- The ranks read where entries begin are those of the entries.
+ranks_same : (bytes rest : List ℕ) (es : List Entry) (n at : ℕ) → drop at bytes ≡ flat_map entry_image es ++ rest
+    → ranks_at bytes n (offsets entry_image at es) ≡ ranks_of n es
+ranks_same bytes rest [] n at e = refl
+ranks_same bytes rest (x ∷ xs) n at e =
+    rw (
+      verb_there bytes rest x xs at e,
+      noun_there bytes rest x xs at e,
+      ranks_same bytes rest xs (suc n) (at + length (entry_image x)) (others_next bytes rest x xs at e),
+    ) refl
+
+-- The nouns of the entries are bytes.
+nouns_small : (bytes rest : List ℕ) (es : List Entry) (at : ℕ) → ((i : ℕ) → get_or bytes i 0 < 256)
+    → drop at bytes ≡ flat_map entry_image es ++ rest → All (λ x. x.noun < 256) es
+nouns_small bytes rest [] at fits e = λ k d lt. absurd (omega arith)
+nouns_small bytes rest (x ∷ xs) at fits e =
+    let here : x.noun < 256 = rw (noun_there bytes rest x xs at e) at (fits (at + 1)) in
+    All-cons (λ (y : Entry). y.noun < 256) x xs here
+    (nouns_small bytes rest xs (at + length (entry_image x)) fits (others_next bytes rest x xs at e))
+
+-- The entry of a rank.
+record OfEntry (es : List Entry) (n k r : ℕ) : Type 0 where
   entry : Entry
   is : slice_get es k ≡ Some entry
-  verb : h.verb ≡ entry.verb
-  noun : h.noun ≡ entry.noun
-  number : h.entry ≡ n + k
+  rank : r ≡ ranked (kept_word entry.verb) (kept_word entry.noun) (n + k)
 
-entry_of_head : (es : List Entry) (n k : ℕ) (h : Head) → slice_get (heads_of n es) k ≡ Some h → OfEntry es n k h
-entry_of_head [] n k h e = absurd (none-some h e)
-entry_of_head (x ∷ xs) n zero h e =
-    let same = sym (same_Some _ h e) in
-    record {
-      entry = x;
-      is = refl;
-      verb = ap (λ (y : Head). y.verb) same;
-      noun = ap (λ (y : Head). y.noun) same;
-      number = ap (λ (y : Head). y.entry) same ∙ sym (add-zero n);
-    }
-entry_of_head (x ∷ xs) n (suc k) h e =
-    let o = entry_of_head xs (suc n) k h e in
-    record { entry = o.entry; is = o.is; verb = o.verb; noun = o.noun; number = omega (arith, o.number) }
-
-head_of_entry : (es : List Entry) (n k : ℕ) (x : Entry) → slice_get es k ≡ Some x
-    → slice_get (heads_of n es) k ≡ Some (record { verb = x.verb; noun = x.noun; entry = n + k })
-head_of_entry [] n k x e = absurd (none-some x e)
-head_of_entry (y ∷ ys) n zero x e = rw (add-zero n, ← same_Some y x e) refl
-head_of_entry (y ∷ ys) n (suc k) x e =
+entry_of_rank : (es : List Entry) (n k r : ℕ) → slice_get (ranks_of n es) k ≡ Some r → OfEntry es n k r
+entry_of_rank [] n k r e = absurd (none-some r e)
+entry_of_rank (x ∷ xs) n zero r e =
+    let same = sym (same_Some _ r e) in
+    record { entry = x; is = refl; rank = same ∙ ap (ranked (kept_word x.verb) (kept_word x.noun)) (sym (add-zero n)) }
+entry_of_rank (x ∷ xs) n (suc k) r e =
+    let o = entry_of_rank xs (suc n) k r e in
     let number : suc n + k ≡ n + suc k = omega arith in
-    head_of_entry ys (suc n) k x e ∙ ap (λ (i : ℕ). Some (record { verb = x.verb; noun = x.noun; entry = i })) number
+    record { entry = o.entry; is = o.is; rank = o.rank ∙ ap (ranked (kept_word o.entry.verb) (kept_word o.entry.noun)) number }
+
+rank_of_entry : (es : List Entry) (n k : ℕ) (x : Entry) → slice_get es k ≡ Some x
+    → slice_get (ranks_of n es) k ≡ Some (ranked (kept_word x.verb) (kept_word x.noun) (n + k))
+rank_of_entry [] n k x e = absurd (none-some x e)
+rank_of_entry (y ∷ ys) n zero x e = rw (add-zero n, ← same_Some y x e) refl
+rank_of_entry (y ∷ ys) n (suc k) x e =
+    let number : suc n + k ≡ n + suc k = omega arith in
+    rank_of_entry ys (suc n) k x e ∙ ap (λ (i : ℕ). Some (ranked (kept_word x.verb) (kept_word x.noun) i)) number
+
+-- A rank gives the verb, the noun and the number.
+parts_same : (v n e v' n' e' : ℕ) → ranked v n e ≡ ranked v' n' e' → n < 256 → e < 65536 → n' < 256 → e' < 65536
+    → (v ≡ v') × ((n ≡ n') × (e ≡ e'))
+parts_same v n e v' n' e' same a b c d =
+    let third : e ≡ e' = omega (arith, same, a, b, c, d) in
+    let second : n ≡ n' = omega (arith, same, third, a, c) in
+    (omega (arith, same, second, third), (second, third))
 
 -- ---- the first entry that matches ----
 
@@ -103,48 +158,64 @@ contains_at xs k x e = (k, slice_get_within xs k x e, get_or_from_slice_get xs k
 at_contains : {X : Type 0} (xs : List X) (x : X) → Contains xs x → (k : ℕ) × (slice_get xs k ≡ Some x)
 at_contains xs x c = (c.0, slice_get-get_or xs c.0 x c.1 ∙ ap Some c.2)
 
-words_match : (h : Head) (x : Entry) (verb noun : ℕ) → h.verb ≡ x.verb → h.noun ≡ x.noun → IsTrue (is_match verb noun h) → IsTrue (matches verb noun x)
-words_match h x verb noun same same_too both = rw (same, same_too) at both
+words_match : (x : Entry) (verb noun : ℕ) → is_match verb noun (kept_word x.verb) (kept_word x.noun) ≡ matches verb noun x
+words_match x verb noun = rw (kept_is_for x.verb verb, kept_is_for x.noun noun) refl
 
-module _ (es : List Entry) (heads : List Head) (perm : IsPermutation (heads_of 0 es) heads) (verb from noun : ℕ) where
-  -- The entry of a head that matches.
-  entry_found : (e : ℕ) → IsMatch heads (is_match verb noun) from e → IsFound verb noun from (drop from es) e
+module _ (es : List Entry) (ranks : List ℕ) (perm : IsPermutation (ranks_of 0 es) ranks) (small : All (λ x. x.noun < 256) es) (few : length es ≤ ENTRY_LIMIT)
+    (verb from noun : ℕ) where
+  -- The entry of a rank that matches.
+  entry_found : (e : ℕ) → IsMatch ranks (is_match verb noun) from e → IsFound verb noun from (drop from es) e
   entry_found e m =
-      let found = at_contains (heads_of 0 es) m.head (Contains-permutation heads (heads_of 0 es) m.head (IsPermutation-sym (heads_of 0 es) heads perm) m.is) in
-      let o = entry_of_head es 0 found.0 m.head found.1 in
-      let place : from + (e - from) ≡ found.0 = omega (arith, m.reached, o.number, m.number) in
+      let r = ranked m.verb m.noun e in
+      let found = at_contains (ranks_of 0 es) r (Contains-permutation ranks (ranks_of 0 es) r (IsPermutation-sym (ranks_of 0 es) ranks perm) m.is) in
+      let o = entry_of_rank es 0 found.0 r found.1 in
+      let there = contains_at es found.0 o.entry o.is in
+      let low = kept_small o.entry.noun (All-contains (λ (x : Entry). x.noun < 256) es o.entry small there) in
+      let short : found.0 < 65536 = omega (arith, slice_get_within es found.0 o.entry o.is, few) in
+      let same = parts_same m.verb m.noun e (kept_word o.entry.verb) (kept_word o.entry.noun) (0 + found.0) o.rank m.low m.few low (omega (arith, short)) in
+      let place : from + (e - from) ≡ found.0 = omega (arith, m.reached, same.1.1) in
+      let kept = kept_word o.entry.verb in
+      let alike : is_match verb noun m.verb m.noun ≡ is_match verb noun kept (kept_word o.entry.noun) =
+      ap (λ (v : ℕ). is_match verb noun v m.noun) same.0 ∙ ap (λ (n : ℕ). is_match verb noun kept n) same.1.0 in
       record {
         reached = m.reached;
         entry = o.entry;
-        is = slice_get-drop from es (e - from) ∙ ap (slice_get es) place
-            ∙ o.is;
-        matching = words_match m.head o.entry verb noun o.verb o.noun m.matching;
+        is = slice_get-drop from es (e - from) ∙ ap (slice_get es) place ∙ o.is;
+        matching = sym (words_match o.entry verb noun) ∙ (sym alike ∙ m.matching);
       }
 
-  -- The head of an entry that matches.
-  head_found : (e : ℕ) → IsFound verb noun from (drop from es) e → IsMatch heads (is_match verb noun) from e
-  head_found e f =
+  -- The rank of an entry that matches.
+  rank_found : (e : ℕ) → IsFound verb noun from (drop from es) e → IsMatch ranks (is_match verb noun) from e
+  rank_found e f =
       let place : e ≡ from + (e - from) = omega (arith, f.reached) in
       let is = ap (slice_get es) place ∙ sym (slice_get-drop from es (e - from)) ∙ f.is in
-      let head : Head = record { verb = f.entry.verb; noun = f.entry.noun; entry = 0 + e } in
+      let rank = λ (i : ℕ). ranked (kept_word f.entry.verb) (kept_word f.entry.noun) i in
+      let number : 0 + e ≡ e = omega arith in
+      let found = rank_of_entry es 0 e f.entry is ∙ ap (λ (i : ℕ). Some (rank i)) number in
       record {
         reached = f.reached;
-        head = head;
-        is = Contains-permutation (heads_of 0 es) heads head perm (contains_at (heads_of 0 es) e head (head_of_entry es 0 e f.entry is));
-        number = omega arith;
-        matching = f.matching;
+        verb = kept_word f.entry.verb;
+        noun = kept_word f.entry.noun;
+        low = kept_small f.entry.noun (All-contains (λ (x : Entry). x.noun < 256) es f.entry small (contains_at es e f.entry is));
+        few = omega (arith, slice_get_within es e f.entry is, few);
+        is = Contains-permutation (ranks_of 0 es) ranks (rank e) perm (contains_at (ranks_of 0 es) e (rank e) found);
+        matching = words_match f.entry verb noun ∙ f.matching;
       }
 
-  pub least_match : (r : Option ℕ) → IsLeast (IsMatch heads (is_match verb noun) from) r → r ≡ first_match verb noun from (drop from es)
+  pub least_match : (r : Option ℕ) → IsLeast (IsMatch ranks (is_match verb noun) from) r → r ≡ first_match verb noun from (drop from es)
   least_match r least =
       one_least (IsFound verb noun from (drop from es)) r (first_match verb noun from (drop from es))
-      (IsLeast-same (IsMatch heads (is_match verb noun) from) (IsFound verb noun from (drop from es)) entry_found head_found r least)
+      (IsLeast-same (IsMatch ranks (is_match verb noun) from) (IsFound verb noun from (drop from es)) entry_found rank_found r least)
       (first_match_least verb noun from (drop from es))
+
+offsets_long : (es : List Entry) (at : ℕ) → length (offsets entry_image at es) ≡ length es
+offsets_long [] at = refl
+offsets_long (x ∷ xs) at = ap suc (offsets_long xs (at + length (entry_image x)))
 
 pub next_match_is : (bytes rest : List ℕ) (es : List Entry) (at : ℕ) (order : Order)
     → IsOrder bytes (offsets entry_image at es) order → drop at bytes ≡ flat_map entry_image es ++ rest
-    → (verb from noun : ℕ) (r : Option ℕ) → IsLeast (IsMatch order.heads.items (is_match verb noun) from) r → r ≡ first_match verb noun from (drop from es)
+    → (verb from noun : ℕ) (r : Option ℕ) → IsLeast (IsMatch order.ranks.items (is_match verb noun) from) r → r ≡ first_match verb noun from (drop from es)
 next_match_is bytes rest es at order o e verb from noun r least =
-    least_match es order.heads.items
-    (subst (λ (hs : List Head). IsPermutation hs order.heads.items) (heads_same bytes rest es 0 at e) o.same) verb
-    from noun r least
+    least_match es order.ranks.items
+    (subst (λ (rs : List ℕ). IsPermutation rs order.ranks.items) (ranks_same bytes rest es 0 at e) o.same)
+    (nouns_small bytes rest es at o.fits e) (omega (arith, o.few, offsets_long es at)) verb from noun r least

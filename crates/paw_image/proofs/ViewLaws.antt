@@ -163,7 +163,7 @@ no_entries_at ts k ps e h = ap (λ (l : List (List ℕ)). slice_get l k) (sym e)
 
 pub match_read : {bytes : List ℕ} {counts : Counts} {words : List Word} {p : Offsets} → IsIndex bytes counts words p
     → (t : ℕ) (i : TableIndex) → slice_get p.tables.items t ≡ Some i
-    → (from verb noun : ℕ) (r : Option ℕ) → IsLeast (IsMatch i.order.heads.items (is_match verb noun) from) r → r ≡ match_at (game_read bytes) t from verb noun
+    → (from verb noun : ℕ) (r : Option ℕ) → IsLeast (IsMatch i.order.ranks.items (is_match verb noun) from) r → r ≡ match_at (game_read bytes) t from verb noun
 match_read {bytes} {counts} {words} {p} is t i h from verb noun r least =
     let table = table_lies bytes [] (game_read bytes).tables (tables_begin_at (game_read bytes))
     (lists_of bytes is.image).tables t i.entries.items (entries_at p.tables.items t i _ is.tables h) in

@@ -1,68 +1,69 @@
 -- The entries of a table in order of verb and noun, and what is looked up in it.
-use Rattle.std.specs.Prelude.{◌≡◌, ℕ, suc, ◌+◌, ◌*◌, ◌≤◌, ◌<◌, ◌&&◌, Bool, List, [], ◌∷◌}
-use Rattle.std.specs.Prelude.{length, Option, Some, None, IsTrue, slice_index, min}
-use Rattle.std.specs.List.{All, Contains}
-use Rattle.std.specs.List.Sorted.{IsPermutation, IsNonDecreasingBy, IsPartitionPoint}
+use Rattle.std.specs.Prelude.{◌≡◌, ℕ, suc, ◌+◌, ◌*◌, ◌≤◌, ◌<◌, ◌&&◌, ◌||◌, ◌==◌, Bool, List, [], ◌∷◌}
+use Rattle.std.specs.Prelude.{length, Option, Some, None, IsTrue, slice_index, min, if◌then◌else◌}
+use Rattle.std.specs.List.{AllWithin, Contains}
+use Rattle.std.specs.List.Sorted.{IsPermutation, IsNonDecreasing, IsPartitionPoint}
 use Rattle.paw_base.specs.Bytes.{Bytes}
+use Rattle.paw_base.specs.declared.limits.TheConstants.{ENTRY_LIMIT}
+use Rattle.paw_base.specs.declared.words.TheConstants.{NO_WORD}
 use Rattle.paw_game.specs.declared.parts.Entry.{Entry}
-use Rattle.paw_game.specs.Tables.{is_for}
-use Rattle.paw_image.specs.declared.order.Head.{Head}
+use Rattle.paw_game.specs.Valid.{is_wildcard}
 use Rattle.paw_image.specs.declared.order.Order.{Order}
 
--- The verb and the noun at each of these offsets, numbered from n on.
-abbrev pub heads_at : Bytes → ℕ → List ℕ → List Head
-heads_at bytes n [] = []
-heads_at bytes n (p ∷ ps) =
-    record { verb = slice_index bytes p; noun = slice_index bytes (p + 1); entry = n } ∷ heads_at bytes (suc n) ps
+-- ---- ranks ----
 
--- The same for entries.
-abbrev pub heads_of : ℕ → List Entry → List Head
-heads_of n [] = []
-heads_of n (e ∷ es) = record { verb = e.verb; noun = e.noun; entry = n } ∷ heads_of (suc n) es
-
--- ---- the order ----
+-- The word that is kept of an entry's word: the same for both words that match any.
+abbrev pub kept_word : ℕ → ℕ
+kept_word word = if is_wildcard word then NO_WORD else word
 
 -- A rank by verb, then by noun, then by the number of the entry.
 abbrev pub ranked : ℕ → ℕ → ℕ → ℕ
 ranked verb noun entry = (verb * 256 + noun) * 65536 + entry
 
-abbrev pub rank : Head → ℕ
-rank h = ranked h.verb h.noun h.entry
+-- The ranks of the entries that begin at each of these offsets, numbered from n on.
+abbrev pub ranks_at : Bytes → ℕ → List ℕ → List ℕ
+ranks_at bytes n [] = []
+ranks_at bytes n (p ∷ ps) =
+    ranked (kept_word (slice_index bytes p)) (kept_word (slice_index bytes (p + 1))) n ∷ ranks_at bytes (suc n) ps
 
--- A noun is a byte, and the number of an entry two bytes, so that a rank gives all three.
-abbrev pub IsSmall : Head → Type 0
-IsSmall h = (h.noun < 256) × (h.entry < 65536)
+-- The same for entries.
+abbrev pub ranks_of : ℕ → List Entry → List ℕ
+ranks_of n [] = []
+ranks_of n (e ∷ es) = ranked (kept_word e.verb) (kept_word e.noun) n ∷ ranks_of (suc n) es
 
--- The heads are in order of verb, noun and number.
-pub record Rises (heads : List Head) : Type 0 where
-  pub small : All IsSmall heads
-  pub rises : IsNonDecreasingBy rank heads
+-- ---- the order ----
 
--- Before this place stand the heads with a verb below this one, and no others.
-pub record IsStart (heads : List Head) (verb start : ℕ) : Type 0 where
-  pub within : start ≤ length heads
-  pub parts : IsPartitionPoint (λ h. h.verb < verb) (λ h. verb ≤ h.verb) heads start
+-- Before this place stand ranks with a verb below this one.
+abbrev pub IsBefore : List ℕ → ℕ → ℕ → Type 0
+IsBefore ranks verb place = (place ≤ length ranks) × AllWithin (λ r. r < ranked verb 0 0) ranks 0 place
+
+-- Before this place stand the ranks with a verb below this one, and no others.
+pub record IsStart (ranks : List ℕ) (verb start : ℕ) : Type 0 where
+  pub within : start ≤ length ranks
+  pub parts : IsPartitionPoint (λ r. r < ranked verb 0 0) (λ r. ranked verb 0 0 ≤ r) ranks start
 
 -- There is such a place for each verb, and one after the last.
-pub record AreStarts (heads : List Head) (starts : List ℕ) : Type 0 where
+pub record AreStarts (ranks starts : List ℕ) : Type 0 where
   pub long : length starts ≡ 257
-  pub each : (verb : ℕ) → verb ≤ 256 → IsStart heads verb (slice_index starts verb)
+  pub each : (verb : ℕ) → verb ≤ 256 → IsStart ranks verb (slice_index starts verb)
 
 pub record IsSorted (order : Order) : Type 0 where
-  pub heads : Rises order.heads.items
-  pub starts : AreStarts order.heads.items order.starts.items
+  pub rises : IsNonDecreasing order.ranks.items
+  pub starts : AreStarts order.ranks.items order.starts.items
 
--- The heads at these offsets, sorted.
+-- The ranks of the entries at these offsets, sorted. They are not too many, and each byte is one, so that a rank gives
+-- the verb, the noun and the number.
 pub record IsOrder (bytes offsets : List ℕ) (order : Order) : Type 0 where
-  pub same : IsPermutation (heads_at bytes 0 offsets) order.heads.items
+  pub same : IsPermutation (ranks_at bytes 0 offsets) order.ranks.items
+  pub few : length offsets ≤ ENTRY_LIMIT
+  pub fits : (at : ℕ) → slice_index bytes at < 256
   pub sorted : IsSorted order
 
--- The heads with this verb, in order.
-pub record IsRun (heads : List Head) (verb : ℕ) (run : List Head) : Type 0 where
-  pub rises : Rises run
-  pub verbs : All (λ h. h.verb ≡ verb) run
-  pub inside : (h : Head) → Contains run h → Contains heads h
-  pub whole : (h : Head) → Contains heads h → h.verb ≡ verb → Contains run h
+-- The ranks with this verb, in order.
+pub record IsRun (ranks : List ℕ) (verb : ℕ) (run : List ℕ) : Type 0 where
+  pub rises : IsNonDecreasing run
+  pub inside : (r : ℕ) → Contains run r → Contains ranks r
+  pub whole : (r : ℕ) → Contains ranks r → ranked verb 0 0 ≤ r → r < ranked (suc verb) 0 0 → Contains run r
 
 -- ---- what is looked up ----
 
@@ -71,17 +72,27 @@ abbrev pub IsLeast : (ℕ → Type 0) → Option ℕ → Type 0
 IsLeast P None = (e : ℕ) → P e → ⊥
 IsLeast P (Some e) = P e × ((f : ℕ) → P f → e ≤ f)
 
--- Whether the words of a head match this verb and noun.
-abbrev pub is_match : ℕ → ℕ → Head → Bool
-is_match verb noun h = is_for h.verb verb && is_for h.noun noun
+-- Whether a word that was kept matches the value of a flag.
+abbrev pub is_kept_for : ℕ → ℕ → Bool
+is_kept_for word flag = (word == NO_WORD) || (word == flag)
 
--- An entry that isn't below `from`, of a head with a property.
-pub record IsMatch (heads : List Head) (has : Head → Bool) (from e : ℕ) : Type 0 where
+-- Whether a verb and a noun that were kept match this verb and noun.
+abbrev pub is_match : ℕ → ℕ → ℕ → ℕ → Bool
+is_match verb noun v n = is_kept_for v verb && is_kept_for n noun
+
+-- Whether they are this verb and noun themselves.
+abbrev pub is_pair : ℕ → ℕ → ℕ → ℕ → Bool
+is_pair verb noun v n = (v == verb) && (n == noun)
+
+-- An entry that isn't below `from`, of which a verb and a noun were kept with a property.
+pub record IsMatch (ranks : List ℕ) (has : ℕ → ℕ → Bool) (from e : ℕ) : Type 0 where
   pub reached : from ≤ e
-  pub head : Head
-  pub is : Contains heads head
-  pub number : head.entry ≡ e
-  pub matching : IsTrue (has head)
+  pub verb : ℕ
+  pub noun : ℕ
+  pub low : noun < 256
+  pub few : e < 65536
+  pub is : Contains ranks (ranked verb noun e)
+  pub matching : IsTrue (has verb noun)
 
 -- The lower of two numbers, where there are two.
 abbrev pub lower : Option ℕ → Option ℕ → Option ℕ

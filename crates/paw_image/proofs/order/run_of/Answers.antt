@@ -18,5 +18,5 @@ returns c =
     let start = c.index.result.now in
     let end = c.index-2.result.now in
     let at = runs_at order c.args.verb start end c.requires.sorted (omega arith) c.index.ensures c.index-2.ensures in
-    let is = run_is order.heads.items c.requires.sorted.heads c.args.verb start end at.starts at.ends in
+    let is = run_is order.ranks.items c.requires.sorted.rises c.args.verb start end at.starts at.ends in
     record { run = rw c.deref.ensures.value is }
