@@ -1,3 +1,4 @@
+mod Underscores
 mod Printing
 mod Parameters
 mod KnownCodes

@@ -20,17 +20,26 @@ fn print_parameter(piece: &mut Piece, kind: ParamKind, number: u8) -> bool
     }
 }
 
-/// Prints the mark of a condact.
-pub(crate) fn print_mark(piece: &mut Piece, c: Condact) -> bool
-    requires code { IsCode c.code }
-    ensures puts { Puts piece.old piece.new result (mark_text c) }
+/// Prints the mark of the condact with this code and these parameters.
+fn print_mark_of(piece: &mut Piece, code: u8, a: u8, b: u8) -> bool
+    requires code { IsCode code }
+    ensures puts { Puts piece.old piece.new result (mark_text (record { code = code; a = a; b = b })) }
 {
-    let Some(row) = condact_row(c.code) else {
+    let Some(row) = condact_row(code) else {
         unreachable!();
     };
     piece.push(b"[")
         && piece.push(row.trimmed_name())
-        && print_parameter(piece, row.first, c.a)
-        && print_parameter(piece, row.second, c.b)
+        && print_parameter(piece, row.first, a)
+        && print_parameter(piece, row.second, b)
         && piece.push(b"]\n")
+}
+
+/// Prints the mark of a condact. It is taken apart here, since each of the many arms that call this would otherwise
+/// keep a place in memory for a condact of its own.
+pub(crate) fn print_mark(piece: &mut Piece, c: Condact) -> bool
+    requires code { IsCode c.code }
+    ensures puts { Puts piece.old piece.new result (mark_text c) }
+{
+    print_mark_of(piece, c.code, c.a, c.b)
 }

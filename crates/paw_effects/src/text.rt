@@ -11,6 +11,7 @@ ghost use Rattle.paw_effects.specs.Texts.{with_name, object_text, printed_text, 
 ghost use Rattle.paw_effects.specs.Texts.{put_text, say_text, location_text, message_text};
 
 use itoa::Buffer;
+use memchr::memchr;
 use paw_base::flags::REFERRED_FLAG;
 use paw_base::piece::Piece;
 use paw_game::parts::GamePart;
@@ -24,12 +25,8 @@ fn split_at_underscore(text: &[u8]) -> Option<(&[u8], &[u8])>
         with_name name text.now ≡ (p.0.now ++ name) ++ with_name name p.1.now) }
     ensures shorter { IfSome result (λ p. length p.1.now < length text.now) }
 {
-    for (i, &b) in text.iter().enumerate() {
-        if b == b'_' {
-            return Some((&text[..i], &text[i + 1..]));
-        }
-    }
-    None
+    let at = memchr(b'_', text)?;
+    Some((&text[..at], &text[at + 1..]))
 }
 
 /// Prints two texts, and answers true; or false exactly where they don't fit.
@@ -37,20 +34,6 @@ fn print_both(piece: &mut Piece, first: &[u8], second: &[u8]) -> bool
     ensures puts { Puts piece.old piece.new result (first.now ++ second.now) }
 {
     piece.push(first) && piece.push(second)
-}
-
-/// Prints a text, the name in place of each underscore, and answers true; or false exactly where it doesn't fit.
-fn print(piece: &mut Piece, name: &[u8], text: &[u8]) -> bool
-    ensures puts { Puts piece.old piece.new result (with_name name.now text.now) }
-{
-    let mut rest = text;
-    while let Some((before, after)) = split_at_underscore(rest) {
-        if !print_both(piece, before, name) {
-            return false;
-        }
-        rest = after;
-    }
-    piece.push(rest)
 }
 
 /// A text of a part of the game, as it is; empty where there is none.
@@ -70,7 +53,7 @@ fn object_text<T: Tables>(tables: &T, o: u8) -> &[u8]
     text_of(tables, GamePart::Objects, o)
 }
 
-/// Prints a text as a game prints it.
+/// Prints a text as a game prints it: with the text of the object last referred to in place of each underscore.
 pub(crate) fn print_text<T: Tables>(
     tables: &T,
     world: &World,
@@ -79,7 +62,15 @@ pub(crate) fn print_text<T: Tables>(
 ) -> bool
     ensures puts { Puts piece.old piece.new result (printed_text (T.game tables.now) world.now text.now) }
 {
-    print(piece, object_text(tables, world.flag(REFERRED_FLAG)), text)
+    let mut rest = text;
+    while let Some((before, after)) = split_at_underscore(rest) {
+        let name = object_text(tables, world.flag(REFERRED_FLAG));
+        if !print_both(piece, before, name) {
+            return false;
+        }
+        rest = after;
+    }
+    piece.push(rest)
 }
 
 /// Prints a text and a newline; nothing where it is empty.

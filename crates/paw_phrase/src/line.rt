@@ -47,14 +47,10 @@ impl Pending {
         requires short { length line.now ≤ LINE_LIMIT }
         ensures value { result ≡ record { bytes = line.now; earlier = earlier } }
     {
-        let mut kept = [0; LINE_LIMIT];
-        kept[..line.len()].copy_from_slice(line);
-        Pending {
-            line: kept,
-            from: 0,
-            to: line.len(),
-            earlier,
-        }
+        let mut pending = Pending::new();
+        pending.set(line);
+        pending.earlier = earlier;
+        pending
     }
 
     /// A new line becomes pending, and there is no earlier verb.
@@ -62,7 +58,10 @@ impl Pending {
         requires short { length line.now ≤ LINE_LIMIT }
         ensures value { self.new ≡ record { bytes = line.now; earlier = NO_WORD } }
     {
-        *self = Pending::of(line, NO_WORD);
+        self.line[..line.len()].copy_from_slice(line);
+        self.from = 0;
+        self.to = line.len();
+        self.earlier = NO_WORD;
     }
 
     /// The bytes are dropped; the earlier verb stays.

@@ -1,6 +1,6 @@
 // Flags and places that are put aside together.
 
-ghost use Rattle.std.specs.Prelude.{◌≡◌, ◌≤◌, length};
+ghost use Rattle.std.specs.Prelude.{◌≡◌, ◌≤◌, [], length};
 ghost use Rattle.paw_base.specs.declared.limits.TheConstants.{OBJECT_LIMIT};
 
 use paw_base::limits::{FLAG_COUNT, OBJECT_LIMIT};
@@ -24,18 +24,35 @@ impl Model for Position {
 }
 
 impl Position {
+    /// All flags 0, and no objects.
+    pub(crate) fn empty() -> Position
+        ensures places { result.places ≡ [] }
+    {
+        Position {
+            flags: [0; FLAG_COUNT],
+            places: [0; OBJECT_LIMIT],
+            count: 0,
+        }
+    }
+
     /// These flags and places.
     pub(crate) fn of(flags: &[u8; FLAG_COUNT], places: &[u8]) -> Position
         requires few { length places.now ≤ OBJECT_LIMIT }
         ensures value { result ≡ record { flags = flags.now; places = places.now } }
     {
-        let mut all = [0; OBJECT_LIMIT];
-        all[..places.len()].copy_from_slice(places);
-        Position {
-            flags: *flags,
-            places: all,
-            count: places.len() as u8,
-        }
+        let mut position = Position::empty();
+        position.put(flags, places);
+        position
+    }
+
+    /// These flags and places come in the place of those that were put aside.
+    pub(crate) fn put(&mut self, flags: &[u8; FLAG_COUNT], places: &[u8])
+        requires few { length places.now ≤ OBJECT_LIMIT }
+        ensures value { self.new ≡ record { flags = flags.now; places = places.now } }
+    {
+        self.flags = *flags;
+        self.places[..places.len()].copy_from_slice(places);
+        self.count = places.len() as u8;
     }
 
     /// The values of all flags.

@@ -190,7 +190,8 @@ impl World {
     pub fn ramsave(&mut self)
         ensures change { self.new ≡ ramsaved self.old }
     {
-        self.saved = Some(Position::of(&self.flags, self.places.all()));
+        let saved = self.saved.get_or_insert_with(Position::empty);
+        saved.put(&self.flags, self.places.all());
     }
 
     /// Takes flags 0 to n and all places from the saved position. Where nothing is saved nothing changes.

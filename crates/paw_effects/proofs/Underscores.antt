@@ -1,0 +1,23 @@
+-- Where the first underscore of a text stands, and what the text is with a name in place of each underscore.
+use Rattle.std.proofs.Common.{◌≡◌, ℕ, zero, suc, ◌<◌, ◌≤◌, ◌==◌, false, List, [], ◌∷◌, ◌++◌, length, take, drop, refl, ap, arith}
+use Rattle.std.proofs.lemmas.Bool.{false_from_ne_true}
+use Rattle.memchr.specs.Find.{Passes, is_byte, Nowhere}
+use Rattle.paw_effects.specs.Texts.{with_name}
+
+-- Where no byte is an underscore the text stays as it is.
+pub kept_whole : (name text : List ℕ) → Nowhere (Passes (is_byte 95) text) 0 (length text) → with_name name text ≡ text
+kept_whole name [] none = refl
+kept_whole name (b ∷ bs) none =
+    let later : Nowhere (Passes (is_byte 95) bs) 0 (length bs) = λ k _ lt. none (suc k) (omega arith) (omega (arith, lt)) in
+    let differs : (b == 95) ≡ false = false_from_ne_true _ (none 0 (omega arith) (omega arith)) in
+    rw differs (ap (λ t. b ∷ t) (kept_whole name bs later))
+
+-- Where the first underscore stands at place n the text before it stays, and the name comes in its place.
+pub replaced_at : (name text : List ℕ) (n : ℕ) → n < length text → Nowhere (Passes (is_byte 95) text) 0 n → Passes (is_byte 95) text n →
+    with_name name text ≡ (take n text ++ name) ++ with_name name (drop (suc n) text)
+replaced_at name [] n within _ _ = absurd (omega (arith, within))
+replaced_at name (b ∷ bs) zero within none at = rw at refl
+replaced_at name (b ∷ bs) (suc n) within none at =
+    let later : Nowhere (Passes (is_byte 95) bs) 0 n = λ k _ lt. none (suc k) (omega arith) (omega (arith, lt)) in
+    let differs : (b == 95) ≡ false = false_from_ne_true _ (none 0 (omega arith) (omega arith)) in
+    rw differs (ap (λ t. b ∷ t) (replaced_at name bs n (omega (arith, within)) later at))
