@@ -4,6 +4,7 @@ pub mod Opening
 mod Numbers
 pub mod Named
 pub mod Reaching
+pub mod Leaving
 pub mod Serving
 pub mod Taking
 pub mod Answering

@@ -1,7 +1,7 @@
 -- From a store at rest to one that is attached, and what a crash leaves of all files meanwhile.
 use Rattle.std.proofs.Common.{◌≡◌, ◌≢◌, ◌⊎◌, inl, inr, ℕ, List, [], Option, Some, None, true, false, refl, sym, ap, ◌∙◌}
-use Rattle.std.proofs.Common.{subst, bytes_eq, length, ◌∷◌, Result, Ok, Err}
-use Rattle.std.specs.Prelude.{OnOk, if◌then◌else◌}
+use Rattle.std.proofs.Common.{subst, bytes_eq, length, ◌∷◌}
+use Rattle.std.specs.Prelude.{if◌then◌else◌}
 use Rattle.std.proofs.lemmas.Slice.Eq.{bytes_eq-Decides}
 use Rattle.paw_stage.specs.Disk.{IsStable, stable}
 use Rattle.paw_stage.specs.Stage.{Standing, Files, file_bytes, bytes_or_none, made_if_missing, opened, Unattached}
@@ -188,8 +188,3 @@ module _ (name : List ℕ) (old mid new : Standing) (is : mid ≡ opened name ol
     files = λ f ne. b.files f (λ e. ne (sym (same_name name f (sym (ap (λ (q : Standing). q.attached) is) ∙ e))))
         ∙ (ap (λ (q : Standing). q.files f) is ∙ other_file old name f ne);
   }
-
--- what holds anyway holds where a call is done
-pub on_ok : {A E : Type 0} {P : Type 0} (r : Result A E) → P → OnOk r P
-on_ok (Ok a) p = p
-on_ok (Err e) p = tt

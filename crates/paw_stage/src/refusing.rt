@@ -1,22 +1,21 @@
 // A stage in memory of which some calls are made to fail.
 
-ghost use Rattle.std.specs.Prelude.{◌≡◌, ◌≤◌, ◌+◌, ◌↔◌, ℕ, length, IsTrue, OnOk, IsSome};
+ghost use Rattle.std.specs.Prelude.{◌≡◌, ◌≤◌, ◌+◌, ◌↔◌, ℕ, length, IsTrue, IsSome};
 ghost use Rattle.std.proofs.Common.{inl, refl};
 ghost use Rattle.paw_stage.specs.declared.StageCall.TheVariants as call;
-ghost use Rattle.paw_stage.specs.declared.LoadRefusal.TheVariants as refusal;
 ghost use Rattle.paw_stage.specs.declared.Asked.TheVariants as asked;
 ghost use Rattle.paw_stage.specs.Disk.{IsStable};
 ghost use Rattle.paw_stage.specs.Stage.{CountsFailure, failed_in, failed_load, failed_ask};
 ghost use Rattle.paw_stage.specs.Stage.{LoadsTo, SavesTo, AttachesTo, ReadsTo, WritesTo, SyncsTo, AsksTo, ShowsTo};
 ghost use Rattle.paw_stage.specs.Moments.{Still, InAsk, InShow, InSave, InAttach, InWrite, InSync};
 ghost use Rattle.paw_stage.specs.inner.Faults.{no_failures};
-ghost use Rattle.paw_stage.specs.inner.Done.{loaded_file, saved, attached_store, read_store};
+ghost use Rattle.paw_stage.specs.inner.Done.{saved, attached_store, read_store};
 ghost use Rattle.paw_stage.specs.inner.Done.{wrote_store, synced_store, took};
 ghost use Rattle.paw_stage.specs.inner.Done.{end_done, showed};
-ghost use Rattle.paw_stage.specs.inner.Memory.{clock_of, moments_of, only_moment, recorded, found_none, line_taken};
+ghost use Rattle.paw_stage.specs.inner.Memory.{clock_of, moments_of, only_moment, recorded, line_taken};
 ghost use Rattle.paw_stage.specs.inner.Filed.{file_holds};
 ghost use Rattle.paw_stage.specs.inner.Refusing.{failures_of, standing_of, AtEachMoment};
-ghost use Rattle.paw_stage.specs.inner.Refusing.{refused, passed_on, FailsBelow, CannotPass, Forwards};
+ghost use Rattle.paw_stage.specs.inner.Refusing.{refused, passed_on, FailsBelow, CannotPass, Forwards, ForwardsLoad};
 
 use crate::{Asked, Failed, FailureCounts, LoadRefusal, MemoryStage, Stage, StageCall};
 use paw_base::limits::LINE_LIMIT;
@@ -97,15 +96,7 @@ impl<R: Refusals + Drop> Stage for RefusingStage<R> {
         ensures still { standing_of self.new ≡ standing_of self.old }
         ensures answer { LoadsTo (standing_of self.old) name.now most result }
         ensures time { AtEachMoment self.old self.new Still }
-
-        // It fails exactly where the rule refuses it, or where there is no room below.
-        ensures exact { (result ≡ Err refusal.Failed) ↔ CannotPass R.refuses (loaded_file name.now) self.old }
-        ensures refused { IsTrue (R.refuses self.old.rule) → self.new ≡ refused R.later call.Load self.old }
-        ensures failed { result ≡ Err refusal.Failed → FailsBelow R.refuses R.later call.Load self.old self.new }
-        ensures noted { OnOk result (self.new ≡ passed_on R.later (recorded (loaded_file name.now)) self.old) }
-        ensures absent { result ≡ Err refusal.Absent → self.new ≡ passed_on R.later (found_none name.now) self.old }
-        ensures wanting { result ≡ Err refusal.Memory → self.new ≡ passed_on R.later (recorded (loaded_file name.now))
-            self.old }
+        ensures forwarded { ForwardsLoad R.refuses R.later name.now result self.old self.new }
     {
         if self.rule.refuses_next() {
             self.counts.raise(StageCall::Load);

@@ -1,14 +1,20 @@
 -- A stage in memory of which a rule makes some calls fail.
 use Rattle.std.specs.Prelude.{◌≡◌, ◌⊎◌, ℕ, ◌+◌, ◌-◌, ◌^◌, min, Bool, IsTrue, IsFalse, ◌↔◌}
-use Rattle.std.specs.Prelude.{Result, OnOk, OnErr, IsErr}
+use Rattle.std.specs.Prelude.{Result, Err, OnOk, OnErr, IsErr}
+use Rattle.std.specs.declared.vec.Vec.{Vec}
+use Rattle.std.specs.declared.alloc.Global.{Global}
+use Rattle.paw_base.specs.Bytes.{Name}
 use Rattle.paw_stage.specs.declared.StageCall.{StageCall}
+use Rattle.paw_stage.specs.declared.StageCall.TheVariants as call
+use Rattle.paw_stage.specs.declared.LoadRefusal.{LoadRefusal}
+use Rattle.paw_stage.specs.declared.LoadRefusal.TheVariants as refusal
 use Rattle.paw_stage.specs.declared.faults.FailureCounts.{FailureCounts}
 use Rattle.paw_stage.specs.Stage.{Standing}
 use Rattle.paw_stage.specs.Moments.{Moment}
 use Rattle.paw_stage.specs.inner.Faults.{count_of, raised}
-use Rattle.paw_stage.specs.inner.Done.{DoneCall}
+use Rattle.paw_stage.specs.inner.Done.{DoneCall, loaded_file}
 use Rattle.paw_stage.specs.inner.Memory as memory
-use Rattle.paw_stage.specs.inner.Memory.{Memory, can_note, recorded, failed}
+use Rattle.paw_stage.specs.inner.Memory.{Memory, can_note, recorded, failed, found_none}
 
 -- The stage below, the rule, and the counts of the calls that the rule made fail.
 pub record Refusing (R : Type 0) : Type 0 where
@@ -50,3 +56,14 @@ abbrev pub Forwards : {R A E : Type 0} → (R → Bool) → (R → R) → StageC
 Forwards refuses later c d result old new =
     (IsErr result ↔ CannotPass refuses d old) × (IsTrue (refuses old.rule) → new ≡ refused later c old)
     × OnErr result (FailsBelow refuses later c old new) × OnOk result (new ≡ passed_on later (recorded d) old)
+
+-- A load that is passed on, unless the rule makes it fail. It fails exactly where it can't be done, and it may find no
+-- file, or no memory, below.
+pub record ForwardsLoad {R : Type 0} (refuses : R → Bool) (later : R → R) (name : Name)
+    (result : Result (Vec ℕ Global) LoadRefusal) (old new : Refusing R) : Type 0 where
+  pub exact : (result ≡ Err refusal.Failed) ↔ CannotPass refuses (loaded_file name) old
+  pub stopped : IsTrue (refuses old.rule) → new ≡ refused later call.Load old
+  pub below : result ≡ Err refusal.Failed → FailsBelow refuses later call.Load old new
+  pub noted : OnOk result (new ≡ passed_on later (recorded (loaded_file name)) old)
+  pub absent : result ≡ Err refusal.Absent → new ≡ passed_on later (found_none name) old
+  pub wanting : result ≡ Err refusal.Memory → new ≡ passed_on later (recorded (loaded_file name)) old

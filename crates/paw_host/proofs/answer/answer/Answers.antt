@@ -5,16 +5,15 @@ use Rattle.paw_stage.specs.Stage.{Standing, Unattached, file_bytes, opened}
 use Rattle.paw_stage.specs.Across.{EachMoment}
 use Rattle.paw_stage.proofs.Time.{Passes_map, Passes_on}
 use Rattle.paw_journal.specs.inner.Journal.{failed_stage_call}
-use Rattle.paw_journal.proofs.Serving.{serves_among, serves_then}
+use Rattle.paw_journal.proofs.Serving.{serves_among}
 use Rattle.paw_effects.specs.Story.{Story, story_of}
 use Rattle.paw_host.specs.Replies.{NamedSession, Absent, answer}
 use Rattle.paw_host.specs.Promise.{Stores}
 use Rattle.paw_host.specs.inner.Answers.{Answers, InAnswer, InFile, LeftOf}
 use Rattle.paw_host.proofs.Calls.{writes_answer, reads_answer, attaches_answer}
+use Rattle.paw_host.proofs.Leaving.{leaves_attached}
 use Rattle.paw_host.proofs.Reaching.{in_attach, answer_before, answer_in_new, answer_in_kept, none_stored, no_bytes}
-use Rattle.paw_host.proofs.Reaching.{attached_still, on_ok, aside_beside, aside_unattached}
-use Rattle.paw_host.proofs.Reaching.{in_attach, answer_before, answer_in_new, answer_in_kept, none_stored, no_bytes}
-use Rattle.paw_host.proofs.Reaching.{attached_still, aside_beside, aside_unattached}
+use Rattle.paw_host.proofs.Reaching.{attached_still, aside_unattached}
 use Rattle.paw_host.proofs.answer.answer.Given.{Over}
 use Rattle.paw_host.proofs.answer.answer.Goals.{After-attach}
 use Rattle.paw_host.proofs.answer.answer.Goals as goal
@@ -57,21 +56,9 @@ returns-in-Err-clause-promises g c = λ tells X rows before may stores.
 -- ---- a new session ----
 
 pub returns-then-at-eq0-clause-leaves : goal.returns-then-at-eq0-clause-leaves
-returns-then-at-eq0-clause-leaves g c = record {
-  serves =
-      serves_then g.S.Stage _ _ (failed_stage_call c.answer_new.result) _ _ _ c.in-Ok.ensures.serves
-      (serves_among g.S.Stage _ _ (failed_stage_call c.answer_new.result) _ _ writes_answer c.answer_new.ensures.leaves.serves);
-  beside = λ tells.
-      aside_beside c.args.store.now (g.S.Stage.standing c.args.stage.now) (g.S.Stage.standing c.attach.new.stage) (g.S.Stage.standing c.answer_new.new.stage)
-      (c.in-Ok.ensures.attached tells).1 (c.answer_new.ensures.leaves.beside (c.attach.ensures.serves.tells.0 tells));
-  left = λ tells.
-      let now = c.attach.ensures.serves.tells.0 tells in
-      on_ok_weaker c.answer_new.result (λ r. record {
-        stable = r.stable;
-        attached = attached_still c.args.store.now (g.S.Stage.standing c.args.stage.now) (g.S.Stage.standing c.attach.new.stage)
-            (g.S.Stage.standing c.answer_new.new.stage) (c.in-Ok.ensures.attached tells).1 (c.answer_new.ensures.leaves.beside now);
-      }) (c.answer_new.ensures.leaves.left now);
-}
+returns-then-at-eq0-clause-leaves g c =
+    leaves_attached g.S.Stage _ _ (failed_stage_call c.answer_new.result) c.answer_new.result c.args.store.now _ _ _ writes_answer c.in-Ok.ensures.serves
+    (λ tells. (c.in-Ok.ensures.attached tells).1) c.answer_new.ensures.leaves
 
 pub returns-then-at-eq0-clause-promises : goal.returns-then-at-eq0-clause-promises
 returns-then-at-eq0-clause-promises g c = λ tells X rows before may stores.
@@ -105,21 +92,9 @@ returns-then-at-eq0-clause-promises g c = λ tells X rows before may stores.
 -- ---- one that was kept ----
 
 pub returns-else-at-eq0-clause-leaves : goal.returns-else-at-eq0-clause-leaves
-returns-else-at-eq0-clause-leaves g c = record {
-  serves =
-      serves_then g.S.Stage _ _ (failed_stage_call c.answer_kept.result) _ _ _ c.in-Ok.ensures.serves
-      (serves_among g.S.Stage _ _ (failed_stage_call c.answer_kept.result) _ _ reads_answer c.answer_kept.ensures.leaves.serves);
-  beside = λ tells.
-      aside_beside c.args.store.now (g.S.Stage.standing c.args.stage.now) (g.S.Stage.standing c.attach.new.stage) (g.S.Stage.standing c.answer_kept.new.stage)
-      (c.in-Ok.ensures.attached tells).1 (c.answer_kept.ensures.leaves.beside (c.attach.ensures.serves.tells.0 tells));
-  left = λ tells.
-      let now = c.attach.ensures.serves.tells.0 tells in
-      on_ok_weaker c.answer_kept.result (λ r. record {
-        stable = r.stable;
-        attached = attached_still c.args.store.now (g.S.Stage.standing c.args.stage.now) (g.S.Stage.standing c.attach.new.stage)
-            (g.S.Stage.standing c.answer_kept.new.stage) (c.in-Ok.ensures.attached tells).1 (c.answer_kept.ensures.leaves.beside now);
-      }) (c.answer_kept.ensures.leaves.left now);
-}
+returns-else-at-eq0-clause-leaves g c =
+    leaves_attached g.S.Stage _ _ (failed_stage_call c.answer_kept.result) c.answer_kept.result c.args.store.now _ _ _ reads_answer c.in-Ok.ensures.serves
+    (λ tells. (c.in-Ok.ensures.attached tells).1) c.answer_kept.ensures.leaves
 
 pub returns-else-at-eq0-clause-promises : goal.returns-else-at-eq0-clause-promises
 returns-else-at-eq0-clause-promises g c = λ tells X rows before may stores.

@@ -1,4 +1,4 @@
-use Rattle.std.proofs.Common.{◌∙◌, sym, ap, subst, arith, Some}
+use Rattle.std.proofs.Common.{◌∙◌, sym, ap, subst, arith}
 use Rattle.std.specs.Prelude.{OnOk}
 use Rattle.std.specs.Option.{option_copied}
 use Rattle.paw_game.specs.Game.{GameLists}
@@ -8,15 +8,15 @@ use Rattle.paw_stage.proofs.Time.{Passes_map, Passes_on}
 use Rattle.paw_routines.specs.Routines.{AreRowsOf, HaveRows}
 use Rattle.paw_journal.specs.inner.Journal.{IsAtRest, failed_stage_call}
 use Rattle.paw_journal.specs.inner.Store.{ChangesStoreOnly}
-use Rattle.paw_journal.proofs.Moved.{beside_same}
 use Rattle.paw_journal.proofs.Serving.{serves_then, serves_among}
 use Rattle.paw_effects.specs.Story.{Story, story_of}
 use Rattle.paw_play.specs.Stands.{Stands}
 use Rattle.paw_host.specs.Replies.{NamedSession, At, answer_taking, answer}
 use Rattle.paw_host.specs.Promise.{Stores}
 use Rattle.paw_host.specs.inner.Answers.{SitsAt, Answers, InFile, StoresEither}
-use Rattle.paw_host.proofs.Calls.{reads_kept, writes_kept}
+use Rattle.paw_host.proofs.Calls.{writes_kept}
 use Rattle.paw_host.proofs.Keeping.{kept_refused, kept_told, kept_each, still_in_file}
+use Rattle.paw_host.proofs.Leaving.{leaves_read}
 use Rattle.paw_host.proofs.Staying.{stays_on}
 use Rattle.paw_host.proofs.answer.answer_kept.Goals as goal
 
@@ -35,11 +35,9 @@ take_text-requires-clause-kept g c = λ tells. rw c.in-Ok-Some.field-0-is at (c.
 -- ---- there is no session ----
 
 pub returns-in-Ok-None-clause-leaves : goal.returns-in-Ok-None-clause-leaves
-returns-in-Ok-None-clause-leaves g c = record {
-  serves = serves_among g.S.Stage _ _ _ _ _ reads_kept c.in-Ok-None.ensures.reads.serves;
-  beside = λ tells. beside_same _ _ (c.take_up.ensures.reads.still tells);
-  left = λ tells. subst IsAtRest (sym (c.take_up.ensures.reads.still tells)) (c.requires.store.rests tells);
-}
+returns-in-Ok-None-clause-leaves g c =
+    leaves_read g.S.Stage _ _ _ _ c.in-Ok-None.ensures.reads
+    (λ tells. subst IsAtRest (sym (c.take_up.ensures.reads.still tells)) (c.requires.store.rests tells))
 
 pub returns-in-Ok-None-clause-promises : goal.returns-in-Ok-None-clause-promises
 returns-in-Ok-None-clause-promises g c = λ tells X rows before may stores.
@@ -62,11 +60,7 @@ returns-in-Ok-None-clause-promises g c = λ tells X rows before may stores.
 -- ---- a call failed ----
 
 pub returns-in-Err-clause-leaves : goal.returns-in-Err-clause-leaves
-returns-in-Err-clause-leaves g c = record {
-  serves = serves_among g.S.Stage _ _ (Some c.in-Err.call) _ _ reads_kept c.in-Err.ensures.reads.serves;
-  beside = λ tells. beside_same _ _ (c.take_up.ensures.reads.still tells);
-  left = λ tells. tt;
-}
+returns-in-Err-clause-leaves g c = leaves_read g.S.Stage _ _ _ _ c.in-Err.ensures.reads (λ tells. tt)
 
 pub returns-in-Err-clause-promises : goal.returns-in-Err-clause-promises
 returns-in-Err-clause-promises g c = λ tells X rows before may stores.
@@ -147,11 +141,8 @@ returns-in-Some-clause-promises g c = λ tells X rows before may stores.
 -- ---- none is ----
 
 pub returns-in-None-clause-leaves : goal.returns-in-None-clause-leaves
-returns-in-None-clause-leaves g c = record {
-  serves = serves_among g.S.Stage _ _ _ _ _ reads_kept c.in-Ok-Some.ensures.reads.serves;
-  beside = λ tells. beside_same _ _ (c.take_up.ensures.reads.still tells);
-  left = λ tells. (rw c.in-Ok-Some.field-0-is at (c.in-Ok-Some.ensures.kept tells)).rests;
-}
+returns-in-None-clause-leaves g c =
+    leaves_read g.S.Stage _ _ _ _ c.in-Ok-Some.ensures.reads (λ tells. (rw c.in-Ok-Some.field-0-is at (c.in-Ok-Some.ensures.kept tells)).rests)
 
 pub returns-in-None-clause-promises : goal.returns-in-None-clause-promises
 returns-in-None-clause-promises g c = λ tells X rows before may stores.

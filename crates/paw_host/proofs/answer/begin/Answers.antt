@@ -1,8 +1,6 @@
 use Rattle.std.proofs.Common.{◌≡◌, ◌++◌, ◌∙◌, List, ℕ, refl, sym, ap, subst}
 use Rattle.paw_stage.specs.Stage.{Standing}
 use Rattle.paw_stage.proofs.Time.{Passes_map, Passes_none}
-use Rattle.paw_journal.proofs.Moved.{beside_none}
-use Rattle.paw_journal.proofs.Serving.{serves_none}
 use Rattle.paw_journal.specs.Session.{Digests, Recovered, Shown}
 use Rattle.paw_journal.specs.inner.Session.{digests_of}
 use Rattle.paw_play.specs.Session.{story_digests}
@@ -10,6 +8,7 @@ use Rattle.paw_journal.specs.inner.Store.{LeavesMade}
 use Rattle.paw_effects.specs.Story.{Story, story_of}
 use Rattle.paw_host.specs.Replies.{Answer}
 use Rattle.paw_host.specs.inner.Answers.{InFile, LeftOfBeginning}
+use Rattle.paw_host.proofs.Leaving.{leaves_none}
 use Rattle.paw_host.proofs.Sitting.{shows_by}
 use Rattle.paw_host.proofs.Opening.{sits, first_answer, first_stands, first_refused, in_beginning}
 use Rattle.paw_host.proofs.answer.begin.Goals as goal
@@ -21,8 +20,7 @@ same_shown : (d e : Digests) (s t p q : List ℕ) → d ≡ e → s ≡ t → p 
 same_shown d e s t p q a b c = ap (λ x. Shown x s p) a ∙ ap (λ x. Shown e x p) b ∙ ap (λ x. Shown e t x) c
 
 pub returns-in-Some-clause-leaves : goal.returns-in-Some-clause-leaves
-returns-in-Some-clause-leaves g c =
-    record { serves = serves_none g.S.Stage _ _; beside = λ tells. beside_none _; left = λ tells. refl }
+returns-in-Some-clause-leaves g c = leaves_none g.S.Stage _ _ _ (λ tells. refl)
 
 pub returns-in-Err-clause-leaves : goal.returns-in-Err-clause-leaves
 returns-in-Err-clause-leaves g c =

@@ -3,8 +3,6 @@ use Rattle.paw_base.specs.declared.limits.TheConstants.{EVENT_LIMIT}
 use Rattle.paw_stage.specs.Stage.{Standing}
 use Rattle.paw_stage.specs.Across.{EachMoment}
 use Rattle.paw_stage.proofs.Time.{Passes_map, Passes_none}
-use Rattle.paw_journal.proofs.Moved.{beside_none}
-use Rattle.paw_journal.proofs.Serving.{serves_none}
 use Rattle.paw_journal.specs.Session.{Shown}
 use Rattle.paw_routines.specs.Routines.{AreRowsOf}
 use Rattle.paw_effects.specs.Story.{Story, story_of}
@@ -13,6 +11,7 @@ use Rattle.paw_play.specs.Stands.{Stands}
 use Rattle.paw_play.specs.inner.OnTheWay.{seat_state}
 use Rattle.paw_host.specs.Replies.{At, answer_taking}
 use Rattle.paw_host.specs.inner.Answers.{InFile, SitsAt, StoresEither}
+use Rattle.paw_host.proofs.Leaving.{leaves_none}
 use Rattle.paw_host.proofs.Sitting.{shows_by}
 use Rattle.paw_host.proofs.Taking.{over_answer, full_answer, refused_answer, took, in_taking, digests_are}
 use Rattle.paw_host.proofs.answer.take_text.Given.{Over}
@@ -20,11 +19,7 @@ use Rattle.paw_host.proofs.answer.take_text.Goals.{After-commit}
 use Rattle.paw_host.proofs.answer.take_text.Goals as goal
 
 pub returns-then-is_over-clause-leaves : goal.returns-then-is_over-clause-leaves
-returns-then-is_over-clause-leaves g c = record {
-  serves = serves_none g.S.Stage _ _;
-  beside = λ tells. beside_none _;
-  left = λ tells. (c.requires.kept tells).rests;
-}
+returns-then-is_over-clause-leaves g c = leaves_none g.S.Stage _ _ _ (λ tells. (c.requires.kept tells).rests)
 
 pub returns-then-is_over-clause-promises : goal.returns-then-is_over-clause-promises
 returns-then-is_over-clause-promises g c = λ tells X rows seed es s count stands.
@@ -35,11 +30,7 @@ returns-then-is_over-clause-promises g c = λ tells X rows seed es s count stand
     }
 
 pub returns-then-is_full-clause-leaves : goal.returns-then-is_full-clause-leaves
-returns-then-is_full-clause-leaves g c = record {
-  serves = serves_none g.S.Stage _ _;
-  beside = λ tells. beside_none _;
-  left = λ tells. (c.requires.kept tells).rests;
-}
+returns-then-is_full-clause-leaves g c = leaves_none g.S.Stage _ _ _ (λ tells. (c.requires.kept tells).rests)
 
 pub returns-then-is_full-clause-promises : goal.returns-then-is_full-clause-promises
 returns-then-is_full-clause-promises g c = λ tells X rows seed es s count stands.
@@ -51,11 +42,7 @@ returns-then-is_full-clause-promises g c = λ tells X rows seed es s count stand
     }
 
 pub returns-in-Some-clause-leaves : goal.returns-in-Some-clause-leaves
-returns-in-Some-clause-leaves g c = record {
-  serves = serves_none g.S.Stage _ _;
-  beside = λ tells. beside_none _;
-  left = λ tells. (c.requires.kept tells).rests;
-}
+returns-in-Some-clause-leaves g c = leaves_none g.S.Stage _ _ _ (λ tells. (c.requires.kept tells).rests)
 
 pub returns-in-Some-clause-promises : goal.returns-in-Some-clause-promises
 returns-in-Some-clause-promises g c = λ tells X rows seed es s count stands.
