@@ -19,7 +19,7 @@ use Rattle.paw_reading.specs.Run.{Run, Step as Read}
 use Rattle.paw_reading.specs.declared.places.Halt.{Halt}
 use Rattle.paw_reading.specs.declared.places.Halt.TheVariants as halt
 use Rattle.paw_reading.specs.Turn.{Halted, reading, going_on_from}
-use Rattle.paw_turn.specs.inner.Player.{step_of, step_halt, brings_piece, PlayerView, run_at, IsSeated, IsNew}
+use Rattle.paw_turn.specs.inner.Player.{step_halt, brings_piece, PlayerView, run_at, IsSeated, IsNew}
 use Rattle.paw_turn.specs.inner.Parts.{prompt_at, IsStanding}
 use Rattle.paw_turn.specs.declared.Step.{Step}
 use Rattle.paw_turn.specs.declared.Step.TheVariants as step
@@ -87,7 +87,7 @@ Told old new piece s None = (p : Prompt) × (s ≡ step.Waits p) × (new ≡ rec
 Told old new piece s (Some end.Ended) = (s ≡ step.Ended) × (new ≡ record old { shown = old.shown ++ piece })
 Told old new piece s (Some (end.Outside call.Show)) =
     IsStanding s × (0 < length piece) × (n : ℕ) × (new ≡ record old { shown = old.shown ++ take n piece })
-Told old new piece s (Some o) = MatchOption (end_halt o) ⊥ (λ halt. (s ≡ step_of halt) × (new ≡ old))
+Told old new piece s (Some o) = MatchOption (end_halt o) ⊥ (λ halt. (step_halt s ≡ Some halt) × (new ≡ old))
 
 -- After n lines the walk is at a prompt, or has ended this way.
 abbrev pub WalksTo : {F : Type 0} → ShowSteps → Story → EndingOf → ℕ → Standing → Standing → PlayerView F → ℕ →
