@@ -28,6 +28,8 @@ use Rattle.paw_play.specs.Play.{with_store}
 use Rattle.paw_play.specs.inner.Calls.{unless_ended}
 use Rattle.paw_play.specs.inner.Telling.{Plain}
 use Rattle.paw_turn.specs.inner.Player.{IsStanding}
+use Rattle.paw_turn.proofs.Halting.{halted_stands}
+use Rattle.paw_reading.specs.declared.places.Halt.TheVariants as halt
 use Rattle.paw_play.specs.inner.OnTheWay.{IsWalking, Told, refusal_of, seat_state, seat_base, IsRestingStore}
 use Rattle.paw_play.specs.inner.OnTheWay.{BegunAs, Begins, begun_with}
 use Rattle.paw_play.proofs.Kept.{KeepsLines, step_kept}
@@ -180,6 +182,6 @@ module _ {F : Type 0} {g : Story} {s : PlayedSession} {first kept : Standing} {n
           (walk_begins Plain g s.whole EVENT_LIMIT kept new next found (Some (end.Outside call.Show)) b.seated b.last b.plays told);
       session = (0, asked_is new (kept.shown ++ take told.2 next.piece) told.3, rests_then new (kept.shown ++ take told.2 next.piece) told.3);
     }
-    begins_to a new (Some (end.Spent kind)) told = absurd (subst IsStanding told.0 b.shows)
-    begins_to a new (Some (end.TooDeep table)) told = absurd (subst IsStanding told.0 b.shows)
+    begins_to a new (Some (end.Spent kind)) told = absurd (halted_stands found (halt.Spent kind) told.0 refl b.shows)
+    begins_to a new (Some (end.TooDeep table)) told = absurd (halted_stands found (halt.TooDeep table) told.0 refl b.shows)
     begins_to a new (Some _) told = absurd told

@@ -1,3 +1,4 @@
+pub mod Halts
 mod Telling
 pub mod Walking
 mod States

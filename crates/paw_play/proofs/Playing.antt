@@ -31,7 +31,9 @@ use Rattle.paw_play.specs.Keeping.{AgreesWith, IsUpToDateWith, InPlay, StaysAtta
 use Rattle.paw_play.specs.Play.{with_store, Uncommitted, PlaysOn}
 use Rattle.paw_play.specs.inner.Calls.{unless_ended}
 use Rattle.paw_play.specs.inner.Telling.{Plain}
-use Rattle.paw_turn.specs.inner.Player.{IsStanding}
+use Rattle.paw_turn.specs.inner.Player.{IsStanding, step_halt}
+use Rattle.paw_turn.proofs.Halting.{halted_stands}
+use Rattle.paw_reading.specs.declared.places.Halt.TheVariants as halt
 use Rattle.paw_play.specs.inner.OnTheWay.{IsWalking, WalksTo, Told, refusal_of, seat_state, seat_base, IsPlaying}
 use Rattle.paw_play.specs.inner.OnTheWay.{PlaysLineTo}
 use Rattle.paw_play.specs.Written.{bytes_before, store_bytes_after}
@@ -364,8 +366,8 @@ module _ {F : Type 0} {g : Story} {s : PlayedSession} {most n events : ℕ} {fir
             (walks_then new (Some (end.Outside call.Show)) told);
         session = (suc n, asked_then new (kept.shown ++ take told.2 next.piece) told.3, rests_then new (kept.shown ++ take told.2 next.piece) told.3);
       }
-      plays_to a new (Some (end.Spent kind)) told = absurd (subst IsStanding told.0 t.shows)
-      plays_to a new (Some (end.TooDeep table)) told = absurd (subst IsStanding told.0 t.shows)
+      plays_to a new (Some (end.Spent kind)) told = absurd (halted_stands found (halt.Spent kind) told.0 refl t.shows)
+      plays_to a new (Some (end.TooDeep table)) told = absurd (halted_stands found (halt.TooDeep table) told.0 refl t.shows)
       plays_to a new (Some _) told = absurd told
 
 -- all the lines that a session may have were taken
@@ -417,7 +419,7 @@ module _ {F : Type 0} (g : Story) (s : PlayedSession) (most n : ℕ) (first now 
         | step.Waits p ↦ λ is e. cc
         | step.Ended ↦ λ is e. cc
         | step.Spent kind ↦ λ is e. let k : o ≡ end.Spent kind = cc in
-            rw k (record { shows = refused_shows (end.Spent kind) (is, refl); session = refused_rests })
+            rw k (record { shows = refused_shows (end.Spent kind) (ap step_halt is, refl); session = refused_rests })
         | step.TooDeep table ↦ λ is e. let k : o ≡ end.TooDeep table = cc in
-            rw k (record { shows = refused_shows (end.TooDeep table) (is, refl); session = refused_rests })
+            rw k (record { shows = refused_shows (end.TooDeep table) (ap step_halt is, refl); session = refused_rests })
       ] refl e

@@ -29,6 +29,7 @@ use Rattle.paw_play.specs.inner.Telling.{ShowSteps, seat_text, told_pieces, Have
 use Rattle.paw_play.specs.inner.Telling.{with_shown_steps}
 use Rattle.paw_turn.specs.inner.Player.{IsStanding}
 use Rattle.paw_play.specs.inner.OnTheWay.{IsWalking, Told, WalksTo}
+use Rattle.paw_turn.proofs.Halting.{plays_halted}
 use Rattle.paw_play.proofs.Telling.{pieces_more, told_more, steps_more, told_none, steps_none, waits_told, halts_told}
 use Rattle.paw_play.proofs.Telling.{same_lines, told_is}
 use Rattle.paw_effects.specs.Story.{Story}
@@ -239,9 +240,9 @@ module _ {F : Type 0} (telling : ShowSteps) (g : Story) (whole after : EndingOf)
         },
       )
   comes_to most few (Some (end.Spent kind)) told =
-      halts most few (halt.Spent kind) (subst (λ q. PlaysTo g after q next pieces traces) told.0 plays) told.1
+      halts most few (halt.Spent kind) (plays_halted g after s next pieces traces (halt.Spent kind) told.0 refl plays) told.1
   comes_to most few (Some (end.TooDeep table)) told =
-      halts most few (halt.TooDeep table) (subst (λ q. PlaysTo g after q next pieces traces) told.0 plays) told.1
+      halts most few (halt.TooDeep table) (plays_halted g after s next pieces traces (halt.TooDeep table) told.0 refl plays) told.1
   comes_to most few (Some (end.Outside call.Show)) told = (n, few, shown_part told.0 told.1 told.2 told.3)
   comes_to most few (Some _) told = absurd told
 

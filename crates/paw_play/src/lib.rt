@@ -39,7 +39,7 @@ pub enum PlayEnd {
 }
 
 /// The end of playing that this halt is.
-pub fn end_of(halt: Halt) -> PlayEnd
+pub(crate) fn end_of(halt: Halt) -> PlayEnd
     ensures value { result ≡ end_of_halt halt }
 {
     match halt {

@@ -43,7 +43,7 @@ use Rattle.paw_process.specs.declared.surroundings.Surroundings.{Surroundings}
 use Rattle.paw_process.specs.declared.Turned.{Turned}
 use Rattle.paw_process.specs.declared.Turned.TheVariants as turned
 use Rattle.paw_process.proofs.Steps.{acted_call, acted_loop, settled_waits, reading_condact, reading_none}
-use Rattle.paw_process.proofs.Stops.{goes_from, stops_spent, fit, ask_spent}
+use Rattle.paw_process.proofs.Stops.{goes_from, stops_halted, fit, ask_spent}
 
 -- ---- conditions ----
 
@@ -227,14 +227,14 @@ module _ (g : Story) (old mid : OpenTables) (f : Frame) (c : Condact) (s : Surro
 
   pub act_ends : (s' : Surroundings) (new : OpenTables) (a : Act) (t : Option Turned) → is_condition c ≡ false
       → Does (effect_of g s.world c) s.piece s'.piece s'.world a → effect.Spent ≡ a.effect
-      → ReadsStep (step_at f c true) old mid → ReadsNone mid new → t ≡ Some (turned.Spent spent.Text)
+      → ReadsStep (step_at f c true) old mid → ReadsNone mid new → t ≡ Some (turned.Halted (halt.Spent spent.Text))
       → ReadsOne g (below old.frames) f c (having s old) t (having s' new)
   act_ends s' new a t kind does is one none e = (
     true,
     step_then (step_at f c true) old mid new one none,
     λ r.
-        stops_spent g (one_at g (below old.frames) f c (run_held (having s old) r)) t spent.Text new.frames
-        (noted f c true (run_held (having s' new) r)) (noted f c true (run_held (having s old) r)) e
+        stops_halted g (one_at g (below old.frames) f c (run_held (having s old) r)) t (halt.Spent spent.Text) new.frames
+        (noted f c true (run_held (having s' new) r)) (noted f c true (run_held (having s old) r)) refl e
         (act_spends g old f c s s' a r kind does is)
         (record { pieces = refl; traces = refl; events = refl }),
   )
@@ -284,12 +284,12 @@ reads_one g f c old t new is may one r has = (
 -- the budget is used up
 pub reads_spent : (g : Story) (fs : List Frame) (f : Frame) (c : Condact) (old : Held) (t : Option Turned) (new : Held)
     → condact_at g.game f.table f.entry f.at ≡ Some c → old.machine.left ≡ 0 → ReadsNone old.machine new.machine
-    → t ≡ Some (turned.Spent spent.Condacts) → ReadsTable g (reading_at g fs f) old t new
+    → t ≡ Some (turned.Halted (halt.Spent spent.Condacts)) → ReadsTable g (reading_at g fs f) old t new
 reads_spent g fs f c old t new is none same e r has = (
   [],
   rw (append-nil r.read) (record { left = omega (arith, same.left, has.left); steps = same.steps ∙ has.steps }),
   λ lines.
-      stops_spent g _ t spent.Condacts new.machine.frames _ (to_come lines (run_held old r)) e
+      stops_halted g _ t (halt.Spent spent.Condacts) new.machine.frames _ (to_come lines (run_held old r)) refl e
       (reading_none g fs f (to_come lines (run_held old r)) c is (omega (arith, has.left, none)))
       (record { pieces = refl; traces = refl; events = refl }),
 )

@@ -3,15 +3,15 @@ use Rattle.std.proofs.Common.{◌≡◌, ℕ, suc, ◌+◌, ◌≤◌, ◌<◌, 
 use Rattle.std.proofs.Common.{sym, ap, ◌∙◌, subst, length, arith}
 use Rattle.std.specs.Prelude.{nat_le, reverse}
 use Rattle.std.proofs.lemmas.Bool.Decides.{nat_tests}
-use Rattle.paw_base.specs.declared.fault.SpentKind.{SpentKind}
 use Rattle.paw_base.specs.declared.fault.SpentKind.TheVariants as spent
 use Rattle.paw_base.specs.inner.Piece.{Puts}
 use Rattle.paw_effects.specs.Story.{Story}
 use Rattle.paw_effects.specs.declared.act.Prompt.{Prompt}
 use Rattle.paw_reading.specs.declared.places.Frame.{Frame}
 use Rattle.paw_reading.specs.Run.{Run, closed, printed}
+use Rattle.paw_reading.specs.declared.places.Halt.{Halt}
 use Rattle.paw_reading.specs.declared.places.Halt.TheVariants as halt
-use Rattle.paw_reading.specs.Reading.{Halts, Out, halts, printing, waits, deeper}
+use Rattle.paw_reading.specs.Reading.{Halts, Out, closes_piece, halts, printing, waits, deeper}
 use Rattle.paw_reading.specs.GoingOn.{on_path}
 use Rattle.paw_reading.specs.inner.GoingOn.{along}
 use Rattle.paw_reading.proofs.Rules.{deeper_rest, deeper_none}
@@ -27,15 +27,10 @@ pub length_below : (fs : List Frame) → 0 < length fs → suc (length (below fs
 length_below [] h = absurd (omega arith)
 length_below (f ∷ fs) h = refl
 
--- the piece is spent in a run with the same past
-pub stops_spent : (g : Story) (x : Out) (t : Option Turned) (kind : SpentKind) (fs : List Frame) (r s : Run) →
-    t ≡ Some (turned.Spent kind) → x ≡ halts (halt.Spent kind) s → SamePast r s → Continues g x t fs r
-stops_spent g x t kind fs r s e h past = rw e (s, h, past)
-
--- a call is too deep in a run with the same past
-pub stops_deep : (g : Story) (x : Out) (t : Option Turned) (u : ℕ) (fs : List Frame) (r s : Run) →
-    t ≡ Some (turned.TooDeep u) → x ≡ halts (halt.TooDeep u) s → SamePast r s → Continues g x t fs r
-stops_deep g x t u fs r s e h past = rw e (s, h, past)
+-- play has ended before the piece was closed, in a run with the same past
+pub stops_halted : (g : Story) (x : Out) (t : Option Turned) (halt : Halt) (fs : List Frame) (r s : Run) → closes_piece halt ≡ false →
+    t ≡ Some (turned.Halted halt) → x ≡ halts halt s → SamePast r s → Continues g x t fs r
+stops_halted g x t halt fs r s unclosed e h past = rw e (unclosed, s, h, past)
 
 -- ---- calls ----
 
@@ -87,6 +82,7 @@ pub goes_from : (g : Story) (x y : Out) (t : Option Turned) (fs : List Frame) (r
 goes_from g x y t fs r e h = subst (λ (z : Out). Continues g z t fs r) (sym e) h
 
 pub ask_stops : (g : Story) (fs : List Frame) (text : List ℕ) (go : Run → Out) (r : Run) (t : Option Turned) (fs' : List Frame) (s : Run)
-    → t ≡ Some (turned.Spent spent.Text) → 65535 < length r.current + length text → SamePast s r
+    → t ≡ Some (turned.Halted (halt.Spent spent.Text)) → 65535 < length r.current + length text → SamePast s r
     → Continues g (resolved g fs (printing text go r)) t fs' s
-ask_stops g fs text go r t fs' s e h past = stops_spent g (resolved g fs (printing text go r)) t spent.Text fs' s r e (ask_spent g fs text go r h) past
+ask_stops g fs text go r t fs' s e h past =
+    stops_halted g (resolved g fs (printing text go r)) t (halt.Spent spent.Text) fs' s r refl e (ask_spent g fs text go r h) past

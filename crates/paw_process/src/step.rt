@@ -44,7 +44,7 @@ use paw_effects::condact::{act, is_condition, test};
 use paw_effects::text::put;
 use paw_game::tables::Tables;
 use paw_phrase::Pending;
-use paw_reading::places::{Frame, OpenLoop};
+use paw_reading::places::{Frame, Halt, OpenLoop};
 use paw_routines::routines::Routines;
 use paw_world::world::World;
 
@@ -84,7 +84,7 @@ impl Machine {
         None
     }
 
-    /// Stops because a piece is spent or a call is too deep: nothing is open any more.
+    /// Stops where the location is described again or play has ended: nothing is open any more.
     fn stop(&mut self, turned: Turned) -> Option<Turned>
         ensures value { result ≡ Some turned }
         ensures closed { self.new ≡ record self.old { frames = []; turning = None; waiting = None } }
@@ -106,7 +106,7 @@ impl Machine {
         ensures left { ReadsNone self.old self.new }
     {
         if self.depth() == MOST_FRAMES {
-            return self.stop(Turned::TooDeep { table });
+            return self.stop(Turned::Halted(Halt::TooDeep { table }));
         }
         self.push(start_of(table));
         None
@@ -263,7 +263,7 @@ impl<T: Tables, F: Fn(u8, u8) -> u8> StoryReader<'_, T, F> {
                 self.parse(machine, surroundings, f);
                 None
             }
-            Effect::Spent => machine.stop(Turned::Spent(SpentKind::Text)),
+            Effect::Spent => machine.stop(Turned::Halted(Halt::Spent(SpentKind::Text))),
         }
     }
 
@@ -323,7 +323,7 @@ impl<T: Tables, F: Fn(u8, u8) -> u8> StoryReader<'_, T, F> {
             &mut surroundings.piece,
             QUIT_MESSAGE,
         ) {
-            return machine.stop(Turned::Spent(SpentKind::Text));
+            return machine.stop(Turned::Halted(Halt::Spent(SpentKind::Text)));
         }
         machine.set_waiting(Some(Prompt::Quit));
         Some(Turned::Waits(Prompt::Quit))
@@ -355,7 +355,7 @@ impl<T: Tables, F: Fn(u8, u8) -> u8> StoryReader<'_, T, F> {
             c,
         );
         match done.effect {
-            Effect::Spent => machine.stop(Turned::Spent(SpentKind::Text)),
+            Effect::Spent => machine.stop(Turned::Halted(Halt::Spent(SpentKind::Text))),
             effect => {
                 drop_line(&mut surroundings.pending, done);
                 machine.cancel_loop(done);
@@ -385,7 +385,7 @@ impl<T: Tables, F: Fn(u8, u8) -> u8> StoryReader<'_, T, F> {
             (having surroundings.new machine.new) }
     {
         if !machine.may_read() {
-            return machine.stop(Turned::Spent(SpentKind::Condacts));
+            return machine.stop(Turned::Halted(Halt::Spent(SpentKind::Condacts)));
         }
         if is_condition(c) {
             self.test(machine, surroundings, f, c)

@@ -16,7 +16,8 @@ use Rattle.paw_stage.specs.declared.StageCall.TheVariants as call
 use Rattle.paw_top.specs.Answers.{failed_call}
 use Rattle.paw_top.specs.Compile as compile
 use Rattle.paw_top.specs.Completes.{NoFailure, IsUnhindered}
-use Rattle.paw_top.specs.inner.Completes.{IsWalked, CompletesSource, CompletesCompile, CompletesImage, CompletesWrap}
+use Rattle.paw_top.specs.inner.Completes.{IsWalked, halted, out_of_lines, full, no_memory}
+use Rattle.paw_top.specs.inner.Completes.{CompletesSource, CompletesCompile, CompletesImage, CompletesWrap}
 use Rattle.paw_top.specs.inner.Completes.{Comes}
 use Rattle.paw_top.specs.Decompile as decompile
 use Rattle.paw_top.specs.Loads.{Holds, HoldsDamage}
@@ -32,6 +33,8 @@ use Rattle.paw_effects.specs.Story.{Story, story_of}
 use Rattle.paw_top.specs.declared.outcome.Outcome.{Outcome}
 use Rattle.paw_top.specs.declared.outcome.Outcome.TheVariants as outcome
 use Rattle.paw_top.specs.declared.outcome.MemoryAt.{MemoryAt}
+use Rattle.paw_top.specs.declared.outcome.MemoryAt.TheVariants as memory
+use Rattle.paw_reading.specs.declared.places.Halt.TheVariants as halt
 
 -- where no count of faults rose, but maybe that of loads that found no file, only such a load may have failed
 only_absent : (failed : Option StageCall) (first last : StageCall → ℕ) → CountsFailure failed first last → NoFailure first last →
@@ -161,12 +164,12 @@ completes_file name Such old new _ (unopened o u) such memory free =
 -- A walk ends.
 pub is_walked : (whole : EndingOf) (most : ℕ) (old new : Standing) (o : PlayEnd) → Walks whole most old new o →
     IsUnhindered (outcome_of o) → IsWalked (outcome_of o)
-is_walked whole most old new end.Ended w free = tt
-is_walked whole most old new end.InputEnded w free = tt
-is_walked whole most old new (end.Spent kind) w free = tt
-is_walked whole most old new (end.TooDeep table) w free = tt
-is_walked whole most old new (end.Long events) w free = tt
-is_walked whole most old new end.Memory w free = tt
+is_walked whole most old new end.Ended w free = halted halt.Over
+is_walked whole most old new end.InputEnded w free = out_of_lines
+is_walked whole most old new (end.Spent kind) w free = halted (halt.Spent kind)
+is_walked whole most old new (end.TooDeep table) w free = halted (halt.TooDeep table)
+is_walked whole most old new (end.Long events) w free = full events
+is_walked whole most old new end.Memory w free = no_memory memory.Play
 is_walked whole most old new (end.Outside call.Ask) w free = absurd (hindered call.Ask (λ q. cc) free)
 is_walked whole most old new (end.Outside call.Show) w free = absurd (hindered call.Show (λ q. cc) free)
 is_walked whole most old new _ w free = absurd w
@@ -175,4 +178,4 @@ pub completes_walk : (told : Story → ℕ → EndingOf) (rows : List (List ℕ)
     WalksAs told rows name seed old new o → IsUnhindered o → CompletesImage name (λ g. IsWalked) old o
 completes_walk told rows name seed old new o w free =
     completes_file name (λ g. IsWalked) old new o w
-    (λ g end p free. is_walked (told (story_of g rows) seed) EVENT_LIMIT old new end p free) (λ g at. tt) free
+    (λ g end p free. is_walked (told (story_of g rows) seed) EVENT_LIMIT old new end p free) (λ g at. no_memory at) free

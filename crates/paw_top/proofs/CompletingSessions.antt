@@ -16,6 +16,9 @@ use Rattle.paw_journal.specs.declared.refusal.JournalRefusal.{JournalRefusal}
 use Rattle.paw_journal.specs.declared.refusal.JournalRefusal.TheVariants as refusal
 use Rattle.paw_play.specs.Session.{IsOfStory, kept_bytes, story_digests}
 use Rattle.paw_reading.specs.declared.places.Halt.{Halt}
+use Rattle.paw_reading.specs.declared.places.Halt.TheVariants as halt
+use Rattle.paw_play.proofs.Halts.{ends_by_halt}
+use Rattle.paw_play.specs.inner.OnTheWay.{end_of_halt}
 use Rattle.paw_play.specs.Walk.{end_halt, EndingOf}
 use Rattle.paw_play.specs.Play as session
 use Rattle.paw_play.specs.Play.{ShowsAs, MadeAndPlayed, NewSession, Resumed, PlaysAgain, Refuses, attached_to}
@@ -24,7 +27,7 @@ use Rattle.paw_play.specs.Played.{PlayedSession, ShowsState, begun}
 use Rattle.paw_play.specs.declared.PlayEnd.{PlayEnd}
 use Rattle.paw_play.specs.declared.PlayEnd.TheVariants as end
 use Rattle.paw_top.specs.Completes.{IsUnhindered}
-use Rattle.paw_top.specs.inner.Completes.{IsWalked, Comes, CompletesNew, CompletesAgain, CompletesImage}
+use Rattle.paw_top.specs.inner.Completes.{IsWalked, halted, out_of_lines, full, no_memory, Comes, CompletesNew, CompletesAgain, CompletesImage}
 use Rattle.paw_top.specs.Ends.{outcome_of, refused_as}
 use Rattle.paw_top.specs.Sessions.{PlaysNewIn, PlaysAgainIn}
 use Rattle.paw_top.specs.declared.outcome.Outcome.{Outcome}
@@ -38,14 +41,14 @@ plays_on : (whole : EndingOf) (most : ℕ) (old new : Standing) (o : PlayEnd) �
     IsUnhindered (outcome_of o) → IsWalked (outcome_of o)
 plays_on whole most old new (end.Outside call.Write) s free = absurd (hindered call.Write (λ q. cc) free)
 plays_on whole most old new (end.Outside call.Sync) s free = absurd (hindered call.Sync (λ q. cc) free)
-plays_on whole most old new end.Ended s free = tt
-plays_on whole most old new end.InputEnded s free = tt
+plays_on whole most old new end.Ended s free = halted halt.Over
+plays_on whole most old new end.InputEnded s free = out_of_lines
 plays_on whole most old new (end.Occupied n) s free = absurd s
 plays_on whole most old new (end.Refused r) s free = absurd s
 plays_on whole most old new (end.State at) s free = absurd s
-plays_on whole most old new (end.Spent kind) s free = tt
-plays_on whole most old new (end.TooDeep table) s free = tt
-plays_on whole most old new (end.Long events) s free = tt
+plays_on whole most old new (end.Spent kind) s free = halted (halt.Spent kind)
+plays_on whole most old new (end.TooDeep table) s free = halted (halt.TooDeep table)
+plays_on whole most old new (end.Long events) s free = full events
 plays_on whole most old new end.Memory s free = absurd s
 plays_on whole most old new (end.Outside call.Ask) s free = absurd (hindered call.Ask (λ q. cc) free)
 plays_on whole most old new (end.Outside call.Show) s free = absurd (hindered call.Show (λ q. cc) free)
@@ -65,19 +68,15 @@ no_writing c (inr (inr h)) = absurd h
 
 -- a halt ends a walk
 halted_walked : (o : PlayEnd) (halt : Halt) → end_halt o ≡ Some halt → IsWalked (outcome_of o)
-halted_walked end.Ended halt e = tt
-halted_walked (end.Spent kind) halt e = tt
-halted_walked (end.TooDeep table) halt e = tt
-halted_walked end.InputEnded halt e = tt
-halted_walked (end.Occupied n) halt e = cc
-halted_walked (end.Refused r) halt e = cc
-halted_walked (end.State at) halt e = cc
-halted_walked (end.Long events) halt e = tt
-halted_walked (end.Outside c) halt e = cc
-halted_walked end.Memory halt e = tt
+halted_walked o halt e = subst (λ x. IsWalked (outcome_of x)) (sym (ends_by_halt o halt e)) (walked halt)
+  where
+    walked : (h : Halt) → IsWalked (outcome_of (end_of_halt h))
+    walked halt.Over = halted halt.Over
+    walked (halt.Spent kind) = halted (halt.Spent kind)
+    walked (halt.TooDeep table) = halted (halt.TooDeep table)
 
 plays_in : (s : PlayedSession) (old new : Standing) (o : PlayEnd) → MadeAndPlayed s old new o → IsUnhindered (outcome_of o) → IsWalked (outcome_of o)
-plays_in s old new _ (session.memory e) free = tt
+plays_in s old new _ (session.memory e) free = no_memory memory.Play
 plays_in s old new _ (session.halts o halt r by cut is e) free = halted_walked o halt by
 plays_in s old new _ (session.unmade c w e stays) free = absurd (hindered c (no_writing c w) free)
 plays_in s old new _ (session.plays o p) free = plays_on _ _ old new o p.shows free
@@ -95,7 +94,7 @@ plays_new s old new _ (session.plays_in o e p) free =
     subst (λ bytes. CompletesNew bytes (outcome_of o)) (sym e) (plays_in s _ new o p free)
 
 new_memory : (bytes : List ℕ) (at : MemoryAt) → CompletesNew bytes (outcome.Memory at)
-new_memory [] at = tt
+new_memory [] at = no_memory at
 new_memory (b ∷ bytes) at = tt
 
 pub completes_play : (rows : List (List ℕ)) (name store : List ℕ) (seed : ℕ) (old new : Standing)
@@ -180,7 +179,7 @@ comes_so r (refusal.WrongRoutines kept found) e = rw e refl
 comes_so r (refusal.Outside c) e = rw e refl
 
 again_memory : (g : Story) (bytes : List ℕ) (at : MemoryAt) → CompletesAgain g bytes (outcome.Memory at)
-again_memory g bytes at = record { shown = λ d st piece b h. tt; refused = λ r h. tt; no_state = λ d state piece b is not. (0, tt) }
+again_memory g bytes at = record { shown = λ d st piece b h. no_memory at; refused = λ r h. tt; no_state = λ d state piece b is not. (0, tt) }
 
 -- a session of no state of the game shows none
 is_unfit : (g : GameLists) (d c : Digests) (bytes state piece : List ℕ) → recover bytes ≡ Shown d (take state_length state) piece → ¬ Fit g state →

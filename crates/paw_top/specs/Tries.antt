@@ -7,9 +7,7 @@ use Rattle.paw_reading.specs.Run.{Run}
 use Rattle.paw_reading.specs.declared.places.Halt.{Halt}
 use Rattle.paw_reading.specs.Turn.{WaitsAt, Halted}
 use Rattle.paw_trial.specs.Trial.{trial_reading, trial_text}
-use Rattle.paw_play.specs.Walk.{end_halt}
-use Rattle.paw_play.specs.declared.PlayEnd.{PlayEnd}
-use Rattle.paw_top.specs.Ends.{outcome_of}
+use Rattle.paw_top.specs.Ends.{outcome_of_halt}
 use Rattle.paw_top.specs.Shows.{Shows}
 use Rattle.paw_top.specs.declared.outcome.Outcome.{Outcome}
 use Rattle.paw_top.specs.declared.outcome.Outcome.TheVariants as outcome
@@ -20,6 +18,5 @@ use Rattle.paw_top.specs.declared.outcome.MemoryAt.TheVariants as memory
 pub data Tries (n : ℕ) (old new : Standing) : Outcome → Type 0 where
   shows : (o : Outcome) (p : Prompt) (path : List Frame) (r : Run) → trial_reading n ≡ WaitsAt p path r →
       Shows (trial_text n r.world) old new o → Tries n old new o
-  halts : (end : PlayEnd) (halt : Halt) (r : Run) → end_halt end ≡ Some halt → trial_reading n ≡ Halted halt r →
-      new ≡ old → Tries n old new (outcome_of end)
+  halts : (halt : Halt) (r : Run) → trial_reading n ≡ Halted halt r → new ≡ old → Tries n old new (outcome_of_halt halt)
   wanting : new ≡ old → Tries n old new (outcome.Memory memory.Trial)

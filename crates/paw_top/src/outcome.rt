@@ -1,7 +1,7 @@
 // How a command ends.
 
 ghost use Rattle.std.specs.Prelude.{◌≡◌, IfOk, string_bytes};
-ghost use Rattle.paw_top.specs.Ends.{outcome_of, refused_as};
+ghost use Rattle.paw_top.specs.Ends.{outcome_of, outcome_of_halt, refused_as};
 ghost use Rattle.paw_top.specs.declared.outcome.Outcome.TheVariants as outcome;
 ghost use Rattle.paw_top.specs.Outcomes.{status_of, error_text, call_name, kind_name};
 ghost use Rattle.paw_top.specs.Outcomes.{digests_line, memory_name, part_name, spent_name};
@@ -9,7 +9,8 @@ ghost use Rattle.paw_top.specs.Outcomes.{digests_line, memory_name, part_name, s
 use crate::commands::USAGE;
 use paw_base::fault::{NoRoom, SourceFault, SourceKind, SpentKind};
 use paw_journal::{JournalRefusal, SessionPart};
-use paw_play::PlayEnd;
+use paw_play::{PlayEnd, halt_of};
+use paw_reading::places::Halt;
 use paw_stage::StageCall;
 use std::alloc::Global;
 
@@ -74,12 +75,22 @@ fn refused_as(refusal: JournalRefusal) -> Outcome
     }
 }
 
+/// The outcome for what ended play for good.
+pub(crate) fn outcome_of_halt(halt: Halt) -> Outcome
+    ensures value { result ≡ outcome_of_halt halt }
+{
+    match halt {
+        Halt::Over => Outcome::Ended,
+        Halt::Spent(kind) => Outcome::Spent(kind),
+        Halt::TooDeep { table } => Outcome::TooDeep { table },
+    }
+}
+
 /// The outcome for how playing ends.
 pub(crate) fn outcome_of(end: PlayEnd) -> Outcome
     ensures value { result ≡ outcome_of end }
 {
     match end {
-        PlayEnd::Ended => Outcome::Ended,
         PlayEnd::InputEnded => Outcome::InputEnded,
         PlayEnd::Occupied { length } => Outcome::Occupied { length },
         PlayEnd::Refused(refusal) => refused_as(refusal),
@@ -87,11 +98,14 @@ pub(crate) fn outcome_of(end: PlayEnd) -> Outcome
             part: SessionPart::State,
             at,
         },
-        PlayEnd::Spent(kind) => Outcome::Spent(kind),
-        PlayEnd::TooDeep { table } => Outcome::TooDeep { table },
         PlayEnd::Long { events } => Outcome::Long { events },
         PlayEnd::Outside(call) => Outcome::Outside(call),
-        PlayEnd::Memory => Outcome::Memory(MemoryAt::Play),
+        PlayEnd::Ended | PlayEnd::Spent(_) | PlayEnd::TooDeep { .. } | PlayEnd::Memory => {
+            match halt_of(end) {
+                Some(halt) => outcome_of_halt(halt),
+                None => Outcome::Memory(MemoryAt::Play),
+            }
+        }
     }
 }
 

@@ -11,10 +11,10 @@ ghost use Rattle.paw_top.specs.Tries.{Tries};
 ghost use Rattle.paw_top.specs.declared.outcome.MemoryAt.TheVariants as memory;
 ghost use Rattle.paw_top.specs.declared.outcome.Outcome.TheVariants as outcome;
 
-use crate::outcome::{MemoryAt, Outcome};
+use crate::outcome::{MemoryAt, Outcome, outcome_of_halt};
 use crate::show::tell;
 use paw_stage::Stage;
-use paw_trial::{TrialEnd, trial_line};
+use paw_trial::{TrialEnd, halt_of, trial_line};
 use std::alloc::Global;
 
 /// The outcome for a trial that shows no line.
@@ -24,11 +24,9 @@ fn stopped_as(end: TrialEnd) -> Outcome
     ensures fine { failed_call result ≡ None }
     ensures tries { (n : ℕ) (s : Standing) → TrialStopsAs end (trial_reading n) → Tries n s s result }
 {
-    match end {
-        TrialEnd::Ended => Outcome::Ended,
-        TrialEnd::Spent(kind) => Outcome::Spent(kind),
-        TrialEnd::TooDeep { table } => Outcome::TooDeep { table },
-        TrialEnd::Memory => Outcome::Memory(MemoryAt::Trial),
+    match halt_of(end) {
+        Some(halt) => outcome_of_halt(halt),
+        None => Outcome::Memory(MemoryAt::Trial),
     }
 }
 

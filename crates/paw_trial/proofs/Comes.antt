@@ -15,7 +15,9 @@ use Rattle.paw_reading.specs.Turn.{Halted, reading}
 use Rattle.paw_reading.specs.Bounds.{IsLine}
 use Rattle.paw_play.specs.declared.PlayEnd.{PlayEnd}
 use Rattle.paw_play.specs.declared.PlayEnd.TheVariants as play
+use Rattle.paw_play.proofs.Halts.{ends_by_halt}
 use Rattle.paw_play.specs.Walk.{end_halt, first_lines, WalkHalts}
+use Rattle.paw_play.specs.inner.OnTheWay.{end_of_halt}
 use Rattle.paw_play.specs.Stands.{Stands}
 use Rattle.paw_play.specs.Played.{PlayedSession, begun, from_lines, behind}
 use Rattle.paw_play.specs.Keeping.{KeptBy}
@@ -60,17 +62,13 @@ stops_as (halt.Spent kind) r = refl
 stops_as (halt.TooDeep table) r = refl
 
 -- Where play has ended so a trial stops.
+stops_by : (halt : Halt) → stop_of (end_of_halt halt) ≡ Some (trial_end halt)
+stops_by halt.Over = refl
+stops_by (halt.Spent kind) = refl
+stops_by (halt.TooDeep table) = refl
+
 stop_halted : (o : PlayEnd) (halt : Halt) → end_halt o ≡ Some halt → stop_of o ≡ Some (trial_end halt)
-stop_halted play.Ended halt e = ap (λ x. Some (option_map_or trial_end x end.Memory)) e
-stop_halted (play.Spent kind) halt e = ap (λ x. Some (option_map_or trial_end x end.Memory)) e
-stop_halted (play.TooDeep table) halt e = ap (λ x. Some (option_map_or trial_end x end.Memory)) e
-stop_halted play.InputEnded halt e = cc
-stop_halted (play.Occupied size) halt e = cc
-stop_halted (play.Refused r) halt e = cc
-stop_halted (play.State at) halt e = cc
-stop_halted (play.Long events) halt e = cc
-stop_halted (play.Outside c) halt e = cc
-stop_halted play.Memory halt e = cc
+stop_halted o halt e = ap stop_of (ends_by_halt o halt e) ∙ stops_by halt
 
 -- Lines are played after others, with more lines after them, by a session of the store whose reading ends as that of
 -- the others and these; what it keeps stands for them.

@@ -4,7 +4,8 @@ ghost use Rattle.std.specs.Prelude.{◌≡◌, ◌++◌, [], IfOk, OnOk};
 ghost use Rattle.paw_stage.specs.Disk.{IsStable};
 ghost use Rattle.paw_stage.specs.inner.Memory.{empty, standing_of};
 ghost use Rattle.paw_routines.specs.Routines.{AreRowsOf};
-ghost use Rattle.paw_trial.specs.inner.Session.{lines_by, IsReadyFor, PlaysHalf, HoldsOrStops, stop_of};
+ghost use Rattle.paw_trial.specs.inner.Session.{lines_by, IsReadyFor, PlaysHalf, HoldsOrStops};
+ghost use Rattle.paw_trial.specs.inner.Session.{stop_early, stop_of};
 
 use crate::setup::{Half, TrialSetup};
 use crate::{TrialEnd, end_of};
@@ -43,14 +44,32 @@ fn add_lines(alloc: Global, stage: &mut MemoryStage, lines: &[Text]) -> Result<(
     Ok(())
 }
 
+/// How a trial stops where playing ends this way before its lines are taken: with its halt or, without one, for lack of
+/// memory or of the stage's room.
+fn stop_early(end: PlayEnd) -> TrialEnd
+    ensures value { result ≡ stop_early end }
+{
+    match halt_of(end) {
+        Some(halt) => end_of(halt),
+        None => TrialEnd::Memory,
+    }
+}
+
 /// How a trial stops where playing ends this way; None where no line is left.
 fn stop_of(end: PlayEnd) -> Option<TrialEnd>
     ensures value { result ≡ stop_of end }
 {
-    match halt_of(end) {
-        Some(halt) => Some(end_of(halt)),
-        None if end == PlayEnd::InputEnded => None,
-        None => Some(TrialEnd::Memory),
+    match end {
+        PlayEnd::InputEnded => None,
+        PlayEnd::Ended
+        | PlayEnd::Spent(_)
+        | PlayEnd::TooDeep { .. }
+        | PlayEnd::Occupied { .. }
+        | PlayEnd::Refused(_)
+        | PlayEnd::State { .. }
+        | PlayEnd::Long { .. }
+        | PlayEnd::Outside(_)
+        | PlayEnd::Memory => Some(stop_early(end)),
     }
 }
 

@@ -2,7 +2,7 @@
 #![tactic(auto)]
 
 ghost use Rattle.std.specs.Prelude.{◌≡◌};
-ghost use Rattle.paw_trial.specs.inner.Trial.{trial_end};
+ghost use Rattle.paw_trial.specs.inner.Trial.{trial_end, trial_halt};
 
 mod counting;
 mod halves;
@@ -33,6 +33,18 @@ pub(crate) fn end_of(halt: Halt) -> TrialEnd
         Halt::Over => TrialEnd::Ended,
         Halt::Spent(kind) => TrialEnd::Spent(kind),
         Halt::TooDeep { table } => TrialEnd::TooDeep { table },
+    }
+}
+
+/// The halt that this end of a trial is, if it is one.
+pub fn halt_of(end: TrialEnd) -> Option<Halt>
+    ensures value { result ≡ trial_halt end }
+{
+    match end {
+        TrialEnd::Ended => Some(Halt::Over),
+        TrialEnd::Spent(kind) => Some(Halt::Spent(kind)),
+        TrialEnd::TooDeep { table } => Some(Halt::TooDeep { table }),
+        TrialEnd::Memory => None,
     }
 }
 

@@ -18,7 +18,7 @@ use Rattle.paw_process.specs.inner.OpenTables.{ReadsNone}
 use Rattle.paw_process.specs.inner.Meaning.{having, to_come, going_in, ComesTo, RunsTo, IsStopped, AnswersQuit}
 use Rattle.paw_process.specs.inner.Meaning.{AnswersKey}
 use Rattle.paw_process.specs.declared.Turned.{Turned}
-use Rattle.paw_turn.specs.declared.Step.TheVariants as step
+use Rattle.paw_turn.specs.declared.phase.TurnStop.TheVariants as stop
 use Rattle.paw_turn.specs.declared.phase.Next.{Next}
 use Rattle.paw_turn.specs.declared.phase.Next.TheVariants as next
 use Rattle.paw_turn.specs.declared.turn.PlayState.{PlayState}
@@ -57,7 +57,7 @@ in_table_ignored g p old line some ignored n past lines =
 
 -- an ignored line closes an empty piece, and the game waits on
 pub ignored_plays : (g : Story) (p : Prompt) (old : PlayState) (line : List ℕ) → StandsAt p old.machine → is_ignored old.surroundings.world line ≡ true
-    → PlaysAs g (from_prompt g p old line) old (next.Stop (step.Waits p)) old
+    → PlaysAs g (from_prompt g p old line) old (next.Stop (stop.Waits p)) old
 ignored_plays g prompt.Main old line stands ignored past has = main_ignored g old line ignored past has
 ignored_plays g prompt.Quit old line stands ignored past has =
     (past.read, (has, λ n lines. (n, in_table_ignored g prompt.Quit old line stands.tables.tables.some ignored n past lines)))

@@ -6,12 +6,11 @@ use Rattle.paw_world.specs.World.{World}
 use Rattle.paw_reading.specs.Run.{with_world}
 use Rattle.paw_reading.specs.Reading.{table_read}
 use Rattle.paw_reading.specs.Turn.{AtDescribe, described, view_text, table_done, turn}
-use Rattle.paw_turn.specs.declared.Step.TheVariants as step
+use Rattle.paw_reading.specs.declared.places.Halt.TheVariants as halt
 use Rattle.paw_turn.specs.declared.phase.Next.{Next}
-use Rattle.paw_turn.specs.declared.phase.Next.TheVariants as next
 use Rattle.paw_turn.specs.declared.turn.PlayState.{PlayState}
 use Rattle.paw_process.specs.inner.OpenTables.{HasRead}
-use Rattle.paw_turn.specs.inner.Phases.{run_now, GoesOnAs, ReadsTurn, having_read, in_world, with_piece}
+use Rattle.paw_turn.specs.inner.Phases.{run_now, GoesOnAs, ReadsTurn, having_read, in_world, with_piece, halting}
 use Rattle.paw_turn.proofs.Says.{said, unsaid}
 
 -- once the location is described table 1 is read
@@ -40,7 +39,7 @@ described_reads g old mid new nx w world fits is reads past has =
 -- a description that doesn't fit
 pub described_not : (g : Story) (old new : PlayState) (w : World) → w ≡ described old.surroundings.world
     → 65535 < length old.surroundings.piece + length (view_text g.game w) → new.machine ≡ old.machine
-    → ReadsTurn g (λ n r. turn g (suc n) AtDescribe r) old (next.Stop (step.Spent spent.Text)) new
+    → ReadsTurn g (λ n r. turn g (suc n) AtDescribe r) old (halting (halt.Spent spent.Text)) new
 unfolding turn
 described_not g old new w world past_fits same past has =
     let past_fits' = subst (λ v. 65535 < length old.surroundings.piece + length (view_text g.game v)) world past_fits in (

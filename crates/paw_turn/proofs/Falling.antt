@@ -22,7 +22,7 @@ use Rattle.paw_reading.proofs.Spends.{Spends, table_spends}
 
 pub falls_up : (a b : ℕ) (n : Next) (new : PlayState) → a ≤ b → Falls a n new → Falls b n new
 falls_up a b (next.Go s) new h falls = omega arith
-falls_up a b (next.Stop step) new h falls = tt
+falls_up a b (next.Stop stop) new h falls = tt
 
 -- some past of a machine
 pub some_past : (h : PlayState) → HasReadSome h.machine → (past : Past) × HasRead past.read h.machine

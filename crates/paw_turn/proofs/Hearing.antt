@@ -6,7 +6,7 @@ use Rattle.paw_effects.specs.declared.act.Prompt.TheVariants as prompt
 use Rattle.paw_effects.specs.Texts.{say_text}
 use Rattle.paw_reading.specs.Run.{Run, is_timeout, is_ignored, with_timeout, closed}
 use Rattle.paw_reading.specs.Turn.{Ending, AtTimeFrame, AtPhrase, saying, at_main, turn, goes_on}
-use Rattle.paw_turn.specs.declared.Step.TheVariants as step
+use Rattle.paw_turn.specs.declared.phase.TurnStop.TheVariants as stop
 use Rattle.paw_turn.specs.declared.phase.Phase.TheVariants as phase
 use Rattle.paw_turn.specs.declared.phase.Next.{Next}
 use Rattle.paw_turn.specs.declared.phase.Next.TheVariants as next
@@ -66,7 +66,7 @@ line_heard g old new line heard timeout is =
 
 -- an ignored line closes an empty piece, and the game waits on
 pub main_ignored : (g : Story) (old : PlayState) (line : List ℕ) → is_ignored old.surroundings.world line ≡ true
-    → PlaysAs g (from_prompt g prompt.Main old line) old (next.Stop (step.Waits prompt.Main)) old
+    → PlaysAs g (from_prompt g prompt.Main old line) old (next.Stop (stop.Waits prompt.Main)) old
 unfolding at_main
 main_ignored g old line ignored past has = (past.read, (has, λ n lines. (n, is n lines)))
   where

@@ -10,5 +10,6 @@ pub mod Hearing
 pub mod Answering
 pub mod Renewing
 pub mod Settling
+pub mod Halting
 pub mod Standing
 pub mod Seating

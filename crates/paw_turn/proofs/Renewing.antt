@@ -23,13 +23,12 @@ use Rattle.paw_reading.specs.Reading.{deeper, rest_of_table}
 use Rattle.paw_reading.specs.GoingOn.{on_path}
 use Rattle.paw_reading.specs.Turn.{Ending, Halted, AtDescribe, TurnPhase, table_done, turn, first_table}
 use Rattle.paw_process.specs.inner.Meaning.{to_come}
-use Rattle.paw_turn.specs.declared.Step.TheVariants as step
 use Rattle.paw_turn.specs.declared.phase.Phase.TheVariants as phase
 use Rattle.paw_turn.specs.declared.phase.Next.TheVariants as next
 use Rattle.paw_turn.specs.declared.turn.PlayState.{PlayState}
 use Rattle.paw_process.specs.inner.OpenTables.{ReadsNone}
 use Rattle.paw_turn.proofs.Falling.{has_still}
-use Rattle.paw_turn.specs.inner.Phases.{Past, run_from, run_now, PlaysAs, from_prompt, ChangesFlags, or_spent}
+use Rattle.paw_turn.specs.inner.Phases.{Past, run_from, run_now, PlaysAs, from_prompt, ChangesFlags, halting, or_spent}
 
 -- at no the game is over or the piece is spent, and else it starts anew
 abbrev final : Bool → Bool → Run → Run → Run → Out
@@ -115,7 +114,7 @@ again_ends : (g : Story) (old new : PlayState) (line : List ℕ) (w : World) →
     → new.surroundings.world ≡ w → new.surroundings.pending.bytes ≡ [] → new.surroundings.pending.earlier ≡ old.surroundings.pending.earlier →
     new.machine.turning ≡ None
     → ReadsNone old.machine new.machine
-    → PlaysAs g (from_prompt g prompt.Again old line) old (next.Stop step.Ended) new
+    → PlaysAs g (from_prompt g prompt.Again old line) old (halting halt.Over) new
 again_ends g old new line w some hears declines world fit piece stays bytes earlier turning none past has =
     let fit' = subst (λ v. length old.surroundings.piece + length (say_text g.game v 14) ≤ 65535) world fit in
     let piece' = subst (λ v. new.surroundings.piece ≡ old.surroundings.piece ++ say_text g.game v 14) world piece in
@@ -146,7 +145,7 @@ again_spends : (g : Story) (old new : PlayState) (line : List ℕ) (w : World) �
     → is_ignored old.surroundings.world line ≡ false → is_no (reply line) ≡ true
     → w ≡ with_timeout (is_timeout line) old.surroundings.world → 65535 < length old.surroundings.piece + length (say_text g.game w 14)
     → ReadsNone old.machine new.machine
-    → PlaysAs g (from_prompt g prompt.Again old line) old (next.Stop (step.Spent spent.Text)) new
+    → PlaysAs g (from_prompt g prompt.Again old line) old (halting (halt.Spent spent.Text)) new
 again_spends g old new line w some hears declines world full none past has =
     let full' = subst (λ v. 65535 < length old.surroundings.piece + length (say_text g.game v 14)) world full in
     let text : List ℕ = say_text g.game (with_timeout (is_timeout line) old.surroundings.world) 14 in
@@ -172,7 +171,7 @@ pub again_told : (g : Story) (old new : PlayState) (line : List ℕ) (w : World)
     → new.surroundings.world ≡ w → new.surroundings.pending.bytes ≡ [] → new.surroundings.pending.earlier ≡ old.surroundings.pending.earlier →
     new.machine.turning ≡ None
     → ReadsNone old.machine new.machine
-    → PlaysAs g (from_prompt g prompt.Again old line) old (or_spent told (next.Stop step.Ended)) new
+    → PlaysAs g (from_prompt g prompt.Again old line) old (or_spent told (halting halt.Over)) new
 again_told g old new line w true some hears declines world puts stays bytes earlier turning none =
     again_ends g old new line w some hears declines world puts.1 puts.0 stays bytes earlier turning none
 again_told g old new line w false some hears declines world puts stays bytes earlier turning none =

@@ -17,11 +17,13 @@ use Rattle.paw_process.specs.inner.OpenTables.{OpenTables}
 use Rattle.paw_process.specs.inner.OpenTables.{HasRead}
 use Rattle.paw_turn.specs.declared.Step.{Step}
 use Rattle.paw_turn.specs.declared.Step.TheVariants as step
+use Rattle.paw_turn.specs.declared.phase.TurnStop.{TurnStop}
+use Rattle.paw_turn.specs.declared.phase.TurnStop.TheVariants as stop
 use Rattle.paw_turn.specs.declared.phase.Phase.TheVariants as phase
 use Rattle.paw_turn.specs.declared.phase.Next.TheVariants as next
 use Rattle.paw_turn.specs.declared.turn.PlayState.{PlayState}
 use Rattle.paw_turn.proofs.Falling.{none_yet}
-use Rattle.paw_turn.specs.inner.Player.{PlayerView, PlaysTo, PlayHalts, IsNew, run_at}
+use Rattle.paw_turn.specs.inner.Player.{step_of, PlayerView, PlaysTo, PlayHalts, IsNew, run_at}
 use Rattle.paw_turn.specs.inner.Phases.{Past, run_from, run_now, having_read, TurnHalts, StopsAs, PlaysAs}
 use Rattle.paw_turn.specs.inner.Phases.{Plays, from_phase, from_prompt, seat_of, turn_settled, opened_piece}
 
@@ -44,10 +46,10 @@ halts whole total once halt p new past none stops = (
 
 -- where some phases of the whole stop, it stops
 settles : {F : Type 0} (g : Story) (routines : Routines F) (whole : ℕ → List (List ℕ) → Ending) (total : List (List ℕ) → Ending) → Once whole total
-    → (s last : Step) (new : PlayState) (past : Past) → HasRead past.read new.machine
+    → (s : TurnStop) (last : Step) (new : PlayState) (past : Past) → HasRead past.read new.machine
     → ((n : ℕ) (lines : List (List ℕ)) → (m : ℕ) × StopsAs g n s new.machine.frames (run_now new past lines) (whole m lines))
-    → PlaysTo g total s (seat_of g.game routines (turn_settled s new) last) past.pieces past.traces
-settles g routines whole total once (step.Waits p) last new past has stops = (
+    → PlaysTo g total (step_of s) (seat_of g.game routines (turn_settled (step_of s) new) last) past.pieces past.traces
+settles g routines whole total once (stop.Waits p) last new past has stops = (
   past.read,
   (
     has.steps,
@@ -57,7 +59,7 @@ settles g routines whole total once (step.Waits p) last new past has stops = (
         sym (once k.0 lines (λ e. going_on_ends g p (reverse new.machine.frames) r (sym k.1 ∙ e))) ∙ k.1,
   ),
 )
-settles g routines whole total once step.Ended last new past has stops = (
+settles g routines whole total once (stop.Halted halt.Over) last new past has stops = (
   past.read,
   (
     has.steps,
@@ -67,9 +69,9 @@ settles g routines whole total once step.Ended last new past has stops = (
         sym (once k.0 lines (λ u. cc (e, u))) ∙ e,
   ),
 )
-settles g routines whole total once (step.Spent kind) last new past has stops =
+settles g routines whole total once (stop.Halted (halt.Spent kind)) last new past has stops =
     halts whole total once (halt.Spent kind) (seat_of g.game routines (turn_settled (step.Spent kind) new) last) new past refl stops
-settles g routines whole total once (step.TooDeep u) last new past has stops =
+settles g routines whole total once (stop.Halted (halt.TooDeep u)) last new past has stops =
     halts whole total once (halt.TooDeep u) (seat_of g.game routines (turn_settled (step.TooDeep u) new) last) new past refl stops
 
 -- the past of a player with these pieces, at the start of a piece
@@ -77,9 +79,10 @@ abbrev before : List (List ℕ) → List (List Read) → Past
 before pieces traces = record { read = []; pieces = pieces; traces = traces }
 
 -- a new player's first piece is that of the reading
-pub start_plays : {F : Type 0} (g : Story) (routines : Routines F) (old new : PlayState) (s last : Step) → Plays g phase.Describe old (next.Stop s) new
+pub start_plays : {F : Type 0} (g : Story) (routines : Routines F) (old new : PlayState) (s : TurnStop) (last : Step)
+    → Plays g phase.Describe old (next.Stop s) new
     → IsNew (seat_of g.game routines old last) old.surroundings.world.seed
-    → PlaysTo g (reading g old.surroundings.world.seed) s (seat_of g.game routines (turn_settled s new) s) [] []
+    → PlaysTo g (reading g old.surroundings.world.seed) (step_of s) (seat_of g.game routines (turn_settled (step_of s) new) (step_of s)) [] []
 start_plays g routines old new s last plays fresh =
     let bytes = ap (λ (q : PendingLine). q.bytes) fresh.pending in
     let earlier = ap (λ (q : PendingLine). q.earlier) fresh.pending in
@@ -91,7 +94,7 @@ start_plays g routines old new s last plays fresh =
     let same : run_now old (before [] []) lines ≡ opening g h.world.seed lines =
     opens h.world h.pending.bytes h.pending.earlier old.machine.turning h.piece lines fresh.world bytes earlier turning fresh.piece in
     ends_once g m AtDescribe (run_now old (before [] []) lines) differs ∙ ap (turns_from g AtDescribe) same)
-    s s new (having_read t.0 (before [] [])) t.1.0 t.1.1
+    s (step_of s) new (having_read t.0 (before [] [])) t.1.0 t.1.1
   where
     opens : (w : World) (bytes : List ℕ) (earlier : ℕ) (turning : Option OpenLoop) (piece : List ℕ) (lines : List (List ℕ))
         → w ≡ opening_world g.game old.surroundings.world.seed → bytes ≡ [] → earlier ≡ 255 → turning ≡ None → piece ≡ []
@@ -99,16 +102,16 @@ start_plays g routines old new s last plays fresh =
     opens w bytes earlier turning piece lines world b e t p = rw (world, b, e, t, p) refl
 
 -- a line leads from a player's prompt to the next
-pub take_plays : {F : Type 0} (g : Story) (routines : Routines F) (p : Prompt) (old new : PlayState) (line : List ℕ) (s : Step)
+pub take_plays : {F : Type 0} (g : Story) (routines : Routines F) (p : Prompt) (old new : PlayState) (line : List ℕ) (s : TurnStop)
     → (pieces : List (List ℕ)) (traces : List (List Read))
     → PlaysAs g (from_prompt g p (opened_piece old) line) (opened_piece old) (next.Stop s) new
     → let seat = seat_of g.game routines old (step.Waits p) in
-    PlaysTo g (λ lines. going_on_from g p (reverse old.machine.frames) (run_at seat pieces traces (line ∷ lines))) s
-    (seat_of g.game routines (turn_settled s new) s) pieces traces
+    PlaysTo g (λ lines. going_on_from g p (reverse old.machine.frames) (run_at seat pieces traces (line ∷ lines))) (step_of s)
+    (seat_of g.game routines (turn_settled (step_of s) new) (step_of s)) pieces traces
 take_plays g routines p old new line s pieces traces plays =
     let t = plays (before pieces traces) (record { left = refl; steps = refl }) in
     let seat = seat_of g.game routines old (step.Waits p) in
     settles g routines (λ m lines. from_prompt g p (opened_piece old) line m (before pieces traces) lines)
     (λ lines. going_on_from g p (reverse old.machine.frames) (run_at seat pieces traces (line ∷ lines)))
     (λ m lines. goes_on_once g m p (reverse old.machine.frames) (run_at seat pieces traces (line ∷ lines)))
-    s s new (having_read t.0 (before pieces traces)) t.1.0 t.1.1
+    s (step_of s) new (having_read t.0 (before pieces traces)) t.1.0 t.1.1

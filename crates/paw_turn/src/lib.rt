@@ -16,6 +16,7 @@ pub use parts::Parts;
 use paw_base::fault::SpentKind;
 use paw_effects::act::Prompt;
 use paw_reading::places::Halt;
+use phase::TurnStop;
 pub use player::Player;
 
 /// How a line ends for a player: it waits at a prompt; the game is over; the piece would read or hold too much; or a
@@ -28,14 +29,15 @@ pub enum Step {
     TooDeep { table: u8 },
 }
 
-/// The step of a player whose play this halt has ended.
-pub(crate) fn step_of(halt: Halt) -> Step
-    ensures value { result ≡ step_of halt }
+/// The step of a player whose turn stopped so.
+pub(crate) fn step_of(stop: TurnStop) -> Step
+    ensures value { result ≡ step_of stop }
 {
-    match halt {
-        Halt::Over => Step::Ended,
-        Halt::Spent(kind) => Step::Spent(kind),
-        Halt::TooDeep { table } => Step::TooDeep { table },
+    match stop {
+        TurnStop::Waits(prompt) => Step::Waits(prompt),
+        TurnStop::Halted(Halt::Over) => Step::Ended,
+        TurnStop::Halted(Halt::Spent(kind)) => Step::Spent(kind),
+        TurnStop::Halted(Halt::TooDeep { table }) => Step::TooDeep { table },
     }
 }
 

@@ -15,9 +15,9 @@ ghost use Rattle.paw_turn.specs.inner.Player.{WaitsIn};
 ghost use Rattle.paw_turn.specs.inner.Phases.{PlaysAs, RunsAs, from_prompt, from_path, IsPlayable};
 ghost use Rattle.paw_turn.specs.inner.Phases.{MayHear, MayAnswer, Stays, StaysInGame, StopsInTable};
 
-use crate::phase::{Next, Phase};
+use crate::flags;
+use crate::phase::{Next, Phase, TurnStop};
 use crate::turn::{PlayState, TurnRules, halting, or_spent};
-use crate::{Step, flags};
 use paw_base::flags::TIMEOUT_FLAG;
 use paw_base::messages::{GOODBYE_MESSAGE, TIMEOUT_MESSAGE};
 use paw_effects::act::Prompt;
@@ -112,7 +112,7 @@ impl PlayState {
 
 impl<T: Tables, F: Fn(u8, u8) -> u8> TurnRules<'_, T, F> {
     /// Takes a line at a prompt, and plays on to the next one or to the end.
-    pub(crate) fn take(&self, state: &mut PlayState, prompt: Prompt, line: &[u8]) -> Step
+    pub(crate) fn take(&self, state: &mut PlayState, prompt: Prompt, line: &[u8]) -> TurnStop
         requires line { length line.now ≤ LINE_LIMIT }
         requires rows { HaveRows F.Fn self.now.routines.now }
         requires ready { MayHear (T.game self.now.tables.now) prompt state.old }
@@ -122,7 +122,7 @@ impl<T: Tables, F: Fn(u8, u8) -> u8> TurnRules<'_, T, F> {
     {
         match self.hear(state, prompt, line) {
             Next::Go(phase) => self.play(state, phase),
-            Next::Stop(step) => step,
+            Next::Stop(stop) => stop,
         }
     }
 
@@ -136,7 +136,7 @@ impl<T: Tables, F: Fn(u8, u8) -> u8> TurnRules<'_, T, F> {
         ensures keeps { StaysInGame (T.game self.now.tables.now) state.old result state.new }
     {
         if is_ignored(&state.surroundings.world, line) {
-            return Next::Stop(Step::Waits(prompt));
+            return Next::Stop(TurnStop::Waits(prompt));
         }
         match prompt {
             Prompt::Main => state.hear_line(self.tables, line),

@@ -2,11 +2,13 @@
 
 ghost use Rattle.std.specs.Prelude.{◌≡◌};
 ghost use Rattle.paw_turn.specs.inner.Parts.{prompt_step, prompt_at};
+ghost use Rattle.paw_turn.specs.inner.Player.{step_of};
 
-use crate::Step;
+use crate::phase::TurnStop;
 use paw_effects::act::Prompt;
 use paw_phrase::Pending;
 use paw_process::Machine;
+use paw_reading::places::Halt;
 use paw_world::world::World;
 
 /// What a player consists of between two lines, as it lends it: with these parts a player can go on, now or later.
@@ -18,22 +20,22 @@ pub struct Parts<'p> {
     pub prompt: Prompt,
 }
 
-/// The end of a line for a player who stands at this prompt.
-pub(crate) fn step_at(prompt: Prompt) -> Step
-    ensures value { result ≡ prompt_step prompt }
+/// How the last turn of a player stopped who stands at this prompt.
+pub(crate) fn stop_at(prompt: Prompt) -> TurnStop
+    ensures value { step_of result ≡ prompt_step prompt }
 {
     match prompt {
-        Prompt::Main | Prompt::Quit | Prompt::Again | Prompt::Key => Step::Waits(prompt),
-        Prompt::Over => Step::Ended,
+        Prompt::Main | Prompt::Quit | Prompt::Again | Prompt::Key => TurnStop::Waits(prompt),
+        Prompt::Over => TurnStop::Halted(Halt::Over),
     }
 }
 
-/// The prompt at which a player stands after this end of a line.
-pub(crate) fn prompt_at(step: Step) -> Prompt
-    ensures value { result ≡ prompt_at step }
+/// The prompt at which a player stands whose turn stopped so.
+pub(crate) fn prompt_at(stop: TurnStop) -> Prompt
+    ensures value { result ≡ prompt_at (step_of stop) }
 {
-    match step {
-        Step::Waits(prompt) => prompt,
-        Step::Ended | Step::Spent(_) | Step::TooDeep { .. } => Prompt::Over,
+    match stop {
+        TurnStop::Waits(prompt) => prompt,
+        TurnStop::Halted(_) => Prompt::Over,
     }
 }

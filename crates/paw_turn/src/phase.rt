@@ -1,6 +1,7 @@
 // The four phases of a turn.
 
-use crate::Step;
+use paw_effects::act::Prompt;
+use paw_reading::places::Halt;
 
 /// Where a turn is: before the description of the location, before the time frame, before the next phrase, or before
 /// the response to a sentence.
@@ -12,9 +13,16 @@ pub(crate) enum Phase {
     Response,
 }
 
-/// How a turn goes on after a phase: with another, or not at all until the next line.
+/// How a turn stops: it waits at a prompt for the next line, or play has ended for good.
+#[derive(Clone, Copy, Drop, PartialEq, Eq, Debug)]
+pub(crate) enum TurnStop {
+    Waits(Prompt),
+    Halted(Halt),
+}
+
+/// How a turn goes on after a phase: with another, or not at all.
 #[derive(Clone, Copy, Drop, PartialEq, Eq, Debug)]
 pub(crate) enum Next {
     Go(Phase),
-    Stop(Step),
+    Stop(TurnStop),
 }

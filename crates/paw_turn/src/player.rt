@@ -15,10 +15,10 @@ ghost use Rattle.paw_turn.specs.declared.Step.TheVariants as step;
 ghost use Rattle.paw_turn.specs.inner.Parts.{Fits, IsStanding, seat_at, prompt_at};
 ghost use Rattle.paw_turn.specs.inner.Player.{IsNew, IsSeated, IsFinished, PlaysTo, run_at};
 
-use crate::Step;
-use crate::parts::{Parts, prompt_at, step_at};
-use crate::phase::Phase;
+use crate::parts::{Parts, prompt_at, stop_at};
+use crate::phase::{Phase, TurnStop};
 use crate::turn::{PlayState, TurnRules};
+use crate::{Step, step_of};
 use paw_base::fault::NoRoom;
 use paw_base::piece::Piece;
 use paw_base::steps::Steps;
@@ -40,11 +40,11 @@ mod tests;
 pub struct Player<'a, T: Tables, F: Fn(u8, u8) -> u8> {
     rules: TurnRules<'a, T, F>,
     turn: PlayState,
-    last: Step,
+    last: TurnStop,
 }
 
 impl<'a, T: Tables, F: Fn(u8, u8) -> u8> Model for Player<'a, T, F> {
-    ghost use Rattle.paw_turn.specs.inner.Player.{PlayerView};
+    ghost use Rattle.paw_turn.specs.inner.Player.{PlayerView, step_of};
 
     ghost Value = { PlayerView F };
 
@@ -55,7 +55,7 @@ impl<'a, T: Tables, F: Fn(u8, u8) -> u8> Model for Player<'a, T, F> {
       pending = p.turn.surroundings.pending;
       machine = p.turn.machine;
       piece = p.turn.surroundings.piece;
-      last = p.last;
+      last = step_of p.last;
     } };
 }
 
@@ -80,7 +80,7 @@ impl<'a, T: Tables, F: Fn(u8, u8) -> u8> Player<'a, T, F> {
         Ok(Player {
             rules: TurnRules { tables, routines },
             turn: PlayState::new(tables, seed, piece),
-            last: Step::Waits(Prompt::Main),
+            last: TurnStop::Waits(Prompt::Main),
         })
     }
 
@@ -116,7 +116,7 @@ impl<'a, T: Tables, F: Fn(u8, u8) -> u8> Player<'a, T, F> {
                 },
                 machine,
             },
-            last: step_at(prompt),
+            last: stop_at(prompt),
         })
     }
 
@@ -130,7 +130,7 @@ impl<'a, T: Tables, F: Fn(u8, u8) -> u8> Player<'a, T, F> {
         ensures seated { IsSeated self.new }
     {
         self.turn.renew(self.rules.tables, seed);
-        self.last = Step::Waits(Prompt::Main);
+        self.last = TurnStop::Waits(Prompt::Main);
     }
 
     /// Goes on with these parts at a prompt: the player is as `adopt` gives it. Takes no memory.
@@ -141,7 +141,7 @@ impl<'a, T: Tables, F: Fn(u8, u8) -> u8> Player<'a, T, F> {
         ensures seated { IsSeated self.new }
     {
         self.turn.seat(world, machine, pending);
-        self.last = step_at(prompt);
+        self.last = stop_at(prompt);
     }
 
     /// Plays the piece before the first line. It is asked for once, right after `new` or `renew`.
@@ -158,10 +158,10 @@ impl<'a, T: Tables, F: Fn(u8, u8) -> u8> Player<'a, T, F> {
         ensures seated { IsSeated self.new }
         ensures draws { self.new.world.draws ≤ self.old.world.draws + READ_LIMIT }
     {
-        let step = self.rules.play(&mut self.turn, Phase::Describe);
-        self.turn.settle(step);
-        self.last = step;
-        step
+        let stop = self.rules.play(&mut self.turn, Phase::Describe);
+        self.turn.settle(stop);
+        self.last = stop;
+        step_of(stop)
     }
 
     /// Takes a line of at most 255 bytes, and plays on to the next prompt or to the end. A finished player answers the
@@ -185,15 +185,15 @@ impl<'a, T: Tables, F: Fn(u8, u8) -> u8> Player<'a, T, F> {
         ensures seated { IsSeated self.new }
         ensures draws { self.new.world.draws ≤ self.old.world.draws + READ_LIMIT }
     {
-        let Step::Waits(prompt) = self.last else {
+        let TurnStop::Waits(prompt) = self.last else {
             self.turn.clear_piece();
-            return self.last;
+            return step_of(self.last);
         };
         self.turn.open_piece();
-        let step = self.rules.take(&mut self.turn, prompt, line);
-        self.turn.settle(step);
-        self.last = step;
-        step
+        let stop = self.rules.take(&mut self.turn, prompt, line);
+        self.turn.settle(stop);
+        self.last = stop;
+        step_of(stop)
     }
 
     /// The last piece: what is to be shown before the next line is asked for. It is empty after Spent and TooDeep, and

@@ -19,6 +19,7 @@ ghost use Rattle.paw_process.specs.inner.OpenTables.{ReadsNone, new_machine};
 ghost use Rattle.paw_process.specs.inner.Meaning.{InStories};
 ghost use Rattle.paw_turn.specs.declared.phase.Phase.TheVariants as phase;
 ghost use Rattle.paw_turn.specs.declared.phase.Next.TheVariants as next;
+ghost use Rattle.paw_turn.specs.inner.Player.{step_of};
 ghost use Rattle.paw_turn.specs.inner.Phases.{at_phase, turn_settled, opened_piece, Moves};
 ghost use Rattle.paw_turn.specs.inner.Phases.{ReadsTurn, Plays, MovesAfter};
 ghost use Rattle.paw_turn.specs.inner.Phases.{IsPlayable, MayGoOn, MayReadTables, Stays, StaysInGame};
@@ -26,8 +27,8 @@ ghost use Rattle.paw_turn.specs.inner.Phases.{StopsInTable};
 ghost use Rattle.paw_turn.specs.inner.Phases.{with_piece, left_of, work, Falls};
 ghost use Rattle.paw_turn.specs.inner.Phases.{halting, or_spent, table_rank, FallsAfter, RunsAs, from_table, Uses};
 
-use crate::phase::{Next, Phase};
-use crate::{Step, flags, halt_of, step_of};
+use crate::flags;
+use crate::phase::{Next, Phase, TurnStop};
 use paw_base::fault::SpentKind;
 use paw_base::flags::{LOCATION_FLAG, PROMPT_FLAG, VERB_FLAG};
 use paw_base::messages::{
@@ -64,7 +65,7 @@ pub(crate) struct TurnRules<'a, T: Tables, F: Fn(u8, u8) -> u8> {
 pub(crate) fn halting(halt: Halt) -> Next
     ensures value { result ≡ halting halt }
 {
-    Next::Stop(step_of(halt))
+    Next::Stop(TurnStop::Halted(halt))
 }
 
 /// Goes on this way if the text was shown; otherwise the piece is spent.
@@ -145,12 +146,12 @@ impl PlayState {
     }
 
     /// Takes the text out of a piece of which nothing is to be shown.
-    pub(crate) fn settle(&mut self, step: Step)
-        ensures value { self.new ≡ turn_settled step self.old }
+    pub(crate) fn settle(&mut self, stop: TurnStop)
+        ensures value { self.new ≡ turn_settled (step_of stop) self.old }
     {
-        match halt_of(step) {
-            None | Some(Halt::Over) => {}
-            Some(_) => self.surroundings.piece.clear(),
+        match stop {
+            TurnStop::Waits(_) | TurnStop::Halted(Halt::Over) => {}
+            TurnStop::Halted(_) => self.surroundings.piece.clear(),
         }
     }
 
@@ -231,7 +232,7 @@ impl PlayState {
     {
         self.surroundings.pending.drop_line();
         if self.show_prompt(tables) {
-            Next::Stop(Step::Waits(Prompt::Main))
+            Next::Stop(TurnStop::Waits(Prompt::Main))
         } else {
             halting(Halt::Spent(SpentKind::Text))
         }
@@ -308,9 +309,8 @@ impl PlayState {
         match turned {
             Turned::Left(acted) => self.after_left(tables, table, acted),
             Turned::Redescribe => Next::Go(Phase::Describe),
-            Turned::Waits(prompt) => Next::Stop(Step::Waits(prompt)),
-            Turned::Spent(kind) => halting(Halt::Spent(kind)),
-            Turned::TooDeep { table } => halting(Halt::TooDeep { table }),
+            Turned::Waits(prompt) => Next::Stop(TurnStop::Waits(prompt)),
+            Turned::Halted(halt) => halting(halt),
         }
     }
 
@@ -403,7 +403,7 @@ impl<T: Tables, F: Fn(u8, u8) -> u8> TurnRules<'_, T, F> {
     }
 
     /// Plays on from a phase to the next prompt, or to the end.
-    pub(crate) fn play(&self, state: &mut PlayState, first: Phase) -> Step
+    pub(crate) fn play(&self, state: &mut PlayState, first: Phase) -> TurnStop
         requires may { MayReadTables F.Fn self.now.routines.now (T.game self.now.tables.now) state.old }
         ensures meaning { InStories F.Fn self.now.routines.now (T.game self.now.tables.now) (λ g.
             Plays g first state.old (next.Stop result) state.new) }
@@ -413,7 +413,7 @@ impl<T: Tables, F: Fn(u8, u8) -> u8> TurnRules<'_, T, F> {
         loop {
             match self.phase(state, phase) {
                 Next::Go(next) => phase = next,
-                Next::Stop(step) => return step,
+                Next::Stop(stop) => return stop,
             }
         }
     }

@@ -1,6 +1,6 @@
 -- What stands on the way, inside a call.
 use Rattle.std.specs.Prelude.{◌≡◌, ◌≢◌, ℕ, suc, ◌+◌, ◌<◌, ◌≤◌, List, [], ◌++◌, length, take}
-use Rattle.std.specs.Prelude.{◌-◌, reverse, Option, Some, None, Result, Ok, Err, MatchOption, if◌then◌else◌}
+use Rattle.std.specs.Prelude.{◌-◌, reverse, Option, Some, None, Result, Ok, Err, MatchBool, MatchOption, if◌then◌else◌}
 use Rattle.std.specs.Option.{option_map}
 use Rattle.std.specs.List.{concat}
 use Rattle.std.specs.Fn.{Shared}
@@ -18,8 +18,9 @@ use Rattle.paw_effects.specs.declared.act.Prompt.TheVariants as prompt
 use Rattle.paw_reading.specs.Run.{Run, Step as Read}
 use Rattle.paw_reading.specs.declared.places.Halt.{Halt}
 use Rattle.paw_reading.specs.declared.places.Halt.TheVariants as halt
+use Rattle.paw_reading.specs.Reading.{closes_piece}
 use Rattle.paw_reading.specs.Turn.{Halted, reading, going_on_from}
-use Rattle.paw_turn.specs.inner.Player.{step_of, step_halt, brings_piece, PlayerView, run_at, IsSeated, IsNew}
+use Rattle.paw_turn.specs.inner.Player.{step_halt, brings_piece, PlayerView, run_at, IsSeated, IsNew}
 use Rattle.paw_turn.specs.inner.Parts.{prompt_at, IsStanding}
 use Rattle.paw_turn.specs.declared.Step.{Step}
 use Rattle.paw_turn.specs.declared.Step.TheVariants as step
@@ -87,7 +88,7 @@ Told old new piece s None = (p : Prompt) × (s ≡ step.Waits p) × (new ≡ rec
 Told old new piece s (Some end.Ended) = (s ≡ step.Ended) × (new ≡ record old { shown = old.shown ++ piece })
 Told old new piece s (Some (end.Outside call.Show)) =
     IsStanding s × (0 < length piece) × (n : ℕ) × (new ≡ record old { shown = old.shown ++ take n piece })
-Told old new piece s (Some o) = MatchOption (end_halt o) ⊥ (λ halt. (s ≡ step_of halt) × (new ≡ old))
+Told old new piece s (Some o) = MatchOption (end_halt o) ⊥ (λ halt. (step_halt s ≡ Some halt) × (new ≡ old))
 
 -- After n lines the walk is at a prompt, or has ended this way.
 abbrev pub WalksTo : {F : Type 0} → ShowSteps → Story → EndingOf → ℕ → Standing → Standing → PlayerView F → ℕ →
@@ -123,13 +124,16 @@ pub record IsRestingStore (name : Name) (s : Standing) : Type 0 where
   pub stable : IsStable s.disk
   pub file : s.files name ≡ Some s.disk.bytes
 
+-- Play ended so before the piece before the first line was closed, and nothing was changed.
+abbrev pub HaltsAtOnce : PlayedSession → Standing → Standing → Halt → Type 0
+HaltsAtOnce s first now halt = (r : Run) × (s.whole [] ≡ Halted halt r) × (now ≡ first)
+
 -- How making a new session ends, once its store is attached, and what it leaves.
 abbrev pub BegunAs : PlayedSession → Standing → Standing → PlayEnd → Type 0
-BegunAs s first now (end.Spent kind) = (r : Run) × (s.whole [] ≡ Halted (halt.Spent kind) r) × (now ≡ first)
-BegunAs s first now (end.TooDeep table) = (r : Run) × (s.whole [] ≡ Halted (halt.TooDeep table) r) × (now ≡ first)
 BegunAs s first now (end.Outside call.Write) = (now ≡ with_store now first) × StaysAttached s.name first now
 BegunAs s first now (end.Outside call.Sync) = (now ≡ with_store now first) × StaysAttached s.name first now
-BegunAs s first now o = PlaysOn s EVENT_LIMIT first now o
+BegunAs s first now o = MatchOption (end_halt o) (PlaysOn s EVENT_LIMIT first now o) (λ halt.
+    MatchBool (closes_piece halt) (PlaysOn s EVENT_LIMIT first now o) (HaltsAtOnce s first now halt))
 
 -- The session is at its first prompt, or making it has ended this way.
 abbrev pub Begins : {A F : Type 0} → Story → PlayedSession → Standing → Standing → PlayerView F → Result A PlayEnd →

@@ -1,6 +1,5 @@
 -- What a machine's answers mean in the reading.
 use Rattle.std.specs.Prelude.{◌≡◌, ◌⊎◌, ℕ, Bool, false, List, [], ◌∷◌, ◌++◌, length, reverse}
-use Rattle.std.specs.Prelude.{Option, Some, None, MatchOption}
 use Rattle.std.specs.Fn.{Shared}
 use Rattle.paw_base.specs.Bytes.{Line, Lines, RoutineRows}
 use Rattle.paw_game.specs.Game.{GameLists}
@@ -12,8 +11,7 @@ use Rattle.paw_effects.specs.declared.act.Prompt.TheVariants as prompt
 use Rattle.paw_reading.specs.declared.places.Frame.{Frame}
 use Rattle.paw_reading.specs.Run.{Run, Step, closed, is_ignored, heard, reply, is_yes}
 use Rattle.paw_reading.specs.declared.places.Halt.{Halt}
-use Rattle.paw_reading.specs.declared.places.Halt.TheVariants as halt
-use Rattle.paw_reading.specs.Reading.{Redescribes, Out, Left, Stopped, halts, rest_of_table}
+use Rattle.paw_reading.specs.Reading.{Redescribes, Out, Left, Stopped, closes_piece, halts, rest_of_table}
 use Rattle.paw_reading.specs.GoingOn.{on_path}
 use Rattle.paw_reading.specs.inner.GoingOn.{along}
 use Rattle.paw_process.specs.inner.OpenTables.{OpenTables}
@@ -80,15 +78,10 @@ pub record SamePast (old new : Run) : Type 0 where
   pub traces : new.traces ≡ old.traces
   pub events : new.events ≡ old.events
 
--- The halt that a stop of the machine is, if it is one.
-abbrev pub turned_halt : Turned → Option Halt
-turned_halt (turned.Spent kind) = Some (halt.Spent kind)
-turned_halt (turned.TooDeep u) = Some (halt.TooDeep u)
-turned_halt _ = None
-
--- The reading ends for good this way, in a run with the same past; world and piece may then be anything.
+-- The reading ends for good this way before the piece is closed, in a run with the same past; world and piece may then
+-- be anything.
 abbrev pub TableHalts : Halt → Run → Out → Type 0
-TableHalts halt r x = (s : Run) × (x ≡ halts halt s) × SamePast r s
+TableHalts halt r x = (closes_piece halt ≡ false) × (s : Run) × (x ≡ halts halt s) × SamePast r s
 
 -- How a reading ends or goes on where the machine stopped so, with these frames and this run: the outermost table was
 -- left; the location is described again; the piece is closed, and the run goes on at the prompt along the frames; or
@@ -97,7 +90,7 @@ abbrev pub ComesTo : Story → Turned → List Frame → Run → Out → Type 0
 ComesTo g (turned.Left acted) fs r x = x ≡ Left acted r
 ComesTo g turned.Redescribe fs r x = x ≡ Stopped Redescribes r
 ComesTo g (turned.Waits p) fs r x = x ≡ on_path g p 0 (reverse fs) (closed r)
-ComesTo g t fs r x = MatchOption (turned_halt t) ⊥ (λ halt. TableHalts halt r x)
+ComesTo g (turned.Halted halt) fs r x = TableHalts halt r x
 
 -- Running on from what stood to what stands now: for every run that showed what stood there are further condacts that
 -- were read, of which the machine keeps the steps, so that, whatever lines come, going on ends in the way that is said.

@@ -10,18 +10,18 @@ use Rattle.paw_state.specs.State.{State}
 use Rattle.paw_journal.specs.Session.{Digests, Shown, recover}
 use Rattle.paw_journal.specs.declared.refusal.SessionPart.TheVariants as part
 use Rattle.paw_journal.specs.declared.refusal.JournalRefusal.{JournalRefusal}
+use Rattle.paw_reading.specs.declared.places.Halt.{Halt}
 use Rattle.paw_reading.specs.Turn.{Ending, WaitsAt, Halted, Unended, reading}
 use Rattle.paw_trial.specs.Trial.{trial_reading}
 use Rattle.paw_wrap.specs.declared.columns.TheConstants.{WRAP_LIMIT}
 use Rattle.paw_play.specs.Play.{Refuses, store_bytes}
 use Rattle.paw_play.specs.Played.{ShowsState}
-use Rattle.paw_play.specs.inner.OnTheWay.{end_of_halt}
 use Rattle.paw_play.specs.Session.{IsOfStory, story_digests}
 use Rattle.paw_top.specs.Compile.{Compiles}
 use Rattle.paw_top.specs.Completes.{IsUnhindered}
 use Rattle.paw_top.specs.Check.{Checks}
 use Rattle.paw_top.specs.Decompile.{Decompiles}
-use Rattle.paw_top.specs.Ends.{outcome_of, refused_as}
+use Rattle.paw_top.specs.Ends.{outcome_of_halt, refused_as}
 use Rattle.paw_top.specs.Loads.{Holds, HoldsDamage}
 use Rattle.paw_top.specs.inner.Loads.{HoldsNone}
 use Rattle.paw_top.specs.Shows.{Wraps}
@@ -30,6 +30,7 @@ use Rattle.paw_top.specs.Tries.{Tries}
 use Rattle.paw_top.specs.Walk.{WalksAs, reading_traced}
 use Rattle.paw_top.specs.declared.outcome.Outcome.{Outcome}
 use Rattle.paw_top.specs.declared.outcome.Outcome.TheVariants as outcome
+use Rattle.paw_top.specs.declared.outcome.MemoryAt.{MemoryAt}
 
 -- This is the answer that is due, or memory was lacking.
 abbrev pub Comes : Outcome → Outcome → Type 0
@@ -51,15 +52,12 @@ CompletesSource (Err fault) o = Comes (outcome.SourceRefused fault) o
 abbrev pub CompletesCompile : Name → Standing → Outcome → Type 0
 CompletesCompile source old o = (bytes : Bytes) → old.files source ≡ Some bytes → CompletesSource (spelled bytes) o
 
--- Playing ended, or memory was lacking.
-abbrev pub IsWalked : Outcome → Type 0
-IsWalked outcome.Ended = Unit {0}
-IsWalked outcome.InputEnded = Unit {0}
-IsWalked (outcome.Spent kind) = Unit {0}
-IsWalked (outcome.TooDeep table) = Unit {0}
-IsWalked (outcome.Long events) = Unit {0}
-IsWalked (outcome.Memory at) = Unit {0}
-IsWalked _ = ⊥
+-- Play has ended for good, no line was left, the session was full, or memory was lacking.
+pub data IsWalked : Outcome → Type 0 where
+  halted : (halt : Halt) → IsWalked (outcome_of_halt halt)
+  out_of_lines : IsWalked outcome.InputEnded
+  full : (events : ℕ) → IsWalked (outcome.Long events)
+  no_memory : (at : MemoryAt) → IsWalked (outcome.Memory at)
 
 -- A new session is played in an empty store, and a store with bytes is refused.
 abbrev pub CompletesNew : Bytes → Outcome → Type 0
@@ -84,7 +82,7 @@ pub record CompletesImage (name : Name) (Such : GameLists → Outcome → Type 0
 -- The answer that a trial is due, by how the reading of its lines ends.
 abbrev pub due : Ending → Outcome
 due (WaitsAt p path r) = outcome.Done
-due (Halted halt r) = outcome_of (end_of_halt halt)
+due (Halted halt r) = outcome_of_halt halt
 due Unended = outcome.Done
 
 -- Where the text is there, it is shown, or refused where it is too long.

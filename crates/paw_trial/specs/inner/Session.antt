@@ -75,10 +75,14 @@ abbrev pub HoldsOrStops : ℕ → Lines → Standing → Option TrialEnd → Typ
 HoldsOrStops n es new None = HoldsLines n es new
 HoldsOrStops n es new (Some stop) = TrialStopsAs stop (trial_reading n)
 
+-- How a trial stops where playing ends this way before its lines are taken.
+abbrev pub stop_early : PlayEnd → TrialEnd
+stop_early o = option_map_or trial_end (end_halt o) end.Memory
+
 -- How a trial stops where playing ends this way; it goes on where no line is left.
 abbrev pub stop_of : PlayEnd → Option TrialEnd
 stop_of play.InputEnded = None
-stop_of o = Some (option_map_or trial_end (end_halt o) end.Memory)
+stop_of o = Some (stop_early o)
 
 -- What a world counts.
 abbrev pub tally_of : World → Tally

@@ -1,5 +1,5 @@
 -- What a trial shows: words that contracts between crates and proofs use besides those of specs/Trial.antt.
-use Rattle.std.specs.Prelude.{◌≡◌, ℕ}
+use Rattle.std.specs.Prelude.{◌≡◌, ℕ, Option, Some, None}
 use Rattle.paw_base.specs.Bytes.{Text}
 use Rattle.paw_reading.specs.declared.places.Halt.{Halt}
 use Rattle.paw_reading.specs.declared.places.Halt.TheVariants as halt
@@ -18,6 +18,13 @@ abbrev pub trial_end : Halt → TrialEnd
 trial_end halt.Over = end.Ended
 trial_end (halt.Spent kind) = end.Spent kind
 trial_end (halt.TooDeep table) = end.TooDeep table
+
+-- The halt that an end of a trial is; none where memory was lacking.
+abbrev pub trial_halt : TrialEnd → Option Halt
+trial_halt end.Ended = Some halt.Over
+trial_halt (end.Spent kind) = Some (halt.Spent kind)
+trial_halt (end.TooDeep table) = Some (halt.TooDeep table)
+trial_halt end.Memory = None
 
 -- A trial has no text where the reading has ended for good, or where memory was lacking.
 abbrev pub TrialStopsAs : TrialEnd → Ending → Type 0

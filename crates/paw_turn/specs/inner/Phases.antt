@@ -1,6 +1,6 @@
 -- What the phases of a turn mean in the reading. Only the contracts of private functions use this.
 use Rattle.std.specs.Prelude.{◌≡◌, ℕ, zero, suc, ◌+◌, ◌*◌, ◌<◌, ◌≤◌, ◌^◌, Bool, false, List, Option}
-use Rattle.std.specs.Prelude.{[], ◌∷◌, ◌++◌, length, reverse, if◌then◌else◌, MatchOption}
+use Rattle.std.specs.Prelude.{[], ◌∷◌, ◌++◌, length, reverse, if◌then◌else◌, MatchBool}
 use Rattle.std.specs.Fn.{Shared}
 use Rattle.paw_base.specs.Bytes.{Bytes, Line, Lines, Text, Texts}
 use Rattle.paw_base.specs.declared.limits.TheConstants.{READ_LIMIT}
@@ -20,7 +20,7 @@ use Rattle.paw_reading.specs.declared.places.OpenLoop.{OpenLoop}
 use Rattle.paw_reading.specs.Run.{Run, Step as Read, closed, is_ignored}
 use Rattle.paw_reading.specs.declared.places.Halt.{Halt}
 use Rattle.paw_reading.specs.declared.places.Halt.TheVariants as halt
-use Rattle.paw_reading.specs.Reading.{Out, table_read}
+use Rattle.paw_reading.specs.Reading.{Out, closes_piece, table_read}
 use Rattle.paw_reading.specs.GoingOn.{on_path}
 use Rattle.paw_reading.specs.Turn.{Ending, Halted, AtDescribe, AtTimeFrame, AtPhrase, AtResponse}
 use Rattle.paw_reading.specs.Turn.{table_done, turn, first_table, goes_on, TurnPhase}
@@ -30,13 +30,14 @@ use Rattle.paw_process.specs.inner.Meaning.{SamePast, ComesTo}
 use Rattle.paw_process.specs.declared.Turned.{Turned}
 use Rattle.paw_process.specs.declared.Turned.TheVariants as turned
 use Rattle.paw_turn.specs.declared.Step.{Step}
-use Rattle.paw_turn.specs.declared.Step.TheVariants as step
+use Rattle.paw_turn.specs.declared.phase.TurnStop.{TurnStop}
+use Rattle.paw_turn.specs.declared.phase.TurnStop.TheVariants as stop
 use Rattle.paw_turn.specs.declared.phase.Phase.{Phase}
 use Rattle.paw_turn.specs.declared.phase.Phase.TheVariants as phase
 use Rattle.paw_turn.specs.declared.phase.Next.{Next}
 use Rattle.paw_turn.specs.declared.phase.Next.TheVariants as next
 use Rattle.paw_turn.specs.declared.turn.PlayState.{PlayState}
-use Rattle.paw_turn.specs.inner.Player.{step_of, step_halt, brings_piece, PlayerView, WaitsIn, StandsAt, StandsClosed}
+use Rattle.paw_turn.specs.inner.Player.{step_of, brings_piece, PlayerView, WaitsIn, StandsAt, StandsClosed}
 
 -- ---- runs ----
 
@@ -88,17 +89,15 @@ at_phase phase.Response = AtResponse
 abbrev pub TurnHalts : Halt → Run → Ending → Type 0
 TurnHalts halt r x = (s : Run) × (x ≡ Halted halt s) × SamePast r s
 
--- A turn stops here: it waits along the frames, or it is over, with the piece closed; or play has ended otherwise, with
--- no piece more.
-abbrev pub StopsAs : Story → ℕ → Step → List Frame → Run → Ending → Type 0
-StopsAs g n (step.Waits p) fs r x = x ≡ goes_on g n p (reverse fs) (closed r)
-StopsAs g n step.Ended fs r x = x ≡ Halted halt.Over (closed r)
-StopsAs g n s fs r x = MatchOption (step_halt s) ⊥ (λ halt. TurnHalts halt r x)
+-- A turn stops here: it waits along the frames; or play has ended with the piece closed, or with no piece more.
+abbrev pub StopsAs : Story → ℕ → TurnStop → List Frame → Run → Ending → Type 0
+StopsAs g n (stop.Waits p) fs r x = x ≡ goes_on g n p (reverse fs) (closed r)
+StopsAs g n (stop.Halted halt) fs r x = MatchBool (closes_piece halt) (x ≡ Halted halt (closed r)) (TurnHalts halt r x)
 
 -- How a turn goes on: with the next phase, or not at all.
 abbrev pub GoesOnAs : Story → ℕ → Next → List Frame → Run → Ending → Type 0
 GoesOnAs g n (next.Go s) fs r x = x ≡ turn g n (at_phase s) r
-GoesOnAs g n (next.Stop step) fs r x = StopsAs g n step fs r x
+GoesOnAs g n (next.Stop stop) fs r x = StopsAs g n stop fs r x
 
 -- What x says leads from what stood to what stands now, and no condact is read.
 abbrev pub Moves : Story → (ℕ → Run → Ending) → PlayState → Next → PlayState → Type 0
@@ -184,7 +183,7 @@ pub record MayHear (g : GameLists) (p : Prompt) (h : PlayState) : Type 0 where
 -- Before the next phase no table is open, and after a stop the machine stands as it does there.
 abbrev pub StandsBefore : Next → OpenTables → Type 0
 StandsBefore (next.Go s) m = IsClosed m
-StandsBefore (next.Stop step) m = StandsClosed step m
+StandsBefore (next.Stop stop) m = StandsClosed (step_of stop) m
 
 -- The world is the game's still, and each draw is paid for by a condact.
 pub record Stays (g : GameLists) (old new : PlayState) : Type 0 where
@@ -230,7 +229,7 @@ work s h = 4 * left_of h + phase_rank s
 -- With the next phase there is less to do.
 abbrev pub Falls : ℕ → Next → PlayState → Type 0
 Falls most (next.Go s) new = work s new < most
-Falls most (next.Stop step) new = Unit {0}
+Falls most (next.Stop stop) new = Unit {0}
 
 -- A table leaves at most this much to read, and less where the location is described again.
 abbrev pub Leaves : Turned → ℕ → ℕ → Type 0
@@ -257,7 +256,7 @@ pub record ChangesFlags (old new : World) : Type 0 where
 
 -- Play has ended so, and nothing goes on.
 abbrev pub halting : Halt → Next
-halting halt = next.Stop (step_of halt)
+halting halt = next.Stop (stop.Halted halt)
 
 -- How a turn goes on where a text was shown; where it wasn't, the piece is spent.
 abbrev pub or_spent : Bool → Next → Next

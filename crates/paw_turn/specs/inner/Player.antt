@@ -25,21 +25,24 @@ use Rattle.paw_process.specs.inner.OpenTables.{OpenTables}
 use Rattle.paw_process.specs.inner.OpenTables.{IsWaiting, IsClosed, new_machine}
 use Rattle.paw_turn.specs.declared.Step.{Step}
 use Rattle.paw_turn.specs.declared.Step.TheVariants as step
+use Rattle.paw_turn.specs.declared.phase.TurnStop.{TurnStop}
+use Rattle.paw_turn.specs.declared.phase.TurnStop.TheVariants as stop
 
 -- ---- steps ----
 
--- The step of a player whose play this halt has ended.
-abbrev pub step_of : Halt → Step
-step_of halt.Over = step.Ended
-step_of (halt.Spent kind) = step.Spent kind
-step_of (halt.TooDeep u) = step.TooDeep u
+-- The step of a player whose turn stopped so.
+abbrev pub step_of : TurnStop → Step
+step_of (stop.Waits p) = step.Waits p
+step_of (stop.Halted halt.Over) = step.Ended
+step_of (stop.Halted (halt.Spent kind)) = step.Spent kind
+step_of (stop.Halted (halt.TooDeep table)) = step.TooDeep table
 
 -- The halt that a step is; none where the player waits.
 abbrev pub step_halt : Step → Option Halt
 step_halt (step.Waits p) = None
 step_halt step.Ended = Some halt.Over
 step_halt (step.Spent kind) = Some (halt.Spent kind)
-step_halt (step.TooDeep u) = Some (halt.TooDeep u)
+step_halt (step.TooDeep table) = Some (halt.TooDeep table)
 
 -- It brings a piece: the player waits, or play ended with its last piece closed.
 abbrev pub brings_piece : Step → Bool

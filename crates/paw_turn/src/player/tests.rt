@@ -7,8 +7,8 @@ ghost use Rattle.paw_turn.specs.inner.Parts.{Fits};
 ghost use Rattle.paw_turn.specs.inner.Player.{IsSeated, IsStanding};
 
 use super::Player;
-use crate::Step;
 use crate::turn::PlayState;
+use crate::{Step, step_of};
 use game::{asking_game, endless_game};
 use paw_base::codes::{ANYKEY, DOALL, END, GT, LET, MINUS, OK, PROCESS, QUIT};
 use paw_base::fault::SpentKind;
@@ -232,7 +232,7 @@ fn taken_up<'a, R: AllocGlobal, F: Fn(u8, u8) -> u8>(
     ensures rows { IfOk result (λ p. HaveRows F.Fn p.routines) }
     ensures seated { IfOk result IsSeated }
 {
-    if between == Between::Nothing || !is_standing(player.last) {
+    if between == Between::Nothing || !is_standing(step_of(player.last)) {
         return Ok(player);
     }
     let game = player.rules.tables;
@@ -265,7 +265,7 @@ fn compare<F: Fn(u8, u8) -> u8>(
     between: Between,
 ) {
     let (step, piece) = wanted;
-    assert_eq!(rt; player.last, step, "{line:?}, {between:?}");
+    assert_eq!(rt; step_of(player.last), step, "{line:?}, {between:?}");
     assert_eq!(rt; player.piece(), piece.as_bytes(), "{line:?}, {between:?}");
 }
 

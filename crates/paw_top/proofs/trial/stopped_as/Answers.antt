@@ -1,20 +1,21 @@
-use Rattle.std.proofs.Common.{refl, subst}
-use Rattle.paw_trial.specs.declared.TrialEnd.TheVariants as end
+use Rattle.std.proofs.Common.{refl, sym}
 use Rattle.paw_trial.specs.Trial.{trial_reading}
-use Rattle.paw_trial.specs.inner.Trial.{TrialStopsAs}
-use Rattle.paw_top.proofs.Trying.{halted}
+use Rattle.paw_top.specs.Tries.{wanting}
+use Rattle.paw_top.proofs.Trying.{halt_answers, halted}
 use Rattle.paw_top.proofs.trial.stopped_as.Goals as goal
 
-pub returns-in-Ended-clause-tries : goal.returns-in-Ended-clause-tries
-returns-in-Ended-clause-tries c = λ n s h. halted n s end.Ended (trial_reading n) refl (subst (λ x. TrialStopsAs x (trial_reading n)) c.in-Ended.is h)
+pub returns-in-Some-clause-form : goal.returns-in-Some-clause-form
+returns-in-Some-clause-form c = rw c.outcome_of_halt.ensures.value (halt_answers c.in-Some.halt).0
 
-pub returns-in-Spent-clause-tries : goal.returns-in-Spent-clause-tries
-returns-in-Spent-clause-tries c = λ n s h. halted n s (end.Spent c.in-Spent.kind) (trial_reading n) refl
-    (subst (λ x. TrialStopsAs x (trial_reading n)) c.in-Spent.is h)
+pub returns-in-Some-clause-memory : goal.returns-in-Some-clause-memory
+returns-in-Some-clause-memory c = rw c.outcome_of_halt.ensures.value (halt_answers c.in-Some.halt).1
 
-pub returns-in-TooDeep-clause-tries : goal.returns-in-TooDeep-clause-tries
-returns-in-TooDeep-clause-tries c = λ n s h. halted n s (end.TooDeep c.in-TooDeep.table) (trial_reading n) refl
-    (subst (λ x. TrialStopsAs x (trial_reading n)) c.in-TooDeep.is h)
+pub returns-in-Some-clause-fine : goal.returns-in-Some-clause-fine
+returns-in-Some-clause-fine c = rw c.outcome_of_halt.ensures.value (halt_answers c.in-Some.halt).2
 
-pub returns-in-Memory-clause-tries : goal.returns-in-Memory-clause-tries
-returns-in-Memory-clause-tries c = λ n s h. halted n s end.Memory (trial_reading n) refl tt
+pub returns-in-Some-clause-tries : goal.returns-in-Some-clause-tries
+returns-in-Some-clause-tries c = λ n s h.
+    rw c.outcome_of_halt.ensures.value (halted n s c.args.end c.in-Some.halt (trial_reading n) refl (sym c.in-Some.ensures.value) h)
+
+pub returns-in-None-clause-tries : goal.returns-in-None-clause-tries
+returns-in-None-clause-tries c = λ n s h. wanting refl

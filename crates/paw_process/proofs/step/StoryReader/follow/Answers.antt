@@ -2,9 +2,10 @@ use Rattle.std.proofs.Common.{refl, ◌∙◌, length}
 use Rattle.paw_base.specs.declared.fault.SpentKind.TheVariants as spent
 use Rattle.paw_effects.specs.Story.{story_of}
 use Rattle.paw_effects.specs.declared.act.Effect.TheVariants as effect
+use Rattle.paw_reading.specs.declared.places.Halt.TheVariants as halt
 use Rattle.paw_process.proofs.Readings.{acted_as, call_at, loop_at, ask_at}
 use Rattle.paw_process.proofs.Steps.{acted_redescribes, acted_spent}
-use Rattle.paw_process.proofs.Stops.{goes_from, stops_spent}
+use Rattle.paw_process.proofs.Stops.{goes_from, stops_halted}
 use Rattle.paw_process.specs.inner.Meaning.{having, run_held}
 use Rattle.paw_process.specs.inner.Moves.{acted_at}
 use Rattle.paw_process.specs.inner.OpenTables.{below}
@@ -62,7 +63,7 @@ returns-in-Spent-clause-meaning g c X r =
     let fs = below c.args.machine.now.frames in
     let now = run_held (having c.args.surroundings.now c.args.machine.now) r in
     let stop = c.stop-in-Spent in
-    stops_spent game (acted_at game fs c.args.f c.args.effect now) stop.result spent.Text stop.new.self.frames
-    (run_held (having c.args.surroundings.now stop.new.self) r) now stop.ensures.value
+    stops_halted game (acted_at game fs c.args.f c.args.effect now) stop.result (halt.Spent spent.Text) stop.new.self.frames
+    (run_held (having c.args.surroundings.now stop.new.self) r) now refl stop.ensures.value
     (acted_as game fs c.args.f c.args.effect effect.Spent now c.in-Spent.is ∙ acted_spent game fs c.args.f now)
     (record { pieces = refl; traces = refl; events = refl })

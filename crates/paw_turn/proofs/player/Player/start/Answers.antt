@@ -3,7 +3,7 @@ use Rattle.paw_routines.specs.Routines.{AreRowsOf, HaveRows}
 use Rattle.paw_effects.specs.Story.{story_of}
 use Rattle.paw_reading.specs.Turn.{reading}
 use Rattle.paw_turn.specs.declared.turn.PlayState.{PlayState}
-use Rattle.paw_turn.specs.inner.Player.{PlayerView, IsNew, PlaysTo}
+use Rattle.paw_turn.specs.inner.Player.{step_of, PlayerView, IsNew, PlaysTo}
 use Rattle.paw_turn.specs.inner.Phases.{seat_of, turn_settled}
 use Rattle.paw_turn.proofs.Settling.{start_plays}
 use Rattle.paw_game.specs.Valid.{Valid}
@@ -15,24 +15,26 @@ pub returns-clause-meaning : goal.returns-clause-meaning
 returns-clause-meaning g c X rows =
     let own = g.T.Tables.game c.self.inside.rules.tables.now in
     let routines = c.self.inside.rules.routines.now in
-    let s = c.play-step.result in
+    let s = c.play-stop.result in
     let own_rows = subst (λ (q : PlayerView g.row.F.Denot). AreRowsOf g.F.Fn q.routines X) (sym c.self.view_is) rows in
     let Told : PlayerView g.row.F.Denot → PlayState → Type 0 = λ q h.
-    PlaysTo (story_of q.game X) (reading (story_of q.game X) q.world.seed) s (seat_of own routines h s) [] [] in
-    subst (Told c.args.self.now) (sym c.settle.ensures.value)
-    (subst (λ (q : PlayerView g.row.F.Denot). IsNew q q.world.seed → Told q (turn_settled s c.play-step.new.state)) c.self.view_is
-    (start_plays (story_of own X) routines c.self.inside.turn c.play-step.new.state s c.self.inside.last (c.play-step.ensures.meaning X own_rows))
-    c.requires.new)
+    PlaysTo (story_of q.game X) (reading (story_of q.game X) q.world.seed) (step_of s)
+    (seat_of own routines h (step_of s)) [] [] in
+    rw c.step_of.ensures.value (subst (Told c.args.self.now) (sym c.settle.ensures.value)
+    (subst (λ (q : PlayerView g.row.F.Denot). IsNew q q.world.seed → Told q (turn_settled (step_of s) c.play-stop.new.state)) c.self.view_is
+    (start_plays (story_of own X) routines c.self.inside.turn c.play-stop.new.state s (step_of c.self.inside.last) (c.play-stop.ensures.meaning X own_rows))
+    c.requires.new))
 
 pub returns-clause-seated : goal.returns-clause-seated
 returns-clause-seated g c =
     start_seated g.F.Fn c.self.inside.rules.routines.now c.args.self.now (g.T.Tables.game c.self.inside.rules.tables.now)
-    c.play-step.new.state c.settle.new.self c.play-step.result c.requires.rows.0 c.requires.rows.1 c.requires.seated
+    c.play-stop.new.state c.settle.new.self (step_of c.play-stop.result) c.requires.rows.0 c.requires.rows.1 c.requires.seated
     (ap (λ (q : PlayerView g.row.F.Denot). q.game) c.self.view_is)
-    c.settle.ensures.value c.play-step.ensures.keeps.machine (returns-clause-meaning g c c.requires.rows.0 c.requires.rows.1)
+    c.settle.ensures.value c.play-stop.ensures.keeps.machine
+    (rw c.step_of.ensures.value at (returns-clause-meaning g c c.requires.rows.0 c.requires.rows.1))
 
-pub play-step-requires : goal.play-step-requires
-play-step-requires g c =
+pub play-stop-requires : goal.play-stop-requires
+play-stop-requires g c =
     let own = g.T.Tables.game c.self.inside.rules.tables.now in
     let routines = c.self.inside.rules.routines.now in
     let fresh = subst (λ (q : PlayerView g.row.F.Denot). IsNew q q.world.seed) (sym c.self.view_is) c.requires.new in
@@ -40,7 +42,7 @@ play-step-requires g c =
     record {
       may = record {
         rows = subst (λ (q : PlayerView g.row.F.Denot). HaveRows g.F.Fn q.routines) (sym c.self.view_is) c.requires.rows;
-        read = new_read own routines c.self.inside.turn c.self.inside.last fresh;
-        ready = new_ready own routines c.self.inside.turn c.self.inside.last valid fresh;
+        read = new_read own routines c.self.inside.turn (step_of c.self.inside.last) fresh;
+        ready = new_ready own routines c.self.inside.turn (step_of c.self.inside.last) valid fresh;
       };
     }

@@ -7,7 +7,8 @@ use Rattle.paw_turn.proofs.player.tests.taken_up.Goals as goal
 
 pub taken_apart-requires-clause-standing : goal.taken_apart-requires-clause-standing
 taken_apart-requires-clause-standing g c =
-    subst IsStanding (ap (λ (p : PlayerView g.row.F.Denot). p.last) c.player.view_is) (c.is_standing.ensures.standing c.if-not-is_standing.false)
+    subst IsStanding (c.step_of.ensures.value ∙ ap (λ (p : PlayerView g.row.F.Denot). p.last) c.player.view_is)
+    (c.is_standing.ensures.standing c.if-not-is_standing.false)
 
 pub adopt-requires : goal.adopt-requires
 adopt-requires g c =

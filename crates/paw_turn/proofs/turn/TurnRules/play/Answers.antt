@@ -42,4 +42,4 @@ loop-phase-preserved g c =
 pub returns-in-Stop-clause-meaning : goal.returns-in-Stop-clause-meaning
 returns-in-Stop-clause-meaning g c X rows =
     plays_on (story_of (g.T.Tables.game c.args.self.now.tables.now) X) c.args.first c.loop-phase.phase c.args.state.now c.loop-phase.state c.phase.new.state
-    (next.Stop c.in-Stop.step) (c.loop-phase.invariant.plays X rows) (c.in-Stop.ensures.meaning X rows)
+    (next.Stop c.in-Stop.stop) (c.loop-phase.invariant.plays X rows) (c.in-Stop.ensures.meaning X rows)
