@@ -23,7 +23,7 @@ use Rattle.paw_state.specs.inner.State.{KeepsEach}
 use Rattle.paw_state.specs.State.{zeros, filled, held_of, prompt_code, fields_of}
 use Rattle.paw_state.specs.inner.State.{loop_or_zeros}
 use Rattle.paw_state.specs.inner.Faults.{rule, first_not, is_zero, places_fault, absent_fault, held_fault, kept_fault}
-use Rattle.paw_state.specs.inner.Faults.{prompt_of}
+use Rattle.paw_state.specs.Fields.{prompt_of}
 use Rattle.paw_state.specs.inner.Parts.{held_in, world_in, frames_in, state_in}
 use Rattle.paw_state.proofs.Positions.{IsHeldOf, saved_held, kept_held}
 use Rattle.paw_state.specs.Fields.{IsSizedHeld, AreSized}

@@ -28,7 +28,8 @@ use Rattle.paw_state.specs.State.{State}
 use Rattle.paw_state.specs.inner.State.{KeepsEach}
 use Rattle.paw_state.specs.State.{zeros, filled, held_of, prompt_code, row_of, fields_of}
 use Rattle.paw_state.specs.inner.Faults.{rule, first_not, is_zero, places_fault, absent_fault, held_fault, kept_fault}
-use Rattle.paw_state.specs.inner.Faults.{prompt_of, row_fields_fault}
+use Rattle.paw_state.specs.Fields.{prompt_of}
+use Rattle.paw_state.specs.inner.Faults.{row_fields_fault}
 use Rattle.paw_state.specs.inner.Parts.{held_in, frame_in, frames_in, state_in}
 use Rattle.paw_state.proofs.Positions.{IsHeldOf, saved_held, kept_held, held_size_for, held_placed}
 use Rattle.paw_state.specs.Fields.{IsSizedHeld, AreSized}
@@ -184,7 +185,7 @@ sound_fields g s k =
           subst (λ (p : Prompt). row_fields_fault g (unwrap_or (waiting_code p) 0) None s.frames.count ROWS (map row_of s.frames.rows) ≡ None) again
           (frames_sound g (unwrap_or (waiting_code s.prompt) 0) None s.frames.count ROWS 0 s.frames.rows m.rows);
       looping = loop_counted g s.frames m.turning;
-      turning = loop_found g s.frames (fields_of s) refl refl m.turning;
+      turning = loop_found g s.frames (fields_of s) refl refl refl refl m.turning;
       pending = subst (λ (p : Prompt). (is_some (waiting_code p) || (length s.pending.bytes == 0)) ≡ true) again
           (line_sound (waiting_code s.prompt) s.pending.bytes k.pending);
       line = ap (first_not is_zero (LINE + length s.pending.bytes)) (drop_filled (length s.pending.bytes) s.pending.bytes refl)

@@ -1,7 +1,7 @@
 -- The rules of a state, by its fields and one by one.
 use Rattle.std.proofs.Common.{◌≡◌, ℕ, suc, ◌+◌, ◌*◌, ◌≤◌, List, [], ◌∷◌, Option, Some, None, length, map, take, get_or}
 use Rattle.std.proofs.Common.{nat_le, refl, sym, ◌∙◌, subst, arith}
-use Rattle.std.specs.Prelude.{All, IfNone, if◌then◌else◌}
+use Rattle.std.specs.Prelude.{All, IfNone}
 use Rattle.std.proofs.lemmas.List.{length-map}
 use Rattle.std.proofs.lemmas.List.Elements.{All-cons, All-map}
 use Rattle.std.proofs.lemmas.Bool.{leb-true}
@@ -19,7 +19,8 @@ use Rattle.paw_state.specs.declared.layout.TheConstants.{SAVED, HELD_LENGTH, KEP
 use Rattle.paw_state.specs.Fields.{IsSizedHeld}
 use Rattle.paw_state.specs.State.{State, IsValidState, filled, held_of, row_of, fields_of}
 use Rattle.paw_state.specs.inner.State.{KeepsEach}
-use Rattle.paw_state.specs.inner.Faults.{rule, places_fault, held_fault, kept_fault, prompt_of, parts_fault}
+use Rattle.paw_state.specs.inner.Faults.{rule, places_fault, held_fault, kept_fault, parts_fault}
+use Rattle.paw_state.specs.Fields.{prompt_of}
 use Rattle.paw_state.specs.inner.Parts.{frames_in}
 use Rattle.paw_state.proofs.Found.{no_first, all_so, take_filled, length-filled, length-zeros}
 use Rattle.paw_state.proofs.Firsts.{HasLengths, faults_same}

@@ -1,16 +1,17 @@
 // The rules of a state's fields.
 
 ghost use Rattle.std.specs.Prelude.{◌≡◌, ◌+◌, ◌<◌, ◌≤◌, ◌^◌, ◌*◌, length, slice_get};
-ghost use Rattle.std.specs.Option.{option_map};
+ghost use Rattle.std.specs.Prelude.{None, drop, ◌≢◌, ◌==◌, false};
+ghost use Rattle.std.specs.Option.{option_map_or, unwrap_or};
 ghost use Rattle.paw_game.specs.Valid.{Valid, is_place};
-ghost use Rattle.paw_process.specs.inner.Kept.{is_that_table};
-ghost use Rattle.paw_state.specs.declared.layout.TheConstants.{HELD_LENGTH, ROW_LENGTH, STATE_ROOM};
+ghost use Rattle.paw_state.specs.declared.layout.TheConstants.{HELD_LENGTH, ROW_LENGTH, STATE_ROOM, SEED, PROMPT};
+ghost use Rattle.paw_state.specs.declared.layout.TheConstants.{ROWS, LOOPING, LOOP_LEVEL, EARLIER, LINE};
 ghost use Rattle.paw_state.specs.inner.Faults.{rule, first_not, is_zero, places_fault, absent_fault, held_fault};
-ghost use Rattle.paw_state.specs.inner.Faults.{kept_fault, numbers_fault, prompt_of, prompt_fault, unused_fault};
-ghost use Rattle.paw_state.specs.inner.Faults.{used_fault, row_fault, row_fields_fault, no_loop_fault};
-ghost use Rattle.paw_state.specs.inner.Faults.{loop_fields_fault, open_loop_fault, frame_fields_fault, pending_fault};
+ghost use Rattle.paw_state.specs.inner.Faults.{kept_fault, unused_fault, used_fault, row_fault, row_fields_fault};
 ghost use Rattle.paw_state.specs.inner.Faults.{parts_fault};
 ghost use Rattle.paw_state.specs.inner.Faults.{fault_of};
+ghost use Rattle.paw_state.specs.Fields.{prompt_of, fault_from, number_fields, prompt_fields, looping_fields};
+ghost use Rattle.paw_state.specs.Fields.{loop_fields, pending_fields, inside};
 
 use crate::StateFault;
 use crate::fields::{Fields, FrameField};
@@ -110,14 +111,16 @@ fn check_kept<T: Tables>(tables: &T, at: usize, kept: &[PositionField]) -> Resul
 }
 
 /// Checks the numbers of lines and of draws.
-fn check_numbers(fields: &Fields) -> Result<(), StateFault>
-    ensures value { fault_of result ≡ numbers_fault fields.now }
+#[tactic(auto, unfolding(crate::specs::Fields::fault_from))]
+fn check_numbers<T: Tables>(_tables: &T, fields: &Fields) -> Result<(), StateFault>
+    ensures value { fault_of result ≡ fault_from (T.game _tables.now) SEED (number_fields fields.now) }
 {
     rule(EVENTS, fields.events <= EVENT_LIMIT)?;
     rule(DRAWS, fields.draws <= MOST_DRAWS * (fields.events + 1))
 }
 
 /// The prompt of a code from 0 to 4.
+#[tactic(auto, using(crate::proofs::Firsts::prompt_chain))]
 pub(crate) fn prompt_of(code: u8) -> Prompt
     ensures value { result ≡ prompt_of code }
 {
@@ -131,8 +134,9 @@ pub(crate) fn prompt_of(code: u8) -> Prompt
 }
 
 /// Checks the prompt, and the number of open tables.
-fn check_prompt(fields: &Fields) -> Result<(), StateFault>
-    ensures value { fault_of result ≡ prompt_fault fields.now }
+#[tactic(auto, unfolding(crate::specs::Fields::fault_from))]
+fn check_prompt<T: Tables>(_tables: &T, fields: &Fields) -> Result<(), StateFault>
+    ensures value { fault_of result ≡ fault_from (T.game _tables.now) PROMPT (prompt_fields fields.now) }
 {
     rule(PROMPT, fields.prompt <= 4)?;
     rule(
@@ -212,15 +216,23 @@ fn check_rows<T: Tables>(
 
 /// Checks the rows of the open tables, and the unused ones after them.
 fn check_frames<T: Tables>(tables: &T, fields: &Fields) -> Result<(), StateFault>
-    ensures value { fault_of result ≡ frame_fields_fault (T.game tables.now) fields.now }
+    ensures value { fault_of result ≡
+        row_fields_fault (T.game tables.now) (unwrap_or (inside fields.now) 0) None fields.now.count ROWS
+        fields.now.rows }
 {
     let code = waiting_code(prompt_of(fields.prompt)).unwrap_or(0);
     check_rows(tables, code, None, fields.count, ROWS, &fields.rows)
 }
 
 /// Checks the bytes of a loop where none is open.
-fn check_no_loop(turning: &OpenLoop) -> Result<(), StateFault>
-    ensures value { fault_of result ≡ no_loop_fault turning.now }
+#[tactic(auto, unfolding(crate::specs::Fields::fault_from, crate::specs::Fields::if_there))]
+fn check_no_loop<T: Tables>(
+    _tables: &T,
+    fields: &Fields,
+    turning: &OpenLoop,
+) -> Result<(), StateFault>
+    ensures value { fields.now.looping ≡ 0 →
+        fault_of result ≡ fault_from (T.game _tables.now) LOOP_LEVEL (loop_fields fields.now turning.now) }
 {
     rule(LOOP_LEVEL, turning.level == 0)?;
     rule(LOOP_TABLE, turning.table == 0)?;
@@ -231,8 +243,10 @@ fn check_no_loop(turning: &OpenLoop) -> Result<(), StateFault>
 }
 
 /// Checks an open loop.
+#[tactic(auto, unfolding(crate::specs::Fields::fault_from, crate::specs::Fields::if_there))]
 fn check_loop<T: Tables>(tables: &T, fields: &Fields, turning: &OpenLoop) -> Result<(), StateFault>
-    ensures value { fault_of result ≡ loop_fields_fault (T.game tables.now) fields.now turning.now }
+    ensures value { fields.now.looping ≢ 0 →
+        fault_of result ≡ fault_from (T.game tables.now) LOOP_LEVEL (loop_fields fields.now turning.now) }
 {
     let counts = tables.counts();
     let condact = tables.condact(turning.table, turning.entry, turning.at);
@@ -252,7 +266,7 @@ fn check_loop<T: Tables>(tables: &T, fields: &Fields, turning: &OpenLoop) -> Res
 
 /// Whether the row of this level belongs to this table.
 fn is_table_at(rows: &[FrameField], level: u8, table: u8) -> bool
-    ensures value { result ≡ is_that_table (option_map (λ r. r.table) (slice_get rows.now level)) table }
+    ensures value { result ≡ option_map_or (λ r. table == r.table) (slice_get rows.now level) false }
 {
     match rows.get(level as usize) {
         None => false,
@@ -260,27 +274,45 @@ fn is_table_at(rows: &[FrameField], level: u8, table: u8) -> bool
     }
 }
 
-/// Checks whether a loop is open, and its bytes.
-fn check_open_loop<T: Tables>(tables: &T, fields: &Fields) -> Result<(), StateFault>
-    ensures value { fault_of result ≡ open_loop_fault (T.game tables.now) fields.now }
+/// Checks the bytes of the loop, open or not.
+fn check_turning<T: Tables>(tables: &T, fields: &Fields) -> Result<(), StateFault>
+    ensures value { fault_of result ≡
+        fault_from (T.game tables.now) LOOP_LEVEL (loop_fields fields.now fields.now.turning) }
 {
-    let most = if fields.count == 0 { 0 } else { 1 };
-    rule(LOOPING, fields.looping <= most)?;
     if fields.looping == 0 {
-        check_no_loop(&fields.turning)
+        check_no_loop(tables, fields, &fields.turning)
     } else {
         check_loop(tables, fields, &fields.turning)
     }
 }
 
+/// Checks whether a loop is open, and its bytes.
+#[tactic(auto, unfolding(crate::specs::Fields::fault_from))]
+fn check_open_loop<T: Tables>(tables: &T, fields: &Fields) -> Result<(), StateFault>
+    ensures value { fault_of result ≡ fault_from (T.game tables.now) LOOPING (looping_fields fields.now) }
+{
+    let most = if fields.count == 0 { 0 } else { 1 };
+    rule(LOOPING, fields.looping <= most)?;
+    check_turning(tables, fields)
+}
+
+/// Checks the zeros after the bytes that are pending.
+fn check_rest(fields: &Fields) -> Result<(), StateFault>
+    ensures value { fault_of result ≡
+        first_not is_zero (LINE + fields.now.pending) (drop fields.now.pending fields.now.line) }
+{
+    let pending = fields.pending as usize;
+    all_zero(LINE + pending, &fields.line[pending..])
+}
+
 /// Checks what is pending.
-fn check_pending(fields: &Fields) -> Result<(), StateFault>
-    ensures value { fault_of result ≡ pending_fault fields.now }
+#[tactic(auto, using(crate::proofs::Firsts::line_same), unfolding(crate::specs::Fields::fault_from))]
+fn check_pending<T: Tables>(_tables: &T, fields: &Fields) -> Result<(), StateFault>
+    ensures value { fault_of result ≡ fault_from (T.game _tables.now) EARLIER (pending_fields fields.now) }
 {
     let inside = waiting_code(prompt_of(fields.prompt)).is_some();
     rule(PENDING, inside || fields.pending == 0)?;
-    let pending = fields.pending as usize;
-    all_zero(LINE + pending, &fields.line[pending..])
+    check_rest(fields)
 }
 
 /// Checks all fields, and names the first that breaks its rule in this game as a fault.
@@ -290,10 +322,10 @@ pub(crate) fn check<T: Tables>(tables: &T, fields: &Fields) -> Result<(), StateF
 {
     check_places(tables, PLACES, &fields.places)?;
     check_held(tables, SAVED, &fields.saved)?;
-    check_numbers(fields)?;
-    check_prompt(fields)?;
+    check_numbers(tables, fields)?;
+    check_prompt(tables, fields)?;
     check_frames(tables, fields)?;
     check_open_loop(tables, fields)?;
-    check_pending(fields)?;
+    check_pending(tables, fields)?;
     check_kept(tables, KEPT, &fields.kept)
 }

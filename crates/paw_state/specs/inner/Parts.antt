@@ -10,7 +10,7 @@ use Rattle.paw_state.specs.declared.fields.FrameField.{FrameField}
 use Rattle.paw_state.specs.declared.fields.Fields.{Fields}
 use Rattle.paw_state.specs.declared.position_field.PositionField.{PositionField}
 use Rattle.paw_state.specs.State.{State}
-use Rattle.paw_state.specs.inner.Faults.{prompt_of}
+use Rattle.paw_state.specs.Fields.{prompt_of}
 
 -- The position, if it is there: its flags, and the places of this number of objects.
 abbrev pub held_in : ℕ → PositionField → Option Position
