@@ -23,16 +23,15 @@ use Rattle.paw_state.specs.Fields.{looping_fields, line_fields, pending_fields}
 use Rattle.paw_effects.specs.declared.act.Prompt.TheVariants as prompt
 use Rattle.paw_state.specs.inner.Faults.{rule, first, first_not, is_zero, places_fault, absent_fault, held_fault}
 use Rattle.paw_state.specs.inner.Faults.{kept_fault, row_fault, row_fields_fault}
-use Rattle.paw_state.specs.inner.Faults.{parts_fault, fields_fault}
-use Rattle.paw_state.proofs.Cut.{length-held}
+use Rattle.paw_state.specs.inner.Faults.{fields_fault}
+use Rattle.paw_state.specs.inner.Fields.{parts_fault}
+use Rattle.paw_state.proofs.Shaped.{length-held}
 use Rattle.paw_state.proofs.Written.{length-rows}
-use Rattle.paw_state.proofs.Listed.{each_bytes, there_bytes, held_same, row_same, rows_same, listed}
-use Rattle.paw_state.proofs.Listed.{pending_same, looping_same, from_piece, from_pending, from_looping, from_tables}
-use Rattle.paw_state.proofs.Listed.{from_prompt, from_numbers, from_saved, from_places}
+use Rattle.paw_state.proofs.Listed.{each_bytes, there_bytes, held_same, row_same, rows_same}
 
 -- ---- options ----
 
-or_none : (a : Option ℕ) → option_or a None ≡ a
+pub or_none : (a : Option ℕ) → option_or a None ≡ a
 or_none None = refl
 or_none (Some x) = refl
 
@@ -138,7 +137,7 @@ unfolding first_not
 nothing at [] = refl
 nothing at (b ∷ bs) = nothing (suc at) bs
 
-places_same : (g : GameLists) (at : ℕ) (places : List ℕ) → fault_from g at (place_fields places) ≡ places_fault g at places
+pub places_same : (g : GameLists) (at : ℕ) (places : List ℕ) → fault_from g at (place_fields places) ≡ places_fault g at places
 places_same g at places =
     let n = length g.objects in
     let p = is_place (length g.locations) in
@@ -276,60 +275,3 @@ prompt_chain (suc (suc (suc (suc n)))) =
     let c : (suc (suc (suc (suc n))) == 2) ≡ false = grind (arith, nat_tests) in
     let d : (suc (suc (suc (suc n))) == 3) ≡ false = grind (arith, nat_tests) in
     rw (a, b, c, d) refl
-
--- ---- from each part on ----
-
--- the arrays have their lengths
-pub record HasLengths (f : Fields) : Type 0 where
-  pub flags : length f.flags ≡ 256
-  pub places : length f.places ≡ 255
-  pub saved : IsSizedHeld f.saved
-  pub rows : length f.rows ≡ 11
-  pub line : length f.line ≡ 255
-  pub kept : All IsSizedHeld f.kept
-
-piece_faults : (g : GameLists) (f : Fields) → HasLengths f → fault_from g PIECE (from_piece f) ≡ kept_fault g KEPT f.kept
-unfolding fault_from
-piece_faults g f s = kept_faults g KEPT f.kept s.kept
-
-pending_faults : (g : GameLists) (f : Fields) → HasLengths f
-    → fault_from g EARLIER (from_pending f) ≡ option_or (fault_from g EARLIER (pending_fields f)) (kept_fault g KEPT f.kept)
-pending_faults g f s =
-    step g EARLIER 257 (pending_fields f) (from_piece f) (fault_from g EARLIER (pending_fields f)) (kept_fault g KEPT f.kept) refl
-    (ap length (pending_same f) ∙ ap (λ (n : ℕ). suc (suc n)) s.line) (piece_faults g f s)
-
--- ---- all fields ----
-
-pub faults_same : (g : GameLists) (f : Fields) → HasLengths f → fields_fault g f ≡ parts_fault g f
-faults_same g f s =
-    let kept = kept_fault g KEPT f.kept in
-    let places = places_fault g PLACES f.places in
-    let saved = held_fault g SAVED f.saved in
-    let numbers = fault_from g SEED (number_fields f) in
-    let prompts = fault_from g PROMPT (prompt_fields f) in
-    let tables = row_fields_fault g (unwrap_or (inside f) 0) None f.count ROWS f.rows in
-    let looping = fault_from g LOOPING (looping_fields f) in
-    let pending = fault_from g EARLIER (pending_fields f) in
-    let from_loop = step g LOOPING 8 (looping_fields f) (from_pending f) looping (option_or pending kept) refl (ap length (looping_same f))
-    (pending_faults g f s) in
-    let from_rows = step g ROWS 55 (table_fields f) (from_looping f) tables (option_or looping (option_or pending kept))
-    (rows_faults g (unwrap_or (inside f) 0) (λ g. None) f.count ROWS f.rows)
-    (ap length (rows_same (unwrap_or (inside f) 0) (λ g. None) f.count f.rows) ∙ (length-rows f.rows ∙ ap (λ n. 5 * n) s.rows)) from_loop in
-    let from_code = step g PROMPT 2 (prompt_fields f) (from_tables f) prompts (option_or tables (option_or looping (option_or pending kept)))
-    refl refl from_rows in
-    let from_seed = step g SEED 24 (number_fields f) (from_prompt f) numbers
-    (option_or prompts (option_or tables (option_or looping (option_or pending kept)))) refl refl from_code in
-    let later = option_or numbers (option_or prompts (option_or tables (option_or looping (option_or pending kept)))) in
-    let from_held = step g SAVED HELD_LENGTH (held_fields f.saved) (from_numbers f) saved later (held_faults g SAVED f.saved s.saved)
-    (ap length (held_same f.saved) ∙ length-held f.saved s.saved) from_seed in
-    let all = step g 256 255 (place_fields f.places) (from_saved f) places (option_or saved later) (places_same g 256 f.places)
-    (ap length (each_bytes _ 0 f.places) ∙ s.places) from_held in
-    ap (fault_from g 0) (listed f)
-    ∙ (step g 0 256 (flag_fields f.flags) (from_places f) None (option_or places (option_or saved later))
-    (free g 0 0 f.flags) (ap length (each_bytes _ 0 f.flags) ∙ s.flags) all
-    ∙ ap (λ (o : Option ℕ). option_or places (option_or saved (option_or numbers (option_or prompts (option_or tables
-    (option_or looping (option_or pending o))))))) (sym (or_none kept)))
-
--- fields of which the arrays have their lengths
-pub lengths_sized : (f : Fields) → AreSized f → HasLengths f
-lengths_sized f s = record { flags = s.flags; places = s.places; saved = s.saved; rows = s.rows; line = s.line; kept = s.kept }

@@ -29,7 +29,10 @@ use Rattle.paw_state.specs.inner.Parts.{frame_in, open_loop_in, frames_in}
 use Rattle.paw_state.specs.Fields.{fault_from, if_there, loop_fields}
 use Rattle.paw_state.proofs.Firsts.{first_holds, all_hold, nothing_left, table_same}
 use Rattle.paw_state.proofs.Rows.{both, head_there}
-use Rattle.paw_state.proofs.Sound.{turning_rest}
+
+-- where no loop is open the loop's bytes are 0; else the loop keeps its rules
+abbrev pub turning_rest : GameLists → Fields → Option ℕ
+turning_rest g f = fault_from g LOOP_LEVEL (loop_fields f f.turning)
 
 -- 1 for what is there, 0 for what isn't
 abbrev pub presence : {A : Type 0} → Option A → ℕ

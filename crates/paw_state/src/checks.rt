@@ -8,7 +8,7 @@ ghost use Rattle.paw_state.specs.declared.layout.TheConstants.{HELD_LENGTH, ROW_
 ghost use Rattle.paw_state.specs.declared.layout.TheConstants.{ROWS, LOOPING, LOOP_LEVEL, EARLIER, LINE};
 ghost use Rattle.paw_state.specs.inner.Faults.{rule, first_not, is_zero, places_fault, absent_fault, held_fault};
 ghost use Rattle.paw_state.specs.inner.Faults.{kept_fault, unused_fault, used_fault, row_fault, row_fields_fault};
-ghost use Rattle.paw_state.specs.inner.Faults.{parts_fault};
+ghost use Rattle.paw_state.specs.inner.Fields.{parts_fault};
 ghost use Rattle.paw_state.specs.inner.Faults.{fault_of};
 ghost use Rattle.paw_state.specs.Fields.{prompt_of, fault_from, number_fields, prompt_fields, looping_fields};
 ghost use Rattle.paw_state.specs.Fields.{loop_fields, pending_fields, inside};

@@ -7,9 +7,10 @@ ghost use Rattle.paw_process.specs.inner.Kept.{kept};
 ghost use Rattle.paw_process.specs.inner.Kept.{frames_fault};
 ghost use Rattle.paw_process.specs.inner.Kept.{restored, waiting_at, WaitsAtPrompt};
 ghost use Rattle.paw_state.specs.declared.layout.TheConstants.{PIECE};
-ghost use Rattle.paw_state.specs.inner.Faults.{parts_fault};
+ghost use Rattle.paw_state.specs.inner.Fields.{parts_fault};
 ghost use Rattle.paw_world.specs.World.{kept_position};
-ghost use Rattle.paw_state.specs.inner.Parts.{SetsSaved, held_in, world_in, frame_in, frames_in, state_in};
+ghost use Rattle.paw_state.specs.inner.Parts.{SetsSaved, held_in, world_in, frame_in, frames_in};
+ghost use Rattle.paw_state.specs.inner.State.{state_in};
 ghost use Rattle.paw_state.specs.Fit.{Fit, Unfit};
 ghost use Rattle.paw_state.specs.inner.Fit.{state_read, IsRead};
 

@@ -16,7 +16,7 @@ use Rattle.paw_state.specs.declared.fields.FrameField.{FrameField}
 use Rattle.paw_state.specs.declared.fields.Fields.{Fields}
 use Rattle.paw_state.specs.declared.position_field.PositionField.{PositionField}
 use Rattle.paw_state.specs.declared.StateFault.{StateFault}
-use Rattle.paw_state.specs.Fields.{fault_from, number_fields, prompt_fields, looping_fields, pending_fields, inside}
+use Rattle.paw_state.specs.Fields.{fault_from}
 use Rattle.paw_state.specs.Fields.{state_fields}
 
 -- ---- rules and faults ----
@@ -102,19 +102,6 @@ unfoldable pub row_fields_fault : GameLists → ℕ → Option ℕ → ℕ → �
 row_fields_fault g code caller n at [] = None
 row_fields_fault g code caller n at (r ∷ rs) =
     option_or (row_fault g code caller n at r) (row_fields_fault g code (called_table g r) (n - 1) (at + ROW_LENGTH) rs)
-
--- The first fault of the parts of a state, each at its place.
-abbrev pub parts_fault : GameLists → Fields → Option ℕ
-parts_fault g f = first (
-    places_fault g PLACES f.places
-    ∷ held_fault g SAVED f.saved
-    ∷ fault_from g SEED (number_fields f)
-    ∷ fault_from g PROMPT (prompt_fields f)
-    ∷ row_fields_fault g (unwrap_or (inside f) 0) None f.count ROWS f.rows
-    ∷ fault_from g LOOPING (looping_fields f)
-    ∷ fault_from g EARLIER (pending_fields f)
-    ∷ kept_fault g KEPT f.kept
-    ∷ [])
 
 -- ---- of the list of fields ----
 

@@ -1,16 +1,22 @@
-use Rattle.std.proofs.Common.{refl, ◌∙◌, arith}
+use Rattle.std.proofs.Common.{◌≡◌, ◌+◌, ◌*◌, refl, ap, ◌∙◌, arith}
 use Rattle.std.proofs.lemmas.List.{length-set}
-use Rattle.paw_state.proofs.Scans.{rows_none, row_read, rows_read}
+use Rattle.paw_state.specs.declared.layout.TheConstants.{ROWS}
+use Rattle.paw_state.specs.inner.Fields.{frame_shape}
+use Rattle.paw_state.proofs.Shaped.{no_values, value_read, values_read}
 use Rattle.paw_state.proofs.fields.rows_at.Goals as goal
 
 pub loop-i-init : goal.loop-i-init
-loop-i-init c = (refl, rows_none _)
+loop-i-init c = (refl, no_values frame_shape _ ROWS)
 
 pub loop-i-preserved : goal.loop-i-preserved
-loop-i-preserved c = (
-  length-set c.loop-i.rows c.loop-i.i c.row_at.result ∙ c.loop-i.invariant.0,
-  row_read c.loop-i.rows c.loop-i.i c.row_at.result c.args.bytes.now (omega arith) c.loop-i.invariant.1 c.row_at.ensures.value,
-)
+loop-i-preserved c =
+    let at : ROWS + 5 * c.loop-i.i ≡ ROWS + c.loop-i.i * 5 = omega arith in (
+      length-set c.loop-i.rows c.loop-i.i c.row_at.result ∙ c.loop-i.invariant.0,
+      value_read frame_shape c.loop-i.rows c.loop-i.i c.row_at.result c.args.bytes.now ROWS (omega arith) c.loop-i.invariant.1
+          (c.row_at.ensures.value ∙ ap (frame_shape.value c.args.bytes.now) at),
+    )
 
 pub returns : goal.returns
-returns c = record { value = rows_read c.loop-i.rows c.loop-i.i c.args.bytes.now c.loop-i.invariant.0 (omega arith) c.loop-i.invariant.1 }
+returns c = record {
+  value = values_read frame_shape c.loop-i.rows c.loop-i.i 11 c.args.bytes.now ROWS c.loop-i.invariant.0 (omega arith) c.loop-i.invariant.1;
+}
