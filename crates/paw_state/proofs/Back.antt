@@ -2,7 +2,6 @@
 use Rattle.std.proofs.Common.{◌≡◌, ℕ, zero, suc, ◌+◌, ◌<◌, ◌≤◌, ◌==◌, List, [], ◌∷◌, Option, Some}
 use Rattle.std.proofs.Common.{None, length, map, take, drop, nat_le, refl, sym, ap, ◌∙◌, arith}
 use Rattle.std.specs.Prelude.{All, if◌then◌else◌}
-use Rattle.std.specs.Option.{unwrap_or}
 use Rattle.std.proofs.lemmas.List.{length-take}
 use Rattle.std.proofs.lemmas.Bool.{leb-true}
 use Rattle.paw_game.specs.Game.{GameLists}
@@ -14,24 +13,18 @@ use Rattle.paw_effects.specs.declared.act.Prompt.{Prompt}
 use Rattle.paw_effects.specs.declared.act.Prompt.TheVariants as prompt
 use Rattle.paw_reading.specs.declared.places.OpenLoop.{OpenLoop}
 use Rattle.paw_process.specs.declared.kept.Frames.{Frames}
-use Rattle.paw_process.specs.Kept.{waiting_code}
-use Rattle.paw_state.specs.declared.layout.TheConstants.{SAVED, HELD_LENGTH, ROWS, LINE, KEPT}
-use Rattle.paw_state.specs.declared.fields.Fields.{Fields}
+use Rattle.paw_state.specs.declared.layout.TheConstants.{HELD_LENGTH}
 use Rattle.paw_state.specs.declared.position_field.PositionField.{PositionField}
-use Rattle.paw_state.specs.State.{State}
-use Rattle.paw_state.specs.inner.State.{KeepsEach}
-use Rattle.paw_state.specs.State.{zeros, filled, held_of, prompt_code, fields_of}
+use Rattle.paw_state.specs.State.{zeros, filled, held_of, prompt_code}
 use Rattle.paw_state.specs.inner.State.{loop_or_zeros}
 use Rattle.paw_state.specs.inner.Faults.{rule, first_not, is_zero, places_fault, absent_fault, held_fault, kept_fault}
 use Rattle.paw_state.specs.Fields.{prompt_of}
-use Rattle.paw_state.specs.inner.Parts.{held_in, world_in, frames_in}
-use Rattle.paw_state.specs.inner.State.{state_in}
-use Rattle.paw_state.proofs.Positions.{IsHeldOf, saved_held, kept_held}
-use Rattle.paw_state.specs.Fields.{IsSizedHeld, AreSized}
+use Rattle.paw_state.specs.inner.Parts.{held_in}
+use Rattle.paw_state.proofs.Positions.{IsHeldOf}
+use Rattle.paw_state.specs.Fields.{IsSizedHeld}
 use Rattle.paw_state.proofs.Shaped.{same_held}
 use Rattle.paw_state.proofs.Found.{two, rule_holds, no_first, zeros_are, filled_take, take_filled}
-use Rattle.paw_state.proofs.Rows.{rows_back, frames_back}
-use Rattle.paw_state.proofs.Loops.{presence, turning_back, presence_back, looping_low}
+use Rattle.paw_state.proofs.Loops.{presence}
 
 -- ---- from fields ----
 

@@ -1,5 +1,5 @@
 -- What takes the fields of a state one by one.
-use Rattle.std.proofs.Common.{◌≡◌, ℕ, ◌+◌, ◌*◌, ◌<◌, ◌≤◌, List, [], ◌∷◌, ◌++◌, length, take, drop, true, refl, ap, ◌∙◌, arith}
+use Rattle.std.proofs.Common.{◌≡◌, ℕ, ◌*◌, ◌<◌, ◌≤◌, List, [], ◌∷◌, ◌++◌, length, take, true, refl, ap, ◌∙◌}
 use Rattle.std.specs.Prelude.{All, flat_map}
 use Rattle.std.specs.Int.{w64, to_le_bytes}
 use Rattle.std.proofs.lemmas.List.{append_assoc}
@@ -13,11 +13,11 @@ use Rattle.paw_state.specs.Fields.{IsSizedHeld, AreSized}
 use Rattle.paw_state.specs.State.{AreBytes}
 use Rattle.paw_state.specs.inner.Fields.{frame_shape, loop_shape, held_shape, fields_shape, field_bytes, fields_at}
 use Rattle.paw_state.proofs.Pieces.{each_byte}
-use Rattle.paw_state.proofs.Listed.{each_bytes, join, held_same, kept_same, rows_same, pending_same, looping_same}
+use Rattle.paw_state.proofs.Listed.{each_bytes, join, held_same, kept_same, frames_same, pending_same, looping_same}
 use Rattle.paw_state.proofs.Shaped.{IsSound, one_byte_sound, two_byte_sound, eight_byte_sound, array_sound, pair_sound}
 use Rattle.paw_state.proofs.Shaped.{through_sound, times_sound, frame_shape_sound, loop_shape_sound, held_shape_sound, held_fits}
 use Rattle.std.specs.Option.{unwrap_or}
-use Rattle.std.proofs.Common.{Option, None}
+use Rattle.std.proofs.Common.{None}
 use Rattle.paw_state.specs.State.{State, fields_of, state_bytes}
 use Rattle.paw_state.specs.Fields.{Field, two, bytes_of, held_fields, state_fields, flag_fields, place_fields, number_fields}
 use Rattle.paw_state.specs.Fields.{prompt_fields, table_fields, looping_fields, pending_fields, inside}
@@ -202,11 +202,15 @@ before_piece f =
     ++ ((to_le_bytes w64 f.seed ++ (to_le_bytes w64 f.draws ++ (to_le_bytes w64 f.events ++ (f.prompt ∷ f.count ∷ []))))
     ++ (flat_map frame_shape.bytes f.rows ++ ((f.looping ∷ (loop_shape.bytes f.turning ++ (f.earlier ∷ f.pending ∷ []))) ++ f.line)))))))
 
+-- and those after it
+abbrev pub after_piece : Fields → List ℕ
+after_piece f = flat_map held_shape.bytes f.kept
+
 parted : (a b c d e n r l m z : List ℕ) →
     a ++ (b ++ ((c ++ (d ++ e)) ++ (n ++ (r ++ (l ++ (m ++ z)))))) ≡ (a ++ (b ++ (c ++ (d ++ (e ++ (n ++ (r ++ (l ++ m)))))))) ++ z
 parted a b c d e n r l m z = simp append_assoc
 
-pub state_ends : (f : Fields) → field_bytes f ≡ before_piece f ++ (two_bytes f.piece ++ flat_map held_shape.bytes f.kept)
+pub state_ends : (f : Fields) → field_bytes f ≡ before_piece f ++ (two_bytes f.piece ++ after_piece f)
 unfolding before_piece
 state_ends f =
     parted f.flags f.places (f.saved.there ∷ []) f.saved.flags f.saved.places
@@ -228,7 +232,7 @@ from_pending f = pending_fields f ++ from_piece f
 abbrev pub from_looping : Fields → List Field
 from_looping f = looping_fields f ++ from_pending f
 
--- from the rows of the open tables on
+-- from the frames of the open tables on
 abbrev pub from_tables : Fields → List Field
 from_tables f = table_fields f ++ from_looping f
 
@@ -264,7 +268,7 @@ bytes_same f =
     let pending = join (pending_fields f) (from_piece f) ((f.earlier ∷ f.pending ∷ []) ++ f.line) _ (pending_same f) piece in
     let looping = join (looping_fields f) (from_pending f) ((f.looping ∷ []) ++ loop_shape.bytes f.turning) _ (looping_same f) pending in
     let tables = join (table_fields f) (from_looping f) (flat_map frame_shape.bytes f.rows) _
-    (rows_same (unwrap_or (inside f) 0) (λ g. None) f.count f.rows) looping in
+    (frames_same (unwrap_or (inside f) 0) (λ g. None) f.count f.rows) looping in
     let prompts = join (prompt_fields f) (from_tables f) (f.prompt ∷ f.count ∷ []) _ refl tables in
     let numbers = join (number_fields f) (from_prompt f) (bytes_of (number_fields f)) _ refl prompts in
     let saved = join (held_fields f.saved) (from_numbers f) (held_shape.bytes f.saved) _ (held_same f.saved) numbers in

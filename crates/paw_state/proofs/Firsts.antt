@@ -1,8 +1,8 @@
 -- The first fault of the list of fields is that of its parts.
-use Rattle.std.proofs.Common.{◌≡◌, ℕ, zero, suc, ◌+◌, ◌-◌, ◌*◌, ◌≤◌, ◌==◌, ◌||◌, Bool, true, false, List, [], ◌∷◌, ◌++◌}
+use Rattle.std.proofs.Common.{◌≡◌, ℕ, zero, suc, ◌+◌, ◌-◌, ◌≤◌, ◌==◌, ◌||◌, Bool, true, false, List, [], ◌∷◌, ◌++◌}
 use Rattle.std.proofs.Common.{Option, Some, None, length, take, drop, refl, sym, ap, ◌∙◌, add-one, arith}
 use Rattle.std.specs.Prelude.{All, flat_map, nat_le, nat_lt, is_some, if◌then◌else◌}
-use Rattle.std.specs.Option.{option_map, option_map_or, option_or, unwrap_or}
+use Rattle.std.specs.Option.{option_map, option_map_or, option_or}
 use Rattle.std.proofs.lemmas.List.{length-append}
 use Rattle.std.proofs.lemmas.Bool.Decides.{nat_tests}
 use Rattle.paw_game.specs.Game.{GameLists}
@@ -10,24 +10,19 @@ use Rattle.paw_game.specs.Tables.{head_at, condact_at}
 use Rattle.paw_game.specs.Valid.{is_place}
 use Rattle.paw_process.specs.Kept.{may_open, has_code, parameter_of}
 use Rattle.paw_process.specs.inner.Kept.{is_that_table}
-use Rattle.paw_state.specs.declared.layout.TheConstants.{PLACES, SAVED, HELD_LENGTH, SEED, PROMPT}
-use Rattle.paw_state.specs.declared.layout.TheConstants.{ROWS, LOOPING}
-use Rattle.paw_state.specs.declared.layout.TheConstants.{EARLIER, PIECE, KEPT}
+use Rattle.paw_state.specs.declared.layout.TheConstants.{HELD_LENGTH}
 use Rattle.paw_state.specs.declared.fields.FrameField.{FrameField}
 use Rattle.paw_state.specs.declared.fields.Fields.{Fields}
 use Rattle.paw_state.specs.declared.position_field.PositionField.{PositionField}
 use Rattle.paw_state.specs.Fields.{Field, one_by_one, if_there, bytes_of, fault_from, place_holds, held_fields}
-use Rattle.paw_state.specs.Fields.{row_fields, rows_fields, IsSizedHeld, AreSized, prompt_of, inside}
-use Rattle.paw_state.specs.Fields.{flag_fields, place_fields, number_fields, prompt_fields, table_fields}
-use Rattle.paw_state.specs.Fields.{looping_fields, line_fields, pending_fields}
+use Rattle.paw_state.specs.Fields.{frame_fields, frames_fields, IsSizedHeld, prompt_of}
+use Rattle.paw_state.specs.Fields.{flag_fields, place_fields}
+use Rattle.paw_state.specs.Fields.{line_fields}
 use Rattle.paw_effects.specs.declared.act.Prompt.TheVariants as prompt
 use Rattle.paw_state.specs.inner.Faults.{rule, first, first_not, is_zero, places_fault, absent_fault, held_fault}
-use Rattle.paw_state.specs.inner.Faults.{kept_fault, row_fault, row_fields_fault}
-use Rattle.paw_state.specs.inner.Faults.{fields_fault}
-use Rattle.paw_state.specs.inner.Fields.{parts_fault}
+use Rattle.paw_state.specs.inner.Faults.{kept_fault, frame_fault, frame_fields_fault}
 use Rattle.paw_state.proofs.Shaped.{length-held}
-use Rattle.paw_state.proofs.Written.{length-rows}
-use Rattle.paw_state.proofs.Listed.{each_bytes, there_bytes, held_same, row_same, rows_same}
+use Rattle.paw_state.proofs.Listed.{each_bytes, there_bytes, held_same, frame_same}
 
 -- ---- options ----
 
@@ -209,7 +204,7 @@ kept_faults g at (h ∷ hs) s =
     (ap length (held_same h) ∙ length-held h own)
     (kept_faults g (at + HELD_LENGTH) hs (λ i d low. s (suc i) d (omega (arith, low))))
 
--- ---- rows ----
+-- ---- frames ----
 
 four_rules : (at : ℕ) (a b c d : Bool) →
     ◌≡◌ {A = Option ℕ} (if a then (if b then (if c then (if d then None else Some (at + 1 + 2 + 1)) else Some (at + 1 + 2)) else Some (at + 1)) else Some at)
@@ -220,10 +215,10 @@ four_rules at true true false d = ap Some (omega arith)
 four_rules at true true true false = ap Some (omega arith)
 four_rules at true true true true = refl
 
-row_faults : (g : GameLists) (code : ℕ) (caller : GameLists → Option ℕ) (n at : ℕ) (r : FrameField)
-    → fault_from g at (row_fields code caller n r) ≡ row_fault g code (caller g) n at r
+frame_faults : (g : GameLists) (code : ℕ) (caller : GameLists → Option ℕ) (n at : ℕ) (r : FrameField)
+    → fault_from g at (frame_fields code caller n r) ≡ frame_fault g code (caller g) n at r
 unfolding fault_from if_there
-row_faults g code caller n at r = go (n == 0)
+frame_faults g code caller n at r = go (n == 0)
   where
     opens : Bool
     opens = may_open (caller g) r.table
@@ -245,18 +240,18 @@ row_faults g code caller n at r = go (n == 0)
     go true = four_rules at (r.table == 0) (r.entry == 0) (r.at == 0) (r.acted == 0)
     go false = four_rules at opens heads codes (nat_le r.acted 1)
 
-pub rows_faults : (g : GameLists) (code : ℕ) (caller : GameLists → Option ℕ) (n at : ℕ) (rs : List FrameField)
-    → fault_from g at (rows_fields code caller n rs) ≡ row_fields_fault g code (caller g) n at rs
-unfolding fault_from rows_fields row_fields_fault
-rows_faults g code caller n at [] = refl
-rows_faults g code caller n at (r ∷ rs) =
+pub frames_faults : (g : GameLists) (code : ℕ) (caller : GameLists → Option ℕ) (n at : ℕ) (rs : List FrameField)
+    → fault_from g at (frames_fields code caller n rs) ≡ frame_fields_fault g code (caller g) n at rs
+unfolding fault_from frames_fields frame_fields_fault
+frames_faults g code caller n at [] = refl
+frames_faults g code caller n at (r ∷ rs) =
     let next : GameLists → Option ℕ = λ g. Some (parameter_of (condact_at g r.table r.entry r.at)) in
-    step g at 5 (row_fields code caller n r) (rows_fields code next (n - 1) rs) (row_fault g code (caller g) n at r) _
-    (row_faults g code caller n at r) (ap length (row_same code caller n r)) (rows_faults g code next (n - 1) (at + 5) rs)
+    step g at 5 (frame_fields code caller n r) (frames_fields code next (n - 1) rs) (frame_fault g code (caller g) n at r) _
+    (frame_faults g code caller n at r) (ap length (frame_same code caller n r)) (frames_faults g code next (n - 1) (at + 5) rs)
 
 -- ---- the open loop ----
 
--- a row of this table
+-- a frame of this table
 pub table_same : (t : ℕ) (o : Option FrameField) → option_map_or (λ r. t == r.table) o false ≡ is_that_table (option_map (λ r. r.table) o) t
 table_same t None = refl
 table_same t (Some r) = refl

@@ -1,43 +1,33 @@
 -- Rules of states, and faults of fields.
-use Rattle.std.proofs.Common.{◌≡◌, ℕ, suc, ◌+◌, ◌-◌, ◌*◌, ◌≤◌, ◌==◌, ◌||◌, Bool, true, false, List, [], ◌∷◌, Option, Some}
+use Rattle.std.proofs.Common.{◌≡◌, ℕ, suc, ◌+◌, ◌-◌, ◌≤◌, ◌==◌, ◌||◌, Bool, true, false, List, [], ◌∷◌, Option, Some}
 use Rattle.std.proofs.Common.{None}
-use Rattle.std.proofs.Common.{length, map, take, drop, get_or, is_some, nat_le, refl, sym, ap, ◌∙◌, subst, arith}
+use Rattle.std.proofs.Common.{length, map, take, drop, is_some, nat_le, refl, ap, ◌∙◌, subst, arith}
 use Rattle.std.specs.Prelude.{All, IfNone, if◌then◌else◌}
 use Rattle.std.specs.Option.{option_or, unwrap_or}
-use Rattle.std.proofs.lemmas.List.{length-map, length-take}
+use Rattle.std.proofs.lemmas.List.{length-take}
 use Rattle.std.proofs.lemmas.List.Elements.{All-cons}
-use Rattle.std.proofs.lemmas.Bool.{eqb-true, le-leb, leb-true}
-use Rattle.paw_base.specs.declared.limits.TheConstants.{EVENT_LIMIT, READ_LIMIT}
+use Rattle.std.proofs.lemmas.Bool.{eqb-true}
 use Rattle.paw_game.specs.Game.{GameLists}
 use Rattle.paw_game.specs.Valid.{Valid, is_place}
-use Rattle.paw_game.specs.declared.parts.ObjectRow.{ObjectRow}
 use Rattle.paw_game.proofs.Counts.{few_objects}
-use Rattle.paw_world.specs.World.{Position, IsSavedFor, IsWorld}
+use Rattle.paw_world.specs.World.{Position, IsSavedFor}
 use Rattle.paw_effects.specs.declared.act.Prompt.{Prompt}
 use Rattle.paw_effects.specs.declared.act.Prompt.TheVariants as prompt
 use Rattle.paw_process.specs.declared.kept.Frames.{Frames}
-use Rattle.paw_process.specs.Kept.{waiting_code, count_fits}
+use Rattle.paw_process.specs.Kept.{count_fits}
 use Rattle.paw_process.specs.inner.Kept.{fault_at}
 use Rattle.paw_process.specs.inner.Kept.{rows_fault as machine_rows, loop_fault as machine_loop}
 use Rattle.paw_process.proofs.Restored.{no_first as no_machine_first}
-use Rattle.paw_state.specs.declared.layout.TheConstants.{SAVED, HELD_LENGTH, ROWS, LINE, KEPT}
-use Rattle.paw_state.specs.declared.fields.Fields.{Fields}
+use Rattle.paw_state.specs.declared.layout.TheConstants.{HELD_LENGTH}
 use Rattle.paw_state.specs.declared.position_field.PositionField.{PositionField}
 use Rattle.paw_effects.specs.inner.Worlds.{ArePlacesOf, StandsIn}
-use Rattle.paw_state.specs.State.{State}
-use Rattle.paw_state.specs.inner.State.{KeepsEach}
-use Rattle.paw_state.specs.State.{zeros, filled, held_of, prompt_code, row_of, fields_of}
+use Rattle.paw_state.specs.State.{zeros, filled, held_of, prompt_code}
 use Rattle.paw_state.specs.inner.Faults.{rule, first_not, is_zero, places_fault, absent_fault, held_fault, kept_fault}
-use Rattle.paw_state.specs.Fields.{prompt_of}
-use Rattle.paw_state.specs.inner.Faults.{row_fields_fault}
-use Rattle.paw_state.specs.inner.Parts.{held_in, frame_in, frames_in}
-use Rattle.paw_state.specs.inner.State.{state_in}
-use Rattle.paw_state.proofs.Positions.{IsHeldOf, saved_held, kept_held, held_size_for, held_placed}
-use Rattle.paw_state.specs.Fields.{IsSizedHeld, AreSized}
+use Rattle.paw_state.specs.inner.Parts.{held_in}
+use Rattle.paw_state.proofs.Positions.{IsHeldOf}
+use Rattle.paw_state.specs.Fields.{IsSizedHeld}
 use Rattle.paw_state.proofs.Found.{two, two_none, no_first, none_first, all_so, none_not, none_in_zeros, take_filled, drop_filled, length-filled, length-zeros}
-use Rattle.paw_state.proofs.Rows.{rows_sound, frames_sound}
-use Rattle.paw_state.proofs.Loops.{loop_sound, loop_found, loop_counted}
-use Rattle.paw_state.proofs.Back.{objects_stand, prompt_again}
+use Rattle.paw_state.proofs.Back.{objects_stand}
 
 -- ---- the machine's rules ----
 

@@ -92,7 +92,7 @@ bytes_tell_the_state g s t v ks hs kt ht e =
 pub long_state : (g : GameLists) (s : State) → Valid g → IsValidState g s → FitsFields s → AreLong s
 long_state g s v k h =
     let z = sized_of g s v (each_of g s k) h in
-    record { all = ap length (state_same s) ∙ length-fields (fields_of s) z; kept = kept-length (fields_of s) z }
+    record { all = ap length (state_same s) ∙ length-fields (fields_of s) z; behind = kept-length (fields_of s) z }
 
 pub written_is_fit : WrittenIsFit
 written_is_fit g s rest v k h =

@@ -8,7 +8,7 @@ pub mod EachField
 pub mod Firsts
 pub mod Found
 pub mod Scans
-pub mod Rows
+pub mod Frames
 pub mod Loops
 pub mod Back
 pub mod Keeping

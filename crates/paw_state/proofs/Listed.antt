@@ -1,23 +1,19 @@
 -- The bytes of the list of fields are those of its parts.
 use Rattle.std.proofs.Common.{◌≡◌, ℕ, suc, ◌-◌, Bool, true, List, [], ◌∷◌, ◌++◌, Option, Some}
-use Rattle.std.proofs.Common.{None, refl, sym, ap, ◌∙◌}
+use Rattle.std.proofs.Common.{refl, ap, ◌∙◌}
 use Rattle.std.specs.Prelude.{flat_map}
-use Rattle.std.specs.Option.{unwrap_or}
-use Rattle.std.proofs.lemmas.List.{append_assoc}
 use Rattle.std.proofs.lemmas.Grind.{flat_map-append}
 use Rattle.paw_game.specs.Game.{GameLists}
-use Rattle.paw_game.specs.Image.{two_bytes}
 use Rattle.paw_game.specs.Tables.{condact_at}
 use Rattle.paw_reading.specs.declared.places.OpenLoop.{OpenLoop}
 use Rattle.paw_process.specs.Kept.{parameter_of}
 use Rattle.paw_state.specs.declared.fields.FrameField.{FrameField}
 use Rattle.paw_state.specs.declared.fields.Fields.{Fields}
 use Rattle.paw_state.specs.declared.position_field.PositionField.{PositionField}
-use Rattle.paw_state.specs.State.{State, fields_of, state_bytes}
-use Rattle.paw_state.specs.Fields.{Field, two, one_by_one, if_there, bytes_of, place_holds, held_fields}
-use Rattle.paw_state.specs.Fields.{row_fields, rows_fields, loop_fields, flag_fields, place_fields, number_fields}
-use Rattle.paw_state.specs.Fields.{prompt_fields, table_fields, looping_fields, pending_fields, inside, state_fields}
-use Rattle.paw_state.specs.inner.Fields.{frame_shape, loop_shape, held_shape, field_bytes}
+use Rattle.paw_state.specs.Fields.{Field, one_by_one, if_there, bytes_of, place_holds, held_fields}
+use Rattle.paw_state.specs.Fields.{frame_fields, frames_fields, loop_fields, flag_fields, place_fields}
+use Rattle.paw_state.specs.Fields.{looping_fields, pending_fields}
+use Rattle.paw_state.specs.inner.Fields.{frame_shape, loop_shape, held_shape}
 
 pub each_bytes : (h : ℕ → ℕ → GameLists → Bool) (i : ℕ) (bs : List ℕ) → bytes_of (one_by_one h i bs) ≡ bs
 unfolding one_by_one
@@ -44,16 +40,16 @@ pub kept_same : (hs : List PositionField) → bytes_of (flat_map held_fields hs)
 kept_same [] = refl
 kept_same (h ∷ hs) = join (held_fields h) (flat_map held_fields hs) (held_shape.bytes h) (flat_map held_shape.bytes hs) (held_same h) (kept_same hs)
 
-pub row_same : (code : ℕ) (caller : GameLists → Option ℕ) (n : ℕ) (r : FrameField) → bytes_of (row_fields code caller n r) ≡ frame_shape.bytes r
-row_same code caller n r = there_bytes n _
+pub frame_same : (code : ℕ) (caller : GameLists → Option ℕ) (n : ℕ) (r : FrameField) → bytes_of (frame_fields code caller n r) ≡ frame_shape.bytes r
+frame_same code caller n r = there_bytes n _
 
-pub rows_same : (code : ℕ) (caller : GameLists → Option ℕ) (n : ℕ) (rs : List FrameField) → bytes_of (rows_fields code caller n rs) ≡ flat_map frame_shape.bytes rs
-unfolding rows_fields
-rows_same code caller n [] = refl
-rows_same code caller n (r ∷ rs) =
+pub frames_same : (code : ℕ) (caller : GameLists → Option ℕ) (n : ℕ) (rs : List FrameField) → bytes_of (frames_fields code caller n rs) ≡ flat_map frame_shape.bytes rs
+unfolding frames_fields
+frames_same code caller n [] = refl
+frames_same code caller n (r ∷ rs) =
     let next : GameLists → Option ℕ = λ g. Some (parameter_of (condact_at g r.table r.entry r.at)) in
-    join (row_fields code caller n r) (rows_fields code next (n - 1) rs) (frame_shape.bytes r) (flat_map frame_shape.bytes rs)
-    (row_same code caller n r) (rows_same code next (n - 1) rs)
+    join (frame_fields code caller n r) (frames_fields code next (n - 1) rs) (frame_shape.bytes r) (flat_map frame_shape.bytes rs)
+    (frame_same code caller n r) (frames_same code next (n - 1) rs)
 
 pub loop_same : (f : Fields) (l : OpenLoop) → bytes_of (loop_fields f l) ≡ loop_shape.bytes l
 loop_same f l = there_bytes f.looping _

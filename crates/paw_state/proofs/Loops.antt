@@ -23,12 +23,12 @@ use Rattle.paw_state.specs.declared.layout.TheConstants.{LOOP_LEVEL, LOOP_TABLE,
 use Rattle.paw_state.specs.declared.layout.TheConstants.{LOOP_LAST, EARLIER}
 use Rattle.paw_state.specs.declared.fields.FrameField.{FrameField}
 use Rattle.paw_state.specs.declared.fields.Fields.{Fields}
-use Rattle.paw_state.specs.State.{row_of}
+use Rattle.paw_state.specs.State.{frame_field_of}
 use Rattle.paw_state.specs.inner.State.{loop_or_zeros}
 use Rattle.paw_state.specs.inner.Parts.{frame_in, open_loop_in, frames_in}
 use Rattle.paw_state.specs.Fields.{fault_from, if_there, loop_fields}
 use Rattle.paw_state.proofs.Firsts.{first_holds, all_hold, nothing_left, table_same}
-use Rattle.paw_state.proofs.Rows.{both, head_there}
+use Rattle.paw_state.proofs.Frames.{both, head_there}
 
 -- where no loop is open the loop's bytes are 0; else the loop keeps its rules
 abbrev pub turning_rest : GameLists → Fields → Option ℕ
@@ -38,9 +38,9 @@ turning_rest g f = fault_from g LOOP_LEVEL (loop_fields f f.turning)
 abbrev pub presence : {A : Type 0} → Option A → ℕ
 presence o = if is_some o then 1 else 0
 
--- the table of a row that may be there
-abbrev row_table : Option FrameField → Option ℕ
-row_table o = option_map (λ r. r.table) o
+-- the table of a frame that may be there
+abbrev frame_table : Option FrameField → Option ℕ
+frame_table o = option_map (λ r. r.table) o
 
 -- each field of the loop keeps its rule, where no loop is open or where one is
 record RuledLoop (g : GameLists) (f : Fields) (closed : Bool) (l : OpenLoop) : Type 0 where
@@ -101,17 +101,17 @@ looping_low n m h = go (m == 0) h
     go true q = let k = leb-true n 0 q in omega arith
     go false q = leb-true n 1 q
 
-same_table : (o : Option FrameField) → row_table o ≡ table_of (option_map frame_in o)
+same_table : (o : Option FrameField) → frame_table o ≡ table_of (option_map frame_in o)
 same_table None = refl
 same_table (Some r) = refl
 
-row_of_level : (rows : List FrameField) (i : ℕ) → row_table (slice_get rows i) ≡ table_of (slice_get (map frame_in rows) i)
-row_of_level rows i = same_table (slice_get rows i) ∙ ap table_of (sym (slice_get-map frame_in rows i))
+frame_field_of_level : (rows : List FrameField) (i : ℕ) → frame_table (slice_get rows i) ≡ table_of (slice_get (map frame_in rows) i)
+frame_field_of_level rows i = same_table (slice_get rows i) ∙ ap table_of (sym (slice_get-map frame_in rows i))
 
 stands : (g : GameLists) (f : Fields) (l : OpenLoop) → RuledLoop g f false l → loop_stands g (frames_in f) l ≡ true
 stands g f l r =
     let t : is_that_table (table_of (slice_get (map frame_in f.rows) l.level)) l.table ≡ true =
-    ap (λ (o : Option ℕ). is_that_table o l.table) (sym (row_of_level f.rows l.level))
+    ap (λ (o : Option ℕ). is_that_table o l.table) (sym (frame_field_of_level f.rows l.level))
     ∙ (sym (table_same l.table (slice_get f.rows l.level)) ∙ r.table) in
     both (nat_lt l.level f.count) _ r.level
     (both (is_that_table (table_of (slice_get (map frame_in f.rows) l.level)) l.table) _ t
@@ -127,14 +127,14 @@ loop_sound g f h = go (f.looping == 0) (ruled_loop g f f.turning h)
 
 -- ---- a machine without a fault ----
 
-same_row : (o : Option Frame) → table_of o ≡ row_table (option_map row_of o)
-same_row None = refl
-same_row (Some f) = refl
+same_frame : (o : Option Frame) → table_of o ≡ frame_table (option_map frame_field_of o)
+same_frame None = refl
+same_frame (Some f) = refl
 
-frame_of_level : (frames : List Frame) (i : ℕ) → table_of (slice_get frames i) ≡ row_table (slice_get (map row_of frames) i)
-frame_of_level frames i = same_row (slice_get frames i) ∙ ap row_table (sym (slice_get-map row_of frames i))
+frame_of_level : (frames : List Frame) (i : ℕ) → table_of (slice_get frames i) ≡ frame_table (slice_get (map frame_field_of frames) i)
+frame_of_level frames i = same_frame (slice_get frames i) ∙ ap frame_table (sym (slice_get-map frame_field_of frames i))
 
-pub loop_found : (g : GameLists) (k : Frames) (f : Fields) → f.count ≡ k.count → f.rows ≡ map row_of k.rows → f.looping ≡ presence k.turning
+pub loop_found : (g : GameLists) (k : Frames) (f : Fields) → f.count ≡ k.count → f.rows ≡ map frame_field_of k.rows → f.looping ≡ presence k.turning
     → f.turning ≡ loop_or_zeros k.turning → machine_fault g k k.turning ≡ None → turning_rest g f ≡ None
 loop_found g k f count rows looping turning h =
     loop_ruled g f f.turning
@@ -148,8 +148,8 @@ loop_found g k f count rows looping turning h =
         let s3 = second (has_code DOALL (condact_at g l.table l.entry l.at)) _ s2 in
         let code = first_of (has_code DOALL (condact_at g l.table l.entry l.at)) _ s2 in
         let low : nat_lt l.level f.count ≡ true = ap (nat_lt l.level) count ∙ first_of (nat_lt l.level k.count) _ s in
-        let table : is_that_table (row_table (slice_get f.rows l.level)) l.table ≡ true =
-        ap (λ (rs : List FrameField). is_that_table (row_table (slice_get rs l.level)) l.table) rows
+        let table : is_that_table (frame_table (slice_get f.rows l.level)) l.table ≡ true =
+        ap (λ (rs : List FrameField). is_that_table (frame_table (slice_get rs l.level)) l.table) rows
         ∙ (ap (λ (o : Option ℕ). is_that_table o l.table) (sym (frame_of_level k.rows l.level))
         ∙ first_of (is_that_table (table_of (slice_get k.rows l.level)) l.table) _ s1) in
         record {

@@ -22,39 +22,38 @@ use Rattle.paw_state.proofs.Back.{kept_back, same_world, kept_again, objects_sta
 use Rattle.paw_state.proofs.Back.{places_back, code_back, same_frames, held_back, line_length, same_pending, held_again}
 use Rattle.paw_state.proofs.EachField.{from_places, from_prompt, HasLengths, sized_at, from_numbers, from_pending}
 use Rattle.paw_state.proofs.EachField.{same_fields, from_saved, listed, from_piece, from_looping, from_tables}
-use Rattle.paw_state.proofs.Firsts.{nothing_left, or_none, free, rows_faults, held_faults, step, first_holds}
+use Rattle.paw_state.proofs.Firsts.{nothing_left, or_none, free, frames_faults, held_faults, step, first_holds}
 use Rattle.paw_state.proofs.Firsts.{places_same, kept_faults, line_same, all_hold}
 use Rattle.paw_state.proofs.Found.{take_filled, all_so, drop_filled, two, filled_take, none_in_zeros, length-filled}
 use Rattle.paw_state.proofs.Found.{no_first, two_none, none_first}
 use Rattle.paw_state.proofs.Keeping.{objects_length, kept_kept, no_machine_fault, machine_sound, line_kept, saved_sized}
 use Rattle.paw_state.proofs.Keeping.{places_sound, kept_sound, kept_from, saved_from, line_sound, code_low, held_sound}
 use Rattle.paw_state.proofs.Keeping.{places_from, held_kept}
-use Rattle.paw_state.proofs.Listed.{each_bytes, pending_same, rows_same, looping_same, held_same}
+use Rattle.paw_state.proofs.Listed.{each_bytes, pending_same, frames_same, looping_same, held_same}
 use Rattle.paw_state.proofs.Loops.{turning_rest, loop_counted, looping_low, presence_back, loop_sound, turning_back}
 use Rattle.paw_state.proofs.Loops.{loop_found}
 use Rattle.paw_state.proofs.Pieces.{each_byte, range_bytes}
 use Rattle.paw_state.proofs.Positions.{held_size_for, IsHeldOf, kept_held, held_placed, saved_held}
-use Rattle.paw_state.proofs.Rows.{four, rows_back, frames_back, rows_sound, frames_sound}
-use Rattle.paw_state.proofs.Written.{length-rows}
+use Rattle.paw_state.proofs.Frames.{frame_fields_back, frames_back, frame_fields_sound, frames_sound}
+use Rattle.paw_state.proofs.Written.{length-frames}
 use Rattle.paw_state.proofs.Shaped.{length-held}
 use Rattle.paw_state.proofs.Sizes.{helds_at_fit, held_at_fits, held_size, kept_size, entries_fit, loop_fits}
 use Rattle.paw_state.specs.Fields.{IsSizedHeld, AreSized, held_fields, flag_fields, place_fields, number_fields}
 use Rattle.paw_state.specs.Fields.{prompt_fields, table_fields, looping_fields, pending_fields, inside, fault_from}
 use Rattle.paw_state.specs.Fields.{prompt_of}
-use Rattle.paw_state.specs.State.{AreBytes, State, fields_of, filled, held_of, row_of, IsValidState, FitsFields}
+use Rattle.paw_state.specs.State.{AreBytes, State, fields_of, filled, held_of, frame_field_of, IsValidState, FitsFields}
 use Rattle.paw_state.specs.declared.fields.Fields.{Fields}
-use Rattle.paw_state.specs.declared.layout.TheConstants.{HELD_LENGTH, PENDING, PLACES, SAVED, SEED, PROMPT, ROWS}
+use Rattle.paw_state.specs.declared.layout.TheConstants.{HELD_LENGTH, PENDING, PLACES, SAVED, SEED, PROMPT, FRAMES}
 use Rattle.paw_state.specs.declared.layout.TheConstants.{LOOPING, EARLIER, PIECE, KEPT, DRAWS, EVENTS, COUNT, LINE}
 use Rattle.paw_state.specs.declared.layout.TheConstants.{FLAGS}
-use Rattle.paw_state.specs.inner.Faults.{rule, first, first_not, is_zero, places_fault, held_fault, kept_fault}
-use Rattle.paw_state.specs.inner.Faults.{row_fields_fault, fields_fault}
+use Rattle.paw_state.specs.inner.Faults.{first, first_not, is_zero, places_fault, held_fault, kept_fault}
+use Rattle.paw_state.specs.inner.Faults.{frame_fields_fault, fields_fault}
 use Rattle.paw_state.specs.inner.Fields.{parts_fault}
 use Rattle.paw_state.specs.inner.Fields.{fields_at}
 use Rattle.paw_state.specs.inner.Parts.{held_in, world_in, frames_in, frame_in}
 use Rattle.paw_state.specs.inner.State.{state_in}
 use Rattle.paw_state.specs.inner.State.{KeepsEach}
 use Rattle.paw_world.specs.World.{Position, IsSavedFor, IsWorld}
-use Rattle.paw_effects.specs.declared.act.Prompt.TheVariants as prompt
 use Rattle.std.proofs.Common.{reverse}
 use Rattle.paw_reading.specs.declared.places.OpenLoop.{OpenLoop}
 use Rattle.paw_process.specs.Kept.{frames_at}
@@ -83,14 +82,14 @@ faults_same g f s =
     let saved = held_fault g SAVED f.saved in
     let numbers = fault_from g SEED (number_fields f) in
     let prompts = fault_from g PROMPT (prompt_fields f) in
-    let tables = row_fields_fault g (unwrap_or (inside f) 0) None f.count ROWS f.rows in
+    let tables = frame_fields_fault g (unwrap_or (inside f) 0) None f.count FRAMES f.rows in
     let looping = fault_from g LOOPING (looping_fields f) in
     let pending = fault_from g EARLIER (pending_fields f) in
     let from_loop = step g LOOPING 8 (looping_fields f) (from_pending f) looping (option_or pending kept) refl (ap length (looping_same f))
     (pending_faults g f s) in
-    let from_rows = step g ROWS 55 (table_fields f) (from_looping f) tables (option_or looping (option_or pending kept))
-    (rows_faults g (unwrap_or (inside f) 0) (λ g. None) f.count ROWS f.rows)
-    (ap length (rows_same (unwrap_or (inside f) 0) (λ g. None) f.count f.rows) ∙ (length-rows f.rows ∙ ap (λ n. 5 * n) s.rows)) from_loop in
+    let from_rows = step g FRAMES 55 (table_fields f) (from_looping f) tables (option_or looping (option_or pending kept))
+    (frames_faults g (unwrap_or (inside f) 0) (λ g. None) f.count FRAMES f.rows)
+    (ap length (frames_same (unwrap_or (inside f) 0) (λ g. None) f.count f.rows) ∙ (length-frames f.rows ∙ ap (λ n. 5 * n) s.rows)) from_loop in
     let from_code = step g PROMPT 2 (prompt_fields f) (from_tables f) prompts (option_or tables (option_or looping (option_or pending kept)))
     refl refl from_rows in
     let from_seed = step g SEED 24 (number_fields f) (from_prompt f) numbers
@@ -116,7 +115,7 @@ pub record AreSound (g : GameLists) (f : Fields) : Type 0 where
   pub draws : nat_le f.draws (READ_LIMIT * (f.events + 1)) ≡ true
   pub prompt : nat_le f.prompt 4 ≡ true
   pub count : count_fits (inside f) f.count ≡ true
-  pub frames : row_fields_fault g (unwrap_or (inside f) 0) None f.count ROWS f.rows ≡ None
+  pub frames : frame_fields_fault g (unwrap_or (inside f) 0) None f.count FRAMES f.rows ≡ None
   pub looping : nat_le f.looping (if f.count == 0 then 0 else 1) ≡ true
   pub turning : turning_rest g f ≡ None
   pub pending : (is_some (inside f) || (f.pending == 0)) ≡ true
@@ -159,7 +158,7 @@ sound_of g f h =
     let drawn = nat_le f.draws (READ_LIMIT * (f.events + 1)) in
     let p =
     eight (places_fault g PLACES f.places) (held_fault g SAVED f.saved) (fault_from g SEED (number_fields f)) (fault_from g PROMPT (prompt_fields f))
-    (row_fields_fault g (unwrap_or (inside f) 0) None f.count ROWS f.rows) (fault_from g LOOPING (looping_fields f))
+    (frame_fields_fault g (unwrap_or (inside f) 0) None f.count FRAMES f.rows) (fault_from g LOOPING (looping_fields f))
     (fault_from g EARLIER (pending_fields f)) (kept_fault g KEPT f.kept) h in
     let n = first_holds g DRAWS _ _ (first_holds g SEED _ _ p.2).1 in
     let m = first_holds g EVENTS _ _ n.1 in
@@ -189,13 +188,13 @@ none_of g f s =
     let numbers : fault_from g SEED (number_fields f) ≡ None =
     all_hold g SEED _ _ refl (all_hold g DRAWS _ _ (draws_said few drawn s.draws) (all_hold g EVENTS _ _ s.events (nothing_left g PROMPT))) in
     let prompts : fault_from g PROMPT (prompt_fields f) ≡ None =
-    all_hold g PROMPT _ _ s.prompt (all_hold g COUNT _ _ s.count (nothing_left g ROWS)) in
+    all_hold g PROMPT _ _ s.prompt (all_hold g COUNT _ _ s.count (nothing_left g FRAMES)) in
     let looping : fault_from g LOOPING (looping_fields f) ≡ None =
     all_hold g LOOPING _ _ s.looping s.turning in
     let pending : fault_from g EARLIER (pending_fields f) ≡ None =
     all_hold g EARLIER _ _ refl (all_hold g PENDING _ _ s.pending (line_same g LINE f ∙ s.line)) in
     eight_none (places_fault g PLACES f.places) (held_fault g SAVED f.saved) (fault_from g SEED (number_fields f)) (fault_from g PROMPT (prompt_fields f))
-    (row_fields_fault g (unwrap_or (inside f) 0) None f.count ROWS f.rows) (fault_from g LOOPING (looping_fields f))
+    (frame_fields_fault g (unwrap_or (inside f) 0) None f.count FRAMES f.rows) (fault_from g LOOPING (looping_fields f))
     (fault_from g EARLIER (pending_fields f)) (kept_fault g KEPT f.kept) s.places s.saved numbers prompts s.frames looping pending s.kept
 
 -- ---- from fields to a state, and back ----
@@ -209,7 +208,7 @@ state_back g f v z s =
     refl refl refl
     (code_back f.prompt (leb-true f.prompt 4 s.prompt))
     refl
-    (rows_back g (unwrap_or (waiting_code (prompt_of f.prompt)) 0) None f.count ROWS f.rows s.frames)
+    (frame_fields_back g (unwrap_or (waiting_code (prompt_of f.prompt)) 0) None f.count FRAMES f.rows s.frames)
     (presence_back f.turning f.looping (looping_low f.looping f.count s.looping))
     (turning_back g f s.turning)
     refl n
@@ -239,7 +238,7 @@ fields_back g s k =
 pub frames_kept : (g : GameLists) (f : Fields) → AreSound g f → fault_at g (waiting_code (prompt_of f.prompt)) (frames_in f) ≡ None
 frames_kept g f s =
     no_machine_fault g (waiting_code (prompt_of f.prompt)) (frames_in f) s.count
-    (rows_sound g (unwrap_or (waiting_code (prompt_of f.prompt)) 0) None f.count ROWS 0 f.rows s.frames) (loop_sound g f s.turning)
+    (frame_fields_sound g (unwrap_or (waiting_code (prompt_of f.prompt)) 0) None f.count FRAMES 0 f.rows s.frames) (loop_sound g f s.turning)
 
 -- the world that the fields say is a world
 sound_in : (g : GameLists) (f : Fields) → Valid g → AreSized f → AreSound g f → IsWorld (state_in g f).world
@@ -290,8 +289,8 @@ sound_fields g s k =
       prompt = code_low s.prompt;
       count = subst (λ (p : Prompt). count_fits (waiting_code p) s.frames.count ≡ true) again m.count;
       frames =
-          subst (λ (p : Prompt). row_fields_fault g (unwrap_or (waiting_code p) 0) None s.frames.count ROWS (map row_of s.frames.rows) ≡ None) again
-          (frames_sound g (unwrap_or (waiting_code s.prompt) 0) None s.frames.count ROWS 0 s.frames.rows m.rows);
+          subst (λ (p : Prompt). frame_fields_fault g (unwrap_or (waiting_code p) 0) None s.frames.count FRAMES (map frame_field_of s.frames.rows) ≡ None) again
+          (frames_sound g (unwrap_or (waiting_code s.prompt) 0) None s.frames.count FRAMES 0 s.frames.rows m.rows);
       looping = loop_counted g s.frames m.turning;
       turning = loop_found g s.frames (fields_of s) refl refl refl refl m.turning;
       pending = subst (λ (p : Prompt). (is_some (waiting_code p) || (length s.pending.bytes == 0)) ≡ true) again
@@ -307,7 +306,7 @@ lengths_of g s of world rows line = record {
   flags = of.flags;
   places = length-filled s.world.places world.objects;
   saved = saved_sized (length s.world.places) s.world.saved world.objects world.saved;
-  rows = length-map s.frames.rows row_of ∙ rows;
+  rows = length-map s.frames.rows frame_field_of ∙ rows;
   line = length-filled s.pending.bytes line;
   kept = All-map IsSizedHeld held_of s.world.kept
       (λ i d low. saved_sized (length s.world.places) (get_or s.world.kept i d) world.objects (world.kept.each i d low));
@@ -379,7 +378,7 @@ sized_of g s v k h =
       seed = h.seed;
       draws = h.draws;
       events = h.events;
-      rows = length-map s.frames.rows row_of ∙ k.rows;
+      rows = length-map s.frames.rows frame_field_of ∙ k.rows;
       entries = entries_fit g (unwrap_or (waiting_code s.prompt) 0) None s.frames.count 0 s.frames.rows v m.rows;
       loop_entry = loop_fits g s.frames s.frames.turning v m.turning;
       pending = omega (arith, k.line);

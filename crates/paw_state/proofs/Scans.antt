@@ -1,7 +1,7 @@
 -- Looking through bytes and rows one by one.
-use Rattle.std.proofs.Common.{◌≡◌, ℕ, zero, suc, ◌+◌, ◌-◌, ◌*◌, ◌<◌, ◌≤◌, Bool, true, false, List, [], ◌∷◌, ◌++◌}
+use Rattle.std.proofs.Common.{◌≡◌, ℕ, suc, ◌+◌, ◌-◌, ◌<◌, ◌≤◌, Bool, true, false, List, [], ◌∷◌}
 use Rattle.std.proofs.Common.{Option}
-use Rattle.std.proofs.Common.{Some, None, length, take, drop, set, get_or, refl, sym, ap, ◌∙◌, add-one, subst, arith}
+use Rattle.std.proofs.Common.{Some, None, length, drop, get_or, refl, sym, ap, ◌∙◌, add-one, arith}
 use Rattle.std.specs.Prelude.{if◌then◌else◌}
 use Rattle.std.proofs.Math.Seq.{drop-cons}
 use Rattle.std.proofs.lemmas.List.{drop_all}
@@ -10,7 +10,7 @@ use Rattle.paw_state.specs.declared.layout.TheConstants.{HELD_LENGTH}
 use Rattle.paw_state.specs.declared.fields.FrameField.{FrameField}
 use Rattle.paw_state.specs.declared.position_field.PositionField.{PositionField}
 use Rattle.std.specs.Option.{option_or}
-use Rattle.paw_state.specs.inner.Faults.{rule, first_not, held_fault, kept_fault, row_fault, row_fields_fault}
+use Rattle.paw_state.specs.inner.Faults.{rule, first_not, held_fault, kept_fault, frame_fault, frame_fields_fault}
 use Rattle.paw_state.specs.inner.Faults.{called_table}
 
 -- ---- bytes ----
@@ -56,26 +56,26 @@ at_end p at i bytes low h = sym (none_left p (at + i)) ∙ (ap (first_not p (at 
 
 -- ---- rows ----
 
-pub no_rows : (g : GameLists) (code : ℕ) (caller : Option ℕ) (n at : ℕ) (rows : List FrameField) → length rows ≡ 0 → None
-    ≡ row_fields_fault g code caller n at rows
-unfolding row_fields_fault
-no_rows g code caller n at [] h = refl
-no_rows g code caller n at (r ∷ rs) h = absurd (omega arith)
+pub no_frames : (g : GameLists) (code : ℕ) (caller : Option ℕ) (n at : ℕ) (rows : List FrameField) → length rows ≡ 0 → None
+    ≡ frame_fields_fault g code caller n at rows
+unfolding frame_fields_fault
+no_frames g code caller n at [] h = refl
+no_frames g code caller n at (r ∷ rs) h = absurd (omega arith)
 
-first_row : (g : GameLists) (code : ℕ) (caller : Option ℕ) (n at : ℕ) (rows : List FrameField) (r : FrameField) (rs : List FrameField) → rows ≡ r ∷ rs
-    → option_or (row_fault g code caller n at r) (row_fields_fault g code (called_table g r) (n - 1) (at + 5) rs) ≡ row_fields_fault g code caller n at rows
-unfolding row_fields_fault
-first_row g code caller n at rows r rs e = rw e refl
+first_frame : (g : GameLists) (code : ℕ) (caller : Option ℕ) (n at : ℕ) (rows : List FrameField) (r : FrameField) (rs : List FrameField) → rows ≡ r ∷ rs
+    → option_or (frame_fault g code caller n at r) (frame_fields_fault g code (called_table g r) (n - 1) (at + 5) rs) ≡ frame_fields_fault g code caller n at rows
+unfolding frame_fields_fault
+first_frame g code caller n at rows r rs e = rw e refl
 
-pub row_stops : (g : GameLists) (code : ℕ) (caller : Option ℕ) (n at x : ℕ) (rows : List FrameField) (r : FrameField) (rs : List FrameField) → rows ≡ r ∷ rs
-    → Some x ≡ row_fault g code caller n at r → Some x ≡ row_fields_fault g code caller n at rows
-row_stops g code caller n at x rows r rs e h =
-    ap (λ (o : Option ℕ). option_or o (row_fields_fault g code (called_table g r) (n - 1) (at + 5) rs)) h ∙ first_row g code caller n at rows r rs e
+pub frame_stops : (g : GameLists) (code : ℕ) (caller : Option ℕ) (n at x : ℕ) (rows : List FrameField) (r : FrameField) (rs : List FrameField) → rows ≡ r ∷ rs
+    → Some x ≡ frame_fault g code caller n at r → Some x ≡ frame_fields_fault g code caller n at rows
+frame_stops g code caller n at x rows r rs e h =
+    ap (λ (o : Option ℕ). option_or o (frame_fields_fault g code (called_table g r) (n - 1) (at + 5) rs)) h ∙ first_frame g code caller n at rows r rs e
 
-pub row_passes : (g : GameLists) (code : ℕ) (caller : Option ℕ) (n at : ℕ) (rows : List FrameField) (r : FrameField) (rs : List FrameField) → rows ≡ r ∷ rs
-    → None ≡ row_fault g code caller n at r → row_fields_fault g code (called_table g r) (n - 1) (at + 5) rs ≡ row_fields_fault g code caller n at rows
-row_passes g code caller n at rows r rs e h =
-    ap (λ (o : Option ℕ). option_or o (row_fields_fault g code (called_table g r) (n - 1) (at + 5) rs)) h ∙ first_row g code caller n at rows r rs e
+pub frame_passes : (g : GameLists) (code : ℕ) (caller : Option ℕ) (n at : ℕ) (rows : List FrameField) (r : FrameField) (rs : List FrameField) → rows ≡ r ∷ rs
+    → None ≡ frame_fault g code caller n at r → frame_fields_fault g code (called_table g r) (n - 1) (at + 5) rs ≡ frame_fields_fault g code caller n at rows
+frame_passes g code caller n at rows r rs e h =
+    ap (λ (o : Option ℕ). option_or o (frame_fields_fault g code (called_table g r) (n - 1) (at + 5) rs)) h ∙ first_frame g code caller n at rows r rs e
 
 -- ---- kept positions ----
 

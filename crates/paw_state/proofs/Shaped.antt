@@ -1,5 +1,5 @@
 -- The laws of shapes: a value has its bytes, stands where they are, and bytes are those of the value that stands in them.
-use Rattle.std.proofs.Common.{◌≡◌, ℕ, zero, suc, ◌+◌, ◌-◌, ◌*◌, ◌<◌, ◌≤◌, ◌^◌, List, [], ◌∷◌, ◌++◌, length, take, drop}
+use Rattle.std.proofs.Common.{◌≡◌, ℕ, zero, suc, ◌+◌, ◌-◌, ◌*◌, ◌<◌, ◌≤◌, List, [], ◌∷◌, ◌++◌, length, take, drop}
 use Rattle.std.proofs.Common.{refl, sym, ap, ◌∙◌, set, subst, add-one, arith}
 use Rattle.std.specs.Prelude.{All, flat_map, slice_range}
 use Rattle.std.specs.Int.{w16, w64, from_le_bytes, to_le_bytes}

@@ -1,12 +1,9 @@
 -- Arrays have their lengths, and numbers fit their fields.
-use Rattle.std.proofs.Common.{◌≡◌, ℕ, zero, suc, ◌+◌, ◌-◌, ◌<◌, ◌≤◌, ◌^◌, ◌==◌, ◌&&◌, Bool, true, false, List, [], ◌∷◌}
-use Rattle.std.proofs.Common.{Option, Some, None, length, map, take, drop, get_or, nat_lt, refl, ap, ◌∙◌, lit<, arith}
-use Rattle.std.specs.Prelude.{All, slice_get, slice_index, slice_range, if◌then◌else◌}
-use Rattle.std.specs.Option.{unwrap_or}
-use Rattle.std.proofs.lemmas.List.{length-map}
+use Rattle.std.proofs.Common.{◌≡◌, ℕ, zero, suc, ◌+◌, ◌-◌, ◌<◌, ◌^◌, ◌==◌, ◌&&◌, Bool, true, false, List, [], ◌∷◌}
+use Rattle.std.proofs.Common.{Option, Some, None, map, take, get_or, nat_lt, refl, lit<, arith}
+use Rattle.std.specs.Prelude.{All, slice_get, if◌then◌else◌}
 use Rattle.std.proofs.lemmas.List.Elements.{All-cons, All-nil, All-take, All-map}
 use Rattle.std.proofs.lemmas.Bool.{eqb-true}
-use Rattle.paw_base.specs.declared.layout.TheConstants.{STATE_LENGTH}
 use Rattle.paw_base.specs.declared.parts.Condact.{Condact}
 use Rattle.paw_game.specs.Game.{GameLists}
 use Rattle.paw_game.specs.Valid.{Valid}
@@ -19,27 +16,23 @@ use Rattle.paw_reading.specs.declared.places.OpenLoop.{OpenLoop}
 use Rattle.paw_process.specs.declared.kept.Frames.{Frames}
 use Rattle.paw_process.specs.Kept.{may_open, has_code, parameter_of}
 use Rattle.paw_process.specs.inner.Kept.{condact_at_frame, is_unused, row_stands}
-use Rattle.paw_process.specs.Kept.{waiting_code}
 use Rattle.paw_process.specs.inner.Kept.{is_that_table}
 use Rattle.paw_process.specs.inner.Kept.{loop_stands}
 use Rattle.paw_process.proofs.Rows.{table_of}
 use Rattle.paw_process.specs.inner.Kept.{rows_fault as machine_rows, loop_fault as machine_loop}
 use Rattle.paw_process.proofs.Restored.{first_of, second}
-use Rattle.paw_state.specs.declared.layout.TheConstants.{HELD_LENGTH, FLAGS, PLACES, SAVED, EARLIER, PENDING, LINE}
-use Rattle.paw_state.specs.declared.layout.TheConstants.{PIECE, KEPT}
+use Rattle.paw_state.specs.declared.layout.TheConstants.{HELD_LENGTH}
 use Rattle.paw_state.specs.declared.fields.FrameField.{FrameField}
 use Rattle.paw_state.specs.declared.position_field.PositionField.{PositionField}
-use Rattle.paw_state.specs.State.{State, AreBytes, HoldsBytes, FitsFields}
-use Rattle.paw_state.specs.inner.State.{KeepsEach}
-use Rattle.paw_state.specs.State.{held_of, row_of, fields_of}
+use Rattle.paw_state.specs.State.{AreBytes, HoldsBytes}
+use Rattle.paw_state.specs.State.{held_of, frame_field_of}
 use Rattle.paw_state.specs.inner.State.{loop_or_zeros}
 use Rattle.paw_state.specs.inner.Shapes.{values_at}
-use Rattle.paw_state.specs.inner.Fields.{held_shape, fields_at}
+use Rattle.paw_state.specs.inner.Fields.{held_shape}
 use Rattle.paw_state.specs.inner.Parts.{held_in}
-use Rattle.paw_state.specs.inner.State.{state_in}
-use Rattle.paw_state.proofs.Pieces.{range_bytes, each_byte}
-use Rattle.paw_state.proofs.Positions.{IsHeldOf, saved_held, kept_held}
-use Rattle.paw_state.specs.Fields.{IsSizedHeld, AreSized}
+use Rattle.paw_state.proofs.Pieces.{range_bytes}
+use Rattle.paw_state.proofs.Positions.{IsHeldOf}
+use Rattle.paw_state.specs.Fields.{IsSizedHeld}
 use Rattle.paw_state.proofs.Found.{length-zeros, length-filled}
 
 -- ---- the state that is read ----
@@ -68,8 +61,8 @@ coded : (g : GameLists) (t e k code : ℕ) (o : Option Condact) → Valid g → 
 coded g t e k code None v is h = cc
 coded g t e k code (Some c) v is h = let low = condact-small g v t e k c is in omega (arith, low)
 
-row_entry : (g : GameLists) (code : ℕ) (caller : Option ℕ) (n : ℕ) (f : Frame) → Valid g → row_stands g code caller n f ≡ true → f.entry < 2 ^ 16
-row_entry g code caller n f v h = go (n == 0) h
+frame_entry : (g : GameLists) (code : ℕ) (caller : Option ℕ) (n : ℕ) (f : Frame) → Valid g → row_stands g code caller n f ≡ true → f.entry < 2 ^ 16
+frame_entry g code caller n f v h = go (n == 0) h
   where
     go : (b : Bool) → (if b then is_unused f else may_open caller f.table && has_code (if n == 1 then code else 85) (condact_at_frame g f)) ≡ true →
         f.entry < 2 ^ 16
@@ -77,17 +70,17 @@ row_entry g code caller n f v h = go (n == 0) h
     go false q = coded g f.table f.entry f.at (if n == 1 then code else 85) (condact_at_frame g f) v refl (second (may_open caller f.table) _ q)
 
 pub entries_fit : (g : GameLists) (code : ℕ) (caller : Option ℕ) (n d : ℕ) (frames : List Frame) → Valid g → machine_rows g code caller n d frames ≡ None
-    → All (λ r. r.entry < 2 ^ 16) (map row_of frames)
+    → All (λ r. r.entry < 2 ^ 16) (map frame_field_of frames)
 unfolding machine_rows
 entries_fit g code caller n d [] v h = λ k e low. absurd (omega (arith, low))
 entries_fit g code caller n d (f ∷ fs) v h = go (entries_fit g code (Some (parameter_of (condact_at_frame g f))) (n - 1) (suc d) fs v)
     (row_stands g code caller n f) refl h
   where
-    go : (machine_rows g code (Some (parameter_of (condact_at_frame g f))) (n - 1) (suc d) fs ≡ None → All (λ r. r.entry < 2 ^ 16) (map row_of fs))
+    go : (machine_rows g code (Some (parameter_of (condact_at_frame g f))) (n - 1) (suc d) fs ≡ None → All (λ r. r.entry < 2 ^ 16) (map frame_field_of fs))
         → (b : Bool) → row_stands g code caller n f ≡ b
         → ◌≡◌ {A = Option ℕ} (if b then machine_rows g code (Some (parameter_of (condact_at_frame g f))) (n - 1) (suc d) fs else Some d) None
-        → All (λ r. r.entry < 2 ^ 16) (map row_of (f ∷ fs))
-    go later true e q = All-cons (λ (r : FrameField). r.entry < 2 ^ 16) (row_of f) (map row_of fs) (row_entry g code caller n f v e) (later q)
+        → All (λ r. r.entry < 2 ^ 16) (map frame_field_of (f ∷ fs))
+    go later true e q = All-cons (λ (r : FrameField). r.entry < 2 ^ 16) (frame_field_of f) (map frame_field_of fs) (frame_entry g code caller n f v e) (later q)
     go later false e q = cc
 
 pub loop_fits : (g : GameLists) (k : Frames) (o : Option OpenLoop) → Valid g → machine_loop g k o ≡ None → (loop_or_zeros o).entry < 2 ^ 16

@@ -14,7 +14,7 @@ use Rattle.paw_state.specs.inner.Fields.{held_shape}
 use Rattle.paw_state.specs.State.{held_of, fields_of, state_bytes}
 use Rattle.paw_state.proofs.Found.{length-zeros}
 use Rattle.paw_state.proofs.EachField.{state_same}
-use Rattle.paw_state.proofs.EachField.{before_piece, state_ends}
+use Rattle.paw_state.proofs.EachField.{before_piece, after_piece, state_ends}
 use Rattle.paw_state.proofs.Told.{AreLong}
 
 -- four times nothing
@@ -22,22 +22,18 @@ none_bytes : flat_map held_shape.bytes (map held_of (replicate 4 None)) ≡ zero
 unfolding zeros
 none_bytes = refl
 
-kept_bytes : State → List ℕ
-kept_bytes s = flat_map held_shape.bytes (fields_of s).kept
-
-unkept_bytes : (s : State) → s.world.kept ≡ replicate 4 None → kept_bytes s ≡ zeros 2048
-unfolding kept_bytes
+unkept_bytes : (s : State) → s.world.kept ≡ replicate 4 None → after_piece (fields_of s) ≡ zeros 2048
 unkept_bytes s none = ap (λ (ks : List (Option Position)). flat_map held_shape.bytes (map held_of ks)) none ∙ none_bytes
 
 -- the bytes before the kept positions
 before_kept : Fields → List ℕ
 before_kept f = before_piece f ++ two_bytes f.piece
 
-state_splits : (s : State) → state_bytes s ≡ before_kept (fields_of s) ++ kept_bytes s
-unfolding before_kept kept_bytes
+state_splits : (s : State) → state_bytes s ≡ before_kept (fields_of s) ++ after_piece (fields_of s)
+unfolding before_kept
 state_splits s =
     let f = fields_of s in
-    state_same s ∙ (state_ends f ∙ sym (append_assoc (before_piece f) (two_bytes f.piece) (flat_map held_shape.bytes f.kept)))
+    state_same s ∙ (state_ends f ∙ sym (append_assoc (before_piece f) (two_bytes f.piece) (after_piece f)))
 
 cut_back : (bytes front back : List ℕ) → bytes ≡ front ++ back → length bytes ≡ STATE_LENGTH → back ≡ zeros 2048 →
     take KEPT bytes ++ zeros 2048 ≡ bytes
@@ -50,4 +46,4 @@ cut_back bytes front back e n z =
 -- so its first 1,371 bytes and 2,048 zeros are the state
 pub ends_in_zeros : (s : State) → AreLong s → s.world.kept ≡ replicate 4 None → take KEPT (state_bytes s) ++ zeros 2048 ≡ state_bytes s
 ends_in_zeros s long none =
-    cut_back (state_bytes s) (before_kept (fields_of s)) (kept_bytes s) (state_splits s) long.all (unkept_bytes s none)
+    cut_back (state_bytes s) (before_kept (fields_of s)) (after_piece (fields_of s)) (state_splits s) long.all (unkept_bytes s none)

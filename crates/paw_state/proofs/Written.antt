@@ -7,7 +7,6 @@ use Rattle.std.proofs.lemmas.List.{append_assoc, take_all, length-append, length
 use Rattle.std.proofs.lemmas.List.{drop-replicate, length-take}
 use Rattle.std.proofs.lemmas.Slice.{take-put_mid, drop-put_mid}
 use borrow.Rule.Slice.PartMut.{put_mid}
-use Rattle.paw_base.specs.declared.layout.TheConstants.{STATE_LENGTH}
 use Rattle.paw_state.specs.declared.layout.TheConstants.{STATE_ROOM}
 use Rattle.paw_state.specs.declared.fields.FrameField.{FrameField}
 use Rattle.paw_state.specs.State.{zeros, filled}
@@ -54,17 +53,17 @@ three w0 w1 w2 w3 x y z e f g = rw (g, f, e) (simp append_assoc)
 pub filled_behind : (bytes new : List ℕ) → new ≡ bytes → new ++ drop (length bytes) (replicate 255 0) ≡ filled 255 bytes
 filled_behind bytes new h = rw (h, zeros_all 255) (ap (λ (l : List ℕ). bytes ++ l) (drop-zeros (length bytes) 255))
 
--- ---- rows ----
+-- ---- frames ----
 
-pub length-rows : (rows : List FrameField) → length (flat_map frame_shape.bytes rows) ≡ 5 * length rows
-length-rows [] = refl
-length-rows (r ∷ rs) = length-append (frame_shape.bytes r) (flat_map frame_shape.bytes rs) ∙ (ap (λ n. 5 + n) (length-rows rs) ∙ omega arith)
+pub length-frames : (rows : List FrameField) → length (flat_map frame_shape.bytes rows) ≡ 5 * length rows
+length-frames [] = refl
+length-frames (r ∷ rs) = length-append (frame_shape.bytes r) (flat_map frame_shape.bytes rs) ∙ (ap (λ n. 5 + n) (length-frames rs) ∙ omega arith)
 
-pub room_for_row : (rows : List FrameField) (old new : List ℕ) (i : ℕ) → i < length rows → length rows ≡ 11 → new ≡ old ++ flat_map frame_shape.bytes (take i rows)
+pub room_for_frame : (rows : List FrameField) (old new : List ℕ) (i : ℕ) → i < length rows → length rows ≡ 11 → new ≡ old ++ flat_map frame_shape.bytes (take i rows)
     → length old + 55 ≤ STATE_ROOM → length new + 5 ≤ STATE_ROOM
-room_for_row rows old new i low size h room =
+room_for_frame rows old new i low size h room =
     let n : length new ≡ length old + 5 * length (take i rows) =
-    ap length h ∙ (length-append old (flat_map frame_shape.bytes (take i rows)) ∙ ap (λ k. length old + k) (length-rows (take i rows))) in
+    ap length h ∙ (length-append old (flat_map frame_shape.bytes (take i rows)) ∙ ap (λ k. length old + k) (length-frames (take i rows))) in
     omega (arith, n, length-take i rows)
 
 -- ---- lists that are mapped one by one ----
@@ -80,13 +79,3 @@ pub mapped_all : {A B : Type 0} → (f : A → B) (xs : List A) (ys : List B) (i
     → take i ys ≡ take i (map f xs) → ys ≡ map f xs
 mapped_all f xs ys i kx ky low h =
     sym (take_all i ys (omega arith)) ∙ (h ∙ take_all i (map f xs) (omega (arith, length-map xs f)))
-
--- ---- all fields ----
-
-pub all_written : (w0 w1 w2 w3 w4 w5 last a b c n p r e l y k : List ℕ) → w0 ≡ [] → w1 ≡ w0 ++ (a ++ (b ++ c)) → w2 ≡ w1 ++ n →
-    w3 ≡ w2 ++ (p ++ (r ++ e)) → w4 ≡ w3 ++ (l ++ y) → w5 ≡ w4 ++ k
-    → length w5 ≡ STATE_LENGTH → last ≡ w5 ++ zeros (STATE_ROOM - length w5)
-    → last ≡ (a ++ (b ++ (c ++ (n ++ (p ++ (r ++ (e ++ (l ++ (y ++ k))))))))) ++ zeros (STATE_ROOM - STATE_LENGTH)
-all_written w0 w1 w2 w3 w4 w5 last a b c n p r e l y k e0 e1 e2 e3 e4 e5 size h =
-    let all : w5 ≡ a ++ (b ++ (c ++ (n ++ (p ++ (r ++ (e ++ (l ++ (y ++ k)))))))) = rw (e5, e4, e3, e2, e1, e0) (simp append_assoc) in
-    h ∙ (ap (λ (i : ℕ). w5 ++ zeros (STATE_ROOM - i)) size ∙ ap (λ (l : List ℕ). l ++ zeros (STATE_ROOM - STATE_LENGTH)) all)

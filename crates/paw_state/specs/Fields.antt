@@ -81,23 +81,23 @@ place_fields places = one_by_one place_holds 0 places
 abbrev pub held_fields : PositionField → List Field
 held_fields h = byte h.there (λ g. nat_le h.there 1) ∷ if_there h.there (flag_fields h.flags ++ place_fields h.places)
 
--- The fields of a row, where n rows are used from this one on: table, entry, condact, and 1 where an action was carried
--- out; all are 0 where n is 0. Its table is the one called, or 0, 1 or 2 for the outermost. The last used row is at the
+-- The fields of a frame, where n frames are used from this one on: table, entry, condact, and 1 where an action was carried
+-- out; all are 0 where n is 0. Its table is the one called, or 0, 1 or 2 for the outermost. The last used frame is at the
 -- condact with this code, each other at a PROCESS.
-abbrev pub row_fields : ℕ → (GameLists → Option ℕ) → ℕ → FrameField → List Field
-row_fields code caller n r = if_there n (
+abbrev pub frame_fields : ℕ → (GameLists → Option ℕ) → ℕ → FrameField → List Field
+frame_fields code caller n r = if_there n (
     byte r.table (λ g. may_open (caller g) r.table)
     ∷ two r.entry (λ g. is_some (head_at g r.table r.entry))
     ∷ byte r.at (λ g. has_code (if n == 1 then code else PROCESS) (condact_at g r.table r.entry r.at))
     ∷ byte r.acted (λ g. nat_le r.acted 1)
     ∷ [])
 
--- The fields of rows, the first n of which are used; the PROCESS of each calls the table of the next.
-unfoldable pub rows_fields : ℕ → (GameLists → Option ℕ) → ℕ → List FrameField → List Field
-rows_fields code caller n [] = []
-rows_fields code caller n (r ∷ rs) =
-    row_fields code caller n r
-    ++ rows_fields code (λ g. Some (parameter_of (condact_at g r.table r.entry r.at))) (n - 1) rs
+-- The fields of frames, the first n of which are used; the PROCESS of each calls the table of the next.
+unfoldable pub frames_fields : ℕ → (GameLists → Option ℕ) → ℕ → List FrameField → List Field
+frames_fields code caller n [] = []
+frames_fields code caller n (r ∷ rs) =
+    frame_fields code caller n r
+    ++ frames_fields code (λ g. Some (parameter_of (condact_at g r.table r.entry r.at))) (n - 1) rs
 
 -- The fields of the open loop: the level and the number of an open table, entry, condact (a DOALL), place, last object.
 abbrev pub loop_fields : Fields → OpenLoop → List Field
@@ -132,9 +132,9 @@ number_fields f =
 abbrev pub prompt_fields : Fields → List Field
 prompt_fields f = byte f.prompt (λ g. nat_le f.prompt 4) ∷ byte f.count (λ g. count_fits (inside f) f.count) ∷ []
 
--- The rows of the open tables.
+-- The frames of the open tables.
 abbrev pub table_fields : Fields → List Field
-table_fields f = rows_fields (unwrap_or (inside f) 0) (λ g. None) f.count f.rows
+table_fields f = frames_fields (unwrap_or (inside f) 0) (λ g. None) f.count f.rows
 
 -- Whether a loop is open (never where no table is), and the loop.
 abbrev pub looping_fields : Fields → List Field
@@ -150,7 +150,7 @@ pending_fields f =
     byte f.earlier (λ g. true) ∷ byte f.pending (λ g. is_some (inside f) || (f.pending == 0)) ∷ line_fields f
 
 -- All fields of a state, in order: flags and places, now and in the saved position; the numbers; the prompt, the number
--- of open tables, and their rows; the open loop; what is pending; the length of the last piece; the kept positions.
+-- of open tables, and their frames; the open loop; what is pending; the length of the last piece; the kept positions.
 unfoldable pub state_fields : Fields → List Field
 state_fields f =
     flag_fields f.flags

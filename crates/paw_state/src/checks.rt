@@ -4,10 +4,10 @@ ghost use Rattle.std.specs.Prelude.{◌≡◌, ◌+◌, ◌<◌, ◌≤◌, ◌^
 ghost use Rattle.std.specs.Prelude.{None, drop, ◌≢◌, ◌==◌, false};
 ghost use Rattle.std.specs.Option.{option_map_or, unwrap_or};
 ghost use Rattle.paw_game.specs.Valid.{Valid, is_place};
-ghost use Rattle.paw_state.specs.declared.layout.TheConstants.{HELD_LENGTH, ROW_LENGTH, STATE_ROOM, SEED, PROMPT};
-ghost use Rattle.paw_state.specs.declared.layout.TheConstants.{ROWS, LOOPING, LOOP_LEVEL, EARLIER, LINE};
+ghost use Rattle.paw_state.specs.declared.layout.TheConstants.{HELD_LENGTH, FRAME_LENGTH, STATE_ROOM, SEED, PROMPT};
+ghost use Rattle.paw_state.specs.declared.layout.TheConstants.{FRAMES, LOOPING, LOOP_LEVEL, EARLIER, LINE};
 ghost use Rattle.paw_state.specs.inner.Faults.{rule, first_not, is_zero, places_fault, absent_fault, held_fault};
-ghost use Rattle.paw_state.specs.inner.Faults.{kept_fault, unused_fault, used_fault, row_fault, row_fields_fault};
+ghost use Rattle.paw_state.specs.inner.Faults.{kept_fault, unused_fault, used_fault, frame_fault, frame_fields_fault};
 ghost use Rattle.paw_state.specs.inner.Fields.{parts_fault};
 ghost use Rattle.paw_state.specs.inner.Faults.{fault_of};
 ghost use Rattle.paw_state.specs.Fields.{prompt_of, fault_from, number_fields, prompt_fields, looping_fields};
@@ -16,9 +16,9 @@ ghost use Rattle.paw_state.specs.Fields.{loop_fields, pending_fields, inside};
 use crate::StateFault;
 use crate::fields::{Fields, FrameField};
 use crate::layout::{
-    COUNT, DRAWS, EVENTS, HELD_FLAGS, HELD_LENGTH, HELD_PLACES, KEPT, LINE, LOOP_AT, LOOP_ENTRY,
-    LOOP_LAST, LOOP_LEVEL, LOOP_PLACE, LOOP_TABLE, LOOPING, PENDING, PLACES, PROMPT, ROW_ACTED,
-    ROW_AT, ROW_ENTRY, ROW_LENGTH, ROWS, SAVED,
+    COUNT, DRAWS, EVENTS, FRAME_ACTED, FRAME_AT, FRAME_ENTRY, FRAME_LENGTH, FRAMES, HELD_FLAGS,
+    HELD_LENGTH, HELD_PLACES, KEPT, LINE, LOOP_AT, LOOP_ENTRY, LOOP_LAST, LOOP_LEVEL, LOOP_PLACE,
+    LOOP_TABLE, LOOPING, PENDING, PLACES, PROMPT, SAVED,
 };
 use crate::position_field::PositionField;
 use paw_base::codes::{DOALL, PROCESS};
@@ -145,18 +145,18 @@ fn check_prompt<T: Tables>(_tables: &T, fields: &Fields) -> Result<(), StateFaul
     )
 }
 
-/// Checks a row that isn't used.
+/// Checks a frame that isn't used.
 fn check_unused(at: usize, row: &FrameField) -> Result<(), StateFault>
     requires near { at < STATE_ROOM }
     ensures value { fault_of result ≡ unused_fault at row.now }
 {
     rule(at, row.table == 0)?;
-    rule(at + ROW_ENTRY, row.entry == 0)?;
-    rule(at + ROW_AT, row.at == 0)?;
-    rule(at + ROW_ACTED, row.acted == 0)
+    rule(at + FRAME_ENTRY, row.entry == 0)?;
+    rule(at + FRAME_AT, row.at == 0)?;
+    rule(at + FRAME_ACTED, row.acted == 0)
 }
 
-/// Checks a row that is used, at a condact of this code.
+/// Checks a frame that is used, at a condact of this code.
 fn check_used<T: Tables>(
     tables: &T,
     code: u8,
@@ -169,13 +169,16 @@ fn check_used<T: Tables>(
 {
     let condact = tables.condact(row.table, row.entry, row.at);
     rule(at, may_open(caller, row.table))?;
-    rule(at + ROW_ENTRY, tables.head(row.table, row.entry).is_some())?;
-    rule(at + ROW_AT, has_code(code, condact))?;
-    rule(at + ROW_ACTED, row.acted <= 1)
+    rule(
+        at + FRAME_ENTRY,
+        tables.head(row.table, row.entry).is_some(),
+    )?;
+    rule(at + FRAME_AT, has_code(code, condact))?;
+    rule(at + FRAME_ACTED, row.acted <= 1)
 }
 
-/// Checks a row from which on this many are used: the last of these at this condact.
-fn check_row<T: Tables>(
+/// Checks a frame from which on this many are used: the last of these at this condact.
+fn check_frame<T: Tables>(
     tables: &T,
     code: u8,
     caller: Option<u8>,
@@ -184,7 +187,7 @@ fn check_row<T: Tables>(
     row: &FrameField,
 ) -> Result<(), StateFault>
     requires near { at < STATE_ROOM }
-    ensures value { fault_of result ≡ row_fault (T.game tables.now) code caller used at row.now }
+    ensures value { fault_of result ≡ frame_fault (T.game tables.now) code caller used at row.now }
 {
     match used {
         0 => check_unused(at, row),
@@ -193,8 +196,8 @@ fn check_row<T: Tables>(
     }
 }
 
-/// Checks these rows, the first of which stands at this place.
-fn check_rows<T: Tables>(
+/// Checks these frames, the first of which stands at this place.
+fn check_each_frame<T: Tables>(
     tables: &T,
     code: u8,
     caller: Option<u8>,
@@ -202,26 +205,26 @@ fn check_rows<T: Tables>(
     at: usize,
     rows: &[FrameField],
 ) -> Result<(), StateFault>
-    requires near { at + ROW_LENGTH * length rows.now < STATE_ROOM }
-    ensures value { fault_of result ≡ row_fields_fault (T.game tables.now) code caller used at rows.now }
+    requires near { at + FRAME_LENGTH * length rows.now < STATE_ROOM }
+    ensures value { fault_of result ≡ frame_fields_fault (T.game tables.now) code caller used at rows.now }
 {
     let Some((row, rest)) = rows.split_first() else {
         return Ok(());
     };
-    check_row(tables, code, caller, used, at, row)?;
+    check_frame(tables, code, caller, used, at, row)?;
     let called = parameter_of(tables.condact(row.table, row.entry, row.at));
     let left = used.saturating_sub(1);
-    check_rows(tables, code, Some(called), left, at + ROW_LENGTH, rest)
+    check_each_frame(tables, code, Some(called), left, at + FRAME_LENGTH, rest)
 }
 
-/// Checks the rows of the open tables, and the unused ones after them.
+/// Checks the frames of the open tables, and the unused ones after them.
 fn check_frames<T: Tables>(tables: &T, fields: &Fields) -> Result<(), StateFault>
     ensures value { fault_of result ≡
-        row_fields_fault (T.game tables.now) (unwrap_or (inside fields.now) 0) None fields.now.count ROWS
+        frame_fields_fault (T.game tables.now) (unwrap_or (inside fields.now) 0) None fields.now.count FRAMES
         fields.now.rows }
 {
     let code = waiting_code(prompt_of(fields.prompt)).unwrap_or(0);
-    check_rows(tables, code, None, fields.count, ROWS, &fields.rows)
+    check_each_frame(tables, code, None, fields.count, FRAMES, &fields.rows)
 }
 
 /// Checks the bytes of a loop where none is open.
@@ -264,7 +267,7 @@ fn check_loop<T: Tables>(tables: &T, fields: &Fields, turning: &OpenLoop) -> Res
     rule(LOOP_LAST, u16::from(turning.last) < counts.objects)
 }
 
-/// Whether the row of this level belongs to this table.
+/// Whether the frame of this level belongs to this table.
 fn is_table_at(rows: &[FrameField], level: u8, table: u8) -> bool
     ensures value { result ≡ option_map_or (λ r. table == r.table) (slice_get rows.now level) false }
 {

@@ -5,21 +5,21 @@ ghost use Rattle.std.specs.Int.{w64, to_le_bytes};
 ghost use Rattle.paw_base.specs.declared.layout.TheConstants.{STATE_LENGTH};
 ghost use Rattle.paw_base.specs.declared.limits.TheConstants.{POSITION_COUNT};
 ghost use Rattle.paw_process.specs.declared.machine.TheConstants.{MOST_FRAMES};
-ghost use Rattle.paw_state.specs.declared.layout.TheConstants.{HELD_LENGTH, SEED, PROMPT, ROWS, ROW_LENGTH, LOOPING};
+ghost use Rattle.paw_state.specs.declared.layout.TheConstants.{HELD_LENGTH, SEED, PROMPT, FRAMES, FRAME_LENGTH, LOOPING};
 ghost use Rattle.paw_state.specs.declared.layout.TheConstants.{LOOP_LEVEL, EARLIER, KEPT};
 ghost use Rattle.paw_state.specs.declared.layout.TheConstants.{STATE_ROOM};
 ghost use Rattle.paw_state.specs.inner.Parts.{frame_in};
 ghost use Rattle.paw_state.specs.inner.Writer.{WritesField};
 ghost use Rattle.paw_state.specs.State.{AreBytes};
-ghost use Rattle.paw_state.specs.State.{zeros, row_of};
+ghost use Rattle.paw_state.specs.State.{zeros, frame_field_of};
 ghost use Rattle.paw_game.specs.Image.{two_bytes};
 ghost use Rattle.paw_state.specs.inner.Shapes.{two_at, eight_at, values_at};
 ghost use Rattle.paw_state.specs.inner.Fields.{frame_shape, loop_shape, held_shape, field_bytes, fields_at};
 
 use crate::layout::{
-    COUNT, DRAWS, EARLIER, EVENTS, FLAGS, HELD_LENGTH, KEPT, LINE, LOOP_AT, LOOP_ENTRY, LOOP_LAST,
-    LOOP_LEVEL, LOOP_PLACE, LOOP_TABLE, LOOPING, PENDING, PIECE, PLACES, PROMPT, ROW_ACTED, ROW_AT,
-    ROW_ENTRY, ROW_LENGTH, ROWS, SAVED, SEED, STATE_ROOM,
+    COUNT, DRAWS, EARLIER, EVENTS, FLAGS, FRAME_ACTED, FRAME_AT, FRAME_ENTRY, FRAME_LENGTH, FRAMES,
+    HELD_LENGTH, KEPT, LINE, LOOP_AT, LOOP_ENTRY, LOOP_LAST, LOOP_LEVEL, LOOP_PLACE, LOOP_TABLE,
+    LOOPING, PENDING, PIECE, PLACES, PROMPT, SAVED, SEED, STATE_ROOM,
 };
 use crate::position_field::PositionField;
 use crate::writer::Writer;
@@ -37,7 +37,7 @@ pub(crate) struct FrameField {
 }
 
 impl FrameField {
-    /// A row that isn't used.
+    /// A frame that isn't used.
     pub(crate) const EMPTY: FrameField = FrameField {
         table: 0,
         entry: 0,
@@ -45,9 +45,9 @@ impl FrameField {
         acted: 0,
     };
 
-    /// The row of a frame.
+    /// The fields of a frame.
     pub(crate) fn of(frame: &Frame) -> FrameField
-        ensures value { result ≡ row_of frame.now }
+        ensures value { result ≡ frame_field_of frame.now }
     {
         FrameField {
             table: frame.table,
@@ -57,7 +57,7 @@ impl FrameField {
         }
     }
 
-    /// The frame of this row.
+    /// The frame that these fields say.
     pub(crate) fn frame(&self) -> Frame
         ensures value { result ≡ frame_in self.now }
     {
@@ -129,26 +129,26 @@ fn kept_at(bytes: &[u8; STATE_ROOM]) -> [PositionField; POSITION_COUNT]
     ]
 }
 
-/// The row at a place.
-fn row_at(bytes: &[u8; STATE_ROOM], at: usize) -> FrameField
-    requires inside { at + ROW_LENGTH ≤ STATE_ROOM }
+/// The frame at a place.
+fn frame_at(bytes: &[u8; STATE_ROOM], at: usize) -> FrameField
+    requires inside { at + FRAME_LENGTH ≤ STATE_ROOM }
     ensures value { result ≡ frame_shape.value bytes.now at }
 {
     FrameField {
         table: bytes[at],
-        entry: two_at(bytes, at + ROW_ENTRY),
-        at: bytes[at + ROW_AT],
-        acted: bytes[at + ROW_ACTED],
+        entry: two_at(bytes, at + FRAME_ENTRY),
+        at: bytes[at + FRAME_AT],
+        acted: bytes[at + FRAME_ACTED],
     }
 }
 
-/// All rows.
-fn rows_at(bytes: &[u8; STATE_ROOM]) -> [FrameField; MOST_FRAMES]
-    ensures value { result ≡ values_at frame_shape MOST_FRAMES bytes.now ROWS }
+/// All frames.
+fn frames_at(bytes: &[u8; STATE_ROOM]) -> [FrameField; MOST_FRAMES]
+    ensures value { result ≡ values_at frame_shape MOST_FRAMES bytes.now FRAMES }
 {
     let mut rows = [FrameField::EMPTY; MOST_FRAMES];
     for i in 0..MOST_FRAMES {
-        rows[i] = row_at(bytes, ROWS + ROW_LENGTH * i);
+        rows[i] = frame_at(bytes, FRAMES + FRAME_LENGTH * i);
     }
     rows
 }
@@ -183,7 +183,7 @@ impl Fields {
             events: eight_at(bytes, EVENTS),
             prompt: bytes[PROMPT],
             count: bytes[COUNT],
-            rows: rows_at(bytes),
+            rows: frames_at(bytes),
             looping: bytes[LOOPING],
             turning: loop_at(bytes),
             earlier: bytes[EARLIER],
@@ -232,7 +232,7 @@ impl Fields {
         writer.put(&self.events.to_le_bytes());
     }
 
-    /// Writes the prompt, the rows of the open tables, and the open loop.
+    /// Writes the prompt, the frames of the open tables, and the open loop.
     fn put_tables(&self, writer: &mut Writer)
         requires room { length writer.old + (EARLIER - PROMPT) ≤ STATE_ROOM }
         ensures writes { WritesField
@@ -241,15 +241,15 @@ impl Fields {
             (EARLIER - PROMPT) writer.old writer.new }
     {
         writer.put(&[self.prompt, self.count]);
-        self.put_rows(writer);
+        self.put_frames(writer);
         writer.put(&[self.looping]);
         self.put_loop(writer);
     }
 
-    /// Writes the rows of the open tables.
-    fn put_rows(&self, writer: &mut Writer)
-        requires room { length writer.old + (LOOPING - ROWS) ≤ STATE_ROOM }
-        ensures writes { WritesField (flat_map frame_shape.bytes self.now.rows) (LOOPING - ROWS) writer.old writer.new }
+    /// Writes the frames of the open tables.
+    fn put_frames(&self, writer: &mut Writer)
+        requires room { length writer.old + (LOOPING - FRAMES) ≤ STATE_ROOM }
+        ensures writes { WritesField (flat_map frame_shape.bytes self.now.rows) (LOOPING - FRAMES) writer.old writer.new }
     {
         for row in &self.rows {
             let [low, high] = row.entry.to_le_bytes();

@@ -102,7 +102,7 @@ fn frames_in(fields: &Fields) -> Frames
 {
     Frames {
         count: fields.count,
-        rows: frame_rows(&fields.rows),
+        rows: frames_of_fields(&fields.rows),
         turning: if fields.looping == 0 {
             None
         } else {
@@ -111,8 +111,8 @@ fn frames_in(fields: &Fields) -> Frames
     }
 }
 
-/// Rows as frames.
-fn frame_rows(rows: &[FrameField; MOST_FRAMES]) -> [Frame; MOST_FRAMES]
+/// The frames that these fields say.
+fn frames_of_fields(rows: &[FrameField; MOST_FRAMES]) -> [Frame; MOST_FRAMES]
     ensures value { result ≡ map frame_in rows.now }
 {
     let mut frames = [rows[0].frame(); MOST_FRAMES];

@@ -3,15 +3,15 @@
 use Rattle.std.specs.Prelude.{ℕ, suc, ◌+◌, ◌-◌, ◌==◌, Bool, List, [], ◌∷◌, Option, Some, None, Result, Ok}
 use Rattle.std.specs.Prelude.{Err}
 use Rattle.std.specs.Prelude.{length, take, drop, is_some, nat_le, if◌then◌else◌}
-use Rattle.std.specs.Option.{option_or, unwrap_or}
+use Rattle.std.specs.Option.{option_or}
 use Rattle.paw_base.specs.declared.codes.TheConstants.{PROCESS}
 use Rattle.paw_game.specs.Game.{GameLists}
 use Rattle.paw_game.specs.Tables.{head_at, condact_at}
 use Rattle.paw_game.specs.Valid.{is_place}
 use Rattle.paw_process.specs.Kept.{may_open, has_code, parameter_of}
-use Rattle.paw_state.specs.declared.layout.TheConstants.{PLACES, SAVED, HELD_FLAGS, HELD_PLACES, HELD_LENGTH, SEED}
-use Rattle.paw_state.specs.declared.layout.TheConstants.{PROMPT, ROWS, ROW_LENGTH, ROW_ENTRY, ROW_AT, EARLIER}
-use Rattle.paw_state.specs.declared.layout.TheConstants.{ROW_ACTED, LOOPING, KEPT}
+use Rattle.paw_state.specs.declared.layout.TheConstants.{HELD_FLAGS, HELD_PLACES, HELD_LENGTH}
+use Rattle.paw_state.specs.declared.layout.TheConstants.{FRAME_LENGTH, FRAME_ENTRY, FRAME_AT}
+use Rattle.paw_state.specs.declared.layout.TheConstants.{FRAME_ACTED}
 use Rattle.paw_state.specs.declared.fields.FrameField.{FrameField}
 use Rattle.paw_state.specs.declared.fields.Fields.{Fields}
 use Rattle.paw_state.specs.declared.position_field.PositionField.{PositionField}
@@ -68,40 +68,40 @@ unfoldable pub kept_fault : GameLists → ℕ → List PositionField → Option 
 kept_fault g at [] = None
 kept_fault g at (h ∷ hs) = option_or (held_fault g at h) (kept_fault g (at + HELD_LENGTH) hs)
 
--- The first fault of an unused row: it is 0.
+-- The first fault of an unused frame: it is 0.
 abbrev pub unused_fault : ℕ → FrameField → Option ℕ
 unused_fault at r = first (
     rule at (r.table == 0)
-    ∷ rule (at + ROW_ENTRY) (r.entry == 0)
-    ∷ rule (at + ROW_AT) (r.at == 0)
-    ∷ rule (at + ROW_ACTED) (r.acted == 0)
+    ∷ rule (at + FRAME_ENTRY) (r.entry == 0)
+    ∷ rule (at + FRAME_AT) (r.at == 0)
+    ∷ rule (at + FRAME_ACTED) (r.acted == 0)
     ∷ [])
 
--- The first fault of a used row: it is of the table that was called (the outermost of table 0, 1 or 2), and stands at a
+-- The first fault of a used frame: it is of the table that was called (the outermost of table 0, 1 or 2), and stands at a
 -- condact with this code.
 abbrev pub used_fault : GameLists → ℕ → Option ℕ → ℕ → FrameField → Option ℕ
 used_fault g code caller at r = first (
     rule at (may_open caller r.table)
-    ∷ rule (at + ROW_ENTRY) (is_some (head_at g r.table r.entry))
-    ∷ rule (at + ROW_AT) (has_code code (condact_at g r.table r.entry r.at))
-    ∷ rule (at + ROW_ACTED) (nat_le r.acted 1)
+    ∷ rule (at + FRAME_ENTRY) (is_some (head_at g r.table r.entry))
+    ∷ rule (at + FRAME_AT) (has_code code (condact_at g r.table r.entry r.at))
+    ∷ rule (at + FRAME_ACTED) (nat_le r.acted 1)
     ∷ [])
 
--- The first fault of a row from which on n are used: the last is at the prompt's condact, each other at a PROCESS.
-abbrev pub row_fault : GameLists → ℕ → Option ℕ → ℕ → ℕ → FrameField → Option ℕ
-row_fault g code caller n at r =
+-- The first fault of a frame from which on n are used: the last is at the prompt's condact, each other at a PROCESS.
+abbrev pub frame_fault : GameLists → ℕ → Option ℕ → ℕ → ℕ → FrameField → Option ℕ
+frame_fault g code caller n at r =
     if n == 0 then unused_fault at r else used_fault g (if n == 1 then code else PROCESS) caller at r
 
--- The table that the PROCESS of a row calls.
+-- The table that the PROCESS of a frame calls.
 abbrev pub called_table : GameLists → FrameField → Option ℕ
 called_table g r = Some (parameter_of (condact_at g r.table r.entry r.at))
 
--- The first fault of rows that stand from this place on, of which n are used, the first of them of the table that was
+-- The first fault of frames that stand from this place on, of which n are used, the first of them of the table that was
 -- called.
-unfoldable pub row_fields_fault : GameLists → ℕ → Option ℕ → ℕ → ℕ → List FrameField → Option ℕ
-row_fields_fault g code caller n at [] = None
-row_fields_fault g code caller n at (r ∷ rs) =
-    option_or (row_fault g code caller n at r) (row_fields_fault g code (called_table g r) (n - 1) (at + ROW_LENGTH) rs)
+unfoldable pub frame_fields_fault : GameLists → ℕ → Option ℕ → ℕ → ℕ → List FrameField → Option ℕ
+frame_fields_fault g code caller n at [] = None
+frame_fields_fault g code caller n at (r ∷ rs) =
+    option_or (frame_fault g code caller n at r) (frame_fields_fault g code (called_table g r) (n - 1) (at + FRAME_LENGTH) rs)
 
 -- ---- of the list of fields ----
 

@@ -10,9 +10,9 @@ use Rattle.paw_process.specs.declared.machine.TheConstants.{MOST_FRAMES}
 use Rattle.paw_state.specs.declared.fields.FrameField.{FrameField}
 use Rattle.paw_state.specs.declared.fields.Fields.{Fields}
 use Rattle.paw_state.specs.declared.position_field.PositionField.{PositionField}
-use Rattle.paw_state.specs.declared.layout.TheConstants.{PLACES, SAVED, SEED, PROMPT, ROWS, LOOPING, EARLIER, KEPT}
+use Rattle.paw_state.specs.declared.layout.TheConstants.{PLACES, SAVED, SEED, PROMPT, FRAMES, LOOPING, EARLIER, KEPT}
 use Rattle.paw_state.specs.Fields.{fault_from, number_fields, prompt_fields, looping_fields, pending_fields, inside}
-use Rattle.paw_state.specs.inner.Faults.{first, places_fault, held_fault, row_fields_fault, kept_fault}
+use Rattle.paw_state.specs.inner.Faults.{first, places_fault, held_fault, frame_fields_fault, kept_fault}
 use Rattle.paw_state.specs.inner.Shapes.{Shape, one_byte, two_byte, eight_byte, array, pair, times, through}
 
 -- The frame of these parts.
@@ -181,7 +181,7 @@ parts_fault g f = first (
     ∷ held_fault g SAVED f.saved
     ∷ fault_from g SEED (number_fields f)
     ∷ fault_from g PROMPT (prompt_fields f)
-    ∷ row_fields_fault g (unwrap_or (inside f) 0) None f.count ROWS f.rows
+    ∷ frame_fields_fault g (unwrap_or (inside f) 0) None f.count FRAMES f.rows
     ∷ fault_from g LOOPING (looping_fields f)
     ∷ fault_from g EARLIER (pending_fields f)
     ∷ kept_fault g KEPT f.kept

@@ -6,7 +6,7 @@ use Rattle.paw_game.specs.Game.{GameLists}
 use Rattle.paw_process.specs.inner.Kept.{kept}
 use Rattle.paw_process.specs.inner.Kept.{restored, waiting_at, WaitsAtPrompt}
 use Rattle.paw_state.specs.declared.Restored.{Restored}
-use Rattle.paw_state.specs.State.{State, IsValidState, FitsFields}
+use Rattle.paw_state.specs.State.{IsValidState, FitsFields}
 pub use Rattle.paw_state.specs.inner.State.{state_read}
 use Rattle.paw_state.specs.State.{state_bytes}
 use Rattle.paw_state.specs.inner.Faults.{fields_fault}

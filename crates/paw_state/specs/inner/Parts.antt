@@ -27,7 +27,7 @@ world_in g f = record {
   draws = f.draws;
 }
 
--- The frame of a row.
+-- The frame that these fields say.
 abbrev pub frame_in : FrameField → Frame
 frame_in r = record { table = r.table; entry = r.entry; at = r.at; acted = (r.acted == 1) }
 

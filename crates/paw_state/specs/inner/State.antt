@@ -55,7 +55,7 @@ loop_or_zeros o = unwrap_or o (record { level = 0; table = 0; entry = 0; at = 0;
 -- The rules of a state: the world is the game's, and sound, with each object at a place, now, in the saved position and
 -- in the kept ones; at most 1,000,000,000 lines were taken; the words drawn are at most 200,000 for each line, and
 -- 200,000 for the piece before the first; the open tables and the open loop are such as a game waits in at the prompt,
--- in eleven rows; at most 255 bytes are pending, and none where no table is open.
+-- with room for eleven frames; at most 255 bytes are pending, and none where no table is open.
 pub record KeepsEach (g : GameLists) (s : State) : Type 0 where
   pub world : IsOf g s.world
   pub sound : IsWorld s.world

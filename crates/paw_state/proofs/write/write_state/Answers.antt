@@ -44,6 +44,6 @@ returns-clause-piece c =
     ∙ ap (λ (l : List ℕ). l ++ zeros (STATE_ROOM - STATE_LENGTH)) (sym (state_same s))) in
     let long : AreLong s = record {
       all = buffer_long (state_bytes s) c.bytes.result is c.bytes.ensures.room;
-      kept = ap (λ (f : Fields). length (flat_map held_shape.bytes f.kept)) (sym same) ∙ c.bytes.ensures.kept;
+      behind = ap (λ (f : Fields). length (flat_map held_shape.bytes f.kept)) (sym same) ∙ c.bytes.ensures.kept;
     } in
     piece_in s (zeros (STATE_ROOM - STATE_LENGTH)) c.bytes.result is long c.ranges.piece.fits

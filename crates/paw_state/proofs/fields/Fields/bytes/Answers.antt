@@ -1,11 +1,22 @@
-use Rattle.std.proofs.Common.{[], ◌∷◌, ◌++◌, length, ap, arith}
-use Rattle.std.proofs.lemmas.List.{length-append}
+use Rattle.std.proofs.Common.{◌≡◌, ℕ, ◌-◌, List, [], ◌∷◌, ◌++◌, length, ap, ◌∙◌, arith}
+use Rattle.std.proofs.lemmas.List.{append_assoc, length-append}
 use Rattle.std.specs.Prelude.{flat_map}
 use Rattle.std.specs.Int.{w64, to_le_bytes}
+use Rattle.paw_base.specs.declared.layout.TheConstants.{STATE_LENGTH}
 use Rattle.paw_game.specs.Image.{two_bytes}
+use Rattle.paw_state.specs.declared.layout.TheConstants.{STATE_ROOM}
+use Rattle.paw_state.specs.State.{zeros}
 use Rattle.paw_state.specs.inner.Fields.{frame_shape, loop_shape, held_shape}
-use Rattle.paw_state.proofs.Written.{all_written}
 use Rattle.paw_state.proofs.fields.Fields.bytes.Goals as goal
+
+-- fields that were written one after the other
+all_written : (w0 w1 w2 w3 w4 w5 last a b c n p r e l y k : List ℕ) → w0 ≡ [] → w1 ≡ w0 ++ (a ++ (b ++ c)) → w2 ≡ w1 ++ n →
+    w3 ≡ w2 ++ (p ++ (r ++ e)) → w4 ≡ w3 ++ (l ++ y) → w5 ≡ w4 ++ k
+    → length w5 ≡ STATE_LENGTH → last ≡ w5 ++ zeros (STATE_ROOM - length w5)
+    → last ≡ (a ++ (b ++ (c ++ (n ++ (p ++ (r ++ (e ++ (l ++ (y ++ k))))))))) ++ zeros (STATE_ROOM - STATE_LENGTH)
+all_written w0 w1 w2 w3 w4 w5 last a b c n p r e l y k e0 e1 e2 e3 e4 e5 size h =
+    let all : w5 ≡ a ++ (b ++ (c ++ (n ++ (p ++ (r ++ (e ++ (l ++ (y ++ k)))))))) = rw (e5, e4, e3, e2, e1, e0) (simp append_assoc) in
+    h ∙ (ap (λ (i : ℕ). w5 ++ zeros (STATE_ROOM - i)) size ∙ ap (λ (l : List ℕ). l ++ zeros (STATE_ROOM - STATE_LENGTH)) all)
 
 pub returns : goal.returns
 returns c = record {

@@ -1,5 +1,5 @@
 use Rattle.std.proofs.Common.{◌≡◌, ◌+◌, refl, arith}
-use Rattle.paw_state.proofs.fields.row_at.Goals as goal
+use Rattle.paw_state.proofs.fields.frame_at.Goals as goal
 
 pub returns : goal.returns
 returns c =
