@@ -99,7 +99,8 @@ acted_back (suc (suc n)) low = absurd (omega (arith, low))
 frame_field_back : (r : FrameField) → r.acted ≤ 1 → frame_field_of (frame_in r) ≡ r
 frame_field_back r low = ap (λ (acted : ℕ). record { table = r.table; entry = r.entry; at = r.at; acted = acted }) (acted_back r.acted low)
 
-pub frame_fields_sound : (g : GameLists) (code : ℕ) (caller : Option ℕ) (n at d : ℕ) (rows : List FrameField) → frame_fields_fault g code caller n at rows ≡ None
+pub frame_fields_sound : (g : GameLists) (code : ℕ) (caller : Option ℕ) (n at d : ℕ) (rows : List FrameField)
+    → frame_fields_fault g code caller n at rows ≡ None
     → machine_fault g code caller n d (map frame_in rows) ≡ None
 unfolding frame_fields_fault machine_fault
 frame_fields_sound g code caller n at d [] h = refl
@@ -166,7 +167,8 @@ frames_sound g code caller n at d (f ∷ fs) h = go (frames_sound g code (Some (
         → frame_fields_fault g code (Some (parameter_of (condact_at_frame g f))) (n - 1) (at + 5) (map frame_field_of fs) ≡ None)
         → (b : Bool) → row_stands g code caller n f ≡ b
         → ◌≡◌ {A = Option ℕ} (if b then machine_fault g code (Some (parameter_of (condact_at_frame g f))) (n - 1) (suc d) fs else Some d) None
-        → option_or (frame_fault g code caller n at (frame_field_of f)) (frame_fields_fault g code (called_table g (frame_field_of f)) (n - 1) (at + 5) (map frame_field_of fs)) ≡ None
+        → option_or (frame_fault g code caller n at (frame_field_of f)) (frame_fields_fault g code (called_table g (frame_field_of f)) (n - 1)
+        (at + 5) (map frame_field_of fs)) ≡ None
     go later true e q = none_first (frame_fault g code caller n at (frame_field_of f)) _ (frame_sound g code caller n at f e) (later q)
     go later false e q = cc
 
@@ -177,6 +179,7 @@ acted_again false = refl
 pub frames_back : (frames : List Frame) → map frame_in (map frame_field_of frames) ≡ frames
 frames_back [] = refl
 frames_back (f ∷ fs) =
-    let e : frame_in (frame_field_of f) ≡ f = ap (λ (acted : Bool). record { table = f.table; entry = f.entry; at = f.at; acted = acted }) (acted_again f.acted) in
+    let e : frame_in (frame_field_of f) ≡ f = ap (λ (acted : Bool). record { table = f.table; entry = f.entry; at = f.at; acted = acted })
+    (acted_again f.acted) in
     let q = frames_back fs in
     cc

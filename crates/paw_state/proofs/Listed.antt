@@ -43,7 +43,8 @@ kept_same (h ∷ hs) = join (held_fields h) (flat_map held_fields hs) (held_shap
 pub frame_same : (code : ℕ) (caller : GameLists → Option ℕ) (n : ℕ) (r : FrameField) → bytes_of (frame_fields code caller n r) ≡ frame_shape.bytes r
 frame_same code caller n r = there_bytes n _
 
-pub frames_same : (code : ℕ) (caller : GameLists → Option ℕ) (n : ℕ) (rs : List FrameField) → bytes_of (frames_fields code caller n rs) ≡ flat_map frame_shape.bytes rs
+pub frames_same : (code : ℕ) (caller : GameLists → Option ℕ) (n : ℕ) (rs : List FrameField)
+    → bytes_of (frames_fields code caller n rs) ≡ flat_map frame_shape.bytes rs
 unfolding frames_fields
 frames_same code caller n [] = refl
 frames_same code caller n (r ∷ rs) =

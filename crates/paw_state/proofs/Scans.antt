@@ -63,7 +63,8 @@ no_frames g code caller n at [] h = refl
 no_frames g code caller n at (r ∷ rs) h = absurd (omega arith)
 
 first_frame : (g : GameLists) (code : ℕ) (caller : Option ℕ) (n at : ℕ) (rows : List FrameField) (r : FrameField) (rs : List FrameField) → rows ≡ r ∷ rs
-    → option_or (frame_fault g code caller n at r) (frame_fields_fault g code (called_table g r) (n - 1) (at + 5) rs) ≡ frame_fields_fault g code caller n at rows
+    → option_or (frame_fault g code caller n at r) (frame_fields_fault g code (called_table g r) (n - 1) (at + 5) rs)
+    ≡ frame_fields_fault g code caller n at rows
 unfolding frame_fields_fault
 first_frame g code caller n at rows r rs e = rw e refl
 

@@ -22,7 +22,8 @@ two_there front n q l h =
     ap (λ k. get_or bytes k 0) (omega (arith, l)) ∙ get_or-append-add front (two_bytes n ++ q) 1 0 in
     rw (a, b) (grind (arith))
 
-front_long : (front : List ℕ) (n : ℕ) (q : List ℕ) → length (front ++ (two_bytes n ++ q)) ≡ STATE_LENGTH → length q ≡ STATE_LENGTH - (PIECE + 2) → length front ≡ PIECE
+front_long : (front : List ℕ) (n : ℕ) (q : List ℕ) → length (front ++ (two_bytes n ++ q)) ≡ STATE_LENGTH → length q ≡ STATE_LENGTH - (PIECE + 2)
+    → length front ≡ PIECE
 front_long front n q l k =
     let m = length-append front (two_bytes n ++ q) in
     let r = length-append (two_bytes n) q in

@@ -59,7 +59,8 @@ pub length-frames : (rows : List FrameField) → length (flat_map frame_shape.by
 length-frames [] = refl
 length-frames (r ∷ rs) = length-append (frame_shape.bytes r) (flat_map frame_shape.bytes rs) ∙ (ap (λ n. 5 + n) (length-frames rs) ∙ omega arith)
 
-pub room_for_frame : (rows : List FrameField) (old new : List ℕ) (i : ℕ) → i < length rows → length rows ≡ 11 → new ≡ old ++ flat_map frame_shape.bytes (take i rows)
+pub room_for_frame : (rows : List FrameField) (old new : List ℕ) (i : ℕ) → i < length rows → length rows ≡ 11
+    → new ≡ old ++ flat_map frame_shape.bytes (take i rows)
     → length old + 55 ≤ STATE_ROOM → length new + 5 ≤ STATE_ROOM
 room_for_frame rows old new i low size h room =
     let n : length new ≡ length old + 5 * length (take i rows) =

@@ -81,9 +81,9 @@ place_fields places = one_by_one place_holds 0 places
 abbrev pub held_fields : PositionField → List Field
 held_fields h = byte h.there (λ g. nat_le h.there 1) ∷ if_there h.there (flag_fields h.flags ++ place_fields h.places)
 
--- The fields of a frame, where n frames are used from this one on: table, entry, condact, and 1 where an action was carried
--- out; all are 0 where n is 0. Its table is the one called, or 0, 1 or 2 for the outermost. The last used frame is at the
--- condact with this code, each other at a PROCESS.
+-- The fields of a frame, where n frames are used from this one on: table, entry, condact, and 1 where an action was
+-- carried out; all are 0 where n is 0. Its table is the one called, or 0, 1 or 2 for the outermost. The last used frame
+-- is at the condact with this code, each other at a PROCESS.
 abbrev pub frame_fields : ℕ → (GameLists → Option ℕ) → ℕ → FrameField → List Field
 frame_fields code caller n r = if_there n (
     byte r.table (λ g. may_open (caller g) r.table)

@@ -5,7 +5,8 @@ ghost use Rattle.std.specs.Int.{w64, to_le_bytes};
 ghost use Rattle.paw_base.specs.declared.layout.TheConstants.{STATE_LENGTH};
 ghost use Rattle.paw_base.specs.declared.limits.TheConstants.{POSITION_COUNT};
 ghost use Rattle.paw_process.specs.declared.machine.TheConstants.{MOST_FRAMES};
-ghost use Rattle.paw_state.specs.declared.layout.TheConstants.{HELD_LENGTH, SEED, PROMPT, FRAMES, FRAME_LENGTH, LOOPING};
+ghost use Rattle.paw_state.specs.declared.layout.TheConstants.{HELD_LENGTH, SEED, PROMPT, FRAMES, FRAME_LENGTH};
+ghost use Rattle.paw_state.specs.declared.layout.TheConstants.{LOOPING};
 ghost use Rattle.paw_state.specs.declared.layout.TheConstants.{LOOP_LEVEL, EARLIER, KEPT};
 ghost use Rattle.paw_state.specs.declared.layout.TheConstants.{STATE_ROOM};
 ghost use Rattle.paw_state.specs.inner.Parts.{frame_in};
@@ -249,7 +250,8 @@ impl Fields {
     /// Writes the frames of the open tables.
     fn put_frames(&self, writer: &mut Writer)
         requires room { length writer.old + (LOOPING - FRAMES) ≤ STATE_ROOM }
-        ensures writes { WritesField (flat_map frame_shape.bytes self.now.rows) (LOOPING - FRAMES) writer.old writer.new }
+        ensures writes { WritesField (flat_map frame_shape.bytes self.now.rows)
+            (LOOPING - FRAMES) writer.old writer.new }
     {
         for row in &self.rows {
             let [low, high] = row.entry.to_le_bytes();

@@ -77,8 +77,8 @@ unused_fault at r = first (
     ∷ rule (at + FRAME_ACTED) (r.acted == 0)
     ∷ [])
 
--- The first fault of a used frame: it is of the table that was called (the outermost of table 0, 1 or 2), and stands at a
--- condact with this code.
+-- The first fault of a used frame: it is of the table that was called (the outermost of table 0, 1 or 2), and stands at
+-- a condact with this code.
 abbrev pub used_fault : GameLists → ℕ → Option ℕ → ℕ → FrameField → Option ℕ
 used_fault g code caller at r = first (
     rule at (may_open caller r.table)
@@ -101,7 +101,8 @@ called_table g r = Some (parameter_of (condact_at g r.table r.entry r.at))
 unfoldable pub frame_fields_fault : GameLists → ℕ → Option ℕ → ℕ → ℕ → List FrameField → Option ℕ
 frame_fields_fault g code caller n at [] = None
 frame_fields_fault g code caller n at (r ∷ rs) =
-    option_or (frame_fault g code caller n at r) (frame_fields_fault g code (called_table g r) (n - 1) (at + FRAME_LENGTH) rs)
+    option_or (frame_fault g code caller n at r)
+    (frame_fields_fault g code (called_table g r) (n - 1) (at + FRAME_LENGTH) rs)
 
 -- ---- of the list of fields ----
 

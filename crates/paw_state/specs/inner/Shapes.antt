@@ -34,7 +34,12 @@ eight_byte = record { size = 8; bytes = to_le_bytes w64; value = eight_at; fits 
 
 -- This number of bytes.
 abbrev pub array : ℕ → Shape Bytes
-array n = record { size = n; bytes = λ x. x; value = λ bytes at. slice_range bytes at (at + n); fits = λ x. length x ≡ n }
+array n = record {
+  size = n;
+  bytes = λ x. x;
+  value = λ bytes at. slice_range bytes at (at + n);
+  fits = λ x. length x ≡ n;
+}
 
 -- Two values, one after the other.
 abbrev pub pair : {A B : Type 0} → Shape A → Shape B → Shape (A × B)

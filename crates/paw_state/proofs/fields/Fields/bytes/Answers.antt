@@ -24,7 +24,8 @@ returns c = record {
       all_written _ _ _ _ _ _ _ f.flags f.places (held_shape.bytes f.saved)
       (to_le_bytes w64 f.seed ++ (to_le_bytes w64 f.draws ++ to_le_bytes w64 f.events)) (f.prompt ∷ f.count ∷ [])
       (flat_map frame_shape.bytes f.rows) (f.looping ∷ loop_shape.bytes f.turning) (f.earlier ∷ f.pending ∷ f.line) (two_bytes f.piece)
-      (flat_map held_shape.bytes f.kept) c.new-writer.ensures.value c.put_world.ensures.writes.puts c.put_numbers.ensures.writes.puts c.put_tables.ensures.writes.puts
+      (flat_map held_shape.bytes f.kept) c.new-writer.ensures.value c.put_world.ensures.writes.puts c.put_numbers.ensures.writes.puts
+      c.put_tables.ensures.writes.puts
       c.put_pending.ensures.writes.puts c.put_kept.ensures.writes.puts (omega (arith, ap length c.new-writer.ensures.value)) c.finish.ensures.value;
   kept = omega (
     arith,
