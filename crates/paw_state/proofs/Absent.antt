@@ -3,7 +3,7 @@ use Rattle.std.proofs.Common.{◌≡◌, None, replicate, refl}
 use Rattle.paw_state.specs.declared.position_field.PositionField.{PositionField}
 use Rattle.paw_state.specs.State.{held_of}
 use Rattle.paw_state.proofs.Written.{zeros_all}
-use Rattle.paw_state.proofs.Cut.{same_held}
+use Rattle.paw_state.proofs.Shaped.{same_held}
 
 -- no position
 pub none_is : ◌≡◌ {A = PositionField} (record { there = 0; flags = replicate 256 0; places = replicate 255 0 }) (held_of None)

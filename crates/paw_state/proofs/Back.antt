@@ -2,7 +2,6 @@
 use Rattle.std.proofs.Common.{◌≡◌, ℕ, zero, suc, ◌+◌, ◌<◌, ◌≤◌, ◌==◌, List, [], ◌∷◌, Option, Some}
 use Rattle.std.proofs.Common.{None, length, map, take, drop, nat_le, refl, sym, ap, ◌∙◌, arith}
 use Rattle.std.specs.Prelude.{All, if◌then◌else◌}
-use Rattle.std.specs.Option.{unwrap_or}
 use Rattle.std.proofs.lemmas.List.{length-take}
 use Rattle.std.proofs.lemmas.Bool.{leb-true}
 use Rattle.paw_game.specs.Game.{GameLists}
@@ -14,24 +13,18 @@ use Rattle.paw_effects.specs.declared.act.Prompt.{Prompt}
 use Rattle.paw_effects.specs.declared.act.Prompt.TheVariants as prompt
 use Rattle.paw_reading.specs.declared.places.OpenLoop.{OpenLoop}
 use Rattle.paw_process.specs.declared.kept.Frames.{Frames}
-use Rattle.paw_process.specs.Kept.{waiting_code}
-use Rattle.paw_state.specs.declared.layout.TheConstants.{SAVED, HELD_LENGTH, ROWS, LINE, KEPT}
-use Rattle.paw_state.specs.declared.fields.Fields.{Fields}
+use Rattle.paw_state.specs.declared.layout.TheConstants.{HELD_LENGTH}
 use Rattle.paw_state.specs.declared.position_field.PositionField.{PositionField}
-use Rattle.paw_state.specs.State.{State}
-use Rattle.paw_state.specs.inner.State.{KeepsEach}
-use Rattle.paw_state.specs.State.{zeros, filled, held_of, prompt_code, fields_of}
+use Rattle.paw_state.specs.State.{zeros, filled, held_of, prompt_code}
 use Rattle.paw_state.specs.inner.State.{loop_or_zeros}
 use Rattle.paw_state.specs.inner.Faults.{rule, first_not, is_zero, places_fault, absent_fault, held_fault, kept_fault}
-use Rattle.paw_state.specs.inner.Faults.{prompt_of}
-use Rattle.paw_state.specs.inner.Parts.{held_in, world_in, frames_in, state_in}
-use Rattle.paw_state.proofs.Positions.{IsHeldOf, saved_held, kept_held}
-use Rattle.paw_state.specs.Fields.{IsSizedHeld, AreSized}
-use Rattle.paw_state.proofs.Cut.{same_held, same_fields}
-use Rattle.paw_state.proofs.Found.{rule_holds, no_first, zeros_are, filled_take, take_filled}
-use Rattle.paw_state.proofs.Sound.{AreSound, two}
-use Rattle.paw_state.proofs.Rows.{rows_back, frames_back}
-use Rattle.paw_state.proofs.Loops.{presence, turning_back, presence_back, looping_low}
+use Rattle.paw_state.specs.Fields.{prompt_of}
+use Rattle.paw_state.specs.inner.Parts.{held_in}
+use Rattle.paw_state.proofs.Positions.{IsHeldOf}
+use Rattle.paw_state.specs.Fields.{IsSizedHeld}
+use Rattle.paw_state.proofs.Shaped.{same_held}
+use Rattle.paw_state.proofs.Found.{two, rule_holds, no_first, zeros_are, filled_take, take_filled}
+use Rattle.paw_state.proofs.Loops.{presence}
 
 -- ---- from fields ----
 
@@ -48,12 +41,12 @@ zeros_behind g at places h =
     (two (first_not (is_place (length g.locations)) at (take (length g.objects) places))
     (first_not is_zero (at + length g.objects) (drop (length g.objects) places)) h).1
 
-places_back : (g : GameLists) (at : ℕ) (places : List ℕ) → Valid g → length places ≡ 255 → places_fault g at places ≡ None
+pub places_back : (g : GameLists) (at : ℕ) (places : List ℕ) → Valid g → length places ≡ 255 → places_fault g at places ≡ None
     → filled 255 (take (length g.objects) places) ≡ places
 places_back g at places v size h = filled_take (at + length g.objects) (length g.objects) places size (few_objects g v) (zeros_behind g at places h)
 
 -- a position without a fault
-held_back : (g : GameLists) (at : ℕ) (h : PositionField) → Valid g → IsSizedHeld h → held_fault g at h ≡ None → held_of (held_in (length g.objects) h) ≡ h
+pub held_back : (g : GameLists) (at : ℕ) (h : PositionField) → Valid g → IsSizedHeld h → held_fault g at h ≡ None → held_of (held_in (length g.objects) h) ≡ h
 held_back g at h v z q =
     let p = two (rule at (nat_le h.there 1)) (if h.there == 0 then absent_fault at h else places_fault g (at + 257) h.places) q in
     go h.there (leb-true h.there 1 (rule_holds at (nat_le h.there 1) p.0)) p.1
@@ -69,7 +62,7 @@ held_back g at h v z q =
         same_held _ (record { there = 1; flags = h.flags; places = h.places }) refl refl (places_back g (at + 257) h.places v z.places k)
     go (suc (suc n)) low k = absurd (omega (arith, low))
 
-kept_back : (g : GameLists) (at : ℕ) (kept : List PositionField) → Valid g → All IsSizedHeld kept → kept_fault g at kept ≡ None
+pub kept_back : (g : GameLists) (at : ℕ) (kept : List PositionField) → Valid g → All IsSizedHeld kept → kept_fault g at kept ≡ None
     → map held_of (map (held_in (length g.objects)) kept) ≡ kept
 unfolding kept_fault
 kept_back g at [] v z h = refl
@@ -79,7 +72,7 @@ kept_back g at (k ∷ ks) v z h =
     let q = kept_back g (at + HELD_LENGTH) ks v (λ i d low. z (suc i) d (omega (arith, low))) p.1 in
     cc
 
-code_back : (n : ℕ) → n ≤ 4 → prompt_code (prompt_of n) ≡ n
+pub code_back : (n : ℕ) → n ≤ 4 → prompt_code (prompt_of n) ≡ n
 code_back zero low = refl
 code_back (suc zero) low = refl
 code_back (suc (suc zero)) low = refl
@@ -87,35 +80,18 @@ code_back (suc (suc (suc zero))) low = refl
 code_back (suc (suc (suc (suc zero)))) low = refl
 code_back (suc (suc (suc (suc (suc n))))) low = absurd (omega (arith, low))
 
-line_length : (n : ℕ) (line : List ℕ) → length line ≡ 255 → n < 256 → length (take n line) ≡ n
+pub line_length : (n : ℕ) (line : List ℕ) → length line ≡ 255 → n < 256 → length (take n line) ≡ n
 line_length n line size low = omega (arith, length-take n line)
-
-pub state_back : (g : GameLists) (f : Fields) → Valid g → AreSized f → AreSound g f → fields_of (state_in g f) ≡ f
-state_back g f v z s =
-    let n : length (take f.pending f.line) ≡ f.pending = line_length f.pending f.line z.line z.pending in
-    same_fields (fields_of (state_in g f)) f refl
-    (places_back g 256 f.places v z.places s.places)
-    (held_back g SAVED f.saved v z.saved s.saved)
-    refl refl refl
-    (code_back f.prompt (leb-true f.prompt 4 s.prompt))
-    refl
-    (rows_back g (unwrap_or (waiting_code (prompt_of f.prompt)) 0) None f.count ROWS f.rows s.frames)
-    (presence_back f.turning f.looping (looping_low f.looping f.count s.looping))
-    (turning_back g f s.turning)
-    refl n
-    (filled_take (LINE + f.pending) f.pending f.line z.line (omega (arith, z.pending)) s.line)
-    refl
-    (kept_back g KEPT f.kept v z.kept s.kept)
 
 -- ---- from a state ----
 
-held_again : (g : GameLists) (o : Option Position) → IsHeldOf g o → held_in (length g.objects) (held_of o) ≡ o
+pub held_again : (g : GameLists) (o : Option Position) → IsHeldOf g o → held_in (length g.objects) (held_of o) ≡ o
 held_again g None h = refl
 held_again g (Some q) h =
     let at : List ℕ → Option Position = λ places. Some (record { flags = q.flags; places = places }) in
     ap at (take_filled (length g.objects) q.places h.each)
 
-kept_again : (g : GameLists) (kept : List (Option Position)) → All (IsHeldOf g) kept → map (held_in (length g.objects)) (map held_of kept) ≡ kept
+pub kept_again : (g : GameLists) (kept : List (Option Position)) → All (IsHeldOf g) kept → map (held_in (length g.objects)) (map held_of kept) ≡ kept
 kept_again g [] h = refl
 kept_again g (k ∷ ks) h =
     let e = held_again g k (h 0 k (omega arith)) in
@@ -133,7 +109,7 @@ prompt_again prompt.Again = refl
 prompt_again prompt.Key = refl
 prompt_again prompt.Over = refl
 
-same_world : (a b : World) → a.facts ≡ b.facts → a.locations ≡ b.locations → a.flags ≡ b.flags → a.places ≡ b.places → a.saved ≡ b.saved → a.kept ≡ b.kept
+pub same_world : (a b : World) → a.facts ≡ b.facts → a.locations ≡ b.locations → a.flags ≡ b.flags → a.places ≡ b.places → a.saved ≡ b.saved → a.kept ≡ b.kept
     → a.seed ≡ b.seed → a.draws ≡ b.draws → a ≡ b
 same_world a b facts locations flags places saved kept seed draws =
     let e : ◌≡◌ {A = World}
@@ -146,23 +122,6 @@ same_frames a b count rows turning =
     let e : ◌≡◌ {A = Frames} (record { count = a.count; rows = a.rows; turning = a.turning })
     (record { count = b.count; rows = b.rows; turning = b.turning }) = cc in e
 
-same_pending : (a b : PendingLine) → a.bytes ≡ b.bytes → a.earlier ≡ b.earlier → a ≡ b
+pub same_pending : (a b : PendingLine) → a.bytes ≡ b.bytes → a.earlier ≡ b.earlier → a ≡ b
 same_pending a b bytes earlier =
     let e : ◌≡◌ {A = PendingLine} (record { bytes = a.bytes; earlier = a.earlier }) (record { bytes = b.bytes; earlier = b.earlier }) = cc in e
-
-same_state : (a b : State) → a.world ≡ b.world → a.frames ≡ b.frames → a.pending ≡ b.pending → a.prompt ≡ b.prompt → a.events ≡ b.events → a.piece ≡ b.piece
-    → a ≡ b
-same_state a b world frames pending at events piece =
-    let e : ◌≡◌ {A = State}
-    (record { world = a.world; frames = a.frames; pending = a.pending; prompt = a.prompt; events = a.events; piece = a.piece })
-    (record { world = b.world; frames = b.frames; pending = b.pending; prompt = b.prompt; events = b.events; piece = b.piece }) = cc in e
-
-pub fields_back : (g : GameLists) (s : State) → KeepsEach g s → state_in g (fields_of s) ≡ s
-fields_back g s k =
-    same_state (state_in g (fields_of s)) s
-    (same_world (world_in g (fields_of s)) s.world (sym k.world.facts) (sym k.world.locations) refl
-    (take_filled (length g.objects) s.world.places k.world.places)
-    (held_again g s.world.saved (saved_held g s k)) (kept_again g s.world.kept (kept_held g s k)) refl refl)
-    (same_frames (frames_in (fields_of s)) s.frames refl (frames_back s.frames.rows) (turning_again s.frames.turning))
-    (same_pending _ s.pending (take_filled (length s.pending.bytes) s.pending.bytes refl) refl)
-    (prompt_again s.prompt) refl refl

@@ -8,7 +8,7 @@ use Rattle.std.proofs.lemmas.List.Elements.{All-cons}
 use Rattle.std.proofs.lemmas.Bool.{eqb-true}
 use Rattle.paw_state.specs.State.{zeros, filled}
 use Rattle.std.specs.Option.{option_or}
-use Rattle.paw_state.specs.inner.Faults.{rule, first_not, is_zero}
+use Rattle.paw_state.specs.inner.Faults.{rule, first, first_not, is_zero}
 
 pub rule_holds : (at : ℕ) (holds : Bool) → rule at holds ≡ None → holds ≡ true
 rule_holds at true h = refl
@@ -83,3 +83,11 @@ drop_filled n bytes k = drop_at bytes (zeros (255 - length bytes)) n k
 
 pub length-filled : (bytes : List ℕ) → length bytes ≤ 255 → length (filled 255 bytes) ≡ 255
 length-filled bytes low = omega (arith, length-append bytes (zeros (255 - length bytes)), length-zeros (255 - length bytes))
+
+-- ---- two faults ----
+
+pub two : (a b : Option ℕ) → first (a ∷ b ∷ []) ≡ None → (a ≡ None) × (b ≡ None)
+two a b h = let p = no_first a (option_or b None) h in (p.0, (no_first b None p.1).0)
+
+pub two_none : (a b : Option ℕ) → a ≡ None → b ≡ None → first (a ∷ b ∷ []) ≡ None
+two_none a b h k = none_first a (option_or b None) h (none_first b None k refl)

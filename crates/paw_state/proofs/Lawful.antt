@@ -12,23 +12,16 @@ use Rattle.paw_state.specs.inner.Fields.{field_bytes}
 use Rattle.paw_state.specs.inner.Fields.{fields_at}
 use Rattle.paw_state.specs.inner.Faults.{fields_fault}
 use Rattle.paw_state.specs.inner.State.{KeepsEach}
-use Rattle.paw_state.specs.inner.Faults.{parts_fault}
-use Rattle.paw_state.specs.inner.Parts.{state_in}
+use Rattle.paw_state.specs.inner.Fields.{parts_fault}
+use Rattle.paw_state.specs.inner.State.{state_in}
 use Rattle.paw_state.specs.declared.Restored.{Restored}
 use Rattle.paw_state.specs.Fit.{Fit, Unfit}
 use Rattle.paw_state.specs.inner.Fit.{unfit}
 use Rattle.paw_state.specs.inner.Fit.{state_read, IsRead}
 use Rattle.paw_state.specs.inner.Laws.{FieldsStand, OneFault, FitOrUnfit, BytesTellTheState, WrittenIsFit}
-use Rattle.paw_state.proofs.Joined.{fields_join}
-use Rattle.paw_state.proofs.Cut.{fields_cut, kept-length, length-fields}
-use Rattle.paw_state.proofs.Listed.{bytes_same, state_same}
-use Rattle.paw_state.proofs.Firsts.{faults_same, lengths_sized}
-use Rattle.paw_state.proofs.Ruled.{each_of, keeps_of}
-use Rattle.paw_state.proofs.Sound.{AreSound, sound_of}
+use Rattle.paw_state.proofs.EachField.{fields_join, fields_cut, kept-length, length-fields, sized_at, bytes_same, state_same, lengths_sized}
+use Rattle.paw_state.proofs.Ruled.{AreSound, faults_same, sound_of, each_of, keeps_of, keeps_in, state_back, fields_back, fits_at, sized_of}
 use Rattle.paw_state.proofs.Told.{AreLong}
-use Rattle.paw_state.proofs.Back.{state_back, fields_back}
-use Rattle.paw_state.proofs.Keeping.{keeps_in}
-use Rattle.paw_state.proofs.Sizes.{sized_at, fits_at, sized_of}
 
 pub fields_stand : FieldsStand
 fields_stand f rest s = ap (λ (l : List ℕ). fields_at (l ++ rest)) (bytes_same f) ∙ fields_cut f rest s
@@ -99,7 +92,7 @@ bytes_tell_the_state g s t v ks hs kt ht e =
 pub long_state : (g : GameLists) (s : State) → Valid g → IsValidState g s → FitsFields s → AreLong s
 long_state g s v k h =
     let z = sized_of g s v (each_of g s k) h in
-    record { all = ap length (state_same s) ∙ length-fields (fields_of s) z; kept = kept-length (fields_of s) z }
+    record { all = ap length (state_same s) ∙ length-fields (fields_of s) z; behind = kept-length (fields_of s) z }
 
 pub written_is_fit : WrittenIsFit
 written_is_fit g s rest v k h =

@@ -1,15 +1,14 @@
 pub mod Pieces
+pub mod Shaped
 pub mod Positions
 pub mod Absent
 pub mod Written
 pub mod Listed
+pub mod EachField
 pub mod Firsts
-pub mod Joined
-pub mod Cut
 pub mod Found
 pub mod Scans
-pub mod Sound
-pub mod Rows
+pub mod Frames
 pub mod Loops
 pub mod Back
 pub mod Keeping
@@ -17,5 +16,4 @@ pub mod Sizes
 pub mod Ruled
 pub mod Lawful
 pub mod Told
-pub mod Recorded
 pub mod Unkept

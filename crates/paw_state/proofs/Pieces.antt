@@ -1,16 +1,11 @@
 -- Ranges of bytes, one after the other.
-use Rattle.std.proofs.Common.{◌≡◌, ℕ, zero, suc, ◌+◌, ◌*◌, ◌-◌, ◌<◌, ◌≤◌, List, [], ◌∷◌, ◌++◌, length, take, drop}
+use Rattle.std.proofs.Common.{◌≡◌, ℕ, zero, suc, ◌+◌, ◌-◌, ◌<◌, ◌≤◌, List, [], ◌∷◌, ◌++◌, length, take, drop}
 use Rattle.std.proofs.Common.{get_or, sym, ap, ◌∙◌, add-zero, lit<, arith}
 use Rattle.std.specs.Prelude.{slice_index, slice_range}
 use Rattle.std.proofs.Math.Seq.{take-add, drop-cons}
 use Rattle.std.proofs.lemmas.List.{drop-drop, drop_at, take_at, get_or-drop, length-take, length-drop}
 use Rattle.std.proofs.lemmas.List.Elements.{All-take}
-use Rattle.paw_state.specs.declared.layout.TheConstants.{HELD_LENGTH, KEPT}
 use Rattle.paw_state.specs.State.{AreBytes}
-
--- Where a kept position stands, by its number.
-abbrev pub kept_place : ℕ → ℕ
-kept_place n = KEPT + HELD_LENGTH * n
 
 -- ---- what stands at a place of bytes ----
 
@@ -51,17 +46,6 @@ byte_range bytes at h =
 -- a range that lies inside has its length
 pub length_range : (bytes : List ℕ) (a b : ℕ) → a ≤ b → b ≤ length bytes → length (slice_range bytes a b) ≡ b - a
 length_range bytes a b low high = omega (arith, length-take (b - a) (drop a bytes), length-drop a bytes)
-
--- A range after a place.
-pub range_drop : (bytes : List ℕ) (at a n : ℕ) → slice_range bytes (at + a) (at + a + n) ≡ slice_range (drop at bytes) a (a + n)
-range_drop bytes at a n =
-    let k : at + a + n - (at + a) ≡ n = omega arith in
-    let m : a + n - a ≡ n = omega arith in
-    ap (λ (i : ℕ). take i (drop (at + a) bytes)) k ∙ (ap (take n) (sym (drop-drop a at bytes)) ∙ ap (λ (i : ℕ). take i (drop a (drop at bytes))) (sym m))
-
--- the byte at a place
-pub index_drop : (bytes : List ℕ) (at : ℕ) → slice_index bytes at ≡ slice_index (drop at bytes) 0
-index_drop bytes at = ap (λ (i : ℕ). get_or bytes i 0) (sym (add-zero at)) ∙ sym (get_or-drop at bytes 0 0)
 
 -- ---- bytes ----
 

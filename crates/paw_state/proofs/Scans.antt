@@ -1,17 +1,16 @@
 -- Looking through bytes and rows one by one.
-use Rattle.std.proofs.Common.{◌≡◌, ℕ, zero, suc, ◌+◌, ◌-◌, ◌*◌, ◌<◌, ◌≤◌, Bool, true, false, List, [], ◌∷◌, ◌++◌}
+use Rattle.std.proofs.Common.{◌≡◌, ℕ, suc, ◌+◌, ◌-◌, ◌<◌, ◌≤◌, Bool, true, false, List, [], ◌∷◌}
 use Rattle.std.proofs.Common.{Option}
-use Rattle.std.proofs.Common.{Some, None, length, take, drop, set, get_or, refl, sym, ap, ◌∙◌, add-one, subst, arith}
+use Rattle.std.proofs.Common.{Some, None, length, drop, get_or, refl, sym, ap, ◌∙◌, add-one, arith}
 use Rattle.std.specs.Prelude.{if◌then◌else◌}
-use Rattle.std.proofs.Math.Seq.{drop-cons, take-suc-set}
-use Rattle.std.proofs.lemmas.List.{drop-drop, drop_all, take_all}
+use Rattle.std.proofs.Math.Seq.{drop-cons}
+use Rattle.std.proofs.lemmas.List.{drop_all}
 use Rattle.paw_game.specs.Game.{GameLists}
-use Rattle.paw_state.specs.declared.layout.TheConstants.{HELD_LENGTH, ROWS}
+use Rattle.paw_state.specs.declared.layout.TheConstants.{HELD_LENGTH}
 use Rattle.paw_state.specs.declared.fields.FrameField.{FrameField}
 use Rattle.paw_state.specs.declared.position_field.PositionField.{PositionField}
-use Rattle.paw_state.specs.inner.Fields.{row_at, rows_at}
 use Rattle.std.specs.Option.{option_or}
-use Rattle.paw_state.specs.inner.Faults.{rule, first_not, held_fault, kept_fault, row_fault, row_fields_fault}
+use Rattle.paw_state.specs.inner.Faults.{rule, first_not, held_fault, kept_fault, frame_fault, frame_fields_fault}
 use Rattle.paw_state.specs.inner.Faults.{called_table}
 
 -- ---- bytes ----
@@ -57,26 +56,27 @@ at_end p at i bytes low h = sym (none_left p (at + i)) ∙ (ap (first_not p (at 
 
 -- ---- rows ----
 
-pub no_rows : (g : GameLists) (code : ℕ) (caller : Option ℕ) (n at : ℕ) (rows : List FrameField) → length rows ≡ 0 → None
-    ≡ row_fields_fault g code caller n at rows
-unfolding row_fields_fault
-no_rows g code caller n at [] h = refl
-no_rows g code caller n at (r ∷ rs) h = absurd (omega arith)
+pub no_frames : (g : GameLists) (code : ℕ) (caller : Option ℕ) (n at : ℕ) (rows : List FrameField) → length rows ≡ 0 → None
+    ≡ frame_fields_fault g code caller n at rows
+unfolding frame_fields_fault
+no_frames g code caller n at [] h = refl
+no_frames g code caller n at (r ∷ rs) h = absurd (omega arith)
 
-first_row : (g : GameLists) (code : ℕ) (caller : Option ℕ) (n at : ℕ) (rows : List FrameField) (r : FrameField) (rs : List FrameField) → rows ≡ r ∷ rs
-    → option_or (row_fault g code caller n at r) (row_fields_fault g code (called_table g r) (n - 1) (at + 5) rs) ≡ row_fields_fault g code caller n at rows
-unfolding row_fields_fault
-first_row g code caller n at rows r rs e = rw e refl
+first_frame : (g : GameLists) (code : ℕ) (caller : Option ℕ) (n at : ℕ) (rows : List FrameField) (r : FrameField) (rs : List FrameField) → rows ≡ r ∷ rs
+    → option_or (frame_fault g code caller n at r) (frame_fields_fault g code (called_table g r) (n - 1) (at + 5) rs)
+    ≡ frame_fields_fault g code caller n at rows
+unfolding frame_fields_fault
+first_frame g code caller n at rows r rs e = rw e refl
 
-pub row_stops : (g : GameLists) (code : ℕ) (caller : Option ℕ) (n at x : ℕ) (rows : List FrameField) (r : FrameField) (rs : List FrameField) → rows ≡ r ∷ rs
-    → Some x ≡ row_fault g code caller n at r → Some x ≡ row_fields_fault g code caller n at rows
-row_stops g code caller n at x rows r rs e h =
-    ap (λ (o : Option ℕ). option_or o (row_fields_fault g code (called_table g r) (n - 1) (at + 5) rs)) h ∙ first_row g code caller n at rows r rs e
+pub frame_stops : (g : GameLists) (code : ℕ) (caller : Option ℕ) (n at x : ℕ) (rows : List FrameField) (r : FrameField) (rs : List FrameField) → rows ≡ r ∷ rs
+    → Some x ≡ frame_fault g code caller n at r → Some x ≡ frame_fields_fault g code caller n at rows
+frame_stops g code caller n at x rows r rs e h =
+    ap (λ (o : Option ℕ). option_or o (frame_fields_fault g code (called_table g r) (n - 1) (at + 5) rs)) h ∙ first_frame g code caller n at rows r rs e
 
-pub row_passes : (g : GameLists) (code : ℕ) (caller : Option ℕ) (n at : ℕ) (rows : List FrameField) (r : FrameField) (rs : List FrameField) → rows ≡ r ∷ rs
-    → None ≡ row_fault g code caller n at r → row_fields_fault g code (called_table g r) (n - 1) (at + 5) rs ≡ row_fields_fault g code caller n at rows
-row_passes g code caller n at rows r rs e h =
-    ap (λ (o : Option ℕ). option_or o (row_fields_fault g code (called_table g r) (n - 1) (at + 5) rs)) h ∙ first_row g code caller n at rows r rs e
+pub frame_passes : (g : GameLists) (code : ℕ) (caller : Option ℕ) (n at : ℕ) (rows : List FrameField) (r : FrameField) (rs : List FrameField) → rows ≡ r ∷ rs
+    → None ≡ frame_fault g code caller n at r → frame_fields_fault g code (called_table g r) (n - 1) (at + 5) rs ≡ frame_fields_fault g code caller n at rows
+frame_passes g code caller n at rows r rs e h =
+    ap (λ (o : Option ℕ). option_or o (frame_fields_fault g code (called_table g r) (n - 1) (at + 5) rs)) h ∙ first_frame g code caller n at rows r rs e
 
 -- ---- kept positions ----
 
@@ -98,29 +98,3 @@ kept_stops g at x kept k ks e h = ap (λ (o : Option ℕ). option_or o (kept_fau
 pub kept_passes : (g : GameLists) (at : ℕ) (kept : List PositionField) (k : PositionField) (ks : List PositionField) → kept ≡ k ∷ ks → None ≡ held_fault g at k
     → kept_fault g (at + HELD_LENGTH) ks ≡ kept_fault g at kept
 kept_passes g at kept k ks e h = ap (λ (o : Option ℕ). option_or o (kept_fault g (at + HELD_LENGTH) ks)) h ∙ first_kept g at kept k ks e
-
--- ---- rows that are read ----
-
-pub rows_none : (bytes : List ℕ) → [] ≡ rows_at 0 bytes
-unfolding rows_at
-rows_none bytes = refl
-
-pub rows_more : (n : ℕ) (bytes : List ℕ) → rows_at (suc n) bytes ≡ rows_at n bytes ++ row_at (drop (5 * n) bytes) ∷ []
-unfolding rows_at
-rows_more zero bytes = refl
-rows_more (suc n) bytes =
-    let k : 5 + 5 * n ≡ 5 * suc n = omega arith in
-    let e : drop (5 * n) (drop 5 bytes) ≡ drop (5 * suc n) bytes = drop-drop (5 * n) 5 bytes ∙ ap (λ (i : ℕ). drop i bytes) k in
-    ap (λ (rs : List FrameField). row_at bytes ∷ rs) (rows_more n (drop 5 bytes) ∙ ap (λ (l : List ℕ). rows_at n (drop 5 bytes) ++ row_at l ∷ []) e)
-
--- one row more is read
-pub row_read : (rows : List FrameField) (n : ℕ) (r : FrameField) (bytes : List ℕ) → n < length rows → take n rows ≡ rows_at n (drop ROWS bytes)
-    → r ≡ row_at (drop (ROWS + 5 * n) bytes) → take (n + 1) (set rows n r) ≡ rows_at (n + 1) (drop ROWS bytes)
-row_read rows n r bytes low h e =
-    let d : drop (5 * n) (drop ROWS bytes) ≡ drop (ROWS + 5 * n) bytes = drop-drop (5 * n) ROWS bytes in
-    rw (add-one, e, sym d) (take-suc-set rows n (row_at (drop (5 * n) (drop ROWS bytes))) low
-    ∙ (ap (λ (rs : List FrameField). rs ++ row_at (drop (5 * n) (drop ROWS bytes)) ∷ []) h ∙ sym (rows_more n (drop ROWS bytes))))
-
-pub rows_read : (rows : List FrameField) (n : ℕ) (bytes : List ℕ) → length rows ≡ 11 → n ≡ 11 → take n rows ≡ rows_at n (drop ROWS bytes)
-    → rows ≡ rows_at 11 (drop ROWS bytes)
-rows_read rows n bytes k e h = sym (take_all 11 rows (omega arith)) ∙ subst (λ (i : ℕ). take i rows ≡ rows_at i (drop ROWS bytes)) e h

@@ -1,35 +1,15 @@
 -- The two bytes of a state that give the length of the piece.
-use Rattle.std.proofs.Common.{◌≡◌, ℕ, ◌+◌, ◌*◌, ◌<◌, ◌^◌, List, [], ◌∷◌, ◌++◌, length, take, drop, get_or, sym, ap}
-use Rattle.std.proofs.Common.{◌∙◌, arith, append_assoc, length-append, ◌-◌}
-use Rattle.std.proofs.lemmas.List.{append-nil, get_or_append_left, get_or-append-add, take-append-drop}
+use Rattle.std.proofs.Common.{◌≡◌, ℕ, ◌+◌, ◌*◌, ◌<◌, ◌^◌, List, ◌++◌, length, take, drop, get_or, sym, ap}
+use Rattle.std.proofs.Common.{◌∙◌, arith, length-append, ◌-◌}
+use Rattle.std.proofs.lemmas.List.{get_or_append_left, get_or-append-add, take-append-drop}
 use Rattle.paw_base.specs.declared.layout.TheConstants.{STATE_LENGTH}
 use Rattle.paw_state.proofs.Found.{length-zeros}
-use Rattle.paw_state.proofs.Listed.{state_same}
+use Rattle.paw_state.proofs.EachField.{state_same}
 use Rattle.paw_game.specs.Image.{two_bytes}
 use Rattle.paw_state.specs.declared.layout.TheConstants.{PIECE, STATE_ROOM}
-use Rattle.paw_state.specs.declared.fields.Fields.{Fields}
 use Rattle.paw_state.specs.State.{State}
 use Rattle.paw_state.specs.State.{fields_of, state_bytes, zeros}
-use Rattle.paw_state.specs.inner.Fields.{world_bytes, number_bytes, table_bytes, pending_bytes, kept_position_bytes}
-use Rattle.paw_state.specs.inner.Fields.{field_bytes}
-
-inner_join : (d e p k : List ℕ) → (d ++ (e ++ (p ++ []))) ++ (k ++ []) ≡ (d ++ e) ++ (p ++ k)
-inner_join d e p k = simp (append_assoc, append-nil)
-
-outer_join : (a b c x p : List ℕ) → a ++ (b ++ (c ++ (x ++ p))) ≡ (a ++ (b ++ (c ++ x))) ++ p
-outer_join a b c x p =
-    ap (λ q. a ++ (b ++ q)) (sym (append_assoc c x p)) ∙ ap (λ q. a ++ q) (sym (append_assoc b (c ++ x) p)) ∙ sym (append_assoc a (b ++ (c ++ x)) p)
-
--- the fields before the piece's length
-front : Fields → List ℕ
-front f = world_bytes f ++ (number_bytes f ++ (table_bytes f ++ ((f.earlier ∷ f.pending ∷ []) ++ f.line)))
-
-state_ends : (f : Fields) → field_bytes f ≡ front f ++ (two_bytes f.piece ++ kept_position_bytes f)
-unfolding front pending_bytes
-state_ends f =
-    ap (λ q. world_bytes f ++ (number_bytes f ++ (table_bytes f ++ q)))
-    (inner_join (f.earlier ∷ f.pending ∷ []) f.line (two_bytes f.piece) (kept_position_bytes f))
-    ∙ outer_join (world_bytes f) (number_bytes f) (table_bytes f) ((f.earlier ∷ f.pending ∷ []) ++ f.line) (two_bytes f.piece ++ kept_position_bytes f)
+use Rattle.paw_state.proofs.EachField.{before_piece, after_piece, state_ends}
 
 -- The two bytes from 1,369 on.
 two_there : (front : List ℕ) (n : ℕ) (q : List ℕ) → length front ≡ PIECE → n < 2 ^ 16
@@ -42,22 +22,23 @@ two_there front n q l h =
     ap (λ k. get_or bytes k 0) (omega (arith, l)) ∙ get_or-append-add front (two_bytes n ++ q) 1 0 in
     rw (a, b) (grind (arith))
 
-front_long : (front : List ℕ) (n : ℕ) (q : List ℕ) → length (front ++ (two_bytes n ++ q)) ≡ STATE_LENGTH → length q ≡ 2048 → length front ≡ PIECE
+front_long : (front : List ℕ) (n : ℕ) (q : List ℕ) → length (front ++ (two_bytes n ++ q)) ≡ STATE_LENGTH → length q ≡ STATE_LENGTH - (PIECE + 2)
+    → length front ≡ PIECE
 front_long front n q l k =
     let m = length-append front (two_bytes n ++ q) in
     let r = length-append (two_bytes n) q in
     omega (arith, l, m, r, k)
 
--- the bytes of a state, and of its kept positions
+-- the bytes of a state, and those after the length of the piece
 pub record AreLong (s : State) : Type 0 where
   pub all : length (state_bytes s) ≡ STATE_LENGTH
-  pub kept : length (kept_position_bytes (fields_of s)) ≡ 2048
+  pub behind : length (after_piece (fields_of s)) ≡ STATE_LENGTH - (PIECE + 2)
 
 pub piece_told : (s : State) → AreLong s → s.piece < 2 ^ 16 → get_or (state_bytes s) PIECE 0 + 256 * get_or (state_bytes s) (PIECE + 1) 0 ≡ s.piece
 piece_told s l h =
     let f = fields_of s in
     let e = state_same s ∙ state_ends f in
-    rw e (two_there (front f) s.piece (kept_position_bytes f) (front_long (front f) s.piece (kept_position_bytes f) (ap length (sym e) ∙ l.all) l.kept) h)
+    rw e (two_there (before_piece f) s.piece (after_piece f) (front_long (before_piece f) s.piece (after_piece f) (ap length (sym e) ∙ l.all) l.behind) h)
 
 -- as it stands in a buffer
 pub piece_in : (s : State) (rest into : List ℕ) → into ≡ state_bytes s ++ rest → AreLong s → s.piece < 2 ^ 16

@@ -3,16 +3,14 @@ use Rattle.std.proofs.Common.{◌≡◌, ℕ, ◌+◌, ◌-◌, ◌*◌, ◌<◌
 use Rattle.std.proofs.Common.{drop, set, get_or, replicate, refl, sym, ap, ◌∙◌, add-one, arith}
 use Rattle.std.specs.Prelude.{flat_map}
 use Rattle.std.proofs.Math.Seq.{take-suc, take-suc-set}
-use Rattle.std.proofs.lemmas.List.{append_assoc, append-nil, take_all, length-append, length-map, get_or-map, drop-drop}
+use Rattle.std.proofs.lemmas.List.{append_assoc, take_all, length-append, length-map, get_or-map, drop-drop}
 use Rattle.std.proofs.lemmas.List.{drop-replicate, length-take}
 use Rattle.std.proofs.lemmas.Slice.{take-put_mid, drop-put_mid}
 use borrow.Rule.Slice.PartMut.{put_mid}
-use Rattle.paw_base.specs.declared.layout.TheConstants.{STATE_LENGTH}
 use Rattle.paw_state.specs.declared.layout.TheConstants.{STATE_ROOM}
 use Rattle.paw_state.specs.declared.fields.FrameField.{FrameField}
-use Rattle.std.specs.List.{concat}
 use Rattle.paw_state.specs.State.{zeros, filled}
-use Rattle.paw_state.specs.inner.Fields.{row_bytes}
+use Rattle.paw_state.specs.inner.Fields.{frame_shape}
 
 -- ---- zeros ----
 
@@ -48,24 +46,25 @@ count_of bytes old count low size h = ap length (sym h) ∙ omega (arith, length
 
 -- ---- three fields, and more ----
 
-pub three : (w0 w1 w2 w3 x y z : List ℕ) → w1 ≡ w0 ++ x → w2 ≡ w1 ++ y → w3 ≡ w2 ++ z → w3 ≡ w0 ++ concat (x ∷ y ∷ z ∷ [])
-three w0 w1 w2 w3 x y z e f g = rw (g, f, e) (simp (append_assoc, append-nil))
+pub three : (w0 w1 w2 w3 x y z : List ℕ) → w1 ≡ w0 ++ x → w2 ≡ w1 ++ y → w3 ≡ w2 ++ z → w3 ≡ w0 ++ (x ++ (y ++ z))
+three w0 w1 w2 w3 x y z e f g = rw (g, f, e) (simp append_assoc)
 
 -- bytes in front of 255 zeros
 pub filled_behind : (bytes new : List ℕ) → new ≡ bytes → new ++ drop (length bytes) (replicate 255 0) ≡ filled 255 bytes
 filled_behind bytes new h = rw (h, zeros_all 255) (ap (λ (l : List ℕ). bytes ++ l) (drop-zeros (length bytes) 255))
 
--- ---- rows ----
+-- ---- frames ----
 
-pub length-rows : (rows : List FrameField) → length (flat_map row_bytes rows) ≡ 5 * length rows
-length-rows [] = refl
-length-rows (r ∷ rs) = length-append (row_bytes r) (flat_map row_bytes rs) ∙ (ap (λ n. 5 + n) (length-rows rs) ∙ omega arith)
+pub length-frames : (rows : List FrameField) → length (flat_map frame_shape.bytes rows) ≡ 5 * length rows
+length-frames [] = refl
+length-frames (r ∷ rs) = length-append (frame_shape.bytes r) (flat_map frame_shape.bytes rs) ∙ (ap (λ n. 5 + n) (length-frames rs) ∙ omega arith)
 
-pub room_for_row : (rows : List FrameField) (old new : List ℕ) (i : ℕ) → i < length rows → length rows ≡ 11 → new ≡ old ++ flat_map row_bytes (take i rows)
+pub room_for_frame : (rows : List FrameField) (old new : List ℕ) (i : ℕ) → i < length rows → length rows ≡ 11
+    → new ≡ old ++ flat_map frame_shape.bytes (take i rows)
     → length old + 55 ≤ STATE_ROOM → length new + 5 ≤ STATE_ROOM
-room_for_row rows old new i low size h room =
+room_for_frame rows old new i low size h room =
     let n : length new ≡ length old + 5 * length (take i rows) =
-    ap length h ∙ (length-append old (flat_map row_bytes (take i rows)) ∙ ap (λ k. length old + k) (length-rows (take i rows))) in
+    ap length h ∙ (length-append old (flat_map frame_shape.bytes (take i rows)) ∙ ap (λ k. length old + k) (length-frames (take i rows))) in
     omega (arith, n, length-take i rows)
 
 -- ---- lists that are mapped one by one ----
@@ -81,12 +80,3 @@ pub mapped_all : {A B : Type 0} → (f : A → B) (xs : List A) (ys : List B) (i
     → take i ys ≡ take i (map f xs) → ys ≡ map f xs
 mapped_all f xs ys i kx ky low h =
     sym (take_all i ys (omega arith)) ∙ (h ∙ take_all i (map f xs) (omega (arith, length-map xs f)))
-
--- ---- all fields ----
-
-pub all_written : (w0 w1 w2 w3 w4 w5 last x y z t k : List ℕ) → w0 ≡ [] → w1 ≡ w0 ++ x → w2 ≡ w1 ++ y → w3 ≡ w2 ++ z → w4 ≡ w3 ++ t → w5 ≡ w4 ++ k
-    → length w5 ≡ STATE_LENGTH → last ≡ w5 ++ zeros (STATE_ROOM - length w5)
-    → last ≡ concat (x ∷ y ∷ z ∷ t ∷ k ∷ []) ++ zeros (STATE_ROOM - STATE_LENGTH)
-all_written w0 w1 w2 w3 w4 w5 last x y z t k e0 e1 e2 e3 e4 e5 n e =
-    let all : w5 ≡ concat (x ∷ y ∷ z ∷ t ∷ k ∷ []) = rw (e5, e4, e3, e2, e1, e0) (simp (append_assoc, append-nil)) in
-    e ∙ (ap (λ (i : ℕ). w5 ++ zeros (STATE_ROOM - i)) n ∙ ap (λ (l : List ℕ). l ++ zeros (STATE_ROOM - STATE_LENGTH)) all)

@@ -69,29 +69,35 @@ fault_from g at (f ∷ fs) = if f.holds g then fault_from g (at + length f.bytes
 abbrev pub place_holds : ℕ → ℕ → GameLists → Bool
 place_holds i place g = if nat_lt i (length g.objects) then is_place (length g.locations) place else place == 0
 
+-- The flags, which have no rule.
+abbrev pub flag_fields : Bytes → List Field
+flag_fields flags = one_by_one (λ i flag g. true) 0 flags
+
+-- The places of the objects, and zeros.
+abbrev pub place_fields : Bytes → List Field
+place_fields places = one_by_one place_holds 0 places
+
 -- The fields of a position: 1 where it is there, its flags, and its places.
 abbrev pub held_fields : PositionField → List Field
-held_fields h =
-    byte h.there (λ g. nat_le h.there 1)
-    ∷ if_there h.there (one_by_one (λ i flag g. true) 0 h.flags ++ one_by_one place_holds 0 h.places)
+held_fields h = byte h.there (λ g. nat_le h.there 1) ∷ if_there h.there (flag_fields h.flags ++ place_fields h.places)
 
--- The fields of a row, where n rows are used from this one on: table, entry, condact, and 1 where an action was carried
--- out; all are 0 where n is 0. Its table is the one called, or 0, 1 or 2 for the outermost. The last used row is at the
--- condact with this code, each other at a PROCESS.
-abbrev pub row_fields : ℕ → (GameLists → Option ℕ) → ℕ → FrameField → List Field
-row_fields code caller n r = if_there n (
+-- The fields of a frame, where n frames are used from this one on: table, entry, condact, and 1 where an action was
+-- carried out; all are 0 where n is 0. Its table is the one called, or 0, 1 or 2 for the outermost. The last used frame
+-- is at the condact with this code, each other at a PROCESS.
+abbrev pub frame_fields : ℕ → (GameLists → Option ℕ) → ℕ → FrameField → List Field
+frame_fields code caller n r = if_there n (
     byte r.table (λ g. may_open (caller g) r.table)
     ∷ two r.entry (λ g. is_some (head_at g r.table r.entry))
     ∷ byte r.at (λ g. has_code (if n == 1 then code else PROCESS) (condact_at g r.table r.entry r.at))
     ∷ byte r.acted (λ g. nat_le r.acted 1)
     ∷ [])
 
--- The fields of rows, the first n of which are used; the PROCESS of each calls the table of the next.
-unfoldable pub rows_fields : ℕ → (GameLists → Option ℕ) → ℕ → List FrameField → List Field
-rows_fields code caller n [] = []
-rows_fields code caller n (r ∷ rs) =
-    row_fields code caller n r
-    ++ rows_fields code (λ g. Some (parameter_of (condact_at g r.table r.entry r.at))) (n - 1) rs
+-- The fields of frames, the first n of which are used; the PROCESS of each calls the table of the next.
+unfoldable pub frames_fields : ℕ → (GameLists → Option ℕ) → ℕ → List FrameField → List Field
+frames_fields code caller n [] = []
+frames_fields code caller n (r ∷ rs) =
+    frame_fields code caller n r
+    ++ frames_fields code (λ g. Some (parameter_of (condact_at g r.table r.entry r.at))) (n - 1) rs
 
 -- The fields of the open loop: the level and the number of an open table, entry, condact (a DOALL), place, last object.
 abbrev pub loop_fields : Fields → OpenLoop → List Field
@@ -108,29 +114,53 @@ loop_fields f l = if_there f.looping (
 abbrev pub prompt_of : ℕ → Prompt
 prompt_of n = slice_index_or (prompt.Main ∷ prompt.Quit ∷ prompt.Again ∷ prompt.Key ∷ []) n prompt.Over
 
--- All fields of a state, in order: flags and places, now and in the saved position; the seed, the number of words
--- drawn, and that of lines taken; the prompt, the number of open tables, and their rows; whether a loop is open (never
--- where no table is), and the loop; the verb of the sentence before; the number of pending bytes (0 at a prompt outside
--- tables), and these, filled up with zeros; the length of the last piece; the kept positions. At most 1,000,000,000
--- lines were taken. At most 200,000 words were drawn for each of them, and 200,000 for the piece before the first; this
--- isn't checked where the lines are too many.
-unfoldable pub state_fields : Fields → List Field
-state_fields f =
-    let inside = waiting_code (prompt_of f.prompt) in
-    one_by_one (λ i flag g. true) 0 f.flags
-    ++ one_by_one place_holds 0 f.places
-    ++ held_fields f.saved
-    ++ eight f.seed (λ g. true)
+-- The condact at which a game waits at the prompt of these fields, where it is one inside tables.
+abbrev pub inside : Fields → Option ℕ
+inside f = waiting_code (prompt_of f.prompt)
+
+-- The seed, the number of words drawn, and that of lines taken. At most 1,000,000,000 lines were taken. At most 200,000
+-- words were drawn for each of them, and 200,000 for the piece before the first; this isn't checked where the lines are
+-- too many.
+abbrev pub number_fields : Fields → List Field
+number_fields f =
+    eight f.seed (λ g. true)
     ∷ eight f.draws (λ g. not (nat_le f.events EVENT_LIMIT) || nat_le f.draws (READ_LIMIT * (f.events + 1)))
     ∷ eight f.events (λ g. nat_le f.events EVENT_LIMIT)
-    ∷ byte f.prompt (λ g. nat_le f.prompt 4)
-    ∷ byte f.count (λ g. count_fits inside f.count)
-    ∷ rows_fields (unwrap_or inside 0) (λ g. None) f.count f.rows
-    ++ byte f.looping (λ g. nat_le f.looping (if f.count == 0 then 0 else 1))
-    ∷ loop_fields f f.turning
-    ++ byte f.earlier (λ g. true)
-    ∷ byte f.pending (λ g. is_some inside || (f.pending == 0))
-    ∷ one_by_one (λ i b g. nat_lt i f.pending || (b == 0)) 0 f.line
+    ∷ []
+
+-- The prompt, and the number of open tables.
+abbrev pub prompt_fields : Fields → List Field
+prompt_fields f = byte f.prompt (λ g. nat_le f.prompt 4) ∷ byte f.count (λ g. count_fits (inside f) f.count) ∷ []
+
+-- The frames of the open tables.
+abbrev pub table_fields : Fields → List Field
+table_fields f = frames_fields (unwrap_or (inside f) 0) (λ g. None) f.count f.rows
+
+-- Whether a loop is open (never where no table is), and the loop.
+abbrev pub looping_fields : Fields → List Field
+looping_fields f = byte f.looping (λ g. nat_le f.looping (if f.count == 0 then 0 else 1)) ∷ loop_fields f f.turning
+
+-- The pending bytes, filled up with zeros.
+abbrev pub line_fields : Fields → List Field
+line_fields f = one_by_one (λ i b g. nat_lt i f.pending || (b == 0)) 0 f.line
+
+-- The verb of the sentence before, the number of pending bytes (0 at a prompt outside tables), and these.
+abbrev pub pending_fields : Fields → List Field
+pending_fields f =
+    byte f.earlier (λ g. true) ∷ byte f.pending (λ g. is_some (inside f) || (f.pending == 0)) ∷ line_fields f
+
+-- All fields of a state, in order: flags and places, now and in the saved position; the numbers; the prompt, the number
+-- of open tables, and their frames; the open loop; what is pending; the length of the last piece; the kept positions.
+unfoldable pub state_fields : Fields → List Field
+state_fields f =
+    flag_fields f.flags
+    ++ place_fields f.places
+    ++ held_fields f.saved
+    ++ number_fields f
+    ++ prompt_fields f
+    ++ table_fields f
+    ++ looping_fields f
+    ++ pending_fields f
     ++ two f.piece (λ g. true)
     ∷ flat_map held_fields f.kept
 

@@ -49,9 +49,9 @@ prompt_code prompt.Again = 2
 prompt_code prompt.Key = 3
 prompt_code prompt.Over = 4
 
--- The row of a frame, with 1 where an action was carried out.
-abbrev pub row_of : Frame → FrameField
-row_of f = record { table = f.table; entry = f.entry; at = f.at; acted = (if f.acted then 1 else 0) }
+-- The fields of a frame, with 1 where an action was carried out.
+abbrev pub frame_field_of : Frame → FrameField
+frame_field_of f = record { table = f.table; entry = f.entry; at = f.at; acted = (if f.acted then 1 else 0) }
 
 -- The fields of a state; the one for a loop is 1 where a loop is open.
 abbrev pub fields_of : State → Fields
@@ -65,7 +65,7 @@ fields_of s = record {
   events = s.events;
   prompt = prompt_code s.prompt;
   count = s.frames.count;
-  rows = map row_of s.frames.rows;
+  rows = map frame_field_of s.frames.rows;
   looping = (if is_some s.frames.turning then 1 else 0);
   turning = unwrap_or s.frames.turning (record { level = 0; table = 0; entry = 0; at = 0; place = 0; last = 0 });
   earlier = s.pending.earlier;
@@ -80,7 +80,7 @@ state_bytes s = bytes_of (state_fields (fields_of s))
 
 -- ---- its rules ----
 
--- The rules of a state: the world is the game's, and sound; there are eleven rows for open tables; at most 255 bytes
+-- The rules of a state: the world is the game's, and sound; there is room for eleven frames; at most 255 bytes
 -- are pending; and each of its fields keeps its rule.
 pub record IsValidState (g : GameLists) (s : State) : Type 0 where
   pub world : IsOf g s.world

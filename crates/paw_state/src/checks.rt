@@ -1,23 +1,24 @@
 // The rules of a state's fields.
 
 ghost use Rattle.std.specs.Prelude.{◌≡◌, ◌+◌, ◌<◌, ◌≤◌, ◌^◌, ◌*◌, length, slice_get};
-ghost use Rattle.std.specs.Option.{option_map};
+ghost use Rattle.std.specs.Prelude.{None, drop, ◌≢◌, ◌==◌, false};
+ghost use Rattle.std.specs.Option.{option_map_or, unwrap_or};
 ghost use Rattle.paw_game.specs.Valid.{Valid, is_place};
-ghost use Rattle.paw_process.specs.inner.Kept.{is_that_table};
-ghost use Rattle.paw_state.specs.declared.layout.TheConstants.{HELD_LENGTH, ROW_LENGTH, STATE_ROOM};
+ghost use Rattle.paw_state.specs.declared.layout.TheConstants.{HELD_LENGTH, FRAME_LENGTH, STATE_ROOM, SEED, PROMPT};
+ghost use Rattle.paw_state.specs.declared.layout.TheConstants.{FRAMES, LOOPING, LOOP_LEVEL, EARLIER, LINE};
 ghost use Rattle.paw_state.specs.inner.Faults.{rule, first_not, is_zero, places_fault, absent_fault, held_fault};
-ghost use Rattle.paw_state.specs.inner.Faults.{kept_fault, numbers_fault, prompt_of, prompt_fault, unused_fault};
-ghost use Rattle.paw_state.specs.inner.Faults.{used_fault, row_fault, row_fields_fault, no_loop_fault};
-ghost use Rattle.paw_state.specs.inner.Faults.{loop_fields_fault, open_loop_fault, frame_fields_fault, pending_fault};
-ghost use Rattle.paw_state.specs.inner.Faults.{parts_fault};
+ghost use Rattle.paw_state.specs.inner.Faults.{kept_fault, unused_fault, used_fault, frame_fault, frame_fields_fault};
+ghost use Rattle.paw_state.specs.inner.Fields.{parts_fault};
 ghost use Rattle.paw_state.specs.inner.Faults.{fault_of};
+ghost use Rattle.paw_state.specs.Fields.{prompt_of, fault_from, number_fields, prompt_fields, looping_fields};
+ghost use Rattle.paw_state.specs.Fields.{loop_fields, pending_fields, inside};
 
 use crate::StateFault;
 use crate::fields::{Fields, FrameField};
 use crate::layout::{
-    COUNT, DRAWS, EVENTS, HELD_FLAGS, HELD_LENGTH, HELD_PLACES, KEPT, LINE, LOOP_AT, LOOP_ENTRY,
-    LOOP_LAST, LOOP_LEVEL, LOOP_PLACE, LOOP_TABLE, LOOPING, PENDING, PLACES, PROMPT, ROW_ACTED,
-    ROW_AT, ROW_ENTRY, ROW_LENGTH, ROWS, SAVED,
+    COUNT, DRAWS, EVENTS, FRAME_ACTED, FRAME_AT, FRAME_ENTRY, FRAME_LENGTH, FRAMES, HELD_FLAGS,
+    HELD_LENGTH, HELD_PLACES, KEPT, LINE, LOOP_AT, LOOP_ENTRY, LOOP_LAST, LOOP_LEVEL, LOOP_PLACE,
+    LOOP_TABLE, LOOPING, PENDING, PLACES, PROMPT, SAVED,
 };
 use crate::position_field::PositionField;
 use paw_base::codes::{DOALL, PROCESS};
@@ -110,14 +111,16 @@ fn check_kept<T: Tables>(tables: &T, at: usize, kept: &[PositionField]) -> Resul
 }
 
 /// Checks the numbers of lines and of draws.
-fn check_numbers(fields: &Fields) -> Result<(), StateFault>
-    ensures value { fault_of result ≡ numbers_fault fields.now }
+#[tactic(auto, unfolding(crate::specs::Fields::fault_from))]
+fn check_numbers<T: Tables>(_tables: &T, fields: &Fields) -> Result<(), StateFault>
+    ensures value { fault_of result ≡ fault_from (T.game _tables.now) SEED (number_fields fields.now) }
 {
     rule(EVENTS, fields.events <= EVENT_LIMIT)?;
     rule(DRAWS, fields.draws <= MOST_DRAWS * (fields.events + 1))
 }
 
 /// The prompt of a code from 0 to 4.
+#[tactic(auto, using(crate::proofs::Firsts::prompt_chain))]
 pub(crate) fn prompt_of(code: u8) -> Prompt
     ensures value { result ≡ prompt_of code }
 {
@@ -131,8 +134,9 @@ pub(crate) fn prompt_of(code: u8) -> Prompt
 }
 
 /// Checks the prompt, and the number of open tables.
-fn check_prompt(fields: &Fields) -> Result<(), StateFault>
-    ensures value { fault_of result ≡ prompt_fault fields.now }
+#[tactic(auto, unfolding(crate::specs::Fields::fault_from))]
+fn check_prompt<T: Tables>(_tables: &T, fields: &Fields) -> Result<(), StateFault>
+    ensures value { fault_of result ≡ fault_from (T.game _tables.now) PROMPT (prompt_fields fields.now) }
 {
     rule(PROMPT, fields.prompt <= 4)?;
     rule(
@@ -141,18 +145,18 @@ fn check_prompt(fields: &Fields) -> Result<(), StateFault>
     )
 }
 
-/// Checks a row that isn't used.
+/// Checks a frame that isn't used.
 fn check_unused(at: usize, row: &FrameField) -> Result<(), StateFault>
     requires near { at < STATE_ROOM }
     ensures value { fault_of result ≡ unused_fault at row.now }
 {
     rule(at, row.table == 0)?;
-    rule(at + ROW_ENTRY, row.entry == 0)?;
-    rule(at + ROW_AT, row.at == 0)?;
-    rule(at + ROW_ACTED, row.acted == 0)
+    rule(at + FRAME_ENTRY, row.entry == 0)?;
+    rule(at + FRAME_AT, row.at == 0)?;
+    rule(at + FRAME_ACTED, row.acted == 0)
 }
 
-/// Checks a row that is used, at a condact of this code.
+/// Checks a frame that is used, at a condact of this code.
 fn check_used<T: Tables>(
     tables: &T,
     code: u8,
@@ -165,13 +169,16 @@ fn check_used<T: Tables>(
 {
     let condact = tables.condact(row.table, row.entry, row.at);
     rule(at, may_open(caller, row.table))?;
-    rule(at + ROW_ENTRY, tables.head(row.table, row.entry).is_some())?;
-    rule(at + ROW_AT, has_code(code, condact))?;
-    rule(at + ROW_ACTED, row.acted <= 1)
+    rule(
+        at + FRAME_ENTRY,
+        tables.head(row.table, row.entry).is_some(),
+    )?;
+    rule(at + FRAME_AT, has_code(code, condact))?;
+    rule(at + FRAME_ACTED, row.acted <= 1)
 }
 
-/// Checks a row from which on this many are used: the last of these at this condact.
-fn check_row<T: Tables>(
+/// Checks a frame from which on this many are used: the last of these at this condact.
+fn check_frame<T: Tables>(
     tables: &T,
     code: u8,
     caller: Option<u8>,
@@ -180,7 +187,7 @@ fn check_row<T: Tables>(
     row: &FrameField,
 ) -> Result<(), StateFault>
     requires near { at < STATE_ROOM }
-    ensures value { fault_of result ≡ row_fault (T.game tables.now) code caller used at row.now }
+    ensures value { fault_of result ≡ frame_fault (T.game tables.now) code caller used at row.now }
 {
     match used {
         0 => check_unused(at, row),
@@ -189,8 +196,8 @@ fn check_row<T: Tables>(
     }
 }
 
-/// Checks these rows, the first of which stands at this place.
-fn check_rows<T: Tables>(
+/// Checks these frames, the first of which stands at this place.
+fn check_each_frame<T: Tables>(
     tables: &T,
     code: u8,
     caller: Option<u8>,
@@ -198,29 +205,37 @@ fn check_rows<T: Tables>(
     at: usize,
     rows: &[FrameField],
 ) -> Result<(), StateFault>
-    requires near { at + ROW_LENGTH * length rows.now < STATE_ROOM }
-    ensures value { fault_of result ≡ row_fields_fault (T.game tables.now) code caller used at rows.now }
+    requires near { at + FRAME_LENGTH * length rows.now < STATE_ROOM }
+    ensures value { fault_of result ≡ frame_fields_fault (T.game tables.now) code caller used at rows.now }
 {
     let Some((row, rest)) = rows.split_first() else {
         return Ok(());
     };
-    check_row(tables, code, caller, used, at, row)?;
+    check_frame(tables, code, caller, used, at, row)?;
     let called = parameter_of(tables.condact(row.table, row.entry, row.at));
     let left = used.saturating_sub(1);
-    check_rows(tables, code, Some(called), left, at + ROW_LENGTH, rest)
+    check_each_frame(tables, code, Some(called), left, at + FRAME_LENGTH, rest)
 }
 
-/// Checks the rows of the open tables, and the unused ones after them.
+/// Checks the frames of the open tables, and the unused ones after them.
 fn check_frames<T: Tables>(tables: &T, fields: &Fields) -> Result<(), StateFault>
-    ensures value { fault_of result ≡ frame_fields_fault (T.game tables.now) fields.now }
+    ensures value { fault_of result ≡
+        frame_fields_fault (T.game tables.now) (unwrap_or (inside fields.now) 0) None fields.now.count FRAMES
+        fields.now.rows }
 {
     let code = waiting_code(prompt_of(fields.prompt)).unwrap_or(0);
-    check_rows(tables, code, None, fields.count, ROWS, &fields.rows)
+    check_each_frame(tables, code, None, fields.count, FRAMES, &fields.rows)
 }
 
 /// Checks the bytes of a loop where none is open.
-fn check_no_loop(turning: &OpenLoop) -> Result<(), StateFault>
-    ensures value { fault_of result ≡ no_loop_fault turning.now }
+#[tactic(auto, unfolding(crate::specs::Fields::fault_from, crate::specs::Fields::if_there))]
+fn check_no_loop<T: Tables>(
+    _tables: &T,
+    fields: &Fields,
+    turning: &OpenLoop,
+) -> Result<(), StateFault>
+    ensures value { fields.now.looping ≡ 0 →
+        fault_of result ≡ fault_from (T.game _tables.now) LOOP_LEVEL (loop_fields fields.now turning.now) }
 {
     rule(LOOP_LEVEL, turning.level == 0)?;
     rule(LOOP_TABLE, turning.table == 0)?;
@@ -231,8 +246,10 @@ fn check_no_loop(turning: &OpenLoop) -> Result<(), StateFault>
 }
 
 /// Checks an open loop.
+#[tactic(auto, unfolding(crate::specs::Fields::fault_from, crate::specs::Fields::if_there))]
 fn check_loop<T: Tables>(tables: &T, fields: &Fields, turning: &OpenLoop) -> Result<(), StateFault>
-    ensures value { fault_of result ≡ loop_fields_fault (T.game tables.now) fields.now turning.now }
+    ensures value { fields.now.looping ≢ 0 →
+        fault_of result ≡ fault_from (T.game tables.now) LOOP_LEVEL (loop_fields fields.now turning.now) }
 {
     let counts = tables.counts();
     let condact = tables.condact(turning.table, turning.entry, turning.at);
@@ -250,9 +267,9 @@ fn check_loop<T: Tables>(tables: &T, fields: &Fields, turning: &OpenLoop) -> Res
     rule(LOOP_LAST, u16::from(turning.last) < counts.objects)
 }
 
-/// Whether the row of this level belongs to this table.
+/// Whether the frame of this level belongs to this table.
 fn is_table_at(rows: &[FrameField], level: u8, table: u8) -> bool
-    ensures value { result ≡ is_that_table (option_map (λ r. r.table) (slice_get rows.now level)) table }
+    ensures value { result ≡ option_map_or (λ r. table == r.table) (slice_get rows.now level) false }
 {
     match rows.get(level as usize) {
         None => false,
@@ -260,27 +277,45 @@ fn is_table_at(rows: &[FrameField], level: u8, table: u8) -> bool
     }
 }
 
-/// Checks whether a loop is open, and its bytes.
-fn check_open_loop<T: Tables>(tables: &T, fields: &Fields) -> Result<(), StateFault>
-    ensures value { fault_of result ≡ open_loop_fault (T.game tables.now) fields.now }
+/// Checks the bytes of the loop, open or not.
+fn check_turning<T: Tables>(tables: &T, fields: &Fields) -> Result<(), StateFault>
+    ensures value { fault_of result ≡
+        fault_from (T.game tables.now) LOOP_LEVEL (loop_fields fields.now fields.now.turning) }
 {
-    let most = if fields.count == 0 { 0 } else { 1 };
-    rule(LOOPING, fields.looping <= most)?;
     if fields.looping == 0 {
-        check_no_loop(&fields.turning)
+        check_no_loop(tables, fields, &fields.turning)
     } else {
         check_loop(tables, fields, &fields.turning)
     }
 }
 
+/// Checks whether a loop is open, and its bytes.
+#[tactic(auto, unfolding(crate::specs::Fields::fault_from))]
+fn check_open_loop<T: Tables>(tables: &T, fields: &Fields) -> Result<(), StateFault>
+    ensures value { fault_of result ≡ fault_from (T.game tables.now) LOOPING (looping_fields fields.now) }
+{
+    let most = if fields.count == 0 { 0 } else { 1 };
+    rule(LOOPING, fields.looping <= most)?;
+    check_turning(tables, fields)
+}
+
+/// Checks the zeros after the bytes that are pending.
+fn check_rest(fields: &Fields) -> Result<(), StateFault>
+    ensures value { fault_of result ≡
+        first_not is_zero (LINE + fields.now.pending) (drop fields.now.pending fields.now.line) }
+{
+    let pending = fields.pending as usize;
+    all_zero(LINE + pending, &fields.line[pending..])
+}
+
 /// Checks what is pending.
-fn check_pending(fields: &Fields) -> Result<(), StateFault>
-    ensures value { fault_of result ≡ pending_fault fields.now }
+#[tactic(auto, using(crate::proofs::Firsts::line_same), unfolding(crate::specs::Fields::fault_from))]
+fn check_pending<T: Tables>(_tables: &T, fields: &Fields) -> Result<(), StateFault>
+    ensures value { fault_of result ≡ fault_from (T.game _tables.now) EARLIER (pending_fields fields.now) }
 {
     let inside = waiting_code(prompt_of(fields.prompt)).is_some();
     rule(PENDING, inside || fields.pending == 0)?;
-    let pending = fields.pending as usize;
-    all_zero(LINE + pending, &fields.line[pending..])
+    check_rest(fields)
 }
 
 /// Checks all fields, and names the first that breaks its rule in this game as a fault.
@@ -290,10 +325,10 @@ pub(crate) fn check<T: Tables>(tables: &T, fields: &Fields) -> Result<(), StateF
 {
     check_places(tables, PLACES, &fields.places)?;
     check_held(tables, SAVED, &fields.saved)?;
-    check_numbers(fields)?;
-    check_prompt(fields)?;
+    check_numbers(tables, fields)?;
+    check_prompt(tables, fields)?;
     check_frames(tables, fields)?;
     check_open_loop(tables, fields)?;
-    check_pending(fields)?;
+    check_pending(tables, fields)?;
     check_kept(tables, KEPT, &fields.kept)
 }

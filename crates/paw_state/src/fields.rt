@@ -1,25 +1,26 @@
 // The fields of a state, as they stand in its bytes.
 
-ghost use Rattle.std.specs.Prelude.{◌≡◌, ◌+◌, ◌-◌, ◌*◌, ◌≤◌, ◌++◌, length, drop, flat_map, slice_range};
+ghost use Rattle.std.specs.Prelude.{◌≡◌, ◌+◌, ◌-◌, ◌*◌, ◌≤◌, [], ◌∷◌, ◌++◌, length, flat_map, slice_range};
+ghost use Rattle.std.specs.Int.{w64, to_le_bytes};
 ghost use Rattle.paw_base.specs.declared.layout.TheConstants.{STATE_LENGTH};
 ghost use Rattle.paw_base.specs.declared.limits.TheConstants.{POSITION_COUNT};
 ghost use Rattle.paw_process.specs.declared.machine.TheConstants.{MOST_FRAMES};
-ghost use Rattle.paw_state.specs.declared.layout.TheConstants.{HELD_LENGTH, SEED, PROMPT, ROWS, ROW_LENGTH, LOOPING};
+ghost use Rattle.paw_state.specs.declared.layout.TheConstants.{HELD_LENGTH, SEED, PROMPT, FRAMES, FRAME_LENGTH};
+ghost use Rattle.paw_state.specs.declared.layout.TheConstants.{LOOPING};
 ghost use Rattle.paw_state.specs.declared.layout.TheConstants.{LOOP_LEVEL, EARLIER, KEPT};
 ghost use Rattle.paw_state.specs.declared.layout.TheConstants.{STATE_ROOM};
 ghost use Rattle.paw_state.specs.inner.Parts.{frame_in};
 ghost use Rattle.paw_state.specs.inner.Writer.{WritesField};
 ghost use Rattle.paw_state.specs.State.{AreBytes};
-ghost use Rattle.paw_state.specs.State.{zeros, row_of};
-ghost use Rattle.paw_state.specs.inner.Fields.{two_at, eight_at, row_at, rows_at};
-ghost use Rattle.paw_state.specs.inner.Fields.{row_bytes, loop_bytes, world_bytes, number_bytes, table_bytes};
-ghost use Rattle.paw_state.specs.inner.Fields.{fields_at};
-ghost use Rattle.paw_state.specs.inner.Fields.{pending_bytes, kept_position_bytes, field_bytes};
+ghost use Rattle.paw_state.specs.State.{zeros, frame_field_of};
+ghost use Rattle.paw_game.specs.Image.{two_bytes};
+ghost use Rattle.paw_state.specs.inner.Shapes.{two_at, eight_at, values_at};
+ghost use Rattle.paw_state.specs.inner.Fields.{frame_shape, loop_shape, held_shape, field_bytes, fields_at};
 
 use crate::layout::{
-    COUNT, DRAWS, EARLIER, EVENTS, FLAGS, HELD_LENGTH, KEPT, LINE, LOOP_AT, LOOP_ENTRY, LOOP_LAST,
-    LOOP_LEVEL, LOOP_PLACE, LOOP_TABLE, LOOPING, PENDING, PIECE, PLACES, PROMPT, ROW_ACTED, ROW_AT,
-    ROW_ENTRY, ROW_LENGTH, ROWS, SAVED, SEED, STATE_ROOM,
+    COUNT, DRAWS, EARLIER, EVENTS, FLAGS, FRAME_ACTED, FRAME_AT, FRAME_ENTRY, FRAME_LENGTH, FRAMES,
+    HELD_LENGTH, KEPT, LINE, LOOP_AT, LOOP_ENTRY, LOOP_LAST, LOOP_LEVEL, LOOP_PLACE, LOOP_TABLE,
+    LOOPING, PENDING, PIECE, PLACES, PROMPT, SAVED, SEED, STATE_ROOM,
 };
 use crate::position_field::PositionField;
 use crate::writer::Writer;
@@ -37,7 +38,7 @@ pub(crate) struct FrameField {
 }
 
 impl FrameField {
-    /// A row that isn't used.
+    /// A frame that isn't used.
     pub(crate) const EMPTY: FrameField = FrameField {
         table: 0,
         entry: 0,
@@ -45,9 +46,9 @@ impl FrameField {
         acted: 0,
     };
 
-    /// The row of a frame.
+    /// The fields of a frame.
     pub(crate) fn of(frame: &Frame) -> FrameField
-        ensures value { result ≡ row_of frame.now }
+        ensures value { result ≡ frame_field_of frame.now }
     {
         FrameField {
             table: frame.table,
@@ -57,7 +58,7 @@ impl FrameField {
         }
     }
 
-    /// The frame of this row.
+    /// The frame that these fields say.
     pub(crate) fn frame(&self) -> Frame
         ensures value { result ≡ frame_in self.now }
     {
@@ -129,26 +130,26 @@ fn kept_at(bytes: &[u8; STATE_ROOM]) -> [PositionField; POSITION_COUNT]
     ]
 }
 
-/// The row at a place.
-fn row_at(bytes: &[u8; STATE_ROOM], at: usize) -> FrameField
-    requires inside { at + ROW_LENGTH ≤ STATE_ROOM }
-    ensures value { result ≡ row_at (drop at bytes.now) }
+/// The frame at a place.
+fn frame_at(bytes: &[u8; STATE_ROOM], at: usize) -> FrameField
+    requires inside { at + FRAME_LENGTH ≤ STATE_ROOM }
+    ensures value { result ≡ frame_shape.value bytes.now at }
 {
     FrameField {
         table: bytes[at],
-        entry: two_at(bytes, at + ROW_ENTRY),
-        at: bytes[at + ROW_AT],
-        acted: bytes[at + ROW_ACTED],
+        entry: two_at(bytes, at + FRAME_ENTRY),
+        at: bytes[at + FRAME_AT],
+        acted: bytes[at + FRAME_ACTED],
     }
 }
 
-/// All rows.
-fn rows_at(bytes: &[u8; STATE_ROOM]) -> [FrameField; MOST_FRAMES]
-    ensures value { result ≡ rows_at MOST_FRAMES (drop ROWS bytes.now) }
+/// All frames.
+fn frames_at(bytes: &[u8; STATE_ROOM]) -> [FrameField; MOST_FRAMES]
+    ensures value { result ≡ values_at frame_shape MOST_FRAMES bytes.now FRAMES }
 {
     let mut rows = [FrameField::EMPTY; MOST_FRAMES];
     for i in 0..MOST_FRAMES {
-        rows[i] = row_at(bytes, ROWS + ROW_LENGTH * i);
+        rows[i] = frame_at(bytes, FRAMES + FRAME_LENGTH * i);
     }
     rows
 }
@@ -183,7 +184,7 @@ impl Fields {
             events: eight_at(bytes, EVENTS),
             prompt: bytes[PROMPT],
             count: bytes[COUNT],
-            rows: rows_at(bytes),
+            rows: frames_at(bytes),
             looping: bytes[LOOPING],
             turning: loop_at(bytes),
             earlier: bytes[EARLIER],
@@ -197,7 +198,7 @@ impl Fields {
     /// The bytes of these fields, and zeros after them.
     pub(crate) fn bytes(&self) -> [u8; STATE_ROOM]
         ensures value { result ≡ field_bytes self.now ++ zeros (STATE_ROOM - STATE_LENGTH) }
-        ensures kept { length (kept_position_bytes self.now) ≡ POSITION_COUNT * HELD_LENGTH }
+        ensures kept { length (flat_map held_shape.bytes self.now.kept) ≡ POSITION_COUNT * HELD_LENGTH }
         ensures room { length result ≡ STATE_ROOM }
     {
         let mut writer = Writer::new();
@@ -210,10 +211,10 @@ impl Fields {
     }
 
     /// Writes flags and places, now and in the saved position.
-    #[tactic(auto, unfolding(crate::specs::inner::Fields::world_bytes))]
     fn put_world(&self, writer: &mut Writer)
         requires room { length writer.old + SEED ≤ STATE_ROOM }
-        ensures writes { WritesField (world_bytes self.now) SEED writer.old writer.new }
+        ensures writes { WritesField (self.now.flags ++ (self.now.places ++ held_shape.bytes self.now.saved))
+            SEED writer.old writer.new }
     {
         writer.put(&self.flags);
         writer.put(&self.places);
@@ -221,32 +222,36 @@ impl Fields {
     }
 
     /// Writes the seed, the draws and the lines.
-    #[tactic(auto, unfolding(crate::specs::inner::Fields::number_bytes))]
     fn put_numbers(&self, writer: &mut Writer)
         requires room { length writer.old + (PROMPT - SEED) ≤ STATE_ROOM }
-        ensures writes { WritesField (number_bytes self.now) (PROMPT - SEED) writer.old writer.new }
+        ensures writes { WritesField
+            (to_le_bytes w64 self.now.seed ++ (to_le_bytes w64 self.now.draws ++ to_le_bytes w64 self.now.events))
+            (PROMPT - SEED) writer.old writer.new }
     {
         writer.put(&self.seed.to_le_bytes());
         writer.put(&self.draws.to_le_bytes());
         writer.put(&self.events.to_le_bytes());
     }
 
-    /// Writes the prompt, the rows of the open tables, and the open loop.
-    #[tactic(auto, unfolding(crate::specs::inner::Fields::table_bytes))]
+    /// Writes the prompt, the frames of the open tables, and the open loop.
     fn put_tables(&self, writer: &mut Writer)
         requires room { length writer.old + (EARLIER - PROMPT) ≤ STATE_ROOM }
-        ensures writes { WritesField (table_bytes self.now) (EARLIER - PROMPT) writer.old writer.new }
+        ensures writes { WritesField
+            ((self.now.prompt ∷ self.now.count ∷ []) ++ (flat_map frame_shape.bytes self.now.rows
+            ++ (self.now.looping ∷ loop_shape.bytes self.now.turning)))
+            (EARLIER - PROMPT) writer.old writer.new }
     {
         writer.put(&[self.prompt, self.count]);
-        self.put_rows(writer);
+        self.put_frames(writer);
         writer.put(&[self.looping]);
         self.put_loop(writer);
     }
 
-    /// Writes the rows of the open tables.
-    fn put_rows(&self, writer: &mut Writer)
-        requires room { length writer.old + (LOOPING - ROWS) ≤ STATE_ROOM }
-        ensures writes { WritesField (flat_map row_bytes self.now.rows) (LOOPING - ROWS) writer.old writer.new }
+    /// Writes the frames of the open tables.
+    fn put_frames(&self, writer: &mut Writer)
+        requires room { length writer.old + (LOOPING - FRAMES) ≤ STATE_ROOM }
+        ensures writes { WritesField (flat_map frame_shape.bytes self.now.rows)
+            (LOOPING - FRAMES) writer.old writer.new }
     {
         for row in &self.rows {
             let [low, high] = row.entry.to_le_bytes();
@@ -257,7 +262,7 @@ impl Fields {
     /// Writes the open loop.
     fn put_loop(&self, writer: &mut Writer)
         requires room { length writer.old + (EARLIER - LOOP_LEVEL) ≤ STATE_ROOM }
-        ensures writes { WritesField (loop_bytes self.now.turning) (EARLIER - LOOP_LEVEL) writer.old writer.new }
+        ensures writes { WritesField (loop_shape.bytes self.now.turning) (EARLIER - LOOP_LEVEL) writer.old writer.new }
     {
         let turning = &self.turning;
         writer.put(&[turning.level, turning.table]);
@@ -266,10 +271,10 @@ impl Fields {
     }
 
     /// Writes what is pending, and the length of the last piece.
-    #[tactic(auto, unfolding(crate::specs::inner::Fields::pending_bytes))]
     fn put_pending(&self, writer: &mut Writer)
         requires room { length writer.old + (KEPT - EARLIER) ≤ STATE_ROOM }
-        ensures writes { WritesField (pending_bytes self.now) (KEPT - EARLIER) writer.old writer.new }
+        ensures writes { WritesField ((self.now.earlier ∷ self.now.pending ∷ self.now.line) ++ two_bytes self.now.piece)
+            (KEPT - EARLIER) writer.old writer.new }
     {
         writer.put(&[self.earlier, self.pending]);
         writer.put(&self.line);
@@ -277,10 +282,9 @@ impl Fields {
     }
 
     /// Writes the kept positions.
-    #[tactic(auto, unfolding(crate::specs::inner::Fields::kept_position_bytes))]
     fn put_kept(&self, writer: &mut Writer)
         requires room { length writer.old + POSITION_COUNT * HELD_LENGTH ≤ STATE_ROOM }
-        ensures writes { WritesField (kept_position_bytes self.now)
+        ensures writes { WritesField (flat_map held_shape.bytes self.now.kept)
             (POSITION_COUNT * HELD_LENGTH) writer.old writer.new }
     {
         for held in &self.kept {

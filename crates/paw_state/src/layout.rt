@@ -38,18 +38,18 @@ pub const PROMPT: usize = 1047;
 /// The number of open tables: 0 to 11.
 pub const COUNT: usize = 1048;
 
-/// Eleven rows of five bytes: table, entry (two bytes), condact, and whether an action was carried out.
-pub const ROWS: usize = 1049;
+/// Eleven frames of five bytes: table, entry (two bytes), condact, and whether an action was carried out.
+pub const FRAMES: usize = 1049;
 
-/// The length of a row.
-pub const ROW_LENGTH: usize = 5;
+/// The length of a frame.
+pub const FRAME_LENGTH: usize = 5;
 
-/// From the start of a row to its entry, its condact, and whether an action was carried out.
-pub const ROW_ENTRY: usize = 1;
+/// From the start of a frame to its entry, its condact, and whether an action was carried out.
+pub const FRAME_ENTRY: usize = 1;
 
-pub const ROW_AT: usize = 3;
+pub const FRAME_AT: usize = 3;
 
-pub const ROW_ACTED: usize = 4;
+pub const FRAME_ACTED: usize = 4;
 
 /// Whether a loop is open: 0 or 1.
 pub const LOOPING: usize = 1104;

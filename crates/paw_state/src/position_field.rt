@@ -1,9 +1,8 @@
 // A position that may be there, as it stands in the bytes of a state.
 
-ghost use Rattle.std.specs.Prelude.{◌≡◌, ◌+◌, ◌≤◌, length, drop};
+ghost use Rattle.std.specs.Prelude.{◌≡◌, ◌+◌, ◌≤◌, length};
 ghost use Rattle.paw_state.specs.declared.layout.TheConstants.{HELD_LENGTH, STATE_ROOM};
-ghost use Rattle.paw_state.specs.inner.Fields.{held_bytes};
-ghost use Rattle.paw_state.specs.inner.Fields.{held_at};
+ghost use Rattle.paw_state.specs.inner.Fields.{held_shape};
 ghost use Rattle.paw_state.specs.inner.Writer.{WritesField};
 
 use crate::fields::array_at;
@@ -29,7 +28,7 @@ impl PositionField {
     /// The position whose bytes begin at a place.
     pub(crate) fn at(bytes: &[u8; STATE_ROOM], start: usize) -> PositionField
         requires inside { start + HELD_LENGTH ≤ STATE_ROOM }
-        ensures value { result ≡ held_at (drop start bytes.now) }
+        ensures value { result ≡ held_shape.value bytes.now start }
     {
         PositionField {
             there: bytes[start],
@@ -39,10 +38,9 @@ impl PositionField {
     }
 
     /// Writes the bytes of a position.
-    #[tactic(auto, unfolding(crate::specs::inner::Fields::held_bytes))]
     pub(crate) fn put(&self, writer: &mut Writer)
         requires room { length writer.old + HELD_LENGTH ≤ STATE_ROOM }
-        ensures writes { WritesField (held_bytes self.now) HELD_LENGTH writer.old writer.new }
+        ensures writes { WritesField (held_shape.bytes self.now) HELD_LENGTH writer.old writer.new }
     {
         writer.put(&[self.there]);
         writer.put(&self.flags);

@@ -7,9 +7,10 @@ ghost use Rattle.paw_process.specs.inner.Kept.{kept};
 ghost use Rattle.paw_process.specs.inner.Kept.{frames_fault};
 ghost use Rattle.paw_process.specs.inner.Kept.{restored, waiting_at, WaitsAtPrompt};
 ghost use Rattle.paw_state.specs.declared.layout.TheConstants.{PIECE};
-ghost use Rattle.paw_state.specs.inner.Faults.{parts_fault};
+ghost use Rattle.paw_state.specs.inner.Fields.{parts_fault};
 ghost use Rattle.paw_world.specs.World.{kept_position};
-ghost use Rattle.paw_state.specs.inner.Parts.{SetsSaved, held_in, world_in, frame_in, frames_in, state_in};
+ghost use Rattle.paw_state.specs.inner.Parts.{SetsSaved, held_in, world_in, frame_in, frames_in};
+ghost use Rattle.paw_state.specs.inner.State.{state_in};
 ghost use Rattle.paw_state.specs.Fit.{Fit, Unfit};
 ghost use Rattle.paw_state.specs.inner.Fit.{state_read, IsRead};
 
@@ -101,7 +102,7 @@ fn frames_in(fields: &Fields) -> Frames
 {
     Frames {
         count: fields.count,
-        rows: frame_rows(&fields.rows),
+        rows: frames_of_fields(&fields.rows),
         turning: if fields.looping == 0 {
             None
         } else {
@@ -110,8 +111,8 @@ fn frames_in(fields: &Fields) -> Frames
     }
 }
 
-/// Rows as frames.
-fn frame_rows(rows: &[FrameField; MOST_FRAMES]) -> [Frame; MOST_FRAMES]
+/// The frames that these fields say.
+fn frames_of_fields(rows: &[FrameField; MOST_FRAMES]) -> [Frame; MOST_FRAMES]
     ensures value { result ≡ map frame_in rows.now }
 {
     let mut frames = [rows[0].frame(); MOST_FRAMES];

@@ -8,7 +8,7 @@ ghost use Rattle.paw_world.specs.World.{kept_position, IsWorld};
 ghost use Rattle.paw_state.specs.declared.layout.TheConstants.{PIECE, STATE_ROOM};
 ghost use Rattle.paw_state.specs.State.{AreBytes, HoldsBytes, FitsFields};
 ghost use Rattle.paw_state.specs.inner.State.{state_of, state_with};
-ghost use Rattle.paw_state.specs.State.{zeros, filled, held_of, prompt_code, row_of};
+ghost use Rattle.paw_state.specs.State.{zeros, filled, held_of, prompt_code, frame_field_of};
 ghost use Rattle.paw_state.specs.State.{fields_of, state_bytes};
 ghost use Rattle.paw_state.specs.inner.State.{loop_or_zeros};
 
@@ -83,9 +83,9 @@ fn prompt_code(prompt: Prompt) -> u8
     }
 }
 
-/// Frames as rows.
-fn rows_of(frames: &[Frame; MOST_FRAMES]) -> [FrameField; MOST_FRAMES]
-    ensures value { result ≡ map row_of frames.now }
+/// The fields of frames.
+fn frame_fields_of(frames: &[Frame; MOST_FRAMES]) -> [FrameField; MOST_FRAMES]
+    ensures value { result ≡ map frame_field_of frames.now }
 {
     let mut rows = [FrameField::EMPTY; MOST_FRAMES];
     for i in 0..MOST_FRAMES {
@@ -186,7 +186,7 @@ fn fields_of(
         events,
         prompt: prompt_code(prompt),
         count: frames.count,
-        rows: rows_of(&frames.rows),
+        rows: frame_fields_of(&frames.rows),
         looping: u8::from(frames.turning.is_some()),
         turning: loop_or_zeros(frames.turning),
         earlier: pending.earlier(),

@@ -1,6 +1,5 @@
 -- What the bytes of a session's state count.
-use Rattle.std.proofs.Common.{◌≡◌, ℕ, ◌<◌, List, [], ◌∷◌, ◌++◌, length, get_or, take, sym, ap, ◌∙◌, arith}
-use Rattle.std.proofs.Common.{length-append}
+use Rattle.std.proofs.Common.{◌≡◌, ℕ, ◌<◌, List, ◌++◌, length, get_or, take, sym, ap, ◌∙◌, arith}
 use Rattle.std.specs.Prelude.{slice_index, codes, decimal}
 use Rattle.std.proofs.lemmas.List.{get_or_append_left, get_or-take}
 use Rattle.paw_game.specs.Game.{GameLists}
@@ -8,10 +7,6 @@ use Rattle.paw_reading.specs.Turn.{Ending, WaitsAt}
 use Rattle.paw_journal.specs.Session.{Digests, Recovered, Shown, recover, state_length}
 use Rattle.paw_state.specs.State.{State}
 use Rattle.paw_state.specs.Record.{state_at}
-use Rattle.std.specs.List.{concat}
-use Rattle.paw_state.specs.State.{fields_of}
-use Rattle.paw_state.specs.inner.Fields.{held_bytes, world_bytes, number_bytes, table_bytes, pending_bytes}
-use Rattle.paw_state.specs.inner.Fields.{kept_position_bytes}
 use Rattle.paw_state.proofs.Listed.{state_same}
 use Rattle.paw_play.specs.Session.{kept_bytes, IsKept}
 use Rattle.paw_play.specs.Stands.{Stands}
@@ -26,14 +21,8 @@ use Rattle.paw_trial.proofs.Lines.{plays_all, few_lines}
 
 -- the flags come first in a state's bytes
 flags_first : (s : State) (i : ℕ) → i < length s.world.flags → slice_index (kept_bytes s) i ≡ slice_index s.world.flags i
-unfolding kept_bytes world_bytes
-flags_first s i low =
-    let f = fields_of s in
-    let rest = concat (f.places ∷ held_bytes f.saved ∷ []) in
-    let behind = concat (number_bytes f ∷ table_bytes f ∷ pending_bytes f ∷ kept_position_bytes f ∷ []) in
-    ap (λ (l : List ℕ). get_or l i 0) (state_same s)
-    ∙ (get_or_append_left (s.world.flags ++ rest) behind 0 i (omega (arith, low, length-append s.world.flags rest))
-    ∙ get_or_append_left s.world.flags rest 0 i low)
+unfolding kept_bytes
+flags_first s i low = ap (λ (l : List ℕ). get_or l i 0) (state_same s) ∙ get_or_append_left s.world.flags _ 0 i low
 
 same_state : (d e : Digests) (s p t q : List ℕ) → Shown d s p ≡ Shown e t q → s ≡ t
 same_state d e s p t q h = cc

@@ -1,126 +1,188 @@
--- The bytes of a state's fields, part by part, and where each field stands in them: words of contracts and proofs.
--- specs/Fields.antt has the bytes in one list.
-use Rattle.std.specs.Prelude.{ℕ, zero, suc, ◌+◌, List, [], ◌∷◌, ◌++◌, drop, flat_map, slice_index, slice_range}
-use Rattle.std.specs.List.{concat}
-use Rattle.std.specs.Int.{w16, w64, from_le_bytes, to_le_bytes}
+-- The shape of a state's fields: how each stands in bytes, in order. The bytes that are written, the places of the
+-- fields and what is read there follow from it. specs/Fields.antt has the bytes in one list, with the rules.
+use Rattle.std.specs.Prelude.{ℕ, List, [], ◌∷◌, Option, None}
+use Rattle.std.specs.Option.{unwrap_or}
 use Rattle.paw_base.specs.Bytes.{Bytes}
-use Rattle.paw_game.specs.Image.{two_bytes}
+use Rattle.paw_base.specs.declared.limits.TheConstants.{FLAG_COUNT, OBJECT_LIMIT, LINE_LIMIT, POSITION_COUNT}
+use Rattle.paw_game.specs.Game.{GameLists}
 use Rattle.paw_reading.specs.declared.places.OpenLoop.{OpenLoop}
 use Rattle.paw_process.specs.declared.machine.TheConstants.{MOST_FRAMES}
-use Rattle.paw_state.specs.declared.layout.TheConstants.{FLAGS, PLACES, SAVED, HELD_FLAGS, HELD_PLACES, HELD_LENGTH}
-use Rattle.paw_state.specs.declared.layout.TheConstants.{SEED, DRAWS, EVENTS, PROMPT, COUNT, ROWS, ROW_LENGTH}
-use Rattle.paw_state.specs.declared.layout.TheConstants.{ROW_ENTRY, ROW_AT, ROW_ACTED, LOOPING, LOOP_LEVEL, LOOP_TABLE}
-use Rattle.paw_state.specs.declared.layout.TheConstants.{LOOP_ENTRY, LOOP_AT, LOOP_PLACE, LOOP_LAST, EARLIER, PENDING}
-use Rattle.paw_state.specs.declared.layout.TheConstants.{LINE, PIECE, KEPT}
 use Rattle.paw_state.specs.declared.fields.FrameField.{FrameField}
 use Rattle.paw_state.specs.declared.fields.Fields.{Fields}
 use Rattle.paw_state.specs.declared.position_field.PositionField.{PositionField}
+use Rattle.paw_state.specs.declared.layout.TheConstants.{PLACES, SAVED, SEED, PROMPT, FRAMES, LOOPING, EARLIER, KEPT}
+use Rattle.paw_state.specs.Fields.{fault_from, number_fields, prompt_fields, looping_fields, pending_fields, inside}
+use Rattle.paw_state.specs.inner.Faults.{first, places_fault, held_fault, frame_fields_fault, kept_fault}
+use Rattle.paw_state.specs.inner.Shapes.{Shape, one_byte, two_byte, eight_byte, array, pair, times, through}
 
--- ---- from fields to bytes ----
+-- The frame of these parts.
+abbrev pub frame_with : ℕ × (ℕ × (ℕ × ℕ)) → FrameField
+frame_with (table, (entry, (at, acted))) = record { table = table; entry = entry; at = at; acted = acted }
 
--- The bytes of a number of eight bytes.
-abbrev pub eight_bytes : ℕ → Bytes
-eight_bytes n = to_le_bytes w64 n
+-- A frame: table, entry, condact, and 1 where an action was carried out.
+abbrev pub frame_shape : Shape FrameField
+frame_shape =
+    through frame_with (λ f. (f.table, (f.entry, (f.at, f.acted))))
+    (pair one_byte (pair two_byte (pair one_byte one_byte)))
 
--- The bytes of a frame: table, entry, condact, and 1 where an action was carried out.
-abbrev pub row_bytes : FrameField → Bytes
-row_bytes r = r.table ∷ (two_bytes r.entry ++ r.at ∷ r.acted ∷ [])
+-- The loop of these parts.
+abbrev pub loop_with : ℕ × (ℕ × (ℕ × (ℕ × (ℕ × ℕ)))) → OpenLoop
+loop_with (level, (table, (entry, (at, (place, last))))) =
+    record { level = level; table = table; entry = entry; at = at; place = place; last = last }
 
--- The bytes of the open loop: level, table, entry, condact, place, last object.
-abbrev pub loop_bytes : OpenLoop → Bytes
-loop_bytes l = l.level ∷ l.table ∷ (two_bytes l.entry ++ l.at ∷ l.place ∷ l.last ∷ [])
+-- The open loop: level, table, entry, condact, place, last object.
+abbrev pub loop_shape : Shape OpenLoop
+loop_shape =
+    through loop_with (λ l. (l.level, (l.table, (l.entry, (l.at, (l.place, l.last))))))
+    (pair one_byte (pair one_byte (pair two_byte (pair one_byte (pair one_byte one_byte)))))
 
--- The bytes of a position that may be there: whether it is, its flags, and its places.
-unfoldable pub held_bytes : PositionField → Bytes
-held_bytes h = concat ((h.there ∷ []) ∷ h.flags ∷ h.places ∷ [])
+-- The position of these parts.
+abbrev pub held_with : ℕ × (Bytes × Bytes) → PositionField
+held_with (there, (flags, places)) = record { there = there; flags = flags; places = places }
 
--- The bytes of flags and places, now and in the saved position.
-unfoldable pub world_bytes : Fields → Bytes
-world_bytes f = concat (f.flags ∷ f.places ∷ held_bytes f.saved ∷ [])
+-- A position that may be there: whether it is, its flags, and its places.
+abbrev pub held_shape : Shape PositionField
+held_shape =
+    through held_with (λ h. (h.there, (h.flags, h.places)))
+    (pair one_byte (pair (array FLAG_COUNT) (array OBJECT_LIMIT)))
 
--- The bytes of the seed, the number of words drawn, and the number of lines taken.
-unfoldable pub number_bytes : Fields → Bytes
-number_bytes f = concat (eight_bytes f.seed ∷ eight_bytes f.draws ∷ eight_bytes f.events ∷ [])
+-- What the fields of a state are made of, in the order of their bytes.
+abbrev pub FieldParts : Type 0
+FieldParts =
+    Bytes × (Bytes × (PositionField × (ℕ × (ℕ × (ℕ × (ℕ × (ℕ × (List FrameField × (ℕ × (OpenLoop
+    × (ℕ × (ℕ × (Bytes × (ℕ × List PositionField))))))))))))))
 
--- The bytes of the prompt, the rows of the open tables, and the open loop.
-unfoldable pub table_bytes : Fields → Bytes
-table_bytes f = concat (
-    (f.prompt ∷ f.count ∷ []) ∷ flat_map row_bytes f.rows ∷ (f.looping ∷ []) ∷ loop_bytes f.turning ∷ [])
+-- The fields of these parts.
+abbrev pub fields_with : FieldParts → Fields
+fields_with (
+  flags,
+  (
+    places,
+    (
+      saved,
+      (
+        seed,
+        (
+          draws,
+          (
+            events,
+            (
+              prompt,
+              (
+                count,
+                (
+                  rows,
+                  (
+                    looping,
+                    (
+                      turning,
+                      (earlier, (pending, (line, (piece, kept)))),
+                    ),
+                  ),
+                ),
+              ),
+            ),
+          ),
+        ),
+      ),
+    ),
+  ),
+) = record {
+  flags = flags;
+  places = places;
+  saved = saved;
+  seed = seed;
+  draws = draws;
+  events = events;
+  prompt = prompt;
+  count = count;
+  rows = rows;
+  looping = looping;
+  turning = turning;
+  earlier = earlier;
+  pending = pending;
+  line = line;
+  piece = piece;
+  kept = kept;
+}
 
--- The bytes of what is pending, and of the length of the last piece.
-unfoldable pub pending_bytes : Fields → Bytes
-pending_bytes f = concat ((f.earlier ∷ f.pending ∷ []) ∷ f.line ∷ two_bytes f.piece ∷ [])
+-- The parts of fields.
+abbrev pub parts_of : Fields → FieldParts
+parts_of f = (
+  f.flags,
+  (
+    f.places,
+    (
+      f.saved,
+      (
+        f.seed,
+        (
+          f.draws,
+          (
+            f.events,
+            (
+              f.prompt,
+              (
+                f.count,
+                (
+                  f.rows,
+                  (
+                    f.looping,
+                    (
+                      f.turning,
+                      (f.earlier, (f.pending, (f.line, (f.piece, f.kept)))),
+                    ),
+                  ),
+                ),
+              ),
+            ),
+          ),
+        ),
+      ),
+    ),
+  ),
+)
 
--- The bytes of the kept positions.
-unfoldable pub kept_position_bytes : Fields → Bytes
-kept_position_bytes f = flat_map held_bytes f.kept
+-- The fields of a state.
+abbrev pub fields_shape : Shape Fields
+fields_shape =
+    through fields_with parts_of
+    (pair (array FLAG_COUNT)
+    (pair (array OBJECT_LIMIT)
+    (pair held_shape
+    (pair eight_byte
+    (pair eight_byte
+    (pair eight_byte
+    (pair one_byte
+    (pair one_byte
+    (pair (times MOST_FRAMES frame_shape)
+    (pair one_byte
+    (pair loop_shape
+    (pair one_byte
+    (pair one_byte
+    (pair (array LINE_LIMIT)
+    (pair two_byte
+    (times POSITION_COUNT held_shape))))))))))))))))
 
 -- The bytes of a state's fields.
 abbrev pub field_bytes : Fields → Bytes
-field_bytes f = concat (
-    world_bytes f ∷ number_bytes f ∷ table_bytes f ∷ pending_bytes f ∷ kept_position_bytes f ∷ [])
-
--- ---- from bytes to fields ----
-
--- The number in the two bytes from a place on.
-abbrev pub two_at : Bytes → ℕ → ℕ
-two_at bytes at = from_le_bytes w16 (slice_range bytes at (at + 2))
-
--- The number in the eight bytes from a place on.
-abbrev pub eight_at : Bytes → ℕ → ℕ
-eight_at bytes at = from_le_bytes w64 (slice_range bytes at (at + 8))
-
--- The row in these bytes, from the first on.
-abbrev pub row_at : Bytes → FrameField
-row_at bytes = record {
-  table = slice_index bytes 0;
-  entry = two_at bytes ROW_ENTRY;
-  at = slice_index bytes ROW_AT;
-  acted = slice_index bytes ROW_ACTED;
-}
-
--- The position in these bytes, from the first on.
-abbrev pub held_at : Bytes → PositionField
-held_at bytes = record {
-  there = slice_index bytes 0;
-  flags = slice_range bytes HELD_FLAGS HELD_PLACES;
-  places = slice_range bytes HELD_PLACES HELD_LENGTH;
-}
-
--- This number of rows, from the first byte on.
-unfoldable pub rows_at : ℕ → Bytes → List FrameField
-rows_at zero bytes = []
-rows_at (suc n) bytes = row_at bytes ∷ rows_at n (drop ROW_LENGTH bytes)
+field_bytes f = fields_shape.bytes f
 
 -- The fields in these bytes, each at its place.
 abbrev pub fields_at : Bytes → Fields
-fields_at bytes = record {
-  flags = slice_range bytes FLAGS PLACES;
-  places = slice_range bytes PLACES SAVED;
-  saved = held_at (drop SAVED bytes);
-  kept =
-      held_at (drop KEPT bytes)
-      ∷ held_at (drop (KEPT + HELD_LENGTH) bytes)
-      ∷ held_at (drop (KEPT + HELD_LENGTH + HELD_LENGTH) bytes)
-      ∷ held_at (drop (KEPT + HELD_LENGTH + HELD_LENGTH + HELD_LENGTH) bytes)
-      ∷ [];
-  seed = eight_at bytes SEED;
-  draws = eight_at bytes DRAWS;
-  events = eight_at bytes EVENTS;
-  prompt = slice_index bytes PROMPT;
-  count = slice_index bytes COUNT;
-  rows = rows_at MOST_FRAMES (drop ROWS bytes);
-  looping = slice_index bytes LOOPING;
-  turning = record {
-    level = slice_index bytes LOOP_LEVEL;
-    table = slice_index bytes LOOP_TABLE;
-    entry = two_at bytes LOOP_ENTRY;
-    at = slice_index bytes LOOP_AT;
-    place = slice_index bytes LOOP_PLACE;
-    last = slice_index bytes LOOP_LAST;
-  };
-  earlier = slice_index bytes EARLIER;
-  pending = slice_index bytes PENDING;
-  line = slice_range bytes LINE PIECE;
-  piece = two_at bytes PIECE;
-}
+fields_at bytes = fields_shape.value bytes 0
+
+-- ---- faults ----
+
+-- The first fault of the parts of a state, each at its place.
+abbrev pub parts_fault : GameLists → Fields → Option ℕ
+parts_fault g f = first (
+    places_fault g PLACES f.places
+    ∷ held_fault g SAVED f.saved
+    ∷ fault_from g SEED (number_fields f)
+    ∷ fault_from g PROMPT (prompt_fields f)
+    ∷ frame_fields_fault g (unwrap_or (inside f) 0) None f.count FRAMES f.rows
+    ∷ fault_from g LOOPING (looping_fields f)
+    ∷ fault_from g EARLIER (pending_fields f)
+    ∷ kept_fault g KEPT f.kept
+    ∷ [])

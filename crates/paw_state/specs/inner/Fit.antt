@@ -6,8 +6,8 @@ use Rattle.paw_game.specs.Game.{GameLists}
 use Rattle.paw_process.specs.inner.Kept.{kept}
 use Rattle.paw_process.specs.inner.Kept.{restored, waiting_at, WaitsAtPrompt}
 use Rattle.paw_state.specs.declared.Restored.{Restored}
-use Rattle.paw_state.specs.State.{State, IsValidState, FitsFields}
-use Rattle.paw_state.specs.inner.State.{state_of}
+use Rattle.paw_state.specs.State.{IsValidState, FitsFields}
+pub use Rattle.paw_state.specs.inner.State.{state_read}
 use Rattle.paw_state.specs.State.{state_bytes}
 use Rattle.paw_state.specs.inner.Faults.{fields_fault}
 use Rattle.paw_state.specs.inner.Fields.{fields_at}
@@ -15,10 +15,6 @@ use Rattle.paw_state.specs.inner.Fields.{fields_at}
 -- The place of the first field that breaks its rule; none where the bytes are fit.
 abbrev pub unfit : GameLists → Bytes → Option ℕ
 unfit g bytes = fields_fault g (fields_at bytes)
-
--- The state of parts that were read.
-abbrev pub state_read : Restored → State
-state_read r = state_of r.world r.machine r.pending r.prompt r.events r.piece
 
 -- Parts that were read from bytes: the bytes are those of their state, which keeps its rules; the machine waits at the
 -- prompt with a full budget.

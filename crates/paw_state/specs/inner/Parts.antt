@@ -9,8 +9,6 @@ use Rattle.paw_process.specs.declared.kept.Frames.{Frames}
 use Rattle.paw_state.specs.declared.fields.FrameField.{FrameField}
 use Rattle.paw_state.specs.declared.fields.Fields.{Fields}
 use Rattle.paw_state.specs.declared.position_field.PositionField.{PositionField}
-use Rattle.paw_state.specs.State.{State}
-use Rattle.paw_state.specs.inner.Faults.{prompt_of}
 
 -- The position, if it is there: its flags, and the places of this number of objects.
 abbrev pub held_in : ℕ → PositionField → Option Position
@@ -29,7 +27,7 @@ world_in g f = record {
   draws = f.draws;
 }
 
--- The frame of a row.
+-- The frame that these fields say.
 abbrev pub frame_in : FrameField → Frame
 frame_in r = record { table = r.table; entry = r.entry; at = r.at; acted = (r.acted == 1) }
 
@@ -44,17 +42,6 @@ frames_in f = record { count = f.count; rows = map frame_in f.rows; turning = op
 -- The pending bytes, and the earlier verb.
 abbrev pub pending_in : Fields → PendingLine
 pending_in f = record { bytes = take f.pending f.line; earlier = f.earlier }
-
--- The state of these fields.
-abbrev pub state_in : GameLists → Fields → State
-state_in g f = record {
-  world = world_in g f;
-  frames = frames_in f;
-  pending = pending_in f;
-  prompt = prompt_of f.prompt;
-  events = f.events;
-  piece = f.piece;
-}
 
 -- The flags and the places of a position become those of the world, now and saved.
 abbrev pub SetsSaved : PositionField → World → World → Type 0

@@ -16,7 +16,11 @@ use Rattle.paw_process.specs.inner.Kept.{kept}
 use Rattle.paw_process.specs.inner.Kept.{frames_fault}
 use Rattle.paw_process.specs.declared.kept.Frames.{Frames}
 use Rattle.paw_reading.specs.declared.places.OpenLoop.{OpenLoop}
+use Rattle.paw_state.specs.declared.fields.Fields.{Fields}
+use Rattle.paw_state.specs.declared.Restored.{Restored}
+use Rattle.paw_state.specs.Fields.{prompt_of}
 use Rattle.paw_state.specs.State.{State}
+use Rattle.paw_state.specs.inner.Parts.{world_in, frames_in, pending_in}
 
 -- The state of a game that waits at a prompt with these parts, its tables as they are kept.
 abbrev pub state_with : World → Frames → PendingLine → Prompt → ℕ → ℕ → State
@@ -27,6 +31,21 @@ state_with w frames p at events piece =
 abbrev pub state_of : World → OpenTables → PendingLine → Prompt → ℕ → ℕ → State
 state_of w m p at events piece = state_with w (kept m) p at events piece
 
+-- The state of these fields.
+abbrev pub state_in : GameLists → Fields → State
+state_in g f = record {
+  world = world_in g f;
+  frames = frames_in f;
+  pending = pending_in f;
+  prompt = prompt_of f.prompt;
+  events = f.events;
+  piece = f.piece;
+}
+
+-- The state of parts that were read.
+abbrev pub state_read : Restored → State
+state_read r = state_of r.world r.machine r.pending r.prompt r.events r.piece
+
 -- The loop, or one that is all 0 where there is none.
 abbrev pub loop_or_zeros : Option OpenLoop → OpenLoop
 loop_or_zeros o = unwrap_or o (record { level = 0; table = 0; entry = 0; at = 0; place = 0; last = 0 })
@@ -36,7 +55,7 @@ loop_or_zeros o = unwrap_or o (record { level = 0; table = 0; entry = 0; at = 0;
 -- The rules of a state: the world is the game's, and sound, with each object at a place, now, in the saved position and
 -- in the kept ones; at most 1,000,000,000 lines were taken; the words drawn are at most 200,000 for each line, and
 -- 200,000 for the piece before the first; the open tables and the open loop are such as a game waits in at the prompt,
--- in eleven rows; at most 255 bytes are pending, and none where no table is open.
+-- with room for eleven frames; at most 255 bytes are pending, and none where no table is open.
 pub record KeepsEach (g : GameLists) (s : State) : Type 0 where
   pub world : IsOf g s.world
   pub sound : IsWorld s.world

@@ -6,8 +6,8 @@ use Rattle.paw_game.specs.Game.{GameLists}
 use Rattle.paw_state.specs.declared.StateFault.{StateFault}
 use Rattle.paw_state.specs.declared.fields.Fields.{Fields}
 use Rattle.paw_state.specs.inner.Fields.{fields_at}
-use Rattle.paw_state.specs.inner.Faults.{parts_fault}
-use Rattle.paw_state.specs.inner.Parts.{state_in}
+use Rattle.paw_state.specs.inner.Fields.{parts_fault}
+use Rattle.paw_state.specs.inner.State.{state_in}
 use Rattle.paw_state.specs.State.{AreBytes}
 use Rattle.paw_state.specs.Fit.{Unfit}
 use Rattle.paw_state.specs.inner.Fit.{unfit}

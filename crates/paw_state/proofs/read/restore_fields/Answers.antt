@@ -1,5 +1,4 @@
-use Rattle.paw_state.proofs.Sound.{sound_of}
-use Rattle.paw_state.proofs.Keeping.{frames_kept}
+use Rattle.paw_state.proofs.Ruled.{sound_of, frames_kept}
 use Rattle.paw_state.proofs.read.restore_fields.Goals as goal
 
 pub machine_in-requires : goal.machine_in-requires

@@ -5,8 +5,10 @@ use Rattle.paw_state.specs.declared.layout.TheConstants.{STATE_ROOM}
 use Rattle.paw_state.specs.State.{State}
 use Rattle.paw_state.specs.inner.State.{state_of, state_with}
 use Rattle.paw_state.specs.State.{zeros, fields_of, state_bytes}
-use Rattle.paw_state.specs.inner.Fields.{field_bytes, kept_position_bytes}
-use Rattle.paw_state.proofs.Listed.{state_same}
+use Rattle.std.specs.Prelude.{flat_map}
+use Rattle.paw_state.specs.declared.fields.Fields.{Fields}
+use Rattle.paw_state.specs.inner.Fields.{held_shape, field_bytes}
+use Rattle.paw_state.proofs.EachField.{state_same}
 use Rattle.paw_state.proofs.Told.{AreLong, buffer_long, piece_in}
 use Rattle.paw_state.proofs.write.write_state.Goals as goal
 
@@ -42,6 +44,6 @@ returns-clause-piece c =
     ∙ ap (λ (l : List ℕ). l ++ zeros (STATE_ROOM - STATE_LENGTH)) (sym (state_same s))) in
     let long : AreLong s = record {
       all = buffer_long (state_bytes s) c.bytes.result is c.bytes.ensures.room;
-      kept = ap (λ f. length (kept_position_bytes f)) (sym same) ∙ c.bytes.ensures.kept;
+      behind = ap (λ (f : Fields). length (flat_map held_shape.bytes f.kept)) (sym same) ∙ c.bytes.ensures.kept;
     } in
     piece_in s (zeros (STATE_ROOM - STATE_LENGTH)) c.bytes.result is long c.ranges.piece.fits

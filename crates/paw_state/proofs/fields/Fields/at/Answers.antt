@@ -11,7 +11,7 @@ returns-clause-value c =
       c.eight_at.ensures.value,
       c.eight_at-2.ensures.value,
       c.eight_at-3.ensures.value,
-      c.rows_at.ensures.value,
+      c.frames_at.ensures.value,
       c.loop_at.ensures.value,
       c.array_at-3.ensures.value,
       c.two_at.ensures.value,

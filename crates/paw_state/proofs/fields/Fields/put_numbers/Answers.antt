@@ -1,10 +1,9 @@
 use Rattle.std.proofs.Common.{◌≡◌, List, ℕ, ◌++◌, length, ap, ◌∙◌, arith}
-use Rattle.paw_state.specs.inner.Fields.{eight_bytes, number_bytes}
+use Rattle.std.specs.Int.{w64, to_le_bytes}
 use Rattle.paw_state.proofs.Written.{three}
 use Rattle.paw_state.proofs.fields.Fields.put_numbers.Goals as goal
 
 pub returns : goal.returns
-unfolding number_bytes
 returns c = record {
   writes =
       let seed : length c.to_le_bytes.result ≡ 8 = ap length c.to_le_bytes.ensures in
@@ -12,7 +11,7 @@ returns c = record {
       let events : length c.to_le_bytes-3.result ≡ 8 = ap length c.to_le_bytes-3.ensures in
       record {
         puts = three c.args.writer.now c.put.new.self c.put-2.new.self c.put-3.new.self
-            (eight_bytes c.args.self.now.seed) (eight_bytes c.args.self.now.draws) (eight_bytes c.args.self.now.events)
+            (to_le_bytes w64 c.args.self.now.seed) (to_le_bytes w64 c.args.self.now.draws) (to_le_bytes w64 c.args.self.now.events)
             (c.put.ensures.writes.puts ∙ ap (λ (l : List ℕ). c.args.writer.now ++ l) c.to_le_bytes.ensures)
             (c.put-2.ensures.writes.puts ∙ ap (λ (l : List ℕ). c.put.new.self ++ l) c.to_le_bytes-2.ensures)
             (c.put-3.ensures.writes.puts ∙ ap (λ (l : List ℕ). c.put-2.new.self ++ l) c.to_le_bytes-3.ensures);

@@ -1,6 +1,6 @@
 use Rattle.std.proofs.Common.{◌≡◌, length, take, map}
 use Rattle.paw_state.specs.inner.Parts.{frame_in}
-use Rattle.paw_state.proofs.read.frame_rows.Given as goal
+use Rattle.paw_state.proofs.read.frames_of_fields.Given as goal
 
 -- there is room for eleven frames, of which the first are those of the rows
 abbrev pub invariant-loop-i : goal.invariant-loop-i

@@ -3,7 +3,7 @@ use Rattle.std.proofs.lemmas.List.{length-set}
 use Rattle.paw_state.specs.declared.fields.FrameField.{FrameField}
 use Rattle.paw_state.specs.inner.Parts.{frame_in}
 use Rattle.paw_state.proofs.Written.{mapped_more, mapped_all}
-use Rattle.paw_state.proofs.read.frame_rows.Goals as goal
+use Rattle.paw_state.proofs.read.frames_of_fields.Goals as goal
 
 -- what stands for a row past the last
 abbrev empty : FrameField

@@ -1,4 +1,4 @@
--- The rows of a state, and the frames of a machine.
+-- The frames of a state as they are kept, and those of a machine.
 use Rattle.std.proofs.Common.{◌≡◌, ℕ, zero, suc, ◌+◌, ◌-◌, ◌≤◌, ◌&&◌, ◌==◌, Bool, true, false, not, List}
 use Rattle.std.proofs.Common.{[], ◌∷◌, Option, Some, None, map, is_some, option_map, nat_le, refl, ap, arith}
 use Rattle.std.specs.Prelude.{if◌then◌else◌, slice_get}
@@ -12,10 +12,10 @@ use Rattle.paw_process.specs.inner.Kept.{condact_at_frame, is_unused, row_stands
 use Rattle.paw_process.specs.inner.Kept.{rows_fault as machine_fault}
 use Rattle.paw_process.proofs.Restored.{first_of, second}
 use Rattle.paw_state.specs.declared.fields.FrameField.{FrameField}
-use Rattle.paw_state.specs.State.{row_of}
+use Rattle.paw_state.specs.State.{frame_field_of}
 use Rattle.paw_state.specs.inner.Parts.{frame_in}
 use Rattle.std.specs.Option.{option_or}
-use Rattle.paw_state.specs.inner.Faults.{rule, first, unused_fault, used_fault, row_fault, row_fields_fault}
+use Rattle.paw_state.specs.inner.Faults.{rule, first, unused_fault, used_fault, frame_fault, frame_fields_fault}
 use Rattle.paw_state.specs.inner.Faults.{called_table}
 use Rattle.paw_state.proofs.Found.{rule_holds, no_rule, no_first, none_first}
 
@@ -35,14 +35,14 @@ four_none a b c d ka kb kc kd =
 
 -- ---- rows without a fault ----
 
-record IsUnusedRow (r : FrameField) : Type 0 where
+record IsUnusedFrame (r : FrameField) : Type 0 where
   table : (r.table == 0) ≡ true
   entry : (r.entry == 0) ≡ true
   at : (r.at == 0) ≡ true
   acted : (r.acted == 0) ≡ true
 
-unused_row : (at : ℕ) (r : FrameField) → unused_fault at r ≡ None → IsUnusedRow r
-unused_row at r h =
+unused_frame : (at : ℕ) (r : FrameField) → unused_fault at r ≡ None → IsUnusedFrame r
+unused_frame at r h =
     let p = four (rule at (r.table == 0)) (rule (at + 1) (r.entry == 0)) (rule (at + 3) (r.at == 0)) (rule (at + 4) (r.acted == 0)) h in
     record {
       table = rule_holds at (r.table == 0) p.0;
@@ -51,13 +51,13 @@ unused_row at r h =
       acted = rule_holds (at + 4) (r.acted == 0) p.3;
     }
 
-record IsUsedRow (g : GameLists) (code : ℕ) (caller : Option ℕ) (r : FrameField) : Type 0 where
+record IsUsedFrame (g : GameLists) (code : ℕ) (caller : Option ℕ) (r : FrameField) : Type 0 where
   table : may_open caller r.table ≡ true
   condact : has_code code (condact_at g r.table r.entry r.at) ≡ true
   acted : nat_le r.acted 1 ≡ true
 
-used_row : (g : GameLists) (code : ℕ) (caller : Option ℕ) (at : ℕ) (r : FrameField) → used_fault g code caller at r ≡ None → IsUsedRow g code caller r
-used_row g code caller at r h =
+used_frame : (g : GameLists) (code : ℕ) (caller : Option ℕ) (at : ℕ) (r : FrameField) → used_fault g code caller at r ≡ None → IsUsedFrame g code caller r
+used_frame g code caller at r h =
     let p = four (rule at (may_open caller r.table)) (rule (at + 1) (is_some (head_at g r.table r.entry)))
     (rule (at + 3) (has_code code (condact_at g r.table r.entry r.at))) (rule (at + 4) (nat_le r.acted 1)) h in
     record {
@@ -70,51 +70,52 @@ no_action : (acted : ℕ) → (acted == 0) ≡ true → not (acted == 1) ≡ tru
 no_action acted h = let z : acted ≡ 0 = eqb-true acted 0 h in rw z refl
 
 -- a row without a fault stands as a frame
-row_sound : (g : GameLists) (code : ℕ) (caller : Option ℕ) (n at : ℕ) (r : FrameField) → row_fault g code caller n at r ≡ None
+frame_field_sound : (g : GameLists) (code : ℕ) (caller : Option ℕ) (n at : ℕ) (r : FrameField) → frame_fault g code caller n at r ≡ None
     → row_stands g code caller n (frame_in r) ≡ true
-row_sound g code caller n at r h = go (n == 0) h
+frame_field_sound g code caller n at r h = go (n == 0) h
   where
     go : (b : Bool) → (if b then unused_fault at r else used_fault g (if n == 1 then code else 85) caller at r) ≡ None
         → (if b then is_unused (frame_in r) else may_open caller r.table && has_code (if n == 1 then code else 85) (condact_at_frame g (frame_in r))) ≡ true
     go true k =
-        let u = unused_row at r k in
+        let u = unused_frame at r k in
         both (r.table == 0) _ u.table (both (r.entry == 0) _ u.entry (both (r.at == 0) _ u.at (no_action r.acted u.acted)))
     go false k =
-        let u = used_row g (if n == 1 then code else 85) caller at r k in
+        let u = used_frame g (if n == 1 then code else 85) caller at r k in
         both (may_open caller r.table) _ u.table u.condact
 
 -- and its byte for an action is 0 or 1
-row_acted : (g : GameLists) (code : ℕ) (caller : Option ℕ) (n at : ℕ) (r : FrameField) → row_fault g code caller n at r ≡ None → r.acted ≤ 1
-row_acted g code caller n at r h = go (n == 0) h
+frame_field_acted : (g : GameLists) (code : ℕ) (caller : Option ℕ) (n at : ℕ) (r : FrameField) → frame_fault g code caller n at r ≡ None → r.acted ≤ 1
+frame_field_acted g code caller n at r h = go (n == 0) h
   where
     go : (b : Bool) → (if b then unused_fault at r else used_fault g (if n == 1 then code else 85) caller at r) ≡ None → r.acted ≤ 1
-    go true k = let z : r.acted ≡ 0 = eqb-true r.acted 0 (unused_row at r k).acted in omega arith
-    go false k = leb-true r.acted 1 (used_row g (if n == 1 then code else 85) caller at r k).acted
+    go true k = let z : r.acted ≡ 0 = eqb-true r.acted 0 (unused_frame at r k).acted in omega arith
+    go false k = leb-true r.acted 1 (used_frame g (if n == 1 then code else 85) caller at r k).acted
 
 acted_back : (acted : ℕ) → acted ≤ 1 → (if acted == 1 then 1 else 0) ≡ acted
 acted_back zero low = refl
 acted_back (suc zero) low = refl
 acted_back (suc (suc n)) low = absurd (omega (arith, low))
 
-row_back : (r : FrameField) → r.acted ≤ 1 → row_of (frame_in r) ≡ r
-row_back r low = ap (λ (acted : ℕ). record { table = r.table; entry = r.entry; at = r.at; acted = acted }) (acted_back r.acted low)
+frame_field_back : (r : FrameField) → r.acted ≤ 1 → frame_field_of (frame_in r) ≡ r
+frame_field_back r low = ap (λ (acted : ℕ). record { table = r.table; entry = r.entry; at = r.at; acted = acted }) (acted_back r.acted low)
 
-pub rows_sound : (g : GameLists) (code : ℕ) (caller : Option ℕ) (n at d : ℕ) (rows : List FrameField) → row_fields_fault g code caller n at rows ≡ None
+pub frame_fields_sound : (g : GameLists) (code : ℕ) (caller : Option ℕ) (n at d : ℕ) (rows : List FrameField)
+    → frame_fields_fault g code caller n at rows ≡ None
     → machine_fault g code caller n d (map frame_in rows) ≡ None
-unfolding row_fields_fault machine_fault
-rows_sound g code caller n at d [] h = refl
-rows_sound g code caller n at d (r ∷ rs) h =
-    let p = no_first (row_fault g code caller n at r) (row_fields_fault g code (called_table g r) (n - 1) (at + 5) rs) h in
-    rw (row_sound g code caller n at r p.0) (rows_sound g code (called_table g r) (n - 1) (at + 5) (suc d) rs p.1)
+unfolding frame_fields_fault machine_fault
+frame_fields_sound g code caller n at d [] h = refl
+frame_fields_sound g code caller n at d (r ∷ rs) h =
+    let p = no_first (frame_fault g code caller n at r) (frame_fields_fault g code (called_table g r) (n - 1) (at + 5) rs) h in
+    rw (frame_field_sound g code caller n at r p.0) (frame_fields_sound g code (called_table g r) (n - 1) (at + 5) (suc d) rs p.1)
 
-pub rows_back : (g : GameLists) (code : ℕ) (caller : Option ℕ) (n at : ℕ) (rows : List FrameField) → row_fields_fault g code caller n at rows ≡ None
-    → map row_of (map frame_in rows) ≡ rows
-unfolding row_fields_fault
-rows_back g code caller n at [] h = refl
-rows_back g code caller n at (r ∷ rs) h =
-    let p = no_first (row_fault g code caller n at r) (row_fields_fault g code (called_table g r) (n - 1) (at + 5) rs) h in
-    let e : row_of (frame_in r) ≡ r = row_back r (row_acted g code caller n at r p.0) in
-    let q = rows_back g code (called_table g r) (n - 1) (at + 5) rs p.1 in
+pub frame_fields_back : (g : GameLists) (code : ℕ) (caller : Option ℕ) (n at : ℕ) (rows : List FrameField) → frame_fields_fault g code caller n at rows ≡ None
+    → map frame_field_of (map frame_in rows) ≡ rows
+unfolding frame_fields_fault
+frame_fields_back g code caller n at [] h = refl
+frame_fields_back g code caller n at (r ∷ rs) h =
+    let p = no_first (frame_fault g code caller n at r) (frame_fields_fault g code (called_table g r) (n - 1) (at + 5) rs) h in
+    let e : frame_field_of (frame_in r) ≡ r = frame_field_back r (frame_field_acted g code caller n at r p.0) in
+    let q = frame_fields_back g code (called_table g r) (n - 1) (at + 5) rs p.1 in
     cc
 
 -- ---- frames that stand ----
@@ -137,11 +138,11 @@ acted_zero true h = cc
 acted_zero false h = refl
 
 frame_sound : (g : GameLists) (code : ℕ) (caller : Option ℕ) (n at : ℕ) (f : Frame) → row_stands g code caller n f ≡ true
-    → row_fault g code caller n at (row_of f) ≡ None
+    → frame_fault g code caller n at (frame_field_of f) ≡ None
 frame_sound g code caller n at f h = go (n == 0) h
   where
     go : (b : Bool) → (if b then is_unused f else may_open caller f.table && has_code (if n == 1 then code else 85) (condact_at_frame g f)) ≡ true
-        → (if b then unused_fault at (row_of f) else used_fault g (if n == 1 then code else 85) caller at (row_of f)) ≡ None
+        → (if b then unused_fault at (frame_field_of f) else used_fault g (if n == 1 then code else 85) caller at (frame_field_of f)) ≡ None
     go true k =
         let l1 = second (f.table == 0) _ k in
         let l2 = second (f.entry == 0) _ l1 in
@@ -156,27 +157,29 @@ frame_sound g code caller n at f h = go (n == 0) h
         (no_rule (at + 3) _ c) (no_rule (at + 4) _ (acted_low f.acted))
 
 pub frames_sound : (g : GameLists) (code : ℕ) (caller : Option ℕ) (n at d : ℕ) (frames : List Frame) → machine_fault g code caller n d frames ≡ None
-    → row_fields_fault g code caller n at (map row_of frames) ≡ None
-unfolding row_fields_fault machine_fault
+    → frame_fields_fault g code caller n at (map frame_field_of frames) ≡ None
+unfolding frame_fields_fault machine_fault
 frames_sound g code caller n at d [] h = refl
 frames_sound g code caller n at d (f ∷ fs) h = go (frames_sound g code (Some (parameter_of (condact_at_frame g f))) (n - 1) (at + 5) (suc d) fs)
     (row_stands g code caller n f) refl h
   where
     go : (machine_fault g code (Some (parameter_of (condact_at_frame g f))) (n - 1) (suc d) fs ≡ None
-        → row_fields_fault g code (Some (parameter_of (condact_at_frame g f))) (n - 1) (at + 5) (map row_of fs) ≡ None)
+        → frame_fields_fault g code (Some (parameter_of (condact_at_frame g f))) (n - 1) (at + 5) (map frame_field_of fs) ≡ None)
         → (b : Bool) → row_stands g code caller n f ≡ b
         → ◌≡◌ {A = Option ℕ} (if b then machine_fault g code (Some (parameter_of (condact_at_frame g f))) (n - 1) (suc d) fs else Some d) None
-        → option_or (row_fault g code caller n at (row_of f)) (row_fields_fault g code (called_table g (row_of f)) (n - 1) (at + 5) (map row_of fs)) ≡ None
-    go later true e q = none_first (row_fault g code caller n at (row_of f)) _ (frame_sound g code caller n at f e) (later q)
+        → option_or (frame_fault g code caller n at (frame_field_of f)) (frame_fields_fault g code (called_table g (frame_field_of f)) (n - 1)
+        (at + 5) (map frame_field_of fs)) ≡ None
+    go later true e q = none_first (frame_fault g code caller n at (frame_field_of f)) _ (frame_sound g code caller n at f e) (later q)
     go later false e q = cc
 
 acted_again : (acted : Bool) → ((if acted then 1 else 0) == 1) ≡ acted
 acted_again true = refl
 acted_again false = refl
 
-pub frames_back : (frames : List Frame) → map frame_in (map row_of frames) ≡ frames
+pub frames_back : (frames : List Frame) → map frame_in (map frame_field_of frames) ≡ frames
 frames_back [] = refl
 frames_back (f ∷ fs) =
-    let e : frame_in (row_of f) ≡ f = ap (λ (acted : Bool). record { table = f.table; entry = f.entry; at = f.at; acted = acted }) (acted_again f.acted) in
+    let e : frame_in (frame_field_of f) ≡ f = ap (λ (acted : Bool). record { table = f.table; entry = f.entry; at = f.at; acted = acted })
+    (acted_again f.acted) in
     let q = frames_back fs in
     cc
