@@ -19,3 +19,4 @@ pub mod Going
 pub mod Settling
 pub mod Standing
 mod Older
+pub mod Digits

@@ -1,4 +1,5 @@
 pub mod Calls
+pub mod Numbers
 pub mod Walk
 pub mod Traces
 pub mod Session
