@@ -20,3 +20,4 @@ pub mod Settling
 pub mod Standing
 mod Older
 pub mod Digits
+pub mod ImageFiles

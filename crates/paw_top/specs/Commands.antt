@@ -11,7 +11,8 @@ use Rattle.paw_stage.specs.declared.StageCall.{StageCall}
 use Rattle.paw_stage.specs.declared.StageCall.TheVariants as call
 use Rattle.paw_play.specs.Calls.{walk_calls, session_calls}
 use Rattle.paw_play.specs.Numbers.{number_of, seed_of}
-use Rattle.paw_top.specs.Answers.{load_calls, load_memory}
+use Rattle.paw_stage.specs.Loads.{load_calls}
+use Rattle.paw_top.specs.Answers.{load_memory}
 use Rattle.paw_top.specs.Compile.{Compiles}
 use Rattle.paw_top.specs.Check.{Checks}
 use Rattle.paw_top.specs.Decompile.{Decompiles}

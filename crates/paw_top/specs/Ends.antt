@@ -7,7 +7,7 @@ use Rattle.paw_journal.specs.declared.refusal.JournalRefusal.TheVariants as refu
 use Rattle.paw_journal.specs.declared.refusal.SessionPart.TheVariants as part
 use Rattle.paw_play.specs.declared.PlayEnd.{PlayEnd}
 use Rattle.paw_play.specs.declared.PlayEnd.TheVariants as end
-use Rattle.paw_top.specs.Loads.{Holds}
+use Rattle.paw_play.specs.ImageFiles.{Holds}
 use Rattle.paw_top.specs.Opens.{Unopened}
 use Rattle.paw_top.specs.declared.outcome.Outcome.{Outcome}
 use Rattle.paw_top.specs.declared.outcome.Outcome.TheVariants as outcome
