@@ -1,7 +1,6 @@
 pub mod Sitting
 pub mod Staying
 pub mod Opening
-mod Numbers
 pub mod Named
 pub mod Reaching
 pub mod Leaving

@@ -1,16 +1,14 @@
 -- How hosting ends, and what it leaves.
-use Rattle.std.specs.Prelude.{◌≡◌, ℕ, ◌+◌, ◌<◌, ◌≤◌, List, [], ◌∷◌, length, drop, Some, None}
-use Rattle.paw_base.specs.Bytes.{Bytes, Name, RoutineRows, Seed}
+use Rattle.std.specs.Prelude.{◌≡◌, ℕ, ◌+◌, ◌<◌, ◌≤◌, length, drop, None}
+use Rattle.paw_base.specs.Bytes.{Name, RoutineRows, Seed}
 use Rattle.paw_game.specs.Game.{GameLists}
-use Rattle.paw_image.specs.Damage.{bad}
-use Rattle.paw_image.specs.Images.{IsImage}
 use Rattle.paw_effects.specs.Story.{Story, story_of}
 use Rattle.paw_stage.specs.Stage.{Standing}
 use Rattle.paw_stage.specs.Moments.{Moment, moment_of}
 use Rattle.paw_stage.specs.Across.{IsOneOf}
-use Rattle.paw_stage.specs.declared.StageCall.{StageCall}
 use Rattle.paw_stage.specs.declared.StageCall.TheVariants as call
 use Rattle.paw_play.specs.Calls.{session_calls}
+use Rattle.paw_play.specs.ImageFiles.{Holds, HoldsDamage}
 use Rattle.paw_host.specs.Replies.{Sessions}
 use Rattle.paw_host.specs.Promise.{InHost, Answered, BeginsWith}
 use Rattle.paw_host.specs.declared.outcome.HostOutcome.{HostOutcome}
@@ -41,15 +39,6 @@ Hosts g seed first old new (outcome.Outside c) = InHost g seed first old (moment
 Hosts g seed first old new outcome.Memory = new ≡ old
 Hosts g seed first old new _ = ⊥
 
--- The file of this name holds the image of this game.
-abbrev pub Holds : Standing → Name → GameLists → Type 0
-Holds s name g = (bytes : Bytes) × (s.files name ≡ Some bytes) × IsImage bytes g
-
--- The file of this name holds no image of a valid game; the first rule that its bytes break is broken at this place.
-abbrev pub HoldsDamage : Standing → Name → ℕ → Type 0
-HoldsDamage s name at = (bytes : Bytes) × (s.files name ≡ Some bytes) × ((g : GameLists) → ¬ IsImage bytes g)
-    × (bad bytes ≡ Some at)
-
 -- How hosting the game of an image file ends, with these rows of routines, whatever sessions there are; or why it
 -- isn't hosted, with nothing changed.
 pub data HostsFile (rows : RoutineRows) (name : Name) (seed : Seed) (old new : Standing) : HostOutcome → Type 0 where
@@ -65,7 +54,3 @@ pub data HostsFile (rows : RoutineRows) (name : Name) (seed : Seed) (old new : S
 abbrev pub HostsAtEachMoment : ((Moment → Type 0) → Type 0) → RoutineRows → Name → Seed → Standing → Type 0
 HostsAtEachMoment Come rows name seed old = (g : GameLists) (first : Sessions) → Holds old name g →
     BeginsWith (story_of g rows) first old → Come (InHost (story_of g rows) seed first old)
-
--- The two counts of a load: of loads that failed, and of loads that found no file.
-abbrev pub load_calls : List StageCall
-load_calls = call.Load ∷ call.LoadAbsent ∷ []

@@ -4,6 +4,7 @@ ghost use Rattle.std.specs.Prelude.{◌≡◌, ◌↔◌, ◌≢◌, ◌++◌, N
 ghost use Rattle.paw_base.specs.Bytes.{RoutineRows};
 ghost use Rattle.paw_stage.specs.Across.{IfTelling, EachMoment, FailsOnlyBy};
 ghost use Rattle.paw_stage.specs.Disk.{IsStable};
+ghost use Rattle.paw_stage.specs.Loads.{load_calls};
 ghost use Rattle.paw_routines.specs.Routines.{AreRowsOf, HaveRows};
 ghost use Rattle.paw_play.specs.Calls.{session_calls};
 ghost use Rattle.paw_host.specs.Outcomes.{host_failure};
@@ -11,7 +12,7 @@ ghost use Rattle.paw_host.specs.Words.{asked_call};
 ghost use Rattle.paw_play.specs.inner.OnTheWay.{EachStory};
 ghost use Rattle.paw_host.specs.Replies.{Sessions};
 ghost use Rattle.paw_host.specs.Promise.{BeginsWith, InHost};
-ghost use Rattle.paw_host.specs.Hosts.{load_calls, Ends, Hosts, HostsFile, HostsAtEachMoment};
+ghost use Rattle.paw_host.specs.Hosts.{Ends, Hosts, HostsFile, HostsAtEachMoment};
 ghost use Rattle.paw_host.specs.inner.Seats.{AreDigestsOf};
 ghost use Rattle.paw_host.specs.declared.outcome.HostOutcome.TheVariants as outcome;
 

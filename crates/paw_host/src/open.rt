@@ -4,10 +4,12 @@ ghost use Rattle.std.specs.Prelude.{◌≡◌, ◌≢◌, ℕ, List, None, Some,
 ghost use Rattle.paw_stage.specs.Across.{IfTelling, FailsOnlyBy};
 ghost use Rattle.paw_stage.specs.inner.Across.{AtEachMoment};
 ghost use Rattle.paw_stage.specs.Moments.{Still};
+ghost use Rattle.paw_stage.specs.Loads.{load_calls};
+ghost use Rattle.paw_stage.specs.inner.Loads.{LoadsSome};
+ghost use Rattle.paw_base.specs.declared.limits.TheConstants.{IMAGE_LIMIT};
 ghost use Rattle.paw_image.specs.Images.{IsImage};
 ghost use Rattle.paw_image.specs.inner.Views.{game_read};
-ghost use Rattle.paw_host.specs.Hosts.{load_calls};
-ghost use Rattle.paw_host.specs.inner.Opens.{ReadsImage, ReadsNoImage, OpensNone, host_failure_or};
+ghost use Rattle.paw_host.specs.inner.Opens.{ReadsNoImage, OpensNone, host_failure_or};
 ghost use Rattle.paw_host.specs.declared.outcome.HostOutcome.TheVariants as outcome;
 
 use crate::outcome::HostOutcome;
@@ -26,7 +28,7 @@ pub(crate) fn load<S: Stage>(
     ensures serves { FailsOnlyBy S.Stage load_calls (host_failure_or result) stage.old stage.new }
     ensures form { IfErr result (λ o. o ≢ outcome.Usage) }
     ensures some { IfTelling S.Stage stage.old stage.new (λ old new.
-        IfOk result (λ v. ReadsImage name.now old new v.items)) }
+        IfOk result (λ v. LoadsSome name.now IMAGE_LIMIT old new v.items)) }
     ensures none { IfTelling S.Stage stage.old stage.new (λ old new. IfErr result (ReadsNoImage name.now old new)) }
     ensures time { AtEachMoment S.Stage stage.old stage.new Still }
 {

@@ -20,3 +20,5 @@ pub mod Going
 pub mod Settling
 pub mod Standing
 mod Older
+pub mod Digits
+pub mod ImageFiles

@@ -1,4 +1,6 @@
 pub mod Calls
+pub mod Numbers
+pub mod ImageFiles
 pub mod Walk
 pub mod Traces
 pub mod Session

@@ -1,6 +1,7 @@
 -- Definitions for contracts between crates, and for proofs. Nothing that a reader must believe rests on them.
 pub mod Stage
 pub mod Across
+pub mod Loads
 pub mod Faults
 pub mod Files
 pub mod Done

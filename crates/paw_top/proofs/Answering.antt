@@ -10,7 +10,8 @@ use Rattle.paw_journal.specs.declared.refusal.JournalRefusal.TheVariants as refu
 use Rattle.paw_play.specs.inner.Calls.{call_of_end}
 use Rattle.paw_play.specs.declared.PlayEnd.{PlayEnd}
 use Rattle.paw_play.specs.declared.PlayEnd.TheVariants as end
-use Rattle.paw_top.specs.Answers.{failed_call, load_calls}
+use Rattle.paw_stage.specs.Loads.{load_calls}
+use Rattle.paw_top.specs.Answers.{failed_call}
 use Rattle.paw_top.specs.inner.Compile.{IsRefusal}
 use Rattle.paw_top.specs.Ends.{outcome_of}
 use Rattle.paw_top.specs.declared.outcome.Outcome.{Outcome}

@@ -13,10 +13,11 @@ use Rattle.paw_stage.specs.declared.StageCall.TheVariants as call
 use Rattle.paw_top.specs.Compile.{Compiles, done, refused, absent, unloaded, unsaved, unshown, memory, HoldsSource}
 use Rattle.paw_top.specs.Compile.{image_line}
 use Rattle.paw_top.specs.inner.Compile.{IsRefusal, SavesSo}
-use Rattle.paw_top.specs.inner.Loads.{LoadsSome, LoadsNone}
+use Rattle.paw_stage.specs.inner.Loads.{LoadsSome}
+use Rattle.paw_top.specs.inner.Loads.{LoadsNone}
 use Rattle.paw_top.specs.declared.outcome.Outcome.{Outcome}
 use Rattle.paw_top.specs.declared.outcome.Outcome.TheVariants as outcome
-use Rattle.paw_top.proofs.Images.{in_order}
+use Rattle.paw_play.proofs.ImageFiles.{in_order}
 
 -- ---- the source ----
 

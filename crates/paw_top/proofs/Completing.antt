@@ -9,7 +9,6 @@ use Rattle.paw_base.specs.declared.limits.TheConstants.{EVENT_LIMIT}
 use Rattle.paw_game.specs.Game.{GameLists}
 use Rattle.paw_grammar.specs.Spells.{spelled}
 use Rattle.paw_image.specs.Images.{IsImage}
-use Rattle.paw_image.proofs.ImageLaws.{one_game}
 use Rattle.paw_stage.specs.Stage.{Standing, CountsFailure}
 use Rattle.paw_stage.specs.declared.StageCall.{StageCall}
 use Rattle.paw_stage.specs.declared.StageCall.TheVariants as call
@@ -20,7 +19,8 @@ use Rattle.paw_top.specs.inner.Completes.{IsWalked, halted, out_of_lines, full, 
 use Rattle.paw_top.specs.inner.Completes.{CompletesSource, CompletesCompile, CompletesImage, CompletesWrap}
 use Rattle.paw_top.specs.inner.Completes.{Comes}
 use Rattle.paw_top.specs.Decompile as decompile
-use Rattle.paw_top.specs.Loads.{Holds, HoldsDamage}
+use Rattle.paw_play.specs.ImageFiles.{Holds, HoldsDamage}
+use Rattle.paw_play.proofs.ImageFiles.{same_file, same_game}
 use Rattle.paw_top.specs.Shows as shows
 use Rattle.paw_top.specs.inner.Loads.{HoldsNone}
 use Rattle.paw_top.specs.Walk.{WalksAs}
@@ -57,10 +57,7 @@ unhindered o first last out none = only_absent (failed_call o) first last out no
 pub hindered : (c : StageCall) → c ≢ call.LoadAbsent → IsUnhindered (outcome.Outside c) → ⊥
 hindered c another free = another free
 
--- a file holds one list of bytes
-same_file : (file : Option (List ℕ)) (a b : List ℕ) → file ≡ Some a → file ≡ Some b → a ≡ b
-same_file file a b h k = cc
-
+-- a file that isn't there holds nothing
 is_missing : (file : Option (List ℕ)) (bytes : List ℕ) → file ≡ None → file ≡ Some bytes → ⊥
 is_missing file bytes h k = cc
 
@@ -93,10 +90,6 @@ not_both : (s : Standing) (name : List ℕ) (g : GameLists) (at : ℕ) → Holds
 not_both s name g at h k = is_some s name g h (k.0, k.1, k.2)
 
 -- ---- a game that is shown or played ----
-
--- a file is the image of one game
-pub same_game : (s : Standing) (name : List ℕ) (g k : GameLists) → Holds s name g → Holds s name k → g ≡ k
-same_game s name g k h i = one_game g k h.2.valid i.2.valid (sym h.2.spelled ∙ same_file _ h.0 i.0 h.1 i.1 ∙ i.2.spelled)
 
 -- the file holds a game, with an answer such as it is to be
 completes_game : (name : List ℕ) (Such : GameLists → Outcome → Type 0) (old : Standing) (g : GameLists) (o : Outcome) → Holds old name g → Such g o →

@@ -5,8 +5,9 @@ use Rattle.paw_game.specs.Game.{GameLists}
 use Rattle.paw_stage.specs.Stage.{Standing}
 use Rattle.paw_stage.specs.declared.StageCall.TheVariants as call
 use Rattle.paw_top.specs.Decompile.{TellsOf, done, unopened, unshown}
-use Rattle.paw_top.specs.Loads.{Holds}
-use Rattle.paw_top.specs.inner.Loads.{LoadsSome, LoadsNone, GivesNone}
+use Rattle.paw_play.specs.ImageFiles.{Holds}
+use Rattle.paw_stage.specs.inner.Loads.{LoadsSome}
+use Rattle.paw_top.specs.inner.Loads.{LoadsNone, GivesNone}
 use Rattle.paw_top.specs.Shows.{Shows}
 use Rattle.paw_top.specs.declared.outcome.Outcome.{Outcome}
 use Rattle.paw_top.specs.declared.outcome.Outcome.TheVariants as outcome

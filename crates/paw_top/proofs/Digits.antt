@@ -4,27 +4,17 @@ use Rattle.std.proofs.Common.{Some, Ok, refl, sym, ap, ◌∙◌, arith}
 use Rattle.std.specs.Fmt.{decimal}
 use Rattle.std.specs.Char.{is_ascii_digit}
 use Rattle.std.specs.List.{list_all}
-use Rattle.std.specs.Str.Parse.{digits_value}
 use Rattle.std.proofs.lemmas.Bool.{and_from, and_parts, le-leb, leb-true, lt-ltb, ne_eqb, not_from_false}
 use Rattle.std.proofs.lemmas.Fmt.{decimal_nonempty, digits_decimal, digits_value-decimal}
 use Rattle.std.proofs.lemmas.List.{append-nil}
-use Rattle.std.proofs.lemmas.Str.Parse.{IsNumeralModel, numerals_by_value}
 use Rattle.paw_grammar.specs.Tokens.{begins_with_at}
 use Rattle.paw_grammar.specs.Numbers.{number, number_with}
 use Rattle.paw_grammar.specs.Spells.{begins_with_slash, after_line}
 use Rattle.paw_grammar.specs.GrammarState.{Spelt}
 use Rattle.paw_grammar.specs.GrammarHeads.{item_in, slash_line}
+use Rattle.paw_play.proofs.Digits.{decimal_digits}
 use Rattle.paw_print.specs.Lines.{item_token}
 use Rattle.paw_top.proofs.Rows.{all_weaker, is_clean, is_plain, slash_step}
-
--- what decimal digits alone make, and what they are worth
-pub own : IsNumeralModel (λ ds. list_all is_ascii_digit ds ≡ true) (digits_value 10)
-own = numerals_by_value (λ ds. list_all is_ascii_digit ds ≡ true) (record {
-  empty = refl;
-  parts = λ c cs h. let both = and_parts (is_ascii_digit c) _ h in
-      let range = and_parts (leb 48 c) (leb c 57) both.0 in ((leb-true 48 c range.0, leb-true c 57 range.1), both.1);
-  more = λ c cs k h. and_from (is_ascii_digit c) _ (and_from (leb 48 c) (leb c 57) (le-leb 48 c k.0) (le-leb c 57 k.1)) h;
-})
 
 digit_clean : (d : ℕ) → is_ascii_digit d ≡ true → is_clean d ≡ true
 digit_clean d h =
@@ -42,13 +32,13 @@ some_plain [] some h = absurd (omega (arith, some))
 some_plain (b ∷ bs) some h = h
 
 decimal_clean : (n : ℕ) → n ≤ 65535 → list_all is_clean (decimal n) ≡ true
-decimal_clean n h = digits_clean (decimal n) (digits_decimal own n (omega arith))
+decimal_clean n h = digits_clean (decimal n) (digits_decimal decimal_digits n (omega arith))
 
 -- small numbers are read
 pub number-decimal : (n : ℕ) → n ≤ 65535 → number (decimal n) ≡ Some n
 number-decimal n h =
     let small : n < 2 ^ 64 = omega arith in
-    rw (lt-ltb 0 (length (decimal n)) (decimal_nonempty n small), digits_decimal own n small) (ap Some (digits_value-decimal own n small))
+    rw (lt-ltb 0 (length (decimal n)) (decimal_nonempty n small), digits_decimal decimal_digits n small) (ap Some (digits_value-decimal decimal_digits n small))
 
 pub plain-decimal : (n : ℕ) → n ≤ 65535 → is_plain (decimal n) ≡ true
 plain-decimal n h = some_plain (decimal n) (decimal_nonempty n (omega arith)) (decimal_clean n h)
@@ -81,7 +71,7 @@ slash_none (b ∷ bs) h =
     ne_eqb b 47 (λ same. omega arith)
 
 pub decimal-slash : (n : ℕ) → n ≤ 65535 → begins_with_slash (decimal n) ≡ false
-decimal-slash n h = slash_none (decimal n) (digits_decimal own n (omega arith))
+decimal-slash n h = slash_none (decimal n) (digits_decimal decimal_digits n (omega arith))
 
 -- and none is `@`
 at_none : (ds : List ℕ) → list_all is_ascii_digit ds ≡ true → begins_with_at ds ≡ false
@@ -92,4 +82,4 @@ at_none (b ∷ bs) h =
     ne_eqb b 64 (λ same. omega arith)
 
 pub decimal-at : (n : ℕ) → n ≤ 65535 → begins_with_at (decimal n) ≡ false
-decimal-at n h = at_none (decimal n) (digits_decimal own n (omega arith))
+decimal-at n h = at_none (decimal n) (digits_decimal decimal_digits n (omega arith))

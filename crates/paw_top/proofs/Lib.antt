@@ -5,7 +5,6 @@ mod OpenedSessions
 mod Answering
 mod Compiling
 mod Decompiling
-mod Images
 mod Numbers
 mod Refusals
 mod After

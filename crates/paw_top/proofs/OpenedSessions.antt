@@ -9,8 +9,8 @@ use Rattle.paw_play.specs.declared.PlayEnd.{PlayEnd}
 use Rattle.paw_play.specs.Keeping.{InNewSession, InPlay}
 use Rattle.paw_play.specs.Play.{NewSession, PlaysAgain, GoesOn, NotYet, store_bytes}
 use Rattle.paw_play.specs.Played.{PlayedSession, GoesOnFrom, begun}
-use Rattle.paw_top.specs.Loads.{Holds}
-use Rattle.paw_top.proofs.Completing.{same_game}
+use Rattle.paw_play.specs.ImageFiles.{Holds}
+use Rattle.paw_play.proofs.ImageFiles.{same_game}
 
 -- the story that is played is the one of the file
 pub same_story : (old : Standing) (name : List ℕ) (game : GameLists) (s : Story) → Holds old name game → Holds old name s.game → story_of game s.rows ≡ s

@@ -7,10 +7,11 @@ use Rattle.paw_stage.specs.Stage.{Standing}
 use Rattle.paw_stage.specs.declared.StageCall.TheVariants as call
 use Rattle.paw_top.specs.declared.outcome.Outcome.{Outcome}
 use Rattle.paw_top.specs.declared.outcome.Outcome.TheVariants as outcome
-use Rattle.paw_top.specs.inner.Loads.{LoadsSome, LoadsNone, GivesNone}
+use Rattle.paw_stage.specs.inner.Loads.{LoadsSome}
+use Rattle.paw_top.specs.inner.Loads.{LoadsNone, GivesNone}
 use Rattle.paw_top.specs.Opens.{Unopened, damaged, absent, failed, wanting}
 use Rattle.paw_top.specs.Ends.{PlaysFile, unopened}
-use Rattle.paw_top.proofs.Images.{damage_loaded}
+use Rattle.paw_play.proofs.ImageFiles.{damage_loaded}
 
 -- a load that gives nothing says why its game isn't played
 pub no_file : (name : List ℕ) (old new : Standing) (o : Outcome) → LoadsNone name old new o → Unopened name old new o

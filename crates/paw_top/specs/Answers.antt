@@ -1,7 +1,6 @@
 -- Facts of one answer.
 use Rattle.std.specs.Prelude.{List, [], ◌∷◌, Option, Some, None}
 use Rattle.paw_stage.specs.declared.StageCall.{StageCall}
-use Rattle.paw_stage.specs.declared.StageCall.TheVariants as call
 use Rattle.paw_top.specs.declared.outcome.Outcome.{Outcome}
 use Rattle.paw_top.specs.declared.outcome.Outcome.TheVariants as outcome
 use Rattle.paw_top.specs.declared.outcome.MemoryAt.{MemoryAt}
@@ -11,10 +10,6 @@ use Rattle.paw_top.specs.declared.outcome.MemoryAt.TheVariants as memory
 abbrev pub failed_call : Outcome → Option StageCall
 failed_call (outcome.Outside c) = Some c
 failed_call _ = None
-
--- The two counts of a load: of loads that failed, and of loads that found no file.
-abbrev pub load_calls : List StageCall
-load_calls = call.Load ∷ call.LoadAbsent ∷ []
 
 -- ---- memory ----
 

@@ -1,17 +1,18 @@
 -- The commands: their words, what usage shows of them, and what each of them means.
-use Rattle.std.specs.Prelude.{ℕ, ◌^◌, List, [], ◌∷◌, ◌++◌, length, Bool, true, false, Option, Some, None}
-use Rattle.std.specs.Prelude.{nat_lt, nat_le, codes, map, string_bytes, if◌then◌else◌}
+use Rattle.std.specs.Prelude.{ℕ, List, [], ◌∷◌, ◌++◌, length, Bool, true, false, Option, Some, None}
+use Rattle.std.specs.Prelude.{nat_lt, codes, map, string_bytes, if◌then◌else◌}
 use Rattle.std.specs.declared.string.String.{String}
 use Rattle.std.specs.Option.{option_map, option_and_then}
 use Rattle.std.specs.Str.{bytes_eq}
 use Rattle.paw_base.specs.Bytes.{Bytes, Name, RoutineRows, Seed, Text}
-use Rattle.paw_grammar.specs.Numbers.{number}
 use Rattle.paw_reading.specs.Turn.{reading}
 use Rattle.paw_stage.specs.Stage.{Standing}
 use Rattle.paw_stage.specs.declared.StageCall.{StageCall}
 use Rattle.paw_stage.specs.declared.StageCall.TheVariants as call
 use Rattle.paw_play.specs.Calls.{walk_calls, session_calls}
-use Rattle.paw_top.specs.Answers.{load_calls, load_memory}
+use Rattle.paw_play.specs.Numbers.{number_of, seed_of}
+use Rattle.paw_stage.specs.Loads.{load_calls}
+use Rattle.paw_top.specs.Answers.{load_memory}
 use Rattle.paw_top.specs.Compile.{Compiles}
 use Rattle.paw_top.specs.Check.{Checks}
 use Rattle.paw_top.specs.Decompile.{Decompiles}
@@ -58,14 +59,6 @@ pub record CommandRow : Type 0 where
   pub name : Name
   pub form : Form
   pub makes : Makes form
-
--- The number that a word of at most this many decimal digits spells.
-abbrev pub number_of : ℕ → Bytes → Option ℕ
-number_of most word = if nat_le (length word) most then number word else None
-
--- The seed that a word spells: 1 to 20 decimal digits, with a value below 2^64.
-abbrev pub seed_of : Bytes → Option Seed
-seed_of word = option_and_then (λ n. if nat_lt n (2 ^ 64) then Some n else None) (number_of 20 word)
 
 -- The number of a trial that a word spells: 1 to 4 decimal digits.
 abbrev pub trial_of : Bytes → Option ℕ

@@ -5,7 +5,7 @@ use Rattle.paw_game.specs.Game.{GameLists}
 use Rattle.paw_print.specs.Canonical.{canonical_of}
 use Rattle.paw_stage.specs.Stage.{Standing, with_shown, ShowsPart}
 use Rattle.paw_stage.specs.declared.StageCall.TheVariants as call
-use Rattle.paw_top.specs.Loads.{Holds}
+use Rattle.paw_play.specs.ImageFiles.{Holds}
 use Rattle.paw_top.specs.Opens.{Unopened}
 use Rattle.paw_top.specs.declared.outcome.Outcome.{Outcome}
 use Rattle.paw_top.specs.declared.outcome.Outcome.TheVariants as outcome

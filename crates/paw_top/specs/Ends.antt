@@ -11,7 +11,7 @@ use Rattle.paw_reading.specs.declared.places.Halt.TheVariants as halt
 use Rattle.paw_play.specs.Walk.{end_halt}
 use Rattle.paw_play.specs.declared.PlayEnd.{PlayEnd}
 use Rattle.paw_play.specs.declared.PlayEnd.TheVariants as end
-use Rattle.paw_top.specs.Loads.{Holds}
+use Rattle.paw_play.specs.ImageFiles.{Holds}
 use Rattle.paw_top.specs.Opens.{Unopened}
 use Rattle.paw_top.specs.declared.outcome.Outcome.{Outcome}
 use Rattle.paw_top.specs.declared.outcome.Outcome.TheVariants as outcome

@@ -1,6 +1,5 @@
 pub mod Ends
 pub mod Answers
-pub mod Loads
 pub mod Opens
 pub mod Shows
 pub mod Compile

@@ -9,7 +9,7 @@ use Rattle.paw_play.specs.Keeping.{InNewSession, InPlay}
 use Rattle.paw_play.specs.Play.{NewSession, PlaysAgain, GoesOn, NotYet, store_bytes}
 use Rattle.paw_play.specs.Played.{PlayedSession, GoesOnFrom, begun}
 use Rattle.paw_top.specs.Ends.{PlaysFile}
-use Rattle.paw_top.specs.Loads.{Holds}
+use Rattle.paw_play.specs.ImageFiles.{Holds}
 use Rattle.paw_top.specs.declared.outcome.Outcome.{Outcome}
 
 -- ---- how it ends ----

@@ -1,17 +1,16 @@
 // The commands: how their words are read, and what runs each. Clauses hold words and usage to the rows of
 // specs/Commands.antt, and what is done to what these mean.
 
-ghost use Rattle.std.specs.Prelude.{◌≡◌, ◌≢◌, ◌&&◌, length, map, nat_le, string_bytes};
+ghost use Rattle.std.specs.Prelude.{◌≡◌, ◌≢◌, map, string_bytes};
 ghost use Rattle.std.specs.Prelude.{Some, None, true, false, MatchOption};
-ghost use Rattle.std.specs.Char.{is_ascii_digit};
-ghost use Rattle.std.specs.List.{list_all};
 ghost use Rattle.paw_base.specs.Bytes.{RoutineRows};
 ghost use Rattle.paw_routines.specs.Routines.{AreRowsOf, HaveRows};
 ghost use Rattle.paw_stage.specs.Across.{IfTelling, InTwoParts, FailsOnlyBy, IsOneOf};
 ghost use Rattle.paw_stage.specs.Disk.{IsStable};
+ghost use Rattle.paw_play.specs.Numbers.{seed_of};
 ghost use Rattle.paw_top.specs.Answers.{IfMemory, failed_call};
 ghost use Rattle.paw_top.specs.Commands.{command_of, meaning, no_more, next_file, next_number};
-ghost use Rattle.paw_top.specs.Commands.{seed_of, trial_of, byte_of, width_of};
+ghost use Rattle.paw_top.specs.Commands.{trial_of, byte_of, width_of};
 ghost use Rattle.paw_top.specs.inner.Commands.{SpellsCommand, meant};
 ghost use Rattle.paw_top.specs.declared.outcome.Outcome.TheVariants as outcome;
 
@@ -21,6 +20,7 @@ use crate::outcome::Outcome;
 use crate::sessions::{play, resume, walk};
 use crate::show::{Width, wrap};
 use crate::trial::trial;
+use paw_play::numbers::{has_digits, seed_of};
 use paw_play::preface::Nothing;
 use paw_play::trace::StepLines;
 use paw_routines::routines::Routines;
@@ -84,30 +84,6 @@ pub(crate) enum Command<'a> {
 }
 
 // ---- words ----
-
-fn are_digits(word: &[u8]) -> bool
-    ensures value { result ≡ list_all is_ascii_digit word.now }
-{
-    word.iter().all(|byte| byte.is_ascii_digit())
-}
-
-// Whether a word is made of decimal digits, at most this many. (A number that is parsed may have a plus before it.)
-fn has_digits(word: &str, most: usize) -> bool
-    ensures value { result ≡ (nat_le (length word.now) most && list_all is_ascii_digit word.now) }
-{
-    word.len() <= most && are_digits(word.as_bytes())
-}
-
-// A seed of 1 to 20 decimal digits with a value below 2^64.
-fn seed_of(word: &str) -> Option<u64>
-    ensures value { result ≡ seed_of word.now }
-{
-    if has_digits(word, 20) {
-        word.parse().ok()
-    } else {
-        None
-    }
-}
 
 // The number of a trial, in 1 to 4 decimal digits.
 fn trial_of(word: &str) -> Option<u16>

@@ -4,9 +4,11 @@ ghost use Rattle.std.specs.Prelude.{◌≢◌, IfOk, IfErr};
 ghost use Rattle.paw_stage.specs.Moments.{Still};
 ghost use Rattle.paw_stage.specs.Across.{IfTelling, FailsOnlyBy, IsOneOf};
 ghost use Rattle.paw_stage.specs.inner.Across.{AtEachMoment};
-ghost use Rattle.paw_top.specs.Answers.{IfMemory, load_calls, load_memory};
+ghost use Rattle.paw_stage.specs.Loads.{load_calls};
+ghost use Rattle.paw_top.specs.Answers.{IfMemory, load_memory};
 ghost use Rattle.paw_top.specs.inner.Answers.{failed_or};
-ghost use Rattle.paw_top.specs.inner.Loads.{LoadsSome, LoadsNone};
+ghost use Rattle.paw_stage.specs.inner.Loads.{LoadsSome};
+ghost use Rattle.paw_top.specs.inner.Loads.{LoadsNone};
 ghost use Rattle.paw_top.specs.declared.outcome.Outcome.TheVariants as outcome;
 
 use crate::outcome::{MemoryAt, Outcome};

@@ -3,7 +3,8 @@
 ghost use Rattle.std.specs.Prelude.{◌≢◌, ◌<◌, [], ◌∷◌};
 ghost use Rattle.paw_stage.specs.Across.{IfTelling, FailsOnlyBy, IsOneOf};
 ghost use Rattle.paw_stage.specs.declared.StageCall.TheVariants as call;
-ghost use Rattle.paw_top.specs.Answers.{IfMemory, load_calls, load_memory, failed_call};
+ghost use Rattle.paw_stage.specs.Loads.{load_calls};
+ghost use Rattle.paw_top.specs.Answers.{IfMemory, load_memory, failed_call};
 ghost use Rattle.paw_top.specs.Shows.{Shows, Wraps};
 ghost use Rattle.paw_top.specs.declared.outcome.MemoryAt.TheVariants as memory;
 ghost use Rattle.paw_top.specs.declared.outcome.Outcome.TheVariants as outcome;

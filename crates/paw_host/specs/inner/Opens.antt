@@ -1,7 +1,6 @@
 -- What loading an image file gives.
-use Rattle.std.specs.Prelude.{◌≡◌, ◌+◌, take, Option, Some, None, Result, Ok, Err}
+use Rattle.std.specs.Prelude.{◌≡◌, Option, Some, None, Result, Ok, Err}
 use Rattle.paw_base.specs.Bytes.{Bytes, Name}
-use Rattle.paw_base.specs.declared.limits.TheConstants.{IMAGE_LIMIT}
 use Rattle.paw_game.specs.Game.{GameLists}
 use Rattle.paw_image.specs.Damage.{bad}
 use Rattle.paw_image.specs.Images.{IsImage}
@@ -16,11 +15,6 @@ use Rattle.paw_host.specs.declared.outcome.HostOutcome.TheVariants as outcome
 abbrev pub host_failure_or : {A : Type 0} → Result A HostOutcome → Option StageCall
 host_failure_or (Ok a) = None
 host_failure_or (Err o) = host_failure o
-
--- A load that gave these bytes: the whole file, or one byte more than an image may have; nothing is changed.
-abbrev pub ReadsImage : Name → Standing → Standing → Bytes → Type 0
-ReadsImage name old new given =
-    (bytes : Bytes) × (old.files name ≡ Some bytes) × (given ≡ take (IMAGE_LIMIT + 1) bytes) × (new ≡ old)
 
 -- A load that gave nothing, by its answer; nothing is changed.
 abbrev pub ReadsNoImage : Name → Standing → Standing → HostOutcome → Type 0

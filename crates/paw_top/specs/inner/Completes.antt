@@ -22,7 +22,7 @@ use Rattle.paw_top.specs.Completes.{IsUnhindered}
 use Rattle.paw_top.specs.Check.{Checks}
 use Rattle.paw_top.specs.Decompile.{Decompiles}
 use Rattle.paw_top.specs.Ends.{outcome_of_halt, refused_as}
-use Rattle.paw_top.specs.Loads.{Holds, HoldsDamage}
+use Rattle.paw_play.specs.ImageFiles.{Holds, HoldsDamage}
 use Rattle.paw_top.specs.inner.Loads.{HoldsNone}
 use Rattle.paw_top.specs.Shows.{Wraps}
 use Rattle.paw_top.specs.Sessions.{PlaysNewIn, PlaysAgainIn}

@@ -1,5 +1,5 @@
--- How loading a file ends: words that contracts between crates and proofs use besides those of specs/Loads.antt.
-use Rattle.std.specs.Prelude.{◌≡◌, ℕ, ◌+◌, take, Some, None}
+-- How loading a file ends, by its answer.
+use Rattle.std.specs.Prelude.{◌≡◌, Some, None}
 use Rattle.paw_base.specs.Bytes.{Bytes, Name}
 use Rattle.paw_game.specs.Game.{GameLists}
 use Rattle.paw_image.specs.Damage.{bad}
@@ -19,11 +19,6 @@ LoadsNone name old new (outcome.Outside call.LoadAbsent) = (old.files name ≡ N
 LoadsNone name old new (outcome.Outside call.Load) = new ≡ old
 LoadsNone name old new (outcome.Memory at) = new ≡ old
 LoadsNone name old new _ = ⊥
-
--- A load that gave these bytes: the whole file, or one more than the most where it has more; nothing is changed.
-abbrev pub LoadsSome : Name → ℕ → Standing → Standing → Bytes → Type 0
-LoadsSome name most old new given = (bytes : Bytes) × (old.files name ≡ Some bytes) × (given ≡ take (most + 1) bytes)
-    × (new ≡ old)
 
 -- Why bytes that were loaded give no game: they are no image of a valid one, or memory was lacking.
 abbrev pub GivesNone : Bytes → Outcome → Type 0

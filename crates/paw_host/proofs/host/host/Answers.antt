@@ -7,11 +7,12 @@ use Rattle.paw_stage.specs.Stage.{Standing}
 use Rattle.paw_stage.proofs.Time.{Passes_map, Passes_on}
 use Rattle.paw_journal.proofs.Serving.{in_front, behind, serves_among, serves_still, serves_then}
 use Rattle.paw_play.specs.Calls.{session_calls}
-use Rattle.paw_host.specs.Hosts.{load_calls}
+use Rattle.paw_stage.specs.Loads.{load_calls}
 use Rattle.paw_host.specs.Outcomes.{host_failure}
 use Rattle.paw_host.specs.Promise.{BeginsWith, InHost}
 use Rattle.paw_host.proofs.Hosting.{at_first}
-use Rattle.paw_host.proofs.Loading.{holds_loaded, same_story, unloaded, undecoded, hosted}
+use Rattle.paw_play.proofs.ImageFiles.{holds_loaded}
+use Rattle.paw_host.proofs.Loading.{same_story, unloaded, undecoded, hosted}
 use Rattle.paw_host.proofs.Reaching.{FilesHold}
 use Rattle.paw_host.proofs.host.host.Goals as goal
 

@@ -5,7 +5,8 @@ use Rattle.paw_top.specs.inner.Compile.{IsRefusal}
 use Rattle.paw_top.specs.declared.outcome.MemoryAt.TheVariants as at
 use Rattle.paw_top.proofs.Compiling.{no_source, no_image, keeps_image}
 use Rattle.paw_stage.specs.declared.StageCall.TheVariants as call
-use Rattle.paw_top.specs.Answers.{failed_call, load_calls}
+use Rattle.paw_stage.specs.Loads.{load_calls}
+use Rattle.paw_top.specs.Answers.{failed_call}
 use Rattle.paw_top.proofs.Answering.{refused_faulted}
 use Rattle.paw_journal.proofs.Serving.{in_front, behind, serves_among, serves_still, serves_then}
 use Rattle.paw_top.proofs.compile.compile.Goals as goal

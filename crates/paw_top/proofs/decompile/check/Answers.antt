@@ -5,9 +5,9 @@ use Rattle.paw_game.specs.Game.{GameLists}
 use Rattle.paw_top.specs.Decompile.{untold}
 use Rattle.paw_top.specs.inner.Loads.{GivesNone}
 use Rattle.paw_top.proofs.Decompiling.{no_file, no_game, shows_told}
-use Rattle.paw_top.proofs.Images.{holds_given}
+use Rattle.paw_play.proofs.ImageFiles.{holds_loaded}
 use Rattle.paw_stage.specs.declared.StageCall.TheVariants as call
-use Rattle.paw_top.specs.Answers.{load_calls}
+use Rattle.paw_stage.specs.Loads.{load_calls}
 use Rattle.paw_top.specs.declared.outcome.MemoryAt.TheVariants as memory
 use Rattle.paw_journal.proofs.Serving.{in_front, behind, serves_among, serves_still, serves_then}
 use Rattle.paw_top.proofs.decompile.check.Goals as goal
@@ -26,7 +26,7 @@ returns-in_default-clause-checks g c = λ tells. let f = c.in-Ok.ensures.some te
 pub returns-clause-checks : goal.returns-clause-checks
 returns-clause-checks g c = λ tells.
     let f = c.in-Ok.ensures.some tells in
-    let holds = holds_given c.args.image.now _ _ _ _ c.in-Ok-game_in.given c.as_slice.ensures.value f c.in-Ok-game_in.ensures.found in
+    let holds = holds_loaded c.args.image.now _ _ _ _ c.in-Ok-game_in.given c.as_slice.ensures.value f c.in-Ok-game_in.ensures.found in
     shows_told (λ (g : GameLists). verdict_text (bounds g)) memory.Check c.args.image.now c.as_bytes.result.now c.in-Ok-game_in.given _ _ _ c.tell.result holds f.3
     (c.as_bytes.ensures.value ∙ c.in-Ok-verdict_of.ensures.text)
     (c.tell.ensures.shows (c.load.ensures.serves.tells.0 tells))

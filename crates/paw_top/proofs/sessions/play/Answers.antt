@@ -11,10 +11,10 @@ use Rattle.paw_play.specs.Play.{NotYet, store_bytes}
 use Rattle.paw_play.specs.Played.{begun}
 use Rattle.paw_play.proofs.Parts.{not_yet, then_two_parts}
 use Rattle.paw_top.specs.Ends.{plays}
-use Rattle.paw_top.specs.Answers.{load_calls}
+use Rattle.paw_stage.specs.Loads.{load_calls}
 use Rattle.paw_top.proofs.Answering.{played_serves}
 use Rattle.paw_journal.proofs.Serving.{in_front, serves_among, serves_still}
-use Rattle.paw_top.proofs.Images.{holds_given}
+use Rattle.paw_play.proofs.ImageFiles.{holds_loaded}
 use Rattle.paw_top.proofs.OpenedSessions.{new_parts, plays_new, same_story}
 use Rattle.paw_top.proofs.Refusals.{unloaded, undecoded}
 use Rattle.paw_top.proofs.sessions.play.Goals as goal
@@ -42,7 +42,7 @@ returns-clause-plays g c = λ tells X rows.
     let f = c.in-Ok.ensures.some tells in
     let game = game_read c.in-Ok-view_in.given in
     rw c.outcome_of.ensures.value
-    (plays game c.play_loop.result (holds_given c.args.image.now _ _ _ _ game c.as_slice.ensures.value f c.in-Ok-view_in.ensures.found)
+    (plays game c.play_loop.result (holds_loaded c.args.image.now _ _ _ _ game c.as_slice.ensures.value f c.in-Ok-view_in.ensures.found)
     (plays_new (begun (story_of game X) c.args.seed c.args.store.now) _ _ _ c.play_loop.result f.3
     (c.play_loop.ensures.plays (c.load.ensures.serves.tells.0 tells) X rows)))
 
@@ -51,7 +51,7 @@ returns-clause-any_moment g c = λ tells s rows holds empty.
     let f = c.in-Ok.ensures.some tells in
     let old : Standing = g.S.Stage.standing c.args.stage.now in
     let game = game_read c.in-Ok-view_in.given in
-    let mine = holds_given c.args.image.now _ _ old _ game c.as_slice.ensures.value f c.in-Ok-view_in.ensures.found in
+    let mine = holds_loaded c.args.image.now _ _ old _ game c.as_slice.ensures.value f c.in-Ok-view_in.ensures.found in
     let same = same_story old c.args.image.now game s mine holds in
     then_two_parts g.S.Stage c.args.stage.now c.load.new.stage c.play_loop.new.stage
     (NotYet c.args.store.now old) (InNewSession (begun s c.args.seed c.args.store.now) old)

@@ -10,11 +10,11 @@ use Rattle.paw_play.specs.Keeping.{InPlay}
 use Rattle.paw_play.specs.Play.{NotYet}
 use Rattle.paw_play.proofs.Parts.{not_yet, then_two_parts}
 use Rattle.paw_top.specs.Ends.{plays}
-use Rattle.paw_top.specs.Answers.{load_calls}
+use Rattle.paw_stage.specs.Loads.{load_calls}
 use Rattle.paw_top.proofs.Answering.{played_serves}
 use Rattle.paw_journal.proofs.Serving.{in_front, serves_among, serves_still}
-use Rattle.paw_top.proofs.Completing.{same_game}
-use Rattle.paw_top.proofs.Images.{holds_given}
+use Rattle.paw_play.proofs.ImageFiles.{same_game}
+use Rattle.paw_play.proofs.ImageFiles.{holds_loaded}
 use Rattle.paw_top.proofs.OpenedSessions.{again_parts, plays_again, goes_from, same_story}
 use Rattle.paw_top.proofs.OpenedSessions as opened
 use Rattle.paw_top.proofs.Refusals.{unloaded, undecoded}
@@ -51,7 +51,7 @@ returns-clause-plays g c = λ tells X rows.
     let f = c.in-Ok.ensures.some tells in
     let game = game_read c.in-Ok-view_in.given in
     rw c.outcome_of.ensures.value
-    (plays game c.resume_loop.result (holds_given c.args.image.now _ _ _ _ game c.as_slice.ensures.value f c.in-Ok-view_in.ensures.found)
+    (plays game c.resume_loop.result (holds_loaded c.args.image.now _ _ _ _ game c.as_slice.ensures.value f c.in-Ok-view_in.ensures.found)
     (plays_again (story_of game X) c.args.store.now _ _ _ c.resume_loop.result f.3
     (c.resume_loop.ensures.plays (c.load.ensures.serves.tells.0 tells) X rows)))
 
@@ -61,7 +61,7 @@ returns-clause-goes_on g c = λ tells k s rows holds goes.
     let old : Standing = g.S.Stage.standing c.args.stage.now in
     let mid : Standing = g.S.Stage.standing c.load.new.stage in
     let game = game_read c.in-Ok-view_in.given in
-    let mine = holds_given c.args.image.now _ _ old _ game c.as_slice.ensures.value f c.in-Ok-view_in.ensures.found in
+    let mine = holds_loaded c.args.image.now _ _ old _ game c.as_slice.ensures.value f c.in-Ok-view_in.ensures.found in
     rw c.outcome_of.ensures.value
     (plays game c.resume_loop.result mine (
       same_game old c.args.image.now game k.game mine holds,
@@ -76,7 +76,7 @@ returns-clause-any_moment g c = λ tells k s rows holds goes.
     let old : Standing = g.S.Stage.standing c.args.stage.now in
     let mid : Standing = g.S.Stage.standing c.load.new.stage in
     let game = game_read c.in-Ok-view_in.given in
-    let mine = holds_given c.args.image.now _ _ old _ game c.as_slice.ensures.value f c.in-Ok-view_in.ensures.found in
+    let mine = holds_loaded c.args.image.now _ _ old _ game c.as_slice.ensures.value f c.in-Ok-view_in.ensures.found in
     then_two_parts g.S.Stage c.args.stage.now c.load.new.stage c.resume_loop.new.stage (NotYet c.args.store.now old) (InPlay s old)
     (Passes_map _ _ _ _ _ _ (c.load.ensures.time tells) (not_yet c.args.store.now old))
     (again_parts g.S.Stage c.load.new.stage c.resume_loop.new.stage s c.args.store.now old mid f.3

@@ -7,10 +7,10 @@ use Rattle.paw_play.specs.Calls.{walk_calls}
 use Rattle.paw_play.specs.Walk.{Walks}
 use Rattle.paw_play.specs.inner.Telling.{with_shown_steps}
 use Rattle.paw_top.specs.Ends.{plays}
-use Rattle.paw_top.specs.Answers.{load_calls}
+use Rattle.paw_stage.specs.Loads.{load_calls}
 use Rattle.paw_top.proofs.Answering.{played_serves}
 use Rattle.paw_journal.proofs.Serving.{in_front, serves_among, serves_still}
-use Rattle.paw_top.proofs.Images.{holds_given}
+use Rattle.paw_play.proofs.ImageFiles.{holds_loaded}
 use Rattle.paw_top.proofs.Refusals.{unloaded, undecoded}
 use Rattle.paw_top.proofs.sessions.walk.Goals as goal
 
@@ -27,7 +27,7 @@ returns-clause-walks g c = λ tells X rows.
     let f = c.in-Ok.ensures.some tells in
     let game = game_read c.in-Ok-view_in.given in
     rw c.outcome_of.ensures.value
-    (plays game c.walk_loop.result (holds_given c.args.image.now _ _ _ _ game c.as_slice.ensures.value f c.in-Ok-view_in.ensures.found)
+    (plays game c.walk_loop.result (holds_loaded c.args.image.now _ _ _ _ game c.as_slice.ensures.value f c.in-Ok-view_in.ensures.found)
     (subst (λ s. Walks (with_shown_steps g.P.Preface.telling (reading (story_of game X) c.args.seed)) EVENT_LIMIT s new c.walk_loop.result) f.3
     (c.walk_loop.ensures.walks (c.load.ensures.serves.tells.0 tells) X rows)))
 

@@ -7,12 +7,14 @@ use Rattle.paw_stage.specs.Stage.{Standing}
 use Rattle.paw_stage.specs.declared.StageCall.TheVariants as call
 use Rattle.paw_wrap.specs.FirstFit.{WrappedText, first_fit}
 use Rattle.paw_journal.proofs.Serving.{in_front, behind, serves_among, serves_still, serves_then}
-use Rattle.paw_top.specs.Answers.{IfMemory, load_calls, load_memory}
+use Rattle.paw_stage.specs.Loads.{load_calls}
+use Rattle.paw_top.specs.Answers.{IfMemory, load_memory}
 use Rattle.paw_top.specs.Shows.{Shows, HoldsText, Wraps, done, too_long, absent, unloaded, unshown, wanting, unwrapped}
-use Rattle.paw_top.specs.inner.Loads.{LoadsSome, LoadsNone}
+use Rattle.paw_stage.specs.inner.Loads.{LoadsSome}
+use Rattle.paw_top.specs.inner.Loads.{LoadsNone}
 use Rattle.paw_top.specs.declared.outcome.Outcome.{Outcome}
 use Rattle.paw_top.specs.declared.outcome.Outcome.TheVariants as outcome
-use Rattle.paw_top.proofs.Images.{in_order, short_enough}
+use Rattle.paw_play.proofs.ImageFiles.{in_order, short_enough}
 use Rattle.paw_top.proofs.show.wrap.Goals as goal
 
 -- a load that gives nothing says why nothing is wrapped
@@ -27,7 +29,7 @@ no_file width name old new _ h m = absurd h
 holds_text : (name given : List ℕ) (old new : Standing) → LoadsSome name WRAP_LIMIT old new given → length given ≤ WRAP_LIMIT →
     HoldsText old name given
 holds_text name given old new f short =
-    let whole : length f.0 ≤ WRAP_LIMIT = short_enough f.0 (subst (λ b. length b ≤ WRAP_LIMIT) f.2 short) (in_order (length f.0) WRAP_LIMIT) in
+    let whole : length f.0 ≤ WRAP_LIMIT = short_enough WRAP_LIMIT f.0 (subst (λ b. length b ≤ WRAP_LIMIT) f.2 short) (in_order (length f.0) WRAP_LIMIT) in
     (f.1 ∙ ap Some (sym (f.2 ∙ take_all 4194305 f.0 (omega (arith, whole)))), short)
 
 -- what was loaded and is too long comes of a file that is

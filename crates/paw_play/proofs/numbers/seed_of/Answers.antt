@@ -1,6 +1,6 @@
 use Rattle.std.proofs.Common.{sym, ◌∙◌}
-use Rattle.paw_top.proofs.Numbers.{seed_is}
-use Rattle.paw_top.proofs.commands.seed_of.Goals as goal
+use Rattle.paw_play.proofs.Digits.{seed_is}
+use Rattle.paw_play.proofs.numbers.seed_of.Goals as goal
 
 pub returns-then-has_digits : goal.returns-then-has_digits
 returns-then-has_digits c = record {

@@ -1,4 +1,4 @@
--- What a file holds that is loaded.
+-- What a file holds that is loaded as an image.
 use Rattle.std.specs.Prelude.{◌≡◌, ℕ, Some}
 use Rattle.paw_base.specs.Bytes.{Bytes, Name}
 use Rattle.paw_game.specs.Game.{GameLists}

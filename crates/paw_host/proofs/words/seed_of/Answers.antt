@@ -1,8 +1,0 @@
-use Rattle.std.proofs.Common.{sym, ◌∙◌}
-use Rattle.paw_host.proofs.Numbers.{seed_is}
-use Rattle.paw_host.proofs.words.seed_of.Goals as goal
-
-pub returns-then-has_digits : goal.returns-then-has_digits
-returns-then-has_digits c = record {
-  value = c.ok.ensures.value ∙ seed_is c.args.word.now c.parse.result (sym c.has_digits.ensures.value ∙ c.if-has_digits.true) c.parse.ensures.value.0;
-}
