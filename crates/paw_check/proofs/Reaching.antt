@@ -38,7 +38,7 @@ Member all c = (p : Condact → Bool) → p c ≡ true → list_any p all ≡ tr
 abbrev IsPart : List Condact → List Condact → Type 0
 IsPart all cs = (p : Condact → Bool) → list_any p cs ≡ true → list_any p all ≡ true
 
--- what holds of each member that keeps its rules holds of each condact of these
+-- what holds of each member that follows its rules holds of each condact of these
 module _ (g : GameLists) (all : List Condact) (Q : Condact → Type 0) (holds : (c : Condact) → Member all c → IsTrue (is_condact g c) → Q c) where
   each_member : (cs : List Condact) → IsTrue (list_all (is_condact g) cs) → IsPart all cs → AllByRecursion Q cs
   each_member [] kept part = tt

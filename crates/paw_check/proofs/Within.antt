@@ -95,7 +95,7 @@ module _ (g : Story) (valid : ValidStory g) (flat : call_too_deep g.game ≡ Non
   abbrev Some_way : (lv most : ℕ) → Run → Type 0
   Some_way = Anyhow g valid kind limit pending changing verb low bye
 
-  -- a condact of a table, which keeps the rules of a game
+  -- a condact of a table, which follows the rules of a game
   abbrev Stands : ℕ → Condact → Type 0
   Stands t c = Member (table_condacts g.game t) c × IsTrue (is_condact g.game c)
 

@@ -327,7 +327,7 @@ module _ (g : GameLists) (v : Valid g) (seed n : ℕ) where
 
   -- ---- all actions ----
 
-  -- A value of rows of bytes is a byte.
+  -- An answer among lists of bytes is a byte.
   pub value_small : (rows : List (List ℕ)) → All AreBytes rows → (m x y : ℕ) (row : Option (List ℕ)) → slice_get rows m ≡ row → value_in row x ≡ Some y → y < 256
   value_small rows bytes m x y None e is = cc
   value_small rows bytes m x y (Some row) e is =

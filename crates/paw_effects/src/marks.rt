@@ -1,4 +1,4 @@
-// The marks that stand for what a game shows or plays besides its text. Where nothing is printed the empty text is
+// The signs that stand for what a game shows or plays besides its text. Where nothing is printed the empty text is
 // pushed, whose clause gives the proof that the piece fits.
 
 ghost use Rattle.paw_base.specs.inner.Condacts.{IsCode};
@@ -20,7 +20,7 @@ fn print_parameter(piece: &mut Piece, kind: ParamKind, number: u8) -> bool
     }
 }
 
-/// Prints the mark of a condact.
+/// Prints the sign of a condact.
 pub(crate) fn print_mark(piece: &mut Piece, c: Condact) -> bool
     requires code { IsCode c.code }
     ensures puts { Puts piece.old piece.new result (mark_text c) }

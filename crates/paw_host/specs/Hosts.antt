@@ -45,12 +45,12 @@ Hosts g seed first old new _ = ⊥
 abbrev pub Holds : Standing → Name → GameLists → Type 0
 Holds s name g = (bytes : Bytes) × (s.files name ≡ Some bytes) × IsImage bytes g
 
--- The file of this name holds no image of a valid game; the first rule that its bytes break is broken at this place.
+-- The file of this name holds no image of a valid game; the first rule that its bytes break is broken at this offset.
 abbrev pub HoldsDamage : Standing → Name → ℕ → Type 0
 HoldsDamage s name at = (bytes : Bytes) × (s.files name ≡ Some bytes) × ((g : GameLists) → ¬ IsImage bytes g)
     × (bad bytes ≡ Some at)
 
--- How hosting the game of an image file ends, with these rows of routines, whatever sessions there are; or why it
+-- How hosting the game of an image file ends, with these answers of routines, whatever sessions there are; or why it
 -- isn't hosted, with nothing changed.
 pub data HostsFile (rows : RoutineRows) (name : Name) (seed : Seed) (old new : Standing) : HostOutcome → Type 0 where
   hosts : (g : GameLists) (o : HostOutcome) → Holds old name g → Ends old new o →

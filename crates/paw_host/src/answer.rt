@@ -55,7 +55,7 @@ pub(crate) struct Opened {
     pub events: u64,
 }
 
-/// The word for a step that brings no piece.
+/// The word for a line that brings no piece.
 fn refusal_word(step: Step) -> Option<&'static [u8]>
     ensures value { MatchOption result (refusal_word_of step ≡ None) (λ w. refusal_word_of step ≡ Some w.now) }
     ensures short { IfSome result (λ w. length w.now ≤ 8) }

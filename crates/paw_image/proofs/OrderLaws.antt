@@ -121,7 +121,7 @@ starts_rise heads verb start end s e =
       | inr le ↦ le
     ]
 
--- Between which places the heads of a verb stand.
+-- Between which numbers the heads of a verb stand.
 pub record RunsAt (order : Order) (verb start end : ℕ) : Type 0 where
   pub starts : IsStart order.heads.items verb start
   pub ends : IsStart order.heads.items (verb + 1) end
@@ -180,7 +180,7 @@ module _ (heads : List Head) (r : Rises heads) (verb start end : ℕ) (s : IsSta
 
 module _ (heads : List Head) (verb noun from at : ℕ) (r : Rises heads) (verbs : All (λ h. h.verb ≡ verb) heads)
     (parted : IsPartitionPoint (λ h. ltb (rank h) (ranked verb noun from) ≡ true) (λ h. ltb (rank h) (ranked verb noun from) ≡ false) heads at) where
-  -- A match stands not before the place that was searched for.
+  -- A match stands not before the number that was searched from.
   pub not_before : (e : ℕ) (m : IsMatch heads (λ h. eqb h.noun noun) from e) → at ≤ m.is.0
   not_before e m =
       elim (cases_lt m.is.0 at) [

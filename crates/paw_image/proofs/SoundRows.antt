@@ -1,4 +1,4 @@
--- Each row: the bytes that it passes are read as a row that keeps its rule.
+-- Each row: the bytes that it passes are read as a row that follows its rule.
 use Rattle.std.proofs.Common.{◌≡◌, ℕ, zero, suc, ◌+◌, ◌<◌, ◌&&◌, ◌||◌, Bool, true, false, not, ltb}
 use Rattle.std.proofs.Common.{leb, eqb, List, [], ◌∷◌, length, Ok, refl, sym, ap, ◌∙◌, arith}
 use Rattle.std.specs.Prelude.{bit_and}

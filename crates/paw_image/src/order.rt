@@ -44,7 +44,7 @@ fn rank(head: &Head) -> u32
     rank_of_entry(head.verb, head.noun, head.entry)
 }
 
-/// The byte at a place; 0 past the end.
+/// The byte at an offset; 0 past the end.
 fn byte_at(bytes: &[u8], place: usize) -> u8
     ensures value { result ≡ slice_index bytes.now place }
 {
@@ -136,7 +136,7 @@ fn run_of(order: &Order, verb: u8) -> &[Head]
     &order.heads[start..end]
 }
 
-/// The place of the first head whose rank isn't below this one.
+/// The number of the first head whose rank isn't below this one.
 fn index_of_rank(run: &[Head], least: u32) -> usize
     requires rises { Rises run.now }
     ensures parts { IsPartitionPoint (λ h. nat_lt (rank h) least ≡ true) (λ h. nat_lt (rank h) least ≡ false)

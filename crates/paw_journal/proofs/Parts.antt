@@ -54,7 +54,7 @@ put_end at new old h =
     ap (λ l. (take at old ++ new) ++ l) (drop_all (at + length new) old (omega arith))
     ∙ (append-nil (take at old ++ new) ∙ ap (λ l. l ++ new) (take_all at old (omega arith)))
 
--- what stands from the place of a write on
+-- what stands from the offset of a write on
 pub drop_put : (at : ℕ) (new old : List ℕ) → at ≤ length old → drop at (put at new old) ≡ new ++ drop (at + length new) old
 drop_put at new old low =
     ap (drop at) (append_assoc (take at old) new (drop (at + length new) old))

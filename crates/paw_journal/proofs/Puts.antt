@@ -33,7 +33,7 @@ stretch_written at new old low = ap (take (length new)) (drop_put at new old low
     refl_length : length new ≡ length new
     refl_length = omega arith
 
--- Bytes that are written at a place stand after what stood before it.
+-- Bytes that are written at an offset stand after what stood before it.
 pub stretch_behind : (s m at : ℕ) (new old : List ℕ) → at ≡ s + m → at + length new ≤ length old →
     stretch s (m + length new) (put at new old) ≡ stretch s m old ++ new
 stretch_behind s m at new old e long =

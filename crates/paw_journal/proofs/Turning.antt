@@ -66,7 +66,7 @@ differing-append [] (z ∷ b) x y e = absurd (omega arith)
 differing-append (w ∷ a) [] x y e = absurd (omega arith)
 differing-append (w ∷ a) (z ∷ b) x y e = omega (arith, differing-append a b x y (omega arith))
 
--- the change records from one place on, where the bytes there are the same or differ
+-- the change records from one offset on, where the bytes there are the same or differ
 difference_step : (old new : List ℕ) (i : ℕ) → length old ≡ length new → i < length old → (t : Bool) →
     (get_or old i 0 == get_or new i 0) ≡ t →
     differences_from i (drop i old) (drop i new)

@@ -134,7 +134,7 @@ fn header_in(bytes: &[u8; HEADER_LENGTH]) -> Result<Header, JournalRefusal>
     })
 }
 
-// The digest that stands in a header at this place.
+// The digest that stands in a header at this offset.
 fn digest_at(bytes: &[u8; HEADER_LENGTH], at: usize) -> [u8; DIGEST_LENGTH]
     requires inside { at + 32 ≤ header_length }
     ensures value { result ≡ stretch at 32 bytes.now }

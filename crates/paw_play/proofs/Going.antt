@@ -27,7 +27,8 @@ use Rattle.paw_play.specs.Session.{kept_bytes, IsKept}
 use Rattle.paw_play.specs.Stands.{Stands, since_piece, ending_since, reading_since}
 use Rattle.paw_play.specs.Played.{ShowsState, going_on}
 
--- where a reading stops its state keeps the rules, and nothing of a piece is open; so much was read in each closed piece
+-- where a reading stops its state follows the rules, and nothing of a piece is open; so much was read in each closed
+-- piece
 pub record Settles (g : GameLists) (n : ℕ) (p : Prompt) (path : List Frame) (r : Run) : Type 0 where
   pub keeps : IsValidState g (state_at n p path r)
   pub fits : FitsFields (state_at n p path r)

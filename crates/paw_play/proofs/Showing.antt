@@ -65,7 +65,7 @@ position_from : (g : GameLists) (n : ℕ) (o : Option Position) → n ≡ length
 position_from g n None same alike placed holds = tt
 position_from g n (Some q) same alike placed holds = record { flags = alike.flags; bytes = holds.0; each = alike.places ∙ same; places = placed }
 
--- the world of a state that keeps the rules is one of the game
+-- the world of a state that follows the rules is one of the game
 world_of : (g : GameLists) (s : State) → IsValidState g s → FitsFields s → IsWorldOf g s.world
 world_of g s k fits =
     let places = (each_of g s k).places in

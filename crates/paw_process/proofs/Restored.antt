@@ -1,4 +1,4 @@
--- Kept places that keep their rules.
+-- Kept frames that follow their rules.
 use Rattle.std.proofs.Common.{◌≡◌, ℕ, zero, suc, ◌-◌, ◌≤◌, ◌<◌, Bool, true, false, ◌&&◌, List, [], ◌∷◌}
 use Rattle.std.proofs.Common.{Option, Some, None, refl, length, take, reverse, slice_get, arith}
 use Rattle.std.specs.Prelude.{◌==◌, if◌then◌else◌, nat_lt}
@@ -27,7 +27,7 @@ use Rattle.paw_process.specs.declared.kept.Frames.{Frames}
 use Rattle.paw_process.specs.inner.OpenTables.{below, IsAtCondact, AtCondacts, InTable, IsLoopWithin, LoopFits}
 use Rattle.paw_process.specs.inner.OpenTables.{IsWaiting, IsClosed}
 
--- the rows one by one
+-- the frames one by one
 pub rows_none : (g : GameLists) (code : ℕ) (caller : Option ℕ) (n d : ℕ) (rows : List Frame) → length rows ≡ 0 → None ≡ rows_fault g code caller n d rows
 unfolding rows_fault
 rows_none g code caller n d [] h = refl
@@ -44,7 +44,7 @@ pub rows_later : (g : GameLists) (code : ℕ) (caller : Option ℕ) (n d : ℕ) 
 unfolding rows_fault
 rows_later g code caller n d rows f fs e h = rw (e, h) refl
 
--- a row that is used stands at a condact
+-- a frame that is used stands at a condact
 coded : (g : GameLists) (f : Frame) (code : ℕ) (o : Option Condact) → Valid g → condact_at_frame g f ≡ o → has_code code o ≡ true → IsAtCondact f
 coded g f code None v e h = cc
 coded g f code (Some c) v e h = record {

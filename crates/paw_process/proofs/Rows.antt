@@ -1,4 +1,4 @@
--- The rows of the machine, as a list with the innermost first.
+-- The frames of the machine, as a list with the innermost first.
 use Rattle.std.proofs.Common.{◌≡◌, ℕ, zero, suc, ◌-◌, ◌≤◌, ◌<◌, false, List, [], ◌∷◌, ◌++◌, Option, length}
 use Rattle.std.proofs.Common.{take, drop, replicate, reverse, slice_set, refl, ap, ◌∙◌, subst, arith}
 use Rattle.std.specs.Option.{option_map}

@@ -19,7 +19,7 @@ use std::alloc::Global;
 use std::marker::Model;
 
 /// What was done: a file was put there between the calls, or a call loaded, saved, attached a store, read it, wrote to
-/// it from a place on, synced it, took a line, found no line left, or showed a text.
+/// it from an offset on, synced it, took a line, found no line left, or showed a text.
 #[derive(Clone, Copy, Drop, PartialEq, Eq, Debug)]
 pub enum CallKind {
     Add,
@@ -164,7 +164,7 @@ impl Log {
         store_len(self.calls.as_slice(), self.room.as_slice())
     }
 
-    /// Fills a slice with bytes of the attached store from a place on.
+    /// Fills a slice with bytes of the attached store from an offset on.
     pub fn read_store(&self, at: usize, into: &mut [u8])
         requires attached { IsSome (after fresh self.now.calls).attached }
         requires within { at + length into.old ≤ length (after fresh self.now.calls).disk.bytes }

@@ -61,7 +61,7 @@ machine_sound g code k h = go (count_fits code k.count) refl h
         record { count = e; rows = p.0; turning = p.1 }
     go false e q = cc
 
--- ---- fields without a fault say a state that keeps its rules ----
+-- ---- fields without a fault say a state that follows its rules ----
 
 objects_length : (g : GameLists) (places : List ℕ) → Valid g → length places ≡ 255 → length (take (length g.objects) places) ≡ length g.objects
 objects_length g places v size = omega (arith, length-take (length g.objects) places, few_objects g v)
@@ -134,7 +134,7 @@ keeps_in g f v z s = record {
   pending = line_kept (waiting_code (prompt_of f.prompt)) f.pending f.line s.pending;
 }
 
--- ---- the fields of a state that keeps its rules have no fault ----
+-- ---- the fields of a state that follows its rules have no fault ----
 
 places_sound : (g : GameLists) (at : ℕ) (places : List ℕ) → length places ≡ length g.objects → ArePlacesOf g places
     → places_fault g at (filled 255 places) ≡ None

@@ -39,7 +39,7 @@ one_fault g bytes at u =
     sym (take-append-drop STATE_LENGTH bytes) ∙ ap (λ (l : List ℕ). l ++ drop STATE_LENGTH bytes) (u.are ∙ bytes_same u.fields) in
     ap (fields_fault g) (ap fields_at split ∙ fields_cut u.fields (drop STATE_LENGTH bytes) u.sized) ∙ u.fault
 
--- a fault of the fields at their places is the one of the bytes
+-- a fault of the fields at their offsets is the one of the bytes
 pub is_unfit : (g : GameLists) (bytes : List ℕ) (at : ℕ) → STATE_LENGTH ≤ length bytes → AreBytes bytes → unfit g bytes ≡ Some at → Unfit g bytes at
 is_unfit g bytes at n b h = record { fields = fields_at bytes; sized = sized_at bytes n b; are = sym (fields_join bytes n b) ∙ sym (bytes_same (fields_at bytes)); fault = h }
 

@@ -12,7 +12,7 @@ use Rattle.paw_state.specs.State.{AreBytes}
 abbrev pub kept_place : ℕ → ℕ
 kept_place n = KEPT + HELD_LENGTH * n
 
--- ---- what stands at a place of bytes ----
+-- ---- what stands at an offset of bytes ----
 
 -- the range that these bytes fill
 pub range_is : (bytes x q : List ℕ) (at n : ℕ) → drop at bytes ≡ x ++ q → length x ≡ n → slice_range bytes at (at + n) ≡ x

@@ -1,4 +1,4 @@
--- What a session keeps of a game that is played, its fields and bytes, and the rules that it keeps.
+-- What a session keeps of a game that is played, its fields and bytes, and the rules that it follows.
 use Rattle.std.specs.Prelude.{◌≡◌, ℕ, ◌-◌, ◌^◌, ◌<◌, ◌≤◌, ◌++◌, Option, Some, None, length, map, is_some, All, IfSome}
 use Rattle.std.specs.Prelude.{if◌then◌else◌}
 use Rattle.std.specs.Option.{unwrap_or}
@@ -81,7 +81,7 @@ state_bytes s = bytes_of (state_fields (fields_of s))
 -- ---- its rules ----
 
 -- The rules of a state: the world is the game's, and sound; there are eleven rows for open tables; at most 255 bytes
--- are pending; and each of its fields keeps its rule.
+-- are pending; and each of its fields follows its rule.
 pub record IsValidState (g : GameLists) (s : State) : Type 0 where
   pub world : IsOf g s.world
   pub sound : IsWorld s.world

@@ -30,7 +30,7 @@ use paw_reading::places::OpenLoop;
 /// The most random words that may be drawn in a piece.
 const MOST_DRAWS: u64 = READ_LIMIT as u64;
 
-/// Names this place as a fault, unless the rule holds.
+/// Names this offset as a fault, unless the rule holds.
 fn rule(at: usize, holds: bool) -> Result<(), StateFault>
     ensures value { fault_of result ≡ rule at holds }
 {
@@ -97,7 +97,7 @@ fn check_held<T: Tables>(tables: &T, at: usize, held: &PositionField) -> Result<
     }
 }
 
-/// Checks these positions, the first of which stands at this place.
+/// Checks these positions, the first of which stands at this offset.
 fn check_kept<T: Tables>(tables: &T, at: usize, kept: &[PositionField]) -> Result<(), StateFault>
     requires near { at + HELD_LENGTH * length kept.now ≤ STATE_ROOM }
     ensures value { fault_of result ≡ kept_fault (T.game tables.now) at kept.now }
@@ -189,7 +189,7 @@ fn check_row<T: Tables>(
     }
 }
 
-/// Checks these rows, the first of which stands at this place.
+/// Checks these rows, the first of which stands at this offset.
 fn check_rows<T: Tables>(
     tables: &T,
     code: u8,

@@ -33,7 +33,7 @@ use Rattle.paw_top.specs.declared.outcome.Outcome.{Outcome}
 use Rattle.paw_top.specs.declared.outcome.Outcome.TheVariants as outcome
 use Rattle.paw_top.specs.declared.outcome.MemoryAt.{MemoryAt}
 
--- where no count of faults rose, but maybe that of loads that found no file, only such a load may have failed
+-- where no count of failures rose, but maybe that of loads that found no file, only such a load may have failed
 only_absent : (failed : Option StageCall) (first last : StageCall → ℕ) → CountsFailure failed first last → NoFailure first last →
     IfSome failed (λ c. c ≡ call.LoadAbsent)
 only_absent None first last out none = tt

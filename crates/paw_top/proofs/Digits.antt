@@ -68,7 +68,7 @@ item_begins p d n h =
     ∙ slash_step p d (decimal n) [] (rw (plain-item n h) refl)
     ∙ ap (λ x. slash_line d (47 ∷ decimal n) x []) (number-decimal n h)
 
--- a printed number that keeps a rule
+-- a printed number that follows a rule
 pub number_with-decimal : (rule : ℕ → Bool) (n : ℕ) (ts : List (List ℕ)) → n ≤ 65535 → rule n ≡ true → number_with rule (decimal n ∷ ts) ≡ Ok (n, ts)
 number_with-decimal rule n ts h keeps = rw (number-decimal n h, keeps) refl
 

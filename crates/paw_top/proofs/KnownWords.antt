@@ -91,7 +91,7 @@ found_word p (v ∷ vs) w rise h =
 
 -- ---- words of a game ----
 
--- words that keep their rules
+-- words that follow their rules
 pub record Words (ws : List Word) : Type 0 where
   pub all : list_all is_word ws ≡ true
   pub rise : words_rise ws ≡ true

@@ -100,7 +100,7 @@ commands =
 -- ---- what they mean ----
 
 -- What a command means: the calls of the stage that it makes; where memory may be lacking for it; how it ends with
--- these rows of routines, and what it leaves; and what stands at each moment.
+-- these answers of routines, and what it leaves; and what stands at each moment.
 pub record CommandMeaning : Type 1 where
   pub calls : List StageCall
   pub memory : List MemoryAt

@@ -51,7 +51,7 @@ first_is [] count t some h = cc
 first_is (f ∷ fs) zero t some h = absurd (omega arith)
 first_is (f ∷ fs) (suc n) t some h = eqb-true t f.table h
 
--- a loop that keeps its rule belongs to the table of its level
+-- a loop that follows its rule belongs to the table of its level
 first_loop : (g : GameLists) (k : Frames) (o : Option OpenLoop) → loop_fault g k o ≡ None → IsLoopOf (first_table (take k.count k.rows)) o
 first_loop g k None h = tt
 first_loop g k (Some l) h = go (loop_stands g k l) refl h
@@ -129,7 +129,7 @@ module _ {F : Type 0} (p : PlayerView F) (seated : IsSeated p) (standing : IsSta
     rightly = seated.rightly standing;
   }
 
-  -- its places are never refused
+  -- its frames are never refused
   pub places_kept : frames_fault p.game (prompt_at p.last) (kept p.machine) ≡ None
   places_kept =
       places_fit p.game (waiting_code (prompt_at p.last)) (reverse p.machine.frames) p.machine.turning (seated.rightly standing).places

@@ -32,7 +32,7 @@ use Rattle.paw_turn.specs.inner.Phases.{seat_of, turn_settled}
 use Rattle.paw_turn.specs.inner.Player.{PlayerView, PlaysTo, StandsClosed, StandsAt, WaitsIn, StandRightly, IsSeated}
 use Rattle.paw_turn.specs.inner.Player.{IsStanding, prompt_at, run_at, run_with}
 
--- rows that stand for routines make a story of a valid game
+-- Answers that stand for routines make a story of a valid game
 pub valid_story : {F : Type 0} (calls : Shared F (ℕ × (ℕ × Unit {0})) ℕ) (routines : Routines F) (g : GameLists) (X : List (List ℕ)) → Valid g
     → AreRowsOf calls routines X → ValidStory (story_of g X)
 valid_story calls routines g X v rows = record { game = v; whole = rows.whole; bytes = rows.bytes }

@@ -28,7 +28,7 @@ pub enum Step {
     TooDeep { table: u8 },
 }
 
-/// The step of a player whose play this halt has ended.
+/// What a line brought to a player whose play this halt has ended.
 pub(crate) fn step_of(halt: Halt) -> Step
     ensures value { result ≡ step_of halt }
 {
@@ -39,7 +39,7 @@ pub(crate) fn step_of(halt: Halt) -> Step
     }
 }
 
-/// The halt that this step is. None where the player waits for a line.
+/// The halt that a line brought. None where the player waits for a line.
 pub fn halt_of(step: Step) -> Option<Halt>
     ensures value { result ≡ step_halt step }
 {

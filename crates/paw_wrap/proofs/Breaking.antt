@@ -35,7 +35,7 @@ step w at before b bs =
       ] refl
     ] refl
 
--- Places move with the place at which the text begins.
+-- Offsets move with the offset at which the text begins.
 pub breaks_from-suc : (w at before : ℕ) (text : List ℕ) → breaks_from w (suc at) before text ≡ map suc (breaks_from w at before text)
 unfolding breaks_from
 breaks_from-suc w at before [] = refl

@@ -28,7 +28,7 @@ use Rattle.paw_host.specs.Replies.{NamedSession, Absent, At, Answer, begun_answe
 use Rattle.paw_host.specs.Promise.{Stores, LeftOfMaking}
 use Rattle.paw_host.specs.declared.answer.Opened.{Opened}
 
--- The word for a step that brings no piece.
+-- The word for a line that brings no piece.
 abbrev pub refusal_word_of : Step → Option Text
 refusal_word_of (step.Waits p) = None
 refusal_word_of step.Ended = None

@@ -19,7 +19,7 @@ abbrev pub AreMarks : List ℕ → ℕ → Bytes → Type 0
 AreMarks marks count condacts =
     (k : ℕ) → suc k * 8 < count → (mark : ℕ) × (slice_get marks k ≡ Some mark) × GoesOnAt (suc k * 8) condacts mark
 
--- Every number of a list stands in another list at the same place.
+-- Another list begins with all numbers of a list.
 abbrev pub BeginsWithList : (old new : List ℕ) → Type 0
 BeginsWithList old new = (k x : ℕ) → slice_get old k ≡ Some x → slice_get new k ≡ Some x
 

@@ -38,12 +38,12 @@ pub record Rises (heads : List Head) : Type 0 where
   pub small : All IsSmall heads
   pub rises : IsNonDecreasingBy rank heads
 
--- Before this place stand the heads with a verb below this one, and no others.
+-- Before this number stand the heads with a verb below this one, and no others.
 pub record IsStart (heads : List Head) (verb start : ℕ) : Type 0 where
   pub within : start ≤ length heads
   pub parts : IsPartitionPoint (λ h. h.verb < verb) (λ h. verb ≤ h.verb) heads start
 
--- There is such a place for each verb, and one after the last.
+-- There is such a number for each verb, and one after the last.
 pub record AreStarts (heads : List Head) (starts : List ℕ) : Type 0 where
   pub long : length starts ≡ 257
   pub each : (verb : ℕ) → verb ≤ 256 → IsStart heads verb (slice_index starts verb)

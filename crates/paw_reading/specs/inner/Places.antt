@@ -68,7 +68,7 @@ abbrev pub AreOpenAt : GameLists → Option ℕ → List Frame → Option OpenLo
 AreOpenAt g None path turning = (path ≡ []) × (turning ≡ None)
 AreOpenAt g (Some code) path turning = AreOpenTo g code path turning
 
--- The places of a run that waits at this prompt, or is over: in tables it waits at the prompt's condact.
+-- The frames and the loop of a run that waits at this prompt, or is over: in tables it waits at the prompt's condact.
 abbrev pub AreFramesAndLoop : GameLists → Prompt → List Frame → Option OpenLoop → Type 0
 AreFramesAndLoop g p path turning = AreOpenAt g (waiting_code p) path turning
 

@@ -1,4 +1,4 @@
--- The first fault of a state's fields, part by part, each at its place: words that contracts of checks and proofs use.
+-- The first fault of a state's fields, part by part, each at its offset: words that contracts of checks and proofs use.
 -- specs/Fields.antt says the same in one list.
 use Rattle.std.specs.Prelude.{ℕ, suc, ◌+◌, ◌-◌, ◌*◌, ◌==◌, ◌||◌, Bool, List, [], ◌∷◌, Option, Some, None, Result, Ok}
 use Rattle.std.specs.Prelude.{Err}
@@ -28,7 +28,7 @@ use Rattle.paw_state.specs.Fields.{prompt_of as listed_prompt}
 
 -- ---- rules and faults ----
 
--- None where the rule of a field holds; otherwise the place of the field.
+-- None where the rule of a field holds; otherwise the offset of the field.
 abbrev pub rule : ℕ → Bool → Option ℕ
 rule at holds = if holds then None else Some at
 
@@ -37,7 +37,7 @@ abbrev pub first : List (Option ℕ) → Option ℕ
 first [] = None
 first (o ∷ later) = option_or o (first later)
 
--- The place of the first byte that breaks this rule, where the first byte stands at this place.
+-- The offset of the first byte that breaks this rule, where the first byte stands at this offset.
 unfoldable pub first_not : (ℕ → Bool) → ℕ → List ℕ → Option ℕ
 first_not p at [] = None
 first_not p at (b ∷ bs) = if p b then first_not p (suc at) bs else Some at
@@ -70,7 +70,7 @@ held_fault g at h = first (
     ∷ (if h.there == 0 then absent_fault at h else places_fault g (at + HELD_PLACES) h.places)
     ∷ [])
 
--- The first fault of positions that stand one after the other from this place on.
+-- The first fault of positions that stand one after the other from this offset on.
 unfoldable pub kept_fault : GameLists → ℕ → List PositionField → Option ℕ
 kept_fault g at [] = None
 kept_fault g at (h ∷ hs) = option_or (held_fault g at h) (kept_fault g (at + HELD_LENGTH) hs)
@@ -128,7 +128,7 @@ row_fault g code caller n at r =
 abbrev pub called_table : GameLists → FrameField → Option ℕ
 called_table g r = Some (parameter_of (condact_at g r.table r.entry r.at))
 
--- The first fault of rows that stand from this place on, of which n are used, the first of them of the table that was
+-- The first fault of rows that stand from this offset on, of which n are used, the first of them of the table that was
 -- called.
 unfoldable pub row_fields_fault : GameLists → ℕ → Option ℕ → ℕ → ℕ → List FrameField → Option ℕ
 row_fields_fault g code caller n at [] = None
@@ -175,7 +175,7 @@ pending_fault f = first (
     ∷ first_not is_zero (LINE + f.pending) (drop f.pending f.line)
     ∷ [])
 
--- The place of the first field that breaks its rule, in the order of the fields, with one exception: the number of
+-- The offset of the first field that breaks its rule, in the order of the fields, with one exception: the number of
 -- lines is looked at before the number of words drawn.
 abbrev pub parts_fault : GameLists → Fields → Option ℕ
 parts_fault g f = first (
@@ -191,7 +191,7 @@ parts_fault g f = first (
 
 -- ---- of the list of fields ----
 
--- The place of the first field that breaks its rule.
+-- The offset of the first field that breaks its rule.
 abbrev pub fields_fault : GameLists → Fields → Option ℕ
 fields_fault g f = fault_from g 0 (state_fields f)
 
@@ -201,7 +201,7 @@ inside f = waiting_code (listed_prompt f.prompt)
 
 -- ---- what checks answer ----
 
--- What a check answers: a fault is the place of the field that breaks a rule.
+-- What a check answers: a fault is the offset of the field that breaks a rule.
 abbrev pub fault_of : Result (Unit {0}) StateFault → Option ℕ
 fault_of (Ok u) = None
 fault_of (Err e) = Some e.at

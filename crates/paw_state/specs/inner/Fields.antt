@@ -62,11 +62,11 @@ field_bytes f = concat (
 
 -- ---- from bytes to fields ----
 
--- The number in the two bytes from a place on.
+-- The number in the two bytes from an offset on.
 abbrev pub two_at : Bytes → ℕ → ℕ
 two_at bytes at = from_le_bytes w16 (slice_range bytes at (at + 2))
 
--- The number in the eight bytes from a place on.
+-- The number in the eight bytes from an offset on.
 abbrev pub eight_at : Bytes → ℕ → ℕ
 eight_at bytes at = from_le_bytes w64 (slice_range bytes at (at + 8))
 
@@ -92,7 +92,7 @@ unfoldable pub rows_at : ℕ → Bytes → List FrameField
 rows_at zero bytes = []
 rows_at (suc n) bytes = row_at bytes ∷ rows_at n (drop ROW_LENGTH bytes)
 
--- The fields in these bytes, each at its place.
+-- The fields in these bytes, each at its offset.
 abbrev pub fields_at : Bytes → Fields
 fields_at bytes = record {
   flags = slice_range bytes FLAGS PLACES;

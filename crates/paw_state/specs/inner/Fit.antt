@@ -12,7 +12,7 @@ use Rattle.paw_state.specs.State.{state_bytes}
 use Rattle.paw_state.specs.inner.Faults.{fields_fault}
 use Rattle.paw_state.specs.inner.Fields.{fields_at}
 
--- The place of the first field that breaks its rule; none where the bytes are fit.
+-- The offset of the first field that breaks its rule; none where the bytes are fit.
 abbrev pub unfit : GameLists → Bytes → Option ℕ
 unfit g bytes = fields_fault g (fields_at bytes)
 
@@ -20,8 +20,8 @@ unfit g bytes = fields_fault g (fields_at bytes)
 abbrev pub state_read : Restored → State
 state_read r = state_of r.world r.machine r.pending r.prompt r.events r.piece
 
--- Parts that were read from bytes: the bytes are those of their state, which keeps its rules; the machine waits at the
--- prompt with a full budget.
+-- Parts that were read from bytes: the bytes are those of their state, which follows its rules; the machine waits at
+-- the prompt with a full budget.
 pub record IsRead (g : GameLists) (bytes : Bytes) (r : Restored) : Type 0 where
   pub are : take STATE_LENGTH bytes ≡ state_bytes (state_read r)
   pub keeps : IsValidState g (state_read r)

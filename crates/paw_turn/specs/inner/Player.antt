@@ -28,13 +28,13 @@ use Rattle.paw_turn.specs.declared.Step.TheVariants as step
 
 -- ---- steps ----
 
--- The step of a player whose play this halt has ended.
+-- What a line brought to a player whose play this halt has ended.
 abbrev pub step_of : Halt → Step
 step_of halt.Over = step.Ended
 step_of (halt.Spent kind) = step.Spent kind
 step_of (halt.TooDeep u) = step.TooDeep u
 
--- The halt that a step is; none where the player waits.
+-- The halt that a line brought; none where the player waits.
 abbrev pub step_halt : Step → Option Halt
 step_halt (step.Waits p) = None
 step_halt step.Ended = Some halt.Over
