@@ -20,23 +20,23 @@ use Rattle.paw_host.specs.inner.Opens.{ReadsImage, ReadsNoImage, OpensNone}
 
 -- ---- what loading cuts off ----
 
--- bytes of which at most the limit and one more were taken, and of these no more than the limit
+-- Bytes of which at most the limit and one more were taken, and of these no more than the limit.
 short_enough : (bytes : List ℕ) → length (take (IMAGE_LIMIT + 1) bytes) ≤ IMAGE_LIMIT
     → (length bytes ≤ IMAGE_LIMIT) ⊎ (IMAGE_LIMIT + 1 ≤ length bytes) → length bytes ≤ IMAGE_LIMIT
 short_enough bytes h (inl k) = k
 short_enough bytes h (inr k) = absurd (omega (arith, h, length-take-le (IMAGE_LIMIT + 1) bytes k))
 
--- a number is at most another, or above it
+-- A number is at most another, or above it.
 in_order : (n m : ℕ) → (n ≤ m) ⊎ (m + 1 ≤ n)
 in_order n m = grind arith
 
--- the image that was loaded is the file
+-- The image that was loaded is the file.
 loaded_image : (given bytes : List ℕ) (g : GameLists) → given ≡ take (IMAGE_LIMIT + 1) bytes → IsImage given g → IsImage bytes g
 loaded_image given bytes g e h =
     let short : length bytes ≤ IMAGE_LIMIT = short_enough bytes (subst (λ b. length b ≤ IMAGE_LIMIT) e h.short) (in_order (length bytes) IMAGE_LIMIT) in
     subst (λ b. IsImage b g) (e ∙ take_all (IMAGE_LIMIT + 1) bytes (omega (arith, short))) h
 
--- what was loaded is no image, and so the file is none
+-- What was loaded is no image, and so the file is none.
 loaded_none : (given bytes : List ℕ) → given ≡ take (IMAGE_LIMIT + 1) bytes → ((g : GameLists) → ¬ IsImage given g) → (g : GameLists) → ¬ IsImage bytes g
 loaded_none given bytes e none g h = none g (subst (λ b. IsImage b g) (sym (e ∙ take_all (IMAGE_LIMIT + 1) bytes (omega (arith, h.short)))) h)
 
@@ -47,13 +47,13 @@ bad_whole bytes at h (inr k) =
     over_is_bad bytes (omega (arith, k))
     ∙ sym (over_is_bad (take (IMAGE_LIMIT + 1) bytes) (omega (arith, length-take-le (IMAGE_LIMIT + 1) bytes k))) ∙ h
 
--- the first damage of what was loaded is that of the file
+-- The first damage of what was loaded is that of the file.
 loaded_bad : (given bytes : List ℕ) (at : ℕ) → given ≡ take (IMAGE_LIMIT + 1) bytes → bad given ≡ Some at → bad bytes ≡ Some at
 loaded_bad given bytes at e h = bad_whole bytes at (subst (λ b. bad b ≡ Some at) e h) (in_order (length bytes) IMAGE_LIMIT)
 
 -- ---- the file ----
 
--- it holds the game of the bytes that were loaded
+-- It holds the game of the bytes that were loaded.
 pub holds_loaded : (name given bytes : List ℕ) (old new : Standing) (g : GameLists) → bytes ≡ given → ReadsImage name old new given → IsImage bytes g →
     Holds old name g
 holds_loaded name given bytes old new g e f h = (f.0, f.1, loaded_image given f.0 g f.2 (subst (λ b. IsImage b g) e h))
@@ -61,7 +61,7 @@ holds_loaded name given bytes old new g e f h = (f.0, f.1, loaded_image given f.
 same_file : (file : Option (List ℕ)) (a b : List ℕ) → file ≡ Some a → file ≡ Some b → a ≡ b
 same_file file a b h k = cc
 
--- it is the image of one game
+-- It is the image of one game.
 pub same_story : (old : Standing) (name : List ℕ) (g k : GameLists) (rows : List (List ℕ)) → Holds old name g → Holds old name k →
     story_of g rows ≡ story_of k rows
 same_story old name g k rows h i =
@@ -69,7 +69,7 @@ same_story old name g k rows h i =
 
 -- ---- how hosting ends ----
 
--- a load that gives nothing
+-- A load that gives nothing.
 pub unloaded : (rows : List (List ℕ)) (name : List ℕ) (seed : ℕ) (old new : Standing) (o : HostOutcome) → ReadsNoImage name old new o →
     HostsFile rows name seed old new o
 unloaded rows name seed old new (outcome.Outside call.LoadAbsent) h = absent h.0 h.1
@@ -77,7 +77,7 @@ unloaded rows name seed old new (outcome.Outside call.Load) h = failed h
 unloaded rows name seed old new outcome.Memory h = wanting h
 unloaded rows name seed old new _ h = absurd h
 
--- bytes that give no game
+-- Bytes that give no game.
 unopened : (rows : List (List ℕ)) (name given : List ℕ) (seed : ℕ) (old new : Standing) (o : HostOutcome) → ReadsImage name old new given → OpensNone given o →
     HostsFile rows name seed old new o
 unopened rows name given seed old new (outcome.ImageDamaged at) f h =
@@ -89,7 +89,7 @@ pub undecoded : (rows : List (List ℕ)) (name given bytes : List ℕ) (seed : �
     ReadsImage name old new given → OpensNone bytes o → HostsFile rows name seed old new o
 undecoded rows name given bytes seed old new o e f h = unopened rows name given seed old new o f (subst (λ b. OpensNone b o) e h)
 
--- a game that is hosted, at a stage where nothing has changed since the load
+-- A game that is hosted, at a stage where nothing has changed since the load.
 pub hosted : (rows : List (List ℕ)) (name : List ℕ) (seed : ℕ) (old mid new : Standing) (o : HostOutcome) (g : GameLists) → Holds old name g → mid ≡ old →
     Ends mid new o → ((first : Sessions) → BeginsWith (story_of g rows) first mid → Hosts (story_of g rows) seed first mid new o) → HostsFile rows name seed old new o
 hosted rows name seed old mid new o g holds still ends h =

@@ -12,7 +12,7 @@ use Rattle.std.proofs.Math.Bool.{and-true}
 use Rattle.std.proofs.lemmas.Str.Parse.{IsNumeralModel, numerals_by_value, parse_digits}
 use Rattle.paw_host.specs.Words.{seed_of}
 
--- what decimal digits alone make, and what they are worth
+-- What decimal digits alone make, and what they are worth.
 own : IsNumeralModel (λ ds. list_all is_ascii_digit ds ≡ true) (digits_value 10)
 own = numerals_by_value (λ ds. list_all is_ascii_digit ds ≡ true) (record {
   empty = refl;
@@ -21,7 +21,7 @@ own = numerals_by_value (λ ds. list_all is_ascii_digit ds ≡ true) (record {
   more = λ c cs k h. and_from (is_ascii_digit c) _ (and_from (leb 48 c) (leb c 57) (le-leb 48 c k.0) (le-leb c 57 k.1)) h;
 })
 
--- what a parse of that many digits gives, where a number below the limit is kept
+-- What a parse of that many digits gives, where a number below the limit is kept.
 kept_below : {E : Type 0} (limit n count : ℕ) (r : Result ℕ E) → OkIff r ((0 < count) × (n < limit)) n
     → result_ok r ≡ option_and_then (λ m. cond (ltb m limit) (Some m) None) (cond (ltb 0 count) (Some n) None)
 kept_below limit n count (Ok x) h = rw (h.1, lt-ltb 0 count h.0.0, lt-ltb n limit h.0.1) refl

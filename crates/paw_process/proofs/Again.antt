@@ -27,7 +27,7 @@ use Rattle.paw_process.specs.inner.Kept.{restored, waiting_at, WaitsAtPrompt}
 
 -- ---- the machine again ----
 
--- the frames of a path hold it
+-- The frames of a path hold it.
 pub path_again : (path : List Frame) (turning : Option OpenLoop) → take (length path) (frames_at path turning).rows ≡ path
 path_again path turning = take-append_seam path (replicate (11 - length path) unused)
 
@@ -65,7 +65,7 @@ unused_is f h =
     none_of f.table f.entry f.at f.acted (eqb-true f.table 0 (first_of (f.table == 0) _ h)) (eqb-true f.entry 0 (first_of (f.entry == 0) _ later))
     (eqb-true f.at 0 (first_of (f.at == 0) _ last)) (is_not f.acted (second (f.at == 0) _ last))
 
--- with no frame in use each is unused
+-- With no frame in use each is unused.
 none_used : (g : GameLists) (code : ℕ) (caller : Option ℕ) (d : ℕ) (rows : List Frame) → rows_fault g code caller 0 d rows ≡ None
     → rows ≡ replicate (length rows) unused
 unfolding rows_fault

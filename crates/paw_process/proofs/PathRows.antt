@@ -20,7 +20,7 @@ use Rattle.paw_process.specs.inner.Kept.{is_that_table}
 use Rattle.paw_process.specs.inner.Kept.{loop_fault}
 use Rattle.paw_process.proofs.Rows.{table_of}
 
--- frames that aren't used stand
+-- Frames that aren't used stand.
 pub unused_stand : (g : GameLists) (code : ℕ) (caller : Option ℕ) (d k : ℕ) → rows_fault g code caller 0 d (replicate k unused) ≡ None
 unfolding rows_fault
 unused_stand g code caller d zero = refl
@@ -37,7 +37,7 @@ row_goes : (g : GameLists) (code : ℕ) (caller : Option ℕ) (n d : ℕ) (f : F
 unfolding rows_fault
 row_goes g code caller n d f fs stands later = let m : suc n - 1 ≡ n = omega arith in rw (stands, m) later
 
--- a frame before the last that is used
+-- A frame before the last that is used.
 pub row_calls : (g : GameLists) (code : ℕ) (caller : Option ℕ) (n : ℕ) (f : Frame)
     → row_stands g code caller (suc (suc n)) f ≡ (may_open caller f.table && has_code 85 (condact_at_frame g f))
 row_calls g code caller n f =

@@ -33,7 +33,7 @@ later : (bytes x q : List ℕ) (xs : List (List ℕ)) (at n : ℕ) → drop at b
     → drop (at + n) bytes ≡ concat xs ++ q
 later bytes x q xs at n h k = behind bytes x (concat xs ++ q) at n (h ∙ append_assoc x (concat xs) q) k
 
--- numbers
+-- Numbers.
 two_cut : (bytes : List ℕ) (at n : ℕ) → slice_range bytes at (at + 2) ≡ two_bytes n → n < 2 ^ 16 → two_at bytes at ≡ n
 two_cut bytes at n h low = ap (from_le_bytes w16) h ∙ from_le_bytes-to_le_bytes_2 n low
 
@@ -95,7 +95,7 @@ record HasNumbers (bytes : List ℕ) (f : Fields) (q : List ℕ) : Type 0 where
   events : eight_at bytes EVENTS ≡ f.events
   after : drop PROMPT bytes ≡ q
 
--- three numbers, whatever their bytes are
+-- Three numbers, whatever their bytes are.
 numbers_cut : (bytes : List ℕ) (x y z q : List ℕ) → length x ≡ 8 → length y ≡ 8 → length z ≡ 8 → drop SEED bytes ≡ concat (x ∷ y ∷ z ∷ []) ++ q
     → (slice_range bytes SEED DRAWS ≡ x) × (slice_range bytes DRAWS EVENTS ≡ y) × (slice_range bytes EVENTS PROMPT ≡ z) × (drop PROMPT bytes ≡ q)
 numbers_cut bytes x y z q kx ky kz h0 =
@@ -240,7 +240,7 @@ kept_cut bytes f q s h = four_cut bytes q f.kept s.four s.kept h
 
 -- ---- all fields ----
 
--- fields, one by one
+-- Fields, one by one.
 abbrev rebuilt : Fields → Fields
 rebuilt f = record {
   flags = f.flags;

@@ -44,14 +44,14 @@ or_assoc : (a b c : Option ℕ) → option_or (option_or a b) c ≡ option_or a 
 or_assoc None b c = refl
 or_assoc (Some x) b c = refl
 
--- a rule, and then others
+-- A rule, and then others.
 ruled : (at : ℕ) (holds : Bool) (x y : Option ℕ) → x ≡ y → (if holds then x else Some at) ≡ option_or (rule at holds) y
 ruled at true x y e = e
 ruled at false x y e = refl
 
 -- ---- lists of fields ----
 
--- fields, and then others
+-- Fields, and then others.
 pub joined : (g : GameLists) (at : ℕ) (xs ys : List Field) →
     fault_from g at (xs ++ ys) ≡ option_or (fault_from g at xs) (fault_from g (at + length (bytes_of xs)) ys)
 unfolding fault_from
@@ -78,13 +78,13 @@ step g at n xs ys x y e k h =
 
 -- ---- bytes ----
 
--- bytes without a rule
+-- Bytes without a rule.
 pub free : (g : GameLists) (at i : ℕ) (bs : List ℕ) → fault_from g at (one_by_one (λ i b g. true) i bs) ≡ None
 unfolding fault_from one_by_one
 free g at i [] = refl
 free g at i (b ∷ bs) = free g (at + 1) (suc i) bs
 
--- bytes that have one rule from number n on
+-- Bytes that have one rule from number n on.
 behind : (g : GameLists) (h : ℕ → ℕ → GameLists → Bool) (q : ℕ → Bool) (n : ℕ) → ((i b : ℕ) → n ≤ i → h i b g ≡ q b)
     → (at i : ℕ) (bs : List ℕ) → n ≤ i → fault_from g at (one_by_one h i bs) ≡ first_not q at bs
 unfolding fault_from one_by_one first_not
@@ -93,7 +93,7 @@ behind g h q n e at i (b ∷ bs) low =
     let k : at + 1 ≡ suc at = add-one at in
     rw (e i b low, k) (ap (λ (o : Option ℕ). if q b then o else Some at) (behind g h q n e (suc at) (suc i) bs (omega (arith, low))))
 
--- bytes that have one rule up to number n, and another one from there on
+-- Bytes that have one rule up to number n, and another one from there on.
 pub parted : (g : GameLists) (h : ℕ → ℕ → GameLists → Bool) (p q : ℕ → Bool) (n : ℕ)
     → ((i b : ℕ) → suc i ≤ n → h i b g ≡ p b) → ((i b : ℕ) → n ≤ i → h i b g ≡ q b)
     → (m at i : ℕ) (bs : List ℕ) → i + m ≡ n
@@ -253,7 +253,7 @@ six_rules true true true true false h = refl
 six_rules true true true true true false = refl
 six_rules true true true true true true = refl
 
--- a row of this table
+-- A row of this table.
 table_same : (t : ℕ) (o : Option FrameField) → option_map_or (λ r. t == r.table) o false ≡ is_that_table (option_map (λ r. r.table) o) t
 table_same t None = refl
 table_same t (Some r) = refl
@@ -299,7 +299,7 @@ inside_same f = ap waiting_code (prompt_same f.prompt)
 
 -- ---- from each part on ----
 
--- the arrays have their lengths
+-- The arrays have their lengths.
 pub record HasLengths (f : Fields) : Type 0 where
   pub flags : length f.flags ≡ 256
   pub places : length f.places ≡ 255
@@ -349,7 +349,7 @@ rows_then g f s =
     (ap length (rows_same (unwrap_or (inside f) 0) (λ g. None) f.count f.rows) ∙ (length-rows f.rows ∙ ap (λ n. 5 * n) s.rows))
     (looping_faults g f s)
 
--- too many lines are looked at before the draws: their rule holds then
+-- Too many lines are looked at before the draws: their rule holds then.
 five_rules : (few drawn at count : Bool) (x : Option ℕ) →
     ◌≡◌ {A = Option ℕ} (if not few || drawn then (if few then (if at then (if count then x else Some COUNT) else Some PROMPT) else Some EVENTS) else Some DRAWS)
     (option_or (first (rule EVENTS few ∷ rule DRAWS drawn ∷ [])) (option_or (first (rule PROMPT at ∷ rule COUNT count ∷ [])) x))
@@ -393,6 +393,6 @@ faults_same g f s =
     ∙ ap (λ (o : Option ℕ). option_or places (option_or saved (option_or (numbers_fault f) (option_or (prompt_fault f) (option_or (frame_fields_fault g f)
     (option_or (open_loop_fault g f) (option_or (pending_fault f) o))))))) (sym (or_none kept)))
 
--- fields of which the arrays have their lengths
+-- Fields of which the arrays have their lengths.
 pub lengths_sized : (f : Fields) → AreSized f → HasLengths f
 lengths_sized f s = record { flags = s.flags; places = s.places; saved = s.saved; rows = s.rows; line = s.line; kept = s.kept }

@@ -63,7 +63,7 @@ loop_join bytes h b =
     (onto bytes (l.place ∷ []) (l.last ∷ []) LOOP_PLACE LOOP_LAST EARLIER (lit≤ tt) (lit≤ tt)
     (byte_range bytes LOOP_PLACE (omega arith)) (byte_range bytes LOOP_LAST (omega arith))))))
 
--- a position of 512 bytes
+-- A position of 512 bytes.
 held_join : (bytes : List ℕ) → HELD_LENGTH ≤ length bytes → held_bytes (held_at bytes) ≡ take HELD_LENGTH bytes
 unfolding held_bytes
 held_join bytes h =

@@ -97,7 +97,7 @@ frames_kept g f s =
     no_machine_fault g (waiting_code (prompt_of f.prompt)) (frames_in f) s.count
     (rows_sound g (unwrap_or (waiting_code (prompt_of f.prompt)) 0) None f.count ROWS 0 f.rows s.frames) (loop_sound g f s.turning)
 
--- the world that the fields say is a world
+-- The world that the fields say is a world.
 sound_in : (g : GameLists) (f : Fields) → Valid g → AreSized f → AreSound g f → IsWorld (state_in g f).world
 sound_in g f v z s =
     let each : length g.objects ≡ length (take (length g.objects) f.places) = sym (objects_length g f.places v z.places) in

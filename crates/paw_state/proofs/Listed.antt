@@ -64,7 +64,7 @@ rows_same code caller n (r ∷ rs) =
 pub loop_same : (f : Fields) (l : OpenLoop) → bytes_of (loop_fields f l) ≡ loop_bytes l
 loop_same f l = there_bytes f.looping _
 
--- the same bytes in other groups
+-- The same bytes in other groups.
 regroup : (a b c d e f g h i j k l m n : List ℕ) →
     a ++ (b ++ (c ++ (d ++ (e ++ (f ++ (g ++ (h ++ (i ++ (j ++ (k ++ (l ++ (m ++ n))))))))))))
     ≡ (a ++ (b ++ (c ++ []))) ++ ((d ++ (e ++ (f ++ []))) ++ ((g ++ (h ++ (i ++ (j ++ [])))) ++ ((k ++ (l ++ (m ++ []))) ++ (n ++ []))))
@@ -72,28 +72,28 @@ regroup a b c d e f g h i j k l m n = simp (append_assoc, append-nil)
 
 -- ---- the list, from its parts on ----
 
--- from the length of the piece on
+-- From the length of the piece on.
 abbrev pub from_piece : Fields → List Field
 from_piece f = two f.piece (λ g. true) ∷ flat_map held_fields f.kept
 
--- the bytes that are pending, and zeros
+-- The bytes that are pending, and zeros.
 abbrev pub line_fields : Fields → List Field
 line_fields f = one_by_one (λ i b g. nat_lt i f.pending || (b == 0)) 0 f.line
 
--- from the verb of the sentence before on
+-- From the verb of the sentence before on.
 abbrev pub from_earlier : Fields → List Field
 from_earlier f =
     byte f.earlier (λ g. true) ∷ byte f.pending (λ g. is_some (inside f) || (f.pending == 0)) ∷ (line_fields f ++ from_piece f)
 
--- from the loop on
+-- From the loop on.
 abbrev pub from_looping : Fields → List Field
 from_looping f = byte f.looping (λ g. nat_le f.looping (if f.count == 0 then 0 else 1)) ∷ (loop_fields f f.turning ++ from_earlier f)
 
--- the rows of the open tables
+-- The rows of the open tables.
 abbrev pub table_rows : Fields → List Field
 table_rows f = rows_fields (unwrap_or (inside f) 0) (λ g. None) f.count f.rows
 
--- from the seed on
+-- From the seed on.
 abbrev pub from_seed : Fields → List Field
 from_seed f =
     eight f.seed (λ g. true)

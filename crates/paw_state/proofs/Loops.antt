@@ -30,11 +30,11 @@ use Rattle.paw_state.proofs.Found.{rule_holds, no_rule, no_first, none_first}
 use Rattle.paw_state.proofs.Rows.{both, four, four_none, head_there}
 use Rattle.paw_state.proofs.Sound.{turning_rest}
 
--- 1 for what is there, 0 for what isn't
+-- 1 for what is there, 0 for what isn't.
 abbrev pub presence : {A : Type 0} → Option A → ℕ
 presence o = if is_some o then 1 else 0
 
--- the table of a row that may be there
+-- The table of a row that may be there.
 abbrev row_table : Option FrameField → Option ℕ
 row_table o = option_map (λ r. r.table) o
 

@@ -69,7 +69,7 @@ used_row g code caller at r h =
 no_action : (acted : ℕ) → (acted == 0) ≡ true → not (acted == 1) ≡ true
 no_action acted h = let z : acted ≡ 0 = eqb-true acted 0 h in rw z refl
 
--- a row without a fault stands as a frame
+-- A row without a fault stands as a frame.
 row_sound : (g : GameLists) (code : ℕ) (caller : Option ℕ) (n at : ℕ) (r : FrameField) → row_fault g code caller n at r ≡ None
     → row_stands g code caller n (frame_in r) ≡ true
 row_sound g code caller n at r h = go (n == 0) h
@@ -83,7 +83,7 @@ row_sound g code caller n at r h = go (n == 0) h
         let u = used_row g (if n == 1 then code else 85) caller at r k in
         both (may_open caller r.table) _ u.table u.condact
 
--- and its byte for an action is 0 or 1
+-- And its byte for an action is 0 or 1.
 row_acted : (g : GameLists) (code : ℕ) (caller : Option ℕ) (n at : ℕ) (r : FrameField) → row_fault g code caller n at r ≡ None → r.acted ≤ 1
 row_acted g code caller n at r h = go (n == 0) h
   where
@@ -119,7 +119,7 @@ rows_back g code caller n at (r ∷ rs) h =
 
 -- ---- frames that stand ----
 
--- a condact that is there stands in an entry
+-- A condact that is there stands in an entry.
 pub head_there : (g : GameLists) (code t e k : ℕ) → has_code code (condact_at g t e k) ≡ true → is_some (head_at g t e) ≡ true
 head_there g code t e k h = go (entry_at g t e) h
   where

@@ -16,7 +16,7 @@ use Rattle.paw_state.specs.inner.Faults.{called_table}
 
 -- ---- bytes ----
 
--- the bytes from number i on have the first fault of all
+-- The bytes from number i on have the first fault of all.
 abbrev pub Looked : (ℕ → Bool) → ℕ → ℕ → List ℕ → Type 0
 Looked p at i bytes = first_not p (at + i) (drop i bytes) ≡ first_not p at bytes
 
@@ -113,7 +113,7 @@ rows_more (suc n) bytes =
     let e : drop (5 * n) (drop 5 bytes) ≡ drop (5 * suc n) bytes = drop-drop (5 * n) 5 bytes ∙ ap (λ (i : ℕ). drop i bytes) k in
     ap (λ (rs : List FrameField). row_at bytes ∷ rs) (rows_more n (drop 5 bytes) ∙ ap (λ (l : List ℕ). rows_at n (drop 5 bytes) ++ row_at l ∷ []) e)
 
--- one row more is read
+-- One row more is read.
 pub row_read : (rows : List FrameField) (n : ℕ) (r : FrameField) (bytes : List ℕ) → n < length rows → take n rows ≡ rows_at n (drop ROWS bytes)
     → r ≡ row_at (drop (ROWS + 5 * n) bytes) → take (n + 1) (set rows n r) ≡ rows_at (n + 1) (drop ROWS bytes)
 row_read rows n r bytes low h e =

@@ -14,11 +14,11 @@ use Rattle.paw_state.specs.inner.Faults.{frame_fields_fault, no_loop_fault, loop
 use Rattle.paw_state.specs.inner.Faults.{pending_fault, parts_fault}
 use Rattle.paw_state.proofs.Found.{rule_holds, no_rule, no_first, none_first}
 
--- where no loop is open the loop's bytes are 0; else the loop follows its rules
+-- Where no loop is open the loop's bytes are 0; else the loop follows its rules.
 abbrev pub turning_rest : GameLists → Fields → Option ℕ
 turning_rest g f = if f.looping == 0 then no_loop_fault f.turning else loop_fields_fault g f f.turning
 
--- each part follows its rules
+-- Each part follows its rules.
 pub record AreSound (g : GameLists) (f : Fields) : Type 0 where
   pub places : places_fault g PLACES f.places ≡ None
   pub saved : held_fault g SAVED f.saved ≡ None

@@ -20,7 +20,7 @@ outer_join : (a b c x p : List ℕ) → a ++ (b ++ (c ++ (x ++ p))) ≡ (a ++ (b
 outer_join a b c x p =
     ap (λ q. a ++ (b ++ q)) (sym (append_assoc c x p)) ∙ ap (λ q. a ++ q) (sym (append_assoc b (c ++ x) p)) ∙ sym (append_assoc a (b ++ (c ++ x)) p)
 
--- the fields before the piece's length
+-- The fields before the piece's length.
 front : Fields → List ℕ
 front f = world_bytes f ++ (number_bytes f ++ (table_bytes f ++ ((f.earlier ∷ f.pending ∷ []) ++ f.line)))
 
@@ -48,7 +48,7 @@ front_long front n q l k =
     let r = length-append (two_bytes n) q in
     omega (arith, l, m, r, k)
 
--- the bytes of a state, and of its kept positions
+-- The bytes of a state, and of its kept positions.
 pub record AreLong (s : State) : Type 0 where
   pub all : length (state_bytes s) ≡ STATE_LENGTH
   pub kept : length (kept_position_bytes (fields_of s)) ≡ 2048
@@ -59,7 +59,7 @@ piece_told s l h =
     let e = state_same s ∙ state_ends f in
     rw e (two_there (front f) s.piece (kept_position_bytes f) (front_long (front f) s.piece (kept_position_bytes f) (ap length (sym e) ∙ l.all) l.kept) h)
 
--- as it stands in a buffer
+-- As it stands in a buffer.
 pub piece_in : (s : State) (rest into : List ℕ) → into ≡ state_bytes s ++ rest → AreLong s → s.piece < 2 ^ 16
     → get_or into PIECE 0 + 256 * get_or into (PIECE + 1) 0 ≡ s.piece
 piece_in s rest into e l h =
@@ -69,14 +69,14 @@ piece_in s rest into e l h =
     ∙ get_or_append_left (state_bytes s) rest 0 (PIECE + 1) (omega (arith, l.all)) in
     rw (a, b) (piece_told s l h)
 
--- what stands before the zeros of a buffer
+-- What stands before the zeros of a buffer.
 pub buffer_long : (bytes into : List ℕ) → into ≡ bytes ++ zeros (STATE_ROOM - STATE_LENGTH) → length into ≡ STATE_ROOM →
     length bytes ≡ STATE_LENGTH
 buffer_long bytes into e l =
     let m = length-append bytes (zeros (STATE_ROOM - STATE_LENGTH)) in
     omega (arith, ap length (sym e) ∙ l, m, length-zeros (STATE_ROOM - STATE_LENGTH))
 
--- as it is read from a buffer
+-- As it is read from a buffer.
 pub piece_read : (s : State) (bytes : List ℕ) → take STATE_LENGTH bytes ≡ state_bytes s → AreLong s → s.piece < 2 ^ 16
     → get_or bytes PIECE 0 + 256 * get_or bytes (PIECE + 1) 0 ≡ s.piece
 piece_read s bytes e l h =

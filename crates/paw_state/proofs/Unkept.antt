@@ -16,7 +16,7 @@ use Rattle.paw_state.proofs.Found.{length-zeros}
 use Rattle.paw_state.proofs.Listed.{state_same}
 use Rattle.paw_state.proofs.Told.{AreLong}
 
--- four times nothing
+-- Four times nothing.
 none_bytes : flat_map held_bytes (map held_of (replicate 4 None)) ≡ zeros 2048
 unfolding held_bytes zeros
 none_bytes = refl
@@ -25,7 +25,7 @@ unkept_bytes : (s : State) → s.world.kept ≡ replicate 4 None → kept_positi
 unfolding kept_position_bytes
 unkept_bytes s none = ap (λ (ks : List (Option Position)). flat_map held_bytes (map held_of ks)) none ∙ none_bytes
 
--- the bytes before the kept positions
+-- The bytes before the kept positions.
 before_kept : Fields → List ℕ
 before_kept f = world_bytes f ++ (number_bytes f ++ (table_bytes f ++ pending_bytes f))
 
@@ -45,7 +45,7 @@ cut_back bytes front back e n z =
     let m : length front ≡ KEPT = omega (arith, all, behind, length-append front back) in
     ap (λ (l : List ℕ). l ++ zeros 2048) (ap (take KEPT) e ∙ take_at front back KEPT m) ∙ (ap (λ (l : List ℕ). front ++ l) (sym z) ∙ sym e)
 
--- so its first 1,371 bytes and 2,048 zeros are the state
+-- So its first 1,371 bytes and 2,048 zeros are the state.
 pub ends_in_zeros : (s : State) → AreLong s → s.world.kept ≡ replicate 4 None → take KEPT (state_bytes s) ++ zeros 2048 ≡ state_bytes s
 ends_in_zeros s long none =
     cut_back (state_bytes s) (before_kept (fields_of s)) (kept_position_bytes (fields_of s)) (state_splits s) long.all (unkept_bytes s none)

@@ -27,7 +27,7 @@ kept_below limit n count (Err e) h =
       | false ↦ λ s. refl
     ] refl
 
--- and where the number is below it anyhow
+-- And where the number is below it anyhow.
 kept : {E : Type 0} (limit n count : ℕ) (r : Result ℕ E) → n < limit → OkIff r ((0 < count) × (n < limit)) n
     → result_ok r ≡ cond (ltb 0 count) (Some n) None
 kept limit n count (Ok x) small h = rw (h.1, lt-ltb 0 count h.0.0) refl

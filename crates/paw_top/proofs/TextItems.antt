@@ -26,7 +26,7 @@ use Rattle.paw_top.proofs.Split.{split_is_lines, TextLine, text_line_is}
 
 -- ---- the texts of a section ----
 
--- a section of texts
+-- A section of texts.
 abbrev pub is_text_section : Section → Bool
 is_text_section s = ltb 0 (text_limit s)
 
@@ -136,7 +136,7 @@ more_lines p s d before t (l ∷ ls) at text lines short =
     reads_line p _ _ _ l ls (line_step p s true d before t l at text (text_line_is l both.0) first)
     (rw same at (more_lines p s d before (t ++ 10 ∷ l) ls at text both.1 whole))
 
--- a state in which the texts are these
+-- A state in which the texts are these.
 abbrev pub Then : ℕ → Section → Spelt → Spelt → List (List ℕ) → List (List ℕ) → Type 0
 Then p s d e lines texts = (b : Bool) × Reads p e lines (with_texts s b texts d)
 

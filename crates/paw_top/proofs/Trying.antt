@@ -32,7 +32,7 @@ stopped (end.Spent kind) = outcome.Spent kind
 stopped (end.TooDeep table) = outcome.TooDeep table
 stopped end.Memory = outcome.Memory memory.Trial
 
--- nothing is changed where the reading has ended for good
+-- Nothing is changed where the reading has ended for good.
 ended : (n : ℕ) (s : Standing) (halt : Halt) (r : Run) → trial_reading n ≡ Halted halt r → Tries n s s (stopped (trial_end halt))
 ended n s halt.Over r is = halts play.Ended halt.Over r refl is refl
 ended n s (halt.Spent kind) r is = halts (play.Spent kind) (halt.Spent kind) r refl is refl
@@ -48,13 +48,13 @@ pub told : (n : ℕ) (old new : Standing) (o : Outcome) (text : List ℕ) (e : E
 told n old new o text (WaitsAt p path r) is t s = shows o p path r is (subst (λ x. Shows x old new o) t s)
 told n old new o text _ is t s = absurd t
 
--- where no call fails the line is shown
+-- Where no call fails the line is shown.
 shown_comes : (text : List ℕ) (old new : Standing) (o : Outcome) → Shows text old new o → IsUnhindered o → Comes outcome.Done o
 shown_comes text old new outcome.Done s free = refl
 shown_comes text old new (outcome.Outside call.Show) s free = absurd (hindered call.Show (λ q. cc) free)
 shown_comes text old new _ s free = absurd s
 
--- the answer that is due where play has ended so
+-- The answer that is due where play has ended so.
 halted_comes : (o : PlayEnd) (halt : Halt) → end_halt o ≡ Some halt → Comes (outcome_of (end_of_halt halt)) (outcome_of o)
 halted_comes play.Ended halt e = ap (λ x. outcome_of (option_map_or end_of_halt x play.Memory)) e
 halted_comes (play.Spent kind) halt e = ap (λ x. outcome_of (option_map_or end_of_halt x play.Memory)) e

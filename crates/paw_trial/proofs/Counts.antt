@@ -24,7 +24,7 @@ use Rattle.paw_trial.specs.inner.Trial.{IsTextOf}
 use Rattle.paw_trial.specs.inner.Session.{Waits, IsTallyOf, tally_in, tally_of}
 use Rattle.paw_trial.proofs.Lines.{plays_all, few_lines}
 
--- the flags come first in a state's bytes
+-- The flags come first in a state's bytes.
 flags_first : (s : State) (i : ℕ) → i < length s.world.flags → slice_index (kept_bytes s) i ≡ slice_index s.world.flags i
 unfolding kept_bytes world_bytes
 flags_first s i low =
@@ -70,7 +70,7 @@ all_counted : (n locations objects events : ℕ) (t u : Tally) → locations ≡
     (record { locations = location_count n; objects = object_count n; events = line_count n; tally = u })
 all_counted n locations objects events t u l o ev e = cc
 
--- the line of what a session counts
+-- The line of what a session counts.
 pub told_counts : (n locations objects events : ℕ) (e : Ending) (t : Tally) (text : List ℕ) → IsTallyOf e t → locations ≡ location_count n →
     objects ≡ object_count n → events ≡ line_count n →
     text ≡ codes "TRIAL " ++ (decimal n ++ (codes ": " ++ (decimal locations ++ (codes " locations, " ++ (decimal objects ++ (codes " objects, "

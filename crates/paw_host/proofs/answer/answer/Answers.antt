@@ -21,7 +21,7 @@ use Rattle.paw_host.proofs.answer.answer.Goals as goal
 
 -- ---- the attach ----
 
--- nothing is answered while the store is attached
+-- Nothing is answered while the store is attached.
 attaches : (g : Over) (c : After-attach g) (tells : g.S.Stage.Tells c.args.stage.now) (X : List (List ℕ)) (before after : NamedSession)
     → Stores (story_of c.args.player.now.game X) before (file_bytes (g.S.Stage.standing c.args.stage.now) c.args.store.now)
     → (g.S.Stage.standing c.attach.new.stage ≡ opened c.args.store.now (g.S.Stage.standing c.args.stage.now))

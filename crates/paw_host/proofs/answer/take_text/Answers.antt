@@ -70,7 +70,7 @@ returns-in-Some-clause-promises g c = λ tells X rows seed es s count stands.
       any_moment = Passes_none _ _ _;
     }
 
--- whether the commit was done or failed, its moments are of the line that was taken
+-- Whether the commit was done or failed, its moments are of the line that was taken.
 commits : (g : Over) (c : After-commit g) (tells : g.S.Stage.Tells c.args.stage.now) (X : List (List ℕ))
     → AreRowsOf g.F.Fn c.args.player.now.routines X → (seed : ℕ) (es : List (List ℕ))
     → SitsAt (story_of c.args.player.now.game X) seed es c.args.player.now → c.args.opened.events ≡ length es

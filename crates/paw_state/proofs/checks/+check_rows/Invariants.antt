@@ -1,6 +1,6 @@
 use Rattle.std.proofs.Common.{length}
 use Rattle.paw_state.proofs.checks.+check_rows.Given as goal
 
--- the rows that are left
+-- The rows that are left.
 abbrev pub decreases-check_rows : goal.decreases-check_rows
 decreases-check_rows g l = length l.rows.now
