@@ -28,7 +28,8 @@ pub record HoldBefore (objects : ℕ) (own : Condact → ℕ) (changing : Bool) 
 cell_is : (rows : List (List ℕ)) (t v : ℕ) → cell_at rows t v ≡ slice_index_or (get_or rows t []) v 0
 cell_is rows t v = ap (λ (row : List ℕ). slice_index_or row v 0) (unwrap_or-slice_get rows t [])
 
-pub before_more : (objects : ℕ) (own : Condact → ℕ) (changing : Bool) (tables : List (List Entry)) (called rows : List (List ℕ)) (n : ℕ) (row : List ℕ) (es : List Entry)
+pub before_more : (objects : ℕ) (own : Condact → ℕ) (changing : Bool) (tables : List (List Entry)) (called rows : List (List ℕ))
+    (n : ℕ) (row : List ℕ) (es : List Entry)
     → HoldBefore objects own changing tables called rows n → es ≡ get_or tables n []
     → HoldsCapped row (λ v. entries_take objects (with_call own (λ u. cell_at called u v)) changing v es)
     → HoldBefore objects own changing tables called (rows ++ row ∷ []) (n + 1)

@@ -155,7 +155,8 @@ module _ (g : GameLists) (w : World) (of : IsOf g w) (test : ℕ → Bool) where
 -- ---- what is worn ----
 
 worn_most : (g : GameLists) (w : World) (o : ℕ) → length (worn_text g w o) ≤ most_put g IS_WORN_MESSAGE
-worn_most g w o = either_most (place w o == WORN_PLACE) (put_text g w IS_WORN_MESSAGE) [] (most_put g IS_WORN_MESSAGE) (put_most g w IS_WORN_MESSAGE) (omega arith)
+worn_most g w o = either_most (place w o == WORN_PLACE) (put_text g w IS_WORN_MESSAGE) [] (most_put g IS_WORN_MESSAGE)
+    (put_most g w IS_WORN_MESSAGE) (omega arith)
 
 held_most : (g : GameLists) (w : World) (o : ℕ) → length (held_text g w o) ≤ length (object_text g o) + most_put g IS_WORN_MESSAGE
 held_most g w o = omega (arith, worn_most g w o, length-append (object_text g o) (worn_text g w o))

@@ -278,7 +278,8 @@ module _ (g : Story) (valid : ValidStory g) (kind : SpentKind) (limit pending : 
           Ends (Inside lv once (once + more)) (once + more) (answered g p f go line r)
       answered_ends prompt.Quit f line r k u =
           either (Ends (Inside lv once (once + more)) (once + more)) (is_yes line) _ (Left true r)
-          (inside_up lv (0 + once) (0 + (once + more)) once (once + more) (omega arith) (omega arith) (go f.acted r) (goes f.acted 0 r k u (omega (arith, fits))))
+          (inside_up lv (0 + once) (0 + (once + more)) once (once + more) (omega arith) (omega arith) (go f.acted r)
+              (goes f.acted 0 r k u (omega (arith, fits))))
           (k, omega (arith, u))
       answered_ends prompt.Again f line r k u =
           either (Ends (Inside lv once (once + more)) (once + more)) (is_no line) (over g r) (Stopped Restarts (anew r))
@@ -493,7 +494,8 @@ module _ (g : Story) (valid : ValidStory g) (kind : SpentKind) (limit pending : 
             (λ e. conditions_keep_verb g r.world c valid k.world (is c has) (quiet c has e)))
             (omega (arith, fits))
             (λ b. omega (arith, u, noted_use kind g.game s f c b, own_takes c))
-            (λ e. omega (arith, u, printed_use kind g.game s f c true (quit_question g s) (questions_print_within g r.world c valid k.world (is c has) e), own_takes c)))
+            (λ e. omega (arith, u, printed_use kind g.game s f c true (quit_question g s) (questions_print_within g r.world c valid k.world (is c has) e),
+                own_takes c)))
 
         acted_ends : (r : Run) → Is lv r → used kind r ≤ m → Comes (acts g sub lv f next go (effect_of g r.world c) (noted f c true r))
         acted_ends r k u =
@@ -618,7 +620,8 @@ module _ (g : Story) (valid : ValidStory g) (kind : SpentKind) (limit pending : 
         last_ends next a b o (Stopped stop r) none keep k = stops_up (Inside lv a b) (Outside lv b) b b (omega arith) stop r k
 
         -- The table is read from its start.
-        pub reads_end : (t : ℕ) → AllByRecursion (λ en. AllByRecursion Has en.condacts) (table_at g.game t) → sum_by takes (their (chosen (table_at g.game t))) ≤ all →
+        pub reads_end : (t : ℕ) → AllByRecursion (λ en. AllByRecursion Has en.condacts) (table_at g.game t) →
+            sum_by takes (their (chosen (table_at g.game t))) ≤ all →
             (m : ℕ) (r : Run) → Is lv r → at_level lv r.turning ≡ None → used kind r ≤ m →
             m + (sum_by takes (their (chosen (table_at g.game t))) + sum_by extra (their (chosen (table_at g.game t)))) ≤ limit →
             Ends (Outside lv (m + (sum_by takes (their (chosen (table_at g.game t))) + sum_by extra (their (chosen (table_at g.game t))))))

@@ -56,7 +56,8 @@ unfolding answers_of
 answers_first g seed sessions name None later = refl
 answers_first g seed sessions name (Some r) later =
     elim (bytes_eq name r.name) as (λ b. bytes_eq name r.name ≡ b →
-    (if b then (answer g seed (sessions r.name) r.text).body ∷ answers_of g seed (if b then (answer g seed (sessions r.name) r.text).session else sessions name) later
+    (if b then (answer g seed (sessions r.name) r.text).body ∷ answers_of g seed
+        (if b then (answer g seed (sessions r.name) r.text).session else sessions name) later
     else answers_of g seed (if b then (answer g seed (sessions r.name) r.text).session else sessions name) later)
     ≡ answers_of g seed (sessions name) (if b then r.text ∷ later else later)) [
       | true ↦ λ t. let same : name ≡ r.name = (bytes_eq-Decides name r.name).0 t in
@@ -108,7 +109,8 @@ pieces_count g seed es p path r h =
     let none : length r.events ≡ 0 = ap length counted.0 in
     omega (arith, counted.1, none)
 
-past_by : (pieces : List (List ℕ)) (e x : Ending) (p : Prompt) (path : List Frame) (r : Run) (traces : List (List Step)) → e ≡ ending_with_past pieces traces x → e ≡ WaitsAt p path r →
+past_by : (pieces : List (List ℕ)) (e x : Ending) (p : Prompt) (path : List Frame) (r : Run) (traces : List (List Step)) →
+    e ≡ ending_with_past pieces traces x → e ≡ WaitsAt p path r →
     (more : List (List ℕ)) × (r.pieces ≡ pieces ++ more)
 past_by pieces e (WaitsAt q at s) p path r traces h k =
     let same : WaitsAt p path r ≡ ending_with_past pieces traces (WaitsAt q at s) = sym k ∙ h in
@@ -119,7 +121,8 @@ past_by pieces e Unended p path r traces h k =
     let clash : WaitsAt p path r ≡ ending_with_past pieces traces Unended = sym k ∙ h in cc
 
 -- With one line more the reading has one piece more, the last one.
-one_more : (g : Story) (seed : ℕ) (es : List (List ℕ)) (text : List ℕ) (p q : Prompt) (path at : List Frame) (r s : Run) → reading g seed es ≡ WaitsAt p path r →
+one_more : (g : Story) (seed : ℕ) (es : List (List ℕ)) (text : List ℕ) (p q : Prompt) (path at : List Frame) (r s : Run) →
+    reading g seed es ≡ WaitsAt p path r →
     reading g seed (es ++ text ∷ []) ≡ WaitsAt q at s → s.pieces ≡ r.pieces ++ last_piece s.pieces ∷ []
 one_more g seed es text p q path at r s h k =
     let more = past_by r.pieces _ (goes_on_with g p path (text ∷ []) r) q at s r.traces (longer_reading g seed es (text ∷ []) p path r h) k in
@@ -136,7 +139,8 @@ one_more g seed es text p q path at r s h k =
 taken_by : (seed : ℕ) (es : List (List ℕ)) (text : List ℕ) (e : Ending) (over full : Bool) →
     ((if over then record { body = codes "over"; session = At seed es } else if full then record { body = codes "full"; session = At seed es }
     else gone_on (At seed es) (At seed (es ++ text ∷ [])) e).session ≡ At seed es)
-    ⊎ (◌≡◌ {A = Answer} (if over then record { body = codes "over"; session = At seed es } else if full then record { body = codes "full"; session = At seed es }
+    ⊎ (◌≡◌ {A = Answer} (if over then record { body = codes "over"; session = At seed es }
+        else if full then record { body = codes "full"; session = At seed es }
     else gone_on (At seed es) (At seed (es ++ text ∷ [])) e) (record { body = last_piece (pieces_of e); session = At seed (es ++ text ∷ []) }))
 taken_by seed es text e true full = inl refl
 taken_by seed es text e false true = inl refl
@@ -148,7 +152,8 @@ taken_by seed es text Unended false false = inr refl
 
 -- A text isn't taken, or its piece is the answer.
 answered_by : (g : Story) (seed : ℕ) (es : List (List ℕ)) (text : List ℕ) → ((answer g seed (At seed es) (Some text)).session ≡ At seed es)
-    ⊎ (answer g seed (At seed es) (Some text) ≡ record { body = last_piece (pieces_of (reading g seed (es ++ text ∷ []))); session = At seed (es ++ text ∷ []) })
+    ⊎ (answer g seed (At seed es) (Some text)
+        ≡ record { body = last_piece (pieces_of (reading g seed (es ++ text ∷ []))); session = At seed (es ++ text ∷ []) })
 unfolding answer
 answered_by g seed es text = taken_by seed es text (reading g seed (es ++ text ∷ [])) (is_over (reading g seed es)) (nat_le EVENT_LIMIT (length es))
 

@@ -33,7 +33,8 @@ gone_may g old new (Halted (halt.Spent kind) r) a b = a
 gone_may g old new (Halted (halt.TooDeep table) r) a b = a
 gone_may g old new Unended a b = b
 
-taken_may_by : (g : Story) (own : ℕ) (es : List (List ℕ)) (text : List ℕ) (e : Ending) (over full : Bool) → IsPlayedWith g own es → IsPlayedWith g own (es ++ text ∷ []) →
+taken_may_by : (g : Story) (own : ℕ) (es : List (List ℕ)) (text : List ℕ) (e : Ending) (over full : Bool) → IsPlayedWith g own es →
+    IsPlayedWith g own (es ++ text ∷ []) →
     MayBe g (if over then record { body = codes "over"; session = At own es } else if full then record { body = codes "full"; session = At own es }
     else gone_on (At own es) (At own (es ++ text ∷ [])) e).session
 taken_may_by g own es text e true full a b = a

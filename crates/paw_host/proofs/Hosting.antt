@@ -126,7 +126,8 @@ at_prompt g seed first old now n s holds = record {
   asked = s.answered.asked;
   shown = s.answered.shown;
   attached = subst (AttachedIn old.attached (take n old.lines)) (sym s.answered.attached) (attached_now old.attached (take n old.lines));
-  keeps = keeps_now g seed first old.attached old.lines n (moment_of now) s.answered.there s.answered.attached (all_left g (sessions_after g seed first (take n old.lines)) now s.answered.files s.settled holds);
+  keeps = keeps_now g seed first old.attached old.lines n (moment_of now) s.answered.there s.answered.attached
+      (all_left g (sessions_after g seed first (take n old.lines)) now s.answered.files s.settled holds);
   others = s.answered.others;
 }
 
@@ -135,7 +136,8 @@ pub still_at_prompt : (g : Story) (seed : ℕ) (first : Sessions) (old now : Sta
 still_at_prompt g seed first old now n s holds m e = subst (InHost g seed first old) (sym e) (at_prompt g seed first old now n s holds)
 
 -- No line is left.
-pub all_answered : (g : Story) (seed : ℕ) (first : Sessions) (old now : Standing) (n : ℕ) → IsServing g seed first old now n → now.lines ≡ [] → n ≡ length old.lines
+pub all_answered : (g : Story) (seed : ℕ) (first : Sessions) (old now : Standing) (n : ℕ) → IsServing g seed first old now n →
+    now.lines ≡ [] → n ≡ length old.lines
 all_answered g seed first old now n s none = drop_all old.lines n (sym s.answered.lines ∙ none) s.answered.there
 
 nothing_attached : (request : Option Request) (attached : Option (List ℕ)) → MayAttach request attached attached
@@ -144,7 +146,8 @@ nothing_attached (Some r) attached = inl refl
 
 -- ---- one line more ----
 
-module _ (g : Story) (seed : ℕ) (first : Sessions) (old now mid : Standing) (n : ℕ) (line : List ℕ) (s : IsServing g seed first old now n) (holds : FilesHold now)
+module _ (g : Story) (seed : ℕ) (first : Sessions) (old now mid : Standing) (n : ℕ) (line : List ℕ) (s : IsServing g seed first old now n)
+    (holds : FilesHold now)
     (left : now.lines ≡ line ∷ mid.lines) (took : mid ≡ record now { lines = mid.lines; asked = now.asked + 1 }) where
   abbrev before : Sessions
   before = sessions_after g seed first (take n old.lines)
@@ -188,7 +191,8 @@ module _ (g : Story) (seed : ℕ) (first : Sessions) (old now mid : Standing) (n
     asked = i.asked ∙ asked_more;
     shown = i.shown ∙ shown_same;
     keeps = (subst (λ x. EachLeft g seed before x m) (sym after_is) i.left, inl refl);
-    attached = attached_in old.attached old.lines n line mid.lines m.attached at (subst (λ a. MayAttach (request_of line) a m.attached) attached_same i.attached);
+    attached = attached_in old.attached old.lines n line mid.lines m.attached at
+        (subst (λ a. MayAttach (request_of line) a m.attached) attached_same i.attached);
     others = λ f h. i.files f (not_of_more old.lines n line mid.lines f at h).1 ∙ others_same f h;
   }
 
@@ -258,7 +262,8 @@ module _ (g : Story) (seed : ℕ) (first : Sessions) (old now mid : Standing) (n
     })
 
     -- The next line may come.
-    pub serving_next : (new : Standing) → new ≡ with_shown (reply_to g seed before (request_of line)) done → AllMay g after → IsServing g seed first old new (suc n)
+    pub serving_next : (new : Standing) → new ≡ with_shown (reply_to g seed before (request_of line)) done → AllMay g after →
+        IsServing g seed first old new (suc n)
     serving_next new e may = subst (λ q. IsServing g seed first old q (suc n)) (sym e) (record {
       answered = record {
         there = there;
@@ -314,7 +319,8 @@ hosts_by g seed first old new n (outcome.Long lines) h i = absurd h
 -- ---- lines that were taken ----
 
 -- A line was asked for, and its reply was made and shown.
-pub took_one : (old mid done new : Standing) (line shown : List ℕ) → old.lines ≡ line ∷ mid.lines → mid ≡ record old { lines = mid.lines; asked = old.asked + 1 } →
+pub took_one : (old mid done new : Standing) (line shown : List ℕ) → old.lines ≡ line ∷ mid.lines →
+    mid ≡ record old { lines = mid.lines; asked = old.asked + 1 } →
     SameLines mid done → new ≡ with_shown shown done → TakesTo old new None
 took_one old mid done new line shown left took same grew = (
   line,

@@ -118,14 +118,16 @@ not_its_own name other session sessions e = ap (λ b. if b then session else ses
 module _ (g : Story) (seed : ℕ) (sessions : Sessions) (old new : Standing) (stores : AllStore g sessions old) where
   -- Nothing.
   pub nothing_done : new ≡ old → IsDone g sessions None old new
-  nothing_done e = subst (IsDone g sessions None old) (sym e) (record { lines = refl; asked = refl; shown = refl; files = λ f h. refl; stores = stores; attached = refl })
+  nothing_done e = subst (IsDone g sessions None old) (sym e)
+      (record { lines = refl; asked = refl; shown = refl; files = λ f h. refl; stores = stores; attached = refl })
 
   module _ (r : Request) (named : is_name r.name ≡ true) (aside : IsAside (store_name r.name) old new) where
     abbrev after : Sessions
     after = sessions_with g seed sessions (Some r)
 
     -- The session of a name.
-    pub request_done : new.attached ≡ Some (store_name r.name) → Stores g (answer g seed (sessions r.name) r.text).session (file_bytes new (store_name r.name)) →
+    pub request_done : new.attached ≡ Some (store_name r.name) →
+        Stores g (answer g seed (sessions r.name) r.text).session (file_bytes new (store_name r.name)) →
         IsDone g after (Some r) old new
     request_done attached h = record {
       attached = attached;
@@ -193,7 +195,8 @@ spoken name body =
     ap (λ x. 91 ∷ x) (append_assoc (name ++ codes "]\n") body (codes "\n") ∙ append_assoc name (codes "]\n") (body ++ codes "\n"))
 
 -- A session was asked for something, and the reply is made.
-pub does_request : (g : Story) (seed : ℕ) (sessions : Sessions) (old new : Standing) (r : Request) (store begun grown whole : List ℕ) → AllStore g sessions old →
+pub does_request : (g : Story) (seed : ℕ) (sessions : Sessions) (old new : Standing) (r : Request) (store begun grown whole : List ℕ) →
+    AllStore g sessions old →
     is_name r.name ≡ true → store ≡ store_name r.name → IsAside store old new → new.attached ≡ Some store → begun ≡ codes "[" ++ (r.name ++ codes "]\n") →
     Answers g (answer g seed (sessions r.name) r.text) begun grown (file_bytes new store) → whole ≡ grown ++ codes "\n" →
     AnswersRequest g seed sessions (Some r) whole old new

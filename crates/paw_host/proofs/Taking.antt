@@ -70,7 +70,8 @@ module _ {F : Type 0} {g : Story} {seed : ℕ} {es : List (List ℕ)} {seat : Pl
     pub took : (digests : Digests) (before after : List ℕ) (bytes : List ℕ) (events : ℕ) → IsOfStory g digests → IsStanding found → events ≡ length es + 1 →
         recover bytes ≡ Shown digests (seat_state events next) next.piece → after ≡ before ++ next.piece →
         Answers g (answer_taking g seed es text) before after bytes
-    took digests before after bytes events belongs shows count shown grown = rw (text_answer s p last seated text few found next is then_seated plays shows) (record {
+    took digests before after bytes events belongs shows count shown grown =
+        rw (text_answer s p last seated text few found next is then_seated plays shows) (record {
       body = grown;
       stores = text_stands s p last seated text few found next is then_seated plays digests bytes events belongs shows count shown;
     })

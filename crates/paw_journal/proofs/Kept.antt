@@ -104,7 +104,8 @@ is_kept bytes records state e =
     }
 
 -- A slot that has a state shows it, in the form of its version.
-pub sound_shows : (digests : Digests) (bytes : List ℕ) → has_state bytes ≡ true → slot_shows digests bytes ≡ Shown digests (shown_state bytes) (slot_piece bytes)
+pub sound_shows : (digests : Digests) (bytes : List ℕ) → has_state bytes ≡ true →
+    slot_shows digests bytes ≡ Shown digests (shown_state bytes) (slot_piece bytes)
 unfolding slot_shows
 sound_shows digests bytes e =
     let t = tests (two_byte_number 0 bytes) (first_unsound (slot_changes bytes)) e in

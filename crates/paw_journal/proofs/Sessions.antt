@@ -122,7 +122,8 @@ made_digests digests slots behind n =
         ap (λ x. take 32 (drop 64 x)) (regroup (h ++ g) r z s t)
         ∙ (ap (take 32) (drop_at (h ++ g) _ 64 (omega (arith, length-append h g))) ∙ take_at r _ 32 m)
 
-made_long : (digests : Digests) (slots : List ℕ) → AreLong digests → length slots ≡ slot_length → length (made_header made_mark digests ++ slots ++ slots) ≡ session_length
+made_long : (digests : Digests) (slots : List ℕ) → AreLong digests → length slots ≡ slot_length →
+    length (made_header made_mark digests ++ slots ++ slots) ≡ session_length
 made_long digests slots n l = omega (
   arith,
   length-append (made_header made_mark digests ++ slots) slots,
@@ -131,7 +132,8 @@ made_long digests slots n l = omega (
   length_header made_mark digests n,
 )
 
-pub laid_long : (digests : Digests) (slots : List ℕ) → AreLong digests → length slots ≡ slot_length → length (made_header 0 digests ++ slots ++ slots) ≡ session_length
+pub laid_long : (digests : Digests) (slots : List ℕ) → AreLong digests → length slots ≡ slot_length →
+    length (made_header 0 digests ++ slots ++ slots) ≡ session_length
 laid_long digests slots n l = omega (
   arith,
   length-append (made_header 0 digests ++ slots) slots,
@@ -157,7 +159,8 @@ session_shows digests state piece n m few names =
     ∙ (ap (slot_shows digests) (made_slot_zero digests s s n l) ∙ made_slot_shows digests state piece m names)))
 
 -- What a header and the slot that it chooses say of the whole.
-pub introduced_shows : (k : ℕ) (digests : Digests) (held bytes : List ℕ) → Introduces k digests bytes → held ≡ slot k bytes → recover bytes ≡ slot_shows digests held
+pub introduced_shows : (k : ℕ) (digests : Digests) (held bytes : List ℕ) → Introduces k digests bytes → held ≡ slot k bytes →
+    recover bytes ≡ slot_shows digests held
 introduced_shows k digests held bytes h e =
     recover_is k bytes (sym h.slot)
     ∙ (recover_made k bytes h.made

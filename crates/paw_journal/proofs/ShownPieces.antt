@@ -65,7 +65,8 @@ shown_whole bytes digests state piece e =
     ap length (sym h.1) ∙ form_long (form_length (slot_version s)) (slot_state s) (form_bounds (slot_version s)).1 (state_long s h.3)
 
 -- And the piece is as long as the state says.
-pub shown_long : (bytes : List ℕ) (digests : Digests) (state piece : List ℕ) → recover bytes ≡ Shown digests state piece → piece_length state ≤ 81920 → length piece ≡ piece_length state
+pub shown_long : (bytes : List ℕ) (digests : Digests) (state piece : List ℕ) → recover bytes ≡ Shown digests state piece →
+    piece_length state ≤ 81920 → length piece ≡ piece_length state
 shown_long bytes digests state piece e few =
     let h = of_chosen bytes digests state piece e in
     let s = slot (chosen bytes) bytes in

@@ -53,7 +53,8 @@ read_slot k at n m into rest whole low e p q long r =
     slot_is_whole l k n size low p long e = omega arith
 
 -- What a slot shows, by its change records.
-pub too_many : (digests : Digests) (bytes : List ℕ) (count : ℕ) → count ≡ two_byte_number 0 bytes → most_changes < count → slot_shows digests bytes ≡ Damaged part.Slot 0
+pub too_many : (digests : Digests) (bytes : List ℕ) (count : ℕ) → count ≡ two_byte_number 0 bytes → most_changes < count →
+    slot_shows digests bytes ≡ Damaged part.Slot 0
 unfolding slot_shows
 too_many digests bytes count e h =
     let f : nat_le (two_byte_number 0 bytes) most_changes ≡ false = above (two_byte_number 0 bytes) count e h in

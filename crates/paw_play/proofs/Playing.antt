@@ -163,7 +163,8 @@ pub taken : {F : Type 0} (g : Story) (s : PlayedSession) (most n events : ℕ) (
 taken g s most n events first now mid seat next given line found w few seated then_seated last lines cut took plays fine counts fit =
     assumption (shows_piece found fine)
 
-module _ {F : Type 0} {g : Story} {s : PlayedSession} {most n events : ℕ} {first now mid : Standing} {seat next : PlayerView F} {given line : List ℕ} {found : Step}
+module _ {F : Type 0} {g : Story} {s : PlayedSession} {most n events : ℕ} {first now mid : Standing} {seat next : PlayerView F}
+    {given line : List ℕ} {found : Step}
     {w : IsPlaying g s first now seat n} (t : Taken g s most n events first now mid seat next given line found w) where
   -- The text of all lines that were taken.
   whole_is : s.whole (first_lines (suc n) first.lines)

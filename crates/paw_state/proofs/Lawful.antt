@@ -41,7 +41,8 @@ one_fault g bytes at u =
 
 -- A fault of the fields at their offsets is the one of the bytes.
 pub is_unfit : (g : GameLists) (bytes : List ℕ) (at : ℕ) → STATE_LENGTH ≤ length bytes → AreBytes bytes → unfit g bytes ≡ Some at → Unfit g bytes at
-is_unfit g bytes at n b h = record { fields = fields_at bytes; sized = sized_at bytes n b; are = sym (fields_join bytes n b) ∙ sym (bytes_same (fields_at bytes)); fault = h }
+is_unfit g bytes at n b h =
+    record { fields = fields_at bytes; sized = sized_at bytes n b; are = sym (fields_join bytes n b) ∙ sym (bytes_same (fields_at bytes)); fault = h }
 
 -- The fields that stand in bytes of which the first are a state's.
 fields_there : (g : GameLists) (s : State) (bytes : List ℕ) → Valid g → KeepsEach g s → FitsFields s → take STATE_LENGTH bytes ≡ state_bytes s

@@ -11,7 +11,8 @@ use Rattle.paw_top.specs.Loads.{Holds, HoldsDamage}
 use Rattle.paw_top.specs.inner.Loads.{LoadsSome}
 
 -- Bytes of which at most the limit and one more were taken, and of these no more than the limit.
-pub short_enough : (bytes : List ℕ) → length (take 4194305 bytes) ≤ IMAGE_LIMIT → (length bytes ≤ IMAGE_LIMIT) ⊎ (4194305 ≤ length bytes) → length bytes ≤ IMAGE_LIMIT
+pub short_enough : (bytes : List ℕ) → length (take 4194305 bytes) ≤ IMAGE_LIMIT → (length bytes ≤ IMAGE_LIMIT) ⊎ (4194305 ≤ length bytes) →
+    length bytes ≤ IMAGE_LIMIT
 short_enough bytes h (inl k) = k
 short_enough bytes h (inr k) = absurd (omega (arith, h, length-take-le 4194305 bytes k))
 

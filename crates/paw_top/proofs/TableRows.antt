@@ -111,7 +111,8 @@ entry_row-is p g es e r room =
     let few : ltb 255 0 ≡ false = refl in
     rw (r.verb.is (value_token g.words 2 e.noun ∷ []), r.noun.is []) (rw below refl)
 
-entry_step : (p : ℕ) (g : GameLists) (exits : List (List Exit)) (ts : List (List Entry)) (es : List Entry) (e : Entry) → EntryRow g.words e → length es < ENTRY_LIMIT
+entry_step : (p : ℕ) (g : GameLists) (exits : List (List Exit)) (ts : List (List Entry)) (es : List Entry) (e : Entry) →
+    EntryRow g.words e → length es < ENTRY_LIMIT
     → LineReads p (spelt_of g exits (ts ++ es ∷ [])) (spaced (entry_tokens g.words e)) (spelt_of g exits (ts ++ (es ++ with_condacts e [] ∷ []) ∷ []))
 entry_step p g exits ts es e r room =
     let d : Spelt = spelt_of g exits (ts ++ es ∷ []) in

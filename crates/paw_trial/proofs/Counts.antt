@@ -53,7 +53,8 @@ module _ (g : GameLists) (n : ℕ) (buffer piece : List ℕ) (r : Recovered) (di
       cc
   counts _ own settled w kept = absurd w
 
-pub trial_counts : (n : ℕ) (bytes buffer piece : List ℕ) (digests : Digests) → n < 65536 → Waits (trial_reading n) → Stands (trial_story n) n (trial_lines n) bytes →
+pub trial_counts : (n : ℕ) (bytes buffer piece : List ℕ) (digests : Digests) → n < 65536 → Waits (trial_reading n) →
+    Stands (trial_story n) n (trial_lines n) bytes →
     recover bytes ≡ Shown digests (take state_length buffer) piece → IsTallyOf (trial_reading n) (tally_in buffer)
 trial_counts n bytes buffer piece digests low waits stands is =
     counts (trial_game n) (length (trial_lines n)) buffer piece (recover bytes) digests is (trial_reading n) stands.digests

@@ -6,7 +6,8 @@ use Rattle.paw_state.proofs.fields.Fields.bytes.Goals as goal
 
 pub returns : goal.returns
 returns c = record {
-  value = all_written _ _ _ _ _ _ _ _ _ _ _ _ c.new-writer.ensures.value c.put_world.ensures.writes.puts c.put_numbers.ensures.writes.puts c.put_tables.ensures.writes.puts
+  value = all_written _ _ _ _ _ _ _ _ _ _ _ _ c.new-writer.ensures.value c.put_world.ensures.writes.puts
+      c.put_numbers.ensures.writes.puts c.put_tables.ensures.writes.puts
       c.put_pending.ensures.writes.puts c.put_kept.ensures.writes.puts (omega (arith, ap length c.new-writer.ensures.value)) c.finish.ensures.value;
   kept = omega (
     arith,
