@@ -1,5 +1,6 @@
 -- What is known of the attached store before calls, and what they did to the stage.
 use Rattle.std.specs.Prelude.{◌≡◌, ℕ, List, [], ◌∷◌, length, Option, Some}
+use Rattle.paw_base.specs.Bytes.{Name}
 use Rattle.paw_stage.specs.declared.Stage.{Ghosts}
 use Rattle.paw_stage.specs.declared.StageCall.{StageCall}
 use Rattle.paw_stage.specs.declared.StageCall.TheVariants as call
@@ -17,7 +18,7 @@ pub record IsAttachedAtRest {S : Type 0} (g : Ghosts S) (at : Attached) (s : S) 
   pub attached : g.Tells s → at.length ≡ length (g.standing s).disk.bytes
 
 -- The store of this name is attached, and a crash leaves just its bytes.
-pub record IsAttachedStable (name : List ℕ) (s : Standing) : Type 0 where
+pub record IsAttachedStable (name : Name) (s : Standing) : Type 0 where
   pub stable : IsStable s.disk
   pub attached : s.attached ≡ Some name
 

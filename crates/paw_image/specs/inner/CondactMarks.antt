@@ -35,7 +35,7 @@ abbrev pub marks_of : CondactMarks → ℕ → List ℕ
 marks_of marks entry = drop (slice_index marks.firsts.items entry) marks.marks.items
 
 -- The marks of each entry of a table begin at its first one.
-abbrev pub MarkEntries : (bytes offsets firsts marks : List ℕ) → Type 0
+abbrev pub MarkEntries : (bytes : Bytes) (offsets firsts marks : List ℕ) → Type 0
 MarkEntries bytes offsets firsts marks =
     (e p : ℕ) → slice_get offsets e ≡ Some p → MarkEntry (drop (slice_index firsts e) marks) (drop p bytes)
 

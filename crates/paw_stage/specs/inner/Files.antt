@@ -9,7 +9,7 @@ abbrev pub StaysWhereItWas : Option ℕ → Option ℕ → ℕ → Type 0
 StaysWhereItWas old new at = IfSome old (λ _. new ≡ Some at)
 
 -- From this offset on a file gave these bytes, or took them, as far as it shows its offset and its bytes.
-module _ {F : Type 0} (place : F → Option ℕ) (known : F → Option (List ℕ)) (old new : F) (at : ℕ) (bytes : Bytes) where
+module _ {F : Type 0} (place : F → Option ℕ) (known : F → Option Bytes) (old new : F) (at : ℕ) (bytes : Bytes) where
   abbrev pub GivesAt : Type 0
   GivesAt = (there : F) × StaysWhereItWas (place old) (place there) at × Consumes (known there) (known new) bytes
 
