@@ -43,8 +43,8 @@ abbrev pub AtMost : ℕ → Option OpenLoop → Type 0
 AtMost lv None = Unit {0}
 AtMost lv (Some l) = l.level ≤ lv
 
--- How reading ends: a loop that is open then is at this level at most, and the location is described again only where that
--- may be.
+-- How reading ends: a loop that is open then is at this level at most, and the location is described again only where
+-- that may be.
 abbrev pub Settled : Type 0 → ℕ → Out → Type 0
 Settled Describes lv (Left a r) = AtMost lv r.turning
 Settled Describes lv (Waits p path r) = Unit {0}

@@ -61,8 +61,8 @@ use Rattle.paw_check.proofs.Uses.{closed_more, may_read, may_print}
 
 -- ---- what stands while a table is read ----
 
--- At level lv: the world is one of the game, so much of the line is left at most, the verb is this one unless it may change,
--- no loop of a deeper level is open, the lines to come are lines, and each closed piece is within the limit.
+-- At level lv: the world is one of the game, so much of the line is left at most, the verb is this one unless it may
+-- change, no loop of a deeper level is open, the lines to come are lines, and each closed piece is within the limit.
 pub record Steady (g : GameLists) (kind : SpentKind) (limit pending : ℕ) (changing : Bool) (verb lv : ℕ) (w : World) (earlier : ℕ) (line : List ℕ)
     (turning : Option OpenLoop) (events : List (List ℕ)) (traces : List (List Step)) (pieces : List (List ℕ)) : Type 0 where
   pub world : IsWorldOf g w
@@ -401,8 +401,8 @@ module _ (g : Story) (valid : ValidStory g) (kind : SpentKind) (limit pending : 
 
     -- ---- one table ----
 
-    -- What is known of each condact of the table, of what it takes of its own and with a call, what a DOALL takes for all its
-    -- passes, where reading the condacts once takes so much at most, and how the tables are read that it calls.
+    -- What is known of each condact of the table, of what it takes of its own and with a call, what a DOALL takes for
+    -- all its passes, where reading the condacts once takes so much at most, and how the tables are read that it calls.
     module _ (Has : Condact → Type 0) (is : (c : Condact) → Has c → IsTrue (is_condact g.game c))
         (quiet : (c : Condact) → Has c → changing ≡ false → may_write_verb c ≡ false)
         (takes extra : Condact → ℕ) (own_takes : (c : Condact) → own_of kind g.game c ≤ takes c)

@@ -1,4 +1,5 @@
--- Where reading stops: a wait has a table open and has taken every line, and where the turn begins anew no loop is open.
+-- Where reading stops: a wait has a table open and has taken every line, and where the turn begins anew no loop is
+-- open.
 use Rattle.std.proofs.Common.{◌≡◌, ◌≢◌, ℕ, zero, suc, ◌-◌, Bool, true, false, ◌||◌, List, [], ◌∷◌, None, refl, length}
 use Rattle.paw_base.specs.declared.parts.Condact.{Condact}
 use Rattle.paw_base.specs.declared.fault.SpentKind.TheVariants as spent

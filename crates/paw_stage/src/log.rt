@@ -151,7 +151,8 @@ impl Log {
     /// The first n bytes of a file, which has at least that number.
     pub fn first_bytes(&self, alloc: Global, name: &[u8], n: usize) -> Result<Vec<u8>, NoRoom>
         requires within { n ≤ length (bytes_or_none ((after fresh self.now.calls).files name.now)) }
-        ensures value { IfOk result (λ v. v.items ≡ take n (bytes_or_none ((after fresh self.now.calls).files name.now))) }
+        ensures value { IfOk result
+            (λ v. v.items ≡ take n (bytes_or_none ((after fresh self.now.calls).files name.now))) }
     {
         first_bytes(self.calls.as_slice(), self.room.as_slice(), alloc, name, n)
     }

@@ -108,7 +108,8 @@ pub record CommandMeaning : Type 1 where
   pub moments : TwoParts → RoutineRows → Standing → Type 0
 
 -- The meaning of a command that attaches no store: only what stands afterwards is stated.
-abbrev pub storeless : List StageCall → List MemoryAt → (RoutineRows → Standing → Standing → Outcome → Type 0) → CommandMeaning
+abbrev pub storeless : List StageCall → List MemoryAt → (RoutineRows → Standing → Standing → Outcome → Type 0) →
+    CommandMeaning
 storeless calls memory comes = record {
   calls = calls;
   memory = memory;

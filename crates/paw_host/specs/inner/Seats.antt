@@ -53,7 +53,8 @@ pub record IsHosted {F : Type 0} (calls : Shared F (ℕ × (ℕ × Unit {0})) �
   pub same : seat.game ≡ tables
 
 -- A player that may take a text: it is seated, with answers for its routines, and stands after this many lines.
-pub record MayTake {F : Type 0} (calls : Shared F (ℕ × (ℕ × Unit {0})) ℕ) (events : ℕ) (seat : PlayerView F) : Type 0 where
+pub record MayTake {F : Type 0} (calls : Shared F (ℕ × (ℕ × Unit {0})) ℕ) (events : ℕ)
+    (seat : PlayerView F) : Type 0 where
   pub seated : IsSeated seat
   pub rows : HaveRows calls seat.routines
   pub stands : StandsAfter events seat

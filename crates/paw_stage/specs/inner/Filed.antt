@@ -37,7 +37,8 @@ made_gives (Some b) files name h = h
 some_same : (a b : Bytes) → Some a ≡ Some b → a ≡ b
 some_same a b e = cc
 
-stepped_filed : (k : CallKind) (name : Name) (bytes : Bytes) (s : Standing) → IsFiled s → IsFiled (stepped k name bytes s)
+stepped_filed : (k : CallKind) (name : Name) (bytes : Bytes) (s : Standing) → IsFiled s →
+    IsFiled (stepped k name bytes s)
 stepped_filed kind.Add name bytes s h n e = saved_filed s name bytes h n e
 stepped_filed kind.Load name bytes s h n e = h n e
 stepped_filed kind.Save name bytes s h n e = saved_filed s name bytes h n e
