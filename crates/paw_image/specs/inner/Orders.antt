@@ -53,7 +53,7 @@ pub record IsSorted (order : Order) : Type 0 where
   pub starts : AreStarts order.heads.items order.starts.items
 
 -- The heads at these offsets, sorted.
-pub record IsOrder (bytes : Bytes) (offsets : List ℕ) (order : Order) : Type 0 where
+pub record IsOrder (bytes offsets : List ℕ) (order : Order) : Type 0 where
   pub same : IsPermutation (heads_at bytes 0 offsets) order.heads.items
   pub sorted : IsSorted order
 
