@@ -279,7 +279,7 @@ module _ (g : Story) (valid : ValidStory g) (kind : SpentKind) (limit pending : 
       answered_ends prompt.Quit f line r k u =
           either (Ends (Inside lv once (once + more)) (once + more)) (is_yes line) _ (Left true r)
           (inside_up lv (0 + once) (0 + (once + more)) once (once + more) (omega arith) (omega arith) (go f.acted r)
-              (goes f.acted 0 r k u (omega (arith, fits))))
+          (goes f.acted 0 r k u (omega (arith, fits))))
           (k, omega (arith, u))
       answered_ends prompt.Again f line r k u =
           either (Ends (Inside lv once (once + more)) (once + more)) (is_no line) (over g r) (Stopped Restarts (anew r))
@@ -494,8 +494,12 @@ module _ (g : Story) (valid : ValidStory g) (kind : SpentKind) (limit pending : 
             (λ e. conditions_keep_verb g r.world c valid k.world (is c has) (quiet c has e)))
             (omega (arith, fits))
             (λ b. omega (arith, u, noted_use kind g.game s f c b, own_takes c))
-            (λ e. omega (arith, u, printed_use kind g.game s f c true (quit_question g s) (questions_print_within g r.world c valid k.world (is c has) e),
-                own_takes c)))
+            (λ e. omega (
+              arith,
+              u,
+              printed_use kind g.game s f c true (quit_question g s) (questions_print_within g r.world c valid k.world (is c has) e),
+              own_takes c,
+            )))
 
         acted_ends : (r : Run) → Is lv r → used kind r ≤ m → Comes (acts g sub lv f next go (effect_of g r.world c) (noted f c true r))
         acted_ends r k u =

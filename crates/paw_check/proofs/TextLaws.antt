@@ -98,7 +98,7 @@ row_at : (code : ℕ) (g : GameLists) (c : Condact)
 row_at code g c =
     ap (λ (rows : List (GameLists → Condact → ℕ)). (slice_index_or rows code silent) g c) rows_are
     ∙ ap (λ (row : GameLists → Condact → ℕ). row g c)
-        (get_or-map {B = GameLists → Condact → ℕ} (λ (k : Printed) (h : GameLists) (x : Condact). kind_most h k x) PRINTED code printed.Nothing)
+    (get_or-map {B = GameLists → Condact → ℕ} (λ (k : Printed) (h : GameLists) (x : Condact). kind_most h k x) PRINTED code printed.Nothing)
 
 text_is : (g : GameLists) (c : Condact) → most_text g c ≡ kind_most g (kind_of c.code) c
 unfolding most_text

@@ -57,7 +57,7 @@ answers_first g seed sessions name None later = refl
 answers_first g seed sessions name (Some r) later =
     elim (bytes_eq name r.name) as (λ b. bytes_eq name r.name ≡ b →
     (if b then (answer g seed (sessions r.name) r.text).body ∷ answers_of g seed
-        (if b then (answer g seed (sessions r.name) r.text).session else sessions name) later
+    (if b then (answer g seed (sessions r.name) r.text).session else sessions name) later
     else answers_of g seed (if b then (answer g seed (sessions r.name) r.text).session else sessions name) later)
     ≡ answers_of g seed (sessions name) (if b then r.text ∷ later else later)) [
       | true ↦ λ t. let same : name ≡ r.name = (bytes_eq-Decides name r.name).0 t in
@@ -140,7 +140,7 @@ taken_by : (seed : ℕ) (es : List (List ℕ)) (text : List ℕ) (e : Ending) (o
     ((if over then record { body = codes "over"; session = At seed es } else if full then record { body = codes "full"; session = At seed es }
     else gone_on (At seed es) (At seed (es ++ text ∷ [])) e).session ≡ At seed es)
     ⊎ (◌≡◌ {A = Answer} (if over then record { body = codes "over"; session = At seed es }
-        else if full then record { body = codes "full"; session = At seed es }
+    else if full then record { body = codes "full"; session = At seed es }
     else gone_on (At seed es) (At seed (es ++ text ∷ [])) e) (record { body = last_piece (pieces_of e); session = At seed (es ++ text ∷ []) }))
 taken_by seed es text e true full = inl refl
 taken_by seed es text e false true = inl refl
@@ -153,7 +153,7 @@ taken_by seed es text Unended false false = inr refl
 -- A text isn't taken, or its piece is the answer.
 answered_by : (g : Story) (seed : ℕ) (es : List (List ℕ)) (text : List ℕ) → ((answer g seed (At seed es) (Some text)).session ≡ At seed es)
     ⊎ (answer g seed (At seed es) (Some text)
-        ≡ record { body = last_piece (pieces_of (reading g seed (es ++ text ∷ []))); session = At seed (es ++ text ∷ []) })
+    ≡ record { body = last_piece (pieces_of (reading g seed (es ++ text ∷ []))); session = At seed (es ++ text ∷ []) })
 unfolding answer
 answered_by g seed es text = taken_by seed es text (reading g seed (es ++ text ∷ [])) (is_over (reading g seed es)) (nat_le EVENT_LIMIT (length es))
 

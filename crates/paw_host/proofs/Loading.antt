@@ -92,7 +92,7 @@ undecoded rows name given bytes seed old new o e f h = unopened rows name given 
 -- A game that is hosted, at a stage where nothing has changed since the load.
 pub hosted : (rows : List (List ℕ)) (name : List ℕ) (seed : ℕ) (old mid new : Standing) (o : HostOutcome) (g : GameLists) → Holds old name g → mid ≡ old →
     Ends mid new o → ((first : Sessions) → BeginsWith (story_of g rows) first mid → Hosts (story_of g rows) seed first mid new o) →
-        HostsFile rows name seed old new o
+    HostsFile rows name seed old new o
 hosted rows name seed old mid new o g holds still ends h =
     hosts g o holds (subst (λ q. Ends q new o) still ends)
     (subst (λ q. (first : Sessions) → BeginsWith (story_of g rows) first q → Hosts (story_of g rows) seed first q new o) still h)

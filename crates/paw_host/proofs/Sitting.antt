@@ -101,7 +101,7 @@ module _ {F : Type 0} {g : Story} {seed : ℕ} {es : List (List ℕ)} {seat : Pl
       pub text_answer : IsStanding found → answer_taking g seed es text ≡ record { body = next.piece; session = At seed (es ++ text ∷ []) }
       text_answer shows = taken_is
           ∙ kept_gone (story_digests g) (seat_state (length es + 1) next) next.piece (length es + 1) _ _ _
-              (text_kept (story_digests g) (length es + 1) shows refl)
+          (text_kept (story_digests g) (length es + 1) shows refl)
 
       pub text_stands : (digests : Digests) (bytes : List ℕ) (events : ℕ) → IsOfStory g digests → IsStanding found → events ≡ length es + 1 →
           recover bytes ≡ Shown digests (seat_state events next) next.piece → Stands g seed (es ++ text ∷ []) bytes

@@ -72,9 +72,9 @@ module _ {F : Type 0} {g : Story} {seed : ℕ} {es : List (List ℕ)} {seat : Pl
         Answers g (answer_taking g seed es text) before after bytes
     took digests before after bytes events belongs shows count shown grown =
         rw (text_answer s p last seated text few found next is then_seated plays shows) (record {
-      body = grown;
-      stores = text_stands s p last seated text few found next is then_seated plays digests bytes events belongs shows count shown;
-    })
+          body = grown;
+          stores = text_stands s p last seated text few found next is then_seated plays digests bytes events belongs shows count shown;
+        })
 
     -- Inside the commit.
     pub in_taking : (events : ℕ) (old : Standing) (m : Moment) → IsStanding found → events ≡ length es + 1 → Stands g seed es old.disk.bytes →

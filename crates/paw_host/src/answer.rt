@@ -269,9 +269,9 @@ fn answer_new<S: Stage, T: Tables, F: Fn(u8, u8) -> u8>(
         EachStory F.Fn player.old.routines player.old.game (λ g.
         Promises S.Stage stage.old stage.new
         (OnOk result
-            (Answers g (answer g hosted.now.seed Absent (option_copied text.entry)) reply.old reply.new new.disk.bytes))
+        (Answers g (answer g hosted.now.seed Absent (option_copied text.entry)) reply.old reply.new new.disk.bytes))
         (InFile (LeftOf g hosted.now.seed Absent
-            (answer g hosted.now.seed Absent (option_copied text.entry)).session) old))) }
+        (answer g hosted.now.seed Absent (option_copied text.entry)).session) old))) }
 {
     let opened = match begin(
         stage,
@@ -317,7 +317,7 @@ fn answer_kept<S: Stage, T: Tables, F: Fn(u8, u8) -> u8>(
         Stores g before old.disk.bytes →
         Promises S.Stage stage.old stage.new
         (OnOk result
-            (Answers g (answer g hosted.now.seed before (option_copied text.entry)) reply.old reply.new new.disk.bytes))
+        (Answers g (answer g hosted.now.seed before (option_copied text.entry)) reply.old reply.new new.disk.bytes))
         (InFile (StoresEither g before (answer g hosted.now.seed before (option_copied text.entry)).session) old))) }
 {
     let opened = match take_up(
@@ -368,10 +368,10 @@ pub(crate) fn answer<S: Stage, T: Tables, F: Fn(u8, u8) -> u8>(
         Stores g before (file_bytes old store.now) →
         Promises S.Stage stage.old stage.new
         (OnOk result
-            (Answers g (answer g hosted.now.seed before (option_copied text.entry)) reply.old reply.new
-            (file_bytes new store.now)))
+        (Answers g (answer g hosted.now.seed before (option_copied text.entry)) reply.old reply.new
+        (file_bytes new store.now)))
         (InAnswer g hosted.now.seed store.now before
-            (answer g hosted.now.seed before (option_copied text.entry)).session old))) }
+        (answer g hosted.now.seed before (option_copied text.entry)).session old))) }
 {
     let at = match attach(stage, store) {
         Ok(at) => at,

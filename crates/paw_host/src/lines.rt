@@ -103,7 +103,7 @@ impl<'a, T: Tables, F: Fn(u8, u8) -> u8> Seats<'a, T, F> {
             EachStory F.Fn self.old.player.routines self.old.player.game (λ g. (sessions : Sessions) →
             AllMay g sessions → AllStore g sessions old →
             EachMoment S.Stage stage.old stage.new
-                (Doing g hosted.now.seed sessions (Some (asks request.entry)) old))) }
+            (Doing g hosted.now.seed sessions (Some (asks request.entry)) old))) }
     {
         begin(&mut self.reply, request.name);
         self.store.set(request.name);

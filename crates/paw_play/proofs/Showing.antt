@@ -88,8 +88,11 @@ closed_line prompt.Over m bytes s p e = p
 -- What is pending in it may be pending at its prompt.
 pending_of : (g : GameLists) (s : State) (m : OpenTables) → IsValidState g s → FitsFields s → WaitsAtPrompt s.prompt m → IsPending m s.pending
 pending_of g s m k fits stands =
-    record { bytes = record { short = k.line; bytes = fits.line }; taken = closed_line s.prompt m s.pending.bytes stands (each_of g s k).pending;
-        earlier = fits.earlier }
+    record {
+      bytes = record { short = k.line; bytes = fits.line };
+      taken = closed_line s.prompt m s.pending.bytes stands (each_of g s k).pending;
+      earlier = fits.earlier;
+    }
 
 pub read_fits : (g : GameLists) (bytes : List ℕ) (r : Restored) → IsRead g bytes r → Fits g r.world r.machine r.pending r.prompt
 read_fits g bytes r is =
@@ -145,7 +148,7 @@ module _ (g : Story) (digests : Digests) (bytes : List ℕ) (st : State) (piece 
       stands_at g.game st.prompt st.frames valid shows.keeps.rows (each_of g.game st shows.keeps).frames in
       (restored_fits g.game st.prompt st.frames st.world (restored st.frames (waiting_at st.prompt)) st.pending (world_of g.game st shows.keeps shows.fits)
       (pending_of g.game st (restored st.frames (waiting_at st.prompt)) shows.keeps shows.fits at) shows.keeps.rows refl at
-          (each_of g.game st shows.keeps).frames).machine
+      (each_of g.game st shows.keeps).frames).machine
 
   long : length piece ≡ st.piece
   unfolding kept_bytes

@@ -175,8 +175,12 @@ parameter_back p g kind.Table x s h =
     let counted : ltb x p ≡ true = ap (ltb x) s.counted ∙ h in
     let low : x < 256 = omega (arith, s.tables, ltb-true x (length g.tables) h) in
     let least : min x 255 ≡ x = omega arith in
-    record { plain = rw (plain-decimal x small) refl; no_at = rw (decimal-at x small) refl; count = refl;
-        read = λ ts. rw (number-decimal x small, counted) (ap (λ n. Ok (n, ts)) least) }
+    record {
+      plain = rw (plain-decimal x small) refl;
+      no_at = rw (decimal-at x small) refl;
+      count = refl;
+      read = λ ts. rw (number-decimal x small, counted) (ap (λ n. Ok (n, ts)) least);
+    }
 parameter_back p g kind.Adverb x s h =
     let b = word_parameter p g 1 x s h in
     record { plain = rw b.plain refl; no_at = rw b.at refl; count = refl; read = λ ts. b.is ts }

@@ -142,7 +142,7 @@ Then p s d e lines texts = (b : Bool) × Reads p e lines (with_texts s b texts d
 
 whole_text : (p : ℕ) (s : Section) (d : Spelt) (before : List (List ℕ)) (t : List ℕ) (ls : List (List ℕ)) → d.section ≡ s → is_text_section s ≡ true
     → HasLine ls → list_all is_line ls ≡ true → rejoined ls ≡ t → length t ≤ TEXT_LIMIT →
-        Then p s d (with_texts s false (before ++ [] ∷ []) d) ls (before ++ t ∷ [])
+    Then p s d (with_texts s false (before ++ [] ∷ []) d) ls (before ++ t ∷ [])
 whole_text p s d before t ls at text (has_line l ms are) lines is short =
     let both = and_parts (is_line l) (list_all is_line ms) (rw are at lines) in
     let same : l ++ flat_map (λ m. 10 ∷ m) ms ≡ t = rw are at is in

@@ -45,9 +45,9 @@ breaks_from-suc w at before (b ∷ bs) =
       | false ↦ λ e. elim (eqb b space) as (λ v. eqb b space ≡ v → breaks_from w (suc at) before (b ∷ bs) ≡ map suc (breaks_from w at before (b ∷ bs))) [
         | true ↦ λ f. elim (ltb w (before + 1 + word_length bs)) as
             (λ v. ltb w (before + 1 + word_length bs) ≡ v → breaks_from w (suc at) before (b ∷ bs) ≡ map suc (breaks_from w at before (b ∷ bs))) [
-          | true ↦ λ g. rw (e, f, g) (ap (λ (ps : List ℕ). suc at ∷ ps) (breaks_from-suc w (suc at) 0 bs))
-          | false ↦ λ g. rw (e, f, g) (breaks_from-suc w (suc at) (suc before) bs)
-        ] refl
+              | true ↦ λ g. rw (e, f, g) (ap (λ (ps : List ℕ). suc at ∷ ps) (breaks_from-suc w (suc at) 0 bs))
+              | false ↦ λ g. rw (e, f, g) (breaks_from-suc w (suc at) (suc before) bs)
+            ] refl
         | false ↦ λ f. rw (e, f) (breaks_from-suc w (suc at) (suc before) bs)
       ] refl
     ] refl

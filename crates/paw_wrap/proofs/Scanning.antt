@@ -121,7 +121,7 @@ inside_from w at before [] i = rw (breaks_from-empty w at before) (λ h. absurd 
 inside_from w at before (b ∷ bs) i =
     let more : at + suc (length bs) ≡ suc at + length bs = omega arith in
     elim (step w at before b bs) as
-        (λ _. i < length (breaks_from w at before (b ∷ bs)) → get_or (breaks_from w at before (b ∷ bs)) i 0 < at + suc (length bs)) [
+    (λ _. i < length (breaks_from w at before (b ∷ bs)) → get_or (breaks_from w at before (b ∷ bs)) i 0 < at + suc (length bs)) [
       | Step.ends_line e r ↦ rw (r, more) (inside_from w (suc at) 0 bs i)
       | Step.breaks e f g r ↦ rw (r, more) (more_inside at (length bs) (breaks_from w (suc at) 0 bs) (inside_from w (suc at) 0 bs) i)
       | Step.goes_on e f r ↦ rw (r, more) (inside_from w (suc at) (suc before) bs i)

@@ -139,7 +139,7 @@ returns-else-at-eq0-clause-promises g c = λ tells X rows before may stores.
       meaning =
           on_ok_weaker c.answer_kept.result
           (λ h. subst (λ b. Answers story (answer story c.args.hosted.now.seed before (option_copied c.args.text)) c.args.reply.now c.answer_kept.new.reply b)
-              (sym there) h)
+          (sym there) h)
           (c.answer_kept.ensures.promises now X rows before may here).meaning;
       any_moment =
           Passes_on _ _ _ _ _ _ (InAnswer story seed name before after old) _

@@ -65,7 +65,7 @@ returns-in-Some-clause-promises g c = λ tells X rows seed es s count stands.
     record {
       meaning =
           rw (refused_answer s c.requires.player.seated c.args.text.now p last few c.take-step.result c.take-step.new.self
-              c.take-step.ensures.last c.take-step.ensures.seated
+          c.take-step.ensures.last c.take-step.ensures.seated
           (c.take-step.ensures.meaning X rows p last s.pieces s.traces) c.in-Some.word.now c.in-Some.ensures.value)
           (record { body = c.push-in-Some.ensures.value; stores = stands });
       any_moment = Passes_none _ _ _;
@@ -89,7 +89,7 @@ commits g c tells X rows seed es s count stands =
     Passes_map _ _ _ _ _ (InFile (StoresEither story (At seed es) (answer_taking story seed es c.args.text.now).session) old)
     (c.commit.ensures.any_moment tells)
     (λ m i. in_taking s c.requires.player.seated c.args.text.now p last few c.take-step.result c.take-step.new.self
-        c.take-step.ensures.last c.take-step.ensures.seated plays
+    c.take-step.ensures.last c.take-step.ensures.seated plays
     (c.args.opened.events + 1) old m shows (omega (arith, count)) stands _ _ (c.requires.kept tells).shown i)
 
 pub returns-in-Err-clause-leaves : goal.returns-in-Err-clause-leaves
@@ -127,7 +127,7 @@ returns-clause-promises g c = λ tells X rows seed es s count stands.
           took s c.requires.player.seated c.args.text.now p last few c.take-step.result next c.take-step.ensures.last c.take-step.ensures.seated plays
           stands.digests c.args.reply.now _ _ (c.args.opened.events + 1) stands.belongs shows (omega (arith, count))
           (c.in-Ok.ensures.shown tells ∙ ap (λ d. Shown d (seat_state (c.args.opened.events + 1) next) next.piece)
-              (digests_are (story_of c.args.player.now.game X) seed es _ _ _ stands (c.requires.kept tells).shown))
+          (digests_are (story_of c.args.player.now.game X) seed es _ _ _ stands (c.requires.kept tells).shown))
           (c.push-2.ensures.value ∙ ap (λ x. c.args.reply.now ++ x) c.piece.ensures.value);
       any_moment =
           commits g (goal.at.returns-clause-promises g c).After-commit tells X rows seed es s count stands;

@@ -51,7 +51,7 @@ pub returns-in-Ok-show-clause-synced : goal.returns-in-Ok-show-clause-synced
 returns-in-Ok-show-clause-synced g c = λ tells.
     let asked = c.ask.ensures.tells.0 tells in
     shown_settled (g.S.Stage.standing c.reply.new.stage) (g.S.Stage.standing c.show.new.stage) c.bytes.result.now
-        (c.in-Ok-show.ensures.shown (c.reply.ensures.leaves.serves.tells.0 asked)) (c.in-Ok.ensures.leaves.left asked)
+    (c.in-Ok-show.ensures.shown (c.reply.ensures.leaves.serves.tells.0 asked)) (c.in-Ok.ensures.leaves.left asked)
 
 pub returns-in-Ok-show-clause-takes : goal.returns-in-Ok-show-clause-takes
 returns-in-Ok-show-clause-takes g c = λ tells.
@@ -111,7 +111,7 @@ works g c tells X rows first start n s =
     let holds : FilesHold old = λ name e. g.met.S.Stage.files_hold c.args.stage.now name tells e in
     Passes_on _ _ _ _ _ _ (InHost story seed first start) _
     (Passes_map _ _ _ _ _ (InHost story seed first start) (c.in-Line.ensures.time tells)
-        (in_ask story seed first start old mid n a.0 s holds a.1 a.3 c.in-Line.n))
+    (in_ask story seed first start old mid n a.0 s holds a.1 a.3 c.in-Line.n))
     (c.reply.ensures.any_moment asked X rows _ s.may (mid_stores story seed first start old mid n a.0 s holds a.1 a.3))
     (in_doing story seed first start old mid n a.0 s holds a.1 a.3 _ (cut_request a.0 _ _ _ a.2 refl))
 

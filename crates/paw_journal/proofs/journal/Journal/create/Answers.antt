@@ -55,7 +55,7 @@ pub mark-requires-clause-long : goal.mark-requires-clause-long
 mark-requires-clause-long g c tells =
     ap (λ d. length d.bytes) (c.in_ok-lay_out.ensures.laid (c.lay_out.ensures.serves.tells.1 tells))
     ∙ laid_long (digests_of c.args.game.now c.args.rules.now) c.slot.result.now (c.told-game, c.told-rules)
-        (long g (goal.at.mark-requires-clause-long g c).After-slot)
+    (long g (goal.at.mark-requires-clause-long g c).After-slot)
 
 pub returns-in_err-lay_out-clause-any_moment : goal.returns-in_err-lay_out-clause-any_moment
 returns-in_err-lay_out-clause-any_moment g c tells =
