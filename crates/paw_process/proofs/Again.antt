@@ -48,7 +48,7 @@ pub kept_again : (p : Prompt) (k : Frames) (m : OpenTables) → k ≡ kept m →
     → restored k (waiting_at p) ≡ refilled m
 kept_again p k m is stands = ap (λ (u : Frames). restored u (waiting_at p)) is ∙ restored_again p m stands
 
--- ---- the same places again ----
+-- ---- the same frames again ----
 
 is_not : (b : Bool) → not b ≡ true → b ≡ false
 is_not true h = cc

@@ -119,7 +119,7 @@ below_in : (fs : List Frame) → AtCondacts fs → AtCondacts (below fs)
 below_in [] h = tt
 below_in (f ∷ fs) h = h.1
 
--- Places with one to eleven frames are those of a machine that waits.
+-- Kept frames, one to eleven of them, are those of a machine that waits.
 waits_at : (g : GameLists) (p : Prompt) (code : ℕ) (k : Frames) → Valid g → length k.rows ≡ 11 → fault_at g (Some code) k ≡ None
     → IsWaiting p (restored k (Some p))
 waits_at g p code k v size h = go (count_fits (Some code) k.count) refl h
@@ -146,7 +146,7 @@ waits_at g p code k v size h = go (count_fits (Some code) k.count) refl h
         }
     go false e q = cc
 
--- Places with no frame are those of a machine with nothing open.
+-- Kept frames of which none is used are those of a machine with nothing open.
 pub none_open : (g : GameLists) (k : Frames) → fault_at g None k ≡ None → IsClosed (restored k None)
 none_open g k h = go (count_fits None k.count) refl h
   where
