@@ -1,5 +1,5 @@
 -- What is known of the attached store before calls, and what they did to the stage.
-use Rattle.std.specs.Prelude.{◌≡◌, ℕ, List, [], ◌∷◌, length, Option, Some}
+use Rattle.std.specs.Prelude.{◌≡◌, List, [], ◌∷◌, length, Option, Some}
 use Rattle.paw_base.specs.Bytes.{Name}
 use Rattle.paw_stage.specs.declared.Stage.{Ghosts}
 use Rattle.paw_stage.specs.declared.StageCall.{StageCall}

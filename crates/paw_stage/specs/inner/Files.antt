@@ -1,5 +1,5 @@
 -- Where a part of a file lies, and in which folder a file.
-use Rattle.std.specs.Prelude.{◌≡◌, ℕ, List, [], ◌∷◌, take, Option, Some, IfSome, unwrap_or}
+use Rattle.std.specs.Prelude.{◌≡◌, ℕ, [], ◌∷◌, take, Option, Some, IfSome, unwrap_or}
 use Rattle.std.specs.Io.KnownBytes.{Consumes, Appends}
 use Rattle.std.specs.Path.{path_parent}
 use Rattle.paw_base.specs.Bytes.{Bytes, Name}
