@@ -73,7 +73,7 @@ counts_image c =
     two_bytes c.words ++ two_bytes c.system ++ two_bytes c.messages ++ two_bytes c.objects ++ two_bytes c.locations
     ++ two_bytes c.tables
 
--- The counts keep their limits.
+-- The counts are within their limits.
 pub record AreFew (c : Counts) : Type 0 where
   pub words : is_within 0 WORD_LIMIT c.words ≡ true
   pub system : is_within 0 SYSTEM_LIMIT c.system ≡ true

@@ -117,7 +117,7 @@ pub none_of-none : (xs : List Exit) → none_of [] xs ≡ true
 none_of-none [] = refl
 none_of-none (x ∷ xs) = none_of-none xs
 
--- What the exits after those with these verbs keep.
+-- What rule the exits after those with these verbs follow.
 abbrev keeps_after : ImagePreface → List ℕ → List Exit → Bool
 keeps_after d verbs xs = none_of verbs xs && are_exits d.words d.counts.locations xs
 

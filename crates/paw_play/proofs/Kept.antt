@@ -66,7 +66,7 @@ over_kept digests events e next pieces traces last closed is = rw (is, last) (re
       (ap (λ fs. frames_at (reverse fs) next.machine.turning) closed);
 })
 
--- A step that brings a piece leads to a player whose session keeps the reading.
+-- A line that brings a piece leads to a player whose session keeps the reading.
 pub step_kept : {F : Type 0} (g : Story) (digests : Digests) (events : ℕ) (whole : EndingOf) (s : Step) (next : PlayerView F) (pieces : List (List ℕ))
     (traces : List (List Read)) → IsStanding s → next.last ≡ s →
     StandsClosed s next.machine → PlaysTo g whole s next pieces traces → IsKept digests events (whole []) (Shown digests (seat_state events next) next.piece)

@@ -42,15 +42,15 @@ Keeps o (Left a r) = IsOrNone o r.turning
 Keeps o (Waits p path r) = Unit {0}
 Keeps o (Stopped stop r) = Unit {0}
 
--- Reading on keeps the loop of each run.
+-- Reading on leaves each run its loop, or none.
 abbrev pub GoesKeeping : (Bool → Run → Out) → Type 0
 GoesKeeping go = (a : Bool) (r : Run) → Keeps r.turning (go a r)
 
--- Calls keep the loop of each run.
+-- Calls leave each run its loop, or none.
 abbrev pub CallsKeeping : (ℕ → Run → Out) → Type 0
 CallsKeeping sub = (u : ℕ) (r : Run) → Keeps r.turning (sub u r)
 
--- What has closed the loop keeps any.
+-- What leaves no loop may follow on any.
 pub Keeps_none : (o : Option OpenLoop) (x : Out) → Keeps None x → Keeps o x
 Keeps_none o (Left a r) (inl h) = inr h
 Keeps_none o (Left a r) (inr h) = inr h
@@ -200,7 +200,7 @@ module _ (g : Story) (sub : ℕ → Run → Out) (lv : ℕ) (calls : CallsKeepin
   pub reads_keeps : (t e k : ℕ) → GoesKeeping (read_at_level g sub lv t e k)
   reads_keeps t e k a r = again_keeps r.turning _ (plain_keeps t e k a r)
 
--- A table that is called keeps the loop.
+-- A table that is called leaves the loop, or none.
 pub called_keeps : (g : Story) (n lv : ℕ) → CallsKeeping (called g n lv)
 unfolding called
 called_keeps g zero lv u r = tt

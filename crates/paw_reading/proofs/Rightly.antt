@@ -84,7 +84,7 @@ some_path g code (f ∷ path) r leads = λ e. cc
 
 -- ---- turns ----
 
--- What a run that stops keeps of its places and its line.
+-- What a run that stops leaves of its places and its line.
 record IsPlacedRightly (g : GameLists) (p : Prompt) (path : List Frame) (r : Run) : Type 0 where
   places : AreFramesAndLoop g p path r.turning
   line : IsLineTaken path r

@@ -1,4 +1,4 @@
--- What a reading keeps of the world, the line, the text and the lines to come.
+-- What stays true through a reading: of the world, the line, the text and the lines to come.
 use Rattle.std.proofs.Common.{◌≡◌, ℕ, zero, suc, ◌+◌, ◌-◌, ◌*◌, ◌<◌, ◌≤◌, ◌/◌, ◌%◌, Bool, true, false, ◌||◌, List, []}
 use Rattle.std.proofs.Common.{◌∷◌, Option, Some}
 use Rattle.std.proofs.Common.{None, refl, length, drop, min, IsTrue, arith, length-append}

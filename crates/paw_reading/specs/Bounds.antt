@@ -1,4 +1,4 @@
--- The bounds that each reading keeps.
+-- The bounds within which each reading stays.
 use Rattle.std.specs.Prelude.{◌≡◌, ◌≤◌, length, All}
 use Rattle.paw_base.specs.Bytes.{Line}
 use Rattle.paw_base.specs.declared.limits.TheConstants.{LINE_LIMIT}

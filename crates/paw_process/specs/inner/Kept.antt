@@ -102,6 +102,6 @@ fault_at g code k =
     then option_or (rows_fault g (unwrap_or code 0) None k.count 0 k.rows) (loop_fault g k k.turning) else Some 0
 
 -- The least depth at which what is kept of a machine that waits at this prompt breaks a rule: that of a frame, 11 for
--- the loop, or 0 for the number of frames; none where it keeps them all.
+-- the loop, or 0 for the number of frames; none where it follows them all.
 abbrev pub frames_fault : GameLists → Prompt → Frames → Option ℕ
 frames_fault g p k = fault_at g (waiting_code p) k
