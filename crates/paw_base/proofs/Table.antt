@@ -196,8 +196,11 @@ capital_names = refl
 
 -- A name is read as it stands.
 pub HasName-name_of : (code : ℕ) → IsPlainCode code → HasName code (name_of code)
-HasName-name_of code h =
-    (h, (bytes_eq-Decides (name_of code) (capitals (name_of code))).0 (each_code (λ k. bytes_eq (name_of k) (capitals (name_of k))) capital_names code (plain_is code h)))
+HasName-name_of code h = (
+  h,
+  (bytes_eq-Decides (name_of code) (capitals (name_of code))).0
+      (each_code (λ k. bytes_eq (name_of k) (capitals (name_of k))) capital_names code (plain_is code h)),
+)
 
 firsts_stand : below (λ code. not (is_code code) || (nat_le (param_count (second_kind code)) (param_count (first_kind code)))) 256 ≡ true
 unfolding condact_lines plain_line line_of is_plain_code is_indirect below

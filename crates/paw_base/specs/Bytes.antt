@@ -42,7 +42,7 @@ Token = Bytes
 abbrev pub Tokens : Type 0
 Tokens = List Token
 
--- The rows of routines: for each routine its answers to the bytes 0 to 255, in this order.
+-- The answers of routines: for each routine those to the bytes 0 to 255, in this order.
 abbrev pub RoutineRows : Type 0
 RoutineRows = List Bytes
 

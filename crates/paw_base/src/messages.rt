@@ -81,7 +81,7 @@ pub const NOT_CARRIED_MESSAGE: u8 = 28;
 /// The object is worn already.
 pub const WORN_ALREADY_MESSAGE: u8 = 29;
 
-/// The mark at which a line is typed.
+/// The sign at which a line is typed.
 pub const LINE_MESSAGE: u8 = 33;
 
 /// The prompt ran out of time.

@@ -35,8 +35,8 @@ use Rattle.paw_check.proofs.Verb.{HasVerb, LeavesVerb, other_has, moved_has, act
 
 -- ---- what is printed ----
 
--- what is known of a condact d that is carried out for c: a text that it names is within what c may name, and its
--- parameters are bytes
+-- What is known of a condact d that is carried out for c: a text that it names is within what c may name, and its
+-- parameters are bytes.
 pub record StandsFor (g : GameLists) (c d : Condact) : Type 0 where
   pub named : (texts : List (List ℕ)) → most_at g texts d.a ≤ most_named g texts c
   pub first : d.a < 256
@@ -65,7 +65,7 @@ pub record Keeps (code : ℕ) (m : Meaning) : Type 0 where
 
 -- ---- where reading goes on ----
 
--- what a plain condact of this code may lead to; none is ever spent
+-- What a plain condact of this code may lead to; none is ever spent.
 abbrev pub MayLead : ℕ → Effect → Type 0
 MayLead code effect.Go = Unit {0}
 MayLead code (effect.Exit a) = Unit {0}
@@ -95,11 +95,11 @@ pub record Facts (code : ℕ) (most : Most) (m : Meaning) : Type 0 where
 pub row : {code : ℕ} {most : Most} {m : Meaning} → Prints most m → Keeps code m → Way code m → Facts code most m
 row t v w = record { text = t; verb = v; way = w }
 
--- what a story, a world and a condact give
+-- What a story, a world and a condact give.
 abbrev pub Given : Type 0 → Type 0
 Given A = Story → World → Condact → A
 
--- an action by its three parts
+-- An action by its three parts.
 abbrev pub action : Given (List ℕ) → Given World → Given Act → Meaning
 action text world act = Acts (λ s w c. record { text = text s w c; world = world s w c; act = act s w c })
 
@@ -213,16 +213,16 @@ module _ (code : ℕ) (g : GameLists) (w : World) where
 
 -- ---- words for whole rows ----
 
--- a condition, by why it leaves the verb
+-- A condition, by why it leaves the verb.
 pub condition : {code : ℕ} {most : Most} {test : GameLists → World → Condact → Tested} → KeepsBy code (Tests test)
     → Facts code most (Tests test)
 condition why = row (record { within = tt {0} }) (record { kept = why }) (record { led = tt {0} })
 
--- one that changes nothing
+-- One that changes nothing.
 pub tested : (most : Most) (code : ℕ) (so : World → Condact → Bool) → Facts code most (tests so)
 tested most code so = condition (λ n g w c is spares k. k)
 
--- what is shown or played beside the text
+-- What is shown or played beside the text.
 pub marked : (code : ℕ) → Facts code most_mark mark
 marked code = row (prints (λ s w c d of k. mark_most d k.first k.second)) still going
 
@@ -230,20 +230,20 @@ marked code = row (prints (λ s w c d of k. mark_most d k.first k.second)) still
 pub says : (m : ℕ) → is_among said_of_objects m ≡ true → (g : GameLists) (d : Condact) → Said g m
 says m among g d = said g m among
 
--- an action by what may be said against it, and what is said where it is done
+-- An action by what may be said against it, and what is said where it is done.
 module _ {code : ℕ} (a : Condact → _)
     (hinders : (g : GameLists) (d : Condact) (u : World) (o : ℕ)
     → AllSaid (λ x. (v : World) → length (spoken_words g v x) ≤ most_of_action g) (hindrances u o (a d)))
     (comes : (g : GameLists) (d : Condact) (u : World)
     → length (spoken_words g u (outcome (a d))) ≤ most_of_action g) where
-  -- on the object that it names
+  -- On the object that it names.
   pub on_object : Facts code (λ g c. most_of_action g) (doing (λ g w d. acted_on g w d.a (a d)))
   on_object =
       row (prints (λ s w c d of k. acted_most s.game (a d) (hinders s.game d) (comes s.game d) w d.a))
       (keeps (λ n s w c is spares of k. inl (acted_has n s.game w c.a (a c) k)))
       (leads (λ s w c. acted_leads code s.game w c.a (a c)))
 
-  -- on the object that the sentence names, by what is said where there is none too
+  -- On the object that the sentence names, by what is said where there is none too.
   pub by_name : ((g : GameLists) (d : Condact) (u : World)
       → length (spoken_words g u (missing (a d))) ≤ most_of_action g)
       → Facts code (λ g c. most_of_action g) (doing (λ g w d. acted_by_name g w (a d)))

@@ -38,13 +38,13 @@ use Rattle.paw_reading.specs.Reading.{game_over}
 use Rattle.paw_reading.specs.inner.Steps.{goodbye, quit_question}
 use Rattle.paw_reading.proofs.Keeps.{either, prints, Keeps, IsOrNone, CallsKeeping, plain_keeps}
 
--- the loop that is open is at this level or above it
+-- The loop that is open is at this level or above it.
 abbrev pub AtMost : ℕ → Option OpenLoop → Type 0
 AtMost lv None = Unit {0}
 AtMost lv (Some l) = l.level ≤ lv
 
--- How reading ends: a loop that is open then is at this level at most, and the location is described again only where that
--- may be.
+-- How reading ends: a loop that is open then is at this level at most, and the location is described again only where
+-- that may be.
 abbrev pub Settled : Type 0 → ℕ → Out → Type 0
 Settled Describes lv (Left a r) = AtMost lv r.turning
 Settled Describes lv (Waits p path r) = Unit {0}
@@ -55,7 +55,7 @@ Settled Describes lv (Stopped _ r) = Unit {0}
 abbrev pub Alike : Type 0 → ℕ → Out → Out → Type 0
 Alike Describes lv x y = (x ≡ y) × Settled Describes lv x
 
--- an action calls one of these tables, and describes the location again only where that may be
+-- An action calls one of these tables, and describes the location again only where that may be.
 abbrev pub LeadsOn : Type 0 → (ℕ → Type 0) → Effect → Type 0
 LeadsOn Describes Reached (effect.Call u) = Reached u
 LeadsOn Describes Reached effect.Redescribe = Describes
@@ -147,7 +147,7 @@ module _ (g : Story) (Describes : Type 0) (lv : ℕ) where
 
   -- ---- one condact ----
 
-  -- the next entry and the next condact, both ways
+  -- The next entry and the next condact, both ways.
   record Onwards : Type 0 where
     next : Bool → Run → Out
     on_next : Bool → Run → Out
@@ -223,7 +223,7 @@ module _ (g : Story) (Describes : Type 0) (lv : ℕ) where
           both Same (is_for_now r en) _ _ _ _
           (condacts_alike t e _ _ (entries_alike t (suc e) es all.1) 0 en.condacts all.0 a r j) (entries_alike t (suc e) es all.1 a r j)
 
-      -- a table of such condacts, from its start
+      -- A table of such condacts, from its start.
       pub plain_alike : (t : ℕ) → AllByRecursion (λ en. AllByRecursion Kept en.condacts) (table_at g.game t) →
           GoAlike (from_place g sub lv t 0 0) (from_place g over_sub lv t 0 0)
       plain_alike t all = entries_alike t 0 (table_at g.game t) all
@@ -233,7 +233,7 @@ module _ (g : Story) (Describes : Type 0) (lv : ℕ) where
 other_level : (lv : ℕ) (l : OpenLoop) → l.level < lv → at_level lv (Some l) ≡ None
 other_level lv l low = grind (arith, nat_tests)
 
--- a loop that was open before is of another level
+-- A loop that was open before is of another level.
 pub none_at : (lv : ℕ) (o : Option OpenLoop) → AtMost lv o → at_level (suc lv) o ≡ None
 none_at lv None low = refl
 none_at lv (Some l) low = other_level (suc lv) l (omega arith)
@@ -242,20 +242,20 @@ kept_away : (lv : ℕ) (o q : Option OpenLoop) → at_level lv o ≡ None → Is
 kept_away lv o q none (inl e) = subst (λ z. at_level lv z ≡ None) (sym e) none
 kept_away lv o q none (inr e) = subst (λ z. at_level lv z ≡ None) (sym e) refl
 
--- with no loop open at its level before it, a table that is left is left
+-- With no loop open at its level before it, a table that is left is left.
 none_again : (lv : ℕ) (next : OpenLoop → Run → Out) (o : Option OpenLoop) (x : Out) → at_level lv o ≡ None → Keeps o x → next_object_or lv next x ≡ x
 none_again lv next o (Left a r) none k =
     ap (λ (z : Option OpenLoop). option_map_or (λ l. next l r) z (Left a r)) (kept_away lv o r.turning none k)
 none_again lv next o (Waits p path r) none k = refl
 none_again lv next o (Stopped stop r) none k = refl
 
--- so it is read once, from its start
+-- So it is read once, from its start.
 read_once : (g : Story) (sub : ℕ → Run → Out) → CallsKeeping sub → (lv t : ℕ) (r : Run) → at_level lv r.turning ≡ None →
     read_at_level g sub lv t 0 0 false r ≡ from_place g sub lv t 0 0 false r
 read_once g sub calls lv t r none =
     none_again lv (rest_of_loop g sub lv) r.turning (from_place g sub lv t 0 0 false r) none (plain_keeps g sub lv calls t 0 0 false r)
 
--- and leaves no loop open that wasn't
+-- And leaves no loop open that wasn't.
 kept_most : (lv : ℕ) (o q : Option OpenLoop) → AtMost lv o → IsOrNone o q → AtMost lv q
 kept_most lv o q low (inl e) = subst (AtMost lv) (sym e) low
 kept_most lv o q low (inr e) = subst (AtMost lv) (sym e) tt
@@ -268,7 +268,7 @@ settled_below Describes lv high o (Stopped Redescribes r) low k h = h
 settled_below Describes lv high o (Stopped Restarts r) low k h = tt
 settled_below Describes lv high o (Stopped (Halts halt) r) low k h = tt
 
--- what is alike from the start of a table to its end is alike for the whole table
+-- What is alike from the start of a table to its end is alike for the whole table.
 pub reads_alike : (g : Story) (Describes : Type 0) (lv high t : ℕ) (sub over_sub : ℕ → Run → Out) → CallsKeeping sub → CallsKeeping over_sub → (r : Run) →
     AtMost lv r.turning → at_level high r.turning ≡ None →
     Alike Describes high (from_place g sub high t 0 0 false r) (from_place g over_sub high t 0 0 false r) →

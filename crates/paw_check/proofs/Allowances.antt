@@ -7,14 +7,14 @@ use Rattle.paw_phrase.specs.inner.Leaving.{IsTwoLess}
 phrases_in : ℕ → ℕ
 phrases_in p = (p + 1) / 2
 
--- what they take, where each takes w
+-- What they take, where each takes w.
 pub for_phrases : ℕ → ℕ → ℕ
 for_phrases w p = phrases_in p * w
 
 rounds_le : (w a b : ℕ) → a ≤ b → a * w ≤ b * w
 rounds_le w a b h = mul-le a w b w h (omega arith)
 
--- fewer bytes take no more
+-- Fewer bytes take no more.
 pub fewer_bytes : (w p q : ℕ) → p ≤ q → for_phrases w p ≤ for_phrases w q
 unfolding for_phrases phrases_in
 fewer_bytes w p q h = rounds_le w ((p + 1) / 2) ((q + 1) / 2) (omega arith)
@@ -29,7 +29,7 @@ unfolding for_phrases phrases_in
 phrase_less w pending rest some (inl none) = rw none (one_more w 0 ((length pending + 1) / 2) (omega arith))
 phrase_less w pending rest some (inr less) = one_more w ((length rest + 1) / 2) ((length pending + 1) / 2) (omega arith)
 
--- all phrases of a line, and one more
+-- All phrases of a line, and one more.
 pub whole_line : (w p : ℕ) → p ≤ 255 → for_phrases w p + w ≤ 129 * w
 unfolding for_phrases phrases_in
 whole_line w p h = one_more w ((p + 1) / 2) 129 (omega arith)

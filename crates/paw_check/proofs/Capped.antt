@@ -13,7 +13,7 @@ capped_again a = omega arith
 pub capped_max : (a b : ℕ) → max (capped a) (capped b) ≡ capped (max a b)
 capped_max a b = omega arith
 
--- numbers that are the same but for the cap give the same sums, and the same products
+-- Numbers that are the same but for the cap give the same sums, and the same products.
 pub add_alike : (a b c d : ℕ) → capped a ≡ capped b → capped c ≡ capped d → capped (a + c) ≡ capped (b + d)
 add_alike a b c d h k = omega (arith, h, k)
 
@@ -39,7 +39,7 @@ product_alike a b c d h k =
     ∙ ap capped (mul_comm b c) ∙ sym (capped_product c b) ∙ ap (λ (n : ℕ). capped (n * b)) k ∙ capped_product d b
     ∙ ap capped (mul_comm d b)
 
--- sums of such numbers are the same but for the cap
+-- Sums of such numbers are the same but for the cap.
 pub sum_alike : {X : Type 0} (f h : X → ℕ) (xs : List X) → ((x : X) → capped (f x) ≡ capped (h x))
     → capped (sum_by f xs) ≡ capped (sum_by h xs)
 sum_alike f h [] same = refl
@@ -47,25 +47,25 @@ sum_alike f h (x ∷ xs) same =
     ap capped (sum_by-cons f x xs) ∙ add_alike (f x) (h x) _ _ (same x) (sum_alike f h xs same)
     ∙ ap capped (sym (sum_by-cons h x xs))
 
--- a sum that goes on by one number
+-- A sum that goes on by one number.
 pub one_more : {X : Type 0} (f : X → ℕ) (xs : List X) (i : ℕ) (d : X) (s t : ℕ) → i < length xs
     → s ≡ capped (sum_by f (take i xs)) → t ≡ capped (f (get_or xs i d)) → min (s + t) (2 ^ 32 - 1) ≡ capped (sum_by f (take (i + 1) xs))
 one_more f xs i d s t within so next =
     let more = sum_by_more f xs i d within in
     omega (arith, so, next, more)
 
--- one that goes on by nothing
+-- One that goes on by nothing.
 pub none_more : {X : Type 0} (f : X → ℕ) (xs : List X) (i : ℕ) (d : X) (s : ℕ) → i < length xs
     → s ≡ capped (sum_by f (take i xs)) → f (get_or xs i d) ≡ 0 → s ≡ capped (sum_by f (take (i + 1) xs))
 none_more f xs i d s within so next =
     let more = sum_by_more f xs i d within in
     omega (arith, so, next, more)
 
--- a number that is one with the cap
+-- A number that is one with the cap.
 pub from_capped : (a b : ℕ) → a ≡ capped b → capped a ≡ capped b
 from_capped a b h = omega (arith, h)
 
--- what is taken in all passes
+-- What is taken in all passes.
 pub taken_is : (o d s e t r : ℕ) → r ≡ capped ((1 + o * d) * s) → d ≡ capped e → s ≡ capped t → r ≡ capped ((1 + o * e) * t)
 taken_is o d s e t r so first second =
     so ∙ product_alike _ _ _ _ (add_alike 1 1 _ _ refl (product_alike o o d e refl (from_capped d e first))) (from_capped s t second)

@@ -14,13 +14,13 @@ use Rattle.paw_effects.specs.Indirect.{as_plain, plain_with}
 use Rattle.paw_check.specs.Verbs.{is_among, does_one_of, writes_first, writes_second, first_may_be_verb, reaches_verb}
 use Rattle.paw_check.specs.Verbs.{may_write_verb}
 
--- what holds of what is carried out, and where nothing is, holds of all
+-- What holds of what is carried out, and where nothing is, holds of all.
 pub of_carried : {A B : Type 0} (P : B → Type 0) (f : A → B) (o : Option A) (past : B) → ((x : A) → o ≡ Some x → P (f x)) → P past
     → P (option_map_or f o past)
 of_carried P f None past found none = none
 of_carried P f (Some x) past found none = found x refl
 
--- a plain condact is carried out as it is
+-- A plain condact is carried out as it is.
 itself : (code : ℕ) → is_indirect code ≡ false → plain_code code ≡ code
 itself code e = rw e refl
 
@@ -28,14 +28,14 @@ second_of : (x y : Bool) → (x && y) ≡ false → x ≡ true → y ≡ false
 second_of true y h e = h
 second_of false y h e = cc
 
--- a condact that is carried out writes no verb where its code might
+-- A condact that is carried out writes no verb where its code might.
 pub record SparesVerb (d : Condact) : Type 0 where
   pub first : is_among writes_first d.code ≡ true → (d.a == VERB_FLAG) ≡ false
   pub second : is_among writes_second d.code ≡ true → (d.b == VERB_FLAG) ≡ false
   pub back : is_among (RAMLOAD ∷ []) d.code ≡ true → nat_le VERB_FLAG d.a ≡ false
 
 module _ (g : GameLists) (w : World) (c d : Condact) (is : as_plain g w c ≡ Some d) where
-  -- it is the condact itself, or the plain one with the value of the flag
+  -- It is the condact itself, or the plain one with the value of the flag.
   pub carried : (P : Condact → Type 0) → (is_indirect c.code ≡ false → P c)
       → (is_indirect c.code ≡ true → is_argument g (first_kind (plain_code c.code)) (flag w c.a) ≡ true
       → P (record { code = plain_code c.code; a = flag w c.a; b = c.b })) → P d
@@ -51,7 +51,7 @@ module _ (g : GameLists) (w : World) (c d : Condact) (is : as_plain g w c ≡ So
       go true e h = given (is_argument g (first_kind (plain_code c.code)) (flag w c.a)) e refl h
       go false e h = let same : c ≡ d = cc in subst P same (plain e)
 
-  -- its code is the plain one
+  -- Its code is the plain one.
   pub carried_code : d.code ≡ plain_code c.code
   carried_code = carried (λ x. x.code ≡ plain_code c.code) (λ e. sym (itself c.code e)) (λ e k. refl)
 

@@ -19,7 +19,7 @@ use Rattle.paw_check.specs.inner.Levels.{HoldsLevel}
 use Rattle.paw_check.proofs.Capped.{add_alike, product_alike, from_capped}
 use Rattle.paw_check.proofs.FoundLaws.{cell_past}
 
--- what rows hold of the tables before a number
+-- What rows hold of the tables before a number.
 pub record HoldBefore (objects : ℕ) (own : Condact → ℕ) (changing : Bool) (tables : List (List Entry)) (called rows : List (List ℕ)) (n : ℕ) : Type 0 where
   pub long : length rows ≡ n
   pub each : (t v : ℕ) → t < n → v < 256 → cell_at rows t v
@@ -28,7 +28,8 @@ pub record HoldBefore (objects : ℕ) (own : Condact → ℕ) (changing : Bool) 
 cell_is : (rows : List (List ℕ)) (t v : ℕ) → cell_at rows t v ≡ slice_index_or (get_or rows t []) v 0
 cell_is rows t v = ap (λ (row : List ℕ). slice_index_or row v 0) (unwrap_or-slice_get rows t [])
 
-pub before_more : (objects : ℕ) (own : Condact → ℕ) (changing : Bool) (tables : List (List Entry)) (called rows : List (List ℕ)) (n : ℕ) (row : List ℕ) (es : List Entry)
+pub before_more : (objects : ℕ) (own : Condact → ℕ) (changing : Bool) (tables : List (List Entry)) (called rows : List (List ℕ))
+    (n : ℕ) (row : List ℕ) (es : List Entry)
     → HoldBefore objects own changing tables called rows n → es ≡ get_or tables n []
     → HoldsCapped row (λ v. entries_take objects (with_call own (λ u. cell_at called u v)) changing v es)
     → HoldBefore objects own changing tables called (rows ++ row ∷ []) (n + 1)
@@ -48,13 +49,13 @@ before_more objects own changing tables called rows n row es so is holds = recor
   ];
 }
 
--- where the number of objects is the game's but for the cap, the definition takes as much
+-- Where the number of objects is the game's but for the cap, the definition takes as much.
 entries_alike : (g : GameLists) (objects : ℕ) (t : Condact → ℕ) (changing : Bool) (v : ℕ) (es : List Entry) → objects ≡ capped (length g.objects)
     → capped (entries_take objects t changing v es) ≡ capped (passed_over g t (condacts_of_entries (counting changing v es)))
 entries_alike g objects t changing v es h =
     product_alike _ _ _ _ (add_alike 1 1 _ _ refl (product_alike objects (length g.objects) _ _ (from_capped _ _ h) refl)) refl
 
--- no table has no condacts
+-- No table has no condacts.
 none_taken : (g : GameLists) (t : Condact → ℕ) (changing : Bool) (v u : ℕ) → length g.tables ≤ u
     → passed_over g t (condacts_of_entries (counting changing v (table_at g u))) ≡ 0
 none_taken g t changing v u past =

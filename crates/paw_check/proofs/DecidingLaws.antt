@@ -38,7 +38,7 @@ use Rattle.paw_check.proofs.TextLaws.{text_alike}
 
 -- ---- places ----
 
--- the tables of a valid game have at most 4,000 entries
+-- The tables of a valid game have at most 4,000 entries.
 pub short_tables : (g : GameLists) → Valid g → All (λ table. length table ≤ ENTRY_LIMIT) g.tables
 short_tables g v = λ i d low.
     leb-true (length (get_or g.tables i d)) ENTRY_LIMIT
@@ -62,7 +62,7 @@ any_is g p ts =
 
 -- ---- numbers ----
 
--- the most condacts of a piece
+-- The most condacts of a piece.
 pub condacts_are : (g : GameLists) (changing : Bool) (round n : ℕ) → changing ≡ verb_may_change g
     → round ≡ capped (round_taken g (own_in own.Condacts) changing) → n ≡ min (round * 129) (2 ^ 32 - 1) → n ≡ capped (most_condacts g)
 condacts_are g changing round n may is so =
@@ -71,7 +71,7 @@ condacts_are g changing round n may is so =
     so ∙ product_alike round (round_cost g (λ c. 1)) 129 129 (from_capped _ _ (is ∙ ap capped same)) refl
     ∙ ap capped (mul_comm (round_cost g (λ c. 1)) 129)
 
--- the most bytes of a piece
+-- The most bytes of a piece.
 pub piece_is : (g : GameLists) (p : Prints) (changing : Bool) (round outside end whole rounds n : ℕ) → changing ≡ verb_may_change g
     → ArePrints g p → length g.system ≤ 256 → length g.messages ≤ 256
     → round ≡ capped (round_taken g (own_in (own.Text p)) changing) → outside ≡ capped (most_outside g) → end ≡ capped (most_end g)

@@ -9,11 +9,11 @@ use Rattle.paw_effects.specs.Meanings.{Meaning, tests, changing, mark, meanings,
 use Rattle.paw_check.specs.Prints.{silent, most_printed}
 use Rattle.paw_check.specs.Prints.{mark_most as most_mark}
 
--- the most bytes that the condacts of a code print
+-- The most bytes that the condacts of a code print.
 abbrev pub Most : Type 0
 Most = GameLists → Condact → ℕ
 
--- a fact of each two rows of two lists, by their place
+-- A fact of each two rows of two lists, by their place.
 abbrev pub Each : (ℕ → Most → Meaning → Type 0) → List Most → List Meaning → Type 0
 Each P [] [] = Unit {0}
 Each P (most ∷ mosts) (m ∷ ms) = P 0 most m × Each (λ n. P (suc n)) mosts ms
@@ -21,7 +21,7 @@ Each P [] (m ∷ ms) = ⊥
 Each P (most ∷ mosts) [] = ⊥
 
 infixr 10 ◌&◌
--- the fact of a row, and those of the rows after it
+-- The fact of a row, and those of the rows after it.
 abbrev pub ◌&◌ : {A B : Type 0} → A → B → A × B
 one & others = (one, others)
 
@@ -38,16 +38,16 @@ pub each_plain : (P : ℕ → Most → Meaning → Type 0) → Each P most_print
 unfolding meaning_of
 each_plain P rows beyond code = each_at P most_printed meanings _ rows beyond code
 
--- the code that comes so far after another
+-- The code that comes so far after another.
 abbrev pub after : ℕ → ℕ → ℕ
 after zero n = n
 after (suc k) n = after k (suc n)
 
--- a fact of each row from this code on
+-- A fact of each row from this code on.
 abbrev pub EachFrom : ℕ → (ℕ → Most → Meaning → Type 0) → Type 0
 EachFrom code P = Each (λ n. P (after code n)) (drop code most_printed) (drop code meanings)
 
--- a fact of the row of this code
+-- A fact of the row of this code.
 abbrev pub Of : ℕ → (ℕ → Most → Meaning → Type 0) → Type 0
 Of code P = P code (slice_index_or most_printed code silent) (slice_index_or meanings code (changing (λ w c. w)))
 

@@ -15,7 +15,7 @@ use Rattle.paw_check.specs.inner.Capped.{over_every, over_verb, is_for_every, co
 
 -- ---- sums ----
 
--- a sum over the condacts of the entries that pass
+-- A sum over the condacts of the entries that pass.
 pub sum_passing : (p : Entry → Bool) (t : Condact → ℕ) (es : List Entry)
     → sum_by t (condacts_of_entries (filter p es)) ≡ sum_by (λ e. if p e then sum_by t e.condacts else 0) es
 sum_passing p t [] = refl
@@ -27,7 +27,7 @@ sum_passing p t (e ∷ es) =
       at true = sum_by-append t e.condacts (condacts_of_entries (filter p es))
       at false = omega arith
 
--- a sum of two numbers each
+-- A sum of two numbers each.
 pub sum_of_both : {X : Type 0} (f h : X → ℕ) (xs : List X) → sum_by (λ x. f x + h x) xs ≡ sum_by f xs + sum_by h xs
 sum_of_both f h [] = refl
 sum_of_both {X} f h (x ∷ xs) =
@@ -37,7 +37,7 @@ sum_of_both {X} f h (x ∷ xs) =
     let rest = sum_of_both f h xs in
     omega (arith, both, first, second, rest)
 
--- numbers that are the same have the same sum
+-- Numbers that are the same have the same sum.
 pub sum_same : {X : Type 0} (f h : X → ℕ) (xs : List X) → ((x : X) → f x ≡ h x) → sum_by f xs ≡ sum_by h xs
 sum_same f h [] same = refl
 sum_same f h (x ∷ xs) same =
@@ -54,7 +54,7 @@ sum_of_none f (x ∷ xs) none =
 
 -- ---- verbs ----
 
--- an entry that counts for a verb counts for every verb, or it is one of this verb
+-- An entry that counts for a verb counts for every verb, or it is one of this verb.
 one_or_other : (changing any none same : Bool) (n : ℕ)
     → cond (changing || (any || (none || same))) n 0
     ≡ cond (changing || (any || none)) n 0 + cond (changing || (any || none)) 0 (cond same n 0)
@@ -76,7 +76,7 @@ counting_parts changing v t es =
 
 -- ---- calls ----
 
--- a range that goes on by one
+-- A range that goes on by one.
 pub range_more : (a n : ℕ) → range_with_len a (suc n) ≡ range_with_len a n ++ (a + n) ∷ []
 range_more a zero = ap (λ (k : ℕ). k ∷ []) (omega arith)
 range_more a (suc n) = ap (λ (ks : List ℕ). a ∷ ks) (range_more (a + 1) n ∙ ap (λ (k : ℕ). range_with_len (a + 1) n ++ k ∷ []) (omega arith))
@@ -87,7 +87,7 @@ range_to n = range_more 0 n ∙ ap (λ (k : ℕ). range_with_len 0 n ++ k ∷ []
 pub sum_to_more : (f : ℕ → ℕ) (n : ℕ) → sum_by f (range_with_len 0 (suc n)) ≡ sum_by f (range_with_len 0 n) + f n
 sum_to_more f n = ap (sum_by f) (range_to n) ∙ sum_by_push f (range_with_len 0 n) n
 
--- a number, at its own place
+-- A number, at its own place.
 abbrev pick : (ℕ → ℕ) → ℕ → ℕ → ℕ
 pick f a u = cond (a == u) 1 0 * f u
 
@@ -121,14 +121,14 @@ picked f a (suc n) low = elim (cases_lt a n) [
       omega (arith, more, before, last)
 ]
 
--- it is nothing past the last place, so this is the number itself
+-- It is nothing past the last place, so this is the number itself.
 picked_all : (f : ℕ → ℕ) (a n : ℕ) → (n ≤ a → f a ≡ 0) → sum_by (pick f a) (range_with_len 0 n) ≡ f a
 picked_all f a n past = elim (cases_lt a n) [
   | inl low ↦ picked f a n low
   | inr high ↦ picked_none f a n high ∙ sym (past high)
 ]
 
--- what condacts take by the tables that they call is what each table takes, as often as it is called
+-- What condacts take by the tables that they call is what each table takes, as often as it is called.
 abbrev called_by : (ℕ → ℕ) → Condact → ℕ
 called_by f c = if calls_table c then f c.a else 0
 
@@ -156,7 +156,7 @@ calls_counted f n past (c ∷ cs) =
 
 -- ---- entries that count for every verb ----
 
--- with their calls by table
+-- With their calls by table.
 pub every_parts : (changing : Bool) (own : Condact → ℕ) (g : ℕ → ℕ) (n : ℕ) → ((u : ℕ) → n ≤ u → g u ≡ 0) → (es : List Entry)
     → over_every changing (sum_by (with_call own g)) es
     ≡ over_every changing (sum_by own) es

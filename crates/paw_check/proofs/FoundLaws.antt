@@ -17,7 +17,7 @@ use Rattle.paw_check.specs.inner.Found.{IsFound, found_sum, found_taken}
 use Rattle.paw_check.proofs.Capped.{add_alike, product_alike, from_capped}
 use Rattle.paw_check.proofs.Entries.{counting_parts, every_parts}
 
--- sums over a range of numbers that are the same but for the cap
+-- Sums over a range of numbers that are the same but for the cap.
 pub range_alike : (f h : ℕ → ℕ) (a n : ℕ) → ((u : ℕ) → u < a + n → capped (f u) ≡ capped (h u))
     → capped (sum_by f (range_with_len a n)) ≡ capped (sum_by h (range_with_len a n))
 range_alike f h a zero same = refl
@@ -26,11 +26,11 @@ range_alike f h a (suc n) same =
     ∙ add_alike (f a) (h a) _ _ (same a (omega arith)) (range_alike f h (a + 1) n (λ u low. same u (omega (arith, low))))
     ∙ ap capped (sym (sum_by-cons h a (range_with_len (a + 1) n)))
 
--- past the last table nothing is taken
+-- Past the last table nothing is taken.
 pub cell_past : (rows : List (List ℕ)) (u v : ℕ) → length rows ≤ u → cell_at rows u v ≡ 0
 cell_past rows u v past = ap (λ row. slice_index_or (unwrap_or row []) v 0) (slice_get_past rows u past)
 
--- how many loops the entries that count for a verb open
+-- How many loops the entries that count for a verb open.
 doalls_alike : (x : TableSums) (takes : Condact → ℕ) (changing : Bool) (called : List (List ℕ)) (es : List Entry) (v : ℕ)
     → IsFound x takes changing called es → v < 256
     → capped (x.doalls + slice_index_or x.verb_doalls v 0) ≡ capped (count_by is_doall (condacts_of_entries (counting changing v es)))
@@ -39,7 +39,7 @@ doalls_alike x takes changing called es v is low =
     (from_capped _ _ is.doalls) (from_capped _ _ (is.verb_doalls.each v low))
     ∙ ap capped (sym (counting_parts changing v (λ (c : Condact). cond (is_doall c) 1 0) es))
 
--- what the tables take that the entries for every verb call
+-- What the tables take that the entries for every verb call.
 calls_alike : (x : TableSums) (takes : Condact → ℕ) (changing : Bool) (called : List (List ℕ)) (es : List Entry) (v : ℕ)
     → IsFound x takes changing called es → length called ≤ 256
     → capped (dot x.calls called v)
@@ -48,7 +48,7 @@ calls_alike x takes changing called es v is few =
     range_alike _ _ 0 (length called) (λ u low.
     product_alike _ _ (cell_at called u v) (cell_at called u v) (from_capped _ _ (is.calls.each u (omega (arith, low, few)))) refl)
 
--- what their condacts take
+-- What their condacts take.
 sum_alike : (x : TableSums) (takes : Condact → ℕ) (changing : Bool) (called : List (List ℕ)) (es : List Entry) (v : ℕ)
     → IsFound x takes changing called es → length called ≤ 256 → v < 256
     → capped (found_sum x called v)
@@ -64,7 +64,7 @@ sum_alike x takes changing called es v is few low =
     ∙ ap (λ (k : ℕ). capped (k + over_verb changing v (sum_by t) es)) (sym parts)
     ∙ ap capped (sym (counting_parts changing v t es))
 
--- what their reading takes
+-- What their reading takes.
 pub found_is : (objects : ℕ) (x : TableSums) (takes : Condact → ℕ) (changing : Bool) (called : List (List ℕ)) (es : List Entry) (v : ℕ)
     → IsFound x takes changing called es → length called ≤ 256 → v < 256
     → capped (found_taken objects x called v)
@@ -74,7 +74,7 @@ found_is objects x takes changing called es v is few low =
     (add_alike 1 1 _ _ refl (product_alike objects objects _ _ refl (doalls_alike x takes changing called es v is low)))
     (sum_alike x takes changing called es v is few low)
 
--- and so for each verb
+-- And so for each verb.
 pub found_holds : (objects : ℕ) (row : List ℕ) (x : TableSums) (takes : Condact → ℕ) (changing : Bool) (called : List (List ℕ)) (es : List Entry)
     → IsFound x takes changing called es → length called ≤ 256 → HoldsCapped row (found_taken objects x called)
     → HoldsCapped row (λ v. entries_take objects (with_call takes (λ u. cell_at called u v)) changing v es)

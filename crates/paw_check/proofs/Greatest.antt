@@ -14,20 +14,20 @@ greatest_cons : (n : ℕ) (ns : List ℕ) → greatest (n ∷ ns) ≡ max n (gre
 unfolding greatest
 greatest_cons n ns = refl
 
--- one number more
+-- One number more.
 pub most_more : (m : ℕ) (xs : List ℕ) (i d whole : ℕ) → i < length xs → max m (greatest (drop i xs)) ≡ whole
     → max (max m (get_or xs i d)) (greatest (drop (i + 1) xs)) ≡ whole
 most_more m xs i d whole within so =
     let first = ap greatest (drop_more xs i d within) ∙ greatest_cons (get_or xs i d) (drop (i + 1) xs) in
     omega (arith, so, first)
 
--- none is left
+-- None is left.
 pub most_all : (m : ℕ) (xs : List ℕ) (i whole : ℕ) → length xs ≤ i → max m (greatest (drop i xs)) ≡ whole → m ≡ whole
 most_all m xs i whole past so =
     let none = ap greatest (drop_all i xs past) ∙ greatest_none in
     omega (arith, so, none)
 
--- the same of what a list is mapped to, with the cap
+-- The same of what a list is mapped to, with the cap.
 pub capped_more : {X : Type 0} (f : X → ℕ) (m : ℕ) (xs : List X) (i : ℕ) (d : X) (whole : ℕ) → i < length xs
     → max m (capped (greatest (map f (drop i xs)))) ≡ whole
     → max (max m (capped (f (get_or xs i d)))) (capped (greatest (map f (drop (i + 1) xs)))) ≡ whole
@@ -41,14 +41,14 @@ capped_all f m xs i whole past so =
     let none = ap (λ ys. greatest (map f ys)) (drop_all i xs past) ∙ greatest_none in
     omega (arith, so, none)
 
--- the greatest of numbers with the cap is the greatest with the cap
+-- The greatest of numbers with the cap is the greatest with the cap.
 pub greatest_capped : {X : Type 0} (f : X → ℕ) (xs : List X) → greatest (map (λ x. capped (f x)) xs) ≡ capped (greatest (map f xs))
 greatest_capped f [] = greatest_none ∙ ap capped (sym greatest_none)
 greatest_capped f (x ∷ xs) =
     greatest_cons (capped (f x)) _ ∙ ap (max (capped (f x))) (greatest_capped f xs)
     ∙ capped_max (f x) (greatest (map f xs)) ∙ ap capped (sym (greatest_cons (f x) (map f xs)))
 
--- numbers that are the same but for the cap have the same greatest
+-- Numbers that are the same but for the cap have the same greatest.
 pub greatest_alike : {X : Type 0} (f h : X → ℕ) (xs : List X) → ((x : X) → capped (f x) ≡ capped (h x))
     → capped (greatest (map f xs)) ≡ capped (greatest (map h xs))
 greatest_alike f h [] same = refl
@@ -59,7 +59,7 @@ greatest_alike f h (x ∷ xs) same =
     let here = same x in
     omega (arith, rest, first, second, here)
 
--- the same of what a list is mapped to
+-- The same of what a list is mapped to.
 pub mapped_more : {X : Type 0} (f : X → ℕ) (m : ℕ) (xs : List X) (i : ℕ) (d : X) (whole : ℕ) → i < length xs
     → max m (greatest (map f (drop i xs))) ≡ whole
     → max (max m (f (get_or xs i d))) (greatest (map f (drop (i + 1) xs))) ≡ whole

@@ -64,7 +64,7 @@ enough_of : (g : GameLists) → most_piece g ≤ PIECE_LIMIT → IsEnough (most_
 unfolding takes_of
 enough_of g low = enough (takes_of g) (most_said g 14) low
 
--- what is added to the rounds of a piece has room for the goodbye
+-- What is added to the rounds of a piece has room for the goodbye.
 has_goodbye : (a goodbye b : ℕ) → goodbye ≤ a + (goodbye + b)
 has_goodbye a goodbye b = omega arith
 
@@ -100,7 +100,7 @@ within_limit limit n h = go (nat_lt limit n) refl h
     go true e k = cc
     go false e k = ltb-false limit n e
 
--- a verdict keeps its promise where it does with no cause in this place
+-- A verdict keeps its promise where it does with no cause in this place.
 first_keeps : (g : Story) (bound : Verdict) (why : Cause) (place : Option (ℕ × ℕ)) (others : List (Cause × Option (ℕ × ℕ))) →
     (place ≡ None → Promises (first_cause bound others) g) → Promises (first_cause bound ((why, place) ∷ others)) g
 first_keeps g bound why None others h = h refl

@@ -22,7 +22,7 @@ plain_goes : (s : Story) (w : World) (c : Condact) → MayLead c.code (plain_eff
 unfolding plain_effect
 plain_goes s w c = done_leads c.code (meaning_of c.code) s w c (facts c.code).way.led
 
--- an action leads on as the plain code of its condact may
+-- An action leads on as the plain code of its condact may.
 pub effect_goes : (s : Story) (w : World) (c : Condact) → MayLead (plain_code c.code) (effect_of s w c).act.effect
 unfolding effect_of
 effect_goes s w c =

@@ -17,7 +17,7 @@ use Rattle.paw_check.specs.Verbs.{is_among}
 
 -- ---- the greatest of some numbers ----
 
--- a number that is among these has no greater measure than the greatest
+-- A number that is among these has no greater measure than the greatest.
 pub among_most : (f : ℕ → ℕ) (ns : List ℕ) (n : ℕ) → is_among ns n ≡ true → f n ≤ greatest (map f ns)
 unfolding greatest
 among_most f [] n h = cc
@@ -37,13 +37,13 @@ names_most [] o = omega arith
 names_most (r ∷ os) zero = omega arith
 names_most (r ∷ os) (suc o) = let rest = names_most os o in omega arith
 
--- no object has a longer text than the longest
+-- No object has a longer text than the longest.
 pub name_most : (g : GameLists) (o : ℕ) → length (object_text g o) ≤ longest_name g
 name_most g o = names_most g.objects o
 
 -- ---- texts ----
 
--- a byte, or the name that stands for it, and the rest
+-- A byte, or the name that stands for it, and the rest.
 byte_most : (named : Bool) (name rest : List ℕ) (b n m : ℕ) → length name ≤ n → length rest ≤ m
     → length (if named then name ++ rest else b ∷ rest) ≤ (if named then n else 1) + m
 byte_most true name rest b n m short less = omega (arith, length-append name rest)
@@ -73,7 +73,7 @@ say_most g w s = ended_most g w (unwrap_or (slice_get g.system s) [])
 pub message_most : (g : GameLists) (w : World) (m : ℕ) → length (message_text g w m) ≤ most_at g g.messages m
 message_most g w m = printed_most g w (unwrap_or (slice_get g.messages m) [])
 
--- a text by its number is no longer than the longest
+-- A text by its number is no longer than the longest.
 pub at_most : (g : GameLists) (texts : List (List ℕ)) (n : ℕ) → most_at g texts n ≤ most_of g texts
 unfolding greatest
 at_most g [] n = omega arith
@@ -82,10 +82,10 @@ at_most g (text ∷ texts) (suc n) = let rest = at_most g texts n in omega arith
 
 -- ---- numbers ----
 
--- a byte has three digits at most
+-- A byte has three digits at most.
 pub byte_digits : (n : ℕ) → n < 256 → length (decimal n) ≤ 3
 byte_digits n small = length-decimal-le 3 n (omega arith) (omega arith) (omega arith)
 
--- a number in two bytes has five at most
+-- A number in two bytes has five at most.
 pub pair_digits : (n : ℕ) → n < 65536 → length (decimal n) ≤ 5
 pair_digits n small = length-decimal-le 5 n (omega arith) (omega arith) (omega arith)

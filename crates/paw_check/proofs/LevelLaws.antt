@@ -45,7 +45,7 @@ cost_more : (g : GameLists) (own : Condact → ℕ) (count : List Entry → List
 unfolding cost
 cost_more g own count n t = refl
 
--- a condact takes no more where the tables that it may call take nothing
+-- A condact takes no more where the tables that it may call take nothing.
 no_call : (own : Condact → ℕ) (v : ℕ) (c : Condact) → with_call own (λ u. cell_at [] u v) c ≡ own c
 no_call own v c = at (calls_table c) where
   none : cell_at [] c.a v ≡ 0

@@ -36,7 +36,7 @@ use Rattle.paw_check.proofs.Alike.{AtMost, Settled, Alike, LeadsOn, plain_alike,
 use Rattle.paw_check.proofs.Reaching.{each_of_table, no_first, calls_below, of_game, in_reached, NoneAt, none_called}
 use Rattle.paw_check.proofs.Reaching.{none_behind}
 
--- a condact after which the location is described again is one that may do so
+-- A condact after which the location is described again is one that may do so.
 describing : (s : Story) (w : World) (c : Condact) → (effect_of s w c).act.effect ≡ effect.Redescribe → redescribes c ≡ true
 describing s w c e = subst (MayLead (plain_code c.code)) e (effect_goes s w c)
 
@@ -48,7 +48,7 @@ module _ (s : Story) (v : Valid s.game) (ts : List ℕ) (few : (t : ℕ) → In 
   abbrev Empty : ℕ → Type 0
   Empty n = NoneAt s.game v ts n
 
-  -- a condact of a table at level n
+  -- A condact of a table at level n.
   record OnLevel (n : ℕ) (c : Condact) : Type 0 where
     calls : c.code ≡ PROCESS → TablesAt (suc n) c.a
     describes : redescribes c ≡ true → Describes
@@ -58,7 +58,7 @@ module _ (s : Story) (v : Valid s.game) (ts : List ℕ) (few : (t : ℕ) → In 
       each_of_table s.game v t (OnLevel n)
       (λ c is kept. record { calls = calls_below s.game v ts n t at c is kept; describes = λ e. may n t low at (is redescribes e) })
 
-  -- it leads on so
+  -- It leads on so.
   leads_on : (n : ℕ) (w : World) (c : Condact) → OnLevel n c → LeadsOn Describes (TablesAt (suc n)) (effect_of s w c).act.effect
   leads_on n w c k = go (effect_of s w c).act.effect refl (effect_leads s w c)
     where
@@ -72,7 +72,7 @@ module _ (s : Story) (v : Valid s.game) (ts : List ℕ) (few : (t : ℕ) → In 
       go effect.Parse is l = tt
       go effect.Spent is l = tt
 
-  -- as many levels are left, or enough
+  -- As many levels are left, or enough.
   abbrev Enough : ℕ → ℕ → ℕ → Type 0
   Enough n m lv = (n ≡ m) ⊎ (Empty (suc (lv + n)) × Empty (suc (lv + m)))
 
@@ -86,7 +86,7 @@ module _ (s : Story) (v : Valid s.game) (ts : List ℕ) (few : (t : ℕ) → In 
       let other : suc (lv + suc m) ≡ suc (suc lv + m) = omega arith in
       inr (subst Empty one none.0, subst Empty other none.1)
 
-  -- a table that is called from level lv reads alike with n levels left and with m, where these are all of ten
+  -- A table that is called from level lv reads alike with n levels left and with m, where these are all of ten.
   called_alike : (n m lv : ℕ) → lv + m ≡ 10 → Enough n m lv → (u : ℕ) → TablesAt (suc lv) u → (r : Run) → AtMost lv r.turning →
       Alike Describes lv (called s n lv u r) (called s m lv u r)
   unfolding called
@@ -116,7 +116,7 @@ module _ (s : Story) (v : Valid s.game) (ts : List ℕ) (few : (t : ℕ) → In 
   from_start n (inl e) = inl e
   from_start n (inr none) = let e : suc n ≡ suc (0 + n) = omega arith in inr (subst Empty e none.0, none.1)
 
-  -- so does a table at level 0
+  -- So does a table at level 0.
   pub table_alike : (n t : ℕ) → (n ≡ 10) ⊎ (Empty (suc n) × Empty 11) → In t ts → (r : Run) → r.turning ≡ None →
       Alike Describes 0 (read_at_level s (called s n 0) 0 t 0 0 false r) (table_read s t r)
   unfolding called_below
@@ -145,7 +145,7 @@ in_three (suc (suc (suc t))) low = absurd (omega arith)
 one_of_two : (t : ℕ) → In t (1 ∷ 2 ∷ []) → t < 3
 one_of_two t at = grind (arith, nat_tests)
 
--- with as many levels of calls as there are each table of a turn reads the same, where no call is too deep
+-- With as many levels of calls as there are each table of a turn reads the same, where no call is too deep.
 pub levels_hold : (s : Story) → ValidStory s → call_too_deep s.game ≡ None → CallsWithin (most_levels s.game) s
 levels_hold s valid calm t r low none =
     (table_alike s valid.game turn_tables (λ u at. omega (arith, one_of_three u at, some_tables s.game valid.game)) (Unit {0}) (λ n u few at h. tt)
@@ -158,7 +158,8 @@ never (Stopped Redescribes r) h = h
 never (Stopped Restarts r) h = tt
 never (Stopped (Halts halt) r) h = tt
 
--- a table that is read after a description, or in a time frame, never describes again where no table that it reaches may
+-- A table that is read after a description, or in a time frame, never describes again where no table that it reaches
+-- May.
 pub tables_leave_described : TablesLeaveDescribed
 tables_leave_described s t r valid quiet at none =
     let few : (u : ℕ) → In u (1 ∷ 2 ∷ []) → u < length s.game.tables = λ u two. omega (arith, one_of_two u two, some_tables s.game valid.game) in

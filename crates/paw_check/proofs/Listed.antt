@@ -29,14 +29,14 @@ use Rattle.paw_check.proofs.Lengths.{put_most, say_most}
 
 -- ---- sums ----
 
--- the texts of these objects take so much
+-- The texts of these objects take so much.
 abbrev texts_take : (ℕ → List ℕ) → List ℕ → ℕ
 texts_take f os = sum_by (λ o. length (f o)) os
 
 takes_more : (f : ℕ → List ℕ) (o : ℕ) (os : List ℕ) → texts_take f (o ∷ os) ≡ length (f o) + texts_take f os
 takes_more f o os = sum_by-cons (λ (x : ℕ). length (f x)) o os
 
--- each text takes at most so much more
+-- Each text takes at most so much more.
 each_more : (f h : ℕ → List ℕ) (m : ℕ) → ((o : ℕ) → length (h o) ≤ length (f o) + m) → (os : List ℕ)
     → texts_take h os ≤ texts_take f os + length os * m
 each_more f h m more [] = omega arith
@@ -85,7 +85,7 @@ listed_most w f os =
     either_most (lists_are_sentences w) (as_sentence (map f os)) (as_lines (map f os)) (texts_take f os + 5 * length os + 2)
     (sentence_most f os) lines
 
--- a list, or what is said where it is empty
+-- A list, or what is said where it is empty.
 list_or_most : (g : GameLists) (w : World) (s n : ℕ) (f : ℕ → List ℕ) (os : List ℕ) → texts_take f os + 5 * length os + 2 ≤ n
     → length (list_or_say g w s (map f os)) ≤ max n (most_said g s)
 list_or_most g w s n f [] within = omega (arith, say_most g w s)
@@ -104,7 +104,7 @@ seen_most g w n f (o ∷ os) within =
 
 -- ---- the objects of a game ----
 
--- the texts of all objects, by their numbers
+-- The texts of all objects, by their numbers.
 numbered : (f : ℕ → List ℕ) (os : List ObjectRow) (a : ℕ)
     → ((i j : ℕ) → j ≡ a + i → f j ≡ unwrap_or (option_map (λ (r : ObjectRow). r.text) (slice_get os i)) [])
     → texts_take f (range_with_len a (length os)) ≡ sum_by (λ (r : ObjectRow). length r.text) os
@@ -124,11 +124,11 @@ all_texts : (g : GameLists) → texts_take (object_text g) (range_with_len 0 (le
 all_texts g = numbered (object_text g) g.objects 0 (λ i j e. let same : j ≡ i = omega arith in ap (object_text g) same)
 
 module _ (g : GameLists) (w : World) (of : IsOf g w) (test : ℕ → Bool) where
-  -- those of all objects that pass a test
+  -- Those of all objects that pass a test.
   abbrev some : List ℕ
   some = filter test (range_with_len 0 (length w.places))
 
-  -- are as many as all at most
+  -- Are as many as all at most.
   some_count : length some ≤ length g.objects
   some_count =
       omega (
@@ -138,7 +138,7 @@ module _ (g : GameLists) (w : World) (of : IsOf g w) (test : ℕ → Bool) where
         of.places,
       )
 
-  -- and their texts take as much as those of all at most
+  -- And their texts take as much as those of all at most.
   some_take : texts_take (object_text g) some ≤ sum_by (λ (r : ObjectRow). length r.text) g.objects
   some_take =
       let all : texts_take (object_text g) (range_with_len 0 (length w.places)) ≡ sum_by (λ (r : ObjectRow). length r.text) g.objects =
@@ -155,7 +155,8 @@ module _ (g : GameLists) (w : World) (of : IsOf g w) (test : ℕ → Bool) where
 -- ---- what is worn ----
 
 worn_most : (g : GameLists) (w : World) (o : ℕ) → length (worn_text g w o) ≤ most_put g IS_WORN_MESSAGE
-worn_most g w o = either_most (place w o == WORN_PLACE) (put_text g w IS_WORN_MESSAGE) [] (most_put g IS_WORN_MESSAGE) (put_most g w IS_WORN_MESSAGE) (omega arith)
+worn_most g w o = either_most (place w o == WORN_PLACE) (put_text g w IS_WORN_MESSAGE) [] (most_put g IS_WORN_MESSAGE)
+    (put_most g w IS_WORN_MESSAGE) (omega arith)
 
 held_most : (g : GameLists) (w : World) (o : ℕ) → length (held_text g w o) ≤ length (object_text g o) + most_put g IS_WORN_MESSAGE
 held_most g w o = omega (arith, worn_most g w o, length-append (object_text g o) (worn_text g w o))

@@ -20,21 +20,21 @@ or_none : (b : Bool) → (b || false) ≡ b
 or_none true = refl
 or_none false = refl
 
--- nothing marked
+-- Nothing marked.
 pub marks_none : (a : List Bool) (p : ℕ → Bool) → ((u : ℕ) → p u ≡ false) → MarksTables a a p
 marks_none a p none = record {
   long = refl;
   each = λ u low. sym (ap (λ (x : Bool). slice_index_or a u false || x) (none u) ∙ or_none (slice_index_or a u false));
 }
 
--- one more of the tables with a condact that passes
+-- One more of the tables with a condact that passes.
 pub marks_same : (a b : List Bool) (p q : ℕ → Bool) → ((u : ℕ) → p u ≡ q u) → MarksTables a b p → MarksTables a b q
 marks_same a b p q same so = record {
   long = so.long;
   each = λ u low. so.each u low ∙ ap (λ (x : Bool). slice_index_or a u false || x) (same u);
 }
 
--- the flags mark one level more
+-- The flags mark one level more.
 pub marked_more : (g : GameLists) (ts : List ℕ) (n : ℕ) (a b : List Bool) → Marked g ts n a → MarksTables a b (is_among (called_below g ts n)) →
     Marked g ts (suc n) b
 marked_more g ts n a b so more = record {
@@ -47,7 +47,7 @@ marked_more g ts n a b so more = record {
       (list_any-append (λ m. m == u) (called_below g ts n) [] ∙ or_none (is_among (called_below g ts n) u)));
 }
 
--- nothing is marked at first
+-- Nothing is marked at first.
 pub marked_none : (g : GameLists) (ts : List ℕ) → Marked g ts 0 (replicate 256 false)
 marked_none g ts = record {
   long = length-replicate 256 false;
@@ -59,13 +59,13 @@ marked_first g ts b so =
     marked_more g ts 0 (replicate 256 false) b (marked_none g ts)
     (marks_same (replicate 256 false) b (is_among ts) (is_among (called_below g ts 0)) (λ u. ap (λ ns. is_among ns u) (sym (below_none g ts))) so)
 
--- the marked numbers below a count are those of the levels
+-- The marked numbers below a count are those of the levels.
 pub marked_filter : (g : GameLists) (ts : List ℕ) (n : ℕ) (b : List Bool) (count : ℕ) → count ≤ 256 → Marked g ts n b
     → filter (λ u. slice_index_or b u false) (range_with_len 0 count)
     ≡ filter (is_among (flat_map (called_below g ts) (range_with_len 0 n))) (range_with_len 0 count)
 marked_filter g ts n b count few so = filter_alike _ _ 0 count (λ u low. so.each u (omega (arith, low, few)))
 
--- one level more
+-- One level more.
 pub levels_more : (g : GameLists) (ts : List ℕ) (n l x : ℕ) → l ≡ levels_from g ts n
     → x ≡ cond (nat_lt 0 (length (called_below g ts (suc n)))) 1 0 → l + x ≡ levels_from g ts (suc n)
 levels_more g ts n l x so is =

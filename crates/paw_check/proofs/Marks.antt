@@ -1,4 +1,4 @@
--- How long the marks and the counts of a game are.
+-- How long the signs and the counts of a game are.
 use Rattle.std.proofs.Common.{◌≡◌, ℕ, zero, suc, ◌-◌, ◌<◌, ◌≤◌, ◌==◌, Bool, true, false, List, [], ◌∷◌, ◌++◌, refl}
 use Rattle.std.proofs.Common.{length}
 use Rattle.std.proofs.Common.{nat_le, arith, length-append}

@@ -8,11 +8,11 @@ use Rattle.std.proofs.lemmas.Bool.{or_cases, eqb-true, lt-ltb}
 use Rattle.std.proofs.lemmas.Bool.Decides.{nat_tests}
 use Rattle.paw_check.specs.Verbs.{is_among}
 
--- this number is one of these
+-- This number is one of these.
 abbrev pub In : ℕ → List ℕ → Type 0
 In u us = is_among us u ≡ true
 
--- one of two tests is passed
+-- One of two tests is passed.
 pub or_left : (x y : Bool) → x ≡ true → (x || y) ≡ true
 or_left true y h = refl
 or_left false y h = cc
@@ -49,7 +49,7 @@ any_of_joined p (x ∷ xs) ys h =
       ]
     ]
 
--- what is found in one of some lists is found in all of them together
+-- What is found in one of some lists is found in all of them together.
 pub any_within : {A : Type 0} (p : A → Bool) (f : ℕ → List A) (us : List ℕ) (u : ℕ) → In u us → list_any p (f u) ≡ true → list_any p (flat_map f us) ≡ true
 any_within p f [] u at h = cc
 any_within p f (v ∷ vs) u at h =
@@ -58,7 +58,7 @@ any_within p f (v ∷ vs) u at h =
       | inr later ↦ any_behind p (f v) (flat_map f vs) (any_within p f vs u later h)
     ]
 
--- and what is found in all of them is found in one
+-- And what is found in all of them is found in one.
 pub record Found {A : Type 0} (p : A → Bool) (f : ℕ → List A) (us : List ℕ) : Type 0 where
   pub place : ℕ
   pub among : In place us
@@ -74,7 +74,7 @@ found_within p f (v ∷ vs) h =
           record { place = k.place; among = or_right (v == k.place) (is_among vs k.place) k.among; found = k.found }
     ]
 
--- a weaker test finds as much
+-- A weaker test finds as much.
 pub any_weaker : {A : Type 0} (p q : A → Bool) → ((x : A) → p x ≡ true → q x ≡ true) → (xs : List A) → list_any p xs ≡ true → list_any q xs ≡ true
 any_weaker p q h [] k = cc
 any_weaker p q h (x ∷ xs) k =
@@ -100,7 +100,7 @@ in_filtered q (v ∷ vs) u pass at =
     first : (v == u) ≡ true → q v ≡ true → In u (cond (q v) (v ∷ filter q vs) (filter q vs))
     first here passes = rw passes (or_left (v == u) (is_among (filter q vs) u) here)
 
--- what passed a test stood there, and passes it
+-- What passed a test stood there, and passes it.
 pub record Passed (q : ℕ → Bool) (us : List ℕ) (u : ℕ) : Type 0 where
   pub passes : q u ≡ true
   pub among : In u us
@@ -147,7 +147,7 @@ found_before p (x ∷ xs) h = go (p x) h (found_before p xs)
     go true k more = omega arith
     go false k more = let low = more k in omega arith
 
--- what is found has a position
+-- What is found has a position.
 pub no_position : {A : Type 0} (p : A → Bool) (xs : List A) → position p xs ≡ None → list_any p xs ≡ true → ⊥
 no_position p xs none h =
     let low : nat_lt (position_or_len p xs) (length xs) ≡ true = lt-ltb (position_or_len p xs) (length xs) (found_before p xs h) in

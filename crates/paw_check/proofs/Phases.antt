@@ -34,7 +34,7 @@ use Rattle.paw_check.proofs.Room.{with_line, with_words, with_events, heard_read
 use Rattle.paw_check.proofs.Room.{closed_ready, opening_ready}
 use Rattle.paw_check.proofs.Room.{Ready, Ends, HasRoom, less, moved, said, dropped, left_room, phrase_room}
 
--- a bound is enough for all rounds of a piece, and for what is said beside them
+-- A bound is enough for all rounds of a piece, and for what is said beside them.
 pub record IsEnough (condacts text : ℕ) (k : Takes) : Type 0 where
   pub reads : 129 * round_reads k ≤ condacts
   pub bytes : 129 * round_text k + (k.timeout + k.prompt) ≤ text
@@ -51,7 +51,7 @@ module _ (g : Story) (valid : ValidStory g) (condacts text : ℕ) (k : Takes) (e
   abbrev Room : ℕ → ℕ → Run → Type 0
   Room a b r = HasRoom g valid condacts text k a b r
 
-  -- each phase that has its room stays within the bound
+  -- Each phase that has its room stays within the bound.
   abbrev Goes : (TurnPhase → Run → Ending) → Type 0
   Goes go = (s : TurnPhase) (r : Run) → Room (reads_of k s) (text_of k s) r → Stays (go s r)
 
@@ -71,7 +71,7 @@ module _ (g : Story) (valid : ValidStory g) (condacts text : ℕ) (k : Takes) (e
   says_on a b most words go r within h on =
       saying_stays words go r (omega (arith, h.short)) (on (said g valid condacts text k a b most words r within h))
 
-  -- a piece begins with room for a round, for a timeout, and for all phrases of a line
+  -- A piece begins with room for a round, for a timeout, and for all phrases of a line.
   fresh : (r : Run) → IsIn r → length r.read ≤ 0 → length r.current ≤ 0 → Room (round_reads k) (k.timeout + round_text k) r
   fresh r ready none empty =
       let few = whole_line (round_reads k) (length r.pending) ready.line in
@@ -113,7 +113,7 @@ module _ (g : Story) (valid : ValidStory g) (condacts text : ℕ) (k : Takes) (e
     again_stays zero r o h = described_again r h
     again_stays (suc t) r o h = absurd o
 
-    -- the game starts anew, in a new piece
+    -- The game starts anew, in a new piece.
     anew_stays : (r : Run) → IsIn r → length r.read ≤ 0 → length r.current ≤ 0 → Stays (go AtDescribe r)
     anew_stays r ready none empty =
         goes AtDescribe r
@@ -160,7 +160,7 @@ module _ (g : Story) (valid : ValidStory g) (condacts text : ℕ) (k : Takes) (e
         (lesser (round_reads k) (k.timeout + round_text k) (k.reads 2) (k.timeout + k.prints 2) r h (omega arith) (omega arith))
         (goes AtTimeFrame (printed (timeout_text g.game w) r))
 
-    -- at the main prompt nothing is used of the open piece
+    -- At the main prompt nothing is used of the open piece.
     at_main_stays : (r : Run) (lines : List (List ℕ)) → IsIn r → length r.read ≤ 0 → length r.current ≤ 0 → All IsLine lines → Stays (at_main g go r lines)
     unfolding at_main
     at_main_stays r [] h none empty are = record { pieces = h.closed.pieces; traces = h.closed.traces }
@@ -179,7 +179,7 @@ module _ (g : Story) (valid : ValidStory g) (condacts text : ℕ) (k : Takes) (e
 
     -- ---- phrases ----
 
-    -- what is said of a phrase with no known word, whose line is dropped
+    -- What is said of a phrase with no known word, whose line is dropped.
     unknown_stays : (r : Run) → Room (round_reads k) (round_text k) (line_dropped r) →
         Stays (saying (unknown_text g.game r.world) (go AtTimeFrame) (line_dropped r))
     unknown_stays r h =
@@ -187,7 +187,7 @@ module _ (g : Story) (valid : ValidStory g) (condacts text : ℕ) (k : Takes) (e
         (lesser (round_reads k) (round_text k) (k.reads 2) (k.refusal + k.prints 2) (line_dropped r) h (omega arith) (omega arith))
         (goes AtTimeFrame (printed (unknown_text g.game r.world) (line_dropped r)))
 
-    -- the prompt closes the piece
+    -- The prompt closes the piece.
     prompt_stays : (r : Run) → Room 0 0 r → Stays (saying (prompt_text g.game r.world) (λ s. at_main g go (closed s) s.events) r)
     prompt_stays r h =
         let words : List ℕ = prompt_text g.game r.world in
@@ -241,7 +241,7 @@ module _ (g : Story) (valid : ValidStory g) (condacts text : ℕ) (k : Takes) (e
   ended (Halted (halt.TooDeep u) r) h some = h
   ended Unended h some = absurd (some refl)
 
-  -- a reading waits or is over, with all its pieces within the bound
+  -- A reading waits or is over, with all its pieces within the bound.
   pub readings_stay : (seed : ℕ) (es : List (List ℕ)) → All IsLine es → EndsWithin condacts text (reading g seed es)
   readings_stay seed es are =
       let r : Run = opening g seed es in

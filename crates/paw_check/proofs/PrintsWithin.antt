@@ -65,7 +65,7 @@ actions_print_within g w c v of h =
     (λ d is. subst (λ code. length (plain_effect g w d).text ≤ (slice_index_or most_printed code silent) g.game c)
     (carried_code g.game w c d is) (plain_within g w c d of (stands_for g.game w c d v.game right is))) (omega arith)
 
--- QUIT alone asks, and its question is that of its row
+-- QUIT alone asks, and its question is that of its row.
 quit_row : (g : GameLists) (c : Condact) (code : ℕ) → code ≡ QUIT
     → most_put g QUIT_MESSAGE ≤ (slice_index_or most_printed code silent) g c
 unfolding most_printed

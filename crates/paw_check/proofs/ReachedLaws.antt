@@ -8,7 +8,7 @@ use Rattle.paw_check.specs.Calls.{called_below, called_from}
 use Rattle.paw_check.specs.Verbs.{is_among}
 use Rattle.paw_check.specs.inner.Capped.{MarksTables}
 
--- the flags mark the tables of the first n levels
+-- The flags mark the tables of the first n levels.
 pub record Marked (g : GameLists) (ts : List ℕ) (n : ℕ) (marks : List Bool) : Type 0 where
   pub long : length marks ≡ 256
   pub each : (u : ℕ) → u < 256 → slice_index_or marks u false ≡ is_among (flat_map (called_below g ts) (range_with_len 0 n)) u

@@ -30,15 +30,15 @@ use Rattle.paw_check.proofs.Members.{in_range, of_range, no_position}
 
 -- ---- what a condact of a table is found by ----
 
--- each test that this condact passes finds one among these
+-- Each test that this condact passes finds one among these.
 abbrev pub Member : List Condact → Condact → Type 0
 Member all c = (p : Condact → Bool) → p c ≡ true → list_any p all ≡ true
 
--- each test that finds one of these finds one among all
+-- Each test that finds one of these finds one among all.
 abbrev IsPart : List Condact → List Condact → Type 0
 IsPart all cs = (p : Condact → Bool) → list_any p cs ≡ true → list_any p all ≡ true
 
--- what holds of each member that keeps its rules holds of each condact of these
+-- What holds of each member that follows its rules holds of each condact of these.
 module _ (g : GameLists) (all : List Condact) (Q : Condact → Type 0) (holds : (c : Condact) → Member all c → IsTrue (is_condact g c) → Q c) where
   each_member : (cs : List Condact) → IsTrue (list_all (is_condact g) cs) → IsPart all cs → AllByRecursion Q cs
   each_member [] kept part = tt
@@ -61,7 +61,7 @@ module _ (g : GameLists) (all : List Condact) (Q : Condact → Type 0) (holds : 
     each_entry es (second_of_and (is_entry g en) _ kept) (λ p e. part p (any_behind p en.condacts (flat_map (λ e. e.condacts) es) e)),
   )
 
--- and so of each of a table
+-- And so of each of a table.
 pub each_of_table : (g : GameLists) (v : Valid g) (t : ℕ) (Q : Condact → Type 0) →
     ((c : Condact) → Member (table_condacts g t) c → IsTrue (is_condact g c) → Q c) → AllByRecursion (λ en. AllByRecursion Q en.condacts) (table_at g t)
 each_of_table g v t Q holds =
@@ -78,7 +78,7 @@ any_entry is_so (en ∷ es) h =
       | inr later ↦ or_right (list_any is_so en.condacts) (list_any (λ (e : Entry). list_any is_so e.condacts) es) (any_entry is_so es later)
     ]
 
--- neither here nor later
+-- Neither here nor later.
 record NoPlace (t : ℕ) (here : Option ℕ) (later : Option (ℕ × ℕ)) : Type 0 where
   none_here : here ≡ None
   none_later : later ≡ None
@@ -88,7 +88,7 @@ no_place : (t : ℕ) (here : Option ℕ) (later : Option (ℕ × ℕ)) →
 no_place t None later h = record { none_here = refl; none_later = h }
 no_place t (Some e) later h = cc
 
--- where there is no place none of these tables has such a condact
+-- Where there is no place none of these tables has such a condact.
 pub no_first : (g : GameLists) (is_so : Condact → Bool) (ts : List ℕ) → first_with g is_so ts ≡ None → (t : ℕ) → In t ts →
     list_any is_so (table_condacts g t) ≡ true → ⊥
 no_first g is_so [] none t at h = cc
@@ -112,11 +112,11 @@ same_table : (c : Condact) → c.code ≡ PROCESS → is_call_of c.a c ≡ true
 same_table c is = grind (arith, nat_tests)
 
 module _ (g : GameLists) (v : Valid g) (ts : List ℕ) where
-  -- the table that a PROCESS calls is one of the game
+  -- The table that a PROCESS calls is one of the game.
   called_table : (c : Condact) → IsTrue (is_condact g c) → c.code ≡ PROCESS → c.a < length g.tables
   called_table c kept is = ltb-true c.a (length g.tables) (first_kept g c PROCESS kind.Table process_takes is (right_condact g c v kept))
 
-  -- it stands one level below
+  -- It stands one level below.
   pub calls_below : (n t : ℕ) → In t (called_below g ts n) → (c : Condact) → Member (table_condacts g t) c → IsTrue (is_condact g c) → c.code ≡ PROCESS →
       In c.a (called_below g ts (suc n))
   unfolding called_below
@@ -125,7 +125,7 @@ module _ (g : GameLists) (v : Valid g) (ts : List ℕ) where
       (any_within (is_call_of c.a) (table_condacts g) (called_below g ts n) t at (is (is_call_of c.a) (same_table c process)))
       (in_range 0 (length g.tables) c.a (omega arith) (omega (arith, called_table c kept process)))
 
-  -- the tables of a level are the game's
+  -- The tables of a level are the game's.
   pub of_game : ((t : ℕ) → In t ts → t < length g.tables) → (n t : ℕ) → In t (called_below g ts n) → t < length g.tables
   unfolding called_below
   of_game few zero t at = few t at
@@ -136,18 +136,18 @@ module _ (g : GameLists) (v : Valid g) (ts : List ℕ) where
             (of_filtered (λ u. list_any (is_call_of u) (flat_map (table_condacts g) (called_below g ts n))) (all_tables g) t at).among,
       )
 
-  -- within ten levels they are reached
+  -- Within ten levels they are reached.
   pub in_reached : (n t : ℕ) → n ≤ 10 → In t (called_below g ts n) → t < length g.tables → In t (reached_from g ts)
   in_reached n t low at few =
       in_filtered (is_among (flat_map (called_below g ts) (range_with_len 0 11))) (all_tables g) t
       (any_within (λ m. m == t) (called_below g ts) (range_with_len 0 11) n (in_range 0 11 n (omega arith) (omega arith)) at)
       (in_range 0 (length g.tables) t (omega arith) (omega arith))
 
-  -- no table stands at this level
+  -- No table stands at this level.
   abbrev pub NoneAt : ℕ → Type 0
   NoneAt n = (t : ℕ) → In t (called_below g ts n) → ⊥
 
-  -- a table at a level is called by one above it
+  -- A table at a level is called by one above it.
   caller : (n t : ℕ) → In t (called_below g ts (suc n)) → Found (is_call_of t) (table_condacts g) (called_below g ts n)
   unfolding called_below
   caller n t at =
@@ -164,7 +164,7 @@ module _ (g : GameLists) (v : Valid g) (ts : List ℕ) where
   is_a_call : (u : ℕ) (c : Condact) → is_call_of u c ≡ true → calls_table c ≡ true
   is_a_call u c h = first_of_and (calls_table c) (c.a == u) h
 
-  -- below a level without calls
+  -- Below a level without calls.
   pub none_called : (n : ℕ) → first_with g calls_table (called_below g ts n) ≡ None → NoneAt (suc n)
   none_called n none t at =
       let k = caller n t at in
@@ -183,7 +183,7 @@ module _ (g : GameLists) (v : Valid g) where
   abbrev None_at : ℕ → Type 0
   None_at n = NoneAt g v turn_tables n
 
-  -- of these levels as many as have a table are the first ones, or all have
+  -- Of these levels as many as have a table are the first ones, or all have.
   first_levels : (a k : ℕ) → None_at (a + count_by (has_tables g) (range_with_len a k)) ⊎ (count_by (has_tables g) (range_with_len a k) ≡ k)
   first_levels a zero = inr refl
   first_levels a (suc k) =
@@ -207,7 +207,7 @@ module _ (g : GameLists) (v : Valid g) where
           let one : ◌≡◌ {A = ℕ} (cond (has_tables g a) 1 0) 1 = ap (λ (b : Bool). cond b 1 0) e in
           inr (omega (arith, one, more, all))
 
-  -- below as many levels as there are stands no table
+  -- Below as many levels as there are stands no table.
   pub none_behind : first_with g calls_table (called_below g turn_tables 10) ≡ None → None_at (suc (most_levels g))
   none_behind calm = go (first_levels 1 10)
     where

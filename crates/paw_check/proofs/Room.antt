@@ -31,7 +31,7 @@ pub record Takes : Type 0 where
   pub timeout : ℕ
   pub prompt : ℕ
 
--- nothing is longer that is said beside the tables
+-- Nothing is longer that is said beside the tables.
 pub record Says (g : Story) (k : Takes) : Type 0 where
   pub view : (w : World) → length (view_text g.game w) ≤ k.view
   pub refused : (w : World) → length (refusal_text g.game w) ≤ k.refusal
@@ -39,7 +39,7 @@ pub record Says (g : Story) (k : Takes) : Type 0 where
   pub timeout : (w : World) → length (timeout_text g.game w) ≤ k.timeout
   pub prompt : (w : World) → length (prompt_text g.game w) ≤ k.prompt
 
--- each table of a turn takes no more, from each run with room for it
+-- Each table of a turn takes no more, from each run with room for it.
 abbrev pub TablesTake : Story → (condacts text : ℕ) → Takes → Type 0
 TablesTake g condacts text k =
     (pending m n t : ℕ) (r : Run) → t ≤ 2 → IsReadyWithin condacts text pending g.game r → HasUsed m n r → m + k.reads t ≤ condacts → n + k.prints t ≤ text →
@@ -52,7 +52,7 @@ DescribesOnly (suc t) x = LeavesDescribed x
 
 -- ---- phases ----
 
--- what a phase takes at most, up to the next phrase
+-- What a phase takes at most, up to the next phrase.
 abbrev pub reads_of : Takes → TurnPhase → ℕ
 reads_of k AtPhrase = 0
 reads_of k AtTimeFrame = k.reads 2
@@ -65,7 +65,7 @@ text_of k AtTimeFrame = k.prints 2
 text_of k AtDescribe = k.view + (k.prints 1 + k.prints 2)
 text_of k AtResponse = k.prints 0 + (k.refusal + (k.view + (k.prints 1 + k.prints 2)))
 
--- a round is all that a phrase leads to
+-- A round is all that a phrase leads to.
 abbrev pub round_reads : Takes → ℕ
 round_reads k = reads_of k AtResponse
 
@@ -83,7 +83,7 @@ text_behind k zero = k.refusal + (k.view + (k.prints 1 + k.prints 2))
 text_behind k (suc zero) = k.prints 2
 text_behind k (suc (suc t)) = 0
 
--- what comes of phases, which may be too few
+-- What comes of phases, which may be too few.
 abbrev pub EndsSo : ℕ → ℕ → Ending → Type 0
 EndsSo condacts text Unended = Unit {0}
 EndsSo condacts text e = EndsWithin condacts text e
@@ -95,14 +95,14 @@ one_within most piece short (suc i) d low = absurd (omega arith)
 -- ---- runs ----
 
 module _ (g : Story) (valid : ValidStory g) (condacts text : ℕ) where
-  -- a run of which a line may be left
+  -- A run of which a line may be left.
   abbrev pub Ready : Run → Type 0
   Ready r = IsReadyWithin condacts text 255 g.game r
 
   abbrev pub Ends : Ending → Type 0
   Ends e = EndsSo condacts text e
 
-  -- with another world, another line, another verb before it, other words in the open piece and other lines to come
+  -- With another world, another line, another verb before it, other words in the open piece and other lines to come.
   pub changed : (r : Run) → Ready r → (w : World) → IsWorldOf g.game w → (line : List ℕ) → length line ≤ 255 → (earlier : ℕ) → earlier < 256 →
       (words : List ℕ) (lines : List (List ℕ)) → All IsLine lines →
       Ready (record r { world = w; pending = line; earlier = earlier; current = words; events = lines })
@@ -179,7 +179,7 @@ module _ (g : Story) (valid : ValidStory g) (condacts text : ℕ) where
     pub moved : (a b : ℕ) (r : Run) → HasRoom a b r → (w : World) → IsWorldOf g.game w → HasRoom a b (with_world w r)
     moved a b r h w world = record { ready = in_world r h.ready w world; few = h.few; short = h.short }
 
-    -- words are printed
+    -- Words are printed.
     pub said : (a b most : ℕ) (words : List ℕ) (r : Run) → length words ≤ most → HasRoom a (most + b) r → HasRoom a b (printed words r)
     said a b most words r within h = record {
       ready = with_words r h.ready (r.current ++ words);
@@ -193,7 +193,7 @@ module _ (g : Story) (valid : ValidStory g) (condacts text : ℕ) where
         let shorter = fewer_bytes (round_text k) 0 (length r.pending) (omega arith) in
         record { ready = with_line r h.ready [] (omega arith); few = omega (arith, fewer, h.few); short = omega (arith, shorter, h.short) }
 
-    -- what a table leaves of the room that a run has
+    -- What a table leaves of the room that a run has.
     pub left_room : (a b c d m n p : ℕ) (s : Run) → p ≤ 255 → IsReadyWithin condacts text p g.game s → HasUsed (m + c) (n + d) s →
         m + ((c + a) + for_phrases (round_reads k) p) ≤ condacts → n + ((d + b) + (for_phrases (round_text k) p + k.prompt)) ≤ text → HasRoom a b s
     left_room a b c d m n p s low h used few short =
@@ -205,7 +205,7 @@ module _ (g : Story) (valid : ValidStory g) (condacts text : ℕ) where
           short = omega (arith, shorter, used.current);
         }
 
-    -- a phrase is taken: its round comes of what the line's phrases may take
+    -- A phrase is taken: its round comes of what the line's phrases may take.
     pub phrase_room : (r : Run) → HasRoom 0 0 r → (s : Run) → Ready s → length s.read ≤ length r.read → length s.current ≤ length r.current →
         length s.pending < length r.pending → IsTwoLess r.pending s.pending → HasRoom (round_reads k) (round_text k) s
     phrase_room r h s ready same_read same_current shorter two =

@@ -16,7 +16,7 @@ use Rattle.paw_check.specs.inner.Capped.{capped, cell_at}
 use Rattle.paw_check.specs.inner.Levels.{HoldsCosts, most_taken, round_taken}
 use Rattle.paw_check.proofs.Greatest.{greatest_capped}
 
--- the greatest number of a table's row is what it takes at most
+-- The greatest number of a table's row is what it takes at most.
 pub row_most : (g : GameLists) (own : Condact → ℕ) (changing : Bool) (rows : List (List ℕ)) (t : ℕ) (row : List ℕ) (m : ℕ)
     → HoldsCosts g own changing LEVEL_LIMIT rows → t < length rows → row ≡ slice_index_or rows t row → length row ≡ 256
     → m ≡ greatest row → m ≡ capped (most_taken g own changing t)
@@ -27,7 +27,7 @@ row_most g own changing rows t row m holds within is long so =
     fill_by_all (λ (v : ℕ). capped (f v)) row 256 0 long (λ v low. ap (λ (r : List ℕ). get_or r v 0) (sym there) ∙ holds t v low) in
     so ∙ ap greatest each ∙ greatest_capped f all_verbs
 
--- a round reads its three tables
+-- A round reads its three tables.
 pub round_is : (g : GameLists) (own : Condact → ℕ) (changing : Bool) (a b c s n : ℕ)
     → a ≡ capped (most_taken g own changing 0) → b ≡ capped (most_taken g own changing 1) → c ≡ capped (most_taken g own changing 2)
     → s ≡ min (a + b) (2 ^ 32 - 1) → n ≡ min (s + c) (2 ^ 32 - 1) → n ≡ capped (round_taken g own changing)

@@ -12,13 +12,13 @@ use Rattle.paw_check.specs.Calls.{is_call_of}
 use Rattle.paw_game.specs.declared.parts.Entry.{Entry}
 use Rattle.paw_check.specs.inner.Capped.{HoldsCapped, capped, over_every, over_verb, is_for_every}
 
--- a row holds these numbers up to one of them, and nothing from there on
+-- A row holds these numbers up to one of them, and nothing from there on.
 pub record HoldsUpTo (row : List ℕ) (f : ℕ → ℕ) (n : ℕ) : Type 0 where
   pub long : length row ≡ 256
   pub done : (v : ℕ) → v < n → slice_index_or row v 0 ≡ capped (f v)
   pub left : (v : ℕ) → n ≤ v → slice_index_or row v 0 ≡ 0
 
--- 256 zeros
+-- 256 zeros.
 abbrev pub zeros : List ℕ
 zeros = replicate 256 0
 
@@ -52,7 +52,7 @@ upto_more row f n x within is so = record {
   left = λ v high. get_or-set_other row n v x 0 (omega (arith, high)) ∙ so.left v (omega (arith, high));
 }
 
--- with the rest 0, the row holds all
+-- With the rest 0, the row holds all.
 pub upto_rest : (row : List ℕ) (f : ℕ → ℕ) (n : ℕ) → HoldsUpTo row f n → ((v : ℕ) → n ≤ v → f v ≡ 0) → HoldsCapped row f
 upto_rest row f n so none = record {
   long = so.long;
@@ -68,21 +68,21 @@ upto_all row f n whole so = record {
   each = λ v low. so.done v (omega (arith, low, whole));
 }
 
--- a row of zeros holds nothing
+-- A row of zeros holds nothing.
 pub holds_none : (f : ℕ → ℕ) → ((v : ℕ) → f v ≡ 0) → HoldsCapped zeros f
 holds_none f none = record {
   long = zeros_long;
   each = λ v low. zero_at v ∙ ap capped (sym (none v));
 }
 
--- a row of numbers that are the same
+-- A row of numbers that are the same.
 pub holds_same : (f h : ℕ → ℕ) (row : List ℕ) → ((v : ℕ) → f v ≡ h v) → HoldsCapped row f → HoldsCapped row h
 holds_same f h row same so = record {
   long = so.long;
   each = λ v low. so.each v low ∙ ap capped (same v);
 }
 
--- one number more at a place
+-- One number more at a place.
 pub holds_one_more : (f h : ℕ → ℕ) (row : List ℕ) (at x : ℕ) → at < 256 → x ≡ capped (f at + 1)
     → h at ≡ f at + 1 → ((v : ℕ) → v ≢ at → h v ≡ f v) → HoldsCapped row f → HoldsCapped (slice_set row at x) h
 holds_one_more f h row at x within is here there so = record {
@@ -95,7 +95,7 @@ holds_one_more f h row at x within is here there so = record {
   ];
 }
 
--- how often condacts call each table, one condact more
+-- How often condacts call each table, one condact more.
 pub counts_more : (f : ℕ → ℕ) (cs : List Condact) (i : ℕ) (d : Condact) (row : List ℕ) → i < length cs
     → HoldsCapped row (λ u. f u + count_by (is_call_of u) (take i cs) + cond (is_call_of u (get_or cs i d)) 1 0)
     → HoldsCapped row (λ u. f u + count_by (is_call_of u) (take (i + 1) cs))
@@ -104,12 +104,12 @@ counts_more f cs i d row within so =
     let more = sum_by_more (λ x. cond (is_call_of u x) 1 0) cs i d within in
     omega (arith, more)) so
 
--- and all
+-- And all.
 pub counts_all : (f : ℕ → ℕ) (cs : List Condact) (i : ℕ) (row : List ℕ) → length cs ≤ i
     → HoldsCapped row (λ u. f u + count_by (is_call_of u) (take i cs)) → HoldsCapped row (λ u. f u + count_by (is_call_of u) cs)
 counts_all f cs i row past so = holds_same _ _ row (λ u. ap (λ ds. f u + count_by (is_call_of u) ds) (take_all i cs past)) so
 
--- what is added at a place
+-- What is added at a place.
 pub holds_added : (f k : ℕ → ℕ) (row : List ℕ) (at x t : ℕ) → at < 256 → x ≡ min (slice_index_or row at 0 + t) (2 ^ 32 - 1)
     → t ≡ capped (k at) → HoldsCapped row f → HoldsCapped (slice_set row at x) (λ v. f v + cond (at == v) (k v) 0)
 holds_added f k row at x t within is add so = record {
@@ -131,7 +131,7 @@ holds_added f k row at x t within is add so = record {
   ];
 }
 
--- sums over entries, one entry more
+-- Sums over entries, one entry more.
 pub every_more : (changing : Bool) (g : ℕ → List Condact → ℕ) (es : List Entry) (i : ℕ) (d : Entry) (row : List ℕ) → i < length es → d ≡ get_or es i d
     → HoldsCapped row (λ u. over_every changing (g u) (take i es) + cond (is_for_every changing d) (g u d.condacts) 0)
     → HoldsCapped row (λ u. over_every changing (g u) (take (i + 1) es))
@@ -153,7 +153,7 @@ verb_more changing g es i d row within here so = holds_same _ _ row (λ v.
     ∙ ap (λ (e : Entry). over_verb changing v (g v) (take i es) + cond (is_for_every changing e) 0 (cond (e.verb == v) (g v e.condacts) 0)) here
     ∙ sym (sum_by_more (λ e. if is_for_every changing e then 0 else (if e.verb == v then g v e.condacts else 0)) es i d within)) so
 
--- an entry that counts for every verb
+-- An entry that counts for every verb.
 pub holds_every : (f : ℕ → ℕ) (g : ℕ → List Condact → ℕ) (b : Bool) (cs ds : List Condact) (row : List ℕ) → b ≡ true → cs ≡ ds
     → HoldsCapped row (λ u. f u + g u cs) → HoldsCapped row (λ u. f u + cond b (g u ds) 0)
 holds_every f g b cs ds row is same so = holds_same _ _ row (λ u.

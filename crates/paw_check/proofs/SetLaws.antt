@@ -14,17 +14,17 @@ use Rattle.paw_check.specs.Calls.{is_call_of}
 use Rattle.paw_check.specs.inner.Capped.{MarksTables, condacts_of_entries, condacts_of_tables}
 use Rattle.paw_check.proofs.Entries.{range_to}
 
--- nothing besides
+-- Nothing besides.
 pub or_false : (b : Bool) → (b || false) ≡ b
 or_false true = refl
 or_false false = refl
 
--- one of what a list is mapped to passes where one of what an element is mapped to does
+-- One of what a list is mapped to passes where one of what an element is mapped to does.
 pub any_of_flat : {X A : Type 0} (p : A → Bool) (f : X → List A) (xs : List X) → list_any p (flat_map f xs) ≡ list_any (λ x. list_any p (f x)) xs
 any_of_flat p f [] = refl
 any_of_flat p f (x ∷ xs) = list_any-append p (f x) (flat_map f xs) ∙ ap (λ (b : Bool). list_any p (f x) || b) (any_of_flat p f xs)
 
--- a list of tables that goes on by one
+-- A list of tables that goes on by one.
 pub any_table_more : (p : Condact → Bool) (tables : List (List Entry)) (from : List ℕ) (i d : ℕ) → i < length from
     → list_any p (condacts_of_tables tables (take (i + 1) from))
     ≡ (list_any p (condacts_of_tables tables (take i from))
@@ -36,7 +36,7 @@ any_table_more p tables from i d within =
     ∙ list_any-append p (flat_map f (take i from)) (flat_map f (get_or from i d ∷ []))
     ∙ ap (λ (b : Bool). list_any p (flat_map f (take i from)) || b) (any_of_flat p f (get_or from i d ∷ []) ∙ or_false _)
 
--- the numbers that pass, of one more
+-- The numbers that pass, of one more.
 pub filter_push : {X : Type 0} (p : X → Bool) (xs : List X) (x : X) → filter p (xs ++ x ∷ []) ≡ filter p xs ++ cond (p x) (x ∷ []) []
 filter_push p [] x = refl
 filter_push {X} p (y ∷ xs) x = at (p y) ∙ ap (λ (zs : List X). cond (p y) (y ∷ zs) zs) (filter_push p xs x) ∙ after (p y) where
@@ -51,7 +51,7 @@ filter_push {X} p (y ∷ xs) x = at (p y) ∙ ap (λ (zs : List X). cond (p y) (
 pub filter_range_more : (p : ℕ → Bool) (n : ℕ) → filter p (range_with_len 0 (n + 1)) ≡ filter p (range_with_len 0 n) ++ cond (p n) (n ∷ []) []
 filter_range_more p n = ap (λ (k : ℕ). filter p (range_with_len 0 k)) (add-one n) ∙ ap (filter p) (range_to n) ∙ filter_push p (range_with_len 0 n) n
 
--- tests that agree on the numbers of a range pass the same of them
+-- Tests that agree on the numbers of a range pass the same of them.
 pub filter_alike : (p q : ℕ → Bool) (a n : ℕ) → ((u : ℕ) → u < a + n → p u ≡ q u) → filter p (range_with_len a n) ≡ filter q (range_with_len a n)
 filter_alike p q a zero same = refl
 filter_alike p q a (suc n) same =
@@ -64,7 +64,7 @@ or_assoc : (a b c : Bool) → ((a || b) || c) ≡ (a || (b || c))
 or_assoc true b c = refl
 or_assoc false b c = refl
 
--- marked twice
+-- Marked twice.
 pub marks_both : (a b c : List Bool) (p q r : ℕ → Bool) → ((u : ℕ) → (p u || q u) ≡ r u) → MarksTables a b p → MarksTables b c q → MarksTables a c r
 marks_both a b c p q r both first second = record {
   long = second.long ∙ first.long;
@@ -72,7 +72,7 @@ marks_both a b c p q r both first second = record {
       ∙ or_assoc (slice_index_or a u false) (p u) (q u) ∙ ap (λ (x : Bool). slice_index_or a u false || x) (both u);
 }
 
--- the tables that one more table calls
+-- The tables that one more table calls.
 pub marks_table_more : (a b c : List Bool) (tables : List (List Entry)) (from : List ℕ) (i d : ℕ) → i < length from
     → (es : List Entry) → es ≡ unwrap_or (slice_get tables (get_or from i d)) []
     → MarksTables a b (λ u. list_any (is_call_of u) (condacts_of_tables tables (take i from)))
@@ -83,7 +83,7 @@ marks_table_more a b c tables from i d within es is first second =
     ap (λ xs. list_any (is_call_of u) (condacts_of_tables tables (take i from)) || list_any (is_call_of u) (condacts_of_entries xs)) is
     ∙ sym (any_table_more (is_call_of u) tables from i d within)) first second
 
--- a marked number more, and one that isn't marked
+-- A marked number more, and one that isn't marked.
 pub marked_yes : (p : ℕ → Bool) (n : ℕ) (xs ys : List ℕ) → xs ≡ filter p (range_with_len 0 n) → p n ≡ true → ys ≡ xs ++ n ∷ []
     → ys ≡ filter p (range_with_len 0 (n + 1))
 marked_yes p n xs ys so passes is =
@@ -96,7 +96,7 @@ marked_no p n xs ys so fails is =
     is ∙ so ∙ sym (filter_range_more p n ∙ ap (λ (b : Bool). filter p (range_with_len 0 n) ++ cond b (n ∷ []) []) fails
     ∙ append-nil (filter p (range_with_len 0 n)))
 
--- the marked numbers below a count are those that pass
+-- The marked numbers below a count are those that pass.
 pub marks_filter : (b : List Bool) (p : ℕ → Bool) (n : ℕ) → n ≤ 256 → MarksTables (replicate 256 false) b p
     → filter (λ u. slice_index_or b u false) (range_with_len 0 n) ≡ filter p (range_with_len 0 n)
 marks_filter b p n few so = filter_alike _ p 0 n (λ u low.

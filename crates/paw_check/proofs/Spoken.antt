@@ -25,11 +25,11 @@ use Rattle.paw_check.proofs.Lengths.{name_most, put_most, say_most, among_most}
 
 -- ---- one message ----
 
--- a message of an action, in any world
+-- A message of an action, in any world.
 abbrev pub Said : GameLists → ℕ → Type 0
 Said g m = (u : World) → length (say_text g u m) ≤ most_of_action g
 
--- one with the name of a container
+-- One with the name of a container.
 abbrev pub Named : GameLists → ℕ → ℕ → Type 0
 Named g m l = (u : World) → length (put_text g u m ++ object_text g l ++ say_text g u NAME_END_MESSAGE) ≤ most_of_action g
 
@@ -50,7 +50,7 @@ named g m l among u =
 
 -- ---- the first that holds ----
 
--- a fact of what is said at each test
+-- A fact of what is said at each test.
 abbrev pub AllSaid : {A : Type 0} → (A → Type 0) → List (Bool × A) → Type 0
 AllSaid P [] = Unit {0}
 AllSaid P ((b, x) ∷ tests) = P x × AllSaid P tests
@@ -65,7 +65,7 @@ first_said P ((b, x) ∷ tests) all = one_of P b x (first_that_holds tests) all.
 
 -- ---- actions ----
 
--- an action, with all that may be said against it and what is said where it is done
+-- An action, with all that may be said against it and what is said where it is done.
 module _ (g : GameLists) (a : _)
     (hinders : (u : World) (o : ℕ) → AllSaid (λ x. (v : World) → length (spoken_words g v x) ≤ most_of_action g) (hindrances u o a))
     (comes : (u : World) → length (spoken_words g u (outcome a)) ≤ most_of_action g) where

@@ -15,15 +15,15 @@ use Rattle.paw_check.specs.Measures.{greatest}
 use Rattle.paw_check.specs.Costs.{counting, with_call, passed_over, cost, most_cost, verb_may_change}
 use Rattle.paw_check.proofs.Tables.{turned}
 
--- a condact opens a loop
+-- A condact opens a loop.
 abbrev pub opens : Condact → Bool
 opens c = c.code == DOALL
 
--- what a DOALL takes for all its passes, and any other condact takes none of that
+-- What a DOALL takes for all its passes, and any other condact takes none of that.
 abbrev pub if_opens : ℕ → Condact → ℕ
 if_opens k c = if opens c then k else 0
 
--- what a condact takes where n more levels of calls are looked at
+-- What a condact takes where n more levels of calls are looked at.
 abbrev pub takes_at : GameLists → (Condact → ℕ) → (List Entry → List Entry) → ℕ → Condact → ℕ
 takes_at g own count zero c = own c
 takes_at g own count (suc n) c = with_call own (cost g own count n) c
@@ -37,7 +37,7 @@ own_takes g own count (suc n) c = omega arith
 passes_cost : (o d s : ℕ) → (1 + o * d) * s ≡ s + d * (o * s)
 passes_cost o d s = rw (add-mul 1 (o * d) s, one-mul s, mul_comm o d, mul_assoc d o s) refl
 
--- a loop over n objects whose passes take at most s
+-- A loop over n objects whose passes take at most s.
 pub turned_most : (s once more n : ℕ) → once ≤ s → turned once more n ≤ n * s + more
 turned_most s once more zero h = omega arith
 turned_most s once more (suc n) h = omega (arith, h, turned_most s once more n h, suc-mul n s)
@@ -55,7 +55,7 @@ opened k (c ∷ cs) =
     sum_by-cons (if_opens k) c cs ∙ ap (λ x. if_opens k c + x) (opened k cs) ∙ counted_if k (opens c) (count_by opens cs)
     ∙ ap (λ x. x * k) (sym (sum_by-cons (λ c. cond (opens c) 1 0) c cs))
 
--- what condacts take in all passes is what they take once, and what the loops take
+-- What condacts take in all passes is what they take once, and what the loops take.
 passed_is : (g : GameLists) (takes : Condact → ℕ) (cs : List Condact) →
     passed_over g takes cs ≡ sum_by takes cs + sum_by (if_opens (length g.objects * sum_by takes cs)) cs
 passed_is g takes cs =
@@ -68,7 +68,7 @@ unfolding cost
 cost_passed g own count zero t = refl
 cost_passed g own count (suc n) t = refl
 
--- so is the cost of a table
+-- So is the cost of a table.
 pub cost_is : (g : GameLists) (own : Condact → ℕ) (count : List Entry → List Entry) (n t : ℕ) →
     let cs = flat_map (λ e. e.condacts) (count (table_at g t)) in
     cost g own count n t
@@ -87,7 +87,7 @@ greatest_within f a (suc n) v low high =
       | inr at ↦ let same : a ≡ v = omega (arith, low, at) in omega (arith, ap f same)
     ]
 
--- no verb takes more
+-- No verb takes more.
 pub verb_most : (g : GameLists) (own : Condact → ℕ) (t verb : ℕ) → verb < 256 →
     cost g own (counting (verb_may_change g) verb) 10 t ≤ most_cost g own t
 verb_most g own t verb small =

@@ -38,7 +38,7 @@ module _ (g : GameLists) (v : Valid g) where
       let small = facts_small g v o f e in
       set (with_flag w 34 f.noun) (set w k 34 f.noun small.noun) 35 f.adjective small.adjective
 
-  -- a loop takes its next object
+  -- A loop takes its next object.
   pub taken_of : (l : OpenLoop) (o : ℕ) (r : Run) → o < 256 → IsWorldOf g r.world → IsWorldOf g (taken g l o r).world
   taken_of l o r small k =
       let w : World = with_flag (named r.world (facts_at g o)) 50 o in
@@ -48,19 +48,19 @@ module _ (g : GameLists) (v : Valid g) where
   pub anew_of : (w : World) → IsWorldOf g w → IsWorldOf g (restarted w)
   anew_of w k = world_is g w.seed w.draws (restarted w) (anew_so g v w.seed w.draws w (now w k))
 
-  -- an action is carried out
+  -- An action is carried out.
   pub acted_of : (rows : List (List ℕ)) → All AreBytes rows → (w : World) → IsWorldOf g w → (c : Condact) → is_condact g c ≡ true →
       IsWorldOf g (effect_of (story_of g rows) w c).world
   acted_of rows bytes w k c is =
       world_is g w.seed (suc w.draws) (effect_of (story_of g rows) w c).world (effect_so g v w.seed w.draws rows w c bytes (now w k) is)
 
-  -- a condition is tested
+  -- A condition is tested.
   pub tested_of : (w : World) → IsWorldOf g w → (c : Condact) → IsWorldOf g (holds g w c).world
   tested_of w k c = world_is g w.seed (suc w.draws) (holds g w c).world (condition_so g v w.seed w.draws w c (now w k))
 
 -- ---- the verb stays ----
 
--- another flag is set
+-- Another flag is set.
 other : (w : World) (f x : ℕ) → 33 ≢ f → flag (with_flag w f x) 33 ≡ flag w 33
 other w f x ne = get_or-set_other w.flags f 33 x 0 ne
 

@@ -61,8 +61,8 @@ use Rattle.paw_check.proofs.Uses.{closed_more, may_read, may_print}
 
 -- ---- what stands while a table is read ----
 
--- At level lv: the world is one of the game, so much of the line is left at most, the verb is this one unless it may change,
--- no loop of a deeper level is open, the lines to come are lines, and each closed piece is within the limit.
+-- At level lv: the world is one of the game, so much of the line is left at most, the verb is this one unless it may
+-- change, no loop of a deeper level is open, the lines to come are lines, and each closed piece is within the limit.
 pub record Steady (g : GameLists) (kind : SpentKind) (limit pending : ℕ) (changing : Bool) (verb lv : ℕ) (w : World) (earlier : ℕ) (line : List ℕ)
     (turning : Option OpenLoop) (events : List (List ℕ)) (traces : List (List Step)) (pieces : List (List ℕ)) : Type 0 where
   pub world : IsWorldOf g w
@@ -73,7 +73,7 @@ pub record Steady (g : GameLists) (kind : SpentKind) (limit pending : ℕ) (chan
   pub lines : All IsLine events
   pub closed : Closed kind limit traces pieces
 
--- what is used at most, by whether the loop of the level is open
+-- What is used at most, by whether the loop of the level is open.
 abbrev pub allowed : Option OpenLoop → ℕ → ℕ → ℕ
 allowed None open_most most = most
 allowed (Some l) open_most most = open_most
@@ -113,11 +113,11 @@ module _ (g : Story) (valid : ValidStory g) (kind : SpentKind) (limit pending : 
   abbrev pub Is : ℕ → Run → Type 0
   Is lv r = Steady g.game kind limit pending changing verb lv r.world r.earlier r.pending r.turning r.events r.traces r.pieces
 
-  -- the same, whatever the verb
+  -- The same, whatever the verb.
   abbrev pub IsLoose : ℕ → Run → Type 0
   IsLoose lv r = Steady g.game kind limit pending true verb lv r.world r.earlier r.pending r.turning r.events r.traces r.pieces
 
-  -- nothing is left of the line, and nothing of the open piece is used
+  -- Nothing is left of the line, and nothing of the open piece is used.
   abbrev pub IsFresh : Run → Type 0
   IsFresh r =
       Steady g.game kind limit 0 true verb 0 r.world r.earlier r.pending r.turning r.events r.traces r.pieces
@@ -134,15 +134,15 @@ module _ (g : Story) (valid : ValidStory g) (kind : SpentKind) (limit pending : 
   Ends Leaving most (Stopped (Halts (halt.Spent how)) r) = Another kind how
   Ends Leaving most (Stopped (Halts (halt.TooDeep t)) r) = ⊥
 
-  -- the table is left, where its loop may be open
+  -- The table is left, where its loop may be open.
   abbrev pub Inside : (lv open_most most : ℕ) → Run → Type 0
   Inside lv open_most most r = Is lv r × (used kind r ≤ allowed (at_level lv r.turning) open_most most)
 
-  -- the table is left, and its loop is closed
+  -- The table is left, and its loop is closed.
   abbrev pub Outside : (lv most : ℕ) → Run → Type 0
   Outside lv most r = Is lv r × ((at_level lv r.turning ≡ None) × (used kind r ≤ most))
 
-  -- the table is left, whatever is open
+  -- The table is left, whatever is open.
   abbrev pub Anyhow : (lv most : ℕ) → Run → Type 0
   Anyhow lv most r = Is lv r × (used kind r ≤ most)
 
@@ -158,7 +158,7 @@ module _ (g : Story) (valid : ValidStory g) (kind : SpentKind) (limit pending : 
   ends_up P Q n m h f (Waits p path r) k = k
   ends_up P Q n m h f (Stopped stop r) k = stops_up P Q n m h stop r k
 
-  -- more may be used
+  -- More may be used.
   inside_up : (lv a b c d : ℕ) → a ≤ c → b ≤ d → (x : Out) → Ends (Inside lv a b) b x → Ends (Inside lv c d) d x
   inside_up lv a b c d h k x =
       ends_up (Inside lv a b) (Inside lv c d) b d k
@@ -167,7 +167,7 @@ module _ (g : Story) (valid : ValidStory g) (kind : SpentKind) (limit pending : 
   outside_up : (lv b d : ℕ) → b ≤ d → (x : Out) → Ends (Outside lv b) b x → Ends (Outside lv d) d x
   outside_up lv b d k x = ends_up (Outside lv b) (Outside lv d) b d k (λ r i. (i.0, (i.1.0, omega (arith, i.1.1, k)))) x
 
-  -- a table whose loop is closed may have its loop open
+  -- A table whose loop is closed may have its loop open.
   outside_inside : (lv a b d : ℕ) → b ≤ d → (x : Out) → Ends (Outside lv b) b x → Ends (Inside lv a d) d x
   outside_inside lv a b d k x =
       ends_up (Outside lv b) (Inside lv a d) b d k
@@ -175,7 +175,7 @@ module _ (g : Story) (valid : ValidStory g) (kind : SpentKind) (limit pending : 
 
   -- ---- changes of a run ----
 
-  -- another world of the game, with the same verb
+  -- Another world of the game, with the same verb.
   in_world : (lv : ℕ) (r : Run) → Is lv r → (w : World) → IsWorldOf g.game w → (changing ≡ false → flag w 33 ≡ flag r.world 33) → Is lv (with_world w r)
   in_world lv r k w world same = record {
     world = world;
@@ -250,12 +250,12 @@ module _ (g : Story) (valid : ValidStory g) (kind : SpentKind) (limit pending : 
   -- ---- prompts ----
 
   module _ (lv : ℕ) where
-    -- what reading on from a place takes at most: reads alone, and with it loops, each pass of one
+    -- What reading on from a place takes at most: reads alone, and with it loops, each pass of one.
     abbrev pub Takes : (once more : ℕ) → (Run → Out) → Type 0
     Takes once more go =
         (m : ℕ) (r : Run) → Is lv r → used kind r ≤ m → m + (once + more) ≤ limit → Ends (Inside lv (m + once) (m + (once + more))) (m + (once + more)) (go r)
 
-    -- the same, whether an action was carried out before or not
+    -- The same, whether an action was carried out before or not.
     abbrev pub Goes : (once more : ℕ) → (Bool → Run → Out) → Type 0
     Goes once more go = (a : Bool) → Takes once more (go a)
 
@@ -278,7 +278,8 @@ module _ (g : Story) (valid : ValidStory g) (kind : SpentKind) (limit pending : 
           Ends (Inside lv once (once + more)) (once + more) (answered g p f go line r)
       answered_ends prompt.Quit f line r k u =
           either (Ends (Inside lv once (once + more)) (once + more)) (is_yes line) _ (Left true r)
-          (inside_up lv (0 + once) (0 + (once + more)) once (once + more) (omega arith) (omega arith) (go f.acted r) (goes f.acted 0 r k u (omega (arith, fits))))
+          (inside_up lv (0 + once) (0 + (once + more)) once (once + more) (omega arith) (omega arith) (go f.acted r)
+          (goes f.acted 0 r k u (omega (arith, fits))))
           (k, omega (arith, u))
       answered_ends prompt.Again f line r k u =
           either (Ends (Inside lv once (once + more)) (once + more)) (is_no line) (over g r) (Stopped Restarts (anew r))
@@ -315,7 +316,7 @@ module _ (g : Story) (valid : ValidStory g) (kind : SpentKind) (limit pending : 
 
     -- ---- loops and calls ----
 
-    -- a table that is left with its loop open goes on with the loop
+    -- A table that is left with its loop open goes on with the loop.
     again_ends : (next : OpenLoop → Run → Out) (a b d : ℕ) → b ≤ d →
         ((l : OpenLoop) (r : Run) → Is lv r → used kind r ≤ a → Ends (Outside lv d) d (next l r)) → (x : Out) → Ends (Inside lv a b) b x →
         Ends (Outside lv d) d (next_object_or lv next x)
@@ -400,8 +401,8 @@ module _ (g : Story) (valid : ValidStory g) (kind : SpentKind) (limit pending : 
 
     -- ---- one table ----
 
-    -- What is known of each condact of the table, of what it takes of its own and with a call, what a DOALL takes for all its
-    -- passes, where reading the condacts once takes so much at most, and how the tables are read that it calls.
+    -- What is known of each condact of the table, of what it takes of its own and with a call, what a DOALL takes for
+    -- all its passes, where reading the condacts once takes so much at most, and how the tables are read that it calls.
     module _ (Has : Condact → Type 0) (is : (c : Condact) → Has c → IsTrue (is_condact g.game c))
         (quiet : (c : Condact) → Has c → changing ≡ false → may_write_verb c ≡ false)
         (takes extra : Condact → ℕ) (own_takes : (c : Condact) → own_of kind g.game c ≤ takes c)
@@ -410,7 +411,7 @@ module _ (g : Story) (valid : ValidStory g) (kind : SpentKind) (limit pending : 
         (sub : ℕ → Run → Out)
         (calls : (c : Condact) → Has c → c.code ≡ PROCESS → (m : ℕ) (r : Run) → Is lv r → used kind r ≤ m + own_of kind g.game c →
         m + takes c ≤ limit → Ends (Anyhow lv (m + takes c)) (m + takes c) (sub c.a r)) where
-      -- where the table takes phrases of the line, the verb may change
+      -- Where the table takes phrases of the line, the verb may change.
       parses_change : (c : Condact) → Has c → plain_code c.code ≡ PARSE → changing ≡ true
       parses_change c has parse = go changing refl
         where
@@ -423,7 +424,7 @@ module _ (g : Story) (valid : ValidStory g) (kind : SpentKind) (limit pending : 
         abbrev Comes : Out → Type 0
         Comes x = Ends (Inside lv (m + (takes c + once)) (m + ((takes c + once) + (extra c + more)))) (m + ((takes c + once) + (extra c + more))) x
 
-        -- from what is used once the condact has taken what it takes
+        -- From what is used once the condact has taken what it takes.
         behind : (x : Out) → Ends (Inside lv (m + takes c + once) (m + takes c + (once + more))) (m + takes c + (once + more)) x → Comes x
         behind x k =
             inside_up lv (m + takes c + once) (m + takes c + (once + more)) (m + (takes c + once)) (m + ((takes c + once) + (extra c + more))) (omega arith)
@@ -493,7 +494,12 @@ module _ (g : Story) (valid : ValidStory g) (kind : SpentKind) (limit pending : 
             (λ e. conditions_keep_verb g r.world c valid k.world (is c has) (quiet c has e)))
             (omega (arith, fits))
             (λ b. omega (arith, u, noted_use kind g.game s f c b, own_takes c))
-            (λ e. omega (arith, u, printed_use kind g.game s f c true (quit_question g s) (questions_print_within g r.world c valid k.world (is c has) e), own_takes c)))
+            (λ e. omega (
+              arith,
+              u,
+              printed_use kind g.game s f c true (quit_question g s) (questions_print_within g r.world c valid k.world (is c has) e),
+              own_takes c,
+            )))
 
         acted_ends : (r : Run) → Is lv r → used kind r ≤ m → Comes (acts g sub lv f next go (effect_of g r.world c) (noted f c true r))
         acted_ends r k u =
@@ -551,14 +557,14 @@ module _ (g : Story) (valid : ValidStory g) (kind : SpentKind) (limit pending : 
           c has.0 m (omega (arith, p, q, fits)) r k u))
           (λ h. h)
 
-      -- the entries that count, and their condacts
+      -- The entries that count, and their condacts.
       abbrev chosen : List Entry → List Entry
       chosen es = filter (λ e. changing || is_for e.verb verb) es
 
       abbrev their : List Entry → List Condact
       their es = flat_map (λ e. e.condacts) es
 
-      -- one that is read counts
+      -- One that is read counts.
       counts_now : (r : Run) → Is lv r → (e : Entry) → is_for_now r e ≡ true → (changing || is_for e.verb verb) ≡ true
       counts_now r k e now = go changing refl
         where
@@ -601,7 +607,7 @@ module _ (g : Story) (valid : ValidStory g) (kind : SpentKind) (limit pending : 
           (omega (arith, i, j, fits))))
           (goes_up c d a b p q (entries g sub lv t (suc e) es) later acted m r k u fits)
 
-      -- once the table is left no loop of its level is open
+      -- Once the table is left no loop of its level is open.
       module _ (keeps : CallsKeeping sub) where
         stays : (o q : Option OpenLoop) → at_level lv o ≡ None → IsOrNone o q → at_level lv q ≡ None
         stays o q none (inl e) = rw e none
@@ -617,8 +623,9 @@ module _ (g : Story) (valid : ValidStory g) (kind : SpentKind) (limit pending : 
         last_ends next a b o (Waits p path r) none keep k = k
         last_ends next a b o (Stopped stop r) none keep k = stops_up (Inside lv a b) (Outside lv b) b b (omega arith) stop r k
 
-        -- the table is read from its start
-        pub reads_end : (t : ℕ) → AllByRecursion (λ en. AllByRecursion Has en.condacts) (table_at g.game t) → sum_by takes (their (chosen (table_at g.game t))) ≤ all →
+        -- The table is read from its start.
+        pub reads_end : (t : ℕ) → AllByRecursion (λ en. AllByRecursion Has en.condacts) (table_at g.game t) →
+            sum_by takes (their (chosen (table_at g.game t))) ≤ all →
             (m : ℕ) (r : Run) → Is lv r → at_level lv r.turning ≡ None → used kind r ≤ m →
             m + (sum_by takes (their (chosen (table_at g.game t))) + sum_by extra (their (chosen (table_at g.game t)))) ≤ limit →
             Ends (Outside lv (m + (sum_by takes (their (chosen (table_at g.game t))) + sum_by extra (their (chosen (table_at g.game t))))))

@@ -28,7 +28,7 @@ use Rattle.paw_check.proofs.Greatest.{greatest_alike, greatest_capped}
 
 -- ---- measures ----
 
--- where a name has as many bytes but for the cap, a text prints as many
+-- Where a name has as many bytes but for the cap, a text prints as many.
 byte_alike : (name most b : ℕ) → name ≡ capped most → capped (byte_in name b) ≡ capped (byte_in most b)
 byte_alike name most b h = at (b == 95) where
   at : (x : Bool) → capped (cond x name 1) ≡ capped (cond x most 1)
@@ -49,7 +49,7 @@ holds_measures g name texts row h holds = record {
   each = λ v low. holds.each v low ∙ measure_alike name (longest_name g) (unwrap_or (slice_get texts v) []) h;
 }
 
--- no text is past the last
+-- No text is past the last.
 none_past : (g : GameLists) (texts : List (List ℕ)) (n : ℕ) → length texts ≤ n → most_at g texts n ≡ 0
 none_past g texts n past = ap (λ text. most_bytes g (unwrap_or text [])) (slice_get_past texts n past)
 
@@ -70,7 +70,7 @@ map_same f h (x ∷ xs) same = ap (λ y. y ∷ map f xs) (same x) ∙ ap (λ ys.
 
 -- ---- condacts ----
 
--- the most bytes that a condact prints, by what it prints
+-- The most bytes that a condact prints, by what it prints.
 abbrev kind_most : GameLists → Printed → Condact → ℕ
 kind_most g printed.Nothing c = 0
 kind_most g printed.Newline c = 1
@@ -88,7 +88,7 @@ kind_most g printed.Message c = most_named g g.messages c
 kind_most g printed.MessageLine c = most_named g g.messages c + 1
 kind_most g printed.System c = most_named g g.system c
 
--- the rows of the definition are those of the code's table
+-- The rows of the definition are those of the code's table.
 rows_are : most_printed ≡ map (λ k g c. kind_most g k c) PRINTED
 unfolding most_printed
 rows_are = refl
@@ -97,7 +97,8 @@ row_at : (code : ℕ) (g : GameLists) (c : Condact)
     → (slice_index_or most_printed code silent) g c ≡ kind_most g (slice_index_or PRINTED code printed.Nothing) c
 row_at code g c =
     ap (λ (rows : List (GameLists → Condact → ℕ)). (slice_index_or rows code silent) g c) rows_are
-    ∙ ap (λ (row : GameLists → Condact → ℕ). row g c) (get_or-map {B = GameLists → Condact → ℕ} (λ (k : Printed) (h : GameLists) (x : Condact). kind_most h k x) PRINTED code printed.Nothing)
+    ∙ ap (λ (row : GameLists → Condact → ℕ). row g c)
+    (get_or-map {B = GameLists → Condact → ℕ} (λ (k : Printed) (h : GameLists) (x : Condact). kind_most h k x) PRINTED code printed.Nothing)
 
 text_is : (g : GameLists) (c : Condact) → most_text g c ≡ kind_most g (kind_of c.code) c
 unfolding most_text
@@ -130,7 +131,7 @@ kind_alike g p c are few many printed.MessageLine =
     let named = named_alike g g.messages p.messages p.any_message c many are.messages are.any_message in omega (arith, named)
 kind_alike g p c are few many printed.System = named_alike g g.system p.system p.any_system c few are.system are.any_system
 
--- what the code takes of a condact is the most that it prints
+-- What the code takes of a condact is the most that it prints.
 pub text_alike : (g : GameLists) (p : Prints) → ArePrints g p → length g.system ≤ 256 → length g.messages ≤ 256
     → (c : Condact) → capped (text_in p c) ≡ capped (most_text g c)
 text_alike g p are few many c =

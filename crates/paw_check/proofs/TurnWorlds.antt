@@ -79,7 +79,7 @@ module _ (g : GameLists) (v : Valid g) where
       35 s.adjective b.adjective) 36 s.adverb b.adverb) 43 s.preposition b.preposition) 44 s.second_noun b.second_noun)
       45 s.second_adjective b.second_adjective) 46 s.pronoun_noun b.pronoun_noun) 47 s.pronoun_adjective b.pronoun_adjective
 
-  -- the world in which the sentence of the line's next phrase stands, and its verb is a byte
+  -- The world in which the sentence of the line's next phrase stands, and its verb is a byte.
   pub phrase_of : (rows : List (List ℕ)) (r : Run) → IsWorldOf g r.world → r.earlier < 256 → (s : Sentence) (left : List ℕ) →
       coming_phrase (record { game = g; rows = rows }) r ≡ IsSentence s left → IsWorldOf g (spoken s r.world) × (s.verb < 256)
   phrase_of rows r k early s left e =

@@ -15,25 +15,25 @@ use Rattle.paw_reading.specs.declared.places.Halt.TheVariants as halt
 use Rattle.paw_reading.specs.Reading.{Out, halts, within, step_at, noted, printing}
 use Rattle.paw_check.specs.Prints.{most_text}
 
--- of two amounts that of this kind
+-- Of two amounts that of this kind.
 abbrev pub of_kind : SpentKind → ℕ → ℕ → ℕ
 of_kind spent.Condacts reads bytes = reads
 of_kind spent.Text reads bytes = bytes
 
--- what a run has used of its open piece
+-- What a run has used of its open piece.
 abbrev pub used : SpentKind → Run → ℕ
 used kind r = of_kind kind (length r.read) (length r.current)
 
--- what a condact uses of its own
+-- What a condact uses of its own.
 abbrev pub own_of : SpentKind → GameLists → Condact → ℕ
 own_of kind g c = of_kind kind 1 (most_text g c)
 
--- each closed piece has used at most so much
+-- Each closed piece has used at most so much.
 abbrev pub Closed : SpentKind → ℕ → List (List Step) → List (List ℕ) → Type 0
 Closed spent.Condacts limit traces pieces = All (λ trace. length trace ≤ limit) traces
 Closed spent.Text limit traces pieces = All (λ piece. length piece ≤ limit) pieces
 
--- a piece may be spent in another way than this
+-- A piece may be spent in another way than this.
 abbrev pub Another : SpentKind → SpentKind → Type 0
 Another spent.Condacts spent.Condacts = ⊥
 Another spent.Condacts spent.Text = Unit {0}
@@ -42,7 +42,7 @@ Another spent.Text spent.Text = ⊥
 
 -- ---- what is used ----
 
--- at the start of a piece nothing is
+-- At the start of a piece nothing is.
 pub nothing : (kind : SpentKind) → of_kind kind 0 0 ≤ 0
 nothing spent.Condacts = omega arith
 nothing spent.Text = omega arith
@@ -57,7 +57,7 @@ pub printed_use : (kind : SpentKind) (g : GameLists) (r : Run) (f : Frame) (c : 
 printed_use spent.Condacts g r f c b text h = omega (arith, length-append r.read (step_at f c b ∷ []))
 printed_use spent.Text g r f c b text h = omega (arith, length-append r.current text)
 
--- a text is printed at the start of a piece
+-- A text is printed at the start of a piece.
 pub first_use : (kind : SpentKind) (limit : ℕ) (r : Run) (text : List ℕ) → used kind r ≤ 0 → of_kind kind 0 (length text) ≤ limit →
     used kind (printed text r) ≤ limit
 first_use spent.Condacts limit r text h k = omega arith
@@ -67,7 +67,7 @@ one : {A : Type 0} (limit : ℕ) (xs : List A) → length xs ≤ limit → All (
 one limit xs h zero d low = h
 one limit xs h (suc k) d low = absurd (omega arith)
 
--- one piece more is closed
+-- One piece more is closed.
 pub closed_more : (kind : SpentKind) (limit : ℕ) (r : Run) → used kind r ≤ limit → Closed kind limit r.traces r.pieces →
     Closed kind limit (r.traces ++ r.read ∷ []) (r.pieces ++ r.current ∷ [])
 closed_more spent.Condacts limit r h k = All-append (λ trace. length trace ≤ limit) r.traces (r.read ∷ []) k (one limit r.read h)
@@ -75,7 +75,7 @@ closed_more spent.Text limit r h k = All-append (λ piece. length piece ≤ limi
 
 -- ---- what is never spent ----
 
--- what holds in both cases, the second with its test
+-- What holds in both cases, the second with its test.
 passes : (P : Out → Type 0) (b : Bool) (x y : Out) → P x → (b ≡ false → P y) → P (if b then x else y)
 passes P true x y h k = h
 passes P false x y h k = k refl
@@ -85,7 +85,7 @@ unread : (kind : SpentKind) (g : GameLists) (c : Condact) (r : Run) → used kin
 unread spent.Condacts g c r h e = absurd (omega (arith, ltb-false (length r.read) READ_LIMIT e))
 unread spent.Text g c r h e = tt
 
--- a condact may be read where what it uses is within the limit
+-- A condact may be read where what it uses is within the limit.
 pub may_read : (P : Out → Type 0) (kind : SpentKind) (g : GameLists) (c : Condact) (r : Run) (x : Out) →
     used kind r + own_of kind g c ≤ of_kind kind READ_LIMIT PIECE_LIMIT → P x →
     (Another kind spent.Condacts → P (halts (halt.Spent spent.Condacts) r)) → P (within r x)
@@ -97,7 +97,7 @@ unfit : (kind : SpentKind) (r : Run) (text : List ℕ) → used kind (printed te
 unfit spent.Condacts r text h e = tt
 unfit spent.Text r text h e = absurd (omega (arith, length-append r.current text, leb-false (length r.current + length text) PIECE_LIMIT e))
 
--- a text may be printed where the piece with it is within the limit
+-- A text may be printed where the piece with it is within the limit.
 pub may_print : (P : Out → Type 0) (kind : SpentKind) (text : List ℕ) (go : Run → Out) (r : Run) →
     used kind (printed text r) ≤ of_kind kind READ_LIMIT PIECE_LIMIT → P (go (printed text r)) →
     (Another kind spent.Text → P (halts (halt.Spent spent.Text) r)) → P (printing text go r)

@@ -25,30 +25,30 @@ use Rattle.paw_effects.specs.AutoActions.{acted_on_found}
 use Rattle.paw_effects.specs.Holds.{answers}
 use Rattle.paw_effects.specs.inner.Standing.{MayBePosition}
 
--- the verb's flag of a world has this value
+-- The verb's flag of a world has this value.
 module _ (n : ℕ) where
   abbrev pub HasVerb : World → Type 0
   HasVerb w = flag w VERB_FLAG ≡ n
 
-  -- an action leaves it so, or leaves all tables to describe the location
+  -- An action leaves it so, or leaves all tables to describe the location.
   abbrev pub LeavesVerb : Done → Type 0
   LeavesVerb d = HasVerb d.world ⊎ (d.act.effect ≡ effect.Redescribe)
 
   -- ---- flags ----
 
-  -- what holds in both cases
+  -- What holds in both cases.
   pub one_has : (b : Bool) (x y : World) → HasVerb x → HasVerb y → HasVerb (if b then x else y)
   one_has true x y h k = h
   one_has false x y h k = k
 
-  -- another flag gets a value
+  -- Another flag gets a value.
   pub other_has : (w : World) (f x : ℕ) → (f == VERB_FLAG) ≡ false → HasVerb w → HasVerb (with_flag w f x)
   other_has w f x other k = get_or-set_other w.flags f VERB_FLAG x 0 (λ e. eqb-false f VERB_FLAG other (sym e)) ∙ k
 
   flag_has : (b : Bool) (w : World) (f x : ℕ) → (f == VERB_FLAG) ≡ false → HasVerb w → HasVerb (if b then with_flag w f x else w)
   flag_has b w f x other k = one_has b (with_flag w f x) w (other_has w f x other k) k
 
-  -- a flag that isn't the verb's gets a value, where there is one
+  -- A flag that isn't the verb's gets a value, where there is one.
   pub answered_has : (w : World) (f : ℕ) (answer : Option ℕ) → (f == VERB_FLAG) ≡ false → HasVerb w
       → HasVerb (option_map_or (with_flag w f) answer w)
   answered_has w f None other k = k
@@ -115,12 +115,12 @@ module _ (n : ℕ) where
 
   -- ---- positions ----
 
-  -- LOAD leaves all tables
+  -- LOAD leaves all tables.
   pub loaded_leaves : (g : GameLists) (w : World) (q : Option Position) → LeavesVerb (loaded g w q)
   loaded_leaves g w None = inr refl
   loaded_leaves g w (Some q) = inr refl
 
-  -- flags 0 to m are taken back, and the verb's isn't among them
+  -- Flags 0 to m are taken back, and the verb's isn't among them.
   pub ramloaded_has : (g : GameLists) (w : World) (m : ℕ) (saved : Option Position) → MayBePosition g saved → nat_le VERB_FLAG m ≡ false
       → HasVerb w → HasVerb (option_map_or (at_position w m) saved w)
   ramloaded_has g w m None at low k = k

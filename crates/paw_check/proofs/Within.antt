@@ -45,7 +45,7 @@ deeper_loop : (o : Option OpenLoop) (lv : ℕ) → IfSome o (λ l. l.level ≤ l
 deeper_loop None lv k = tt
 deeper_loop (Some l) lv k = omega (arith, k)
 
--- a loop of an upper level isn't one of this
+-- A loop of an upper level isn't one of this.
 shut : (o : Option OpenLoop) (lv : ℕ) → IfSome o (λ l. l.level ≤ lv) → at_level (suc lv) o ≡ None
 shut None lv k = refl
 shut (Some l) lv k = grind (arith, nat_tests)
@@ -61,7 +61,7 @@ no_loop_left : (o : Option OpenLoop) → IfSome o (λ l. l.level ≤ 0) → at_l
 no_loop_left None k none = refl
 no_loop_left (Some l) k none = absurd (elsewhere 0 l none (omega (arith, k)))
 
--- what none passes, none does that stands there
+-- What none passes, none does that stands there.
 none_such : (p : Condact → Bool) (cs : List Condact) → list_any p cs ≡ false → (c : Condact) → Member cs c → p c ≡ false
 none_such p cs h c member = go (p c) refl
   where
@@ -95,14 +95,14 @@ module _ (g : Story) (valid : ValidStory g) (flat : call_too_deep g.game ≡ Non
   abbrev Some_way : (lv most : ℕ) → Run → Type 0
   Some_way = Anyhow g valid kind limit pending changing verb low bye
 
-  -- a condact of a table, which keeps the rules of a game
+  -- A condact of a table, which follows the rules of a game.
   abbrev Stands : ℕ → Condact → Type 0
   Stands t c = Member (table_condacts g.game t) c × IsTrue (is_condact g.game c)
 
   of_turn : (t : ℕ) → In t turn_tables → t < length g.game.tables
   of_turn t at = omega (arith, one_of_three t at, some_tables g.game valid.game)
 
-  -- where the verb doesn't change no condact of a table that is reached may write it
+  -- Where the verb doesn't change no condact of a table that is reached may write it.
   quiet : (lv t : ℕ) → lv ≤ 10 → In t (called_below g.game turn_tables lv) → (c : Condact) → Stands t c → changing ≡ false → may_write_verb c ≡ false
   quiet lv t few at c stands still =
       none_such may_write_verb (flat_map (table_condacts g.game) (reached_from g.game turn_tables)) still c
@@ -119,7 +119,7 @@ module _ (g : Story) (valid : ValidStory g) (flat : call_too_deep g.game ≡ Non
   loops_take : (k : ℕ) (c : Condact) → c.code ≡ DOALL → if_opens k c ≡ k
   loops_take k c h = rw h refl
 
-  -- a table that is read from its start
+  -- A table that is read from its start.
   table_end : (n lv t : ℕ) → lv ≤ 10 → In t (called_below g.game turn_tables lv) → CallsEnd n lv t → (m : ℕ) (r : Run) → Steadily lv r →
       at_level lv r.turning ≡ None → used kind r ≤ m → m + cost g.game own count n t ≤ limit →
       EndsSo (Shut lv (m + cost g.game own count n t)) (m + cost g.game own count n t) (read_at_level g (called g n lv) lv t 0 0 false r)
@@ -175,7 +175,7 @@ module _ (g : Story) (valid : ValidStory g) (flat : call_too_deep g.game ≡ Non
       (m + takes_at g.game own count (suc n) c) (omega (arith, same)) (λ s i. (up lv s i.0 i.1.0, omega (arith, i.1.1, same)))
       (read_at_level g (called g n (suc lv)) (suc lv) c.a 0 0 false r) ends
 
-  -- a table of a turn
+  -- A table of a turn.
   pub turn_table_end : (t m : ℕ) (r : Run) → In t turn_tables → Steadily 0 r → r.turning ≡ None → used kind r ≤ m →
       m + cost g.game own count 10 t ≤ limit →
       EndsSo (Shut 0 (m + cost g.game own count 10 t)) (m + cost g.game own count 10 t) (table_read g t r)
@@ -183,7 +183,7 @@ module _ (g : Story) (valid : ValidStory g) (flat : call_too_deep g.game ≡ Non
   turn_table_end t m r at k none u fits =
       table_end 10 0 t (omega arith) at (calls_end 10 0 t refl at) m r k (rw none refl) u fits
 
-  -- the same for a run outside tables, where the table costs at most this
+  -- The same for a run outside tables, where the table costs at most this.
   pub ready_table_end : (t m most condacts text : ℕ) (r : Run) → In t turn_tables → IsReadyWithin condacts text pending g.game r →
       (changing ≡ false → flag r.world 33 ≡ verb) → Closed kind limit r.traces r.pieces → used kind r ≤ m →
       cost g.game own count 10 t ≤ most → m + most ≤ limit → EndsSo (Shut 0 (m + most)) (m + most) (table_read g t r)
@@ -217,7 +217,7 @@ module _ (g : Story) (valid : ValidStory g) (condacts text pending verb reads by
   Printed x =
       Ends g valid spent.Text text pending changes verb short bye (Outside g valid spent.Text text pending changes verb short bye 0 bytes) bytes x
 
-  -- a run that is steady by both counts is ready, where no loop is open
+  -- A run that is steady by both counts is ready, where no loop is open.
   ready : (left lv : ℕ) (loose : Bool) (r : Run)
       → Steady g.game spent.Condacts condacts left loose verb lv r.world r.earlier r.pending r.turning r.events r.traces r.pieces
       → Steady g.game spent.Text text left loose verb lv r.world r.earlier r.pending r.turning r.events r.traces r.pieces
@@ -242,7 +242,7 @@ module _ (g : Story) (valid : ValidStory g) (condacts text pending verb reads by
   both (Stopped (Halts (halt.Spent spent.Text)) r) h k = k
   both (Stopped (Halts (halt.TooDeep t)) r) h k = h
 
--- each table of a turn is read within what it takes
+-- Each table of a turn is read within what it takes.
 pub tables_within : TablesWithin
 tables_within g condacts text pending reads bytes t r valid flat bound low ready uses fit_reads fit_bytes =
     let verb : ℕ = flag r.world 33 in

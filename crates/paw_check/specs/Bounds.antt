@@ -34,7 +34,7 @@ most_refusal g =
 abbrev pub most_round_text : GameLists → ℕ
 most_round_text g = round_cost g (most_text g) + (most_view g + most_refusal g)
 
--- The most bytes of the prompt: any system message, since a flag names it, and the mark at which a line is typed.
+-- The most bytes of the prompt: any system message, since a flag names it, and the sign at which a line is typed.
 abbrev pub most_prompt : GameLists → ℕ
 most_prompt g = most_of g g.system + 1 + most_put g LINE_MESSAGE
 

@@ -83,7 +83,7 @@ silent g c = 0
 abbrev pub on_object : GameLists → Condact → ℕ
 on_object g c = most_of_action g
 
--- The row of a mark: its name and its numbers, in at most 20 bytes.
+-- The row of a sign: its name and its numbers, in at most 20 bytes.
 abbrev pub mark_most : GameLists → Condact → ℕ
 mark_most g c = 20
 

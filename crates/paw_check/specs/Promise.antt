@@ -12,7 +12,7 @@ use Rattle.paw_check.specs.declared.verdict.Verdict.{Verdict}
 use Rattle.paw_check.specs.declared.verdict.Verdict.TheVariants as verdict
 use Rattle.paw_check.specs.Verdicts.{bounds}
 
--- Each closed piece keeps these bounds on the condacts that are read for it, and on its bytes.
+-- Each closed piece stays within these bounds on the condacts that are read for it, and on its bytes.
 pub record PiecesWithin (condacts text : ℕ) (r : Run) : Type 0 where
   pub pieces : All (λ piece. length piece ≤ text) r.pieces
   pub traces : All (λ trace. length trace ≤ condacts) r.traces

@@ -17,6 +17,7 @@ cause_name cause.Text = codes "Text"
 -- What is shown of a game: its bound, or the first cause why there is none, with the table and the entry.
 abbrev pub verdict_text : Verdict → Text
 verdict_text (verdict.Bound levels condacts text) = codes "BOUND levels "
-    ++ (decimal levels ++ (codes " condacts " ++ (decimal condacts ++ (codes " text " ++ (decimal text ++ codes "\n")))))
+    ++ (decimal levels ++ (codes " condacts "
+    ++ (decimal condacts ++ (codes " text " ++ (decimal text ++ codes "\n")))))
 verdict_text (verdict.Unknown why table entry) = codes "UNKNOWN "
     ++ (cause_name why ++ (codes " at " ++ (decimal table ++ (codes "." ++ (decimal entry ++ codes "\n")))))

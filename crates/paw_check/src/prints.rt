@@ -14,9 +14,9 @@ use paw_base::messages::{
 use paw_base::parts::Condact;
 use paw_base::rows::may_be_indirect;
 
-/// What a condact prints at most: nothing, a byte, a flag's value, a mark, what an action on an object says, the
-/// inventory, the number of turns, the score, the objects here or those at a place, a system message as it is or with
-/// a newline, or the text that its first parameter names: a message as it is or with a newline, or a system message.
+/// What a condact prints at most: nothing, a byte, a flag's value, a sign, what an action on an object says, the
+/// inventory, the number of turns, the score, the objects here or those at a place, a system message as it is or with a
+/// newline, or the text that its first parameter names: a message as it is or with a newline, or a system message.
 #[derive(Clone, Copy, Drop, PartialEq, Eq, Debug)]
 pub(crate) enum Printed {
     Nothing,

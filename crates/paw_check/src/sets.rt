@@ -59,7 +59,8 @@ pub(crate) fn marked_numbers(
     marks: &[bool; 256],
 ) -> Result<Vec<u8>, NoRoom>
     requires few { count ≤ 256 }
-    ensures value { IfOk result (λ numbers. numbers.items ≡ filter (λ u. slice_index_or marks.now u false) (range_with_len 0 count)) }
+    ensures value { IfOk result
+        (λ numbers. numbers.items ≡ filter (λ u. slice_index_or marks.now u false) (range_with_len 0 count)) }
 {
     let mut numbers = Vec::new(alloc);
     for number in 0..count {

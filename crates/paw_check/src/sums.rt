@@ -84,7 +84,8 @@ fn takes(own: &Own, called: &[Row], verb: u8, condact: &Condact) -> u32
 
 /// What these condacts take for a verb, with the tables that they call.
 fn taken_sum(own: &Own, called: &[Row], verb: u8, condacts: &[Condact]) -> u32
-    ensures value { result ≡ capped (sum_by (with_call (own_in own.now) (λ u. cell_at called.now u verb)) condacts.now) }
+    ensures value { result
+        ≡ capped (sum_by (with_call (own_in own.now) (λ u. cell_at called.now u verb)) condacts.now) }
 {
     let mut sum = 0u32;
     for condact in condacts {

@@ -327,8 +327,9 @@ module _ (g : GameLists) (v : Valid g) (seed n : ℕ) where
 
   -- ---- all actions ----
 
-  -- A value of rows of bytes is a byte.
-  pub value_small : (rows : List (List ℕ)) → All AreBytes rows → (m x y : ℕ) (row : Option (List ℕ)) → slice_get rows m ≡ row → value_in row x ≡ Some y → y < 256
+  -- An answer among lists of bytes is a byte.
+  pub value_small : (rows : List (List ℕ)) → All AreBytes rows → (m x y : ℕ) (row : Option (List ℕ)) → slice_get rows m ≡ row →
+      value_in row x ≡ Some y → y < 256
   value_small rows bytes m x y None e is = cc
   value_small rows bytes m x y (Some row) e is =
       let at : AreBytes row = subst AreBytes (get_or_from_slice_get rows m row row e) (bytes m row (slice_get_within rows m row e)) in

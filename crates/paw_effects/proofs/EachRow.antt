@@ -219,7 +219,8 @@ each_row =
     (record {
       leads = λ s w c is. loaded_leads s.game w c (kept_position w (position_number w));
       places = λ s w c is v r k. taken_placed s.game w (kept_position w (position_number w)) (kept_stands s.game w (position_number w) k) k;
-      stays = λ g v seed n X w c is bytes k kept a b. next g v seed n _ (back_so g v seed n w k (kept_position w (position_number w)) (kept_at g v seed n w k (position_number w)));
+      stays = λ g v seed n X w c is bytes k kept a b.
+          next g v seed n _ (back_so g v seed n w k (kept_position w (position_number w)) (kept_at g v seed n w k (position_number w)));
       keeps = λ ks s w c is o k. loaded_kept ks s.game w (kept_position w (position_number w)) k;
     }) &  -- LOAD
     (record {
@@ -289,7 +290,8 @@ each_row =
     (record {
       leads = λ s w c is. tt;
       places = λ s w c is v r k. k;
-      stays = λ g v seed n X w c is bytes k kept a b. flagged g v seed (suc n) (drawn_on w 1) (drawn_so g v seed n w k) c.a (rolled w) (rolled_small g v seed n w);
+      stays = λ g v seed n X w c is bytes k kept a b.
+          flagged g v seed (suc n) (drawn_on w 1) (drawn_so g v seed n w k) c.a (rolled w) (rolled_small g v seed n w);
       keeps = λ ks s w c is o k. k;
     }) &  -- RANDOM
     moving _ _ _ (λ g w c is v r k. at_place g v w.places c.a k.1.1.0)
@@ -324,7 +326,8 @@ each_row =
     (record {
       leads = λ s w c is. tt;
       places = λ s w c is v r k. returned_placed s.game w v k;
-      stays = λ g v seed n X w c is bytes k kept a b. next g v seed n _ (flagged g v seed n (with_objects_returned w) (returned_so g v seed n w k) LOCATION_FLAG c.a a);
+      stays = λ g v seed n X w c is bytes k kept a b.
+          next g v seed n _ (flagged g v seed n (with_objects_returned w) (returned_so g v seed n w k) LOCATION_FLAG c.a a);
       keeps = λ ks s w c is o k. k;
     }) &  -- RESET
     (record {

@@ -1,4 +1,4 @@
--- What a change of places keeps of a world, and the objects that are let go one after the other.
+-- What a change of places leaves of a world, and the objects that are let go one after the other.
 use Rattle.std.proofs.Common.{◌≡◌, ℕ, zero, suc, ◌+◌, ◌≤◌, Bool, true, false, ◌||◌, List, [], ◌∷◌, ◌++◌, length, refl}
 use Rattle.std.proofs.Common.{sym, subst, ap, ◌∙◌, arith}
 use Rattle.std.specs.Prelude.{if◌then◌else◌, ◌==◌, fold, filter, cond}

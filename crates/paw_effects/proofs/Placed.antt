@@ -151,7 +151,7 @@ doall_takes : first_kind DOALL ≡ kind.Place
 unfolding condact_lines line_of plain_line is_indirect
 doall_takes = refl
 
--- A parameter keeps the rule of the kind that its code says.
+-- A parameter follows the rule of the kind that its code says.
 pub first_kept : (g : GameLists) (c : Condact) (code : ℕ) (k : ParamKind) → first_kind code ≡ k → c.code ≡ code → IsTrue (is_right g c) →
     IsTrue (is_argument g k c.a)
 first_kept g c code k takes is kept = subst (λ x. IsTrue (is_argument g x c.a)) (ap first_kind is ∙ takes) (right-first g c kept)

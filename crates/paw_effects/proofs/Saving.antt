@@ -98,7 +98,7 @@ module _ (ks : List (Option Position)) where
 
   -- ---- each row ----
 
-  -- A condition, and an action of a code that isn't SAVE, keep these positions.
+  -- A condition, and an action of a code that isn't SAVE, leave these positions.
   abbrev pub KeepsBy : ℕ → Meaning → Type 0
   KeepsBy code (Tests tested) = (g : GameLists) (w : World) (c : Condact) → AreKept w → AreKept (tested g w c).world
   KeepsBy code (Acts done) = (s : Story) (w : World) (c : Condact) → c.code ≡ code → code ≢ SAVE → AreKept w → AreKept (done s w c).world

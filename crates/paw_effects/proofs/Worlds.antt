@@ -1,4 +1,4 @@
--- Worlds of a game that is played, and what keeps them so.
+-- Worlds of a game that is played, and why they stay so.
 use Rattle.std.proofs.Common.{◌≡◌, ℕ, zero, suc, ◌+◌, ◌-◌, ◌<◌, ◌≤◌, ◌==◌, Bool, true, false, ◌&&◌, ◌||◌, List, [], ◌∷◌}
 use Rattle.std.proofs.Common.{Option, Some, None}
 use Rattle.std.proofs.Common.{inl, inr, refl, sym, ◌∙◌, subst, length, map, min, slice_get, IsTrue, arith}

@@ -1,4 +1,4 @@
--- The marks that stand for what a game shows or plays besides its text.
+-- The signs that stand for what a game shows or plays besides its text.
 use Rattle.std.specs.Prelude.{ℕ, [], ◌∷◌, ◌++◌, codes, decimal}
 use Rattle.paw_base.specs.Bytes.{Text}
 use Rattle.paw_base.specs.declared.parts.Condact.{Condact}
@@ -11,7 +11,7 @@ abbrev pub parameter_text : ParamKind → ℕ → Text
 parameter_text Absent x = []
 parameter_text _ x = 32 ∷ decimal x
 
--- The mark of a condact: `[NAME p q]` with as many parameters as it has, and a newline.
+-- The sign of a condact: `[NAME p q]` with as many parameters as it has, and a newline.
 abbrev pub mark_text : Condact → Text
 mark_text c =
     codes "[" ++ (name_of c.code ++ (parameter_text (first_kind c.code) c.a

@@ -2,11 +2,11 @@
 use Rattle.paw_base.specs.Bytes.{RoutineRows}
 use Rattle.paw_game.specs.Game.{GameLists}
 
--- A game, and the rows of the routines that its EXTERN calls, 256 values each.
+-- A game, and the answers of the routines that its EXTERN calls, 256 of each.
 pub record Story : Type 0 where
   pub game : GameLists
   pub rows : RoutineRows
 
--- The story of a game with these rows.
+-- The story of a game with these answers.
 abbrev pub story_of : GameLists → RoutineRows → Story
 story_of g rows = record { game = g; rows = rows }

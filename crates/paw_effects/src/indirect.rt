@@ -16,7 +16,7 @@ use paw_base::rows::{ParamKind, condact_row, plain_code};
 use paw_game::tables::Tables;
 use paw_world::world::World;
 
-/// Whether a value that arises in play keeps the rule of this kind.
+/// Whether a value that arises in play follows the rule of this kind.
 fn is_argument<T: Tables>(tables: &T, kind: ParamKind, value: u8) -> bool
     ensures value { result ≡ is_argument (T.game tables.now) kind value }
 {

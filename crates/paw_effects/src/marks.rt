@@ -1,4 +1,4 @@
-// The marks that stand for what a game shows or plays besides its text. Where nothing is printed the empty text is
+// The signs that stand for what a game shows or plays besides its text. Where nothing is printed the empty text is
 // pushed, whose clause gives the proof that the piece fits.
 
 ghost use Rattle.paw_base.specs.inner.Condacts.{IsCode};

@@ -180,7 +180,7 @@ entry_kept g v t e en h =
 pub entry-small : (g : GameLists) → Valid g → (t e : ℕ) (en : Entry) → entry_at g t e ≡ Some en → e < ENTRY_LIMIT
 entry-small g v t e en h = omega (arith, slice_get_within (table_at g t) e en h, table-short g v t)
 
--- An entry's condacts keep their rules, and are few.
+-- An entry's condacts follow their rules, and are few.
 condacts_kept : (g : GameLists) (en : Entry) → IsTrue (is_entry g en)
     → IsTrue (nat_le (length en.condacts) CONDACT_LIMIT && list_all (is_condact g) en.condacts)
 condacts_kept g en h =
@@ -263,7 +263,7 @@ first_kept rule c h = first_of_and (rule (first_kind c.code) c.a) _ (second_of_a
 pub second_kept : (rule : ParamKind → ℕ → Bool) (c : Condact) → IsTrue (fits_kinds rule c) → IsTrue (rule (second_kind c.code) c.b)
 second_kept rule c h = second_of_and (rule (first_kind c.code) c.a) _ (second_of_and (is_code c.code) _ h)
 
--- A condact that keeps a rule keeps another that the first one gives.
+-- A condact that follows a rule follows another that the first one gives.
 pub keeps_other : (rule other : ParamKind → ℕ → Bool) (c : Condact) → ((k : ParamKind) (x : ℕ) → IsTrue (rule k x) → IsTrue (other k x))
     → IsTrue (fits_kinds rule c) → IsTrue (fits_kinds other c)
 keeps_other rule other c gives h =

@@ -29,7 +29,7 @@ has_indirect tables = list_any (λ es. list_any (λ e. any_indirect e.condacts) 
 unfoldable pub version_of : GameLists → ℕ
 version_of g = if has_indirect g.tables then 2 else 1
 
--- The mark PAWI, the version, and the numbers of words, system messages, messages, objects, locations and tables.
+-- The signature PAWI, the version, and the numbers of words, system messages, messages, objects, locations and tables.
 abbrev pub head_image : GameLists → Bytes
 head_image g =
     80 ∷ 65 ∷ 87 ∷ 73 ∷ version_of g ∷ (two_bytes (length g.words) ++ two_bytes (length g.system)

@@ -1,4 +1,4 @@
--- The rules that a game's lists keep.
+-- The rules that a game's lists follow.
 use Rattle.std.specs.Prelude.{ℕ, ◌==◌, ◌&&◌, ◌||◌, Bool, true, false, not, List, []}
 use Rattle.std.specs.Prelude.{◌∷◌, length, nat_lt, nat_le, IsTrue, if◌then◌else◌}
 use Rattle.std.specs.List.{list_all, list_any}
@@ -29,7 +29,7 @@ use Rattle.paw_game.specs.Game.{GameLists, counts_of}
 abbrev pub is_within : ℕ → ℕ → ℕ → Bool
 is_within low high n = nat_le low n && nat_le n high
 
--- Whether a list has at most this many rows, and each of them keeps a rule.
+-- Whether a list has at most this many rows, and each of them follows a rule.
 abbrev pub rows_are_valid : {A : Type 0} → ℕ → (A → Bool) → List A → Bool
 rows_are_valid most rule rows = nat_le (length rows) most && list_all rule rows
 
@@ -49,7 +49,7 @@ abbrev pub are_letters : Bytes → Bool
 are_letters [] = false
 are_letters (c ∷ cs) = (length (c ∷ cs) == WORD_LENGTH) && (is_letter c && is_filled cs)
 
--- Whether a word by itself keeps its rules: those of its letters, of its value, and of its class, at most that of
+-- Whether a word by itself follows its rules: those of its letters, of its value, and of its class, at most that of
 -- pronouns.
 abbrev pub is_word : Word → Bool
 is_word w = are_letters w.letters && (is_within LEAST_WORD GREATEST_WORD w.value && nat_le w.class PRONOUN_CLASS)
@@ -60,7 +60,7 @@ words_rise [] = true
 words_rise (w ∷ []) = true
 words_rise (w ∷ v ∷ ws) = is_lt (slice_cmp nat_cmp w.letters v.letters) && words_rise (v ∷ ws)
 
--- Whether words keep their rules: they aren't too many, each is a word, and they are in order.
+-- Whether words follow their rules: they aren't too many, each is a word, and they are in order.
 abbrev pub words_are_valid : List Word → Bool
 words_are_valid ws = nat_le (length ws) WORD_LIMIT && (list_all is_word ws && words_rise ws)
 
@@ -101,13 +101,13 @@ is_place locations p = nat_lt p locations || is_within NOT_CREATED_PLACE CARRIED
 abbrev pub is_word_or_none : List Word → ℕ → ℕ → Bool
 is_word_or_none ws class value = (value == NO_WORD) || has_word ws class value
 
--- Whether the facts of an object keep their rules: its noun, its adjective, where it begins, and its weight.
+-- Whether the facts of an object follow their rules: its noun, its adjective, where it begins, and its weight.
 abbrev pub facts_are_valid : List Word → ℕ → ObjectFacts → Bool
 facts_are_valid ws locations f =
     is_word_or_none ws NOUN_CLASS f.noun && (is_word_or_none ws ADJECTIVE_CLASS f.adjective
     && (is_place locations f.start && nat_le f.weight WEIGHT_LIMIT))
 
--- Whether an object keeps its rules, which are those of its text and of its facts.
+-- Whether an object follows its rules, which are those of its text and of its facts.
 abbrev pub is_object : List Word → ℕ → ObjectRow → Bool
 is_object ws locations o = is_text o.text && facts_are_valid ws locations o.facts
 
@@ -118,15 +118,15 @@ are_exits ws locations (x ∷ xs) =
     (is_verb_value ws x.verb && (nat_lt x.to locations && not (list_any (λ y. y.verb == x.verb) xs)))
     && are_exits ws locations xs
 
--- Whether the exits of one location keep their rules and aren't too many. They never are too many, since no two have
+-- Whether the exits of one location follow their rules and aren't too many. They never are too many, since no two have
 -- the same verb value.
 abbrev pub exits_are_valid : List Word → ℕ → List Exit → Bool
 exits_are_valid ws locations xs = nat_le (length xs) EXIT_LIMIT && are_exits ws locations xs
 
 -- ---- tables ----
 
--- Whether a parameter keeps the rule of its kind: it is the number of a row that there is by these counts, or the value
--- of one of these words. A flag or a number is any byte.
+-- Whether a parameter follows the rule of its kind: it is the number of a row that there is by these counts, or the
+-- value of one of these words. A flag or a number is any byte.
 abbrev pub is_parameter : Counts → List Word → ParamKind → ℕ → Bool
 is_parameter counts ws kind.Absent x = x == 0
 is_parameter counts ws kind.Location x = nat_lt x counts.locations
@@ -141,8 +141,8 @@ is_parameter counts ws kind.Adjective x = is_word_or_none ws ADJECTIVE_CLASS x
 is_parameter counts ws kind.Preposition x = is_word_or_none ws PREPOSITION_CLASS x
 is_parameter counts ws _ x = nat_lt x 256
 
--- Whether a value that arises in play keeps the rule of a kind. Here any byte will do for a word: a value that no word
--- of the game has is one that no sentence has.
+-- Whether a value that arises in play follows the rule of a kind. Here any byte will do for a word: a value that no
+-- word of the game has is one that no sentence has.
 abbrev pub is_argument : GameLists → ParamKind → ℕ → Bool
 is_argument g kind.Adverb x = nat_lt x 256
 is_argument g kind.Noun x = nat_lt x 256
@@ -150,11 +150,11 @@ is_argument g kind.Adjective x = nat_lt x 256
 is_argument g kind.Preposition x = nat_lt x 256
 is_argument g k x = is_parameter (counts_of g) g.words k x
 
--- Whether a condact has a code, and parameters that keep the rules of their kinds.
+-- Whether a condact has a code, and parameters that follow the rules of their kinds.
 abbrev pub fits_kinds : (ParamKind → ℕ → Bool) → Condact → Bool
 fits_kinds rule c = is_code c.code && (rule (first_kind c.code) c.a && rule (second_kind c.code) c.b)
 
--- Whether a condact keeps its rules: its code is that of a condact, its parameters name what the game has, and a
+-- Whether a condact follows its rules: its code is that of a condact, its parameters name what the game has, and a
 -- parameter that this code doesn't have is 0.
 abbrev pub is_condact : GameLists → Condact → Bool
 is_condact g c = fits_kinds (is_parameter (counts_of g) g.words) c
@@ -163,19 +163,19 @@ is_condact g c = fits_kinds (is_parameter (counts_of g) g.words) c
 abbrev pub is_wildcard : ℕ → Bool
 is_wildcard value = (value == ANY_WORD) || (value == NO_WORD)
 
--- Whether an entry keeps its rules: those of its verb, its noun and its condacts, which aren't too many.
+-- Whether an entry follows its rules: those of its verb, its noun and its condacts, which aren't too many.
 abbrev pub is_entry : GameLists → Entry → Bool
 is_entry g e =
     (is_wildcard e.verb || is_verb_value g.words e.verb) && ((is_wildcard e.noun || has_word g.words NOUN_CLASS e.noun)
     && rows_are_valid CONDACT_LIMIT (is_condact g) e.condacts)
 
--- Whether a table keeps its rules: its entries aren't too many, and each keeps its own.
+-- Whether a table follows its rules: its entries aren't too many, and each follows its own.
 abbrev pub is_table : GameLists → List Entry → Bool
 is_table g es = rows_are_valid ENTRY_LIMIT (is_entry g) es
 
 -- ---- the whole game ----
 
--- A valid game: each list has a length that it may have, each row keeps its rules, and each location has its exits.
+-- A valid game: each list has a length that it may have, each row follows its rules, and each location has its exits.
 pub record Valid (g : GameLists) : Type 0 where
   pub words : IsTrue (words_are_valid g.words)
   pub system : IsTrue (rows_are_valid SYSTEM_LIMIT is_text g.system)

@@ -12,7 +12,7 @@ use paw_base::limits::WORD_LENGTH;
 use paw_base::parts::{Condact, Counts, ObjectFacts};
 use std::marker::Model;
 
-/// A valid game: seven lists that keep the rules. Contracts see them as `GameLists`.
+/// A valid game: seven lists that follow the rules. Contracts see them as `GameLists`.
 #[derive(Drop)]
 pub struct Game {
     parts: GameParts,

@@ -1,4 +1,4 @@
-//! Games: seven lists that keep the rules, the calls that answer their parts by number, and the image of a game.
+//! Games: seven lists that follow the rules, the calls that answer their parts by number, and the image of a game.
 #![tactic(auto)]
 
 mod check;

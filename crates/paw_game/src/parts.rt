@@ -19,7 +19,7 @@ pub struct Word {
 }
 
 impl Word {
-    /// The word of these parts, whatever rules they keep.
+    /// The word of these parts, whatever rules they follow.
     pub fn new(letters: [u8; WORD_LENGTH], value: u8, class: u8) -> Word
         ensures value { result ≡ record { letters = letters; value = value; class = class } }
     {
@@ -99,7 +99,7 @@ fn condacts_from_codes(alloc: Global, codes: &[(u8, u8, u8)]) -> Result<Condacts
 /// A table: its entries.
 pub type Table = Rows<Entry>;
 
-/// The seven lists of a game, whatever rules they keep; contracts see them as `GameLists`. The list of exits has one
+/// The seven lists of a game, whatever rules they follow; contracts see them as `GameLists`. The list of exits has one
 /// row for each location.
 #[derive(Drop)]
 pub struct GameParts {

@@ -151,7 +151,7 @@ impl<'a> Rules<'a> {
         self.is_location(place) || matches!(place, NOT_CREATED_PLACE..=CARRIED_PLACE)
     }
 
-    /// Whether a parameter keeps the rule of its kind.
+    /// Whether a parameter follows the rule of its kind.
     pub fn is_parameter(&self, kind: ParamKind, value: u8) -> bool
         ensures value { result ≡ is_parameter self.now.counts self.now.words kind value }
     {

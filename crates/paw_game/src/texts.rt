@@ -25,7 +25,7 @@ fn bad_text(texts: &[Text]) -> Option<usize>
     texts.iter().position(|text| !is_text(text))
 }
 
-/// Whether a text keeps the rules of its length and its bytes.
+/// Whether a text follows the rules of its length and its bytes.
 pub(crate) fn is_text(text: &Text) -> bool
     ensures value { result ≡ is_text text.now }
 {

@@ -32,7 +32,7 @@ fn bad_word(words: &[Word]) -> Option<usize>
     None
 }
 
-/// Whether a word keeps the rules of its letters, its value and its class.
+/// Whether a word follows the rules of its letters, its value and its class.
 fn is_word(word: &Word) -> bool
     ensures value { result ≡ is_word word.now }
 {

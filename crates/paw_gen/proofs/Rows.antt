@@ -35,11 +35,11 @@ all_from rule row from (suc n) h =
     ap (λ b. b && list_all rule (map row (range_with_len (from + 1) n))) (h from (omega arith))
     ∙ all_from rule row (from + 1) n (λ k low. h k (omega (arith, low)))
 
--- Each row keeps the rule.
+-- Each row follows the rule.
 pub all_rows : {A : Type 0} (rule : A → Bool) (row : ℕ → A) (n : ℕ) → ((k : ℕ) → k < n → rule (row k) ≡ true) → list_all rule (rows n row) ≡ true
 all_rows rule row n h = all_from rule row 0 n (λ k low. h k (omega (arith, low)))
 
--- A rule that all rows keep is kept by row k.
+-- A rule that all rows follow is followed by row k.
 pub all_at : {A : Type 0} (rule : A → Bool) (row : ℕ → A) (n k : ℕ) → list_all rule (rows n row) ≡ true → k < n → rule (row k) ≡ true
 all_at rule row n k h low = kept (rule (row k)) refl
   where
@@ -50,7 +50,7 @@ all_at rule row n k h low = kept (rule (row k)) refl
         (ap rule (get_or-map-range_with_len row 0 n k k (row 0) low (omega arith)) ∙ e) in
         absurd cc
 
--- A rule that row k keeps is kept by one of the rows.
+-- A rule that row k follows is followed by one of the rows.
 pub any_row : {A : Type 0} (rule : A → Bool) (row : ℕ → A) (n k : ℕ) → k < n → rule (row k) ≡ true → list_any rule (rows n row) ≡ true
 any_row rule row n k low h =
     list_any_at rule (rows n row) k (row 0) (omega (arith, low, length_rows row n))

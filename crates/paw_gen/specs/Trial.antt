@@ -137,7 +137,7 @@ trial_game n = record {
   tables = answer_entries ∷ listing ∷ [] ∷ [];
 }
 
--- Line j of a trial; six lines come in turn, again and again.
+-- Line j of a trial; six lines come one after another, again and again.
 abbrev pub trial_line : ℕ → Line
 trial_line j =
     if j % 6 == 0 then codes "NORTH"

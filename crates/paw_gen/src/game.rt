@@ -39,7 +39,7 @@ fn parts_of(alloc: Global, n: u16) -> Result<GameParts, NoRoom>
 /// lines can get and drop. Its image is within the limit of images.
 ///
 /// # Errors
-/// NoRoom only where there is no memory: the lists always keep the rules of a game.
+/// NoRoom only where there is no memory: the lists always follow the rules of a game.
 pub fn game_of(alloc: Global, n: u16) -> Result<Game, NoRoom>
     ensures game { IfOk result (λ game. game ≡ trial_game n) }
     ensures short { IfOk result (λ game. length (image game) ≤ IMAGE_LIMIT) }

@@ -47,7 +47,7 @@ kept_by rule n m e =
       | false ↦ λ h f. absurd cc
     ] refl e
 
--- A value in range was read, and keeps the rule.
+-- A value in range was read, and follows the rule.
 pub record Ranged (rule : ℕ → Bool) (r : Reads ℕ) (x : ℕ × List (List ℕ)) : Type 0 where
   pub is : r ≡ Ok x
   pub keeps : rule x.0 ≡ true

@@ -15,11 +15,11 @@ use Rattle.paw_grammar.specs.Tokens.{Reads, read_by}
 abbrev pub number : Token → Option ℕ
 number word = if nat_lt 0 (length word) && list_all is_ascii_digit word then Some (digits_value 10 word) else None
 
--- A number that keeps a rule; the fault Range where it breaks it.
+-- A number that follows a rule; the fault Range where it breaks it.
 abbrev pub in_range : (ℕ → Bool) → ℕ × Tokens → Result (ℕ × Tokens) SourceKind
 in_range rule n = if rule n.0 then Ok n else Err kind.Range
 
--- The next token as a number that keeps a rule.
+-- The next token as a number that follows a rule.
 abbrev pub number_with : (ℕ → Bool) → Reads ℕ
 number_with rule ts = read_by kind.Number number ts >>= in_range rule
 

@@ -56,7 +56,8 @@ unfolding answers_of
 answers_first g seed sessions name None later = refl
 answers_first g seed sessions name (Some r) later =
     elim (bytes_eq name r.name) as (λ b. bytes_eq name r.name ≡ b →
-    (if b then (answer g seed (sessions r.name) r.text).body ∷ answers_of g seed (if b then (answer g seed (sessions r.name) r.text).session else sessions name) later
+    (if b then (answer g seed (sessions r.name) r.text).body ∷ answers_of g seed
+    (if b then (answer g seed (sessions r.name) r.text).session else sessions name) later
     else answers_of g seed (if b then (answer g seed (sessions r.name) r.text).session else sessions name) later)
     ≡ answers_of g seed (sessions name) (if b then r.text ∷ later else later)) [
       | true ↦ λ t. let same : name ≡ r.name = (bytes_eq-Decides name r.name).0 t in
@@ -83,7 +84,7 @@ waits_by g fs (WaitsAt q at s) p path r h = (q, at, s, refl)
 waits_by g fs (Halted halt s) p path r h = cc
 waits_by g fs Unended p path r h = cc
 
--- where the reading of more lines waits, that of some does
+-- Where the reading of more lines waits, that of some does.
 waits_before : (g : Story) (seed : ℕ) (es fs : List (List ℕ)) (p : Prompt) (path : List Frame) (r : Run) → reading g seed (es ++ fs) ≡ WaitsAt p path r →
     (q : Prompt) × (at : List Frame) × (s : Run) × (reading g seed es ≡ WaitsAt q at s)
 waits_before g seed es fs p path r h = waits_by g fs (reading g seed es) p path r (sym (going_on_is_reading g seed es fs) ∙ h)
@@ -100,7 +101,7 @@ one_piece [] h = absurd (omega (arith, h))
 one_piece (x ∷ []) h = refl
 one_piece (x ∷ y ∷ pieces) h = absurd (omega (arith, h))
 
--- a reading that waits has one piece for each line, and one before them
+-- A reading that waits has one piece for each line, and one before them.
 pieces_count : (g : Story) (seed : ℕ) (es : List (List ℕ)) (p : Prompt) (path : List Frame) (r : Run) → reading g seed es ≡ WaitsAt p path r →
     length r.pieces ≡ suc (length es)
 pieces_count g seed es p path r h =
@@ -108,7 +109,8 @@ pieces_count g seed es p path r h =
     let none : length r.events ≡ 0 = ap length counted.0 in
     omega (arith, counted.1, none)
 
-past_by : (pieces : List (List ℕ)) (e x : Ending) (p : Prompt) (path : List Frame) (r : Run) (traces : List (List Step)) → e ≡ ending_with_past pieces traces x → e ≡ WaitsAt p path r →
+past_by : (pieces : List (List ℕ)) (e x : Ending) (p : Prompt) (path : List Frame) (r : Run) (traces : List (List Step)) →
+    e ≡ ending_with_past pieces traces x → e ≡ WaitsAt p path r →
     (more : List (List ℕ)) × (r.pieces ≡ pieces ++ more)
 past_by pieces e (WaitsAt q at s) p path r traces h k =
     let same : WaitsAt p path r ≡ ending_with_past pieces traces (WaitsAt q at s) = sym k ∙ h in
@@ -118,8 +120,9 @@ past_by pieces e (Halted halt s) p path r traces h k =
 past_by pieces e Unended p path r traces h k =
     let clash : WaitsAt p path r ≡ ending_with_past pieces traces Unended = sym k ∙ h in cc
 
--- with one line more the reading has one piece more, the last one
-one_more : (g : Story) (seed : ℕ) (es : List (List ℕ)) (text : List ℕ) (p q : Prompt) (path at : List Frame) (r s : Run) → reading g seed es ≡ WaitsAt p path r →
+-- With one line more the reading has one piece more, the last one.
+one_more : (g : Story) (seed : ℕ) (es : List (List ℕ)) (text : List ℕ) (p q : Prompt) (path at : List Frame) (r s : Run) →
+    reading g seed es ≡ WaitsAt p path r →
     reading g seed (es ++ text ∷ []) ≡ WaitsAt q at s → s.pieces ≡ r.pieces ++ last_piece s.pieces ∷ []
 one_more g seed es text p q path at r s h k =
     let more = past_by r.pieces _ (goes_on_with g p path (text ∷ []) r) q at s r.traces (longer_reading g seed es (text ∷ []) p path r h) k in
@@ -136,7 +139,8 @@ one_more g seed es text p q path at r s h k =
 taken_by : (seed : ℕ) (es : List (List ℕ)) (text : List ℕ) (e : Ending) (over full : Bool) →
     ((if over then record { body = codes "over"; session = At seed es } else if full then record { body = codes "full"; session = At seed es }
     else gone_on (At seed es) (At seed (es ++ text ∷ [])) e).session ≡ At seed es)
-    ⊎ (◌≡◌ {A = Answer} (if over then record { body = codes "over"; session = At seed es } else if full then record { body = codes "full"; session = At seed es }
+    ⊎ (◌≡◌ {A = Answer} (if over then record { body = codes "over"; session = At seed es }
+    else if full then record { body = codes "full"; session = At seed es }
     else gone_on (At seed es) (At seed (es ++ text ∷ [])) e) (record { body = last_piece (pieces_of e); session = At seed (es ++ text ∷ []) }))
 taken_by seed es text e true full = inl refl
 taken_by seed es text e false true = inl refl
@@ -146,16 +150,17 @@ taken_by seed es text (Halted (halt.Spent kind) r) false false = inl refl
 taken_by seed es text (Halted (halt.TooDeep table) r) false false = inl refl
 taken_by seed es text Unended false false = inr refl
 
--- a text isn't taken, or its piece is the answer
+-- A text isn't taken, or its piece is the answer.
 answered_by : (g : Story) (seed : ℕ) (es : List (List ℕ)) (text : List ℕ) → ((answer g seed (At seed es) (Some text)).session ≡ At seed es)
-    ⊎ (answer g seed (At seed es) (Some text) ≡ record { body = last_piece (pieces_of (reading g seed (es ++ text ∷ []))); session = At seed (es ++ text ∷ []) })
+    ⊎ (answer g seed (At seed es) (Some text)
+    ≡ record { body = last_piece (pieces_of (reading g seed (es ++ text ∷ []))); session = At seed (es ++ text ∷ []) })
 unfolding answer
 answered_by g seed es text = taken_by seed es text (reading g seed (es ++ text ∷ [])) (is_over (reading g seed es)) (nat_le EVENT_LIMIT (length es))
 
 same_lines : (seed : ℕ) (es fs : List (List ℕ)) → At seed es ≡ At seed fs → es ≡ fs
 same_lines seed es fs h = cc
 
--- no more lines than texts are taken
+-- No more lines than texts are taken.
 at_most : (g : Story) (seed : ℕ) (es texts lines : List (List ℕ)) → session_after g seed (At seed es) (map Some texts) ≡ At seed lines →
     length lines ≤ length es + length texts
 unfolding session_after
@@ -167,7 +172,7 @@ at_most g seed es (text ∷ texts) lines h = elim (answered_by g seed es text) [
       omega (arith, k, length-append es (text ∷ []))
 ]
 
--- a text that was taken has a piece of its own
+-- A text that was taken has a piece of its own.
 text_piece : (g : Story) (seed : ℕ) (es texts : List (List ℕ)) (text : List ℕ) (p : Prompt) (path : List Frame) (r : Run) →
     reading g seed ((es ++ text ∷ []) ++ texts) ≡ WaitsAt p path r →
     pieces_of (reading g seed (es ++ text ∷ [])) ≡ pieces_of (reading g seed es) ++ last_piece (pieces_of (reading g seed (es ++ text ∷ []))) ∷ []
@@ -198,7 +203,7 @@ answered_later g seed es (text ∷ texts) p path r h k = elim (answered_by g see
       ∙ ap (λ (a : Answer). pieces_of (reading g seed es) ++ a.body ∷ answers_of g seed a.session (map Some texts)) (sym goes)
 ]
 
--- the game is begun by the name alone
+-- The game is begun by the name alone.
 begins : (g : Story) (seed : ℕ) (p : Prompt) (path : List Frame) (r : Run) → reading g seed [] ≡ WaitsAt p path r →
     answer g seed Absent None ≡ record { body = last_piece r.pieces; session = At seed [] }
 unfolding answer

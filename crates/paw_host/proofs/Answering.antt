@@ -31,7 +31,7 @@ with_absent g (Some text) body Absent e = refl
 with_absent g (Some text) body (At seed es) e = cc
 with_absent g (Some text) body (Refused bytes) e = refl
 
--- the game isn't begun
+-- The game isn't begun.
 pub not_begun : (g : Story) (seed : ℕ) (text : Option (List ℕ)) (before after bytes : List ℕ) → (begun_answer g seed).session ≡ Absent →
     after ≡ before ++ (begun_answer g seed).body → bytes ≡ [] → Answers g (answer g seed Absent text) before after bytes
 not_begun g seed text before after bytes none grown empty =
@@ -40,7 +40,7 @@ not_begun g seed text before after bytes none grown empty =
       stores = subst (λ s. Stores g s bytes) (sym none) empty;
     })
 
--- it is, and no text is taken
+-- It is, and no text is taken.
 pub just_begun : (g : Story) (seed : ℕ) (before after bytes : List ℕ) → (begun_answer g seed).session ≡ At seed [] →
     after ≡ before ++ (begun_answer g seed).body → Stands g seed [] bytes → Answers g (answer g seed Absent None) before after bytes
 just_begun g seed before after bytes at grown stands = rw (answer_absent g seed None) (record {
@@ -53,7 +53,7 @@ begun_takes : (g : Story) (seed : ℕ) (text : List ℕ) → (begun_answer g see
     ≡ record { body = (begun_answer g seed).body ++ (answer_taking g seed [] text).body; session = (answer_taking g seed [] text).session }
 begun_takes g seed text at = answer_absent g seed (Some text) ∙ ap (begun_with_text g (Some text) (begun_answer g seed).body) at
 
--- it is, and takes a text
+-- It is, and takes a text.
 pub begun_then : (g : Story) (seed : ℕ) (text before mid after bytes : List ℕ) → (begun_answer g seed).session ≡ At seed [] →
     mid ≡ before ++ (begun_answer g seed).body → Answers g (answer_taking g seed [] text) mid after bytes →
     Answers g (answer g seed Absent (Some text)) before after bytes
@@ -78,7 +78,7 @@ taken_by seed es text e true full = (es, refl)
 taken_by seed es text e false true = (es, refl)
 taken_by seed es text e false false = gone_at seed es (es ++ text ∷ []) e
 
--- a text leaves a session
+-- A text leaves a session.
 taken_at : (g : Story) (seed : ℕ) (es : List (List ℕ)) (text : List ℕ) → (o : List (List ℕ)) × ((answer_taking g seed es text).session ≡ At seed o)
 taken_at g seed es text =
     taken_by seed es text (reading g seed (es ++ text ∷ [])) (is_over (reading g seed es)) (nat_le EVENT_LIMIT (length es))
@@ -93,7 +93,7 @@ making_by : (g : Story) (seed : ℕ) (s : NamedSession) (o : List (List ℕ)) (b
     LeftOfMaking g seed Absent s bytes
 making_by g seed s o bytes e h = subst (λ x. LeftOfMaking g seed Absent x bytes) (sym e) h
 
--- while the game is begun
+-- While the game is begun.
 pub in_new_begun : (g : Story) (seed : ℕ) (text : Option (List ℕ)) (old : Standing) (m : Moment) → InFile (LeftOfBeginning g seed) old m →
     InFile (LeftOf g seed Absent (answer g seed Absent text).session) old m
 in_new_begun g seed text old m i = record {
@@ -107,7 +107,7 @@ in_new_begun g seed text old m i = record {
   ];
 }
 
--- what holds from a store beside which nothing has changed holds from before
+-- What holds from a store beside which nothing has changed holds from before.
 pub in_file_from : (Left : List ℕ → Type 0) (old mid : Standing) (m : Moment) → ChangesStoreOnly old mid → InFile Left mid m → InFile Left old m
 in_file_from Left old mid m b i = record {
   asked = i.asked ∙ b.asked;
@@ -117,7 +117,7 @@ in_file_from Left old mid m b i = record {
   disk = i.disk;
 }
 
--- while it takes a text
+-- While it takes a text.
 pub in_new_taking : (g : Story) (seed : ℕ) (text : List ℕ) (old mid : Standing) (m : Moment) → (begun_answer g seed).session ≡ At seed [] →
     ChangesStoreOnly old mid →
     InFile (StoresEither g (At seed []) (answer_taking g seed [] text).session) mid m →

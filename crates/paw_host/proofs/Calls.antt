@@ -8,7 +8,7 @@ use Rattle.paw_journal.specs.Journal.{writing_calls}
 use Rattle.paw_play.specs.Calls.{session_calls}
 use Rattle.paw_host.specs.inner.Answers.{answer_calls}
 
--- those of a session that is asked for something
+-- Those of a session that is asked for something.
 pub answers_serve : (c : StageCall) → IsOneOf answer_calls c → IsOneOf session_calls c
 answers_serve c (inl e) = inl e
 answers_serve c (inr (inl e)) = inr (inl e)
@@ -16,12 +16,12 @@ answers_serve c (inr (inr (inl e))) = inr (inr (inl e))
 answers_serve c (inr (inr (inr (inl e)))) = inr (inr (inr (inl e)))
 answers_serve c (inr (inr (inr (inr h)))) = absurd h
 
--- and that which shows the reply
+-- And that which shows the reply.
 pub shows_serve : (c : StageCall) → IsOneOf (call.Show ∷ []) c → IsOneOf session_calls c
 shows_serve c (inl e) = inr (inr (inr (inr (inr (inl e)))))
 shows_serve c (inr h) = absurd h
 
--- those that write, and that which reads, are of a session that is asked for something
+-- Those that write, and that which reads, are of a session that is asked for something.
 pub writes_answer : (c : StageCall) → IsOneOf writing_calls c → IsOneOf answer_calls c
 writes_answer c h = inr (inr h)
 

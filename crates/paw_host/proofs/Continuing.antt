@@ -17,7 +17,7 @@ use Rattle.paw_host.specs.Promise.{MayBe}
 use Rattle.paw_host.specs.inner.Lines.{AllMay}
 use Rattle.paw_host.proofs.Serving.{same_or_not, its_own, not_its_own}
 
--- the text, if there is one, is a line
+-- The text, if there is one, is a line.
 abbrev pub IfLine : Option (List ℕ) → Type 0
 IfLine None = Unit {0}
 IfLine (Some text) = IsLine text
@@ -33,7 +33,8 @@ gone_may g old new (Halted (halt.Spent kind) r) a b = a
 gone_may g old new (Halted (halt.TooDeep table) r) a b = a
 gone_may g old new Unended a b = b
 
-taken_may_by : (g : Story) (own : ℕ) (es : List (List ℕ)) (text : List ℕ) (e : Ending) (over full : Bool) → IsPlayedWith g own es → IsPlayedWith g own (es ++ text ∷ []) →
+taken_may_by : (g : Story) (own : ℕ) (es : List (List ℕ)) (text : List ℕ) (e : Ending) (over full : Bool) → IsPlayedWith g own es →
+    IsPlayedWith g own (es ++ text ∷ []) →
     MayBe g (if over then record { body = codes "over"; session = At own es } else if full then record { body = codes "full"; session = At own es }
     else gone_on (At own es) (At own (es ++ text ∷ [])) e).session
 taken_may_by g own es text e true full a b = a
@@ -50,7 +51,7 @@ begun_may g (Some text) body Absent p l = tt
 begun_may g (Some text) body (At own es) p l = taken_may g own es text p l
 begun_may g (Some text) body (Refused bytes) p l = tt
 
--- what a session becomes that may be
+-- What a session becomes that may be.
 pub answer_may : (g : Story) (seed : ℕ) (before : NamedSession) (text : Option (List ℕ)) → ValidStory g → seed < 2 ^ 64 → IfLine text → MayBe g before →
     MayBe g (answer g seed before text).session
 unfolding answer
@@ -61,7 +62,7 @@ answer_may g seed (At own es) None valid small l p = p
 answer_may g seed (At own es) (Some text) valid small l p = taken_may g own es text p l
 answer_may g seed (Refused bytes) text valid small l p = tt
 
--- what all sessions become
+-- What all sessions become.
 pub all_may : (g : Story) (seed : ℕ) (sessions : Sessions) (request : Option Request) → ValidStory g → seed < 2 ^ 64 →
     ((r : Request) → request ≡ Some r → (is_name r.name ≡ true) × IfLine r.text) → AllMay g sessions → AllMay g (sessions_with g seed sessions request)
 all_may g seed sessions None valid small lines may = may

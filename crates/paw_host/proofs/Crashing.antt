@@ -18,7 +18,7 @@ use Rattle.paw_host.proofs.Continuing.{all_may}
 use Rattle.paw_host.proofs.Hosting.{asks_line}
 use Rattle.paw_host.proofs.Reaching.{not_shown}
 
--- whatever lines were taken, each session may be
+-- Whatever lines were taken, each session may be.
 may_after : (g : Story) (seed : ℕ) (first : Sessions) (lines : List (List ℕ)) → ValidStory g → seed < 2 ^ 64 → All AreBytes lines → AllMay g first →
     AllMay g (sessions_after g seed first lines)
 unfolding sessions_after
@@ -33,14 +33,14 @@ may_before g seed first lines zero valid small bytes may = may_after g seed firs
 may_before g seed first lines (suc n) valid small bytes may =
     may_after g seed first (take n lines) valid small (All-take AreBytes n lines bytes) may
 
--- what a crash leaves while the last of n lines is at work
+-- What a crash leaves while the last of n lines is at work.
 left_at : (g : Story) (seed : ℕ) (first : Sessions) (lines : List (List ℕ)) (n : ℕ) (text : List ℕ) (m : Moment) → IsUpToDate g seed first lines n text m →
     EachLeft g seed (sessions_after g seed first (before_last lines n)) (sessions_after g seed first (take n lines)) m
 unfolding sessions_after
 left_at g seed first lines zero text m k = λ name is bytes may. inl (k.1 name is bytes may)
 left_at g seed first lines (suc n) text m k = k.0
 
--- a session that these bytes are those of, such as there may be after a crash
+-- A session that these bytes are those of, such as there may be after a crash.
 abbrev Found : Story → ℕ → NamedSession → NamedSession → List ℕ → NamedSession → Type 0
 Found g seed before after bytes s = MayBe g s × Stores g s bytes × AfterCrash seed before after s
 
@@ -68,7 +68,7 @@ found g seed before after bytes Attached valid small b a (inl h) = (before, (b, 
 found g seed before after bytes Attached valid small b a (inr (at, inl h)) = (after, (a, h, as_after))
 found g seed before after bytes Attached valid small b a (inr (at, inr h)) = in_making g seed before after bytes valid small h
 
--- the session of a name; what is no name has none
+-- The session of a name; what is no name has none.
 chosen : (b : Bool) → (b ≡ true → NamedSession) → NamedSession
 chosen true f = f refl
 chosen false f = Absent

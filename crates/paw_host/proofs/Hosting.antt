@@ -33,14 +33,14 @@ use Rattle.paw_host.proofs.Reaching.{FilesHold, rest_left}
 use Rattle.paw_host.proofs.Serving.{sessions_more, replies_more, not_of_more, last_line, attached_more, attached_now}
 use Rattle.paw_host.proofs.Serving.{attached_in, each_done, with_attached}
 
--- the files of all sessions, at rest
+-- The files of all sessions, at rest.
 all_left : (g : Story) (sessions : Sessions) (s : Standing) → AllStore g sessions s → IsStable s.disk → FilesHold s → AllLeft g sessions (moment_of s)
 all_left g sessions s stores settled holds name is bytes may =
     subst (Stores g (sessions name)) (sym (rest_left s settled holds (store_name name) bytes may)) (stores name is)
 
 -- ---- what a line asks for ----
 
--- what the first bytes of a line ask for is what the line does
+-- What the first bytes of a line ask for is what the line does.
 pub cut_request : (line into given : List ℕ) (n : ℕ) → IsCut line into n → given ≡ take n into → request_in given ≡ request_of line
 unfolding request_of
 cut_request line into given n cut e = ap request_in (e ∙ cut.same)
@@ -57,14 +57,14 @@ request_line line true is short bytes r e =
     subst (λ (q : Request). (is_name q.name ≡ true) × IfLine q.text) same (is, text_line line (position (λ b. b == 32) line) short bytes)
 request_line line false is short bytes r e = cc
 
--- a name, and a text that is a line
+-- A name, and a text that is a line.
 pub asks_line : (line : List ℕ) → AreBytes line → (r : Request) → request_of line ≡ Some r → (is_name r.name ≡ true) × IfLine r.text
 unfolding request_of
 asks_line line bytes r e =
     request_line (take LINE_LIMIT line) (is_name (parted (take LINE_LIMIT line)).name) refl (omega (arith, length-take LINE_LIMIT line))
     (All-take (λ b. b < 256) LINE_LIMIT line bytes) r e
 
--- each line that is left is made of bytes
+-- Each line that is left is made of bytes.
 line_bytes : (lines : List (List ℕ)) (n : ℕ) (line : List ℕ) (rest : List (List ℕ)) → drop n lines ≡ line ∷ rest → All AreBytes lines → AreBytes line
 line_bytes lines n line rest e all = All-head AreBytes line rest (subst (All AreBytes) e (All-drop AreBytes n lines all))
 
@@ -88,7 +88,7 @@ serving_first g seed first old b settled = record {
 
 -- ---- at a prompt ----
 
--- the replies to one line more are those before, and its own
+-- The replies to one line more are those before, and its own.
 grown : (g : Story) (seed : ℕ) (lines : List (List ℕ)) (n : ℕ) (at : Sessions) →
     (more : List ℕ) × (replies g seed at (take (suc n) lines) ≡ replies g seed at (take n lines) ++ more)
 unfolding replies
@@ -126,7 +126,8 @@ at_prompt g seed first old now n s holds = record {
   asked = s.answered.asked;
   shown = s.answered.shown;
   attached = subst (AttachedIn old.attached (take n old.lines)) (sym s.answered.attached) (attached_now old.attached (take n old.lines));
-  keeps = keeps_now g seed first old.attached old.lines n (moment_of now) s.answered.there s.answered.attached (all_left g (sessions_after g seed first (take n old.lines)) now s.answered.files s.settled holds);
+  keeps = keeps_now g seed first old.attached old.lines n (moment_of now) s.answered.there s.answered.attached
+      (all_left g (sessions_after g seed first (take n old.lines)) now s.answered.files s.settled holds);
   others = s.answered.others;
 }
 
@@ -134,8 +135,9 @@ pub still_at_prompt : (g : Story) (seed : ℕ) (first : Sessions) (old now : Sta
     (m : Moment) → m ≡ moment_of now → InHost g seed first old m
 still_at_prompt g seed first old now n s holds m e = subst (InHost g seed first old) (sym e) (at_prompt g seed first old now n s holds)
 
--- no line is left
-pub all_answered : (g : Story) (seed : ℕ) (first : Sessions) (old now : Standing) (n : ℕ) → IsServing g seed first old now n → now.lines ≡ [] → n ≡ length old.lines
+-- No line is left.
+pub all_answered : (g : Story) (seed : ℕ) (first : Sessions) (old now : Standing) (n : ℕ) → IsServing g seed first old now n →
+    now.lines ≡ [] → n ≡ length old.lines
 all_answered g seed first old now n s none = drop_all old.lines n (sym s.answered.lines ∙ none) s.answered.there
 
 nothing_attached : (request : Option Request) (attached : Option (List ℕ)) → MayAttach request attached attached
@@ -144,7 +146,8 @@ nothing_attached (Some r) attached = inl refl
 
 -- ---- one line more ----
 
-module _ (g : Story) (seed : ℕ) (first : Sessions) (old now mid : Standing) (n : ℕ) (line : List ℕ) (s : IsServing g seed first old now n) (holds : FilesHold now)
+module _ (g : Story) (seed : ℕ) (first : Sessions) (old now mid : Standing) (n : ℕ) (line : List ℕ) (s : IsServing g seed first old now n)
+    (holds : FilesHold now)
     (left : now.lines ≡ line ∷ mid.lines) (took : mid ≡ record now { lines = mid.lines; asked = now.asked + 1 }) where
   abbrev before : Sessions
   before = sessions_after g seed first (take n old.lines)
@@ -179,7 +182,7 @@ module _ (g : Story) (seed : ℕ) (first : Sessions) (old now mid : Standing) (n
   pub mid_stores : AllStore g before mid
   mid_stores name is = subst (λ (q : Standing). Stores g (before name) (file_bytes q (store_name name))) (sym took) (s.answered.files name is)
 
-  -- while it is asked for, and while what it asks for is done
+  -- While it is asked for, and while what it asks for is done.
   pub in_work : (m : Moment) → InWork g seed before after (request_of line) mid m → InHost g seed first old m
   in_work m i = record {
     taken = suc n;
@@ -188,7 +191,8 @@ module _ (g : Story) (seed : ℕ) (first : Sessions) (old now mid : Standing) (n
     asked = i.asked ∙ asked_more;
     shown = i.shown ∙ shown_same;
     keeps = (subst (λ x. EachLeft g seed before x m) (sym after_is) i.left, inl refl);
-    attached = attached_in old.attached old.lines n line mid.lines m.attached at (subst (λ a. MayAttach (request_of line) a m.attached) attached_same i.attached);
+    attached = attached_in old.attached old.lines n line mid.lines m.attached at
+        (subst (λ a. MayAttach (request_of line) a m.attached) attached_same i.attached);
     others = λ f h. i.files f (not_of_more old.lines n line mid.lines f at h).1 ∙ others_same f h;
   }
 
@@ -198,7 +202,7 @@ module _ (g : Story) (seed : ℕ) (first : Sessions) (old now mid : Standing) (n
   mid_holds : FilesHold mid
   mid_holds = subst FilesHold (sym took) holds
 
-  -- once it was taken nothing is done yet
+  -- Once it was taken nothing is done yet.
   not_begun : InWork g seed before after (request_of line) mid (moment_of mid)
   not_begun = record {
     asked = refl;
@@ -208,12 +212,12 @@ module _ (g : Story) (seed : ℕ) (first : Sessions) (old now mid : Standing) (n
     left = λ name is bytes may. inl (all_left g before mid mid_stores mid_settled mid_holds name is bytes may);
   }
 
-  -- while the host asks for it
+  -- While the host asks for it.
   pub in_ask : (count : ℕ) (m : Moment) → InAsk now (asked.Line count) m → InHost g seed first old m
   in_ask count m (inl e) = still_at_prompt g seed first old now n s holds m e
   in_ask count m (inr e) = in_work m (subst (InWork g seed before after (request_of line) mid) (sym (e ∙ sym (ap moment_of took))) not_begun)
 
-  -- while what it asks for is done
+  -- While what it asks for is done.
   pub in_doing : (request : Option Request) → request ≡ request_of line → (m : Moment) → Doing g seed before request mid m → InHost g seed first old m
   in_doing request same m i = in_work m (subst (λ r. Doing g seed before r mid m) same i)
 
@@ -227,7 +231,7 @@ module _ (g : Story) (seed : ℕ) (first : Sessions) (old now mid : Standing) (n
     attached_done : done.attached ≡ attached_after old.attached (take (suc n) old.lines)
     attached_done = is.attached ∙ ap (attached_with (request_of line)) attached_same ∙ sym (attached_more old.attached old.lines n line mid.lines at)
 
-    -- while its reply is shown
+    -- While its reply is shown.
     pub in_reply : FilesHold done → (m : Moment) → InShow done (reply_to g seed before (request_of line)) m → InHost g seed first old m
     in_reply done_holds m i = subst (InHost g seed first old) (sym i.1) (record {
       taken = suc n;
@@ -257,8 +261,9 @@ module _ (g : Story) (seed : ℕ) (first : Sessions) (old now mid : Standing) (n
       others = others_done;
     })
 
-    -- the next line may come
-    pub serving_next : (new : Standing) → new ≡ with_shown (reply_to g seed before (request_of line)) done → AllMay g after → IsServing g seed first old new (suc n)
+    -- The next line may come.
+    pub serving_next : (new : Standing) → new ≡ with_shown (reply_to g seed before (request_of line)) done → AllMay g after →
+        IsServing g seed first old new (suc n)
     serving_next new e may = subst (λ q. IsServing g seed first old q (suc n)) (sym e) (record {
       answered = record {
         there = there;
@@ -280,11 +285,11 @@ module _ (g : Story) (seed : ℕ) (first : Sessions) (old now mid : Standing) (n
     is_done : AnswersRequest g seed before (request_of line) text mid done
     is_done = subst (λ r. AnswersRequest g seed before r text mid done) same does
 
-    -- while the reply that was made is shown
+    -- While the reply that was made is shown.
     pub in_show : FilesHold done → (shown : List ℕ) → shown ≡ text → (m : Moment) → InShow done shown m → InHost g seed first old m
     in_show done_holds shown e m i = in_reply done is_done.1 settled done_holds m (subst (λ t. InShow done t m) (e ∙ is_done.0) i)
 
-    -- once it was shown
+    -- Once it was shown.
     pub serves_next : (shown : List ℕ) (new : Standing) → shown ≡ text → new ≡ with_shown shown done → ValidStory g → seed < 2 ^ 64 → All AreBytes old.lines →
         IsServing g seed first old new (suc n)
     serves_next shown new e grew valid small bytes =
@@ -293,7 +298,7 @@ module _ (g : Story) (seed : ℕ) (first : Sessions) (old now mid : Standing) (n
 
 -- ---- how taking lines ends ----
 
--- where the calls ended is one of their moments
+-- Where the calls ended is one of their moments.
 pub ends_inside : (clock now : ℕ) (past since : ℕ → Moment → Type 0) (P : Moment → Type 0) (m : Moment) → Passes clock now past since P →
     since clock m → (past clock m → P m) → P m
 ends_inside clock now past since P m h at before = elim (h.nothing_else clock m (omega arith) at) [
@@ -301,7 +306,7 @@ ends_inside clock now past since P m h at before = elim (h.nothing_else clock m 
   | inr q ↦ q.1
 ]
 
--- what the last line did, if there was one
+-- What the last line did, if there was one.
 pub hosts_by : (g : Story) (seed : ℕ) (first : Sessions) (old new : Standing) (n : ℕ) (o : HostOutcome) → ServesTo g seed first old new n (Some o) →
     InHost g seed first old (moment_of new) → Hosts g seed first old new o
 hosts_by g seed first old new n outcome.InputEnded h i = subst (Answered g seed first old new) h.0 h.1.answered
@@ -313,8 +318,9 @@ hosts_by g seed first old new n (outcome.Long lines) h i = absurd h
 
 -- ---- lines that were taken ----
 
--- a line was asked for, and its reply was made and shown
-pub took_one : (old mid done new : Standing) (line shown : List ℕ) → old.lines ≡ line ∷ mid.lines → mid ≡ record old { lines = mid.lines; asked = old.asked + 1 } →
+-- A line was asked for, and its reply was made and shown.
+pub took_one : (old mid done new : Standing) (line shown : List ℕ) → old.lines ≡ line ∷ mid.lines →
+    mid ≡ record old { lines = mid.lines; asked = old.asked + 1 } →
     SameLines mid done → new ≡ with_shown shown done → TakesTo old new None
 took_one old mid done new line shown left took same grew = (
   line,
@@ -325,14 +331,14 @@ took_one old mid done new line shown left took same grew = (
 pub taken_none : (old : Standing) → HasTaken old old 0
 taken_none old = record { there = omega arith; lines = refl; asked = omega arith }
 
--- one line more
+-- One line more.
 pub taken_more : (old now new : Standing) (n : ℕ) → HasTaken old now n → TakesTo now new None → HasTaken old new (n + 1)
 taken_more old now new n h k =
     let m = drop_more old.lines n k.0 new.lines (sym h.lines ∙ k.1) in
     let count : suc n ≡ n + 1 = omega arith in
     subst (HasTaken old new) count (record { there = m.1; lines = sym m.0; asked = omega (arith, k.2, h.asked) })
 
--- none was left, or a call failed
+-- None was left, or a call failed.
 pub ends_by : (old now new : Standing) (n : ℕ) (o : HostOutcome) → HasTaken old now n → n < HOST_LIMIT → TakesTo now new (Some o) →
     IfSome (host_failure o) (IsOneOf session_calls) → Ends old new o
 ends_by old now new n outcome.InputEnded h few k among =
@@ -344,17 +350,17 @@ ends_by old now new n (outcome.Outside c) h few k among = among
 ends_by old now new n outcome.Memory h few k among = absurd k
 ends_by old now new n (outcome.Long lines) h few k among = absurd k
 
--- before the first line
+-- Before the first line.
 pub at_first : (g : Story) (seed : ℕ) (first : Sessions) (old : Standing) → BeginsWith g first old → IsStable old.disk → FilesHold old →
     (m : Moment) → m ≡ moment_of old → InHost g seed first old m
 at_first g seed first old b settled holds m e = still_at_prompt g seed first old old 0 (serving_first g seed first old b settled) holds m e
 
 -- ---- a stage that rests ----
 
--- a line that was taken leaves the store as it was
+-- A line that was taken leaves the store as it was.
 pub asked_settled : (old new : Standing) → new ≡ record old { lines = new.lines; asked = old.asked + 1 } → IsStable old.disk → IsStable new.disk
 asked_settled old new e h = subst (λ (q : Standing). IsStable q.disk) (sym e) h
 
--- and so does a text that was shown
+-- And so does a text that was shown.
 pub shown_settled : (old new : Standing) (text : List ℕ) → new ≡ with_shown text old → IsStable old.disk → IsStable new.disk
 shown_settled old new text e h = subst (λ (q : Standing). IsStable q.disk) (sym e) h

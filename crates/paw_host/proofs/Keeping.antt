@@ -23,7 +23,7 @@ module _ (g : Story) (seed : ℕ) (bytes : List ℕ) (some : 0 < length bytes) w
   no_refused : {A : Type 0} (kept : List ℕ) → Stores g (Refused kept) bytes → ShowsSome g bytes → A
   no_refused kept h shows = absurd (h.1.1 (subst (ShowsSome g) h.0 shows))
 
-  -- the store has no session of the game
+  -- The store has no session of the game.
   pub kept_refused : (before : NamedSession) (text : Option (List ℕ)) (old new : List ℕ) → MayBe g before → Stores g before bytes →
       ¬ ShowsSome g bytes → new ≡ old ++ codes "refused" → Answers g (answer g seed before text) old new bytes
   unfolding answer
@@ -31,7 +31,7 @@ module _ (g : Story) (seed : ℕ) (bytes : List ℕ) (some : 0 < length bytes) w
   kept_refused (At own es) text old new may stores none grown = absurd (none (standing_shows g own es bytes may stores))
   kept_refused (Refused kept) text old new may stores none grown = record { body = grown; stores = stores }
 
-  -- it has one, and answers with its last piece
+  -- It has one, and answers with its last piece.
   pub kept_told : (before : NamedSession) (old new piece : List ℕ) → MayBe g before → Stores g before bytes → ShowsSome g bytes →
       ((own : ℕ) (es : List (List ℕ)) → IsPlayedWith g own es → Stands g own es bytes → piece ≡ last_piece (pieces_of (reading g own es))) →
       new ≡ old ++ piece → Answers g (answer g seed before None) old new bytes
@@ -41,7 +41,7 @@ module _ (g : Story) (seed : ℕ) (bytes : List ℕ) (some : 0 < length bytes) w
       record { body = grown ∙ ap (λ x. old ++ x) (last own es may stores); stores = stores }
   kept_told (Refused kept) old new piece may stores shows last grown = no_refused kept stores shows
 
-  -- it has one, which takes a text: what holds of each session that does so holds of this one
+  -- It has one, which takes a text: what holds of each session that does so holds of this one.
   pub kept_each : (P : NamedSession → Answer → Type 0) (before : NamedSession) (text : List ℕ) → MayBe g before → Stores g before bytes → ShowsSome g bytes →
       ((own : ℕ) (es : List (List ℕ)) → IsPlayedWith g own es → Stands g own es bytes → P (At own es) (answer_taking g own es text)) →
       P before (answer g seed before (Some text))
@@ -50,7 +50,7 @@ module _ (g : Story) (seed : ℕ) (bytes : List ℕ) (some : 0 < length bytes) w
   kept_each P (At own es) text may stores shows each = each own es may stores
   kept_each P (Refused kept) text may stores shows each = no_refused kept stores shows
 
--- while nothing is written
+-- While nothing is written.
 pub still_in_file : (g : Story) (before after : NamedSession) (old : Standing) (m : Moment) → IsStable old.disk → Stores g before old.disk.bytes → m
     ≡ moment_of old →
     InFile (StoresEither g before after) old m

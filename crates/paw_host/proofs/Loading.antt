@@ -25,7 +25,7 @@ same_story old name g k rows h i =
 
 -- ---- how hosting ends ----
 
--- a load that gives nothing
+-- A load that gives nothing.
 pub unloaded : (rows : List (List ℕ)) (name : List ℕ) (seed : ℕ) (old new : Standing) (o : HostOutcome) → ReadsNoImage name old new o →
     HostsFile rows name seed old new o
 unloaded rows name seed old new (outcome.Outside call.LoadAbsent) h = absent h.0 h.1
@@ -45,9 +45,10 @@ pub undecoded : (rows : List (List ℕ)) (name given bytes : List ℕ) (seed : �
     LoadsSome name IMAGE_LIMIT old new given → OpensNone bytes o → HostsFile rows name seed old new o
 undecoded rows name given bytes seed old new o e f h = unopened rows name given seed old new o f (subst (λ b. OpensNone b o) e h)
 
--- a game that is hosted, at a stage where nothing has changed since the load
+-- A game that is hosted, at a stage where nothing has changed since the load.
 pub hosted : (rows : List (List ℕ)) (name : List ℕ) (seed : ℕ) (old mid new : Standing) (o : HostOutcome) (g : GameLists) → Holds old name g → mid ≡ old →
-    Ends mid new o → ((first : Sessions) → BeginsWith (story_of g rows) first mid → Hosts (story_of g rows) seed first mid new o) → HostsFile rows name seed old new o
+    Ends mid new o → ((first : Sessions) → BeginsWith (story_of g rows) first mid → Hosts (story_of g rows) seed first mid new o) →
+    HostsFile rows name seed old new o
 hosted rows name seed old mid new o g holds still ends h =
     hosts g o holds (subst (λ q. Ends q new o) still ends)
     (subst (λ q. (first : Sessions) → BeginsWith (story_of g rows) first q → Hosts (story_of g rows) seed first q new o) still h)

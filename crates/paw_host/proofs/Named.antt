@@ -26,12 +26,12 @@ ascii_at [] h i = ascii_end i
 ascii_at (b ∷ name) h zero = ascii_byte b (and_parts (is_name_byte b) (list_all is_name_byte name) h).0
 ascii_at (b ∷ name) h (suc i) = ascii_at name (and_parts (is_name_byte b) (list_all is_name_byte name) h).1 i
 
--- the name of a store is text
+-- The name of a store is text.
 pub store_text : (name : List ℕ) → is_name name ≡ true → IsUtf8 (store_name name)
 store_text name h =
     let parts = (and_parts (nat_lt 0 (length name)) _ h).1 in
     IsUtf8-from_ascii (store_name name) (ascii_at name (and_parts (nat_le (length name) 16) _ parts).1)
 
--- a name is short
+-- A name is short.
 pub name_short : (name : List ℕ) → is_name name ≡ true → nat_le (length name) 16 ≡ true
 name_short name h = (and_parts (nat_le (length name) 16) _ (and_parts (nat_lt 0 (length name)) _ h).1).0

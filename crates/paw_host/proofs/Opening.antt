@@ -106,7 +106,7 @@ module _ {F : Type 0} (g : Story) (seed : ℕ) (found : Step) (next : PlayerView
         | step.TooDeep table ↦ λ plays e. let w : codes "too deep" ≡ word = cc in rw (plays.1 []).1 (ap (λ b. record { body = b; session = Absent }) w)
       ] plays e
 
-  -- while the session is made
+  -- While the session is made.
   pub in_beginning : (state : List ℕ) (old : Standing) (m : Moment) → IsStanding found → take state_length state ≡ seat_state 0 next →
       LeavesMade (story_digests g) state next.piece old m → InFile (LeftOfBeginning g seed) old m
   in_beginning state old m shows e i = record {
@@ -125,7 +125,7 @@ module _ {F : Type 0} (g : Story) (seed : ℕ) (found : Step) (next : PlayerView
 
 -- ---- a session that is taken up ----
 
--- a buffer begins with the bytes of a state
+-- A buffer begins with the bytes of a state.
 shows_kept : (digests : Digests) (bytes buffer piece : List ℕ) (st : State) →
     recover bytes ≡ Shown digests (take state_length buffer) piece → take state_length buffer ≡ state_bytes st →
     recover bytes ≡ Shown digests (kept_bytes st) piece
@@ -192,7 +192,7 @@ module _ {F : Type 0} (g : Story) (seed : ℕ) (es : List (List ℕ)) (digests :
   pub last_shown : piece ≡ last_piece (pieces_of (reading g seed es))
   last_shown = same_piece _ _ _ _ _ _ (sym shows.shown ∙ stands.keeps.shown)
 
--- a player is seated with what was read of a session of the story
+-- A player is seated with what was read of a session of the story.
 pub taken_up : {F : Type 0} (g : Story) (digests : Digests) (bytes state buffer piece : List ℕ) (r : Restored) (routines : Routines F) (seat : PlayerView F) →
     recover bytes ≡ session_shown digests state piece → buffer ≡ state → IsOfStory g digests → IsRead g.game buffer r →
     piece_length buffer ≡ r.piece → seat ≡ seat_at g.game routines r.world r.machine r.pending r.prompt →
@@ -212,7 +212,7 @@ taken_up {F} g digests bytes state buffer piece r routines seat shown same belon
 
 -- ---- a session that is refused ----
 
--- a buffer that begins with the bytes of a state is fit
+-- A buffer that begins with the bytes of a state is fit.
 is_fit : (g : GameLists) (own : Digests) (bytes : List ℕ) (digests : Digests) (buffer piece q : List ℕ) (st : State) → ShowsState g own bytes st q →
     recover bytes ≡ Shown digests (take state_length buffer) piece → Fit g buffer
 unfolding kept_bytes
@@ -222,13 +222,13 @@ is_fit g own bytes digests buffer piece q st shows is =
     same_state : (d : Digests) (s p : List ℕ) (e : Digests) (t q : List ℕ) → Shown d s p ≡ Shown e t q → s ≡ t
     same_state d s p e t q h = cc
 
--- bytes that a session can't be read of show none
+-- Bytes that a session can't be read of show none.
 pub unfit_shows_none : (g : Story) (digests : Digests) (bytes buffer piece : List ℕ) → recover bytes ≡ session_shown digests buffer piece →
     ¬ Fit g.game buffer → ¬ ShowsSome g bytes
 unfit_shows_none g digests bytes buffer piece shown unfit some =
     unfit (is_fit g.game some.digests bytes digests buffer piece some.piece some.state some.shows shown)
 
--- nor do those that are refused
+-- Nor do those that are refused.
 pub refused_shows_none : (g : Story) (bytes : List ℕ) (e : JournalRefusal) →
     IsSessionRefused (recover bytes) (sha256 (image g.game)) (measure g.rows) e → ((c : StageCall) → e ≢ refusal.Outside c) → ¬ ShowsSome g bytes
 refused_shows_none g bytes (refusal.Unmade n mark) h other some =

@@ -16,11 +16,11 @@ use Rattle.paw_host.specs.Replies.{NamedSession, Absent, At, Refused}
 use Rattle.paw_host.specs.Promise.{Stores}
 use Rattle.paw_host.specs.inner.Answers.{InFile, InAnswer, IsAside, LeftOf, StoresEither}
 
--- while a store is attached the file of its name has its bytes
+-- While a store is attached the file of its name has its bytes.
 abbrev pub FilesHold : Standing → Type 0
 FilesHold s = (n : List ℕ) → s.attached ≡ Some n → file_bytes s n ≡ s.disk.bytes
 
--- a moment at which nothing is done yet: a crash leaves of each file the bytes that it had
+-- A moment at which nothing is done yet: a crash leaves of each file the bytes that it had.
 pub record IsBefore (name : List ℕ) (old : Standing) (m : Moment) : Type 0 where
   pub asked : m.asked ≡ old.asked
   pub shown : m.shown ≡ old.shown
@@ -28,7 +28,7 @@ pub record IsBefore (name : List ℕ) (old : Standing) (m : Moment) : Type 0 whe
   pub attached : (m.attached ≡ old.attached) ⊎ (m.attached ≡ Some name) ⊎ (m.attached ≡ None)
   pub left : (f bytes : List ℕ) → MayBeLeft f m bytes → bytes ≡ file_bytes old f
 
--- at rest
+-- At rest.
 pub rest_left : (s : Standing) → IsStable s.disk → FilesHold s → (f bytes : List ℕ) → MayBeLeft f (moment_of s) bytes → bytes ≡ file_bytes s f
 rest_left s settled holds f bytes (inl h) = stable_leaves s.disk bytes settled h.1 ∙ sym (holds f h.0)
 rest_left s settled holds f bytes (inr h) = h.1
@@ -83,7 +83,7 @@ module _ (old new : Standing) (name : List ℕ) (settled : IsStable old.disk) (h
   unattached_it (inr e) = subst (λ q. IsBefore name old (moment_of q)) (sym e)
       (record { asked = refl; shown = refl; files = λ f ne. refl; attached = inr (inr refl); left = none_left old })
 
-  -- inside the attach
+  -- Inside the attach.
   pub in_attach : (new ≡ opened name old) ⊎ Unattached old new → (m : Moment) → InAttach old new name m → IsBefore name old m
   in_attach how m (inl e) = subst (IsBefore name old) (sym e) before_it
   in_attach how m (inr (inl e)) = subst (IsBefore name old) (sym e) made_it
@@ -95,7 +95,7 @@ module _ (old new : Standing) (name : List ℕ) (settled : IsStable old.disk) (h
 -- ---- a session that is asked for something ----
 
 module _ (g : Story) (seed : ℕ) (name : List ℕ) (before after : NamedSession) (old : Standing) (stores : Stores g before (file_bytes old name)) where
-  -- before anything is done
+  -- Before anything is done.
   pub answer_before : (m : Moment) → IsBefore name old m → InAnswer g seed name before after old m
   answer_before m i = record {
     asked = i.asked;
@@ -106,7 +106,7 @@ module _ (g : Story) (seed : ℕ) (name : List ℕ) (before after : NamedSession
     left = λ bytes may. inl (subst (Stores g before) (sym (i.left name bytes may)) stores);
   }
 
-  -- once the store is attached
+  -- Once the store is attached.
   pub answer_in_file : (m : Moment) → InFile (LeftOf g seed before after) (opened name old) m → InAnswer g seed name before after old m
   answer_in_file m i = record {
     asked = i.asked;
@@ -126,7 +126,7 @@ module _ (g : Story) (seed : ℕ) (name : List ℕ) (before after : NamedSession
       still : (f : List ℕ) → f ≢ name → m.files f ≡ old.files f
       still f ne = i.files f (λ e. ne (sym (same_name name f e))) ∙ other_file old name f ne
 
--- from a store with no bytes, of which there is no session
+-- From a store with no bytes, of which there is no session.
 pub answer_in_new : (g : Story) (seed : ℕ) (name : List ℕ) (before after : NamedSession) (old mid : Standing) (m : Moment) →
     Stores g before (file_bytes old name) → before ≡ Absent → mid ≡ opened name old → InFile (LeftOf g seed Absent after) mid m →
     InAnswer g seed name before after old m
@@ -134,7 +134,7 @@ answer_in_new g seed name before after old mid m stores none is i =
     answer_in_file g seed name before after old stores m
     (subst (λ s. InFile (LeftOf g seed s after) (opened name old) m) (sym none) (subst (λ q. InFile (LeftOf g seed Absent after) q m) is i))
 
--- from a store with bytes
+-- From a store with bytes.
 pub answer_in_kept : (g : Story) (seed : ℕ) (name : List ℕ) (before after : NamedSession) (old mid : Standing) (m : Moment) →
     Stores g before (file_bytes old name) → mid ≡ opened name old → InFile (StoresEither g before after) mid m →
     InAnswer g seed name before after old m
@@ -156,7 +156,7 @@ pub no_bytes : (bytes : List ℕ) → length bytes ≡ 0 → bytes ≡ []
 no_bytes [] h = refl
 no_bytes (b ∷ bytes) h = cc
 
--- no bytes are no session
+-- No bytes are no session.
 unmade : (bytes : List ℕ) → bytes ≡ [] → IsUnmade (recover bytes)
 unfolding recover recover_by
 unmade bytes e = rw e tt
@@ -169,17 +169,17 @@ none_stored g Absent bytes e h = refl
 none_stored g (At own es) bytes e h = absurd (not_shown (recover bytes) _ _ _ (unmade bytes e) h.keeps.shown)
 none_stored g (Refused kept) bytes e h = absurd (h.1.0 (sym h.0 ∙ e))
 
--- an attach that failed
+-- An attach that failed.
 pub aside_unattached : (name : List ℕ) (old new : Standing) → Unattached old new → IsAside name old new
 aside_unattached name old new (inl e) = subst (IsAside name old) (sym e) (record { lines = refl; asked = refl; shown = refl; files = λ f ne. refl })
 aside_unattached name old new (inr e) = subst (IsAside name old) (sym e) (record { lines = refl; asked = refl; shown = refl; files = λ f ne. refl })
 
 module _ (name : List ℕ) (old mid new : Standing) (is : mid ≡ opened name old) (b : ChangesStoreOnly mid new) where
-  -- the store is attached still
+  -- The store is attached still.
   pub attached_still : new.attached ≡ Some name
   attached_still = b.attached ∙ ap (λ (q : Standing). q.attached) is
 
-  -- and all else as it was
+  -- And all else as it was.
   pub aside_beside : IsAside name old new
   aside_beside = record {
     lines = b.lines ∙ ap (λ (q : Standing). q.lines) is;

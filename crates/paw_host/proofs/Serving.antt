@@ -45,7 +45,7 @@ replies_more g seed first (l ∷ lines) (suc n) line rest h =
     ∙ sym (append_assoc (reply_to g seed first (request_of l)) (replies g seed next (take n lines))
     (reply_to g seed (sessions_after g seed next (take n lines)) (request_of line)))
 
--- a file that is none of the lines' up to one more is none of those before, and not that line's
+-- A file that is none of the lines' up to one more is none of those before, and not that line's.
 pub not_of_more : (lines : List (List ℕ)) (n : ℕ) (line : List ℕ) (rest : List (List ℕ)) (f : List ℕ) → drop n lines ≡ line ∷ rest →
     IsNotOf (take (suc n) lines) f → IsNotOf (take n lines) f × IsNotFor (request_of line) f
 not_of_more [] zero line rest f h k = cc
@@ -57,7 +57,7 @@ drop_none : (n : ℕ) → ◌≡◌ {A = List (List ℕ)} (drop n []) []
 drop_none zero = refl
 drop_none (suc n) = refl
 
--- where there are lines there is a last one
+-- Where there are lines there is a last one.
 pub last_line : (lines : List (List ℕ)) (n : ℕ) → suc n ≤ length lines → (line : List ℕ) × (rest : List (List ℕ)) × (drop n lines ≡ line ∷ rest)
 last_line [] n h = absurd (omega (arith, h))
 last_line (l ∷ lines) zero h = (l, lines, refl)
@@ -77,14 +77,14 @@ done_attached : (request : Option Request) (start : Option (List ℕ)) → MayAt
 done_attached None start = refl
 done_attached (Some r) start = inr (inl refl)
 
--- after lines that are done
+-- After lines that are done.
 pub attached_now : (start : Option (List ℕ)) (lines : List (List ℕ)) → AttachedIn start lines (attached_after start lines)
 unfolding attached_after AttachedIn
 attached_now start [] = refl
 attached_now start (line ∷ []) = done_attached (request_of line) start
 attached_now start (line ∷ next ∷ lines) = attached_now (attached_with (request_of line) start) (next ∷ lines)
 
--- while one more is at work
+-- While one more is at work.
 pub attached_in : (start : Option (List ℕ)) (lines : List (List ℕ)) (n : ℕ) (line : List ℕ) (rest : List (List ℕ)) (attached : Option (List ℕ)) →
     drop n lines ≡ line ∷ rest → MayAttach (request_of line) (attached_after start (take n lines)) attached → AttachedIn start (take (suc n) lines) attached
 unfolding attached_after AttachedIn
@@ -96,7 +96,7 @@ attached_in start (l ∷ next ∷ lines) (suc n) line rest attached h k = attach
 
 -- ---- names ----
 
--- two names have two files
+-- Two names have two files.
 pub other_store : (a b : List ℕ) → a ≢ b → store_name a ≢ store_name b
 other_store a b ne e = ne (append_cancel_right a b (codes ".paw") e)
 
@@ -116,16 +116,18 @@ not_its_own name other session sessions e = ap (λ b. if b then session else ses
 -- ---- what a line asks for ----
 
 module _ (g : Story) (seed : ℕ) (sessions : Sessions) (old new : Standing) (stores : AllStore g sessions old) where
-  -- nothing
+  -- Nothing.
   pub nothing_done : new ≡ old → IsDone g sessions None old new
-  nothing_done e = subst (IsDone g sessions None old) (sym e) (record { lines = refl; asked = refl; shown = refl; files = λ f h. refl; stores = stores; attached = refl })
+  nothing_done e = subst (IsDone g sessions None old) (sym e)
+      (record { lines = refl; asked = refl; shown = refl; files = λ f h. refl; stores = stores; attached = refl })
 
   module _ (r : Request) (named : is_name r.name ≡ true) (aside : IsAside (store_name r.name) old new) where
     abbrev after : Sessions
     after = sessions_with g seed sessions (Some r)
 
-    -- the session of a name
-    pub request_done : new.attached ≡ Some (store_name r.name) → Stores g (answer g seed (sessions r.name) r.text).session (file_bytes new (store_name r.name)) →
+    -- The session of a name.
+    pub request_done : new.attached ≡ Some (store_name r.name) →
+        Stores g (answer g seed (sessions r.name) r.text).session (file_bytes new (store_name r.name)) →
         IsDone g after (Some r) old new
     request_done attached h = record {
       attached = attached;
@@ -142,7 +144,7 @@ module _ (g : Story) (seed : ℕ) (sessions : Sessions) (old new : Standing) (st
       ];
     }
 
--- while it is done
+-- While it is done.
 module _ (g : Story) (seed : ℕ) (sessions : Sessions) (old : Standing) (stores : AllStore g sessions old) where
   pub in_nothing : (m : Moment) → IsStable old.disk → FilesHold old → m ≡ moment_of old → InWork g seed sessions sessions None old m
   in_nothing m settled holds e = subst (InWork g seed sessions sessions None old) (sym e) (record {
@@ -172,7 +174,7 @@ module _ (g : Story) (seed : ℕ) (sessions : Sessions) (old : Standing) (stores
     ];
   }
 
--- once it is done
+-- Once it is done.
 pub each_done : (g : Story) (seed : ℕ) (sessions : Sessions) (request : Option Request) (m : Moment) →
     ((r : Request) → request ≡ Some r → m.attached ≡ Some (store_name r.name)) → AllLeft g (sessions_with g seed sessions request) m →
     EachLeft g seed sessions (sessions_with g seed sessions request) m
@@ -192,8 +194,9 @@ spoken : (name body : List ℕ) → ((codes "[" ++ (name ++ codes "]\n")) ++ bod
 spoken name body =
     ap (λ x. 91 ∷ x) (append_assoc (name ++ codes "]\n") body (codes "\n") ∙ append_assoc name (codes "]\n") (body ++ codes "\n"))
 
--- a session was asked for something, and the reply is made
-pub does_request : (g : Story) (seed : ℕ) (sessions : Sessions) (old new : Standing) (r : Request) (store begun grown whole : List ℕ) → AllStore g sessions old →
+-- A session was asked for something, and the reply is made.
+pub does_request : (g : Story) (seed : ℕ) (sessions : Sessions) (old new : Standing) (r : Request) (store begun grown whole : List ℕ) →
+    AllStore g sessions old →
     is_name r.name ≡ true → store ≡ store_name r.name → IsAside store old new → new.attached ≡ Some store → begun ≡ codes "[" ++ (r.name ++ codes "]\n") →
     Answers g (answer g seed (sessions r.name) r.text) begun grown (file_bytes new store) → whole ≡ grown ++ codes "\n" →
     AnswersRequest g seed sessions (Some r) whole old new
@@ -204,7 +207,7 @@ does_request g seed sessions old new r store begun grown whole stores named is a
       (subst (λ x. Stores g (answer g seed (sessions r.name) r.text).session (file_bytes new x)) is a.stores),
 )
 
--- while it is asked
+-- While it is asked.
 pub doing_request : (g : Story) (seed : ℕ) (sessions : Sessions) (old : Standing) (r : Request) (store : List ℕ) (m : Moment) → AllStore g sessions old →
     store ≡ store_name r.name → InAnswer g seed store (sessions r.name) (answer g seed (sessions r.name) r.text).session old m →
     Doing g seed sessions (Some r) old m

@@ -35,20 +35,20 @@ same_piece d a p e b q h = cc
 pub same_digests : (d : Digests) (s p : List ℕ) (e : Digests) (t q : List ℕ) → Shown d s p ≡ Shown e t q → d ≡ e
 same_digests d s p e t q h = cc
 
--- a reading that a session keeps is answered with the last piece
+-- A reading that a session keeps is answered with the last piece.
 pub kept_gone : (digests : Digests) (state piece : List ℕ) (n : ℕ) (old new : NamedSession) (e : Ending) → IsKept digests n e (Shown digests state piece) →
     gone_on old new e ≡ record { body = piece; session = new }
 kept_gone digests state piece n old new (WaitsAt p path r) k = ap (λ q. record { body = q; session = new }) (sym (same_piece _ _ _ _ _ _ k.shown))
 kept_gone digests state piece n old new (Halted halt.Over r) k = ap (λ q. record { body = q; session = new }) (sym (same_piece _ _ _ _ _ _ k.shown))
 kept_gone digests state piece n old new _ k = absurd k.played
 
--- a reading that is followed from some piece on halts as it does from its first
+-- A reading that is followed from some piece on halts as it does from its first.
 pub same_halt : (n : ℕ) (e : Ending) (halt : Halt) (r : Run) → ending_since n e ≡ Halted halt r → (s : Run) × (e ≡ Halted halt s)
 same_halt n (WaitsAt p path s) halt r h = cc
 same_halt n (Halted other s) halt r h = let k : other ≡ halt = cc in (s, ap (λ x. Halted x s) k)
 same_halt n Unended halt r h = cc
 
--- and waits as it does
+-- And waits as it does.
 same_wait : (n : ℕ) (e : Ending) (p : Prompt) (path : List Frame) (r : Run) → ending_since n e ≡ WaitsAt p path r → is_over e ≡ false
 same_wait n (WaitsAt q fs s) p path r h = refl
 same_wait n (Halted halt s) p path r h = cc
@@ -57,7 +57,7 @@ same_wait n Unended p path r h = cc
 -- ---- where the reading of some lines ended ----
 
 module _ {F : Type 0} {g : Story} {seed : ℕ} {es : List (List ℕ)} {seat : PlayerView F} (s : SitsAt g seed es seat) where
-  -- what a session keeps of the lines that follow, it keeps of all
+  -- What a session keeps of the lines that follow, it keeps of all.
   kept_all : (digests : Digests) (n : ℕ) (fs : List (List ℕ)) (r : Recovered) → IsKept digests n (s.whole fs) r → IsKept digests n (reading g seed (es ++ fs)) r
   kept_all digests n fs r k = elim s.follows [
     | inl e ↦ subst (λ x. IsKept digests n x r) (e fs) k
@@ -71,7 +71,7 @@ module _ {F : Type 0} {g : Story} {seed : ℕ} {es : List (List ℕ)} {seat : Pl
     | inr e ↦ same_halt (length es) (reading g seed (es ++ fs)) halt r (sym (e fs) ∙ h)
   ]
 
-  -- a player that waits sits where the reading isn't over
+  -- A player that waits sits where the reading isn't over.
   pub not_over : (p : Prompt) → seat.last ≡ step.Waits p → IsSeated seat → is_over (reading g seed es) ≡ false
   not_over p last seated =
       let stands : StandsAt p seat.machine = subst (λ q. StandsClosed q seat.machine) last seated.machine in
@@ -90,7 +90,7 @@ module _ {F : Type 0} {g : Story} {seed : ℕ} {es : List (List ℕ)} {seat : Pl
     module _ (found : Step) (next : PlayerView F) (is : next.last ≡ found) (then_seated : IsSeated next)
         (plays : PlaysTo g
         (λ lines. going_on_from g p (reverse seat.machine.frames) (run_at seat s.pieces s.traces (text ∷ lines))) found next s.pieces s.traces) where
-      -- the piece is kept
+      -- The piece is kept.
       pub text_kept : (digests : Digests) (events : ℕ) → IsStanding found → events ≡ length es + 1 →
           IsKept digests events (reading g seed (es ++ text ∷ [])) (Shown digests (seat_state events next) next.piece)
       text_kept digests events shows count =
@@ -100,7 +100,8 @@ module _ {F : Type 0} {g : Story} {seed : ℕ} {es : List (List ℕ)} {seat : Pl
 
       pub text_answer : IsStanding found → answer_taking g seed es text ≡ record { body = next.piece; session = At seed (es ++ text ∷ []) }
       text_answer shows = taken_is
-          ∙ kept_gone (story_digests g) (seat_state (length es + 1) next) next.piece (length es + 1) _ _ _ (text_kept (story_digests g) (length es + 1) shows refl)
+          ∙ kept_gone (story_digests g) (seat_state (length es + 1) next) next.piece (length es + 1) _ _ _
+          (text_kept (story_digests g) (length es + 1) shows refl)
 
       pub text_stands : (digests : Digests) (bytes : List ℕ) (events : ℕ) → IsOfStory g digests → IsStanding found → events ≡ length es + 1 →
           recover bytes ≡ Shown digests (seat_state events next) next.piece → Stands g seed (es ++ text ∷ []) bytes
@@ -134,7 +135,7 @@ module _ {F : Type 0} {g : Story} {seed : ℕ} {es : List (List ℕ)} {seat : Pl
                 rw h.1 (ap (λ b. record { body = b; session = At seed es }) w)
           ] plays e
 
--- a step that brings no word brings a piece
+-- A step that brings no word brings a piece.
 pub shows_by : (found : Step) → refusal_word_of found ≡ None → IsStanding found
 shows_by (step.Waits p) h = tt
 shows_by step.Ended h = tt

@@ -18,7 +18,7 @@ pub digests_on : {F : Type 0} (calls : Shared F (ℕ × (ℕ × Unit {0})) ℕ) 
 digests_on calls g h r s game rules e f d =
     subst (λ q. AreDigestsOf calls q s game rules) e (subst (λ q. AreDigestsOf calls g q game rules) f d)
 
--- the game stays hosted
+-- The game stays hosted.
 pub hosted_on : {F : Type 0} {calls : Shared F (ℕ × (ℕ × Unit {0})) ℕ} {tables : GameLists} {game rules : List ℕ} {a b : PlayerView F} →
     IsHosted calls tables game rules a → StaysSeated a b → IsHosted calls tables game rules b
 hosted_on {calls} {game} {rules} {a} {b} h k = record {

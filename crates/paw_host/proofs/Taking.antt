@@ -23,14 +23,14 @@ use Rattle.paw_host.specs.Promise.{Stores}
 use Rattle.paw_host.specs.inner.Answers.{SitsAt, Answers, InFile, StoresEither, refusal_word_of}
 use Rattle.paw_host.proofs.Sitting.{same_digests, not_over, text_answer, text_stands, text_refused}
 
--- a store keeps the digests of the session that it stands for
+-- A store keeps the digests of the session that it stands for.
 pub digests_are : (g : Story) (seed : ℕ) (es : List (List ℕ)) (bytes state piece : List ℕ) (stands : Stands g seed es bytes) →
     recover bytes ≡ Shown (kept_digests bytes) state piece → kept_digests bytes ≡ stands.digests
 digests_are g seed es bytes state piece stands kept = same_digests _ _ _ _ _ _ (sym kept ∙ stands.keeps.shown)
 
 -- ---- where a player stands ----
 
--- a seated player that stands where the game is over has ended
+-- A seated player that stands where the game is over has ended.
 pub ended_by : (s : Step) (m : OpenTables) → StandsClosed s m → IsStanding s → prompt_at s ≡ prompt.Over → s ≡ step.Ended
 ended_by (step.Waits prompt.Main) m h stands e = cc
 ended_by (step.Waits prompt.Quit) m h stands e = cc
@@ -41,7 +41,7 @@ ended_by step.Ended m h stands e = refl
 ended_by (step.Spent kind) m h stands e = absurd stands
 ended_by (step.TooDeep table) m h stands e = absurd stands
 
--- a player that doesn't stand where the game is over waits at its prompt
+-- A player that doesn't stand where the game is over waits at its prompt.
 pub waits_by : (s : Step) → IsStanding s → prompt_at s ≢ prompt.Over → s ≡ step.Waits (prompt_at s)
 waits_by (step.Waits p) h e = refl
 waits_by step.Ended h e = absurd (e refl)
@@ -50,11 +50,11 @@ waits_by (step.TooDeep table) h e = absurd h
 
 module _ {F : Type 0} {g : Story} {seed : ℕ} {es : List (List ℕ)} {seat : PlayerView F} (s : SitsAt g seed es seat) (seated : IsSeated seat)
     (text : List ℕ) where
-  -- the game is over
+  -- The game is over.
   pub over_answer : seat.last ≡ step.Ended → answer_taking g seed es text ≡ record { body = codes "over"; session = At seed es }
   over_answer last = rw (s.over last) refl
 
-  -- the session is full
+  -- The session is full.
   pub full_answer : (p : Prompt) → seat.last ≡ step.Waits p → EVENT_LIMIT ≤ length es → answer_taking g seed es text
       ≡ record { body = codes "full"; session = At seed es }
   full_answer p last full = rw (not_over s p last seated, le-leb EVENT_LIMIT (length es) full) refl
@@ -66,16 +66,17 @@ module _ {F : Type 0} {g : Story} {seed : ℕ} {es : List (List ℕ)} {seat : Pl
     pub refused_answer : (word : List ℕ) → refusal_word_of found ≡ Some word → answer_taking g seed es text ≡ record { body = word; session = At seed es }
     refused_answer word e = text_refused s p last seated text few found next is then_seated plays word e
 
-    -- the piece was committed
+    -- The piece was committed.
     pub took : (digests : Digests) (before after : List ℕ) (bytes : List ℕ) (events : ℕ) → IsOfStory g digests → IsStanding found → events ≡ length es + 1 →
         recover bytes ≡ Shown digests (seat_state events next) next.piece → after ≡ before ++ next.piece →
         Answers g (answer_taking g seed es text) before after bytes
-    took digests before after bytes events belongs shows count shown grown = rw (text_answer s p last seated text few found next is then_seated plays shows) (record {
-      body = grown;
-      stores = text_stands s p last seated text few found next is then_seated plays digests bytes events belongs shows count shown;
-    })
+    took digests before after bytes events belongs shows count shown grown =
+        rw (text_answer s p last seated text few found next is then_seated plays shows) (record {
+          body = grown;
+          stores = text_stands s p last seated text few found next is then_seated plays digests bytes events belongs shows count shown;
+        })
 
-    -- inside the commit
+    -- Inside the commit.
     pub in_taking : (events : ℕ) (old : Standing) (m : Moment) → IsStanding found → events ≡ length es + 1 → Stands g seed es old.disk.bytes →
         (state piece : List ℕ) → recover old.disk.bytes ≡ Shown (kept_digests old.disk.bytes) state piece → InCommit events next old m →
         InFile (StoresEither g (At seed es) (answer_taking g seed es text).session) old m

@@ -55,7 +55,7 @@ pub(crate) struct Opened {
     pub events: u64,
 }
 
-/// The word for a step that brings no piece.
+/// The word for a line that brings no piece.
 fn refusal_word(step: Step) -> Option<&'static [u8]>
     ensures value { MatchOption result (refusal_word_of step ≡ None) (λ w. refusal_word_of step ≡ Some w.now) }
     ensures short { IfSome result (λ w. length w.now ≤ 8) }
@@ -268,8 +268,10 @@ fn answer_new<S: Stage, T: Tables, F: Fn(u8, u8) -> u8>(
     ensures promises { IfTelling S.Stage stage.old stage.new (λ old new.
         EachStory F.Fn player.old.routines player.old.game (λ g.
         Promises S.Stage stage.old stage.new
-        (OnOk result (Answers g (answer g hosted.now.seed Absent (option_copied text.entry)) reply.old reply.new new.disk.bytes))
-        (InFile (LeftOf g hosted.now.seed Absent (answer g hosted.now.seed Absent (option_copied text.entry)).session) old))) }
+        (OnOk result
+        (Answers g (answer g hosted.now.seed Absent (option_copied text.entry)) reply.old reply.new new.disk.bytes))
+        (InFile (LeftOf g hosted.now.seed Absent
+        (answer g hosted.now.seed Absent (option_copied text.entry)).session) old))) }
 {
     let opened = match begin(
         stage,
@@ -314,7 +316,8 @@ fn answer_kept<S: Stage, T: Tables, F: Fn(u8, u8) -> u8>(
         EachStory F.Fn player.old.routines player.old.game (λ g. (before : NamedSession) → MayBe g before →
         Stores g before old.disk.bytes →
         Promises S.Stage stage.old stage.new
-        (OnOk result (Answers g (answer g hosted.now.seed before (option_copied text.entry)) reply.old reply.new new.disk.bytes))
+        (OnOk result
+        (Answers g (answer g hosted.now.seed before (option_copied text.entry)) reply.old reply.new new.disk.bytes))
         (InFile (StoresEither g before (answer g hosted.now.seed before (option_copied text.entry)).session) old))) }
 {
     let opened = match take_up(
@@ -364,8 +367,11 @@ pub(crate) fn answer<S: Stage, T: Tables, F: Fn(u8, u8) -> u8>(
         EachStory F.Fn player.old.routines player.old.game (λ g. (before : NamedSession) → MayBe g before →
         Stores g before (file_bytes old store.now) →
         Promises S.Stage stage.old stage.new
-        (OnOk result (Answers g (answer g hosted.now.seed before (option_copied text.entry)) reply.old reply.new (file_bytes new store.now)))
-        (InAnswer g hosted.now.seed store.now before (answer g hosted.now.seed before (option_copied text.entry)).session old))) }
+        (OnOk result
+        (Answers g (answer g hosted.now.seed before (option_copied text.entry)) reply.old reply.new
+        (file_bytes new store.now)))
+        (InAnswer g hosted.now.seed store.now before
+        (answer g hosted.now.seed before (option_copied text.entry)).session old))) }
 {
     let at = match attach(stage, store) {
         Ok(at) => at,

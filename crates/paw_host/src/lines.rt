@@ -86,7 +86,8 @@ impl<'a, T: Tables, F: Fn(u8, u8) -> u8> Seats<'a, T, F> {
         hosted: &Hosted<'_, T>,
         request: Request<'_>,
     ) -> Result<(), StageCall>
-        requires hosted { IsHosted F.Fn (T.game hosted.now.tables.now) hosted.now.game hosted.now.rules self.old.player }
+        requires hosted { IsHosted F.Fn
+            (T.game hosted.now.tables.now) hosted.now.game hosted.now.rules self.old.player }
         requires name { is_name request.name.now ≡ true }
         requires short { IfSome request.text (λ t. length t.now ≤ LINE_LIMIT) }
         requires synced { S.Tells stage.old → IsStable (S.standing stage.old).disk }
@@ -101,7 +102,8 @@ impl<'a, T: Tables, F: Fn(u8, u8) -> u8> Seats<'a, T, F> {
         ensures any_moment { IfTelling S.Stage stage.old stage.new (λ old new.
             EachStory F.Fn self.old.player.routines self.old.player.game (λ g. (sessions : Sessions) →
             AllMay g sessions → AllStore g sessions old →
-            EachMoment S.Stage stage.old stage.new (Doing g hosted.now.seed sessions (Some (asks request.entry)) old))) }
+            EachMoment S.Stage stage.old stage.new
+            (Doing g hosted.now.seed sessions (Some (asks request.entry)) old))) }
     {
         begin(&mut self.reply, request.name);
         self.store.set(request.name);
@@ -128,7 +130,8 @@ impl<'a, T: Tables, F: Fn(u8, u8) -> u8> Seats<'a, T, F> {
         hosted: &Hosted<'_, T>,
         line: &[u8],
     ) -> Result<(), StageCall>
-        requires hosted { IsHosted F.Fn (T.game hosted.now.tables.now) hosted.now.game hosted.now.rules self.old.player }
+        requires hosted { IsHosted F.Fn
+            (T.game hosted.now.tables.now) hosted.now.game hosted.now.rules self.old.player }
         requires short { length line.now ≤ LINE_LIMIT }
         requires synced { S.Tells stage.old → IsStable (S.standing stage.old).disk }
         ensures stays { StaysSeated self.old.player self.new.player }
@@ -154,7 +157,8 @@ impl<'a, T: Tables, F: Fn(u8, u8) -> u8> Seats<'a, T, F> {
 
     /// Asks for a line, does what it asks for, and shows the reply. None where a further line may follow.
     fn serve<S: Stage>(&mut self, stage: &mut S, hosted: &Hosted<'_, T>) -> Option<HostOutcome>
-        requires hosted { IsHosted F.Fn (T.game hosted.now.tables.now) hosted.now.game hosted.now.rules self.old.player }
+        requires hosted { IsHosted F.Fn
+            (T.game hosted.now.tables.now) hosted.now.game hosted.now.rules self.old.player }
         requires synced { S.Tells stage.old → IsStable (S.standing stage.old).disk }
         ensures stays { StaysSeated self.old.player self.new.player }
         ensures form { IfSome result (λ o. o ≢ outcome.Usage) }
@@ -192,7 +196,8 @@ impl<'a, T: Tables, F: Fn(u8, u8) -> u8> Seats<'a, T, F> {
         stage: &mut S,
         hosted: &Hosted<'_, T>,
     ) -> HostOutcome
-        requires hosted { IsHosted F.Fn (T.game hosted.now.tables.now) hosted.now.game hosted.now.rules self.old.player }
+        requires hosted { IsHosted F.Fn
+            (T.game hosted.now.tables.now) hosted.now.game hosted.now.rules self.old.player }
         requires synced { S.Tells stage.old → IsStable (S.standing stage.old).disk }
         ensures form { result ≢ outcome.Usage }
         ensures serves { FailsOnlyBy S.Stage session_calls (host_failure result) stage.old stage.new }

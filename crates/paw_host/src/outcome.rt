@@ -5,10 +5,10 @@ ghost use Rattle.paw_host.specs.Outcomes.{host_status};
 
 use paw_stage::StageCall;
 
-/// How hosting ends. InputEnded: no line is left, and each got its reply. Usage: the words have no form.
-/// ImageDamaged: the file is no image of a valid game; the place of the first field that breaks its rule. Outside: a call
-/// of the stage failed. Memory: lack of memory, before the first line is asked for. Long: as many lines were taken as the
-/// host takes.
+/// How hosting ends. InputEnded: no line is left, and each got its reply. Usage: the words have no form. ImageDamaged:
+/// the file is no image of a valid game; the offset of the first field that breaks its rule. Outside: a call of the
+/// stage failed. Memory: lack of memory, before the first line is asked for. Long: as many lines were taken as the host
+/// takes.
 #[derive(Clone, Copy, Drop, PartialEq, Eq, Debug)]
 pub enum HostOutcome {
     InputEnded,

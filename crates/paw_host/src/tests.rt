@@ -368,7 +368,8 @@ fn a_crash_behind_any_call_loses_no_turn(rt: HostRuntime) -> Result<(), Fail> {
     Ok(())
 }
 
-// A player's line of its own, over what a run left of the store, is answered as after these lines, or as after one less.
+// A player's line of its own, over what a run left of the store, is answered as after these lines, or as after one
+// less.
 fn left_over<S: Stage>(
     rt: &impl Abort,
     alloc: Global,

@@ -72,7 +72,7 @@ condact_most c =
     let b = parameter_image (second_kind c.code) c.b in
     omega (arith, length-append a b, parameter_most (first_kind c.code) c.a, parameter_most (second_kind c.code) c.b)
 
--- Condacts that were passed over are read without their rules and end at the same place, after at most three bytes
+-- Condacts that were passed over are read without their rules and end at the same offset, after at most three bytes
 -- each.
 pub record Walked (n : ℕ) (bytes rest : List ℕ) : Type 0 where
   pub past : each past_condact n bytes ≡ Ok rest

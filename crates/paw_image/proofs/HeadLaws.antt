@@ -1,5 +1,5 @@
--- The front of an image: what is read of it stands there as its image, and keeps its rules; and the front of the image
--- of a valid game is read as what the game declares.
+-- The front of an image: what is read of it stands there as its image, and follows its rules; and the front of the
+-- image of a valid game is read as what the game declares.
 use Rattle.std.proofs.Common.{◌≡◌, ℕ, zero, suc, ◌+◌, ◌&&◌, true, leb, List, [], ◌∷◌, ◌++◌, length, Result, Ok}
 use Rattle.std.proofs.Common.{refl, ap, subst, ◌∙◌, append_assoc, arith, lit<}
 use Rattle.std.specs.Prelude.{codes}
@@ -35,7 +35,7 @@ use Rattle.paw_image.proofs.SoundRows.{declared_as}
 use Rattle.paw_image.proofs.Stands.{and_true, kept_then}
 use Rattle.paw_image.proofs.ValidLaws.{letters_fit, ValidParts}
 
--- ---- mark and version ----
+-- ---- signature and version ----
 
 -- A byte that stands for a version is the byte of that version.
 told : (byte : ℕ) → is_within 1 2 byte ≡ true → byte ≡ version_byte (version_told byte)
@@ -73,7 +73,7 @@ counts_image c =
     two_bytes c.words ++ two_bytes c.system ++ two_bytes c.messages ++ two_bytes c.objects ++ two_bytes c.locations
     ++ two_bytes c.tables
 
--- The counts keep their limits.
+-- The counts are within their limits.
 pub record AreFew (c : Counts) : Type 0 where
   pub words : is_within 0 WORD_LIMIT c.words ≡ true
   pub system : is_within 0 SYSTEM_LIMIT c.system ≡ true

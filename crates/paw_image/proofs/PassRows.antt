@@ -1,4 +1,4 @@
--- Each row: the image of a row that keeps its rule is passed.
+-- Each row: the image of a row that follows its rule is passed.
 use Rattle.std.proofs.Common.{◌≡◌, ℕ, ◌^◌, ◌<◌, ◌≤◌, ◌&&◌, ◌||◌, Bool, true, not, ltb, leb, eqb, List}
 use Rattle.std.proofs.Common.{[], ◌∷◌, ◌++◌, length, Ok, refl, ap, ◌∙◌, append_assoc, arith, lit<}
 use Rattle.std.specs.List.{flat_map, list_all, list_any}

@@ -43,11 +43,11 @@ all_at P [] k x h e = absurd (none-some x e)
 all_at P (y ∷ ys) zero x h e = subst P (same_Some y x e) h.0
 all_at P (y ∷ ys) (suc k) x h e = all_at P ys k x h.1 e
 
--- What follows what stands at a place.
+-- What follows what stands at an offset.
 pub next_at : (bytes text rest : List ℕ) (at : ℕ) → drop at bytes ≡ text ++ rest → drop (at + length text) bytes ≡ rest
 next_at bytes text rest at e = sym (drop-drop (length text) at bytes) ∙ ap (drop (length text)) e ∙ drop_at text rest (length text) refl
 
--- The row that stands at the place where it begins.
+-- The row that stands at the offset where it begins.
 pub record RowAt {A : Type 0} (image : A → List ℕ) (bytes : List ℕ) (found : Option A) (p : ℕ) : Type 0 where
   pub row : A
   pub after : List ℕ
@@ -236,7 +236,7 @@ entry_in_table bytes found (Some ps) k p there h =
     let t = there ps refl in
     rw t.is (row_lies entry_image bytes t.after t.rows t.at t.lies k p (rw t.begin at h))
 
--- The entry that stands at the place where it begins.
+-- The entry that stands at the offset where it begins.
 pub entry_lies : (bytes : List ℕ) (g : GameLists) → ListsAt bytes g → (t k p : ℕ)
     → slice_get (unwrap_or (slice_get (entry_offsets (tables_begin_at g) g.tables) t) []) k ≡ Some p
     → RowAt entry_image bytes (slice_get (unwrap_or (slice_get g.tables t) []) k) p

@@ -1,5 +1,5 @@
--- The two laws of each row: what is read as a row stands there as its image, and the image of a row that fits is read as
--- that row.
+-- The two laws of each row: what is read as a row stands there as its image, and the image of a row that fits is read
+-- as that row.
 use Rattle.std.proofs.Common.{◌≡◌, ℕ, zero, suc, ◌+◌, ◌*◌, ◌<◌, Bool, true, false, not, cond, eqb, List}
 use Rattle.std.proofs.Common.{[], ◌∷◌, ◌++◌, length, Ok, refl, sym, ap, subst, ◌∙◌, append_assoc, arith}
 use Rattle.std.specs.Prelude.{bit_and}

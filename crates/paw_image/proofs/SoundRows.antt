@@ -1,4 +1,4 @@
--- Each row: the bytes that it passes are read as a row that keeps its rule.
+-- Each row: the bytes that it passes are read as a row that follows its rule.
 use Rattle.std.proofs.Common.{◌≡◌, ℕ, zero, suc, ◌+◌, ◌<◌, ◌&&◌, ◌||◌, Bool, true, false, not, ltb}
 use Rattle.std.proofs.Common.{leb, eqb, List, [], ◌∷◌, length, Ok, refl, sym, ap, ◌∙◌, arith}
 use Rattle.std.specs.Prelude.{bit_and}
@@ -117,7 +117,7 @@ pub none_of-none : (xs : List Exit) → none_of [] xs ≡ true
 none_of-none [] = refl
 none_of-none (x ∷ xs) = none_of-none xs
 
--- What the exits after those with these verbs keep.
+-- What rule the exits after those with these verbs follow.
 abbrev keeps_after : ImagePreface → List ℕ → List Exit → Bool
 keeps_after d verbs xs = none_of verbs xs && are_exits d.words d.counts.locations xs
 

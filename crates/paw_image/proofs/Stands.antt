@@ -1,4 +1,4 @@
--- What is read by its rules is read without them too, and keeps them.
+-- What is read by its rules is read without them too, and follows them.
 use Rattle.std.proofs.Common.{◌≡◌, ℕ, zero, suc, ◌+◌, ◌-◌, ◌≤◌, ◌&&◌, Bool, true, ltb, List, [], ◌∷◌}
 use Rattle.std.proofs.Common.{◌++◌, length, Result, Ok, refl, sym, ap, subst, ◌∙◌, append_assoc, arith}
 use Rattle.std.specs.List.{flat_map, list_all}
@@ -15,7 +15,7 @@ use Rattle.paw_image.proofs.ListLaws.{TakesRow}
 pub and_true : (a b : Bool) → a ≡ true → b ≡ true → (a && b) ≡ true
 and_true a b p q = rw (p, q) refl
 
--- What follows from a field that kept its rule.
+-- What follows from a field that followed its rule.
 pub kept_then : {A B : Type 0} (P : Type 0) (rule : A → Bool) (field : List ℕ → Reading A) (bytes : List ℕ)
     (f : A × List ℕ → Result B ℕ) (y : B) → (checked_field rule field bytes >>= f) ≡ Ok y
     → ((x : A × List ℕ) → field bytes ≡ Ok x → rule x.0 ≡ true → f x ≡ Ok y → P) → P
@@ -31,17 +31,17 @@ bytes_length n bytes x e =
     let long : n ≤ length bytes = ltb-false _ _ is_long.0 in
     at_ok (λ (y : List ℕ × List ℕ). length y.0 ≡ n) _ x is_long.1 (omega (arith, length-take n bytes))
 
--- What was read keeps the rule, and this is what is left.
+-- What was read follows the rule, and this is what is left.
 pub record Stands {A : Type 0} (reading : Reading A) (rule : A → Bool) (rest : List ℕ) : Type 0 where
   pub value : A
   pub reads : reading ≡ Ok (value, rest)
   pub keeps : rule value ≡ true
 
--- Bytes that a row passes are read as a row that keeps its rule.
+-- Bytes that a row passes are read as a row that follows its rule.
 abbrev pub SoundRow : {A : Type 0} → (List ℕ → Passing) → (List ℕ → Reading A) → (A → Bool) → Type 0
 SoundRow pass row rule = (bytes rest : List ℕ) → IsBytes bytes → pass bytes ≡ Ok rest → Stands (row bytes) rule rest
 
--- The image of a row that keeps its rule is passed.
+-- The image of a row that follows its rule is passed.
 abbrev pub PassesRow : {A : Type 0} → (List ℕ → Passing) → (A → List ℕ) → (A → Bool) → Type 0
 PassesRow {A} pass image rule = (x : A) (rest : List ℕ) → rule x ≡ true → pass (image x ++ rest) ≡ Ok rest
 
@@ -57,7 +57,7 @@ pub taken_ends : (bytes text rest : List ℕ) (total start : ℕ) → Takes byte
     → start + length text + length rest ≡ total
 taken_ends bytes text rest total start t h = omega (arith, h, taken_length bytes text rest t)
 
--- These n rows keep the rule and stand there, with where they begin in the last of `total` bytes.
+-- These n rows follow the rule and stand there, with where they begin in the last of `total` bytes.
 pub record Placed {A : Type 0} (pass : List ℕ → Passing) (image : A → List ℕ) (n : ℕ) (bytes : List ℕ)
     (reading : Reading (List A)) (rule : A → Bool) (rest : List ℕ) : Type 0 where
   pub value : List A

@@ -103,7 +103,7 @@ module _ (g : GameLists) where
   split_tables ts =
       split_all (keeps_table (declared_as One g)) (is_table g) (λ (es : List Entry). list_any (λ (e : Entry). any_indirect e.condacts) es) split_table ts
 
-  -- Tables that keep the rules of a version keep those of a game.
+  -- Tables that follow the rules of a version follow those of a game.
   pub tables_valid : (v : Version) (ts : List (List Entry)) → list_all (keeps_table (declared_as v g)) ts ≡ true
       → list_all (is_table g) ts ≡ true
   tables_valid One ts h = (and_parts (list_all (is_table g) ts) _ (sym (split_tables ts) ∙ h)).0
@@ -125,7 +125,7 @@ either : (b : Bool) → (b ≡ true) ⊎ (b ≡ false)
 either true = inl refl
 either false = inr refl
 
--- In the image of a row that keeps a rule, and that a test finds, there is a fault.
+-- In the image of a row that follows a rule, and that a test finds, there is a fault.
 abbrev StopsRow : {A : Type 0} → (List ℕ → Passing) → (A → List ℕ) → (two test : A → Bool) → Type 0
 StopsRow {A} pass image two test = (x : A) (rest : List ℕ) → two x ≡ true → test x ≡ true → IsFault (pass (image x ++ rest))
 
@@ -203,13 +203,13 @@ needed_byte g = elim (either (has_indirect g.tables)) [
   | inr none ↦ rw none refl
 ]
 
--- The tables of a game that has no indirect condact keep the rules of version 1.
+-- The tables of a game that has no indirect condact follow the rules of version 1.
 keep_in_1 : (g : GameLists) → list_all (is_table g) g.tables ≡ true → has_indirect g.tables ≡ false
     → list_all (keeps_table (declared_as One g)) g.tables ≡ true
 keep_in_1 g h none =
     split_tables g g.tables ∙ and_true (list_all (is_table g) g.tables) _ h (ap (λ (b : Bool). not b) none)
 
--- A game's tables keep the rules of the version that it needs.
+-- A game's tables follow the rules of the version that it needs.
 pub needed_keeps : (g : GameLists) → list_all (is_table g) g.tables ≡ true
     → list_all (keeps_table (declared_as (needed_by g) g)) g.tables ≡ true
 needed_keeps g h = elim (either (has_indirect g.tables)) [
@@ -229,7 +229,7 @@ is_needed g p stops = elim (either (has_indirect g.tables)) [
   | inr none ↦ rw none refl
 ]
 
--- Where the tables keep the rules of a version that is needed, it is the game's.
+-- Where the tables follow the rules of a version that is needed, it is the game's.
 pub right_version : (v : Version) (g : GameLists) (p : Passing) → list_all (keeps_table (declared_as v g)) g.tables ≡ true
     → needs_no_2 v p ≡ false → (list_all (keeps_table (declared_as One g)) g.tables ≡ true → p ≡ Ok [])
     → version_byte v ≡ version_of g

@@ -71,7 +71,7 @@ index_from bytes front rest p fits short whole passed =
       marked = passed.marked (read.end d passed.declared);
     }
 
--- A place of damage shows that there is no image.
+-- An offset of damage shows that there is no image.
 pub damage_is_none : (bytes : List ℕ) (r : ImageRefusal) → AtDamage r (λ at. bad bytes ≡ Some at) → AtDamage r (λ _. (g : GameLists) → IsImage bytes g → ⊥)
 damage_is_none bytes refusal.Memory h = tt
 damage_is_none bytes (refusal.Damaged at) h = λ g is. none-some at (sym (image_is_whole bytes g is) ∙ h)

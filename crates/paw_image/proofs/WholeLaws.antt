@@ -42,7 +42,7 @@ use Rattle.paw_image.proofs.ValidLaws.{parts_of}
 
 -- ---- the lists ----
 
--- Where the rows of the lists begin that follow the words, which end at a place.
+-- Where the rows of the lists begin that follow the words, which end at an offset.
 pub record StandAt (start : ℕ) (g : GameLists) (p : Offsets) : Type 0 where
   pub system : p.system.items ≡ offsets text_image start g.system
   pub messages : p.messages.items ≡ offsets text_image (start + length (flat_map text_image g.system)) g.messages
@@ -128,7 +128,7 @@ lists_sound d bytes rest fits e =
           };
     })))))
 
--- What the front declares, and the lists that keep its rules, make a valid game.
+-- What the front declares, and the lists that follow its rules, make a valid game.
 valid_from : (bytes : List ℕ) (x : ImagePreface × List ℕ) (rest : List ℕ) → Fronted bytes x
     → (r : AreRead x.0 x.1 rest) → x.0 ≡ declared_as x.0.version r.game → Valid r.game
 valid_from bytes x rest f r is =
@@ -252,14 +252,14 @@ all_needed g v =
     ap is_needless (image_is needs g (needed_byte g))
     ∙ rw (front_passes needs g (lists_image g []) (parts_of g v)) (is_needed g _ stops)
 
--- ---- the place of the first broken rule ----
+-- ---- the offset of the first broken rule ----
 
 pub nothing_left : (total : ℕ) (p : Passing) → offset_in total p ≡ None → p ≡ Ok []
 nothing_left total (Err left) e = absurd cc
 nothing_left total (Ok []) e = refl
 nothing_left total (Ok (b ∷ bytes)) e = absurd cc
 
--- Where no place is named, the first one isn't, nor is the other asked for.
+-- Where no offset is named, the first one isn't, nor is the other asked for.
 pub both_none : (first : Option ℕ) (asked : Bool) (n : ℕ) → option_or first (if asked then Some n else None) ≡ None
     → (first ≡ None) × (asked ≡ false)
 both_none None false n e = (refl, refl)

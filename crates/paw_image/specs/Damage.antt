@@ -28,7 +28,7 @@ use Rattle.paw_image.specs.declared.version.Version.{Version}
 use Rattle.paw_image.specs.declared.version.Version.TheVariants.{One, Two}
 use Rattle.paw_image.specs.Reading.{Reading, byte_at, bytes_at, number_at}
 
--- A field that keeps a rule; where it breaks the rule, a fault at its first byte.
+-- A field that follows a rule; where it breaks the rule, a fault at its first byte.
 abbrev pub checked_field : {A : Type 0} → (A → Bool) → (Bytes → Reading A) → Bytes → Reading A
 checked_field rule field bytes = field bytes >>= λ x. if rule x.0 then Ok x else Err (length bytes)
 
@@ -53,7 +53,7 @@ pub record ImagePreface : Type 0 where
 abbrev pub version_told : ℕ → Version
 version_told byte = if byte == 1 then One else Two
 
--- The mark PAWI, and a version that is 1 or 2; the version is what is read.
+-- The signature PAWI, and a version that is 1 or 2; the version is what is read.
 unfoldable pub checked_version : Bytes → Reading Version
 checked_version bytes = do
   mark ← checked_field (λ m. bytes_eq m (codes "PAWI")) (bytes_at 4) bytes
@@ -174,7 +174,7 @@ after_lists d bytes = do
   exits ← each (after_exits d) d.counts.locations locations
   each (after_table d) d.counts.tables exits
 
--- The front of an image: its mark, version, counts and words.
+-- The front of an image: its signature, version, counts and words.
 unfoldable pub front : Bytes → Reading ImagePreface
 front bytes = do
   version ← checked_version bytes
@@ -208,14 +208,14 @@ is_needless_after (Err left) = false
 unfoldable pub is_needless : Bytes → Bool
 is_needless bytes = is_needless_after (front bytes)
 
--- The place of a fault, or of the first byte after the last field, in `total` bytes; nothing where all is well.
+-- The offset of a fault, or of the first byte after the last field, in `total` bytes; nothing where all is well.
 abbrev pub offset_in : ℕ → Passing → Option ℕ
 offset_in total (Err left) = Some (total - left)
 offset_in total (Ok []) = None
 offset_in total (Ok (b ∷ bytes)) = Some (total - length (b ∷ bytes))
 
--- The place of the first broken rule, or nothing. The first rule is that there are at most IMAGE_LIMIT bytes, and the
--- place is then this limit; the last is that version 2 is needed, and the place is then that of the version, byte 4.
+-- The offset of the first broken rule, or nothing. The first rule is that there are at most IMAGE_LIMIT bytes, and the
+-- offset is then this limit; the last is that version 2 is needed, and the offset is then that of the version, byte 4.
 unfoldable pub bad : Bytes → Option ℕ
 bad bytes =
     if nat_lt IMAGE_LIMIT (length bytes) then Some IMAGE_LIMIT

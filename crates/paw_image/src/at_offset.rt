@@ -17,7 +17,7 @@ use crate::texts::read_text;
 use paw_base::parts::{Condact, ObjectFacts};
 use paw_game::parts::Exit;
 
-/// The bytes from a place on; none past the end.
+/// The bytes from an offset on; none past the end.
 fn from_offset(bytes: &[u8], place: u32) -> &[u8]
     ensures value { result.now ≡ drop place bytes.now }
 {
@@ -28,7 +28,7 @@ fn from_offset(bytes: &[u8], place: u32) -> &[u8]
     &bytes[place..]
 }
 
-/// The text that begins at a place, with its length.
+/// The text that begins at an offset, with its length.
 #[tactic(auto, using(crate::proofs::Faults::no_value))]
 pub fn text_in(bytes: &[u8], place: u32) -> Option<&[u8]>
     ensures value { option_copied result ≡ value_of (sized_text_at (drop place bytes.now)) }
@@ -39,7 +39,7 @@ pub fn text_in(bytes: &[u8], place: u32) -> Option<&[u8]>
     }
 }
 
-/// The facts of the object that begins at a place.
+/// The facts of the object that begins at an offset.
 #[tactic(auto, using(crate::proofs::Faults::no_value), unfolding(crate::specs::inner::Rows::facts_here))]
 pub fn facts_in(bytes: &[u8], place: u32) -> Option<ObjectFacts>
     ensures value { result ≡ facts_here (drop place bytes.now) }
@@ -82,7 +82,7 @@ fn exit_of(verb: u8, count: u8, bytes: &[u8]) -> Option<u8>
     None
 }
 
-/// Where the exit for a verb leads, among the exits that begin at a place.
+/// Where the exit for a verb leads, among the exits that begin at an offset.
 #[tactic(auto, unfolding(crate::specs::inner::Rows::exits_here))]
 pub fn exit_at(bytes: &[u8], place: u32, verb: u8) -> Option<u8>
     ensures value { result ≡ exits_here verb (drop place bytes.now) }
@@ -93,7 +93,7 @@ pub fn exit_at(bytes: &[u8], place: u32, verb: u8) -> Option<u8>
     }
 }
 
-/// The verb and the noun of the entry that begins at a place.
+/// The verb and the noun of the entry that begins at an offset.
 #[tactic(auto, unfolding(crate::specs::inner::Rows::head_here))]
 pub fn head_in(bytes: &[u8], place: u32) -> Option<(u8, u8)>
     ensures value { result ≡ head_here (drop place bytes.now) }
@@ -168,7 +168,7 @@ fn condact_of(
     }
 }
 
-/// A condact, by its number, of the entry that begins at a place.
+/// A condact, by its number, of the entry that begins at an offset.
 #[tactic(auto, unfolding(crate::specs::inner::Rows::nth_condact))]
 pub fn condact_in(
     bytes: &[u8],
@@ -197,7 +197,7 @@ fn up_to<'a>(row: &'a [u8], count: u8, condacts: &[u8]) -> Option<&'a [u8]>
     }
 }
 
-/// The bytes of the entry that begins at a place.
+/// The bytes of the entry that begins at an offset.
 #[tactic(auto, unfolding(crate::specs::inner::Rows::entry_here))]
 pub fn entry_in(bytes: &[u8], place: u32) -> Option<&[u8]>
     ensures value { option_copied result ≡ entry_here (drop place bytes.now) }

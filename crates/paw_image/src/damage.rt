@@ -75,7 +75,7 @@ fn is_needless(alloc: Global, bytes: &[u8], passed: &Passed) -> Result<bool, All
     }
 }
 
-/// Passes over bytes that should be an image: their front and offsets, or the place of the first broken rule.
+/// Passes over bytes that should be an image: their front and offsets, or the offset of the first broken rule.
 #[tactic(auto, unfolding(crate::specs::Damage::bad))]
 pub fn pass_whole<'a>(alloc: Global, bytes: &'a [u8]) -> Result<Passed<'a>, ImageRefusal>
     requires short { length bytes.now ≤ IMAGE_LIMIT }

@@ -35,7 +35,7 @@ fn read_game(alloc: Global, bytes: &[u8]) -> Result<Option<Game>, ImageRefusal>
 /// The game whose image the bytes are.
 ///
 /// # Errors
-/// Damaged exactly where the bytes aren't the image of a valid game, or more than 4,194,304; the place is that of the
+/// Damaged exactly where the bytes aren't the image of a valid game, or more than 4,194,304; the offset is that of the
 /// first field, in order, that breaks its rule or isn't all there, and 4 where no field does, but the version is 2 and
 /// no condact is indirect. Memory only where there is none.
 pub fn decode(alloc: Global, bytes: &[u8]) -> Result<Game, ImageRefusal>

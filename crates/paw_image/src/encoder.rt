@@ -21,7 +21,7 @@ pub fn image_length(game: &Game) -> u64
 /// The image of a game.
 ///
 /// # Errors
-/// Damaged exactly where the image would be longer than 4,194,304 bytes; the place is that limit. Memory only where
+/// Damaged exactly where the image would be longer than 4,194,304 bytes; the offset is that limit. Memory only where
 /// there is none.
 pub fn encode(alloc: Global, game: &Game) -> Result<Vec<u8>, ImageRefusal>
     ensures found { IfOk result (λ v. IsImage v.items game.now) }

@@ -18,7 +18,7 @@ pub trait InPlace {
     /// The bytes after the row at the front, or its first fault.
     ghost passing: { ImagePreface → List ℕ → Passing };
 
-    /// The bytes after the row at the front, where each of its fields keeps its rule.
+    /// The bytes after the row at the front, where each of its fields follows its rule.
     fn pass<'a>(rules: &FieldRules, bytes: &'a [u8]) -> Result<&'a [u8], ReadFault>
         ensures gives { Gives (λ x. x.now) result (passing rules.now bytes.now) };
 }

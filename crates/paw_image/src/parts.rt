@@ -15,7 +15,7 @@ use crate::version::version_of;
 use paw_game::parts::GameParts;
 use std::alloc::{AllocError, Global};
 
-/// The bytes of the mark, the version and the six counts.
+/// The bytes of the signature, the version and the six counts.
 const HEAD_LENGTH: usize = 17;
 
 /// The lists after this front.
@@ -72,7 +72,7 @@ pub fn length_of_parts(parts: &GameParts) -> usize
         + length_of_rows(&parts.tables)
 }
 
-/// Writes the mark, the version and the counts at the end.
+/// Writes the signature, the version and the counts at the end.
 fn write_head(parts: &GameParts, out: &mut Vec<u8>) -> Result<(), AllocError>
     requires fits { FitsCounts parts.now }
     ensures writes { OnOk result (out.new.items ≡ out.old.items ++ head_image parts.now) }

@@ -9,7 +9,7 @@ pub enum ImageRefusal {
     /// The bytes aren't the image of a game, or the image would have too many.
     #[error("image damaged at {at}")]
     Damaged {
-        /// The place, counted in bytes from 0.
+        /// The offset, counted in bytes from 0.
         at: u64,
     },
     /// There is no memory.

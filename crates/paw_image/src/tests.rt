@@ -102,7 +102,7 @@ fn a_table_of_the_lantern_game(rt: HostRuntime) -> Result<(), Fail> {
     Ok(())
 }
 
-/// The place at which bytes are damaged, as both readers name it; None where they differ.
+/// The offset at which bytes are damaged, as both readers name it; None where they differ.
 fn damaged_at(alloc: Global, bytes: &[u8]) -> Option<u64> {
     let seen = View::new(alloc, bytes).err()?;
     let read = decode(alloc, bytes).err()?;
@@ -114,7 +114,7 @@ fn damaged_at(alloc: Global, bytes: &[u8]) -> Option<u64> {
     }
 }
 
-/// The image with these bytes from a place on.
+/// The image with these bytes from an offset on.
 fn changed(alloc: Global, image: &[u8], place: usize, bytes: &[u8]) -> Result<Vec<u8>, AllocError> {
     let mut changed = image.to_vec(alloc)?;
     for (step, byte) in bytes.iter().enumerate() {
@@ -128,7 +128,7 @@ fn changed(alloc: Global, image: &[u8], place: usize, bytes: &[u8]) -> Result<Ve
 
 #[test]
 fn every_damaged_byte_is_named(rt: HostRuntime) -> Result<(), Fail> {
-    // The first changed place, what stands there, and the place of the fault.
+    // The first changed offset, what stands there, and the offset of the fault.
     let changes: [(usize, &[u8], u64); 14] = [
         (0, b"Q", 0),
         (4, &[2], 4),
@@ -158,7 +158,7 @@ fn every_damaged_byte_is_named(rt: HostRuntime) -> Result<(), Fail> {
 
 #[test]
 fn damage_of_version_2_is_named(rt: HostRuntime) -> Result<(), Fail> {
-    // The first changed place, what stands there, and the place of the fault.
+    // The first changed offset, what stands there, and the offset of the fault.
     let changes: [(usize, &[u8], u64); 12] = [
         (4, &[0], 4),
         (4, &[1], 36),
@@ -249,7 +249,7 @@ const MATCHES: [u8; 55] = [
     0,
 ];
 
-/// The next matches of the table, for places, verbs and nouns.
+/// The next matches of the table, for numbers of entries, verbs and nouns.
 fn next_matches<T: Tables>(tables: &T) -> [Option<u16>; 10] {
     [
         tables.next_match(0, 0, 30, 50),

@@ -72,9 +72,9 @@ impl<'a> View<'a> {
     /// The game whose image the bytes are, read in place.
     ///
     /// # Errors
-    /// As `decode`: Damaged exactly where the bytes aren't the image of a valid game, or more than 4,194,304; the place
-    /// is that of the first field, in order, that breaks its rule or isn't all there, and 4 where no field does, but
-    /// the version is 2 and no condact is indirect. Memory only where there is none.
+    /// As `decode`: Damaged exactly where the bytes aren't the image of a valid game, or more than 4,194,304; the
+    /// offset is that of the first field, in order, that breaks its rule or isn't all there, and 4 where no field does,
+    /// but the version is 2 and no condact is indirect. Memory only where there is none.
     pub fn new(alloc: Global, bytes: &'a [u8]) -> Result<View<'a>, ImageRefusal>
         ensures bytes { IfOk result (λ view. view ≡ bytes.now) }
         ensures found { OnOk result (IsImage bytes.now (game_read bytes.now)) }
@@ -119,7 +119,7 @@ impl<'a> View<'a> {
         }
     }
 
-    /// The places of the bytes between which a text stands; None exactly where there is no such text.
+    /// The offsets of the bytes between which a text stands; None exactly where there is no such text.
     pub fn span(&self, part: GamePart, number: u8) -> Option<(usize, usize)>
         ensures value { result ≡ span_at (game_read self.now) part number }
     {

@@ -36,7 +36,7 @@ selector_hidden j image old low n long same =
 pub either_slot : (b k : ℕ) → k < 2 → (b % 2 ≡ 1 - k) ⊎ (b % 2 ≡ k)
 either_slot b k low = grind arith
 
--- while the selector is written a crash leaves what one of the slots shows
+-- While the selector is written a crash leaves what one of the slots shows.
 pub choosing : (k : ℕ) (old : List ℕ) (d : Disk) → k < 2 → length old ≡ session_length → IsWithin 1 2 old d →
     CrashLeavesSuch (IsOldOrNew (recover_by (1 - k) old) (recover_by k old)) d
 choosing k old d low long h image l =
@@ -62,17 +62,17 @@ in_chosen k s t m low long h w = in_moved_sync 1 2 s t
     (IsOldOrNew (recover_by (1 - k) s.disk.bytes) (recover_by k s.disk.bytes)) m h
     (λ d i. choosing k s.disk.bytes d low long i) w
 
--- the selector is the slot's
+-- The selector is the slot's.
 pub selector_is : (k : ℕ) (old : List ℕ) → k < 2 → length old ≡ session_length → chosen (chosen_session k old) ≡ k
 selector_is k old low long = let h : k % 2 ≡ k = grind arith in ap (λ b. b % 2) (put_one 1 k old (omega arith)) ∙ h
 
--- and a crash leaves just that
+-- And a crash leaves just that.
 pub chose_all : (k x n : ℕ) (s t u : Standing) → x ≡ k → t ≡ wrote s (touched 1 1 (x ∷ []) s.disk) n →
     u ≡ record t { disk = stable t.disk.bytes } → u.disk ≡ stable (chosen_session k s.disk.bytes)
 chose_all k x n s t u e w q =
     ap (λ y. y.disk) q ∙ (ap (λ y. stable y.disk.bytes) w ∙ ap (λ j. stable (put 1 (j ∷ []) s.disk.bytes)) e)
 
--- all but the selector is as it was
+-- All but the selector is as it was.
 pub chosen_digests : (k : ℕ) (old : List ℕ) → length old ≡ session_length → kept_digests (chosen_session k old) ≡ kept_digests old
 chosen_digests k old long = both_digests _ _ _ _ (stretch_past 32 32 1 (k ∷ []) old (omega arith) (omega arith))
     (stretch_past 64 32 1 (k ∷ []) old (omega arith) (omega arith))
@@ -80,7 +80,7 @@ chosen_digests k old long = both_digests _ _ _ _ (stretch_past 32 32 1 (k ∷ []
 pub chosen_slot : (k j : ℕ) (old : List ℕ) → length old ≡ session_length → slot j (chosen_session k old) ≡ slot j old
 chosen_slot k j old long = stretch_past (header_length + slot_length * j) slot_length 1 (k ∷ []) old (omega arith) (omega arith)
 
--- and the session shows what the slot showed
+-- And the session shows what the slot showed.
 pub chosen_shown : (k : ℕ) (old : List ℕ) → k < 2 → length old ≡ session_length → recover (chosen_session k old) ≡ recover_by k old
 chosen_shown k old low long =
     recover_is k (chosen_session k old) (selector_is k old low long)

@@ -28,12 +28,12 @@ use Rattle.paw_journal.proofs.Kept.{IsKept, is_kept, kept_shows, written_piece}
 use Rattle.paw_journal.proofs.Slots.{state_stays, piece_stays}
 use Rattle.paw_journal.proofs.Fills.{filled_made, filled_digests, filling_put, slot_long}
 
--- what a room keeps of a slot
+-- What a room keeps of a slot.
 pub keeps_of : (w : Slot) (room : Room) (bytes : List ℕ) → KeepsSlots room bytes → kept_of w room ≡ kept_slot (slot (slot_number w) bytes)
 keeps_of which.First room bytes h = h.first
 keeps_of which.Second room bytes h = h.second
 
--- what was drafted in a buffer was drafted in what shows the buffer
+-- What was drafted in a buffer was drafted in what shows the buffer.
 pub drafts_as : (kept : Option SlotState) (state bytes held : List ℕ) (draft : CommitDraft) → held ≡ bytes →
     Drafts kept state bytes draft → Drafts kept state held draft
 drafts_as kept state bytes held draft e d = subst (λ b. Drafts kept state b draft) (sym e) d
@@ -45,11 +45,11 @@ module _ (k : ℕ) (draft : CommitDraft) (kept : Option SlotState) (state bytes 
     long : length (slot k s.disk.bytes) ≡ slot_length
     long = slot_long k s.disk.bytes f.low f.made.long
 
-    -- the slot has the new state
+    -- The slot has the new state.
     pub committed_kept : kept_slot (slot k t.disk.bytes) ≡ Some (record { records = draft.records; state = state })
     committed_kept = ap kept_slot w ∙ d.gives (slot k s.disk.bytes) piece long (sym e) short
 
-    -- and shows it with the new piece
+    -- And shows it with the new piece.
     pub committed_shows : piece_length state ≡ length piece → recover_by k t.disk.bytes ≡ Shown (kept_digests s.disk.bytes) (take state_length state) piece
     committed_shows names =
         let h : IsKept (slot k t.disk.bytes) draft.records state = is_kept (slot k t.disk.bytes) draft.records state committed_kept in
@@ -64,7 +64,7 @@ module _ (k : ℕ) (draft : CommitDraft) (kept : Option SlotState) (state bytes 
 
 -- ---- the bytes that it leaves ----
 
--- the slot that isn't in use is spare
+-- The slot that isn't in use is spare.
 pub spare_of : (journal : Journal) (room : Room) (s : Standing) (w : Slot) → KeptIn journal room s →
     slot_number w ≡ 1 - slot_number journal.slot → IsSpare (slot_number w) s.disk.bytes
 spare_of journal room s w h e = record {
@@ -72,7 +72,7 @@ spare_of journal room s w h e = record {
   other = omega (arith, h.chosen, e, slot_small journal.slot);
 }
 
--- a store that was written and synced is at rest
+-- A store that was written and synced is at rest.
 pub rests_on : (bytes : List ℕ) (s t : Standing) → IsAtRest s → ChangesStoreOnly s t → t.disk ≡ stable bytes → IsAtRest t
 rests_on bytes s t h b e = record {
   attached = subst (λ a. IsSome a) (sym b.attached) h.attached;
@@ -110,7 +110,7 @@ module _ (w : Slot) (draft : CommitDraft) (kept : Option SlotState) (state bytes
         fits : (k m n : ℕ) → k < 2 → m ≡ slot_length → n ≡ session_length → header_length + slot_length * k + m ≤ n
         fits k m n h l long = omega arith
 
--- once that slot is chosen, all is as a commit leaves it
+-- Once that slot is chosen, all is as a commit leaves it.
 pub committed_exact : (w used : Slot) (draft : CommitDraft) (kept : Option SlotState) (state bytes piece : List ℕ) (s t u : Standing) →
     Drafts kept state bytes draft → kept ≡ kept_slot (slot (slot_number w) s.disk.bytes) →
     slot_number w ≡ 1 - slot_number used → chosen s.disk.bytes ≡ slot_number used →
@@ -126,7 +126,7 @@ committed_exact w used draft kept state bytes piece s t u d e o c p q =
     ∙ (ap (λ x. put 1 (k ∷ []) (put (start_of k) x old)) (d.exact (slot k old) piece (sym e))
     ∙ ap (λ i. committed_in i state piece old) n))
 
--- the states of both slots afterwards
+-- The states of both slots afterwards.
 pub committed_slots : (w : Slot) (x : Option SlotState) (old now : Room) (a b c : List ℕ) → KeepsSlots old a →
     now.first ≡ (with_slot_kept w x old).first → now.second ≡ (with_slot_kept w x old).second →
     slot (1 - slot_number w) b ≡ slot (1 - slot_number w) a → kept_slot (slot (slot_number w) b) ≡ x →
@@ -140,7 +140,7 @@ committed_slots which.Second x old now a b c h f g o n same = record {
   second = g ∙ (sym n ∙ ap kept_slot (sym (same 1 (omega arith))));
 }
 
--- how much it wrote
+-- How much it wrote.
 pub committed_few : (w : Slot) (k : ℕ) (room : Room) (old bytes state piece : List ℕ) (draft : CommitDraft) →
     KeepsSlots room old → slot_number w ≡ k → Drafts (kept_of w room) state bytes draft →
     length bytes + length piece + 4 ≤ most_written (kept_slot (slot k old)) state piece
@@ -154,7 +154,7 @@ committed_part old now bytes piece most h k = omega arith
 pub committed_all : (old mid now bytes piece most : ℕ) → mid ≤ old + (bytes + piece + 3) → now ≤ mid + 1 → bytes + piece + 4 ≤ most → now ≤ old + most
 committed_all old mid now bytes piece most h j k = omega arith
 
--- the session is kept once it is committed
+-- The session is kept once it is committed.
 same_first : (w : Slot) (x : Option SlotState) (a b : Room) → a.first ≡ b.first → (with_slot_kept w x a).first ≡ (with_slot_kept w x b).first
 same_first which.First x a b e = refl
 same_first which.Second x a b e = e

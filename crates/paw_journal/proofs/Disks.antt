@@ -40,13 +40,13 @@ within_touched lo hi at n old new d h low high long short =
     not_in at n i ranges (inl l) c = grind (arith, nat_tests)
     not_in at n i ranges (inr l) c = grind (arith, nat_tests)
 
--- a write inside the stretch
+-- A write inside the stretch.
 pub within_write : (lo hi at n : ℕ) (old : List ℕ) (d m : Disk) → IsWithin lo hi old d → lo ≤ at → at + n ≤ hi →
     hi ≤ length old → IsInWrite at n d m → IsWithin lo hi old m
 within_write lo hi at n old d m h low high long (inl e) = subst (λ y. IsWithin lo hi old y) (sym e) h
 within_write lo hi at n old d m h low high long (inr q) = subst (λ y. IsWithin lo hi old y) (sym q.2) (within_touched lo hi at n old q.0 d h low high long q.1)
 
--- what a crash then leaves is as long, and the same outside the stretch
+-- What a crash then leaves is as long, and the same outside the stretch.
 pub within_long : (lo hi : ℕ) (old image : List ℕ) (d : Disk) → IsWithin lo hi old d → MayLeave d image → length image ≡ length old
 within_long lo hi old image d h m = omega (arith, h.synced, h.longest, m.no_shorter, m.no_longer)
 
@@ -57,13 +57,13 @@ within_same lo hi old image d h m i low o = m.clean i (omega (arith, h.synced)) 
 pub stable_is : (bytes : List ℕ) → IsStable (stable bytes)
 stable_is bytes = record { kept = refl; longest = refl; dirty = refl }
 
--- of a disk with nothing unsynced a crash leaves just its bytes
+-- Of a disk with nothing unsynced a crash leaves just its bytes.
 pub stable_leaves : (d : Disk) (image : List ℕ) → IsStable d → MayLeave d image → image ≡ d.bytes
 stable_leaves d image h m =
     let n : length image ≡ length d.bytes = omega (arith, ap length h.kept, h.longest, m.no_shorter, m.no_longer) in
     ext_get_or 0 image d.bytes n (λ i low. m.clean i (omega (arith, ap length h.kept)) (ap (λ r. is_dirty r i) h.dirty))
 
--- a stretch that was written and synced
+-- A stretch that was written and synced.
 pub put_within : (at n : ℕ) (new old : List ℕ) → length new ≡ n → at + length new ≤ length old → IsWithin at (at + n) old (stable (put at new old))
 put_within at n new old l fits =
     let long : length (put at new old) ≡ length old = omega (arith, length_put at new old (omega arith)) in

@@ -29,7 +29,7 @@ slot_hidden k j image old low e n long same =
         (i < header_length + slot_length * k) ⊎ (header_length + slot_length * k + slot_length ≤ i)
     apart i l h = grind arith
 
--- while the other slot is written a crash leaves what was shown before
+-- While the other slot is written a crash leaves what was shown before.
 pub filling : (k : ℕ) (old : List ℕ) (d : Disk) → k < 2 → length old ≡ session_length → chosen old ≡ 1 - k →
     IsWithin (header_length + slot_length * k) (header_length + slot_length * k + slot_length) old d →
     CrashLeavesSuch (λ r. r ≡ recover old) d
@@ -68,14 +68,14 @@ pub in_filling_sync : (k : ℕ) (s t : Standing) (m : Moment) → IsFilling k s 
 in_filling_sync k s t m h w = in_moved_sync _ _ s t (λ r. r ≡ recover s.disk.bytes) m (moved k s t h)
     (λ d i. filling k s.disk.bytes d h.low h.made.long h.other i) w
 
--- the moments of what is written to such a slot, and then of what follows
+-- The moments of what is written to such a slot, and then of what follows.
 pub parts_on : (k : ℕ) (s t : Standing) (x y z : ℕ) (p q r : ℕ → Moment → Type 0) → IsStillFilling k s t →
     ((first : Standing) → IsFilling k first s → Passes x y p q (LeavesSame first)) →
     ((first : Standing) → IsFilling k first t → Passes y z q r (LeavesSame first)) →
     (first : Standing) → IsFilling k first s → Passes x z p r (LeavesSame first)
 parts_on k s t x y z p q r keeps one two first h = Passes_on _ _ _ _ _ _ _ _ (one first h) (two first (keeps first h)) (λ m i. i)
 
--- the bytes of the slot itself
+-- The bytes of the slot itself.
 pub wrote_slot : (k at a : ℕ) (new : List ℕ) (t u : Standing) → k < 2 → length t.disk.bytes ≡ session_length →
     at ≡ header_length + slot_length * k + a → a + length new ≤ slot_length →
     u ≡ wrote t (touched at (length new) new t.disk) (length new) →
@@ -94,7 +94,7 @@ wrote_nothing k at new bytes low long none fits = put_nothing at new (slot k byt
 
 -- ---- what stands once it is written ----
 
--- the slot alone was written
+-- The slot alone was written.
 pub filled_bytes : (k : ℕ) (new : List ℕ) (s t : Standing) → IsFilling k s t → length new ≡ slot_length →
     slot k t.disk.bytes ≡ new → t.disk.bytes ≡ put (start_of k) new s.disk.bytes
 filled_bytes k new s t h l e =
@@ -109,7 +109,7 @@ pub filled_stable : (k : ℕ) (new : List ℕ) (s t u : Standing) → IsFilling 
     u.disk ≡ stable (put (start_of k) new s.disk.bytes)
 filled_stable k new s t u h l e q = ap (λ x. x.disk) q ∙ ap stable (filled_bytes k new s t h l e)
 
--- and so the session is being filled, where nothing is unsynced
+-- And so the session is being filled, where nothing is unsynced.
 pub filling_put : (k : ℕ) (new : List ℕ) (s t : Standing) → k < 2 → IsSpare k s.disk.bytes → ChangesStoreOnly s t →
     length new ≡ slot_length → t.disk ≡ stable (put (start_of k) new s.disk.bytes) → IsFilling k s t
 filling_put k new s t low spare beside l e =

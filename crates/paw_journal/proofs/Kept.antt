@@ -103,8 +103,9 @@ is_kept bytes records state e =
       told = ap (λ l. changed (changes l) (base bytes)) r ∙ k.3;
     }
 
--- a slot that has a state shows it, in the form of its version
-pub sound_shows : (digests : Digests) (bytes : List ℕ) → has_state bytes ≡ true → slot_shows digests bytes ≡ Shown digests (shown_state bytes) (slot_piece bytes)
+-- A slot that has a state shows it, in the form of its version.
+pub sound_shows : (digests : Digests) (bytes : List ℕ) → has_state bytes ≡ true →
+    slot_shows digests bytes ≡ Shown digests (shown_state bytes) (slot_piece bytes)
 unfolding slot_shows
 sound_shows digests bytes e =
     let t = tests (two_byte_number 0 bytes) (first_unsound (slot_changes bytes)) e in
@@ -114,7 +115,7 @@ sound_shows digests bytes e =
     low : (n : ℕ) → n ≤ most_changes → nat_le n most_changes ≡ true
     low n h = grind (arith, nat_tests)
 
--- of the version that is written, it shows all bytes of its state
+-- Of the version that is written, it shows all bytes of its state.
 current_shown : (bytes : List ℕ) → is_current bytes ≡ true → shown_state bytes ≡ take state_length (slot_state bytes)
 unfolding zeros
 current_shown bytes e =
@@ -157,7 +158,7 @@ module _ (records at : ℕ) (bytes piece old : List ℕ) (long : length old ≡ 
   pub written_number : two_byte_number 0 (put 0 (slot_head records) (put PIECE_AT piece (put at bytes old))) ≡ records
   written_number = head_number records (put PIECE_AT piece (put at bytes old)) (omega arith)
 
-  -- the piece of a slot that was written
+  -- The piece of a slot that was written.
   pub written_piece : stretch PIECE_AT (length piece) (put 0 (slot_head records) (put PIECE_AT piece (put at bytes old))) ≡ piece
   written_piece =
       stretch_past PIECE_AT (length piece) 0 (slot_head records) (put PIECE_AT piece (put at bytes old)) (omega arith) (omega (arith, two))
@@ -175,7 +176,7 @@ module _ (records at : ℕ) (bytes piece old : List ℕ) (long : length old ≡ 
       stretch_past CHANGES_AT n 0 (slot_head records) (put PIECE_AT piece (put at bytes old)) (omega arith) (omega (arith, two))
       ∙ stretch_past CHANGES_AT n PIECE_AT piece (put at bytes old) (omega arith) (omega (arith, one))
 
--- the base whole
+-- The base whole.
 whole_gives : (state piece old : List ℕ) → length state ≡ base_length → length old ≡ slot_length →
     length piece ≤ 65535 →
     IsKept (put 0 (slot_head 0) (put PIECE_AT piece (put BASE_AT state old))) 0 state
@@ -228,7 +229,7 @@ takes_none true true c x e = absurd (cc e)
 takes_none true false c x e = refl
 takes_none false b c x e = refl
 
--- it adds change records where there is room for them
+-- It adds change records where there is room for them.
 takes_as : (n : ℕ) (was state old : List ℕ) → kept_slot old ≡ Some (record { records = n; state = was }) →
     takes_changes state old ≡ nat_le (n + differing was state) most_changes
 takes_as n was state old is =
@@ -263,7 +264,7 @@ exact_behind n c was state bytes piece old e d few is =
     low : (n c d : ℕ) → d ≡ c → n + c ≤ most_changes → nat_le (n + d) most_changes ≡ true
     low n c d e few = grind (arith, nat_tests)
 
--- what a commit writes
+-- What a commit writes.
 pub drafts_whole : (kept : Option SlotState) (state bytes : List ℕ) → bytes ≡ state → length state ≡ base_length →
     ((piece : List ℕ) → 4224 + length piece ≤ most_written kept state piece) →
     ((old : List ℕ) → kept_slot old ≡ kept → takes_changes state old ≡ false) →
@@ -292,7 +293,7 @@ drafts_behind n c was state bytes t l few = record {
         b + p + 4 ≤ (if nat_le (n + d) most_changes then 128 + p + 4 * d else 4224 + p)
     most n c d b p e l few = let h : nat_le (n + d) most_changes ≡ true = grind (arith, nat_tests) in rw h (omega arith)
 
--- where there is no state, or there are too many changes, the base is written whole
+-- Where there is no state, or there are too many changes, the base is written whole.
 pub drafts_base : (state bytes : List ℕ) → bytes ≡ state → length state ≡ base_length →
     Drafts None state bytes (record { at = 64; records = 0 })
 drafts_base state bytes e n = drafts_whole None state bytes e n (λ piece. omega arith)

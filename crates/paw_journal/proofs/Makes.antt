@@ -22,7 +22,7 @@ use Rattle.paw_journal.proofs.Disks.{within_long, within_same}
 use Rattle.paw_journal.proofs.Moved.{beside_none, beside_on, beside_wrote, in_write, in_sync, in_later, moved_none}
 use Rattle.paw_journal.proofs.Moved.{moved_wrote, in_moved_write, in_moved_sync}
 
--- a store that can't be longer than one byte holds no session
+-- A store that can't be longer than one byte holds no session.
 short_leaves : (d : Disk) → d.longest ≤ 1 → CrashLeavesSuch IsUnmade d
 short_leaves d h image l = unmade image (inl (λ q. omega (arith, l.no_longer)))
 
@@ -42,7 +42,7 @@ in_begun x n s t m h e w =
     let l : t.disk.longest ≤ 1 = let q : t.disk.longest ≡ max s.disk.longest 1 = ap (λ x. x.disk.longest) e in omega arith in
     in_later s t (CrashLeavesSuch IsUnmade) (CrashLeavesSuch IsUnmade) m (beside_wrote s t _ n e) (λ d p. p) (in_sync t IsUnmade m (short_leaves t.disk l) w)
 
--- where byte 0 is stable and 0, no crash leaves a session
+-- Where byte 0 is stable and 0, no crash leaves a session.
 pub blank_leaves : (held : List ℕ) (d : Disk) → IsBlank held d → CrashLeavesSuch IsUnmade d
 blank_leaves held d h image l =
     let z : session_mark image ≡ 0 = l.clean 0 (omega (arith, h.long)) h.clean ∙ h.blank in
@@ -84,7 +84,7 @@ pub length_zeros : (n : ℕ) → length (zeros n) ≡ n
 unfolding zeros
 length_zeros n = length-replicate n 0
 
--- both digests have 32 bytes
+-- Both digests have 32 bytes.
 abbrev pub AreLong : Digests → Type 0
 AreLong digests = (length digests.game ≡ 32) × (length digests.routines ≡ 32)
 
@@ -101,13 +101,13 @@ length_header first digests n = header (first ∷ 0 ∷ VERSION ∷ zeros 29) di
       length-append head game,
     )
 
--- bytes written over as many others
+-- Bytes written over as many others.
 put_over : (at : ℕ) (a b c new : List ℕ) → length a ≡ at → length new ≡ length b → put at new (a ++ b ++ c) ≡ a ++ new ++ c
 put_over at a b c new n m =
     ap (λ x. x ++ new ++ drop (at + length new) (a ++ b ++ c)) (ap (take at) (append_assoc a b c) ∙ take_at a (b ++ c) at n)
     ∙ ap (λ x. a ++ new ++ x) (drop_at (a ++ b) c (at + length new) (omega (arith, length-append a b)))
 
--- the digests written into a header that has none
+-- The digests written into a header that has none.
 pub header_is : (game routines : List ℕ) → length game ≡ 32 → length routines ≡ 32 →
     put 64 routines (put 32 game (0 ∷ 0 ∷ VERSION ∷ replicate 125 0)) ≡ made_header 0 (digests_of game routines)
 unfolding zeros
@@ -132,7 +132,7 @@ header_written digests header old n e o =
     ∙ (ap (λ h. 0 ∷ take 127 (drop 1 h)) e
     ∙ ap (λ x. 0 ∷ x) (take_all 127 (drop 1 (made_header 0 digests)) l)))
 
--- while the mark is written a crash leaves no session, or the one that is marked
+-- While the mark is written a crash leaves no session, or the one that is marked.
 pub marking : (old : List ℕ) (d : Disk) → length old ≡ session_length → IsWithin 0 1 old d →
     CrashLeavesSuch (λ r. IsUnmade r ⊎ (r ≡ recover (made_mark ∷ drop 1 old))) d
 marking old d long h image l =
@@ -187,7 +187,7 @@ module _ (a b : ℕ) (bytes : List ℕ) (s t : Standing) (blank : IsBlank s.disk
     end : b ≡ length t.disk.bytes
     end = next ∙ sym (end_length a bytes s t _ _ at first)
 
-    -- the moments of both writes
+    -- The moments of both writes.
     pub in_both_writes : (x y z : ℕ) (p q r : ℕ → Moment → Type 0) → Passes x y p q (InWrite s a (length bytes)) →
         Passes y z q r (InWrite t b (length bytes)) → Passes x z p r (LeavesUnmade s)
     in_both_writes x y z p q r one two =

@@ -58,7 +58,7 @@ in_write s at n P m f h =
       disk = f m.disk h.disk;
     }
 
--- inside a sync a crash leaves no more than before it
+-- Inside a sync a crash leaves no more than before it.
 pub in_sync : (s : Standing) (P : Recovered → Type 0) (m : Moment) → CrashLeavesSuch P s.disk → InSync s m → InStore s (CrashLeavesSuch P) m
 in_sync s P m f h = record {
   asked = h.asked;

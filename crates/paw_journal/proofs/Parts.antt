@@ -7,14 +7,14 @@ use Rattle.std.proofs.lemmas.List.{drop_all, take_all, append-nil, drop_at, get_
 use Rattle.paw_stage.specs.Disk.{put}
 use Rattle.paw_journal.specs.Session.{stretch}
 
--- the bytes of a stretch
+-- The bytes of a stretch.
 pub stretch_at : (at n : ℕ) (bytes : List ℕ) (i : ℕ) → i < n → get_or (stretch at n bytes) i 0 ≡ get_or bytes (at + i) 0
 stretch_at at n bytes i low = get_or-take n (drop at bytes) i 0 low ∙ get_or-drop at bytes i 0
 
 pub length_stretch : (at n : ℕ) (bytes : List ℕ) → length (stretch at n bytes) ≡ min n (length bytes - at)
 length_stretch at n bytes = length-take n (drop at bytes) ∙ ap (λ k. min n k) (length-drop at bytes)
 
--- a stretch is the same where its bytes are
+-- A stretch is the same where its bytes are.
 pub stretch_same : (at n : ℕ) (a b : List ℕ) → length a ≡ length b →
     ((i : ℕ) → at ≤ i → i < at + n → get_or a i 0 ≡ get_or b i 0) → stretch at n a ≡ stretch at n b
 stretch_same at n a b long same =
@@ -32,7 +32,7 @@ length_put at new old low = omega (
   length-drop (at + length new) old,
 )
 
--- a write leaves the bytes below it
+-- A write leaves the bytes below it.
 pub put_below : (at : ℕ) (new old : List ℕ) (i : ℕ) → at ≤ length old → i < at → get_or (put at new old) i 0 ≡ get_or old i 0
 put_below at new old i low h =
     let t : i < length (take at old) = omega (arith, length-take at old) in
@@ -40,7 +40,7 @@ put_below at new old i low h =
     ∙ (get_or_append_left (take at old) (new ++ drop (at + length new) old) 0 i t
     ∙ get_or-take at old i 0 h)
 
--- and those above it
+-- And those above it.
 pub put_above : (at : ℕ) (new old : List ℕ) (i : ℕ) → at ≤ length old → at + length new ≤ i → get_or (put at new old) i 0 ≡ get_or old i 0
 put_above at new old i low h =
     let n : length (take at old ++ new) ≡ at + length new = omega (arith, length-append (take at old) new, length-take at old) in
@@ -48,25 +48,25 @@ put_above at new old i low h =
     get_or-append_right (take at old ++ new) (drop (at + length new) old) (at + length new) i 0 n h
     ∙ (get_or-drop (at + length new) old (i - (at + length new)) 0 ∙ ap (λ k. get_or old k 0) e)
 
--- a write at the end of the store
+-- A write at the end of the store.
 pub put_end : (at : ℕ) (new old : List ℕ) → length old ≡ at → put at new old ≡ old ++ new
 put_end at new old h =
     ap (λ l. (take at old ++ new) ++ l) (drop_all (at + length new) old (omega arith))
     ∙ (append-nil (take at old ++ new) ∙ ap (λ l. l ++ new) (take_all at old (omega arith)))
 
--- what stands from the place of a write on
+-- What stands from the offset of a write on.
 pub drop_put : (at : ℕ) (new old : List ℕ) → at ≤ length old → drop at (put at new old) ≡ new ++ drop (at + length new) old
 drop_put at new old low =
     ap (drop at) (append_assoc (take at old) new (drop (at + length new) old))
     ∙ drop_at (take at old) (new ++ drop (at + length new) old) at (omega (arith, length-take at old))
 
--- a byte that was written alone
+-- A byte that was written alone.
 pub put_one : (at x : ℕ) (old : List ℕ) → at < length old → get_or (put at (x ∷ []) old) at 0 ≡ x
 put_one at x old low =
     ap (λ l. get_or l at 0) (append_assoc (take at old) (x ∷ []) (drop (at + 1) old))
     ∙ get_or_at (take at old) x (drop (at + 1) old) 0 at (omega (arith, length-take at old))
 
--- a stretch of a stretch
+-- A stretch of a stretch.
 pub stretch_stretch : (a n b m : ℕ) (bytes : List ℕ) → a + n ≤ m → stretch a n (stretch b m bytes) ≡ stretch (b + a) n bytes
 stretch_stretch a n b m bytes low =
     let e : a + (m - a) ≡ m = omega arith in

@@ -16,7 +16,7 @@ stretch_long at n bytes low = omega (arith, length_stretch at n bytes)
 pub put_long : (at : ℕ) (new old : List ℕ) → at + length new ≤ length old → length (put at new old) ≡ length old
 put_long at new old low = omega (arith, length_put at new old (omega arith))
 
--- a write leaves the stretches above it and below it
+-- A write leaves the stretches above it and below it.
 pub stretch_past : (s n at : ℕ) (new old : List ℕ) → at + length new ≤ s → at + length new ≤ length old → stretch s n (put at new old) ≡ stretch s n old
 stretch_past s n at new old low long = stretch_same s n (put at new old) old (put_long at new old long)
     (λ i l h. put_above at new old i (omega arith) (omega arith))
@@ -26,14 +26,14 @@ stretch_before s n at new old low long =
     stretch_same s n (put at new old) old (put_long at new old long)
     (λ i l h. put_below at new old i (omega arith) (omega arith))
 
--- and what was written stands there
+-- And what was written stands there.
 pub stretch_written : (at : ℕ) (new old : List ℕ) → at ≤ length old → stretch at (length new) (put at new old) ≡ new
 stretch_written at new old low = ap (take (length new)) (drop_put at new old low) ∙ take_at new (drop (at + length new) old) (length new) refl_length
   where
     refl_length : length new ≡ length new
     refl_length = omega arith
 
--- Bytes that are written at a place stand after what stood before it.
+-- Bytes that are written at an offset stand after what stood before it.
 pub stretch_behind : (s m at : ℕ) (new old : List ℕ) → at ≡ s + m → at + length new ≤ length old →
     stretch s (m + length new) (put at new old) ≡ stretch s m old ++ new
 stretch_behind s m at new old e long =
@@ -47,7 +47,7 @@ put_inside at new old j low h =
     sym (get_or-drop at (put at new old) j 0)
     ∙ (ap (λ l. get_or l j 0) (drop_put at new old low) ∙ get_or_append_left new (drop (at + length new) old) 0 j h)
 
--- a write inside a stretch
+-- A write inside a stretch.
 pub stretch_put : (s n a : ℕ) (new whole : List ℕ) → a + length new ≤ n → s + n ≤ length whole →
     stretch s n (put (s + a) new whole) ≡ put a new (stretch s n whole)
 stretch_put s n a new whole fits long =
@@ -77,7 +77,7 @@ stretch_put s n a new whole fits long =
           ∙ sym (ap (λ k. get_or (put a new (stretch s n whole)) k 0) f ∙ put_inside a new (stretch s n whole) (i - a) (omega arith) (omega arith)))
     ]
 
--- a write of no bytes
+-- A write of no bytes.
 pub put_nothing : (at : ℕ) (new old : List ℕ) → length new ≡ 0 → at ≤ length old → old ≡ put at new old
 put_nothing at new old none low = ext_get_or 0 old (put at new old) (sym (put_long at new old (omega arith))) (λ i l. sym (each at new old i none low))
   where
@@ -87,7 +87,7 @@ put_nothing at new old none low = ext_get_or 0 old (put at new old) (sym (put_lo
     each : (at : ℕ) (new old : List ℕ) (i : ℕ) → length new ≡ 0 → at ≤ length old → get_or (put at new old) i 0 ≡ get_or old i 0
     each at new old i none low = elim (order i at) [ inl h ↦ put_below at new old i low h | inr h ↦ put_above at new old i low (omega arith) ]
 
--- a slot that was written is as long as it was
+-- A slot that was written is as long as it was.
 pub rewritten_long : (at records : ℕ) (new piece bytes : List ℕ) → at + length new ≤ slot_length →
     length piece ≤ 65535 →
     length bytes ≡ slot_length → length (rewritten at new records piece bytes) ≡ slot_length
@@ -97,7 +97,7 @@ rewritten_long at records new piece bytes fits short long =
     put_long PIECE_AT piece (put at new bytes) (omega (arith, one)) ∙ one in
     put_long 0 (slot_head records) (put PIECE_AT piece (put at new bytes)) (omega (arith, two)) ∙ two
 
--- bytes of which only a stretch isn't as it was were written there
+-- Bytes of which only a stretch isn't as it was were written there.
 pub put_between : (at n : ℕ) (new old now : List ℕ) → length new ≡ n → at + n ≤ length old → length now ≡ length old →
     ((i : ℕ) → (i < at) ⊎ (at + n ≤ i) → get_or now i 0 ≡ get_or old i 0) → stretch at n now ≡ new → now ≡ put at new old
 put_between at n new old now l fits long same e =

@@ -17,7 +17,7 @@ pub recover_is : (k : ℕ) (a : List ℕ) → chosen a ≡ k → recover a ≡ r
 unfolding recover
 recover_is k a e = ap (λ j. recover_by j a) e
 
--- digests are the same where both are
+-- Digests are the same where both are.
 pub both_digests : (g h r s : List ℕ) → g ≡ h → r ≡ s → digests_of g r ≡ digests_of h s
 both_digests g h r s e f = ap (λ x. digests_of x r) e ∙ ap (digests_of h) f
 
@@ -34,7 +34,7 @@ pub recover_by_parts : (k : ℕ) (a b : List ℕ) → length a ≡ length b → 
 unfolding recover_by
 recover_by_parts k a b n m v d s = cc
 
--- so they are the same where the header, but for the selector, and the slot are
+-- So they are the same where the header, but for the selector, and the slot are.
 pub recover_by_same : (k : ℕ) (a b : List ℕ) → length a ≡ length b →
     ((i : ℕ) → i < header_length → i ≢ 1 → get_or a i 0 ≡ get_or b i 0) →
     ((i : ℕ) → header_length + slot_length * k ≤ i → i < header_length + slot_length * k + slot_length →
@@ -44,12 +44,12 @@ recover_by_same k a b n header slots =
     (same_digests a b n (λ i low high. header i (omega arith) (λ e. omega arith)))
     (stretch_same _ _ a b n slots)
 
--- a session that is made stands for what its slot shows
+-- A session that is made stands for what its slot shows.
 pub recover_made : (k : ℕ) (a : List ℕ) → IsMade a → recover_by k a ≡ slot_shows (kept_digests a) (slot k a)
 unfolding recover_by
 recover_made k a h = rw (h.long, h.marked, h.versioned) refl
 
--- bytes of another length, or without the mark, are no session
+-- Bytes of another length, or without the mark, are no session.
 pub unmade_is : (a : List ℕ) → (length a ≢ session_length) ⊎ (session_mark a ≢ made_mark) → recover a ≡ Unmade (length a) (session_mark a)
 unfolding recover recover_by
 unmade_is a h = unless (length a == session_length) (session_mark a == made_mark) _ _
@@ -64,7 +64,7 @@ unmade_is a h = unless (length a == session_length) (session_mark a == made_mark
 pub unmade : (a : List ℕ) → (length a ≢ session_length) ⊎ (session_mark a ≢ made_mark) → IsUnmade (recover a)
 unmade a h = let e = unmade_is a h in rw e tt
 
--- bytes that show a state and a piece are those of a session that is made
+-- Bytes that show a state and a piece are those of a session that is made.
 pub shown_made : (bytes : List ℕ) (digests : Digests) (state piece : List ℕ) → recover bytes ≡ Shown digests state piece → IsMade bytes
 unfolding recover recover_by
 shown_made bytes digests state piece e =

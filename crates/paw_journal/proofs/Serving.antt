@@ -9,7 +9,7 @@ use Rattle.paw_stage.proofs.Counted.{Faulted_same, Faulted_on}
 
 -- ---- lists ----
 
--- one of a list of one
+-- One of a list of one.
 pub the_only_one : {A : Type 0} (x y : A) → IsOneOf (y ∷ []) x → x ≡ y
 the_only_one x y (inl e) = e
 the_only_one x y (inr h) = absurd h
@@ -20,35 +20,35 @@ in_front [] more x h = absurd h
 in_front (y ∷ few) more x (inl e) = inl e
 in_front (y ∷ few) more x (inr h) = inr (in_front few more x h)
 
--- or before
+-- Or before.
 pub behind : {A : Type 0} (more few : List A) (x : A) → IsOneOf few x → IsOneOf (more ++ few) x
 behind [] few x h = h
 behind (y ∷ more) few x h = inr (behind more few x h)
 
 -- ---- calls ----
 
--- no call
+-- No call.
 pub serves_none : {S : Type 0} (g : Ghosts S) (calls : List StageCall) (s : S) → FailsOnlyBy g calls None s s
 serves_none g calls s = record { tells = (λ t. t, λ t. t); faulted = Faulted_same (g.faults s); among = tt }
 
--- a call that didn't fail
+-- A call that didn't fail.
 pub serves_done : {S : Type 0} (g : Ghosts S) (old new : S) → g.Tells old ↔ g.Tells new → CountsFailure None (g.faults old) (g.faults new) →
     FailsOnlyBy g [] None old new
 serves_done g old new t f = record { tells = t; faulted = f; among = tt }
 
--- calls that are among more
+-- Calls that are among more.
 pub serves_among : {S : Type 0} (g : Ghosts S) (few many : List StageCall) (failed : Option StageCall) (old new : S) →
     ((c : StageCall) → IsOneOf few c → IsOneOf many c) → FailsOnlyBy g few failed old new → FailsOnlyBy g many failed old new
 serves_among g few many None old new h s = record { tells = s.tells; faulted = s.faulted; among = tt }
 serves_among g few many (Some c) old new h s = record { tells = s.tells; faulted = s.faulted; among = h c s.among }
 
--- calls none of which failed, and then an answer that names none
+-- Calls none of which failed, and then an answer that names none.
 pub serves_still : {S : Type 0} (g : Ghosts S) (few many : List StageCall) (failed : Option StageCall) (old new : S) → failed ≡ None →
     FailsOnlyBy g few None old new → FailsOnlyBy g many failed old new
 serves_still g few many failed old new e s =
     subst (λ f. FailsOnlyBy g many f old new) (sym e) (record { tells = s.tells; faulted = s.faulted; among = tt })
 
--- calls none of which failed, and then others
+-- Calls none of which failed, and then others.
 pub serves_then : {S : Type 0} (g : Ghosts S) (first next : List StageCall) (failed : Option StageCall) (old mid new : S) →
     FailsOnlyBy g first None old mid → FailsOnlyBy g next failed mid new → FailsOnlyBy g next failed old new
 serves_then g first next failed old mid new a b = record {

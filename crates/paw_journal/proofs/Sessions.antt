@@ -72,7 +72,7 @@ made_piece state piece n =
     head : (z state : List ℕ) → length z ≡ 64 → length state ≡ base_length → length (z ++ state) ≡ PIECE_AT
     head z state h n = omega (arith, length-append z state)
 
--- a slot that is made has its state, and shows it with its piece
+-- A slot that is made has its state, and shows it with its piece.
 made_slot_kept : (state piece : List ℕ) → length state ≡ base_length → IsKept (made_slot state piece) 0 state
 made_slot_kept state piece n = record { current = refl; number = no_changes state piece; few = omega arith; sound = refl; told = made_base state piece n }
 
@@ -122,7 +122,8 @@ made_digests digests slots behind n =
         ap (λ x. take 32 (drop 64 x)) (regroup (h ++ g) r z s t)
         ∙ (ap (take 32) (drop_at (h ++ g) _ 64 (omega (arith, length-append h g))) ∙ take_at r _ 32 m)
 
-made_long : (digests : Digests) (slots : List ℕ) → AreLong digests → length slots ≡ slot_length → length (made_header made_mark digests ++ slots ++ slots) ≡ session_length
+made_long : (digests : Digests) (slots : List ℕ) → AreLong digests → length slots ≡ slot_length →
+    length (made_header made_mark digests ++ slots ++ slots) ≡ session_length
 made_long digests slots n l = omega (
   arith,
   length-append (made_header made_mark digests ++ slots) slots,
@@ -131,7 +132,8 @@ made_long digests slots n l = omega (
   length_header made_mark digests n,
 )
 
-pub laid_long : (digests : Digests) (slots : List ℕ) → AreLong digests → length slots ≡ slot_length → length (made_header 0 digests ++ slots ++ slots) ≡ session_length
+pub laid_long : (digests : Digests) (slots : List ℕ) → AreLong digests → length slots ≡ slot_length →
+    length (made_header 0 digests ++ slots ++ slots) ≡ session_length
 laid_long digests slots n l = omega (
   arith,
   length-append (made_header 0 digests ++ slots) slots,
@@ -157,18 +159,19 @@ session_shows digests state piece n m few names =
     ∙ (ap (slot_shows digests) (made_slot_zero digests s s n l) ∙ made_slot_shows digests state piece m names)))
 
 -- What a header and the slot that it chooses say of the whole.
-pub introduced_shows : (k : ℕ) (digests : Digests) (held bytes : List ℕ) → Introduces k digests bytes → held ≡ slot k bytes → recover bytes ≡ slot_shows digests held
+pub introduced_shows : (k : ℕ) (digests : Digests) (held bytes : List ℕ) → Introduces k digests bytes → held ≡ slot k bytes →
+    recover bytes ≡ slot_shows digests held
 introduced_shows k digests held bytes h e =
     recover_is k bytes (sym h.slot)
     ∙ (recover_made k bytes h.made
     ∙ (ap (λ d. slot_shows d (slot k bytes)) (sym h.digests) ∙ ap (slot_shows digests) (sym e)))
 
--- two calls that change nothing
+-- Two calls that change nothing.
 pub still_on : (b n n' : ℕ) (past since since' : ℕ → Moment → Type 0) (s t : Standing) → t ≡ s →
     Passes b n past since (Still s) → Passes n n' since since' (Still t) → Passes b n' past since' (Still s)
 still_on b n n' past since since' s t e h k = Passes_on b n n' past since since' (Still s) (Still t) h k (λ m q. q ∙ ap moment_of e)
 
--- what a crash leaves of one of two sessions, in other words
+-- What a crash leaves of one of two sessions, in other words.
 pub in_either : (s t : Standing) (a b x y : Recovered) (m : Moment) → ChangesStoreOnly s t → a ≡ x → b ≡ y →
     InStore t (CrashLeavesSuch (IsOldOrNew a b)) m → InStore s (CrashLeavesSuch (IsOldOrNew x y)) m
 in_either s t a b x y m h e f i = in_later s t (CrashLeavesSuch (IsOldOrNew a b)) (CrashLeavesSuch (IsOldOrNew x y)) m h
@@ -187,7 +190,7 @@ pub in_unmade_or : (s t : Standing) (a b : Recovered) (m : Moment) → ChangesSt
 in_unmade_or s t a b m h e i = in_later s t (CrashLeavesSuch (λ r. IsUnmade r ⊎ (r ≡ a))) (CrashLeavesSuch (λ r. IsUnmade r ⊎ (r ≡ b))) m
     h (λ d p image l. elim (p image l) [ inl q ↦ inl q | inr q ↦ inr (q ∙ e) ]) i
 
--- a digest that was found is another one, or the one that was looked for
+-- A digest that was found is another one, or the one that was looked for.
 pub other_digest : (kept found : List ℕ) (ne : Bool) → ne ≡ true → ne ≡ not (bytes_eq kept found) → kept ≢ found
 other_digest kept found ne t e q = differs ne _ t e ((bytes_eq-Decides kept found).1 q)
   where
@@ -202,7 +205,7 @@ same_digest kept found ne f e = (bytes_eq-Decides kept found).0 (same ne _ f e)
     same ne true f e = refl
     same ne false f e = absurd (cc (f, e))
 
--- so is one that stands for routines that were measured, or for none
+-- So is one that stands for routines that were measured, or for none.
 pub measured : (kept : List ℕ) (ne : Bool) → ne ≡ true → ne ≡ not (bytes_eq kept (replicate 32 0)) → kept ≢ zeros 32
 unfolding zeros
 measured kept ne t e = other_digest kept (replicate 32 0) ne t e
@@ -211,7 +214,7 @@ pub unmeasured : (kept : List ℕ) (ne : Bool) → ne ≡ false → ne ≡ not (
 unfolding zeros
 unmeasured kept ne f e = same_digest kept (replicate 32 0) ne f e
 
--- the session is kept where it was found
+-- The session is kept where it was found.
 pub found_keeps : (w : Slot) (digests : Digests) (room : Room) (s t : Standing) → IsAtRest s → t ≡ s →
     Introduces (slot_number w) digests s.disk.bytes →
     recover s.disk.bytes ≡ Shown digests (take state_length room.state) room.piece → KeepsSlots room s.disk.bytes →
@@ -223,7 +226,7 @@ found_keeps w digests room s t r e h f slots = subst (λ u. KeptIn (record { slo
   slots = slots;
 })
 
--- the states of both slots, once both were read
+-- The states of both slots, once both were read.
 pub found_slots : (w o : Slot) (bytes a b : List ℕ) (one two three four : Room) (state piece : List ℕ) →
     slot_number o ≡ 1 - slot_number w → two ≡ with_slot_kept w (kept_slot a) (record one { state = state; piece = piece }) →
     three ≡ record two { slot = three.slot } → four ≡ with_slot_kept o (kept_slot b) three → a ≡ slot (slot_number w) bytes →
@@ -239,7 +242,7 @@ found_slots which.Second which.First bytes a b one two three four state piece n 
 found_slots which.First which.First bytes a b one two three four state piece n e f g h k = absurd (omega arith)
 found_slots which.Second which.Second bytes a b one two three four state piece n e f g h k = absurd (omega arith)
 
--- what the room shows is what it showed before the other slot was read
+-- What the room shows is what it showed before the other slot was read.
 pub shown_stays : (digests : Digests) (r : Recovered) (o : Slot) (kept : Option SlotState) (two three four : Room) →
     r ≡ Shown digests (take state_length two.state) two.piece → three ≡ record two { slot = three.slot } →
     four ≡ with_slot_kept o kept three → r ≡ Shown digests (take state_length four.state) four.piece
@@ -252,7 +255,7 @@ shown_stays digests r o kept two three four s e f =
 pub short_piece : (state piece : List ℕ) → ((i : ℕ) → get_or state i 0 < 256) → piece_length state ≡ length piece → length piece ≤ 65535
 short_piece state piece bytes e = omega (arith, bytes PIECE_LENGTH_AT, bytes (PIECE_LENGTH_AT + 1))
 
--- what is laid out, once it is marked, is the session
+-- What is laid out, once it is marked, is the session.
 pub marked_session : (digests : Digests) (slots state piece : List ℕ) (d : Disk) →
     d ≡ stable (made_header 0 digests ++ slots ++ slots) → slots ≡ made_slot state piece →
     made_mark ∷ drop 1 d.bytes ≡ made_session digests state piece
@@ -270,7 +273,7 @@ made_slots digests state piece room f g n m few =
       second = g ∙ (sym k ∙ ap kept_slot (sym (made_slot_one digests (made_slot state piece) (made_slot state piece) n l l)));
     }
 
--- and it is kept
+-- And it is kept.
 pub made_keeps : (digests : Digests) (state piece bytes : List ℕ) (room : Room) (s t : Standing) → IsAtRest s →
     t.attached ≡ s.attached → t.disk ≡ stable bytes → bytes ≡ made_session digests state piece → room.state ≡ state →
     room.piece ≡ piece → room.first ≡ Some (record { records = 0; state = state }) →

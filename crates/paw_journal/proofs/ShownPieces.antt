@@ -17,7 +17,7 @@ use Rattle.paw_journal.proofs.Recovers.{shown_made, recover_is, recover_made}
 use Rattle.paw_journal.proofs.Fills.{slot_long}
 use Rattle.paw_journal.proofs.Slots.{state_long, form_bounds, form_names}
 
--- in the form of each version a state has as many bytes
+-- In the form of each version a state has as many bytes.
 form_long : (n : ℕ) (state : List ℕ) → n ≤ state_length → length state ≡ base_length →
     length (take n state ++ zeros (state_length - n)) ≡ state_length
 form_long n state few long =
@@ -52,11 +52,11 @@ of_chosen bytes digests state piece e =
     (sym (recover_is (chosen bytes) bytes refl ∙ recover_made (chosen bytes) bytes made) ∙ e) in
     (p.0, p.1, p.2, slot_long (chosen bytes) bytes (omega arith) made.long)
 
--- the digests that are shown are those that the header keeps
+-- The digests that are shown are those that the header keeps.
 pub shown_digests : (bytes : List ℕ) (digests : Digests) (state piece : List ℕ) → recover bytes ≡ Shown digests state piece → kept_digests bytes ≡ digests
 shown_digests bytes digests state piece e = (of_chosen bytes digests state piece e).0
 
--- a state that is shown has 3,419 bytes
+-- A state that is shown has 3,419 bytes.
 pub shown_whole : (bytes : List ℕ) (digests : Digests) (state piece : List ℕ) →
     recover bytes ≡ Shown digests state piece → length state ≡ state_length
 shown_whole bytes digests state piece e =
@@ -64,8 +64,9 @@ shown_whole bytes digests state piece e =
     let s = slot (chosen bytes) bytes in
     ap length (sym h.1) ∙ form_long (form_length (slot_version s)) (slot_state s) (form_bounds (slot_version s)).1 (state_long s h.3)
 
--- and the piece is as long as the state says
-pub shown_long : (bytes : List ℕ) (digests : Digests) (state piece : List ℕ) → recover bytes ≡ Shown digests state piece → piece_length state ≤ 81920 → length piece ≡ piece_length state
+-- And the piece is as long as the state says.
+pub shown_long : (bytes : List ℕ) (digests : Digests) (state piece : List ℕ) → recover bytes ≡ Shown digests state piece →
+    piece_length state ≤ 81920 → length piece ≡ piece_length state
 shown_long bytes digests state piece e few =
     let h = of_chosen bytes digests state piece e in
     let s = slot (chosen bytes) bytes in
@@ -79,7 +80,7 @@ shown_long bytes digests state piece e few =
     there : (k d l m : ℕ) → d ≡ l - PIECE_AT → l ≡ slot_length → m ≡ k → m ≤ 81920 → k ≤ d
     there k d l m e f n few = omega arith
 
--- so is a piece that stands beside a buffer whose first bytes are the state
+-- So is a piece that stands beside a buffer whose first bytes are the state.
 pub buffer_long : (bytes : List ℕ) (digests : Digests) (buffer piece : List ℕ) (n : ℕ) →
     recover bytes ≡ Shown digests (take state_length buffer) piece → piece_length buffer ≡ n → n < 65536 → length piece ≡ n
 buffer_long bytes digests buffer piece n e is low =

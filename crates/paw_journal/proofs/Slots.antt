@@ -39,7 +39,7 @@ added_zeros was now n k count l e ok is =
     is ∙ (ap (λ b. if is_ok b then take n was ++ replicate (n - k) 0 else was) ok
     ∙ (ap (λ y. y ++ replicate (n - k) 0) (take_all n was (omega arith)) ∙ ap (λ j. was ++ replicate j 0) m))
 
--- what a read of a slot gives
+-- What a read of a slot gives.
 pub read_slot : (k at n m : ℕ) (into rest whole : List ℕ) → k < 2 → at ≡ header_length + slot_length * k →
     n ≡ slot_length → m ≡ slot_length → length whole ≡ session_length → into ≡ take m (drop at whole) →
     take n (into ++ rest) ≡ slot k whole
@@ -52,8 +52,9 @@ read_slot k at n m into rest whole low e p q long r =
     slot_is_whole : (l k n size : ℕ) → k < 2 → n ≡ slot_length → size ≡ session_length → l ≡ min slot_length (size - (header_length + slot_length * k)) → l ≡ n
     slot_is_whole l k n size low p long e = omega arith
 
--- what a slot shows, by its change records
-pub too_many : (digests : Digests) (bytes : List ℕ) (count : ℕ) → count ≡ two_byte_number 0 bytes → most_changes < count → slot_shows digests bytes ≡ Damaged part.Slot 0
+-- What a slot shows, by its change records.
+pub too_many : (digests : Digests) (bytes : List ℕ) (count : ℕ) → count ≡ two_byte_number 0 bytes → most_changes < count →
+    slot_shows digests bytes ≡ Damaged part.Slot 0
 unfolding slot_shows
 too_many digests bytes count e h =
     let f : nat_le (two_byte_number 0 bytes) most_changes ≡ false = above (two_byte_number 0 bytes) count e h in
@@ -157,7 +158,7 @@ room_behind q r s state piece n a b d e long few f k =
       length_zeros 61,
     )
 
--- what is shown stays in the room while slots are kept in it
+-- What is shown stays in the room while slots are kept in it.
 pub state_stays : (w : Slot) (kept : Option SlotState) (room : Room) → (with_slot_kept w kept room).state ≡ room.state
 state_stays which.First kept room = refl
 state_stays which.Second kept room = refl
@@ -183,7 +184,7 @@ form_bounds version = bounds (version == VERSION)
     bounds true = (lit≤ tt, lit≤ tt)
     bounds false = (lit≤ tt, lit≤ tt)
 
--- the first n bytes of a state, and zeros
+-- The first n bytes of a state, and zeros.
 brought_shown : (n : ℕ) (state : List ℕ) → n ≤ state_length → length state ≡ base_length →
     take state_length (take n state ++ zeros (base_length - n)) ≡ take n state ++ zeros (state_length - n)
 unfolding zeros
@@ -195,7 +196,7 @@ brought_shown n state few long =
     ∙ (take-append-add (take n state) left (state_length - n)
     ∙ ap (λ z. take n state ++ z) (take-replicate (state_length - n) (base_length - n) 0 (omega arith)))
 
--- these are what is put together of them
+-- These are what is put together of them.
 pub brought_is : (n k : ℕ) (front state : List ℕ) → k ≡ n → front ≡ take k state →
     front ++ drop k (replicate base_length 0) ≡ take n state ++ zeros (base_length - n)
 unfolding zeros
@@ -216,14 +217,14 @@ form_names n count state many few long =
     ∙ get_or-take n state (PIECE_LENGTH_AT + 1) 0 (omega arith) in
     omega (arith, a, b)
 
--- a slot that was read, and the state that was taken out of it
+-- A slot that was read, and the state that was taken out of it.
 module _ (w : Slot) (kept : SlotState) (old shown now : Room) (n : length old.slot ≡ slot_length)
     (t : has_state old.slot ≡ true) (k : kept ≡ record { records = two_byte_number 0 old.slot; state = slot_state old.slot })
   where
     told : kept.state ≡ slot_state old.slot
     told = ap (λ x. x.state) k
 
-    -- of the version that is written
+    -- Of the version that is written.
     pub taken_shows : (digests : Digests) → is_current old.slot ≡ true →
         shown ≡ record old { state = kept.state; piece = stretch PIECE_AT (piece_length kept.state) old.slot } →
         now ≡ with_slot_kept w (Some kept) shown →
@@ -251,7 +252,7 @@ module _ (w : Slot) (kept : SlotState) (old shown now : Room) (n : length old.sl
         ∙ ap (λ l. record old { state = now.state; piece = l }) (sym b)) in
         f ∙ (ap (λ x. with_slot_kept w x shown) q ∙ ap (with_slot_kept w (kept_slot old.slot)) r)
 
-    -- of any version
+    -- Of any version.
     pub brought_shows : (digests : Digests) (state : List ℕ) →
         state ≡ take (form_length (slot_version old.slot)) kept.state ++ zeros (base_length - form_length (slot_version old.slot)) →
         shown ≡ record old { state = state; piece = stretch PIECE_AT (piece_length state) old.slot } →
@@ -272,7 +273,7 @@ module _ (w : Slot) (kept : SlotState) (old shown now : Room) (n : length old.sl
         sound_shows digests old.slot t
         ∙ (ap (λ l. Shown digests l (slot_piece old.slot)) (sym c) ∙ ap (Shown digests (take state_length now.state)) (sym p))
 
-    -- of an older one
+    -- Of an older one.
     pub brought_kept : (state : List ℕ) → is_current old.slot ≡ false →
         shown ≡ record old { state = state; piece = stretch PIECE_AT (piece_length state) old.slot } →
         now ≡ with_slot_kept w None shown → now
@@ -286,7 +287,7 @@ module _ (w : Slot) (kept : SlotState) (old shown now : Room) (n : length old.sl
         ∙ ap (λ l. record old { state = now.state; piece = l }) (sym b)) in
         f ∙ (ap (λ x. with_slot_kept w x shown) (sym (kept_of_older old.slot e)) ∙ ap (with_slot_kept w (kept_slot old.slot)) r)
 
--- what is kept of a slot that was read
+-- What is kept of a slot that was read.
 pub kept_is_none : (bytes : List ℕ) → has_state bytes ≡ false → None ≡ kept_slot bytes
 kept_is_none bytes e = sym (kept_of_broken bytes e)
 

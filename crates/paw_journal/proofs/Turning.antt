@@ -27,7 +27,7 @@ pub changed-append : (a b : List Change) (bytes : List ℕ) → changed (a ++ b)
 changed-append [] b bytes = refl
 changed-append (c ∷ a) b bytes = changed-append a b (slice_set bytes c.at c.byte)
 
--- the first one that isn't sound, of two lists of changes that are all sound
+-- The first one that isn't sound, of two lists of changes that are all sound.
 none_of : (b : Bool) (i : ℕ) (r : Option ℕ) → cond b (Some i) r ≡ None → (b ≡ false) × (r ≡ None)
 none_of true i r e = absurd (cc e)
 none_of false i r e = (refl, e)
@@ -58,7 +58,7 @@ sound_one c low e =
     first true e = refl
     first false e = absurd (cc e)
 
--- one position more
+-- One position more.
 differing-append : (a b : List ℕ) (x y : ℕ) → length a ≡ length b → differing (a ++ x ∷ []) (b ++ y ∷ []) ≡ differing a b + (if x == y then 0 else 1)
 unfolding differing
 differing-append [] [] x y e = omega arith
@@ -66,7 +66,7 @@ differing-append [] (z ∷ b) x y e = absurd (omega arith)
 differing-append (w ∷ a) [] x y e = absurd (omega arith)
 differing-append (w ∷ a) (z ∷ b) x y e = omega (arith, differing-append a b x y (omega arith))
 
--- the change records from one place on, where the bytes there are the same or differ
+-- The change records from one offset on, where the bytes there are the same or differ.
 difference_step : (old new : List ℕ) (i : ℕ) → length old ≡ length new → i < length old → (t : Bool) →
     (get_or old i 0 == get_or new i 0) ≡ t →
     differences_from i (drop i old) (drop i new)

@@ -25,11 +25,11 @@ slot_length = SLOT_LENGTH
 abbrev pub session_length : ℕ
 session_length = SESSION_LENGTH
 
--- The n bytes from a place on.
+-- The n bytes from an offset on.
 abbrev pub stretch : ℕ → ℕ → Bytes → Bytes
 stretch at n bytes = take n (drop at bytes)
 
--- The number of 16 bits at a place, its low byte first.
+-- The number of 16 bits at an offset, its low byte first.
 abbrev pub two_byte_number : ℕ → Bytes → ℕ
 two_byte_number at bytes = slice_index bytes at + 256 * slice_index bytes (at + 1)
 
@@ -94,13 +94,13 @@ is_current bytes = slot_version bytes == VERSION
 abbrev pub base : Bytes → Bytes
 base bytes = stretch BASE_AT base_length bytes
 
--- A change record: the place of a byte of the base, the byte that stands there from then on, and a byte that is 0.
+-- A change record: the offset of a byte of the base, the byte that stands there from then on, and a byte that is 0.
 pub record Change : Type 0 where
   pub at : ℕ
   pub byte : ℕ
   pub last : ℕ
 
--- Whether a change is sound: its place is one of the base, and its last byte is 0.
+-- Whether a change is sound: its offset is one of the base, and its last byte is 0.
 abbrev pub is_sound : Change → Bool
 is_sound c = nat_lt c.at base_length && (c.last == 0)
 
@@ -157,7 +157,7 @@ piece_length state = two_byte_number PIECE_LENGTH_AT state
 abbrev pub slot_piece : Bytes → Text
 slot_piece bytes = stretch PIECE_AT (piece_length (slot_state bytes)) bytes
 
--- What the bytes of a store stand for: no session (with their length and mark); a damaged one (with the place of the
+-- What the bytes of a store stand for: no session (with their length and mark); a damaged one (with the offset of the
 -- first broken rule); or one that shows a state and a piece (with the digests that it keeps).
 pub data Recovered : Type 0 where
   Unmade : (length mark : ℕ) → Recovered
@@ -209,23 +209,23 @@ made_header mark digests = mark ∷ 0 ∷ VERSION ∷ zeros 29 ++ digests.game +
 abbrev pub made_session : Digests → Bytes → Text → Bytes
 made_session digests state piece = made_header made_mark digests ++ made_slot state piece ++ made_slot state piece
 
--- The number of places at which two states differ.
+-- The number of offsets at which two states differ.
 unfoldable pub differing : Bytes → Bytes → ℕ
 differing (x ∷ old) (y ∷ new) = (if x == y then 0 else 1) + differing old new
 differing old new = 0
 
--- A change record in its four bytes: this byte replaces the one at this place.
+-- A change record in its four bytes: this byte replaces the one at this offset.
 abbrev pub change_bytes : ℕ → ℕ → Bytes
 change_bytes at byte = (at % 256) ∷ (at / 256) ∷ byte ∷ 0 ∷ []
 
--- The change records that turn one state into another, as bytes: one for each byte that differs, in rising order. Both
--- states are given from this place on.
+-- The change records that lead from one state to another, as bytes: one for each byte that differs, in rising order.
+-- Both states are given from this offset on.
 unfoldable pub differences_from : ℕ → Bytes → Bytes → Bytes
 differences_from at (x ∷ old) (y ∷ new) =
     (if x == y then [] else change_bytes at y) ++ differences_from (suc at) old new
 differences_from at old new = []
 
--- The change records that turn one whole state into another, as bytes.
+-- The change records that lead from one whole state to another, as bytes.
 abbrev pub differences : Bytes → Bytes → Bytes
 differences old new = differences_from 0 old new
 
@@ -233,8 +233,8 @@ differences old new = differences_from 0 old new
 abbrev pub slot_head : ℕ → Bytes
 slot_head records = (records % 256) ∷ (records / 256) ∷ VERSION ∷ []
 
--- A slot once it is given the version that is written, this number of change records, this piece, and these bytes at a
--- place. All its other bytes stay.
+-- A slot once it is given the version that is written, this number of change records, this piece, and these bytes at an
+-- offset. All its other bytes stay.
 abbrev pub rewritten : ℕ → Bytes → ℕ → Text → Bytes → Bytes
 rewritten at new records piece bytes = put 0 (slot_head records) (put PIECE_AT piece (put at new bytes))
 

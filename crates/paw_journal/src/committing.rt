@@ -1,4 +1,4 @@
-// The steps of a commit: the slot that isn't in use, and then the selector.
+// The writes of a commit: the slot that isn't in use, and then the selector.
 
 ghost use Rattle.std.specs.Prelude.{◌≡◌, ◌+◌, ◌-◌, ◌≤◌, length, IsSome, OnOk};
 ghost use Rattle.paw_base.specs.declared.limits.TheConstants.{PIECE_LIMIT};
@@ -52,7 +52,7 @@ fn head_of(records: u16) -> [u8; 3]
     [(records % 256) as u8, (records / 256) as u8, VERSION]
 }
 
-// Writes bytes into a slot, from a place in it on. An empty list makes no write.
+// Writes bytes into a slot, from an offset in it on. An empty list makes no write.
 fn write_part<S: Stage>(
     stage: &mut S,
     which: Slot,

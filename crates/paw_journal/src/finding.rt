@@ -34,8 +34,8 @@ impl Header {
     /// Whether the session belongs to the game and the routines with these digests.
     ///
     /// # Errors
-    /// WrongGame where it is of another game. WrongRoutines where it is of this one, but is measured and was played with
-    /// other routines.
+    /// WrongGame where it is of another game. WrongRoutines where it is of this one, but is measured and was played
+    /// with other routines.
     pub(crate) fn belongs_to(&self, game: &[u8; 32], rules: &[u8; 32]) -> Result<(), JournalRefusal>
         ensures belongs { OnOk result (BelongsTo game.now rules.now (header_digests self.now)) }
         ensures refused { (r : Recovered) (state piece : Bytes) → r ≡ Shown (header_digests self.now) state piece →
@@ -134,7 +134,7 @@ fn header_in(bytes: &[u8; HEADER_LENGTH]) -> Result<Header, JournalRefusal>
     })
 }
 
-// The digest that stands in a header at this place.
+// The digest that stands in a header at this offset.
 fn digest_at(bytes: &[u8; HEADER_LENGTH], at: usize) -> [u8; DIGEST_LENGTH]
     requires inside { at + 32 ≤ header_length }
     ensures value { result ≡ stretch at 32 bytes.now }

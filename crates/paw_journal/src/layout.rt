@@ -47,7 +47,7 @@ pub(crate) const MOST_CHANGES: usize = 4_096;
 
 pub(crate) const CHANGE_LENGTH: usize = 4;
 
-/// The number of 16 bits at a place, its low byte first.
+/// The number of 16 bits at an offset, its low byte first.
 pub(crate) fn number_at(bytes: &[u8], at: usize) -> usize
     requires within { at + 1 < length bytes.now }
     ensures value { result ≡ two_byte_number at bytes.now }

@@ -1,4 +1,4 @@
-// The steps of making a session: a store with byte 0 as 0, the rest of it, and then its mark.
+// The writes that make a session: a store with byte 0 as 0, the rest of it, and then its mark.
 
 ghost use Rattle.std.specs.Prelude.{◌≡◌, ◌+◌, ◌≤◌, [], ◌∷◌, length, IsSome, OnOk};
 ghost use Rattle.paw_stage.specs.Disk.{put};
@@ -56,7 +56,7 @@ fn header_of(game: &[u8; 32], rules: &[u8; 32]) -> [u8; HEADER_LENGTH]
     header
 }
 
-// Writes a digest into a header, at this place.
+// Writes a digest into a header, at this offset.
 fn put_digest(header: &mut [u8; HEADER_LENGTH], at: usize, digest: &[u8; DIGEST_LENGTH])
     requires inside { at + 32 ≤ header_length }
     ensures value { header.new ≡ put at digest.now header.old }

@@ -18,7 +18,7 @@ use paw_base::layout::{FIRST_LENGTH, STATE_LENGTH};
 /// The state of a slot with these bytes: its base with its change records applied.
 ///
 /// # Errors
-/// The place in the slot of its first broken rule.
+/// The offset in the slot of its first broken rule.
 pub(crate) fn state_in(slot: &[u8]) -> Result<SlotState, u64>
     requires whole { length slot.now ≡ slot_length }
     ensures whole { OnOk result (has_state slot.now ≡ true) }

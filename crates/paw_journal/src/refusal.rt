@@ -17,7 +17,7 @@ pub enum JournalRefusal {
     /// No session is made: the length of the store in bytes, and its first byte (0 where there is none).
     #[error("no session: length {length}, mark {mark}")]
     Unmade { length: u64, mark: u8 },
-    /// A rule is broken: the first one is at this place in its part, in bytes.
+    /// A rule is broken: the first one is at this offset in its part, in bytes.
     #[error("session damaged: {part:?} at {at}")]
     Damaged { part: SessionPart, at: u64 },
     /// The session belongs to a game with another digest: that which is kept, and that which was asked for.

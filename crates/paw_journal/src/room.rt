@@ -215,7 +215,7 @@ impl Room {
     /// Takes state and piece out of this slot, which was read, and keeps its state.
     ///
     /// # Errors
-    /// The place in the slot of its first broken rule.
+    /// The offset in the slot of its first broken rule.
     pub(crate) fn unpack(&mut self, which: Slot) -> Result<(), u64>
         requires whole { length self.old.slot ≡ slot_length }
         ensures shown { (digests : Digests) → OnOk result (ShowsSlot digests self.old self.new) }

@@ -39,7 +39,7 @@ pub fn attach<S: Stage>(stage: &mut S, name: &str) -> Result<Attached, StageCall
     }
 }
 
-/// Reads bytes of the attached store, as many as `into` has, from a place on.
+/// Reads bytes of the attached store, as many as `into` has, from an offset on.
 ///
 /// # Errors
 /// Read where the call of the stage failed.
@@ -57,7 +57,7 @@ pub(crate) fn read<S: Stage>(stage: &mut S, at: u64, into: &mut [u8]) -> Result<
     }
 }
 
-/// Writes bytes to the attached store, from a place on.
+/// Writes bytes to the attached store, from an offset on.
 ///
 /// # Errors
 /// Write where the call of the stage failed.

@@ -55,7 +55,7 @@ fn memory(alloc: Global, bytes: &[u8]) -> Result<MemoryStage, NoRoom>
     Ok(stage)
 }
 
-// The number of these steps that are done: a session is made, and committed to twice.
+// The number of these calls that are done: a session is made, and committed to twice.
 fn sessions<S: Stage>(stage: &mut S, room: &mut Room) -> u8
     requires stable { S.Tells stage.old → IsStable (S.standing stage.old).disk }
 {
@@ -94,7 +94,7 @@ fn whole_session(alloc: Global, room: &mut Room) -> Result<Vec<u8>, Fail> {
     Ok(stage.crash(alloc, 1)?)
 }
 
-// These bytes, with other ones at some places.
+// These bytes, with other ones at some offsets.
 fn with_bytes(alloc: Global, whole: &[u8], changes: &[(usize, u8)]) -> Result<Vec<u8>, Fail> {
     let mut bytes = Vec::from_slice(alloc, whole)?;
     for &(place, byte) in changes {
@@ -280,7 +280,7 @@ fn a_session_of_other_routines_is_refused(rt: HostRuntime) -> Result<(), Fail> {
     Ok(())
 }
 
-// These bytes, with this one in each place of the digest of the routines.
+// These bytes, with this one at each offset of the digest of the routines.
 fn with_routines(alloc: Global, whole: &[u8], byte: u8) -> Result<Vec<u8>, Fail> {
     let mut bytes = Vec::from_slice(alloc, whole)?;
     if bytes.len() < 96 {
@@ -592,7 +592,7 @@ fn strange(alloc: Global) -> Result<Vec<u8>, Fail> {
 #[test]
 fn each_byte_that_commits_leave(rt: HostRuntime) -> Result<(), Fail> {
     let session = strange(rt.alloc())?;
-    // Slot 1, from 86,208 on, gets four change records, in rising places: 0, 300, 1,369 and 4,095.
+    // Slot 1, from 86,208 on, gets four change records, in rising offsets: 0, 300, 1,369 and 4,095.
     let session = committed(
         rt.alloc(),
         session.as_slice(),

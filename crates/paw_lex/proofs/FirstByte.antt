@@ -6,7 +6,7 @@ use Rattle.std.proofs.lemmas.Bool.{false_from_ne_true}
 use Rattle.std.proofs.lemmas.List.Sums.{position_or_len_is}
 use Rattle.memchr.specs.Find.{IsFirstByte, is_byte}
 
--- The place that a search gives, or the length.
+-- The offset that a search gives, or the length.
 pub first_place : (byte : ℕ) (bytes : List ℕ) (r : Option ℕ) → IsFirstByte (is_byte byte) bytes r
     → unwrap_or r (length bytes) ≡ position_or_len (λ b. b == byte) bytes
 first_place byte bytes None h =

@@ -57,7 +57,7 @@ line_end_at s n w e h (inr (q, cr)) =
     subst (λ k. slice_range s w (k + 1) ≡ get_or s w 0 ∷ get_or s k 0 ∷ []) q (slice_range-two s w (omega arith)) in
     inr (both ∙ rw (cr_there, lf) refl)
 
--- The lines that are left, where the source ends before the place `end`.
+-- The lines that are left, where the source ends before the offset `end`.
 pub lines_of-drop : (s : List ℕ) (end at : ℕ) → end ≡ position_or_len (λ b. eqb b 26) s → at ≤ end → lines_of (drop at s) ≡ lines (slice_range s at end)
 unfolding lines_of
 lines_of-drop s end at e h =

@@ -14,7 +14,7 @@ use std::marker::Model;
 /// The byte before which a source ends.
 const END_MARK: u8 = 0x1A;
 
-/// A line of a source: its number, counted from 1, the place of its first byte, and the place after its last one. The
+/// A line of a source: its number, counted from 1, the offset of its first byte, and the offset after its last one. The
 /// line end isn't part of it.
 #[derive(Clone, Copy, Drop, PartialEq, Eq, Debug)]
 pub struct Line {
@@ -30,7 +30,7 @@ struct Cut {
     whole: usize,
 }
 
-/// The place of the first byte with this value, or the length where there is none.
+/// The offset of the first byte with this value, or the length where there is none.
 fn offset_of_first(bytes: &[u8], byte: u8) -> usize
     ensures value { result ≡ position_or_len (λ b. b == byte) bytes.now }
     ensures within { result ≤ length bytes.now }
@@ -79,9 +79,9 @@ fn first_line(text: &[u8]) -> Option<Cut>
 #[derive(Drop)]
 pub struct Lines<'a> {
     source: &'a [u8],
-    // the place before which the source ends
+    // the offset before which the source ends
     end: usize,
-    // the place where the next line begins
+    // the offset where the next line begins
     at: usize,
     // how many lines were given
     given: u32,

@@ -42,7 +42,7 @@ fn tokens_are_cut_and_bytes_looked_at(rt: HostRuntime) -> Result<(), Fail> {
     assert_eq!(rt; verb, Some(Token { from: 15, to: 19 }));
     assert_eq!(rt; next_token(SOURCE, &line, 19), None);
 
-    // What stands before the place isn't looked at.
+    // What stands before the offset isn't looked at.
     let behind = next_token(SOURCE, &line, 20);
     assert_eq!(rt; behind, Some(Token { from: 20, to: 21 }));
 

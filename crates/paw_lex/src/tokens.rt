@@ -8,7 +8,7 @@ ghost use Rattle.paw_lex.specs.inner.Tokens.{AreBlanks, ends_token, tokens_from}
 
 use crate::lines::Line;
 
-/// A token of a line: the place of its first byte in the source, and the place after its last one.
+/// A token of a line: the offset of its first byte in the source, and the offset after its last one.
 #[derive(Clone, Copy, Drop, PartialEq, Eq, Debug)]
 pub struct Token {
     pub from: usize,
@@ -40,7 +40,7 @@ fn token_len(bytes: &[u8]) -> usize
         .count()
 }
 
-/// The first token of some bytes, with its places in them.
+/// The first token of some bytes, with its offsets in them.
 fn first_token(bytes: &[u8]) -> Option<Token>
     ensures tokens { MatchOption result (tokens_of bytes.now ≡ [])
         (λ token. tokens_of bytes.now
@@ -60,9 +60,9 @@ fn first_token(bytes: &[u8]) -> Option<Token>
     })
 }
 
-/// The next token of a line from the place `from` on, with only blanks in between, or `None` exactly where none is
-/// left. `from` is the line's first place, or the place after the token before; what stands before it isn't looked at.
-/// A line is cut into tokens at spaces and tabs, up to its first `;`.
+/// The next token of a line from the offset `from` on, with only blanks in between, or `None` exactly where none is
+/// left. `from` is the line's first offset, or the offset after the token before; what stands before it isn't looked
+/// at. A line is cut into tokens at spaces and tabs, up to its first `;`.
 pub fn next_token(source: &[u8], line: &Line, from: usize) -> Option<Token>
     requires span { LiesIn source.now line.now }
     requires place { (line.now.from ≤ from) × (from ≤ line.now.to) }

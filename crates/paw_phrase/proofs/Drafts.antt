@@ -1,4 +1,4 @@
--- Reading a phrase mark by mark gives what the phrase is.
+-- Reading a phrase lexeme by lexeme gives what the phrase is.
 use Rattle.std.proofs.Common.{◌≡◌, ◌+◌, ◌-◌, ℕ, Bool, true, false, cond, eqb, List, [], ◌∷◌, ◌++◌, Option, Some, None}
 use Rattle.std.proofs.Common.{length, take, drop, refl, sym}
 use Rattle.std.proofs.Common.{ap, ◌∙◌, arith}
@@ -23,7 +23,7 @@ abbrev pub after_part : Option PhraseDraft → Parsed → (PhraseDraft → Parse
 after_part None stop go = stop
 after_part (Some d) stop go = go d
 
--- What a draft ends as where it is read on over these marks.
+-- What a draft ends as where it is read on over these lexemes.
 unfoldable pub along : GameLists → ℕ → List Mark → PhraseDraft → Parsed
 along g e [] d = draft_outcome e d []
 along g e (m ∷ ms) d = after_part (with_part (phrase_part_of g m.token) d) (draft_outcome e d m.after) (along g e ms)
@@ -155,7 +155,7 @@ pub along-started : (g : GameLists) (bytes : List ℕ) (e n a : ℕ) → along g
 unfolding parsed
 along-started g bytes e n a = with_no_token g e (marks bytes) (blank n a) ∙ parsed_from-marks g e n a (from_phrase g (marks bytes))
 
--- One mark more is read, from the bytes from i on.
+-- One lexeme more is read, from the bytes from i on.
 pub along-mark : (g : GameLists) (e : ℕ) (s : List ℕ) (i k : ℕ) (t : Option (List ℕ)) (d : PhraseDraft) (p : Part) (next : Option PhraseDraft)
     (whole : Parsed) → whole ≡ along g e (marks (drop i s)) d
     → marks (take (length s - i) (drop i s))
@@ -170,7 +170,7 @@ along-mark g e s i k t d p next whole so_far first is_part is_next =
     ∙ ap (λ ms. along g e ms d) here
     ∙ ap (λ x. after_part x (draft_outcome e d (drop (i + k) s)) go) (sym (is_next ∙ ap (λ q. with_part q d) is_part))
 
--- No mark is left.
+-- No lexeme is left.
 pub along-end : (g : GameLists) (e : ℕ) (s : List ℕ) (i : ℕ) (d : PhraseDraft) (whole : Parsed) → whole ≡ along g e (marks (drop i s)) d
     → marks (take (length s - i) (drop i s)) ≡ [] → whole ≡ draft_outcome e d (drop (length s) s)
 unfolding along

@@ -43,7 +43,7 @@ begun : (s : List ℕ) (n : ℕ) → 0 < length s → is_ascii_alphanumeric (get
 begun s zero some token ends = let never = ends some in cc
 begun s (suc n) some token ends = omega arith
 
--- The token is the first mark.
+-- The token is the first lexeme.
 pub marks-token : (s : List ℕ) (n : ℕ) (letters : List ℕ) → 0 < length s → is_ascii_alphanumeric (get_or s 0 0) ≡ true → n ≤ length s
     → (n < length s → is_ascii_alphanumeric (get_or s n 0) ≡ false) → IsToken s n letters
     → marks s ≡ record { token = Some letters; after = drop n s } ∷ marks (drop n s)
@@ -54,7 +54,7 @@ marks-token s n letters some token within ends so_far =
     (λ more. ap is_ascii_alphanumeric (get_or-drop n s 0 0 ∙ ap (λ k. get_or s k 0) (add-zero n)) ∙ ends (omega (arith, length-drop n s)))
     ∙ ap (λ (l : List ℕ). record { token = Some l; after = drop n s } ∷ marks (drop n s)) (sym so_far.1)
 
--- A blank leaves no mark.
+-- A blank leaves no lexeme.
 pub marks-blank : (s : List ℕ) (n : ℕ) → n < length s → is_ascii_alphanumeric (get_or s n 0) ≡ false → is_separator (get_or s n 0) ≡ false
     → marks (drop n s) ≡ marks (drop (n + 1) s)
 unfolding marks_from

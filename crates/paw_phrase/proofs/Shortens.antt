@@ -11,7 +11,7 @@ use Rattle.paw_phrase.specs.Sentence.{parsed_marks, parsed}
 use Rattle.paw_phrase.specs.inner.Leaving.{LeavesBytes, IsTwoLess, PhrasesTakeTwo}
 use Rattle.paw_phrase.proofs.Phrases.{leaves}
 
--- Fewer bytes stand after each mark than after the one before, and fewer than n after the first.
+-- Fewer bytes stand after each lexeme than after the one before, and fewer than n after the first.
 abbrev Fall : ℕ → List Mark → Type 0
 Fall n [] = Unit {0}
 Fall n (m ∷ ms) = (length m.after < n) × Fall (length m.after) ms
@@ -46,7 +46,7 @@ marks_from-fall (b ∷ bs) run =
           (separator_mark-fall b bs (marks_from [] bs) (Fall_up _ _ (marks_from [] bs) (omega arith) (marks_from-fall bs [])))
     ]
 
--- The same after a later mark that separates phrases.
+-- The same after a later lexeme that separates phrases.
 bytes_after-fall : (g : GameLists) (n : ℕ) (ms : List Mark) → Fall n ms → (bytes_after g ms ≡ []) ⊎ (length (bytes_after g ms) < n)
 bytes_after-fall g n [] h = inl refl
 bytes_after-fall g n (m ∷ ms) h =
@@ -59,7 +59,7 @@ two_less : (pending rest : List ℕ) (n : ℕ) → n < length pending → (rest 
 two_less pending rest n less (inl none) = inl none
 two_less pending rest n less (inr fewer) = inr (omega (arith, less, fewer))
 
--- The phrase begins at this mark, or after it where the mark separates phrases.
+-- The phrase begins at this lexeme, or after it where the lexeme separates phrases.
 at_mark : (g : GameLists) (pending : List ℕ) (e n a : ℕ) (m : Mark) (ms : List Mark) (v : Bool) → is_parting g m.token ≡ v
     → Fall (length pending) (m ∷ ms) → LeavesBytes (IsTwoLess pending) (parsed_marks g e n a (from_phrase g ms))
     → LeavesBytes (IsTwoLess pending) (parsed_marks g e n a (cond v (from_phrase g ms) (m ∷ ms)))

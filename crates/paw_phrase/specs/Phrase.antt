@@ -23,12 +23,12 @@ pub record Mark : Type 0 where
   pub token : Option Letters
   pub after : Bytes
 
--- The mark of a token with these bytes; none where there are no bytes.
+-- The lexeme of a token with these bytes; none where there are no bytes.
 abbrev pub token_mark : Token → Bytes → List Mark
 token_mark [] after = []
 token_mark (b ∷ bs) after = record { token = Some (five_letters (b ∷ bs)); after = after } ∷ []
 
--- The mark of a separator, where this byte is one.
+-- The lexeme of a separator, where this byte is one.
 abbrev pub separator_mark : ℕ → Bytes → List Mark
 separator_mark b after = if is_separator b then record { token = None; after = after } ∷ [] else []
 
@@ -44,22 +44,22 @@ marks_from run (b ∷ bs) =
 abbrev pub marks : Bytes → List Mark
 marks bytes = marks_from [] bytes
 
--- Whether a mark separates phrases: it is a separator, or a token whose letters are those of a conjunction.
+-- Whether a lexeme separates phrases: it is a separator, or a token whose letters are those of a conjunction.
 abbrev pub is_parting : GameLists → Option Letters → Bool
 is_parting g None = true
 is_parting g (Some letters) = option_map_or (λ word. word.1 == CONJUNCTION_CLASS) (word_at g letters) false
 
--- The marks from the first one that doesn't separate phrases to the end.
+-- The lexemes from the first one that doesn't separate phrases to the end.
 abbrev pub from_phrase : GameLists → List Mark → List Mark
 from_phrase g [] = []
 from_phrase g (m ∷ ms) = if is_parting g m.token then from_phrase g ms else m ∷ ms
 
--- The tokens up to the next mark that separates phrases.
+-- The tokens up to the next lexeme that separates phrases.
 abbrev pub phrase_tokens : GameLists → List Mark → List Letters
 phrase_tokens g [] = []
 phrase_tokens g (m ∷ ms) = if is_parting g m.token then [] else option_to_list m.token ++ phrase_tokens g ms
 
--- The bytes after the next mark that separates phrases; none where there is no such mark.
+-- The bytes after the next lexeme that separates phrases; none where there is no such lexeme.
 abbrev pub bytes_after : GameLists → List Mark → Bytes
 bytes_after g [] = []
 bytes_after g (m ∷ ms) = if is_parting g m.token then m.after else bytes_after g ms

@@ -86,8 +86,8 @@ pub data Parsed : Type 0 where
   IsUnknown : (rest : Bytes) → Parsed
   IsNoPhrase : Parsed
 
--- The phrase that begins these marks: its tokens are a sentence where one of them is a word of the game, and the bytes
--- after it stay pending. Where there is no mark there is no phrase.
+-- The phrase that begins these lexemes: its tokens are a sentence where one of them is a word of the game, and the
+-- bytes after it stay pending. Where there is no lexeme there is no phrase.
 abbrev pub parsed_marks : GameLists → ℕ → ℕ → ℕ → List Mark → Parsed
 parsed_marks g earlier noun adjective [] = IsNoPhrase
 parsed_marks g earlier noun adjective (m ∷ ms) =

@@ -37,7 +37,7 @@ use Rattle.paw_play.proofs.Showing.{state_kept}
 
 module _ (g : Story) (digests : Digests) (name : List ℕ) (st : State) (piece : List ℕ) (old : Standing) (valid : Valid g.game)
     (shows : ShowsState g.game digests (store_bytes old name) st piece) where
-  -- the store is attached, and nothing was asked or shown
+  -- The store is attached, and nothing was asked or shown.
   at_attached : (m : Moment) → m.asked ≡ old.asked → m.shown ≡ old.shown → m.attached ≡ Some name →
       ((n : List ℕ) → n ≢ name → m.files n ≡ old.files n) → m.disk ≡ stable (store_bytes old name) →
       InPlay (from_state g st piece digests name) old m
@@ -60,7 +60,7 @@ module _ (g : Story) (digests : Digests) (name : List ℕ) (st : State) (piece :
     );
   }
 
-  -- while the session is found
+  -- While the session is found.
   pub in_finding : (new : Standing) (m : Moment) → new ≡ attached_to old name → Still new m → InPlay (from_state g st piece digests name) old m
   in_finding new m is e =
       let k : m ≡ moment_of (attached_to old name) = e ∙ ap moment_of is in
@@ -68,11 +68,11 @@ module _ (g : Story) (digests : Digests) (name : List ℕ) (st : State) (piece :
       (ap (λ (q : Moment). q.attached) k) (λ n ne. ap (λ (q : Moment). q.files n) k ∙ other_file old name n ne)
       (ap (λ (q : Moment). q.disk) k)
 
-  -- where the attach is done
+  -- Where the attach is done.
   pub at_again_attach : (new : Standing) → new ≡ attached_to old name → InPlay (from_state g st piece digests name) old (moment_of new)
   at_again_attach new is = in_finding new (moment_of new) is refl
 
-  -- once it is found
+  -- Once it is found.
   pub in_taking_up : (m : Moment) → InPlay (from_state g st piece digests name) (attached_to old name) m → InPlay (from_state g st piece digests name) old m
   in_taking_up m i = playing_from (from_state g st piece digests name) old m i
 
@@ -85,7 +85,7 @@ found_again s first mid last g digests name st piece valid shows is h =
     Passes_map _ _ _ _ _ (InPlay (from_state g st piece digests name) (s.standing first)) h
     (λ m e. in_finding g digests name st piece (s.standing first) valid shows (s.standing mid) m is e)
 
--- the moments from the attach of its store on, with what a stage says of the moment at which it stands
+-- The moments from the attach of its store on, with what a stage says of the moment at which it stands.
 pub taken_up_again : {S : Type 0} (s : Ghosts S) →
     ((x : S) (m : Moment) → s.Tells x → s.since x (s.clock x) m → m ≡ moment_of (s.standing x)) →
     ((x : S) (t : ℕ) → s.Tells x → t ≤ s.clock x → s.since x t (moment_of (s.standing x))) →
@@ -115,7 +115,7 @@ module _ (g : Story) (name : List ℕ) (old new : Standing) where
   refused_again (refusal.Outside q) h (inl c) e = rw c (unread e)
   refused_again (refusal.Outside q) h (inr c) e = absurd c
 
--- a store isn't refused for the call that failed
+-- A store isn't refused for the call that failed.
 pub not_for_call : (r : JournalRefusal) → IsNotForCall (end_of r)
 not_for_call (refusal.Unmade n mark) = tt
 not_for_call (refusal.Damaged part at) = tt

@@ -29,7 +29,7 @@ other_by : (name n : List ℕ) (files : Files) (file : Option (List ℕ)) → n 
 other_by name n files None ne = holds_other name n (Some []) files ne
 other_by name n files (Some bytes) ne = refl
 
--- another file than the store's is as it was
+-- Another file than the store's is as it was.
 pub other_file : (old : Standing) (name n : List ℕ) → n ≢ name → (attached_to old name).files n ≡ old.files n
 other_file old name n ne = other_by name n old.files (old.files name) ne
 
@@ -41,14 +41,14 @@ store_attached old name = record { attached = refl; stable = stable_is (store_by
 pub store_empty : (old new : Standing) (name : List ℕ) (n : ℕ) → AttachesTo old new name (Ok n) → n ≡ 0 → store_bytes old name ≡ []
 store_empty old new name n a e = no_bytes (store_bytes old name) (sym a.0 ∙ e)
 
--- no bytes are no session
+-- No bytes are no session.
 none_unmade : (image : List ℕ) → image ≡ [] → IsUnmade (recover image)
 unfolding recover recover_by
 none_unmade image e = rw e tt
 
 -- ---- moments ----
 
--- an empty store was attached
+-- An empty store was attached.
 pub at_new_attach : (s : PlayedSession) (old new : Standing) → new ≡ attached_to old s.name → store_bytes old s.name ≡ [] →
     InNewSession s old (moment_of new)
 at_new_attach s old new is empty = inl (record {
@@ -61,7 +61,7 @@ at_new_attach s old new is empty = inl (record {
       (subst (λ d. MayLeave d image) (ap (λ (q : Standing). q.disk) is) may) ∙ empty));
 })
 
--- what holds from the attached store on holds from before the attach
+-- What holds from the attached store on holds from before the attach.
 making_from : (s : PlayedSession) (old : Standing) (m : Moment) → InMaking s (attached_to old s.name) m → InMaking s old m
 making_from s old m i = record {
   asked = i.asked;

@@ -39,13 +39,13 @@ use Rattle.paw_play.proofs.Telling.{shows_piece}
 use Rattle.paw_play.proofs.Walking.{walk_begins, text_shown}
 use Rattle.paw_effects.specs.Story.{Story}
 
--- all but the store stands as it did
+-- All but the store stands as it did.
 pub beside_is : (first kept : Standing) → ChangesStoreOnly first kept → kept ≡ with_store kept first
 beside_is first kept b =
     ap (λ x. record kept { lines = x }) b.lines ∙ ap (λ x. record kept { lines = first.lines; asked = x }) b.asked
     ∙ ap (λ x. record kept { lines = first.lines; asked = first.asked; shown = x }) b.shown
 
--- the piece before the first line is spent, or calls too deep
+-- The piece before the first line is spent, or calls too deep.
 pub begin_refused : {F : Type 0} (g : Story) (s : PlayedSession) (first : Standing) (found : Step) (next : PlayerView F)
     (o : PlayEnd) → StepsTo g s.whole found next [] [] → refusal_of found ≡ Some o → BegunAs s first first o
 begin_refused g s first (step.Waits p) next o plays e = cc
@@ -53,7 +53,7 @@ begin_refused g s first step.Ended next o plays e = cc
 begin_refused g s first (step.Spent kind) next o plays e = let k : o ≡ end.Spent kind = cc in let r = plays.1 [] in rw k (r.0, r.1, refl)
 begin_refused g s first (step.TooDeep table) next o plays e = let k : o ≡ end.TooDeep table = cc in let r = plays.1 [] in rw k (r.0, r.1, refl)
 
--- the piece before the first line was played, and the store was written, once it was attached
+-- The piece before the first line was played, and the store was written, once it was attached.
 pub record Begun {F : Type 0} (g : Story) (s : PlayedSession) (first kept : Standing) (next : PlayerView F) (found : Step) : Type 0 where
   pub new_one : s.before ≡ 0
   pub store : IsRestingStore s.name first
@@ -68,7 +68,7 @@ pub begun : {F : Type 0} (g : Story) (seed : ℕ) (digests : Digests) (name : Li
     ChangesStoreOnly first kept → Begun g (begun_with g seed digests name) first kept next found
 begun g seed digests name first kept next found store seated last plays fine beside = assumption (shows_piece found fine)
 
--- what a session shows, by its parts
+-- What a session shows, by its parts.
 pub shown_as : (digests : Digests) {state kept piece text : List ℕ} → state ≡ kept → piece ≡ text → Shown digests state piece ≡ Shown digests kept text
 shown_as digests e f = cc
 
@@ -88,7 +88,7 @@ module _ {F : Type 0} {g : Story} {s : PlayedSession} {first kept : Standing} {n
   not_this : (f : List ℕ) → f ≢ s.name → first.attached ≢ Some f
   not_this f other e = let a : Some s.name ≡ Some f = sym b.store.attached ∙ e in other (cc)
 
-  -- inside the making
+  -- Inside the making.
   pub in_making : (m : Moment) → InStore first (CrashLeavesSuch (λ r. IsUnmade r ⊎ (r ≡ Shown s.digests (seat_state 0 next) next.piece))) m → InMaking s first m
   in_making m i = record {
     asked = i.asked;
@@ -101,7 +101,7 @@ module _ {F : Type 0} {g : Story} {s : PlayedSession} {first kept : Standing} {n
     ];
   }
 
-  -- the store stays attached, and no other file has changed
+  -- The store stays attached, and no other file has changed.
   stays : StaysAttached s.name first kept
   stays = record {
     attached = b.beside.attached ∙ b.store.attached;
@@ -109,13 +109,13 @@ module _ {F : Type 0} {g : Story} {s : PlayedSession} {first kept : Standing} {n
     others = λ f other. b.beside.files f (not_this f other);
   }
 
-  -- the session couldn't be made
+  -- The session couldn't be made.
   pub not_begun : (c : StageCall) → IsOneOf writing_calls c → BegunAs s first kept (end.Outside c)
   not_begun c (inl e) = rw e (beside_is first kept b.beside, stays)
   not_begun c (inr (inl e)) = rw e (beside_is first kept b.beside, stays)
   not_begun c (inr (inr h)) = absurd h
 
-  -- once it is made in a store that was empty
+  -- Once it is made in a store that was empty.
   module _ (empty : length first.disk.bytes ≡ 0) (stable : IsStable kept.disk)
       (is : recover kept.disk.bytes ≡ Shown s.digests (seat_state 0 next) next.piece) (digests : kept_digests kept.disk.bytes ≡ s.digests)
       (made : kept.disk.bytes ≡ made_session s.digests (seat_base 0 next) next.piece) where
@@ -131,7 +131,7 @@ module _ {F : Type 0} {g : Story} {s : PlayedSession} {first kept : Standing} {n
       bytes = made_bytes s (seat_state 0 next) next.piece first.disk.bytes kept.disk.bytes keeps_first empty made;
     }
 
-    -- inside the show of the first piece
+    -- Inside the show of the first piece.
     pub in_first_show : (m : Moment) → InShow kept next.piece m → InPlay s first m
     in_first_show m i = subst (InPlay s first) (sym i.1) (record {
       taken = 0;

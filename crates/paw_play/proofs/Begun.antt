@@ -24,11 +24,11 @@ begun_plays s first now (end.Outside call.Write) b = unmade call.Write (inl refl
 begun_plays s first now (end.Outside call.Sync) b = unmade call.Sync (inr (inl refl)) b.0 b.1
 begun_plays s first now o b = plays o b
 
--- a new player has a seed of its own
+-- A new player has a seed of its own.
 pub own_seed : {F : Type 0} (fresh : PlayerView F) (seed : ℕ) → IsNew fresh seed → IsNew fresh fresh.world.seed
 own_seed fresh seed is = subst (IsNew fresh) (sym (ap (λ (w : World). w.seed) is.world)) is
 
--- a session that a new player plays, by what was found of its routines
+-- A session that a new player plays, by what was found of its routines.
 pub session_of : {F : Type 0} (fresh : PlayerView F) (g : GameLists) (X : List (List ℕ)) (seed : ℕ) (game rules measured name : List ℕ) →
     IsNew fresh seed → fresh.game ≡ g → rules ≡ measured →
     begun_with (story_of fresh.game X) fresh.world.seed (digests_of game rules) name ≡ begun_with (story_of g X) seed (digests_of game measured) name
@@ -37,6 +37,6 @@ session_of fresh g X seed game rules measured name is of same =
     ∙ ap (λ (w : World). begun_with (story_of g X) w.seed (digests_of game rules) name) is.world
     ∙ ap (λ r. begun_with (story_of g X) seed (digests_of game r) name) same
 
--- it is the session of the story, where its digests are those of the story
+-- It is the session of the story, where its digests are those of the story.
 pub own_session : (g : Story) (seed : ℕ) (digests : Digests) (name : List ℕ) → digests ≡ story_digests g → begun_with g seed digests name ≡ begun g seed name
 own_session g seed digests name same = ap (λ d. begun_with g seed d name) same

@@ -19,14 +19,14 @@ use Rattle.paw_journal.proofs.Serving.{serves_among}
 
 -- ---- the store ----
 
--- a line that was asked for changes nothing of it
+-- A line that was asked for changes nothing of it.
 pub keeps_asked : (journal : Journal) (room : Room) (now mid : Standing) → KeptIn journal room now →
     mid ≡ record now { lines = mid.lines; asked = now.asked + 1 } → KeptIn journal room mid
 keeps_asked journal room now mid k e =
     subst (λ q. KeptIn journal room q) (sym e)
     (record { rests = record { attached = k.rests.attached; stable = k.rests.stable }; chosen = k.chosen; shown = k.shown; slots = k.slots })
 
--- nor does a text that was shown
+-- Nor does a text that was shown.
 pub keeps_shown : (journal : Journal) (room : Room) (now new : Standing) (text : List ℕ) → KeptIn journal room now →
     new ≡ record now { shown = text } → KeptIn journal room new
 keeps_shown journal room now new text k e =
@@ -35,7 +35,7 @@ keeps_shown journal room now new text k e =
 
 -- ---- the call that failed ----
 
--- the calls of a commit and those of a walk are calls of playing too, and those are calls of a session
+-- The calls of a commit and those of a walk are calls of playing too, and those are calls of a session.
 pub writing_plays : (c : StageCall) → IsOneOf writing_calls c → IsOneOf play_calls c
 writing_plays c (inl e) = inl e
 writing_plays c (inr (inl e)) = inr (inl e)
@@ -58,7 +58,7 @@ pub serves_unless : {S A : Type 0} (g : Ghosts S) (o : Option PlayEnd) (a : A) (
 serves_unless g None a old new s = serves_among g walk_calls play_calls None old new walk_plays s
 serves_unless g (Some o) a old new s = serves_among g walk_calls play_calls (call_of_end o) old new walk_plays s
 
--- the store keeps what it did while the piece was shown
+-- The store keeps what it did while the piece was shown.
 pub holds_unless : (tells : Type 0) (events : ℕ) (room : Room) (kept new : Standing) (piece : List ℕ) (step : Step) (o : Option PlayEnd) (session : Session) →
     session.events ≡ events → (tells → KeptIn session.journal room kept) → (tells → Told kept new piece step o) →
     IfOk (unless_ended o session) (HoldsSession tells events room new)

@@ -27,7 +27,8 @@ use Rattle.paw_play.specs.Session.{kept_bytes, IsKept}
 use Rattle.paw_play.specs.Stands.{Stands, since_piece, ending_since, reading_since}
 use Rattle.paw_play.specs.Played.{ShowsState, going_on}
 
--- where a reading stops its state keeps the rules, and nothing of a piece is open; so much was read in each closed piece
+-- Where a reading stops its state follows the rules, and nothing of a piece is open; so much was read in each closed
+-- piece.
 pub record Settles (g : GameLists) (n : ℕ) (p : Prompt) (path : List Frame) (r : Run) : Type 0 where
   pub keeps : IsValidState g (state_at n p path r)
   pub fits : FitsFields (state_at n p path r)
@@ -67,20 +68,20 @@ module _ (n : ℕ) (ps : List (List ℕ)) (ts : List (List Step)) (all : length 
       ap (λ q. record r { pieces = q; traces = drop (suc n) (ts ++ r.traces) }) (from_last n ps r.pieces all)
       ∙ ap (λ q. record r { pieces = last_piece ps ∷ r.pieces; traces = q }) (behind (suc n) ts r.traces each)
 
-  -- an ending with closed pieces before it, from the last of those on
+  -- An ending with closed pieces before it, from the last of those on.
   pub since_past : (e : Ending) → ending_since n (ending_with_past ps ts e) ≡ ending_with_past (last_piece ps ∷ []) [] e
   since_past (WaitsAt p path r) = ap (WaitsAt p path) (run_since r)
   since_past (Halted halt r) = ap (Halted halt) (run_since r)
   since_past Unended = refl
 
--- its text
+-- Its text.
 pub text_since_is : (n : ℕ) (e : Ending) → text_of (ending_since n e) ≡ concat (drop n (pieces_of e))
 text_since_is n (WaitsAt p path r) = refl
 text_since_is n (Halted halt r) = refl
 text_since_is zero Unended = refl
 text_since_is (suc n) Unended = refl
 
--- a session that keeps it keeps the whole
+-- A session that keeps it keeps the whole.
 pub whole_kept : (digests : Digests) (n m lines : ℕ) (e : Ending) (r : Recovered) → Counted lines e → n ≤ lines → IsKept digests m (ending_since n e) r →
     IsKept digests m e r
 whole_kept digests n m lines (WaitsAt p path s) r counted few k =
@@ -101,7 +102,7 @@ whole_kept digests n m lines _ r counted few k = absurd k.played
 
 -- ---- going on from a state of a reading ----
 
--- the run with these lines to come, and this piece closed
+-- The run with these lines to come, and this piece closed.
 abbrev taken_up : Run → List ℕ → List (List ℕ) → Run
 taken_up r piece fs = record r { current = []; read = []; pieces = piece ∷ []; traces = []; events = fs }
 
@@ -116,14 +117,14 @@ taken_past r piece fs current read events = rw (current, read, events) refl
 all_pieces : (n : ℕ) (ps : List (List ℕ)) (es : List (List ℕ)) → length ps + length es ≡ suc n → es ≡ [] → length ps ≡ suc n
 all_pieces n ps es count none = let c : length ps + length es ≡ suc n = count in omega (arith, rw none at c)
 
--- what was read in the closed pieces
+-- What was read in the closed pieces.
 abbrev traces_of : Ending → List (List Step)
 traces_of (WaitsAt p path r) = r.traces
 traces_of (Halted halt r) = r.traces
 traces_of Unended = []
 
 module _ (g : Story) (seed : ℕ) (es fs : List (List ℕ)) where
-  -- a reading that ended so ends with more lines as going on from its state and last piece does
+  -- A reading that ended so ends with more lines as going on from its state and last piece does.
   abbrev pub GoesOnFrom : Ending → State → List ℕ → Type 0
   GoesOnFrom e st piece =
       (length (pieces_of e) ≡ suc (length es)) × (length (traces_of e) ≡ suc (length es)) × (x : Ending)
@@ -174,7 +175,7 @@ module _ (g : Story) (seed : ℕ) (es fs : List (List ℕ)) where
       rw (same, piece_is) (refl, over_goes s is k kept.played counted)
   ended_goes _ is k counted digests other r kept st piece v keeps fits shown = absurd kept.played
 
-  -- going on from the state that a store shows is reading the longer list
+  -- Going on from the state that a store shows is reading the longer list.
   pub goes_on : IsSettled g.game (length es) (reading g seed es) → (bytes : List ℕ) (digests : Digests) (st : State) (piece : List ℕ) → Valid g.game
       → Stands g seed es bytes → ShowsState g.game digests bytes st piece →
       (st.events ≡ length es) × (going_on g st piece fs ≡ reading_since g seed es fs)

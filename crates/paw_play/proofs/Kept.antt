@@ -24,7 +24,7 @@ use Rattle.paw_play.specs.inner.OnTheWay.{seat_state}
 use Rattle.paw_play.proofs.Walking.{on_waits}
 use Rattle.paw_effects.specs.Story.{Story}
 
--- the session keeps the reading of the first n of these lines
+-- The session keeps the reading of the first n of these lines.
 abbrev pub KeepsLines : PlayedSession → List (List ℕ) → ℕ → Recovered → Type 0
 KeepsLines s lines n r = IsKept s.digests (s.before + n) (s.whole (first_lines n lines)) r
 
@@ -33,11 +33,11 @@ last_more [] piece = refl
 last_more (p ∷ []) piece = refl
 last_more (p ∷ q ∷ pieces) piece = last_more (q ∷ pieces) piece
 
--- the state of a player's parts, with these frames and a piece of this length
+-- The state of a player's parts, with these frames and a piece of this length.
 abbrev parts : {F : Type 0} → ℕ → Prompt → PlayerView F → Frames → ℕ → State
 parts events p next frames n = record { world = next.world; frames = frames; pending = next.pending; prompt = p; events = events; piece = n }
 
--- what a session shows of them, by the path of the machine and the last piece that was closed
+-- What a session shows of them, by the path of the machine and the last piece that was closed.
 shown_at : {F : Type 0} (digests : Digests) (events : ℕ) (p : Prompt) (path : List Frame) (next : PlayerView F) (pieces : List (List ℕ)) →
     kept next.machine ≡ frames_at path next.machine.turning →
     Shown digests (kept_bytes (parts events p next (kept next.machine) (length next.piece))) next.piece
@@ -48,7 +48,7 @@ shown_at digests events p path next pieces is =
     ∙ ap (λ (q : List ℕ). Shown digests (kept_bytes (parts events p next (frames_at path next.machine.turning) (length q))) q)
     (sym (last_more pieces next.piece))
 
--- where a player waits, its session keeps the reading
+-- Where a player waits, its session keeps the reading.
 waits_kept : {F : Type 0} (digests : Digests) (events : ℕ) (e : Ending) (p : Prompt) (next : PlayerView F) (pieces : List (List ℕ))
     (traces : List (List Read)) → next.last ≡ step.Waits p →
     e ≡ WaitsAt p (reverse next.machine.frames) (run_at next (pieces ++ next.piece ∷ []) traces []) →
@@ -66,7 +66,7 @@ over_kept digests events e next pieces traces last closed is = rw (is, last) (re
       (ap (λ fs. frames_at (reverse fs) next.machine.turning) closed);
 })
 
--- a step that brings a piece leads to a player whose session keeps the reading
+-- A line that brings a piece leads to a player whose session keeps the reading.
 pub step_kept : {F : Type 0} (g : Story) (digests : Digests) (events : ℕ) (whole : EndingOf) (s : Step) (next : PlayerView F) (pieces : List (List ℕ))
     (traces : List (List Read)) → IsStanding s → next.last ≡ s →
     StandsClosed s next.machine → PlaysTo g whole s next pieces traces → IsKept digests events (whole []) (Shown digests (seat_state events next) next.piece)

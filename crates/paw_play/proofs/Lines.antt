@@ -16,7 +16,7 @@ use Rattle.paw_game.proofs.Kept.{first_of_and, second_of_and}
 use Rattle.paw_reading.specs.Run.{Step}
 use Rattle.paw_play.specs.Traces.{step_address, answer_text, step_line, more_line}
 
--- what fits is put
+-- What fits is put.
 pub put_whole : (ok : Bool) (old new text : List ℕ) → Puts old new ok text → length old + length text ≤ 65535 → new ≡ old ++ text
 put_whole true old new text puts fits = puts.0
 put_whole false old new text puts fits = absurd (omega (arith, puts, fits))
@@ -59,7 +59,7 @@ no_plain_name code none = elim (cases_lt code (length condact_lines)) [
   | inr past ↦ ap (λ (l : CondactLine). l.name) (get_or_past condact_lines code no_line past)
 ]
 
--- what is no code has no name
+-- What is no code has no name.
 pub no_name : (code : ℕ) → ¬ IsCode code → name_of code ≡ []
 unfolding line_of
 no_name code none = go (is_indirect code) refl
@@ -86,7 +86,7 @@ place_short table entry at low few under =
     let dot : length (codes ".") ≡ 1 = refl in
     omega (arith, t, e, a, one, two, three, four, dot)
 
--- a line of a step is of at most 27 bytes
+-- A line of a step is of at most 27 bytes.
 pub line_short : (step : Step) → length (step_address step.table step.entry step.at) ≤ 13 → length (step_line step) ≤ 27
 line_short step place =
     let text : List ℕ = step_address step.table step.entry step.at in

@@ -43,7 +43,7 @@ by_slot : (digests : Digests) (s : List ℕ) (d : Digests) (st p : List ℕ) →
 unfolding slot_shows
 by_slot digests s d st p e = by_count digests s d st p (nat_le (two_byte_number 0 s) most_changes) e
 
--- of version 1, a slot shows its first 1,371 bytes and zeros
+-- Of version 1, a slot shows its first 1,371 bytes and zeros.
 shown_first : (s st : List ℕ) → form_length (slot_version s) ≡ first_length → shown_state s ≡ st → length (slot_state s) ≡ base_length
     → take first_length st ++ zeros (state_length - first_length) ≡ st
 shown_first s st first is n =
@@ -53,7 +53,7 @@ shown_first s st first is n =
     let l : length head ≡ first_length = length-take-le first_length (slot_state s) (omega (arith, n)) in
     ap (λ (x : List ℕ). x ++ behind) (ap (take first_length) form ∙ take_at head behind first_length l) ∙ sym form
 
--- so does a store whose slot in use is of version 1
+-- So does a store whose slot in use is of version 1.
 chosen_first : (bytes : List ℕ) (digests : Digests) (state piece : List ℕ) → form_length (slot_version (slot (chosen bytes) bytes)) ≡ first_length
     → recover bytes ≡ Shown digests state piece
     → take first_length state ++ zeros (state_length - first_length) ≡ state

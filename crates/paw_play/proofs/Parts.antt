@@ -7,7 +7,7 @@ use Rattle.paw_stage.specs.declared.Stage.{Ghosts}
 use Rattle.paw_stage.proofs.Time.{Passes_map, Passes_on}
 use Rattle.paw_play.specs.Play.{NotYet}
 
--- calls up to a turn, at which such a moment stands, and calls from there on
+-- Calls up to a turn, at which such a moment stands, and calls from there on.
 two_parts : {S : Type 0} (g : Ghosts S) (old mid new : S) (Before After : Moment → Type 0) →
     ((m : Moment) → g.since mid (g.clock mid) m → m ≡ moment_of (g.standing mid)) →
     g.since mid (g.clock mid) (moment_of (g.standing mid)) → After (moment_of (g.standing mid)) →
@@ -37,7 +37,7 @@ two_parts g old mid new Before After only counts turned h k =
       keeps = λ t m low past. k.keeps t m (omega (arith, low, h.later)) (h.keeps t m low past);
     })
 
--- calls that belong to the first part come before
+-- Calls that belong to the first part come before.
 pub then_two_parts : {S : Type 0} (g : Ghosts S) (old mid new : S) (Before After : Moment → Type 0) → EachMoment g old mid Before →
     InTwoParts g mid new Before After → InTwoParts g old new Before After
 then_two_parts g old mid new Before After h (first_alone k) = first_alone (Passes_on _ _ _ _ _ _ Before Before h k (λ m i. i))
@@ -46,7 +46,7 @@ then_two_parts g old mid new Before After h (both turn low high all k) =
     (Passes_on _ _ _ _ _ _ (λ m. Before m ⊎ g.since new turn m) (λ m. Before m ⊎ g.since new turn m)
     (Passes_map _ _ _ _ Before (λ m. Before m ⊎ g.since new turn m) h (λ m i. inl i)) k (λ m i. i))
 
--- a weaker word for the second part
+-- A weaker word for the second part.
 pub map_two_parts : {S : Type 0} (g : Ghosts S) (old new : S) (Before After Later : Moment → Type 0) → ((m : Moment) → After m → Later m) →
     InTwoParts g old new Before After → InTwoParts g old new Before Later
 map_two_parts g old new Before After Later f (first_alone k) = first_alone k
@@ -61,7 +61,7 @@ made_yet : (name : List ℕ) (old : Standing) (m : Moment) →
     m ≡ record (moment_of old) { files = made_if_missing name (old.files name) old.files } → NotYet name old m
 made_yet name old m e = subst (NotYet name old) (sym e) (record { asked = refl; shown = refl; files = inr refl; store = inl (refl, refl) })
 
--- inside the attach, or at its end
+-- Inside the attach, or at its end.
 in_attach : (old new : Standing) (name : List ℕ) (m : Moment) → InAttach old new name m → NotYet name old m ⊎ (m ≡ moment_of new)
 in_attach old new name m (inl e) = inl (not_yet name old m e)
 in_attach old new name m (inr (inl e)) = inl (made_yet name old m e)
@@ -72,7 +72,7 @@ unattached_yet old new name m (inl is) e = not_yet name old m (e ∙ ap moment_o
 unattached_yet old new name m (inr is) e =
     subst (NotYet name old) (sym (e ∙ ap moment_of is)) (record { asked = refl; shown = refl; files = inl refl; store = inr refl })
 
--- inside an attach that failed
+-- Inside an attach that failed.
 in_failed_attach : (old new : Standing) (name : List ℕ) (m : Moment) → Unattached old new → InAttach old new name m → NotYet name old m
 in_failed_attach old new name m left i = elim (in_attach old new name m i) [
   | inl n ↦ n
@@ -81,7 +81,7 @@ in_failed_attach old new name m left i = elim (in_attach old new name m i) [
 
 -- ---- an attach, and what comes after it ----
 
--- an attach that failed, and nothing more
+-- An attach that failed, and nothing more.
 pub attach_failed : {S : Type 0} (g : Ghosts S) (old new : S) (name : List ℕ) (After : Moment → Type 0) →
     Unattached (g.standing old) (g.standing new) →
     EachMoment g old new (InAttach (g.standing old) (g.standing new) name) → InTwoParts g old new (NotYet name (g.standing old)) After
@@ -89,7 +89,7 @@ attach_failed g old new name After left h =
     first_alone (Passes_map _ _ _ _ _ (NotYet name (g.standing old)) h
     (λ m i. in_failed_attach (g.standing old) (g.standing new) name m left i))
 
--- an attach by which the second part begins, with what a stage says of the moment at which it stands
+-- An attach by which the second part begins, with what a stage says of the moment at which it stands.
 pub then_attached : {S : Type 0} (g : Ghosts S) →
     ((s : S) (m : Moment) → g.Tells s → g.since s (g.clock s) m → m ≡ moment_of (g.standing s)) →
     ((s : S) (t : ℕ) → g.Tells s → t ≤ g.clock s → g.since s t (moment_of (g.standing s))) →

@@ -57,7 +57,7 @@ whole_text : (s : PlayedSession) (lines : List (List ℕ)) (n : ℕ) (text : Lis
     (rest : List ℕ) × (text ++ rest ≡ text_for s.whole lines n)
 whole_text s lines n text e = ([], append-nil text ∙ sym e)
 
--- the text so far
+-- The text so far.
 text_is : {F : Type 0} (g : Story) (s : PlayedSession) (first now : Standing) (seat : PlayerView F) (n : ℕ)
     (w : IsPlaying g s first now seat n) → IsSeated seat →
     text_for s.whole first.lines n ≡ concat w.walking.pieces
@@ -79,7 +79,7 @@ agrees_now g s first now seat n w seated image may = (
   whole_text s first.lines n (concat w.walking.pieces) (text_is g s first now seat n w seated),
 )
 
--- at a prompt
+-- At a prompt.
 pub at_prompt : {F : Type 0} (g : Story) (s : PlayedSession) (first now : Standing) (seat : PlayerView F) (n : ℕ) →
     IsPlaying g s first now seat n → IsSeated seat → InPlay s first (moment_of now)
 at_prompt g s first now seat n w seated = record {
@@ -96,7 +96,7 @@ at_prompt g s first now seat n w seated = record {
   leaves = λ image may. keeps_all s first.lines n (concat w.walking.pieces) image (agrees_now g s first now seat n w seated image may);
 }
 
--- inside an ask that takes a line
+-- Inside an ask that takes a line.
 line_asked : {F : Type 0} (g : Story) (s : PlayedSession) (first now : Standing) (seat : PlayerView F) (n : ℕ) →
     IsPlaying g s first now seat n → IsSeated seat → suc n ≤ length first.lines → s.before + suc n ≤ EVENT_LIMIT →
     InPlay s first (record (moment_of now) { asked = now.asked + 1 })
@@ -119,7 +119,7 @@ is_there : {F : Type 0} (g : Story) (s : PlayedSession) (first now mid : Standin
 is_there g s first now mid seat n line w e =
     (drop_more first.lines n line mid.lines (ap (λ (q : Standing). q.lines) (sym w.walking.stands) ∙ e)).1
 
--- inside an ask
+-- Inside an ask.
 pub in_ask : {F : Type 0} {g : Story} {s : PlayedSession} {first now : Standing} {seat : PlayerView F} {n : ℕ} (w : IsPlaying g s first now seat n)
     (mid : Standing)
     (a : Asked) (into : List ℕ) → IsSeated seat → s.before + suc n ≤ EVENT_LIMIT → AsksTo now mid a into → (m : Moment) → InAsk now a m → InPlay s first m
@@ -134,13 +134,13 @@ in_ask {F} {g} {s} {first} {now} {seat} {n} w mid asked.Failed into seated few a
 
 -- ---- the store after a commit ----
 
--- after the ask that took a line
+-- After the ask that took a line.
 mid_attached : {F : Type 0} (g : Story) (s : PlayedSession) (first now mid : Standing) (seat : PlayerView F) (n : ℕ) →
     IsPlaying g s first now seat n → mid ≡ record now { lines = mid.lines; asked = now.asked + 1 } →
     mid.attached ≡ Some s.name
 mid_attached g s first now mid seat n w e = ap (λ (q : Standing). q.attached) e ∙ w.rests.attached
 
--- a line was taken that brought a piece
+-- A line was taken that brought a piece.
 pub record Taken {F : Type 0} (g : Story) (s : PlayedSession) (most n events : ℕ) (first now mid : Standing) (seat next : PlayerView F) (given line : List ℕ)
     (found : Step) (w : IsPlaying g s first now seat n) : Type 0 where
   pub few : n < most
@@ -165,9 +165,10 @@ pub taken : {F : Type 0} (g : Story) (s : PlayedSession) (most n events : ℕ) (
 taken g s most n events first now mid seat next given line found w few seated then_seated last lines cut took plays fine counts fit =
     assumption (shows_piece found fine)
 
-module _ {F : Type 0} {g : Story} {s : PlayedSession} {most n events : ℕ} {first now mid : Standing} {seat next : PlayerView F} {given line : List ℕ} {found : Step}
+module _ {F : Type 0} {g : Story} {s : PlayedSession} {most n events : ℕ} {first now mid : Standing} {seat next : PlayerView F}
+    {given line : List ℕ} {found : Step}
     {w : IsPlaying g s first now seat n} (t : Taken g s most n events first now mid seat next given line found w) where
-  -- the text of all lines that were taken
+  -- The text of all lines that were taken.
   whole_is : s.whole (first_lines (suc n) first.lines)
       ≡ going_on_from g w.walking.prompt (reverse seat.machine.frames) (run_at seat w.walking.pieces w.walking.traces (given ∷ []))
   whole_is = read_after Plain g s.whole n (with_store now first) now mid seat given line w.walking t.lines t.cut
@@ -178,7 +179,7 @@ module _ {F : Type 0} {g : Story} {s : PlayedSession} {most n events : ℕ} {fir
   text_more : text_of (s.whole (first_lines (suc n) first.lines)) ≡ concat w.walking.pieces ++ next.piece
   text_more = ap text_of whole_is ∙ text_shown Plain g _ found next w.walking.pieces w.walking.traces tt t.shows machine_stands t.plays
 
-  -- the session that is committed keeps them
+  -- The session that is committed keeps them.
   keeps_more : KeepsLines s first.lines (suc n) (Shown s.digests (seat_state events next) next.piece)
   keeps_more =
       let counts = t.counts in
@@ -208,7 +209,7 @@ module _ {F : Type 0} {g : Story} {s : PlayedSession} {most n events : ℕ} {fir
   digests_still : kept_digests mid.disk.bytes ≡ s.digests
   digests_still = ap (λ (q : Standing). kept_digests q.disk.bytes) t.took ∙ w.digests
 
-  -- inside the commit
+  -- Inside the commit.
   pub in_commit : (m : Moment) → InStore mid
       (CrashLeavesSuch (IsOldOrNew (recover mid.disk.bytes)
       (Shown (kept_digests mid.disk.bytes) (seat_state events next) next.piece))) m → InPlay s first m
@@ -240,9 +241,9 @@ module _ {F : Type 0} {g : Story} {s : PlayedSession} {most n events : ℕ} {fir
       before_it : KeepsLines s first.lines n (recover mid.disk.bytes)
       before_it = subst (λ (q : Standing). KeepsLines s first.lines n (recover q.disk.bytes)) (sym t.took) w.rests.keeps
 
-  -- once it is committed
+  -- Once it is committed.
   module _ (kept : Standing) (beside : ChangesStoreOnly mid kept) where
-    -- the walk, with the store as it stands after the commit
+    -- The walk, with the store as it stands after the commit.
     walking_with : IsWalking Plain g s.whole (with_store kept first) (with_store kept now) seat n
     walking_with = record {
       prompt = w.walking.prompt;
@@ -261,7 +262,7 @@ module _ {F : Type 0} {g : Story} {s : PlayedSession} {most n events : ℕ} {fir
         let b : kept.shown ≡ now.shown = beside.shown ∙ ap (λ (q : Standing). q.shown) t.took in
         ap (λ x. record kept { asked = x }) a ∙ ap (λ x. record kept { asked = now.asked + 1; shown = x }) b
 
-    -- a commit that failed
+    -- A commit that failed.
     uncommitted : Uncommitted s.whole most first kept
     unfolding walking_with
     uncommitted = (
@@ -273,7 +274,7 @@ module _ {F : Type 0} {g : Story} {s : PlayedSession} {most n events : ℕ} {fir
           ∙ ap (advanced (with_store kept first) (suc n)) (append-nil (concat w.walking.pieces) ∙ sym (text_is g s first now seat n w t.seated)),
     )
 
-    -- it leaves the store attached, and no other file has changed
+    -- It leaves the store attached, and no other file has changed.
     stays : StaysAttached s.name first kept
     stays = record {
       attached = beside.attached ∙ attached_still;
@@ -289,14 +290,14 @@ module _ {F : Type 0} {g : Story} {s : PlayedSession} {most n events : ℕ} {fir
     module _ (stable : IsStable kept.disk) (is : recover kept.disk.bytes ≡ Shown (kept_digests mid.disk.bytes) (seat_state events next) next.piece)
         (digests : kept_digests kept.disk.bytes ≡ kept_digests mid.disk.bytes)
         (wrote : kept.disk.bytes ≡ committed (seat_base events next) next.piece mid.disk.bytes) where
-      -- one commit was made of the bytes before
+      -- One commit was made of the bytes before.
       bytes_more : kept.disk.bytes ≡ store_bytes_after s first.lines (suc n) (bytes_before s first.disk.bytes)
       bytes_more =
           more_bytes s n first.lines (seat_state events next) next.piece
           (bytes_before s first.disk.bytes) mid.disk.bytes kept.disk.bytes keeps_more wrote
           (ap (λ (q : Standing). q.disk.bytes) t.took ∙ w.rests.bytes)
 
-      -- the store is at rest, and keeps all lines
+      -- The store is at rest, and keeps all lines.
       rests : RestsWith s first kept (suc n)
       rests = record {
         there = there;
@@ -309,7 +310,7 @@ module _ {F : Type 0} {g : Story} {s : PlayedSession} {most n events : ℕ} {fir
         bytes = bytes_more;
       }
 
-      -- inside the show of its piece
+      -- Inside the show of its piece.
       pub in_show : (m : Moment) → InShow kept next.piece m → InPlay s first m
       in_show m i = subst (InPlay s first) (sym i.1) (record {
         taken = suc n;
@@ -333,7 +334,7 @@ module _ {F : Type 0} {g : Story} {s : PlayedSession} {most n events : ℕ} {fir
         );
       })
 
-      -- what comes of showing it
+      -- What comes of showing it.
       walks_then : (new : Standing) (o : Option PlayEnd) → Told kept new next.piece found o →
           WalksTo Plain g s.whole most (with_store kept first) new next (suc n) o
       unfolding walking_with
@@ -370,7 +371,7 @@ module _ {F : Type 0} {g : Story} {s : PlayedSession} {most n events : ℕ} {fir
       plays_to a new (Some (end.TooDeep table)) told = absurd (halted_stands found (halt.TooDeep table) told.0 refl t.shows)
       plays_to a new (Some _) told = absurd told
 
--- all the lines that a session may have were taken
+-- All the lines that a session may have were taken.
 pub long_play : {F : Type 0} (g : Story) (s : PlayedSession) (most n : ℕ) (first now : Standing) (seat : PlayerView F) →
     IsPlaying g s first now seat n → IsSeated seat → n ≡ most → PlaysOn s most first now (end.Long EVENT_LIMIT)
 long_play g s most n first now seat w seated all = record {
@@ -382,7 +383,7 @@ long_play g s most n first now seat w seated all = record {
 
 module _ {F : Type 0} (g : Story) (s : PlayedSession) (most n : ℕ) (first now : Standing) (seat : PlayerView F)
     (w : IsPlaying g s first now seat n) (seated : IsSeated seat) (few : n < most) where
-  -- no line is left
+  -- No line is left.
   pub no_line : (new : Standing) → AsksTo now new asked.End [] → PlaysOn s most first new end.InputEnded
   no_line new e = rw e.1 (record {
     shows = none_left Plain g s.whole most n (with_store now first) now now seat w.walking seated few (e.0, refl);
@@ -413,7 +414,7 @@ module _ {F : Type 0} (g : Story) (s : PlayedSession) (most n : ℕ) (first now 
           (walks_on Plain g s.whole most n (with_store now first) now mid mid seat next given line found (Some o) w.walking few
           seated then_seated last lines cut took plays told)
 
-      -- the piece is spent, or a call is too deep
+      -- The piece is spent, or a call is too deep.
       pub plays_refused : (o : PlayEnd) → refusal_of found ≡ Some o → PlaysOn s most first mid o
       plays_refused o e = elim found as (λ q. found ≡ q → refusal_of q ≡ Some o → PlaysOn s most first mid o) [
         | step.Waits p ↦ λ is e. cc

@@ -4,7 +4,7 @@ use Rattle.paw_stage.specs.Stage.{Standing}
 use Rattle.paw_play.specs.Played.{PlayedSession}
 use Rattle.paw_play.specs.Keeping.{RestsWith}
 
--- lines that are asked for and a text that is shown leave it as it is
+-- Lines that are asked for and a text that is shown leave it as it is.
 pub rests_on : (s : PlayedSession) (first kept new : Standing) (n : ℕ) (lines : List (List ℕ)) (asked : ℕ) (text : List ℕ) →
     new ≡ record kept { lines = lines; asked = asked; shown = text } → RestsWith s first kept n → RestsWith s first new n
 rests_on s first kept new n lines asked text e r = subst (λ q. RestsWith s first q n) (sym e) (record {

@@ -41,7 +41,7 @@ use Rattle.paw_play.proofs.Walking.{on_waits, first_stands}
 use Rattle.paw_effects.specs.Story.{Story}
 use Rattle.paw_routines.specs.declared.routines.Routines.{Routines}
 
--- the run of a state whose last piece was this
+-- The run of a state whose last piece was this.
 abbrev pub run_from : World → OpenTables → PendingLine → List ℕ → List (List ℕ) → Run
 run_from w m p piece lines = run_with w m p (piece ∷ []) [] lines
 
@@ -107,11 +107,11 @@ waits_at prompt.Over h = absurd (h refl)
 
 -- ---- the session ----
 
--- the session that goes on from what was read of a store's state
+-- The session that goes on from what was read of a store's state.
 abbrev pub read_session : Story → List ℕ → List ℕ → Restored → Standing → PlayedSession
 read_session g name piece r first = from_state g (state_read r) piece (kept_digests first.disk.bytes) name
 
--- a player was made of what was read of the state of the attached store
+-- A player was made of what was read of the state of the attached store.
 pub record MadeOfRead {F : Type 0} (g : Story) (name piece : List ℕ) (r : Restored) (first : Standing) (routines : Routines F)
     (seat : PlayerView F) : Type 0 where
   pub long : length piece ≡ r.piece
@@ -159,7 +159,7 @@ module _ {F : Type 0} {g : Story} {name piece : List ℕ} {r : Restored} {first 
   asked_is : (new : Standing) (text : List ℕ) → new ≡ record first { shown = text } → new.asked ≡ first.asked + 0
   asked_is new text e = ap (λ (q : Standing). q.asked) e ∙ omega arith
 
-  -- inside the show of the piece
+  -- Inside the show of the piece.
   pub in_again_show : (m : Moment) → InShow first piece m → InPlay (read_session g name piece r first) first m
   in_again_show m i = subst (InPlay (read_session g name piece r first) first) (sym i.1) (record {
     taken = 0;
@@ -179,7 +179,7 @@ module _ {F : Type 0} {g : Story} {name piece : List ℕ} {r : Restored} {first 
     );
   })
 
-  -- the session is at its prompt
+  -- The session is at its prompt.
   pub again_next : (new : Standing) → ShowsAgain first new piece r.prompt None →
       IsPlaying (record g { game = seat.game }) (read_session g name piece r first) first new seat 0
   again_next new told = let is = u.is in rw is (record {

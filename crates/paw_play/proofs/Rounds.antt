@@ -34,19 +34,19 @@ use Rattle.paw_play.proofs.Standing.{begun_stands, later_stands}
 
 -- ---- the bytes of the file ----
 
--- an attach leaves the bytes of its file
+-- An attach leaves the bytes of its file.
 attached_bytes : (old : Standing) (name : List ℕ) → store_bytes (attached_to old name) name ≡ store_bytes old name
 attached_bytes old name = ap bytes_or_none (store_attached old name).file
 
 bytes_of : (old new : Standing) (name : List ℕ) → new ≡ attached_to old name → store_bytes new name ≡ store_bytes old name
 bytes_of old new name e = ap (λ (q : Standing). store_bytes q name) e ∙ attached_bytes old name
 
--- so does one that failed
+-- So does one that failed.
 unattached_bytes : (old new : Standing) (name : List ℕ) → Unattached old new → store_bytes new name ≡ store_bytes old name
 unattached_bytes old new name (inl e) = ap (λ (q : Standing). store_bytes q name) e
 unattached_bytes old new name (inr e) = ap (λ (q : Standing). store_bytes q name) e
 
--- and nothing is asked in either
+-- And nothing is asked in either.
 unattached_asked : (old new : Standing) → Unattached old new → new.asked ≡ old.asked + 0 + 0
 unattached_asked old new (inl e) = ap (λ (q : Standing). q.asked) e ∙ omega arith
 unattached_asked old new (inr e) = ap (λ (q : Standing). q.asked) e ∙ omega arith
@@ -54,7 +54,7 @@ unattached_asked old new (inr e) = ap (λ (q : Standing). q.asked) e ∙ omega a
 attached_asked : (old new : Standing) (name : List ℕ) → new ≡ attached_to old name → new.asked ≡ old.asked + 0 + 0
 attached_asked old new name e = ap (λ (q : Standing). q.asked) e ∙ omega arith
 
--- before the attach a crash leaves what the file had
+-- Before the attach a crash leaves what the file had.
 files_left : (old : Standing) (name left : List ℕ) (m : Moment) → NotYet name old m → left ≡ bytes_or_none (m.files name) → left ≡ store_bytes old name
 files_left old name left m n e = elim n.files [
   | inl same ↦ e ∙ ap (λ (f : Files). bytes_or_none (f name)) same
@@ -68,19 +68,19 @@ not_yet_left r bytes m begins n (inl is) = elim n.store [
   | inr none ↦ absurd (let apart : Some r.name ≡ None = sym is.0 ∙ none in cc)
 ]
 
--- of the attached store a crash leaves what the disk may leave
+-- Of the attached store a crash leaves what the disk may leave.
 store_left : (name left : List ℕ) (m : Moment) → m.attached ≡ Some name → MayBeLeft name m left → MayLeave m.disk left
 store_left name left m is (inl may) = may.1
 store_left name left m is (inr apart) = absurd (apart.0 is)
 
 -- ---- the lines of a round ----
 
--- n lines are kept of a round, and there is room for them; the bytes that it left keep them
+-- n lines are kept of a round, and there is room for them; the bytes that it left keep them.
 abbrev KeptOf : PlayedSession → Standing → RoundStop → List ℕ → Type 0
 KeptOf s old stop left = (n : ℕ) × AreKept old stop n × (n ≤ length old.lines) × (s.before + n ≤ EVENT_LIMIT) × KeptBy s old.lines n left
 
 module _ (s : PlayedSession) (old : Standing) where
-  -- of one that a crash cut off all that were taken, or all but the last
+  -- Of one that a crash cut off all that were taken, or all but the last.
   kept_up : (m : Moment) (n : ℕ) (text left : List ℕ) → n ≤ length old.lines → s.before + n ≤ EVENT_LIMIT → m.asked ≡ old.asked + n →
       IsUpToDateWith s old.lines n text left → KeptOf s old (cut_at m) left
   kept_up m zero text left there few asked kept = (0, inl asked, there, few, kept.0)
@@ -152,16 +152,16 @@ module _ (g : Story) (seed : ℕ) (r : Round) (begins : BeginsOver [] r) (made :
 
 -- ---- a later round ----
 
--- n lines are kept of a round, and the bytes that it left stand for those before and these
+-- n lines are kept of a round, and the bytes that it left stand for those before and these.
 abbrev StandsBehind : Story → ℕ → List (List ℕ) → Standing → RoundStop → List ℕ → Type 0
 StandsBehind g seed es old stop left = (n : ℕ) × AreKept old stop n × Stands g seed (es ++ first_lines n old.lines) left
 
 module _ (g : Story) (seed : ℕ) (es : List (List ℕ)) (bytes : List ℕ) (r : Round) (begins : BeginsOver bytes r) (stands : Stands g seed es bytes) where
-  -- with no line more it stands for those before
+  -- With no line more it stands for those before.
   none_more : (left : List ℕ) → left ≡ bytes → Stands g seed (es ++ first_lines 0 r.old.lines) left
   none_more left e = subst (λ q. Stands g seed (es ++ []) q) (sym e) (subst (λ q. Stands g seed q bytes) (sym (append-nil es)) stands)
 
-  -- what is kept of the session stands for those before and its own
+  -- What is kept of the session stands for those before and its own.
   more_stand : (stop : RoundStop) (left : List ℕ) → KeptOf (from_lines g seed es stands.digests r.name) r.old stop left →
       StandsBehind g seed es r.old stop left
   more_stand stop left k =
@@ -198,7 +198,7 @@ cut_is_line line are = record { short = omega (arith, length-take 255 line); byt
 first_are_lines : (n : ℕ) (lines : List (List ℕ)) → All AreBytes lines → All IsLine (first_lines n lines)
 first_are_lines n lines are = All-map IsLine (take 255) (take n lines) (λ k d low. cut_is_line _ (All-take AreBytes n lines are k d low))
 
--- rounds over bytes that stand
+-- Rounds over bytes that stand.
 later_rounds : (g : Story) (seed : ℕ) (es : List (List ℕ)) (bytes : List ℕ) (rounds : List Round) →
     IsPlayedWith g seed es → Stands g seed es bytes → AreRounds g seed bytes rounds →
     (kept : List (List ℕ)) × AreKeptOf rounds kept × Stands g seed (es ++ kept) (left_after bytes rounds)

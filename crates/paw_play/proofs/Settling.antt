@@ -1,4 +1,4 @@
--- Where a reading stops its state keeps the rules.
+-- Where a reading stops its state follows the rules.
 use Rattle.std.proofs.Common.{◌≡◌, ℕ, suc, ◌+◌, ◌*◌, ◌^◌, ◌<◌, ◌≤◌, List, [], ◌∷◌, Option, Some, None, sym, ap, ◌∙◌}
 use Rattle.std.proofs.Common.{subst, length, arith}
 use Rattle.std.specs.Prelude.{IfNone, All}
@@ -32,7 +32,7 @@ use Rattle.paw_play.specs.Stands.{IsPlayedWith}
 use Rattle.paw_process.proofs.Fitting.{places_fit, eleven_rows}
 use Rattle.paw_play.proofs.Going.{Settles, IsSettled}
 
--- no line is left where no table is open
+-- No line is left where no table is open.
 closed_line : (g : GameLists) (p : Prompt) (path : List Frame) (r : Run) → StandsRightly g p path r → IfNone (waiting_code p) (r.pending ≡ [])
 closed_line g p path r k = at (waiting_code p) k.places
   where
@@ -40,7 +40,7 @@ closed_line g p path r k = at (waiting_code p) k.places
     at None places = k.line places.0
     at (Some n) places = tt
 
--- the last piece is as short as each
+-- The last piece is as short as each.
 last_short : (pieces : List (List ℕ)) → All (λ piece. length piece ≤ 65535) pieces → length (last_piece pieces) ≤ 65535
 last_short [] all = omega arith
 last_short (p ∷ []) all = all 0 [] (omega arith)
@@ -63,7 +63,7 @@ saved_alike : (g : GameLists) (n : ℕ) (saved : Option Position) → n ≡ leng
 saved_alike g n None same k = tt
 saved_alike g n (Some q) same k = record { flags = k.flags; places = k.each ∙ sym same }
 
--- a world of the game has the sizes of a world
+-- A world of the game has the sizes of a world.
 world_sound : (g : GameLists) → Valid g → (w : World) → IsWorldOf g w → IsWorld w
 world_sound g v w k = record {
   objects = omega (arith, k.of.places, few_objects g v);
@@ -76,7 +76,7 @@ world_sound g v w k = record {
 -- ---- readings ----
 
 module _ (g : GameLists) (v : Valid g) (seed : ℕ) (n : ℕ) (fits : seed < 2 ^ 64) (few : n ≤ EVENT_LIMIT) where
-  -- one piece was closed for each line, and one before them
+  -- One piece was closed for each line, and one before them.
   drawn : (r : Run) → IsBounded seed 0 r → length r.pieces + length r.events ≡ suc n → r.world.draws ≤ READ_LIMIT * (n + 1)
   drawn r bound count = let most : r.world.draws ≤ 0 + READ_LIMIT * length r.pieces = bound.draws in omega (arith, most, count)
 

@@ -37,7 +37,7 @@ use Rattle.paw_play.specs.Played.{ShowsState, going_on, from_state}
 use Rattle.paw_play.specs.inner.OnTheWay.{IsRestingStore}
 use Rattle.paw_play.proofs.Resuming.{goes_on_from, kept_at, text_at, seat_game, read_session, MadeOfRead}
 
--- a buffer begins with the bytes of a state
+-- A buffer begins with the bytes of a state.
 shows_kept : (digests : Digests) (bytes buffer piece : List ℕ) (st : State) →
     recover bytes ≡ Shown digests (take state_length buffer) piece → take state_length buffer ≡ state_bytes st →
     recover bytes ≡ Shown digests (kept_bytes st) piece
@@ -51,7 +51,7 @@ bytes_same s t e = e
 same_shown : (d e : Digests) (a p b q : List ℕ) → Shown d a p ≡ Shown e b q → (d ≡ e) × (a ≡ b) × (p ≡ q)
 same_shown d e a p b q h = (cc, cc, cc)
 
--- the bytes show one state and one piece, in one session
+-- The bytes show one state and one piece, in one session.
 pub one_state : (g : Story) (d e : Digests) (bytes name : List ℕ) (s t : State) (p q : List ℕ) → Valid g.game →
     ShowsState g.game d bytes s p → ShowsState g.game e bytes t q → from_state g s p d name ≡ from_state g t q e name
 one_state g d e bytes name s t p q valid h k =
@@ -65,7 +65,7 @@ position_from : (g : GameLists) (n : ℕ) (o : Option Position) → n ≡ length
 position_from g n None same alike placed holds = tt
 position_from g n (Some q) same alike placed holds = record { flags = alike.flags; bytes = holds.0; each = alike.places ∙ same; places = placed }
 
--- the world of a state that keeps the rules is one of the game
+-- The world of a state that follows the rules is one of the game.
 world_of : (g : GameLists) (s : State) → IsValidState g s → FitsFields s → IsWorldOf g s.world
 world_of g s k fits =
     let places = (each_of g s k).places in
@@ -85,10 +85,14 @@ closed_line prompt.Again m bytes s p e = absurd (omega (arith, s.tables.some, ap
 closed_line prompt.Key m bytes s p e = absurd (omega (arith, s.tables.some, ap length e))
 closed_line prompt.Over m bytes s p e = p
 
--- what is pending in it may be pending at its prompt
+-- What is pending in it may be pending at its prompt.
 pending_of : (g : GameLists) (s : State) (m : OpenTables) → IsValidState g s → FitsFields s → WaitsAtPrompt s.prompt m → IsPending m s.pending
 pending_of g s m k fits stands =
-    record { bytes = record { short = k.line; bytes = fits.line }; taken = closed_line s.prompt m s.pending.bytes stands (each_of g s k).pending; earlier = fits.earlier }
+    record {
+      bytes = record { short = k.line; bytes = fits.line };
+      taken = closed_line s.prompt m s.pending.bytes stands (each_of g s k).pending;
+      earlier = fits.earlier;
+    }
 
 pub read_fits : (g : GameLists) (bytes : List ℕ) (r : Restored) → IsRead g bytes r → Fits g r.world r.machine r.pending r.prompt
 read_fits g bytes r is =
@@ -116,7 +120,7 @@ resumed g name buffer state piece r first routines seat shown same read long is 
       state = record { keeps = read.keeps; fits = read.fits; shown = shows_kept digests bytes buffer piece (state_read r) there read.are };
     }
 
--- the store shows no other state and piece
+-- The store shows no other state and piece.
 pub one_session : {F : Type 0} (g : Story) (name piece : List ℕ) (r : Restored) (first : Standing) (routines : Routines F) (seat : PlayerView F)
     (digests : Digests) (st : State) (other : List ℕ) → MadeOfRead g name piece r first routines seat →
     ShowsState g.game digests first.disk.bytes st other → read_session g name piece r first ≡ from_state g st other digests name
@@ -126,8 +130,9 @@ one_session g name piece r first routines seat digests st other u shows =
 
 -- ---- a state that bytes show ----
 
-module _ (g : Story) (digests : Digests) (bytes : List ℕ) (st : State) (piece : List ℕ) (valid : Valid g.game) (shows : ShowsState g.game digests bytes st piece) where
-  -- a machine that is restored from the state
+module _ (g : Story) (digests : Digests) (bytes : List ℕ) (st : State) (piece : List ℕ) (valid : Valid g.game)
+    (shows : ShowsState g.game digests bytes st piece) where
+  -- A machine that is restored from the state.
   machine : OpenTables
   machine = restored st.frames (waiting_at st.prompt)
 
@@ -142,7 +147,8 @@ module _ (g : Story) (digests : Digests) (bytes : List ℕ) (st : State) (piece 
       let at : WaitsAtPrompt st.prompt (restored st.frames (waiting_at st.prompt)) =
       stands_at g.game st.prompt st.frames valid shows.keeps.rows (each_of g.game st shows.keeps).frames in
       (restored_fits g.game st.prompt st.frames st.world (restored st.frames (waiting_at st.prompt)) st.pending (world_of g.game st shows.keeps shows.fits)
-      (pending_of g.game st (restored st.frames (waiting_at st.prompt)) shows.keeps shows.fits at) shows.keeps.rows refl at (each_of g.game st shows.keeps).frames).machine
+      (pending_of g.game st (restored st.frames (waiting_at st.prompt)) shows.keeps shows.fits at) shows.keeps.rows refl at
+      (each_of g.game st shows.keeps).frames).machine
 
   long : length piece ≡ st.piece
   unfolding kept_bytes
@@ -150,7 +156,7 @@ module _ (g : Story) (digests : Digests) (bytes : List ℕ) (st : State) (piece 
       let told = piece_told st (long_state g.game st valid shows.keeps shows.fits) shows.fits.piece in
       shown_long bytes digests (state_bytes st) piece shows.shown (omega (arith, told, shows.fits.piece)) ∙ told
 
-  -- it is kept before a line is taken
+  -- It is kept before a line is taken.
   pub state_kept : IsKept digests (st.events + 0) (going_on g st piece []) (recover bytes)
   state_kept =
       subst (IsKept digests (st.events + 0) (going_on g st piece [])) (sym shows.shown)

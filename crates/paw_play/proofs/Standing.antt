@@ -48,7 +48,7 @@ ending_shows g digests n bytes (Halted halt.Over r) k kept =
     (state_at n prompt.Over [] r, last_piece r.pieces, record { keeps = k.keeps; fits = k.fits; shown = kept.shown })
 ending_shows g digests n bytes _ k kept = absurd kept.played
 
--- in the session whose lines they are
+-- In the session whose lines they are.
 shown_of : (g : Story) (seed : ℕ) (es : List (List ℕ)) (bytes : List ℕ) → IsPlayedWith g seed es → (stands : Stands g seed es bytes) →
     (st : State) × (piece : List ℕ) × ShowsState g.game stands.digests bytes st piece
 shown_of g seed es bytes played stands =
@@ -72,7 +72,7 @@ pieces_with_past ps ts last (WaitsAt p path r) ends = refl
 pieces_with_past ps ts last (Halted halt r) ends = refl
 pieces_with_past ps ts last Unended ends = absurd (ends refl)
 
--- going on from a state ends
+-- Going on from a state ends.
 goes_to_an_end : (g : Story) (st : State) (piece : List ℕ) (fs : List (List ℕ)) → going_on g st piece fs ≢ Unended
 goes_to_an_end g st piece fs = going_on_ends g st.prompt (take st.frames.count st.frames.rows) (resumed_run st piece fs)
 
@@ -98,7 +98,7 @@ going_on_is_the_reading g seed es fs p path r played few is =
 count_lines : (n : ℕ) (lines : List (List ℕ)) → n ≤ length lines → length (first_lines n lines) ≡ n
 count_lines n lines there = length-map (take n lines) (take 255) ∙ length-take-le n lines there
 
--- those that it took
+-- Those that it took.
 pub begun_stands : (g : Story) (seed : ℕ) (lines : List (List ℕ)) (name : List ℕ) (n : ℕ) (bytes : List ℕ) → n ≤ length lines → n ≤ EVENT_LIMIT →
     KeptBy (begun g seed name) lines n bytes → Stands g seed (first_lines n lines) bytes
 begun_stands g seed lines name n bytes there few kept =
@@ -131,7 +131,7 @@ kept_lines_stand = record { first = begun_stands; later = later_stands }
 
 -- ---- taking it up again ----
 
--- the bytes show the state that a session goes on from
+-- The bytes show the state that a session goes on from.
 pub record IsShown (g : Story) (name bytes : List ℕ) (s : PlayedSession) : Type 0 where
   pub digests : Digests
   pub belongs : IsOfStory g digests
@@ -185,7 +185,7 @@ never_refused g digests bytes state piece (refusal.Outside c) of is h = h
 same_state : (d e : Digests) (s p t q : List ℕ) → Shown d s p ≡ Shown e t q → s ≡ t
 same_state d e s p t q h = cc
 
--- a buffer that begins with the bytes of a state is fit
+-- A buffer that begins with the bytes of a state is fit.
 is_fit : (g : GameLists) (d e : Digests) (bytes buffer piece q : List ℕ) (st : State) → ShowsState g d bytes st q →
     recover bytes ≡ Shown e (take state_length buffer) piece → Fit g buffer
 unfolding kept_bytes

@@ -8,11 +8,11 @@ use Rattle.paw_process.specs.inner.OpenTables.{OpenTables}
 use Rattle.paw_state.specs.inner.State.{state_of}
 use Rattle.paw_play.specs.Session.{kept_bytes}
 
--- the first bytes of a buffer
+-- The first bytes of a buffer.
 pub cut : (bytes rest into : List ℕ) (n : ℕ) → into ≡ bytes ++ rest → length bytes ≡ n → take n into ≡ bytes
 cut bytes rest into n e l = ap (take n) e ∙ ap (λ k. take k (bytes ++ rest)) (sym l) ∙ take-append_seam bytes rest
 
--- states of the same parts
+-- States of the same parts.
 pub same_parts : (v w : World) (m k : OpenTables) (p q : PendingLine) (a b : Prompt) (events n l : ℕ) → v ≡ w → m ≡ k → p ≡ q → a ≡ b → n ≡ l →
     kept_bytes (state_of v m p a events n) ≡ kept_bytes (state_of w k q b events l)
 same_parts v w m k p q a b events n l e f g h i =

@@ -39,7 +39,7 @@ kept_told : (k : KeptSteps) (steps : List Read) → k ≡ kept_steps steps → k
 kept_told k steps e =
     ap kept_text e ∙ ap (λ xs. flat_map step_line xs ++ more_line (length steps - STEP_LIMIT)) (take_twice STEP_LIMIT steps)
 
--- one piece more
+-- One piece more.
 traced_more : (pieces : List (List ℕ)) (traces : List (List Read)) (piece : List ℕ) (steps : List Read) → length traces ≡ length pieces →
     traced_pieces (pieces ++ piece ∷ []) (traces ++ steps ∷ []) ≡ traced_pieces pieces traces ++ (steps_text steps ++ piece) ∷ []
 traced_more [] [] piece steps each = refl
@@ -48,7 +48,7 @@ traced_more (p ∷ pieces) [] piece steps each = absurd (omega (arith, each))
 traced_more (p ∷ pieces) (t ∷ traces) piece steps each =
     ap (λ xs. (steps_text t ++ p) ∷ xs) (traced_more pieces traces piece steps (omega (arith, each)))
 
--- one piece more of a player
+-- One piece more of a player.
 pub pieces_more : {F : Type 0} (telling : ShowSteps) (next : PlayerView F) (pieces : List (List ℕ)) (traces : List (List Read)) (steps : List Read) →
     HaveSteps telling pieces traces → next.machine.steps ≡ kept_steps steps →
     concat (told_pieces telling (pieces ++ next.piece ∷ []) (traces ++ steps ∷ [])) ≡ concat (told_pieces telling pieces traces) ++ seat_text telling next
@@ -57,7 +57,7 @@ pieces_more Stepped next pieces traces steps each kept =
     ap concat (traced_more pieces traces next.piece steps each) ∙ joined_more (traced_pieces pieces traces) (steps_text steps ++ next.piece)
     ∙ ap (λ t. concat (traced_pieces pieces traces) ++ (t ++ next.piece)) (sym (kept_told next.machine.steps steps kept))
 
--- and it has its steps
+-- And it has its steps.
 pub steps_more : (telling : ShowSteps) (pieces : List (List ℕ)) (traces : List (List Read)) (piece : List ℕ) (steps : List Read) →
     HaveSteps telling pieces traces → HaveSteps telling (pieces ++ piece ∷ []) (traces ++ steps ∷ [])
 steps_more Plain pieces traces piece steps each = tt
@@ -94,7 +94,7 @@ pub told_is : (telling : ShowSteps) (r : Run) (pieces : List (List ℕ)) (traces
 told_is Plain r pieces traces e f = ap concat e
 told_is Stepped r pieces traces e f = ap (λ ps. concat (traced_pieces ps r.traces)) e ∙ ap (λ ts. concat (traced_pieces pieces ts)) f
 
--- the text of a player's last piece comes last
+-- The text of a player's last piece comes last.
 pub told_more : {F : Type 0} (telling : ShowSteps) (next : PlayerView F) (pieces : List (List ℕ)) (traces : List (List Read)) (steps : List Read) →
     HaveSteps telling pieces traces → next.machine.steps ≡ kept_steps steps →
     concat (told_run telling (run_at next (pieces ++ next.piece ∷ []) (traces ++ steps ∷ []) [])).pieces
@@ -103,7 +103,7 @@ told_more telling next pieces traces steps each kept =
     told_is telling (run_at next (pieces ++ next.piece ∷ []) (traces ++ steps ∷ []) []) (pieces ++ next.piece ∷ []) (traces ++ steps ∷ []) refl refl
     ∙ pieces_more telling next pieces traces steps each kept
 
--- a step that isn't refused brings a piece
+-- A step that isn't refused brings a piece.
 pub shows_piece : (found : Step) → None ≡ refusal_of found → IsStanding found
 shows_piece (step.Waits p) h = tt
 shows_piece step.Ended h = tt
@@ -112,19 +112,19 @@ shows_piece (step.TooDeep table) h = cc
 
 -- ---- one text after another ----
 
--- a first part of the first text
+-- A first part of the first text.
 part_of : (n : ℕ) (xs ys : List ℕ) → (m : ℕ) × (take n xs ≡ take m (xs ++ ys))
 part_of zero xs ys = (0, refl)
 part_of (suc n) [] ys = (0, refl)
 part_of (suc n) (x ∷ xs) ys = let k = part_of n xs ys in (suc k.0, ap (λ zs. x ∷ zs) k.1)
 
--- the first text, and a first part of the second
+-- The first text, and a first part of the second.
 past_part : (n : ℕ) (xs ys : List ℕ) → (m : ℕ) × (xs ++ take n ys ≡ take m (xs ++ ys))
 past_part n [] ys = (n, refl)
 past_part n (x ∷ xs) ys = let k = past_part n xs ys in (suc k.0, ap (λ zs. x ∷ zs) k.1)
 
 module _ (old : Standing) (text more : List ℕ) where
-  -- a part of the first was shown
+  -- A part of the first was shown.
   pub part_before : (new : Standing) → ShowsPart text old new → ShowsPart (text ++ more) old new
   part_before new h = let k = part_of h.0 text more in (k.0, h.1 ∙ ap (λ t. with_shown t old) k.1)
 
@@ -132,7 +132,7 @@ module _ (old : Standing) (text more : List ℕ) where
   moment_before m i =
       let k = part_of i.0 text more in (k.0, i.1 ∙ ap (λ t. record (moment_of old) { shown = old.shown ++ t }) k.1)
 
-  -- the first was shown, and the second or a part of it
+  -- The first was shown, and the second or a part of it.
   pub both_shown : (mid new : Standing) → mid ≡ with_shown text old → new ≡ with_shown more mid → new ≡ with_shown (text ++ more) old
   both_shown mid new e f = f ∙ ap (with_shown more) e ∙ ap (λ t. record old { shown = t }) (append_assoc old.shown text more)
 

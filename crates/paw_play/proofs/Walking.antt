@@ -60,7 +60,7 @@ map_append : (xs : List (List ℕ)) (line : List ℕ) → map (take 255) (xs ++ 
 map_append [] line = refl
 map_append (x ∷ xs) line = ap (λ ys. take 255 x ∷ ys) (map_append xs line)
 
--- the lines that come after one more
+-- The lines that come after one more.
 pub lines_more : (lines : List (List ℕ)) (n : ℕ) (line : List ℕ) (rest more : List (List ℕ)) → drop n lines ≡ line ∷ rest →
     first_lines (suc n) lines ++ more ≡ first_lines n lines ++ take 255 line ∷ more
 lines_more lines n line rest more h =
@@ -77,7 +77,7 @@ played_more old n text part line rest h =
     let s : (old.shown ++ text) ++ part ≡ old.shown ++ (text ++ part) = append_assoc old.shown text part in
     rw (a, s, m.0) refl
 
--- once a line was taken and a text shown
+-- Once a line was taken and a text shown.
 pub stands_after : (first now mid new : Standing) (n : ℕ) (text part line : List ℕ) → now ≡ advanced first n text → now.lines ≡ line ∷ mid.lines →
     mid ≡ record now { lines = mid.lines; asked = now.asked + 1 } → new ≡ record mid { shown = mid.shown ++ part } → new ≡ advanced first (suc n) (text ++ part)
 stands_after first now mid new n text part line e l m s =
@@ -98,7 +98,7 @@ path_waits g p lv (f ∷ b ∷ path) r h = rw (path_waits g p (suc lv) (b ∷ pa
 some_path : (frames : List Frame) → 0 < length frames → 0 < length (reverse frames)
 some_path frames h = omega (arith, length-reverse frames)
 
--- a player that waits, with no line left
+-- A player that waits, with no line left.
 pub on_waits : (g : Story) (p : Prompt) (m : OpenTables) (r : Run) → StandsAt p m →
     going_on_from g p (reverse m.frames) (record r { events = [] }) ≡ WaitsAt p (reverse m.frames) (record r { events = [] })
 unfolding at_main
@@ -111,7 +111,7 @@ on_waits g prompt.Over m r h = absurd h
 
 -- ---- a walk at a prompt ----
 
--- what was read of the lines so far waits, and its text was shown
+-- What was read of the lines so far waits, and its text was shown.
 waiting : {F : Type 0} (telling : ShowSteps) (g : Story) (whole : EndingOf) (n : ℕ) (first now : Standing) (seat : PlayerView F) →
     IsWalking telling g whole first now seat n → IsSeated seat →
     WalkWaits (with_shown_steps telling whole) first now n
@@ -130,7 +130,7 @@ waiting telling g whole n first now seat w seated =
       },
     )
 
--- the text of what was read of the lines so far
+-- The text of what was read of the lines so far.
 pub text_so_far : {F : Type 0} (telling : ShowSteps) (g : Story) (whole : EndingOf) (n : ℕ) (first now : Standing) (seat : PlayerView F)
     (w : IsWalking telling g whole first now seat n) → IsSeated seat →
     text_of (with_shown_steps telling whole (first_lines n first.lines)) ≡ concat (told_pieces telling w.pieces w.traces)
@@ -139,7 +139,7 @@ text_so_far telling g whole n first now seat w seated =
     ap text_of (waiting telling g whole n first now seat w seated).3.reading
     ∙ told_is telling (run_at seat w.pieces w.traces []) w.pieces w.traces refl refl
 
--- the text of a step that brings a piece
+-- The text of a step that brings a piece.
 pub text_shown : {F : Type 0} (telling : ShowSteps) (g : Story) (whole : EndingOf) (s : Step) (next : PlayerView F)
     (pieces : List (List ℕ)) (traces : List (List Read)) → HaveSteps telling pieces traces → IsStanding s → StandsClosed s next.machine →
     PlaysTo g whole s next pieces traces →
@@ -156,7 +156,7 @@ text_shown telling g whole step.Ended next pieces traces each h m plays =
 text_shown telling g whole (step.Spent kind) next pieces traces each h m plays = absurd h
 text_shown telling g whole (step.TooDeep u) next pieces traces each h m plays = absurd h
 
--- nothing more is shown
+-- Nothing more is shown.
 pub shown_nothing : (mid : Standing) → mid ≡ record mid { shown = mid.shown ++ [] }
 shown_nothing mid = ap (λ t. record mid { shown = t }) (sym (append-nil mid.shown))
 
@@ -172,7 +172,7 @@ module _ {F : Type 0} (telling : ShowSteps) (g : Story) (whole after : EndingOf)
   read_all : whole (first_lines n first.lines) ≡ after []
   read_all = ap whole (sym (append-nil (first_lines n first.lines))) ∙ whole_after []
 
-  -- part of the text was shown
+  -- Part of the text was shown.
   shown_part : IsStanding s → 0 < length (seat_text telling next) → (m : ℕ) →
       new ≡ record mid { shown = mid.shown ++ take m (seat_text telling next) } → PartShown (with_shown_steps telling whole) first new n
   shown_part shows some m e = record {
@@ -193,7 +193,7 @@ module _ {F : Type 0} (telling : ShowSteps) (g : Story) (whole after : EndingOf)
       all : text_of (with_shown_steps telling whole (first_lines n first.lines)) ≡ concat (told_pieces telling pieces traces) ++ seat_text telling next
       all = ap (λ e. text_of (told_ending telling e)) read_all ∙ text_shown telling g after s next pieces traces each shows machine_stands plays
 
-  -- the reading has ended for good, and no more was shown
+  -- The reading has ended for good, and no more was shown.
   halts : (most : ℕ) → n ≤ most → (halt : Halt) → PlayHalts after halt next pieces traces → new ≡ mid →
       WalkHalts (with_shown_steps telling whole) most first new halt
   halts most few halt stopped same =
@@ -284,7 +284,7 @@ walks_on telling g whole most n first now mid new seat next given line s o w few
 
 module _ {F : Type 0} (telling : ShowSteps) (g : Story) (whole : EndingOf) (most n : ℕ) (first now new : Standing) (seat : PlayerView F)
     (w : IsWalking telling g whole first now seat n) (seated : IsSeated seat) where
-  -- no line is left
+  -- No line is left.
   pub none_left : n < most → (now.lines ≡ []) × (new ≡ now) →
       (length first.lines < most) × WalkWaits (with_shown_steps telling whole) first new (length first.lines)
   none_left few e =
@@ -292,14 +292,14 @@ module _ {F : Type 0} (telling : ShowSteps) (g : Story) (whole : EndingOf) (most
       let at = waiting telling g whole n first now seat w seated in
       (omega (arith, all, few), (at.0, at.1, at.2, rw (← all, e.1) at.3))
 
-  -- the lines can't be asked for
+  -- The lines can't be asked for.
   pub none_asked : n < most → new ≡ now →
       (m : ℕ) × (m < most) × WalkWaits (with_shown_steps telling whole) first new m
   none_asked few e =
       let at = waiting telling g whole n first now seat w seated in
       (n, few, (at.0, at.1, at.2, rw e at.3))
 
--- all the lines that a session may have were taken
+-- All the lines that a session may have were taken.
 pub long_walk : {F : Type 0} (telling : ShowSteps) (g : Story) (whole : EndingOf) (most n : ℕ) (first now : Standing) (seat : PlayerView F) →
     IsWalking telling g whole first now seat n → IsSeated seat → n ≡ most →
     (EVENT_LIMIT ≡ EVENT_LIMIT) × WalkWaits (with_shown_steps telling whole) first now most
@@ -321,7 +321,7 @@ walk_begins telling g whole most old new seat s o seated last plays told =
     (λ part e. first_stands old new part e ∙ ap (λ t. advanced old 0 (t ++ part)) (sym (told_none telling)))
     plays most (omega arith) o told
 
--- a player that was new has played piece 0
+-- A player that was new has played piece 0.
 pub walk_starts : {F : Type 0} (telling : ShowSteps) (g : Story) (seed most : ℕ) (old new : Standing) (fresh seat : PlayerView F) (s : Step)
     (o : Option PlayEnd) → IsNew fresh seed → IsSeated seat → seat.last ≡ s →
     PlaysTo g (reading g fresh.world.seed) s seat [] [] → Told old new (seat_text telling seat) s o →

@@ -11,14 +11,14 @@ use Rattle.paw_play.specs.Walk.{first_lines}
 use Rattle.paw_play.specs.Played.{PlayedSession}
 use Rattle.paw_play.specs.Written.{base_after, bytes_before, store_bytes_after}
 
--- what a session shows, part by part
+-- What a session shows, part by part.
 shown_state_is : (d : Digests) (a p b q : List ℕ) → Shown d a p ≡ Shown d b q → a ≡ b
 shown_state_is d a p b q e = cc
 
 shown_piece_is : (d : Digests) (a p b q : List ℕ) → Shown d a p ≡ Shown d b q → p ≡ q
 shown_piece_is d a p b q e = cc
 
--- a session that keeps a reading has the state and the piece of it
+-- A session that keeps a reading has the state and the piece of it.
 base_is : (digests : Digests) (events : ℕ) (e : Ending) (state piece : List ℕ) → IsKept digests events e (Shown digests state piece) →
     state ++ zeros (base_length - state_length) ≡ base_after events e
 base_is digests events e state piece k =
@@ -38,7 +38,7 @@ pub made_same : (digests : Digests) (state base piece last : List ℕ) → state
     made_session digests state piece ≡ made_session digests base last
 made_same digests state base piece last e f = ap (λ x. made_session digests x piece) e ∙ ap (λ x. made_session digests base x) f
 
--- one commit more
+-- One commit more.
 pub more_bytes : (s : PlayedSession) (n : ℕ) (lines : List (List ℕ)) (state piece begun old new : List ℕ) →
     IsKept s.digests (s.before + suc n) (s.whole (first_lines (suc n) lines)) (Shown s.digests state piece) →
     new ≡ committed (state ++ zeros (base_length - state_length)) piece old → old ≡ store_bytes_after s lines n begun →
@@ -50,7 +50,7 @@ more_bytes s n lines state piece begun old new k wrote before =
     (base_is s.digests (s.before + suc n) e state piece k)
     (piece_is s.digests (s.before + suc n) e state piece k) before
 
--- a session that was made in a store that had no bytes
+-- A session that was made in a store that had no bytes.
 pub made_bytes : (s : PlayedSession) (state piece old new : List ℕ) → IsKept s.digests 0 (s.whole []) (Shown s.digests state piece) →
     length old ≡ 0 → new ≡ made_session s.digests (state ++ zeros (base_length - state_length)) piece → new ≡ bytes_before s old
 made_bytes s state piece [] new k empty made =
@@ -58,7 +58,7 @@ made_bytes s state piece [] new k empty made =
     (base_is s.digests 0 (s.whole []) state piece k) (piece_is s.digests 0 (s.whole []) state piece k)
 made_bytes s state piece (b ∷ old) new k empty made = absurd (omega (arith, empty))
 
--- a store that had some, which show a session
+-- A store that had some, which show a session.
 pub had_bytes : (s : PlayedSession) (kept : Digests) (state piece bytes : List ℕ) → recover bytes ≡ Shown kept state piece → bytes ≡ bytes_before s bytes
 unfolding recover recover_by
 had_bytes s kept state piece [] e = cc

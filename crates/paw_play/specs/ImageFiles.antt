@@ -10,7 +10,7 @@ use Rattle.paw_stage.specs.Stage.{Standing}
 abbrev pub Holds : Standing → Name → GameLists → Type 0
 Holds s name g = (bytes : Bytes) × (s.files name ≡ Some bytes) × IsImage bytes g
 
--- The file of this name holds no image of a valid game; the first rule that its bytes break is broken at this place.
+-- The file of this name holds no image of a valid game; the first rule that its bytes break is broken at this offset.
 abbrev pub HoldsDamage : Standing → Name → ℕ → Type 0
 HoldsDamage s name at = (bytes : Bytes) × (s.files name ≡ Some bytes) × ((g : GameLists) → ¬ IsImage bytes g)
     × (bad bytes ≡ Some at)

@@ -28,7 +28,7 @@ use Rattle.paw_play.specs.Played.{PlayedSession, ShowsState, begun, from_lines, 
 use Rattle.paw_play.specs.Keeping.{KeptBy, InPlay, InNewSession}
 use Rattle.paw_play.specs.Play.{store_bytes, NotYet, NewSession, GoesOn}
 
--- The bytes hold a session of the story, which shows a state of the game that keeps all its rules, and a piece.
+-- The bytes hold a session of the story, which shows a state of the game that follows all its rules, and a piece.
 pub record ShowsSome (g : Story) (bytes : Bytes) : Type 0 where
   pub digests : Digests
   pub belongs : IsOfStory g digests
@@ -36,7 +36,7 @@ pub record ShowsSome (g : Story) (bytes : Bytes) : Type 0 where
   pub piece : Text
   pub shows : ShowsState g.game digests bytes state piece
 
--- A store that stands for some lines shows a state of the game that keeps all its rules.
+-- A store that stands for some lines shows a state of the game that follows all its rules.
 abbrev pub StandingShows : Type 0
 StandingShows = (g : Story) (seed : Seed) (es : Lines) (bytes : Bytes) → IsPlayedWith g seed es →
     Stands g seed es bytes → ShowsSome g bytes
@@ -60,7 +60,7 @@ pub record KeptLinesStand : Type 0 where
 
 -- ---- going on ----
 
--- Going on with more lines from a state of a reading, after its last piece, is reading them all. The state keeps all
+-- Going on with more lines from a state of a reading, after its last piece, is reading them all. The state follows all
 -- rules of the game; going on ends as the whole reading does, at the same prompt and in the same world; and the pieces
 -- of the whole reading are those before, and then those that going on adds.
 pub record GoesOnAsRead (g : Story) (seed : Seed) (es fs : Lines) (st : State) (piece : Text) : Type 0 where

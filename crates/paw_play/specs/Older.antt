@@ -11,8 +11,8 @@ use Rattle.paw_play.specs.Session.{IsOfStory, state_after, IsPlayed}
 use Rattle.paw_play.specs.Stands.{Stands, IsPlayedWith}
 
 -- The slot in use is of version 1, which has the first 1,371 bytes of a state. It shows a state in a session with these
--- digests, and the last piece of a reading. The first 1,371 bytes of that state are those of the state where the reading
--- ended after this number of lines.
+-- digests, and the last piece of a reading. The first 1,371 bytes of that state are those of the state where the
+-- reading ended after this number of lines.
 pub record KeepsAsOlder (digests : Digests) (events : ℕ) (e : Ending) (bytes : Bytes) : Type 0 where
   pub played : IsPlayed e
   pub first : form_length (slot_version (slot (chosen bytes) bytes)) ≡ first_length

@@ -9,7 +9,7 @@ use Rattle.paw_reading.specs.Turn.{Ending, WaitsAt, Halted, Unended}
 
 -- ---- the text of steps ----
 
--- The place of a condact: its table, its entry there, and its number in the entry, each counted from 0.
+-- The address of a condact: its table, its entry there, and its number in the entry, each counted from 0.
 abbrev pub step_address : ℕ → ℕ → ℕ → Text
 step_address table entry at = decimal table ++ (codes "." ++ (decimal entry ++ (codes "." ++ decimal at)))
 

@@ -3,7 +3,7 @@
 ghost use Rattle.paw_play.specs.Laws.{StandingShows, StandingGoesOn, KeptLinesStand, GoingOnIsTheReading, RoundsStand};
 ghost use Rattle.paw_play.specs.Older.{OlderSessionsStand};
 
-/// A store that stands for lines of a game shows a state that keeps all rules, so it is never refused.
+/// A store that stands for lines of a game shows a state that follows all rules, so it is never refused.
 pub fn standing_shows()
     ensures shows { StandingShows }
 {}
@@ -20,7 +20,7 @@ pub fn kept_lines_stand()
 {}
 
 /// Going on from the state in which the reading of some lines waits is the reading of those lines and the ones that
-/// follow: the same pieces, the same end. Each such state keeps all rules of the game.
+/// follow: the same pieces, the same end. Each such state follows all rules of the game.
 pub fn going_on_is_the_reading()
     ensures goes_on { GoingOnIsTheReading }
 {}

@@ -21,7 +21,7 @@ use paw_reading::places::Halt;
 use paw_stage::StageCall;
 
 /// How playing ends. Occupied: a new session was asked for, and its store has bytes already. Refused: the store gives
-/// no session of the game. State: its session shows no state of the game; the place of the first field that breaks a
+/// no session of the game. State: its session shows no state of the game; the offset of the first field that breaks a
 /// rule. Ended: the game is over. InputEnded: no line is left at a prompt. Spent: a piece would read or hold too much.
 /// TooDeep: a table was called at the deepest level. Long: the session has all the lines that it may have. Outside: a
 /// call of the stage failed. Memory: lack of memory, before the first piece is shown.

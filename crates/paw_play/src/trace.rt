@@ -35,7 +35,7 @@ fn put_name(text: &mut Piece, code: u8) -> bool
     }
 }
 
-/// Puts the place of a condact.
+/// Puts the address of a condact.
 fn put_address(text: &mut Piece, table: u8, entry: u16, at: u8) -> bool
     ensures puts { Puts text.old text.new result (step_address table entry at) }
     ensures short { length (step_address table entry at) ≤ 13 }

@@ -27,7 +27,7 @@ use paw_stage::{Asked, Failed, Stage, StageCall};
 use paw_turn::{Player, Step, halt_of};
 use std::alloc::Global;
 
-/// The end of playing at a step that brings no piece, because play ended before it was closed. None where it brings
+/// The end of playing at a line that brings no piece, because play ended before it was closed. None where it brings
 /// one.
 pub(crate) fn end_without_piece(step: Step) -> Option<PlayEnd>
     ensures value { result ≡ refusal_of step }
@@ -62,7 +62,7 @@ fn show_last<P: Preface, S: Stage, T: Tables, F: Fn(u8, u8) -> u8>(
     }
 }
 
-/// Shows what a step brought. None where the player waits for the next line; otherwise how playing ends.
+/// Shows what a line brought. None where the player waits for the next line; otherwise how playing ends.
 pub(crate) fn show_step<P: Preface, S: Stage, T: Tables, F: Fn(u8, u8) -> u8>(
     preface: &mut P,
     stage: &mut S,

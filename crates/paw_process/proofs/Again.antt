@@ -27,7 +27,7 @@ use Rattle.paw_process.specs.inner.Kept.{restored, waiting_at, WaitsAtPrompt}
 
 -- ---- the machine again ----
 
--- the rows of a path hold it
+-- The frames of a path hold it.
 pub path_again : (path : List Frame) (turning : Option OpenLoop) → take (length path) (frames_at path turning).rows ≡ path
 path_again path turning = take-append_seam path (replicate (11 - length path) unused)
 
@@ -48,7 +48,7 @@ pub kept_again : (p : Prompt) (k : Frames) (m : OpenTables) → k ≡ kept m →
     → restored k (waiting_at p) ≡ refilled m
 kept_again p k m is stands = ap (λ (u : Frames). restored u (waiting_at p)) is ∙ restored_again p m stands
 
--- ---- the same places again ----
+-- ---- the same frames again ----
 
 is_not : (b : Bool) → not b ≡ true → b ≡ false
 is_not true h = cc
@@ -65,7 +65,7 @@ unused_is f h =
     none_of f.table f.entry f.at f.acted (eqb-true f.table 0 (first_of (f.table == 0) _ h)) (eqb-true f.entry 0 (first_of (f.entry == 0) _ later))
     (eqb-true f.at 0 (first_of (f.at == 0) _ last)) (is_not f.acted (second (f.at == 0) _ last))
 
--- with no row in use each is unused
+-- With no frame in use each is unused.
 none_used : (g : GameLists) (code : ℕ) (caller : Option ℕ) (d : ℕ) (rows : List Frame) → rows_fault g code caller 0 d rows ≡ None
     → rows ≡ replicate (length rows) unused
 unfolding rows_fault
@@ -78,7 +78,7 @@ none_used g code caller d (f ∷ fs) h = go (none_used g code (Some (parameter_o
     go later true e q = let same = unused_is f e in let rest = later q in cc (same, rest)
     go later false e q = cc
 
--- Each row after those in use is unused.
+-- Each frame after those in use is unused.
 used_then_not : (g : GameLists) (code : ℕ) (caller : Option ℕ) (n d : ℕ) (rows : List Frame) → rows_fault g code caller n d rows ≡ None
     → rows ≡ take n rows ++ replicate (length rows - n) unused
 unfolding rows_fault

@@ -1,4 +1,4 @@
--- Kept places keep their rules exactly where they are places of a run.
+-- Kept frames follow their rules exactly where they are frames of a run.
 use Rattle.std.proofs.Common.{◌≡◌, ℕ, zero, suc, ◌-◌, ◌≤◌, ◌<◌, Bool, true, false, ◌&&◌, List, [], ◌∷◌, ◌++◌, Option}
 use Rattle.std.proofs.Common.{Some}
 use Rattle.std.proofs.Common.{None, refl, sym, ap, ◌∙◌, subst, length, take, replicate, reverse, slice_get, arith}
@@ -29,7 +29,7 @@ use Rattle.paw_process.specs.declared.kept.Frames.{Frames}
 use Rattle.paw_process.proofs.PathRows.{unused_stand, row_calls, path_stands, loop_fits, both_none}
 use Rattle.paw_process.proofs.Restored.{first_of, second, no_first, none_open}
 
--- ---- the places of a run ----
+-- ---- the frames of a run ----
 
 some_table : (g : GameLists) (code : ℕ) (path : List Frame) → LeadsTo g code path → 0 < length path
 some_table g code [] leads = absurd leads
@@ -46,14 +46,14 @@ places_fit g (Some code) path turning at =
     (path_stands g code None path 0 (11 - length path) at.leads opens)
     (loop_fits g path (replicate (11 - length path) unused) (length path) turning turning refl at.loop))
 
--- there are eleven rows
+-- There are eleven frames.
 pub eleven_rows : (g : GameLists) (code : Option ℕ) (path : List Frame) (turning : Option OpenLoop) → AreOpenAt g code path turning
     → length (frames_at path turning).rows ≡ 11
 eleven_rows g None path turning at = rw at.0 refl
 eleven_rows g (Some code) path turning at =
     omega (arith, length-append path (replicate (11 - length path) unused), length-replicate (11 - length path) unused, at.few)
 
--- ---- rows that stand are places ----
+-- ---- frames that stand are those of a run ----
 
 coded : (code : ℕ) (o : Option Condact) → has_code code o ≡ true → (c : Condact) × ((o ≡ Some c) × (c.code ≡ code))
 coded code None h = cc
@@ -62,7 +62,7 @@ coded code (Some c) h = (c, (refl, eqb-true c.code code h))
 opened_by : (c : Condact) (u : ℕ) (o : Option Condact) → o ≡ Some c → may_open (Some (parameter_of o)) u ≡ true → c.a ≡ u
 opened_by c u o at h = sym (eqb-true u c.a (rw at at h))
 
--- what a row that stands says
+-- What a frame that stands says.
 record Row (g : GameLists) (code : ℕ) (caller : Option ℕ) (f : Frame) : Type 0 where
   opens : may_open caller f.table ≡ true
   condact : Condact
@@ -86,7 +86,7 @@ later_rows g code caller n d f fs h = go (row_stands g code caller (suc n) f) re
     go true e q = let m : suc n - 1 ≡ n = omega arith in (e, rw m at q)
     go false e q = cc
 
--- the rows that are used lead to the condact
+-- The frames that are used lead to the condact.
 rows_lead : (g : GameLists) (code : ℕ) (caller : Option ℕ) (n d : ℕ) (rows : List Frame) → suc n ≤ length rows → rows_fault g code caller (suc n) d rows ≡ None
     → LeadsTo g code (take (suc n) rows) × (may_open caller (first_table (take (suc n) rows)) ≡ true)
 rows_lead g code caller n d [] size h = absurd (omega arith)
@@ -161,7 +161,7 @@ open_places g code k size h = go (count_fits (Some code) k.count) refl h
         at k.count (ltb-true 0 k.count (first_of (nat_lt 0 k.count) _ e)) (leb-true k.count 11 (second (nat_lt 0 k.count) _ e)) refl fits.0 fits.1
     go false e q = cc
 
--- the other way round: kept places that keep their rules are those of a run
+-- The other way round: kept frames that follow their rules are those of a run.
 pub kept_places : (g : GameLists) (p : Prompt) (k : Frames) → length k.rows ≡ 11 → frames_fault g p k ≡ None
     → AreFramesAndLoop g p (reverse (reverse (take k.count k.rows))) k.turning
 kept_places g prompt.Main k size h = let closed = none_open g k h in (ap (λ (s : List Frame). reverse s) closed.frames, closed.turning)

@@ -16,7 +16,7 @@ use Rattle.paw_process.specs.inner.OpenTables.{below}
 use Rattle.paw_process.specs.inner.Meaning.{to_come, going_in, AnswersQuit, AnswersKey}
 use Rattle.paw_process.specs.inner.Moves.{resolved, past_of, after_quit, after_key}
 
--- a line that isn't ignored is heard, and answers
+-- A line that isn't ignored is heard, and answers.
 hears : (g : Story) (p : Prompt) (f : Frame) (go : Bool → Run → Out) (r : Run) (line : List ℕ) (lines : List (List ℕ))
     → is_ignored r.world line ≡ false
     → asked g p f go (to_come (line ∷ lines) r) (line ∷ lines) ≡ answered g p f go (reply line) (heard line (to_come lines r))

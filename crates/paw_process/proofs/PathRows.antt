@@ -1,4 +1,5 @@
--- The rows of a path that leads to a condact keep the rules of kept places, and so does the loop of one of its tables.
+-- The frames of a path that leads to a condact follow the rules of kept frames, and so does the loop of one of its
+-- tables.
 use Rattle.std.proofs.Common.{◌≡◌, ℕ, zero, suc, ◌-◌, ◌<◌, true, false, ◌&&◌, List, [], ◌∷◌, ◌++◌, Option, Some, None}
 use Rattle.std.proofs.Common.{refl, ◌∙◌, length, replicate, slice_get}
 use Rattle.std.proofs.Common.{arith}
@@ -19,7 +20,7 @@ use Rattle.paw_process.specs.inner.Kept.{is_that_table}
 use Rattle.paw_process.specs.inner.Kept.{loop_fault}
 use Rattle.paw_process.proofs.Rows.{table_of}
 
--- rows that aren't used stand
+-- Frames that aren't used stand.
 pub unused_stand : (g : GameLists) (code : ℕ) (caller : Option ℕ) (d k : ℕ) → rows_fault g code caller 0 d (replicate k unused) ≡ None
 unfolding rows_fault
 unused_stand g code caller d zero = refl
@@ -36,7 +37,7 @@ row_goes : (g : GameLists) (code : ℕ) (caller : Option ℕ) (n d : ℕ) (f : F
 unfolding rows_fault
 row_goes g code caller n d f fs stands later = let m : suc n - 1 ≡ n = omega arith in rw (stands, m) later
 
--- a row before the last that is used
+-- A frame before the last that is used.
 pub row_calls : (g : GameLists) (code : ℕ) (caller : Option ℕ) (n : ℕ) (f : Frame)
     → row_stands g code caller (suc (suc n)) f ≡ (may_open caller f.table && has_code 85 (condact_at_frame g f))
 row_calls g code caller n f =
@@ -84,7 +85,7 @@ loop_fits g path rows count (Some l) p size k =
       last,
     ) refl
 
--- ---- the rows and the loop together ----
+-- ---- the frames and the loop together ----
 
 pub both_none : (a b : Option ℕ) → a ≡ None → b ≡ None → option_or a b ≡ None
 both_none None b h k = k

@@ -72,7 +72,7 @@ module _ (g : Story) (fs : List Frame) (f : Frame) (c : Condact) (r : Run) where
 
 -- ---- actions ----
 
--- with the same effect
+-- With the same effect.
 pub acted_as : (g : Story) (fs : List Frame) (f : Frame) (e e' : Effect) (r : Run) → e ≡ e' → acted_at g fs f e r ≡ acted_at g fs f e' r
 acted_as g fs f e e' r h = ap (λ (x : Effect). acted_at g fs f x r) h
 
@@ -97,7 +97,7 @@ parse_at g fs f found.Sentence s m w p r (t, e, ew, ev) = rw (e, ew, ev, add-one
 parse_at g fs f found.Nothing s m w p r (e, ew, ev) = rw (e, ew, ev, add-one) refl
 parse_at g fs f found.Empty s m w p r (e, ew, ep) = rw (e, ew, ep, add-one) refl
 
--- what an action did where it isn't spent
+-- What an action did where it isn't spent.
 did_as : (d : Done) (old new : List ℕ) (w : World) (a : Act) (e : Effect) → DoesAs d old new w a e → (e ≡ effect.Spent → ⊥)
     → (length old + length d.text ≤ 65535) × (new ≡ old ++ d.text) × (w ≡ d.world) × (a ≡ d.act)
 did_as d old new w a effect.Go h n = h
@@ -117,12 +117,12 @@ pub did_spent : (d : Done) (old new : List ℕ) (w : World) (a : Act)
     → Does d old new w a → effect.Spent ≡ a.effect → 65535 < length old + length d.text
 did_spent d old new w a h e = subst (DoesAs d old new w a) (sym e) h
 
--- reading goes on once an action is carried out
+-- Reading goes on once an action is carried out.
 abbrev carrying_on : Story → List Frame → Frame → Done → Run → Out
 carrying_on g fs f d r =
     after_action g (deeper g (length fs)) (length fs) f (next_of g fs f) (past_of g fs f) d.act.effect (carried_out d r)
 
--- an action is carried out
+-- An action is carried out.
 pub act_at : (g : Story) (fs : List Frame) (f : Frame) (d : Done) (s s' : Surroundings) (m m' : OpenTables) (a : Act) (r : Run)
     → length s.piece + length d.text ≤ 65535 → s'.piece ≡ s.piece ++ d.text → s'.world ≡ d.world → a ≡ d.act
     → s'.pending ≡ record s.pending { bytes = if a.drop_line then [] else s.pending.bytes }
@@ -132,7 +132,7 @@ pub act_at : (g : Story) (fs : List Frame) (f : Frame) (d : Done) (s s' : Surrou
 act_at g fs f d s s' m m' a r low ep ew ea eq eo =
     ap (resolved g fs) (fit (run_held (having s m) r) d.text (carrying_on g fs f d) low) ∙ rw (eq, eo, ep, ew, ea) refl
 
--- an action that isn't spent is carried out, and reading goes on
+-- An action that isn't spent is carried out, and reading goes on.
 pub act_follows : (g : Story) (old mid : OpenTables) (f : Frame) (c : Condact) (s s' : Surroundings) (a : Act) (r : Run)
     → is_condition c ≡ false → Does (effect_of g s.world c) s.piece s'.piece s'.world a → (a.effect ≡ effect.Spent → ⊥)
     → s'.pending ≡ record s.pending { bytes = if a.drop_line then [] else s.pending.bytes }
@@ -147,7 +147,7 @@ act_follows g old mid f c s s' a r kind does unspent eq em =
     (one_acts g (below old.frames) f c (run_held (having s old) r) kind
     ∙ act_at g (below old.frames) f d s s' old cancelled a (noted f c true r) m.0 m.1 m.2 m.3 eq refl)
 
--- an action whose text doesn't fit
+-- An action whose text doesn't fit.
 pub act_spends : (g : Story) (old : OpenTables) (f : Frame) (c : Condact) (s s' : Surroundings) (a : Act) (r : Run)
     → is_condition c ≡ false → Does (effect_of g s.world c) s.piece s'.piece s'.world a → effect.Spent ≡ a.effect
     → one_at g (below old.frames) f c (run_held (having s old) r) ≡ halts (halt.Spent spent.Text) (noted f c true (run_held (having s old) r))
@@ -159,13 +159,13 @@ act_spends g old f c s s' a r kind does is =
 
 -- ---- what one condact is ----
 
--- a machine that moved in its tables has read nothing
+-- A machine that moved in its tables has read nothing.
 pub moved_none : (old new : OpenTables) (fs : List Frame) (turning : Option OpenLoop) (waiting : Option Prompt)
     → new ≡ record old { frames = fs; turning = turning; waiting = waiting } → ReadsNone old new
 moved_none old new fs turning waiting e =
     record { left = ap (λ (m : OpenTables). m.left) e; steps = ap (λ (m : OpenTables). m.steps) e }
 
--- a step, and then nothing
+-- A step, and then nothing.
 pub step_then : (step : Step) (old mid new : OpenTables) → ReadsStep step old mid → ReadsNone mid new → ReadsStep step old new
 step_then step old mid new one none = record { left = omega (arith, one.left, none.left); steps = none.steps ∙ one.steps }
 
@@ -241,7 +241,7 @@ module _ (g : Story) (old mid : OpenTables) (f : Frame) (c : Condact) (s : Surro
 
 -- ---- steps ----
 
--- nothing was read
+-- Nothing was read.
 pub reads_nothing : (g : Story) (x : Run → Out) (old : Held) (t : Option Turned) (new : Held) → ReadsNone old.machine new.machine
     → ((r : Run) → Continues g (x (run_held old r)) t new.machine.frames (run_held new r)) → ReadsTable g x old t new
 reads_nothing g x old t new none h r has = (
@@ -250,26 +250,26 @@ reads_nothing g x old t new none h r has = (
   λ lines. rw (append-nil r.read) (h (to_come lines r)),
 )
 
--- what reads the same as something reads as it does
+-- What reads the same as something reads as it does.
 pub reads_from : (g : Story) (x y : Run → Out) (old : Held) (t : Option Turned) (new : Held) → ((r : Run) → x (run_held old r) ≡ y (run_held old r))
     → ReadsTable g y old t new → ReadsTable g x old t new
 reads_from g x y old t new h k r has =
     let m = k r has in
     (m.0, m.1, λ lines. goes_from g _ _ t new.machine.frames _ (h (to_come lines r)) (m.2 lines))
 
--- a machine that moved in its tables has read the same
+-- A machine that moved in its tables has read the same.
 pub reads_moved : (g : Story) (x : Run → Out) (old : Held) (fs : List Frame) (t : Option Turned) (new : Held)
     → ReadsTable g x (record old { machine = record old.machine { frames = fs } }) t new → ReadsTable g x old t new
 reads_moved g x old fs t new k r has = k r (record { left = has.left; steps = has.steps })
 
--- the steps with one more
+-- The steps with one more.
 more_read : (read : List Step) (step : Step) (old new : OpenTables) → HasRead read old → ReadsStep step old new → HasRead (read ++ step ∷ []) new
 more_read read step old new has one = record {
   left = omega (arith, has.left, one.left, length-append read (step ∷ []));
   steps = one.steps ∙ ap (λ (kept : KeptSteps). noted_step step kept) has.steps ∙ kept_noted read step;
 }
 
--- a condact was read
+-- A condact was read.
 pub reads_one : (g : Story) (f : Frame) (c : Condact) (old : Held) (t : Option Turned) (new : Held) → condact_at g.game f.table f.entry f.at ≡ Some c
     → 0 < old.machine.left → ReadsOne g (below old.machine.frames) f c old t new → ReadsTable g (reading_at g (below old.machine.frames) f) old t new
 reads_one g f c old t new is may one r has = (
@@ -281,7 +281,7 @@ reads_one g f c old t new is may one r has = (
       (one.2 (to_come lines r)),
 )
 
--- the budget is used up
+-- The budget is used up.
 pub reads_spent : (g : Story) (fs : List Frame) (f : Frame) (c : Condact) (old : Held) (t : Option Turned) (new : Held)
     → condact_at g.game f.table f.entry f.at ≡ Some c → old.machine.left ≡ 0 → ReadsNone old.machine new.machine
     → t ≡ Some (turned.Halted (halt.Spent spent.Condacts)) → ReadsTable g (reading_at g fs f) old t new
@@ -294,7 +294,7 @@ reads_spent g fs f c old t new is none same e r has = (
       (record { pieces = refl; traces = refl; events = refl }),
 )
 
--- one reading after another
+-- One reading after another.
 pub reads_on : (g : Story) (x : Run → Out) (old mid : Held) (t : Option Turned) (new : Held) → ReadsTable g x old None mid
     → ReadsTable g (going_in g mid.machine.frames) mid t new → ReadsTable g x old t new
 reads_on g x old mid t new h k r has =
@@ -308,11 +308,11 @@ reads_on g x old mid t new h k r has =
           (to_come lines (run_held new (record r { read = s })))) (append_assoc r.read m.0 n.0) (n.2 lines)),
     )
 
--- a run that shows what is held is the run with it
+-- A run that shows what is held is the run with it.
 showing_shown : (r : Run) (h : Held) → ShowsHeld r h → run_held h r ≡ r
 showing_shown r h s = rw (← s.world, ← s.pending, ← s.earlier, ← s.turning, ← s.current) refl
 
--- what was read, for every run that shows what was held
+-- What was read, for every run that shows what was held.
 pub runs_to : (g : Story) (old : Held) (t : Turned) (new : Held) → ReadsTable g (going_in g old.machine.frames) old (Some t) new → RunsTo g old t new
 runs_to g old t new h r s =
     let m = h r s.read in (

@@ -1,4 +1,4 @@
--- Kept places that keep their rules.
+-- Kept frames that follow their rules.
 use Rattle.std.proofs.Common.{◌≡◌, ℕ, zero, suc, ◌-◌, ◌≤◌, ◌<◌, Bool, true, false, ◌&&◌, List, [], ◌∷◌}
 use Rattle.std.proofs.Common.{Option, Some, None, refl, length, take, reverse, slice_get, arith}
 use Rattle.std.specs.Prelude.{◌==◌, if◌then◌else◌, nat_lt}
@@ -27,7 +27,7 @@ use Rattle.paw_process.specs.declared.kept.Frames.{Frames}
 use Rattle.paw_process.specs.inner.OpenTables.{below, IsAtCondact, AtCondacts, InTable, IsLoopWithin, LoopFits}
 use Rattle.paw_process.specs.inner.OpenTables.{IsWaiting, IsClosed}
 
--- the rows one by one
+-- The frames one by one.
 pub rows_none : (g : GameLists) (code : ℕ) (caller : Option ℕ) (n d : ℕ) (rows : List Frame) → length rows ≡ 0 → None ≡ rows_fault g code caller n d rows
 unfolding rows_fault
 rows_none g code caller n d [] h = refl
@@ -44,7 +44,7 @@ pub rows_later : (g : GameLists) (code : ℕ) (caller : Option ℕ) (n d : ℕ) 
 unfolding rows_fault
 rows_later g code caller n d rows f fs e h = rw (e, h) refl
 
--- a row that is used stands at a condact
+-- A frame that is used stands at a condact.
 coded : (g : GameLists) (f : Frame) (code : ℕ) (o : Option Condact) → Valid g → condact_at_frame g f ≡ o → has_code code o ≡ true → IsAtCondact f
 coded g f code None v e h = cc
 coded g f code (Some c) v e h = record {
@@ -82,7 +82,7 @@ at_condacts g code caller (suc n) d (f ∷ fs) v h =
         let m : suc n - 1 ≡ n = omega arith in (used_row g code caller n f v e, later (rw m at q))
     go later false e q = cc
 
--- the frames in the other order
+-- The frames in the other order.
 onto_condacts : (fs gs : List Frame) → AtCondacts fs → AtCondacts gs → AtCondacts (reverse_aux fs gs)
 onto_condacts [] gs h k = k
 onto_condacts (f ∷ fs) gs h k = onto_condacts fs (f ∷ gs) h.1 (h.0, k)
@@ -92,7 +92,7 @@ reverse_condacts fs h = onto_condacts fs [] h tt
 
 -- ---- the machine ----
 
--- with no first fault there is none later
+-- With no first fault there is none later.
 pub no_first : (a b : Option ℕ) → option_or a b ≡ None → (a ≡ None) × (b ≡ None)
 no_first None b h = (refl, h)
 no_first (Some d) b h = cc
@@ -119,7 +119,7 @@ below_in : (fs : List Frame) → AtCondacts fs → AtCondacts (below fs)
 below_in [] h = tt
 below_in (f ∷ fs) h = h.1
 
--- places with one to eleven frames are those of a machine that waits
+-- Kept frames, one to eleven of them, are those of a machine that waits.
 waits_at : (g : GameLists) (p : Prompt) (code : ℕ) (k : Frames) → Valid g → length k.rows ≡ 11 → fault_at g (Some code) k ≡ None
     → IsWaiting p (restored k (Some p))
 waits_at g p code k v size h = go (count_fits (Some code) k.count) refl h
@@ -146,7 +146,7 @@ waits_at g p code k v size h = go (count_fits (Some code) k.count) refl h
         }
     go false e q = cc
 
--- places with no frame are those of a machine with nothing open
+-- Kept frames of which none is used are those of a machine with nothing open.
 pub none_open : (g : GameLists) (k : Frames) → fault_at g None k ≡ None → IsClosed (restored k None)
 none_open g k h = go (count_fits None k.count) refl h
   where

@@ -1,4 +1,4 @@
--- The rows of the machine, as a list with the innermost first.
+-- The frames of the machine, as a list with the innermost first.
 use Rattle.std.proofs.Common.{◌≡◌, ℕ, zero, suc, ◌-◌, ◌≤◌, ◌<◌, false, List, [], ◌∷◌, ◌++◌, Option, length}
 use Rattle.std.proofs.Common.{take, drop, replicate, reverse, slice_set, refl, ap, ◌∙◌, subst, arith}
 use Rattle.std.specs.Option.{option_map}
@@ -12,11 +12,11 @@ use Rattle.paw_process.specs.inner.Kept.{kept, unused}
 use Rattle.paw_process.specs.inner.OpenTables.{OpenTables}
 use Rattle.paw_process.specs.inner.OpenTables.{below}
 
--- the table of a frame that may be there
+-- The table of a frame that may be there.
 abbrev pub table_of : Option Frame → Option ℕ
 table_of o = option_map (λ f. f.table) o
 
--- what the machine's parts are seen as
+-- What the machine's parts are seen as.
 abbrev pub seen : List Frame → ℕ → Option OpenLoop → Option Prompt → ℕ → KeptSteps → OpenTables
 seen rows n turning waiting left steps = record { frames = reverse (take n rows); turning = turning; waiting = waiting; left = left; steps = steps }
 

@@ -32,15 +32,15 @@ use Rattle.paw_process.specs.inner.Moves.{resolved, next_of, past_of, reading_at
 -- ---- the loop ----
 
 module _ (g : Story) (lv : ℕ) (l : OpenLoop) (body : Run → Out) where
-  -- the loop over the last n objects
+  -- The loop over the last n objects.
   abbrev over : ℕ → Run → Out
   over n r = over_objects g lv (record l { last = 0 }) body n r
 
-  -- the loop once it has taken an object, with n objects after it
+  -- The loop once it has taken an object, with n objects after it.
   abbrev taking : ℕ → ℕ → Run → Out
   taking o n r = next_object_or lv (λ _. over n) (body (taken g.game l o r))
 
-  -- no object is left
+  -- No object is left.
   turns_none : (n : ℕ) (r : Run) → least_taken g.game r.world l.place n ≡ None → over n r ≡ Left true (without_loop r)
   unfolding over_objects least_taken
   turns_none zero r h = refl
@@ -52,7 +52,7 @@ module _ (g : Story) (lv : ℕ) (l : OpenLoop) (body : Run → Out) where
       go later true q = cc
       go later false q = later q
 
-  -- the next object
+  -- The next object.
   turns_some : (n : ℕ) (r : Run) (o : ℕ) → n ≤ length g.game.objects → least_taken g.game r.world l.place n ≡ Some o
       → over n r ≡ taking o (length g.game.objects - suc o) r
   unfolding over_objects least_taken
@@ -68,12 +68,12 @@ module _ (g : Story) (lv : ℕ) (l : OpenLoop) (body : Run → Out) where
       go later true q = let m : length g.game.objects - suc n ≡ o = cc in rw m (here o (sym m))
       go later false q = later q
 
--- a loop with no object left
+-- A loop with no object left.
 pub turning_none : (g : Story) (fs : List Frame) (l : OpenLoop) (n : ℕ) (r : Run) → least_taken g.game r.world l.place n ≡ None
     → loop_at_frames g fs l n r ≡ along g fs (Left true (without_loop r))
 turning_none g fs l n r h = ap (along g fs) (turns_none g (length fs) l _ n r h)
 
--- a loop takes the next object
+-- A loop takes the next object.
 pub turning_some : (g : Story) (fs : List Frame) (l : OpenLoop) (n : ℕ) (r : Run) (o : ℕ) → l.level ≡ length fs → n ≤ length g.game.objects
     → least_taken g.game r.world l.place n ≡ Some o
     → loop_at_frames g fs l n r ≡ along g fs (rest_of_table g (length fs) l.table l.entry (suc l.at) true (taken g.game l o r))
@@ -84,11 +84,11 @@ turning_some g fs l n r o own low h =
 
 -- ---- a table is left ----
 
--- at a level with no loop of its own
+-- At a level with no loop of its own.
 pub settled_left : (g : Story) (fs : List Frame) (a : Bool) (r : Run) → at_level (length fs) r.turning ≡ None → resolved g fs (Left a r) ≡ along g fs (Left a r)
 settled_left g fs a r h = rw h refl
 
--- at the level of the open loop
+-- At the level of the open loop.
 pub settled_looped : (g : Story) (fs : List Frame) (a : Bool) (r : Run) (l : OpenLoop) → r.turning ≡ Some l → l.level ≡ length fs
     → resolved g fs (Left a r) ≡ loop_at_frames g fs l (length g.game.objects - suc l.last) r
 settled_looped g fs a r l h own =
@@ -119,19 +119,19 @@ pub acted_spent : (g : Story) (fs : List Frame) (f : Frame) (r : Run) →
     acted_at g fs f effect.Spent r ≡ halts (halt.Spent spent.Text) r
 acted_spent g fs f r = along_stopped g fs (Halts (halt.Spent spent.Text)) r
 
--- the piece is closed, and the run goes on at the prompt along the frames
+-- The piece is closed, and the run goes on at the prompt along the frames.
 pub settled_waits : (g : Story) (fs : List Frame) (f : Frame) (p : Prompt) (r : Run)
     → resolved g fs (waits g p f (past_of g fs f) r) ≡ on_path g p 0 (reverse (f ∷ fs)) (closed r)
 settled_waits g fs f p r = sym (on_path_reverse g p f fs (closed r))
 
 -- ---- places ----
 
--- in an entry
+-- In an entry.
 pub going_inside : (g : Story) (fs : List Frame) (f : Frame) (r : Run) → 0 < f.at → going_in g (f ∷ fs) r ≡ reading_at g fs f r
 going_inside g fs f r h =
     ap (resolved g fs) (plain_inside g (deeper g (length fs)) (length fs) f.table f.entry f.at f.acted r h)
 
--- before an entry
+-- Before an entry.
 going_before : (g : Story) (fs : List Frame) (f : Frame) (r : Run) → f.at ≡ 0
     → going_in g (f ∷ fs) r ≡ resolved g fs (from_place g (deeper g (length fs)) (length fs) f.table f.entry 0 f.acted r)
 going_before g fs f r h = rw h refl
@@ -149,20 +149,20 @@ going_match g fs f r found zero_at h =
     going_before g fs f r zero_at
     ∙ ap (resolved g fs) (plain_match g (deeper g (length fs)) (length fs) f.table f.entry found f.acted r h)
 
--- past the last condact of an entry
+-- Past the last condact of an entry.
 pub reading_end : (g : Story) (fs : List Frame) (f : Frame) (r : Run) → condact_at g.game f.table f.entry f.at ≡ None
     → reading_at g fs f r ≡ along g fs (rest_of_table g (length fs) f.table (f.entry + 1) 0 f.acted r)
 reading_end g fs f r h =
     ap (resolved g fs) (inside_end g (deeper g (length fs)) (length fs) f.table f.entry f.at f.acted r h) ∙ rw add-one refl
 
--- at a condact
+-- At a condact.
 pub reading_condact : (g : Story) (fs : List Frame) (f : Frame) (r : Run) (c : Condact) → condact_at g.game f.table f.entry f.at ≡ Some c
     → length r.read < READ_LIMIT
     → reading_at g fs f r ≡ resolved g fs (reads_one g (deeper g (length fs)) (length fs) f (next_of g fs f) (past_of g fs f) c r)
 reading_condact g fs f r c h low =
     ap (resolved g fs) (inside_condact g (deeper g (length fs)) (length fs) f.table f.entry f.at f.acted r c h ∙ within_budget r _ low)
 
--- the budget is used up
+-- The budget is used up.
 pub reading_none : (g : Story) (fs : List Frame) (f : Frame) (r : Run) (c : Condact) →
     condact_at g.game f.table f.entry f.at ≡ Some c → READ_LIMIT ≤ length r.read →
     reading_at g fs f r ≡ halts (halt.Spent spent.Condacts) r

@@ -57,12 +57,12 @@ pub fit : (r : Run) (text : List ℕ) (go : Run → Out) → length r.current + 
 fit r text go h =
     let t : nat_le (length r.current + length text) 65535 ≡ true = grind (arith, nat_tests) in rw t refl
 
--- the question doesn't fit
+-- The question doesn't fit.
 pub ask_spent : (g : Story) (fs : List Frame) (text : List ℕ) (go : Run → Out) (r : Run) →
     65535 < length r.current + length text → resolved g fs (printing text go r) ≡ halts (halt.Spent spent.Text) r
 ask_spent g fs text go r h = ap (resolved g fs) (no_fit r text go h) ∙ along_stopped g fs (Halts (halt.Spent spent.Text)) r
 
--- the question is put, and the run goes on at the prompt along the frames
+-- The question is put, and the run goes on at the prompt along the frames.
 pub ask_waits : (g : Story) (fs old : List Frame) (f : Frame) (p : Prompt) (text piece : List ℕ) (r : Run) → old ≡ f ∷ fs
     → length r.current + length text ≤ 65535 → piece ≡ r.current ++ text
     → resolved g fs (printing text (waits g p f (past_of g fs f)) r) ≡ on_path g p 0 (reverse old) (closed (record r { current = piece }))
@@ -70,14 +70,14 @@ ask_waits g fs old f p text piece r top h is =
     ap (resolved g fs) (fit r text (waits g p f (past_of g fs f)) h)
     ∙ (settled_waits g fs f p (printed text r) ∙ rw (top, is) refl)
 
--- what stands where text was put or not
+-- What stands where text was put or not.
 pub put_no : (old new text : List ℕ) (ok : Bool) → Puts old new ok text → ok ≡ false → 65535 < length old + length text
 put_no old new text ok h e = rw e at h
 
 pub put_yes : (old new text : List ℕ) (ok : Bool) → Puts old new ok text → ok ≡ true → (new ≡ old ++ text) × (length old + length text ≤ 65535)
 put_yes old new text ok h e = rw e at h
 
--- what goes on to the same goes on
+-- What goes on to the same goes on.
 pub goes_from : (g : Story) (x y : Out) (t : Option Turned) (fs : List Frame) (r : Run) → x ≡ y → Continues g y t fs r → Continues g x t fs r
 goes_from g x y t fs r e h = subst (λ (z : Out). Continues g z t fs r) (sym e) h
 

@@ -10,7 +10,7 @@ use Rattle.paw_world.specs.inner.Places.{least_at, left_above}
 use Rattle.paw_reading.specs.Reading.{may_be_taken}
 use Rattle.paw_process.specs.inner.Objects.{is_next, least_taken}
 
--- the object found at the place, or the next one that is taken
+-- The object found at the place, or the next one that is taken.
 abbrev pub tried : GameLists → World → ℕ → Option ℕ → Option ℕ
 tried g w p None = None
 tried g w p (Some o) = if may_be_taken w (facts_at g o) then Some o else least_taken g w p (length g.objects - suc o)
@@ -37,7 +37,7 @@ pub left_above_low : (w : World) (above : Option ℕ) → left_above w.places ab
 left_above_low w None = omega arith
 left_above_low w (Some o) = omega arith
 
--- the object that is found next, or the one after it
+-- The object that is found next, or the one after it.
 found_next : (g : GameLists) (w : World) (p : ℕ) (last found : Option ℕ) → length w.places ≡ length g.objects → found ≡ first_at w p last
     → least_taken g w p (left_above w.places last) ≡ tried g w p found
 found_next g w p last found same h =
@@ -60,7 +60,7 @@ pub found_none : (g : GameLists) (w : World) (p : ℕ) (last : Option ℕ) (x : 
     → x ≡ least_taken g w p (left_above w.places last) → None ≡ first_at w p last → None ≡ x
 found_none g w p last x same h is = sym (h ∙ found_next g w p last None same is)
 
--- the object that is taken is among the last n
+-- The object that is taken is among the last n.
 least_taken_within : (g : GameLists) (w : World) (p n o : ℕ) → n ≤ length g.objects → least_taken g w p n ≡ Some o
     → (length g.objects - n ≤ o) × (o < length g.objects)
 unfolding least_taken
@@ -73,7 +73,7 @@ least_taken_within g w p (suc n) o low h = go (least_taken_within g w p n o (ome
     go later true q = let e : length g.objects - suc n ≡ o = cc in (omega arith, omega arith)
     go later false q = let m = later q in (omega (arith, m.0), m.1)
 
--- the object that is taken after another is above it
+-- The object that is taken after another is above it.
 pub taken_above : (g : GameLists) (w : World) (p last o : ℕ) → length w.places ≡ length g.objects
     → Some o ≡ least_taken g w p (left_above w.places (Some last)) → last < o
 taken_above g w p last o same h =

@@ -11,7 +11,7 @@ top_work : (fs : List Frame) → 0 < length fs → 1 + frames_work (below fs) �
 top_work [] h = absurd (omega arith)
 top_work (f ∷ fs) h = omega arith
 
--- the open loop takes a later object
+-- The open loop takes a later object.
 pub taking_falls : (old new : OpenTables) (f : Frame) (l l' : OpenLoop) → 0 < length old.frames → old.turning ≡ Some l
     → new.frames ≡ f ∷ below old.frames → new.turning ≡ Some l' → l.last < l'.last → l'.last < 256 → machine_work new < machine_work old
 taking_falls old new f l l' some is ef et later low =
@@ -27,12 +27,12 @@ loop_bound : (o : Option OpenLoop) → loop_work o ≤ 1280000
 loop_bound None = omega arith
 loop_bound (Some l) = omega arith
 
--- each step takes from the budget, or leaves less to do
+-- Each step takes from the budget, or leaves less to do.
 pub progresses : (old new : OpenTables) → IsReading new → Progress old new → new.left * 134217728 + machine_work new < old.left * 134217728 + machine_work old
 progresses old new h (counts e) = omega (arith, frames_bound new.frames, loop_bound new.turning, h.tables.depth)
 progresses old new h (falls e low) = omega arith
 
--- the entry that matches next leaves no more to do
+-- The entry that matches next leaves no more to do.
 match_work : (old new : OpenTables) (f f' : Frame) → old.frames ≡ f ∷ below old.frames → new ≡ record old { frames = f' ∷ below old.frames }
     → f.entry ≤ f'.entry → machine_work new ≤ machine_work old
 match_work old new f f' top e low =

@@ -1,4 +1,4 @@
--- What is kept of a machine that waits, and words of the rules that it keeps.
+-- What is kept of a machine that waits, and words of the rules that it follows.
 use Rattle.std.specs.Prelude.{ℕ, ◌-◌, ◌==◌, ◌&&◌, Bool, false, List, ◌++◌, Option, Some, None, length, replicate}
 use Rattle.std.specs.Prelude.{nat_lt, nat_le}
 use Rattle.std.specs.Option.{option_map_or}
@@ -10,7 +10,7 @@ pub use Rattle.paw_reading.specs.Places.{waiting_code}
 use Rattle.paw_process.specs.declared.machine.TheConstants.{MOST_FRAMES}
 use Rattle.paw_process.specs.declared.kept.Frames.{Frames}
 
--- The frames of a path, the outermost first, filled up with unused rows to the most that may be open, and its loop.
+-- The frames of a path, the outermost first, filled up with unused frames to the most that may be open, and its loop.
 abbrev pub frames_at : List Frame → Option OpenLoop → Frames
 frames_at path turning =
     let unused : Frame = record { table = 0; entry = 0; at = 0; acted = false } in record {

@@ -24,7 +24,7 @@ use paw_reading::places::{Frame, OpenLoop};
 const MOST_OPEN: u8 = MOST_FRAMES as u8;
 
 /// Places of a machine that waits, as they are kept: the number of open tables, their frames, the outermost first, with
-/// unused rows after them, and the open loop.
+/// unused frames after them, and the open loop.
 #[derive(Clone, Copy, Drop, PartialEq, Eq, Debug)]
 pub struct Frames {
     pub count: u8,
@@ -32,7 +32,7 @@ pub struct Frames {
     pub turning: Option<OpenLoop>,
 }
 
-/// The least depth at which kept places break a rule: that of a frame, counted from 0, or 11 for the open loop. A wrong
+/// The least depth at which kept frames break a rule: that of a frame, counted from 0, or 11 for the open loop. A wrong
 /// number of frames is a fault at depth 0.
 #[derive(Clone, Copy, Drop, PartialEq, Eq, Debug)]
 pub struct FrameFault {
@@ -91,14 +91,15 @@ pub fn parameter_of(condact: Option<Condact>) -> u8
     }
 }
 
-/// Whether a row is unused.
+/// Whether a frame is unused.
 fn is_unused(f: &Frame) -> bool
     ensures value { result ≡ is_unused f.now }
 {
     f.table == 0 && f.entry == 0 && f.at == 0 && !f.acted
 }
 
-/// Whether a row keeps its rules, where this many rows are used from it on: the last of these waits at this condact.
+/// Whether a frame follows its rules, where this many frames are used from it on: the last of these waits at this
+/// condact.
 fn row_stands<T: Tables>(tables: &T, code: u8, caller: Option<u8>, used: u8, f: &Frame) -> bool
     ensures value { result ≡ row_stands (T.game tables.now) code caller used f.now }
 {
@@ -109,7 +110,7 @@ fn row_stands<T: Tables>(tables: &T, code: u8, caller: Option<u8>, used: u8, f: 
     may_open(caller, f.table) && has_code(wanted, tables.condact(f.table, f.entry, f.at))
 }
 
-/// The depth of the first row that breaks a rule, counted from `depth` on.
+/// The depth of the first frame that breaks a rule, counted from `depth` on.
 fn rows_fault<T: Tables>(
     tables: &T,
     code: u8,
@@ -141,7 +142,7 @@ pub fn is_place(locations: u16, place: u8) -> bool
     u16::from(place) < locations || (NOT_CREATED_PLACE <= place && place <= CARRIED_PLACE)
 }
 
-/// Whether the row of this level belongs to this table.
+/// Whether the frame of this level belongs to this table.
 fn is_table(rows: &[Frame], level: u8, table: u8) -> bool
     ensures value { result ≡ is_that_table (option_map (λ f. f.table) (slice_get rows.now level)) table }
 {
@@ -151,7 +152,7 @@ fn is_table(rows: &[Frame], level: u8, table: u8) -> bool
     }
 }
 
-/// Whether an open loop keeps its rules.
+/// Whether an open loop follows its rules.
 fn loop_stands<T: Tables>(tables: &T, kept: &Frames, l: OpenLoop) -> bool
     ensures value { result ≡ loop_stands (T.game tables.now) kept.now l }
 {
@@ -183,7 +184,7 @@ pub fn count_fits(code: Option<u8>, count: u8) -> bool
     }
 }
 
-/// The least depth at which kept places break a rule, where the machine waits at this condact or at none.
+/// The least depth at which kept frames break a rule, where the machine waits at this condact or at none.
 pub(crate) fn frames_fault<T: Tables>(tables: &T, prompt: Prompt, kept: &Frames) -> Option<u8>
     ensures value { result ≡ frames_fault (T.game tables.now) prompt kept.now }
 {

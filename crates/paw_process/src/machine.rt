@@ -37,8 +37,8 @@ use std::marker::Model;
 /// The most tables that may be open at once: one, and one for each level of calls.
 pub const MOST_FRAMES: usize = LEVEL_LIMIT + 1;
 
-/// Reads a game's tables in written order, up to the next stop. It holds the places in the tables that are open, the
-/// open loop, how many condacts the open piece may still read, and the steps of that piece; contracts see the places
+/// Reads a game's tables in written order, up to the next stop. It holds the frames of the tables that are open, the
+/// open loop, how many condacts the open piece may still read, and the steps of that piece; contracts see the frames
 /// with the innermost first.
 #[derive(Drop)]
 pub struct Machine {
@@ -155,8 +155,9 @@ impl Machine {
         }
     }
 
-    /// The places of the machine, to be kept where it waits. Restored at the prompt where it waits, they give the same
-    /// machine with a full budget and no steps; and they can be restored wherever they are places of a run.
+    /// The frames of the machine and its loop, to be kept where it waits. Restored at the prompt where it waits, they
+    /// give the same machine with a full budget and no steps; and they can be restored wherever they are frames of a
+    /// run.
     pub fn frames(&self) -> Frames
         ensures value { result ≡ kept_of self.now }
         ensures again { (p : AtPrompt) → WaitsAtPrompt p self.now → restored result (waiting_at p) ≡ refilled self.now }
@@ -172,11 +173,11 @@ impl Machine {
         }
     }
 
-    /// A machine with kept places that waits at this prompt, with a full budget and no steps. Its `frames` are these
-    /// places again.
+    /// A machine with kept frames that waits at this prompt, with a full budget and no steps. Its `frames` are these
+    /// again.
     ///
     /// # Errors
-    /// The least depth at which the places break a rule, exactly where they break one for this game: inside tables the
+    /// The least depth at which the frames break a rule, exactly where they break one for this game: inside tables the
     /// outermost table is 0, 1 or 2, each frame but the last is at a PROCESS that calls the next one's table, and the
     /// last at the condact of the prompt; the open loop is at a DOALL of its level's table. At the other prompts no
     /// table is open.

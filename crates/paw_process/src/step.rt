@@ -1,4 +1,4 @@
-// One step of reading.
+// The reading of one condact, and how reading goes on after it.
 
 ghost use Rattle.std.specs.Prelude.{◌≡◌, ◌+◌, ◌-◌, ◌<◌, [], ◌∷◌, length};
 ghost use Rattle.std.specs.Prelude.{true, false, Some, None, IfNone, IfSome, IsNone, if◌then◌else◌};
@@ -443,7 +443,7 @@ impl<T: Tables, F: Fn(u8, u8) -> u8> StoryReader<'_, T, F> {
         })
     }
 
-    /// Makes one step of reading: from the start of an entry to the next one that matches, and a condact there.
+    /// Reads on by at most one condact: from the start of an entry to the next one that matches, and a condact there.
     pub(crate) fn read_next(
         &self,
         machine: &mut Machine,

@@ -9,12 +9,12 @@ use Rattle.paw_reading.specs.Reading.{Stop, Stopped}
 use Rattle.paw_reading.specs.GoingOn.{on_path}
 use Rattle.paw_reading.specs.inner.GoingOn.{along}
 
--- a stop is handed on as it is
+-- A stop is handed on as it is.
 pub along_stopped : (g : Story) (fs : List Frame) (stop : Stop) (r : Run) → along g fs (Stopped stop r) ≡ Stopped stop r
 along_stopped g [] stop r = refl
 along_stopped g (f ∷ fs) stop r = along_stopped g fs stop r
 
--- going on along a path is going on at its end, and then in the tables above, the innermost first
+-- Going on along a path is going on at its end, and then in the tables above, the innermost first.
 on_path_above : (g : Story) (p : Prompt) (fs : List Frame) (f : Frame) (path : List Frame) (r : Run) →
     on_path g p 0 (reverse_aux fs (f ∷ path)) r ≡ along g fs (on_path g p (length fs) (f ∷ path) r)
 on_path_above g p [] f path r = refl

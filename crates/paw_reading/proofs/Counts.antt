@@ -54,7 +54,7 @@ AreCounting go = (a : Bool) → IsCounting (go a)
 abbrev CallsCounting : (ℕ → Run → Out) → Type 0
 CallsCounting sub = (u : ℕ) → IsCounting (sub u)
 
--- closing a piece counts one more
+-- Closing a piece counts one more.
 closed_counts : (r : Run) → count (closed r) ≡ suc (count r)
 closed_counts r = let e : length (closed r).pieces ≡ length r.pieces + 1 = length-append r.pieces (r.current ∷ []) in omega (arith, e)
 

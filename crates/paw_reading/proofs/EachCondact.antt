@@ -13,7 +13,7 @@ use Rattle.paw_reading.specs.Run.{Run}
 use Rattle.paw_reading.specs.declared.places.Halt.TheVariants as halt
 use Rattle.paw_reading.specs.Reading.{Out, Left, halts, reads_one, condacts, is_for_now, entries, from_place}
 
--- what holds in both cases, the first with its test
+-- What holds in both cases, the first with its test.
 pub by_test : (P : Out → Type 0) (b : Bool) (x y : Out) → (b ≡ true → P x) → P y → P (if b then x else y)
 by_test P true x y h k = h refl
 by_test P false x y h k = k
@@ -22,7 +22,7 @@ by_test P false x y h k = k
 abbrev pub Goes : (Run → Out → Type 0) → (Bool → Run → Out) → Type 0
 Goes P go = (a : Bool) (r : Run) → P r (go a r)
 
--- it stands so at a condact of this frame, wherever it does at the next entry and at the next condact
+-- It stands so at a condact of this frame, wherever it does at the next entry and at the next condact.
 abbrev pub ReadsOne : (Run → Out → Type 0) → Story → (ℕ → Run → Out) → ℕ → Frame → Type 0
 ReadsOne P g sub lv f =
     (next go : Bool → Run → Out) → Goes P next → Goes P go → (c : Condact) (r : Run) → length r.read < READ_LIMIT → P r (reads_one g sub lv f next go c r)
@@ -45,7 +45,7 @@ module _ (P : Run → Out → Type 0) (g : Story) (sub : ℕ → Run → Out) (l
       (λ now. condacts_go e (entries g sub lv t (suc e) es) (entries_go (suc e) es) 0 en.condacts a r)
       (entries_go (suc e) es a r)
 
-  -- so it stands at each place of the table
+  -- So it stands at each place of the table.
   pub plain_goes : (e k : ℕ) → Goes P (from_place g sub lv t e k)
   plain_goes e zero a r = entries_go e (drop e (table_at g.game t)) a r
   plain_goes e (suc k) a r =

@@ -34,14 +34,14 @@ phases_needed AtTimeFrame r = 4 * left_to_read r + 2
 phases_needed AtDescribe r = 4 * left_to_read r + 3
 phases_needed AtResponse r = 4 * left_to_read r + 4
 
--- as many are granted
+-- As many are granted.
 needed_granted : (s : TurnPhase) (r : Run) → phases_needed s r ≤ phases_left r
 needed_granted AtPhrase r = omega arith
 needed_granted AtTimeFrame r = omega arith
 needed_granted AtDescribe r = omega arith
 needed_granted AtResponse r = omega arith
 
--- from every phase that needs at most n phases the turn ends
+-- From every phase that needs at most n phases the turn ends.
 abbrev pub EndsWithin : ℕ → (TurnPhase → Run → Ending) → Type 0
 EndsWithin n go = (s : TurnPhase) (r : Run) → phases_needed s r ≤ n → go s r ≢ Unended
 
@@ -59,7 +59,7 @@ connected_ends g n go h r k None =
     (h AtTimeFrame (printed (refusal_text g.game r.world) (line_dropped r)) (omega arith))
 connected_ends g n go h r k (Some to) = h AtDescribe (with_world (with_flag r.world 38 to) r) (omega arith)
 
--- how many phases a table needs after it
+-- How many phases a table needs after it.
 abbrev pub rank_after : ℕ → ℕ
 rank_after zero = 3
 rank_after (suc zero) = 2
@@ -137,7 +137,7 @@ turn_ends g (suc n) AtPhrase r h =
 turn_ends g (suc n) AtResponse r h =
     table_done_ends g n (turn g n) (turn_ends g n) 0 (left_to_read r) (omega arith) _ (table_spends g 0 r)
 
--- the phases that are granted are enough
+-- The phases that are granted are enough.
 pub turns_end : TurnsEnd
 turns_end g s r = turn_ends g (phases_left r) s r (needed_granted s r)
 
@@ -158,13 +158,13 @@ goes_on_ends g n prompt.Again path r h = in_table_ends g n prompt.Again path r h
 goes_on_ends g n prompt.Key path r h = in_table_ends g n prompt.Key path r h
 goes_on_ends g n prompt.Over path r h = λ e. cc
 
--- going on from a prompt ends
+-- Going on from a prompt ends.
 pub going_on_ends : GoingOnEnds
 going_on_ends g p path r = goes_on_ends g (phases_left r) p path r (omega arith)
 
 -- ---- more phases change nothing ----
 
--- where one ends, the other is the same
+-- Where one ends, the other is the same.
 abbrev pub Refines : (TurnPhase → Run → Ending) → (TurnPhase → Run → Ending) → Type 0
 Refines go more = (s : TurnPhase) (r : Run) → go s r ≢ Unended → more s r ≡ go s r
 
@@ -234,7 +234,7 @@ turn_more g (suc n) AtTimeFrame r k = table_done_more g (turn g n) (turn g (suc 
 turn_more g (suc n) AtPhrase r k = after_phrase_more g (turn g n) (turn g (suc n)) (turn_more g n) r _ k
 turn_more g (suc n) AtResponse r k = table_done_more g (turn g n) (turn g (suc n)) (turn_more g n) 0 (table_read g 0 r) k
 
--- any number of phases more
+-- Any number of phases more.
 pub many_more : (f : ℕ → Ending) → ((n : ℕ) → f n ≢ Unended → f (suc n) ≡ f n) → (k n : ℕ) → f n ≢ Unended → f (k + n) ≡ f n
 many_more f h zero n e = let z : 0 + n ≡ n = omega arith in rw z refl
 many_more f h (suc k) n e =
@@ -251,7 +251,7 @@ in_order zero m = inl (omega arith)
 in_order (suc n) zero = inr (omega arith)
 in_order (suc n) (suc m) = suc_order n m (in_order n m)
 
--- two numbers of phases at which it ends give the same
+-- Two numbers of phases at which it ends give the same.
 same_ending : (f : ℕ → Ending) → ((n : ℕ) → f n ≢ Unended → f (suc n) ≡ f n) → (n m : ℕ) → f n ≢ Unended → f m ≢ Unended → f n ≡ f m
 same_ending f h n m en em = by_order (in_order n m)
   where
@@ -259,7 +259,7 @@ same_ending f h n m en em = by_order (in_order n m)
     by_order (inl le) = let s : m ≡ (m - n) + n = omega arith in sym (rw s (many_more f h (m - n) n en))
     by_order (inr lt) = let s : n ≡ (n - m) + m = omega arith in rw s (many_more f h (n - m) m em)
 
--- a turn that ends is the turn
+-- A turn that ends is the turn.
 pub ends_once : EndsOnce
 ends_once g n s r e = same_ending (λ m. turn g m s r) (λ m. turn_more g m s r) n (phases_left r) e (turns_end g s r)
 
@@ -271,7 +271,7 @@ goes_on_more g prompt.Again path r n k = table_done_more g (turn g n) (turn g (s
 goes_on_more g prompt.Key path r n k = table_done_more g (turn g n) (turn g (suc n)) (turn_more g n) (first_table path) _ k
 goes_on_more g prompt.Over path r n k = refl
 
--- going on that ends is going on
+-- Going on that ends is going on.
 pub goes_on_once : GoesOnOnce
 goes_on_once g n p path r e =
     same_ending (λ m. goes_on g m p path r) (goes_on_more g p path r) n (phases_left r) e (going_on_ends g p path r)

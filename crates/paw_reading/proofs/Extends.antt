@@ -41,7 +41,7 @@ use Rattle.paw_reading.proofs.Rules.{deeper_rest, deeper_none}
 use Rattle.paw_reading.proofs.Onward.{plain_end, plain_entry, taken_again}
 use Rattle.paw_reading.proofs.Stops.{Stops, deeper_stops, path_stops}
 
--- the run with these pieces closed before its own, and these lines after those that are left
+-- The run with these pieces closed before its own, and these lines after those that are left.
 abbrev pub around : List (List ℕ) → List (List Step) → List (List ℕ) → Run → Run
 around ps ts lines r = record r { pieces = ps ++ r.pieces; traces = ts ++ r.traces; events = r.events ++ lines }
 
@@ -55,14 +55,14 @@ module _ (g : Story) (ps : List (List ℕ)) (ts : List (List Step)) (lines : Lis
   extends lv (Waits p path r) = on_path g p lv path (around ps ts lines r)
   extends lv (Stopped stop r) = Stopped stop (around ps ts lines r)
 
-  -- reading on at the entry after a frame's, and at the condact after it
+  -- Reading on at the entry after a frame's, and at the condact after it.
   abbrev next_of : ℕ → Frame → Bool → Run → Out
   next_of lv f = from_place g (deeper g lv) lv f.table (suc f.entry) 0
 
   abbrev past_of : ℕ → Frame → Bool → Run → Out
   past_of lv f = from_place g (deeper g lv) lv f.table f.entry (suc f.at)
 
-  -- a level's open loop goes on
+  -- A level's open loop goes on.
   abbrev loops : ℕ → Out → Out
   loops lv x = next_object_or lv (rest_of_loop g (deeper g lv) lv) x
 
@@ -75,7 +75,7 @@ module _ (g : Story) (ps : List (List ℕ)) (ts : List (List Step)) (lines : Lis
   abbrev IsSettling : ℕ → (Run → Out) → Type 0
   IsSettling lv f = (r : Run) → loops lv (f (around ps ts lines r)) ≡ settles lv (f r)
 
-  -- calls from a level
+  -- Calls from a level.
   abbrev AreExtending : ℕ → Type 0
   AreExtending lv = (u : ℕ) (r : Run) → deeper g lv u (around ps ts lines r) ≡ extends (suc lv) (deeper g lv u r)
 
@@ -271,7 +271,7 @@ module _ (g : Story) (ps : List (List ℕ)) (ts : List (List Step)) (lines : Lis
       settles_closed (Waits p path r) k = refl
       settles_closed (Stopped stop r) k = refl
 
-      -- the loop that is open goes on
+      -- The loop that is open goes on.
       settles_extends : (x : Out) → settles lv x ≡ extends lv (loops lv x)
       settles_extends (Left a r) = by_loop (at_level lv r.turning) refl
         where
@@ -298,7 +298,7 @@ module _ (g : Story) (ps : List (List ℕ)) (ts : List (List Step)) (lines : Lis
 
   -- ---- levels ----
 
-  -- n levels are left
+  -- n levels are left.
   calls_extend : (n lv : ℕ) → 10 - lv ≡ n → AreExtending lv
   calls_extend zero lv e u r =
       let deep : 10 ≤ lv = omega arith in rw (deeper_none g lv u (around ps ts lines r) deep, deeper_none g lv u r deep) refl
@@ -317,7 +317,7 @@ module _ (g : Story) (ps : List (List ℕ)) (ts : List (List Step)) (lines : Lis
   after_call_extends lv f (Waits p (h ∷ path) r) k = refl
   after_call_extends lv f (Stopped stop r) k = refl
 
-  -- so does going on along a path
+  -- So does going on along a path.
   pub path_extends : (p : Prompt) (lv : ℕ) (path : List Frame) (r : Run) → on_path g p lv path (around ps ts lines r) ≡ extends lv (on_path g p lv path r)
   path_extends p lv [] r = refl
   path_extends p lv (f ∷ []) r = asked_extends lv (calls_extend (10 - lv) lv refl) p f r

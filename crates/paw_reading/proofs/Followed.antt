@@ -34,13 +34,13 @@ use Rattle.paw_reading.proofs.Longer.{tables_go_on}
 use Rattle.paw_reading.proofs.Ends.{Refines, table_done_more, at_main_more, turn_more, many_more, turns_end, ends_once}
 use Rattle.paw_reading.proofs.Ends.{going_on_ends}
 
--- no loop is open where a table was left that was begun with none
+-- No loop is open where a table was left that was begun with none.
 left_none : (a : Bool) (r : Run) → Keeps None (Left a r) → r.turning ≡ None
 left_none a r (inl h) = h
 left_none a r (inr h) = h
 
 module _ (g : Story) (lines : List (List ℕ)) where
-  -- going on with these lines, in at most m phases more
+  -- Going on with these lines, in at most m phases more.
   abbrev pub goes_from : ℕ → Ending → Ending
   goes_from m (WaitsAt p path r) = goes_on g m p path (with_lines lines r)
   goes_from m (Halted halt r) = Halted halt (with_lines lines r)
@@ -76,7 +76,7 @@ module _ (g : Story) (lines : List (List ℕ)) where
     after_left_follows (suc zero) a r none k = follows AtTimeFrame r none k
     after_left_follows (suc (suc t)) a r none k = follows AtPhrase (with_world (time_frame_passed r.world) r) none k
 
-    -- a wait in table t
+    -- A wait in table t.
     waits_follow : (t : ℕ) (p : Prompt) (path : List Frame) (r : Run) → IsInner p → first_table path ≡ t →
         Follows m (WaitsAt p path r) (table_done g more t (on_path g p 0 path (with_lines lines r)))
     waits_follow t prompt.Main path r inner e k = absurd inner
@@ -98,7 +98,7 @@ module _ (g : Story) (lines : List (List ℕ)) where
     table_done_follows t (Stopped Restarts r) keeps stops stays k = follows AtDescribe r stops k
     table_done_follows t (Stopped (Halts halt) r) keeps stops stays k = refl
 
-    -- a table that is read from its start
+    -- A table that is read from its start.
     read_follows : (t : ℕ) (r : Run) → r.turning ≡ None →
         Follows m (table_done g go t (table_read g t r)) (table_done g more t (table_read g t (with_lines lines r)))
     read_follows t r none =
@@ -146,7 +146,7 @@ module _ (g : Story) (lines : List (List ℕ)) where
   more_phases : (n m : ℕ) → Refines (turn g m) (turn g (n + m))
   more_phases n m s r k = many_more (λ i. turn g i s r) (λ i. turn_more g i s r) n m k
 
-  -- n phases, and then m
+  -- n phases, and then m.
   turn_follows : (n m : ℕ) → AreFollowing m (turn g n) (turn g (n + m))
   unfolding turn
   turn_follows zero m s r none k = absurd (k refl)
@@ -174,7 +174,7 @@ module _ (g : Story) (lines : List (List ℕ)) where
       let e : turn g (phases_left r + m) s (with_lines lines r) ≡ goes_from m (turns_from g s r) = turn_follows (phases_left r) m s r none h in
       sym (ends_once g (phases_left r + m) s (with_lines lines r) (λ u. h (sym e ∙ u))) ∙ e
 
--- the turns with more lines
+-- The turns with more lines.
 pub turns_go_on : TurnsGoOn
 turns_go_on g lines s r none = by_ending (turns_from g s r) refl
   where
@@ -186,6 +186,6 @@ turns_go_on g lines s r none = by_ending (turns_from g s r) refl
     by_ending (Halted halt q) e = at 0 (Halted halt q) e (λ u. cc)
     by_ending Unended e = absurd (turns_end g s r e)
 
--- reading more lines is reading some, and going on with the others
+-- Reading more lines is reading some, and going on with the others.
 pub going_on_is_reading : GoingOnIsReading
 going_on_is_reading g seed es fs = turns_go_on g fs AtDescribe (opening g seed es) refl

@@ -70,12 +70,12 @@ all_left (x ∷ xs) = refl
 
 -- ---- what is open ----
 
--- the objects of the world stand at places of the game, and the loop is one of these tables'
+-- The objects of the world stand at places of the game, and the loop is one of these tables'.
 pub record Sound (g : GameLists) (tables : List ℕ) (w : World) (turning : Option OpenLoop) : Type 0 where
   pub of : IsPlaced g w
   pub loop : IfSome turning (IsLoopIn g tables)
 
--- a wait above these tables, whose first table is this one
+-- A wait above these tables, whose first table is this one.
 pub record WaitsAbove (g : GameLists) (ts : List ℕ) (u : ℕ) (p : Prompt) (path : List Frame) (w : World) (turning : Option OpenLoop) : Type 0 where
   pub code : ℕ
   pub asks : AsksAt code p
@@ -116,7 +116,7 @@ narrowed g ts lv u w (Some l) deep none k =
       };
     }
 
--- with no table open there is no loop
+-- With no table open there is no loop.
 pub none_open : (g : GameLists) (w : World) (o : Option OpenLoop) → Sound g [] w o → o ≡ None
 none_open g w None k = refl
 none_open g w (Some l) k = let at = k.loop.level in cc
@@ -133,7 +133,7 @@ named_placed g w (Some f) k = k
 taken_placed : (g : GameLists) (l : OpenLoop) (o : ℕ) (r : Run) → IsPlaced g r.world → IsPlaced g (taken g l o r).world
 taken_placed g l o r k = referred_placed g (with_flag (named r.world (facts_at g o)) 50 o) o (named_placed g r.world (facts_at g o) k)
 
--- what an action of a condact leads to in a game
+-- What an action of a condact leads to in a game.
 abbrev LeadsIn : GameLists → Condact → Effect → Type 0
 LeadsIn g c effect.Go = Unit {0}
 LeadsIn g c (effect.Exit a) = Unit {0}
@@ -162,13 +162,13 @@ cancelled g ts w false o k = k
 
 -- ---- one table ----
 
--- table u is read at level lv, above the tables ts
+-- Table u is read at level lv, above the tables ts.
 module _ (g : Story) (v : Valid g.game) (ts : List ℕ) (lv : ℕ) (deep : length ts ≡ lv) (low : lv ≤ 10) (u : ℕ) where
-  -- with these tables and this one
+  -- With these tables and this one.
   abbrev IsSound : Run → Type 0
   IsSound r = Sound g.game (ts ++ u ∷ []) r.world r.turning
 
-  -- reading on in the table
+  -- Reading on in the table.
   abbrev GoesHeld : List ℕ → (Bool → Run → Out) → Type 0
   GoesHeld left go = (a : Bool) (r : Run) → IsSound r → Held g.game left ts u (go a r)
 
@@ -197,7 +197,7 @@ module _ (g : Story) (v : Valid g.game) (ts : List ℕ) (lv : ℕ) (deep : lengt
 
   -- ---- calls, prompts, phrases ----
 
-  -- the frame of a call before a path
+  -- The frame of a call before a path.
   call_leads : (f : Frame) (c : Condact) (t code : ℕ) (path : List Frame) → condact_at g.game f.table f.entry f.at ≡ Some c → c.code ≡ PROCESS → t ≡ c.a
       → first_table path ≡ t → LeadsTo g.game code path → LeadsTo g.game code (f ∷ path)
   call_leads f c t code [] at is called first leads = absurd leads
@@ -256,7 +256,7 @@ module _ (g : Story) (v : Valid g.game) (ts : List ℕ) (lv : ℕ) (deep : lengt
 
   -- ---- one condact ----
 
-  -- calls from here
+  -- Calls from here.
   abbrev CallsHeld : (ℕ → Run → Out) → Type 0
   CallsHeld sub = (t : ℕ) (r : Run) → IsSound r → Held g.game (ts ++ u ∷ []) (ts ++ u ∷ []) t (sub t r)
 
@@ -374,13 +374,13 @@ rest_held : (g : Story) (v : Valid g.game) (ts : List ℕ) (lv u e k : ℕ) → 
     → (a : Bool) (r : Run) → Sound g.game (ts ++ u ∷ []) r.world r.turning → Held g.game ts ts u (rest_of_table g lv u e k a r)
 rest_held g v ts lv u e k deep low a r h = reads_held g v ts lv deep low u (deeper g lv) (deeper_held g v ts lv u deep low) e k a r h
 
--- a table that is read from its start
+-- A table that is read from its start.
 pub table_held : (g : Story) (v : Valid g.game) (t : ℕ) (r : Run) → IsPlaced g.game r.world → r.turning ≡ None
     → Held g.game [] [] t (table_read g t r)
 table_held g v t r of none =
     rest_held g v [] 0 t 0 0 refl (omega arith) false r (record { of = of; loop = subst (λ o. IfSome o (IsLoopIn g.game (t ∷ []))) (sym none) tt })
 
--- going on along a path
+-- Going on along a path.
 pub path_held : (g : Story) (v : Valid g.game) (p : Prompt) (code : ℕ) (ts : List ℕ) (lv : ℕ) (f : Frame) (path : List Frame) (r : Run)
     → length ts ≡ lv → AsksAt code p → length ts + length (f ∷ path) ≤ 11 → LeadsTo g.game code (f ∷ path)
     → Sound g.game (ts ++ tables_of (f ∷ path)) r.world r.turning

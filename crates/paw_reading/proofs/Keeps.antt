@@ -33,7 +33,7 @@ use Rattle.paw_reading.specs.Reading.{waits}
 use Rattle.paw_reading.specs.inner.Steps.{goodbye, quit_question}
 use Rattle.paw_reading.proofs.EachCondact.{plain_goes}
 
--- the loop is this one, or there is none
+-- The loop is this one, or there is none.
 abbrev pub IsOrNone : Option OpenLoop → Option OpenLoop → Type 0
 IsOrNone o q = (q ≡ o) ⊎ (q ≡ None)
 
@@ -42,15 +42,15 @@ Keeps o (Left a r) = IsOrNone o r.turning
 Keeps o (Waits p path r) = Unit {0}
 Keeps o (Stopped stop r) = Unit {0}
 
--- reading on keeps the loop of each run
+-- Reading on leaves each run its loop, or none.
 abbrev pub GoesKeeping : (Bool → Run → Out) → Type 0
 GoesKeeping go = (a : Bool) (r : Run) → Keeps r.turning (go a r)
 
--- calls keep the loop of each run
+-- Calls leave each run its loop, or none.
 abbrev pub CallsKeeping : (ℕ → Run → Out) → Type 0
 CallsKeeping sub = (u : ℕ) (r : Run) → Keeps r.turning (sub u r)
 
--- what has closed the loop keeps any
+-- What leaves no loop may follow on any.
 pub Keeps_none : (o : Option OpenLoop) (x : Out) → Keeps None x → Keeps o x
 Keeps_none o (Left a r) (inl h) = inr h
 Keeps_none o (Left a r) (inr h) = inr h
@@ -61,12 +61,12 @@ pub Keeps_from : (o q : Option OpenLoop) (x : Out) → IsOrNone o q → Keeps q 
 Keeps_from o q x (inl e) h = subst (λ p. Keeps p x) e h
 Keeps_from o q x (inr e) h = Keeps_none o x (subst (λ p. Keeps p x) e h)
 
--- what holds in both cases
+-- What holds in both cases.
 pub either : {A : Type 0} (P : A → Type 0) (b : Bool) (x y : A) → P x → P y → P (if b then x else y)
 either P true x y h k = h
 either P false x y h k = k
 
--- what holds after a print, whether its text fits or not
+-- What holds after a print, whether its text fits or not.
 pub prints : (P : Out → Type 0) (text : List ℕ) (go : Run → Out) (r : Run) → P (go (printed text r)) →
     P (halts (halt.Spent spent.Text) r) → P (printing text go r)
 prints P text go r h k = either P (fits r text) (go (printed text r)) (halts (halt.Spent spent.Text) r) h k
@@ -90,7 +90,7 @@ at_level_is lv (Some l') l h =
 
 -- ---- the loop ----
 
--- a loop of the level that goes on by what closes it is closed
+-- A loop of the level that goes on by what closes it is closed.
 again_closes : (lv : ℕ) (l : OpenLoop) (next : OpenLoop → Run → Out) → l.level ≡ lv → ((m : OpenLoop) (r : Run) → Keeps None (next m r)) → (x : Out) →
     Keeps (Some l) x → Keeps None (next_object_or lv next x)
 again_closes lv l next own h (Left a r) k =
@@ -200,7 +200,7 @@ module _ (g : Story) (sub : ℕ → Run → Out) (lv : ℕ) (calls : CallsKeepin
   pub reads_keeps : (t e k : ℕ) → GoesKeeping (read_at_level g sub lv t e k)
   reads_keeps t e k a r = again_keeps r.turning _ (plain_keeps t e k a r)
 
--- a table that is called keeps the loop
+-- A table that is called leaves the loop, or none.
 pub called_keeps : (g : Story) (n lv : ℕ) → CallsKeeping (called g n lv)
 unfolding called
 called_keeps g zero lv u r = tt

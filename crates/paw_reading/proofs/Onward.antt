@@ -1,4 +1,4 @@
--- Reading on keeps its rules.
+-- Reading on follows its rules.
 use Rattle.std.proofs.Common.{◌≡◌, ℕ, suc, ◌-◌, Bool, true, false, [], ◌∷◌, Some, None, inl, inr, refl, sym, ap, ◌∙◌}
 use Rattle.std.proofs.Common.{length, arith}
 use Rattle.std.specs.Prelude.{if◌then◌else◌}
@@ -28,12 +28,12 @@ use Rattle.paw_reading.proofs.Rules.{after_call_again, deeper_rest, deeper_none}
 -- ---- entries ----
 
 module _ (g : Story) (sub : ℕ → Run → Out) (lv : ℕ) where
-  -- past the last entry
+  -- Past the last entry.
   pub plain_end : (t e : ℕ) (a : Bool) (r : Run) → entry_at g.game t e ≡ None → from_place g sub lv t e 0 a r ≡ Left a r
   unfolding entries
   plain_end t e a r h = rw (drop_none (table_at g.game t) e h) refl
 
-  -- at an entry
+  -- At an entry.
   pub plain_entry : (t e : ℕ) (en : Entry) (a : Bool) (r : Run) → entry_at g.game t e ≡ Some en →
       from_place g sub lv t e 0 a r ≡ (if is_for_now r en then rest_of_entry g sub lv t e 0 a r else from_place g sub lv t (suc e) 0 a r)
   unfolding entries
@@ -41,7 +41,7 @@ module _ (g : Story) (sub : ℕ → Run → Out) (lv : ℕ) where
 
 -- ---- the loop ----
 
--- the loop of which an object was taken is the one that is open
+-- The loop of which an object was taken is the one that is open.
 pub taken_again : (g : Story) (sub : ℕ → Run → Out) (lv : ℕ) (l : OpenLoop) (o : ℕ) (x : Out) → l.level ≡ lv → Keeps (Some (record l { last = o })) x →
     next_object_or lv (λ _. over_objects g lv (record l { last = 0 }) (from_place g sub lv l.table l.entry (suc l.at) true) (length g.game.objects - suc o)) x
     ≡ next_object_or lv (rest_of_loop g sub lv) x
@@ -54,7 +54,7 @@ taken_again g sub lv l o (Stopped stop r) own k = refl
 -- ---- the rules ----
 
 module _ (g : Story) (lv : ℕ) where
-  -- what the loop of the level makes of equal readings
+  -- What the loop of the level makes of equal readings.
   same : {x y : Out} → x ≡ y → next_object_or lv (rest_of_loop g (deeper g lv) lv) x ≡ next_object_or lv (rest_of_loop g (deeper g lv) lv) y
   same e = ap (next_object_or lv (rest_of_loop g (deeper g lv) lv)) e
 
@@ -67,7 +67,7 @@ module _ (g : Story) (lv : ℕ) where
     past_condacts = λ f r h. same (inside_end g (deeper g lv) lv f.table f.entry f.at f.acted r h);
   }
 
-  -- one condact
+  -- One condact.
   one_read : (f : Frame) (c : Condact) (r : Run) → MayRead g f c r →
       at_frame g lv f r ≡ next_object_or lv (rest_of_loop g (deeper g lv) lv)
       (reads_one g (deeper g lv) lv f (from_place g (deeper g lv) lv f.table (suc f.entry) 0) (from_place g (deeper g lv) lv f.table f.entry (suc f.at)) c r)
@@ -108,7 +108,7 @@ module _ (g : Story) (lv : ℕ) where
     too_long = λ f r. refl;
   }
 
-  -- of the last objects, counted by n
+  -- Of the last objects, counted by n.
   passes : (l : OpenLoop) (n o : ℕ) (r : Run) → length g.game.objects - suc n ≡ o → is_taken g.game r.world l o ≡ false →
       over_objects g lv (record l { last = 0 }) (from_place g (deeper g lv) lv l.table l.entry (suc l.at) true) (suc n) r
       ≡ over_objects g lv (record l { last = 0 }) (from_place g (deeper g lv) lv l.table l.entry (suc l.at) true) n r
@@ -151,7 +151,7 @@ module _ (g : Story) (lv : ℕ) where
       let here : on_path g p lv (f ∷ []) r ≡ Waits p (f ∷ []) (record r { events = [] }) = rw h refl in
       here ∙ ap (λ es. Waits p (f ∷ []) (record r { events = es })) (sym h)
 
-  -- the end of the game is final
+  -- The end of the game is final.
   over_stays : (r : Run) → next_object_or lv (rest_of_loop g (deeper g lv) lv) (over g r) ≡ over g r
   over_stays r = prints (λ x. next_object_or lv (rest_of_loop g (deeper g lv) lv) x ≡ x) (goodbye g r) game_over r refl refl
 

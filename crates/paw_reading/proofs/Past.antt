@@ -35,7 +35,7 @@ use Rattle.paw_reading.proofs.Extends.{around, extends, rest_extends, path_exten
 use Rattle.paw_reading.proofs.Ends.{going_on_ends}
 use Rattle.paw_reading.proofs.Followed.{going_on_is_reading}
 
--- going on with no line waits where it is
+-- Going on with no line waits where it is.
 waits_there : (g : Story) (p : Prompt) (lv : ℕ) (path : List Frame) (r : Run) → path ≢ [] → r.events ≡ [] → on_path g p lv path r ≡ Waits p path r
 waits_there g p lv [] r some none = absurd (some refl)
 waits_there g p lv (f ∷ []) r some none = waits_on g lv p f r none
@@ -51,7 +51,7 @@ module _ (g : Story) (ps : List (List ℕ)) (ts : List (List Step)) where
   closed_past : (r : Run) → closed (with_past ps ts r) ≡ with_past ps ts (closed r)
   closed_past r = rw (append_assoc ps r.pieces (r.current ∷ []), append_assoc ts r.traces (r.read ∷ [])) refl
 
-  -- with no lines more
+  -- With no lines more.
   past_around : (r : Run) → around ps ts [] r ≡ with_past ps ts r
   past_around r = ap (λ es. record (with_past ps ts r) { events = es }) (append-nil r.events)
 
@@ -158,7 +158,7 @@ module _ (g : Story) (ps : List (List ℕ)) (ts : List (List Step)) where
 pub past_stays : PastStays
 past_stays g ps ts p path r = goes_on_past g ps ts (phases_left r) p path r
 
--- the reading of more lines has the pieces of some, and then those of going on
+-- The reading of more lines has the pieces of some, and then those of going on.
 pub longer_reading : LongerReading
 longer_reading g seed es fs p path r e =
     let whole : reading g seed (es ++ fs) ≡ going_on_from g p path (with_lines fs r) = rw e at (going_on_is_reading g seed es fs) in
@@ -171,7 +171,7 @@ past_text ps ts (WaitsAt p path r) h = concat-append ps r.pieces
 past_text ps ts (Halted halt r) h = concat-append ps r.pieces
 past_text ps ts Unended h = absurd (h refl)
 
--- and so has its text
+-- And so has its text.
 pub longer_text : LongerText
 longer_text g seed es fs p path r e =
     ap text_of (longer_reading g seed es fs p path r e)

@@ -66,7 +66,7 @@ open_to : (g : GameLists) (code t : ℕ) (path : List Frame) (w : World) (o : Op
     → Sound g (tables_of path) w o → AreOpenTo g code path o
 open_to g code t path w o low few first leads k = record { few = few; outermost = subst (λ u. u ≤ 2) (sym first) low; leads = leads; loop = k.loop }
 
--- a wait in tables
+-- A wait in tables.
 waits_rightly : (g : GameLists) (t code : ℕ) (p : Prompt) (path : List Frame) (r : Run) → t ≤ 2 → AsksAt code p → length path ≤ 11 → first_table path ≡ t
     → LeadsTo g code path → Sound g (tables_of path) r.world r.turning → (p ≢ prompt.Over) × AreFramesAndLoop g p path r.turning
 waits_rightly g t code prompt.Main path r low asks few first leads k = absurd asks
@@ -84,7 +84,7 @@ some_path g code (f ∷ path) r leads = λ e. cc
 
 -- ---- turns ----
 
--- what a run that stops keeps of its places and its line
+-- What a run that stops leaves of its places and its line.
 record IsPlacedRightly (g : GameLists) (p : Prompt) (path : List Frame) (r : Run) : Type 0 where
   places : AreFramesAndLoop g p path r.turning
   line : IsLineTaken path r
@@ -98,7 +98,7 @@ module _ (g : Story) (v : Valid g.game) where
   abbrev IsRightly : Ending → Type 0
   IsRightly e = StopsPlaced g.game e
 
-  -- the objects of the world stand at places of the game, and no loop is open
+  -- The objects of the world stand at places of the game, and no loop is open.
   record IsBetween (r : Run) : Type 0 where
     of : IsPlaced g.game r.world
     none : r.turning ≡ None
@@ -196,7 +196,7 @@ module _ (g : Story) (v : Valid g.game) where
 
 -- ---- all that holds ----
 
--- the places, the line, and what is sound stand rightly
+-- The places, the line, and what is sound stand rightly.
 stands : (g : Story) (valid : ValidStory g) (seed n : ℕ) (p : Prompt) (path : List Frame) (r : Run) → IsPlacedRightly g.game p path r →
     IsResting g.game seed n r
     → StandsRightly g.game p path r
@@ -228,7 +228,7 @@ stop_bounded g valid seed n (WaitsAt p path r) k = bounded g.game seed n r k
 stop_bounded g valid seed n (Halted halt.Over r) k = bounded g.game seed n r k
 stop_bounded g valid seed n _ k = tt
 
--- each reading
+-- Each reading.
 pub readings_stop_rightly : ReadingsStopRightly
 readings_stop_rightly g seed es valid lines =
     stop_rightly g valid seed 0 (reading g seed es)
@@ -239,7 +239,7 @@ readings_stop_rightly g seed es valid lines =
 pub readings_are_bounded : ReadingsAreBounded
 readings_are_bounded g seed es valid lines = stop_bounded g valid seed 0 (reading g seed es) (reading_sounds g valid seed 0 es (are_lines es lines))
 
--- a run that stands rightly is sound
+-- A run that stands rightly is sound.
 rests : (g : GameLists) (seed n : ℕ) (p : Prompt) (path : List Frame) (r : Run) → StandsRightly g p path r → IsBounded seed n r → All IsLine r.events →
     IsResting g seed n r
 rests g seed n p path r k bound lines = record {
@@ -257,12 +257,12 @@ rests g seed n p path r k bound lines = record {
   read = k.read;
 }
 
--- going on
+-- Going on.
 pub going_on_is_bounded : GoingOnIsBounded
 going_on_is_bounded g seed n p path r valid lines k bound =
     stop_bounded g valid seed n (going_on_from g p path r) (going_on_sounds g valid seed n p path r (rests g.game seed n p path r k bound lines))
 
--- without what was closed before
+-- Without what was closed before.
 apart : (r : Run) → with_past r.pieces r.traces (without_past r) ≡ r
 apart r = rw (append-nil r.pieces, append-nil r.traces) refl
 

@@ -25,7 +25,7 @@ use Rattle.paw_reading.specs.Reading.{called, deeper, rest_of_table}
 use Rattle.paw_reading.proofs.Lists.{drop_none, drop_some, drop_more}
 use Rattle.paw_reading.proofs.Keeps.{Keeps, CallsKeeping, at_level_is, looped_closes}
 
--- the budget holds, or is used up
+-- The budget holds, or is used up.
 pub within_budget : (r : Run) (x : Out) → length r.read < READ_LIMIT → within r x ≡ x
 within_budget r x h = let t : nat_lt (length r.read) READ_LIMIT ≡ true = grind (arith, nat_tests) in rw t refl
 
@@ -33,19 +33,19 @@ pub within_none : (r : Run) (x : Out) → READ_LIMIT ≤ length r.read → withi
 within_none r x h = let t : nat_lt (length r.read) READ_LIMIT ≡ false = grind (arith, nat_tests) in rw t refl
 
 module _ (g : Story) (sub : ℕ → Run → Out) (lv : ℕ) where
-  -- past the last condact of an entry
+  -- Past the last condact of an entry.
   pub inside_end : (t e k : ℕ) (a : Bool) (r : Run) → condact_at g.game t e k ≡ None → rest_of_entry g sub lv t e k a r ≡ from_place g sub lv t (suc e) 0 a r
   unfolding condacts
   inside_end t e k a r h = rw (drop_none (condacts_of (entry_at g.game t e)) k h) refl
 
-  -- at a condact
+  -- At a condact.
   pub inside_condact : (t e k : ℕ) (a : Bool) (r : Run) (c : Condact) → condact_at g.game t e k ≡ Some c → rest_of_entry g sub lv t e k a r
       ≡ within r
       (reads_one g sub lv (record { table = t; entry = e; at = k; acted = a }) (from_place g sub lv t (suc e) 0) (from_place g sub lv t e (suc k)) c r)
   unfolding condacts
   inside_condact t e k a r c h = rw (drop_some (condacts_of (entry_at g.game t e)) k c h) refl
 
-  -- no entry of these matches
+  -- No entry of these matches.
   entries_none : (t e : ℕ) (es : List Entry) (a : Bool) (r : Run) → first_match (flag r.world 33) (flag r.world 34) e es ≡ None →
       entries g sub lv t e es a r ≡ Left a r
   unfolding entries
@@ -58,7 +58,7 @@ module _ (g : Story) (sub : ℕ → Run → Out) (lv : ℕ) where
       go later true q = cc
       go later false q = later q
 
-  -- the first of these entries that matches
+  -- The first of these entries that matches.
   entries_some : (t e : ℕ) (es : List Entry) (a : Bool) (r : Run) (found : ℕ) → drop e (table_at g.game t) ≡ es →
       first_match (flag r.world 33) (flag r.world 34) e es ≡ Some found → entries g sub lv t e es a r ≡ rest_of_entry g sub lv t found 0 a r
   unfolding entries
@@ -77,35 +77,35 @@ module _ (g : Story) (sub : ℕ → Run → Out) (lv : ℕ) where
       go later true q = let j : e ≡ found = cc in here found j
       go later false q = later q
 
-  -- before an entry, where none matches any more
+  -- Before an entry, where none matches any more.
   pub plain_left : (t e : ℕ) (a : Bool) (r : Run) → match_at g.game t e (flag r.world 33) (flag r.world 34) ≡ None → from_place g sub lv t e 0 a r ≡ Left a r
   plain_left t e a r h = entries_none t e (drop e (table_at g.game t)) a r h
 
-  -- before an entry, where this one matches next
+  -- Before an entry, where this one matches next.
   pub plain_match : (t e found : ℕ) (a : Bool) (r : Run) → match_at g.game t e (flag r.world 33) (flag r.world 34) ≡ Some found →
       from_place g sub lv t e 0 a r ≡ rest_of_entry g sub lv t found 0 a r
   plain_match t e found a r h = entries_some t e (drop e (table_at g.game t)) a r found refl h
 
-  -- in an entry
+  -- In an entry.
   pub plain_inside : (t e k : ℕ) (a : Bool) (r : Run) → 0 < k → from_place g sub lv t e k a r ≡ rest_of_entry g sub lv t e k a r
   plain_inside t e zero a r h = absurd (omega arith)
   plain_inside t e (suc k) a r h = refl
 
-  -- past the last entry
+  -- Past the last entry.
   pub plain_past : (t e : ℕ) (a : Bool) (r : Run) → length (table_at g.game t) ≤ e → from_place g sub lv t e 0 a r ≡ Left a r
   unfolding entries
   plain_past t e a r h = rw (drop_none (table_at g.game t) e (slice_get_past (table_at g.game t) e h)) refl
 
   -- ---- the loop of the level ----
 
-  -- what is closed already stays
+  -- What is closed already stays.
   pub again_closed : (next : OpenLoop → Run → Out) (x : Out) → Keeps None x → next_object_or lv next x ≡ x
   again_closed next (Left a r) (inl k) = rw k refl
   again_closed next (Left a r) (inr k) = rw k refl
   again_closed next (Waits p path r) k = refl
   again_closed next (Stopped stop r) k = refl
 
-  -- once is as good as twice
+  -- Once is as good as twice.
   pub again_again : CallsKeeping sub → (x : Out) → next_object_or lv (rest_of_loop g sub lv) (next_object_or lv (rest_of_loop g sub lv) x)
       ≡ next_object_or lv (rest_of_loop g sub lv) x
   again_again calls (Left a r) = go (at_level lv r.turning) refl
@@ -118,24 +118,24 @@ module _ (g : Story) (sub : ℕ → Run → Out) (lv : ℕ) where
   again_again calls (Waits p path r) = refl
   again_again calls (Stopped stop r) = refl
 
-  -- the loop goes on after the call
+  -- The loop goes on after the call.
   pub after_call_again : (f : Frame) (go : Bool → Run → Out) (x : Out) →
       next_object_or lv (rest_of_loop g sub lv) (after_call f go x) ≡ after_call f (λ a r. next_object_or lv (rest_of_loop g sub lv) (go a r)) x
   after_call_again f go (Left b r) = refl
   after_call_again f go (Waits p path r) = refl
   after_call_again f go (Stopped stop r) = refl
 
--- a table that is called is read at the next level
+-- A table that is called is read at the next level.
 pub deeper_rest : (g : Story) (lv u : ℕ) (r : Run) → lv < 10 → deeper g lv u r ≡ rest_of_table g (suc lv) u 0 0 false r
 unfolding called
 deeper_rest g lv u r h = let e : 10 - lv ≡ suc (10 - suc lv) = omega arith in rw e refl
 
--- at the deepest level no table can be called
+-- At the deepest level no table can be called.
 pub deeper_none : (g : Story) (lv u : ℕ) (r : Run) → 10 ≤ lv → deeper g lv u r ≡ halts (halt.TooDeep u) r
 unfolding called
 deeper_none g lv u r h = let e : 10 - lv ≡ 0 = omega arith in rw e refl
 
--- the entry that matches next isn't below the one from which it is looked for, and stands in the table
+-- The entry that matches next isn't below the one from which it is looked for, and stands in the table.
 found_within : (verb noun e : ℕ) (es : List Entry) (found : ℕ) → first_match verb noun e es ≡ Some found → (e ≤ found) × (found < e + length es)
 found_within verb noun e [] found h = cc
 found_within verb noun e (en ∷ es) found h = go (found_within verb noun (suc e) es found) (matches verb noun en) h

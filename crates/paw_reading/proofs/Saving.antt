@@ -50,7 +50,7 @@ all_left [] = refl
 all_left (x ∷ xs) = refl
 
 module _ (g : Story) (never : NeverSaves g.game) (ks : List (Option Position)) where
-  -- the world of the run keeps these positions
+  -- The world of the run keeps these positions.
   abbrev Is : Run → Type 0
   Is r = AreKept ks r.world
 

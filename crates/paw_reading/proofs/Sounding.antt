@@ -1,4 +1,4 @@
--- What a reading keeps of the world, the line, the text and the lines to come.
+-- What stays true through a reading: of the world, the line, the text and the lines to come.
 use Rattle.std.proofs.Common.{◌≡◌, ℕ, zero, suc, ◌+◌, ◌-◌, ◌*◌, ◌<◌, ◌≤◌, ◌/◌, ◌%◌, Bool, true, false, ◌||◌, List, []}
 use Rattle.std.proofs.Common.{◌∷◌, Option, Some}
 use Rattle.std.proofs.Common.{None, refl, length, drop, min, IsTrue, arith, length-append}
@@ -60,7 +60,7 @@ use Rattle.paw_effects.proofs.Worlds.{start_so, anew_so}
 use Rattle.paw_effects.proofs.Changes.{referred_so}
 use Rattle.paw_effects.proofs.EachRow.{effect_so, condition_so}
 
--- each of these is a line
+-- Each of these is a line.
 abbrev pub AreLines : List (List ℕ) → Type 0
 AreLines [] = Unit {0}
 AreLines (line ∷ lines) = IsLine line × AreLines lines
@@ -72,7 +72,7 @@ are_lines (line ∷ lines) all = (all 0 [] (omega arith), are_lines lines (λ k 
 no_line : IsLine []
 no_line = record { short = omega arith; bytes = λ k d low. absurd (omega arith) }
 
--- a run of a game that is played: each piece drew at most 200,000 words, and what is kept of the run are bytes
+-- A run of a game that is played: each piece drew at most 200,000 words, and what is kept of the run are bytes.
 pub record IsSound (g : GameLists) (seed base : ℕ) (r : Run) : Type 0 where
   pub world : IsWorldAt g seed (base + READ_LIMIT * length r.pieces + length r.read) r.world
   pub few : length r.read ≤ READ_LIMIT
@@ -83,7 +83,7 @@ pub record IsSound (g : GameLists) (seed base : ℕ) (r : Run) : Type 0 where
   pub lines : AreLines r.events
   pub traced : length r.traces ≡ length r.pieces
 
--- nothing of a piece is open
+-- Nothing of a piece is open.
 pub record IsResting (g : GameLists) (seed base : ℕ) (r : Run) : Type 0 where
   pub sound : IsSound g seed base r
   pub current : r.current ≡ []
@@ -126,7 +126,7 @@ module _ (g : Story) (valid : ValidStory g) (seed base : ℕ) where
 
   -- ---- changes of a run ----
 
-  -- with another world, another line, another verb before it and another loop
+  -- With another world, another line, another verb before it and another loop.
   changed : (r : Run) → Is r → (w : World) → IsWorldAt g.game seed (bound r) w → (line : List ℕ) → IsLine line → (earlier : ℕ) → earlier < 256 →
       (turning : Option OpenLoop) → Is (record r { world = w; pending = line; earlier = earlier; turning = turning })
   changed r k w world line is earlier small turning =
@@ -225,7 +225,7 @@ module _ (g : Story) (valid : ValidStory g) (seed base : ℕ) where
     bytes = rest-all (λ b. b < 256) pending left at k.bytes;
   }
 
-  -- the words of the phrase that is taken
+  -- The words of the phrase that is taken.
   phrase_so : (r : Run) → Is r → (s : Sentence) (left : List ℕ) → coming_phrase g r ≡ IsSentence s left →
       Is (taken_phrase s left r)
   phrase_so r k s left e =
@@ -425,7 +425,7 @@ module _ (g : Story) (valid : ValidStory g) (seed base : ℕ) where
   table_sounds : (t : ℕ) (r : Run) → Is r → Sounds (table_read g t r)
   table_sounds t r h = reads_sound (deeper g 0) 0 (called_sounds 10 0) t 0 0 false r h
 
-  -- going on along a path
+  -- Going on along a path.
   path_sounds : (p : Prompt) (lv : ℕ) (path : List Frame) (r : Run) → Rests r → Sounds (on_path g p lv path r)
   path_sounds p lv [] r k = k.sound
   path_sounds p lv (f ∷ []) r k =
@@ -560,7 +560,7 @@ module _ (g : Story) (valid : ValidStory g) (seed base : ℕ) where
     traced = refl;
   }
 
-  -- where a reading stops nothing is open, and the run is sound
+  -- Where a reading stops nothing is open, and the run is sound.
   pub reading_sounds : (es : List (List ℕ)) → AreLines es → EndsSound (reading g seed es)
   reading_sounds es are = turn_sounds (phases_left (opening g seed es)) AtDescribe (opening g seed es) (opening_so es are)
 

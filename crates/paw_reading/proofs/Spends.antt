@@ -37,15 +37,15 @@ use Rattle.paw_reading.specs.inner.Steps.{goodbye, quit_question}
 use Rattle.paw_reading.proofs.Keeps.{either, open_or_not, prints}
 use Rattle.paw_reading.proofs.EachCondact.{plain_goes}
 
--- what lines bring
+-- What lines bring.
 abbrev pub brought : List (List ℕ) → ℕ
 brought lines = sum_by (λ line. length line + 200001) lines
 
--- one line more brings so much more
+-- One line more brings so much more.
 pub brought_more : (line : List ℕ) (lines : List (List ℕ)) → brought (line ∷ lines) ≡ length line + 200001 + brought lines
 brought_more line lines = sum_by-cons (λ l. length l + 200001) line lines
 
--- what comes out leaves at most so much to read, and less where the turn begins anew
+-- What comes out leaves at most so much to read, and less where the turn begins anew.
 abbrev pub Spends : ℕ → Out → Type 0
 Spends v (Left a r) = left_to_read r ≤ v
 Spends v (Waits p path r) = Unit {0}
@@ -58,7 +58,7 @@ Spends_up v w h (Waits p path r) k = tt
 Spends_up v w h (Stopped (Halts halt) r) k = tt
 Spends_up v w h (Stopped _ r) k = omega arith
 
--- reading on from a run spends
+-- Reading on from a run spends.
 abbrev pub IsSpending : (Run → Out) → Type 0
 IsSpending f = (r : Run) → Spends (left_to_read r) (f r)
 
@@ -136,7 +136,7 @@ module _ (g : Story) (sub : ℕ → Run → Out) (lv : ℕ) (calls : CallsSpendi
       (Spends_up (length r.pending + brought r.events) v (omega arith) _
       (asked_spends g prompt.Quit f go hg (closed (printed (quit_question g r) (noted f c true r))) r.events)) tt
 
-  -- redescribing leaves as much as there is, so it counts what was read before it
+  -- Redescribing leaves as much as there is, so it counts what was read before it.
   after_action_spends : (f : Frame) (next go : Bool → Run → Out) → AreSpending next → AreSpending go → (e : Effect) (r : Run) →
       Spends (suc (left_to_read r)) (after_action g sub lv f next go e r)
   after_action_spends f next go hn hg effect.Go r = Spends_up (left_to_read r) _ (omega arith) _ (hg true r)
@@ -196,14 +196,14 @@ unfolding called
 called_spend g zero lv u r = tt
 called_spend g (suc n) lv u r = reads_spend g (called g n (suc lv)) (suc lv) (called_spend g n (suc lv)) u 0 0 false r
 
--- reading on at a level spends
+-- Reading on at a level spends.
 pub rest_spends : (g : Story) (lv t e k : ℕ) → AreSpending (rest_of_table g lv t e k)
 rest_spends g lv t e k a r = reads_spend g (deeper g lv) lv (called_spend g (10 - lv) lv) t e k a r
 
 pub table_spends : (g : Story) (t : ℕ) → IsSpending (table_read g t)
 table_spends g t r = rest_spends g 0 t 0 0 false r
 
--- going on along a path spends
+-- Going on along a path spends.
 pub path_spends : (g : Story) (p : Prompt) (lv : ℕ) (path : List Frame) → IsSpending (on_path g p lv path)
 path_spends g p lv [] r = omega arith
 path_spends g p lv (f ∷ []) r =

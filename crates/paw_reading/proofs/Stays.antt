@@ -36,7 +36,7 @@ use Rattle.paw_reading.specs.inner.Places.{IsLoopOf}
 use Rattle.paw_reading.proofs.Keeps.{either, open_or_not, at_level_is, prints}
 use Rattle.paw_reading.proofs.EachCondact.{plain_goes}
 
--- a wait at this level, where table t is the one at level 0
+-- A wait at this level, where table t is the one at level 0.
 pub record WaitsThere (t lv : ℕ) (p : Prompt) (path : List Frame) (turning : Option OpenLoop) : Type 0 where
   pub inner : IsInner p
   pub first : lv ≡ 0 → first_table path ≡ t
@@ -48,15 +48,15 @@ Stays t lv (Waits p path r) = WaitsThere t lv p path r.turning
 Stays t lv (Stopped stop r) = Unit {0}
 
 module _ (t : ℕ) where
-  -- reading on at a level stays so
+  -- Reading on at a level stays so.
   abbrev GoesStaying : ℕ → (Bool → Run → Out) → Type 0
   GoesStaying lv go = (a : Bool) (r : Run) → IsLoopOf t r.turning → Stays t lv (go a r)
 
-  -- so do calls from a level
+  -- So do calls from a level.
   abbrev CallsStaying : ℕ → (ℕ → Run → Out) → Type 0
   CallsStaying lv sub = (u : ℕ) (r : Run) → IsLoopOf t r.turning → Stays t (suc lv) (sub u r)
 
-  -- this table may be read at this level
+  -- This table may be read at this level.
   abbrev IsOwn : ℕ → ℕ → Type 0
   IsOwn lv u = lv ≡ 0 → u ≡ t
 
@@ -185,13 +185,13 @@ module _ (t : ℕ) where
   path_stays g p lv f (i ∷ path) r inner own h =
       after_call_stays lv f _ own (rest_stays g lv f.table f.entry (suc f.at) own) _ (path_stays g p (suc lv) i path r inner (λ z. cc) h)
 
--- a wait in a table that was read from its start is there
+-- A wait in a table that was read from its start is there.
 pub table_waits : (g : Story) (t : ℕ) (r s : Run) (p : Prompt) (path : List Frame) → r.turning ≡ None
     → table_read g t r ≡ Waits p path s → WaitsThere t 0 p path s.turning
 table_waits g t r s p path none is =
     subst (Stays t 0) is (rest_stays t g 0 t 0 0 (λ z. refl) false r (subst (IsLoopOf t) (sym none) tt))
 
--- so is a wait that comes after a wait in a table
+-- So is a wait that comes after a wait in a table.
 pub path_waits : (g : Story) (q p : Prompt) (f : Frame) (from path : List Frame) (r s : Run) → IsInner q → IsLoopOf f.table r.turning
     → on_path g q 0 (f ∷ from) r ≡ Waits p path s → WaitsThere f.table 0 p path s.turning
 path_waits g q p f from path r s inner h is = subst (Stays f.table 0) is (path_stays f.table g q 0 f from r inner (λ z. refl) h)

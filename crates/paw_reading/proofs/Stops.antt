@@ -1,4 +1,5 @@
--- Where reading stops: a wait has a table open and has taken every line, and where the turn begins anew no loop is open.
+-- Where reading stops: a wait has a table open and has taken every line, and where the turn begins anew no loop is
+-- open.
 use Rattle.std.proofs.Common.{◌≡◌, ◌≢◌, ℕ, zero, suc, ◌-◌, Bool, true, false, ◌||◌, List, [], ◌∷◌, None, refl, length}
 use Rattle.paw_base.specs.declared.parts.Condact.{Condact}
 use Rattle.paw_base.specs.declared.fault.SpentKind.TheVariants as spent
@@ -29,7 +30,7 @@ use Rattle.paw_reading.specs.GoingOn.{on_path}
 use Rattle.paw_reading.proofs.Keeps.{either, open_or_not, prints}
 use Rattle.paw_reading.proofs.EachCondact.{plain_goes}
 
--- a wait
+-- A wait.
 pub record WaitsOpen (path : List Frame) (r : Run) : Type 0 where
   pub some : path ≢ []
   pub none_left : r.events ≡ []
@@ -145,11 +146,11 @@ called_stops g (suc n) lv u r = reads_stop g (called g n (suc lv)) (suc lv) (cal
 pub deeper_stops : (g : Story) (lv : ℕ) → CallsStopping (deeper g lv)
 deeper_stops g lv = called_stops g (10 - lv) lv
 
--- reading on at a level stops so
+-- Reading on at a level stops so.
 pub rest_stops : (g : Story) (lv t e k : ℕ) → AreStopping (rest_of_table g lv t e k)
 rest_stops g lv t e k a r = reads_stop g (deeper g lv) lv (deeper_stops g lv) t e k a r
 
--- so does going on along a path
+-- So does going on along a path.
 pub path_stops : (g : Story) (p : Prompt) (lv : ℕ) (path : List Frame) (r : Run) → Stops (on_path g p lv path r)
 path_stops g p lv [] r = tt
 path_stops g p lv (f ∷ []) r =

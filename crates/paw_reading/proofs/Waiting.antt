@@ -16,7 +16,7 @@ unfolding asked
 path_waits g p lv f [] r = refl
 path_waits g p lv f (h ∷ path) r = ap (after_call f (rest_of_table g lv f.table f.entry (suc f.at))) (path_waits g p (suc lv) h path r)
 
--- along some frames
+-- Along some frames.
 pub some_waits : (g : Story) (p : Prompt) (path : List Frame) (r : Run) → 0 < length path →
     on_path g p 0 path (record r { events = [] }) ≡ Waits p path (record r { events = [] })
 some_waits g p [] r some = absurd (omega arith)

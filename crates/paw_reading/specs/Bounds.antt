@@ -1,4 +1,4 @@
--- The bounds that each reading keeps.
+-- The bounds within which each reading stays.
 use Rattle.std.specs.Prelude.{◌≡◌, ◌≤◌, length, All}
 use Rattle.paw_base.specs.Bytes.{Line}
 use Rattle.paw_base.specs.declared.limits.TheConstants.{LINE_LIMIT}
@@ -11,7 +11,7 @@ pub record IsLine (line : Line) : Type 0 where
   pub short : length line ≤ LINE_LIMIT
   pub bytes : AreBytes line
 
--- The game keeps its rules, and each row of the routines has 256 values, all of them bytes.
+-- The game follows its rules, and each routine has 256 answers, all of them bytes.
 pub record ValidStory (g : Story) : Type 0 where
   pub game : Valid g.game
   pub whole : All (λ row. length row ≡ 256) g.rows

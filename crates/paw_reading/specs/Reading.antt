@@ -257,7 +257,7 @@ rest_of_entry g sub lv t e k =
     condacts g sub lv t e (entries g sub lv t (suc e) (drop (suc e) (table_at g.game t))) k
     (drop k (condacts_of (entry_at g.game t e)))
 
--- Reads on from a place to the end of the table. At condact 0 the entry's verb and noun are tested first.
+-- Reads on from a condact of an entry to the end of the table. At condact 0 the entry's verb and noun are tested first.
 abbrev pub from_place : Story → Called → ℕ → ℕ → ℕ → ℕ → Bool → Run → Out
 from_place g sub lv t e zero = entries g sub lv t e (drop e (table_at g.game t))
 from_place g sub lv t e (suc k) = rest_of_entry g sub lv t e (suc k)

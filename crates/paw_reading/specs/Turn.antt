@@ -76,7 +76,7 @@ abbrev pub counted : World → World
 counted w =
     let n = min 65535 (turns_taken w + 1) in with_flag (with_flag w LOW_TURNS_FLAG (n % 256)) HIGH_TURNS_FLAG (n / 256)
 
--- The prompt: the message that a flag names, or the usual one where the flag is 0, and then the mark at which a line is
+-- The prompt: the message that a flag names, or the usual one where the flag is 0, and then the sign at which a line is
 -- typed.
 abbrev pub prompt_text : GameLists → World → Text
 prompt_text g w =

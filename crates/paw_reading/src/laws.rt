@@ -29,7 +29,7 @@ pub fn goes_on_once()
     ensures once { GoesOnOnce }
 {}
 
-/// Reading on keeps its rules, one for each way in which it may go on.
+/// Reading on follows its rules, one for each way in which it may go on.
 pub fn reading_on()
     ensures rules { ReadingOn }
 {}

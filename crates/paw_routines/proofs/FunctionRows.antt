@@ -1,4 +1,4 @@
--- The rows of routines that compute a function of their number and a value.
+-- The answers of routines that compute a function of their number and a value.
 use Rattle.std.proofs.Common.{◌≡◌, ℕ, ◌<◌, List, length, map, Option, None, Some, sym, ap, ◌∙◌, arith, slice_get, subst}
 use Rattle.std.proofs.Common.{refl}
 use Rattle.std.specs.Prelude.{All}
@@ -13,7 +13,7 @@ use Rattle.paw_routines.specs.Rows.{StandFor, value_in, value_at}
 abbrev pub row_of : (ℕ → ℕ) → List ℕ
 row_of h = map h (range_with_len 0 256)
 
--- A row for each of the first `count` routines.
+-- The answers of each of the first `count` routines.
 abbrev pub rows_of : (ℕ → ℕ → ℕ) → ℕ → List (List ℕ)
 rows_of g count = map (λ n. row_of (g n)) (range_with_len 0 count)
 
@@ -42,7 +42,7 @@ small_rows g count small = λ k d below.
     let few : i < 256 = omega (arith, less, length-map-range_with_len (g k) 0 256) in
     subst (λ y. y < 256) (sym (get_or-map-range_with_len (g k) 0 256 i i e few (omega arith))) (small k i low few))
 
--- These rows stand for routines that may be called everywhere and answer with the function's value, which is a byte.
+-- These answers stand for routines that may be called everywhere and answer with the function's value, which is a byte.
 pub stand_for : {F : Type 0} (calls : Shared F (ℕ × (ℕ × Unit {0})) ℕ) (f : F) (g : ℕ → ℕ → ℕ) (count : ℕ)
     → ((n x : ℕ) → n < count → x < 256 → g n x < 256)
     → ((n x : ℕ) → n < count → x < 256 → calls.pre f (n, (x, tt)))
@@ -67,7 +67,7 @@ in_row rows n (Some row) e whole bytes x y small at =
     let all : All (λ z. z < 256) row = subst (λ r. All (λ z. z < 256) r) is (bytes n row low) in
     subst (λ z. z < 256) (same_Some _ y at) (all x 0 (omega (arith, size, small)))
 
--- A value that stands in rows is a byte.
+-- Each of the answers is a byte.
 pub value-byte : {F : Type 0} (calls : Shared F (ℕ × (ℕ × Unit {0})) ℕ) (f : F) (count : ℕ) (rows : List (List ℕ)) → StandFor calls f count rows
     → (n x y : ℕ) → x < 256 → value_at rows n x ≡ Some y → y < 256
 value-byte calls f count rows stand n x y small at =

@@ -1,4 +1,4 @@
--- How rows are measured: a row grows by its values, and a message by the rows.
+-- How answers are measured: those of one routine grow one by one, and a message grows by those of each routine.
 use Rattle.std.proofs.Common.{◌≡◌, ◌<◌, ◌+◌, ℕ, List, [], ◌∷◌, ◌++◌, Option, Some, length, take, get_or, set, inl, inr}
 use Rattle.std.proofs.Common.{sym, ap, ◌∙◌, arith, slice_get}
 use Rattle.std.specs.Fn.{Shared}
@@ -10,7 +10,7 @@ use Rattle.std.proofs.lemmas.List.Folds.{concat-append}
 use Rattle.std.proofs.lemmas.Option.{same_Some, get_or_from_slice_get, slice_get-get_or, slice_get_within}
 use Rattle.paw_routines.specs.Rows.{StandFor, value_in, value_at}
 
--- The first values of a row, up to this number, are those of row n.
+-- The first values of a list, up to this number, are the first answers of routine n.
 abbrev pub AreValues : List (List ℕ) → ℕ → ℕ → List ℕ → Type 0
 AreValues rows n count row = (x : ℕ) → x < count → value_at rows n x ≡ Some (get_or row x 0)
 
@@ -29,7 +29,7 @@ pub answer_more : {F : Type 0} (calls : Shared F (ℕ × (ℕ × Unit {0})) ℕ)
 answer_more calls f count rows stand n x row y below small byte size called values =
     values_more rows n x row y values (omega (arith, small, size)) (stand.answers n x y below small byte called)
 
--- A row with all the values of row n is row n.
+-- A list with all the answers of routine n is the list of these.
 pub whole_row : {F : Type 0} (calls : Shared F (ℕ × (ℕ × Unit {0})) ℕ) (f : F) (count : ℕ) (rows : List (List ℕ)) → StandFor calls f count rows
     → (n : ℕ) (row : List ℕ) → n < count → length row ≡ 256 → AreValues rows n 256 row → slice_get rows n ≡ Some row
 whole_row calls f count rows stand n row below size values =
@@ -41,7 +41,7 @@ whole_row calls f count rows stand n row below size values =
     same_Some _ _ (sym (ap (λ (o : Option (List ℕ)). value_in o k) found) ∙ values k (omega (arith, less, long))) in
     found ∙ ap (λ (l : List ℕ). Some l) (same_number_lists r row (long ∙ sym size) each)
 
--- The first rows and the next one, in order.
+-- The answers of the first routines and of the next one, in order.
 pub concat-more : (rows : List (List ℕ)) (n : ℕ) (row : List ℕ) → slice_get rows n ≡ Some row → concat (take (n + 1) rows) ≡ concat (take n rows) ++ row
 concat-more rows n row at =
     ap concat (take_more rows n row (slice_get_within rows n row at) ∙ ap (λ r. take n rows ++ r ∷ []) (get_or_from_slice_get rows n row row at))

@@ -1,4 +1,4 @@
--- The rows of the routines of the programs.
+-- The answers of the routines of the programs.
 use Rattle.std.proofs.Common.{◌≡◌, ℕ, ◌<◌, ◌-◌, ◌/◌, ◌==◌, List, Bool, true, false, count_ones, if◌then◌else◌, arith}
 use Rattle.std.specs.Fn.{Shared}
 use Rattle.std.proofs.lemmas.Nat.{ones_le_self}
@@ -11,7 +11,7 @@ small_in true b x small = omega arith
 small_in false true x small = omega arith
 small_in false false x small = omega (arith, ones_le_self x)
 
--- Rows stand for this number of routines, which may be called everywhere and give these values.
+-- Answers stand for this number of routines, which may be called everywhere and give these values.
 pub given_stand : {F : Type 0} {count : ℕ} (calls : Shared F (ℕ × (ℕ × Unit {0})) ℕ) (f : F)
     → ((n x : ℕ) → n < count → x < 256 → calls.pre f (n, (x, tt)))
     → ((n x y : ℕ) → n < count → x < 256 → y < 256 → calls.post f (n, (x, tt)) y → y ≡ program_routine n x)

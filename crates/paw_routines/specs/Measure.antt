@@ -1,9 +1,9 @@
--- The digest by which rows are known.
+-- The digest by which answers are known.
 use Rattle.std.specs.Prelude.{◌∷◌, length}
 use Rattle.std.specs.List.{concat}
 use Rattle.sha2.specs.Sha256.{sha256}
 use Rattle.paw_base.specs.Bytes.{Bytes, RoutineRows}
 
--- The measure of rows: the SHA-256 of one byte, the number of rows, followed by the rows in order.
+-- The measure of answers: the SHA-256 of one byte, the number of routines, followed by their answers in order.
 abbrev pub measure : RoutineRows → Bytes
 measure rows = sha256 (length rows ∷ concat rows)

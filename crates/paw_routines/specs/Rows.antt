@@ -1,19 +1,19 @@
--- The values that routines give, as rows.
+-- The answers of routines.
 use Rattle.std.specs.Prelude.{◌≡◌, ℕ, ◌<◌, length, All, Option, None, Some, slice_get, slice_index}
 use Rattle.std.specs.Fn.{Shared}
 use Rattle.paw_base.specs.Bytes.{Bytes, RoutineRows}
 
--- The value of a row at an index, if there is a row.
+-- The answer at an index, if there are answers.
 abbrev pub value_in : Option Bytes → ℕ → Option ℕ
 value_in None x = None
 value_in (Some row) x = Some (slice_index row x)
 
--- The value of row n at x; nothing where there is no such row.
+-- The answer of routine n to x; nothing where there is no such routine.
 abbrev pub value_at : RoutineRows → ℕ → ℕ → Option ℕ
 value_at rows n x = value_in (slice_get rows n) x
 
--- Rows stand for the first `count` routines of f, one row of 256 bytes for each. Each of these routines of f may be
--- called on each value from 0 to 255, and a byte that it may answer there is the one that its row has at that value.
+-- Answers stand for the first `count` routines of f: 256 bytes for each. Each of these routines of f may be called on
+-- each value from 0 to 255, and a byte that it may answer there is the one that stands for it at that value.
 pub record StandFor {F : Type 0} (calls : Shared F (ℕ × (ℕ × Unit {0})) ℕ) (f : F) (count : ℕ)
     (rows : RoutineRows) : Type 0 where
   pub one_each : length rows ≡ count

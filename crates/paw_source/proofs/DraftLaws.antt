@@ -1,4 +1,4 @@
--- What the lines spell keeps the rules of a game, line by line.
+-- What the lines spell follows the rules of a game, line by line.
 use Rattle.std.proofs.Common.{◌≡◌, ℕ, zero, suc, ◌+◌, ◌-◌, ◌<◌, ◌≤◌, Bool, true, false, cond, not, ◌&&◌}
 use Rattle.std.proofs.Common.{◌||◌, eqb, ltb, List, [], ◌∷◌, ◌++◌, length, replicate, drop, Option}
 use Rattle.std.proofs.Common.{Some, None, Result, Ok, Err, refl, sym, ap, subst, ◌∙◌, arith}
@@ -223,7 +223,7 @@ or_false : (a b : Bool) → (a || b) ≡ false → (a ≡ false) × (b ≡ false
 or_false true b h = absurd cc
 or_false false b h = (refl, h)
 
--- Other exits, that keep the rules too.
+-- Other exits, that follow the rules too.
 exits_keep : (p : ℕ) (d : Spelt) (es : List (List Exit)) → d.section ≡ section.Con → Keeps p d
     → RowsKept (exits_are_valid d.words (length d.locations)) (length d.locations) es → Keeps p (record d { exits = es })
 exits_keep p d es here k exits = record {
@@ -260,7 +260,7 @@ item_keeps p section.Pro n d e here k h = absurd cc
 
 -- ---- headers
 
--- Another section opens, and the tables are others that keep the rules too.
+-- Another section opens, and the tables are others that follow the rules too.
 tables_keep : (p : ℕ) (s : Section) (begun : Bool) (ts : List (List Entry)) (d : Spelt) → Keeps p d
     → ((g : GameLists) → Has (bounds_of p d) d.words g → list_all (is_table g) ts ≡ true) → length ts ≤ TABLE_LIMIT
     → InOrder s (record d { section = s; begun = begun; tables = ts })

@@ -1,4 +1,4 @@
--- Rows of exits, objects and condacts keep the rules of a game.
+-- Rows of exits, objects and condacts follow the rules of a game.
 use Rattle.std.proofs.Common.{◌≡◌, ℕ, zero, suc, ◌+◌, ◌-◌, ◌<◌, Bool, true, false, cond, drop, subst}
 use Rattle.std.proofs.Common.{not, ◌&&◌, ◌||◌, eqb, ltb, List, [], ◌∷◌, ◌++◌, length, map}
 use Rattle.std.proofs.Common.{min, Option, Ok, Err, refl, sym, ap, ◌∙◌, arith}

@@ -1,4 +1,4 @@
--- Texts that grow by lines keep the rules of a game's texts.
+-- Texts that grow by lines follow the rules of a game's texts.
 use Rattle.std.proofs.Common.{◌≡◌, ℕ, zero, suc, ◌-◌, ◌<◌, ◌≤◌, Bool, true, false, cond, not, ◌&&◌, ◌||◌}
 use Rattle.std.proofs.Common.{eqb, ltb, List, [], ◌∷◌, ◌++◌, length, set, get_or, Ok, Err, refl, arith}
 use Rattle.std.specs.Prelude.{nat_le, nat_lt}
@@ -103,7 +103,7 @@ allowed : (c a : Bool) → c ≡ false → (not c && a) ≡ false → a ≡ fals
 allowed true a e h = absurd cc
 allowed false a e h = h
 
--- A text line leaves texts that keep the rules.
+-- A text line leaves texts that follow the rules.
 pub text_line_ok : (begun : Bool) (l : List ℕ) (ts us : List (List ℕ)) → list_all is_text ts ≡ true
     → is_comment l ≡ false → begins_with_slash l ≡ false → has_forbidden_byte true l ≡ false
     → text_line begun l ts ≡ Ok us → (list_all is_text us ≡ true) × (length us ≡ length ts)

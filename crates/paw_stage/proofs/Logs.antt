@@ -92,7 +92,7 @@ pub laid-next : (calls : List Call) (k start end : ℕ) (d : Call) → k < lengt
     AreLaid (get_or calls k d ∷ drop (k + 1) calls) start end
 laid-next calls k start end d low h = subst (λ l. AreLaid l start end) (drop_more calls k d low) h
 
--- The calls lie after any earlier place too.
+-- The calls lie after any earlier offset too.
 pub laid-from : (calls : List Call) (start low end : ℕ) → low ≤ start → AreLaid calls start end → AreLaid calls low end
 laid-from [] start low end l h = omega arith
 laid-from (c ∷ calls) start low end l h = (omega (arith, h.0), h.1, h.2, h.3)

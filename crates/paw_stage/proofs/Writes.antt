@@ -19,11 +19,11 @@ length-put at new old =
     let b : length (take at old ++ new) ≡ length (take at old) + length new = length-append (take at old) new in
     omega (arith, a, b, length-take at old, length-drop (at + length new) old)
 
--- A place lies before n places from p on, among them or after them.
+-- An offset lies before n offsets from p on, among them or after them.
 pub where_is : (i p n : ℕ) → (i < p) ⊎ ((p ≤ i) × (i < p + n)) ⊎ (p + n ≤ i)
 where_is i p n = grind arith
 
--- Bytes that were laid over others: before, in and after their places.
+-- Bytes that were laid over others: before, in and after their offsets.
 pub laid_before : (p : ℕ) (bytes : List ℕ) (i old : ℕ) → i < p → laid_over p bytes i old ≡ old
 laid_before p bytes i old h =
     let t : (nat_le p i && nat_lt i (p + length bytes)) ≡ false = grind (arith, nat_tests) in ap (λ b. if b then slice_index bytes (i - p) else old) t
@@ -48,7 +48,7 @@ behind at n old i high =
     near : (a b : ℕ) → (a ≤ b) ⊎ (b ≤ a)
     near a b = grind arith
 
--- New bytes lie over the old ones, or right after them where the place lies past their end.
+-- New bytes lie over the old ones, or right after them where the offset lies past their end.
 pub index-put : (at : ℕ) (new old : List ℕ) (i : ℕ) → slice_index (put at new old) i ≡ laid_over (min at (length old)) new i (slice_index old i)
 index-put at new old i =
     let t : length (take at old) ≡ min at (length old) = length-take at old in
@@ -70,7 +70,7 @@ index-put at new old i =
           ∙ sym (laid_behind (min at (length old)) new i (slice_index old i) high)))
     ]
 
--- Bytes laid over those that stand from another place on.
+-- Bytes laid over those that stand from another offset on.
 pub lays : (place at from to : ℕ) (bytes into new : List ℕ) (j : ℕ) → from ≡ min (at - place) (length bytes) →
     to ≡ min (place - at) (length into) → new ≡ put to (take (length into - to) (drop from bytes)) into →
     j < length into → slice_index new j ≡ laid_over place bytes (at + j) (slice_index into j)

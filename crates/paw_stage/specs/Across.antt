@@ -12,7 +12,7 @@ IsOneOf [] x = ⊥
 IsOneOf (y ∷ ys) x = (x ≡ y) ⊎ IsOneOf ys x
 
 -- The stage reports what stands at it (`Tells`) after the calls if and only if it did before. A call that failed is one
--- of these, and its count of faults rose, and no other.
+-- of these, and its count of failures rose, and no other.
 pub record FailsOnlyBy {S : Type 0} (g : Ghosts S) (calls : List StageCall) (failed : Option StageCall) (old new : S)
     : Type 0 where
   pub tells : g.Tells old ↔ g.Tells new

@@ -3,7 +3,7 @@ use Rattle.std.specs.Prelude.{◌≡◌, ◌⊎◌, ℕ, ◌+◌, ◌<◌, ◌�
 use Rattle.std.specs.Prelude.{Bool, false, ◌&&◌, ◌||◌, nat_le, nat_lt}
 use Rattle.paw_base.specs.Bytes.{Bytes}
 
--- The places from one number up to another, which isn't included.
+-- The offsets from one number up to another, which isn't included.
 pub record Range : Type 0 where
   pub from : ℕ
   pub to : ℕ
@@ -15,23 +15,23 @@ pub record Disk : Type 0 where
   pub longest : ℕ
   pub dirty : List Range
 
--- Whether a place was written since the last sync.
+-- Whether an offset was written since the last sync.
 abbrev pub is_dirty : List Range → ℕ → Bool
 is_dirty [] i = false
 is_dirty (r ∷ ranges) i = (nat_le r.from i && nat_lt i r.to) || is_dirty ranges i
 
--- The bytes that a crash may leave: any byte at a place that was written since the last sync, and past the length at
+-- The bytes that a crash may leave: any byte at an offset that was written since the last sync, and past the length at
 -- that sync any bytes, up to the greatest length since. All others stay.
 pub record MayLeave (d : Disk) (image : Bytes) : Type 0 where
   pub no_shorter : length d.synced ≤ length image
   pub no_longer : length image ≤ d.longest
   pub clean : (i : ℕ) → i < length d.synced → is_dirty d.dirty i ≡ false → slice_index image i ≡ slice_index d.bytes i
 
--- The bytes, with new ones put at a place.
+-- The bytes, with new ones put at an offset.
 abbrev pub put : ℕ → Bytes → Bytes → Bytes
 put at new old = take at old ++ new ++ drop (at + length new) old
 
--- The disk once a write of n bytes at a place has put these bytes there: all n count as written.
+-- The disk once a write of n bytes at an offset has put these bytes there: all n count as written.
 abbrev pub touched : ℕ → ℕ → Bytes → Disk → Disk
 touched at n new d = record {
   bytes = put at new d.bytes;

@@ -54,12 +54,12 @@ pub record Standing : Type 0 where
 abbrev pub file_bytes : Standing → Name → Bytes
 file_bytes s name = bytes_or_none (s.files name)
 
--- A count of faults rose in a call. At its greatest value it stays, and counts as having risen.
+-- A count of failures rose in a call. At its greatest value it stays, and counts as having risen.
 abbrev pub Rose : ℕ → ℕ → Type 0
 Rose old new = (old < new) ⊎ ((old ≡ 2 ^ 64 - 1) × (new ≡ 2 ^ 64 - 1))
 
--- What one call, or several in a row, did to the counts of faults: the count of the call that failed rose, and no other
--- changed. Where none failed, none changed.
+-- What one call, or several in a row, did to the counts of failures: the count of the call that failed rose, and no
+-- other changed. Where none failed, none changed.
 abbrev pub CountsFailure : Option StageCall → (StageCall → ℕ) → (StageCall → ℕ) → Type 0
 CountsFailure None old new = (c : StageCall) → new c ≡ old c
 CountsFailure (Some failed) old new = Rose (old failed) (new failed) × ((c : StageCall) → c ≢ failed → new c ≡ old c)
@@ -69,7 +69,7 @@ abbrev pub failed_in : {A : Type 0} → StageCall → Result A Failed → Option
 failed_in call (Ok answer) = None
 failed_in call (Err e) = Some call
 
--- The call that failed in a load, if any, by its answer; a missing file counts apart. Lack of memory is no fault.
+-- The call that failed in a load, if any, by its answer; a missing file counts apart. Lack of memory is no failure.
 abbrev pub failed_load : {A : Type 0} → Result A LoadRefusal → Option StageCall
 failed_load (Ok bytes) = None
 failed_load (Err refusal.Absent) = Some call.LoadAbsent
@@ -138,7 +138,7 @@ AttachesTo old new name (Err e) = Unattached old new
 abbrev pub wrote : Standing → Disk → ℕ → Standing
 wrote old d n = record old { files = store_holding old.attached d.bytes old.files; disk = d; written = old.written + n }
 
--- What stands once these bytes were written to the store from a place on.
+-- What stands once these bytes were written to the store from an offset on.
 abbrev pub with_written : ℕ → Bytes → Standing → Standing
 with_written at bytes s = wrote s (touched at (length bytes) bytes s.disk) (length bytes)
 
@@ -163,7 +163,7 @@ abbrev pub WritesTo : {A : Type 0} → Standing → Standing → ℕ → Bytes �
 WritesTo old new at bytes (Ok done) = new ≡ with_written at bytes old
 WritesTo old new at bytes (Err e) = WritesSome old new at bytes
 
--- At most n bytes of the store, from a place on.
+-- At most n bytes of the store, from an offset on.
 abbrev pub part_of : Standing → ℕ → ℕ → Bytes
 part_of s at n = take n (drop at s.disk.bytes)
 

@@ -1,4 +1,4 @@
-// A count of faults for each call, kept by every stage.
+// A count of failures for each call, kept by every stage.
 
 ghost use Rattle.std.specs.Prelude.{◌≡◌, Some};
 ghost use Rattle.paw_stage.specs.inner.Faults.{count_of, no_failures, raised, counts_after};
@@ -38,7 +38,7 @@ impl FailureCounts {
         }
     }
 
-    /// Counts one more fault of a call. Its own count rises, and no other changes.
+    /// Counts one more failure of a call. Its own count rises, and no other changes.
     pub fn raise(&mut self, call: StageCall)
         ensures raised { self.new ≡ raised call self.old }
         ensures faulted { CountsFailure (Some call) (count_of self.old) (count_of self.new) }
@@ -56,7 +56,7 @@ impl FailureCounts {
         }
     }
 
-    /// Counts one more fault of a call where it failed, and hands on what it answered.
+    /// Counts one more failure of a call where it failed, and hands on what it answered.
     pub fn count_answer<T>(
         &mut self,
         call: StageCall,

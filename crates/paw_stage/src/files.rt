@@ -31,9 +31,9 @@ pub fn read_file<R: Files>(
     }
 }
 
-/// Makes a file hold these bytes, and syncs it and its folder before it is closed, so that a fault of the disk that
+/// Makes a file hold these bytes, and syncs it and its folder before it is closed, so that a failure of the disk that
 /// comes late fails too. Where there is no room for them a file that was there stays whole. No other file is made.
-/// After any other fault the file may hold some of them.
+/// After any other failure the file may hold some of them.
 ///
 /// A file of more than `longest` bytes isn't written. Anything that isn't a plain file, such as a pipe or a device,
 /// takes the bytes as they come.
@@ -126,7 +126,7 @@ fn folder_of(name: &str) -> Path<'_>
     }
 }
 
-/// Reads as many bytes as `into` has, from a place on. It fails where the file ends before that.
+/// Reads as many bytes as `into` has, from an offset on. It fails where the file ends before that.
 pub fn read_part<F: Read + Seek>(file: &mut F, at: u64, into: &mut [u8]) -> Result<(), Failed>
     ensures read { OnOk result (GivesAt F.stream_position F.remaining file.old file.new at into.new) }
 {
@@ -134,7 +134,7 @@ pub fn read_part<F: Read + Seek>(file: &mut F, at: u64, into: &mut [u8]) -> Resu
     file.read_exact(into).map_err(|_| Failed)
 }
 
-/// Writes bytes from a place on. What lies between the end of the file and a place past it becomes zeros.
+/// Writes bytes from an offset on. What lies between the end of the file and an offset past it becomes zeros.
 pub fn write_part<F: Write + Seek>(file: &mut F, at: u64, bytes: &[u8]) -> Result<(), Failed>
     ensures written { OnOk result (TakesAt F.stream_position F.contents file.old file.new at bytes.now) }
 {
@@ -165,7 +165,7 @@ fn file_size_in(limits: &[u8]) -> Option<u64> {
     None
 }
 
-// Goes to a place of a file.
+// Goes to an offset of a file.
 fn seek_to<F: Seek>(file: &mut F, at: u64) -> Result<(), Failed>
     ensures stands { OnOk result (StaysWhereItWas (F.stream_position file.old) (F.stream_position file.new) at) }
 {

@@ -48,7 +48,7 @@ impl<R: Read + Drop> LineReader<R> {
     }
 
     /// Takes the next line and gives its first 255 bytes, without its line end. A line of more than 1,048,576 bytes,
-    /// its end not counted, is Failed, and so is a fault of the reader.
+    /// its end not counted, is Failed, and so is a failure of the reader.
     pub fn next_line(&mut self, into: &mut [u8; LINE_LIMIT]) -> Asked
         ensures line { AsksOf R.remaining self.old self.new result into.new }
         ensures long { IsNone self.old.broken → self.new.broken ≡ Some fault.TooLong →

@@ -26,8 +26,8 @@ pub use refusing::{Refusals, RefusingStage};
 use std::alloc::Global;
 pub use stopping::{StopStage, Stopping};
 
-/// The calls of a stage; faults are counted for each of them. A load has two: `LoadAbsent` counts the loads that found
-/// no file, and `Load` those that failed otherwise.
+/// The calls of a stage; failures are counted for each of them. A load has two: `LoadAbsent` counts the loads that
+/// found no file, and `Load` those that failed otherwise.
 #[derive(Clone, Copy, Drop, PartialEq, Eq, Debug)]
 pub enum StageCall {
     Load,
@@ -101,7 +101,7 @@ pub trait Stage {
     /// it is too long.
     ///
     /// The answer is Absent exactly where there is no such file and the call didn't fail, and Memory only where there
-    /// is no memory. Absent counts as a fault of `LoadAbsent`, and Failed as one of `Load`.
+    /// is no memory. Absent counts as a failure of `LoadAbsent`, and Failed as one of `Load`.
     fn load(&mut self, alloc: Global, name: &str, most: usize) -> Result<Vec<u8>, LoadRefusal>
         ensures tells { Tells self.old ↔ Tells self.new }
         ensures faulted { CountsFailure (failed_load result) (faults self.old) (faults self.new) }
@@ -128,7 +128,7 @@ pub trait Stage {
         ensures time { Tells self.old →
             Moments clock since self.old self.new (InAttach (standing self.old) (standing self.new) name.now) };
 
-    /// Reads bytes of the attached store, as many as `into` has, from a place on. All of them lie in the store. After
+    /// Reads bytes of the attached store, as many as `into` has, from an offset on. All of them lie in the store. After
     /// Failed, `into` may hold any bytes.
     fn read_at(&mut self, at: u64, into: &mut [u8]) -> Result<(), Failed>
         requires attached { Tells self.old → IsSome (standing self.old).attached }
@@ -139,7 +139,7 @@ pub trait Stage {
         ensures answer { Tells self.old → ReadsTo (standing self.old) at (length into.old) into.new result }
         ensures time { Tells self.old → Moments clock since self.old self.new (Still (standing self.old)) };
 
-    /// Writes bytes to the attached store from a place on, which lies in the store or right at its end. After Failed
+    /// Writes bytes to the attached store from an offset on, which lies in the store or right at its end. After Failed
     /// any part of the range may hold any bytes, and as many bytes as were handed in, or fewer, count as written.
     fn write_at(&mut self, at: u64, bytes: &[u8]) -> Result<(), Failed>
         requires attached { Tells self.old → IsSome (standing self.old).attached }

@@ -19,7 +19,7 @@ use std::alloc::Global;
 use std::marker::Model;
 
 /// What was done: a file was put there between the calls, or a call loaded, saved, attached a store, read it, wrote to
-/// it from a place on, synced it, took a line, found no line left, or showed a text.
+/// it from an offset on, synced it, took a line, found no line left, or showed a text.
 #[derive(Clone, Copy, Drop, PartialEq, Eq, Debug)]
 pub enum CallKind {
     Add,
@@ -151,7 +151,8 @@ impl Log {
     /// The first n bytes of a file, which has at least that number.
     pub fn first_bytes(&self, alloc: Global, name: &[u8], n: usize) -> Result<Vec<u8>, NoRoom>
         requires within { n ≤ length (bytes_or_none ((after fresh self.now.calls).files name.now)) }
-        ensures value { IfOk result (λ v. v.items ≡ take n (bytes_or_none ((after fresh self.now.calls).files name.now))) }
+        ensures value { IfOk result
+            (λ v. v.items ≡ take n (bytes_or_none ((after fresh self.now.calls).files name.now))) }
     {
         first_bytes(self.calls.as_slice(), self.room.as_slice(), alloc, name, n)
     }
@@ -164,7 +165,7 @@ impl Log {
         store_len(self.calls.as_slice(), self.room.as_slice())
     }
 
-    /// Fills a slice with bytes of the attached store from a place on.
+    /// Fills a slice with bytes of the attached store from an offset on.
     pub fn read_store(&self, at: usize, into: &mut [u8])
         requires attached { IsSome (after fresh self.now.calls).attached }
         requires within { at + length into.old ≤ length (after fresh self.now.calls).disk.bytes }

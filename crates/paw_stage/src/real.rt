@@ -25,7 +25,7 @@ mod tests;
 /// Real files, standard input and standard output, which report nothing but how often each call has failed.
 ///
 /// Standard input is read ahead through a buffer, so nothing else may read it. A line ends with LF or CR LF. One of
-/// more than 1,048,576 bytes, its end not counted, fails, and so does a fault of the system; once an ask has failed
+/// more than 1,048,576 bytes, its end not counted, fails, and so does a failure of the system; once an ask has failed
 /// each later one fails, so that no rest of a line is taken for a line.
 ///
 /// The attached store is a file that is kept open. Its descriptor is none of those of the standard streams, though one

@@ -85,7 +85,7 @@ pub fn store_len(calls: &[Call], room: &[u8]) -> usize
     }
 }
 
-/// Fills a slice with bytes of the attached store from a place on.
+/// Fills a slice with bytes of the attached store from an offset on.
 pub fn read_store(calls: &[Call], room: &[u8], at: usize, into: &mut [u8])
     requires laid { AreLaid calls.now 0 (length room.now) }
     requires attached { IsSome (replayed room.now calls.now).attached }
@@ -254,7 +254,7 @@ fn spoil_after(call: Call, room: &[u8], store: &mut [u8])
     }
 }
 
-// Gives another value to n bytes of a store from a place on, as far as it goes.
+// Gives another value to n bytes of a store from an offset on, as far as it goes.
 fn spoil_range(place: usize, n: usize, store: &mut [u8])
     requires within { place ≤ length store.old }
     ensures spoiled { store.new ≡ put place (replicate (min n (length store.old - place)) SPOILED) store.old }
@@ -272,7 +272,7 @@ fn whole_file(calls: &[Call], room: &[u8], alloc: Global, name: &[u8]) -> Result
     first_bytes(calls, room, alloc, name, n)
 }
 
-// Fills a slice with bytes of a file from a place on.
+// Fills a slice with bytes of a file from an offset on.
 fn read_file(calls: &[Call], room: &[u8], name: &[u8], at: usize, into: &mut [u8])
     requires laid { AreLaid calls.now 0 (length room.now) }
     requires within { at + length into.old ≤ length (file_bytes (replayed room.now calls.now) name.now) }
@@ -281,7 +281,7 @@ fn read_file(calls: &[Call], room: &[u8], name: &[u8], at: usize, into: &mut [u8
     let _ = see(calls, room, name, at, into);
 }
 
-// What is seen of a file. A slice is filled with its bytes from a place on, as far as they go.
+// What is seen of a file. A slice is filled with its bytes from an offset on, as far as they go.
 fn see(calls: &[Call], room: &[u8], name: &[u8], at: usize, into: &mut [u8]) -> Seen
     requires laid { AreLaid calls.now 0 (length room.now) }
     ensures sees { Sees (replayed room.now calls.now) name.now at result into.new }
@@ -357,7 +357,7 @@ fn seen_opened(named: bool, seen: Seen) -> Seen
     }
 }
 
-// What is seen of the attached store once bytes were written to it, or after its end where the place lies past it.
+// What is seen of the attached store once bytes were written to it, or after its end where the offset lies past it.
 fn seen_written(place: u64, bytes: &[u8], at: usize, into: &mut [u8], seen: Seen) -> Seen
     requires fits { seen.len + length bytes.now < 2 ^ 64 }
     ensures seen { result ≡ record seen { len = max seen.len (min place seen.len + length bytes.now) } }
@@ -372,7 +372,7 @@ fn seen_written(place: u64, bytes: &[u8], at: usize, into: &mut [u8], seen: Seen
     }
 }
 
-// Lays bytes that stand from a place on over those in a slice, which stand from `at` on.
+// Lays bytes that stand from an offset on over those in a slice, which stand from `at` on.
 fn lay_over(place: usize, bytes: &[u8], at: usize, into: &mut [u8])
     ensures laid { LaysOver place bytes.now at into.old into.new }
 {
@@ -381,7 +381,7 @@ fn lay_over(place: usize, bytes: &[u8], at: usize, into: &mut [u8])
     copy_over(&bytes[from..], into, to);
 }
 
-// Copies bytes over those of a slice from a place on, as many as it has.
+// Copies bytes over those of a slice from an offset on, as many as it has.
 fn copy_over(bytes: &[u8], into: &mut [u8], to: usize)
     requires within { to ≤ length into.old }
     ensures laid { into.new ≡ put to (take (length into.old - to) bytes.now) into.old }

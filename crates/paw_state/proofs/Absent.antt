@@ -5,6 +5,6 @@ use Rattle.paw_state.specs.State.{held_of}
 use Rattle.paw_state.proofs.Written.{zeros_all}
 use Rattle.paw_state.proofs.Shaped.{same_held}
 
--- no position
+-- No position.
 pub none_is : ◌≡◌ {A = PositionField} (record { there = 0; flags = replicate 256 0; places = replicate 255 0 }) (held_of None)
 none_is = same_held (record { there = 0; flags = replicate 256 0; places = replicate 255 0 }) (held_of None) refl (zeros_all 256) (zeros_all 255)

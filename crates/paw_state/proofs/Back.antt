@@ -28,7 +28,7 @@ use Rattle.paw_state.proofs.Loops.{presence}
 
 -- ---- from fields ----
 
--- places without a fault: those of the objects, and zeros
+-- Places without a fault: those of the objects, and zeros.
 pub objects_stand : (g : GameLists) (at : ℕ) (places : List ℕ) → places_fault g at places ≡ None
     → first_not (is_place (length g.locations)) at (take (length g.objects) places) ≡ None
 objects_stand g at places h =

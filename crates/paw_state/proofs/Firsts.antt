@@ -34,14 +34,14 @@ or_assoc : (a b c : Option ℕ) → option_or (option_or a b) c ≡ option_or a 
 or_assoc None b c = refl
 or_assoc (Some x) b c = refl
 
--- a rule, and then others
+-- A rule, and then others.
 ruled : (at : ℕ) (holds : Bool) (x y : Option ℕ) → x ≡ y → (if holds then x else Some at) ≡ option_or (rule at holds) y
 ruled at true x y e = e
 ruled at false x y e = refl
 
 -- ---- lists of fields ----
 
--- fields, and then others
+-- Fields, and then others.
 pub joined : (g : GameLists) (at : ℕ) (xs ys : List Field) →
     fault_from g at (xs ++ ys) ≡ option_or (fault_from g at xs) (fault_from g (at + length (bytes_of xs)) ys)
 unfolding fault_from
@@ -88,13 +88,13 @@ step g at n xs ys x y e k h =
 
 -- ---- bytes ----
 
--- bytes without a rule
+-- Bytes without a rule.
 pub free : (g : GameLists) (at i : ℕ) (bs : List ℕ) → fault_from g at (one_by_one (λ i b g. true) i bs) ≡ None
 unfolding fault_from one_by_one
 free g at i [] = refl
 free g at i (b ∷ bs) = free g (at + 1) (suc i) bs
 
--- bytes that have one rule from number n on
+-- Bytes that have one rule from number n on.
 behind : (g : GameLists) (h : ℕ → ℕ → GameLists → Bool) (q : ℕ → Bool) (n : ℕ) → ((i b : ℕ) → n ≤ i → h i b g ≡ q b)
     → (at i : ℕ) (bs : List ℕ) → n ≤ i → fault_from g at (one_by_one h i bs) ≡ first_not q at bs
 unfolding fault_from one_by_one first_not
@@ -103,7 +103,7 @@ behind g h q n e at i (b ∷ bs) low =
     let k : at + 1 ≡ suc at = add-one at in
     rw (e i b low, k) (ap (λ (o : Option ℕ). if q b then o else Some at) (behind g h q n e (suc at) (suc i) bs (omega (arith, low))))
 
--- bytes that have one rule up to number n, and another one from there on
+-- Bytes that have one rule up to number n, and another one from there on.
 pub parted : (g : GameLists) (h : ℕ → ℕ → GameLists → Bool) (p q : ℕ → Bool) (n : ℕ)
     → ((i b : ℕ) → suc i ≤ n → h i b g ≡ p b) → ((i b : ℕ) → n ≤ i → h i b g ≡ q b)
     → (m at i : ℕ) (bs : List ℕ) → i + m ≡ n

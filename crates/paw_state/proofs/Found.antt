@@ -66,7 +66,7 @@ length-zeros n = length-replicate n 0
 
 -- ---- bytes that are filled up ----
 
--- bytes of which the ones from n on are 0 are the first n, filled up
+-- Bytes of which the ones from n on are 0 are the first n, filled up.
 pub filled_take : (at n : ℕ) (bytes : List ℕ) → length bytes ≡ 255 → n ≤ 255 → first_not is_zero at (drop n bytes) ≡ None → filled 255 (take n bytes) ≡ bytes
 filled_take at n bytes size low h =
     let k : length (take n bytes) ≡ n = omega (arith, length-take n bytes) in
@@ -74,7 +74,7 @@ filled_take at n bytes size low h =
     let z : drop n bytes ≡ zeros (255 - n) = zeros_are at (drop n bytes) h ∙ ap zeros m in
     rw k (rw (sym z) (take-append-drop n bytes))
 
--- bytes that were filled up are first themselves, and then zeros
+-- Bytes that were filled up are first themselves, and then zeros.
 pub take_filled : (n : ℕ) (bytes : List ℕ) → length bytes ≡ n → take n (filled 255 bytes) ≡ bytes
 take_filled n bytes k = take_at bytes (zeros (255 - length bytes)) n k
 

@@ -120,7 +120,7 @@ frame_fields_back g code caller n at (r ∷ rs) h =
 
 -- ---- frames that stand ----
 
--- a condact that is there stands in an entry
+-- A condact that is there stands in an entry.
 pub head_there : (g : GameLists) (code t e k : ℕ) → has_code code (condact_at g t e k) ≡ true → is_some (head_at g t e) ≡ true
 head_there g code t e k h = go (entry_at g t e) h
   where

@@ -52,7 +52,7 @@ machine_sound g code k h = go (count_fits code k.count) refl h
         record { count = e; rows = p.0; turning = p.1 }
     go false e q = cc
 
--- ---- fields without a fault say a state that keeps its rules ----
+-- ---- fields without a fault say a state that follows its rules ----
 
 pub objects_length : (g : GameLists) (places : List ℕ) → Valid g → length places ≡ 255 → length (take (length g.objects) places) ≡ length g.objects
 objects_length g places v size = omega (arith, length-take (length g.objects) places, few_objects g v)

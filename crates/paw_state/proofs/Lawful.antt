@@ -32,11 +32,12 @@ one_fault g bytes at u =
     sym (take-append-drop STATE_LENGTH bytes) ∙ ap (λ (l : List ℕ). l ++ drop STATE_LENGTH bytes) (u.are ∙ bytes_same u.fields) in
     ap (fields_fault g) (ap fields_at split ∙ fields_cut u.fields (drop STATE_LENGTH bytes) u.sized) ∙ u.fault
 
--- a fault of the fields at their places is the one of the bytes
+-- A fault of the fields at their offsets is the one of the bytes.
 pub is_unfit : (g : GameLists) (bytes : List ℕ) (at : ℕ) → STATE_LENGTH ≤ length bytes → AreBytes bytes → unfit g bytes ≡ Some at → Unfit g bytes at
-is_unfit g bytes at n b h = record { fields = fields_at bytes; sized = sized_at bytes n b; are = sym (fields_join bytes n b) ∙ sym (bytes_same (fields_at bytes)); fault = h }
+is_unfit g bytes at n b h =
+    record { fields = fields_at bytes; sized = sized_at bytes n b; are = sym (fields_join bytes n b) ∙ sym (bytes_same (fields_at bytes)); fault = h }
 
--- the fields that stand in bytes of which the first are a state's
+-- The fields that stand in bytes of which the first are a state's.
 fields_there : (g : GameLists) (s : State) (bytes : List ℕ) → Valid g → KeepsEach g s → FitsFields s → take STATE_LENGTH bytes ≡ state_bytes s
     → fields_at bytes ≡ fields_of s
 fields_there g s bytes v k h e =
@@ -47,14 +48,14 @@ fields_there g s bytes v k h e =
 pub fit_has_none : (g : GameLists) (bytes : List ℕ) → Valid g → Fit g bytes → unfit g bytes ≡ None
 fit_has_none g bytes v h = ap (fields_fault g) (fields_there g h.state bytes v (each_of g h.state h.keeps) h.fits h.are) ∙ h.keeps.fields
 
--- the fault that is found part by part
+-- The fault that is found part by part.
 pub unfit_parts : (g : GameLists) (bytes : List ℕ) → STATE_LENGTH ≤ length bytes → AreBytes bytes → unfit g bytes ≡ parts_fault g (fields_at bytes)
 unfit_parts g bytes n b = faults_same g (fields_at bytes) (lengths_sized (fields_at bytes) (sized_at bytes n b))
 
 sound_at : (g : GameLists) (bytes : List ℕ) → STATE_LENGTH ≤ length bytes → AreBytes bytes → unfit g bytes ≡ None → AreSound g (fields_at bytes)
 sound_at g bytes n b h = sound_of g (fields_at bytes) (sym (unfit_parts g bytes n b) ∙ h)
 
--- bytes without a fault are those of the state that their fields say
+-- Bytes without a fault are those of the state that their fields say.
 pub bytes_are : (g : GameLists) (bytes : List ℕ) → Valid g → STATE_LENGTH ≤ length bytes → AreBytes bytes → unfit g bytes ≡ None
     → take STATE_LENGTH bytes ≡ state_bytes (state_in g (fields_at bytes))
 bytes_are g bytes v n b h =

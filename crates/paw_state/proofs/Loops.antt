@@ -34,7 +34,7 @@ use Rattle.paw_state.proofs.Frames.{both, head_there}
 abbrev pub turning_rest : GameLists → Fields → Option ℕ
 turning_rest g f = fault_from g LOOP_LEVEL (loop_fields f f.turning)
 
--- 1 for what is there, 0 for what isn't
+-- 1 for what is there, 0 for what isn't.
 abbrev pub presence : {A : Type 0} → Option A → ℕ
 presence o = if is_some o then 1 else 0
 

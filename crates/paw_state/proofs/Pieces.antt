@@ -9,7 +9,7 @@ use Rattle.paw_state.specs.State.{AreBytes}
 
 -- ---- what stands at a place of bytes ----
 
--- the range that these bytes fill
+-- The range that these bytes fill.
 pub range_is : (bytes x q : List ℕ) (at n : ℕ) → drop at bytes ≡ x ++ q → length x ≡ n → slice_range bytes at (at + n) ≡ x
 range_is bytes x q at n h k =
     let m : at + n - at ≡ n = omega arith in
@@ -19,14 +19,14 @@ range_is bytes x q at n h k =
 pub behind : (bytes x q : List ℕ) (at n : ℕ) → drop at bytes ≡ x ++ q → length x ≡ n → drop (at + n) bytes ≡ q
 behind bytes x q at n h k = sym (drop-drop n at bytes) ∙ (ap (drop n) h ∙ drop_at x q n k)
 
--- one byte
+-- One byte.
 pub byte_is : (bytes q : List ℕ) (at b : ℕ) → drop at bytes ≡ b ∷ q → slice_index bytes at ≡ b
 byte_is bytes q at b h =
     ap (λ (i : ℕ). get_or bytes i 0) (sym (add-zero at)) ∙ (sym (get_or-drop at bytes 0 0) ∙ ap (λ (l : List ℕ). get_or l 0 0) h)
 
 -- ---- ranges ----
 
--- two ranges one after the other
+-- Two ranges one after the other.
 pub range_join : (bytes : List ℕ) (a b c : ℕ) → a ≤ b → b ≤ c → slice_range bytes a b ++ slice_range bytes b c ≡ slice_range bytes a c
 range_join bytes a b c low high =
     let n : b - a + (c - b) ≡ c - a = omega arith in
@@ -36,14 +36,14 @@ range_join bytes a b c low high =
     let f : drop (b - a) (drop a bytes) ≡ drop b bytes = drop-drop (b - a) a bytes ∙ ap (λ (i : ℕ). drop i bytes) m in
     sym (ap (λ (l : List ℕ). slice_range bytes a b ++ take (c - b) l) f) ∙ (sym e ∙ ap (λ (i : ℕ). take i (drop a bytes)) n)
 
--- one byte as a range
+-- One byte as a range.
 pub byte_range : (bytes : List ℕ) (at : ℕ) → at < length bytes → slice_index bytes at ∷ [] ≡ slice_range bytes at (at + 1)
 byte_range bytes at h =
     let n : at + 1 - at ≡ 1 = omega arith in
     let e : drop at bytes ≡ get_or bytes at 0 ∷ drop (suc at) bytes = drop-cons bytes at 0 h in
     sym (ap (λ (i : ℕ). take i (drop at bytes)) n ∙ ap (take 1) e)
 
--- a range that lies inside has its length
+-- A range that lies inside has its length.
 pub length_range : (bytes : List ℕ) (a b : ℕ) → a ≤ b → b ≤ length bytes → length (slice_range bytes a b) ≡ b - a
 length_range bytes a b low high = omega (arith, length-take (b - a) (drop a bytes), length-drop a bytes)
 
@@ -57,7 +57,7 @@ drop_bytes n bytes h = λ i d low.
 pub range_bytes : (bytes : List ℕ) (a b : ℕ) → AreBytes bytes → AreBytes (slice_range bytes a b)
 range_bytes bytes a b h = All-take (λ (x : ℕ). x < 256) (b - a) (drop a bytes) (drop_bytes a bytes h)
 
--- each byte, and 0 past the end
+-- Each byte, and 0 past the end.
 pub each_byte : (bytes : List ℕ) → AreBytes bytes → (i : ℕ) → get_or bytes i 0 < 256
 each_byte [] h i = lit< tt
 each_byte (b ∷ bs) h zero = h 0 0 (omega arith)

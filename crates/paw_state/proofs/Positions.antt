@@ -7,13 +7,13 @@ use Rattle.paw_effects.specs.inner.Worlds.{ArePlacesOf, StandsIn}
 use Rattle.paw_state.specs.State.{State}
 use Rattle.paw_state.specs.inner.State.{KeepsEach}
 
--- 256 flags, and each object at a place
+-- 256 flags, and each object at a place.
 pub record IsPositionOf (g : GameLists) (q : Position) : Type 0 where
   pub flags : length q.flags ≡ 256
   pub each : length q.places ≡ length g.objects
   pub places : ArePlacesOf g q.places
 
--- a position, where there is one, is one of the game
+-- A position, where there is one, is one of the game.
 abbrev pub IsHeldOf : GameLists → Option Position → Type 0
 IsHeldOf g o = IfSome o (IsPositionOf g)
 

@@ -15,7 +15,7 @@ use Rattle.paw_state.specs.inner.Faults.{called_table}
 
 -- ---- bytes ----
 
--- the bytes from number i on have the first fault of all
+-- The bytes from number i on have the first fault of all.
 abbrev pub Looked : (ℕ → Bool) → ℕ → ℕ → List ℕ → Type 0
 Looked p at i bytes = first_not p (at + i) (drop i bytes) ≡ first_not p at bytes
 

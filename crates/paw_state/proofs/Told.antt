@@ -40,7 +40,7 @@ piece_told s l h =
     let e = state_same s ∙ state_ends f in
     rw e (two_there (before_piece f) s.piece (after_piece f) (front_long (before_piece f) s.piece (after_piece f) (ap length (sym e) ∙ l.all) l.behind) h)
 
--- as it stands in a buffer
+-- As it stands in a buffer.
 pub piece_in : (s : State) (rest into : List ℕ) → into ≡ state_bytes s ++ rest → AreLong s → s.piece < 2 ^ 16
     → get_or into PIECE 0 + 256 * get_or into (PIECE + 1) 0 ≡ s.piece
 piece_in s rest into e l h =
@@ -50,14 +50,14 @@ piece_in s rest into e l h =
     ∙ get_or_append_left (state_bytes s) rest 0 (PIECE + 1) (omega (arith, l.all)) in
     rw (a, b) (piece_told s l h)
 
--- what stands before the zeros of a buffer
+-- What stands before the zeros of a buffer.
 pub buffer_long : (bytes into : List ℕ) → into ≡ bytes ++ zeros (STATE_ROOM - STATE_LENGTH) → length into ≡ STATE_ROOM →
     length bytes ≡ STATE_LENGTH
 buffer_long bytes into e l =
     let m = length-append bytes (zeros (STATE_ROOM - STATE_LENGTH)) in
     omega (arith, ap length (sym e) ∙ l, m, length-zeros (STATE_ROOM - STATE_LENGTH))
 
--- as it is read from a buffer
+-- As it is read from a buffer.
 pub piece_read : (s : State) (bytes : List ℕ) → take STATE_LENGTH bytes ≡ state_bytes s → AreLong s → s.piece < 2 ^ 16
     → get_or bytes PIECE 0 + 256 * get_or bytes (PIECE + 1) 0 ≡ s.piece
 piece_read s bytes e l h =

@@ -25,7 +25,7 @@ none_bytes = refl
 unkept_bytes : (s : State) → s.world.kept ≡ replicate 4 None → after_piece (fields_of s) ≡ zeros 2048
 unkept_bytes s none = ap (λ (ks : List (Option Position)). flat_map held_shape.bytes (map held_of ks)) none ∙ none_bytes
 
--- the bytes before the kept positions
+-- The bytes before the kept positions.
 before_kept : Fields → List ℕ
 before_kept f = before_piece f ++ two_bytes f.piece
 
@@ -43,7 +43,7 @@ cut_back bytes front back e n z =
     let m : length front ≡ KEPT = omega (arith, all, behind, length-append front back) in
     ap (λ (l : List ℕ). l ++ zeros 2048) (ap (take KEPT) e ∙ take_at front back KEPT m) ∙ (ap (λ (l : List ℕ). front ++ l) (sym z) ∙ sym e)
 
--- so its first 1,371 bytes and 2,048 zeros are the state
+-- So its first 1,371 bytes and 2,048 zeros are the state.
 pub ends_in_zeros : (s : State) → AreLong s → s.world.kept ≡ replicate 4 None → take KEPT (state_bytes s) ++ zeros 2048 ≡ state_bytes s
 ends_in_zeros s long none =
     cut_back (state_bytes s) (before_kept (fields_of s)) (after_piece (fields_of s)) (state_splits s) long.all (unkept_bytes s none)

@@ -40,7 +40,7 @@ one_more bytes field old count room size h =
     take-put_mid count (count + length field - count) bytes field (count + length field) refl (omega arith)
     ∙ ap (λ (l : List ℕ). l ++ field) h
 
--- what was written has its count of bytes
+-- What was written has its count of bytes.
 pub count_of : (bytes old : List ℕ) (count : ℕ) → count ≤ STATE_ROOM → length bytes ≡ STATE_ROOM → take count bytes ≡ old → length old ≡ count
 count_of bytes old count low size h = ap length (sym h) ∙ omega (arith, length-take count bytes)
 
@@ -49,7 +49,7 @@ count_of bytes old count low size h = ap length (sym h) ∙ omega (arith, length
 pub three : (w0 w1 w2 w3 x y z : List ℕ) → w1 ≡ w0 ++ x → w2 ≡ w1 ++ y → w3 ≡ w2 ++ z → w3 ≡ w0 ++ (x ++ (y ++ z))
 three w0 w1 w2 w3 x y z e f g = rw (g, f, e) (simp append_assoc)
 
--- bytes in front of 255 zeros
+-- Bytes in front of 255 zeros.
 pub filled_behind : (bytes new : List ℕ) → new ≡ bytes → new ++ drop (length bytes) (replicate 255 0) ≡ filled 255 bytes
 filled_behind bytes new h = rw (h, zeros_all 255) (ap (λ (l : List ℕ). bytes ++ l) (drop-zeros (length bytes) 255))
 

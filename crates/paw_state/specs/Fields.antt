@@ -58,7 +58,7 @@ if_there there (f ∷ fs) =
 abbrev pub bytes_of : List Field → Bytes
 bytes_of fields = flat_map (λ f. f.bytes) fields
 
--- The place of the first field whose rule doesn't hold in a game; the first of the fields stands at this place.
+-- The offset of the first field whose rule doesn't hold in a game; the first of the fields stands at this offset.
 unfoldable pub fault_from : GameLists → ℕ → List Field → Option ℕ
 fault_from g at [] = None
 fault_from g at (f ∷ fs) = if f.holds g then fault_from g (at + length f.bytes) fs else Some at

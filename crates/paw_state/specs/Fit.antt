@@ -7,14 +7,14 @@ use Rattle.paw_state.specs.declared.fields.Fields.{Fields}
 use Rattle.paw_state.specs.Fields.{AreSized, bytes_of, state_fields, fault_from}
 use Rattle.paw_state.specs.State.{State, IsValidState, FitsFields, state_bytes}
 
--- Bytes are fit for a game if the first STATE_LENGTH of them are those of a state that keeps its rules.
+-- Bytes are fit for a game if the first STATE_LENGTH of them are those of a state that follows its rules.
 pub record Fit (g : GameLists) (bytes : Bytes) : Type 0 where
   pub state : State
   pub keeps : IsValidState g state
   pub fits : FitsFields state
   pub are : take STATE_LENGTH bytes ≡ state_bytes state
 
--- Bytes are unfit at the place of the first field that breaks its rule.
+-- Bytes are unfit at the offset of the first field that breaks its rule.
 pub record Unfit (g : GameLists) (bytes : Bytes) (at : ℕ) : Type 0 where
   pub fields : Fields
   pub sized : AreSized fields

@@ -1,4 +1,4 @@
--- What a session keeps of a game that is played, its fields and bytes, and the rules that it keeps.
+-- What a session keeps of a game that is played, its fields and bytes, and the rules that it follows.
 use Rattle.std.specs.Prelude.{◌≡◌, ℕ, ◌-◌, ◌^◌, ◌<◌, ◌≤◌, ◌++◌, Option, Some, None, length, map, is_some, All, IfSome}
 use Rattle.std.specs.Prelude.{if◌then◌else◌}
 use Rattle.std.specs.Option.{unwrap_or}

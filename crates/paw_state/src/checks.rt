@@ -31,7 +31,7 @@ use paw_reading::places::OpenLoop;
 /// The most random words that may be drawn in a piece.
 const MOST_DRAWS: u64 = READ_LIMIT as u64;
 
-/// Names this place as a fault, unless the rule holds.
+/// Names this offset as a fault, unless the rule holds.
 fn rule(at: usize, holds: bool) -> Result<(), StateFault>
     ensures value { fault_of result ≡ rule at holds }
 {
@@ -98,7 +98,7 @@ fn check_held<T: Tables>(tables: &T, at: usize, held: &PositionField) -> Result<
     }
 }
 
-/// Checks these positions, the first of which stands at this place.
+/// Checks these positions, the first of which stands at this offset.
 fn check_kept<T: Tables>(tables: &T, at: usize, kept: &[PositionField]) -> Result<(), StateFault>
     requires near { at + HELD_LENGTH * length kept.now ≤ STATE_ROOM }
     ensures value { fault_of result ≡ kept_fault (T.game tables.now) at kept.now }

@@ -92,7 +92,7 @@ pub(crate) struct Fields {
     pub(crate) kept: [PositionField; POSITION_COUNT],
 }
 
-/// The N bytes from a place on.
+/// The N bytes from an offset on.
 pub(crate) fn array_at<const N: usize>(bytes: &[u8; STATE_ROOM], at: usize) -> [u8; N]
     requires inside { at + N ≤ STATE_ROOM }
     ensures value { result ≡ slice_range bytes.now at (at + N) }
@@ -102,7 +102,7 @@ pub(crate) fn array_at<const N: usize>(bytes: &[u8; STATE_ROOM], at: usize) -> [
     array
 }
 
-/// The number of two bytes at a place.
+/// The number of two bytes at an offset.
 fn two_at(bytes: &[u8; STATE_ROOM], at: usize) -> u16
     requires inside { at + 2 ≤ STATE_ROOM }
     ensures value { result ≡ two_at bytes.now at }
@@ -110,7 +110,7 @@ fn two_at(bytes: &[u8; STATE_ROOM], at: usize) -> u16
     u16::from_le_bytes(array_at(bytes, at))
 }
 
-/// The number of eight bytes at a place.
+/// The number of eight bytes at an offset.
 fn eight_at(bytes: &[u8; STATE_ROOM], at: usize) -> u64
     requires inside { at + 8 ≤ STATE_ROOM }
     ensures value { result ≡ eight_at bytes.now at }

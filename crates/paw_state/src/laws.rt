@@ -3,7 +3,7 @@
 ghost use Rattle.paw_state.specs.inner.Laws.{FieldsStand, OneFault, FitOrUnfit, BytesTellTheState, WrittenIsFit};
 ghost use Rattle.paw_state.specs.inner.Record.{StateOfParts};
 
-/// Fields stand at their places in the bytes that they are written to, so bytes never have two first faults.
+/// Fields stand at their offsets in the bytes that they are written to, so bytes never have two first faults.
 pub fn fields_stand()
     ensures stand { FieldsStand }
     ensures one { OneFault }

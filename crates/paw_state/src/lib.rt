@@ -33,7 +33,7 @@ pub struct Restored {
     pub piece: u16,
 }
 
-/// The place in a state's bytes of the first field that breaks its rule: 0 to 3,418. A field of several bytes is named
+/// The offset in a state's bytes of the first field that breaks its rule: 0 to 3,418. A field of several bytes is named
 /// at its first byte; each byte of an array is a field of its own.
 #[derive(Clone, Copy, Drop, PartialEq, Eq, Debug)]
 pub struct StateFault {

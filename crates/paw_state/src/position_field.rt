@@ -25,7 +25,7 @@ impl PositionField {
         places: [0; 255],
     };
 
-    /// The position whose bytes begin at a place.
+    /// The position whose bytes begin at an offset.
     pub(crate) fn at(bytes: &[u8; STATE_ROOM], start: usize) -> PositionField
         requires inside { start + HELD_LENGTH ≤ STATE_ROOM }
         ensures value { result ≡ held_shape.value bytes.now start }

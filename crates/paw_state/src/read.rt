@@ -32,7 +32,7 @@ use paw_world::world::World;
 /// read. Takes no memory.
 ///
 /// # Errors
-/// The place of the first field that breaks its rule, exactly where the bytes are no state of this game.
+/// The offset of the first field that breaks its rule, exactly where the bytes are no state of this game.
 pub fn read_state<T: Tables>(tables: &T, bytes: &[u8; STATE_ROOM]) -> Result<Restored, StateFault>
     ensures read { IfOk result (IsRead (T.game tables.now) bytes.now) }
     ensures fit { IsOk result ↔ Fit (T.game tables.now) bytes.now }
@@ -122,7 +122,7 @@ fn frames_of_fields(rows: &[FrameField; MOST_FRAMES]) -> [Frame; MOST_FRAMES]
     frames
 }
 
-/// The parts of a game that these fields describe, which keep their rules.
+/// The parts of a game that these fields describe, which follow their rules.
 fn restore_fields<T: Tables>(tables: &T, fields: &Fields) -> Restored
     requires sound { parts_fault (T.game tables.now) fields.now ≡ None }
     ensures state { state_read result ≡ state_in (T.game tables.now) fields.now }

@@ -113,7 +113,7 @@ fn waiting(rt: &impl Abort, game: &Game) -> [u8; STATE_ROOM] {
     bytes
 }
 
-/// The place that is named as a fault, or none.
+/// The offset that is named as a fault, or none.
 fn fault(game: &Game, bytes: &[u8; STATE_ROOM]) -> Option<u64> {
     match read_state(game, bytes) {
         Ok(_) => None,
@@ -136,7 +136,7 @@ fn written(read: &Restored) -> [u8; STATE_ROOM] {
     bytes
 }
 
-/// A byte that is changed in the state at the start, and the place that is named then.
+/// A byte that is changed in the state at the start, and the offset that is named then.
 const NAMED: [(usize, u8, u64); 36] = [
     (256, 2, 256),
     (257, 255, 257),
@@ -231,7 +231,7 @@ const FREE: [(usize, u8); 8] = [
     (3419, 2),
 ];
 
-/// A number of eight bytes at a place of the state at the start, and the place that is named then.
+/// A number of eight bytes at an offset of the state at the start, and the offset that is named then.
 const LIMITS: [(usize, u64, Option<u64>); 4] = [
     (1031, 200_000, None),
     (1031, 200_001, Some(1031)),

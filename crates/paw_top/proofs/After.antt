@@ -14,12 +14,12 @@ use Rattle.paw_grammar.specs.Spells.{after_line, at_line, whole, spelled_after}
 use Rattle.paw_source.specs.inner.Laws.{after_lines}
 use Rattle.paw_source.proofs.Faultless.{ok_is}
 
--- after d the line has no fault, and then e is spelled; its bytes are printed
+-- After d the line has no fault, and then e is spelled; its bytes are printed.
 pub record LineReads (p : ℕ) (d : Spelt) (l : List ℕ) (e : Spelt) : Type 0 where
   pub is : after_line p d l ≡ Ok e
   pub printed : list_all is_printed_byte l ≡ true
 
--- after d the lines have no fault, and then e is spelled; their bytes are printed
+-- After d the lines have no fault, and then e is spelled; their bytes are printed.
 pub record Reads (p : ℕ) (d : Spelt) (ls : List (List ℕ)) (e : Spelt) : Type 0 where
   pub is : after_lines p d ls ≡ Ok e
   pub printed : list_all (list_all is_printed_byte) ls ≡ true
@@ -61,7 +61,7 @@ reading_is p n d e (l ∷ ls) h many small =
       | Err k ↦ λ g. absurd cc
     ] h
 
--- what lines with three tables spell
+-- What lines with three tables spell.
 pub reads_whole : (p : ℕ) (d e : Spelt) (ls : List (List ℕ)) → Reads p d ls e → ltb (length e.tables) 3 ≡ false →
     ltb IMAGE_LIMIT (length (image (game_of e))) ≡ false
     → spelled_after p 0 d ls ≡ Ok (game_of e)

@@ -16,13 +16,13 @@ use Rattle.paw_top.specs.Round.{SpellsItself, ComesBack}
 use Rattle.paw_top.specs.declared.outcome.Outcome.{Outcome}
 use Rattle.paw_top.specs.declared.outcome.Outcome.TheVariants as outcome
 
--- a source that holds the text of a game spells that game alone
+-- A source that holds the text of a game spells that game alone.
 same_game : (text bytes : List ℕ) (g h : GameLists) → Some bytes ≡ Some text → spelled bytes ≡ Ok h → spelled text ≡ Ok g → g ≡ h
 same_game text bytes g h e k m =
     let b : bytes ≡ text = cc in
     let w : ◌≡◌ {A = Result GameLists SourceFault} (Ok g) (Ok h) = sym m ∙ ap spelled (sym b) ∙ k in cc
 
--- what isn't opened isn't done
+-- What isn't opened isn't done.
 not_done : (name : List ℕ) (old new : Standing) (o : Outcome) → Unopened name old new o → o ≡ outcome.Done → ⊥
 not_done name old new _ (damaged at h e) q = cc
 not_done name old new _ (absent h e) q = cc

@@ -21,7 +21,7 @@ use Rattle.paw_play.proofs.ImageFiles.{in_order}
 
 -- ---- the source ----
 
--- a source with too many bytes has its fault before its first line
+-- A source with too many bytes has its fault before its first line.
 pub too_long : (bytes : List ℕ) → 8388609 ≤ length bytes → spelled bytes ≡ Err (record { line = 0; kind = kind.TooBig })
 unfolding spelled
 too_long bytes h = let t : nat_lt SOURCE_LIMIT (length bytes) ≡ true = grind (arith, nat_tests) in rw t refl
@@ -30,20 +30,20 @@ first_bytes : (bytes : List ℕ) → (length bytes ≤ SOURCE_LIMIT) ⊎ (838860
 first_bytes bytes (inl k) = ap spelled (take_all 8388609 bytes (omega (arith, k)))
 first_bytes bytes (inr k) = too_long (take 8388609 bytes) (omega (arith, length-take-le 8388609 bytes k)) ∙ sym (too_long bytes k)
 
--- what was loaded of a source is read as the whole
+-- What was loaded of a source is read as the whole.
 read_whole : (given bytes : List ℕ) → given ≡ take 8388609 bytes → spelled bytes ≡ spelled given
 read_whole given bytes e = sym (ap spelled e ∙ first_bytes bytes (in_order (length bytes) SOURCE_LIMIT))
 
 -- ---- the answers ----
 
--- a load that gives nothing says why nothing is compiled
+-- A load that gives nothing says why nothing is compiled.
 pub no_source : (source target : List ℕ) (old new : Standing) (o : Outcome) → LoadsNone source old new o → Compiles source target old new o
 no_source source target old new (outcome.Outside call.LoadAbsent) h = absent h.0 h.1
 no_source source target old new (outcome.Outside call.Load) h = unloaded h
 no_source source target old new (outcome.Memory at) h = memory at h
 no_source source target old new _ h = absurd h
 
--- a source that gives no image says why nothing is compiled
+-- A source that gives no image says why nothing is compiled.
 pub no_image : (source target given : List ℕ) (old new : Standing) (o : Outcome) → LoadsSome source SOURCE_LIMIT old new given → IsRefusal (spelled given) o →
     Compiles source target old new o
 no_image source target given old new (outcome.SourceRefused fault) f h = refused fault (f.0, f.1, read_whole given f.0 f.2 ∙ h) f.3
@@ -57,7 +57,7 @@ keeps_so source target g old new (outcome.Outside call.Save) s k = unsaved g s k
 keeps_so source target g old new (outcome.Outside call.Show) s k = unshown g k.2.0 s (k.0, k.1, k.2.1)
 keeps_so source target g old new _ s k = absurd k.2
 
--- an image that is kept is compiled, as far as it was kept
+-- An image that is kept is compiled, as far as it was kept.
 pub keeps_image : (source target given made line : List ℕ) (old mid new : Standing) (o : Outcome) → LoadsSome source SOURCE_LIMIT old mid given →
     (g : GameLists) × (spelled given ≡ Ok g) × (made ≡ image g) → line ≡ image_line (length made) →
     SavesSo target made line mid new o → Compiles source target old new o

@@ -36,7 +36,7 @@ use Rattle.paw_top.specs.declared.outcome.MemoryAt.{MemoryAt}
 use Rattle.paw_top.specs.declared.outcome.MemoryAt.TheVariants as memory
 use Rattle.paw_reading.specs.declared.places.Halt.TheVariants as halt
 
--- where no count of faults rose, but maybe that of loads that found no file, only such a load may have failed
+-- Where no count of failures rose, but maybe that of loads that found no file, only such a load may have failed.
 only_absent : (failed : Option StageCall) (first last : StageCall → ℕ) → CountsFailure failed first last → NoFailure first last →
     IfSome failed (λ c. c ≡ call.LoadAbsent)
 only_absent None first last out none = tt
@@ -53,7 +53,7 @@ only_absent (Some call.Show) first last out none = absurd (none call.Show (λ q.
 pub unhindered : (o : Outcome) (first last : StageCall → ℕ) → CountsFailure (failed_call o) first last → NoFailure first last → IsUnhindered o
 unhindered o first last out none = only_absent (failed_call o) first last out none
 
--- no call has failed but such a load
+-- No call has failed but such a load.
 pub hindered : (c : StageCall) → c ≢ call.LoadAbsent → IsUnhindered (outcome.Outside c) → ⊥
 hindered c another free = another free
 
@@ -66,7 +66,7 @@ for_memory : (read : Result GameLists SourceFault) (at : MemoryAt) → Completes
 for_memory (Ok g) at = tt
 for_memory (Err fault) at = tt
 
--- what is read of the source settles the answer
+-- What is read of the source settles the answer.
 reads_so : (file : Option (List ℕ)) (a b : List ℕ) (read : Result GameLists SourceFault) (o : Outcome) → file ≡ Some a → spelled a ≡ read → file ≡ Some b →
     CompletesSource read o → CompletesSource (spelled b) o
 reads_so file a b read o h s k done = subst (λ r. CompletesSource r o) (sym s ∙ ap spelled (same_file file a b h k)) done
@@ -82,7 +82,7 @@ completes_compile source target old new _ (compile.unsaved g s e) free = λ byte
 completes_compile source target old new _ (compile.unshown g n s e) free = λ bytes is. absurd (hindered call.Show (λ q. cc) free)
 completes_compile source target old new _ (compile.memory at e) free = λ bytes is. for_memory (spelled bytes) at
 
--- a file that is an image isn't none
+-- A file that is an image isn't none.
 is_some : (s : Standing) (name : List ℕ) (g : GameLists) → Holds s name g → HoldsNone s name → ⊥
 is_some s name g h k = k.2 g (subst (λ b. IsImage b g) (same_file _ h.0 k.0 h.1 k.1) h.2)
 
@@ -99,7 +99,7 @@ completes_game name Such old g o s such = record {
   other = λ k. absurd (is_some old name g s k);
 }
 
--- the file gives no game
+-- The file gives no game.
 completes_unopened : (name : List ℕ) (Such : GameLists → Outcome → Type 0) (old new : Standing) (o : Outcome) →
     ((g : GameLists) (at : MemoryAt) → Such g (outcome.Memory at)) → Unopened name old new o →
     IsUnhindered o → CompletesImage name Such old o
@@ -112,7 +112,7 @@ completes_unopened name Such old new _ memory (failed e) free =
 completes_unopened name Such old new _ memory (wanting at e) free =
     record { image = λ h k. memory h at; other = λ k. tt }
 
--- a game of which a text is shown
+-- A game of which a text is shown.
 pub completes_told : {told : GameLists → List ℕ} {at : MemoryAt} (name : List ℕ) (old new : Standing) (o : Outcome) →
     decompile.TellsOf told at name old new o → IsUnhindered o → CompletesImage name (λ g. Comes outcome.Done) old o
 completes_told name old new _ (decompile.done g s e) free = completes_game name (λ g. Comes outcome.Done) old g outcome.Done s refl
@@ -130,7 +130,7 @@ beyond : (bytes : List ℕ) → WRAP_LIMIT < length bytes →
     outcome.TextTooLong ≡ (if nat_le (length bytes) WRAP_LIMIT then outcome.Done else outcome.TextTooLong)
 beyond bytes h = let t : nat_le (length bytes) WRAP_LIMIT ≡ false = grind (arith, nat_tests) in rw t refl
 
--- a text that is shown in columns
+-- A text that is shown in columns.
 pub completes_wrap : (width : ℕ) (name : List ℕ) (old new : Standing) (o : Outcome) → shows.Wraps width name old new o →
     IsUnhindered o → CompletesWrap name old o
 completes_wrap width name old new _ (shows.done text h e) free = λ bytes is.
@@ -143,7 +143,7 @@ completes_wrap width name old new _ (shows.unshown text h e) free = λ bytes is.
 completes_wrap width name old new _ (shows.wanting at one e) free = λ bytes is. tt
 completes_wrap width name old new _ (shows.unwrapped text h e) free = λ bytes is. tt
 
--- a file whose game is played, where each end is such as it is to be
+-- A file whose game is played, where each end is such as it is to be.
 pub completes_file : {Comes : GameLists → PlayEnd → Type 0} (name : List ℕ) (Such : GameLists → Outcome → Type 0) (old new : Standing)
     (o : Outcome) → PlaysFile Comes name old new o →
     ((g : GameLists) (end : PlayEnd) → Comes g end → IsUnhindered (outcome_of end) → Such g (outcome_of end)) →

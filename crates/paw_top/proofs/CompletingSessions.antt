@@ -60,13 +60,13 @@ plays_on whole most old new (end.Outside call.Read) s free = absurd s
 
 -- ---- a new session ----
 
--- a session isn't made where a write or a sync fails
+-- A session isn't made where a write or a sync fails.
 no_writing : (c : StageCall) → IsOneOf writing_calls c → c ≢ call.LoadAbsent
 no_writing c (inl h) = λ q. cc
 no_writing c (inr (inl h)) = λ q. cc
 no_writing c (inr (inr h)) = absurd h
 
--- a halt ends a walk
+-- A halt ends a walk.
 halted_walked : (o : PlayEnd) (halt : Halt) → end_halt o ≡ Some halt → IsWalked (outcome_of o)
 halted_walked o halt e = subst (λ x. IsWalked (outcome_of x)) (sym (ends_by_halt o halt e)) (walked halt)
   where
@@ -81,7 +81,7 @@ plays_in s old new _ (session.halts o halt r by cut is e) free = halted_walked o
 plays_in s old new _ (session.unmade c w e stays) free = absurd (hindered c (no_writing c w) free)
 plays_in s old new _ (session.plays o p) free = plays_on _ _ old new o p.shows free
 
--- a store with bytes is refused for their number
+-- A store with bytes is refused for their number.
 occupied_so : (bytes : List ℕ) → 0 < length bytes → CompletesNew bytes (outcome.Occupied (length bytes))
 occupied_so [] h = absurd (omega (arith, h))
 occupied_so (b ∷ bytes) h = refl
@@ -107,7 +107,7 @@ completes_play rows name store seed old new o p free =
 
 -- ---- a session that is taken up again ----
 
--- bytes show one session: its digests, its state and its piece
+-- Bytes show one session: its digests, its state and its piece.
 same_digests : (d c : Digests) (s t p q : List ℕ) (r : Recovered) → r ≡ Shown d s p → r ≡ Shown c t q → d ≡ c
 same_digests d c s t p q r h k = let e : Shown d s p ≡ Shown c t q = sym h ∙ k in cc
 
@@ -129,7 +129,7 @@ no_others : (kept own : List ℕ) → (kept ≡ zeros 32) ⊎ (kept ≡ own) →
 no_others kept own (inl h) none other = none h
 no_others kept own (inr h) none other = other h
 
--- bytes that give no session of the story show none
+-- Bytes that give no session of the story show none.
 not_shown : (own d : Digests) (bytes state piece : List ℕ) (r : JournalRefusal) → BelongsTo own.game own.routines d → Refuses own bytes r →
     recover bytes ≡ Shown d state piece → ⊥
 not_shown own d bytes state piece (refusal.Unmade n mark) b h is = let e : Unmade n mark ≡ Shown d state piece = sym h ∙ is in cc
@@ -141,7 +141,7 @@ not_shown own d bytes state piece (refusal.WrongRoutines kept found) b h is =
     no_others d.routines own.routines b.of_routines (λ q. h.6 (mine ∙ q)) (λ q. h.7 (mine ∙ q))
 not_shown own d bytes state piece (refusal.Outside c) b h is = h
 
--- bytes are refused in one way
+-- Bytes are refused in one way.
 one_refusal : (own : Digests) (bytes : List ℕ) (r q : JournalRefusal) → Refuses own bytes r → Refuses own bytes q → r ≡ q
 one_refusal own bytes (refusal.Unmade n mark) (refusal.Unmade m other) h k = let e : Unmade n mark ≡ Unmade m other = sym h ∙ k in cc
 one_refusal own bytes (refusal.Unmade n mark) (refusal.Damaged p at) h k = let e : Unmade n mark ≡ Damaged p at = sym h ∙ k in cc
@@ -170,7 +170,7 @@ one_refusal own bytes (refusal.WrongRoutines kept found) (refusal.WrongRoutines 
 one_refusal own bytes (refusal.Outside c) q h k = absurd h
 one_refusal own bytes r (refusal.Outside c) h k = absurd k
 
--- a refusal that is due came
+-- A refusal that is due came.
 comes_so : (r q : JournalRefusal) → r ≡ q → Comes (refused_as q) (refused_as r)
 comes_so r (refusal.Unmade n mark) e = rw e refl
 comes_so r (refusal.Damaged p at) e = rw e refl
@@ -181,7 +181,7 @@ comes_so r (refusal.Outside c) e = rw e refl
 again_memory : (g : Story) (bytes : List ℕ) (at : MemoryAt) → CompletesAgain g bytes (outcome.Memory at)
 again_memory g bytes at = record { shown = λ d st piece b h. no_memory at; refused = λ r h. tt; no_state = λ d state piece b is not. (0, tt) }
 
--- a session of no state of the game shows none
+-- A session of no state of the game shows none.
 is_unfit : (g : GameLists) (d c : Digests) (bytes state piece : List ℕ) → recover bytes ≡ Shown d (take state_length state) piece → ¬ Fit g state →
     (st : State) (p : List ℕ) → ShowsState g c bytes st p → ⊥
 unfolding kept_bytes
@@ -189,7 +189,7 @@ is_unfit g d c bytes state piece is not st p h =
     let e : Shown d (take state_length state) piece ≡ Shown c (kept_bytes st) p = sym is ∙ h.shown in
     not (record { state = st; keeps = h.keeps; fits = h.fits; are = same_state _ _ _ _ _ _ e })
 
--- a session that shows a state shows no other bytes
+-- A session that shows a state shows no other bytes.
 shows_other : (g : GameLists) (d c : Digests) (bytes state p q : List ℕ) (st : State) → recover bytes ≡ Shown c state q → ShowsState g d bytes st p →
     ((s : State) → ¬ ShowsState g c bytes s q) → ⊥
 shows_other g d c bytes state p q st is h not =

@@ -51,7 +51,7 @@ plain-name_of = each_code (λ code. is_plain (name_of code)) plain_names
 
 -- ---- plain codes ----
 
--- what is known of an indirect code
+-- What is known of an indirect code.
 record Indirect (code : ℕ) : Type 0 where
   high : 128 ≤ code
   may : may_be_indirect (code - 128) ≡ true
@@ -101,7 +101,7 @@ plain_second code is =
 
 -- ---- parameters ----
 
--- what parameters may name in the source of a game with p tables
+-- What parameters may name in the source of a game with p tables.
 abbrev pub bounds : ℕ → GameLists → Bounds
 bounds p g = record {
   system = length g.system;
@@ -111,7 +111,7 @@ bounds p g = record {
   tables = p;
 }
 
--- a game whose parameters are small numbers
+-- A game whose parameters are small numbers.
 pub record Small (p : ℕ) (g : GameLists) : Type 0 where
   pub words : Words g.words
   pub system : length g.system ≤ 256
@@ -121,11 +121,11 @@ pub record Small (p : ℕ) (g : GameLists) : Type 0 where
   pub tables : length g.tables ≤ 256
   pub counted : p ≡ length g.tables
 
--- a token doesn't begin with `@`
+-- A token doesn't begin with `@`.
 abbrev has_no_at : List ℕ → Bool
 has_no_at t = not (begins_with_at t)
 
--- the tokens of a parameter are read as this parameter
+-- The tokens of a parameter are read as this parameter.
 record ParameterBack (p : ℕ) (g : GameLists) (k : ParamKind) (x : ℕ) : Type 0 where
   plain : list_all is_plain (parameter_tokens g.words k x) ≡ true
   no_at : list_all has_no_at (parameter_tokens g.words k x) ≡ true
@@ -175,11 +175,24 @@ parameter_back p g kind.Table x s h =
     let counted : ltb x p ≡ true = ap (ltb x) s.counted ∙ h in
     let low : x < 256 = omega (arith, s.tables, ltb-true x (length g.tables) h) in
     let least : min x 255 ≡ x = omega arith in
-    record { plain = rw (plain-decimal x small) refl; no_at = rw (decimal-at x small) refl; count = refl; read = λ ts. rw (number-decimal x small, counted) (ap (λ n. Ok (n, ts)) least) }
-parameter_back p g kind.Adverb x s h = let b = word_parameter p g 1 x s h in record { plain = rw b.plain refl; no_at = rw b.at refl; count = refl; read = λ ts. b.is ts }
-parameter_back p g kind.Noun x s h = let b = word_parameter p g 2 x s h in record { plain = rw b.plain refl; no_at = rw b.at refl; count = refl; read = λ ts. b.is ts }
-parameter_back p g kind.Adjective x s h = let b = word_parameter p g 3 x s h in record { plain = rw b.plain refl; no_at = rw b.at refl; count = refl; read = λ ts. b.is ts }
-parameter_back p g kind.Preposition x s h = let b = word_parameter p g 4 x s h in record { plain = rw b.plain refl; no_at = rw b.at refl; count = refl; read = λ ts. b.is ts }
+    record {
+      plain = rw (plain-decimal x small) refl;
+      no_at = rw (decimal-at x small) refl;
+      count = refl;
+      read = λ ts. rw (number-decimal x small, counted) (ap (λ n. Ok (n, ts)) least);
+    }
+parameter_back p g kind.Adverb x s h =
+    let b = word_parameter p g 1 x s h in
+    record { plain = rw b.plain refl; no_at = rw b.at refl; count = refl; read = λ ts. b.is ts }
+parameter_back p g kind.Noun x s h =
+    let b = word_parameter p g 2 x s h in
+    record { plain = rw b.plain refl; no_at = rw b.at refl; count = refl; read = λ ts. b.is ts }
+parameter_back p g kind.Adjective x s h =
+    let b = word_parameter p g 3 x s h in
+    record { plain = rw b.plain refl; no_at = rw b.at refl; count = refl; read = λ ts. b.is ts }
+parameter_back p g kind.Preposition x s h =
+    let b = word_parameter p g 4 x s h in
+    record { plain = rw b.plain refl; no_at = rw b.at refl; count = refl; read = λ ts. b.is ts }
 
 -- ---- the first parameter ----
 
@@ -233,7 +246,7 @@ first_back p g c s kept =
 
 -- ---- a condact ----
 
--- name, parameters
+-- Name, parameters.
 abbrev pub condact_tokens : List Word → Condact → List (List ℕ)
 condact_tokens ws c = name_of c.code ∷ (first_tokens ws c ++ parameter_tokens ws (second_kind c.code) c.b)
 
@@ -242,7 +255,7 @@ unfolding condacts_in
 skipped p g [] = refl
 skipped p g (t ∷ ts) = skipped p g ts
 
--- the tokens of a condact are plain and read as this condact
+-- The tokens of a condact are plain and read as this condact.
 pub record CondactBack (p : ℕ) (g : GameLists) (c : Condact) : Type 0 where
   pub plain : list_all is_plain (condact_tokens g.words c) ≡ true
   pub read : condacts_in (bounds p g) g.words 0 (condact_tokens g.words c) ≡ Ok (c ∷ [])
@@ -289,7 +302,7 @@ condact_back p g c s h =
       read = condact_read p g c code a b;
     }
 
--- a condact more of an entry
+-- A condact more of an entry.
 pub more_condacts-is : (p : ℕ) (g : GameLists) (done : List Condact) (c : Condact) → CondactBack p g c → length done < 255
     → more_condacts (bounds p g) g.words done (condact_tokens g.words c) ≡ Ok (done ++ c ∷ [])
 unfolding more_condacts

@@ -34,7 +34,7 @@ some_plain (b ∷ bs) some h = h
 decimal_clean : (n : ℕ) → n ≤ 65535 → list_all is_clean (decimal n) ≡ true
 decimal_clean n h = digits_clean (decimal n) (digits_decimal decimal_digits n (omega arith))
 
--- small numbers are read
+-- Small numbers are read.
 pub number-decimal : (n : ℕ) → n ≤ 65535 → number (decimal n) ≡ Some n
 number-decimal n h =
     let small : n < 2 ^ 64 = omega arith in
@@ -51,18 +51,18 @@ plain-item n h = decimal_clean n h
 pub plain-flag : (n : ℕ) → n ≤ 65535 → is_plain (64 ∷ decimal n) ≡ true
 plain-flag n h = decimal_clean n h
 
--- an item is begun in the section that is read
+-- An item is begun in the section that is read.
 pub item_begins : (p : ℕ) (d : Spelt) (n : ℕ) → n ≤ 65535 → after_line p d (item_token n) ≡ item_in d.section d n
 item_begins p d n h =
     ap (after_line p d) (sym (append-nil (item_token n)))
     ∙ slash_step p d (decimal n) [] (rw (plain-item n h) refl)
     ∙ ap (λ x. slash_line d (47 ∷ decimal n) x []) (number-decimal n h)
 
--- a printed number that keeps a rule
+-- A printed number that follows a rule.
 pub number_with-decimal : (rule : ℕ → Bool) (n : ℕ) (ts : List (List ℕ)) → n ≤ 65535 → rule n ≡ true → number_with rule (decimal n ∷ ts) ≡ Ok (n, ts)
 number_with-decimal rule n ts h keeps = rw (number-decimal n h, keeps) refl
 
--- no digit is a stroke
+-- No digit is a stroke.
 slash_none : (ds : List ℕ) → list_all is_ascii_digit ds ≡ true → begins_with_slash ds ≡ false
 slash_none [] h = refl
 slash_none (b ∷ bs) h =
@@ -73,7 +73,7 @@ slash_none (b ∷ bs) h =
 pub decimal-slash : (n : ℕ) → n ≤ 65535 → begins_with_slash (decimal n) ≡ false
 decimal-slash n h = slash_none (decimal n) (digits_decimal decimal_digits n (omega arith))
 
--- and none is `@`
+-- And none is `@`.
 at_none : (ds : List ℕ) → list_all is_ascii_digit ds ≡ true → begins_with_at ds ≡ false
 at_none [] h = refl
 at_none (b ∷ bs) h =

@@ -28,7 +28,7 @@ use Rattle.paw_top.proofs.KnownWords.{Words, ReadsBack, verb_word_back}
 
 -- ---- verbs that no exit has yet ----
 
--- an exit has this verb
+-- An exit has this verb.
 abbrev has_exit : ℕ → List Exit → Bool
 has_exit verb xs = list_any (λ x. eqb x.verb verb) xs
 
@@ -55,11 +55,11 @@ fresh_more done x (y ∷ ys) h g =
 
 -- ---- one exit ----
 
--- verb, location
+-- Verb, location.
 abbrev exit_tokens : List Word → Exit → List (List ℕ)
 exit_tokens ws x = verb_token ws x.verb ∷ decimal x.to ∷ []
 
--- what a row of an exit needs
+-- What a row of an exit needs.
 record ExitRow (ws : List Word) (locations : ℕ) (done : List Exit) (x : Exit) : Type 0 where
   verb : ReadsBack (verb_token ws x.verb) (verb_word ws) x.verb
   to : ltb x.to locations ≡ true
@@ -95,7 +95,7 @@ exit_step p d before done x at r =
 
 -- ---- the exits of a location ----
 
--- what the rows of sections may look at
+-- What the rows of sections may look at.
 pub record Scene (d : Spelt) : Type 0 where
   pub words : Words d.words
   pub few : length d.locations ≤ LOCATION_LIMIT
@@ -163,7 +163,7 @@ con_item_step p d es all n at scene f below =
           ∙ rw (new, location) (ap (λ (xs : List (List Exit)). Ok (record d { exits = xs })) (filled_more es n all f));
     }
 
--- what is read is exits that stand for these
+-- What is read is exits that stand for these.
 pub record ReadsExits (p : ℕ) (d : Spelt) (es : List (List Exit)) (lines : List (List ℕ)) (n : ℕ) (all : List (List Exit)) : Type 0 where
   pub exits : List (List Exit)
   pub reads : Reads p (record d { exits = es }) lines (record d { exits = exits })

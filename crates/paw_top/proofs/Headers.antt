@@ -8,7 +8,7 @@ use Rattle.paw_grammar.specs.GrammarHeads.{next_header, section_opened}
 use Rattle.paw_top.proofs.After.{LineReads}
 use Rattle.paw_top.proofs.Rows.{slash_step}
 
--- the sections whose headers stand alone and ask for nothing
+-- The sections whose headers stand alone and ask for nothing.
 abbrev pub IsPlain : Section → Type 0
 IsPlain section.Con = ⊥
 IsPlain section.Pro = ⊥

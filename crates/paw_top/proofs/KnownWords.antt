@@ -63,7 +63,7 @@ pub rest_rises : (w : Word) (ws : List Word) → words_rise (w ∷ ws) ≡ true 
 rest_rises w [] h = refl
 rest_rises w (v ∷ vs) h = (and_parts _ (words_rise (v ∷ vs)) h).1
 
--- what is found after a word stands above it
+-- What is found after a word stands above it.
 found_above : (p : Word → Bool) (v : Word) (vs : List Word) (w : Word) → words_rise (v ∷ vs) ≡ true →
     find p vs ≡ Some w → slice_cmp nat_cmp v.letters w.letters ≡ Less
 found_above p v [] w rise h = absurd cc
@@ -75,7 +75,7 @@ found_above p v (u ∷ us) w rise h =
       | false ↦ λ g. nat_list_cmp_total.trans v.letters u.letters w.letters here (found_above p u us w both.1 g)
     ] h
 
--- a word that is found is the one with its letters
+-- A word that is found is the one with its letters.
 pub found_word : (p : Word → Bool) (ws : List Word) (w : Word) → words_rise ws ≡ true → find p ws ≡ Some w → word_of w.letters ws ≡ Some w
 found_word p [] w rise h = absurd cc
 found_word p (v ∷ vs) w rise h =
@@ -91,12 +91,12 @@ found_word p (v ∷ vs) w rise h =
 
 -- ---- words of a game ----
 
--- words that keep their rules
+-- Words that follow their rules.
 pub record Words (ws : List Word) : Type 0 where
   pub all : list_all is_word ws ≡ true
   pub rise : words_rise ws ≡ true
 
--- the first word with a class and a value, and its token
+-- The first word with a class and a value, and its token.
 record First (ws : List Word) (class value : ℕ) (w : Word) : Type 0 where
   class_is : w.class ≡ class
   value_is : w.value ≡ value
@@ -131,7 +131,7 @@ no_sign value w low high =
 
 -- ---- reading ----
 
--- a token is plain, begins with no stroke and no `@`, and these readers read this value
+-- A token is plain, begins with no stroke and no `@`, and these readers read this value.
 pub record ReadsBack (t : List ℕ) (read : List (List ℕ) → Result (ℕ × List (List ℕ)) SourceKind) (value : ℕ) : Type 0 where
   pub plain : is_plain t ≡ true
   pub slash : begins_with_slash t ≡ false
@@ -143,7 +143,7 @@ in_class-is ws class value w f =
     let same : eqb w.class class ≡ true = eq-eqb w.class class f.class_is in
     rw f.known_is (rw same (ap Some f.value_is))
 
--- a value that some word of the class has
+-- A value that some word of the class has.
 value_back : (ws : List Word) (class value : ℕ) → Words ws → has_word ws class value ≡ true →
     ReadsBack (value_token ws class value) (word_or_none ws class) value
 value_back ws class value words has =
@@ -157,7 +157,7 @@ value_back ws class value words has =
       is = λ ts. rw (f.spelled.none, in_class-is ws class value found.0 f) refl;
     })
 
--- an object's word, or one that is a parameter
+-- An object's word, or one that is a parameter.
 pub word_or_none_back : (ws : List Word) (class value : ℕ) → Words ws → is_word_or_none ws class value ≡ true →
     ReadsBack (value_token ws class value) (word_or_none ws class) value
 word_or_none_back ws class value words h =
@@ -166,7 +166,7 @@ word_or_none_back ws class value words h =
       | inr has ↦ value_back ws class value words has
     ]
 
--- the noun of an entry
+-- The noun of an entry.
 pub entry_noun_back : (ws : List Word) (value : ℕ) → Words ws → (is_wildcard value || has_word ws 2 value) ≡ true →
     ReadsBack (value_token ws 2 value) (entry_noun ws) value
 entry_noun_back ws value words h =
@@ -189,7 +189,7 @@ entry_noun_back ws value words h =
 
 -- ---- verbs ----
 
--- the word that stands for a verb value
+-- The word that stands for a verb value.
 record Verb (ws : List Word) (value : ℕ) (w : Word) : Type 0 where
   stands : option_or (first_word ws 0 value) (first_word ws 2 value) ≡ Some w
   low : 2 ≤ value
@@ -242,7 +242,7 @@ some_verb ws value words h =
 verb_token-is : (ws : List Word) (value : ℕ) (w : Word) → Verb ws value w → verb_token ws value ≡ spelled_letters w
 verb_token-is ws value w v = ap (word_token value) v.stands ∙ no_sign value w v.low v.high
 
--- the verb of an exit
+-- The verb of an exit.
 pub verb_word_back : (ws : List Word) (value : ℕ) → Words ws → is_verb_value ws value ≡ true → ReadsBack (verb_token ws value) (verb_word ws) value
 verb_word_back ws value words h =
     let v = some_verb ws value words h in
@@ -253,7 +253,7 @@ verb_word_back ws value words h =
       is = λ ts. rw v.1.read refl;
     })
 
--- the verb of an entry
+-- The verb of an entry.
 pub entry_verb_back : (ws : List Word) (value : ℕ) → Words ws → (is_wildcard value || is_verb_value ws value) ≡ true →
     ReadsBack (verb_token ws value) (entry_verb ws) value
 entry_verb_back ws value words h =

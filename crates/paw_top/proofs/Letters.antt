@@ -56,7 +56,7 @@ capitals-are (c ∷ cs) h =
     let both = and_parts (is_letter c) (list_all is_letter cs) h in
     rw (capital-is c both.0) (ap (λ (s : List ℕ). c ∷ s) (capitals-are cs both.1))
 
--- a capital or a digit is a letter or a digit
+-- A capital or a digit is a letter or a digit.
 alphanumeric : (c : ℕ) → is_letter c ≡ true → is_ascii_alphanumeric c ≡ true
 alphanumeric c h =
     elim (or_cases (leb 65 c && leb c 90) (leb 48 c && leb c 57) h) [
@@ -78,7 +78,7 @@ letters_clean (c ∷ cs) h =
 
 -- ---- letters that are filled up ----
 
--- t is s without the spaces that fill it up
+-- t is s without the spaces that fill it up.
 record IsTrimmed (s t : List ℕ) : Type 0 where
   letters : list_all is_letter t ≡ true
   short : length t ≤ length s
@@ -117,7 +117,7 @@ trimmed (c ∷ cs) h =
 
 -- ---- the token of a word ----
 
--- a token that spells these letters, and is no sign and no header
+-- A token that spells these letters, and is no sign and no header.
 pub record Spelling (t letters : List ℕ) : Type 0 where
   pub plain : is_plain t ≡ true
   pub slash : begins_with_slash t ≡ false

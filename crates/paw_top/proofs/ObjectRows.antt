@@ -39,7 +39,7 @@ kind_back true false = refl
 kind_back false true = refl
 kind_back false false = refl
 
--- what the row of an object needs
+-- What the row of an object needs.
 record FactsRow (ws : List Word) (locations n count : ℕ) (f : ObjectFacts) : Type 0 where
   below : ltb n count ≡ true
   small : n ≤ 65535
@@ -139,7 +139,7 @@ objects_read p d fs n (o ∷ os) at scene is room most h =
     let rest = objects_read p d (fs ++ o.facts ∷ []) (suc n) os at scene (omega (arith, long)) (omega (arith, long)) most both.1 in
     rw is (reads_line p _ _ _ _ _ (object_step p d fs o.facts at row) (rw (same, is) at rest))
 
--- texts and facts together are the objects
+-- Texts and facts together are the objects.
 pub objects_of-map : (os : List ObjectRow) → objects_of (map (λ o. o.text) os) (map (λ o. o.facts) os) ≡ os
 unfolding objects_of
 objects_of-map [] = refl

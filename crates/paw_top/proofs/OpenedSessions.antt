@@ -12,7 +12,7 @@ use Rattle.paw_play.specs.Played.{PlayedSession, GoesOnFrom, begun}
 use Rattle.paw_play.specs.ImageFiles.{Holds}
 use Rattle.paw_play.proofs.ImageFiles.{same_game}
 
--- the story that is played is the one of the file
+-- The story that is played is the one of the file.
 pub same_story : (old : Standing) (name : List ℕ) (game : GameLists) (s : Story) → Holds old name game → Holds old name s.game → story_of game s.rows ≡ s
 same_story old name game s mine holds = ap (λ (h : GameLists). story_of h s.rows) (same_game old name game s.game mine holds)
 
@@ -27,14 +27,14 @@ plays_again g store old mid new o still p = subst (λ q. PlaysAgain g store q ne
 pub goes_on : (s : PlayedSession) (old mid new : Standing) (o : PlayEnd) → mid ≡ old → GoesOn s mid new o → GoesOn s old new o
 goes_on s old mid new o still p = subst (λ q. GoesOn s q new o) still p
 
--- the session goes on from the same bytes, and is of the same story
+-- The session goes on from the same bytes, and is of the same story.
 pub goes_from : (g k : Story) (s : PlayedSession) (store : List ℕ) (old mid : Standing) → mid ≡ old → k ≡ g →
     GoesOnFrom g store (store_bytes old store) s → GoesOnFrom k store (store_bytes mid store) s
 goes_from g k s store old mid still same h =
     subst (λ q. GoesOnFrom q store (store_bytes mid store) s) (sym same)
     (subst (λ q. GoesOnFrom g store (store_bytes q store) s) (sym still) h)
 
--- the moments of a new session at a stage where nothing has changed since
+-- The moments of a new session at a stage where nothing has changed since.
 pub new_parts : {S : Type 0} (gs : Ghosts S) (before after : S) (g k : Story) (seed : ℕ) (store : List ℕ) (old mid : Standing) → mid ≡ old → k ≡ g →
     InTwoParts gs before after (NotYet store mid) (InNewSession (begun k seed store) mid) →
     InTwoParts gs before after (NotYet store old) (InNewSession (begun g seed store) old)
@@ -42,7 +42,7 @@ new_parts gs before after g k seed store old mid still same p =
     subst (λ q. InTwoParts gs before after (NotYet store q) (InNewSession (begun g seed store) q)) still
     (subst (λ q. InTwoParts gs before after (NotYet store mid) (InNewSession (begun q seed store) mid)) same p)
 
--- and those of one that is taken up again
+-- And those of one that is taken up again.
 pub again_parts : {S : Type 0} (gs : Ghosts S) (before after : S) (s : PlayedSession) (store : List ℕ) (old mid : Standing) → mid ≡ old →
     InTwoParts gs before after (NotYet store mid) (InPlay s mid) → InTwoParts gs before after (NotYet store old) (InPlay s old)
 again_parts gs before after s store old mid still p =

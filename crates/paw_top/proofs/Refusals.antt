@@ -13,20 +13,20 @@ use Rattle.paw_top.specs.Opens.{Unopened, damaged, absent, failed, wanting}
 use Rattle.paw_top.specs.Ends.{PlaysFile, unopened}
 use Rattle.paw_play.proofs.ImageFiles.{damage_loaded}
 
--- a load that gives nothing says why its game isn't played
+-- A load that gives nothing says why its game isn't played.
 pub no_file : (name : List ℕ) (old new : Standing) (o : Outcome) → LoadsNone name old new o → Unopened name old new o
 no_file name old new (outcome.Outside call.LoadAbsent) h = absent h.0 h.1
 no_file name old new (outcome.Outside call.Load) h = failed h
 no_file name old new (outcome.Memory at) h = wanting at h
 no_file name old new _ h = absurd h
 
--- and so do bytes that give no game
+-- And so do bytes that give no game.
 pub no_image : (name given : List ℕ) (old new : Standing) (o : Outcome) → LoadsSome name IMAGE_LIMIT old new given → GivesNone given o → Unopened name old new o
 no_image name given old new (outcome.ImageDamaged at) f h = damaged at (damage_loaded name given old new at f h.0 h.1) f.3
 no_image name given old new (outcome.Memory at) f h = wanting at f.3
 no_image name given old new _ f h = absurd h
 
--- so the game of the file isn't played
+-- So the game of the file isn't played.
 pub unloaded : {Comes : GameLists → PlayEnd → Type 0} (name : List ℕ) (old new : Standing) (o : Outcome) → LoadsNone name old new o →
     PlaysFile Comes name old new o
 unloaded name old new o h = unopened o (no_file name old new o h)

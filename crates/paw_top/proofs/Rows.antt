@@ -19,16 +19,16 @@ use Rattle.paw_grammar.specs.Numbers.{number}
 use Rattle.paw_grammar.specs.Spells.{after_line, begins_with_slash, is_text_line, text_added}
 use Rattle.paw_print.specs.Lines.{behind_spaces, spaced}
 
--- a byte that may stand in a token: printed, no space and no `;`
+-- A byte that may stand in a token: printed, no space and no `;`.
 abbrev pub is_clean : ℕ → Bool
 is_clean b = (leb 33 b && leb b 126) && not (eqb b 59)
 
--- a token has such bytes alone, and one at least
+-- A token has such bytes alone, and one at least.
 abbrev pub is_plain : List ℕ → Bool
 is_plain [] = false
 is_plain (b ∷ bs) = is_clean b && list_all is_clean bs
 
--- what a clean byte is
+-- What a clean byte is.
 record Clean (b : ℕ) : Type 0 where
   printed : is_printed_byte b ≡ true
   no_end : ends_token b ≡ false
@@ -107,7 +107,7 @@ no_forbidden_byte text l h = and_right (not (is_comment l)) _ (none_forbidden te
 
 -- ---- one line ----
 
--- a line of tokens, of which the first has no stroke
+-- A line of tokens, of which the first has no stroke.
 pub row_step : (p : ℕ) (d : Spelt) (t : List ℕ) (ts : List (List ℕ)) → list_all is_plain (t ∷ ts) ≡ true → begins_with_slash t ≡ false → is_in_text d ≡ false
     → after_line p d (spaced (t ∷ ts)) ≡ row_in d.section p d false (t ∷ ts)
 unfolding after_line
@@ -135,7 +135,7 @@ more_step p d t ts h out =
     let text : is_text_line d l ≡ false = rw out refl in
     rw (no_forbidden_byte (is_text_line d l) l (printed-behind (t ∷ ts) h), text, tokens_of-behind t ts h) refl
 
--- a line of tokens, of which the first begins with a stroke
+-- A line of tokens, of which the first begins with a stroke.
 pub slash_step : (p : ℕ) (d : Spelt) (bs : List ℕ) (ts : List (List ℕ)) → list_all is_plain ((47 ∷ bs) ∷ ts) ≡ true
     → after_line p d (spaced ((47 ∷ bs) ∷ ts)) ≡ slash_line d (47 ∷ bs) (number bs) ts
 unfolding after_line
@@ -144,7 +144,7 @@ slash_step p d bs ts h =
     let text : is_text_line d l ≡ false = and_right (is_in_text d) false refl in
     rw (no_forbidden_byte (is_text_line d l) l (printed-spaced (47 ∷ bs) ts h), text, tokens_of-spaced (47 ∷ bs) ts h) refl
 
--- a line of a text: printed bytes, of which the first is neither `/` nor `;`
+-- A line of a text: printed bytes, of which the first is neither `/` nor `;`.
 pub text_step : (p : ℕ) (d : Spelt) (l : List ℕ) → list_all is_printed_byte l ≡ true → begins_with_slash l ≡ false → is_comment l ≡ false → is_in_text d ≡ true
     → after_line p d l ≡ text_added d l
 unfolding after_line

@@ -7,16 +7,16 @@ use Rattle.paw_game.specs.Valid.{is_within, is_text_byte, begins_no_line, is_pri
 use Rattle.paw_lex.specs.Bytes.{is_printed_byte as is_print, is_comment}
 use Rattle.paw_grammar.specs.Spells.{begins_with_slash}
 
--- lines with an LF between each two
+-- Lines with an LF between each two.
 abbrev pub rejoined : List (List ℕ) → List ℕ
 rejoined [] = []
 rejoined (l ∷ ls) = l ++ flat_map (λ m. 10 ∷ m) ls
 
--- the bytes between line ends
+-- The bytes between line ends.
 abbrev pub split : List ℕ → List (List ℕ)
 split s = slice_split (λ c. eqb c 10) s
 
--- lines, one at least
+-- Lines, one at least.
 pub data HasLine (ls : List (List ℕ)) : Type 0 where
   has_line : (l : List ℕ) (ms : List (List ℕ)) → ls ≡ l ∷ ms → HasLine ls
 
@@ -47,16 +47,16 @@ rejoined-split (b ∷ bs) =
 
 -- ---- the bytes of a line ----
 
--- no `/` and no `;` begins a line
+-- No `/` and no `;` begins a line.
 abbrev pub begins_well : List ℕ → Bool
 begins_well [] = true
 begins_well (b ∷ bs) = not (begins_no_line b)
 
--- a line of a text
+-- A line of a text.
 abbrev pub is_line : List ℕ → Bool
 is_line l = list_all is_print l && begins_well l
 
--- lines of which the first may be the rest of a line
+-- Lines of which the first may be the rest of a line.
 record Lines (first : Bool) (ls : List (List ℕ)) : Type 0 where
   head : List ℕ
   others : List (List ℕ)
@@ -103,11 +103,11 @@ split_lines first (b ∷ bs) h =
       | false ↦ λ e g. lines_onto first b (split bs) (text_byte b e here.0) (begins_here first b here.1) (split_lines false bs g)
     ] refl both.1
 
--- the lines of a text are printed, and none begins with `/` or `;`
+-- The lines of a text are printed, and none begins with `/` or `;`.
 pub split_is_lines : (s : List ℕ) → is_printed true s ≡ true → list_all is_line (split s) ≡ true
 split_is_lines s h = all_lines (split s) (split_lines true s h)
 
--- what a line of a text is
+-- What a line of a text is.
 pub record TextLine (l : List ℕ) : Type 0 where
   pub printed : list_all is_print l ≡ true
   pub slash : begins_with_slash l ≡ false

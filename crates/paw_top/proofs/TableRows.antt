@@ -31,7 +31,7 @@ use Rattle.paw_top.proofs.Lasts.{last_or-push, with_last-push}
 use Rattle.paw_top.proofs.KnownWords.{ReadsBack, entry_verb_back, entry_noun_back}
 use Rattle.paw_top.proofs.CondactRows.{condact_tokens, bounds, Small, CondactBack, condact_back, more_condacts-is}
 
--- all of a game is spelled, but for its tables, of which these are
+-- All of a game is spelled, but for its tables, of which these are.
 abbrev pub spelt_of : GameLists → List (List Exit) → List (List Entry) → Spelt
 spelt_of g exits tables = record {
   section = section.Pro;
@@ -48,7 +48,7 @@ spelt_of g exits tables = record {
 
 -- ---- a condact ----
 
--- an entry with these condacts
+-- An entry with these condacts.
 abbrev with_condacts : Entry → List Condact → Entry
 with_condacts e cs = record e { condacts = cs }
 
@@ -94,11 +94,11 @@ condacts_read p g exits ts es e done (c ∷ cs) s few h =
 
 -- ---- an entry ----
 
--- verb, noun
+-- Verb, noun.
 abbrev entry_tokens : List Word → Entry → List (List ℕ)
 entry_tokens ws e = verb_token ws e.verb ∷ value_token ws 2 e.noun ∷ []
 
--- what the line of an entry needs
+-- What the line of an entry needs.
 record EntryRow (ws : List Word) (e : Entry) : Type 0 where
   verb : ReadsBack (verb_token ws e.verb) (entry_verb ws) e.verb
   noun : ReadsBack (value_token ws 2 e.noun) (entry_noun ws) e.noun
@@ -111,7 +111,8 @@ entry_row-is p g es e r room =
     let few : ltb 255 0 ≡ false = refl in
     rw (r.verb.is (value_token g.words 2 e.noun ∷ []), r.noun.is []) (rw below refl)
 
-entry_step : (p : ℕ) (g : GameLists) (exits : List (List Exit)) (ts : List (List Entry)) (es : List Entry) (e : Entry) → EntryRow g.words e → length es < ENTRY_LIMIT
+entry_step : (p : ℕ) (g : GameLists) (exits : List (List Exit)) (ts : List (List Entry)) (es : List Entry) (e : Entry) →
+    EntryRow g.words e → length es < ENTRY_LIMIT
     → LineReads p (spelt_of g exits (ts ++ es ∷ [])) (spaced (entry_tokens g.words e)) (spelt_of g exits (ts ++ (es ++ with_condacts e [] ∷ []) ∷ []))
 entry_step p g exits ts es e r room =
     let d : Spelt = spelt_of g exits (ts ++ es ∷ []) in
@@ -144,7 +145,7 @@ entries_read p g exits ts done (e ∷ es) s few h =
 
 -- ---- a table ----
 
--- a table begins
+-- A table begins.
 abbrev table_begun : Spelt → Spelt
 table_begun d = record (section_opened section.Pro d) { tables = d.tables ++ [] ∷ [] }
 

@@ -26,7 +26,7 @@ use Rattle.paw_top.proofs.Split.{split_is_lines, TextLine, text_line_is}
 
 -- ---- the texts of a section ----
 
--- a section of texts
+-- A section of texts.
 abbrev pub is_text_section : Section → Bool
 is_text_section s = ltb 0 (text_limit s)
 
@@ -136,12 +136,13 @@ more_lines p s d before t (l ∷ ls) at text lines short =
     reads_line p _ _ _ l ls (line_step p s true d before t l at text (text_line_is l both.0) first)
     (rw same at (more_lines p s d before (t ++ 10 ∷ l) ls at text both.1 whole))
 
--- a state in which the texts are these
+-- A state in which the texts are these.
 abbrev pub Then : ℕ → Section → Spelt → Spelt → List (List ℕ) → List (List ℕ) → Type 0
 Then p s d e lines texts = (b : Bool) × Reads p e lines (with_texts s b texts d)
 
 whole_text : (p : ℕ) (s : Section) (d : Spelt) (before : List (List ℕ)) (t : List ℕ) (ls : List (List ℕ)) → d.section ≡ s → is_text_section s ≡ true
-    → HasLine ls → list_all is_line ls ≡ true → rejoined ls ≡ t → length t ≤ TEXT_LIMIT → Then p s d (with_texts s false (before ++ [] ∷ []) d) ls (before ++ t ∷ [])
+    → HasLine ls → list_all is_line ls ≡ true → rejoined ls ≡ t → length t ≤ TEXT_LIMIT →
+    Then p s d (with_texts s false (before ++ [] ∷ []) d) ls (before ++ t ∷ [])
 whole_text p s d before t ls at text (has_line l ms are) lines is short =
     let both = and_parts (is_line l) (list_all is_line ms) (rw are at lines) in
     let same : l ++ flat_map (λ m. 10 ∷ m) ms ≡ t = rw are at is in

@@ -50,7 +50,7 @@ pub told : (n : ℕ) (old new : Standing) (o : Outcome) (text : List ℕ) (e : E
 told n old new o text (WaitsAt p path r) is t s = shows o p path r is (subst (λ x. Shows x old new o) t s)
 told n old new o text _ is t s = absurd t
 
--- where no call fails the line is shown
+-- Where no call fails the line is shown.
 shown_comes : (text : List ℕ) (old new : Standing) (o : Outcome) → Shows text old new o → IsUnhindered o → Comes outcome.Done o
 shown_comes text old new outcome.Done s free = refl
 shown_comes text old new (outcome.Outside call.Show) s free = absurd (hindered call.Show (λ q. cc) free)

@@ -39,7 +39,7 @@ use Rattle.paw_top.proofs.TableRows.{spelt_of, table_read, tables_read}
 
 -- ---- what a valid game is ----
 
--- the rules of a valid game, one by one
+-- The rules of a valid game, one by one.
 record Rules (g : GameLists) : Type 0 where
   few_words : length g.words ≤ WORD_LIMIT
   all_words : list_all is_word g.words ≡ true
@@ -113,7 +113,7 @@ texts_read p s name d before texts reads first none text room all =
     let rest : Reads p (section_opened s d) (numbered text_lines 0 texts) (with_texts s items.0 texts (section_opened s d)) = rw none at items.1 in
     (items.0, reads_append p nothing_yet d _ before _ reads (reads_line p _ _ _ name (numbered text_lines 0 texts) first rest))
 
--- what is spelled before the tables
+-- What is spelled before the tables.
 abbrev before_tables : GameLists → Bool → List (List Exit) → Spelt
 before_tables g b exits = record (spelt_of g exits []) { section = section.Obj; begun = b }
 
@@ -134,7 +134,7 @@ tables_section p g b exits (t ∷ ts) s some few h =
 
 -- ---- the whole ----
 
--- the lines are read as the lists of the game
+-- The lines are read as the lists of the game.
 record WholeRead (p : ℕ) (g : GameLists) : Type 0 where
   exits : List (List Exit)
   reads : Reads p nothing_yet (canonical_lines g) (spelt_of g exits g.tables)
@@ -146,14 +146,14 @@ whole_read p g r s =
     let names : List (List ℕ) = map (λ (o : ObjectRow). o.text) g.objects in
     let as_many = length-map g.objects (λ (o : ObjectRow). o.text) in
     let names_few : length names ≤ 255 = omega (arith, as_many, r.few_objects) in
-    -- the words
+    -- The words.
     let d0 : Spelt = section_opened section.Voc nothing_yet in
     let d1 : Spelt = record d0 { words = g.words } in
     let l1 : List (List ℕ) = words_lines g.words in
     let r1 : Reads p nothing_yet l1 d1 =
     reads_line p nothing_yet d0 d1 (codes "/VOC") (map (λ (w : Word). spaced (word_tokens w)) g.words) (header_reads p nothing_yet section.Before refl tt)
     (words_read p d0 [] g.words refl r.all_words r.rise r.few_words) in
-    -- the texts
+    -- The texts.
     let t2 = texts_read p section.Stx (codes "/STX") d1 l1 g.system r1 (header_reads p d1 section.Voc refl tt) refl refl r.few_system r.system in
     let d2 : Spelt = with_texts section.Stx t2.0 g.system (section_opened section.Stx d1) in
     let l2 : List (List ℕ) = l1 ++ texts_lines (codes "/STX") g.system in
@@ -167,7 +167,7 @@ whole_read p g r s =
     let t5 = texts_read p section.Ltx (codes "/LTX") d4 l4 g.locations t4.1 (header_reads p d4 section.Otx refl tt) refl refl r.few_locations r.locations in
     let d5 : Spelt = with_texts section.Ltx t5.0 g.locations (section_opened section.Ltx d4) in
     let l5 : List (List ℕ) = l4 ++ texts_lines (codes "/LTX") g.locations in
-    -- the exits
+    -- The exits.
     let some : eqb (length g.locations) 0 ≡ false = ne_eqb (length g.locations) 0 (λ e. omega (arith, r.some_locations)) in
     let c5 : Spelt = section_opened section.Con d5 in
     let scene5 : Scene c5 = record { words = s.words; few = r.few_locations } in
@@ -179,7 +179,7 @@ whole_read p g r s =
     let t6 : Reads p d5 con d6 =
     reads_line p d5 c5 d6 (codes "/CON") (numbered (location_lines g.words) 0 g.exits) (exits_header_reads p d5 refl some) x6.reads in
     let r6 : Reads p nothing_yet (l5 ++ con) d6 = reads_append p nothing_yet d5 d6 l5 con t5.1 t6 in
-    -- the objects
+    -- The objects.
     let c6 : Spelt = section_opened section.Obj d6 in
     let scene6 : Scene c6 = record { words = s.words; few = r.few_locations } in
     let rows : 0 + length g.objects ≤ length names = omega (arith, as_many) in
@@ -190,7 +190,7 @@ whole_read p g r s =
     (header_reads p d6 section.Con refl tt) (objects_read p c6 [] 0 g.objects refl scene6 refl rows names_few r.objects) in
     let l7 : List (List ℕ) = l5 ++ con ++ obj in
     let r7 : Reads p nothing_yet l7 d7 = reads_append p nothing_yet d6 d7 (l5 ++ con) obj r6 t7 in
-    -- the tables
+    -- The tables.
     let e : Spelt = spelt_of g x6.exits g.tables in
     let pro : List (List ℕ) = numbered (table_lines g.words) 0 g.tables in
     let t8 : Reads p d7 pro e = tables_section p g false x6.exits g.tables s r.some_tables r.few_tables r.tables in
@@ -225,7 +225,7 @@ lines_are : (g : GameLists) → Rules g → lines_of (canonical_of g) ≡ canoni
 unfolding canonical_of
 lines_are g r = lines_of-printed_lines (canonical_lines g) (whole_read (length g.tables) g r (small g r)).reads.printed
 
--- the canonical source of a game spells that game
+-- The canonical source of a game spells that game.
 pub spells_itself : CountsTables → SpellsItself
 unfolding spelled
 spells_itself counts = λ g v within short.

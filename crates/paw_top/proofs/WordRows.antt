@@ -48,7 +48,7 @@ class_back (suc (suc (suc (suc (suc (suc (suc n))))))) h = absurd (omega (arith,
 
 -- ---- a word after words that stand below it ----
 
--- a word stands above each one before it
+-- A word stands above each one before it.
 stands_above : (v : Word) (vs : List Word) (w : Word) (ws : List Word) → words_rise (v ∷ (vs ++ w ∷ ws)) ≡ true → slice_cmp nat_cmp v.letters w.letters ≡ Less
 stands_above v [] w ws h = Less-from_is_lt _ (and_parts (is_lt (slice_cmp nat_cmp v.letters w.letters)) (words_rise (w ∷ ws)) h).0
 stands_above v (u ∷ us) w ws h =
@@ -71,11 +71,11 @@ put_last (v ∷ vs) w ws h =
 
 -- ---- a row ----
 
--- letters, value, class
+-- Letters, value, class.
 abbrev pub word_tokens : Word → List (List ℕ)
 word_tokens w = spelled_letters w ∷ decimal w.value ∷ class_name w.class ∷ []
 
--- the row of a word
+-- The row of a word.
 record WordRow (w : Word) : Type 0 where
   spelled : Spelling (spelled_letters w) w.letters
   value : is_within LEAST_WORD GREATEST_WORD w.value ≡ true

@@ -93,7 +93,7 @@ commands =
 -- ---- what they mean ----
 
 -- What a command means: the calls of the stage that it makes; where memory may be lacking for it; how it ends with
--- these rows of routines, and what it leaves; and what stands at each moment.
+-- these answers of routines, and what it leaves; and what stands at each moment.
 pub record CommandMeaning : Type 1 where
   pub calls : List StageCall
   pub memory : List MemoryAt
@@ -101,7 +101,8 @@ pub record CommandMeaning : Type 1 where
   pub moments : TwoParts → RoutineRows → Standing → Type 0
 
 -- The meaning of a command that attaches no store: only what stands afterwards is stated.
-abbrev pub storeless : List StageCall → List MemoryAt → (RoutineRows → Standing → Standing → Outcome → Type 0) → CommandMeaning
+abbrev pub storeless : List StageCall → List MemoryAt → (RoutineRows → Standing → Standing → Outcome → Type 0) →
+    CommandMeaning
 storeless calls memory comes = record {
   calls = calls;
   memory = memory;

@@ -6,7 +6,7 @@ use Rattle.paw_stage.specs.declared.StageCall.TheVariants as call
 use Rattle.paw_top.specs.Answers.{failed_call}
 use Rattle.paw_top.specs.declared.outcome.Outcome.{Outcome}
 
--- No count of faults rose, except maybe that of loads that found no file.
+-- No count of failures rose, except maybe that of loads that found no file.
 abbrev pub NoFailure : (StageCall → ℕ) → (StageCall → ℕ) → Type 0
 NoFailure old new = (c : StageCall) → c ≢ call.LoadAbsent → ¬ Rose (old c) (new c)
 

@@ -8,7 +8,7 @@ use Rattle.paw_top.specs.declared.outcome.Outcome.{Outcome}
 use Rattle.paw_top.specs.declared.outcome.Outcome.TheVariants as outcome
 use Rattle.paw_top.specs.declared.outcome.MemoryAt.{MemoryAt}
 
--- Why a file gives no game: it is no image of a valid one, and the place of its first damage is named; it isn't there;
+-- Why a file gives no game: it is no image of a valid one, and the offset of its first damage is named; it isn't there;
 -- it couldn't be loaded; or memory was lacking. Nothing is changed.
 pub data Unopened (name : Name) (old new : Standing) : Outcome → Type 0 where
   damaged : (at : ℕ) → HoldsDamage old name at → new ≡ old → Unopened name old new (outcome.ImageDamaged at)

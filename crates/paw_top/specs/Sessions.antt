@@ -14,14 +14,15 @@ use Rattle.paw_top.specs.declared.outcome.Outcome.{Outcome}
 
 -- ---- how it ends ----
 
--- A new session of the game that this file holds is played, with these rows of routines; or why it isn't.
+-- A new session of the game that this file holds is played, with these answers of routines; or why it isn't.
 abbrev pub PlaysNewIn : RoutineRows → Name → Name → Seed → Standing → Standing → Outcome → Type 0
 PlaysNewIn rows name store seed old new o =
     PlaysFile (λ g end. NewSession (begun (story_of g rows) seed store) old new end) name old new o
 
--- A session of the game that this file holds is resumed, with these rows of routines; or why it isn't.
+-- A session of the game that this file holds is resumed, with these answers of routines; or why it isn't.
 abbrev pub PlaysAgainIn : RoutineRows → Name → Name → Standing → Standing → Outcome → Type 0
-PlaysAgainIn rows name store old new o = PlaysFile (λ g end. PlaysAgain (story_of g rows) store old new end) name old new o
+PlaysAgainIn rows name store old new o =
+    PlaysFile (λ g end. PlaysAgain (story_of g rows) store old new end) name old new o
 
 -- A session of the game that this file holds goes on, or the file can't be opened.
 abbrev pub GoesOnIn : Name → GameLists → PlayedSession → Standing → Standing → Outcome → Type 0

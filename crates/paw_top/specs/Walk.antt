@@ -9,7 +9,7 @@ use Rattle.paw_play.specs.Walk.{EndingOf, Walks}
 use Rattle.paw_top.specs.Ends.{PlaysFile}
 use Rattle.paw_top.specs.declared.outcome.Outcome.{Outcome}
 
--- A walk through the game that this file holds, by this reading, with these rows of routines; or why there is none.
+-- A walk through the game that this file holds, by this reading, with these answers of routines; or why there is none.
 abbrev pub WalksAs : (Story → Seed → EndingOf) → RoutineRows → Name → Seed → Standing → Standing → Outcome → Type 0
 WalksAs told rows name seed old new o =
     PlaysFile (λ g end. Walks (told (story_of g rows) seed) EVENT_LIMIT old new end) name old new o

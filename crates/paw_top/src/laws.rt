@@ -4,7 +4,7 @@ ghost use Rattle.paw_top.specs.Round.{ComesBack, LongIsTooBig, SpellsItself};
 
 use paw_source::laws::tables_are_counted;
 
-/// The canonical source of a valid game spells that game, where source and image keep their limits.
+/// The canonical source of a valid game spells that game, where source and image stay within their limits.
 pub fn canonical_spells_its_game()
     ensures spells { SpellsItself }
 {

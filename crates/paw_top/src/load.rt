@@ -15,7 +15,7 @@ use crate::outcome::{MemoryAt, Outcome};
 use paw_stage::{LoadRefusal, Stage, StageCall};
 use std::alloc::Global;
 
-/// The value of a step; where the step gives an outcome instead, the command returns that.
+/// The value that a call gives; where it gives an outcome instead, the command returns that.
 macro_rules! or_return {
     ($result:expr) => {
         match $result {

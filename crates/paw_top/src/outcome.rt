@@ -31,12 +31,12 @@ pub enum MemoryAt {
 
 /// How a command ends. Done: the command did what it is for. Ended: the game is over. InputEnded: no line is left at a
 /// prompt. Usage: the words have no form. SourceRefused: the source has a fault; the first one is named. TextTooLong:
-/// the file is longer than a text that is wrapped may be. ImageDamaged: the file is no image of a valid game; the place
-/// of the first field that breaks its rule.
+/// the file is longer than a text that is wrapped may be. ImageDamaged: the file is no image of a valid game; the
+/// offset of the first field that breaks its rule.
 ///
 /// Of a store. Occupied: a new session was asked for, and the store has bytes already; their number. Unmade: it has no
 /// session; its length in bytes, and its first byte (0 where there is none). SessionDamaged: a rule of the session is
-/// broken, first at this place in this part. WrongGame: the session is of another game; the digest that it keeps, and
+/// broken, first at this offset in this part. WrongGame: the session is of another game; the digest that it keeps, and
 /// that of the image. WrongRoutines: it was played with other routines; the digest of those, and that of these.
 ///
 /// Spent: a piece would read or hold too much. TooDeep: a table was called at the deepest level. Outside: a call of the

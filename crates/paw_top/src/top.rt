@@ -21,7 +21,7 @@ use std::alloc::Global;
 ///
 /// What each command means stands in `meaning`: the calls that it makes (`serves`), where memory may be lacking for it
 /// (`memory`), how it ends and what it leaves (`comes`), and what stands at each moment (`moments`). A game's EXTERN
-/// calls the routines, and what is said of play is said with the rows of their values, whatever these are.
+/// calls the routines, and what is said of play is said with their answers, whatever these are.
 ///
 /// The answer is Usage exactly where the words have no form, and then nothing at the stage is touched.
 ///
@@ -37,8 +37,8 @@ use std::alloc::Global;
 /// kept makes of the bytes before: a line whose piece is spent changes nothing there.
 ///
 /// If the answer is Outside, the count of the call that it names rose, which is one that the command makes, and no
-/// other count did; otherwise no count of faults rose at all. If no call fails, except maybe a load that finds no file,
-/// the answer names none (`completes`): then the command did what it is for, or refused the file or the store, or
+/// other count did; otherwise no count of failures rose at all. If no call fails, except maybe a load that finds no
+/// file, the answer names none (`completes`): then the command did what it is for, or refused the file or the store, or
 /// memory was lacking. This follows from what each command means; `commands_complete` spells it out.
 pub fn paw<S: Stage, F: Fn(u8, u8) -> u8>(
     alloc: Global,

@@ -50,7 +50,7 @@ module _ (old new : Memory) (lines : List (List ℕ)) (is : new ≡ record old {
   added_bytes : store_bytes (standing_of old) trial_store ≡ store_bytes (standing_of new) trial_store
   added_bytes = ap (λ (m : Memory). store_bytes (standing_of m) trial_store) (sym is)
 
--- nothing is unsynced at a stage that is ready for a half
+-- Nothing is unsynced at a stage that is ready for a half.
 pub ready_stable : (h : Half) (n : ℕ) (m : Memory) → IsReadyFor h n m → IsStable (standing_of m).disk
 ready_stable half.First n m is = subst (λ (x : Memory). IsStable (standing_of x).disk) (sym is) (record { kept = refl; longest = refl; dirty = refl })
 ready_stable half.Second n m holds = holds.stable
@@ -78,7 +78,7 @@ module _ (n : ℕ) (es lines rest : List (List ℕ)) (all : (es ++ lines) ++ res
     (waits : (fs : List (List ℕ)) → Waits (s.whole fs) → Waits (reading (trial_story n) n (es ++ fs)))
     (stands : (k : ℕ) (bytes : List ℕ) → k ≤ length lines → s.before + k ≤ EVENT_LIMIT → KeptBy s lines k bytes →
     Stands (trial_story n) n (es ++ first_lines k lines) bytes) where
-  -- a trial that stops after k of them
+  -- A trial that stops after k of them.
   stopped : (stop : TrialEnd) (k : ℕ) → TrialStopsAs stop (s.whole (first_lines k lines)) → TrialStopsAs stop (trial_reading n)
   stopped stop k h = stops_later n (es ++ first_lines k lines) (drop k lines ++ rest) stop
       (taken_and_left es lines rest k are ∙ all) (stops stop (first_lines k lines) h)

@@ -19,7 +19,7 @@ use Rattle.paw_trial.specs.inner.Trial.{IsTextOf}
 use Rattle.paw_trial.specs.inner.Session.{Waits, IsTallyOf, tally_in, tally_of}
 use Rattle.paw_trial.proofs.Lines.{plays_all, few_lines}
 
--- the flags come first in a state's bytes
+-- The flags come first in a state's bytes.
 flags_first : (s : State) (i : ℕ) → i < length s.world.flags → slice_index (kept_bytes s) i ≡ slice_index s.world.flags i
 unfolding kept_bytes
 flags_first s i low = ap (λ (l : List ℕ). get_or l i 0) (state_same s) ∙ get_or_append_left s.world.flags _ 0 i low
@@ -42,7 +42,8 @@ module _ (g : GameLists) (n : ℕ) (buffer piece : List ℕ) (r : Recovered) (di
       cc
   counts _ own settled w kept = absurd w
 
-pub trial_counts : (n : ℕ) (bytes buffer piece : List ℕ) (digests : Digests) → n < 65536 → Waits (trial_reading n) → Stands (trial_story n) n (trial_lines n) bytes →
+pub trial_counts : (n : ℕ) (bytes buffer piece : List ℕ) (digests : Digests) → n < 65536 → Waits (trial_reading n) →
+    Stands (trial_story n) n (trial_lines n) bytes →
     recover bytes ≡ Shown digests (take state_length buffer) piece → IsTallyOf (trial_reading n) (tally_in buffer)
 trial_counts n bytes buffer piece digests low waits stands is =
     counts (trial_game n) (length (trial_lines n)) buffer piece (recover bytes) digests is (trial_reading n) stands.digests
@@ -59,7 +60,7 @@ all_counted : (n locations objects events : ℕ) (t u : Tally) → locations ≡
     (record { locations = location_count n; objects = object_count n; events = line_count n; tally = u })
 all_counted n locations objects events t u l o ev e = cc
 
--- the line of what a session counts
+-- The line of what a session counts.
 pub told_counts : (n locations objects events : ℕ) (e : Ending) (t : Tally) (text : List ℕ) → IsTallyOf e t → locations ≡ location_count n →
     objects ≡ object_count n → events ≡ line_count n →
     text ≡ codes "TRIAL " ++ (decimal n ++ (codes ": " ++ (decimal locations ++ (codes " locations, " ++ (decimal objects ++ (codes " objects, "

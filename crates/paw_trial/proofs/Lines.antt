@@ -69,7 +69,7 @@ second_are n = All-drop IsLine (length (trial_lines n) / 2) (trial_lines n) (all
 pub both_halves : (n : ℕ) → first_half n ++ second_half n ≡ trial_lines n
 both_halves n = take-append-drop (length (trial_lines n) / 2) (trial_lines n)
 
--- the game is valid, and no routine is there
+-- The game is valid, and no routine is there.
 trial_story_valid : (n : ℕ) → ValidStory (trial_story n)
 trial_story_valid n = record {
   game = trial_valid n;
@@ -77,7 +77,7 @@ trial_story_valid n = record {
   bytes = λ k d low. absurd (omega (arith, low));
 }
 
--- the game is played with the first half
+-- The game is played with the first half.
 pub plays_first : (n : ℕ) → n < 65536 → IsPlayedWith (trial_story n) n (first_half n)
 plays_first n low = record { valid = trial_story_valid n; fits = omega (arith, low); lines = first_are n }
 
@@ -86,7 +86,7 @@ plays_all n low = record { valid = trial_story_valid n; fits = omega (arith, low
 
 -- ---- taking lines ----
 
--- no line is cut
+-- No line is cut.
 uncut : (lines : List (List ℕ)) → All IsLine lines → map (take 255) lines ≡ lines
 uncut [] are = refl
 uncut (line ∷ lines) are =
@@ -100,7 +100,7 @@ first_taken k lines are = uncut (take k lines) (All-take IsLine k lines are)
 pub all_taken : (lines : List (List ℕ)) → All IsLine lines → first_lines (length lines) lines ≡ lines
 all_taken lines are = first_taken (length lines) lines are ∙ take_all (length lines) lines (omega arith)
 
--- those that were taken and those that are left
+-- Those that were taken and those that are left.
 pub taken_and_left : (before lines behind : List (List ℕ)) (k : ℕ) → All IsLine lines →
     (before ++ first_lines k lines) ++ (drop k lines ++ behind) ≡ (before ++ lines) ++ behind
 taken_and_left before lines behind k are =

@@ -12,7 +12,7 @@ use Rattle.paw_trial.specs.Trial.{trial_story, trial_reading}
 use Rattle.paw_trial.specs.inner.Trial.{TrialStopsAs}
 use Rattle.paw_trial.specs.inner.Session.{Waits}
 
--- more lines change nothing
+-- More lines change nothing.
 stays : (g : Story) (fs : List (List ℕ)) (stop : TrialEnd) (e : Ending) → TrialStopsAs stop e → TrialStopsAs stop (followed g fs e)
 stays g fs end.Memory e h = tt
 stays g fs stop (Halted halt r) h = h

@@ -45,7 +45,7 @@ some_ignores : (g : Story) (p : Prompt) (path : List Frame) (r : Run) (line : Li
 some_ignores g p [] r line lines some ignored = absurd (omega arith)
 some_ignores g p (f ∷ path) r line lines some ignored = path_ignores g p 0 f path r line lines ignored
 
--- a prompt in tables at which an ignored line comes
+-- A prompt in tables at which an ignored line comes.
 in_table_ignored : (g : Story) (p : Prompt) (old : PlayState) (line : List ℕ) → 0 < length old.machine.frames → is_ignored old.surroundings.world line ≡ true
     → (n : ℕ) (past : Past) (lines : List (List ℕ))
     → table_done g (turn g n) (first_table (reverse old.machine.frames)) (on_path g p 0 (reverse old.machine.frames) (run_now old past (line ∷ lines)))
@@ -55,7 +55,7 @@ in_table_ignored g p old line some ignored n past lines =
     ap (table_done g (turn g n) (first_table (reverse old.machine.frames)))
     (some_ignores g p (reverse old.machine.frames) (run_now old past []) line lines many ignored)
 
--- an ignored line closes an empty piece, and the game waits on
+-- An ignored line closes an empty piece, and the game waits on.
 pub ignored_plays : (g : Story) (p : Prompt) (old : PlayState) (line : List ℕ) → StandsAt p old.machine → is_ignored old.surroundings.world line ≡ true
     → PlaysAs g (from_prompt g p old line) old (next.Stop (stop.Waits p)) old
 ignored_plays g prompt.Main old line stands ignored past has = main_ignored g old line ignored past has
@@ -85,7 +85,7 @@ answered_path g prompt.Key old line w m agrees awaits valid hears same world qui
     key awaits.tables.waiting g line lines (run_now old past []) hears ∙ ap (going_in g m.frames) (cc (world, turning))
 answered_path g prompt.Over old line w m agrees awaits valid hears same world quit key turning past lines = absurd awaits
 
--- the machine reads on where it was answered
+-- The machine reads on where it was answered.
 pub answered_runs : (g : Story) (p : Prompt) (old mid : PlayState) (line : List ℕ) (w : World) (m : OpenTables) (agrees : Bool) (turned : Turned)
     → AwaitsAt p old.machine → Valid g.game → is_ignored old.surroundings.world line ≡ false → is_yes (reply line) ≡ agrees
     → w ≡ with_timeout (is_timeout line) old.surroundings.world
@@ -107,7 +107,7 @@ answered_runs g p old mid line w m agrees turned awaits valid hears same world q
       ),
     )
 
--- a prompt in tables from which going on is read
+-- A prompt in tables from which going on is read.
 awaited : (g : Story) (p : Prompt) (old : PlayState) (line : List ℕ) → AwaitsAt p old.machine → (n : ℕ) (past : Past) (lines : List (List ℕ))
     → from_prompt g p old line n past lines ≡ table_done g (turn g n) (first_table (reverse old.machine.frames)) (from_path g p old line past lines)
 awaited g prompt.Main old line awaits n past lines = absurd awaits

@@ -13,7 +13,7 @@ use Rattle.paw_process.specs.inner.OpenTables.{HasRead}
 use Rattle.paw_turn.specs.inner.Phases.{run_now, GoesOnAs, ReadsTurn, having_read, in_world, with_piece, halting}
 use Rattle.paw_turn.proofs.Says.{said, unsaid}
 
--- once the location is described table 1 is read
+-- Once the location is described table 1 is read.
 pub described_reads : (g : Story) (old mid new : PlayState) (nx : Next) (w : World) → w ≡ described old.surroundings.world
     → length old.surroundings.piece + length (view_text g.game w) ≤ 65535
     → mid ≡ with_piece (old.surroundings.piece ++ view_text g.game w) (in_world w old)
@@ -36,7 +36,7 @@ described_reads g old mid new nx w world fits is reads past has =
       ),
     )
 
--- a description that doesn't fit
+-- A description that doesn't fit.
 pub described_not : (g : Story) (old new : PlayState) (w : World) → w ≡ described old.surroundings.world
     → 65535 < length old.surroundings.piece + length (view_text g.game w) → new.machine ≡ old.machine
     → ReadsTurn g (λ n r. turn g (suc n) AtDescribe r) old (halting (halt.Spent spent.Text)) new

@@ -24,22 +24,22 @@ pub falls_up : (a b : ℕ) (n : Next) (new : PlayState) → a ≤ b → Falls a 
 falls_up a b (next.Go s) new h falls = omega arith
 falls_up a b (next.Stop stop) new h falls = tt
 
--- some past of a machine
+-- Some past of a machine.
 pub some_past : (h : PlayState) → HasReadSome h.machine → (past : Past) × HasRead past.read h.machine
 some_past h some = (record { read = some.0; pieces = []; traces = [] }, some.1)
 
--- a new machine has read nothing
+-- A new machine has read nothing.
 pub none_yet : (m : OpenTables) → m ≡ new_machine → HasRead [] m
 none_yet m e = record { left = omega (arith, ap (λ (n : OpenTables). n.left) e); steps = ap (λ (n : OpenTables). n.steps) e }
 
--- where nothing is read what was read stays
+-- Where nothing is read what was read stays.
 pub has_still : (read : List Read) (old new : OpenTables) → HasRead read old → ReadsNone old new → HasRead read new
 has_still read old new has none = record { left = omega (arith, has.left, none.left); steps = none.steps ∙ has.steps }
 
 pub equal_none : (old new : OpenTables) → new ≡ old → ReadsNone old new
 equal_none old new e = record { left = ap (λ (m : OpenTables). m.left) e; steps = ap (λ (m : OpenTables). m.steps) e }
 
--- what was played was read
+-- What was played was read.
 pub plays_read : (g : Story) (whole : ℕ → Past → List (List ℕ) → Ending) (old : PlayState) (n : Next) (new : PlayState) → PlaysAs g whole old n new
     → HasReadSome old.machine → HasReadSome new.machine
 plays_read g whole old n new plays some = let k = plays (record { read = some.0; pieces = []; traces = [] }) some.1 in (k.0, k.1.0)
@@ -48,7 +48,7 @@ pub reads_read : (g : Story) (x : ℕ → Run → Ending) (old : PlayState) (n :
     → HasReadSome new.machine
 reads_read g x old n new reads some = let k = reads (record { read = some.0; pieces = []; traces = [] }) some.1 in (k.0, k.1.0)
 
--- the run of a machine shows what may still be read
+-- The run of a machine shows what may still be read.
 left_shown : (h : PlayState) (past : Past) → HasRead past.read h.machine → left_to_read (run_now h past []) ≡ left_of h
 left_shown h past has = omega (arith, has.left)
 
@@ -79,7 +79,7 @@ table_rank_low zero = lit≤ tt
 table_rank_low (suc zero) = lit≤ tt
 table_rank_low (suc (suc t)) = lit≤ tt
 
--- with the phase after a table there is less to do
+-- With the phase after a table there is less to do.
 pub table_falls : (t : ℕ) (turned : Turned) (old mid new : PlayState) (n : Next) → Uses turned old mid → FallsAfter t turned mid n new
     → Falls (4 * left_of old + table_rank t) n new
 table_falls t (turned.Left acted) old mid new n used falls = falls_up _ _ n new (omega (arith, used.leaves)) falls

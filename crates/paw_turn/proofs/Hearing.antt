@@ -16,7 +16,7 @@ use Rattle.paw_turn.proofs.Falling.{has_still, equal_none}
 use Rattle.paw_turn.specs.inner.Phases.{Past, run_now, at_phase, GoesOnAs, Moves, PlaysAs, from_prompt, in_world}
 use Rattle.paw_turn.specs.inner.Phases.{with_world_and_line}
 
--- where the whole is what moves on, and no condact is read
+-- Where the whole is what moves on, and no condact is read.
 pub moves_play : (g : Story) (whole : ℕ → Past → List (List ℕ) → Ending) (x : ℕ → Run → Ending) (old mid new : PlayState) (nx : Next)
     → ((m : ℕ) (past : Past) (lines : List (List ℕ)) → whole m past lines ≡ x m (run_now mid past lines))
     → Moves g x mid nx new → ReadsNone old.machine new.machine → PlaysAs g whole old nx new
@@ -29,7 +29,7 @@ moves_play g whole x old mid new nx same moves none past has = (
   ),
 )
 
--- a timeout says message 35, and the time frame comes
+-- A timeout says message 35, and the time frame comes.
 pub timeout_heard : (g : Story) (old new : PlayState) (line : List ℕ) (w : World) (nx : Next) → is_ignored old.surroundings.world line ≡ false →
     is_timeout line ≡ true
     → w ≡ with_timeout true old.surroundings.world
@@ -45,11 +45,11 @@ timeout_heard g old new line w nx heard timeout world moves machine =
         ≡ saying (say_text g.game w 35) (turn g m AtTimeFrame) (run_now (in_world w old) past lines)
     is m past lines = rw (heard, timeout, world) refl
 
--- a line that is pending now
+-- A line that is pending now.
 abbrev taking_line : List ℕ → PlayState → PlayState
 taking_line line h = with_world_and_line (with_timeout false h.surroundings.world) (record { bytes = line; earlier = 255 }) h
 
--- any other line is pending now
+-- Any other line is pending now.
 pub line_heard : (g : Story) (old new : PlayState) (line : List ℕ) → is_ignored old.surroundings.world line ≡ false → is_timeout line ≡ false
     → new ≡ taking_line line old
     → PlaysAs g (from_prompt g prompt.Main old line) old (next.Go phase.Phrase) new
@@ -64,7 +64,7 @@ line_heard g old new line heard timeout is =
         ≡ turn g m AtPhrase (run_now (taking_line line old) past lines)
     at m past lines = rw (heard, timeout) refl
 
--- an ignored line closes an empty piece, and the game waits on
+-- An ignored line closes an empty piece, and the game waits on.
 pub main_ignored : (g : Story) (old : PlayState) (line : List ℕ) → is_ignored old.surroundings.world line ≡ true
     → PlaysAs g (from_prompt g prompt.Main old line) old (next.Stop (stop.Waits prompt.Main)) old
 unfolding at_main

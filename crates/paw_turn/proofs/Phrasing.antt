@@ -17,11 +17,11 @@ use Rattle.paw_turn.specs.declared.phase.Phase.TheVariants as phase
 use Rattle.paw_turn.specs.declared.turn.PlayState.{PlayState}
 use Rattle.paw_turn.specs.inner.Phases.{run_now, GoesOnAs, Moves, at_phase, with_world_and_line}
 
--- the phase with what the next phrase is
+-- The phase with what the next phrase is.
 abbrev pub phrased : Story → ℕ → Run → Parsed → Ending
 phrased g n r = after_phrase g (turn g n) r
 
--- a sentence counts a turn and is responded to
+-- A sentence counts a turn and is responded to.
 pub sentence_moves : (g : Story) (old new : PlayState) (w : World)
     → Speaks g.game found.Sentence old.surroundings.world w old.surroundings.pending new.surroundings.pending
     → new.surroundings.world ≡ counted w → new.machine ≡ old.machine → new.surroundings.piece ≡ old.surroundings.piece
@@ -30,7 +30,7 @@ unfolding turn
 sentence_moves g old new w speaks world machine piece past n lines =
     ap (phrased g n (run_now old past lines)) speaks.1 ∙ ap (turn g n AtResponse) cc
 
--- at an unknown phrase message 6 is said, and the rest of the line is dropped
+-- At an unknown phrase message 6 is said, and the rest of the line is dropped.
 pub unknown_moves : (g : Story) (old new : PlayState) (nx : Next) (rest : List ℕ) (w : World) (p : PendingLine)
     → next_phrase g.game old.surroundings.world old.surroundings.pending ≡ IsUnknown rest → w ≡ old.surroundings.world
     → p ≡ record { bytes = []; earlier = old.surroundings.pending.earlier }
@@ -45,7 +45,7 @@ unknown_moves g old new nx rest w p is world pending moves past n lines =
     (sym (ap (phrased g n (run_now old past lines)) is))
     (from past n lines)
 
--- with no phrase left comes the prompt
+-- With no phrase left comes the prompt.
 pub none_moves : (g : Story) (old new : PlayState) (nx : Next) (w : World) (p : PendingLine)
     → next_phrase g.game old.surroundings.world old.surroundings.pending ≡ IsNoPhrase → w ≡ old.surroundings.world → p ≡ old.surroundings.pending
     → Moves g (λ n r. after_phrase g (turn g n) r IsNoPhrase) (with_world_and_line w p old) nx new
@@ -58,7 +58,7 @@ none_moves g old new nx w p is world pending moves past n lines =
     (sym (ap (phrased g n (run_now old past lines)) is))
     (from past n lines)
 
--- a phrase that is taken makes what is pending shorter
+-- A phrase that is taken makes what is pending shorter.
 pub sentence_shorter : (g : GameLists) (w : World) (p q : PendingLine) (w' : World) → Speaks g found.Sentence w w' p q → length q.bytes < length p.bytes
 sentence_shorter g w p q w' speaks =
     subst (LeavesBytes (λ (rest : List ℕ). length rest < length p.bytes)) speaks.1 (parsed-shorter g p.bytes p.earlier (flag w 46) (flag w 47))

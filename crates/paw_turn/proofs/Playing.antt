@@ -9,7 +9,7 @@ use Rattle.paw_turn.specs.declared.turn.PlayState.{PlayState}
 use Rattle.paw_turn.specs.inner.Phases.{Past, at_phase, run_now, having_read, GoesOnAs, ReadsTurn, PlaysAs, Plays}
 use Rattle.paw_turn.specs.inner.Phases.{from_phase}
 
--- nothing is played yet
+-- Nothing is played yet.
 pub plays_none : (g : Story) (first : Phase) (old : PlayState) → Plays g first old (next.Go first) old
 plays_none g first old past has = (past.read, (has, λ n lines. (n, refl)))
 
@@ -29,13 +29,13 @@ plays_then g whole s old mid new nx first plays past has =
       ),
     )
 
--- a phase that is gone through is played
+-- A phase that is gone through is played.
 phase_plays : (g : Story) (s : Phase) (old new : PlayState) (nx : Next) → ReadsTurn g (λ n r. turn g (suc n) (at_phase s) r) old nx new → Plays g s old nx new
 phase_plays g s old new nx reads past has =
     let k = reads past has in
     (k.0, (k.1.0, λ n lines. (suc n, k.1.1 n lines)))
 
--- one phase more
+-- One phase more.
 pub plays_on : (g : Story) (first s : Phase) (old mid new : PlayState) (nx : Next)
     → Plays g first old (next.Go s) mid → ReadsTurn g (λ n r. turn g (suc n) (at_phase s) r) mid nx new → Plays g first old nx new
 plays_on g first s old mid new nx plays reads =

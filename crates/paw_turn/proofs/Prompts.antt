@@ -10,7 +10,7 @@ use Rattle.paw_turn.specs.declared.turn.PlayState.{PlayState}
 use Rattle.paw_turn.specs.inner.Phases.{run_now, Moves, halting}
 use Rattle.paw_turn.proofs.Says.{unsaid}
 
--- a prompt that doesn't fit
+-- A prompt that doesn't fit.
 pub prompt_unsaid : (g : Story) (old new : PlayState) → 65535 < length old.surroundings.piece + length (prompt_text g.game old.surroundings.world)
     → Moves g (λ n r. after_phrase g (turn g n) r IsNoPhrase) old (halting (halt.Spent spent.Text)) new
 prompt_unsaid g old new h past n lines = (

@@ -13,7 +13,7 @@ use Rattle.paw_turn.specs.declared.turn.PlayState.{PlayState}
 use Rattle.paw_turn.proofs.Falling.{has_still}
 use Rattle.paw_turn.specs.inner.Phases.{run_now, having_read, Moves, ReadsTurn, MovesAfter, RunsAs, from_table}
 
--- the machine has read the table that it opened
+-- The machine has read the table that it opened.
 pub begun_runs : (g : Story) (t : ℕ) (old mid : PlayState) (m : OpenTables) (turned : Turned) → m ≡ table_begun t old.machine
     → RunsTo g (having old.surroundings m) turned (having mid.surroundings mid.machine)
     → RunsAs g (from_table g t old) old turned mid
@@ -23,7 +23,7 @@ begun_runs g t old mid m turned is runs past has =
     (record { world = refl; pending = refl; earlier = refl; turning = refl; current = refl; read = record { left = has.left; steps = has.steps } }) in
     (t.0, (t.1, λ lines. t.2 lines))
 
--- what the machine has read, and how the turn goes on
+-- What the machine has read, and how the turn goes on.
 pub read_on : (g : Story) (t : ℕ) (old mid new : PlayState) (turned : Turned) (nx : Next)
     → RunsAs g (from_table g t old) old turned mid → MovesAfter g t turned mid nx new → ReadsNone mid.machine new.machine
     → ReadsTurn g (λ n r. table_done g (turn g n) t (table_read g t r)) old nx new
@@ -37,13 +37,13 @@ read_on g t old mid new turned nx runs moves same past has =
       ),
     )
 
--- a phase in which nothing is read
+-- A phase in which nothing is read.
 pub moves_read : (g : Story) (x : ℕ → Run → Ending) (old new : PlayState) (nx : Next) → Moves g x old nx new → new.machine ≡ old.machine →
     ReadsTurn g x old nx new
 moves_read g x old new nx moves same past has =
     (past.read, (subst (HasRead past.read) (sym same) has, λ n lines. moves past n lines))
 
--- the time frame reads table 2, and the response table 0
+-- The time frame reads table 2, and the response table 0.
 pub time_frame_reads : (g : Story) (old new : PlayState) (nx : Next) → ReadsTurn g (λ n r. table_done g (turn g n) 2 (table_read g 2 r)) old nx new
     → ReadsTurn g (λ n r. turn g (suc n) AtTimeFrame r) old nx new
 unfolding turn

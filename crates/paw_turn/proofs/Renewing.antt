@@ -30,12 +30,12 @@ use Rattle.paw_process.specs.inner.OpenTables.{ReadsNone}
 use Rattle.paw_turn.proofs.Falling.{has_still}
 use Rattle.paw_turn.specs.inner.Phases.{Past, run_from, run_now, PlaysAs, from_prompt, ChangesFlags, halting, or_spent}
 
--- at no the game is over or the piece is spent, and else it starts anew
+-- At no the game is over or the piece is spent, and else it starts anew.
 abbrev final : Bool → Bool → Run → Run → Run → Out
 final declines fit e s d =
     if declines then (if fit then halts halt.Over e else halts (halt.Spent spent.Text) s) else Stopped Restarts d
 
--- the answer, once it is heard
+-- The answer, once it is heard.
 abbrev answer_of : Story → List ℕ → Run → Out
 answer_of g line r =
     final (is_no (reply line)) (fits r (say_text g.game r.world 14)) (closed (without_loop (line_dropped (printed (say_text g.game r.world 14) r)))) r (anew r)
@@ -51,7 +51,7 @@ final_call f go true true e s d = refl
 final_call f go true false e s d = refl
 final_call f go false fit e s d = refl
 
--- the answer is the same in all tables
+-- The answer is the same in all tables.
 path_again : (g : Story) (lv : ℕ) (f : Frame) (path : List Frame) (r : Run) (line : List ℕ) (lines : List (List ℕ)) → is_ignored r.world line ≡ false
     → on_path g prompt.Again lv (f ∷ path) (to_come (line ∷ lines) r) ≡ answer_of g line (heard line (to_come lines r))
 unfolding asked
@@ -65,7 +65,7 @@ some_again : (g : Story) (path : List Frame) (r : Run) (line : List ℕ) (lines 
 some_again g [] r line lines some hears = absurd (omega arith)
 some_again g (f ∷ path) r line lines some hears = path_again g 0 f path r line lines hears
 
--- the whole is the answer
+-- The whole is the answer.
 again_is : (g : Story) (old : PlayState) (line : List ℕ) → 0 < length old.machine.frames → is_ignored old.surroundings.world line ≡ false
     → (n : ℕ) (past : Past) (lines : List (List ℕ))
     → from_prompt g prompt.Again old line n past lines
@@ -87,7 +87,7 @@ final_spends : (g : Story) (go : TurnPhase → Run → Ending) (t : ℕ) (declin
     fit ≡ false → table_done g go t (final declines fit e s d) ≡ Halted (halt.Spent spent.Text) s
 final_spends g go t declines fit e s d is fitting = rw (is, fitting) refl
 
--- at any answer but no the game starts anew
+-- At any answer but no the game starts anew.
 pub again_restarts : (g : Story) (old new : PlayState) (line : List ℕ) → 0 < length old.machine.frames → is_ignored old.surroundings.world line ≡ false
     → is_no (reply line) ≡ false
     → new.surroundings.world ≡ restarted (with_timeout (is_timeout line) old.surroundings.world) → new.surroundings.pending.bytes ≡ []
@@ -106,7 +106,7 @@ again_restarts g old new line some hears declines world bytes earlier turning no
   ),
 )
 
--- at no the game is over, and the run is what is held
+-- At no the game is over, and the run is what is held.
 again_ends : (g : Story) (old new : PlayState) (line : List ℕ) (w : World) → 0 < length old.machine.frames
     → is_ignored old.surroundings.world line ≡ false → is_no (reply line) ≡ true
     → w ≡ with_timeout (is_timeout line) old.surroundings.world → length old.surroundings.piece + length (say_text g.game w 14) ≤ 65535
@@ -140,7 +140,7 @@ again_ends g old new line w some hears declines world fit piece stays bytes earl
         → closed (run_from u [] old.surroundings.pending.earlier None text past lines) ≡ closed (run_from v b e o q past lines)
     held_is past lines u text v b e o q world bytes earlier turning piece = rw (world, bytes, earlier, turning, piece) refl
 
--- where the farewell doesn't fit the piece is spent
+-- Where the farewell doesn't fit the piece is spent.
 again_spends : (g : Story) (old new : PlayState) (line : List ℕ) (w : World) → 0 < length old.machine.frames
     → is_ignored old.surroundings.world line ≡ false → is_no (reply line) ≡ true
     → w ≡ with_timeout (is_timeout line) old.surroundings.world → 65535 < length old.surroundings.piece + length (say_text g.game w 14)
@@ -164,7 +164,7 @@ again_spends g old new line w some hears declines world full none past has =
       ),
     )
 
--- at no the game is over where the farewell fits, and else the piece is spent
+-- At no the game is over where the farewell fits, and else the piece is spent.
 pub again_told : (g : Story) (old new : PlayState) (line : List ℕ) (w : World) (told : Bool) → 0 < length old.machine.frames
     → is_ignored old.surroundings.world line ≡ false → is_no (reply line) ≡ true
     → w ≡ with_timeout (is_timeout line) old.surroundings.world → Puts old.surroundings.piece new.surroundings.piece told (say_text g.game w 14)
@@ -183,7 +183,7 @@ pub length_flags : (carried : ℕ) → length (flags_with carried) ≡ 256
 unfolding flags_with
 length_flags carried = refl
 
--- a game that starts anew has a world of its own
+-- A game that starts anew has a world of its own.
 pub restarted_of : (g : GameLists) (w : World) → IsOf g w → IsOf g (restarted w)
 restarted_of g w of = record {
   facts = of.facts;
@@ -192,7 +192,7 @@ restarted_of g w of = record {
   places = length-map w.facts (λ (f : ObjectFacts). f.start) ∙ (ap length of.facts ∙ length-map g.objects (λ o. o.facts));
 }
 
--- so has one of which at most flags were changed
+-- So has one of which at most flags were changed.
 pub changed_of : (g : GameLists) (w v : World) → IsOf g w → ChangesFlags w v → IsOf g v
 changed_of g w v of only = record {
   facts = only.facts ∙ of.facts;

@@ -7,11 +7,11 @@ use Rattle.paw_reading.specs.Run.{Run, printed}
 use Rattle.paw_reading.specs.declared.places.Halt.TheVariants as halt
 use Rattle.paw_reading.specs.Turn.{Ending, Halted, saying}
 
--- a text that fits is printed
+-- A text that fits is printed.
 pub said : (text : List ℕ) (go : Run → Ending) (r : Run) → length r.current + length text ≤ 65535 → saying text go r ≡ go (printed text r)
 said text go r h = let t : nat_le (length r.current + length text) 65535 ≡ true = grind (arith, nat_tests) in rw t refl
 
--- at one that doesn't the piece is spent
+-- At one that doesn't the piece is spent.
 pub unsaid : (text : List ℕ) (go : Run → Ending) (r : Run) → 65535 < length r.current + length text →
     saying text go r ≡ Halted (halt.Spent spent.Text) r
 unsaid text go r h = let t : nat_le (length r.current + length text) 65535 ≡ false = grind (arith, nat_tests) in rw t refl

@@ -51,7 +51,7 @@ first_is [] count t some h = cc
 first_is (f ∷ fs) zero t some h = absurd (omega arith)
 first_is (f ∷ fs) (suc n) t some h = eqb-true t f.table h
 
--- a loop that keeps its rule belongs to the table of its level
+-- A loop that follows its rule belongs to the table of its level.
 first_loop : (g : GameLists) (k : Frames) (o : Option OpenLoop) → loop_fault g k o ≡ None → IsLoopOf (first_table (take k.count k.rows)) o
 first_loop g k None h = tt
 first_loop g k (Some l) h = go (loop_stands g k l) refl h
@@ -102,7 +102,7 @@ restored_fits g at k w m p world pending size is stands sound = record {
 
 -- ---- a player that stands ----
 
--- it stands at its prompt
+-- It stands at its prompt.
 step_again : (s : Step) (m : OpenTables) → StandsClosed s m → IsStanding s → prompt_step (prompt_at s) ≡ s
 step_again (step.Waits prompt.Main) m stands standing = refl
 step_again (step.Waits prompt.Quit) m stands standing = refl
@@ -122,19 +122,19 @@ machine_stands step.Ended m stands standing = stands
 machine_stands s m stands standing = absurd standing
 
 module _ {F : Type 0} (p : PlayerView F) (seated : IsSeated p) (standing : IsStanding p.last) where
-  -- its parts fit its game
+  -- Its parts fit its game.
   pub parts_fit : Fits p.game p.world p.machine p.pending (prompt_at p.last)
   parts_fit = record {
     machine = subst (λ s. StandsClosed s p.machine) (sym (step_again p.last p.machine seated.machine standing)) seated.machine;
     rightly = seated.rightly standing;
   }
 
-  -- its places are never refused
+  -- Its frames are never refused.
   pub places_kept : frames_fault p.game (prompt_at p.last) (kept p.machine) ≡ None
   places_kept =
       places_fit p.game (waiting_code (prompt_at p.last)) (reverse p.machine.frames) p.machine.turning (seated.rightly standing).places
 
-  -- and a player that stands with them is the same but for the piece
+  -- And a player that stands with them is the same but for the piece.
   pub same_seat : seat_at p.game p.routines p.world p.machine p.pending (prompt_at p.last) ≡ record p { piece = [] }
   same_seat =
       ap (λ (s : Step). record { game = p.game; routines = p.routines; world = p.world; pending = p.pending; machine = p.machine; piece = []; last = s })
@@ -156,7 +156,7 @@ module _ {F : Type 0} (p : PlayerView F) (seated : IsSeated p) (standing : IsSta
       })
       (step_again p.last p.machine seated.machine standing)
 
--- a player that is seated with parts
+-- A player that is seated with parts.
 pub fits_seated : {F : Type 0} (g : GameLists) (routines : Routines F) (w : World) (m : OpenTables) (p : PendingLine) (at : Prompt) → Valid g
     → Fits g w m p at → IsSeated (seat_at g routines w m p at)
 fits_seated g routines w m p at v fits = record { valid = v; machine = fits.machine; rightly = λ standing. same at (fits.rightly) }
@@ -168,7 +168,7 @@ fits_seated g routines w m p at v fits = record { valid = v; machine = fits.mach
     same prompt.Key k = k
     same prompt.Over k = k
 
--- the budget and the steps change nothing of how a machine stands
+-- The budget and the steps change nothing of how a machine stands.
 closed_alike : (m : OpenTables) (left : ℕ) (steps : KeptSteps) → IsClosed m → IsClosed (record m { left = left; steps = steps })
 closed_alike m left steps k = record { frames = k.frames; turning = k.turning; waiting = k.waiting }
 
@@ -184,7 +184,7 @@ machine_alike prompt.Again m left steps k = waits_alike prompt.Again m left step
 machine_alike prompt.Key m left steps k = waits_alike prompt.Key m left steps k
 machine_alike prompt.Over m left steps k = closed_alike m left steps k
 
--- with its own parts, and a machine that was restored from what is kept of its own, a player fits its game
+-- With its own parts, and a machine that was restored from what is kept of its own, a player fits its game.
 pub taken_fits : {F : Type 0} (p : PlayerView F) (m : OpenTables) → IsSeated p → IsStanding p.last → m
     ≡ restored (kept p.machine) (waiting_at (prompt_at p.last))
     → Fits p.game p.world m p.pending (prompt_at p.last)
@@ -198,7 +198,7 @@ taken_fits p m seated standing is =
       rightly = record { world = k.world; places = k.places; line = k.line; pending = k.pending; earlier = k.earlier; piece = refl; read = refl };
     })
 
--- so do parts that are the same as its own
+-- So do parts that are the same as its own.
 pub same_fits : {F : Type 0} (p : PlayerView F) (g : GameLists) (w : World) (m : OpenTables) (q : PendingLine) (at : Prompt) → IsSeated p → IsStanding p.last
     → g ≡ p.game → w ≡ p.world → m ≡ restored (kept p.machine) (waiting_at at) → q ≡ p.pending → at ≡ prompt_at p.last → Fits g w m q at
 same_fits p g w m q at seated standing game world machine pending prompt_is =
@@ -228,7 +228,7 @@ pub renewed : {F : Type 0} (p q : PlayerView F) (seed : ℕ) → IsSeated p → 
     → q.pending ≡ record { bytes = []; earlier = 255 } → q.machine ≡ new_machine → q.last ≡ step.Waits prompt.Main → IsSeated q
 renewed p q seed seated game = begun q seed (subst Valid (sym game) seated.valid)
 
--- a new player may play its first piece
+-- A new player may play its first piece.
 pub new_ready : {F : Type 0} (g : GameLists) (routines : Routines F) (h : PlayState) (last : Step) → Valid g
     → IsNew (seat_of g routines h last) h.surroundings.world.seed → MayGoOn g h
 new_ready g routines h last v fresh =

@@ -27,11 +27,11 @@ use Rattle.paw_turn.specs.inner.Player.{step_of, PlayerView, PlaysTo, PlayHalts,
 use Rattle.paw_turn.specs.inner.Phases.{Past, run_from, run_now, having_read, TurnHalts, StopsAs, PlaysAs}
 use Rattle.paw_turn.specs.inner.Phases.{Plays, from_phase, from_prompt, seat_of, turn_settled, opened_piece}
 
--- an ending that comes once is the whole's
+-- An ending that comes once is the whole's.
 abbrev Once : (ℕ → List (List ℕ) → Ending) → (List (List ℕ) → Ending) → Type 0
 Once whole total = (m : ℕ) (lines : List (List ℕ)) → whole m lines ≢ Unended → whole m lines ≡ total lines
 
--- where some phases of the whole end it for good, with no piece to show, it ends so
+-- Where some phases of the whole end it for good, with no piece to show, it ends so.
 halts : {F : Type 0} (whole : ℕ → List (List ℕ) → Ending) (total : List (List ℕ) → Ending) → Once whole total
     → (halt : Halt) (p : PlayerView F) (new : PlayState) (past : Past) → p.piece ≡ []
     → ((n : ℕ) (lines : List (List ℕ)) → (m : ℕ) × TurnHalts halt (run_now new past lines) (whole m lines))
@@ -44,7 +44,7 @@ halts whole total once halt p new past none stops = (
       (k.1.0, sym (once k.0 lines (λ u. cc (e, u))) ∙ e, k.1.2.pieces, k.1.2.traces, k.1.2.events),
 )
 
--- where some phases of the whole stop, it stops
+-- Where some phases of the whole stop, it stops.
 settles : {F : Type 0} (g : Story) (routines : Routines F) (whole : ℕ → List (List ℕ) → Ending) (total : List (List ℕ) → Ending) → Once whole total
     → (s : TurnStop) (last : Step) (new : PlayState) (past : Past) → HasRead past.read new.machine
     → ((n : ℕ) (lines : List (List ℕ)) → (m : ℕ) × StopsAs g n s new.machine.frames (run_now new past lines) (whole m lines))
@@ -74,7 +74,7 @@ settles g routines whole total once (stop.Halted (halt.Spent kind)) last new pas
 settles g routines whole total once (stop.Halted (halt.TooDeep u)) last new past has stops =
     halts whole total once (halt.TooDeep u) (seat_of g.game routines (turn_settled (step.TooDeep u) new) last) new past refl stops
 
--- the past of a player with these pieces, at the start of a piece
+-- The past of a player with these pieces, at the start of a piece.
 abbrev before : List (List ℕ) → List (List Read) → Past
 before pieces traces = record { read = []; pieces = pieces; traces = traces }
 

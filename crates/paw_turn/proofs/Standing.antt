@@ -32,7 +32,7 @@ use Rattle.paw_turn.specs.inner.Phases.{seat_of, turn_settled}
 use Rattle.paw_turn.specs.inner.Player.{PlayerView, PlaysTo, StandsClosed, StandsAt, WaitsIn, StandRightly, IsSeated}
 use Rattle.paw_turn.specs.inner.Player.{IsStanding, prompt_at, run_at, run_with}
 
--- rows that stand for routines make a story of a valid game
+-- Answers that stand for routines make a story of a valid game.
 pub valid_story : {F : Type 0} (calls : Shared F (ℕ × (ℕ × Unit {0})) ℕ) (routines : Routines F) (g : GameLists) (X : List (List ℕ)) → Valid g
     → AreRowsOf calls routines X → ValidStory (story_of g X)
 valid_story calls routines g X v rows = record { game = v; whole = rows.whole; bytes = rows.bytes }
@@ -52,7 +52,7 @@ pub unreversed : (fs : List Frame) → reverse fs ≡ [] → fs ≡ []
 unreversed [] e = refl
 unreversed (f ∷ fs) e = let n : length (reverse (f ∷ fs)) ≡ 0 = ap (λ (s : List Frame). length s) e in absurd (omega (arith, length-reverse (f ∷ fs), n))
 
--- a machine that stands at a prompt may wait along its frames
+-- A machine that stands at a prompt may wait along its frames.
 may_wait : (p : Prompt) (m : OpenTables) → StandsAt p m → MayWaitAlong p (reverse m.frames)
 may_wait prompt.Main m closed = reversed m.frames closed.frames
 may_wait prompt.Quit m waits = many prompt.Quit m waits
@@ -60,14 +60,14 @@ may_wait prompt.Again m waits = many prompt.Again m waits
 may_wait prompt.Key m waits = many prompt.Key m waits
 may_wait prompt.Over m none = none
 
--- what was closed before, and the lines to come, change nothing of how a run stands
+-- What was closed before, and the lines to come, change nothing of how a run stands.
 pub stands_alike : (g : GameLists) (at : Prompt) (path : List Frame) (w : World) (m : OpenTables) (p : PendingLine)
     (pieces pieces' : List (List ℕ)) (traces traces' : List (List Read)) (lines lines' : List (List ℕ))
     → StandsRightly g at path (run_with w m p pieces traces lines) → StandsRightly g at path (run_with w m p pieces' traces' lines')
 stands_alike g at path w m p pieces pieces' traces traces' lines lines' k =
     record { world = k.world; places = k.places; line = k.line; pending = k.pending; earlier = k.earlier; piece = refl; read = refl }
 
--- at the end no table is open
+-- At the end no table is open.
 stands_over : (g : GameLists) (w : World) (m : OpenTables) (p : PendingLine) (pieces : List (List ℕ)) (traces : List (List Read)) → IsClosed m
     → StandsRightly g prompt.Over [] (run_with w m p pieces traces []) → StandRightly g prompt.Over w m p
 stands_over g w m p pieces traces closed k =
@@ -94,7 +94,7 @@ stands_at g whole step.Ended p pieces traces closed plays rightly standing =
     stands_over g.game p.world p.machine p.pending (pieces ++ p.piece ∷ []) (traces ++ plays.0 ∷ []) closed at
 stands_at g whole s p pieces traces closed plays rightly standing = absurd standing
 
--- a player that was started
+-- A player that was started.
 pub started : {F : Type 0} (g : Story) (seed : ℕ) (s : Step) (p : PlayerView F) → ValidStory g → StandsClosed s p.machine → PlaysTo g (reading g seed) s p [] []
     → IsStanding s → StandRightly g.game (prompt_at s) p.world p.machine p.pending
 started g seed s p v stands plays =
@@ -104,7 +104,7 @@ one_line : (line : List ℕ) → IsLine line → All IsLine (line ∷ [])
 one_line line is zero d low = is
 one_line line is (suc k) d low = absurd (omega arith)
 
--- a player that took a line where it stood at a prompt
+-- A player that took a line where it stood at a prompt.
 pub taken_on : {F : Type 0} (g : Story) (old new : PlayerView F) (line : List ℕ) (q : Prompt) (s : Step) → ValidStory g → old.game ≡ g.game → IsSeated old
     → old.last ≡ step.Waits q → IsLine line
     → StandsClosed s new.machine → PlaysTo g (λ lines. going_on_from g q (reverse old.machine.frames) (run_at old [] [] (line ∷ lines))) s new [] []
@@ -120,7 +120,7 @@ taken_on g old new line q s v game seated waits is stands plays =
 
 -- ---- a player that is seated still ----
 
--- it is where it stands rightly in a game that is its own
+-- It is where it stands rightly in a game that is its own.
 seated_so : {F : Type 0} (g own : GameLists) (routines : Routines F) (mid h : PlayState) (s : Step) → own ≡ g → Valid g → h ≡ turn_settled s mid
     → StandsClosed s mid.machine
     → (StandsClosed s h.machine → IsStanding s → StandRightly g (prompt_at s) h.surroundings.world h.machine h.surroundings.pending)

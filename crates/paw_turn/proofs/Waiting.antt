@@ -30,7 +30,7 @@ waits_in prompt.Key t m waits there =
     (record { tables = waits; loop = subst (λ u. IsLoopOf u m.turning) (sym (there.first refl)) there.loop }, there.first refl)
 waits_in prompt.Over t m waits there = there.inner
 
--- where a machine stopped in a table, if what it read waits there
+-- Where a machine stopped in a table, if what it read waits there.
 pub stops_in : (g : Story) (t : ℕ) (x : Past → List (List ℕ) → Out) (old mid : PlayState) (turned : Turned) → HasReadSome old.machine
     → ((past : Past) (p : Prompt) (path : List Frame) (s : Run) → x past [] ≡ Waits p path s → WaitsThere t 0 p path s.turning)
     → RunsAs g x old turned mid → IsStopped turned mid.machine → StopsInTable t turned mid.machine

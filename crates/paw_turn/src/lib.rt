@@ -41,7 +41,7 @@ pub(crate) fn step_of(stop: TurnStop) -> Step
     }
 }
 
-/// The halt that this step is. None where the player waits for a line.
+/// The halt that a line brought. None where the player waits for a line.
 pub fn halt_of(step: Step) -> Option<Halt>
     ensures value { result ≡ step_halt step }
 {

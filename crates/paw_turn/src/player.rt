@@ -215,7 +215,7 @@ impl<'a, T: Tables, F: Fn(u8, u8) -> u8> Player<'a, T, F> {
 
     /// Lends the world, the machine, what is pending, and the prompt at which the player stands: Over once the game is
     /// over, or the player is spent or too deep. Where it waits or the game is over, a player seated with them is this
-    /// one with an empty piece, and the machine's places are always accepted when they are restored.
+    /// one with an empty piece, and the machine's frames are always accepted when they are restored.
     pub fn parts(&self) -> Parts<'_>
         ensures world { result.world.now ≡ self.now.world }
         ensures machine { result.machine.now ≡ self.now.machine }

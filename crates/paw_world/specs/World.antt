@@ -4,7 +4,7 @@ use Rattle.std.specs.Prelude.{map, take, drop, count_by, replicate, min, Option,
 use Rattle.std.specs.Prelude.{slice_index, slice_index_or, slice_set, if◌then◌else◌, IfSome}
 use Rattle.std.specs.List.{All}
 use Rattle.std.specs.Option.{option_map_or}
-use Rattle.paw_base.specs.Bytes.{Seed}
+use Rattle.paw_base.specs.Bytes.{Bytes, Seed}
 use Rattle.paw_base.specs.declared.flags.TheConstants.{DARK_FLAG, CARRIED_FLAG, VERB_FLAG, NOUN_FLAG, ADJECTIVE_FLAG}
 use Rattle.paw_base.specs.declared.flags.TheConstants.{ADVERB_FLAG, MOST_CARRIED_FLAG, LOCATION_FLAG, PREPOSITION_FLAG}
 use Rattle.paw_base.specs.declared.flags.TheConstants.{SECOND_NOUN_FLAG, SECOND_ADJECTIVE_FLAG, PRONOUN_NOUN_FLAG}
@@ -17,7 +17,7 @@ use Rattle.paw_base.specs.declared.parts.ObjectFacts.{ObjectFacts}
 
 -- The flags and places that are saved or kept together.
 pub record Position : Type 0 where
-  pub flags : List ℕ
+  pub flags : Bytes
   pub places : List ℕ
 
 -- The facts of the objects and the number of locations, which never change; the flags; the place of each object; the
@@ -25,7 +25,7 @@ pub record Position : Type 0 where
 pub record World : Type 0 where
   pub facts : List ObjectFacts
   pub locations : ℕ
-  pub flags : List ℕ
+  pub flags : Bytes
   pub places : List ℕ
   pub saved : Option Position
   pub kept : List (Option Position)
@@ -54,9 +54,9 @@ first_carried facts = count_by (λ f. f.start == CARRIED_PLACE) facts
 
 -- The flags at the start of a game. They are 0 but for these: one counts the carried objects; the words of a sentence
 -- and the object last referred to are none; four objects and a weight of ten may be carried.
-unfoldable pub flags_with : ℕ → List ℕ
+unfoldable pub flags_with : ℕ → Bytes
 flags_with carried =
-    let none : List ℕ → ℕ → List ℕ = λ flags f. slice_set flags f NO_WORD in
+    let none : Bytes → ℕ → Bytes = λ flags f. slice_set flags f NO_WORD in
     let counted = slice_set (replicate FLAG_COUNT 0) CARRIED_FLAG carried in
     let words = none (none (none (none counted VERB_FLAG) NOUN_FLAG) ADJECTIVE_FLAG) ADVERB_FLAG in
     let second = none (none (none words PREPOSITION_FLAG) SECOND_NOUN_FLAG) SECOND_ADJECTIVE_FLAG in

@@ -35,7 +35,7 @@ step w at before b bs =
       ] refl
     ] refl
 
--- Places move with the place at which the text begins.
+-- Offsets move with the offset at which the text begins.
 pub breaks_from-suc : (w at before : ℕ) (text : List ℕ) → breaks_from w (suc at) before text ≡ map suc (breaks_from w at before text)
 unfolding breaks_from
 breaks_from-suc w at before [] = refl
@@ -43,10 +43,11 @@ breaks_from-suc w at before (b ∷ bs) =
     elim (eqb b line_feed) as (λ v. eqb b line_feed ≡ v → breaks_from w (suc at) before (b ∷ bs) ≡ map suc (breaks_from w at before (b ∷ bs))) [
       | true ↦ λ e. rw e (breaks_from-suc w (suc at) 0 bs)
       | false ↦ λ e. elim (eqb b space) as (λ v. eqb b space ≡ v → breaks_from w (suc at) before (b ∷ bs) ≡ map suc (breaks_from w at before (b ∷ bs))) [
-        | true ↦ λ f. elim (ltb w (before + 1 + word_length bs)) as (λ v. ltb w (before + 1 + word_length bs) ≡ v → breaks_from w (suc at) before (b ∷ bs) ≡ map suc (breaks_from w at before (b ∷ bs))) [
-          | true ↦ λ g. rw (e, f, g) (ap (λ (ps : List ℕ). suc at ∷ ps) (breaks_from-suc w (suc at) 0 bs))
-          | false ↦ λ g. rw (e, f, g) (breaks_from-suc w (suc at) (suc before) bs)
-        ] refl
+        | true ↦ λ f. elim (ltb w (before + 1 + word_length bs)) as
+            (λ v. ltb w (before + 1 + word_length bs) ≡ v → breaks_from w (suc at) before (b ∷ bs) ≡ map suc (breaks_from w at before (b ∷ bs))) [
+              | true ↦ λ g. rw (e, f, g) (ap (λ (ps : List ℕ). suc at ∷ ps) (breaks_from-suc w (suc at) 0 bs))
+              | false ↦ λ g. rw (e, f, g) (breaks_from-suc w (suc at) (suc before) bs)
+            ] refl
         | false ↦ λ f. rw (e, f) (breaks_from-suc w (suc at) (suc before) bs)
       ] refl
     ] refl

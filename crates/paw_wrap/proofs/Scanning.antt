@@ -29,7 +29,7 @@ pub record Reached (w : ℕ) (text breaks : List ℕ) (line at : ℕ) : Type 0 w
   pub word_end : at < length text → ends_word (get_or text at 0) ≡ true
   pub so_far : breaks ++ breaks_from w at (at - line) (drop at text) ≡ breaks_from w 0 0 text
 
--- After the place `at` there are n bytes before the next space or LF, or before the end.
+-- After the offset `at` there are n bytes before the next space or LF, or before the end.
 pub record Word (text : List ℕ) (at n : ℕ) : Type 0 where
   pub size : n ≡ word_length (drop (suc at) text)
   pub within : suc at + n ≤ length text
@@ -56,7 +56,7 @@ next_word w before after at n text word e =
     breaks_from-word w (suc at) before n (at + 1 + n) after (drop (suc at) text) (omega arith) e (omega (arith, word.size))
     ∙ ap (breaks_from w (at + 1 + n) after) (drop-drop n (suc at) text ∙ ap (λ k. drop k text) (omega arith))
 
--- The word after the place is passed.
+-- The word after the offset is passed.
 passed : (w line next at n : ℕ) (text breaks more : List ℕ) → Reached w text breaks line at → at < length text → Word text at n → next ≤ at + 1
     → breaks_from w at (at - line) (get_or text at 0 ∷ drop (suc at) text) ≡ more ++ breaks_from w (suc at) (at + 1 - next) (drop (suc at) text)
     → Reached w text (breaks ++ more) next (at + 1 + n)
@@ -120,12 +120,13 @@ inside_from : (w at before : ℕ) (text : List ℕ) (i : ℕ) → i < length (br
 inside_from w at before [] i = rw (breaks_from-empty w at before) (λ h. absurd (omega (arith, h)))
 inside_from w at before (b ∷ bs) i =
     let more : at + suc (length bs) ≡ suc at + length bs = omega arith in
-    elim (step w at before b bs) as (λ _. i < length (breaks_from w at before (b ∷ bs)) → get_or (breaks_from w at before (b ∷ bs)) i 0 < at + suc (length bs)) [
+    elim (step w at before b bs) as
+    (λ _. i < length (breaks_from w at before (b ∷ bs)) → get_or (breaks_from w at before (b ∷ bs)) i 0 < at + suc (length bs)) [
       | Step.ends_line e r ↦ rw (r, more) (inside_from w (suc at) 0 bs i)
       | Step.breaks e f g r ↦ rw (r, more) (more_inside at (length bs) (breaks_from w (suc at) 0 bs) (inside_from w (suc at) 0 bs) i)
       | Step.goes_on e f r ↦ rw (r, more) (inside_from w (suc at) (suc before) bs i)
     ]
 
--- Each break is a place of the text.
+-- Each break is an offset of the text.
 pub is_inside : (w : ℕ) (text places : List ℕ) (i : ℕ) → places ≡ breaks_from w 0 0 text → i < length places → get_or places i 0 < length text
 is_inside w text places i e h = rw e (omega (arith, inside_from w 0 0 text i (rw e at h)))

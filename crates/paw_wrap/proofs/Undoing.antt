@@ -12,7 +12,7 @@ with_byte-suc c x (at ∷ places) bytes = with_byte-suc c x places (set bytes at
 abbrev pub wrapped : ℕ → ℕ → List ℕ → List ℕ
 wrapped w before text = with_byte line_feed (breaks_from w 0 before text) text
 
--- The places of the breaks after the first byte.
+-- The offsets of the breaks after the first byte.
 moved : (w before after b : ℕ) (bs : List ℕ) → breaks_from w 0 before (b ∷ bs) ≡ breaks_from w 1 after bs
     → breaks_from w 0 before (b ∷ bs) ≡ map suc (breaks_from w 0 after bs)
 moved w before after b bs r = r ∙ breaks_from-suc w 0 after bs

@@ -4,7 +4,7 @@ use Rattle.std.specs.Prelude.{List, [], ◌∷◌, length, slice_get, slice_set,
 use Rattle.std.specs.List.{AllByRecursion, list_any, position_or_len, slice_split}
 use Rattle.paw_base.specs.Bytes.{Bytes, Line, Text}
 
--- A wrapped text: its bytes, and the places of its breaks.
+-- A wrapped text: its bytes, and the offsets of its breaks.
 pub record WrappedText : Type 0 where
   pub bytes : Bytes
   pub breaks : List ℕ
@@ -25,9 +25,9 @@ ends_word b = b == space || b == line_feed
 abbrev pub word_length : Text → ℕ
 word_length text = position_or_len ends_word text
 
--- Where first fit breaks the rest of a text, in rising order: the rest begins at place `at`, with `before` bytes before
--- it in its line. A space is a break exactly where the line up to it, the space and the next word are together longer
--- than the width. A line begins after each LF and each break.
+-- Where first fit breaks the rest of a text, in rising order: the rest begins at offset `at`, with `before` bytes
+-- before it in its line. A space is a break exactly where the line up to it, the space and the next word are together
+-- longer than the width. A line begins after each LF and each break.
 unfoldable pub breaks_from : ℕ → ℕ → ℕ → Text → List ℕ
 breaks_from width at before [] = []
 breaks_from width at before (b ∷ bs) =
@@ -35,7 +35,7 @@ breaks_from width at before (b ∷ bs) =
     else if b == space && nat_lt width (before + 1 + word_length bs) then at ∷ breaks_from width (suc at) 0 bs
     else breaks_from width (suc at) (suc before) bs
 
--- The bytes, with this byte put at each of the places.
+-- The bytes, with this byte put at each of the offsets.
 abbrev pub with_byte : ℕ → List ℕ → Text → Text
 with_byte b [] bytes = bytes
 with_byte b (at ∷ places) bytes = with_byte b places (slice_set bytes at b)
@@ -54,7 +54,7 @@ FitsLine width line = (length line ≤ width) ⊎ (list_any (λ b. b == space) l
 abbrev pub FitsLines : ℕ → Text → Type 0
 FitsLines width bytes = AllByRecursion (FitsLine width) (slice_split (λ b. b == line_feed) bytes)
 
--- The text has a space at each of the places.
+-- The text has a space at each of the offsets.
 abbrev pub AreSpaces : Text → List ℕ → Type 0
 AreSpaces text places = AllByRecursion (λ at. slice_get text at ≡ Some space) places
 

@@ -14,7 +14,7 @@ const SPACE: u8 = b' ';
 
 const LINE_FEED: u8 = b'\n';
 
-/// A wrapped text: its bytes, with an LF in place of each space at which a line was broken, and the places of these
+/// A wrapped text: its bytes, with an LF in place of each space at which a line was broken, and the offsets of these
 /// spaces in rising order.
 #[derive(Drop)]
 pub struct Wrapped {
@@ -40,7 +40,7 @@ fn word_length(text: &[u8]) -> usize
         .count()
 }
 
-/// The places at which first fit breaks the text, in rising order.
+/// The offsets at which first fit breaks the text, in rising order.
 fn first_fit_breaks(alloc: Global, width: u8, text: &[u8]) -> Result<Vec<u32>, NoRoom>
     requires fits { length text.now ≤ WRAP_LIMIT }
     ensures value { IfOk result (λ breaks. breaks.items ≡ breaks_from width 0 0 text.now) }

@@ -12,7 +12,8 @@ use Rattle.paw_check.specs.inner.Capped.{capped, cell_at, condacts_of_entries}
 -- Rows hold what reading each table takes for each verb, where the tables that it calls take what these rows hold.
 abbrev pub HoldsLevel : GameLists → (Condact → ℕ) → Bool → List (List ℕ) → List (List ℕ) → Type 0
 HoldsLevel g own changing called rows = (t v : ℕ) → v < 256 → cell_at rows t v
-    ≡ capped (passed_over g (with_call own (λ u. cell_at called u v)) (condacts_of_entries (counting changing v (table_at g t))))
+    ≡ capped (passed_over g (with_call own (λ u. cell_at called u v))
+    (condacts_of_entries (counting changing v (table_at g t))))
 
 -- Rows hold what reading each table takes for each verb, with n levels of calls below it.
 abbrev pub HoldsCosts : GameLists → (Condact → ℕ) → Bool → ℕ → List (List ℕ) → Type 0

@@ -52,9 +52,9 @@ abbrev pub table_text : GameLists → ℕ → ℕ
 table_text g t = most_cost g (most_text g) t
 
 -- A table is left, or describes the location again, with at most this much of the open piece used, and no more of the
--- line left than before. Or the game starts anew after an answer: then nothing of the open piece is used, and nothing of
--- the line is left. Or it waits, or the game is over. Each piece that it closed is within the bound. No piece is spent,
--- and no call is too deep.
+-- line left than before. Or the game starts anew after an answer: then nothing of the open piece is used, and nothing
+-- of the line is left. Or it waits, or the game is over. Each piece that it closed is within the bound. No piece is
+-- spent, and no call is too deep.
 abbrev pub TableWithin : (condacts text pending : ℕ) → GameLists → (reads bytes : ℕ) → Out → Type 0
 TableWithin condacts text pending g reads bytes (Left acted r) =
     IsReadyWithin condacts text pending g r × HasUsed reads bytes r

@@ -1,4 +1,4 @@
-// What the actions print that show counts, marks and lists.
+// What the actions print that show counts, signs and lists.
 
 use super::{Case, GO, SPENT, Scene, parts, run, run_behind};
 use paw_base::codes::{

@@ -1,4 +1,4 @@
--- The rules that a game's lists keep: definitions for contracts and proofs, besides those of specs/Valid.antt.
+-- The rules that a game's lists follow: definitions for contracts and proofs, besides those of specs/Valid.antt.
 use Rattle.std.specs.Prelude.{Bool}
 use Rattle.paw_base.specs.declared.parts.Condact.{Condact}
 use Rattle.paw_game.specs.Game.{GameLists}

@@ -28,7 +28,7 @@ use Rattle.paw_host.specs.Replies.{NamedSession, Absent, At, Answer, begun_answe
 use Rattle.paw_host.specs.Promise.{Stores, LeftOfMaking}
 use Rattle.paw_host.specs.declared.answer.Opened.{Opened}
 
--- The word for a step that brings no piece.
+-- The word for a line that brings no piece.
 abbrev pub refusal_word_of : Step → Option Text
 refusal_word_of (step.Waits p) = None
 refusal_word_of step.Ended = None
@@ -94,9 +94,9 @@ pub record IsAside (name : Name) (old new : Standing) : Type 0 where
   pub shown : new.shown ≡ old.shown
   pub files : (f : Name) → f ≢ name → new.files f ≡ old.files f
 
--- A moment at which a session is asked for something: only the file of its name may differ from what stood, and whatever a
--- crash leaves of that is of the session before; or the store is attached, and it is of the session after, or of one that
--- is made.
+-- A moment at which a session is asked for something: only the file of its name may differ from what stood, and
+-- whatever a crash leaves of that is of the session before; or the store is attached, and it is of the session after,
+-- or of one that is made.
 pub record InAnswer (g : Story) (seed : Seed) (name : Name) (before after : NamedSession) (old : Standing) (m : Moment)
     : Type 0 where
   pub asked : m.asked ≡ old.asked

@@ -39,7 +39,7 @@ pub record AreDigestsOf {F : Type 0} (calls : Shared F (ℕ × (ℕ × Unit {0})
   pub digest : game ≡ sha256 (image g)
   pub measured : IsMeasureOf calls routines rules
 
--- A player that is seated, with rows for its routines, and the digests of what it plays with.
+-- A player that is seated, with answers for its routines, and the digests of what it plays with.
 pub record IsPrepared {F : Type 0} (calls : Shared F (ℕ × (ℕ × Unit {0})) ℕ) (game rules : Bytes) (seat : PlayerView F)
     : Type 0 where
   pub seated : IsSeated seat
@@ -52,8 +52,9 @@ pub record IsHosted {F : Type 0} (calls : Shared F (ℕ × (ℕ × Unit {0})) �
   pub prepared : IsPrepared calls game rules seat
   pub same : seat.game ≡ tables
 
--- A player that may take a text: it is seated, with rows for its routines, and stands after this many lines.
-pub record MayTake {F : Type 0} (calls : Shared F (ℕ × (ℕ × Unit {0})) ℕ) (events : ℕ) (seat : PlayerView F) : Type 0 where
+-- A player that may take a text: it is seated, with answers for its routines, and stands after this many lines.
+pub record MayTake {F : Type 0} (calls : Shared F (ℕ × (ℕ × Unit {0})) ℕ) (events : ℕ)
+    (seat : PlayerView F) : Type 0 where
   pub seated : IsSeated seat
   pub rows : HaveRows calls seat.routines
   pub stands : StandsAfter events seat

@@ -19,7 +19,7 @@ abbrev pub AreMarks : List ℕ → ℕ → Bytes → Type 0
 AreMarks marks count condacts =
     (k : ℕ) → suc k * 8 < count → (mark : ℕ) × (slice_get marks k ≡ Some mark) × GoesOnAt (suc k * 8) condacts mark
 
--- Every number of a list stands in another list at the same place.
+-- Another list begins with all numbers of a list.
 abbrev pub BeginsWithList : (old new : List ℕ) → Type 0
 BeginsWithList old new = (k x : ℕ) → slice_get old k ≡ Some x → slice_get new k ≡ Some x
 
@@ -35,7 +35,7 @@ abbrev pub marks_of : CondactMarks → ℕ → List ℕ
 marks_of marks entry = drop (slice_index marks.firsts.items entry) marks.marks.items
 
 -- The marks of each entry of a table begin at its first one.
-abbrev pub MarkEntries : (bytes offsets firsts marks : List ℕ) → Type 0
+abbrev pub MarkEntries : (bytes : Bytes) (offsets firsts marks : List ℕ) → Type 0
 MarkEntries bytes offsets firsts marks =
     (e p : ℕ) → slice_get offsets e ≡ Some p → MarkEntry (drop (slice_index firsts e) marks) (drop p bytes)
 

@@ -8,12 +8,12 @@ use Rattle.paw_image.specs.declared.refusal.ImageRefusal.TheVariants as refusal
 abbrev pub EachIsByte : List ℕ → Type 0
 EachIsByte bytes = (i : ℕ) → slice_index bytes i < 256
 
--- A fact of the place that a refusal names.
+-- A fact of the offset that a refusal names.
 abbrev pub AtDamage : ImageRefusal → (ℕ → Type 0) → Type 0
 AtDamage refusal.Memory P = Unit {0}
 AtDamage (refusal.Damaged at) P = P at
 
--- A fact of the place in the answer Damaged.
+-- A fact of the offset in the answer Damaged.
 abbrev pub IfDamaged : {T : Type 0} → Result T ImageRefusal → (ℕ → Type 0) → Type 0
 IfDamaged (Ok x) P = Unit {0}
 IfDamaged (Err e) P = AtDamage e P

@@ -14,12 +14,12 @@ use Rattle.paw_image.specs.Damage.{after_object, after_exits, after_entry, after
 use Rattle.paw_image.specs.inner.Orders.{IsOrder}
 use Rattle.paw_read_error.specs.Bind.{◌>>=◌}
 
--- Where each row begins, the first of them at this place.
+-- Where each row begins, the first of them at this offset.
 abbrev pub offsets : {A : Type 0} → (A → Bytes) → ℕ → List A → List ℕ
 offsets image at [] = []
 offsets image at (x ∷ xs) = at ∷ offsets image (at + length (image x)) xs
 
--- Where the entries of each table begin, the first table at this place; a table begins with a number of two bytes.
+-- Where the entries of each table begin, the first table at this offset; a table begins with a number of two bytes.
 abbrev pub entry_offsets : ℕ → List (List Entry) → List (List ℕ)
 entry_offsets at [] = []
 entry_offsets at (es ∷ ess) = offsets entry_image (at + 2) es ∷ entry_offsets (at + length (table_image es)) ess

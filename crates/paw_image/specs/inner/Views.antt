@@ -35,7 +35,7 @@ game_read bytes = or_no_game (all_of bytes)
 
 -- ---- where the lists begin ----
 
--- Where the system messages begin: after the mark, the version, six counts, and the words.
+-- Where the system messages begin: after the signature, the version, six counts, and the words.
 abbrev pub system_begins : GameLists → ℕ
 system_begins g = 17 + length (flat_map word_image g.words)
 
@@ -64,7 +64,7 @@ rows_begin g part.Locations = offsets text_image (locations_begin g) g.locations
 rows_begin g part.Exits = []
 rows_begin g part.Tables = []
 
--- The two places between which a text stands: its row begins with the two bytes of its length.
+-- The two offsets between which a text stands: its row begins with the two bytes of its length.
 abbrev pub spanned : Option ℕ → Option Text → Option (ℕ × ℕ)
 spanned None text = None
 spanned (Some at) None = None
@@ -83,7 +83,7 @@ AreOrdered bytes p = AllByRecursion (λ t. IsOrder bytes t.entries.items t.order
 abbrev pub AreMarked : Bytes → Offsets → Type 0
 AreMarked bytes p = AllByRecursion (IsMarked bytes) p.tables.items
 
--- The bytes are the image of a game with these counts and words, rows at these places, entries in order, and marks.
+-- The bytes are the image of a game with these counts and words, rows at these offsets, entries in order, and marks.
 pub record IsIndex (bytes : Bytes) (counts : Counts) (words : List Word) (p : Offsets) : Type 0 where
   pub image : IsImage bytes (game_read bytes)
   pub counted : counts ≡ counts_of (game_read bytes)

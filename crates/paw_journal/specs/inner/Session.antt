@@ -14,7 +14,7 @@ digests_of game routines = record { game = game; routines = routines }
 abbrev pub session_shown : Digests → Bytes → Text → Recovered
 session_shown digests state piece = Shown digests (take state_length state) piece
 
--- A slot with these bytes is damaged at this place.
+-- A slot with these bytes is damaged at this offset.
 abbrev pub IsDamagedAt : Digests → Bytes → ℕ → Type 0
 IsDamagedAt digests bytes at = slot_shows digests bytes ≡ Damaged part.Slot at
 

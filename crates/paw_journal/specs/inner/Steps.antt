@@ -1,4 +1,4 @@
--- What the steps of a journal's calls leave.
+-- What the writes of a journal's calls leave.
 use Rattle.std.specs.Prelude.{◌≡◌, ◌⊎◌, ℕ, ◌+◌, ◌-◌, ◌*◌, ◌<◌, ◌≤◌, [], ◌∷◌, length, slice_index, true}
 use Rattle.std.specs.Prelude.{false, Option, Some, None}
 use Rattle.paw_base.specs.Bytes.{Bytes, Text}
@@ -38,7 +38,7 @@ pub record Introduces (number : ℕ) (whose : Digests) (bytes : Bytes) : Type 0 
   pub slot : number ≡ chosen bytes
   pub digests : whose ≡ kept_digests bytes
 
--- The store is as long as it was, and of its bytes only those from one place up to another may differ.
+-- The store is as long as it was, and of its bytes only those from one offset up to another may differ.
 pub record IsWithin (lo hi : ℕ) (old : Bytes) (d : Disk) : Type 0 where
   pub long : length d.bytes ≡ length old
   pub synced : length d.synced ≡ length old
@@ -99,7 +99,7 @@ header_digests header = digests_of header.game header.routines
 abbrev pub IsHeaderOf : Bytes → Header → Type 0
 IsHeaderOf bytes header = Introduces (slot_number header.slot) (header_digests header) bytes
 
--- Change records that turn one state into another, one for each position that differs.
+-- Change records that lead from one state to another, one for each position that differs.
 pub record ChangesInto (old new records : Bytes) : Type 0 where
   pub exact : records ≡ differences old new
   pub many : length records ≡ 4 * differing old new

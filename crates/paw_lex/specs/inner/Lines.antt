@@ -4,8 +4,8 @@ use Rattle.std.specs.Str.Lines.{lines}
 use Rattle.paw_base.specs.Bytes.{Bytes, Lines}
 use Rattle.paw_lex.specs.declared.lines.Line.{Line}
 
--- Where a walk over the lines of a source stands: how many lines it has given, the place where the next one begins, and
--- the lines that are left.
+-- Where a walk over the lines of a source stands: how many lines it has given, the offset where the next one begins,
+-- and the lines that are left.
 pub record Walk : Type 0 where
   pub source : Bytes
   pub given : ℕ

@@ -13,6 +13,6 @@ AreBlanks bytes = IsTrue (list_all is_blank bytes)
 abbrev pub ends_token : ℕ → Bool
 ends_token b = is_blank b || b == 59
 
--- The tokens of a line of the source from a place on.
+-- The tokens of a line of the source from an offset on.
 abbrev pub tokens_from : Bytes → Line → ℕ → Tokens
 tokens_from source line from = tokens_of (slice_range source from line.to)

@@ -1,4 +1,4 @@
--- A phrase as it is read, mark by mark. Only the contracts of private functions use this.
+-- A phrase as it is read, lexeme by lexeme. Only the contracts of private functions use this.
 use Rattle.std.specs.Prelude.{ℕ, ◌==◌, Option, Some, None, if◌then◌else◌}
 use Rattle.paw_base.specs.Bytes.{Bytes, Letters}
 use Rattle.paw_base.specs.declared.words.TheConstants.{CONJUNCTION_CLASS}

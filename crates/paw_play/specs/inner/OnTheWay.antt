@@ -76,11 +76,11 @@ end_of_halt halt.Over = end.Ended
 end_of_halt (halt.Spent kind) = end.Spent kind
 end_of_halt (halt.TooDeep table) = end.TooDeep table
 
--- How playing ends at a step that brings no piece.
+-- How playing ends at a line that brings no piece.
 abbrev pub refusal_of : Step → Option PlayEnd
 refusal_of s = if brings_piece s then None else option_map end_of_halt (step_halt s)
 
--- What showing a step's piece does: it is shown where the player waits or is over, and where it is over no other line
+-- What showing a line's piece does: it is shown where the player waits or is over, and where it is over no other line
 -- may be asked for; nothing is shown of a piece that is spent or of a call too deep; or a part is shown of a piece that
 -- isn't empty, and the call failed.
 abbrev pub Told : Standing → Standing → Text → Step → Option PlayEnd → Type 0
@@ -159,13 +159,13 @@ end_of (refusal.Outside c) = end.Outside c
 
 -- ---- a player and its session, between calls ----
 
--- A player may take lines: it has a seat, its routines have rows, and it drew at most this many numbers.
+-- A player may take lines: it has a seat, its routines have answers, and it drew at most this many numbers.
 pub record MayPlay {F : Type 0} (calls : Shared F (ℕ × (ℕ × Unit {0})) ℕ) (draws : ℕ) (p : PlayerView F) : Type 0 where
   pub seated : IsSeated p
   pub rows : HaveRows calls p.routines
   pub drew : p.world.draws ≤ draws
 
--- A player was made just now: it has a seat, its routines have rows, and it has played nothing.
+-- A player was made just now: it has a seat, its routines have answers, and it has played nothing.
 pub record MayBegin {F : Type 0} (calls : Shared F (ℕ × (ℕ × Unit {0})) ℕ) (p : PlayerView F) : Type 0 where
   pub seated : IsSeated p
   pub rows : HaveRows calls p.routines
@@ -190,7 +190,7 @@ pub record HoldsSession (tells : Type 0) (n : ℕ) (room : Room) (now : Standing
 
 -- ---- facts about what is under way ----
 
--- A fact about the game's story, whatever rows stand for its routines.
+-- A fact about the game's story, whatever answers stand for its routines.
 abbrev pub EachStory : {F : Type 0} → Shared F (ℕ × (ℕ × Unit {0})) ℕ → Routines F → GameLists →
     (Story → Type 0) → Type 0
 EachStory calls routines game Holds = (X : RoutineRows) → AreRowsOf calls routines X → Holds (story_of game X)

@@ -1,5 +1,5 @@
--- What is kept of a machine that waits, and the rules that it keeps: words that contracts between crates and proofs use
--- besides those of specs/Kept.antt.
+-- What is kept of a machine that waits, and the rules that it follows: words that contracts between crates and proofs
+-- use besides those of specs/Kept.antt.
 use Rattle.std.specs.Prelude.{ℕ, suc, ◌-◌, ◌==◌, ◌&&◌, Bool, true, false, not, List, [], ◌∷◌, Option, Some, None}
 use Rattle.std.specs.Prelude.{reverse, take}
 use Rattle.std.specs.Prelude.{length, slice_get, nat_lt, if◌then◌else◌}
@@ -21,7 +21,7 @@ use Rattle.paw_process.specs.inner.OpenTables.{OpenTables}
 use Rattle.paw_process.specs.inner.OpenTables.{IsWaiting, IsClosed}
 use Rattle.paw_process.specs.declared.kept.Frames.{Frames}
 
--- An unused row.
+-- An unused frame.
 abbrev pub unused : Frame
 unused = record { table = 0; entry = 0; at = 0; acted = false }
 
@@ -61,19 +61,19 @@ waiting_at prompt.Over = None
 abbrev pub condact_at_frame : GameLists → Frame → Option Condact
 condact_at_frame g f = condact_at g f.table f.entry f.at
 
--- Whether a row is unused.
+-- Whether a frame is unused.
 abbrev pub is_unused : Frame → Bool
 is_unused f = (f.table == 0) && ((f.entry == 0) && ((f.at == 0) && not f.acted))
 
--- Whether a row keeps its rules, where n rows are used from it on: each of these is of a table that may be open there;
--- all but the last are at a PROCESS, and the last is at this condact; an unused row is 0.
+-- Whether a frame follows its rules, where n frames are used from it on: each of these is of a table that may be open
+-- there; all but the last are at a PROCESS, and the last is at this condact; an unused frame is 0.
 abbrev pub row_stands : GameLists → ℕ → Option ℕ → ℕ → Frame → Bool
 row_stands g code caller n f =
     if n == 0 then is_unused f
     else may_open caller f.table && has_code (if n == 1 then code else PROCESS) (condact_at_frame g f)
 
--- The depth of the first row that breaks a rule, counted from d on, where n of the rows are used; each PROCESS calls
--- the next row's table.
+-- The depth of the first frame that breaks a rule, counted from d on, where n of the frames are used; each PROCESS
+-- calls the next frame's table.
 unfoldable pub rows_fault : GameLists → ℕ → Option ℕ → ℕ → ℕ → List Frame → Option ℕ
 rows_fault g code caller n d [] = None
 rows_fault g code caller n d (f ∷ fs) =
@@ -84,14 +84,14 @@ rows_fault g code caller n d (f ∷ fs) =
 abbrev pub is_that_table : Option ℕ → ℕ → Bool
 is_that_table o t = option_map_or (λ u. t == u) o false
 
--- Whether an open loop keeps its rules: it is at a DOALL of its level's table; place and last object are the game's.
+-- Whether an open loop follows its rules: it is at a DOALL of its level's table; place and last object are the game's.
 abbrev pub loop_stands : GameLists → Frames → OpenLoop → Bool
 loop_stands g k l =
     nat_lt l.level k.count && (is_that_table (option_map (λ f. f.table) (slice_get k.rows l.level)) l.table
     && (has_code DOALL (condact_at g l.table l.entry l.at)
     && (is_place (length g.locations) l.place && nat_lt l.last (length g.objects))))
 
--- The depth of an open loop that breaks a rule: 11, after all rows.
+-- The depth of an open loop that breaks a rule: 11, after all frames.
 abbrev pub loop_fault : GameLists → Frames → Option OpenLoop → Option ℕ
 loop_fault g k o = if option_map_or (loop_stands g k) o true then None else Some MOST_FRAMES
 
@@ -102,6 +102,6 @@ fault_at g code k =
     then option_or (rows_fault g (unwrap_or code 0) None k.count 0 k.rows) (loop_fault g k k.turning) else Some 0
 
 -- The least depth at which what is kept of a machine that waits at this prompt breaks a rule: that of a frame, 11 for
--- the loop, or 0 for the number of frames; none where it keeps them all.
+-- the loop, or 0 for the number of frames; none where it follows them all.
 abbrev pub frames_fault : GameLists → Prompt → Frames → Option ℕ
 frames_fault g p k = fault_at g (waiting_code p) k

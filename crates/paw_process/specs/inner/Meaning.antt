@@ -22,7 +22,7 @@ use Rattle.paw_process.specs.declared.Turned.TheVariants as turned
 
 -- ---- stories ----
 
--- This holds of the story that the game is with any rows that stand for the routines.
+-- This holds of the story that the game is with any answers that stand for the routines.
 abbrev pub InStories :
     {F : Type 0} → Shared F (ℕ × (ℕ × Unit {0})) ℕ → Routines F → GameLists → (Story → Type 0) → Type 0
 InStories calls routines g P = (X : RoutineRows) → AreRowsOf calls routines X → P (story_of g X)

@@ -1,4 +1,4 @@
--- What a step of the machine needs, and what it keeps.
+-- What the machine needs to read a condact, and what stays the same then.
 use Rattle.std.specs.Prelude.{◌≡◌, ℕ, ◌+◌, ◌-◌, ◌<◌, ◌≤◌, ◌^◌, true, ◌∷◌, Option}
 use Rattle.std.specs.Fn.{Shared}
 use Rattle.paw_base.specs.declared.parts.Condact.{Condact}
@@ -20,7 +20,7 @@ pub record IsReady (g : GameLists) (m : OpenTables) (w : World) : Type 0 where
   pub reading : IsReading m
   pub game : IsOf g w
 
--- One step may be made: the routines have rows, and the world can make a draw for each condact that is left.
+-- One more condact may be read: the routines have answers, and the world can make a draw for each condact that is left.
 pub record MayReadNext {F : Type 0} (calls : Shared F (ℕ × (ℕ × Unit {0})) ℕ) (routines : Routines F) (g : GameLists)
     (m : OpenTables) (w : World) : Type 0 where
   pub ready : IsReady g m w
@@ -53,7 +53,7 @@ pub record IsAfterReading (g : GameLists) (old new : Held) : Type 0 where
   pub game : IsOf g new.surroundings.world
   pub draws : new.surroundings.world.draws + new.machine.left ≤ old.surroundings.world.draws + old.machine.left
 
--- A step is made: the machine may read on or has stopped, and the world is as a step leaves it.
+-- A condact was read: the machine may read on or has stopped, and the world is as the condact leaves it.
 pub record HasStepped (g : GameLists) (old : Held) (t : Option Turned) (new : Held) : Type 0 where
   pub stands : StandsOrStopped t new.machine
   pub step : IsAfterReading g old new

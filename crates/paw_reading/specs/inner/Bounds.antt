@@ -1,4 +1,4 @@
--- The bounds that each reading keeps: words that contracts between crates and proofs use besides those of
+-- The bounds within which each reading stays: words that contracts between crates and proofs use besides those of
 -- specs/Bounds.antt.
 use Rattle.std.specs.Prelude.{◌≡◌, ℕ, ◌+◌, ◌*◌, ◌≤◌, length, All}
 use Rattle.paw_base.specs.declared.limits.TheConstants.{PIECE_LIMIT, READ_LIMIT}

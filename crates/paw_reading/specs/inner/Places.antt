@@ -68,7 +68,7 @@ abbrev pub AreOpenAt : GameLists → Option ℕ → List Frame → Option OpenLo
 AreOpenAt g None path turning = (path ≡ []) × (turning ≡ None)
 AreOpenAt g (Some code) path turning = AreOpenTo g code path turning
 
--- The places of a run that waits at this prompt, or is over: in tables it waits at the prompt's condact.
+-- The frames and the loop of a run that waits at this prompt, or is over: in tables it waits at the prompt's condact.
 abbrev pub AreFramesAndLoop : GameLists → Prompt → List Frame → Option OpenLoop → Type 0
 AreFramesAndLoop g p path turning = AreOpenAt g (waiting_code p) path turning
 
@@ -106,18 +106,18 @@ GoingOnStopsRightly =
     (g : Story) (p : Prompt) (path : List Frame) (r : Run) → ValidStory g → All IsLine r.events →
     StandsRightly g.game p path r → StopsRightly g.game (going_on_from g p path r)
 
--- A reading that waits, or is over, keeps the bounds.
+-- A reading that waits, or is over, stays within the bounds.
 abbrev pub StopsBounded : Seed → ℕ → Ending → Type 0
 StopsBounded seed n (WaitsAt p path r) = IsBounded seed n r
 StopsBounded seed n (Halted halt.Over r) = IsBounded seed n r
 StopsBounded seed n _ = Unit {0}
 
--- Each reading of a valid story keeps the bounds.
+-- Each reading of a valid story stays within the bounds.
 abbrev pub ReadingsAreBounded : Type 0
 ReadingsAreBounded =
     (g : Story) (seed : Seed) (es : Lines) → ValidStory g → All IsLine es → StopsBounded seed 0 (reading g seed es)
 
--- Going on from where a run stands as it may, within the bounds, keeps them.
+-- Going on from where a run stands as it may, within the bounds, stays within them.
 abbrev pub GoingOnIsBounded : Type 0
 GoingOnIsBounded =
     (g : Story) (seed n : ℕ) (p : Prompt) (path : List Frame) (r : Run) → ValidStory g → All IsLine r.events →

@@ -1,4 +1,4 @@
--- Names for steps of reading and of the turn that specs/Reading.antt and specs/Turn.antt write out: contracts between
+-- Names for parts of reading and of the turn that specs/Reading.antt and specs/Turn.antt write out: contracts between
 -- crates and proofs use them.
 use Rattle.std.specs.Prelude.{ℕ, false, List}
 use Rattle.paw_base.specs.Bytes.{Line, Text}

@@ -8,7 +8,7 @@ use Rattle.paw_stage.specs.inner.Done.{DoneCall, calls_made, right_after}
 abbrev pub spoiled_if : Bool → ℕ → ℕ
 spoiled_if spoiled x = if spoiled then 255 else x
 
--- The bytes that stand from a place on, with 255 for each that was written since the last sync.
+-- The bytes that stand from an offset on, with 255 for each that was written since the last sync.
 abbrev pub spoiled : List Range → ℕ → Bytes → Bytes
 spoiled dirty i [] = []
 spoiled dirty i (x ∷ xs) = spoiled_if (is_dirty dirty i) x ∷ spoiled dirty (i + 1) xs

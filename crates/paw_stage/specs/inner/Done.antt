@@ -43,7 +43,7 @@ end_done = call_of kind.End [] []
 abbrev pub showed : Text → DoneCall
 showed text = call_of kind.Show [] text
 
--- A call attached a store, read it, wrote bytes to it from a place on, or synced it.
+-- A call attached a store, read it, wrote bytes to it from an offset on, or synced it.
 abbrev pub attached_store : Name → DoneCall
 attached_store name = call_of kind.Attach name []
 

@@ -1,4 +1,4 @@
--- Counts of faults, one for each call.
+-- Counts of failures, one for each call.
 use Rattle.std.specs.Prelude.{ℕ, ◌+◌, ◌-◌, ◌^◌, min, Option, Some, None}
 use Rattle.paw_stage.specs.declared.StageCall.{StageCall}
 use Rattle.paw_stage.specs.declared.StageCall.TheVariants as call
@@ -24,7 +24,7 @@ no_failures = record { load = 0; absent = 0; save = 0; attach = 0; read = 0; wri
 abbrev pub one_more : ℕ → ℕ
 one_more n = min (n + 1) (2 ^ 64 - 1)
 
--- The counts after one more fault of a call: only its own count rises.
+-- The counts after one more failure of a call: only its own count rises.
 abbrev pub raised : StageCall → FailureCounts → FailureCounts
 raised call.Load c = record c { load = one_more c.load }
 raised call.LoadAbsent c = record c { absent = one_more c.absent }
@@ -36,7 +36,7 @@ raised call.Sync c = record c { sync = one_more c.sync }
 raised call.Ask c = record c { ask = one_more c.ask }
 raised call.Show c = record c { show = one_more c.show }
 
--- The counts after a call, by which of them failed: one more fault of that one, or the same where none failed.
+-- The counts after a call, by which of them failed: one more failure of that one, or the same where none failed.
 abbrev pub counts_after : Option StageCall → FailureCounts → FailureCounts
 counts_after None c = c
 counts_after (Some failed) c = raised failed c

@@ -1,5 +1,5 @@
 -- The file of the attached store's name holds the store's bytes: so it is after every call of a stage in memory.
-use Rattle.std.proofs.Common.{◌≡◌, ℕ, Bool, true, false, List, [], ◌∷◌, refl, sym, ap, ◌∙◌, subst}
+use Rattle.std.proofs.Common.{◌≡◌, Bool, true, false, List, [], ◌∷◌, refl, sym, ap, ◌∙◌, subst}
 use Rattle.std.specs.Prelude.{Option, Some, None, if◌then◌else◌}
 use Rattle.std.specs.Str.{bytes_eq}
 use Rattle.paw_base.specs.Bytes.{Bytes, Name}
@@ -23,7 +23,7 @@ either_filed : (b : Bool) (o : Option Bytes) (bytes : Bytes) (d : Disk) → o �
 either_filed true o bytes d h = refl
 either_filed false o bytes d h = h
 
-saved_filed : (s : Standing) (name bytes : List ℕ) → IsFiled s → IsFiled (stepped kind.Save name bytes s)
+saved_filed : (s : Standing) (name : Name) (bytes : Bytes) → IsFiled s → IsFiled (stepped kind.Save name bytes s)
 saved_filed s name bytes h n e =
     let k : is_attached s.attached name ≡ bytes_eq n name = ap (λ a. is_attached a name) e in
     either_filed (bytes_eq n name) (s.files n) bytes s.disk (h n e)
@@ -37,7 +37,8 @@ made_gives (Some b) files name h = h
 some_same : (a b : Bytes) → Some a ≡ Some b → a ≡ b
 some_same a b e = cc
 
-stepped_filed : (k : CallKind) (name bytes : List ℕ) (s : Standing) → IsFiled s → IsFiled (stepped k name bytes s)
+stepped_filed : (k : CallKind) (name : Name) (bytes : Bytes) (s : Standing) → IsFiled s →
+    IsFiled (stepped k name bytes s)
 stepped_filed kind.Add name bytes s h n e = saved_filed s name bytes h n e
 stepped_filed kind.Load name bytes s h n e = h n e
 stepped_filed kind.Save name bytes s h n e = saved_filed s name bytes h n e

@@ -1,15 +1,15 @@
 -- Where a part of a file lies, and in which folder a file.
-use Rattle.std.specs.Prelude.{◌≡◌, ℕ, List, [], ◌∷◌, take, Option, Some, IfSome, unwrap_or}
+use Rattle.std.specs.Prelude.{◌≡◌, ℕ, [], ◌∷◌, take, Option, Some, IfSome, unwrap_or}
 use Rattle.std.specs.Io.KnownBytes.{Consumes, Appends}
 use Rattle.std.specs.Path.{path_parent}
 use Rattle.paw_base.specs.Bytes.{Bytes, Name}
 
--- A file whose place was known before stands at this one.
+-- A file whose offset was known before stands at this one.
 abbrev pub StaysWhereItWas : Option ℕ → Option ℕ → ℕ → Type 0
 StaysWhereItWas old new at = IfSome old (λ _. new ≡ Some at)
 
--- From this place on a file gave these bytes, or took them, as far as it shows its place and its bytes.
-module _ {F : Type 0} (place : F → Option ℕ) (known : F → Option (List ℕ)) (old new : F) (at : ℕ) (bytes : Bytes) where
+-- From this offset on a file gave these bytes, or took them, as far as it shows its offset and its bytes.
+module _ {F : Type 0} (place : F → Option ℕ) (known : F → Option Bytes) (old new : F) (at : ℕ) (bytes : Bytes) where
   abbrev pub GivesAt : Type 0
   GivesAt = (there : F) × StaysWhereItWas (place old) (place there) at × Consumes (known there) (known new) bytes
 

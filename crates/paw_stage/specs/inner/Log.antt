@@ -45,7 +45,7 @@ abbrev pub IsTextOfCall : CallKind → Bytes → Text → Text → Type 0
 IsTextOfCall kind bytes old new =
     (s : Standing) (name : Name) → s.shown ≡ old → (stepped kind name bytes s).shown ≡ new
 
--- The places of calls that lie one after the other, between start and end.
+-- The offsets of calls that lie one after the other, between start and end.
 abbrev pub AreLaid : List Call → ℕ → ℕ → Type 0
 AreLaid [] start end = start ≤ end
 AreLaid (c ∷ cs) start end = (start ≤ c.from) × (c.from ≤ c.mid) × (c.mid ≤ c.to) × AreLaid cs c.to end

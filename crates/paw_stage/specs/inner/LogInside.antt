@@ -1,4 +1,4 @@
--- What a record of calls keeps true of its rooms.
+-- What stays true of the rooms of a record of calls.
 use Rattle.std.specs.Prelude.{◌≡◌, ◌+◌, ◌≤◌, length, vec_len, vec_capacity}
 use Rattle.paw_stage.specs.inner.Log.{Logged, all_done, replayed, AreLaid}
 use Rattle.paw_stage.specs.declared.log.Log.TheInside.{Inside}

@@ -1,4 +1,4 @@
--- A stage in memory: the lines that are left, its record of calls, and its counts of faults.
+-- A stage in memory: the lines that are left, its record of calls, and its counts of failures.
 use Rattle.std.specs.Prelude.{◌≡◌, ◌↔◌, ℕ, Bool, IsFalse, [], ◌∷◌, ◌++◌, length, drop}
 use Rattle.std.specs.Prelude.{Result, OnOk, OnErr, IsErr}
 use Rattle.paw_base.specs.Bytes.{Bytes, Line, Lines, Name}
@@ -56,7 +56,7 @@ with_file name bytes m = record m { log = call_logged (added name bytes) m.log }
 abbrev pub with_line_left : Line → Memory → Memory
 with_line_left line m = record m { lines = m.lines ++ line ∷ [] }
 
--- The stage with one fault more of a call, and all else as it was.
+-- The stage with one failure more of a call, and all else as it was.
 abbrev pub failed : StageCall → Memory → Memory
 failed c m = record m { counts = raised c m.counts }
 
@@ -71,7 +71,7 @@ Notes c d result old new =
 abbrev pub AtEachMoment : Memory → Memory → (Standing → Moment → Type 0) → Type 0
 AtEachMoment old new Inside = Moments clock_of moments_of old new (Inside (standing_of old))
 
--- The stage after a load that found no file: the load was recorded, and counts as a fault.
+-- The stage after a load that found no file: the load was recorded, and counts as a failure.
 abbrev pub found_none : Name → Memory → Memory
 found_none name m = failed call.LoadAbsent (recorded (loaded_file name) m)
 

@@ -17,7 +17,7 @@ use Rattle.paw_stage.specs.declared.replay.Store.{Store}
 abbrev pub HasLength : Option Bytes → ℕ → Type 0
 HasLength file n = (bytes : Bytes) × (file ≡ Some bytes) × (n ≡ length bytes)
 
--- The file of this name is as seen, and a buffer holds its bytes from a place on, as far as they go.
+-- The file of this name is as seen, and a buffer holds its bytes from an offset on, as far as they go.
 pub record Sees (s : Standing) (name : Name) (at : ℕ) (seen : Seen) (into : Bytes) : Type 0 where
   pub here : seen.here ≡ is_some (s.files name)
   pub attached : seen.attached ≡ is_attached s.attached name
@@ -29,12 +29,12 @@ pub record Sees (s : Standing) (name : Name) (at : ℕ) (seen : Seen) (into : By
 abbrev pub IsFiled : Standing → Type 0
 IsFiled s = (name : Name) → s.attached ≡ Some name → s.files name ≡ Some s.disk.bytes
 
--- The byte at place i, once bytes were laid over those from a place on.
+-- The byte at offset i, once bytes were laid over those from an offset on.
 abbrev pub laid_over : ℕ → Bytes → ℕ → ℕ → ℕ
 laid_over place bytes i old =
     if nat_le place i && nat_lt i (place + length bytes) then slice_index bytes (i - place) else old
 
--- A buffer holds what stands from `at` on, and now that is with bytes laid over from a place on.
+-- A buffer holds what stands from `at` on, and now that is with bytes laid over from an offset on.
 abbrev pub LaysOver : ℕ → Bytes → ℕ → Bytes → Bytes → Type 0
 LaysOver place bytes at old new =
     (j : ℕ) → j < length old → slice_index new j ≡ laid_over place bytes (at + j) (slice_index old j)
@@ -43,12 +43,12 @@ LaysOver place bytes at old new =
 abbrev pub Spoils : (ℕ → Bool) → Bytes → Bytes → Type 0
 Spoils test old new = (j : ℕ) → j < length old → slice_index new j ≡ spoiled_if (test j) (slice_index old j)
 
--- Whether a call of this kind, with this number of bytes, wrote at place i of the store.
+-- Whether a call of this kind, with this number of bytes, wrote at offset i of the store.
 abbrev pub writes : CallKind → ℕ → ℕ → Bool
 writes (kind.Write at) n i = nat_le at i && nat_lt i (at + n)
 writes _ n i = false
 
--- Whether one of these calls wrote at place i of the store.
+-- Whether one of these calls wrote at offset i of the store.
 abbrev pub is_written : List DoneCall → ℕ → Bool
 is_written [] i = false
 is_written (d ∷ ds) i = writes d.kind (length d.bytes) i || is_written ds i

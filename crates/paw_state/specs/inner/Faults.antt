@@ -1,4 +1,4 @@
--- The first fault of a state's fields, part by part, each at its place: words that contracts of checks and proofs use.
+-- The first fault of a state's fields, part by part, each at its offset: words that contracts of checks and proofs use.
 -- specs/Fields.antt says the same in one list.
 use Rattle.std.specs.Prelude.{ℕ, suc, ◌+◌, ◌-◌, ◌==◌, Bool, List, [], ◌∷◌, Option, Some, None, Result, Ok}
 use Rattle.std.specs.Prelude.{Err}
@@ -21,7 +21,7 @@ use Rattle.paw_state.specs.Fields.{state_fields}
 
 -- ---- rules and faults ----
 
--- None where the rule of a field holds; otherwise the place of the field.
+-- None where the rule of a field holds; otherwise the offset of the field.
 abbrev pub rule : ℕ → Bool → Option ℕ
 rule at holds = if holds then None else Some at
 
@@ -30,7 +30,7 @@ abbrev pub first : List (Option ℕ) → Option ℕ
 first [] = None
 first (o ∷ later) = option_or o (first later)
 
--- The place of the first byte that breaks this rule, where the first byte stands at this place.
+-- The offset of the first byte that breaks this rule, where the first byte stands at this offset.
 unfoldable pub first_not : (ℕ → Bool) → ℕ → List ℕ → Option ℕ
 first_not p at [] = None
 first_not p at (b ∷ bs) = if p b then first_not p (suc at) bs else Some at
@@ -63,7 +63,7 @@ held_fault g at h = first (
     ∷ (if h.there == 0 then absent_fault at h else places_fault g (at + HELD_PLACES) h.places)
     ∷ [])
 
--- The first fault of positions that stand one after the other from this place on.
+-- The first fault of positions that stand one after the other from this offset on.
 unfoldable pub kept_fault : GameLists → ℕ → List PositionField → Option ℕ
 kept_fault g at [] = None
 kept_fault g at (h ∷ hs) = option_or (held_fault g at h) (kept_fault g (at + HELD_LENGTH) hs)
@@ -106,13 +106,13 @@ frame_fields_fault g code caller n at (r ∷ rs) =
 
 -- ---- of the list of fields ----
 
--- The place of the first field that breaks its rule.
+-- The offset of the first field that breaks its rule.
 abbrev pub fields_fault : GameLists → Fields → Option ℕ
 fields_fault g f = fault_from g 0 (state_fields f)
 
 -- ---- what checks answer ----
 
--- What a check answers: a fault is the place of the field that breaks a rule.
+-- What a check answers: a fault is the offset of the field that breaks a rule.
 abbrev pub fault_of : Result (Unit {0}) StateFault → Option ℕ
 fault_of (Ok u) = None
 fault_of (Err e) = Some e.at

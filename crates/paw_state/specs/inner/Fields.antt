@@ -168,7 +168,7 @@ fields_shape =
 abbrev pub field_bytes : Fields → Bytes
 field_bytes f = fields_shape.bytes f
 
--- The fields in these bytes, each at its place.
+-- The fields in these bytes, each at its offset.
 abbrev pub fields_at : Bytes → Fields
 fields_at bytes = fields_shape.value bytes 0
 

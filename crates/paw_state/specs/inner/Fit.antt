@@ -12,7 +12,7 @@ use Rattle.paw_state.specs.State.{state_bytes}
 use Rattle.paw_state.specs.inner.Faults.{fields_fault}
 use Rattle.paw_state.specs.inner.Fields.{fields_at}
 
--- The place of the first field that breaks its rule; none where the bytes are fit.
+-- The offset of the first field that breaks its rule; none where the bytes are fit.
 abbrev pub unfit : GameLists → Bytes → Option ℕ
 unfit g bytes = fields_fault g (fields_at bytes)
 

@@ -12,11 +12,11 @@ use Rattle.paw_state.specs.Fit.{Fit, Unfit}
 use Rattle.paw_state.specs.inner.Fields.{fields_at}
 use Rattle.paw_state.specs.inner.Fit.{unfit}
 
--- Fields stand at their places in the bytes that they are written to.
+-- Fields stand at their offsets in the bytes that they are written to.
 abbrev pub FieldsStand : Type 0
 FieldsStand = (f : Fields) (rest : Bytes) → AreSized f → fields_at (bytes_of (state_fields f) ++ rest) ≡ f
 
--- Bytes have one first fault at most, which is that of the fields at these places.
+-- Bytes have one first fault at most, which is that of the fields at these offsets.
 abbrev pub OneFault : Type 0
 OneFault = (g : GameLists) (bytes : Bytes) (at : ℕ) → Unfit g bytes at → unfit g bytes ≡ Some at
 

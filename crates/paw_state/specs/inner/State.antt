@@ -1,4 +1,4 @@
--- What a session keeps of a game that is played, and the rules that it keeps: words that contracts between crates and
+-- What a session keeps of a game that is played, and the rules that it follows: words that contracts between crates and
 -- proofs use besides those of specs/State.antt.
 use Rattle.std.specs.Option.{unwrap_or}
 use Rattle.std.specs.Prelude.{◌≡◌, ℕ, ◌+◌, ◌*◌, ◌≤◌, [], Option, None, length, All, IfNone}

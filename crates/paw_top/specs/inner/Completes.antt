@@ -37,7 +37,7 @@ abbrev pub Comes : Outcome → Outcome → Type 0
 Comes due (outcome.Memory at) = Unit {0}
 Comes due o = o ≡ due
 
--- The file was refused as no image, with the place of its first damage, or memory was lacking.
+-- The file was refused as no image, with the offset of its first damage, or memory was lacking.
 abbrev pub IsDamaged : Standing → Name → Outcome → Type 0
 IsDamaged old name (outcome.ImageDamaged at) = HoldsDamage old name at
 IsDamaged old name (outcome.Memory at) = Unit {0}

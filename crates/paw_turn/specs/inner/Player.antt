@@ -37,7 +37,7 @@ step_of (stop.Halted halt.Over) = step.Ended
 step_of (stop.Halted (halt.Spent kind)) = step.Spent kind
 step_of (stop.Halted (halt.TooDeep table)) = step.TooDeep table
 
--- The halt that a step is; none where the player waits.
+-- The halt that a line brought; none where the player waits.
 abbrev pub step_halt : Step → Option Halt
 step_halt (step.Waits p) = None
 step_halt step.Ended = Some halt.Over

@@ -7,7 +7,8 @@ use Rattle.paw_check.proofs.Cells.{before_none, before_more, before_all}
 use Rattle.paw_check.proofs.costs.level.Goals as goal
 
 pub loop-number-init : goal.loop-number-init
-loop-number-init c = rw c.new-rows.ensures.items (before_none c.count_of-objects.result (own_in c.args.own.now) c.args.changing c.as_slice-tables.result.now c.args.called.now)
+loop-number-init c =
+    rw c.new-rows.ensures.items (before_none c.count_of-objects.result (own_in c.args.own.now) c.args.changing c.as_slice-tables.result.now c.args.called.now)
 
 pub loop-number-preserved : goal.loop-number-preserved
 loop-number-preserved c =

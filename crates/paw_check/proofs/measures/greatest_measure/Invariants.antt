@@ -4,7 +4,7 @@ use Rattle.paw_check.specs.inner.Capped.{capped}
 use Rattle.paw_check.specs.inner.Own.{measure_in}
 use Rattle.paw_check.proofs.measures.greatest_measure.Given as goal
 
--- the most so far and that of the rest is that of all
+-- The most so far and that of the rest is that of all.
 abbrev pub invariant-loop-at : goal.invariant-loop-at
 invariant-loop-at l =
     max l.most (capped (greatest (map (measure_in l.name) (drop l.at l.texts))))

@@ -3,7 +3,7 @@ use Rattle.paw_check.specs.Measures.{greatest}
 use Rattle.paw_check.specs.inner.Capped.{capped}
 use Rattle.paw_check.proofs.measures.longest_name.Given as goal
 
--- the most so far and that of the rest is that of all
+-- The most so far and that of the rest is that of all.
 abbrev pub invariant-loop-object : goal.invariant-loop-object
 invariant-loop-object l =
     max l.most (capped (greatest (map (λ o. length o.text) (drop l.object-index l.objects))))

@@ -20,7 +20,7 @@ use Rattle.paw_host.proofs.answer.answer.Goals as goal
 
 -- ---- the attach ----
 
--- nothing is answered while the store is attached
+-- Nothing is answered while the store is attached.
 attaches : (g : Over) (c : After-attach g) (tells : g.S.Stage.Tells c.args.stage.now) (X : List (List ℕ)) (before after : NamedSession)
     → Stores (story_of c.args.player.now.game X) before (file_bytes (g.S.Stage.standing c.args.stage.now) c.args.store.now)
     → (g.S.Stage.standing c.attach.new.stage ≡ opened c.args.store.now (g.S.Stage.standing c.args.stage.now))
@@ -113,7 +113,8 @@ returns-else-at-eq0-clause-promises g c = λ tells X rows before may stores.
     record {
       meaning =
           on_ok_weaker c.answer_kept.result
-          (λ h. subst (λ b. Answers story (answer story c.args.hosted.now.seed before (option_copied c.args.text)) c.args.reply.now c.answer_kept.new.reply b) (sym there) h)
+          (λ h. subst (λ b. Answers story (answer story c.args.hosted.now.seed before (option_copied c.args.text)) c.args.reply.now c.answer_kept.new.reply b)
+          (sym there) h)
           (c.answer_kept.ensures.promises now X rows before may here).meaning;
       any_moment =
           Passes_on _ _ _ _ _ _ (InAnswer story seed name before after old) _

@@ -121,7 +121,8 @@ returns-in-Some-clause-promises g c = λ tells X rows before may stores.
           (g.S.Stage.since c.take_text.new.stage) (InFile (StoresEither story before (answer story seed before x).session) old))
           (sym (ap option_copied c.in-Some.is))
           (kept_each story seed old.disk.bytes (omega (arith, c.requires.some, c.requires.store.attached tells))
-          (λ b a. Stores story b old.disk.bytes → Passes (g.S.Stage.clock c.args.stage.now) (g.S.Stage.clock c.take_text.new.stage) (g.S.Stage.since c.args.stage.now)
+          (λ b a. Stores story b old.disk.bytes →
+          Passes (g.S.Stage.clock c.args.stage.now) (g.S.Stage.clock c.take_text.new.stage) (g.S.Stage.since c.args.stage.now)
           (g.S.Stage.since c.take_text.new.stage) (InFile (StoresEither story b a.session) old)) before text may stores t.0
           (λ first es played stands here.
           let u = t.1 first es played stands in

@@ -50,7 +50,8 @@ returns-in-Ok-None-clause-promises g c = λ tells X rows.
           (ap (λ (q : Standing). q.disk.bytes) (rw c.in-Ok-None.field-0-is at (c.in-Ok-None.ensures.leaves.left tells))
           ∙ no_bytes (g.S.Stage.standing c.args.stage.now).disk.bytes (sym (c.requires.store.attached tells) ∙ c.requires.empty));
       any_moment =
-          Passes_map _ _ _ _ _ (InFile (LeftOf story c.args.hosted.now.seed Absent (answer story c.args.hosted.now.seed Absent (option_copied c.args.text)).session) old)
+          Passes_map _ _ _ _ _
+          (InFile (LeftOf story c.args.hosted.now.seed Absent (answer story c.args.hosted.now.seed Absent (option_copied c.args.text)).session) old)
           (c.begin.ensures.promises tells X rows).any_moment
           (λ m i. in_new_begun story c.args.hosted.now.seed (option_copied c.args.text) old m i);
     }
@@ -71,7 +72,8 @@ returns-in-Err-clause-promises g c = λ tells X rows.
     record {
       meaning = tt;
       any_moment =
-          Passes_map _ _ _ _ _ (InFile (LeftOf story c.args.hosted.now.seed Absent (answer story c.args.hosted.now.seed Absent (option_copied c.args.text)).session) old)
+          Passes_map _ _ _ _ _
+          (InFile (LeftOf story c.args.hosted.now.seed Absent (answer story c.args.hosted.now.seed Absent (option_copied c.args.text)).session) old)
           (c.begin.ensures.promises tells X rows).any_moment
           (λ m i. in_new_begun story c.args.hosted.now.seed (option_copied c.args.text) old m i);
     }
@@ -111,14 +113,16 @@ returns-in-Some-clause-promises g c = λ tells X rows.
           (begun_then story seed text c.args.reply.now c.begin.new.reply c.take_text.new.reply new.disk.bytes b.2 b.3
           (subst (λ (h : GameLists). Answers (story_of h X)
           (answer_taking (story_of h X) seed [] text) c.begin.new.reply c.take_text.new.reply new.disk.bytes) c.begin.ensures.anew.stays.game a)))
-          (c.take_text.ensures.promises (c.begin.ensures.leaves.serves.tells.0 tells) X own seed [] sits (rw c.in-Ok-Some.field-0-is at c.in-Ok-Some.ensures.opened).0 stands).meaning;
+          (c.take_text.ensures.promises (c.begin.ensures.leaves.serves.tells.0 tells) X own seed [] sits
+          (rw c.in-Ok-Some.field-0-is at c.in-Ok-Some.ensures.opened).0 stands).meaning;
       any_moment =
           subst (λ t. Passes (g.S.Stage.clock c.args.stage.now) (g.S.Stage.clock c.take_text.new.stage) (g.S.Stage.since c.args.stage.now)
           (g.S.Stage.since c.take_text.new.stage) (InFile (LeftOf story seed Absent (answer story seed Absent t).session) old)) (sym is)
           (Passes_on _ _ _ _ _ _ (InFile (LeftOf story seed Absent (answer story seed Absent (Some text)).session) old) _
           (Passes_map _ _ _ _ _ (InFile (LeftOf story seed Absent (answer story seed Absent (Some text)).session) old)
           (c.begin.ensures.promises tells X rows).any_moment (λ m i. in_new_begun story seed (Some text) old m i))
-          (c.take_text.ensures.promises (c.begin.ensures.leaves.serves.tells.0 tells) X own seed [] sits (rw c.in-Ok-Some.field-0-is at c.in-Ok-Some.ensures.opened).0 stands).any_moment
+          (c.take_text.ensures.promises (c.begin.ensures.leaves.serves.tells.0 tells) X own seed [] sits
+          (rw c.in-Ok-Some.field-0-is at c.in-Ok-Some.ensures.opened).0 stands).any_moment
           (λ m i. in_new_taking story seed text old mid m b.2 (c.begin.ensures.leaves.beside tells)
           (subst (λ (h : GameLists). InFile
           (StoresEither (story_of h X) (At seed []) (answer_taking (story_of h X) seed [] text).session) mid m) c.begin.ensures.anew.stays.game i)));
@@ -145,7 +149,8 @@ returns-in-None-clause-promises g c = λ tells X rows.
           subst (λ t. Answers story (answer story seed Absent t) c.args.reply.now c.begin.new.reply bytes) (sym (ap option_copied c.in-None.is))
           (just_begun story seed c.args.reply.now c.begin.new.reply bytes b.2 b.3 b.1);
       any_moment =
-          Passes_map _ _ _ _ _ (InFile (LeftOf story c.args.hosted.now.seed Absent (answer story c.args.hosted.now.seed Absent (option_copied c.args.text)).session) old)
+          Passes_map _ _ _ _ _
+          (InFile (LeftOf story c.args.hosted.now.seed Absent (answer story c.args.hosted.now.seed Absent (option_copied c.args.text)).session) old)
           (c.begin.ensures.promises tells X rows).any_moment
           (λ m i. in_new_begun story c.args.hosted.now.seed (option_copied c.args.text) old m i);
     }

@@ -47,7 +47,8 @@ returns-in-Err-clause-promises g c = λ tells X rows.
     record {
       meaning = tt;
       any_moment = Passes_map _ _ _ _ _ (InFile (LeftOfBeginning story c.args.seed) old) (c.create.ensures.any_moment tells)
-          (λ m i. in_beginning story c.args.seed c.start_anew-step.result c.start_anew-step.new.player c.start_anew-step.ensures.last c.start_anew-step.ensures.anew.stays.seated
+          (λ m i. in_beginning story c.args.seed c.start_anew-step.result c.start_anew-step.new.player c.start_anew-step.ensures.last
+          c.start_anew-step.ensures.anew.stays.seated
           (c.start_anew-step.ensures.meaning X rows) _ old m shows c.put_state.ensures.state
           (subst (λ p. LeavesMade (story_digests story) c.put_state.new.into p old m) c.piece.ensures.value
           (subst (λ d. LeavesMade d c.put_state.new.into c.piece.result.now old m)
@@ -64,14 +65,18 @@ returns-clause-promises g c = λ tells X rows.
     c.start_anew-step.ensures.anew.stays.seated plays shows in
     record {
       meaning = (
-        sits story c.args.seed c.start_anew-step.result c.start_anew-step.new.player c.start_anew-step.ensures.last c.start_anew-step.ensures.anew.stays.seated plays shows,
-        first_stands story c.args.seed c.start_anew-step.result c.start_anew-step.new.player c.start_anew-step.ensures.last c.start_anew-step.ensures.anew.stays.seated plays _ shows
-            (c.in-Ok.ensures.shown tells ∙ same_shown _ _ _ _ _ _ (same_digests _ _ _ _ c.requires.player.digests.digest (c.requires.player.digests.measured X rows)) c.put_state.ensures.state c.piece.ensures.value),
+        sits story c.args.seed c.start_anew-step.result c.start_anew-step.new.player c.start_anew-step.ensures.last
+            c.start_anew-step.ensures.anew.stays.seated plays shows,
+        first_stands story c.args.seed c.start_anew-step.result c.start_anew-step.new.player c.start_anew-step.ensures.last
+            c.start_anew-step.ensures.anew.stays.seated plays _ shows
+            (c.in-Ok.ensures.shown tells ∙ same_shown _ _ _ _ _ _ (same_digests _ _ _ _ c.requires.player.digests.digest
+            (c.requires.player.digests.measured X rows)) c.put_state.ensures.state c.piece.ensures.value),
         ap (λ (a : Answer). a.session) r,
         c.push-2.ensures.value ∙ ap (λ x. c.args.reply.now ++ x) c.piece-2.ensures.value ∙ ap (λ (a : Answer). c.args.reply.now ++ a.body) (sym r),
       );
       any_moment = Passes_map _ _ _ _ _ (InFile (LeftOfBeginning story c.args.seed) old) (c.create.ensures.any_moment tells)
-          (λ m i. in_beginning story c.args.seed c.start_anew-step.result c.start_anew-step.new.player c.start_anew-step.ensures.last c.start_anew-step.ensures.anew.stays.seated
+          (λ m i. in_beginning story c.args.seed c.start_anew-step.result c.start_anew-step.new.player c.start_anew-step.ensures.last
+          c.start_anew-step.ensures.anew.stays.seated
           (c.start_anew-step.ensures.meaning X rows) _ old m shows c.put_state.ensures.state
           (subst (λ p. LeavesMade (story_digests story) c.put_state.new.into p old m) c.piece.ensures.value
           (subst (λ d. LeavesMade d c.put_state.new.into c.piece.result.now old m)

@@ -51,13 +51,14 @@ returns-in-Some-clause-promises g c = λ tells X rows seed es s count stands.
     let few : length es < EVENT_LIMIT = omega (arith, c.if-is_full.ensures.cases, count) in
     record {
       meaning =
-          rw (refused_answer s c.requires.player.seated c.args.text.now p last few c.take-step.result c.take-step.new.self c.take-step.ensures.last c.take-step.ensures.seated
+          rw (refused_answer s c.requires.player.seated c.args.text.now p last few c.take-step.result c.take-step.new.self
+          c.take-step.ensures.last c.take-step.ensures.seated
           (c.take-step.ensures.meaning X rows p last s.pieces s.traces) c.in-Some.word.now c.in-Some.ensures.value)
           (record { body = c.push-in-Some.ensures.value; stores = stands });
       any_moment = Passes_none _ _ _;
     }
 
--- whether the commit was done or failed, its moments are of the line that was taken
+-- Whether the commit was done or failed, its moments are of the line that was taken.
 commits : (g : Over) (c : After-commit g) (tells : g.S.Stage.Tells c.args.stage.now) (X : List (List ℕ))
     → AreRowsOf g.F.Fn c.args.player.now.routines X → (seed : ℕ) (es : List (List ℕ))
     → SitsAt (story_of c.args.player.now.game X) seed es c.args.player.now → c.args.opened.events ≡ length es
@@ -74,7 +75,8 @@ commits g c tells X rows seed es s count stands =
     let shows = shows_by c.take-step.result c.in_default.ensures.value in
     Passes_map _ _ _ _ _ (InFile (StoresEither story (At seed es) (answer_taking story seed es c.args.text.now).session) old)
     (c.commit.ensures.any_moment tells)
-    (λ m i. in_taking s c.requires.player.seated c.args.text.now p last few c.take-step.result c.take-step.new.self c.take-step.ensures.last c.take-step.ensures.seated plays
+    (λ m i. in_taking s c.requires.player.seated c.args.text.now p last few c.take-step.result c.take-step.new.self
+    c.take-step.ensures.last c.take-step.ensures.seated plays
     (c.args.opened.events + 1) old m shows (omega (arith, count)) stands _ _ (c.requires.kept tells).shown i)
 
 pub returns-in-Err-clause-leaves : goal.returns-in-Err-clause-leaves
@@ -111,7 +113,8 @@ returns-clause-promises g c = λ tells X rows seed es s count stands.
       meaning =
           took s c.requires.player.seated c.args.text.now p last few c.take-step.result next c.take-step.ensures.last c.take-step.ensures.seated plays
           stands.digests c.args.reply.now _ _ (c.args.opened.events + 1) stands.belongs shows (omega (arith, count))
-          (c.in-Ok.ensures.shown tells ∙ ap (λ d. Shown d (seat_state (c.args.opened.events + 1) next) next.piece) (digests_are (story_of c.args.player.now.game X) seed es _ _ _ stands (c.requires.kept tells).shown))
+          (c.in-Ok.ensures.shown tells ∙ ap (λ d. Shown d (seat_state (c.args.opened.events + 1) next) next.piece)
+          (digests_are (story_of c.args.player.now.game X) seed es _ _ _ stands (c.requires.kept tells).shown))
           (c.push-2.ensures.value ∙ ap (λ x. c.args.reply.now ++ x) c.piece.ensures.value);
       any_moment =
           commits g (goal.at.returns-clause-promises g c).After-commit tells X rows seed es s count stands;

@@ -93,9 +93,11 @@ returns-clause-meaning g c = λ tells X rows.
     let piece = c.find.new.room.piece in
     let r = c.in-Ok-read_state.restored in
     let still = c.in-Ok.ensures.still tells in
-    let shown = subst (λ (q : Standing). recover q.disk.bytes ≡ session_shown (kept_digests q.disk.bytes) state piece) still (c.in-Ok.ensures.kept tells).shown in
+    let shown = subst (λ (q : Standing). recover q.disk.bytes ≡ session_shown (kept_digests q.disk.bytes) state piece) still
+    (c.in-Ok.ensures.kept tells).shown in
     let belongs = subst (λ (q : Standing). IsOfStory story (kept_digests q.disk.bytes)) still
-    (of_story story c.args.game.now c.args.rules.now (g.S.Stage.standing c.find.new.stage).disk.bytes c.requires.digests.digest (c.requires.digests.measured X rows) (c.in-Ok.ensures.belongs tells)) in
+    (of_story story c.args.game.now c.args.rules.now (g.S.Stage.standing c.find.new.stage).disk.bytes c.requires.digests.digest
+    (c.requires.digests.measured X rows) (c.in-Ok.ensures.belongs tells)) in
     let read = subst (λ (h : GameLists). IsRead h c.state.result.now r) (sym c.requires.same) c.in-Ok-read_state.ensures.read in
     taken_up story (kept_digests old.disk.bytes) old.disk.bytes state c.state.result.now piece r c.args.player.now.routines c.seat.new.self shown
     c.state.ensures.value belongs read c.in-Ok-read_state.ensures.piece c.seat.ensures.value

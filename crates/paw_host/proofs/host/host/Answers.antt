@@ -70,7 +70,8 @@ returns-clause-moments g c = λ tells. rw c.in-Some.ensures.value
     let same = same_story old c.in-Some.call.image.now game k X
     (holds_loaded c.in-Some.call.image.now _ _ _ _ game c.as_slice.ensures.value f c.in-Ok-view_in.ensures.found) holds in
     Passes_on _ _ _ _ _ _ (InHost (story_of k X) seed first old) _
-    (Passes_map _ _ _ _ _ (InHost (story_of k X) seed first old) (c.load.ensures.time tells) (at_first (story_of k X) seed first old b (c.requires.synced tells) files))
+    (Passes_map _ _ _ _ _ (InHost (story_of k X) seed first old) (c.load.ensures.time tells)
+    (at_first (story_of k X) seed first old b (c.requires.synced tells) files))
     (c.host_game.ensures.any_moment (c.load.ensures.serves.tells.0 tells) X rows first
     (subst (λ q. BeginsWith (story_of game X) first q) (sym f.3) (subst (λ s. BeginsWith s first old) (sym same) b)))
     (λ m i. subst (λ s. InHost s seed first old m) same (subst (λ q. InHost (story_of game X) seed first q m) f.3 i)))

@@ -15,7 +15,7 @@ use Rattle.paw_journal.proofs.Fills.{filling_none, in_filling_sync, parts_on, fi
 use Rattle.paw_journal.proofs.Puts.{rewritten_long}
 use Rattle.paw_journal.proofs.committing.write_slot.Goals as goal
 
--- nothing was written yet
+-- Nothing was written yet.
 begins : (w : Slot) (s : Standing) → IsAtRest s → IsSpare (slot_number w) s.disk.bytes → IsFilling (slot_number w) s s
 begins w s rests spare = filling_none (slot_number w) s (slot_small w) rests.stable spare.made spare.other
 

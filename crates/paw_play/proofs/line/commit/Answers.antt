@@ -7,7 +7,7 @@ use Rattle.paw_journal.specs.inner.Store.{InStore, CrashLeavesSuch, IsOldOrNew}
 use Rattle.paw_play.specs.inner.OnTheWay.{seat_state, seat_base}
 use Rattle.paw_play.proofs.line.commit.Goals as goal
 
--- what a player's session shows
+-- What a player's session shows.
 same_shown : (digests : Digests) (state piece s p : List ℕ) → state ≡ s → piece ≡ p → Shown digests state piece ≡ Shown digests s p
 same_shown digests state piece s p e f = ap (λ x. Shown digests x piece) e ∙ ap (λ x. Shown digests s x) f
 

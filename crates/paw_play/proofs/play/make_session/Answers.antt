@@ -61,7 +61,8 @@ returns-in-Some-clause-meaning g c = λ tells X rows name store.
 pub returns-in-Err-clause-meaning : goal.returns-in-Err-clause-meaning
 returns-in-Err-clause-meaning g c = λ tells X rows name store.
     let story = story_of c.args.player.now.game X in
-    let b = begun story c.args.player.now.world.seed (digests_of c.args.game.now c.args.rules.now) name _ _ c.start-step.new.self c.start-step.result store c.start-step.ensures.seated
+    let b = begun story c.args.player.now.world.seed
+    (digests_of c.args.game.now c.args.rules.now) name _ _ c.start-step.new.self c.start-step.result store c.start-step.ensures.seated
     c.start-step.ensures.last (c.start-step.ensures.meaning X rows) c.in_default.ensures.value (c.create.ensures.beside tells) in
     not_begun b c.in-Err.call c.in-Err.ensures.serves.among
 
@@ -69,7 +70,8 @@ pub returns-in-Err-clause-any_moment : goal.returns-in-Err-clause-any_moment
 returns-in-Err-clause-any_moment g c = λ tells X rows name store.
     let story = story_of c.args.player.now.game X in
     let old = g.S.Stage.standing c.args.stage.now in
-    let b = begun story c.args.player.now.world.seed (digests_of c.args.game.now c.args.rules.now) name old _ c.start-step.new.self c.start-step.result store c.start-step.ensures.seated
+    let b = begun story c.args.player.now.world.seed
+    (digests_of c.args.game.now c.args.rules.now) name old _ c.start-step.new.self c.start-step.result store c.start-step.ensures.seated
     c.start-step.ensures.last (c.start-step.ensures.meaning X rows) c.in_default.ensures.value (c.create.ensures.beside tells) in
     Passes_map _ _ _ _ _ (InNewSession (begun_with story c.args.player.now.world.seed (digests_of c.args.game.now c.args.rules.now) name) old)
     (c.create.ensures.any_moment tells) (λ m i. inl (in_making b m (subst (λ x. InStore old (CrashLeavesSuch (λ r. IsUnmade r ⊎ (r ≡ x))) m)
@@ -78,7 +80,8 @@ returns-in-Err-clause-any_moment g c = λ tells X rows name store.
 pub returns-clause-meaning : goal.returns-clause-meaning
 returns-clause-meaning g c = λ tells X rows name store.
     let story = story_of c.args.player.now.game X in
-    let b = begun story c.args.player.now.world.seed (digests_of c.args.game.now c.args.rules.now) name _ _ c.start-step.new.self c.start-step.result store c.start-step.ensures.seated
+    let b = begun story c.args.player.now.world.seed
+    (digests_of c.args.game.now c.args.rules.now) name _ _ c.start-step.new.self c.start-step.result store c.start-step.ensures.seated
     c.start-step.ensures.last (c.start-step.ensures.meaning X rows) c.in_default.ensures.value (c.create.ensures.beside tells) in
     rw c.unless_ended.ensures.value (begins_to b (sym (c.requires.attached tells).long ∙ c.requires.empty) (c.in-Ok.ensures.kept tells).rests.stable
     (c.in-Ok.ensures.shown tells ∙ shown_as _ c.put_state.ensures.state c.piece.ensures.value) (c.in-Ok.ensures.digests tells)
@@ -89,7 +92,8 @@ pub returns-clause-any_moment : goal.returns-clause-any_moment
 returns-clause-any_moment g c = λ tells X rows name store.
     let story = story_of c.args.player.now.game X in
     let old = g.S.Stage.standing c.args.stage.now in
-    let b = begun story c.args.player.now.world.seed (digests_of c.args.game.now c.args.rules.now) name old _ c.start-step.new.self c.start-step.result store c.start-step.ensures.seated
+    let b = begun story c.args.player.now.world.seed
+    (digests_of c.args.game.now c.args.rules.now) name old _ c.start-step.new.self c.start-step.result store c.start-step.ensures.seated
     c.start-step.ensures.last (c.start-step.ensures.meaning X rows) c.in_default.ensures.value (c.create.ensures.beside tells) in
     let same = shown_as (digests_of c.args.game.now c.args.rules.now) c.put_state.ensures.state c.piece.ensures.value in
     Passes_on _ _ _ _ _ _ _ _

@@ -60,7 +60,8 @@ returns-clause-plays g c = λ tells X rows name store.
     subst (λ q. MadeAndPlayed q (g.S.Stage.standing c.args.stage.now) (g.S.Stage.standing c.make_session.new.stage) c.in-Err.end)
     (session_of c.in-Ok-new.player (g.T.Tables.game c.args.tables.now) X c.args.seed c.args.game.now c.measure.result (measure X) name
     c.in-Ok-new.ensures.new c.in-Ok-new.ensures.game (c.measure.ensures.value X rows))
-    (begun_plays (begun_with (story_of c.in-Ok-new.player.game X) c.in-Ok-new.player.world.seed (digests_of c.args.game.now c.measure.result) name) _ _ c.in-Err.end
+    (begun_plays (begun_with (story_of c.in-Ok-new.player.game X) c.in-Ok-new.player.world.seed
+    (digests_of c.args.game.now c.measure.result) name) _ _ c.in-Err.end
     (c.in-Err.ensures.meaning tells X own name store))
 
 pub returns-in-Ok-make_session-clause-any_moment : goal.returns-in-Ok-make_session-clause-any_moment

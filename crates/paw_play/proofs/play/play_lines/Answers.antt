@@ -69,7 +69,8 @@ loop-preserved g c =
           let next = c.in-Ok.ensures.meaning (i.serves.tells.0 tells) X (rw i.routines rows) s (EVENT_LIMIT - s.before)
           (c.loop.counter - s.before) first (i.playing tells X rows s first start events) at few in
           let n : suc (c.loop.counter - s.before) ≡ c.loop.counter + 1 - s.before = omega (arith, i.from, events) in
-          subst (λ k. IsPlaying (story_of k X) s first after_play_line c.play_line.new.player (c.loop.counter + 1 - s.before)) (sym c.play_line.ensures.player.game)
+          subst (λ k. IsPlaying (story_of k X) s first after_play_line c.play_line.new.player (c.loop.counter + 1 - s.before))
+          (sym c.play_line.ensures.player.game)
           (subst (λ k. IsPlaying (story_of c.loop.player.game X) s first after_play_line c.play_line.new.player k) n next);
       passes = λ tells X rows s first start events.
           let few : c.loop.counter - s.before < EVENT_LIMIT - s.before = omega (arith, c.loop-test.true, i.from, events) in

@@ -14,7 +14,7 @@ use Rattle.paw_play.specs.Keeping.{InPlay}
 use Rattle.paw_play.specs.inner.OnTheWay.{IsPlaying}
 use Rattle.paw_play.proofs.play.play_lines.Given as goal
 
--- as many lines were taken as the session says
+-- As many lines were taken as the session says.
 abbrev pub invariant-loop : goal.invariant-loop
 invariant-loop g l = record {
   seated : IsSeated l.player;

@@ -45,7 +45,8 @@ returns-in-Err-find-clause-plays g c = λ tells X rows.
     rw c.not_found.ensures.value
     (refused_again (story_of (g.T.Tables.game c.args.tables.now) X) c.args.name.now
     (g.S.Stage.standing c.args.stage.now) (g.S.Stage.standing c.find.new.stage) c.in-Err-find.refusal
-    (subst (λ r. IsSessionRefused (recover (store_bytes (g.S.Stage.standing c.args.stage.now) c.args.name.now)) (sha256 (image (g.T.Tables.game c.args.tables.now)))
+    (subst (λ r. IsSessionRefused (recover (store_bytes (g.S.Stage.standing c.args.stage.now) c.args.name.now))
+    (sha256 (image (g.T.Tables.game c.args.tables.now)))
     r c.in-Err-find.refusal) (c.measure.ensures.value X rows)
     (subst (λ d. IsSessionRefused (recover (store_bytes (g.S.Stage.standing c.args.stage.now) c.args.name.now)) d c.measure.result c.in-Err-find.refusal)
     c.requires.game

@@ -4,7 +4,7 @@ use Rattle.paw_stage.specs.declared.Failed.{Failed}
 use Rattle.paw_stage.specs.Stage.{Standing, ShowsTo, ShowsPart, with_shown}
 use Rattle.paw_play.proofs.show.show.Goals as goal
 
--- what a show that was done leaves, and one that failed
+-- What a show that was done leaves, and one that failed.
 done : {A : Type 0} (old new : Standing) (text : List ℕ) (r : Result A Failed) → ShowsTo old new text r → OnOk r (new ≡ with_shown text old)
 done old new text (Ok a) h = h
 done old new text (Err e) h = tt

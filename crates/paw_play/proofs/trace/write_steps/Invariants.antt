@@ -3,7 +3,7 @@ use Rattle.std.specs.Prelude.{flat_map}
 use Rattle.paw_play.specs.Traces.{step_line}
 use Rattle.paw_play.proofs.trace.write_steps.Given as goal
 
--- the lines so far, each of at most 27 bytes
+-- The lines so far, each of at most 27 bytes.
 abbrev pub invariant-loop-step : goal.invariant-loop-step
 invariant-loop-step l = record {
   lines : l.text ≡ flat_map step_line (take l.step-index l.step-items);

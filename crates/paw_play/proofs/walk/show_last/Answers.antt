@@ -9,7 +9,7 @@ use Rattle.paw_journal.proofs.Serving.{serves_then}
 use Rattle.paw_play.proofs.Telling.{part_before, moment_before, both_shown, part_after, moment_after}
 use Rattle.paw_play.proofs.walk.show_last.Goals as goal
 
--- what follows from what an answer means
+-- What follows from what an answer means.
 of_ok : {A E P Q : Type 0} (r : Result A E) → (P → Q) → OnOk r P → OnOk r Q
 of_ok (Ok a) f h = f h
 of_ok (Err e) f h = tt

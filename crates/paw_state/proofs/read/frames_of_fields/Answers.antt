@@ -5,7 +5,7 @@ use Rattle.paw_state.specs.inner.Parts.{frame_in}
 use Rattle.paw_state.proofs.Written.{mapped_more, mapped_all}
 use Rattle.paw_state.proofs.read.frames_of_fields.Goals as goal
 
--- what stands for a row past the last
+-- What stands for a row past the last.
 abbrev empty : FrameField
 empty = record { table = 0; entry = 0; at = 0; acted = 0 }
 

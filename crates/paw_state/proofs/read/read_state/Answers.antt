@@ -50,20 +50,23 @@ returns-in_err-check-clause-fault g c =
 pub returns-clause-read : goal.returns-clause-read
 returns-clause-read g c =
     let game = g.T.Tables.game c.args.tables.now in
-    let none = none_from game c.at-fields.result c.args.bytes.now c.at-fields.ensures.room c.at-fields.ensures.bytes c.in_ok-check.ensures.value c.at-fields.ensures.value in
+    let none = none_from game c.at-fields.result c.args.bytes.now c.at-fields.ensures.room c.at-fields.ensures.bytes
+    c.in_ok-check.ensures.value c.at-fields.ensures.value in
     is_read game c.args.bytes.now c.restore_fields.result c.check.ensures.valid c.at-fields.ensures.room c.at-fields.ensures.bytes none
     (c.restore_fields.ensures.state ∙ ap (state_in game) c.at-fields.ensures.value) c.restore_fields.ensures.machine c.restore_fields.ensures.stands
 
 pub returns-clause-fit : goal.returns-clause-fit
 returns-clause-fit g c =
     let game = g.T.Tables.game c.args.tables.now in
-    let none = none_from game c.at-fields.result c.args.bytes.now c.at-fields.ensures.room c.at-fields.ensures.bytes c.in_ok-check.ensures.value c.at-fields.ensures.value in
+    let none = none_from game c.at-fields.result c.args.bytes.now c.at-fields.ensures.room c.at-fields.ensures.bytes
+    c.in_ok-check.ensures.value c.at-fields.ensures.value in
     (λ ok. none_is_fit game c.args.bytes.now c.check.ensures.valid c.at-fields.ensures.room c.at-fields.ensures.bytes none, λ fit. refl)
 
 pub returns-clause-piece : goal.returns-clause-piece
 returns-clause-piece g c =
     let game = g.T.Tables.game c.args.tables.now in
-    let none = none_from game c.at-fields.result c.args.bytes.now c.at-fields.ensures.room c.at-fields.ensures.bytes c.in_ok-check.ensures.value c.at-fields.ensures.value in
+    let none = none_from game c.at-fields.result c.args.bytes.now c.at-fields.ensures.room c.at-fields.ensures.bytes
+    c.in_ok-check.ensures.value c.at-fields.ensures.value in
     let r = is_read game c.args.bytes.now c.restore_fields.result c.check.ensures.valid c.at-fields.ensures.room c.at-fields.ensures.bytes none
     (c.restore_fields.ensures.state ∙ ap (state_in game) c.at-fields.ensures.value) c.restore_fields.ensures.machine c.restore_fields.ensures.stands in
     piece_read (state_read c.restore_fields.result) c.args.bytes.now r.are

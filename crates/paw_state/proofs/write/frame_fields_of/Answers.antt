@@ -5,7 +5,7 @@ use Rattle.paw_state.specs.State.{frame_field_of}
 use Rattle.paw_state.proofs.Written.{mapped_more, mapped_all}
 use Rattle.paw_state.proofs.write.frame_fields_of.Goals as goal
 
--- what stands for a frame past the last
+-- What stands for a frame past the last.
 abbrev empty : Frame
 empty = record { table = 0; entry = 0; at = 0; acted = false }
 

@@ -17,7 +17,7 @@ use Rattle.paw_top.specs.declared.outcome.Outcome.TheVariants as outcome
 use Rattle.paw_play.proofs.ImageFiles.{in_order, short_enough}
 use Rattle.paw_top.proofs.show.wrap.Goals as goal
 
--- a load that gives nothing says why nothing is wrapped
+-- A load that gives nothing says why nothing is wrapped.
 no_file : (width : ℕ) (name : List ℕ) (old new : Standing) (o : Outcome) → LoadsNone name old new o →
     IfMemory o (IsOneOf load_memory) → Wraps width name old new o
 no_file width name old new (outcome.Outside call.LoadAbsent) h m = absent h.0 h.1
@@ -25,21 +25,21 @@ no_file width name old new (outcome.Outside call.Load) h m = unloaded h
 no_file width name old new (outcome.Memory at) h m = wanting at m h
 no_file width name old new _ h m = absurd h
 
--- what was loaded and isn't too long is the text of the file
+-- What was loaded and isn't too long is the text of the file.
 holds_text : (name given : List ℕ) (old new : Standing) → LoadsSome name WRAP_LIMIT old new given → length given ≤ WRAP_LIMIT →
     HoldsText old name given
 holds_text name given old new f short =
     let whole : length f.0 ≤ WRAP_LIMIT = short_enough WRAP_LIMIT f.0 (subst (λ b. length b ≤ WRAP_LIMIT) f.2 short) (in_order (length f.0) WRAP_LIMIT) in
     (f.1 ∙ ap Some (sym (f.2 ∙ take_all 4194305 f.0 (omega (arith, whole)))), short)
 
--- what was loaded and is too long comes of a file that is
+-- What was loaded and is too long comes of a file that is.
 is_long : (given bytes : List ℕ) → given ≡ take 4194305 bytes → WRAP_LIMIT < length given →
     (length bytes ≤ WRAP_LIMIT) ⊎ (4194305 ≤ length bytes) → WRAP_LIMIT < length bytes
 is_long given bytes e h (inl k) =
     absurd (omega (arith, k, subst (λ b. WRAP_LIMIT < length b) (e ∙ take_all 4194305 bytes (omega (arith, k))) h))
 is_long given bytes e h (inr k) = omega (arith, k)
 
--- a text that is shown in columns is wrapped, as far as it was shown
+-- A text that is shown in columns is wrapped, as far as it was shown.
 shows_so : (width : ℕ) (name text : List ℕ) (old new : Standing) (o : Outcome) → HoldsText old name text →
     Shows (first_fit width text).bytes old new o → Wraps width name old new o
 shows_so width name text old new outcome.Done h s = done text h s

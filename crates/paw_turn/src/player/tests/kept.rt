@@ -58,7 +58,7 @@ fn opened(count: u8, first: Frame, second: Frame) -> Frames {
     }
 }
 
-/// The depth of the fault with which places are refused.
+/// The depth of the fault with which frames are refused.
 fn refused_at(game: &Game, kept: &Frames, prompt: Prompt) -> Option<u8> {
     match Machine::restore(game, kept, prompt) {
         Ok(_) => None,

@@ -47,7 +47,8 @@ returns-in-Err-clause-any_moment g c = λ tells X rows sessions may stores.
     let is = c.as_str.ensures.value ∙ c.set.ensures.value in
     let old = g.S.Stage.standing c.args.stage.now in
     let here = subst (λ x. Stores story (sessions name) (file_bytes old x)) (sym is) (stores name c.requires.name) in
-    Passes_map _ _ _ _ _ (Doing story c.args.hosted.now.seed sessions _ old) (c.answer.ensures.promises tells X rows (sessions name) (may name c.requires.name) here).any_moment
+    Passes_map _ _ _ _ _ (Doing story c.args.hosted.now.seed sessions _ old)
+    (c.answer.ensures.promises tells X rows (sessions name) (may name c.requires.name) here).any_moment
     (λ m i. doing_request story c.args.hosted.now.seed sessions old (asks c.args.request) c.as_str.result.now m stores is i)
 
 pub returns-clause-any_moment : goal.returns-clause-any_moment
@@ -57,5 +58,6 @@ returns-clause-any_moment g c = λ tells X rows sessions may stores.
     let is = c.as_str.ensures.value ∙ c.set.ensures.value in
     let old = g.S.Stage.standing c.args.stage.now in
     let here = subst (λ x. Stores story (sessions name) (file_bytes old x)) (sym is) (stores name c.requires.name) in
-    Passes_map _ _ _ _ _ (Doing story c.args.hosted.now.seed sessions _ old) (c.answer.ensures.promises tells X rows (sessions name) (may name c.requires.name) here).any_moment
+    Passes_map _ _ _ _ _ (Doing story c.args.hosted.now.seed sessions _ old)
+    (c.answer.ensures.promises tells X rows (sessions name) (may name c.requires.name) here).any_moment
     (λ m i. doing_request story c.args.hosted.now.seed sessions old (asks c.args.request) c.as_str.result.now m stores is i)

@@ -50,7 +50,8 @@ reply-requires-clause-synced g c = λ tells.
 pub returns-in-Ok-show-clause-synced : goal.returns-in-Ok-show-clause-synced
 returns-in-Ok-show-clause-synced g c = λ tells.
     let asked = c.ask.ensures.tells.0 tells in
-    shown_settled (g.S.Stage.standing c.reply.new.stage) (g.S.Stage.standing c.show.new.stage) c.bytes.result.now (c.in-Ok-show.ensures.shown (c.reply.ensures.leaves.serves.tells.0 asked)) (c.in-Ok.ensures.leaves.left asked)
+    shown_settled (g.S.Stage.standing c.reply.new.stage) (g.S.Stage.standing c.show.new.stage) c.bytes.result.now
+    (c.in-Ok-show.ensures.shown (c.reply.ensures.leaves.serves.tells.0 asked)) (c.in-Ok.ensures.leaves.left asked)
 
 pub returns-in-Ok-show-clause-takes : goal.returns-in-Ok-show-clause-takes
 returns-in-Ok-show-clause-takes g c = λ tells.
@@ -83,7 +84,7 @@ returns-in-Ok-show-clause-meaning g c = λ tells X rows first start n small byte
 
 -- ---- the moments ----
 
--- no line came, and nothing changed
+-- No line came, and nothing changed.
 waits : (g : Over) (c : After-ask g) (tells : g.S.Stage.Tells c.args.stage.now) (X : List (List ℕ)) (first : Sessions) (start : Standing) (n : ℕ)
     → IsServing (story_of c.args.self.now.player.game X) c.args.hosted.now.seed first start (g.S.Stage.standing c.args.stage.now) n
     → EachMoment g.S.Stage c.args.stage.now c.ask.new.self (λ m. m ≡ moment_of (g.S.Stage.standing c.args.stage.now))
@@ -95,7 +96,7 @@ waits g c tells X first start n s time =
     let holds : FilesHold old = λ name e. g.met.S.Stage.files_hold c.args.stage.now name tells e in
     Passes_map _ _ _ _ _ (InHost story seed first start) time (λ m e. still_at_prompt story seed first start old n s holds m e)
 
--- a line came, and what it asks for is done
+-- A line came, and what it asks for is done.
 works : (g : Over) (c : After-reply g) (tells : g.S.Stage.Tells c.args.stage.now) (X : List (List ℕ))
     → AreRowsOf g.F.Fn c.args.self.now.player.routines X → (first : Sessions) (start : Standing) (n : ℕ)
     → IsServing (story_of c.args.self.now.player.game X) c.args.hosted.now.seed first start (g.S.Stage.standing c.args.stage.now) n
@@ -109,11 +110,12 @@ works g c tells X rows first start n s =
     let asked = c.ask.ensures.tells.0 tells in
     let holds : FilesHold old = λ name e. g.met.S.Stage.files_hold c.args.stage.now name tells e in
     Passes_on _ _ _ _ _ _ (InHost story seed first start) _
-    (Passes_map _ _ _ _ _ (InHost story seed first start) (c.in-Line.ensures.time tells) (in_ask story seed first start old mid n a.0 s holds a.1 a.3 c.in-Line.n))
+    (Passes_map _ _ _ _ _ (InHost story seed first start) (c.in-Line.ensures.time tells)
+    (in_ask story seed first start old mid n a.0 s holds a.1 a.3 c.in-Line.n))
     (c.reply.ensures.any_moment asked X rows _ s.may (mid_stores story seed first start old mid n a.0 s holds a.1 a.3))
     (in_doing story seed first start old mid n a.0 s holds a.1 a.3 _ (cut_request a.0 _ _ _ a.2 refl))
 
--- and then the reply is shown
+-- And then the reply is shown.
 shows : (g : Over) (c : After-show g) (tells : g.S.Stage.Tells c.args.stage.now) (X : List (List ℕ))
     → AreRowsOf g.F.Fn c.args.self.now.player.routines X → (first : Sessions) (start : Standing) (n : ℕ)
     → IsServing (story_of c.args.self.now.player.game X) c.args.hosted.now.seed first start (g.S.Stage.standing c.args.stage.now) n

@@ -13,7 +13,7 @@ use Rattle.paw_host.specs.inner.Seats.{StaysSeated}
 use Rattle.paw_host.specs.declared.lines.TheConstants.{HOST_LIMIT}
 use Rattle.paw_host.proofs.lines.Seats.serve_all.Given as goal
 
--- i lines were answered
+-- i lines were answered.
 abbrev pub invariant-loop : goal.invariant-loop
 invariant-loop g l = record {
   stays : StaysSeated l.fn.self.player l.self.player;

@@ -22,7 +22,7 @@ use Rattle.paw_journal.proofs.journal.Journal.commit.Given.{Over}
 use Rattle.paw_journal.proofs.journal.Journal.commit.Goals.{After-choose}
 use Rattle.paw_journal.proofs.journal.Journal.commit.Goals as goal
 
--- what stands once the slot that isn't in use was written, and was to be chosen
+-- What stands once the slot that isn't in use was written, and was to be chosen.
 module _ (g : Over) (c : After-choose g) (tells : g.S.Stage.Tells c.args.stage.now) where
   abbrev old : Standing
   old = g.S.Stage.standing c.args.stage.now
@@ -58,14 +58,14 @@ module _ (g : Over) (c : After-choose g) (tells : g.S.Stage.Tells c.args.stage.n
   keeps : kept_of c.other-slot.result c.args.room.now ≡ kept_slot (slot (slot_number c.other-slot.result) old.disk.bytes)
   keeps = keeps_of c.other-slot.result c.args.room.now old.disk.bytes (c.requires.kept tells).slots
 
-  -- the slot shows the new state and piece
+  -- The slot shows the new state and piece.
   shows : recover_by (slot_number c.other-slot.result) written.disk.bytes
       ≡ session_shown (kept_digests old.disk.bytes) c.args.state.now c.args.piece.now
   shows = committed_shows (slot_number c.other-slot.result) c.draft-draft.result
       (kept_of c.other-slot.result c.args.room.now) c.args.state.now c.slot.result.now c.args.piece.now old written
       filled drafts keeps are short c.requires.piece_length
 
-  -- and keeps that state
+  -- And keeps that state.
   now_kept : kept_slot (slot (slot_number c.other-slot.result) written.disk.bytes)
       ≡ Some (record { records = c.draft-draft.result.records; state = c.args.state.now })
   now_kept = committed_kept (slot_number c.other-slot.result) c.draft-draft.result

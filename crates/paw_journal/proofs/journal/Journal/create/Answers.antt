@@ -12,7 +12,7 @@ use Rattle.paw_journal.proofs.journal.Journal.create.Given.{Over}
 use Rattle.paw_journal.proofs.journal.Journal.create.Goals.{After-slot, After-mark}
 use Rattle.paw_journal.proofs.journal.Journal.create.Goals as goal
 
--- the bytes that are laid out in both slots
+-- The bytes that are laid out in both slots.
 module _ (g : Over) (c : After-slot g) where
   short : length c.args.piece.now ≤ 65535
   short = short_piece c.args.state.now c.args.piece.now c.fits-state c.requires.piece_length
@@ -24,7 +24,7 @@ module _ (g : Over) (c : After-slot g) where
   long : length c.slot.result.now ≡ slot_length
   long = ap length slots ∙ length_slot c.args.state.now c.args.piece.now c.told-state short
 
--- what stands once the session was laid out, and was to be marked
+-- What stands once the session was laid out, and was to be marked.
 module _ (g : Over) (c : After-mark g) (few : length c.args.piece.now ≤ 65535)
     (are : c.slot.result.now ≡ made_slot c.args.state.now c.args.piece.now) (tells : g.S.Stage.Tells c.args.stage.now) where
   abbrev old : Standing
@@ -54,7 +54,8 @@ lay_out-requires-clause-slot g c = long g (goal.at.lay_out-requires-clause-slot 
 pub mark-requires-clause-long : goal.mark-requires-clause-long
 mark-requires-clause-long g c tells =
     ap (λ d. length d.bytes) (c.in_ok-lay_out.ensures.laid (c.lay_out.ensures.serves.tells.1 tells))
-    ∙ laid_long (digests_of c.args.game.now c.args.rules.now) c.slot.result.now (c.told-game, c.told-rules) (long g (goal.at.mark-requires-clause-long g c).After-slot)
+    ∙ laid_long (digests_of c.args.game.now c.args.rules.now) c.slot.result.now (c.told-game, c.told-rules)
+    (long g (goal.at.mark-requires-clause-long g c).After-slot)
 
 pub returns-in_err-lay_out-clause-any_moment : goal.returns-in_err-lay_out-clause-any_moment
 returns-in_err-lay_out-clause-any_moment g c tells =

@@ -13,7 +13,7 @@ use Rattle.paw_journal.proofs.journal.Journal.find.Given.{Over}
 use Rattle.paw_journal.proofs.journal.Journal.find.Goals.{After-unpack, After-load_other_state}
 use Rattle.paw_journal.proofs.journal.Journal.find.Goals as goal
 
--- what was found once the slot in use was read
+-- What was found once the slot in use was read.
 module _ (g : Over) (c : After-unpack g) (tells : g.S.Stage.Tells c.args.stage.now) where
   held : HasReadSlot c.in_ok-header.header.slot (g.S.Stage.standing c.args.stage.now) c.read_slot.new.self
   held = c.in-Ok.ensures.read (c.read_header.ensures.serves.tells.0 tells)
@@ -30,7 +30,7 @@ module _ (g : Over) (c : After-unpack g) (tells : g.S.Stage.Tells c.args.stage.n
   first_still : g.S.Stage.standing c.read_slot.new.stage ≡ g.S.Stage.standing c.args.stage.now
   first_still = c.in-Ok.ensures.still (c.read_header.ensures.serves.tells.0 tells) ∙ c.read_header.ensures.still tells
 
--- and once both were
+-- And once both were.
 module _ (g : Over) (c : After-load_other_state g) (tells : g.S.Stage.Tells c.args.stage.now)
     (first : g.S.Stage.standing c.read_slot.new.stage ≡ g.S.Stage.standing c.args.stage.now) where
   still : g.S.Stage.standing c.read_slot-2.new.stage ≡ g.S.Stage.standing c.args.stage.now

@@ -4,7 +4,7 @@ use Rattle.paw_state.specs.declared.layout.TheConstants.{HELD_LENGTH}
 use Rattle.paw_state.specs.inner.Fields.{held_shape}
 use Rattle.paw_state.proofs.fields.Fields.put_kept.Given as goal
 
--- the positions so far are written
+-- The positions so far are written.
 abbrev pub invariant-loop-held : goal.invariant-loop-held
 invariant-loop-held l = record {
   written : l.writer ≡ l.initial.writer ++ flat_map held_shape.bytes (take l.held-index l.held-items);
