@@ -35,7 +35,7 @@ fn print_mark_of(piece: &mut Piece, code: u8, a: u8, b: u8) -> bool
         && piece.push(b"]\n")
 }
 
-/// Prints the mark of a condact. It is taken apart here, since each of the many arms that call this would otherwise
+/// Prints the sign of a condact. It is taken apart here, since each of the many arms that call this would otherwise
 /// keep a place in memory for a condact of its own.
 pub(crate) fn print_mark(piece: &mut Piece, c: Condact) -> bool
     requires code { IsCode c.code }

@@ -17,7 +17,7 @@ use Rattle.paw_host.specs.inner.Opens.{ReadsNoImage, OpensNone}
 
 -- ---- the file ----
 
--- it is the image of one game
+-- It is the image of one game.
 pub same_story : (old : Standing) (name : List ℕ) (g k : GameLists) (rows : List (List ℕ)) → Holds old name g → Holds old name k →
     story_of g rows ≡ story_of k rows
 same_story old name g k rows h i =
@@ -33,7 +33,7 @@ unloaded rows name seed old new (outcome.Outside call.Load) h = failed h
 unloaded rows name seed old new outcome.Memory h = wanting h
 unloaded rows name seed old new _ h = absurd h
 
--- bytes that give no game
+-- Bytes that give no game.
 unopened : (rows : List (List ℕ)) (name given : List ℕ) (seed : ℕ) (old new : Standing) (o : HostOutcome) →
     LoadsSome name IMAGE_LIMIT old new given → OpensNone given o → HostsFile rows name seed old new o
 unopened rows name given seed old new (outcome.ImageDamaged at) f h =

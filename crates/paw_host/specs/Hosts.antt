@@ -39,7 +39,7 @@ Hosts g seed first old new (outcome.Outside c) = InHost g seed first old (moment
 Hosts g seed first old new outcome.Memory = new ≡ old
 Hosts g seed first old new _ = ⊥
 
--- How hosting the game of an image file ends, with these rows of routines, whatever sessions there are; or why it
+-- How hosting the game of an image file ends, with these answers of routines, whatever sessions there are; or why it
 -- isn't hosted, with nothing changed.
 pub data HostsFile (rows : RoutineRows) (name : Name) (seed : Seed) (old new : Standing) : HostOutcome → Type 0 where
   hosts : (g : GameLists) (o : HostOutcome) → Holds old name g → Ends old new o →

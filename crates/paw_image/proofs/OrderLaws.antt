@@ -99,7 +99,7 @@ starts_rise ranks verb start end s e =
       | inr le ↦ le
     ]
 
--- Between which places the ranks of a verb stand.
+-- Between which offsets the ranks of a verb stand.
 pub record RunsAt (order : Order) (verb start end : ℕ) : Type 0 where
   pub starts : IsStart order.ranks.items verb start
   pub ends : IsStart order.ranks.items (verb + 1) end
@@ -158,7 +158,7 @@ pair_is ranks verb noun from e m =
 
 module _ (ranks : List ℕ) (verb noun from at : ℕ) (up : IsNonDecreasing ranks) (small : noun < 256) (few : from < 65536)
     (parted : IsPartitionPoint (λ r. ltb r (ranked verb noun from) ≡ true) (λ r. ltb r (ranked verb noun from) ≡ false) ranks at) where
-  -- A match stands not before the place that was searched for.
+  -- A match stands not before the number that was searched from.
   not_before : (e : ℕ) (m : IsMatch ranks (is_pair verb noun) from e) → at ≤ m.is.0
   not_before e m =
       elim (cases_lt m.is.0 at) [

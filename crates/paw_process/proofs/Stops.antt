@@ -27,7 +27,7 @@ pub length_below : (fs : List Frame) → 0 < length fs → suc (length (below fs
 length_below [] h = absurd (omega arith)
 length_below (f ∷ fs) h = refl
 
--- play has ended before the piece was closed, in a run with the same past
+-- Play has ended before the piece was closed, in a run with the same past.
 pub stops_halted : (g : Story) (x : Out) (t : Option Turned) (halt : Halt) (fs : List Frame) (r s : Run) → closes_piece halt ≡ false →
     t ≡ Some (turned.Halted halt) → x ≡ halts halt s → SamePast r s → Continues g x t fs r
 stops_halted g x t halt fs r s unclosed e h past = rw e (unclosed, s, h, past)

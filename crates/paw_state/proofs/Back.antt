@@ -45,7 +45,7 @@ pub places_back : (g : GameLists) (at : ℕ) (places : List ℕ) → Valid g →
     → filled 255 (take (length g.objects) places) ≡ places
 places_back g at places v size h = filled_take (at + length g.objects) (length g.objects) places size (few_objects g v) (zeros_behind g at places h)
 
--- a position without a fault
+-- A position without a fault.
 pub held_back : (g : GameLists) (at : ℕ) (h : PositionField) → Valid g → IsSizedHeld h → held_fault g at h ≡ None → held_of (held_in (length g.objects) h) ≡ h
 held_back g at h v z q =
     let p = two (rule at (nat_le h.there 1)) (if h.there == 0 then absent_fault at h else places_fault g (at + 257) h.places) q in

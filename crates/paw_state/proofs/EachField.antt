@@ -150,11 +150,11 @@ sized_at bytes n h = sized_by (fields_at bytes) (fields_shape_sound.fit bytes 0 
 
 -- ---- bytes ----
 
--- the fields that stand in the bytes of fields are these fields
+-- The fields that stand in the bytes of fields are these fields.
 pub fields_cut : (f : Fields) (q : List ℕ) → AreSized f → fields_at (field_bytes f ++ q) ≡ f
 fields_cut f q s = fields_shape_sound.back f (field_bytes f ++ q) q 0 (fits_of f s) refl
 
--- the bytes of the fields that stand in some bytes are these bytes
+-- The bytes of the fields that stand in some bytes are these bytes.
 pub fields_join : (bytes : List ℕ) → STATE_LENGTH ≤ length bytes → AreBytes bytes → field_bytes (fields_at bytes) ≡ take STATE_LENGTH bytes
 fields_join bytes n h = fields_shape_sound.read bytes 0 n h
 
@@ -166,7 +166,7 @@ kept-length f s = (times_sound 4 held_shape held_shape_sound).long f.kept (s.fou
 
 -- ---- the same fields ----
 
--- fields, one by one
+-- Fields, one by one.
 abbrev rebuilt : Fields → Fields
 rebuilt f = record {
   flags = f.flags;
@@ -195,14 +195,14 @@ same_fields a b flags places saved seed draws events prompt count rows looping t
 
 -- ---- the length of the piece, and what stands after it ----
 
--- the bytes before the piece's length
+-- The bytes before the piece's length.
 pub before_piece : Fields → List ℕ
 before_piece f =
     f.flags ++ (f.places ++ ((f.saved.there ∷ []) ++ (f.saved.flags ++ (f.saved.places
     ++ ((to_le_bytes w64 f.seed ++ (to_le_bytes w64 f.draws ++ (to_le_bytes w64 f.events ++ (f.prompt ∷ f.count ∷ []))))
     ++ (flat_map frame_shape.bytes f.rows ++ ((f.looping ∷ (loop_shape.bytes f.turning ++ (f.earlier ∷ f.pending ∷ []))) ++ f.line)))))))
 
--- and those after it
+-- And those after it.
 abbrev pub after_piece : Fields → List ℕ
 after_piece f = flat_map held_shape.bytes f.kept
 
@@ -220,35 +220,35 @@ state_ends f =
 
 -- ---- the list, from its parts on ----
 
--- from the length of the piece on
+-- From the length of the piece on.
 abbrev pub from_piece : Fields → List Field
 from_piece f = two f.piece (λ g. true) ∷ flat_map held_fields f.kept
 
--- from the verb of the sentence before on
+-- From the verb of the sentence before on.
 abbrev pub from_pending : Fields → List Field
 from_pending f = pending_fields f ++ from_piece f
 
--- from the loop on
+-- From the loop on.
 abbrev pub from_looping : Fields → List Field
 from_looping f = looping_fields f ++ from_pending f
 
--- from the frames of the open tables on
+-- From the frames of the open tables on.
 abbrev pub from_tables : Fields → List Field
 from_tables f = table_fields f ++ from_looping f
 
--- from the prompt on
+-- From the prompt on.
 abbrev pub from_prompt : Fields → List Field
 from_prompt f = prompt_fields f ++ from_tables f
 
--- from the seed on
+-- From the seed on.
 abbrev pub from_numbers : Fields → List Field
 from_numbers f = number_fields f ++ from_prompt f
 
--- from the saved position on
+-- From the saved position on.
 abbrev pub from_saved : Fields → List Field
 from_saved f = held_fields f.saved ++ from_numbers f
 
--- from the places on
+-- From the places on.
 abbrev pub from_places : Fields → List Field
 from_places f = place_fields f.places ++ from_saved f
 
@@ -280,7 +280,7 @@ state_same s = bytes_same (fields_of s)
 
 -- ---- lengths ----
 
--- the arrays have their lengths
+-- The arrays have their lengths.
 pub record HasLengths (f : Fields) : Type 0 where
   pub flags : length f.flags ≡ 256
   pub places : length f.places ≡ 255
@@ -289,6 +289,6 @@ pub record HasLengths (f : Fields) : Type 0 where
   pub line : length f.line ≡ 255
   pub kept : All IsSizedHeld f.kept
 
--- fields of which the arrays have their lengths
+-- Fields of which the arrays have their lengths.
 pub lengths_sized : (f : Fields) → AreSized f → HasLengths f
 lengths_sized f s = record { flags = s.flags; places = s.places; saved = s.saved; rows = s.rows; line = s.line; kept = s.kept }

@@ -59,7 +59,7 @@ joined g at (x ∷ xs) ys = go (x.holds g)
     go true e = e ∙ ap (λ (i : ℕ). option_or (fault_from g (at + length x.bytes) xs) (fault_from g i ys)) behind
     go false e = refl
 
--- a field whose rule holds, and others without a fault
+-- A field whose rule holds, and others without a fault.
 pub first_holds : (g : GameLists) (at : ℕ) (x : Field) (xs : List Field) → fault_from g at (x ∷ xs) ≡ None
     → (x.holds g ≡ true) × (fault_from g (at + length x.bytes) xs ≡ None)
 unfolding fault_from
@@ -251,7 +251,7 @@ frames_faults g code caller n at (r ∷ rs) =
 
 -- ---- the open loop ----
 
--- a frame of this table
+-- A frame of this table.
 pub table_same : (t : ℕ) (o : Option FrameField) → option_map_or (λ r. t == r.table) o false ≡ is_that_table (option_map (λ r. r.table) o) t
 table_same t None = refl
 table_same t (Some r) = refl

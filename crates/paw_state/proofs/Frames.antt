@@ -69,7 +69,7 @@ used_frame g code caller at r h =
 no_action : (acted : ℕ) → (acted == 0) ≡ true → not (acted == 1) ≡ true
 no_action acted h = let z : acted ≡ 0 = eqb-true acted 0 h in rw z refl
 
--- a row without a fault stands as a frame
+-- A row without a fault stands as a frame.
 frame_field_sound : (g : GameLists) (code : ℕ) (caller : Option ℕ) (n at : ℕ) (r : FrameField) → frame_fault g code caller n at r ≡ None
     → row_stands g code caller n (frame_in r) ≡ true
 frame_field_sound g code caller n at r h = go (n == 0) h
@@ -83,7 +83,7 @@ frame_field_sound g code caller n at r h = go (n == 0) h
         let u = used_frame g (if n == 1 then code else 85) caller at r k in
         both (may_open caller r.table) _ u.table u.condact
 
--- and its byte for an action is 0 or 1
+-- And its byte for an action is 0 or 1.
 frame_field_acted : (g : GameLists) (code : ℕ) (caller : Option ℕ) (n at : ℕ) (r : FrameField) → frame_fault g code caller n at r ≡ None → r.acted ≤ 1
 frame_field_acted g code caller n at r h = go (n == 0) h
   where

@@ -83,7 +83,7 @@ pub line_kept : (code : Option ℕ) (n : ℕ) (line : List ℕ) → (is_some cod
 line_kept None n line h = let z : n ≡ 0 = eqb-true n 0 h in rw z refl
 line_kept (Some code) n line h = tt
 
--- ---- the fields of a state that keeps its rules have no fault ----
+-- ---- the fields of a state that follows its rules have no fault ----
 
 pub places_sound : (g : GameLists) (at : ℕ) (places : List ℕ) → length places ≡ length g.objects → ArePlacesOf g places
     → places_fault g at (filled 255 places) ≡ None

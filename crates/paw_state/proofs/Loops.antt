@@ -30,7 +30,7 @@ use Rattle.paw_state.specs.Fields.{fault_from, if_there, loop_fields}
 use Rattle.paw_state.proofs.Firsts.{first_holds, all_hold, nothing_left, table_same}
 use Rattle.paw_state.proofs.Frames.{both, head_there}
 
--- where no loop is open the loop's bytes are 0; else the loop keeps its rules
+-- Where no loop is open the loop's bytes are 0; else the loop follows its rules.
 abbrev pub turning_rest : GameLists → Fields → Option ℕ
 turning_rest g f = fault_from g LOOP_LEVEL (loop_fields f f.turning)
 
@@ -38,11 +38,11 @@ turning_rest g f = fault_from g LOOP_LEVEL (loop_fields f f.turning)
 abbrev pub presence : {A : Type 0} → Option A → ℕ
 presence o = if is_some o then 1 else 0
 
--- the table of a frame that may be there
+-- The table of a frame that may be there.
 abbrev frame_table : Option FrameField → Option ℕ
 frame_table o = option_map (λ r. r.table) o
 
--- each field of the loop keeps its rule, where no loop is open or where one is
+-- Each field of the loop follows its rule, where no loop is open or where one is.
 record RuledLoop (g : GameLists) (f : Fields) (closed : Bool) (l : OpenLoop) : Type 0 where
   level : (if closed then l.level == 0 else nat_lt l.level f.count) ≡ true
   table : (if closed then l.table == 0 else option_map_or (λ r. l.table == r.table) (slice_get f.rows l.level) false) ≡ true

@@ -7,7 +7,7 @@ use Rattle.std.proofs.lemmas.List.{drop-drop, drop_at, take_at, get_or-drop, len
 use Rattle.std.proofs.lemmas.List.Elements.{All-take}
 use Rattle.paw_state.specs.State.{AreBytes}
 
--- ---- what stands at a place of bytes ----
+-- ---- what stands at an offset of bytes ----
 
 -- The range that these bytes fill.
 pub range_is : (bytes x q : List ℕ) (at n : ℕ) → drop at bytes ≡ x ++ q → length x ≡ n → slice_range bytes at (at + n) ≡ x

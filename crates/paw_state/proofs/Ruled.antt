@@ -107,7 +107,7 @@ faults_same g f s =
 
 -- ---- each rule ----
 
--- each part keeps its rules
+-- Each part follows its rules.
 pub record AreSound (g : GameLists) (f : Fields) : Type 0 where
   pub places : places_fault g PLACES f.places ≡ None
   pub saved : held_fault g SAVED f.saved ≡ None
@@ -233,14 +233,14 @@ fields_back g s k =
     (same_pending _ s.pending (take_filled (length s.pending.bytes) s.pending.bytes refl) refl)
     (prompt_again s.prompt) refl refl
 
--- ---- a state keeps its rules where its fields have no fault ----
+-- ---- a state follows its rules where its fields have no fault ----
 
 pub frames_kept : (g : GameLists) (f : Fields) → AreSound g f → fault_at g (waiting_code (prompt_of f.prompt)) (frames_in f) ≡ None
 frames_kept g f s =
     no_machine_fault g (waiting_code (prompt_of f.prompt)) (frames_in f) s.count
     (frame_fields_sound g (unwrap_or (waiting_code (prompt_of f.prompt)) 0) None f.count FRAMES 0 f.rows s.frames) (loop_sound g f s.turning)
 
--- the world that the fields say is a world
+-- The world that the fields say is a world.
 sound_in : (g : GameLists) (f : Fields) → Valid g → AreSized f → AreSound g f → IsWorld (state_in g f).world
 sound_in g f v z s =
     let each : length g.objects ≡ length (take (length g.objects) f.places) = sym (objects_length g f.places v z.places) in

@@ -154,7 +154,7 @@ values_more {A = A} c (suc n) bytes at =
     ap (λ (l : List A). c.value bytes at ∷ l) (values_more c n bytes (at + c.size)
     ∙ ap (λ (i : ℕ). values_at c n bytes (at + c.size) ++ c.value bytes i ∷ []) next)
 
--- one value more is read
+-- One value more is read.
 pub value_read : {A : Type 0} → (c : Shape A) (l : List A) (n : ℕ) (a : A) (bytes : Bytes) (at : ℕ) → n < length l →
     take n l ≡ values_at c n bytes at → a ≡ c.value bytes (at + n * c.size) → take (n + 1) (set l n a) ≡ values_at c (n + 1) bytes at
 value_read {A = A} c l n a bytes at low h e =

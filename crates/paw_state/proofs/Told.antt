@@ -29,7 +29,7 @@ front_long front n q l k =
     let r = length-append (two_bytes n) q in
     omega (arith, l, m, r, k)
 
--- the bytes of a state, and those after the length of the piece
+-- The bytes of a state, and those after the length of the piece.
 pub record AreLong (s : State) : Type 0 where
   pub all : length (state_bytes s) ≡ STATE_LENGTH
   pub behind : length (after_piece (fields_of s)) ≡ STATE_LENGTH - (PIECE + 2)

@@ -17,7 +17,7 @@ use Rattle.paw_state.proofs.EachField.{state_same}
 use Rattle.paw_state.proofs.EachField.{before_piece, after_piece, state_ends}
 use Rattle.paw_state.proofs.Told.{AreLong}
 
--- four times nothing
+-- Four times nothing.
 none_bytes : flat_map held_shape.bytes (map held_of (replicate 4 None)) ≡ zeros 2048
 unfolding zeros
 none_bytes = refl

@@ -80,8 +80,8 @@ state_bytes s = bytes_of (state_fields (fields_of s))
 
 -- ---- its rules ----
 
--- The rules of a state: the world is the game's, and sound; there is room for eleven frames; at most 255 bytes
--- are pending; and each of its fields keeps its rule.
+-- The rules of a state: the world is the game's, and sound; there is room for eleven frames; at most 255 bytes are
+-- pending; and each of its fields follows its rule.
 pub record IsValidState (g : GameLists) (s : State) : Type 0 where
   pub world : IsOf g s.world
   pub sound : IsWorld s.world

@@ -196,7 +196,7 @@ fn check_frame<T: Tables>(
     }
 }
 
-/// Checks these frames, the first of which stands at this place.
+/// Checks these frames, the first of which stands at this offset.
 fn check_each_frame<T: Tables>(
     tables: &T,
     code: u8,

@@ -57,7 +57,7 @@ unhindered o first last out none = only_absent (failed_call o) first last out no
 pub hindered : (c : StageCall) → c ≢ call.LoadAbsent → IsUnhindered (outcome.Outside c) → ⊥
 hindered c another free = another free
 
--- a file that isn't there holds nothing
+-- A file that isn't there holds nothing.
 is_missing : (file : Option (List ℕ)) (bytes : List ℕ) → file ≡ None → file ≡ Some bytes → ⊥
 is_missing file bytes h k = cc
 
@@ -91,7 +91,7 @@ not_both s name g at h k = is_some s name g h (k.0, k.1, k.2)
 
 -- ---- a game that is shown or played ----
 
--- the file holds a game, with an answer such as it is to be
+-- The file holds a game, with an answer such as it is to be.
 completes_game : (name : List ℕ) (Such : GameLists → Outcome → Type 0) (old : Standing) (g : GameLists) (o : Outcome) → Holds old name g → Such g o →
     CompletesImage name Such old o
 completes_game name Such old g o s such = record {

@@ -22,13 +22,13 @@ use Rattle.paw_top.specs.Completes.{IsUnhindered}
 use Rattle.paw_top.specs.inner.Completes.{Comes, due}
 use Rattle.paw_top.proofs.Completing.{hindered}
 
--- an end that a halt makes is that halt
+-- An end that a halt makes is that halt.
 halt_read : (h : Halt) → trial_halt (trial_end h) ≡ Some h
 halt_read halt.Over = refl
 halt_read (halt.Spent kind) = refl
 halt_read (halt.TooDeep table) = refl
 
--- nothing is changed where the reading has ended for good
+-- Nothing is changed where the reading has ended for good.
 pub halted : (n : ℕ) (s : Standing) (stop : TrialEnd) (h : Halt) (e : Ending) → trial_reading n ≡ e → trial_halt stop ≡ Some h → TrialStopsAs stop e →
     Tries n s s (outcome_of_halt h)
 halted n s end.Memory h e is by stops = cc
@@ -38,7 +38,7 @@ halted n s stop h (Halted found r) is by stops =
     subst (λ x. Tries n s s (outcome_of_halt x)) same (halts found r is refl)
 halted n s stop h e is by stops = absurd stops
 
--- its answer is a form's, and names no failed call and no lack of memory
+-- Its answer is a form's, and names no failed call and no lack of memory.
 pub halt_answers : (h : Halt) → (outcome_of_halt h ≢ outcome.Usage) × IfMemory (outcome_of_halt h) (IsOneOf (memory.Trial ∷ []))
     × (failed_call (outcome_of_halt h) ≡ None)
 halt_answers halt.Over = (λ q. cc, tt, refl)
@@ -56,7 +56,7 @@ shown_comes text old new outcome.Done s free = refl
 shown_comes text old new (outcome.Outside call.Show) s free = absurd (hindered call.Show (λ q. cc) free)
 shown_comes text old new _ s free = absurd s
 
--- an answer that is due comes
+-- An answer that is due comes.
 comes_so : (o : Outcome) → Comes o o
 comes_so (outcome.Memory at) = tt
 comes_so o = refl

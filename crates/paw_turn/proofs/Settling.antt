@@ -78,7 +78,7 @@ settles g routines whole total once (stop.Halted (halt.TooDeep u)) last new past
 abbrev before : List (List ℕ) → List (List Read) → Past
 before pieces traces = record { read = []; pieces = pieces; traces = traces }
 
--- a new player's first piece is that of the reading
+-- A new player's first piece is that of the reading.
 pub start_plays : {F : Type 0} (g : Story) (routines : Routines F) (old new : PlayState) (s : TurnStop) (last : Step)
     → Plays g phase.Describe old (next.Stop s) new
     → IsNew (seat_of g.game routines old last) old.surroundings.world.seed
@@ -101,7 +101,7 @@ start_plays g routines old new s last plays fresh =
         → run_from w bytes earlier turning piece (before [] []) lines ≡ opening g old.surroundings.world.seed lines
     opens w bytes earlier turning piece lines world b e t p = rw (world, b, e, t, p) refl
 
--- a line leads from a player's prompt to the next
+-- A line leads from a player's prompt to the next.
 pub take_plays : {F : Type 0} (g : Story) (routines : Routines F) (p : Prompt) (old new : PlayState) (line : List ℕ) (s : TurnStop)
     → (pieces : List (List ℕ)) (traces : List (List Read))
     → PlaysAs g (from_prompt g p (opened_piece old) line) (opened_piece old) (next.Stop s) new

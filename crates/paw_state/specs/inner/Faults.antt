@@ -96,8 +96,8 @@ frame_fault g code caller n at r =
 abbrev pub called_table : GameLists → FrameField → Option ℕ
 called_table g r = Some (parameter_of (condact_at g r.table r.entry r.at))
 
--- The first fault of frames that stand from this place on, of which n are used, the first of them of the table that was
--- called.
+-- The first fault of frames that stand from this offset on, of which n are used, the first of them of the table that
+-- was called.
 unfoldable pub frame_fields_fault : GameLists → ℕ → Option ℕ → ℕ → ℕ → List FrameField → Option ℕ
 frame_fields_fault g code caller n at [] = None
 frame_fields_fault g code caller n at (r ∷ rs) =

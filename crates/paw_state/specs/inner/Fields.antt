@@ -174,7 +174,7 @@ fields_at bytes = fields_shape.value bytes 0
 
 -- ---- faults ----
 
--- The first fault of the parts of a state, each at its place.
+-- The first fault of the parts of a state, each at its offset.
 abbrev pub parts_fault : GameLists → Fields → Option ℕ
 parts_fault g f = first (
     places_fault g PLACES f.places

@@ -16,8 +16,8 @@ use Rattle.paw_state.specs.inner.Fields.{fields_at}
 abbrev pub unfit : GameLists → Bytes → Option ℕ
 unfit g bytes = fields_fault g (fields_at bytes)
 
--- Parts that were read from bytes: the bytes are those of their state, which keeps its rules; the machine waits at the
--- prompt with a full budget.
+-- Parts that were read from bytes: the bytes are those of their state, which follows its rules; the machine waits at
+-- the prompt with a full budget.
 pub record IsRead (g : GameLists) (bytes : Bytes) (r : Restored) : Type 0 where
   pub are : take STATE_LENGTH bytes ≡ state_bytes (state_read r)
   pub keeps : IsValidState g (state_read r)

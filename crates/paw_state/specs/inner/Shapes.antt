@@ -16,11 +16,11 @@ pub record Shape (A : Type 0) : Type 1 where
 abbrev pub one_byte : Shape ℕ
 one_byte = record { size = 1; bytes = λ n. n ∷ []; value = λ bytes at. slice_index bytes at; fits = λ n. ⊤ }
 
--- The number in the two bytes from a place on, the low one first.
+-- The number in the two bytes from an offset on, the low one first.
 abbrev pub two_at : Bytes → ℕ → ℕ
 two_at bytes at = from_le_bytes w16 (slice_range bytes at (at + 2))
 
--- The number in the eight bytes from a place on.
+-- The number in the eight bytes from an offset on.
 abbrev pub eight_at : Bytes → ℕ → ℕ
 eight_at bytes at = from_le_bytes w64 (slice_range bytes at (at + 8))
 
@@ -50,7 +50,7 @@ pair c d = record {
   fits = λ p. c.fits p.0 × d.fits p.1;
 }
 
--- This number of values of a shape, the first of which stands at this place.
+-- This number of values of a shape, the first of which stands at this offset.
 unfoldable pub values_at : {A : Type 0} → Shape A → ℕ → Bytes → ℕ → List A
 values_at c zero bytes at = []
 values_at c (suc n) bytes at = c.value bytes at ∷ values_at c n bytes (at + c.size)

@@ -9,7 +9,7 @@ use Rattle.paw_state.specs.State.{zeros}
 use Rattle.paw_state.specs.inner.Fields.{frame_shape, loop_shape, held_shape}
 use Rattle.paw_state.proofs.fields.Fields.bytes.Goals as goal
 
--- fields that were written one after the other
+-- Fields that were written one after the other.
 all_written : (w0 w1 w2 w3 w4 w5 last a b c n p r e l y k : List ℕ) → w0 ≡ [] → w1 ≡ w0 ++ (a ++ (b ++ c)) → w2 ≡ w1 ++ n →
     w3 ≡ w2 ++ (p ++ (r ++ e)) → w4 ≡ w3 ++ (l ++ y) → w5 ≡ w4 ++ k
     → length w5 ≡ STATE_LENGTH → last ≡ w5 ++ zeros (STATE_ROOM - length w5)
