@@ -24,7 +24,7 @@ def condact(source, step):
 
 
 def story_of(path):
-    """The game of a source, and the rows of the program's routines, as the definitions have them."""
+    """The game of a source, and the answers of the program's routines, as the definitions have them."""
     source = paws.Source.read_or_exit(path)
     system, messages, names, places = [tuple(codes(item.text) for item in source.texts[section])
                                        for section in ("/STX", "/MTX", "/OTX", "/LTX")]
@@ -38,7 +38,7 @@ def story_of(path):
                     for entry in table) for table in source.tables]
     return {"game": {"words": tuple(sorted(words, key=lambda word: word["letters"])), "system": system, "messages": messages,
                      "objects": tuple(objects), "locations": places, "exits": tuple(exits), "tables": tuple(tables)},
-            "rows": tuple(tuple(routine(x) for x in range(256)) for routine in ROUTINES)}
+            "answers": tuple(tuple(routine(x) for x in range(256)) for routine in ROUTINES)}
 
 
 def lines_beside(path):

@@ -43,8 +43,8 @@ abbrev pub Tokens : Type 0
 Tokens = List Token
 
 -- The answers of routines: for each routine those to the bytes 0 to 255, in this order.
-abbrev pub RoutineRows : Type 0
-RoutineRows = List Bytes
+abbrev pub RoutineAnswers : Type 0
+RoutineAnswers = List Bytes
 
 -- The number from which a play draws its random words. A play has one below 2^64.
 abbrev pub Seed : Type 0

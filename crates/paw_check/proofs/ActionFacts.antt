@@ -25,11 +25,11 @@ use Rattle.paw_effects.specs.Holds.{Tested}
 use Rattle.paw_effects.specs.inner.Standing.{IsWorldOf}
 use Rattle.paw_check.specs.Measures.{most_at}
 use Rattle.paw_check.specs.Prints.{most_named, most_of_action, said_of_objects, silent}
-use Rattle.paw_check.specs.Prints.{mark_most as most_mark}
+use Rattle.paw_check.specs.Prints.{sign_most as most_mark}
 use Rattle.paw_check.specs.Verbs.{is_among, writes_first, writes_second}
 use Rattle.paw_check.proofs.EachPlain.{Most}
 use Rattle.paw_check.proofs.Carried.{SparesVerb}
-use Rattle.paw_check.proofs.Marks.{mark_most}
+use Rattle.paw_check.proofs.Signs.{sign_most}
 use Rattle.paw_check.proofs.Spoken.{AllSaid, Said, said, acted_most, found_most}
 use Rattle.paw_check.proofs.Verb.{HasVerb, LeavesVerb, other_has, moved_has, acted_has, found_has}
 
@@ -224,7 +224,7 @@ tested most code so = condition (λ n g w c is spares k. k)
 
 -- What is shown or played beside the text.
 pub marked : (code : ℕ) → Facts code most_mark mark
-marked code = row (prints (λ s w c d of k. mark_most d k.first k.second)) still going
+marked code = row (prints (λ s w c d of k. sign_most d k.first k.second)) still going
 
 -- A message that is among those of actions is said.
 pub says : (m : ℕ) → is_among said_of_objects m ≡ true → (g : GameLists) (d : Condact) → Said g m

@@ -33,7 +33,7 @@ use Rattle.paw_reading.specs.Reading.{after_call, at_level, next_object_or}
 use Rattle.paw_reading.specs.Reading.{is_taken, taken, over_objects, loop_of, over, answered, asked, waits, after_test}
 use Rattle.paw_reading.specs.Reading.{after_parse, after_action}
 use Rattle.paw_reading.specs.Reading.{coming_phrase, carried_out, acts, reads_one, condacts, is_for_now, entries}
-use Rattle.paw_reading.specs.Reading.{from_place, rest_of_loop, read_at_level}
+use Rattle.paw_reading.specs.Reading.{from_condact, rest_of_loop, read_at_level}
 use Rattle.paw_reading.specs.Reading.{game_over}
 use Rattle.paw_reading.specs.inner.Steps.{goodbye, quit_question}
 use Rattle.paw_reading.proofs.Keeps.{either, prints, Keeps, IsOrNone, CallsKeeping, plain_keeps}
@@ -225,7 +225,7 @@ module _ (g : Story) (Describes : Type 0) (lv : ℕ) where
 
       -- A table of such condacts, from its start.
       pub plain_alike : (t : ℕ) → AllByRecursion (λ en. AllByRecursion Kept en.condacts) (table_at g.game t) →
-          GoAlike (from_place g sub lv t 0 0) (from_place g over_sub lv t 0 0)
+          GoAlike (from_condact g sub lv t 0 0) (from_condact g over_sub lv t 0 0)
       plain_alike t all = entries_alike t 0 (table_at g.game t) all
 
 -- ---- a level ----
@@ -251,9 +251,9 @@ none_again lv next o (Stopped stop r) none k = refl
 
 -- So it is read once, from its start.
 read_once : (g : Story) (sub : ℕ → Run → Out) → CallsKeeping sub → (lv t : ℕ) (r : Run) → at_level lv r.turning ≡ None →
-    read_at_level g sub lv t 0 0 false r ≡ from_place g sub lv t 0 0 false r
+    read_at_level g sub lv t 0 0 false r ≡ from_condact g sub lv t 0 0 false r
 read_once g sub calls lv t r none =
-    none_again lv (rest_of_loop g sub lv) r.turning (from_place g sub lv t 0 0 false r) none (plain_keeps g sub lv calls t 0 0 false r)
+    none_again lv (rest_of_loop g sub lv) r.turning (from_condact g sub lv t 0 0 false r) none (plain_keeps g sub lv calls t 0 0 false r)
 
 -- And leaves no loop open that wasn't.
 kept_most : (lv : ℕ) (o q : Option OpenLoop) → AtMost lv o → IsOrNone o q → AtMost lv q
@@ -271,10 +271,10 @@ settled_below Describes lv high o (Stopped (Halts halt) r) low k h = tt
 -- What is alike from the start of a table to its end is alike for the whole table.
 pub reads_alike : (g : Story) (Describes : Type 0) (lv high t : ℕ) (sub over_sub : ℕ → Run → Out) → CallsKeeping sub → CallsKeeping over_sub → (r : Run) →
     AtMost lv r.turning → at_level high r.turning ≡ None →
-    Alike Describes high (from_place g sub high t 0 0 false r) (from_place g over_sub high t 0 0 false r) →
+    Alike Describes high (from_condact g sub high t 0 0 false r) (from_condact g over_sub high t 0 0 false r) →
     Alike Describes lv (read_at_level g sub high t 0 0 false r) (read_at_level g over_sub high t 0 0 false r)
 reads_alike g Describes lv high t sub over_sub calls over_calls r low none h =
     let one = read_once g sub calls high t r none in
     let other = read_once g over_sub over_calls high t r none in
-    let settled = settled_below Describes lv high r.turning (from_place g sub high t 0 0 false r) low (plain_keeps g sub high calls t 0 0 false r) h.1 in
+    let settled = settled_below Describes lv high r.turning (from_condact g sub high t 0 0 false r) low (plain_keeps g sub high calls t 0 0 false r) h.1 in
     (one ∙ (h.0 ∙ sym other), subst (Settled Describes lv) (sym one) settled)

@@ -11,7 +11,7 @@ use Rattle.paw_base.specs.declared.messages.TheConstants.{DROPPED_MESSAGE, PUT_O
 use Rattle.paw_base.specs.declared.messages.TheConstants.{PUT_IN_MESSAGE}
 use Rattle.paw_game.specs.Game.{GameLists}
 use Rattle.paw_game.specs.Tables.{exit_at}
-use Rattle.paw_routines.specs.Rows.{value_at}
+use Rattle.paw_routines.specs.Answers.{value_at}
 use Rattle.paw_world.specs.World.{World, Position, flag, place, here, moved, drawn_on, kept_position}
 use Rattle.paw_effects.specs.Chance.{rolled}
 use Rattle.paw_effects.specs.Presence.{named_place, held_objects}
@@ -31,7 +31,7 @@ use Rattle.paw_check.proofs.ActionFacts.{going, leaving, describing, calling, lo
 use Rattle.paw_check.proofs.ActionFacts.{leads, loaded_leads, condition, tested, marked, on_object, by_name}
 use Rattle.paw_check.proofs.Lengths.{put_most, say_most, message_most, byte_digits}
 use Rattle.paw_check.proofs.Listed.{inventory_most, place_list_most, here_list_most}
-use Rattle.paw_check.proofs.Marks.{turns_most, score_most}
+use Rattle.paw_check.proofs.Signs.{turns_most, score_most}
 use Rattle.paw_check.proofs.Spoken.{named, get_said, wear_said, remove_said, take_out_said, drop_said}
 use Rattle.paw_check.proofs.Verb.{one_has, other_has, answered_has, moves_has, moved_has, dropped_has}
 use Rattle.paw_check.proofs.Verb.{referred_found_has, loaded_leaves, ramloaded_has}
@@ -150,7 +150,7 @@ each_action =
     row quiet (keeps (λ n s w c is spares of k. inr refl)) (describing refl) &  -- RESET
     row quiet
     (keeps (λ n s w c is spares of k.
-    inl (answered_has n w c.b (value_at s.rows c.a (flag w c.b))
+    inl (answered_has n w c.b (value_at s.answers c.a (flag w c.b))
     (spares.second (writes_one writes_second EXTERN c refl is)) k))) going &  -- EXTERN
     with_marks Facts marked tt)
 

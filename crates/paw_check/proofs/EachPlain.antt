@@ -7,7 +7,7 @@ use Rattle.paw_game.specs.Game.{GameLists}
 use Rattle.paw_world.specs.World.{World}
 use Rattle.paw_effects.specs.Meanings.{Meaning, tests, changing, mark, meanings, meaning_of}
 use Rattle.paw_check.specs.Prints.{silent, most_printed}
-use Rattle.paw_check.specs.Prints.{mark_most as most_mark}
+use Rattle.paw_check.specs.Prints.{sign_most as most_mark}
 
 -- The most bytes that the condacts of a code print.
 abbrev pub Most : Type 0

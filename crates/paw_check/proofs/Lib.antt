@@ -3,7 +3,7 @@ mod Carried
 mod Verb
 mod Lengths
 mod Listed
-mod Marks
+mod Signs
 mod Spoken
 mod ActionFacts
 mod EachAction

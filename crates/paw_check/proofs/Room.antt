@@ -137,7 +137,7 @@ module _ (g : Story) (valid : ValidStory g) (condacts text : ℕ) where
   pub taken_ready : (r : Run) → Ready r → (s : Sentence) (left : List ℕ) → length left < length r.pending → coming_phrase g r ≡ IsSentence s left →
       Ready (with_world (counted (taken_phrase s left r).world) (taken_phrase s left r))
   taken_ready r h s left shorter e =
-      let spoken_so = phrase_of g.game valid.game g.rows r h.world h.earlier s left e in
+      let spoken_so = phrase_of g.game valid.game g.answers r h.world h.earlier s left e in
       changed r h (counted (spoken s r.world)) (counted_of g.game valid.game (spoken s r.world) spoken_so.0) left (omega (arith, h.line)) s.verb spoken_so.1
       r.current r.events h.lines
 

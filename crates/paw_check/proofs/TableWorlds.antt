@@ -49,10 +49,10 @@ module _ (g : GameLists) (v : Valid g) where
   anew_of w k = world_is g w.seed w.draws (restarted w) (anew_so g v w.seed w.draws w (now w k))
 
   -- An action is carried out.
-  pub acted_of : (rows : List (List ℕ)) → All AreBytes rows → (w : World) → IsWorldOf g w → (c : Condact) → is_condact g c ≡ true →
-      IsWorldOf g (effect_of (story_of g rows) w c).world
-  acted_of rows bytes w k c is =
-      world_is g w.seed (suc w.draws) (effect_of (story_of g rows) w c).world (effect_so g v w.seed w.draws rows w c bytes (now w k) is)
+  pub acted_of : (answers : List (List ℕ)) → All AreBytes answers → (w : World) → IsWorldOf g w → (c : Condact) → is_condact g c ≡ true →
+      IsWorldOf g (effect_of (story_of g answers) w c).world
+  acted_of answers bytes w k c is =
+      world_is g w.seed (suc w.draws) (effect_of (story_of g answers) w c).world (effect_so g v w.seed w.draws answers w c bytes (now w k) is)
 
   -- A condition is tested.
   pub tested_of : (w : World) → IsWorldOf g w → (c : Condact) → IsWorldOf g (holds g w c).world

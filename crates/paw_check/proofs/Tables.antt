@@ -45,7 +45,7 @@ use Rattle.paw_reading.specs.Reading.{noted, after_call, at_level, next_object_o
 use Rattle.paw_reading.specs.Reading.{loop_of, over, answered, asked, waits}
 use Rattle.paw_reading.specs.Reading.{after_test, after_parse, coming_phrase, after_action, carried_out, acts}
 use Rattle.paw_reading.specs.Reading.{reads_one, condacts, is_for_now}
-use Rattle.paw_reading.specs.Reading.{entries, from_place, rest_of_loop, read_at_level, game_over}
+use Rattle.paw_reading.specs.Reading.{entries, from_condact, rest_of_loop, read_at_level, game_over}
 use Rattle.paw_reading.specs.inner.Steps.{goodbye, quit_question}
 use Rattle.paw_reading.proofs.EachCondact.{by_test}
 use Rattle.paw_reading.proofs.Keeps.{Keeps, CallsKeeping, IsOrNone, either, open_or_not, plain_keeps}
@@ -360,7 +360,7 @@ module _ (g : Story) (valid : ValidStory g) (kind : SpentKind) (limit pending : 
           coming_phrase g r ≡ p → LeavesBytes (λ rest. length rest < length r.pending) p →
           Ends (Inside lv (m + once) (m + (once + more))) (m + (once + more)) (after_parse f next go r p)
       after_parse_ends may m r k u fits (IsSentence s rest) e less =
-          let said = phrase_of g.game valid.game g.rows r k.world k.small s rest e in
+          let said = phrase_of g.game valid.game g.answers r k.world k.small s rest e in
           goes_next f.acted m (taken_phrase s rest r)
           (record {
             world = said.0;
@@ -514,7 +514,7 @@ module _ (g : Story) (valid : ValidStory g) (kind : SpentKind) (limit pending : 
             (λ e. parses_change c has (subst (MayLead (plain_code c.code)) e (effect_goes g r.world c)))
             (carried_out d s)
             (record {
-              world = acted_of g.game valid.game g.rows valid.bytes r.world k.world c (is c has);
+              world = acted_of g.game valid.game g.answers valid.bytes r.world k.world c (is c has);
               small = k.small;
               short = shorter_if d.act.drop_line r.pending pending k.short;
               speaks = λ e. absurd cc;
@@ -634,8 +634,8 @@ module _ (g : Story) (valid : ValidStory g) (kind : SpentKind) (limit pending : 
         reads_end t has short m r k none u fits =
             let a : ℕ = sum_by takes (their (chosen (table_at g.game t))) in
             let b : ℕ = sum_by extra (their (chosen (table_at g.game t))) in
-            let goes : Goes a b (from_place g sub lv t 0 0) =
+            let goes : Goes a b (from_condact g sub lv t 0 0) =
             subst (λ es. Goes a b (entries g sub lv t 0 es)) (sym (all_left (table_at g.game t))) (entries_end t 0 (table_at g.game t) has short) in
-            last_ends (rest_of_loop g sub lv) (m + a) (m + (a + b)) r.turning (from_place g sub lv t 0 0 false r) none
+            last_ends (rest_of_loop g sub lv) (m + a) (m + (a + b)) r.turning (from_condact g sub lv t 0 0 false r) none
             (plain_keeps g sub lv keeps t 0 0 false r)
             (goes false m r k u fits)

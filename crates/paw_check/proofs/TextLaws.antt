@@ -75,7 +75,7 @@ abbrev kind_most : GameLists → Printed → Condact → ℕ
 kind_most g printed.Nothing c = 0
 kind_most g printed.Newline c = 1
 kind_most g printed.Flag c = most_flag
-kind_most g printed.Mark c = 20
+kind_most g printed.Sign c = 20
 kind_most g printed.Action c = most_of_action g
 kind_most g printed.Inventory c = most_inventory g
 kind_most g printed.Turns c = most_count g
@@ -116,7 +116,7 @@ kind_alike : (g : GameLists) (p : Prints) (c : Condact) → ArePrints g p → le
 kind_alike g p c are few many printed.Nothing = refl
 kind_alike g p c are few many printed.Newline = refl
 kind_alike g p c are few many printed.Flag = refl
-kind_alike g p c are few many printed.Mark = refl
+kind_alike g p c are few many printed.Sign = refl
 kind_alike g p c are few many printed.Action = are.action
 kind_alike g p c are few many printed.Inventory = are.inventory
 kind_alike g p c are few many printed.Turns = are.turns

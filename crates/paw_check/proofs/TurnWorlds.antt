@@ -80,9 +80,9 @@ module _ (g : GameLists) (v : Valid g) where
       45 s.second_adjective b.second_adjective) 46 s.pronoun_noun b.pronoun_noun) 47 s.pronoun_adjective b.pronoun_adjective
 
   -- The world in which the sentence of the line's next phrase stands, and its verb is a byte.
-  pub phrase_of : (rows : List (List ℕ)) (r : Run) → IsWorldOf g r.world → r.earlier < 256 → (s : Sentence) (left : List ℕ) →
-      coming_phrase (record { game = g; rows = rows }) r ≡ IsSentence s left → IsWorldOf g (spoken s r.world) × (s.verb < 256)
-  phrase_of rows r k early s left e =
+  pub phrase_of : (answers : List (List ℕ)) (r : Run) → IsWorldOf g r.world → r.earlier < 256 → (s : Sentence) (left : List ℕ) →
+      coming_phrase (record { game = g; answers = answers }) r ≡ IsSentence s left → IsWorldOf g (spoken s r.world) × (s.verb < 256)
+  phrase_of answers r k early s left e =
       let words =
       parsed-bytes g r.pending r.earlier (flag r.world 46) (flag r.world 47) s left v early (byte_of r.world k 46) (byte_of r.world k 47) e in
       (spoken_of s r.world words k, words.verb)

@@ -84,8 +84,8 @@ abbrev pub on_object : GameLists → Condact → ℕ
 on_object g c = most_of_action g
 
 -- The row of a sign: its name and its numbers, in at most 20 bytes.
-abbrev pub mark_most : GameLists → Condact → ℕ
-mark_most g c = 20
+abbrev pub sign_most : GameLists → Condact → ℕ
+sign_most g c = 20
 
 -- The most bytes that the condacts of the plain codes from 0 on print, in their order.
 unfoldable pub most_printed : List (GameLists → Condact → ℕ)
@@ -133,10 +133,10 @@ most_printed =
     silent ∷ silent ∷ silent ∷  -- PARSE, PROCESS, DOALL
     silent ∷ silent ∷ silent ∷  -- PROMPT, TIME, NEWTEXT
     silent ∷ silent ∷  -- RESET, EXTERN
-    mark_most ∷ mark_most ∷ mark_most ∷ mark_most ∷  -- PICTURE, GRAPHIC, BEEP, CLS
-    mark_most ∷ mark_most ∷ mark_most ∷ mark_most ∷  -- PAPER, INK, BORDER, CHARSET
-    mark_most ∷ mark_most ∷ mark_most ∷ mark_most ∷  -- PROTECT, SAVEAT, BACKAT, PRINTAT
-    mark_most ∷ mark_most ∷ mark_most ∷ mark_most ∷  -- PAUSE, MODE, LINE, INPUT
+    sign_most ∷ sign_most ∷ sign_most ∷ sign_most ∷  -- PICTURE, GRAPHIC, BEEP, CLS
+    sign_most ∷ sign_most ∷ sign_most ∷ sign_most ∷  -- PAPER, INK, BORDER, CHARSET
+    sign_most ∷ sign_most ∷ sign_most ∷ sign_most ∷  -- PROTECT, SAVEAT, BACKAT, PRINTAT
+    sign_most ∷ sign_most ∷ sign_most ∷ sign_most ∷  -- PAUSE, MODE, LINE, INPUT
     []
 
 -- The most bytes that a condact prints; an indirect one has the row of the plain one.

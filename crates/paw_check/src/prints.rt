@@ -22,7 +22,7 @@ pub(crate) enum Printed {
     Nothing,
     Newline,
     Flag,
-    Mark,
+    Sign,
     Action,
     Inventory,
     Turns,
@@ -37,7 +37,7 @@ pub(crate) enum Printed {
 }
 
 use Printed::{
-    Action, Flag, Here, Inventory, Mark, Message, MessageLine, Newline, Nothing, Put, Said, Score,
+    Action, Flag, Here, Inventory, Message, MessageLine, Newline, Nothing, Put, Said, Score, Sign,
     System, There, Turns,
 };
 
@@ -135,22 +135,22 @@ static PRINTED: [Printed; 108] = [
     Nothing, // NEWTEXT
     Nothing, // RESET
     Nothing, // EXTERN
-    Mark, // PICTURE
-    Mark, // GRAPHIC
-    Mark, // BEEP
-    Mark, // CLS
-    Mark, // PAPER
-    Mark, // INK
-    Mark, // BORDER
-    Mark, // CHARSET
-    Mark, // PROTECT
-    Mark, // SAVEAT
-    Mark, // BACKAT
-    Mark, // PRINTAT
-    Mark, // PAUSE
-    Mark, // MODE
-    Mark, // LINE
-    Mark, // INPUT
+    Sign, // PICTURE
+    Sign, // GRAPHIC
+    Sign, // BEEP
+    Sign, // CLS
+    Sign, // PAPER
+    Sign, // INK
+    Sign, // BORDER
+    Sign, // CHARSET
+    Sign, // PROTECT
+    Sign, // SAVEAT
+    Sign, // BACKAT
+    Sign, // PRINTAT
+    Sign, // PAUSE
+    Sign, // MODE
+    Sign, // LINE
+    Sign, // INPUT
 ];
 
 /// Whether the first parameter of a condact with this code comes from a flag.
@@ -219,7 +219,7 @@ impl Prints {
             Nothing => 0,
             Newline => 1,
             Flag => 3,
-            Mark => 20,
+            Sign => 20,
             Action => self.action,
             Inventory => self.inventory,
             Turns => self.turns,

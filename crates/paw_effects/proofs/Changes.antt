@@ -30,7 +30,7 @@ use Rattle.paw_world.specs.World.{World, Position, is_somewhere, flag, with_flag
 use Rattle.paw_world.specs.World.{with_objects_returned, at_position}
 use Rattle.paw_world.specs.World.{drawn_on, position_of, keeping, kept_position}
 use Rattle.paw_world.specs.Draws.{random_word}
-use Rattle.paw_routines.specs.Rows.{value_in, value_at}
+use Rattle.paw_routines.specs.Answers.{value_in, value_at}
 use Rattle.paw_world.specs.Weight.{weight, carried_weight, objects_at}
 use Rattle.paw_effects.specs.Chance.{rolled}
 use Rattle.paw_effects.specs.Positions.{position_number, loaded}

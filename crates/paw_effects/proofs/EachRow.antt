@@ -13,7 +13,7 @@ use Rattle.paw_game.specs.Tables.{exit_at}
 use Rattle.paw_game.specs.Valid.{Valid, is_condact, is_place}
 use Rattle.paw_game.specs.inner.Valid.{is_right}
 use Rattle.paw_game.proofs.Right.{right-first, right-second, right_condact}
-use Rattle.paw_routines.specs.Rows.{value_at}
+use Rattle.paw_routines.specs.Answers.{value_at}
 use Rattle.paw_world.specs.World.{World, Position, flag, with_flag, place, here, moved, drawn_on, kept_position}
 use Rattle.paw_world.specs.World.{with_objects_returned}
 use Rattle.paw_world.specs.Weight.{carried_weight}
@@ -332,11 +332,11 @@ each_row =
     }) &  -- RESET
     (record {
       leads = λ s w c is. tt;
-      places = λ s w c is v r k. answered_placed s.game w c.b (value_at s.rows c.a (flag w c.b)) k;
+      places = λ s w c is v r k. answered_placed s.game w c.b (value_at s.answers c.a (flag w c.b)) k;
       stays = λ g v seed n X w c is bytes k kept a b. next g v seed n _
           (answered_so g v seed n w k c.b (value_at X c.a (flag w c.b))
           (λ y at. value_small g v seed n X bytes c.a (flag w c.b) y (slice_get X c.a) refl at));
-      keeps = λ ks s w c is o k. answered_kept ks w c.b (value_at s.rows c.a (flag w c.b)) k;
+      keeps = λ ks s w c is o k. answered_kept ks w c.b (value_at s.answers c.a (flag w c.b)) k;
     }) &  -- EXTERN
     printed _ _ &  -- PICTURE
     printed _ _ &  -- GRAPHIC

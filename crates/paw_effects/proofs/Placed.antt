@@ -32,7 +32,7 @@ use Rattle.paw_effects.specs.declared.object_actions.Action.TheVariants as actio
 use Rattle.paw_effects.specs.declared.object_words.ObjectReply.{ObjectReply}
 use Rattle.paw_effects.specs.inner.Worlds.{ArePlacesOf, StandsIn}
 use Rattle.paw_effects.specs.Story.{Story}
-use Rattle.paw_routines.specs.Rows.{value_at}
+use Rattle.paw_routines.specs.Answers.{value_at}
 use Rattle.paw_effects.specs.Positions.{loaded, position_number}
 use Rattle.paw_effects.specs.Presence.{named_place, held_objects}
 use Rattle.paw_effects.specs.MoveActions.{names_place, moved_if_place}

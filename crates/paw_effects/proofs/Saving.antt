@@ -7,7 +7,7 @@ use Rattle.paw_base.specs.declared.codes.TheConstants.{SAVE}
 use Rattle.paw_base.specs.declared.parts.Condact.{Condact}
 use Rattle.paw_base.specs.declared.parts.ObjectFacts.{ObjectFacts}
 use Rattle.paw_game.specs.Game.{GameLists}
-use Rattle.paw_routines.specs.Rows.{value_at}
+use Rattle.paw_routines.specs.Answers.{value_at}
 use Rattle.paw_world.specs.World.{World, Position, flag, with_flag, place, with_place, here, let_go, taken_up, moved}
 use Rattle.paw_world.specs.World.{at_position}
 use Rattle.paw_world.specs.World.{kept_position}

@@ -9,7 +9,7 @@ pub mod Standing
 pub mod Done
 pub mod Tested
 pub mod Counts
-pub mod Marks
+pub mod Signs
 pub mod Lists
 pub mod Positions
 pub mod MoveActions

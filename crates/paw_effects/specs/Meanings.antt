@@ -3,7 +3,7 @@ use Rattle.std.specs.Prelude.{ℕ, ◌+◌, ◌-◌, ◌==◌, Bool, true, false
 use Rattle.std.specs.Prelude.{decimal}
 use Rattle.std.specs.List.{slice_index_or}
 use Rattle.std.specs.Option.{option_map_or}
-use Rattle.paw_base.specs.Bytes.{RoutineRows, Text}
+use Rattle.paw_base.specs.Bytes.{RoutineAnswers, Text}
 use Rattle.paw_base.specs.declared.flags.TheConstants.{LOCATION_FLAG, ADJECTIVE_FLAG, ADVERB_FLAG, PREPOSITION_FLAG}
 use Rattle.paw_base.specs.declared.flags.TheConstants.{SECOND_NOUN_FLAG, SECOND_ADJECTIVE_FLAG}
 use Rattle.paw_base.specs.declared.flags.TheConstants.{TIMED_OUT_FLAG, TIMED_OUT_BIT, MOST_CARRIED_FLAG, PROMPT_FLAG}
@@ -13,7 +13,7 @@ use Rattle.paw_base.specs.declared.messages.TheConstants.{NOTHING_THERE_MESSAGE}
 use Rattle.paw_base.specs.declared.places.TheConstants.{WORN_PLACE, CARRIED_PLACE, NOT_CREATED_PLACE}
 use Rattle.paw_base.specs.declared.parts.Condact.{Condact}
 use Rattle.paw_game.specs.Game.{GameLists}
-use Rattle.paw_routines.specs.Rows.{value_at}
+use Rattle.paw_routines.specs.Answers.{value_at}
 use Rattle.paw_world.specs.World.{World, flag, with_flag, place, moved, here, is_present, drawn_on, ramsaved, ramloaded}
 use Rattle.paw_world.specs.World.{keeping, kept_position}
 use Rattle.paw_world.specs.Weight.{weight, carried_weight}
@@ -29,7 +29,7 @@ use Rattle.paw_effects.specs.Presence.{named_place}
 use Rattle.paw_effects.specs.Texts.{message_text, put_text, say_text}
 use Rattle.paw_effects.specs.Counts.{turns_text, score_text}
 use Rattle.paw_effects.specs.Lists.{inventory_text, here_list_text, list_or_say, texts_at}
-use Rattle.paw_effects.specs.Marks.{mark_text}
+use Rattle.paw_effects.specs.Signs.{sign_text}
 use Rattle.paw_effects.specs.Positions.{position_number, loaded}
 use Rattle.paw_effects.specs.MoveActions.{all_dropped, swapped, referred_moved, moved_if_place, reset}
 use Rattle.paw_effects.specs.ObjectActions.{acted_on}
@@ -58,11 +58,11 @@ changing made = doing (λ g w c. makes (made w c))
 
 -- An action for what is shown or played besides the text: it prints its name and its numbers.
 abbrev pub mark : Meaning
-mark = printing_action (λ g w c. mark_text c)
+mark = printing_action (λ g w c. sign_text c)
 
 -- EXTERN: a flag becomes the answer of a routine to its value, if there is such a routine.
-abbrev pub answered_by : RoutineRows → World → ℕ → ℕ → World
-answered_by rows w n f = option_map_or (with_flag w f) (value_at rows n (flag w f)) w
+abbrev pub answered_by : RoutineAnswers → World → ℕ → ℕ → World
+answered_by answers w n f = option_map_or (with_flag w f) (value_at answers n (flag w f)) w
 
 -- The meanings of the plain codes from 0 on, in their order.
 unfoldable pub meanings : List Meaning
@@ -158,7 +158,7 @@ meanings =
     changing (λ w c. with_flag (with_flag w TIMEOUT_FLAG c.a) TIMED_OUT_FLAG c.b) ∷  -- TIME
     doing (λ g w c. record { text = []; world = w; act = dropping effect.Go }) ∷  -- NEWTEXT
     doing (λ g w c. leads (reset w c.a) effect.Redescribe) ∷  -- RESET
-    Acts (λ s w c. makes (answered_by s.rows w c.a c.b)) ∷  -- EXTERN
+    Acts (λ s w c. makes (answered_by s.answers w c.a c.b)) ∷  -- EXTERN
     mark ∷ mark ∷ mark ∷ mark ∷  -- PICTURE, GRAPHIC, BEEP, CLS
     mark ∷ mark ∷ mark ∷ mark ∷  -- PAPER, INK, BORDER, CHARSET
     mark ∷ mark ∷ mark ∷ mark ∷  -- PROTECT, SAVEAT, BACKAT, PRINTAT

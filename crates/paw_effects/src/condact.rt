@@ -1,7 +1,7 @@
 // What the actions do.
 
 ghost use Rattle.std.specs.Prelude.{◌≡◌, ◌+◌, ◌-◌, ◌<◌, ◌≤◌, ◌^◌, true, false, if◌then◌else◌};
-ghost use Rattle.paw_base.specs.Bytes.{RoutineRows};
+ghost use Rattle.paw_base.specs.Bytes.{RoutineAnswers};
 ghost use Rattle.paw_base.specs.inner.Condacts.{IsPlainCode};
 ghost use Rattle.paw_game.specs.inner.Valid.{is_right};
 ghost use Rattle.paw_effects.specs.Worlds.{IsOf};
@@ -14,7 +14,7 @@ ghost use Rattle.paw_effects.specs.Texts.{put_text};
 ghost use Rattle.paw_effects.specs.Chance.{rolled};
 ghost use Rattle.paw_effects.specs.declared.act.Effect.TheVariants as effect;
 ghost use Rattle.paw_game.specs.Game.{GameLists};
-ghost use Rattle.paw_routines.specs.Routines.{AreRowsOf, HaveRows};
+ghost use Rattle.paw_routines.specs.Routines.{AreAnswersOf, HaveAnswers};
 ghost use Rattle.paw_world.specs.World.{with_flag, drawn_on};
 
 use crate::act::{Act, Effect, Prompt, after, dropping, plain_act};
@@ -24,12 +24,12 @@ pub use crate::conditions::{is_condition, test};
 use crate::counts::{tell_score, tell_turns};
 use crate::indirect::as_plain;
 use crate::lists::{print_here, print_inventory, print_place};
-use crate::marks::print_mark;
 use crate::move_actions::{drop_all, move_if_place, move_referred, reset, swap};
 use crate::object_actions::{Action, act_on};
 use crate::positions::{load, save};
 use crate::presence::{here, named_place};
 pub use crate::referring::refer;
+use crate::signs::print_sign;
 use crate::text::{message, print_nothing, print_number, put, say};
 use paw_base::codes;
 use paw_base::flags::{
@@ -70,8 +70,8 @@ fn set_both(world: &mut World, first: (u8, u8), second: (u8, u8))
 
 /// EXTERN sets a flag to the answer of a routine to the flag's value. Nothing changes where there is no such routine.
 fn answer_by_routine<F: Fn(u8, u8) -> u8>(world: &mut World, routines: &Routines<F>, n: u8, f: u8)
-    requires rows { HaveRows F.Fn routines.now }
-    ensures value { (X : RoutineRows) → AreRowsOf F.Fn routines.now X → world.new ≡ answered_by X world.old n f }
+    requires answers { HaveAnswers F.Fn routines.now }
+    ensures value { (X : RoutineAnswers) → AreAnswersOf F.Fn routines.now X → world.new ≡ answered_by X world.old n f }
     ensures game { (g : GameLists) → IsOf g world.old → IsOf g world.new }
     ensures draws { world.new.draws ≡ world.old.draws }
 {
@@ -108,9 +108,9 @@ pub fn act<T: Tables, F: Fn(u8, u8) -> u8>(
     requires kind { is_condition c ≡ false }
     requires game { IsOf (T.game tables.now) world.old }
     requires condact { is_right (T.game tables.now) c ≡ true }
-    requires rows { HaveRows F.Fn routines.now }
+    requires answers { HaveAnswers F.Fn routines.now }
     requires draws { world.old.draws < 2 ^ 64 - 1 }
-    ensures does { (X : RoutineRows) → AreRowsOf F.Fn routines.now X →
+    ensures does { (X : RoutineAnswers) → AreAnswersOf F.Fn routines.now X →
         Does (effect_of (story_of (T.game tables.now) X) world.old c) piece.old piece.new world.new result }
     ensures game { IsOf (T.game tables.now) world.new }
     ensures draws { world.new.draws ≤ world.old.draws + 1 }
@@ -134,9 +134,9 @@ fn act_plain<T: Tables, F: Fn(u8, u8) -> u8>(
     requires code { IsPlainCode c.code }
     requires game { IsOf (T.game tables.now) world.old }
     requires condact { is_right (T.game tables.now) c ≡ true }
-    requires rows { HaveRows F.Fn routines.now }
+    requires answers { HaveAnswers F.Fn routines.now }
     requires draws { world.old.draws < 2 ^ 64 - 1 }
-    ensures does { (X : RoutineRows) → AreRowsOf F.Fn routines.now X →
+    ensures does { (X : RoutineAnswers) → AreAnswersOf F.Fn routines.now X →
         Does (plain_effect (story_of (T.game tables.now) X) world.old c) piece.old piece.new world.new result }
     ensures game { IsOf (T.game tables.now) world.new }
     ensures draws { world.new.draws ≤ world.old.draws + 1 }
@@ -214,22 +214,22 @@ fn act_plain<T: Tables, F: Fn(u8, u8) -> u8>(
             plain_act(Effect::Redescribe)
         }
         codes::EXTERN => done(answer_by_routine(world, routines, c.a, c.b)),
-        codes::PICTURE => after_printing(print_mark(piece, c)),
-        codes::GRAPHIC => after_printing(print_mark(piece, c)),
-        codes::BEEP => after_printing(print_mark(piece, c)),
-        codes::CLS => after_printing(print_mark(piece, c)),
-        codes::PAPER => after_printing(print_mark(piece, c)),
-        codes::INK => after_printing(print_mark(piece, c)),
-        codes::BORDER => after_printing(print_mark(piece, c)),
-        codes::CHARSET => after_printing(print_mark(piece, c)),
-        codes::PROTECT => after_printing(print_mark(piece, c)),
-        codes::SAVEAT => after_printing(print_mark(piece, c)),
-        codes::BACKAT => after_printing(print_mark(piece, c)),
-        codes::PRINTAT => after_printing(print_mark(piece, c)),
-        codes::PAUSE => after_printing(print_mark(piece, c)),
-        codes::MODE => after_printing(print_mark(piece, c)),
-        codes::LINE => after_printing(print_mark(piece, c)),
-        codes::INPUT => after_printing(print_mark(piece, c)),
+        codes::PICTURE => after_printing(print_sign(piece, c)),
+        codes::GRAPHIC => after_printing(print_sign(piece, c)),
+        codes::BEEP => after_printing(print_sign(piece, c)),
+        codes::CLS => after_printing(print_sign(piece, c)),
+        codes::PAPER => after_printing(print_sign(piece, c)),
+        codes::INK => after_printing(print_sign(piece, c)),
+        codes::BORDER => after_printing(print_sign(piece, c)),
+        codes::CHARSET => after_printing(print_sign(piece, c)),
+        codes::PROTECT => after_printing(print_sign(piece, c)),
+        codes::SAVEAT => after_printing(print_sign(piece, c)),
+        codes::BACKAT => after_printing(print_sign(piece, c)),
+        codes::PRINTAT => after_printing(print_sign(piece, c)),
+        codes::PAUSE => after_printing(print_sign(piece, c)),
+        codes::MODE => after_printing(print_sign(piece, c)),
+        codes::LINE => after_printing(print_sign(piece, c)),
+        codes::INPUT => after_printing(print_sign(piece, c)),
         _ => unreachable!(),
     }
 }

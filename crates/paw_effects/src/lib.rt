@@ -11,7 +11,6 @@ mod hindrances;
 mod indirect;
 pub mod laws;
 mod lists;
-mod marks;
 mod move_actions;
 mod object_actions;
 mod object_search;
@@ -20,6 +19,7 @@ pub mod opening;
 mod positions;
 pub mod presence;
 mod referring;
+mod signs;
 #[cfg(test)]
 mod tests;
 pub mod text;

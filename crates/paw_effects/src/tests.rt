@@ -2,7 +2,7 @@
 
 ghost use Rattle.std.specs.Prelude.{◌≡◌, ◌+◌, ◌-◌, ◌*◌, ◌%◌, ◌<◌, ◌^◌, IfOk, map};
 ghost use Rattle.paw_effects.specs.Worlds.{IsOf};
-ghost use Rattle.paw_routines.specs.Routines.{HaveRows};
+ghost use Rattle.paw_routines.specs.Routines.{HaveAnswers};
 
 /// Scenes, each as `CODE a b ANSWER, CODE a b ANSWER => "text";`.
 macro_rules! scenes {
@@ -374,7 +374,7 @@ fn read<F: Fn(u8, u8) -> u8>(
     at: u8,
 ) -> Answer
     requires game { IsOf game.now world.old }
-    requires rows { HaveRows F.Fn routines.now }
+    requires answers { HaveAnswers F.Fn routines.now }
     requires draws { world.old.draws < 2 ^ 64 - 1 }
     ensures game { IsOf game.now world.new }
 {
@@ -398,7 +398,7 @@ fn read_all<F: Fn(u8, u8) -> u8>(
     cases: &[Case],
 )
     requires game { IsOf game.now world.old }
-    requires rows { HaveRows F.Fn routines.now }
+    requires answers { HaveAnswers F.Fn routines.now }
     ensures game { IsOf game.now world.new }
 {
     for (at, (code, a, b, answer)) in cases.iter().enumerate() {
@@ -421,7 +421,7 @@ fn run_with<F: Fn(u8, u8) -> u8>(
     routines: &Routines<F>,
     scenes: &[Scene],
 ) -> Result<(), Fail>
-    requires rows { HaveRows F.Fn routines.now }
+    requires answers { HaveAnswers F.Fn routines.now }
 {
     let mut world = opened(rt, alloc, game)?;
     let mut piece = Piece::new(alloc)?;

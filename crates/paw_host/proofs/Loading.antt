@@ -18,37 +18,37 @@ use Rattle.paw_host.specs.inner.Opens.{ReadsNoImage, OpensNone}
 -- ---- the file ----
 
 -- It is the image of one game.
-pub same_story : (old : Standing) (name : List ℕ) (g k : GameLists) (rows : List (List ℕ)) → Holds old name g → Holds old name k →
-    story_of g rows ≡ story_of k rows
-same_story old name g k rows h i =
-    ap (λ (x : GameLists). story_of x rows) (same_game old name g k h i)
+pub same_story : (old : Standing) (name : List ℕ) (g k : GameLists) (answers : List (List ℕ)) → Holds old name g → Holds old name k →
+    story_of g answers ≡ story_of k answers
+same_story old name g k answers h i =
+    ap (λ (x : GameLists). story_of x answers) (same_game old name g k h i)
 
 -- ---- how hosting ends ----
 
 -- A load that gives nothing.
-pub unloaded : (rows : List (List ℕ)) (name : List ℕ) (seed : ℕ) (old new : Standing) (o : HostOutcome) → ReadsNoImage name old new o →
-    HostsFile rows name seed old new o
-unloaded rows name seed old new (outcome.Outside call.LoadAbsent) h = absent h.0 h.1
-unloaded rows name seed old new (outcome.Outside call.Load) h = failed h
-unloaded rows name seed old new outcome.Memory h = wanting h
-unloaded rows name seed old new _ h = absurd h
+pub unloaded : (answers : List (List ℕ)) (name : List ℕ) (seed : ℕ) (old new : Standing) (o : HostOutcome) → ReadsNoImage name old new o →
+    HostsFile answers name seed old new o
+unloaded answers name seed old new (outcome.Outside call.LoadAbsent) h = absent h.0 h.1
+unloaded answers name seed old new (outcome.Outside call.Load) h = failed h
+unloaded answers name seed old new outcome.Memory h = wanting h
+unloaded answers name seed old new _ h = absurd h
 
 -- Bytes that give no game.
-unopened : (rows : List (List ℕ)) (name given : List ℕ) (seed : ℕ) (old new : Standing) (o : HostOutcome) →
-    LoadsSome name IMAGE_LIMIT old new given → OpensNone given o → HostsFile rows name seed old new o
-unopened rows name given seed old new (outcome.ImageDamaged at) f h =
+unopened : (answers : List (List ℕ)) (name given : List ℕ) (seed : ℕ) (old new : Standing) (o : HostOutcome) →
+    LoadsSome name IMAGE_LIMIT old new given → OpensNone given o → HostsFile answers name seed old new o
+unopened answers name given seed old new (outcome.ImageDamaged at) f h =
     damaged at (damage_loaded name given old new at f h.0 h.1) f.3
-unopened rows name given seed old new outcome.Memory f h = wanting f.3
-unopened rows name given seed old new _ f h = absurd h
+unopened answers name given seed old new outcome.Memory f h = wanting f.3
+unopened answers name given seed old new _ f h = absurd h
 
-pub undecoded : (rows : List (List ℕ)) (name given bytes : List ℕ) (seed : ℕ) (old new : Standing) (o : HostOutcome) → bytes ≡ given →
-    LoadsSome name IMAGE_LIMIT old new given → OpensNone bytes o → HostsFile rows name seed old new o
-undecoded rows name given bytes seed old new o e f h = unopened rows name given seed old new o f (subst (λ b. OpensNone b o) e h)
+pub undecoded : (answers : List (List ℕ)) (name given bytes : List ℕ) (seed : ℕ) (old new : Standing) (o : HostOutcome) → bytes ≡ given →
+    LoadsSome name IMAGE_LIMIT old new given → OpensNone bytes o → HostsFile answers name seed old new o
+undecoded answers name given bytes seed old new o e f h = unopened answers name given seed old new o f (subst (λ b. OpensNone b o) e h)
 
 -- A game that is hosted, at a stage where nothing has changed since the load.
-pub hosted : (rows : List (List ℕ)) (name : List ℕ) (seed : ℕ) (old mid new : Standing) (o : HostOutcome) (g : GameLists) → Holds old name g → mid ≡ old →
-    Ends mid new o → ((first : Sessions) → BeginsWith (story_of g rows) first mid → Hosts (story_of g rows) seed first mid new o) →
-    HostsFile rows name seed old new o
-hosted rows name seed old mid new o g holds still ends h =
+pub hosted : (answers : List (List ℕ)) (name : List ℕ) (seed : ℕ) (old mid new : Standing) (o : HostOutcome) (g : GameLists) → Holds old name g → mid ≡ old →
+    Ends mid new o → ((first : Sessions) → BeginsWith (story_of g answers) first mid → Hosts (story_of g answers) seed first mid new o) →
+    HostsFile answers name seed old new o
+hosted answers name seed old mid new o g holds still ends h =
     hosts g o holds (subst (λ q. Ends q new o) still ends)
-    (subst (λ q. (first : Sessions) → BeginsWith (story_of g rows) first q → Hosts (story_of g rows) seed first q new o) still h)
+    (subst (λ q. (first : Sessions) → BeginsWith (story_of g answers) first q → Hosts (story_of g answers) seed first q new o) still h)

@@ -230,7 +230,7 @@ unfit_shows_none g digests bytes buffer piece shown unfit some =
 
 -- Nor do those that are refused.
 pub refused_shows_none : (g : Story) (bytes : List ℕ) (e : JournalRefusal) →
-    IsSessionRefused (recover bytes) (sha256 (image g.game)) (measure g.rows) e → ((c : StageCall) → e ≢ refusal.Outside c) → ¬ ShowsSome g bytes
+    IsSessionRefused (recover bytes) (sha256 (image g.game)) (measure g.answers) e → ((c : StageCall) → e ≢ refusal.Outside c) → ¬ ShowsSome g bytes
 refused_shows_none g bytes (refusal.Unmade n mark) h other some =
     let clash : Unmade n mark ≡ Shown some.digests (kept_bytes some.state) some.piece = sym h ∙ some.shows.shown in cc
 refused_shows_none g bytes (refusal.Damaged part at) h other some =

@@ -2,7 +2,7 @@
 use Rattle.std.proofs.Common.{◌≡◌, ℕ, List, sym, subst, ◌∙◌, refl}
 use Rattle.std.specs.Fn.{Shared}
 use Rattle.paw_game.specs.Game.{GameLists}
-use Rattle.paw_routines.specs.Routines.{HaveRows}
+use Rattle.paw_routines.specs.Routines.{HaveAnswers}
 use Rattle.paw_routines.specs.declared.routines.Routines.{Routines}
 use Rattle.paw_turn.specs.inner.Player.{PlayerView, IsSeated}
 use Rattle.paw_host.specs.inner.Seats.{AreDigestsOf, IsHosted, StaysSeated}
@@ -24,7 +24,7 @@ pub hosted_on : {F : Type 0} {calls : Shared F (ℕ × (ℕ × Unit {0})) ℕ} {
 hosted_on {calls} {game} {rules} {a} {b} h k = record {
   prepared = record {
     seated = k.seated;
-    rows = subst (HaveRows calls) (sym k.routines) h.prepared.rows;
+    answers = subst (HaveAnswers calls) (sym k.routines) h.prepared.answers;
     digests = digests_on calls a.game b.game a.routines b.routines game rules (sym k.game) (sym k.routines) h.prepared.digests;
   };
   same = k.game ∙ h.same;

@@ -1,6 +1,6 @@
 -- How hosting ends, and what it leaves.
 use Rattle.std.specs.Prelude.{◌≡◌, ℕ, ◌+◌, ◌<◌, ◌≤◌, length, drop, None}
-use Rattle.paw_base.specs.Bytes.{Name, RoutineRows, Seed}
+use Rattle.paw_base.specs.Bytes.{Name, RoutineAnswers, Seed}
 use Rattle.paw_game.specs.Game.{GameLists}
 use Rattle.paw_effects.specs.Story.{Story, story_of}
 use Rattle.paw_stage.specs.Stage.{Standing}
@@ -41,16 +41,19 @@ Hosts g seed first old new _ = ⊥
 
 -- How hosting the game of an image file ends, with these answers of routines, whatever sessions there are; or why it
 -- isn't hosted, with nothing changed.
-pub data HostsFile (rows : RoutineRows) (name : Name) (seed : Seed) (old new : Standing) : HostOutcome → Type 0 where
+pub data HostsFile (answers : RoutineAnswers) (name : Name) (seed : Seed) (old new : Standing) : HostOutcome →
+    Type 0 where
   hosts : (g : GameLists) (o : HostOutcome) → Holds old name g → Ends old new o →
-      ((first : Sessions) → BeginsWith (story_of g rows) first old → Hosts (story_of g rows) seed first old new o) →
-      HostsFile rows name seed old new o
-  damaged : (at : ℕ) → HoldsDamage old name at → new ≡ old → HostsFile rows name seed old new (outcome.ImageDamaged at)
-  absent : old.files name ≡ None → new ≡ old → HostsFile rows name seed old new (outcome.Outside call.LoadAbsent)
-  failed : new ≡ old → HostsFile rows name seed old new (outcome.Outside call.Load)
-  wanting : new ≡ old → HostsFile rows name seed old new outcome.Memory
+      ((first : Sessions) → BeginsWith (story_of g answers) first old →
+      Hosts (story_of g answers) seed first old new o) →
+      HostsFile answers name seed old new o
+  damaged : (at : ℕ) → HoldsDamage old name at → new ≡ old →
+      HostsFile answers name seed old new (outcome.ImageDamaged at)
+  absent : old.files name ≡ None → new ≡ old → HostsFile answers name seed old new (outcome.Outside call.LoadAbsent)
+  failed : new ≡ old → HostsFile answers name seed old new (outcome.Outside call.Load)
+  wanting : new ≡ old → HostsFile answers name seed old new outcome.Memory
 
 -- What stands at each moment of hosting; `Come` says that all its moments are of this kind.
-abbrev pub HostsAtEachMoment : ((Moment → Type 0) → Type 0) → RoutineRows → Name → Seed → Standing → Type 0
-HostsAtEachMoment Come rows name seed old = (g : GameLists) (first : Sessions) → Holds old name g →
-    BeginsWith (story_of g rows) first old → Come (InHost (story_of g rows) seed first old)
+abbrev pub HostsAtEachMoment : ((Moment → Type 0) → Type 0) → RoutineAnswers → Name → Seed → Standing → Type 0
+HostsAtEachMoment Come answers name seed old = (g : GameLists) (first : Sessions) → Holds old name g →
+    BeginsWith (story_of g answers) first old → Come (InHost (story_of g answers) seed first old)

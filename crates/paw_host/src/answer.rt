@@ -8,7 +8,7 @@ ghost use Rattle.paw_base.specs.declared.limits.TheConstants.{EVENT_LIMIT, LINE_
 ghost use Rattle.paw_stage.specs.Disk.{IsStable};
 ghost use Rattle.paw_stage.specs.Across.{IfTelling};
 ghost use Rattle.paw_stage.specs.declared.StageCall.TheVariants as call;
-ghost use Rattle.paw_routines.specs.Routines.{HaveRows};
+ghost use Rattle.paw_routines.specs.Routines.{HaveAnswers};
 ghost use Rattle.paw_reading.specs.Turn.{reading};
 ghost use Rattle.paw_turn.specs.inner.Player.{IsSeated, PlaysTo};
 ghost use Rattle.paw_turn.specs.inner.Parts.{IsStanding, prompt_at};
@@ -71,7 +71,7 @@ fn refusal_word(step: Step) -> Option<&'static [u8]>
 /// Plays the piece before the first line.
 fn start_anew<T: Tables, F: Fn(u8, u8) -> u8>(player: &mut Player<'_, T, F>, seed: u64) -> Step
     requires seated { IsSeated player.old }
-    requires rows { HaveRows F.Fn player.old.routines }
+    requires answers { HaveAnswers F.Fn player.old.routines }
     ensures last { player.new.last ≡ result }
     ensures anew { PlaysAnew player.old player.new }
     ensures meaning { EachStory F.Fn player.old.routines player.old.game (λ g.

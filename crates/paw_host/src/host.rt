@@ -1,11 +1,11 @@
 // The top call.
 
 ghost use Rattle.std.specs.Prelude.{◌≡◌, ◌↔◌, ◌≢◌, ◌++◌, None, IfSome};
-ghost use Rattle.paw_base.specs.Bytes.{RoutineRows};
+ghost use Rattle.paw_base.specs.Bytes.{RoutineAnswers};
 ghost use Rattle.paw_stage.specs.Across.{IfTelling, EachMoment, FailsOnlyBy};
 ghost use Rattle.paw_stage.specs.Disk.{IsStable};
 ghost use Rattle.paw_stage.specs.Loads.{load_calls};
-ghost use Rattle.paw_routines.specs.Routines.{AreRowsOf, HaveRows};
+ghost use Rattle.paw_routines.specs.Routines.{AreAnswersOf, HaveAnswers};
 ghost use Rattle.paw_play.specs.Calls.{session_calls};
 ghost use Rattle.paw_host.specs.Outcomes.{host_failure};
 ghost use Rattle.paw_host.specs.Words.{asked_call};
@@ -34,7 +34,7 @@ fn host_game<S: Stage, T: Tables, F: Fn(u8, u8) -> u8>(
     routines: &Routines<F>,
     hosted: &Hosted<'_, T>,
 ) -> HostOutcome
-    requires rows { HaveRows F.Fn routines.now }
+    requires answers { HaveAnswers F.Fn routines.now }
     requires digests { AreDigestsOf F.Fn (T.game hosted.now.tables.now) routines.now hosted.now.game hosted.now.rules }
     requires synced { S.Tells stage.old → IsStable (S.standing stage.old).disk }
     ensures form { result ≢ outcome.Usage }
@@ -71,15 +71,15 @@ pub fn host<S: Stage, F: Fn(u8, u8) -> u8>(
     routines: &Routines<F>,
     words: &[String],
 ) -> HostOutcome
-    requires rows { HaveRows F.Fn routines.now }
+    requires answers { HaveAnswers F.Fn routines.now }
     requires synced { S.Tells stage.old → IsStable (S.standing stage.old).disk }
     ensures usage { (result ≡ outcome.Usage) ↔ (asked_call words.now ≡ None) }
     ensures idle { asked_call words.now ≡ None → stage.new ≡ stage.old }
     ensures serves { FailsOnlyBy S.Stage (load_calls ++ session_calls) (host_failure result) stage.old stage.new }
     ensures comes { IfTelling S.Stage stage.old stage.new (λ old new. IfSome (asked_call words.now) (λ c.
-        (X : RoutineRows) → AreRowsOf F.Fn routines.now X → HostsFile X c.image c.seed old new result)) }
+        (X : RoutineAnswers) → AreAnswersOf F.Fn routines.now X → HostsFile X c.image c.seed old new result)) }
     ensures moments { IfTelling S.Stage stage.old stage.new (λ old new. IfSome (asked_call words.now) (λ c.
-        (X : RoutineRows) → AreRowsOf F.Fn routines.now X →
+        (X : RoutineAnswers) → AreAnswersOf F.Fn routines.now X →
         HostsAtEachMoment (EachMoment S.Stage stage.old stage.new) X c.image c.seed old)) }
 {
     let call = match call_of(words) {

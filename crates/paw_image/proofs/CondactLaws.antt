@@ -1,4 +1,4 @@
--- Condacts that are walked over, and the marks that say where they go on.
+-- Condacts that are walked over, and the milestones that say where they go on.
 use Rattle.std.proofs.Common.{◌≡◌, ℕ, zero, suc, ◌+◌, ◌-◌, ◌*◌, ◌/◌, ◌%◌, ◌<◌, ◌≤◌, List, [], ◌∷◌, ◌++◌, length}
 use Rattle.std.proofs.Common.{get_or, take, drop, Option, Result, Some, Ok, Err, refl, sym, ap, subst, ◌∙◌, inl, inr}
 use Rattle.std.proofs.Common.{arith, suc-mul}
@@ -12,7 +12,8 @@ use Rattle.paw_base.specs.declared.rows.ParamKind.{ParamKind}
 use Rattle.paw_base.specs.declared.rows.ParamKind.TheVariants as kind
 use Rattle.paw_base.specs.Condacts.{first_kind, second_kind}
 use Rattle.paw_game.specs.Image.{parameter_image, condact_image}
-use Rattle.paw_image.specs.inner.CondactMarks.{IsEnd, GoesOnAt, AreMarks, BeginsWithList, MarkEntry, MarkEntries}
+use Rattle.paw_image.specs.inner.Milestones.{IsEnd, GoesOnAt, AreMilestones, BeginsWithList, EntryMilestones}
+use Rattle.paw_image.specs.inner.Milestones.{EntriesMilestones}
 use Rattle.paw_image.specs.Damage.{ImagePreface, Passing, each, after_condact}
 use Rattle.paw_read_error.specs.Bind.{◌>>=◌}
 use Rattle.paw_image.specs.Reading.{byte_at}
@@ -117,88 +118,88 @@ get_drop zero xs k = let same : 0 + k ≡ k = omega arith in rw same refl
 get_drop (suc n) [] k = refl
 get_drop (suc n) (x ∷ xs) k = let at : suc n + k ≡ suc (n + k) = omega arith in rw at (get_drop n xs k)
 
--- ---- marks ----
+-- ---- milestones ----
 
--- From a number on, there is a mark after each of this many eights.
-abbrev pub MarkedSoFar : List ℕ → (start eights : ℕ) → List ℕ → Type 0
-MarkedSoFar marks start eights condacts =
-    (k : ℕ) → k < eights → (mark : ℕ) × (slice_get marks (start + k) ≡ Some mark) × GoesOnAt (suc k * 8) condacts mark
+-- From a number on, there is a milestone after each of this many eights.
+abbrev pub MilestonesSoFar : List ℕ → (start eights : ℕ) → List ℕ → Type 0
+MilestonesSoFar milestones start eights condacts =
+    (k : ℕ) → k < eights → (milestone : ℕ) × (slice_get milestones (start + k) ≡ Some milestone) × GoesOnAt (suc k * 8) condacts milestone
 
-pub one_more_mark : (marks condacts : List ℕ) (start eights mark : ℕ) → length marks ≡ start + eights → MarkedSoFar marks start eights condacts
-    → GoesOnAt (suc eights * 8) condacts mark → MarkedSoFar (marks ++ mark ∷ []) start (eights + 1) condacts
-one_more_mark marks condacts start eights mark len so_far goes_on k lt =
+pub one_more_milestone : (milestones condacts : List ℕ) (start eights milestone : ℕ) → length milestones ≡ start + eights → MilestonesSoFar milestones start eights condacts
+    → GoesOnAt (suc eights * 8) condacts milestone → MilestonesSoFar (milestones ++ milestone ∷ []) start (eights + 1) condacts
+one_more_milestone milestones condacts start eights milestone len so_far goes_on k lt =
     elim (cases_lt k eights) [
       | inl before ↦
           let m = so_far k before in
-          (m.0, kept_before marks (mark ∷ []) (start + k) m.0 m.1, m.2)
+          (m.0, kept_before milestones (milestone ∷ []) (start + k) m.0 m.1, m.2)
       | inr le ↦
           let same : k ≡ eights = omega (arith, lt, le) in
-          (mark, last_of marks mark (start + k) (omega (arith, same, len)), subst (λ (n : ℕ). GoesOnAt (suc n * 8) condacts mark) (sym same) goes_on)
+          (milestone, last_of milestones milestone (start + k) (omega (arith, same, len)), subst (λ (n : ℕ). GoesOnAt (suc n * 8) condacts milestone) (sym same) goes_on)
     ]
 
-pub all_marked : (marks condacts : List ℕ) (start count : ℕ) → MarkedSoFar marks start ((count - 1) / 8) condacts
-    → AreMarks (drop start marks) count condacts
-all_marked marks condacts start count so_far k lt =
+pub all_milestones : (milestones condacts : List ℕ) (start count : ℕ) → MilestonesSoFar milestones start ((count - 1) / 8) condacts
+    → AreMilestones (drop start milestones) count condacts
+all_milestones milestones condacts start count so_far k lt =
     let m = so_far k (omega (arith, lt)) in
-    (m.0, get_drop start marks k ∙ m.1, m.2)
+    (m.0, get_drop start milestones k ∙ m.1, m.2)
 
--- The mark after the condacts that were passed over.
-pub mark_is : (d : ImagePreface) (n : ℕ) (bytes rest : List ℕ) → IsBytes bytes → each (after_condact d) n bytes ≡ Ok rest
+-- The milestone after the condacts that were passed over.
+pub milestone_is : (d : ImagePreface) (n : ℕ) (bytes rest : List ℕ) → IsBytes bytes → each (after_condact d) n bytes ≡ Ok rest
     → GoesOnAt n bytes (length bytes - length rest)
-mark_is d n bytes rest fits e =
+milestone_is d n bytes rest fits e =
     let walked = condacts_walked d n bytes rest fits e in
     walked.past ∙ ap (λ (r : List ℕ). Ok r) (sym walked.end)
 
--- Marks that are kept mark the same entry.
-pub entry_kept : (first : ℕ) (marks more bytes : List ℕ) → BeginsWithList marks more → MarkEntry (drop first marks) bytes → MarkEntry (drop first more) bytes
-entry_kept first marks more [] keeps h = tt
-entry_kept first marks more (verb ∷ []) keeps h = tt
-entry_kept first marks more (verb ∷ noun ∷ []) keeps h = tt
-entry_kept first marks more (verb ∷ noun ∷ count ∷ condacts) keeps h = λ k lt.
+-- Milestones that are kept milestone the same entry.
+pub entry_kept : (first : ℕ) (milestones more bytes : List ℕ) → BeginsWithList milestones more → EntryMilestones (drop first milestones) bytes → EntryMilestones (drop first more) bytes
+entry_kept first milestones more [] keeps h = tt
+entry_kept first milestones more (verb ∷ []) keeps h = tt
+entry_kept first milestones more (verb ∷ noun ∷ []) keeps h = tt
+entry_kept first milestones more (verb ∷ noun ∷ count ∷ condacts) keeps h = λ k lt.
     let m = h k lt in
-    (m.0, get_drop first more k ∙ keeps (first + k) m.0 (sym (get_drop first marks k) ∙ m.1), m.2)
+    (m.0, get_drop first more k ∙ keeps (first + k) m.0 (sym (get_drop first milestones k) ∙ m.1), m.2)
 
-pub one_more_entry : (all offsets firsts marks more : List ℕ) (p : ℕ) → length offsets ≡ length firsts → MarkEntries all offsets firsts marks
-    → BeginsWithList marks more → MarkEntry (drop (length marks) more) (drop p all)
-    → MarkEntries all (offsets ++ p ∷ []) (firsts ++ length marks ∷ []) more
-one_more_entry all offsets firsts marks more p same so_far keeps last e q found =
+pub one_more_entry : (all offsets firsts milestones more : List ℕ) (p : ℕ) → length offsets ≡ length firsts → EntriesMilestones all offsets firsts milestones
+    → BeginsWithList milestones more → EntryMilestones (drop (length milestones) more) (drop p all)
+    → EntriesMilestones all (offsets ++ p ∷ []) (firsts ++ length milestones ∷ []) more
+one_more_entry all offsets firsts milestones more p same so_far keeps last e q found =
     elim (cases_lt e (length offsets)) [
       | inl before ↦
-          let first : get_or (firsts ++ length marks ∷ []) e 0 ≡ get_or firsts e 0 =
-          get_or_append_left firsts (length marks ∷ []) 0 e (omega (arith, before, same)) in
+          let first : get_or (firsts ++ length milestones ∷ []) e 0 ≡ get_or firsts e 0 =
+          get_or_append_left firsts (length milestones ∷ []) 0 e (omega (arith, before, same)) in
           let there = sym (before_it offsets (p ∷ []) e before) ∙ found in
-          rw first (entry_kept (get_or firsts e 0) marks more (drop q all) keeps (so_far e q there))
+          rw first (entry_kept (get_or firsts e 0) milestones more (drop q all) keeps (so_far e q there))
       | inr le ↦
           let within = slice_get_within (offsets ++ p ∷ []) e q found in
           let at : e ≡ length offsets = omega (arith, le, within, length-append offsets (p ∷ [])) in
-          let first : get_or (firsts ++ length marks ∷ []) e 0 ≡ length marks = rw (at ∙ same) (get_or-append_seam firsts (length marks) [] 0) in
+          let first : get_or (firsts ++ length milestones ∷ []) e 0 ≡ length milestones = rw (at ∙ same) (get_or-append_seam firsts (length milestones) [] 0) in
           let is : p ≡ q = same_Some p q (sym (last_of offsets p e at) ∙ found) in
           rw (first, sym is) last
     ]
 
--- ---- a condact by its mark ----
+-- ---- a condact by its milestone ----
 
--- A condact that isn't among the first eight has the mark of its eight.
-pub mark_of : (marks condacts : List ℕ) (count at eights : ℕ) → AreMarks marks count condacts → at < count → at / 8 ≡ suc eights
-    → (mark : ℕ) × (slice_get marks eights ≡ Some mark) × GoesOnAt (at / 8 * 8) condacts mark
-mark_of marks condacts count at eights are lt e =
+-- A condact that isn't among the first eight has the milestone of its eight.
+pub milestone_of : (milestones condacts : List ℕ) (count at eights : ℕ) → AreMilestones milestones count condacts → at < count → at / 8 ≡ suc eights
+    → (milestone : ℕ) × (slice_get milestones eights ≡ Some milestone) × GoesOnAt (at / 8 * 8) condacts milestone
+milestone_of milestones condacts count at eights are lt e =
     let m = are eights (omega (arith, lt, e)) in
     (m.0, m.1, subst (λ (n : ℕ). GoesOnAt (n * 8) condacts m.0) (sym e) m.2)
 
--- A condact is read from its mark on.
+-- A condact is read from its milestone on.
 pub condact_from : (at count : ℕ) (condacts rest : List ℕ) (x : Option Condact) → at < count → each past_condact (at / 8 * 8) condacts ≡ Ok rest
     → value_of (condact_after (at % 8) rest) ≡ x → x ≡ condact_among at count condacts
 condact_from at count condacts rest x lt e is =
     let same = each_more past_condact (at / 8 * 8) (at % 8) at condacts rest (omega arith) e in
     sym (rw (lt-ltb at count lt, same) is)
 
--- The marks of the entry at the front, whose first three bytes are its verb, its noun and its number of condacts.
-pub marks_at : (marks row : List ℕ) → 3 ≤ length row → MarkEntry marks row → AreMarks marks (get_or row 2 0) (take (length row - 3) (drop 3 row))
-marks_at marks [] le h = absurd (omega (arith, le))
-marks_at marks (verb ∷ []) le h = absurd (omega (arith, le))
-marks_at marks (verb ∷ noun ∷ []) le h = absurd (omega (arith, le))
-marks_at marks (verb ∷ noun ∷ count ∷ condacts) le h =
-    subst (AreMarks marks count) (sym (take_all (length (verb ∷ noun ∷ count ∷ condacts) - 3) condacts (omega arith))) h
+-- The milestones of the entry at the front, whose first three bytes are its verb, its noun and its number of condacts.
+pub milestones_at : (milestones row : List ℕ) → 3 ≤ length row → EntryMilestones milestones row → AreMilestones milestones (get_or row 2 0) (take (length row - 3) (drop 3 row))
+milestones_at milestones [] le h = absurd (omega (arith, le))
+milestones_at milestones (verb ∷ []) le h = absurd (omega (arith, le))
+milestones_at milestones (verb ∷ noun ∷ []) le h = absurd (omega (arith, le))
+milestones_at milestones (verb ∷ noun ∷ count ∷ condacts) le h =
+    subst (AreMilestones milestones count) (sym (take_all (length (verb ∷ noun ∷ count ∷ condacts) - 3) condacts (omega arith))) h
 
 -- ---- as they are passed over ----
 
@@ -210,17 +211,17 @@ eights_fail pass i count bytes rest e le so_far h =
     let all = each_more pass (i * 8) (8 + n) count bytes rest (omega (arith, le)) so_far ∙ each_add pass 8 n rest in
     subst (λ (p : Passing). Fails e p) (sym all) (fails_next e (each pass 8 rest) (each pass n) h)
 
-pub mark_small : (d : ImagePreface) (n : ℕ) (bytes rest : List ℕ) → IsBytes bytes → each (after_condact d) n bytes ≡ Ok rest → n ≤ 255
+pub milestone_small : (d : ImagePreface) (n : ℕ) (bytes rest : List ℕ) → IsBytes bytes → each (after_condact d) n bytes ≡ Ok rest → n ≤ 255
     → length bytes - length rest < 2 ^ 16
-mark_small d n bytes rest fits e le = omega (arith, (condacts_walked d n bytes rest fits e).short, le)
+milestone_small d n bytes rest fits e le = omega (arith, (condacts_walked d n bytes rest fits e).short, le)
 
 byte_is : (bytes : List ℕ) (b : ℕ) (rest : List ℕ) → byte_at bytes ≡ Ok (b, rest) → bytes ≡ b ∷ rest
 byte_is [] b rest e = absurd cc
 byte_is (x ∷ xs) b rest e = at_ok (λ (y : ℕ × List ℕ). x ∷ xs ≡ y.0 ∷ y.1) (x, xs) (b, rest) e refl
 
-pub marks_of_entry : (marks bytes nouns counts rest : List ℕ) (verb noun count : ℕ) → byte_at bytes ≡ Ok (verb, nouns)
-    → byte_at nouns ≡ Ok (noun, counts) → byte_at counts ≡ Ok (count, rest) → AreMarks marks count rest → MarkEntry marks bytes
-marks_of_entry marks bytes nouns counts rest verb noun count e1 e2 e3 h =
+pub milestones_of_entry : (milestones bytes nouns counts rest : List ℕ) (verb noun count : ℕ) → byte_at bytes ≡ Ok (verb, nouns)
+    → byte_at nouns ≡ Ok (noun, counts) → byte_at counts ≡ Ok (count, rest) → AreMilestones milestones count rest → EntryMilestones milestones bytes
+milestones_of_entry milestones bytes nouns counts rest verb noun count e1 e2 e3 h =
     rw (byte_is bytes verb nouns e1, byte_is nouns noun counts e2, byte_is counts count rest e3) h
 
 pub on_ok : {T E : Type 0} {P : Type 0} (r : Result T E) → P → OnOk r P

@@ -4,7 +4,7 @@ use Rattle.std.specs.List.{flat_map}
 use Rattle.std.proofs.lemmas.List.{drop_at, drop-drop, length-drop, get_or-drop}
 use Rattle.paw_game.specs.Image.{two_bytes, text_image, object_image, exits_image, entry_image, table_image}
 use Rattle.paw_game.specs.Valid.{is_within, is_text, is_object, exits_are_valid}
-use Rattle.paw_image.specs.inner.CondactMarks.{IsEnd}
+use Rattle.paw_image.specs.inner.Milestones.{IsEnd}
 use Rattle.paw_image.specs.Damage.{ImagePreface, Passing, each, checked_number, after_text, after_object, after_exits}
 use Rattle.paw_image.specs.Damage.{after_entry, after_table}
 use Rattle.paw_image.specs.Reading.{Reading, number_at}

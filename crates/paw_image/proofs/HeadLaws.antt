@@ -50,15 +50,15 @@ version_takes : (bytes : List ℕ) (x : Version × List ℕ) → IsBytes bytes �
     → Takes bytes (codes "PAWI" ++ version_byte x.0 ∷ []) x.1
 unfolding checked_version
 version_takes bytes x fits e =
-    kept_then _ (λ m. bytes_eq m (codes "PAWI")) (bytes_at 4) bytes _ x e (λ mark mark_ok mark_kept e.
-    kept_then _ (is_within 1 2) byte_at mark.1 _ x e (λ byte byte_ok byte_kept e.
-    let mark_taken = (bytes_take 4 bytes mark fits mark_ok).0 in
-    let byte_taken = (byte_takes mark.1 byte mark_taken.rest_fits byte_ok).0 in
-    let is_mark = (bytes_eq-Decides mark.0 (codes "PAWI")).0 mark_kept in
+    kept_then _ (λ m. bytes_eq m (codes "PAWI")) (bytes_at 4) bytes _ x e (λ signature signature_ok signature_kept e.
+    kept_then _ (is_within 1 2) byte_at signature.1 _ x e (λ byte byte_ok byte_kept e.
+    let signature_taken = (bytes_take 4 bytes signature fits signature_ok).0 in
+    let byte_taken = (byte_takes signature.1 byte signature_taken.rest_fits byte_ok).0 in
+    let is_signature = (bytes_eq-Decides signature.0 (codes "PAWI")).0 signature_kept in
     at_ok (λ (y : Version × List ℕ). Takes bytes (codes "PAWI" ++ version_byte y.0 ∷ []) y.1) _ x e
     (Takes-then (codes "PAWI") (version_byte (version_told byte.0) ∷ [])
-    (subst (λ (m : List ℕ). Takes bytes m mark.1) is_mark mark_taken)
-    (subst (λ (b : ℕ). Takes mark.1 (b ∷ []) byte.1) (told byte.0 byte_kept) byte_taken))))
+    (subst (λ (m : List ℕ). Takes bytes m signature.1) is_signature signature_taken)
+    (subst (λ (b : ℕ). Takes signature.1 (b ∷ []) byte.1) (told byte.0 byte_kept) byte_taken))))
 
 version_passes : (v : Version) (rest : List ℕ) → checked_version (codes "PAWI" ++ (version_byte v ∷ rest)) ≡ Ok (v, rest)
 unfolding checked_version

@@ -15,7 +15,7 @@ use Rattle.paw_game.specs.Image.{entry_image}
 use Rattle.paw_game.specs.Tables.{head_at, condact_at, entry_at}
 use Rattle.paw_game.specs.inner.Tables.{text_at, match_at}
 use Rattle.paw_image.specs.Damage.{ImagePreface, after_all, is_needless, bad}
-use Rattle.paw_image.specs.inner.CondactMarks.{IsMarked, MarkEntry}
+use Rattle.paw_image.specs.inner.Milestones.{HasMilestones, EntryMilestones}
 use Rattle.paw_image.specs.Images.{IsImage}
 use Rattle.paw_image.specs.inner.Images.{AtDamage}
 use Rattle.paw_image.specs.inner.Orders.{is_match, IsOrder, IsLeast, IsMatch}
@@ -197,6 +197,6 @@ module _ {bytes : List ℕ} {counts : Counts} {words : List Word} {p : Offsets} 
       → nth_condact at (drop place bytes) ≡ condact_at (game_read bytes) t k at
   condact_by_index at place h = condact_read bytes is.image t k place at (entry_begins ∙ h)
 
-  pub marks_by_index : (place : ℕ) → slice_get i.entries.items k ≡ Some place
-      → MarkEntry (drop (get_or i.marks.firsts.items k 0) i.marks.marks.items) (drop place bytes)
-  marks_by_index place h = all_at (IsMarked bytes) p.tables.items t i is.marked there k place h
+  pub milestones_by_index : (place : ℕ) → slice_get i.entries.items k ≡ Some place
+      → EntryMilestones (drop (get_or i.milestones.firsts.items k 0) i.milestones.milestones.items) (drop place bytes)
+  milestones_by_index place h = all_at (HasMilestones bytes) p.tables.items t i is.marked there k place h

@@ -15,7 +15,7 @@ use Rattle.paw_game.proofs.Faults.{rise_after, rise_after-none}
 use Rattle.paw_base.specs.declared.limits.TheConstants.{IMAGE_LIMIT, WORD_LIMIT, SYSTEM_LIMIT, MESSAGE_LIMIT}
 use Rattle.paw_base.specs.declared.limits.TheConstants.{OBJECT_LIMIT, LOCATION_LEAST, LOCATION_LIMIT, TABLE_LEAST}
 use Rattle.paw_base.specs.declared.limits.TheConstants.{TABLE_LIMIT}
-use Rattle.paw_image.specs.inner.CondactMarks.{IsEnd}
+use Rattle.paw_image.specs.inner.Milestones.{IsEnd}
 use Rattle.paw_image.specs.Images.{IsImage}
 use Rattle.paw_image.specs.declared.version.Version.{Version}
 use Rattle.paw_image.specs.declared.version.Version.TheVariants.{One}

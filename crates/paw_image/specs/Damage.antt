@@ -56,8 +56,8 @@ version_told byte = if byte == 1 then One else Two
 -- The signature PAWI, and a version that is 1 or 2; the version is what is read.
 unfoldable pub checked_version : Bytes → Reading Version
 checked_version bytes = do
-  mark ← checked_field (λ m. bytes_eq m (codes "PAWI")) (bytes_at 4) bytes
-  byte ← checked_field (is_within 1 2) byte_at mark.1
+  signature ← checked_field (λ m. bytes_eq m (codes "PAWI")) (bytes_at 4) bytes
+  byte ← checked_field (is_within 1 2) byte_at signature.1
   Ok (version_told byte.0, byte.1)
 
 -- A number of two bytes within a range, both ends included.

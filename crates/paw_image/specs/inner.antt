@@ -1,5 +1,5 @@
 -- Definitions for contracts between crates, and for proofs. Nothing that a reader must believe rests on them.
-pub mod CondactMarks
+pub mod Milestones
 pub mod Images
 pub mod Marks
 pub mod Offsets

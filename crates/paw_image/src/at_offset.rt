@@ -2,7 +2,7 @@
 
 ghost use Rattle.std.specs.Prelude.{◌≡◌, ◌*◌, ◌/◌, ◌<◌, drop, Ok, OnErr};
 ghost use Rattle.std.specs.Option.{option_copied, option_map};
-ghost use Rattle.paw_image.specs.inner.CondactMarks.{AreMarks, MarkEntry, marks_of};
+ghost use Rattle.paw_image.specs.inner.Milestones.{AreMilestones, EntryMilestones, milestones_of};
 ghost use Rattle.paw_image.specs.Damage.{each};
 ghost use Rattle.paw_read_error.specs.inner.Gives.{Gives};
 ghost use Rattle.paw_image.specs.inner.Reading.{IsFault, sized_text_at};
@@ -10,7 +10,7 @@ ghost use Rattle.paw_image.specs.inner.Rows.{condact_after, condact_among, entry
 ghost use Rattle.paw_image.specs.inner.Rows.{facts_here, head_here, nth_condact, past_condact, up_to, value_of};
 
 use crate::fault::ReadFault;
-use crate::marks::CondactMarks;
+use crate::milestones::Milestones;
 use crate::objects::read_after_text;
 use crate::tables::read_condact;
 use crate::texts::read_text;
@@ -127,15 +127,15 @@ fn condact_after(count: u8, bytes: &[u8]) -> Result<(Condact, &[u8]), ReadFault>
     read_condact(rest)
 }
 
-/// The bytes of an entry's `count` condacts from the last mark on that isn't past condact `at`.
-fn from_mark<'a>(
-    marks: &CondactMarks,
+/// The bytes of an entry's `count` condacts from the last milestone on that isn't past condact `at`.
+fn from_milestone<'a>(
+    milestones: &Milestones,
     entry: u16,
     at: u8,
     count: u8,
     condacts: &'a [u8],
 ) -> &'a [u8]
-    requires marks { AreMarks (marks_of marks.now entry) count condacts.now }
+    requires milestones { AreMilestones (milestones_of milestones.now entry) count condacts.now }
     requires within { at < count }
     ensures value { each past_condact (at / 8 * 8) condacts.now ≡ Ok result.now }
 {
@@ -143,26 +143,29 @@ fn from_mark<'a>(
     if eights == 0 {
         return condacts;
     }
-    let marks = marks.from_entry(entry);
-    from_offset(condacts, marks[eights - 1] as u32)
+    let milestones = milestones.from_entry(entry);
+    from_offset(condacts, milestones[eights - 1] as u32)
 }
 
 /// One of this number of condacts of an entry.
 #[tactic(auto, using(crate::proofs::Faults::no_value))]
 fn condact_of(
-    marks: &CondactMarks,
+    milestones: &Milestones,
     entry: u16,
     at: u8,
     count: u8,
     condacts: &[u8],
 ) -> Option<Condact>
-    requires marks { AreMarks (marks_of marks.now entry) count condacts.now }
+    requires milestones { AreMilestones (milestones_of milestones.now entry) count condacts.now }
     ensures value { result ≡ condact_among at count condacts.now }
 {
     if at >= count {
         return None;
     }
-    match condact_after(at % 8, from_mark(marks, entry, at, count, condacts)) {
+    match condact_after(
+        at % 8,
+        from_milestone(milestones, entry, at, count, condacts),
+    ) {
         Ok((condact, _)) => Some(condact),
         Err(_) => None,
     }
@@ -173,15 +176,15 @@ fn condact_of(
 pub fn condact_in(
     bytes: &[u8],
     place: u32,
-    marks: &CondactMarks,
+    milestones: &Milestones,
     entry: u16,
     at: u8,
 ) -> Option<Condact>
-    requires marks { MarkEntry (marks_of marks.now entry) (drop place bytes.now) }
+    requires milestones { EntryMilestones (milestones_of milestones.now entry) (drop place bytes.now) }
     ensures value { result ≡ nth_condact at (drop place bytes.now) }
 {
     match from_offset(bytes, place) {
-        [_, _, count, condacts @ ..] => condact_of(marks, entry, at, *count, condacts),
+        [_, _, count, condacts @ ..] => condact_of(milestones, entry, at, *count, condacts),
         _ => None,
     }
 }

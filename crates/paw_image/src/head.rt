@@ -17,7 +17,7 @@ use paw_game::parts::Word;
 use std::alloc::Global;
 
 /// The first bytes of every image.
-pub const MARK: [u8; 4] = *b"PAWI";
+pub const SIGNATURE: [u8; 4] = *b"PAWI";
 
 /// The front of an image: its version, how many rows each list has, and the words.
 #[derive(Drop)]
@@ -32,8 +32,8 @@ pub struct Front {
 fn read_version(bytes: &[u8]) -> Result<(Version, &[u8]), ReadFault>
     ensures gives { Gives (λ x. (x.0, x.1.now)) result (checked_version bytes.now) }
 {
-    let (mark, versions) = read_array(bytes)?;
-    if mark != MARK {
+    let (signature, versions) = read_array(bytes)?;
+    if signature != SIGNATURE {
         return Err(fault_at(bytes));
     }
     let (byte, rest) = read_byte(versions)?;

@@ -12,7 +12,7 @@ mod fields;
 mod head;
 mod in_place;
 pub mod laws;
-mod marks;
+mod milestones;
 mod objects;
 mod offsets;
 mod order;

@@ -3,17 +3,17 @@
 ghost use Rattle.std.specs.Prelude.{◌≡◌, ◌<◌, ◌^◌, IfOk, length};
 ghost use Rattle.std.specs.List.{AllByRecursion};
 ghost use Rattle.paw_image.specs.Damage.{each, after_lists, after_table};
-ghost use Rattle.paw_image.specs.inner.CondactMarks.{IsEnd, IsMarked};
+ghost use Rattle.paw_image.specs.inner.Milestones.{IsEnd, HasMilestones};
 ghost use Rattle.paw_image.specs.inner.Orders.{IsOrder};
 ghost use Rattle.paw_image.specs.inner.Offsets.{entries_begin, entries_of, tables_begin, AreGoneOver};
 ghost use Rattle.paw_read_error.specs.inner.Gives.{Gives};
-ghost use Rattle.paw_image.specs.inner.Views.{AreMarked, AreOrdered};
+ghost use Rattle.paw_image.specs.inner.Views.{HaveMilestones, AreOrdered};
 
 use crate::fault::ReadFault;
 use crate::field_rules::FieldRules;
 use crate::fields::read_within;
 use crate::in_place::pass_rows;
-use crate::marks::{CondactMarks, pass_entries};
+use crate::milestones::{Milestones, pass_entries};
 use crate::order::{Order, order_of};
 use paw_base::limits::ENTRY_LIMIT;
 use paw_game::parts::{Exits, ObjectRow, Text};
@@ -30,11 +30,11 @@ pub struct Offsets {
     pub tables: Vec<TableIndex>,
 }
 
-/// Where the entries of a table begin, the marks in their condacts, and the entries in order of verb and noun.
+/// Where the entries of a table begin, the milestones in their condacts, and the entries in order of verb and noun.
 #[derive(Drop)]
 pub struct TableIndex {
     pub entries: Vec<u32>,
-    pub marks: CondactMarks,
+    pub milestones: Milestones,
     pub order: Order,
 }
 
@@ -50,14 +50,14 @@ fn pass_table<'a>(
     ensures gives { Gives (λ x. x.1.now) result (after_table rules.now bytes.now) }
     ensures entries { IfOk result (λ x. x.0.entries.items ≡ entries_begin rules.now (length all.now) bytes.now) }
     ensures order { IfOk result (λ x. IsOrder all.now x.0.entries.items x.0.order) }
-    ensures marked { IsEnd all.now bytes.now → IfOk result (λ x. IsMarked all.now x.0) }
+    ensures marked { IsEnd all.now bytes.now → IfOk result (λ x. HasMilestones all.now x.0) }
 {
     let (count, rest) = read_within(0, ENTRY_LIMIT, bytes)?;
-    let ((entries, marks), rest) = pass_entries(alloc, rules, count as usize, all, rest)?;
+    let ((entries, milestones), rest) = pass_entries(alloc, rules, count as usize, all, rest)?;
     let order = order_of(alloc, all, &entries)?;
     let table = TableIndex {
         entries,
-        marks,
+        milestones,
         order,
     };
     Ok((table, rest))
@@ -75,7 +75,7 @@ fn pass_tables<'a>(
     ensures gives { Gives (λ x. x.1.now) result (each (after_table rules.now) count bytes.now) }
     ensures begin { IfOk result (λ x. entries_of x.0.items ≡ tables_begin rules.now (length all.now) count bytes.now) }
     ensures order { IfOk result (λ x. AllByRecursion (λ t. IsOrder all.now t.entries.items t.order) x.0.items) }
-    ensures marked { IsEnd all.now bytes.now → IfOk result (λ x. AllByRecursion (IsMarked all.now) x.0.items) }
+    ensures marked { IsEnd all.now bytes.now → IfOk result (λ x. AllByRecursion (HasMilestones all.now) x.0.items) }
 {
     let mut tables = Vec::new(alloc);
     let mut rest = bytes;
@@ -99,7 +99,7 @@ pub fn pass_lists<'a>(
     ensures gives { Gives (λ x. x.1.now) result (after_lists rules.now bytes.now) }
     ensures over { IfOk result (λ x. AreGoneOver rules.now (length all.now) bytes.now x.0) }
     ensures order { IfOk result (λ x. AreOrdered all.now x.0) }
-    ensures marked { IsEnd all.now bytes.now → IfOk result (λ x. AreMarked all.now x.0) }
+    ensures marked { IsEnd all.now bytes.now → IfOk result (λ x. HaveMilestones all.now x.0) }
 {
     let lengths = rules.game.lengths();
     let total = all.len();

@@ -36,11 +36,11 @@ fn rank_of(verb: u8, noun: u8, entry: u16) -> u32
     (verb as u32 * 256 + noun as u32) * 65536 + entry as u32
 }
 
-/// The byte at a place; 0 past the end.
-fn byte_at(bytes: &[u8], place: usize) -> u8
-    ensures value { result ≡ slice_index bytes.now place }
+/// The byte at an offset; 0 past the end.
+fn byte_at(bytes: &[u8], offset: usize) -> u8
+    ensures value { result ≡ slice_index bytes.now offset }
 {
-    match bytes.get(place) {
+    match bytes.get(offset) {
         Some(byte) => *byte,
         None => 0,
     }
@@ -73,7 +73,7 @@ fn sorted_ranks(alloc: Global, bytes: &[u8], offsets: &[u32]) -> Result<Vec<u32>
     Ok(ranks)
 }
 
-/// Where the ranks of a verb begin, which is not before this place.
+/// Where the ranks of a verb begin, which is not before this index.
 fn start_from(ranks: &[u32], before: usize, verb: u16) -> usize
     requires rises { IsNonDecreasing ranks.now }
     requires verb { verb ≤ 256 }
@@ -126,7 +126,7 @@ fn run_of(order: &Order, verb: u8) -> &[u32]
     &order.ranks[start..end]
 }
 
-/// The place of the first rank that isn't below this one.
+/// The index of the first rank that isn't below this one.
 fn index_of_rank(run: &[u32], least: u32) -> usize
     requires rises { IsNonDecreasing run.now }
     ensures parts { IsPartitionPoint (λ r. nat_lt r least ≡ true) (λ r. nat_lt r least ≡ false) run.now result }

@@ -9,7 +9,7 @@ ghost use Rattle.paw_image.specs.inner.Reading.{lists_at, all_of};
 
 use crate::fault::ReadFault;
 use crate::fields::{fault_at, write_number};
-use crate::head::{Front, MARK, read_front};
+use crate::head::{Front, SIGNATURE, read_front};
 use crate::rows::{length_of_rows, read_rows, write_rows};
 use crate::version::version_of;
 use paw_game::parts::GameParts;
@@ -77,7 +77,7 @@ fn write_head(parts: &GameParts, out: &mut Vec<u8>) -> Result<(), AllocError>
     requires fits { FitsCounts parts.now }
     ensures writes { OnOk result (out.new.items ≡ out.old.items ++ head_image parts.now) }
 {
-    out.extend_from_slice(&MARK)?;
+    out.extend_from_slice(&SIGNATURE)?;
     out.push(version_of(parts).byte())?;
     write_number(parts.words.len(), out)?;
     write_number(parts.system.len(), out)?;

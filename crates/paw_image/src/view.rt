@@ -26,7 +26,7 @@ use std::marker::Model;
 
 /// A valid game in the bytes of its image: texts and entries are lent out of them. It keeps the words, where each text,
 /// the exits of each location and each entry begin, and the entries of each table in order of verb and noun, with
-/// marks in their condacts. Contracts see the bytes.
+/// milestones in their condacts. Contracts see the bytes.
 #[derive(Drop)]
 pub struct View<'a> {
     bytes: &'a [u8],
@@ -168,7 +168,7 @@ impl<'a> Tables for View<'a> {
     fn condact(&self, table: u8, entry: u16, at: u8) -> Option<Condact> {
         let index = index_of(&self.offsets.tables, table)?;
         let offset = offset_in(&index.entries, entry as usize)?;
-        condact_in(self.bytes, offset, &index.marks, entry, at)
+        condact_in(self.bytes, offset, &index.milestones, entry, at)
     }
 
     fn next_match(&self, table: u8, from: u16, verb: u8, noun: u8) -> Option<u16> {

@@ -22,7 +22,7 @@ use Rattle.paw_journal.specs.declared.layout.TheConstants.{VERSION, BASE_AT, CHA
 use Rattle.paw_journal.specs.Session.{base_length, slot_length}
 use Rattle.paw_journal.proofs.Puts.{stretch_long, put_long, stretch_past, stretch_before, stretch_written}
 use Rattle.paw_journal.proofs.Puts.{stretch_behind}
-use Rattle.paw_journal.proofs.Turning.{changes-append, changed-append, sound-append}
+use Rattle.paw_journal.proofs.Changing.{changes-append, changed-append, sound-append}
 
 -- A slot of the version that is written has this state, after this number of change records.
 pub record IsKept (bytes : List ℕ) (records : ℕ) (state : List ℕ) : Type 0 where

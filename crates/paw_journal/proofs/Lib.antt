@@ -5,7 +5,7 @@ pub mod Recovers
 pub mod Disks
 pub mod Moved
 pub mod Applies
-pub mod Turning
+pub mod Changing
 pub mod Kept
 pub mod Chooses
 pub mod Fills

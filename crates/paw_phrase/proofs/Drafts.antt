@@ -13,9 +13,9 @@ use Rattle.paw_phrase.specs.declared.Found.TheVariants as found
 use Rattle.paw_phrase.specs.declared.next.Part.{Part}
 use Rattle.paw_phrase.specs.declared.next.Part.TheVariants as part
 use Rattle.paw_phrase.specs.declared.next.PhraseDraft.{PhraseDraft}
-use Rattle.paw_phrase.specs.Phrase.{Mark, marks, is_parting, from_phrase, phrase_tokens, bytes_after}
+use Rattle.paw_phrase.specs.Phrase.{Lexeme, lexemes, is_parting, from_phrase, phrase_tokens, bytes_after}
 use Rattle.paw_phrase.specs.Sentence.{blank, with_word, with_tokens, finished, Parsed, IsSentence, IsUnknown}
-use Rattle.paw_phrase.specs.Sentence.{IsNoPhrase, parsed_marks, parsed}
+use Rattle.paw_phrase.specs.Sentence.{IsNoPhrase, parsed_lexemes, parsed}
 use Rattle.paw_phrase.specs.inner.Draft.{part_of_word, phrase_part_of, with_part, started, draft_outcome}
 
 -- After a part the draft goes on, or its phrase has ended.
@@ -24,7 +24,7 @@ after_part None stop go = stop
 after_part (Some d) stop go = go d
 
 -- What a draft ends as where it is read on over these lexemes.
-unfoldable pub along : GameLists → ℕ → List Mark → PhraseDraft → Parsed
+unfoldable pub along : GameLists → ℕ → List Lexeme → PhraseDraft → Parsed
 along g e [] d = draft_outcome e d []
 along g e (m ∷ ms) d = after_part (with_part (phrase_part_of g m.token) d) (draft_outcome e d m.after) (along g e ms)
 
@@ -64,7 +64,7 @@ abbrev parsed_tokens : GameLists → ℕ → Sentence → List (List ℕ) → Li
 parsed_tokens g e s ts rest = cond (has_known g ts) (IsSentence (finished e (with_tokens g ts s)) rest) (IsUnknown rest)
 
 -- A part after a known word.
-part_of_sentence : (g : GameLists) (e : ℕ) (m : Mark) (ms : List Mark)
+part_of_sentence : (g : GameLists) (e : ℕ) (m : Lexeme) (ms : List Lexeme)
     → ((s : Sentence) → along g e ms (draft found.Sentence s)
     ≡ IsSentence (finished e (with_tokens g (phrase_tokens g ms) s)) (bytes_after g ms))
     → (s : Sentence) (p : Part) → Means g m.token p
@@ -77,7 +77,7 @@ part_of_sentence g e m ms again s (part.Word value class) h =
     again (with_word value class s) ∙ rw (h.0) (ap (λ x. IsSentence (finished e x) (bytes_after g ms)) (sym (h.1 (phrase_tokens g ms) s)))
 
 -- With a known word.
-with_known_word : (g : GameLists) (e : ℕ) (ms : List Mark) (s : Sentence)
+with_known_word : (g : GameLists) (e : ℕ) (ms : List Lexeme) (s : Sentence)
     → along g e ms (draft found.Sentence s) ≡ IsSentence (finished e (with_tokens g (phrase_tokens g ms) s)) (bytes_after g ms)
 unfolding along
 with_known_word g e [] s = refl
@@ -90,7 +90,7 @@ parsed_tokens_are g e s x ts rest b known words =
     ∙ ap (λ y. cond b (IsSentence (finished e y) rest) (IsUnknown rest)) words
 
 -- A part after unknown tokens alone.
-part_of_unknown : (g : GameLists) (e : ℕ) (m : Mark) (ms : List Mark)
+part_of_unknown : (g : GameLists) (e : ℕ) (m : Lexeme) (ms : List Lexeme)
     → ((s : Sentence) → along g e ms (draft found.Nothing s) ≡ parsed_tokens g e s (phrase_tokens g ms) (bytes_after g ms))
     → (s : Sentence) (p : Part) → Means g m.token p
     → after_part (with_part p (draft found.Nothing s)) (draft_outcome e (draft found.Nothing s) m.after) (along g e ms)
@@ -107,22 +107,22 @@ part_of_unknown g e m ms again s (part.Word value class) h =
     ∙ rw (h.0) (sym (parsed_tokens_are g e s (with_tokens g ts word) (option_to_list m.token ++ ts) (bytes_after g ms) true (h.2 ts) (h.1 ts s)))
 
 -- With unknown tokens alone.
-with_no_word : (g : GameLists) (e : ℕ) (ms : List Mark) (s : Sentence)
+with_no_word : (g : GameLists) (e : ℕ) (ms : List Lexeme) (s : Sentence)
     → along g e ms (draft found.Nothing s) ≡ parsed_tokens g e s (phrase_tokens g ms) (bytes_after g ms)
 unfolding along
 with_no_word g e [] s = refl
 with_no_word g e (m ∷ ms) s = part_of_unknown g e m ms (with_no_word g e ms) s (phrase_part_of g m.token) (means g m.token)
 
-abbrev parsed_from : GameLists → ℕ → Sentence → List Mark → Parsed
+abbrev parsed_from : GameLists → ℕ → Sentence → List Lexeme → Parsed
 parsed_from g e s [] = IsNoPhrase
 parsed_from g e s (m ∷ ms) = parsed_tokens g e s (phrase_tokens g (m ∷ ms)) (bytes_after g (m ∷ ms))
 
-parsed_from-token : (g : GameLists) (e : ℕ) (m : Mark) (ms : List Mark) (s : Sentence) → is_parting g m.token ≡ false
+parsed_from-token : (g : GameLists) (e : ℕ) (m : Lexeme) (ms : List Lexeme) (s : Sentence) → is_parting g m.token ≡ false
     → parsed_from g e s (from_phrase g (m ∷ ms)) ≡ parsed_tokens g e s (option_to_list m.token ++ phrase_tokens g ms) (bytes_after g ms)
 parsed_from-token g e m ms s h = rw h (rw h refl)
 
 -- A part before the phrase.
-part_of_nothing : (g : GameLists) (e : ℕ) (m : Mark) (ms : List Mark)
+part_of_nothing : (g : GameLists) (e : ℕ) (m : Lexeme) (ms : List Lexeme)
     → ((s : Sentence) → along g e ms (draft found.Empty s) ≡ parsed_from g e s (from_phrase g ms))
     → (s : Sentence) (p : Part) → Means g m.token p
     → after_part (with_part p (draft found.Empty s)) (draft_outcome e (draft found.Empty s) m.after) (along g e ms)
@@ -141,39 +141,39 @@ part_of_nothing g e m ms again s (part.Word value class) h =
     (option_to_list m.token ++ ts) (bytes_after g ms) true (h.2 ts) (h.1 ts s))
 
 -- With no token.
-with_no_token : (g : GameLists) (e : ℕ) (ms : List Mark) (s : Sentence)
+with_no_token : (g : GameLists) (e : ℕ) (ms : List Lexeme) (s : Sentence)
     → along g e ms (draft found.Empty s) ≡ parsed_from g e s (from_phrase g ms)
 unfolding along
 with_no_token g e [] s = refl
 with_no_token g e (m ∷ ms) s = part_of_nothing g e m ms (with_no_token g e ms) s (phrase_part_of g m.token) (means g m.token)
 
-parsed_from-marks : (g : GameLists) (e n a : ℕ) (ms : List Mark) → parsed_from g e (blank n a) ms ≡ parsed_marks g e n a ms
-parsed_from-marks g e n a [] = refl
-parsed_from-marks g e n a (m ∷ ms) = refl
+parsed_from-lexemes : (g : GameLists) (e n a : ℕ) (ms : List Lexeme) → parsed_from g e (blank n a) ms ≡ parsed_lexemes g e n a ms
+parsed_from-lexemes g e n a [] = refl
+parsed_from-lexemes g e n a (m ∷ ms) = refl
 
-pub along-started : (g : GameLists) (bytes : List ℕ) (e n a : ℕ) → along g e (marks bytes) (started n a) ≡ parsed g bytes e n a
+pub along-started : (g : GameLists) (bytes : List ℕ) (e n a : ℕ) → along g e (lexemes bytes) (started n a) ≡ parsed g bytes e n a
 unfolding parsed
-along-started g bytes e n a = with_no_token g e (marks bytes) (blank n a) ∙ parsed_from-marks g e n a (from_phrase g (marks bytes))
+along-started g bytes e n a = with_no_token g e (lexemes bytes) (blank n a) ∙ parsed_from-lexemes g e n a (from_phrase g (lexemes bytes))
 
 -- One lexeme more is read, from the bytes from i on.
-pub along-mark : (g : GameLists) (e : ℕ) (s : List ℕ) (i k : ℕ) (t : Option (List ℕ)) (d : PhraseDraft) (p : Part) (next : Option PhraseDraft)
-    (whole : Parsed) → whole ≡ along g e (marks (drop i s)) d
-    → marks (take (length s - i) (drop i s))
-    ≡ record { token = t; after = drop k (take (length s - i) (drop i s)) } ∷ marks (drop k (take (length s - i) (drop i s)))
+pub along-lexeme : (g : GameLists) (e : ℕ) (s : List ℕ) (i k : ℕ) (t : Option (List ℕ)) (d : PhraseDraft) (p : Part) (next : Option PhraseDraft)
+    (whole : Parsed) → whole ≡ along g e (lexemes (drop i s)) d
+    → lexemes (take (length s - i) (drop i s))
+    ≡ record { token = t; after = drop k (take (length s - i) (drop i s)) } ∷ lexemes (drop k (take (length s - i) (drop i s)))
     → p ≡ phrase_part_of g t → next ≡ with_part p d
-    → whole ≡ after_part next (draft_outcome e d (drop (i + k) s)) (along g e (marks (drop (i + k) s)))
+    → whole ≡ after_part next (draft_outcome e d (drop (i + k) s)) (along g e (lexemes (drop (i + k) s)))
 unfolding along
-along-mark g e s i k t d p next whole so_far first is_part is_next =
-    let here : marks (drop i s) ≡ record { token = t; after = drop (i + k) s } ∷ marks (drop (i + k) s) = rw (take_rest s i, drop-drop k i s) at first in
-    let go = along g e (marks (drop (i + k) s)) in
+along-lexeme g e s i k t d p next whole so_far first is_part is_next =
+    let here : lexemes (drop i s) ≡ record { token = t; after = drop (i + k) s } ∷ lexemes (drop (i + k) s) = rw (take_rest s i, drop-drop k i s) at first in
+    let go = along g e (lexemes (drop (i + k) s)) in
     so_far
     ∙ ap (λ ms. along g e ms d) here
     ∙ ap (λ x. after_part x (draft_outcome e d (drop (i + k) s)) go) (sym (is_next ∙ ap (λ q. with_part q d) is_part))
 
 -- No lexeme is left.
-pub along-end : (g : GameLists) (e : ℕ) (s : List ℕ) (i : ℕ) (d : PhraseDraft) (whole : Parsed) → whole ≡ along g e (marks (drop i s)) d
-    → marks (take (length s - i) (drop i s)) ≡ [] → whole ≡ draft_outcome e d (drop (length s) s)
+pub along-end : (g : GameLists) (e : ℕ) (s : List ℕ) (i : ℕ) (d : PhraseDraft) (whole : Parsed) → whole ≡ along g e (lexemes (drop i s)) d
+    → lexemes (take (length s - i) (drop i s)) ≡ [] → whole ≡ draft_outcome e d (drop (length s) s)
 unfolding along
 along-end g e s i d whole so_far none =
-    let here : marks (drop i s) ≡ [] = rw take_rest at none in
+    let here : lexemes (drop i s) ≡ [] = rw take_rest at none in
     so_far ∙ ap (λ ms. along g e ms d) here ∙ ap (draft_outcome e d) (sym (drop_all (length s) s (omega arith)))

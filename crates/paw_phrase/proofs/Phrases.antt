@@ -8,10 +8,11 @@ use Rattle.std.proofs.lemmas.List.{drop_all}
 use Rattle.std.proofs.lemmas.List.Elements.{All-drop}
 use Rattle.paw_game.specs.Game.{GameLists}
 use Rattle.paw_phrase.specs.declared.Sentence.{Sentence}
-use Rattle.paw_phrase.specs.Phrase.{is_separator, Mark, token_mark, separator_mark, marks_from, marks, is_parting}
+use Rattle.paw_phrase.specs.Phrase.{is_separator, Lexeme, token_lexeme, separator_lexeme, lexemes_from, lexemes}
+use Rattle.paw_phrase.specs.Phrase.{is_parting}
 use Rattle.paw_phrase.specs.Phrase.{from_phrase}
 use Rattle.paw_phrase.specs.Phrase.{bytes_after}
-use Rattle.paw_phrase.specs.Sentence.{Parsed, IsSentence, IsUnknown, IsNoPhrase, parsed_marks, parsed}
+use Rattle.paw_phrase.specs.Sentence.{Parsed, IsSentence, IsUnknown, IsNoPhrase, parsed_lexemes, parsed}
 pub use Rattle.paw_phrase.specs.inner.Leaving.{LeavesBytes}
 
 -- The bytes that stay pending: all after the first few.
@@ -39,62 +40,62 @@ record IsBehind (n : ℕ) (s after : List ℕ) : Type 0 where
 behind-more : (n m b : ℕ) (s after : List ℕ) → IsBehind n s after → IsBehind m (b ∷ s) after
 behind-more n m b s after h = record { from = suc h.from; some = omega arith; within = omega (arith, h.within); is = h.is }
 
-abbrev Each : (List ℕ → Type 0) → List Mark → Type 0
+abbrev Each : (List ℕ → Type 0) → List Lexeme → Type 0
 Each P [] = Unit {0}
 Each P (m ∷ ms) = P m.after × Each P ms
 
-Each-append : (P : List ℕ → Type 0) (ms ns : List Mark) → Each P ms → Each P ns → Each P (ms ++ ns)
+Each-append : (P : List ℕ → Type 0) (ms ns : List Lexeme) → Each P ms → Each P ns → Each P (ms ++ ns)
 Each-append P [] ns h k = k
 Each-append P (m ∷ ms) ns h k = (h.0, Each-append P ms ns h.1 k)
 
-Each-map : (P Q : List ℕ → Type 0) → ((after : List ℕ) → P after → Q after) → (ms : List Mark) → Each P ms → Each Q ms
+Each-map : (P Q : List ℕ → Type 0) → ((after : List ℕ) → P after → Q after) → (ms : List Lexeme) → Each P ms → Each Q ms
 Each-map P Q f [] h = tt
 Each-map P Q f (m ∷ ms) h = (f m.after h.0, Each-map P Q f ms h.1)
 
-token_mark-behind : (run s : List ℕ) → Each (IsBehind (length run) s) (token_mark run s)
-token_mark-behind [] s = tt
-token_mark-behind (b ∷ bs) s = (record { from = 0; some = omega arith; within = omega arith; is = refl }, tt)
+token_lexeme-behind : (run s : List ℕ) → Each (IsBehind (length run) s) (token_lexeme run s)
+token_lexeme-behind [] s = tt
+token_lexeme-behind (b ∷ bs) s = (record { from = 0; some = omega arith; within = omega arith; is = refl }, tt)
 
-separator_mark-behind : (n b : ℕ) (bs : List ℕ) → Each (IsBehind n (b ∷ bs)) (separator_mark b bs)
-separator_mark-behind n b bs =
+separator_lexeme-behind : (n b : ℕ) (bs : List ℕ) → Each (IsBehind n (b ∷ bs)) (separator_lexeme b bs)
+separator_lexeme-behind n b bs =
     elim (is_separator b) as (λ v. Each (IsBehind n (b ∷ bs)) (cond v (record { token = None; after = bs } ∷ []) [])) [
       | true ↦ (record { from = 1; some = omega arith; within = omega arith; is = refl }, tt)
       | false ↦ tt
     ]
 
-marks_from-behind : (bs run : List ℕ) → Each (IsBehind (length run) bs) (marks_from run bs)
-unfolding marks_from
-marks_from-behind [] run = token_mark-behind run []
-marks_from-behind (b ∷ bs) run =
+lexemes_from-behind : (bs run : List ℕ) → Each (IsBehind (length run) bs) (lexemes_from run bs)
+unfolding lexemes_from
+lexemes_from-behind [] run = token_lexeme-behind run []
+lexemes_from-behind (b ∷ bs) run =
     let longer = run ++ to_ascii_uppercase b ∷ [] in
     elim (is_ascii_alphanumeric b) as (λ v. Each (IsBehind (length run) (b ∷ bs))
-    (cond v (marks_from longer bs) (token_mark run (b ∷ bs) ++ separator_mark b bs ++ marks_from [] bs))) [
+    (cond v (lexemes_from longer bs) (token_lexeme run (b ∷ bs) ++ separator_lexeme b bs ++ lexemes_from [] bs))) [
       | true ↦ Each-map (IsBehind (length longer) bs) (IsBehind (length run) (b ∷ bs))
-          (λ after. behind-more (length longer) (length run) b bs after) (marks_from longer bs) (marks_from-behind bs longer)
+          (λ after. behind-more (length longer) (length run) b bs after) (lexemes_from longer bs) (lexemes_from-behind bs longer)
       | false ↦
-          Each-append (IsBehind (length run) (b ∷ bs)) (token_mark run (b ∷ bs) ++ separator_mark b bs) (marks_from [] bs)
-          (Each-append (IsBehind (length run) (b ∷ bs)) (token_mark run (b ∷ bs)) (separator_mark b bs)
-          (token_mark-behind run (b ∷ bs)) (separator_mark-behind (length run) b bs))
-          (Each-map (IsBehind 0 bs) (IsBehind (length run) (b ∷ bs)) (λ after. behind-more 0 (length run) b bs after) (marks_from [] bs)
-          (marks_from-behind bs []))
+          Each-append (IsBehind (length run) (b ∷ bs)) (token_lexeme run (b ∷ bs) ++ separator_lexeme b bs) (lexemes_from [] bs)
+          (Each-append (IsBehind (length run) (b ∷ bs)) (token_lexeme run (b ∷ bs)) (separator_lexeme b bs)
+          (token_lexeme-behind run (b ∷ bs)) (separator_lexeme-behind (length run) b bs))
+          (Each-map (IsBehind 0 bs) (IsBehind (length run) (b ∷ bs)) (λ after. behind-more 0 (length run) b bs after) (lexemes_from [] bs)
+          (lexemes_from-behind bs []))
     ]
 
 rest_from : (s after : List ℕ) → IsBehind 0 s after → IsRest s after
 rest_from s after h = record { from = h.from; some = omega (arith, h.some); within = h.within; is = h.is }
 
-marks-rest : (s : List ℕ) → Each (IsRest s) (marks s)
-marks-rest s = Each-map (IsBehind 0 s) (IsRest s) (rest_from s) (marks s) (marks_from-behind s [])
+lexemes-rest : (s : List ℕ) → Each (IsRest s) (lexemes s)
+lexemes-rest s = Each-map (IsBehind 0 s) (IsRest s) (rest_from s) (lexemes s) (lexemes_from-behind s [])
 
 -- Where something may be left, nothing may be left too.
 rest-none : (s after : List ℕ) → IsRest s after → IsRest s []
 rest-none s after h = record { from = length s; some = omega (arith, h.some, h.within); within = omega arith; is = sym (drop_all (length s) s (omega arith)) }
 
-from_phrase-each : (P : List ℕ → Type 0) (g : GameLists) (ms : List Mark) → Each P ms → Each P (from_phrase g ms)
+from_phrase-each : (P : List ℕ → Type 0) (g : GameLists) (ms : List Lexeme) → Each P ms → Each P (from_phrase g ms)
 from_phrase-each P g [] h = tt
 from_phrase-each P g (m ∷ ms) h =
     elim (is_parting g m.token) as (λ v. Each P (cond v (from_phrase g ms) (m ∷ ms))) [ true ↦ from_phrase-each P g ms h.1 | false ↦ h ]
 
-bytes_after-each : (P : List ℕ → Type 0) (g : GameLists) (ms : List Mark) → P [] → Each P ms → P (bytes_after g ms)
+bytes_after-each : (P : List ℕ → Type 0) (g : GameLists) (ms : List Lexeme) → P [] → Each P ms → P (bytes_after g ms)
 bytes_after-each P g [] none h = none
 bytes_after-each P g (m ∷ ms) none h =
     elim (is_parting g m.token) as (λ v. P (cond v m.after (bytes_after g ms))) [ true ↦ h.0 | false ↦ bytes_after-each P g ms none h.1 ]
@@ -103,17 +104,17 @@ pub leaves : (P : List ℕ → Type 0) (b : Bool) (s : Sentence) (rest : List �
 leaves P true s rest h = h
 leaves P false s rest h = h
 
-parsed_marks-rest : (g : GameLists) (pending : List ℕ) (e n a : ℕ) (ms : List Mark) → Each (IsRest pending) ms
-    → LeavesBytes (IsRest pending) (parsed_marks g e n a ms)
-parsed_marks-rest g pending e n a [] h = tt
-parsed_marks-rest g pending e n a (m ∷ ms) h =
+parsed_lexemes-rest : (g : GameLists) (pending : List ℕ) (e n a : ℕ) (ms : List Lexeme) → Each (IsRest pending) ms
+    → LeavesBytes (IsRest pending) (parsed_lexemes g e n a ms)
+parsed_lexemes-rest g pending e n a [] h = tt
+parsed_lexemes-rest g pending e n a (m ∷ ms) h =
     leaves (IsRest pending) _ _ (bytes_after g (m ∷ ms)) (bytes_after-each (IsRest pending) g (m ∷ ms) (rest-none pending m.after h.0) h)
 
 -- What stays pending is what stands after the first few bytes.
 pub parsed-rest : (g : GameLists) (pending : List ℕ) (earlier noun adjective : ℕ) → LeavesBytes (IsRest pending) (parsed g pending earlier noun adjective)
 unfolding parsed
-parsed-rest g pending e n a = parsed_marks-rest g pending e n a (from_phrase g (marks pending))
-    (from_phrase-each (IsRest pending) g (marks pending) (marks-rest pending))
+parsed-rest g pending e n a = parsed_lexemes-rest g pending e n a (from_phrase g (lexemes pending))
+    (from_phrase-each (IsRest pending) g (lexemes pending) (lexemes-rest pending))
 
 leaves-map : (P Q : List ℕ → Type 0) → ((rest : List ℕ) → P rest → Q rest) → (p : Parsed) → LeavesBytes P p → LeavesBytes Q p
 leaves-map P Q f (IsSentence s rest) h = f rest h

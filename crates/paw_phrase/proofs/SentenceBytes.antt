@@ -12,10 +12,10 @@ use Rattle.paw_game.specs.Game.{GameLists}
 use Rattle.paw_game.specs.Valid.{are_letters, is_within, is_word, words_rise, Valid}
 use Rattle.paw_game.specs.Tables.{word_of, word_at}
 use Rattle.paw_phrase.specs.declared.Sentence.{Sentence}
-use Rattle.paw_phrase.specs.Phrase.{Mark, marks, from_phrase, phrase_tokens, bytes_after}
+use Rattle.paw_phrase.specs.Phrase.{Lexeme, lexemes, from_phrase, phrase_tokens, bytes_after}
 use Rattle.paw_phrase.specs.Sentence.{blank, or_value, with_noun, with_adjective, with_pronoun, with_word, with_tokens}
 use Rattle.paw_phrase.specs.Sentence.{with_verb, with_new_pronoun}
-use Rattle.paw_phrase.specs.Sentence.{finished, Parsed, IsSentence, IsUnknown, IsNoPhrase, parsed_marks, parsed}
+use Rattle.paw_phrase.specs.Sentence.{finished, Parsed, IsSentence, IsUnknown, IsNoPhrase, parsed_lexemes, parsed}
 
 -- Each part of the sentence is a byte.
 pub record AreBytes (s : Sentence) : Type 0 where
@@ -148,9 +148,9 @@ gives : (P : Sentence → Type 0) (b : Bool) (s : Sentence) (rest : List ℕ) �
 gives P true s rest h = h
 gives P false s rest h = tt
 
-parsed_marks-bytes : (g : GameLists) (e n a : ℕ) → Valid g → e < 256 → n < 256 → a < 256 → (ms : List Mark) → Gives AreBytes (parsed_marks g e n a ms)
-parsed_marks-bytes g e n a valid he hn ha [] = tt
-parsed_marks-bytes g e n a valid he hn ha (m ∷ ms) =
+parsed_lexemes-bytes : (g : GameLists) (e n a : ℕ) → Valid g → e < 256 → n < 256 → a < 256 → (ms : List Lexeme) → Gives AreBytes (parsed_lexemes g e n a ms)
+parsed_lexemes-bytes g e n a valid he hn ha [] = tt
+parsed_lexemes-bytes g e n a valid he hn ha (m ∷ ms) =
     let tokens = phrase_tokens g (m ∷ ms) in
     gives AreBytes _ (finished e (with_tokens g tokens (blank n a))) (bytes_after g (m ∷ ms)) (sentence-bytes g tokens e n a valid he hn ha)
 
@@ -159,4 +159,4 @@ pub parsed-bytes : (g : GameLists) (pending : List ℕ) (earlier noun adjective 
     → noun < 256 → adjective < 256 → parsed g pending earlier noun adjective ≡ IsSentence s rest → AreBytes s
 unfolding parsed
 parsed-bytes g pending e n a s rest valid he hn ha is =
-    subst (Gives AreBytes) is (parsed_marks-bytes g e n a valid he hn ha (from_phrase g (marks pending)))
+    subst (Gives AreBytes) is (parsed_lexemes-bytes g e n a valid he hn ha (from_phrase g (lexemes pending)))

@@ -19,30 +19,30 @@ abbrev pub five_letters : Token → Letters
 five_letters token = take WORD_LENGTH token ++ replicate (WORD_LENGTH - length token) 32
 
 -- A token, or a separator (which has no token), and the bytes after it.
-pub record Mark : Type 0 where
+pub record Lexeme : Type 0 where
   pub token : Option Letters
   pub after : Bytes
 
 -- The lexeme of a token with these bytes; none where there are no bytes.
-abbrev pub token_mark : Token → Bytes → List Mark
-token_mark [] after = []
-token_mark (b ∷ bs) after = record { token = Some (five_letters (b ∷ bs)); after = after } ∷ []
+abbrev pub token_lexeme : Token → Bytes → List Lexeme
+token_lexeme [] after = []
+token_lexeme (b ∷ bs) after = record { token = Some (five_letters (b ∷ bs)); after = after } ∷ []
 
 -- The lexeme of a separator, where this byte is one.
-abbrev pub separator_mark : ℕ → Bytes → List Mark
-separator_mark b after = if is_separator b then record { token = None; after = after } ∷ [] else []
+abbrev pub separator_lexeme : ℕ → Bytes → List Lexeme
+separator_lexeme b after = if is_separator b then record { token = None; after = after } ∷ [] else []
 
 -- The tokens and separators of bytes, in order, where `run` is the part of a token that stands right before them.
-unfoldable pub marks_from : Token → Bytes → List Mark
-marks_from run [] = token_mark run []
-marks_from run (b ∷ bs) =
-    if is_ascii_alphanumeric b then marks_from (run ++ to_ascii_uppercase b ∷ []) bs
-    else token_mark run (b ∷ bs) ++ separator_mark b bs ++ marks_from [] bs
+unfoldable pub lexemes_from : Token → Bytes → List Lexeme
+lexemes_from run [] = token_lexeme run []
+lexemes_from run (b ∷ bs) =
+    if is_ascii_alphanumeric b then lexemes_from (run ++ to_ascii_uppercase b ∷ []) bs
+    else token_lexeme run (b ∷ bs) ++ separator_lexeme b bs ++ lexemes_from [] bs
 
 -- The tokens and separators of bytes, in order. A token is a longest run of letters and digits, with small letters read
 -- as capitals; a byte that is neither in a token nor a separator is a blank.
-abbrev pub marks : Bytes → List Mark
-marks bytes = marks_from [] bytes
+abbrev pub lexemes : Bytes → List Lexeme
+lexemes bytes = lexemes_from [] bytes
 
 -- Whether a lexeme separates phrases: it is a separator, or a token whose letters are those of a conjunction.
 abbrev pub is_parting : GameLists → Option Letters → Bool
@@ -50,16 +50,16 @@ is_parting g None = true
 is_parting g (Some letters) = option_map_or (λ word. word.1 == CONJUNCTION_CLASS) (word_at g letters) false
 
 -- The lexemes from the first one that doesn't separate phrases to the end.
-abbrev pub from_phrase : GameLists → List Mark → List Mark
+abbrev pub from_phrase : GameLists → List Lexeme → List Lexeme
 from_phrase g [] = []
 from_phrase g (m ∷ ms) = if is_parting g m.token then from_phrase g ms else m ∷ ms
 
 -- The tokens up to the next lexeme that separates phrases.
-abbrev pub phrase_tokens : GameLists → List Mark → List Letters
+abbrev pub phrase_tokens : GameLists → List Lexeme → List Letters
 phrase_tokens g [] = []
 phrase_tokens g (m ∷ ms) = if is_parting g m.token then [] else option_to_list m.token ++ phrase_tokens g ms
 
 -- The bytes after the next lexeme that separates phrases; none where there is no such lexeme.
-abbrev pub bytes_after : GameLists → List Mark → Bytes
+abbrev pub bytes_after : GameLists → List Lexeme → Bytes
 bytes_after g [] = []
 bytes_after g (m ∷ ms) = if is_parting g m.token then m.after else bytes_after g ms

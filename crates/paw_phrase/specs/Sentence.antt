@@ -8,7 +8,7 @@ use Rattle.paw_base.specs.declared.words.TheConstants.{PREPOSITION_CLASS, PRONOU
 use Rattle.paw_base.specs.declared.words.TheConstants.{FIRST_PLAIN_NOUN, FIRST_NAMED_NOUN}
 use Rattle.paw_game.specs.Game.{GameLists}
 use Rattle.paw_game.specs.Tables.{word_at}
-use Rattle.paw_phrase.specs.Phrase.{Mark, marks, from_phrase, phrase_tokens, bytes_after}
+use Rattle.paw_phrase.specs.Phrase.{Lexeme, lexemes, from_phrase, phrase_tokens, bytes_after}
 use Rattle.paw_phrase.specs.declared.Sentence.{Sentence}
 
 -- A sentence with no word yet, in which a pronoun stands for this noun and this adjective.
@@ -88,9 +88,9 @@ pub data Parsed : Type 0 where
 
 -- The phrase that begins these lexemes: its tokens are a sentence where one of them is a word of the game, and the
 -- bytes after it stay pending. Where there is no lexeme there is no phrase.
-abbrev pub parsed_marks : GameLists → ℕ → ℕ → ℕ → List Mark → Parsed
-parsed_marks g earlier noun adjective [] = IsNoPhrase
-parsed_marks g earlier noun adjective (m ∷ ms) =
+abbrev pub parsed_lexemes : GameLists → ℕ → ℕ → ℕ → List Lexeme → Parsed
+parsed_lexemes g earlier noun adjective [] = IsNoPhrase
+parsed_lexemes g earlier noun adjective (m ∷ ms) =
     let tokens = phrase_tokens g (m ∷ ms) in
     if list_any (λ token. is_some (word_at g token)) tokens
     then IsSentence (finished earlier (with_tokens g tokens (blank noun adjective))) (bytes_after g (m ∷ ms))
@@ -98,4 +98,4 @@ parsed_marks g earlier noun adjective (m ∷ ms) =
 
 -- The next phrase of the pending bytes, after this verb, where a pronoun stands for this noun and adjective.
 unfoldable pub parsed : GameLists → Bytes → ℕ → ℕ → ℕ → Parsed
-parsed g pending earlier noun adjective = parsed_marks g earlier noun adjective (from_phrase g (marks pending))
+parsed g pending earlier noun adjective = parsed_lexemes g earlier noun adjective (from_phrase g (lexemes pending))

@@ -6,7 +6,7 @@ ghost use Rattle.paw_phrase.specs.inner.Draft.{phrase_part_of, or_nothing, with_
 ghost use Rattle.paw_phrase.specs.inner.Taking.{TakesPhrase};
 
 use crate::line::Pending;
-use crate::tokens::first_mark;
+use crate::tokens::first_lexeme;
 use crate::{Found, Sentence};
 use paw_base::limits::WORD_LENGTH;
 use paw_base::words::CONJUNCTION_CLASS;
@@ -95,9 +95,9 @@ fn read_phrase<T: Tables>(tables: &T, bytes: &[u8], noun: u8, adjective: u8) -> 
         words: Sentence::blank(noun, adjective),
     };
     let mut end = 0;
-    while let Some(mark) = first_mark(&bytes[end..]) {
-        end += mark.end;
-        match draft.with(part_of(tables, mark.token)) {
+    while let Some(lexeme) = first_lexeme(&bytes[end..]) {
+        end += lexeme.end;
+        match draft.with(part_of(tables, lexeme.token)) {
             Some(longer) => draft = longer,
             None => return PhraseReading { draft, end },
         }

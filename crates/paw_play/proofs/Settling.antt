@@ -29,7 +29,7 @@ use Rattle.paw_state.specs.Record.{last_piece, state_at}
 use Rattle.paw_state.specs.State.{HoldsBytes}
 use Rattle.paw_state.proofs.Ruled.{keeps_of}
 use Rattle.paw_play.specs.Stands.{IsPlayedWith}
-use Rattle.paw_process.proofs.Fitting.{places_fit, eleven_rows}
+use Rattle.paw_process.proofs.Fitting.{places_fit, eleven_frames}
 use Rattle.paw_play.proofs.Going.{Settles, IsSettled}
 
 -- No line is left where no table is open.
@@ -89,7 +89,7 @@ module _ (g : GameLists) (v : Valid g) (seed : ℕ) (n : ℕ) (fits : seed < 2 ^
       places = (k.world.places, (saved_stands g r.world.saved k.world.saved, λ i d low. saved_stands g _ (k.world.kept i d low)));
       events = few;
       draws = drawn r bound count;
-      rows = eleven_rows g (waiting_code p) path r.turning k.places;
+      rows = eleven_frames g (waiting_code p) path r.turning k.places;
       frames = places_fit g (waiting_code p) path r.turning k.places;
       line = k.pending.short;
       pending = closed_line g p path r k;

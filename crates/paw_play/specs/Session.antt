@@ -15,11 +15,11 @@ use Rattle.paw_state.specs.Record.{last_piece, state_at}
 
 -- The digests of a story: that of its game, and that of its routines.
 abbrev pub story_digests : Story → Digests
-story_digests g = record { game = sha256 (image g.game); routines = measure g.rows }
+story_digests g = record { game = sha256 (image g.game); routines = measure g.answers }
 
 -- A session with these digests is one of the story: it keeps the digest of its game, and that of its routines or none.
 abbrev pub IsOfStory : Story → Digests → Type 0
-IsOfStory g d = BelongsTo (sha256 (image g.game)) (measure g.rows) d
+IsOfStory g d = BelongsTo (sha256 (image g.game)) (measure g.answers) d
 
 -- The bytes that a session keeps of a state.
 unfoldable pub kept_bytes : State → Bytes

@@ -7,7 +7,7 @@ ghost use Rattle.paw_base.specs.declared.limits.TheConstants.{EVENT_LIMIT, READ_
 ghost use Rattle.paw_game.specs.Image.{image};
 ghost use Rattle.paw_stage.specs.Disk.{IsStable};
 ghost use Rattle.paw_stage.specs.Across.{IfTelling, EachMoment, InTwoParts, FailsOnlyBy};
-ghost use Rattle.paw_routines.specs.Routines.{HaveRows};
+ghost use Rattle.paw_routines.specs.Routines.{HaveAnswers};
 ghost use Rattle.paw_routines.specs.Measure.{measure};
 ghost use Rattle.paw_journal.specs.inner.Session.{digests_of};
 ghost use Rattle.paw_journal.specs.inner.Journal.{IsAtRest, KeptIn};
@@ -115,7 +115,7 @@ fn play_in<S: Stage, T: Tables, F: Fn(u8, u8) -> u8>(
     seed: u64,
     game: &[u8; 32],
 ) -> PlayEnd
-    requires rows { HaveRows F.Fn routines.now }
+    requires answers { HaveAnswers F.Fn routines.now }
     requires empty { at.length ≡ 0 }
     requires rests { S.Tells stage.old → IsAtRest (S.standing stage.old) }
     requires attached { S.Tells stage.old → at.length ≡ length (S.standing stage.old).disk.bytes }
@@ -123,11 +123,11 @@ fn play_in<S: Stage, T: Tables, F: Fn(u8, u8) -> u8>(
     ensures refused { IsNotForCall result }
     ensures plays { IfTelling S.Stage stage.old stage.new (λ old new.
         EachStory F.Fn routines.now (T.game tables.now) (λ g. (name : Name) → IsRestingStore name old →
-        MadeAndPlayed (begun_with g seed (digests_of game.now (measure g.rows)) name) old new result)) }
+        MadeAndPlayed (begun_with g seed (digests_of game.now (measure g.answers)) name) old new result)) }
     ensures any_moment { IfTelling S.Stage stage.old stage.new (λ old new.
         EachStory F.Fn routines.now (T.game tables.now) (λ g. (name : Name) → IsRestingStore name old →
         EachMoment S.Stage stage.old stage.new
-        (InNewSession (begun_with g seed (digests_of game.now (measure g.rows)) name) old))) }
+        (InNewSession (begun_with g seed (digests_of game.now (measure g.answers)) name) old))) }
 {
     let Ok(mut room) = Room::new(alloc) else {
         return PlayEnd::Memory;
@@ -154,7 +154,7 @@ pub fn play_loop<S: Stage, T: Tables, F: Fn(u8, u8) -> u8>(
     game: &[u8; 32],
     name: &str,
 ) -> PlayEnd
-    requires rows { HaveRows F.Fn routines.now }
+    requires answers { HaveAnswers F.Fn routines.now }
     requires game { game.now ≡ sha256 (image (T.game tables.now)) }
     requires synced { S.Tells stage.old → IsStable (S.standing stage.old).disk }
     ensures serves { FailsOnlyBy S.Stage session_calls (call_of_end result) stage.old stage.new }

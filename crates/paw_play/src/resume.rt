@@ -8,7 +8,7 @@ ghost use Rattle.paw_stage.specs.Disk.{IsStable};
 ghost use Rattle.paw_stage.specs.Across.{IfTelling, EachMoment, InTwoParts, FailsOnlyBy};
 ghost use Rattle.paw_stage.specs.inner.Across.{AtEachMoment};
 ghost use Rattle.paw_stage.specs.Moments.{InShow};
-ghost use Rattle.paw_routines.specs.Routines.{HaveRows};
+ghost use Rattle.paw_routines.specs.Routines.{HaveAnswers};
 ghost use Rattle.paw_state.specs.State.{State};
 ghost use Rattle.paw_journal.specs.Session.{Digests, kept_digests};
 ghost use Rattle.paw_journal.specs.inner.Journal.{KeptIn};
@@ -71,7 +71,7 @@ fn play_recovered<S: Stage, T: Tables, F: Fn(u8, u8) -> u8>(
     room: &mut Room,
     journal: Journal,
 ) -> PlayEnd
-    requires rows { HaveRows F.Fn routines.now }
+    requires answers { HaveAnswers F.Fn routines.now }
     requires kept { S.Tells stage.old → KeptIn journal room.old (S.standing stage.old) }
     ensures serves { FailsOnlyBy S.Stage play_calls (call_of_end result) stage.old stage.new }
     ensures refused { IsNotForCall result }
@@ -118,7 +118,7 @@ pub fn resume_loop<S: Stage, T: Tables, F: Fn(u8, u8) -> u8>(
     name: &str,
 ) -> PlayEnd
     requires game { game.now ≡ sha256 (image (T.game tables.now)) }
-    requires rows { HaveRows F.Fn routines.now }
+    requires answers { HaveAnswers F.Fn routines.now }
     requires synced { S.Tells stage.old → IsStable (S.standing stage.old).disk }
     ensures serves { FailsOnlyBy S.Stage session_calls (call_of_end result) stage.old stage.new }
     ensures refused { IsNotForCall result }

@@ -2,7 +2,7 @@
 
 ghost use Rattle.std.specs.Prelude.{◌≡◌, ◌+◌, ◌<◌, ◌≤◌, ◌^◌, ℕ, suc, [], ◌∷◌, length, None, IfSome, OnErr, IsErr};
 ghost use Rattle.paw_base.specs.declared.limits.TheConstants.{EVENT_LIMIT, READ_LIMIT};
-ghost use Rattle.paw_routines.specs.Routines.{HaveRows};
+ghost use Rattle.paw_routines.specs.Routines.{HaveAnswers};
 ghost use Rattle.paw_stage.specs.Stage.{Standing, ShowsPart, failed_in, with_shown};
 ghost use Rattle.paw_stage.specs.Across.{IfTelling, FailsOnlyBy};
 ghost use Rattle.paw_stage.specs.inner.Across.{OnSuccess, AtEachMoment};
@@ -96,7 +96,7 @@ fn walk_line<P: Preface, S: Stage, T: Tables, F: Fn(u8, u8) -> u8>(
     player: &mut Player<'_, T, F>,
 ) -> Option<PlayEnd>
     requires seated { IsSeated player.old }
-    requires rows { HaveRows F.Fn player.old.routines }
+    requires answers { HaveAnswers F.Fn player.old.routines }
     requires draws { player.old.world.draws + READ_LIMIT < 2 ^ 64 }
     ensures player { StillPlays (player.old.world.draws + READ_LIMIT) player.old player.new }
     ensures serves { FailsOnlyBy S.Stage walk_calls (failed_so_far result) stage.old stage.new }
@@ -124,7 +124,7 @@ fn walk_lines<P: Preface, S: Stage, T: Tables, F: Fn(u8, u8) -> u8>(
     player: &mut Player<'_, T, F>,
 ) -> PlayEnd
     requires seated { IsSeated player.old }
-    requires rows { HaveRows F.Fn player.old.routines }
+    requires answers { HaveAnswers F.Fn player.old.routines }
     requires draws { player.old.world.draws ≤ READ_LIMIT }
     ensures serves { FailsOnlyBy S.Stage walk_calls (call_of_end result) stage.old stage.new }
     ensures refused { IsNotForCall result }
@@ -152,7 +152,7 @@ pub fn walk_loop<P: Preface, S: Stage, T: Tables, F: Fn(u8, u8) -> u8>(
     routines: &Routines<F>,
     seed: u64,
 ) -> PlayEnd
-    requires rows { HaveRows F.Fn routines.now }
+    requires answers { HaveAnswers F.Fn routines.now }
     ensures serves { FailsOnlyBy S.Stage walk_calls (call_of_end result) stage.old stage.new }
     ensures refused { IsNotForCall result }
     ensures walks { IfTelling S.Stage stage.old stage.new (λ old new. EachStory F.Fn routines.now (T.game tables.now)

@@ -16,11 +16,11 @@ use Rattle.paw_reading.specs.declared.places.OpenLoop.{OpenLoop}
 use Rattle.paw_process.specs.declared.kept.Frames.{Frames}
 use Rattle.paw_process.specs.inner.OpenTables.{OpenTables}
 use Rattle.paw_process.specs.inner.OpenTables.{refilled}
-use Rattle.paw_process.proofs.Rows.{length_rows}
+use Rattle.paw_process.proofs.OpenFrames.{length_frames}
 use Rattle.paw_process.proofs.Restored.{first_of, second, no_first}
 use Rattle.paw_process.specs.Kept.{frames_at, parameter_of}
 use Rattle.paw_process.specs.inner.Kept.{unused, kept}
-use Rattle.paw_process.specs.inner.Kept.{is_unused, row_stands, rows_fault, condact_at_frame}
+use Rattle.paw_process.specs.inner.Kept.{is_unused, frame_stands, first_frame_fault, condact_at_frame}
 use Rattle.paw_process.specs.Kept.{count_fits, waiting_code}
 use Rattle.paw_process.specs.inner.Kept.{loop_fault, fault_at, frames_fault}
 use Rattle.paw_process.specs.inner.Kept.{restored, waiting_at, WaitsAtPrompt}
@@ -66,30 +66,30 @@ unused_is f h =
     (eqb-true f.at 0 (first_of (f.at == 0) _ last)) (is_not f.acted (second (f.at == 0) _ last))
 
 -- With no frame in use each is unused.
-none_used : (g : GameLists) (code : ℕ) (caller : Option ℕ) (d : ℕ) (rows : List Frame) → rows_fault g code caller 0 d rows ≡ None
+none_used : (g : GameLists) (code : ℕ) (caller : Option ℕ) (d : ℕ) (rows : List Frame) → first_frame_fault g code caller 0 d rows ≡ None
     → rows ≡ replicate (length rows) unused
-unfolding rows_fault
+unfolding first_frame_fault
 none_used g code caller d [] h = refl
 none_used g code caller d (f ∷ fs) h = go (none_used g code (Some (parameter_of (condact_at_frame g f))) (suc d) fs) (is_unused f) refl h
   where
-    go : (rows_fault g code (Some (parameter_of (condact_at_frame g f))) 0 (suc d) fs ≡ None → fs ≡ replicate (length fs) unused) → (b : Bool) → is_unused f ≡ b
-        → ◌≡◌ {A = Option ℕ} (if b then rows_fault g code (Some (parameter_of (condact_at_frame g f))) (0 - 1) (suc d) fs else Some d) None
+    go : (first_frame_fault g code (Some (parameter_of (condact_at_frame g f))) 0 (suc d) fs ≡ None → fs ≡ replicate (length fs) unused) → (b : Bool) → is_unused f ≡ b
+        → ◌≡◌ {A = Option ℕ} (if b then first_frame_fault g code (Some (parameter_of (condact_at_frame g f))) (0 - 1) (suc d) fs else Some d) None
         → f ∷ fs ≡ replicate (length (f ∷ fs)) unused
     go later true e q = let same = unused_is f e in let rest = later q in cc (same, rest)
     go later false e q = cc
 
 -- Each frame after those in use is unused.
-used_then_not : (g : GameLists) (code : ℕ) (caller : Option ℕ) (n d : ℕ) (rows : List Frame) → rows_fault g code caller n d rows ≡ None
+used_then_not : (g : GameLists) (code : ℕ) (caller : Option ℕ) (n d : ℕ) (rows : List Frame) → first_frame_fault g code caller n d rows ≡ None
     → rows ≡ take n rows ++ replicate (length rows - n) unused
-unfolding rows_fault
+unfolding first_frame_fault
 used_then_not g code caller zero d rows h = let m : length rows - 0 ≡ length rows = omega arith in rw m (none_used g code caller d rows h)
 used_then_not g code caller (suc n) d [] h = let m : 0 - suc n ≡ 0 = omega arith in rw m refl
 used_then_not g code caller (suc n) d (f ∷ fs) h =
-    go (used_then_not g code (Some (parameter_of (condact_at_frame g f))) n (suc d) fs) (row_stands g code caller (suc n) f) refl h
+    go (used_then_not g code (Some (parameter_of (condact_at_frame g f))) n (suc d) fs) (frame_stands g code caller (suc n) f) refl h
   where
-    go : (rows_fault g code (Some (parameter_of (condact_at_frame g f))) n (suc d) fs ≡ None → fs ≡ take n fs ++ replicate (length fs - n) unused)
-        → (b : Bool) → row_stands g code caller (suc n) f ≡ b
-        → ◌≡◌ {A = Option ℕ} (if b then rows_fault g code (Some (parameter_of (condact_at_frame g f))) (suc n - 1) (suc d) fs else Some d) None
+    go : (first_frame_fault g code (Some (parameter_of (condact_at_frame g f))) n (suc d) fs ≡ None → fs ≡ take n fs ++ replicate (length fs - n) unused)
+        → (b : Bool) → frame_stands g code caller (suc n) f ≡ b
+        → ◌≡◌ {A = Option ℕ} (if b then first_frame_fault g code (Some (parameter_of (condact_at_frame g f))) (suc n - 1) (suc d) fs else Some d) None
         → f ∷ fs ≡ take (suc n) (f ∷ fs) ++ replicate (length (f ∷ fs) - suc n) unused
     go later true e q =
         let m : suc n - 1 ≡ n = omega arith in
@@ -102,7 +102,7 @@ kept_of : (count : ℕ) (rows : List Frame) (turning : Option OpenLoop) → coun
     → frames_at (reverse (reverse (take count rows))) turning ≡ record { count = count; rows = rows; turning = turning }
 kept_of count rows turning low size split =
     let few : replicate (length rows - count) unused ≡ replicate (11 - count) unused = ap (λ n. replicate (n - count) unused) size in
-    rw (reverse-reverse (take count rows), length_rows rows count (omega arith))
+    rw (reverse-reverse (take count rows), length_frames rows count (omega arith))
     (ap (λ (s : List Frame). record { count = count; rows = s; turning = turning }) (ap (λ (s : List Frame). take count rows ++ s) (sym few) ∙ sym split))
 
 low_count : (code : Option ℕ) (n : ℕ) → count_fits code n ≡ true → n ≤ 11
@@ -115,10 +115,10 @@ kept_at g code waiting k size h = go (count_fits code k.count) refl h
   where
     go : (b : Bool) → count_fits code k.count ≡ b
         → ◌≡◌ {A = Option ℕ}
-        (if b then option_or (rows_fault g (unwrap_or code 0) None k.count 0 k.rows) (loop_fault g k k.turning) else Some 0) None
+        (if b then option_or (first_frame_fault g (unwrap_or code 0) None k.count 0 k.rows) (loop_fault g k k.turning) else Some 0) None
         → kept (restored k waiting) ≡ k
     go true e q =
-        let fits = no_first (rows_fault g (unwrap_or code 0) None k.count 0 k.rows) (loop_fault g k k.turning) q in
+        let fits = no_first (first_frame_fault g (unwrap_or code 0) None k.count 0 k.rows) (loop_fault g k k.turning) q in
         kept_of k.count k.rows k.turning (low_count code k.count e) size (used_then_not g (unwrap_or code 0) None k.count 0 k.rows fits.0)
     go false e q = cc
 

@@ -20,13 +20,13 @@ use Rattle.paw_reading.specs.Turn.{first_table}
 use Rattle.paw_reading.specs.inner.Places.{LeadsTo, tables_of, IsLoopIn, AreOpenTo, AreOpenAt, AreFramesAndLoop}
 use Rattle.paw_process.specs.Kept.{frames_at, has_code, may_open, parameter_of}
 use Rattle.paw_process.specs.inner.Kept.{unused}
-use Rattle.paw_process.specs.inner.Kept.{condact_at_frame, row_stands, rows_fault}
-use Rattle.paw_process.proofs.Rows.{table_of}
+use Rattle.paw_process.specs.inner.Kept.{condact_at_frame, frame_stands, first_frame_fault}
+use Rattle.paw_process.proofs.OpenFrames.{table_of}
 use Rattle.paw_process.specs.Kept.{count_fits}
 use Rattle.paw_process.specs.inner.Kept.{is_that_table}
 use Rattle.paw_process.specs.inner.Kept.{loop_stands, loop_fault, fault_at, frames_fault}
 use Rattle.paw_process.specs.declared.kept.Frames.{Frames}
-use Rattle.paw_process.proofs.PathRows.{unused_stand, row_calls, path_stands, loop_fits, both_none}
+use Rattle.paw_process.proofs.PathFrames.{unused_stand, frame_calls, path_stands, loop_fits, both_none}
 use Rattle.paw_process.proofs.Restored.{first_of, second, no_first, none_open}
 
 -- ---- the frames of a run ----
@@ -37,20 +37,20 @@ some_table g code (f ∷ path) leads = omega arith
 
 pub places_fit : (g : GameLists) (code : Option ℕ) (path : List Frame) (turning : Option OpenLoop) → AreOpenAt g code path turning
     → fault_at g code (frames_at path turning) ≡ None
-places_fit g None path turning at = rw (at.0, at.1) (both_none (rows_fault g 0 None 0 0 (replicate 11 unused)) None (unused_stand g 0 None 0 11) refl)
+places_fit g None path turning at = rw (at.0, at.1) (both_none (first_frame_fault g 0 None 0 0 (replicate 11 unused)) None (unused_stand g 0 None 0 11) refl)
 places_fit g (Some code) path turning at =
     let fits : count_fits (Some code) (length path) ≡ true = let few = at.few in let some = some_table g code path at.leads in grind (arith, nat_tests) in
     let opens : may_open None (first_table path) ≡ true = let low = at.outermost in grind (arith, nat_tests) in
     rw fits
-    (both_none (rows_fault g code None (length path) 0 (path ++ replicate (11 - length path) unused)) (loop_fault g (frames_at path turning) turning)
+    (both_none (first_frame_fault g code None (length path) 0 (path ++ replicate (11 - length path) unused)) (loop_fault g (frames_at path turning) turning)
     (path_stands g code None path 0 (11 - length path) at.leads opens)
     (loop_fits g path (replicate (11 - length path) unused) (length path) turning turning refl at.loop))
 
 -- There are eleven frames.
-pub eleven_rows : (g : GameLists) (code : Option ℕ) (path : List Frame) (turning : Option OpenLoop) → AreOpenAt g code path turning
+pub eleven_frames : (g : GameLists) (code : Option ℕ) (path : List Frame) (turning : Option OpenLoop) → AreOpenAt g code path turning
     → length (frames_at path turning).rows ≡ 11
-eleven_rows g None path turning at = rw at.0 refl
-eleven_rows g (Some code) path turning at =
+eleven_frames g None path turning at = rw at.0 refl
+eleven_frames g (Some code) path turning at =
     omega (arith, length-append path (replicate (11 - length path) unused), length-replicate (11 - length path) unused, at.few)
 
 -- ---- frames that stand are those of a run ----
@@ -69,35 +69,35 @@ record Row (g : GameLists) (code : ℕ) (caller : Option ℕ) (f : Frame) : Type
   stands : condact_at_frame g f ≡ Some condact
   is : condact.code ≡ code
 
-row_says : (g : GameLists) (code : ℕ) (caller : Option ℕ) (f : Frame) → (may_open caller f.table && has_code code (condact_at_frame g f)) ≡ true →
+frame_says : (g : GameLists) (code : ℕ) (caller : Option ℕ) (f : Frame) → (may_open caller f.table && has_code code (condact_at_frame g f)) ≡ true →
     Row g code caller f
-row_says g code caller f h =
+frame_says g code caller f h =
     let at = coded code (condact_at_frame g f) (second (may_open caller f.table) _ h) in
     record { opens = first_of (may_open caller f.table) _ h; condact = at.0; stands = at.1.0; is = at.1.1 }
 
-later_rows : (g : GameLists) (code : ℕ) (caller : Option ℕ) (n d : ℕ) (f : Frame) (fs : List Frame) → rows_fault g code caller (suc n) d (f ∷ fs) ≡ None
-    → (row_stands g code caller (suc n) f ≡ true) × (rows_fault g code (Some (parameter_of (condact_at_frame g f))) n (suc d) fs ≡ None)
-unfolding rows_fault
-later_rows g code caller n d f fs h = go (row_stands g code caller (suc n) f) refl h
+later_frames : (g : GameLists) (code : ℕ) (caller : Option ℕ) (n d : ℕ) (f : Frame) (fs : List Frame) → first_frame_fault g code caller (suc n) d (f ∷ fs) ≡ None
+    → (frame_stands g code caller (suc n) f ≡ true) × (first_frame_fault g code (Some (parameter_of (condact_at_frame g f))) n (suc d) fs ≡ None)
+unfolding first_frame_fault
+later_frames g code caller n d f fs h = go (frame_stands g code caller (suc n) f) refl h
   where
-    go : (b : Bool) → row_stands g code caller (suc n) f ≡ b
-        → ◌≡◌ {A = Option ℕ} (if b then rows_fault g code (Some (parameter_of (condact_at_frame g f))) (suc n - 1) (suc d) fs else Some d) None
-        → (row_stands g code caller (suc n) f ≡ true) × (rows_fault g code (Some (parameter_of (condact_at_frame g f))) n (suc d) fs ≡ None)
+    go : (b : Bool) → frame_stands g code caller (suc n) f ≡ b
+        → ◌≡◌ {A = Option ℕ} (if b then first_frame_fault g code (Some (parameter_of (condact_at_frame g f))) (suc n - 1) (suc d) fs else Some d) None
+        → (frame_stands g code caller (suc n) f ≡ true) × (first_frame_fault g code (Some (parameter_of (condact_at_frame g f))) n (suc d) fs ≡ None)
     go true e q = let m : suc n - 1 ≡ n = omega arith in (e, rw m at q)
     go false e q = cc
 
 -- The frames that are used lead to the condact.
-rows_lead : (g : GameLists) (code : ℕ) (caller : Option ℕ) (n d : ℕ) (rows : List Frame) → suc n ≤ length rows → rows_fault g code caller (suc n) d rows ≡ None
+frames_lead : (g : GameLists) (code : ℕ) (caller : Option ℕ) (n d : ℕ) (rows : List Frame) → suc n ≤ length rows → first_frame_fault g code caller (suc n) d rows ≡ None
     → LeadsTo g code (take (suc n) rows) × (may_open caller (first_table (take (suc n) rows)) ≡ true)
-rows_lead g code caller n d [] size h = absurd (omega arith)
-rows_lead g code caller zero d (f ∷ fs) size h =
-    let row = row_says g code caller f (later_rows g code caller 0 d f fs h).0 in
+frames_lead g code caller n d [] size h = absurd (omega arith)
+frames_lead g code caller zero d (f ∷ fs) size h =
+    let row = frame_says g code caller f (later_frames g code caller 0 d f fs h).0 in
     (record { condact = row.condact; stands = row.stands; is = row.is }, row.opens)
-rows_lead g code caller (suc n) d (f ∷ []) size h = absurd (omega arith)
-rows_lead g code caller (suc n) d (f ∷ i ∷ fs) size h =
-    let rows = later_rows g code caller (suc n) d f (i ∷ fs) h in
-    let row = row_says g 85 caller f (sym (row_calls g code caller n f) ∙ rows.0) in
-    let rest = rows_lead g code (Some (parameter_of (condact_at_frame g f))) n (suc d) (i ∷ fs) (omega arith) rows.1 in (
+frames_lead g code caller (suc n) d (f ∷ []) size h = absurd (omega arith)
+frames_lead g code caller (suc n) d (f ∷ i ∷ fs) size h =
+    let rows = later_frames g code caller (suc n) d f (i ∷ fs) h in
+    let row = frame_says g 85 caller f (sym (frame_calls g code caller n f) ∙ rows.0) in
+    let rest = frames_lead g code (Some (parameter_of (condact_at_frame g f))) n (suc d) (i ∷ fs) (omega arith) rows.1 in (
       (
         record {
           condact = row.condact;
@@ -141,11 +141,11 @@ loop_in g k (Some l) h = go (loop_stands g k l) refl h
 open_places : (g : GameLists) (code : ℕ) (k : Frames) → length k.rows ≡ 11 → fault_at g (Some code) k ≡ None → AreOpenTo g code (take k.count k.rows) k.turning
 open_places g code k size h = go (count_fits (Some code) k.count) refl h
   where
-    at : (n : ℕ) → 0 < n → n ≤ 11 → n ≡ k.count → rows_fault g code None n 0 k.rows ≡ None → loop_fault g k k.turning ≡ None
+    at : (n : ℕ) → 0 < n → n ≤ 11 → n ≡ k.count → first_frame_fault g code None n 0 k.rows ≡ None → loop_fault g k k.turning ≡ None
         → AreOpenTo g code (take k.count k.rows) k.turning
     at zero some few is rows loop = absurd (omega arith)
     at (suc n) some few is rows loop =
-        let lead = rows_lead g code None n 0 k.rows (omega (arith, size)) rows in
+        let lead = frames_lead g code None n 0 k.rows (omega (arith, size)) rows in
         record {
           few = omega (arith, few, is, length-take k.count k.rows);
           outermost = leb-true (first_table (take k.count k.rows)) 2 (subst (λ m. may_open None (first_table (take m k.rows)) ≡ true) is lead.1);
@@ -154,10 +154,10 @@ open_places g code k size h = go (count_fits (Some code) k.count) refl h
         }
 
     go : (b : Bool) → count_fits (Some code) k.count ≡ b
-        → ◌≡◌ {A = Option ℕ} (if b then option_or (rows_fault g code None k.count 0 k.rows) (loop_fault g k k.turning) else Some 0) None
+        → ◌≡◌ {A = Option ℕ} (if b then option_or (first_frame_fault g code None k.count 0 k.rows) (loop_fault g k k.turning) else Some 0) None
         → AreOpenTo g code (take k.count k.rows) k.turning
     go true e q =
-        let fits = no_first (rows_fault g code None k.count 0 k.rows) (loop_fault g k k.turning) q in
+        let fits = no_first (first_frame_fault g code None k.count 0 k.rows) (loop_fault g k k.turning) q in
         at k.count (ltb-true 0 k.count (first_of (nat_lt 0 k.count) _ e)) (leb-true k.count 11 (second (nat_lt 0 k.count) _ e)) refl fits.0 fits.1
     go false e q = cc
 

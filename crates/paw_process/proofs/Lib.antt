@@ -1,6 +1,6 @@
 pub mod Taking
 pub mod Steps
-pub mod Rows
+pub mod OpenFrames
 pub mod Stops
 pub mod Readings
 pub mod Works
@@ -8,5 +8,5 @@ pub mod Hearing
 pub mod Runs
 pub mod Restored
 pub mod Again
-pub mod PathRows
+pub mod PathFrames
 pub mod Fitting

@@ -18,8 +18,8 @@ use Rattle.paw_reading.specs.declared.places.Frame.{Frame}
 use Rattle.paw_reading.specs.declared.places.OpenLoop.{OpenLoop}
 use Rattle.paw_process.specs.Kept.{has_code, may_open, parameter_of}
 use Rattle.paw_process.specs.inner.Kept.{is_that_table}
-use Rattle.paw_process.specs.inner.Kept.{condact_at_frame, row_stands, rows_fault}
-use Rattle.paw_process.proofs.Rows.{table_of}
+use Rattle.paw_process.specs.inner.Kept.{condact_at_frame, frame_stands, first_frame_fault}
+use Rattle.paw_process.proofs.OpenFrames.{table_of}
 use Rattle.paw_process.specs.Kept.{count_fits}
 use Rattle.paw_process.specs.inner.Kept.{loop_stands, loop_fault, fault_at, frames_fault}
 use Rattle.paw_process.specs.inner.Kept.{restored, waiting_at, WaitsAtPrompt}
@@ -28,21 +28,21 @@ use Rattle.paw_process.specs.inner.OpenTables.{below, IsAtCondact, AtCondacts, I
 use Rattle.paw_process.specs.inner.OpenTables.{IsWaiting, IsClosed}
 
 -- The frames one by one.
-pub rows_none : (g : GameLists) (code : ℕ) (caller : Option ℕ) (n d : ℕ) (rows : List Frame) → length rows ≡ 0 → None ≡ rows_fault g code caller n d rows
-unfolding rows_fault
-rows_none g code caller n d [] h = refl
-rows_none g code caller n d (f ∷ fs) h = absurd (omega arith)
+pub no_frames : (g : GameLists) (code : ℕ) (caller : Option ℕ) (n d : ℕ) (rows : List Frame) → length rows ≡ 0 → None ≡ first_frame_fault g code caller n d rows
+unfolding first_frame_fault
+no_frames g code caller n d [] h = refl
+no_frames g code caller n d (f ∷ fs) h = absurd (omega arith)
 
-pub rows_first : (g : GameLists) (code : ℕ) (caller : Option ℕ) (n d : ℕ) (rows : List Frame) (f : Frame) (fs : List Frame) → rows ≡ f ∷ fs
-    → row_stands g code caller n f ≡ false → Some d ≡ rows_fault g code caller n d rows
-unfolding rows_fault
-rows_first g code caller n d rows f fs e h = rw (e, h) refl
+pub first_frame : (g : GameLists) (code : ℕ) (caller : Option ℕ) (n d : ℕ) (rows : List Frame) (f : Frame) (fs : List Frame) → rows ≡ f ∷ fs
+    → frame_stands g code caller n f ≡ false → Some d ≡ first_frame_fault g code caller n d rows
+unfolding first_frame_fault
+first_frame g code caller n d rows f fs e h = rw (e, h) refl
 
-pub rows_later : (g : GameLists) (code : ℕ) (caller : Option ℕ) (n d : ℕ) (rows : List Frame) (f : Frame) (fs : List Frame) → rows ≡ f ∷ fs
-    → row_stands g code caller n f ≡ true
-    → rows_fault g code (Some (parameter_of (condact_at_frame g f))) (n - 1) (suc d) fs ≡ rows_fault g code caller n d rows
-unfolding rows_fault
-rows_later g code caller n d rows f fs e h = rw (e, h) refl
+pub later_frame : (g : GameLists) (code : ℕ) (caller : Option ℕ) (n d : ℕ) (rows : List Frame) (f : Frame) (fs : List Frame) → rows ≡ f ∷ fs
+    → frame_stands g code caller n f ≡ true
+    → first_frame_fault g code (Some (parameter_of (condact_at_frame g f))) (n - 1) (suc d) fs ≡ first_frame_fault g code caller n d rows
+unfolding first_frame_fault
+later_frame g code caller n d rows f fs e h = rw (e, h) refl
 
 -- A frame that is used stands at a condact.
 coded : (g : GameLists) (f : Frame) (code : ℕ) (o : Option Condact) → Valid g → condact_at_frame g f ≡ o → has_code code o ≡ true → IsAtCondact f
@@ -60,26 +60,26 @@ pub second : (a b : Bool) → (a && b) ≡ true → b ≡ true
 second true b h = h
 second false b h = cc
 
-used_row : (g : GameLists) (code : ℕ) (caller : Option ℕ) (n : ℕ) (f : Frame) → Valid g → row_stands g code caller (suc n) f ≡ true → IsAtCondact f
-used_row g code caller n f v h =
+used_frame : (g : GameLists) (code : ℕ) (caller : Option ℕ) (n : ℕ) (f : Frame) → Valid g → frame_stands g code caller (suc n) f ≡ true → IsAtCondact f
+used_frame g code caller n f v h =
     let t : (suc n == 0) ≡ false = grind (arith, nat_tests) in
     coded g f (if suc n == 1 then code else 85) (condact_at_frame g f) v refl (second (may_open caller f.table) _ (rw t at h))
 
-pub at_condacts : (g : GameLists) (code : ℕ) (caller : Option ℕ) (n d : ℕ) (rows : List Frame) → Valid g → rows_fault g code caller n d rows ≡ None
+pub at_condacts : (g : GameLists) (code : ℕ) (caller : Option ℕ) (n d : ℕ) (rows : List Frame) → Valid g → first_frame_fault g code caller n d rows ≡ None
     → AtCondacts (take n rows)
-unfolding rows_fault
+unfolding first_frame_fault
 at_condacts g code caller zero d [] v h = tt
 at_condacts g code caller zero d (f ∷ fs) v h = tt
 at_condacts g code caller (suc n) d [] v h = tt
 at_condacts g code caller (suc n) d (f ∷ fs) v h =
-    go (at_condacts g code (Some (parameter_of (condact_at_frame g f))) n (suc d) fs v) (row_stands g code caller (suc n) f) refl h
+    go (at_condacts g code (Some (parameter_of (condact_at_frame g f))) n (suc d) fs v) (frame_stands g code caller (suc n) f) refl h
   where
-    go : (rows_fault g code (Some (parameter_of (condact_at_frame g f))) n (suc d) fs ≡ None → AtCondacts (take n fs)) → (b : Bool)
-        → row_stands g code caller (suc n) f ≡ b
-        → ◌≡◌ {A = Option ℕ} (if b then rows_fault g code (Some (parameter_of (condact_at_frame g f))) (suc n - 1) (suc d) fs else Some d) None
+    go : (first_frame_fault g code (Some (parameter_of (condact_at_frame g f))) n (suc d) fs ≡ None → AtCondacts (take n fs)) → (b : Bool)
+        → frame_stands g code caller (suc n) f ≡ b
+        → ◌≡◌ {A = Option ℕ} (if b then first_frame_fault g code (Some (parameter_of (condact_at_frame g f))) (suc n - 1) (suc d) fs else Some d) None
         → IsAtCondact f × AtCondacts (take n fs)
     go later true e q =
-        let m : suc n - 1 ≡ n = omega arith in (used_row g code caller n f v e, later (rw m at q))
+        let m : suc n - 1 ≡ n = omega arith in (used_frame g code caller n f v e, later (rw m at q))
     go later false e q = cc
 
 -- The frames in the other order.
@@ -125,10 +125,10 @@ waits_at : (g : GameLists) (p : Prompt) (code : ℕ) (k : Frames) → Valid g �
 waits_at g p code k v size h = go (count_fits (Some code) k.count) refl h
   where
     go : (b : Bool) → count_fits (Some code) k.count ≡ b
-        → ◌≡◌ {A = Option ℕ} (if b then option_or (rows_fault g code None k.count 0 k.rows) (loop_fault g k k.turning) else Some 0) None
+        → ◌≡◌ {A = Option ℕ} (if b then option_or (first_frame_fault g code None k.count 0 k.rows) (loop_fault g k k.turning) else Some 0) None
         → IsWaiting p (restored k (Some p))
     go true e q =
-        let fits = no_first (rows_fault g code None k.count 0 k.rows) (loop_fault g k k.turning) q in
+        let fits = no_first (first_frame_fault g code None k.count 0 k.rows) (loop_fault g k k.turning) q in
         let some : 0 < k.count = ltb-true 0 k.count (first_of (nat_lt 0 k.count) _ e) in
         let low : k.count ≤ 11 = leb-true k.count 11 (second (nat_lt 0 k.count) _ e) in
         let n : length (reverse (take k.count k.rows)) ≡ k.count = omega (arith, length-reverse (take k.count k.rows), length-take k.count k.rows) in
@@ -158,10 +158,10 @@ none_open g k h = go (count_fits None k.count) refl h
         cc (rw f at q)
 
     go : (b : Bool) → count_fits None k.count ≡ b
-        → ◌≡◌ {A = Option ℕ} (if b then option_or (rows_fault g 0 None k.count 0 k.rows) (loop_fault g k k.turning) else Some 0) None
+        → ◌≡◌ {A = Option ℕ} (if b then option_or (first_frame_fault g 0 None k.count 0 k.rows) (loop_fault g k k.turning) else Some 0) None
         → IsClosed (restored k None)
     go true e q =
-        let fits = no_first (rows_fault g 0 None k.count 0 k.rows) (loop_fault g k k.turning) q in
+        let fits = no_first (first_frame_fault g 0 None k.count 0 k.rows) (loop_fault g k k.turning) q in
         let z : k.count ≡ 0 = eqb-true k.count 0 e in
         record { frames = rw z refl; turning = loop_gone k.turning z fits.1; waiting = refl }
     go false e q = cc

@@ -16,7 +16,7 @@ use Rattle.paw_reading.specs.declared.places.OpenLoop.{OpenLoop}
 use Rattle.paw_reading.specs.Run.{Run, closed, without_loop}
 use Rattle.paw_reading.specs.declared.places.Halt.TheVariants as halt
 use Rattle.paw_reading.specs.Reading.{Redescribes, Halts, Out, Left, Stopped, halts, at_level, next_object_or}
-use Rattle.paw_reading.specs.Reading.{taken, over_objects, loop_of, waits, from_place, rest_of_loop, deeper}
+use Rattle.paw_reading.specs.Reading.{taken, over_objects, loop_of, waits, from_condact, rest_of_loop, deeper}
 use Rattle.paw_reading.specs.Reading.{rest_of_table, reads_one}
 use Rattle.paw_reading.specs.GoingOn.{on_path}
 use Rattle.paw_reading.specs.inner.GoingOn.{along}
@@ -133,7 +133,7 @@ going_inside g fs f r h =
 
 -- Before an entry.
 going_before : (g : Story) (fs : List Frame) (f : Frame) (r : Run) → f.at ≡ 0
-    → going_in g (f ∷ fs) r ≡ resolved g fs (from_place g (deeper g (length fs)) (length fs) f.table f.entry 0 f.acted r)
+    → going_in g (f ∷ fs) r ≡ resolved g fs (from_condact g (deeper g (length fs)) (length fs) f.table f.entry 0 f.acted r)
 going_before g fs f r h = rw h refl
 
 pub going_left : (g : Story) (fs : List Frame) (f : Frame) (r : Run) → f.at ≡ 0

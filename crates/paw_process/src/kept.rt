@@ -6,7 +6,7 @@ ghost use Rattle.paw_game.specs.Valid.{is_place};
 ghost use Rattle.paw_process.specs.Kept.{waiting_code, may_open, has_code, parameter_of};
 ghost use Rattle.paw_process.specs.inner.Kept.{is_unused};
 ghost use Rattle.paw_process.specs.inner.Kept.{is_that_table};
-ghost use Rattle.paw_process.specs.inner.Kept.{row_stands, rows_fault, loop_stands};
+ghost use Rattle.paw_process.specs.inner.Kept.{frame_stands, first_frame_fault, loop_stands};
 ghost use Rattle.paw_process.specs.Kept.{count_fits};
 ghost use Rattle.paw_process.specs.inner.Kept.{loop_fault, frames_fault};
 ghost use Rattle.paw_process.specs.inner.Kept.{waiting_at};
@@ -100,8 +100,8 @@ fn is_unused(f: &Frame) -> bool
 
 /// Whether a frame follows its rules, where this many frames are used from it on: the last of these waits at this
 /// condact.
-fn row_stands<T: Tables>(tables: &T, code: u8, caller: Option<u8>, used: u8, f: &Frame) -> bool
-    ensures value { result ≡ row_stands (T.game tables.now) code caller used f.now }
+fn frame_stands<T: Tables>(tables: &T, code: u8, caller: Option<u8>, used: u8, f: &Frame) -> bool
+    ensures value { result ≡ frame_stands (T.game tables.now) code caller used f.now }
 {
     if used == 0 {
         return is_unused(f);
@@ -111,7 +111,7 @@ fn row_stands<T: Tables>(tables: &T, code: u8, caller: Option<u8>, used: u8, f: 
 }
 
 /// The depth of the first frame that breaks a rule, counted from `depth` on.
-fn rows_fault<T: Tables>(
+fn first_frame_fault<T: Tables>(
     tables: &T,
     code: u8,
     caller: Option<u8>,
@@ -120,17 +120,17 @@ fn rows_fault<T: Tables>(
     rows: &[Frame],
 ) -> Option<u8>
     requires depth { depth + length rows.now < 256 }
-    ensures value { result ≡ rows_fault (T.game tables.now) code caller used depth rows.now }
+    ensures value { result ≡ first_frame_fault (T.game tables.now) code caller used depth rows.now }
 {
     match rows.split_first() {
         None => None,
         Some((f, rest)) => {
-            if !row_stands(tables, code, caller, used, f) {
+            if !frame_stands(tables, code, caller, used, f) {
                 return Some(depth);
             }
             let called = parameter_of(tables.condact(f.table, f.entry, f.at));
             let left = used.saturating_sub(1);
-            rows_fault(tables, code, Some(called), left, depth + 1, rest)
+            first_frame_fault(tables, code, Some(called), left, depth + 1, rest)
         }
     }
 }
@@ -192,7 +192,7 @@ pub(crate) fn frames_fault<T: Tables>(tables: &T, prompt: Prompt, kept: &Frames)
     if !count_fits(code, kept.count) {
         return Some(0);
     }
-    match rows_fault(tables, code.unwrap_or(0), None, kept.count, 0, &kept.rows) {
+    match first_frame_fault(tables, code.unwrap_or(0), None, kept.count, 0, &kept.rows) {
         Some(depth) => Some(depth),
         None => loop_fault(tables, kept),
     }

@@ -3,7 +3,7 @@
 ghost use Rattle.std.specs.Prelude.{◌≡◌, ◌+◌, ◌<◌, ◌≤◌, ◌^◌, [], ◌∷◌, length, reverse};
 ghost use Rattle.std.specs.Prelude.{nat_lt, Some, None, IfOk, IfErr};
 ghost use Rattle.paw_game.specs.Game.{GameLists};
-ghost use Rattle.paw_routines.specs.Routines.{HaveRows};
+ghost use Rattle.paw_routines.specs.Routines.{HaveAnswers};
 ghost use Rattle.paw_effects.specs.declared.act.Prompt.{Prompt as AtPrompt};
 ghost use Rattle.paw_effects.specs.declared.act.Prompt.TheVariants as prompt;
 ghost use Rattle.paw_reading.specs.Reading.{step_at};
@@ -42,7 +42,7 @@ pub const MOST_FRAMES: usize = LEVEL_LIMIT + 1;
 /// with the innermost first.
 #[derive(Drop)]
 pub struct Machine {
-    rows: [Frame; MOST_FRAMES],
+    frames: [Frame; MOST_FRAMES],
     count: usize,
     turning: Option<OpenLoop>,
     waiting: Option<Prompt>,
@@ -59,7 +59,7 @@ impl Model for Machine {
     ghost Value = { OpenTables };
 
     ghost view = { λ m. record {
-      frames = reverse (take m.count m.rows);
+      frames = reverse (take m.count m.frames);
       turning = m.turning;
       waiting = m.waiting;
       left = m.left;
@@ -67,7 +67,7 @@ impl Model for Machine {
     } };
 
     ghost invariant = { λ m.
-        (m.count ≤ MOST_FRAMES) × (length m.rows ≡ MOST_FRAMES) × (m.steps.count + m.left ≡ READ_LIMIT) };
+        (m.count ≤ MOST_FRAMES) × (length m.frames ≡ MOST_FRAMES) × (m.steps.count + m.left ≡ READ_LIMIT) };
 }
 
 impl Machine {
@@ -76,7 +76,7 @@ impl Machine {
         ensures value { result ≡ new_machine }
     {
         Machine {
-            rows: [start_of(0); MOST_FRAMES],
+            frames: [start_of(0); MOST_FRAMES],
             count: 0,
             turning: None,
             waiting: None,
@@ -138,7 +138,7 @@ impl Machine {
         surroundings: &mut Surroundings,
     ) -> Turned
         requires ready { IsReady (T.game tables.now) self.old surroundings.old.world }
-        requires rows { HaveRows F.Fn routines.now }
+        requires answers { HaveAnswers F.Fn routines.now }
         requires draws { surroundings.old.world.draws + self.old.left < 2 ^ 64 }
         ensures meaning { InStories F.Fn routines.now (T.game tables.now) (λ g.
             RunsTo g (having surroundings.old self.old) result (having surroundings.new self.new)) }
@@ -165,7 +165,7 @@ impl Machine {
             AreFramesAndLoop g p (reverse self.now.frames) self.now.turning → frames_fault g p result ≡ None }
     {
         let mut rows = [start_of(0); MOST_FRAMES];
-        rows[..self.count].copy_from_slice(&self.rows[..self.count]);
+        rows[..self.count].copy_from_slice(&self.frames[..self.count]);
         Frames {
             count: self.count as u8,
             rows,
@@ -199,7 +199,7 @@ impl Machine {
             return Err(FrameFault { depth });
         }
         Ok(Machine {
-            rows: kept.rows,
+            frames: kept.rows,
             count: kept.count as usize,
             turning: kept.turning,
             waiting: waiting_at(prompt),
@@ -221,7 +221,7 @@ impl Machine {
         requires some { 0 < length self.now.frames }
         ensures value { result ≡ first_table (reverse self.now.frames) }
     {
-        self.rows[0].table
+        self.frames[0].table
     }
 
     /// The number of open tables.
@@ -237,7 +237,7 @@ impl Machine {
         requires some { 0 < length self.now.frames }
         ensures value { self.now.frames ≡ result ∷ below self.now.frames }
     {
-        self.rows[self.count - 1]
+        self.frames[self.count - 1]
     }
 
     /// Puts another frame in the place of the innermost one.
@@ -245,7 +245,7 @@ impl Machine {
         requires some { 0 < length self.old.frames }
         ensures value { self.new ≡ record self.old { frames = f ∷ below self.old.frames } }
     {
-        self.rows[self.count - 1] = f;
+        self.frames[self.count - 1] = f;
     }
 
     /// Opens a table inside the others.
@@ -253,7 +253,7 @@ impl Machine {
         requires room { length self.old.frames < MOST_FRAMES }
         ensures value { self.new ≡ record self.old { frames = f ∷ self.old.frames } }
     {
-        self.rows[self.count] = f;
+        self.frames[self.count] = f;
         self.count += 1;
     }
 

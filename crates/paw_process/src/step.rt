@@ -2,13 +2,13 @@
 
 ghost use Rattle.std.specs.Prelude.{◌≡◌, ◌+◌, ◌-◌, ◌<◌, [], ◌∷◌, length};
 ghost use Rattle.std.specs.Prelude.{true, false, Some, None, IfNone, IfSome, IsNone, if◌then◌else◌};
-ghost use Rattle.paw_base.specs.Bytes.{RoutineRows};
+ghost use Rattle.paw_base.specs.Bytes.{RoutineAnswers};
 ghost use Rattle.paw_base.specs.declared.limits.TheConstants.{ENTRY_LIMIT};
 ghost use Rattle.paw_base.specs.declared.messages.TheConstants.{QUIT_MESSAGE};
 ghost use Rattle.paw_game.specs.Valid.{Valid};
 ghost use Rattle.paw_game.specs.inner.Valid.{is_right};
 ghost use Rattle.paw_game.specs.Tables.{condact_at};
-ghost use Rattle.paw_routines.specs.Routines.{HaveRows};
+ghost use Rattle.paw_routines.specs.Routines.{HaveAnswers};
 ghost use Rattle.paw_effects.specs.Story.{Story, story_of};
 ghost use Rattle.paw_effects.specs.Holds.{is_condition};
 ghost use Rattle.paw_effects.specs.Texts.{put_text};
@@ -150,7 +150,7 @@ impl<T: Tables, F: Fn(u8, u8) -> u8> StoryReader<'_, T, F> {
         requires ready { IsReady (T.game self.now.tables.now) machine.old world.old }
         requires own { IsLoopWithin (length machine.old.frames) l }
         requires level { l.level ≡ length (below machine.old.frames) }
-        ensures meaning { (X : RoutineRows) (r : Run) → let g = story_of (T.game self.now.tables.now) X in
+        ensures meaning { (X : RoutineAnswers) (r : Run) → let g = story_of (T.game self.now.tables.now) X in
             Continues g (loop_at_frames g (below machine.old.frames) l (left_above world.old.places above)
             (looping world.old machine.old.turning r))
             result machine.new.frames (looping world.new machine.new.turning r) }
@@ -187,7 +187,7 @@ impl<T: Tables, F: Fn(u8, u8) -> u8> StoryReader<'_, T, F> {
     /// Leaves the innermost table or, where its level's loop is open, takes the next object.
     fn leave_level(&self, machine: &mut Machine, world: &mut World, acted: bool) -> Option<Turned>
         requires ready { IsReady (T.game self.now.tables.now) machine.old world.old }
-        ensures meaning { (X : RoutineRows) (r : Run) → let g = story_of (T.game self.now.tables.now) X in
+        ensures meaning { (X : RoutineAnswers) (r : Run) → let g = story_of (T.game self.now.tables.now) X in
             Continues g (resolved g (below machine.old.frames) (Left acted (looping world.old machine.old.turning r)))
             result machine.new.frames (looping world.new machine.new.turning r) }
         ensures after { HasMoved (T.game self.now.tables.now) machine.old world.old result machine.new world.new }
@@ -209,7 +209,7 @@ impl<T: Tables, F: Fn(u8, u8) -> u8> StoryReader<'_, T, F> {
     fn parse(&self, machine: &mut Machine, surroundings: &mut Surroundings, f: Frame)
         requires ready { IsReady (T.game self.now.tables.now) machine.old surroundings.old.world }
         requires at { IsInnermost f machine.old }
-        ensures meaning { (X : RoutineRows) (r : Run) → let g = story_of (T.game self.now.tables.now) X in
+        ensures meaning { (X : RoutineAnswers) (r : Run) → let g = story_of (T.game self.now.tables.now) X in
             resolved g (below machine.old.frames)
             (parses g f (next_of g (below machine.old.frames) f) (past_of g (below machine.old.frames) f)
             (run_held (having surroundings.old machine.old) r))
@@ -236,7 +236,7 @@ impl<T: Tables, F: Fn(u8, u8) -> u8> StoryReader<'_, T, F> {
     ) -> Option<Turned>
         requires ready { IsReady (T.game self.now.tables.now) machine.old surroundings.old.world }
         requires at { IsInnermost f machine.old }
-        ensures meaning { (X : RoutineRows) (r : Run) → let g = story_of (T.game self.now.tables.now) X in
+        ensures meaning { (X : RoutineAnswers) (r : Run) → let g = story_of (T.game self.now.tables.now) X in
             Continues g
             (acted_at g (below machine.old.frames) f effect (run_held (having surroundings.old machine.old) r))
             result machine.new.frames (run_held (having surroundings.new machine.new) r) }
@@ -277,7 +277,7 @@ impl<T: Tables, F: Fn(u8, u8) -> u8> StoryReader<'_, T, F> {
     ) -> Option<Turned>
         requires may { MayReadOne (T.game self.now.tables.now) f c machine.old surroundings.old.world }
         requires kind { is_condition c ≡ true }
-        ensures meaning { (X : RoutineRows) → let g = story_of (T.game self.now.tables.now) X in
+        ensures meaning { (X : RoutineAnswers) → let g = story_of (T.game self.now.tables.now) X in
             ReadsOne g (below machine.old.frames) f c (having surroundings.old machine.old) result
             (having surroundings.new machine.new) }
         ensures after { HasStepped (T.game self.now.tables.now) (having surroundings.old machine.old) result
@@ -305,7 +305,7 @@ impl<T: Tables, F: Fn(u8, u8) -> u8> StoryReader<'_, T, F> {
     fn ask(&self, machine: &mut Machine, surroundings: &mut Surroundings) -> Option<Turned>
         requires ready { IsReady (T.game self.now.tables.now) machine.old surroundings.old.world }
         requires place { AtCondacts machine.old.frames }
-        ensures meaning { (X : RoutineRows) (f : Frame) (r : Run) →
+        ensures meaning { (X : RoutineAnswers) (f : Frame) (r : Run) →
             machine.old.frames ≡ f ∷ below machine.old.frames →
             let g = story_of (T.game self.now.tables.now) X in
             Continues g (resolved g (below machine.old.frames)
@@ -337,7 +337,7 @@ impl<T: Tables, F: Fn(u8, u8) -> u8> StoryReader<'_, T, F> {
         f: Frame,
         c: Condact,
     ) -> Option<Turned>
-        requires rows { HaveRows F.Fn self.now.routines.now }
+        requires answers { HaveAnswers F.Fn self.now.routines.now }
         requires may { MayReadOne (T.game self.now.tables.now) f c machine.old surroundings.old.world }
         requires kind { is_condition c ≡ false }
         ensures meaning { InStories F.Fn self.now.routines.now (T.game self.now.tables.now) (λ g.
@@ -395,7 +395,7 @@ impl<T: Tables, F: Fn(u8, u8) -> u8> StoryReader<'_, T, F> {
     }
 
     /// Goes on with the condacts of the innermost frame's entry.
-    fn inside(
+    fn rest_of_entry(
         &self,
         machine: &mut Machine,
         surroundings: &mut Surroundings,
@@ -465,7 +465,7 @@ impl<T: Tables, F: Fn(u8, u8) -> u8> StoryReader<'_, T, F> {
             None => self.leave_level(machine, &mut surroundings.world, f.acted),
             Some(entered) => {
                 machine.set_top(entered);
-                self.inside(machine, surroundings, entered)
+                self.rest_of_entry(machine, surroundings, entered)
             }
         }
     }

@@ -24,7 +24,8 @@ use Rattle.paw_reading.specs.declared.places.Halt.TheVariants as halt
 use Rattle.paw_reading.specs.Reading.{Redescribes, Restarts, Halts, Out, Left, Waits, Stopped, halts, noted, after_call}
 use Rattle.paw_reading.specs.Reading.{at_level, next_object_or, is_taken, taken, over_objects, loop_of, over, answered}
 use Rattle.paw_reading.specs.Reading.{asked, waits, after_test}
-use Rattle.paw_reading.specs.Reading.{after_parse, after_action, carried_out, acts, reads_one, from_place, rest_of_loop}
+use Rattle.paw_reading.specs.Reading.{after_parse, after_action, carried_out, acts, reads_one, from_condact}
+use Rattle.paw_reading.specs.Reading.{rest_of_loop}
 use Rattle.paw_reading.specs.Reading.{read_at_level, called, deeper}
 use Rattle.paw_reading.specs.Reading.{rest_of_table}
 use Rattle.paw_reading.specs.Reading.{table_read, coming_phrase, game_over}
@@ -148,7 +149,7 @@ module _ (g : Story) (sub : ℕ → Run → Out) (lv : ℕ) (calls : CallsCounti
 
   -- ---- tables ----
 
-  plain_counts : (t e k : ℕ) → AreCounting (from_place g sub lv t e k)
+  plain_counts : (t e k : ℕ) → AreCounting (from_condact g sub lv t e k)
   plain_counts t e k a v r h =
       plain_goes (λ s x. (n : ℕ) → count s ≡ n → Counts n x) g sub lv t (λ b s n j. j) (λ s n j. j)
       (λ i m b next go hn hg c s few n j.

@@ -11,7 +11,7 @@ use Rattle.paw_effects.specs.Story.{Story}
 use Rattle.paw_reading.specs.declared.places.Frame.{Frame}
 use Rattle.paw_reading.specs.Run.{Run}
 use Rattle.paw_reading.specs.declared.places.Halt.TheVariants as halt
-use Rattle.paw_reading.specs.Reading.{Out, Left, halts, reads_one, condacts, is_for_now, entries, from_place}
+use Rattle.paw_reading.specs.Reading.{Out, Left, halts, reads_one, condacts, is_for_now, entries, from_condact}
 
 -- What holds in both cases, the first with its test.
 pub by_test : (P : Out → Type 0) (b : Bool) (x y : Out) → (b ≡ true → P x) → P y → P (if b then x else y)
@@ -46,7 +46,7 @@ module _ (P : Run → Out → Type 0) (g : Story) (sub : ℕ → Run → Out) (l
       (entries_go (suc e) es a r)
 
   -- So it stands at each place of the table.
-  pub plain_goes : (e k : ℕ) → Goes P (from_place g sub lv t e k)
+  pub plain_goes : (e k : ℕ) → Goes P (from_condact g sub lv t e k)
   plain_goes e zero a r = entries_go e (drop e (table_at g.game t)) a r
   plain_goes e (suc k) a r =
       condacts_go e _ (entries_go (suc e) (drop (suc e) (table_at g.game t))) (suc k) (drop (suc k) (condacts_of (entry_at g.game t e))) a r

@@ -30,7 +30,7 @@ use Rattle.paw_reading.specs.Reading.{Restarts, Out, Left, Waits, Stopped, halts
 use Rattle.paw_reading.specs.Reading.{next_object_or, is_taken, taken, over_objects, loop_of, over, answered, asked}
 use Rattle.paw_reading.specs.Reading.{waits, after_test}
 use Rattle.paw_reading.specs.Reading.{after_parse, after_action, carried_out, acts, reads_one, is_for_now}
-use Rattle.paw_reading.specs.Reading.{rest_of_entry, from_place, rest_of_loop, deeper}
+use Rattle.paw_reading.specs.Reading.{rest_of_entry, from_condact, rest_of_loop, deeper}
 use Rattle.paw_reading.specs.Reading.{rest_of_table, coming_phrase, game_over}
 use Rattle.paw_reading.specs.inner.Steps.{goodbye, quit_question}
 use Rattle.paw_reading.specs.GoingOn.{on_path}
@@ -57,10 +57,10 @@ module _ (g : Story) (ps : List (List ℕ)) (ts : List (List Step)) (lines : Lis
 
   -- Reading on at the entry after a frame's, and at the condact after it.
   abbrev next_of : ℕ → Frame → Bool → Run → Out
-  next_of lv f = from_place g (deeper g lv) lv f.table (suc f.entry) 0
+  next_of lv f = from_condact g (deeper g lv) lv f.table (suc f.entry) 0
 
   abbrev past_of : ℕ → Frame → Bool → Run → Out
-  past_of lv f = from_place g (deeper g lv) lv f.table f.entry (suc f.at)
+  past_of lv f = from_condact g (deeper g lv) lv f.table f.entry (suc f.at)
 
   -- A level's open loop goes on.
   abbrev loops : ℕ → Out → Out
@@ -141,9 +141,9 @@ module _ (g : Story) (ps : List (List ℕ)) (ts : List (List Step)) (lines : Lis
 
     -- ---- the loop ----
 
-    settles_turns : (l : OpenLoop) → l.level ≡ lv → IsSettling lv (from_place g (deeper g lv) lv l.table l.entry (suc l.at) true) → (n : ℕ) →
+    settles_turns : (l : OpenLoop) → l.level ≡ lv → IsSettling lv (from_condact g (deeper g lv) lv l.table l.entry (suc l.at) true) → (n : ℕ) →
         n ≤ length g.game.objects →
-        IsSettling lv (over_objects g lv (record l { last = 0 }) (from_place g (deeper g lv) lv l.table l.entry (suc l.at) true) n)
+        IsSettling lv (over_objects g lv (record l { last = 0 }) (from_condact g (deeper g lv) lv l.table l.entry (suc l.at) true) n)
     unfolding over_objects
     settles_turns l own hb zero low r = refl
     settles_turns l own hb (suc n) low r =
@@ -152,7 +152,7 @@ module _ (g : Story) (ps : List (List ℕ)) (ts : List (List Step)) (lines : Lis
         (settles_turns l own hb n (omega arith) r)
       where
         body : Run → Out
-        body = from_place g (deeper g lv) lv l.table l.entry (suc l.at) true
+        body = from_condact g (deeper g lv) lv l.table l.entry (suc l.at) true
 
         more : Run → Out
         more = over_objects g lv (record l { last = 0 }) body n
@@ -229,7 +229,7 @@ module _ (g : Story) (ps : List (List ℕ)) (ts : List (List Step)) (lines : Lis
 
       -- ---- entries, tables ----
 
-      settles_inside : (t e : ℕ) → ((a : Bool) → IsSettling lv (from_place g (deeper g lv) lv t (suc e) 0 a)) → (m k : ℕ) →
+      settles_inside : (t e : ℕ) → ((a : Bool) → IsSettling lv (from_condact g (deeper g lv) lv t (suc e) 0 a)) → (m k : ℕ) →
           length (condacts_of (entry_at g.game t e)) ≤ k + m →
           (a : Bool) → IsSettling lv (rest_of_entry g (deeper g lv) lv t e k a)
       settles_inside t e hn zero k low a r =
@@ -246,20 +246,20 @@ module _ (g : Story) (ps : List (List ℕ)) (ts : List (List Step)) (lines : Lis
               (halts (halt.Spent spent.Condacts) r)
               (settles_one (record { table = t; entry = e; at = k; acted = a }) hn ih c r) refl)
 
-      settles_entries : (t m e : ℕ) → length (table_at g.game t) ≤ e + m → (a : Bool) → IsSettling lv (from_place g (deeper g lv) lv t e 0 a)
+      settles_entries : (t m e : ℕ) → length (table_at g.game t) ≤ e + m → (a : Bool) → IsSettling lv (from_condact g (deeper g lv) lv t e 0 a)
       settles_entries t zero e low a r =
           let n : entry_at g.game t e ≡ None = slice_get_past (table_at g.game t) e (omega arith) in
           rw (plain_end g (deeper g lv) lv t e a (around ps ts lines r) n, plain_end g (deeper g lv) lv t e a r n) refl
       settles_entries t (suc m) e low a r = at_entry (entry_at g.game t e) refl (settles_entries t m (suc e) (omega arith))
         where
-          at_entry : (o : Option Entry) → entry_at g.game t e ≡ o → ((b : Bool) → IsSettling lv (from_place g (deeper g lv) lv t (suc e) 0 b)) →
-              loops lv (from_place g (deeper g lv) lv t e 0 a (around ps ts lines r)) ≡ settles lv (from_place g (deeper g lv) lv t e 0 a r)
+          at_entry : (o : Option Entry) → entry_at g.game t e ≡ o → ((b : Bool) → IsSettling lv (from_condact g (deeper g lv) lv t (suc e) 0 b)) →
+              loops lv (from_condact g (deeper g lv) lv t e 0 a (around ps ts lines r)) ≡ settles lv (from_condact g (deeper g lv) lv t e 0 a r)
           at_entry None n ih = rw (plain_end g (deeper g lv) lv t e a (around ps ts lines r) n, plain_end g (deeper g lv) lv t e a r n) refl
           at_entry (Some en) n ih =
               rw (plain_entry g (deeper g lv) lv t e en a (around ps ts lines r) n, plain_entry g (deeper g lv) lv t e en a r n)
               (settles_or (is_for_now r en) _ _ _ _ (settles_inside t e ih (length (condacts_of (entry_at g.game t e))) 0 (omega arith) a r) (ih a r))
 
-      settles_plain : (t e k : ℕ) (a : Bool) → IsSettling lv (from_place g (deeper g lv) lv t e k a)
+      settles_plain : (t e k : ℕ) (a : Bool) → IsSettling lv (from_condact g (deeper g lv) lv t e k a)
       settles_plain t e zero a = settles_entries t (length (table_at g.game t)) e (omega arith) a
       settles_plain t e (suc k) a =
           settles_inside t e (settles_entries t (length (table_at g.game t)) (suc e) (omega arith)) (length (condacts_of (entry_at g.game t e))) (suc k)
@@ -289,7 +289,7 @@ module _ (g : Story) (ps : List (List ℕ)) (ts : List (List Step)) (lines : Lis
       settles_extends (Stopped stop r) = refl
 
       reads_extend : (t e k : ℕ) (a : Bool) (r : Run) → rest_of_table g lv t e k a (around ps ts lines r) ≡ extends lv (rest_of_table g lv t e k a r)
-      reads_extend t e k a r = settles_plain t e k a r ∙ settles_extends (from_place g (deeper g lv) lv t e k a r)
+      reads_extend t e k a r = settles_plain t e k a r ∙ settles_extends (from_condact g (deeper g lv) lv t e k a r)
 
       asked_extends : (p : Prompt) (f : Frame) (r : Run) → on_path g p lv (f ∷ []) (around ps ts lines r) ≡ extends lv (on_path g p lv (f ∷ []) r)
       asked_extends p f r =

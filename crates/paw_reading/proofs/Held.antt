@@ -38,7 +38,7 @@ use Rattle.paw_reading.specs.Reading.{Restarts, Halts, Out, Left, Waits, Stopped
 use Rattle.paw_reading.specs.Reading.{next_object_or, is_taken, named, taken, over_objects, loop_of, over, answered}
 use Rattle.paw_reading.specs.Reading.{asked, after_test, after_parse}
 use Rattle.paw_reading.specs.Reading.{after_action, carried_out, acts, reads_one, condacts, is_for_now, entries}
-use Rattle.paw_reading.specs.Reading.{from_place, rest_of_loop, read_at_level}
+use Rattle.paw_reading.specs.Reading.{from_condact, rest_of_loop, read_at_level}
 use Rattle.paw_reading.specs.Reading.{called, deeper, rest_of_table, table_read, game_over, waits}
 use Rattle.paw_reading.specs.GoingOn.{on_path}
 use Rattle.paw_reading.specs.Turn.{first_table}
@@ -335,7 +335,7 @@ module _ (g : Story) (v : Valid g.game) (ts : List ℕ) (lv : ℕ) (deep : lengt
         (all_left (condacts_of (entry_at g.game u e)) ∙ ap condacts_of at.0) a r h)
         (entries_held (suc e) es at.1 a r h)
 
-    plain_held : (e k : ℕ) → GoesHeld (ts ++ u ∷ []) (from_place g sub lv u e k)
+    plain_held : (e k : ℕ) → GoesHeld (ts ++ u ∷ []) (from_condact g sub lv u e k)
     plain_held e zero a r h = entries_held e (drop e (table_at g.game u)) refl a r h
     plain_held e (suc k) a r h =
         condacts_held e _ (entries_held (suc e) (drop (suc e) (table_at g.game u)) refl) (suc k) (drop (suc k) (condacts_of (entry_at g.game u e))) refl a r h
@@ -345,9 +345,9 @@ module _ (g : Story) (v : Valid g.game) (ts : List ℕ) (lv : ℕ) (deep : lengt
         let at = at_level_is lv r.turning l e in
         let is : IsLoopIn g.game (ts ++ u ∷ []) l = subst (λ o. IfSome o (IsLoopIn g.game (ts ++ u ∷ []))) at.1 h.loop in
         let own : u ≡ l.table = same_Some u l.table (sym (get_last ts u) ∙ subst (λ n. slice_get (ts ++ u ∷ []) n ≡ Some l.table) (at.0 ∙ sym deep) is.level) in
-        turns_held (record l { last = 0 }) (from_place g sub lv l.table l.entry (suc l.at) true)
+        turns_held (record l { last = 0 }) (from_condact g sub lv l.table l.entry (suc l.at) true)
         (λ o few. record { level = is.level; doall = is.doall; place = is.place; last = few })
-        (subst (λ t. (s : Run) → IsSound s → Inside (from_place g sub lv t l.entry (suc l.at) true s)) own (plain_held l.entry (suc l.at) true))
+        (subst (λ t. (s : Run) → IsSound s → Inside (from_condact g sub lv t l.entry (suc l.at) true s)) own (plain_held l.entry (suc l.at) true))
         (length g.game.objects - suc l.last) (omega arith) r h.of
 
     reads_held : (e k : ℕ) → GoesHeld ts (read_at_level g sub lv u e k)

@@ -27,7 +27,7 @@ use Rattle.paw_reading.specs.Reading.{Restarts, Out, Left, Waits, Stopped, halts
 use Rattle.paw_reading.specs.Reading.{next_object_or}
 use Rattle.paw_reading.specs.Reading.{taken, over_objects, loop_of, over, answered, asked, after_test, after_parse}
 use Rattle.paw_reading.specs.Reading.{after_action, carried_out}
-use Rattle.paw_reading.specs.Reading.{acts, reads_one, from_place, rest_of_loop, read_at_level, called, deeper}
+use Rattle.paw_reading.specs.Reading.{acts, reads_one, from_condact, rest_of_loop, read_at_level, called, deeper}
 use Rattle.paw_reading.specs.Reading.{game_over, printing}
 use Rattle.paw_reading.specs.Reading.{waits}
 use Rattle.paw_reading.specs.inner.Steps.{goodbye, quit_question}
@@ -181,7 +181,7 @@ module _ (g : Story) (sub : ℕ → Run → Out) (lv : ℕ) (calls : CallsKeepin
 
   -- ---- tables ----
 
-  pub plain_keeps : (t e k : ℕ) → GoesKeeping (from_place g sub lv t e k)
+  pub plain_keeps : (t e k : ℕ) → GoesKeeping (from_condact g sub lv t e k)
   plain_keeps t =
       plain_goes (λ r x. Keeps r.turning x) g sub lv t (λ a r. inl refl) (λ r. tt)
       (λ e k a next go hn hg c r few. reads_one_keeps (record { table = t; entry = e; at = k; acted = a }) next go hn hg c r)

@@ -13,7 +13,7 @@ use Rattle.paw_reading.specs.declared.places.OpenLoop.{OpenLoop}
 use Rattle.paw_reading.specs.Run.{Run, without_loop, heard}
 use Rattle.paw_reading.specs.Reading.{Out, Left, Waits, Stopped, after_call, at_level, next_object_or, is_taken, taken}
 use Rattle.paw_reading.specs.Reading.{over_objects, loop_of, over, asked}
-use Rattle.paw_reading.specs.Reading.{reads_one, entries, is_for_now, rest_of_entry, from_place, rest_of_loop, deeper}
+use Rattle.paw_reading.specs.Reading.{reads_one, entries, is_for_now, rest_of_entry, from_condact, rest_of_loop, deeper}
 use Rattle.paw_reading.specs.Reading.{rest_of_table, game_over}
 use Rattle.paw_reading.specs.inner.Steps.{goodbye}
 use Rattle.paw_reading.specs.GoingOn.{on_path}
@@ -29,13 +29,13 @@ use Rattle.paw_reading.proofs.Rules.{after_call_again, deeper_rest, deeper_none}
 
 module _ (g : Story) (sub : ℕ → Run → Out) (lv : ℕ) where
   -- Past the last entry.
-  pub plain_end : (t e : ℕ) (a : Bool) (r : Run) → entry_at g.game t e ≡ None → from_place g sub lv t e 0 a r ≡ Left a r
+  pub plain_end : (t e : ℕ) (a : Bool) (r : Run) → entry_at g.game t e ≡ None → from_condact g sub lv t e 0 a r ≡ Left a r
   unfolding entries
   plain_end t e a r h = rw (drop_none (table_at g.game t) e h) refl
 
   -- At an entry.
   pub plain_entry : (t e : ℕ) (en : Entry) (a : Bool) (r : Run) → entry_at g.game t e ≡ Some en →
-      from_place g sub lv t e 0 a r ≡ (if is_for_now r en then rest_of_entry g sub lv t e 0 a r else from_place g sub lv t (suc e) 0 a r)
+      from_condact g sub lv t e 0 a r ≡ (if is_for_now r en then rest_of_entry g sub lv t e 0 a r else from_condact g sub lv t (suc e) 0 a r)
   unfolding entries
   plain_entry t e en a r h = rw (drop_some (table_at g.game t) e en h, h) refl
 
@@ -43,7 +43,7 @@ module _ (g : Story) (sub : ℕ → Run → Out) (lv : ℕ) where
 
 -- The loop of which an object was taken is the one that is open.
 pub taken_again : (g : Story) (sub : ℕ → Run → Out) (lv : ℕ) (l : OpenLoop) (o : ℕ) (x : Out) → l.level ≡ lv → Keeps (Some (record l { last = o })) x →
-    next_object_or lv (λ _. over_objects g lv (record l { last = 0 }) (from_place g sub lv l.table l.entry (suc l.at) true) (length g.game.objects - suc o)) x
+    next_object_or lv (λ _. over_objects g lv (record l { last = 0 }) (from_condact g sub lv l.table l.entry (suc l.at) true) (length g.game.objects - suc o)) x
     ≡ next_object_or lv (rest_of_loop g sub lv) x
 taken_again g sub lv l o (Left a r) own (inl k) =
     let q : at_level lv r.turning ≡ Some (record l { last = o }) = rw k (at_level_own lv (record l { last = o }) own) in rw q refl
@@ -70,7 +70,7 @@ module _ (g : Story) (lv : ℕ) where
   -- One condact.
   one_read : (f : Frame) (c : Condact) (r : Run) → MayRead g f c r →
       at_frame g lv f r ≡ next_object_or lv (rest_of_loop g (deeper g lv) lv)
-      (reads_one g (deeper g lv) lv f (from_place g (deeper g lv) lv f.table (suc f.entry) 0) (from_place g (deeper g lv) lv f.table f.entry (suc f.at)) c r)
+      (reads_one g (deeper g lv) lv f (from_condact g (deeper g lv) lv f.table (suc f.entry) 0) (from_condact g (deeper g lv) lv f.table f.entry (suc f.at)) c r)
   one_read f c r h =
       same (inside_condact g (deeper g lv) lv f.table f.entry f.at f.acted r c h.stands ∙ within_budget r _ h.left)
 
@@ -97,9 +97,9 @@ module _ (g : Story) (lv : ℕ) where
     go = λ f r. refl;
     exit = λ f a r. refl;
     redescribe = λ f r. refl;
-    call = λ f u r low. after_call_again g (deeper g lv) lv f (from_place g (deeper g lv) lv f.table f.entry (suc f.at)) (deeper g lv u r)
+    call = λ f u r low. after_call_again g (deeper g lv) lv f (from_condact g (deeper g lv) lv f.table f.entry (suc f.at)) (deeper g lv u r)
         ∙ ap (after_call f (past g lv f)) (deeper_rest g lv u r low);
-    deep = λ f u r h. same (ap (after_call f (from_place g (deeper g lv) lv f.table f.entry (suc f.at))) (deeper_none g lv u r h));
+    deep = λ f u r h. same (ap (after_call f (from_condact g (deeper g lv) lv f.table f.entry (suc f.at))) (deeper_none g lv u r h));
     loop = begins;
     ask = λ f p r. refl;
     sentence = λ f s bytes r h. rw h refl;
@@ -110,14 +110,14 @@ module _ (g : Story) (lv : ℕ) where
 
   -- Of the last objects, counted by n.
   passes : (l : OpenLoop) (n o : ℕ) (r : Run) → length g.game.objects - suc n ≡ o → is_taken g.game r.world l o ≡ false →
-      over_objects g lv (record l { last = 0 }) (from_place g (deeper g lv) lv l.table l.entry (suc l.at) true) (suc n) r
-      ≡ over_objects g lv (record l { last = 0 }) (from_place g (deeper g lv) lv l.table l.entry (suc l.at) true) n r
+      over_objects g lv (record l { last = 0 }) (from_condact g (deeper g lv) lv l.table l.entry (suc l.at) true) (suc n) r
+      ≡ over_objects g lv (record l { last = 0 }) (from_condact g (deeper g lv) lv l.table l.entry (suc l.at) true) n r
   unfolding over_objects
   passes l n o r e h = rw (e, h) refl
 
   takes_one : (l : OpenLoop) (n o : ℕ) (r : Run) → l.level ≡ lv → length g.game.objects - suc n ≡ o → length g.game.objects - suc o ≡ n →
       is_taken g.game r.world l o ≡ true →
-      over_objects g lv (record l { last = 0 }) (from_place g (deeper g lv) lv l.table l.entry (suc l.at) true) (suc n) r
+      over_objects g lv (record l { last = 0 }) (from_condact g (deeper g lv) lv l.table l.entry (suc l.at) true) (suc n) r
       ≡ rest_of_table g lv l.table l.entry (suc l.at) true (taken g.game l o r)
   unfolding over_objects
   takes_one l n o r own e n_is h =
@@ -125,7 +125,7 @@ module _ (g : Story) (lv : ℕ) where
       (plain_keeps g (deeper g lv) lv (deeper_keeps g lv) l.table l.entry (suc l.at) true (taken g.game l o r))))
 
   none_more : (l : OpenLoop) (n : ℕ) (r : Run) → n ≡ 0 →
-      over_objects g lv (record l { last = 0 }) (from_place g (deeper g lv) lv l.table l.entry (suc l.at) true) n r ≡ Left true (without_loop r)
+      over_objects g lv (record l { last = 0 }) (from_condact g (deeper g lv) lv l.table l.entry (suc l.at) true) n r ≡ Left true (without_loop r)
   unfolding over_objects
   none_more l n r e = rw e refl
 

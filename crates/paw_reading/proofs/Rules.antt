@@ -20,7 +20,8 @@ use Rattle.paw_reading.specs.declared.places.OpenLoop.{OpenLoop}
 use Rattle.paw_reading.specs.Run.{Run}
 use Rattle.paw_reading.specs.declared.places.Halt.TheVariants as halt
 use Rattle.paw_reading.specs.Reading.{Out, Left, Waits, Stopped, halts, within, after_call, at_level, next_object_or}
-use Rattle.paw_reading.specs.Reading.{reads_one, condacts, is_for_now, entries, rest_of_entry, from_place, rest_of_loop}
+use Rattle.paw_reading.specs.Reading.{reads_one, condacts, is_for_now, entries, rest_of_entry, from_condact}
+use Rattle.paw_reading.specs.Reading.{rest_of_loop}
 use Rattle.paw_reading.specs.Reading.{called, deeper, rest_of_table}
 use Rattle.paw_reading.proofs.Lists.{drop_none, drop_some, drop_more}
 use Rattle.paw_reading.proofs.Keeps.{Keeps, CallsKeeping, at_level_is, looped_closes}
@@ -34,14 +35,14 @@ within_none r x h = let t : nat_lt (length r.read) READ_LIMIT ≡ false = grind 
 
 module _ (g : Story) (sub : ℕ → Run → Out) (lv : ℕ) where
   -- Past the last condact of an entry.
-  pub inside_end : (t e k : ℕ) (a : Bool) (r : Run) → condact_at g.game t e k ≡ None → rest_of_entry g sub lv t e k a r ≡ from_place g sub lv t (suc e) 0 a r
+  pub inside_end : (t e k : ℕ) (a : Bool) (r : Run) → condact_at g.game t e k ≡ None → rest_of_entry g sub lv t e k a r ≡ from_condact g sub lv t (suc e) 0 a r
   unfolding condacts
   inside_end t e k a r h = rw (drop_none (condacts_of (entry_at g.game t e)) k h) refl
 
   -- At a condact.
   pub inside_condact : (t e k : ℕ) (a : Bool) (r : Run) (c : Condact) → condact_at g.game t e k ≡ Some c → rest_of_entry g sub lv t e k a r
       ≡ within r
-      (reads_one g sub lv (record { table = t; entry = e; at = k; acted = a }) (from_place g sub lv t (suc e) 0) (from_place g sub lv t e (suc k)) c r)
+      (reads_one g sub lv (record { table = t; entry = e; at = k; acted = a }) (from_condact g sub lv t (suc e) 0) (from_condact g sub lv t e (suc k)) c r)
   unfolding condacts
   inside_condact t e k a r c h = rw (drop_some (condacts_of (entry_at g.game t e)) k c h) refl
 
@@ -78,21 +79,21 @@ module _ (g : Story) (sub : ℕ → Run → Out) (lv : ℕ) where
       go later false q = later q
 
   -- Before an entry, where none matches any more.
-  pub plain_left : (t e : ℕ) (a : Bool) (r : Run) → match_at g.game t e (flag r.world 33) (flag r.world 34) ≡ None → from_place g sub lv t e 0 a r ≡ Left a r
+  pub plain_left : (t e : ℕ) (a : Bool) (r : Run) → match_at g.game t e (flag r.world 33) (flag r.world 34) ≡ None → from_condact g sub lv t e 0 a r ≡ Left a r
   plain_left t e a r h = entries_none t e (drop e (table_at g.game t)) a r h
 
   -- Before an entry, where this one matches next.
   pub plain_match : (t e found : ℕ) (a : Bool) (r : Run) → match_at g.game t e (flag r.world 33) (flag r.world 34) ≡ Some found →
-      from_place g sub lv t e 0 a r ≡ rest_of_entry g sub lv t found 0 a r
+      from_condact g sub lv t e 0 a r ≡ rest_of_entry g sub lv t found 0 a r
   plain_match t e found a r h = entries_some t e (drop e (table_at g.game t)) a r found refl h
 
   -- In an entry.
-  pub plain_inside : (t e k : ℕ) (a : Bool) (r : Run) → 0 < k → from_place g sub lv t e k a r ≡ rest_of_entry g sub lv t e k a r
+  pub plain_inside : (t e k : ℕ) (a : Bool) (r : Run) → 0 < k → from_condact g sub lv t e k a r ≡ rest_of_entry g sub lv t e k a r
   plain_inside t e zero a r h = absurd (omega arith)
   plain_inside t e (suc k) a r h = refl
 
   -- Past the last entry.
-  pub plain_past : (t e : ℕ) (a : Bool) (r : Run) → length (table_at g.game t) ≤ e → from_place g sub lv t e 0 a r ≡ Left a r
+  pub plain_past : (t e : ℕ) (a : Bool) (r : Run) → length (table_at g.game t) ≤ e → from_condact g sub lv t e 0 a r ≡ Left a r
   unfolding entries
   plain_past t e a r h = rw (drop_none (table_at g.game t) e (slice_get_past (table_at g.game t) e h)) refl
 

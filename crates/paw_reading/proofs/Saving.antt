@@ -31,7 +31,7 @@ use Rattle.paw_reading.specs.Reading.{at_level}
 use Rattle.paw_reading.specs.Reading.{next_object_or, is_taken, named, taken, over_objects, loop_of, over, answered}
 use Rattle.paw_reading.specs.Reading.{asked, after_test, after_parse}
 use Rattle.paw_reading.specs.Reading.{after_action, carried_out, acts, reads_one, condacts, is_for_now, entries}
-use Rattle.paw_reading.specs.Reading.{from_place, rest_of_loop, read_at_level}
+use Rattle.paw_reading.specs.Reading.{from_condact, rest_of_loop, read_at_level}
 use Rattle.paw_reading.specs.Reading.{called, deeper, rest_of_table, table_read, game_over, waits, coming_phrase}
 use Rattle.paw_reading.specs.GoingOn.{on_path}
 use Rattle.paw_reading.specs.Turn.{TurnPhase, AtDescribe, AtTimeFrame, AtPhrase, AtResponse, Ending, Halted, saying}
@@ -176,7 +176,7 @@ module _ (g : Story) (never : NeverSaves g.game) (ks : List (Option Position)) w
         (all_left (condacts_of (entry_at g.game t e)) ∙ ap condacts_of at.0) a r h)
         (entries_keep t (suc e) es at.1 a r h)
 
-    plain_keeps : (t e k : ℕ) → GoesKeeping (from_place g sub lv t e k)
+    plain_keeps : (t e k : ℕ) → GoesKeeping (from_condact g sub lv t e k)
     plain_keeps t e zero a r h = entries_keep t e (drop e (table_at g.game t)) refl a r h
     plain_keeps t e (suc k) a r h =
         condacts_keep t e _ (entries_keep t (suc e) (drop (suc e) (table_at g.game t)) refl) (suc k) (drop (suc k) (condacts_of (entry_at g.game t e)))
@@ -184,7 +184,7 @@ module _ (g : Story) (never : NeverSaves g.game) (ks : List (Option Position)) w
 
     looped_keeps : (l : OpenLoop) (r : Run) → Is r → Keeps (rest_of_loop g sub lv l r)
     looped_keeps l r =
-        turns_keep lv (record l { last = 0 }) (from_place g sub lv l.table l.entry (suc l.at) true) (plain_keeps l.table l.entry (suc l.at) true)
+        turns_keep lv (record l { last = 0 }) (from_condact g sub lv l.table l.entry (suc l.at) true) (plain_keeps l.table l.entry (suc l.at) true)
         (length g.game.objects - suc l.last) r
 
     reads_keep : (t e k : ℕ) → GoesKeeping (read_at_level g sub lv t e k)

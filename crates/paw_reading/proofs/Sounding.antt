@@ -42,7 +42,7 @@ use Rattle.paw_reading.specs.Reading.{after_call, at_level, next_object_or, is_t
 use Rattle.paw_reading.specs.Reading.{loop_of, over, answered, asked, waits}
 use Rattle.paw_reading.specs.Reading.{after_test, after_parse, after_action, carried_out, acts, reads_one, condacts}
 use Rattle.paw_reading.specs.Reading.{is_for_now, entries}
-use Rattle.paw_reading.specs.Reading.{from_place, rest_of_loop, read_at_level, called, deeper, table_read, game_over}
+use Rattle.paw_reading.specs.Reading.{from_condact, rest_of_loop, read_at_level, called, deeper, table_read, game_over}
 use Rattle.paw_reading.specs.Reading.{coming_phrase}
 use Rattle.paw_reading.specs.GoingOn.{on_path}
 use Rattle.paw_reading.specs.Turn.{TurnPhase, AtDescribe, AtTimeFrame, AtPhrase, AtResponse, Ending, WaitsAt, Halted}
@@ -359,7 +359,7 @@ module _ (g : Story) (valid : ValidStory g) (seed base : ℕ) where
         Sounds (reads_one g sub lv f next go c r)
     reads_one_sounds f next go hn hg c r kept few k =
         let d : Done = effect_of g r.world c in
-        let d_so : IsWorldAt g.game seed (suc (bound r)) d.world = effect_so g.game v seed (bound r) g.rows r.world c valid.bytes k.world kept in
+        let d_so : IsWorldAt g.game seed (suc (bound r)) d.world = effect_so g.game v seed (bound r) g.answers r.world c valid.bytes k.world kept in
         either Sounds (is_condition c) _ _
         (after_test_sounds f next go hn hg c (with_world (holds g.game r.world c).world r) (holds g.game r.world c).answer
         (λ b. noted_so r f c b (holds g.game r.world c).world k few (condition_so g.game v seed (bound r) r.world c k.world)))
@@ -402,7 +402,7 @@ module _ (g : Story) (valid : ValidStory g) (seed base : ℕ) where
     all_condacts None h = refl
     all_condacts (Some en) h = entry_condacts en (h en refl)
 
-    plain_sounds : (t e k : ℕ) → GoesSound (from_place g sub lv t e k)
+    plain_sounds : (t e k : ℕ) → GoesSound (from_condact g sub lv t e k)
     plain_sounds t e zero a r h = entries_sound t e (drop e (table_at g.game t)) (kept_drop (is_entry g.game) e (table_at g.game t) (table_entries t)) a r h
     plain_sounds t e (suc k) a r h =
         condacts_sound t e _ (entries_sound t (suc e) (drop (suc e) (table_at g.game t))

@@ -27,7 +27,7 @@ use Rattle.paw_reading.specs.Reading.{Restarts, Halts, Out, Left, Waits, Stopped
 use Rattle.paw_reading.specs.Reading.{next_object_or}
 use Rattle.paw_reading.specs.Reading.{is_taken, taken, over_objects, loop_of, over, answered, asked, after_test}
 use Rattle.paw_reading.specs.Reading.{after_parse, after_action}
-use Rattle.paw_reading.specs.Reading.{carried_out, acts, reads_one, from_place, rest_of_loop, read_at_level, called}
+use Rattle.paw_reading.specs.Reading.{carried_out, acts, reads_one, from_condact, rest_of_loop, read_at_level, called}
 use Rattle.paw_reading.specs.Reading.{deeper, rest_of_table, table_read}
 use Rattle.paw_reading.specs.Reading.{coming_phrase}
 use Rattle.paw_reading.specs.Reading.{game_over, waits}
@@ -177,7 +177,7 @@ module _ (g : Story) (sub : ℕ → Run → Out) (lv : ℕ) (calls : CallsSpendi
 
   -- ---- tables ----
 
-  plain_spends : (t e k : ℕ) → AreSpending (from_place g sub lv t e k)
+  plain_spends : (t e k : ℕ) → AreSpending (from_condact g sub lv t e k)
   plain_spends t =
       plain_goes (λ r x. Spends (left_to_read r) x) g sub lv t (λ a r. omega arith) (λ r. tt)
       (λ e k a next go hn hg c r few. reads_one_spends (record { table = t; entry = e; at = k; acted = a }) next go hn hg c r few)

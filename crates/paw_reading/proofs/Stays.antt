@@ -26,7 +26,7 @@ use Rattle.paw_reading.specs.Reading.{Restarts, Out, Left, Waits, Stopped, halts
 use Rattle.paw_reading.specs.Reading.{next_object_or, is_taken}
 use Rattle.paw_reading.specs.Reading.{taken, over_objects, loop_of, over, answered, asked, after_test, after_parse}
 use Rattle.paw_reading.specs.Reading.{after_action, carried_out}
-use Rattle.paw_reading.specs.Reading.{acts, reads_one, from_place, rest_of_loop, read_at_level, called, deeper}
+use Rattle.paw_reading.specs.Reading.{acts, reads_one, from_condact, rest_of_loop, read_at_level, called, deeper}
 use Rattle.paw_reading.specs.Reading.{rest_of_table, table_read, game_over}
 use Rattle.paw_reading.specs.Reading.{waits}
 use Rattle.paw_reading.specs.GoingOn.{on_path}
@@ -154,7 +154,7 @@ module _ (t : ℕ) where
 
     -- ---- tables ----
 
-    plain_stays : (u e k : ℕ) → IsOwn lv u → GoesStaying lv (from_place g sub lv u e k)
+    plain_stays : (u e k : ℕ) → IsOwn lv u → GoesStaying lv (from_condact g sub lv u e k)
     plain_stays u e k own =
         plain_goes (λ r x. IsLoopOf t r.turning → Stays t lv x) g sub lv u (λ a r h. h) (λ r h. tt)
         (λ i m a next go hn hg c r few h. reads_one_stays (record { table = u; entry = i; at = m; acted = a }) next go own hn hg c r h) e k

@@ -22,7 +22,7 @@ use Rattle.paw_reading.specs.Reading.{Restarts, Halts, Out, Left, Waits, Stopped
 use Rattle.paw_reading.specs.Reading.{next_object_or}
 use Rattle.paw_reading.specs.Reading.{is_taken, taken, over_objects, loop_of, over, answered, asked, after_test}
 use Rattle.paw_reading.specs.Reading.{after_parse, after_action}
-use Rattle.paw_reading.specs.Reading.{carried_out, acts, reads_one, from_place, rest_of_loop, read_at_level, called}
+use Rattle.paw_reading.specs.Reading.{carried_out, acts, reads_one, from_condact, rest_of_loop, read_at_level, called}
 use Rattle.paw_reading.specs.Reading.{deeper, rest_of_table, game_over}
 use Rattle.paw_reading.specs.Reading.{waits}
 use Rattle.paw_reading.specs.inner.Steps.{goodbye, quit_question}
@@ -124,7 +124,7 @@ module _ (g : Story) (sub : ℕ → Run → Out) (lv : ℕ) (calls : CallsStoppi
 
   -- ---- tables ----
 
-  plain_stops : (t e k : ℕ) → AreStopping (from_place g sub lv t e k)
+  plain_stops : (t e k : ℕ) → AreStopping (from_condact g sub lv t e k)
   plain_stops t =
       plain_goes (λ r x. Stops x) g sub lv t (λ a r. tt) (λ r. tt)
       (λ e k a next go hn hg c r few. reads_one_stops (record { table = t; entry = e; at = k; acted = a }) next go hn hg c r)

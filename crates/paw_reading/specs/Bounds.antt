@@ -14,5 +14,5 @@ pub record IsLine (line : Line) : Type 0 where
 -- The game follows its rules, and each routine has 256 answers, all of them bytes.
 pub record ValidStory (g : Story) : Type 0 where
   pub game : Valid g.game
-  pub whole : All (λ row. length row ≡ 256) g.rows
-  pub bytes : All AreBytes g.rows
+  pub whole : All (λ row. length row ≡ 256) g.answers
+  pub bytes : All AreBytes g.answers

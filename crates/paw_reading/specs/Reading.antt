@@ -258,20 +258,20 @@ rest_of_entry g sub lv t e k =
     (drop k (condacts_of (entry_at g.game t e)))
 
 -- Reads on from a condact of an entry to the end of the table. At condact 0 the entry's verb and noun are tested first.
-abbrev pub from_place : Story → Called → ℕ → ℕ → ℕ → ℕ → Bool → Run → Out
-from_place g sub lv t e zero = entries g sub lv t e (drop e (table_at g.game t))
-from_place g sub lv t e (suc k) = rest_of_entry g sub lv t e (suc k)
+abbrev pub from_condact : Story → Called → ℕ → ℕ → ℕ → ℕ → Bool → Run → Out
+from_condact g sub lv t e zero = entries g sub lv t e (drop e (table_at g.game t))
+from_condact g sub lv t e (suc k) = rest_of_entry g sub lv t e (suc k)
 
 -- Goes on with the open loop: looks for the next object after the one that was taken last, and reads on after the
 -- loop's DOALL.
 abbrev pub rest_of_loop : Story → Called → ℕ → OpenLoop → Run → Out
 rest_of_loop g sub lv l =
-    let body = from_place g sub lv l.table l.entry (suc l.at) true in
+    let body = from_condact g sub lv l.table l.entry (suc l.at) true in
     over_objects g lv (record l { last = 0 }) body (length g.game.objects - suc l.last)
 
 -- Reads on at a level, with the loop that may be open there.
 abbrev pub read_at_level : Story → Called → ℕ → ℕ → ℕ → ℕ → Bool → Run → Out
-read_at_level g sub lv t e k acted r = next_object_or lv (rest_of_loop g sub lv) (from_place g sub lv t e k acted r)
+read_at_level g sub lv t e k acted r = next_object_or lv (rest_of_loop g sub lv) (from_condact g sub lv t e k acted r)
 
 -- Reads a table called from level lv, where n more levels may open; with none left the call is too deep, and play ends.
 unfoldable pub called : Story → ℕ → ℕ → ℕ → Run → Out

@@ -1,3 +1,3 @@
-pub mod FunctionRows
+pub mod FunctionAnswers
 pub mod Measures
-pub mod ProgramRows
+pub mod ProgramAnswers

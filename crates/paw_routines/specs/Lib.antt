@@ -1,4 +1,4 @@
-pub mod Rows
+pub mod Answers
 pub mod Routines
 pub mod Measure
 pub mod Program

@@ -11,9 +11,9 @@ Rose_grows old new (inl h) = omega (arith, h)
 Rose_grows old new (inr h) = omega (arith, h.0, h.1)
 
 -- No count falls.
-pub Faulted_grows : (failed : Option StageCall) (old new : StageCall → ℕ) → CountsFailure failed old new → (c : StageCall) → old c ≤ new c
-Faulted_grows None old new f c = let same = f c in omega (arith, same)
-Faulted_grows (Some failed) old new f c = elim (cases_lt (new c) (old c)) [
+pub CountsFailure_grows : (failed : Option StageCall) (old new : StageCall → ℕ) → CountsFailure failed old new → (c : StageCall) → old c ≤ new c
+CountsFailure_grows None old new f c = let same = f c in omega (arith, same)
+CountsFailure_grows (Some failed) old new f c = elim (cases_lt (new c) (old c)) [
   | inr le ↦ le
   | inl lt ↦
       let other : c ≢ failed = λ e. (let own = Rose_grows _ _ f.0 in let less = subst (λ k. new k < old k) e lt in omega (arith, own, less)) in
@@ -21,17 +21,17 @@ Faulted_grows (Some failed) old new f c = elim (cases_lt (new c) (old c)) [
 ]
 
 -- No call.
-pub Faulted_same : (old : StageCall → ℕ) → CountsFailure None old old
-Faulted_same old = λ c. refl
+pub CountsFailure_same : (old : StageCall → ℕ) → CountsFailure None old old
+CountsFailure_same old = λ c. refl
 
 -- Calls none of which failed, and then others.
-pub Faulted_on : (failed : Option StageCall) (old mid new : StageCall → ℕ) → CountsFailure None old mid → CountsFailure failed mid new →
+pub CountsFailure_on : (failed : Option StageCall) (old mid new : StageCall → ℕ) → CountsFailure None old mid → CountsFailure failed mid new →
     CountsFailure failed old new
-Faulted_on None old mid new f g = λ c. g c ∙ f c
-Faulted_on (Some failed) old mid new f g = (subst (λ n. Rose n (new failed)) (f failed) g.0, λ c ne. g.1 c ne ∙ f c)
+CountsFailure_on None old mid new f g = λ c. g c ∙ f c
+CountsFailure_on (Some failed) old mid new f g = (subst (λ n. Rose n (new failed)) (f failed) g.0, λ c ne. g.1 c ne ∙ f c)
 
 -- Calls, and then others none of which failed.
-pub Faulted_still : (failed : Option StageCall) (old mid new : StageCall → ℕ) → CountsFailure failed old mid → CountsFailure None mid new →
+pub CountsFailure_still : (failed : Option StageCall) (old mid new : StageCall → ℕ) → CountsFailure failed old mid → CountsFailure None mid new →
     CountsFailure failed old new
-Faulted_still None old mid new f g = λ c. g c ∙ f c
-Faulted_still (Some failed) old mid new f g = (subst (λ n. Rose (old failed) n) (sym (g failed)) f.0, λ c ne. g c ∙ f.1 c ne)
+CountsFailure_still None old mid new f g = λ c. g c ∙ f c
+CountsFailure_still (Some failed) old mid new f g = (subst (λ n. Rose (old failed) n) (sym (g failed)) f.0, λ c ne. g c ∙ f.1 c ne)

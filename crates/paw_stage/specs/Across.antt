@@ -16,7 +16,7 @@ IsOneOf (y ∷ ys) x = (x ≡ y) ⊎ IsOneOf ys x
 pub record FailsOnlyBy {S : Type 0} (g : Ghosts S) (calls : List StageCall) (failed : Option StageCall) (old new : S)
     : Type 0 where
   pub tells : g.Tells old ↔ g.Tells new
-  pub faulted : CountsFailure failed (g.faults old) (g.faults new)
+  pub counts_failure : CountsFailure failed (g.failures old) (g.failures new)
   pub among : IfSome failed (IsOneOf calls)
 
 -- Where the stage reports what stands at it, this holds between what stood before and what stands after.

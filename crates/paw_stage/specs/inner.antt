@@ -2,7 +2,7 @@
 pub mod Stage
 pub mod Across
 pub mod Loads
-pub mod Faults
+pub mod Failures
 pub mod Files
 pub mod Done
 pub mod Replay

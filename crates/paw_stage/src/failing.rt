@@ -1,7 +1,7 @@
 // A stage in memory of which the listed calls fail.
 
 ghost use Rattle.std.specs.Prelude.{◌≡◌};
-ghost use Rattle.paw_stage.specs.inner.Faults.{no_failures};
+ghost use Rattle.paw_stage.specs.inner.Failures.{no_failures};
 ghost use Rattle.paw_stage.specs.inner.Failing.{listing_of, is_listed, call_counted};
 
 use crate::MemoryStage;

@@ -15,7 +15,7 @@ const LONGEST_LINE: u32 = 1_048_576;
 
 /// Why no more lines are taken: one was too long, or the reader failed.
 #[derive(Clone, Copy, Drop, PartialEq, Eq, Debug)]
-pub enum LineFault {
+pub enum LineFailure {
     TooLong,
     Reader,
 }
@@ -28,13 +28,13 @@ pub enum LineFault {
 pub struct LineReader<R: Drop> {
     reader: R,
     ahead: Ahead,
-    broken: Option<LineFault>,
+    broken: Option<LineFailure>,
 }
 
 impl<R: Read + Drop> LineReader<R> {
     ghost use Rattle.paw_stage.specs.inner.Input.{unread, AsksOf, GathersOf, TakesByteOf};
     ghost use Rattle.paw_stage.specs.inner.Input.{IsLong};
-    ghost use Rattle.paw_stage.specs.declared.input.LineFault.TheVariants as fault;
+    ghost use Rattle.paw_stage.specs.declared.input.LineFailure.TheVariants as failure;
 
     /// The lines of a reader, of which nothing was read yet.
     pub fn new(reader: R) -> LineReader<R>
@@ -51,7 +51,7 @@ impl<R: Read + Drop> LineReader<R> {
     /// its end not counted, is Failed, and so is a failure of the reader.
     pub fn next_line(&mut self, into: &mut [u8; LINE_LIMIT]) -> Asked
         ensures line { AsksOf R.remaining self.old self.new result into.new }
-        ensures long { IsNone self.old.broken → self.new.broken ≡ Some fault.TooLong →
+        ensures long { IsNone self.old.broken → self.new.broken ≡ Some failure.TooLong →
             IsLong (unread R.remaining self.old) }
         ensures breaks { (result ≡ asked.Failed) ↔ IsSome self.new.broken }
         ensures stays { IsSome self.old.broken → result ≡ asked.Failed }
@@ -62,13 +62,13 @@ impl<R: Read + Drop> LineReader<R> {
         match self.gather(into) {
             Ok(None) => Asked::End,
             Ok(Some(len)) if len <= LONGEST_LINE => Asked::Line(len.min(LINE_LIMIT as u32) as u8),
-            Ok(Some(_)) => self.fail(LineFault::TooLong),
-            Err(_) => self.fail(LineFault::Reader),
+            Ok(Some(_)) => self.fail(LineFailure::TooLong),
+            Err(_) => self.fail(LineFailure::Reader),
         }
     }
 
     // Takes no more lines from now on.
-    fn fail(&mut self, why: LineFault) -> Asked
+    fn fail(&mut self, why: LineFailure) -> Asked
         ensures failed { result ≡ asked.Failed }
         ensures broken { self.new ≡ record self.old { broken = Some why } }
     {

@@ -3,7 +3,7 @@
 
 mod ahead;
 mod failing;
-mod faults;
+mod failures;
 mod files;
 mod input;
 mod log;
@@ -17,7 +17,7 @@ mod streams;
 mod tests;
 
 pub use failing::{FailStage, Listed};
-pub use faults::FailureCounts;
+pub use failures::FailureCounts;
 pub use log::CallKind;
 pub use memory::MemoryStage;
 use paw_base::limits::LINE_LIMIT;
@@ -89,7 +89,7 @@ pub trait Stage {
     ghost standing: { Self → Standing };
 
     /// How often each call has failed so far. A count never falls, and 2^64 - 1 is its last value.
-    ghost faults: { Self → StageCall → ℕ };
+    ghost failures: { Self → StageCall → ℕ };
 
     /// The time: a number that never falls. One clock runs for files, store, lines and text.
     ghost clock: { Self → ℕ };
@@ -104,7 +104,7 @@ pub trait Stage {
     /// is no memory. Absent counts as a failure of `LoadAbsent`, and Failed as one of `Load`.
     fn load(&mut self, alloc: Global, name: &str, most: usize) -> Result<Vec<u8>, LoadRefusal>
         ensures tells { Tells self.old ↔ Tells self.new }
-        ensures faulted { CountsFailure (failed_load result) (faults self.old) (faults self.new) }
+        ensures counts_failure { CountsFailure (failed_load result) (failures self.old) (failures self.new) }
         ensures still { Tells self.old → standing self.new ≡ standing self.old }
         ensures answer { Tells self.old → LoadsTo (standing self.old) name.now most result }
         ensures time { Tells self.old → Moments clock since self.old self.new (Still (standing self.old)) };
@@ -112,7 +112,7 @@ pub trait Stage {
     /// Makes the file of a name hold these bytes. After Failed the file may hold any bytes, or be gone.
     fn save(&mut self, name: &str, bytes: &[u8]) -> Result<(), Failed>
         ensures tells { Tells self.old ↔ Tells self.new }
-        ensures faulted { CountsFailure (failed_in call.Save result) (faults self.old) (faults self.new) }
+        ensures counts_failure { CountsFailure (failed_in call.Save result) (failures self.old) (failures self.new) }
         ensures answer { Tells self.old → SavesTo (standing self.old) (standing self.new) name.now bytes.now result }
         ensures time { Tells self.old → Moments clock since self.old self.new (InSave (standing self.old) name.now) };
 
@@ -123,7 +123,7 @@ pub trait Stage {
     fn attach(&mut self, name: &str) -> Result<u64, Failed>
         requires synced { Tells self.old → IsStable (standing self.old).disk }
         ensures tells { Tells self.old ↔ Tells self.new }
-        ensures faulted { CountsFailure (failed_in call.Attach result) (faults self.old) (faults self.new) }
+        ensures counts_failure { CountsFailure (failed_in call.Attach result) (failures self.old) (failures self.new) }
         ensures answer { Tells self.old → AttachesTo (standing self.old) (standing self.new) name.now result }
         ensures time { Tells self.old →
             Moments clock since self.old self.new (InAttach (standing self.old) (standing self.new) name.now) };
@@ -134,7 +134,7 @@ pub trait Stage {
         requires attached { Tells self.old → IsSome (standing self.old).attached }
         requires within { Tells self.old → at + length into.old ≤ length (standing self.old).disk.bytes }
         ensures tells { Tells self.old ↔ Tells self.new }
-        ensures faulted { CountsFailure (failed_in call.Read result) (faults self.old) (faults self.new) }
+        ensures counts_failure { CountsFailure (failed_in call.Read result) (failures self.old) (failures self.new) }
         ensures still { Tells self.old → standing self.new ≡ standing self.old }
         ensures answer { Tells self.old → ReadsTo (standing self.old) at (length into.old) into.new result }
         ensures time { Tells self.old → Moments clock since self.old self.new (Still (standing self.old)) };
@@ -145,7 +145,7 @@ pub trait Stage {
         requires attached { Tells self.old → IsSome (standing self.old).attached }
         requires within { Tells self.old → at ≤ length (standing self.old).disk.bytes }
         ensures tells { Tells self.old ↔ Tells self.new }
-        ensures faulted { CountsFailure (failed_in call.Write result) (faults self.old) (faults self.new) }
+        ensures counts_failure { CountsFailure (failed_in call.Write result) (failures self.old) (failures self.new) }
         ensures answer { Tells self.old → WritesTo (standing self.old) (standing self.new) at bytes.now result }
         ensures time { Tells self.old →
             Moments clock since self.old self.new (InWrite (standing self.old) at (length bytes.now)) };
@@ -153,7 +153,7 @@ pub trait Stage {
     /// Makes all that was written to the attached store last: a crash then leaves exactly what a read gives.
     fn sync(&mut self) -> Result<(), Failed>
         ensures tells { Tells self.old ↔ Tells self.new }
-        ensures faulted { CountsFailure (failed_in call.Sync result) (faults self.old) (faults self.new) }
+        ensures counts_failure { CountsFailure (failed_in call.Sync result) (failures self.old) (failures self.new) }
         ensures answer { Tells self.old → SyncsTo (standing self.old) (standing self.new) result }
         ensures time { Tells self.old → Moments clock since self.old self.new (InSync (standing self.old)) };
 
@@ -163,14 +163,14 @@ pub trait Stage {
     /// The answer is End exactly where no line is left and the call didn't fail. After End and Failed no line is taken.
     fn ask(&mut self, into: &mut [u8; LINE_LIMIT]) -> Asked
         ensures tells { Tells self.old ↔ Tells self.new }
-        ensures faulted { CountsFailure (failed_ask result) (faults self.old) (faults self.new) }
+        ensures counts_failure { CountsFailure (failed_ask result) (failures self.old) (failures self.new) }
         ensures answer { Tells self.old → AsksTo (standing self.old) (standing self.new) result into.new }
         ensures time { Tells self.old → Moments clock since self.old self.new (InAsk (standing self.old) result) };
 
     /// Shows a text after the text shown before. After Failed a first part of the text was shown, maybe nothing.
     fn show(&mut self, text: &[u8]) -> Result<(), Failed>
         ensures tells { Tells self.old ↔ Tells self.new }
-        ensures faulted { CountsFailure (failed_in call.Show result) (faults self.old) (faults self.new) }
+        ensures counts_failure { CountsFailure (failed_in call.Show result) (failures self.old) (failures self.new) }
         ensures answer { Tells self.old → ShowsTo (standing self.old) (standing self.new) text.now result }
         ensures time { Tells self.old → Moments clock since self.old self.new (InShow (standing self.old) text.now) };
 

@@ -13,7 +13,7 @@ ghost use Rattle.paw_stage.specs.Stage.{CountsFailure, failed_in, failed_load, f
 ghost use Rattle.paw_stage.specs.inner.Stage.{IfAttached};
 ghost use Rattle.paw_stage.specs.Stage.{LoadsTo, SavesTo, AttachesTo, ReadsTo, WritesTo, SyncsTo, AsksTo, ShowsTo};
 ghost use Rattle.paw_stage.specs.Moments.{Still, InAsk, InShow, InSave, InAttach, InWrite, InSync};
-ghost use Rattle.paw_stage.specs.inner.Faults.{count_of};
+ghost use Rattle.paw_stage.specs.inner.Failures.{count_of};
 ghost use Rattle.paw_stage.specs.inner.Crash.{crashed, HasNoStore};
 ghost use Rattle.paw_stage.specs.inner.Done.{loaded_file, saved, attached_store, read_store};
 ghost use Rattle.paw_stage.specs.inner.Done.{wrote_store, synced_store, took};
@@ -149,14 +149,15 @@ impl Stage for MemoryStage {
 
     ghost standing = { standing_of };
 
-    ghost faults = { λ s. count_of s.counts };
+    ghost failures = { λ s. count_of s.counts };
 
     ghost clock = { clock_of };
 
     ghost since = { moments_of };
 
     fn load(&mut self, alloc: Global, name: &str, most: usize) -> Result<Vec<u8>, LoadRefusal>
-        ensures faulted { CountsFailure (failed_load result) (count_of self.old.counts) (count_of self.new.counts) }
+        ensures counts_failure { CountsFailure (failed_load result) (count_of self.old.counts)
+            (count_of self.new.counts) }
         ensures still { standing_of self.new ≡ standing_of self.old }
         ensures answer { LoadsTo (standing_of self.old) name.now most result }
         ensures time { AtEachMoment self.old self.new Still }
@@ -182,7 +183,7 @@ impl Stage for MemoryStage {
     }
 
     fn save(&mut self, name: &str, bytes: &[u8]) -> Result<(), Failed>
-        ensures faulted { CountsFailure (failed_in call.Save result) (count_of self.old.counts)
+        ensures counts_failure { CountsFailure (failed_in call.Save result) (count_of self.old.counts)
             (count_of self.new.counts) }
         ensures answer { SavesTo (standing_of self.old) (standing_of self.new) name.now bytes.now result }
         ensures time { AtEachMoment self.old self.new (λ s. InSave s name.now) }
@@ -197,7 +198,7 @@ impl Stage for MemoryStage {
 
     fn attach(&mut self, name: &str) -> Result<u64, Failed>
         requires synced { IsStable (standing_of self.old).disk }
-        ensures faulted { CountsFailure (failed_in call.Attach result) (count_of self.old.counts)
+        ensures counts_failure { CountsFailure (failed_in call.Attach result) (count_of self.old.counts)
             (count_of self.new.counts) }
         ensures answer { AttachesTo (standing_of self.old) (standing_of self.new) name.now result }
         ensures time { AtEachMoment self.old self.new (λ s. InAttach s (standing_of self.new) name.now) }
@@ -213,7 +214,7 @@ impl Stage for MemoryStage {
     fn read_at(&mut self, at: u64, into: &mut [u8]) -> Result<(), Failed>
         requires attached { IsSome (standing_of self.old).attached }
         requires within { at + length into.old ≤ length (standing_of self.old).disk.bytes }
-        ensures faulted { CountsFailure (failed_in call.Read result) (count_of self.old.counts)
+        ensures counts_failure { CountsFailure (failed_in call.Read result) (count_of self.old.counts)
             (count_of self.new.counts) }
         ensures still { standing_of self.new ≡ standing_of self.old }
         ensures answer { ReadsTo (standing_of self.old) at (length into.old) into.new result }
@@ -231,7 +232,7 @@ impl Stage for MemoryStage {
     fn write_at(&mut self, at: u64, bytes: &[u8]) -> Result<(), Failed>
         requires attached { IsSome (standing_of self.old).attached }
         requires within { at ≤ length (standing_of self.old).disk.bytes }
-        ensures faulted { CountsFailure (failed_in call.Write result) (count_of self.old.counts)
+        ensures counts_failure { CountsFailure (failed_in call.Write result) (count_of self.old.counts)
             (count_of self.new.counts) }
         ensures answer { WritesTo (standing_of self.old) (standing_of self.new) at bytes.now result }
         ensures time { AtEachMoment self.old self.new (λ s. InWrite s at (length bytes.now)) }
@@ -245,7 +246,7 @@ impl Stage for MemoryStage {
     }
 
     fn sync(&mut self) -> Result<(), Failed>
-        ensures faulted { CountsFailure (failed_in call.Sync result) (count_of self.old.counts)
+        ensures counts_failure { CountsFailure (failed_in call.Sync result) (count_of self.old.counts)
             (count_of self.new.counts) }
         ensures answer { SyncsTo (standing_of self.old) (standing_of self.new) result }
         ensures time { AtEachMoment self.old self.new InSync }
@@ -259,7 +260,8 @@ impl Stage for MemoryStage {
     }
 
     fn ask(&mut self, into: &mut [u8; LINE_LIMIT]) -> Asked
-        ensures faulted { CountsFailure (failed_ask result) (count_of self.old.counts) (count_of self.new.counts) }
+        ensures counts_failure { CountsFailure (failed_ask result) (count_of self.old.counts)
+            (count_of self.new.counts) }
         ensures answer { AsksTo (standing_of self.old) (standing_of self.new) result into.new }
         ensures time { AtEachMoment self.old self.new (λ s. InAsk s result) }
 
@@ -285,7 +287,7 @@ impl Stage for MemoryStage {
     }
 
     fn show(&mut self, text: &[u8]) -> Result<(), Failed>
-        ensures faulted { CountsFailure (failed_in call.Show result) (count_of self.old.counts)
+        ensures counts_failure { CountsFailure (failed_in call.Show result) (count_of self.old.counts)
             (count_of self.new.counts) }
         ensures answer { ShowsTo (standing_of self.old) (standing_of self.new) text.now result }
         ensures time { AtEachMoment self.old self.new (λ s. InShow s text.now) }

@@ -3,7 +3,7 @@
 ghost use Rattle.std.specs.Prelude.{◌≡◌};
 ghost use Rattle.paw_stage.specs.declared.StageCall.TheVariants as call;
 ghost use Rattle.paw_stage.specs.Stage.{CountsFailure, failed_in, failed_load, failed_ask};
-ghost use Rattle.paw_stage.specs.inner.Faults.{count_of, no_failures, counts_after};
+ghost use Rattle.paw_stage.specs.inner.Failures.{count_of, no_failures, counts_after};
 ghost use Rattle.paw_stage.specs.inner.Done.{fresh};
 
 use crate::files::{longest_file, read_file, read_part, sync_bytes, write_file, write_part};
@@ -48,7 +48,7 @@ pub struct RealStage<R: Files<File = File> + Input + Print + Alloc + Drop> {
 }
 
 impl<R: Files<File = File> + Input + Print + Alloc + Drop> Model for RealStage<R> {
-    ghost use Rattle.paw_stage.specs.declared.faults.FailureCounts.{FailureCounts};
+    ghost use Rattle.paw_stage.specs.declared.failures.FailureCounts.{FailureCounts};
 
     ghost Value = { FailureCounts };
 
@@ -77,7 +77,7 @@ impl<R: Files<File = File> + Input + Print + Alloc + Drop> Stage for RealStage<R
 
     ghost standing = { λ _. fresh };
 
-    ghost faults = { count_of };
+    ghost failures = { count_of };
 
     ghost clock = { λ _. 0 };
 
@@ -85,7 +85,7 @@ impl<R: Files<File = File> + Input + Print + Alloc + Drop> Stage for RealStage<R
 
     // Only a name that is missing is Absent: a folder, or a file that may not be read, is Failed.
     fn load(&mut self, alloc: Global, name: &str, most: usize) -> Result<Vec<u8>, LoadRefusal>
-        ensures faulted { CountsFailure (failed_load result) (count_of self.old) (count_of self.new) }
+        ensures counts_failure { CountsFailure (failed_load result) (count_of self.old) (count_of self.new) }
 
         // A count rises exactly at a failure.
         ensures counted { self.new ≡ counts_after (failed_load result) self.old }
@@ -101,7 +101,7 @@ impl<R: Files<File = File> + Input + Print + Alloc + Drop> Stage for RealStage<R
     }
 
     fn save(&mut self, name: &str, bytes: &[u8]) -> Result<(), Failed>
-        ensures faulted { CountsFailure (failed_in call.Save result) (count_of self.old) (count_of self.new) }
+        ensures counts_failure { CountsFailure (failed_in call.Save result) (count_of self.old) (count_of self.new) }
 
         // A count rises exactly at a failure.
         ensures counted { self.new ≡ counts_after (failed_in call.Save result) self.old }
@@ -111,7 +111,7 @@ impl<R: Files<File = File> + Input + Print + Alloc + Drop> Stage for RealStage<R
     }
 
     fn attach(&mut self, name: &str) -> Result<u64, Failed>
-        ensures faulted { CountsFailure (failed_in call.Attach result) (count_of self.old) (count_of self.new) }
+        ensures counts_failure { CountsFailure (failed_in call.Attach result) (count_of self.old) (count_of self.new) }
 
         // A count rises exactly at a failure.
         ensures counted { self.new ≡ counts_after (failed_in call.Attach result) self.old }
@@ -124,7 +124,7 @@ impl<R: Files<File = File> + Input + Print + Alloc + Drop> Stage for RealStage<R
     }
 
     fn read_at(&mut self, at: u64, into: &mut [u8]) -> Result<(), Failed>
-        ensures faulted { CountsFailure (failed_in call.Read result) (count_of self.old) (count_of self.new) }
+        ensures counts_failure { CountsFailure (failed_in call.Read result) (count_of self.old) (count_of self.new) }
 
         // A count rises exactly at a failure.
         ensures counted { self.new ≡ counts_after (failed_in call.Read result) self.old }
@@ -135,7 +135,7 @@ impl<R: Files<File = File> + Input + Print + Alloc + Drop> Stage for RealStage<R
     }
 
     fn write_at(&mut self, at: u64, bytes: &[u8]) -> Result<(), Failed>
-        ensures faulted { CountsFailure (failed_in call.Write result) (count_of self.old) (count_of self.new) }
+        ensures counts_failure { CountsFailure (failed_in call.Write result) (count_of self.old) (count_of self.new) }
 
         // A count rises exactly at a failure.
         ensures counted { self.new ≡ counts_after (failed_in call.Write result) self.old }
@@ -149,7 +149,7 @@ impl<R: Files<File = File> + Input + Print + Alloc + Drop> Stage for RealStage<R
     }
 
     fn sync(&mut self) -> Result<(), Failed>
-        ensures faulted { CountsFailure (failed_in call.Sync result) (count_of self.old) (count_of self.new) }
+        ensures counts_failure { CountsFailure (failed_in call.Sync result) (count_of self.old) (count_of self.new) }
 
         // A count rises exactly at a failure.
         ensures counted { self.new ≡ counts_after (failed_in call.Sync result) self.old }
@@ -163,7 +163,7 @@ impl<R: Files<File = File> + Input + Print + Alloc + Drop> Stage for RealStage<R
     }
 
     fn ask(&mut self, into: &mut [u8; LINE_LIMIT]) -> Asked
-        ensures faulted { CountsFailure (failed_ask result) (count_of self.old) (count_of self.new) }
+        ensures counts_failure { CountsFailure (failed_ask result) (count_of self.old) (count_of self.new) }
 
         // A count rises exactly at a failure.
         ensures counted { self.new ≡ counts_after (failed_ask result) self.old }
@@ -176,7 +176,7 @@ impl<R: Files<File = File> + Input + Print + Alloc + Drop> Stage for RealStage<R
     }
 
     fn show(&mut self, text: &[u8]) -> Result<(), Failed>
-        ensures faulted { CountsFailure (failed_in call.Show result) (count_of self.old) (count_of self.new) }
+        ensures counts_failure { CountsFailure (failed_in call.Show result) (count_of self.old) (count_of self.new) }
 
         // A count rises exactly at a failure.
         ensures counted { self.new ≡ counts_after (failed_in call.Show result) self.old }

@@ -8,7 +8,7 @@ ghost use Rattle.paw_stage.specs.Disk.{IsStable};
 ghost use Rattle.paw_stage.specs.Stage.{CountsFailure, failed_in, failed_load, failed_ask};
 ghost use Rattle.paw_stage.specs.Stage.{LoadsTo, SavesTo, AttachesTo, ReadsTo, WritesTo, SyncsTo, AsksTo, ShowsTo};
 ghost use Rattle.paw_stage.specs.Moments.{Still, InAsk, InShow, InSave, InAttach, InWrite, InSync};
-ghost use Rattle.paw_stage.specs.inner.Faults.{no_failures};
+ghost use Rattle.paw_stage.specs.inner.Failures.{no_failures};
 ghost use Rattle.paw_stage.specs.inner.Done.{saved, attached_store, read_store};
 ghost use Rattle.paw_stage.specs.inner.Done.{wrote_store, synced_store, took};
 ghost use Rattle.paw_stage.specs.inner.Done.{end_done, showed};
@@ -85,14 +85,14 @@ impl<R: Refusals + Drop> Stage for RefusingStage<R> {
 
     ghost standing = { standing_of };
 
-    ghost faults = { failures_of };
+    ghost failures = { failures_of };
 
     ghost clock = { λ s. clock_of s.inner };
 
     ghost since = { λ s. moments_of s.inner };
 
     fn load(&mut self, alloc: Global, name: &str, most: usize) -> Result<Vec<u8>, LoadRefusal>
-        ensures faulted { CountsFailure (failed_load result) (failures_of self.old) (failures_of self.new) }
+        ensures counts_failure { CountsFailure (failed_load result) (failures_of self.old) (failures_of self.new) }
         ensures still { standing_of self.new ≡ standing_of self.old }
         ensures answer { LoadsTo (standing_of self.old) name.now most result }
         ensures time { AtEachMoment self.old self.new Still }
@@ -106,7 +106,8 @@ impl<R: Refusals + Drop> Stage for RefusingStage<R> {
     }
 
     fn save(&mut self, name: &str, bytes: &[u8]) -> Result<(), Failed>
-        ensures faulted { CountsFailure (failed_in call.Save result) (failures_of self.old) (failures_of self.new) }
+        ensures counts_failure { CountsFailure (failed_in call.Save result) (failures_of self.old)
+            (failures_of self.new) }
         ensures answer { SavesTo (standing_of self.old) (standing_of self.new) name.now bytes.now result }
         ensures time { AtEachMoment self.old self.new (λ s. InSave s name.now) }
         ensures forwarded { Forwards R.refuses R.later call.Save (saved name.now bytes.now) result self.old self.new }
@@ -120,7 +121,8 @@ impl<R: Refusals + Drop> Stage for RefusingStage<R> {
 
     fn attach(&mut self, name: &str) -> Result<u64, Failed>
         requires synced { IsStable (standing_of self.old).disk }
-        ensures faulted { CountsFailure (failed_in call.Attach result) (failures_of self.old) (failures_of self.new) }
+        ensures counts_failure { CountsFailure (failed_in call.Attach result) (failures_of self.old)
+            (failures_of self.new) }
         ensures answer { AttachesTo (standing_of self.old) (standing_of self.new) name.now result }
         ensures time { AtEachMoment self.old self.new (λ s. InAttach s (standing_of self.new) name.now) }
         ensures forwarded { Forwards R.refuses R.later call.Attach (attached_store name.now) result self.old self.new }
@@ -135,7 +137,8 @@ impl<R: Refusals + Drop> Stage for RefusingStage<R> {
     fn read_at(&mut self, at: u64, into: &mut [u8]) -> Result<(), Failed>
         requires attached { IsSome (standing_of self.old).attached }
         requires within { at + length into.old ≤ length (standing_of self.old).disk.bytes }
-        ensures faulted { CountsFailure (failed_in call.Read result) (failures_of self.old) (failures_of self.new) }
+        ensures counts_failure { CountsFailure (failed_in call.Read result) (failures_of self.old)
+            (failures_of self.new) }
         ensures still { standing_of self.new ≡ standing_of self.old }
         ensures answer { ReadsTo (standing_of self.old) at (length into.old) into.new result }
         ensures time { AtEachMoment self.old self.new Still }
@@ -151,7 +154,8 @@ impl<R: Refusals + Drop> Stage for RefusingStage<R> {
     fn write_at(&mut self, at: u64, bytes: &[u8]) -> Result<(), Failed>
         requires attached { IsSome (standing_of self.old).attached }
         requires within { at ≤ length (standing_of self.old).disk.bytes }
-        ensures faulted { CountsFailure (failed_in call.Write result) (failures_of self.old) (failures_of self.new) }
+        ensures counts_failure { CountsFailure (failed_in call.Write result) (failures_of self.old)
+            (failures_of self.new) }
         ensures answer { WritesTo (standing_of self.old) (standing_of self.new) at bytes.now result }
         ensures time { AtEachMoment self.old self.new (λ s. InWrite s at (length bytes.now)) }
         ensures forwarded { Forwards R.refuses R.later call.Write (wrote_store at bytes.now) result self.old self.new }
@@ -164,7 +168,8 @@ impl<R: Refusals + Drop> Stage for RefusingStage<R> {
     }
 
     fn sync(&mut self) -> Result<(), Failed>
-        ensures faulted { CountsFailure (failed_in call.Sync result) (failures_of self.old) (failures_of self.new) }
+        ensures counts_failure { CountsFailure (failed_in call.Sync result) (failures_of self.old)
+            (failures_of self.new) }
         ensures answer { SyncsTo (standing_of self.old) (standing_of self.new) result }
         ensures time { AtEachMoment self.old self.new InSync }
         ensures forwarded { Forwards R.refuses R.later call.Sync synced_store result self.old self.new }
@@ -177,7 +182,7 @@ impl<R: Refusals + Drop> Stage for RefusingStage<R> {
     }
 
     fn ask(&mut self, into: &mut [u8; LINE_LIMIT]) -> Asked
-        ensures faulted { CountsFailure (failed_ask result) (failures_of self.old) (failures_of self.new) }
+        ensures counts_failure { CountsFailure (failed_ask result) (failures_of self.old) (failures_of self.new) }
         ensures answer { AsksTo (standing_of self.old) (standing_of self.new) result into.new }
         ensures time { AtEachMoment self.old self.new (λ s. InAsk s result) }
 
@@ -196,7 +201,8 @@ impl<R: Refusals + Drop> Stage for RefusingStage<R> {
     }
 
     fn show(&mut self, text: &[u8]) -> Result<(), Failed>
-        ensures faulted { CountsFailure (failed_in call.Show result) (failures_of self.old) (failures_of self.new) }
+        ensures counts_failure { CountsFailure (failed_in call.Show result) (failures_of self.old)
+            (failures_of self.new) }
         ensures answer { ShowsTo (standing_of self.old) (standing_of self.new) text.now result }
         ensures time { AtEachMoment self.old self.new (λ s. InShow s text.now) }
         ensures forwarded { Forwards R.refuses R.later call.Show (showed text.now) result self.old self.new }

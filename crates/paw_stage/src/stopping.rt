@@ -1,7 +1,7 @@
 // A stage in memory that stops after a number of calls.
 
 ghost use Rattle.std.specs.Prelude.{◌≡◌, ◌-◌, ◌==◌};
-ghost use Rattle.paw_stage.specs.inner.Faults.{no_failures};
+ghost use Rattle.paw_stage.specs.inner.Failures.{no_failures};
 
 use crate::MemoryStage;
 use crate::refusing::{Refusals, RefusingStage};

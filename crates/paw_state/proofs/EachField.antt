@@ -15,11 +15,13 @@ use Rattle.paw_state.specs.inner.Fields.{frame_shape, loop_shape, held_shape, fi
 use Rattle.paw_state.proofs.Pieces.{each_byte}
 use Rattle.paw_state.proofs.Listed.{each_bytes, join, held_same, kept_same, frames_same, pending_same, looping_same}
 use Rattle.paw_state.proofs.Shaped.{IsSound, one_byte_sound, two_byte_sound, eight_byte_sound, array_sound, pair_sound}
-use Rattle.paw_state.proofs.Shaped.{through_sound, times_sound, frame_shape_sound, loop_shape_sound, held_shape_sound, held_fits}
+use Rattle.paw_state.proofs.Shaped.{through_sound, times_sound, frame_shape_sound, loop_shape_sound, held_shape_sound}
+use Rattle.paw_state.proofs.Shaped.{held_fits}
 use Rattle.std.specs.Option.{unwrap_or}
 use Rattle.std.proofs.Common.{None}
 use Rattle.paw_state.specs.State.{State, fields_of, state_bytes}
-use Rattle.paw_state.specs.Fields.{Field, two, bytes_of, held_fields, state_fields, flag_fields, place_fields, number_fields}
+use Rattle.paw_state.specs.Fields.{Field, two, bytes_of, held_fields, state_fields, flag_fields, place_fields}
+use Rattle.paw_state.specs.Fields.{number_fields}
 use Rattle.paw_state.specs.Fields.{prompt_fields, table_fields, looping_fields, pending_fields, inside}
 
 -- ---- shapes ----

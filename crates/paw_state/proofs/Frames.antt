@@ -8,8 +8,8 @@ use Rattle.paw_game.specs.Game.{GameLists}
 use Rattle.paw_game.specs.Tables.{condacts_of, entry_at, head_at, condact_at}
 use Rattle.paw_reading.specs.declared.places.Frame.{Frame}
 use Rattle.paw_process.specs.Kept.{may_open, has_code, parameter_of}
-use Rattle.paw_process.specs.inner.Kept.{condact_at_frame, is_unused, row_stands}
-use Rattle.paw_process.specs.inner.Kept.{rows_fault as machine_fault}
+use Rattle.paw_process.specs.inner.Kept.{condact_at_frame, is_unused, frame_stands}
+use Rattle.paw_process.specs.inner.Kept.{first_frame_fault as machine_fault}
 use Rattle.paw_process.proofs.Restored.{first_of, second}
 use Rattle.paw_state.specs.declared.fields.FrameField.{FrameField}
 use Rattle.paw_state.specs.State.{frame_field_of}
@@ -71,7 +71,7 @@ no_action acted h = let z : acted ≡ 0 = eqb-true acted 0 h in rw z refl
 
 -- A row without a fault stands as a frame.
 frame_field_sound : (g : GameLists) (code : ℕ) (caller : Option ℕ) (n at : ℕ) (r : FrameField) → frame_fault g code caller n at r ≡ None
-    → row_stands g code caller n (frame_in r) ≡ true
+    → frame_stands g code caller n (frame_in r) ≡ true
 frame_field_sound g code caller n at r h = go (n == 0) h
   where
     go : (b : Bool) → (if b then unused_fault at r else used_fault g (if n == 1 then code else 85) caller at r) ≡ None
@@ -137,7 +137,7 @@ acted_zero : (acted : Bool) → not acted ≡ true → ((if acted then 1 else 0)
 acted_zero true h = cc
 acted_zero false h = refl
 
-frame_sound : (g : GameLists) (code : ℕ) (caller : Option ℕ) (n at : ℕ) (f : Frame) → row_stands g code caller n f ≡ true
+frame_sound : (g : GameLists) (code : ℕ) (caller : Option ℕ) (n at : ℕ) (f : Frame) → frame_stands g code caller n f ≡ true
     → frame_fault g code caller n at (frame_field_of f) ≡ None
 frame_sound g code caller n at f h = go (n == 0) h
   where
@@ -161,11 +161,11 @@ pub frames_sound : (g : GameLists) (code : ℕ) (caller : Option ℕ) (n at d : 
 unfolding frame_fields_fault machine_fault
 frames_sound g code caller n at d [] h = refl
 frames_sound g code caller n at d (f ∷ fs) h = go (frames_sound g code (Some (parameter_of (condact_at_frame g f))) (n - 1) (at + 5) (suc d) fs)
-    (row_stands g code caller n f) refl h
+    (frame_stands g code caller n f) refl h
   where
     go : (machine_fault g code (Some (parameter_of (condact_at_frame g f))) (n - 1) (suc d) fs ≡ None
         → frame_fields_fault g code (Some (parameter_of (condact_at_frame g f))) (n - 1) (at + 5) (map frame_field_of fs) ≡ None)
-        → (b : Bool) → row_stands g code caller n f ≡ b
+        → (b : Bool) → frame_stands g code caller n f ≡ b
         → ◌≡◌ {A = Option ℕ} (if b then machine_fault g code (Some (parameter_of (condact_at_frame g f))) (n - 1) (suc d) fs else Some d) None
         → option_or (frame_fault g code caller n at (frame_field_of f)) (frame_fields_fault g code (called_table g (frame_field_of f)) (n - 1)
         (at + 5) (map frame_field_of fs)) ≡ None

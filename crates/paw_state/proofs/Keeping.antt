@@ -16,7 +16,7 @@ use Rattle.paw_effects.specs.declared.act.Prompt.TheVariants as prompt
 use Rattle.paw_process.specs.declared.kept.Frames.{Frames}
 use Rattle.paw_process.specs.Kept.{count_fits}
 use Rattle.paw_process.specs.inner.Kept.{fault_at}
-use Rattle.paw_process.specs.inner.Kept.{rows_fault as machine_rows, loop_fault as machine_loop}
+use Rattle.paw_process.specs.inner.Kept.{first_frame_fault as machine_rows, loop_fault as machine_loop}
 use Rattle.paw_process.proofs.Restored.{no_first as no_machine_first}
 use Rattle.paw_state.specs.declared.layout.TheConstants.{HELD_LENGTH}
 use Rattle.paw_state.specs.declared.position_field.PositionField.{PositionField}
@@ -26,7 +26,8 @@ use Rattle.paw_state.specs.inner.Faults.{rule, first_not, is_zero, places_fault,
 use Rattle.paw_state.specs.inner.Parts.{held_in}
 use Rattle.paw_state.proofs.Positions.{IsHeldOf}
 use Rattle.paw_state.specs.Fields.{IsSizedHeld}
-use Rattle.paw_state.proofs.Found.{two, two_none, no_first, none_first, all_so, none_not, none_in_zeros, take_filled, drop_filled, length-filled, length-zeros}
+use Rattle.paw_state.proofs.Found.{two, two_none, no_first, none_first, all_so, none_not, none_in_zeros, take_filled}
+use Rattle.paw_state.proofs.Found.{drop_filled, length-filled, length-zeros}
 use Rattle.paw_state.proofs.Back.{objects_stand}
 
 -- ---- the machine's rules ----

@@ -19,8 +19,10 @@ use Rattle.paw_state.specs.Fit.{Fit, Unfit}
 use Rattle.paw_state.specs.inner.Fit.{unfit}
 use Rattle.paw_state.specs.inner.Fit.{state_read, IsRead}
 use Rattle.paw_state.specs.inner.Laws.{FieldsStand, OneFault, FitOrUnfit, BytesTellTheState, WrittenIsFit}
-use Rattle.paw_state.proofs.EachField.{fields_join, fields_cut, kept-length, length-fields, sized_at, bytes_same, state_same, lengths_sized}
-use Rattle.paw_state.proofs.Ruled.{AreSound, faults_same, sound_of, each_of, keeps_of, keeps_in, state_back, fields_back, fits_at, sized_of}
+use Rattle.paw_state.proofs.EachField.{fields_join, fields_cut, kept-length, length-fields, sized_at, bytes_same}
+use Rattle.paw_state.proofs.EachField.{state_same, lengths_sized}
+use Rattle.paw_state.proofs.Ruled.{AreSound, faults_same, sound_of, each_of, keeps_of, keeps_in, state_back}
+use Rattle.paw_state.proofs.Ruled.{fields_back, fits_at, sized_of}
 use Rattle.paw_state.proofs.Told.{AreLong}
 
 pub fields_stand : FieldsStand

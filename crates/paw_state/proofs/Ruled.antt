@@ -1,4 +1,5 @@
--- What takes the rules of a state one by one: the first fault of its fields, and the state that fields without a fault say.
+-- What takes the rules of a state one by one: the first fault of its fields, and the state that fields without a fault
+-- say.
 use Rattle.std.proofs.Common.{◌≡◌, ℕ, ◌+◌, ◌*◌, ◌<◌, ◌≤◌, List, ◌∷◌, length, take, drop, refl, ap, arith, suc, ◌-◌}
 use Rattle.std.proofs.Common.{Bool, true, Option, None, sym, ◌∙◌, ◌==◌, ◌||◌, false, not, is_some, nat_le, map, get_or}
 use Rattle.std.proofs.Common.{[], subst}

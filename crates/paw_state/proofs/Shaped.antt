@@ -1,4 +1,5 @@
--- The laws of shapes: a value has its bytes, stands where they are, and bytes are those of the value that stands in them.
+-- The laws of shapes: a value has its bytes, stands where they are, and bytes are those of the value that stands in
+-- them.
 use Rattle.std.proofs.Common.{◌≡◌, ℕ, zero, suc, ◌+◌, ◌-◌, ◌*◌, ◌<◌, ◌≤◌, List, [], ◌∷◌, ◌++◌, length, take, drop}
 use Rattle.std.proofs.Common.{refl, sym, ap, ◌∙◌, set, subst, add-one, arith}
 use Rattle.std.specs.Prelude.{All, flat_map, slice_range}
@@ -15,7 +16,8 @@ use Rattle.paw_state.specs.declared.layout.TheConstants.{HELD_LENGTH}
 use Rattle.paw_state.specs.declared.position_field.PositionField.{PositionField}
 use Rattle.paw_state.specs.Fields.{IsSizedHeld}
 use Rattle.paw_state.specs.inner.Fields.{frame_shape, loop_shape, held_shape}
-use Rattle.paw_state.proofs.Pieces.{range_is, behind, byte_is, range_join, byte_range, length_range, range_bytes, each_byte}
+use Rattle.paw_state.proofs.Pieces.{range_is, behind, byte_is, range_join, byte_range, length_range, range_bytes}
+use Rattle.paw_state.proofs.Pieces.{each_byte}
 
 pub record IsSound {A : Type 0} (c : Shape A) : Type 0 where
   pub long : (a : A) → c.fits a → length (c.bytes a) ≡ c.size

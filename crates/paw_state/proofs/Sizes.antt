@@ -15,11 +15,11 @@ use Rattle.paw_reading.specs.declared.places.Frame.{Frame}
 use Rattle.paw_reading.specs.declared.places.OpenLoop.{OpenLoop}
 use Rattle.paw_process.specs.declared.kept.Frames.{Frames}
 use Rattle.paw_process.specs.Kept.{may_open, has_code, parameter_of}
-use Rattle.paw_process.specs.inner.Kept.{condact_at_frame, is_unused, row_stands}
+use Rattle.paw_process.specs.inner.Kept.{condact_at_frame, is_unused, frame_stands}
 use Rattle.paw_process.specs.inner.Kept.{is_that_table}
 use Rattle.paw_process.specs.inner.Kept.{loop_stands}
-use Rattle.paw_process.proofs.Rows.{table_of}
-use Rattle.paw_process.specs.inner.Kept.{rows_fault as machine_rows, loop_fault as machine_loop}
+use Rattle.paw_process.proofs.OpenFrames.{table_of}
+use Rattle.paw_process.specs.inner.Kept.{first_frame_fault as machine_rows, loop_fault as machine_loop}
 use Rattle.paw_process.proofs.Restored.{first_of, second}
 use Rattle.paw_state.specs.declared.layout.TheConstants.{HELD_LENGTH}
 use Rattle.paw_state.specs.declared.fields.FrameField.{FrameField}
@@ -61,7 +61,7 @@ coded : (g : GameLists) (t e k code : ℕ) (o : Option Condact) → Valid g → 
 coded g t e k code None v is h = cc
 coded g t e k code (Some c) v is h = let low = condact-small g v t e k c is in omega (arith, low)
 
-frame_entry : (g : GameLists) (code : ℕ) (caller : Option ℕ) (n : ℕ) (f : Frame) → Valid g → row_stands g code caller n f ≡ true → f.entry < 2 ^ 16
+frame_entry : (g : GameLists) (code : ℕ) (caller : Option ℕ) (n : ℕ) (f : Frame) → Valid g → frame_stands g code caller n f ≡ true → f.entry < 2 ^ 16
 frame_entry g code caller n f v h = go (n == 0) h
   where
     go : (b : Bool) → (if b then is_unused f else may_open caller f.table && has_code (if n == 1 then code else 85) (condact_at_frame g f)) ≡ true →
@@ -74,10 +74,10 @@ pub entries_fit : (g : GameLists) (code : ℕ) (caller : Option ℕ) (n d : ℕ)
 unfolding machine_rows
 entries_fit g code caller n d [] v h = λ k e low. absurd (omega (arith, low))
 entries_fit g code caller n d (f ∷ fs) v h = go (entries_fit g code (Some (parameter_of (condact_at_frame g f))) (n - 1) (suc d) fs v)
-    (row_stands g code caller n f) refl h
+    (frame_stands g code caller n f) refl h
   where
     go : (machine_rows g code (Some (parameter_of (condact_at_frame g f))) (n - 1) (suc d) fs ≡ None → All (λ r. r.entry < 2 ^ 16) (map frame_field_of fs))
-        → (b : Bool) → row_stands g code caller n f ≡ b
+        → (b : Bool) → frame_stands g code caller n f ≡ b
         → ◌≡◌ {A = Option ℕ} (if b then machine_rows g code (Some (parameter_of (condact_at_frame g f))) (n - 1) (suc d) fs else Some d) None
         → All (λ r. r.entry < 2 ^ 16) (map frame_field_of (f ∷ fs))
     go later true e q = All-cons (λ (r : FrameField). r.entry < 2 ^ 16) (frame_field_of f) (map frame_field_of fs) (frame_entry g code caller n f v e) (later q)

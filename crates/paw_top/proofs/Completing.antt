@@ -167,8 +167,8 @@ is_walked whole most old new (end.Outside call.Ask) w free = absurd (hindered ca
 is_walked whole most old new (end.Outside call.Show) w free = absurd (hindered call.Show (λ q. cc) free)
 is_walked whole most old new _ w free = absurd w
 
-pub completes_walk : (told : Story → ℕ → EndingOf) (rows : List (List ℕ)) (name : List ℕ) (seed : ℕ) (old new : Standing) (o : Outcome) →
-    WalksAs told rows name seed old new o → IsUnhindered o → CompletesImage name (λ g. IsWalked) old o
-completes_walk told rows name seed old new o w free =
+pub completes_walk : (told : Story → ℕ → EndingOf) (answers : List (List ℕ)) (name : List ℕ) (seed : ℕ) (old new : Standing) (o : Outcome) →
+    WalksAs told answers name seed old new o → IsUnhindered o → CompletesImage name (λ g. IsWalked) old o
+completes_walk told answers name seed old new o w free =
     completes_file name (λ g. IsWalked) old new o w
-    (λ g end p free. is_walked (told (story_of g rows) seed) EVENT_LIMIT old new end p free) (λ g at. no_memory at) free
+    (λ g end p free. is_walked (told (story_of g answers) seed) EVENT_LIMIT old new end p free) (λ g at. no_memory at) free

@@ -27,7 +27,8 @@ use Rattle.paw_play.specs.Played.{PlayedSession, ShowsState, begun}
 use Rattle.paw_play.specs.declared.PlayEnd.{PlayEnd}
 use Rattle.paw_play.specs.declared.PlayEnd.TheVariants as end
 use Rattle.paw_top.specs.Completes.{IsUnhindered}
-use Rattle.paw_top.specs.inner.Completes.{IsWalked, halted, out_of_lines, full, no_memory, Comes, CompletesNew, CompletesAgain, CompletesImage}
+use Rattle.paw_top.specs.inner.Completes.{IsWalked, halted, out_of_lines, full, no_memory, Comes, CompletesNew}
+use Rattle.paw_top.specs.inner.Completes.{CompletesAgain, CompletesImage}
 use Rattle.paw_top.specs.Ends.{outcome_of, refused_as}
 use Rattle.paw_top.specs.Sessions.{PlaysNewIn, PlaysAgainIn}
 use Rattle.paw_top.specs.declared.outcome.Outcome.{Outcome}
@@ -97,12 +98,12 @@ new_memory : (bytes : List ℕ) (at : MemoryAt) → CompletesNew bytes (outcome.
 new_memory [] at = no_memory at
 new_memory (b ∷ bytes) at = tt
 
-pub completes_play : (rows : List (List ℕ)) (name store : List ℕ) (seed : ℕ) (old new : Standing)
-    (o : Outcome) → PlaysNewIn rows name store seed old new o →
+pub completes_play : (answers : List (List ℕ)) (name store : List ℕ) (seed : ℕ) (old new : Standing)
+    (o : Outcome) → PlaysNewIn answers name store seed old new o →
     IsUnhindered o → CompletesImage name (λ g. CompletesNew (store_bytes old store)) old o
-completes_play rows name store seed old new o p free =
+completes_play answers name store seed old new o p free =
     completes_file name (λ g. CompletesNew (store_bytes old store)) old new o p
-    (λ g end q free. plays_new (begun (story_of g rows) seed store) old new end q free)
+    (λ g end q free. plays_new (begun (story_of g answers) seed store) old new end q free)
     (λ g at. new_memory (store_bytes old store) at) free
 
 -- ---- a session that is taken up again ----
@@ -222,9 +223,9 @@ plays_again g name old new _ (session.refused r h e) free = record {
 }
 plays_again g name old new _ (session.plays_up o d mine p) free = resumed g d name (attached_to old name) new o mine p free
 
-pub completes_resume : (rows : List (List ℕ)) (name store : List ℕ) (old new : Standing) (o : Outcome) → PlaysAgainIn rows name store old new o →
-    IsUnhindered o → CompletesImage name (λ g. CompletesAgain (story_of g rows) (store_bytes old store)) old o
-completes_resume rows name store old new o p free =
-    completes_file name (λ h. CompletesAgain (story_of h rows) (store_bytes old store)) old new o p
-    (λ g end q free. plays_again (story_of g rows) store old new end q free)
-    (λ h at. again_memory (story_of h rows) (store_bytes old store) at) free
+pub completes_resume : (answers : List (List ℕ)) (name store : List ℕ) (old new : Standing) (o : Outcome) → PlaysAgainIn answers name store old new o →
+    IsUnhindered o → CompletesImage name (λ g. CompletesAgain (story_of g answers) (store_bytes old store)) old o
+completes_resume answers name store old new o p free =
+    completes_file name (λ h. CompletesAgain (story_of h answers) (store_bytes old store)) old new o p
+    (λ g end q free. plays_again (story_of g answers) store old new end q free)
+    (λ h at. again_memory (story_of h answers) (store_bytes old store) at) free

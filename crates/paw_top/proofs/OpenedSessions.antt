@@ -13,8 +13,8 @@ use Rattle.paw_play.specs.ImageFiles.{Holds}
 use Rattle.paw_play.proofs.ImageFiles.{same_game}
 
 -- The story that is played is the one of the file.
-pub same_story : (old : Standing) (name : List ℕ) (game : GameLists) (s : Story) → Holds old name game → Holds old name s.game → story_of game s.rows ≡ s
-same_story old name game s mine holds = ap (λ (h : GameLists). story_of h s.rows) (same_game old name game s.game mine holds)
+pub same_story : (old : Standing) (name : List ℕ) (game : GameLists) (s : Story) → Holds old name game → Holds old name s.game → story_of game s.answers ≡ s
+same_story old name game s mine holds = ap (λ (h : GameLists). story_of h s.answers) (same_game old name game s.game mine holds)
 
 -- How playing ends at a stage where nothing has changed since.
 pub plays_new : (s : PlayedSession) (old mid new : Standing) (o : PlayEnd) → mid ≡ old → NewSession s mid new o → NewSession s old new o

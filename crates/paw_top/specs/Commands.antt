@@ -4,7 +4,7 @@ use Rattle.std.specs.Prelude.{nat_lt, codes, map, string_bytes, if◌then◌else
 use Rattle.std.specs.declared.string.String.{String}
 use Rattle.std.specs.Option.{option_map, option_and_then}
 use Rattle.std.specs.Str.{bytes_eq}
-use Rattle.paw_base.specs.Bytes.{Bytes, Name, RoutineRows, Seed, Text}
+use Rattle.paw_base.specs.Bytes.{Bytes, Name, RoutineAnswers, Seed, Text}
 use Rattle.paw_reading.specs.Turn.{reading}
 use Rattle.paw_stage.specs.Stage.{Standing}
 use Rattle.paw_stage.specs.declared.StageCall.{StageCall}
@@ -97,22 +97,22 @@ commands =
 pub record CommandMeaning : Type 1 where
   pub calls : List StageCall
   pub memory : List MemoryAt
-  pub comes : RoutineRows → Standing → Standing → Outcome → Type 0
-  pub moments : TwoParts → RoutineRows → Standing → Type 0
+  pub comes : RoutineAnswers → Standing → Standing → Outcome → Type 0
+  pub moments : TwoParts → RoutineAnswers → Standing → Type 0
 
 -- The meaning of a command that attaches no store: only what stands afterwards is stated.
-abbrev pub storeless : List StageCall → List MemoryAt → (RoutineRows → Standing → Standing → Outcome → Type 0) →
+abbrev pub storeless : List StageCall → List MemoryAt → (RoutineAnswers → Standing → Standing → Outcome → Type 0) →
     CommandMeaning
 storeless calls memory comes = record {
   calls = calls;
   memory = memory;
   comes = comes;
-  moments = λ Come rows old. Unit {0};
+  moments = λ Come answers old. Unit {0};
 }
 
 -- The meaning of a command that plays with a session.
-abbrev pub with_session : (RoutineRows → Standing → Standing → Outcome → Type 0)
-    → (TwoParts → RoutineRows → Standing → Type 0) → CommandMeaning
+abbrev pub with_session : (RoutineAnswers → Standing → Standing → Outcome → Type 0)
+    → (TwoParts → RoutineAnswers → Standing → Type 0) → CommandMeaning
 with_session comes moments = record {
   calls = load_calls ++ session_calls;
   memory = place.Play ∷ load_memory;
@@ -123,19 +123,21 @@ with_session comes moments = record {
 -- What each command means.
 abbrev pub meaning : Command → CommandMeaning
 meaning (Compile source image) =
-    storeless (call.Save ∷ call.Show ∷ load_calls) (place.Source ∷ load_memory) (λ rows. Compiles source image)
-meaning (Decompile image) = storeless (call.Show ∷ load_calls) (place.Print ∷ load_memory) (λ rows. Decompiles image)
+    storeless (call.Save ∷ call.Show ∷ load_calls) (place.Source ∷ load_memory) (λ answers. Compiles source image)
+meaning (Decompile image) = storeless (call.Show ∷ load_calls) (place.Print ∷ load_memory) (λ answers. Decompiles image)
 meaning (Walk image seed) =
-    storeless (load_calls ++ walk_calls) (place.Play ∷ load_memory) (λ rows. WalksAs reading rows image seed)
+    storeless (load_calls ++ walk_calls) (place.Play ∷ load_memory) (λ answers. WalksAs reading answers image seed)
 meaning (Play image store seed) =
-    with_session (λ rows. PlaysNewIn rows image store seed) (λ Come rows. NewAtEachMoment Come rows image store seed)
+    with_session (λ answers. PlaysNewIn answers image store seed)
+    (λ Come answers. NewAtEachMoment Come answers image store seed)
 meaning (Resume image store) =
-    with_session (λ rows. ResumesIn rows image store) (λ Come rows. AgainAtEachMoment Come rows image store)
+    with_session (λ answers. ResumesIn answers image store) (λ Come answers. AgainAtEachMoment Come answers image store)
 meaning (Trace image seed) =
-    storeless (load_calls ++ walk_calls) (place.Play ∷ load_memory) (λ rows. WalksAs reading_traced rows image seed)
-meaning (Trial n) = storeless (call.Show ∷ []) (place.Trial ∷ []) (λ rows. Tries n)
-meaning (Check image) = storeless (call.Show ∷ load_calls) (place.Check ∷ load_memory) (λ rows. Checks image)
-meaning (Wrap width text) = storeless (call.Show ∷ load_calls) (place.Wrap ∷ load_memory) (λ rows. Wraps width text)
+    storeless (load_calls ++ walk_calls) (place.Play ∷ load_memory)
+    (λ answers. WalksAs reading_traced answers image seed)
+meaning (Trial n) = storeless (call.Show ∷ []) (place.Trial ∷ []) (λ answers. Tries n)
+meaning (Check image) = storeless (call.Show ∷ load_calls) (place.Check ∷ load_memory) (λ answers. Checks image)
+meaning (Wrap width text) = storeless (call.Show ∷ load_calls) (place.Wrap ∷ load_memory) (λ answers. Wraps width text)
 
 -- ---- from words to a command ----
 

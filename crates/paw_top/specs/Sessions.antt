@@ -1,6 +1,6 @@
 -- How playing the game of an image with a session ends, and what it leaves.
 use Rattle.std.specs.Prelude.{◌≡◌, []}
-use Rattle.paw_base.specs.Bytes.{Name, RoutineRows, Seed}
+use Rattle.paw_base.specs.Bytes.{Name, RoutineAnswers, Seed}
 use Rattle.paw_game.specs.Game.{GameLists}
 use Rattle.paw_effects.specs.Story.{story_of}
 use Rattle.paw_stage.specs.Stage.{Standing}
@@ -15,14 +15,14 @@ use Rattle.paw_top.specs.declared.outcome.Outcome.{Outcome}
 -- ---- how it ends ----
 
 -- A new session of the game that this file holds is played, with these answers of routines; or why it isn't.
-abbrev pub PlaysNewIn : RoutineRows → Name → Name → Seed → Standing → Standing → Outcome → Type 0
-PlaysNewIn rows name store seed old new o =
-    PlaysFile (λ g end. NewSession (begun (story_of g rows) seed store) old new end) name old new o
+abbrev pub PlaysNewIn : RoutineAnswers → Name → Name → Seed → Standing → Standing → Outcome → Type 0
+PlaysNewIn answers name store seed old new o =
+    PlaysFile (λ g end. NewSession (begun (story_of g answers) seed store) old new end) name old new o
 
 -- A session of the game that this file holds is resumed, with these answers of routines; or why it isn't.
-abbrev pub PlaysAgainIn : RoutineRows → Name → Name → Standing → Standing → Outcome → Type 0
-PlaysAgainIn rows name store old new o =
-    PlaysFile (λ g end. PlaysAgain (story_of g rows) store old new end) name old new o
+abbrev pub PlaysAgainIn : RoutineAnswers → Name → Name → Standing → Standing → Outcome → Type 0
+PlaysAgainIn answers name store old new o =
+    PlaysFile (λ g end. PlaysAgain (story_of g answers) store old new end) name old new o
 
 -- A session of the game that this file holds goes on, or the file can't be opened.
 abbrev pub GoesOnIn : Name → GameLists → PlayedSession → Standing → Standing → Outcome → Type 0
@@ -30,10 +30,10 @@ GoesOnIn name g s old new o = PlaysFile (λ h end. (h ≡ g) × GoesOn s old new
 
 -- A session is resumed. Where one of the story goes on from the bytes of its store, from the state that they show or
 -- after the lines that they stand for, it is played on and never refused.
-pub record ResumesIn (rows : RoutineRows) (name store : Name) (old new : Standing) (o : Outcome) : Type 0 where
-  pub again : PlaysAgainIn rows name store old new o
+pub record ResumesIn (answers : RoutineAnswers) (name store : Name) (old new : Standing) (o : Outcome) : Type 0 where
+  pub again : PlaysAgainIn answers name store old new o
   pub goes_on : (g : GameLists) (s : PlayedSession) → Holds old name g →
-      GoesOnFrom (story_of g rows) store (store_bytes old store) s → GoesOnIn name g s old new o
+      GoesOnFrom (story_of g answers) store (store_bytes old store) s → GoesOnIn name g s old new o
 
 -- ---- what stands at each moment ----
 
@@ -42,11 +42,11 @@ abbrev pub TwoParts : Type 1
 TwoParts = (Moment → Type 0) → (Moment → Type 0) → Type 0
 
 -- The moments of a new session in an empty store: until the store is attached, and from then on.
-abbrev pub NewAtEachMoment : TwoParts → RoutineRows → Name → Name → Seed → Standing → Type 0
-NewAtEachMoment Come rows name store seed old = (g : GameLists) → Holds old name g → store_bytes old store ≡ [] →
-    Come (NotYet store old) (InNewSession (begun (story_of g rows) seed store) old)
+abbrev pub NewAtEachMoment : TwoParts → RoutineAnswers → Name → Name → Seed → Standing → Type 0
+NewAtEachMoment Come answers name store seed old = (g : GameLists) → Holds old name g → store_bytes old store ≡ [] →
+    Come (NotYet store old) (InNewSession (begun (story_of g answers) seed store) old)
 
 -- The moments of a session that is resumed, where one of the story goes on from the bytes of its store.
-abbrev pub AgainAtEachMoment : TwoParts → RoutineRows → Name → Name → Standing → Type 0
-AgainAtEachMoment Come rows name store old = (g : GameLists) (s : PlayedSession) → Holds old name g →
-    GoesOnFrom (story_of g rows) store (store_bytes old store) s → Come (NotYet store old) (InPlay s old)
+abbrev pub AgainAtEachMoment : TwoParts → RoutineAnswers → Name → Name → Standing → Type 0
+AgainAtEachMoment Come answers name store old = (g : GameLists) (s : PlayedSession) → Holds old name g →
+    GoesOnFrom (story_of g answers) store (store_bytes old store) s → Come (NotYet store old) (InPlay s old)

@@ -1,5 +1,5 @@
 -- How walking through the game of an image ends, and what it leaves.
-use Rattle.paw_base.specs.Bytes.{Name, RoutineRows, Seed}
+use Rattle.paw_base.specs.Bytes.{Name, RoutineAnswers, Seed}
 use Rattle.paw_base.specs.declared.limits.TheConstants.{EVENT_LIMIT}
 use Rattle.paw_effects.specs.Story.{Story, story_of}
 use Rattle.paw_reading.specs.Turn.{reading}
@@ -10,9 +10,9 @@ use Rattle.paw_top.specs.Ends.{PlaysFile}
 use Rattle.paw_top.specs.declared.outcome.Outcome.{Outcome}
 
 -- A walk through the game that this file holds, by this reading, with these answers of routines; or why there is none.
-abbrev pub WalksAs : (Story → Seed → EndingOf) → RoutineRows → Name → Seed → Standing → Standing → Outcome → Type 0
-WalksAs told rows name seed old new o =
-    PlaysFile (λ g end. Walks (told (story_of g rows) seed) EVENT_LIMIT old new end) name old new o
+abbrev pub WalksAs : (Story → Seed → EndingOf) → RoutineAnswers → Name → Seed → Standing → Standing → Outcome → Type 0
+WalksAs told answers name seed old new o =
+    PlaysFile (λ g end. Walks (told (story_of g answers) seed) EVENT_LIMIT old new end) name old new o
 
 -- The reading of a story as a trace shows it: the steps of each piece come before it.
 abbrev pub reading_traced : Story → Seed → EndingOf

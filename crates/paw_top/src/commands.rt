@@ -3,8 +3,8 @@
 
 ghost use Rattle.std.specs.Prelude.{◌≡◌, ◌≢◌, map, string_bytes};
 ghost use Rattle.std.specs.Prelude.{Some, None, true, false, MatchOption};
-ghost use Rattle.paw_base.specs.Bytes.{RoutineRows};
-ghost use Rattle.paw_routines.specs.Routines.{AreRowsOf, HaveRows};
+ghost use Rattle.paw_base.specs.Bytes.{RoutineAnswers};
+ghost use Rattle.paw_routines.specs.Routines.{AreAnswersOf, HaveAnswers};
 ghost use Rattle.paw_stage.specs.Across.{IfTelling, InTwoParts, FailsOnlyBy, IsOneOf};
 ghost use Rattle.paw_stage.specs.Disk.{IsStable};
 ghost use Rattle.paw_play.specs.Numbers.{seed_of};
@@ -239,15 +239,15 @@ impl<'a> Command<'a> {
         stage: &mut S,
         routines: &Routines<F>,
     ) -> Outcome
-        requires rows { HaveRows F.Fn routines.now }
+        requires answers { HaveAnswers F.Fn routines.now }
         requires synced { S.Tells stage.old → IsStable (S.standing stage.old).disk }
         ensures form { result ≢ outcome.Usage }
         ensures serves { FailsOnlyBy S.Stage (meaning (meant self.now)).calls (failed_call result) stage.old stage.new }
         ensures memory { IfMemory result (IsOneOf (meaning (meant self.now)).memory) }
-        ensures comes { IfTelling S.Stage stage.old stage.new (λ old new. (X : RoutineRows) →
-            AreRowsOf F.Fn routines.now X → (meaning (meant self.now)).comes X old new result) }
-        ensures moments { IfTelling S.Stage stage.old stage.new (λ old new. (X : RoutineRows) →
-            AreRowsOf F.Fn routines.now X →
+        ensures comes { IfTelling S.Stage stage.old stage.new (λ old new. (X : RoutineAnswers) →
+            AreAnswersOf F.Fn routines.now X → (meaning (meant self.now)).comes X old new result) }
+        ensures moments { IfTelling S.Stage stage.old stage.new (λ old new. (X : RoutineAnswers) →
+            AreAnswersOf F.Fn routines.now X →
             (meaning (meant self.now)).moments (InTwoParts S.Stage stage.old stage.new) X old) }
     {
         match *self {

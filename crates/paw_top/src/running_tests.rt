@@ -1,6 +1,6 @@
 // Commands over stages, for tests.
 
-ghost use Rattle.paw_routines.specs.Routines.{HaveRows};
+ghost use Rattle.paw_routines.specs.Routines.{HaveAnswers};
 ghost use Rattle.paw_stage.specs.Disk.{IsStable};
 
 use crate::outcome::Outcome;
@@ -41,7 +41,7 @@ fn run_with<S: Stage, F: Fn(u8, u8) -> u8>(
     routines: &Routines<F>,
     words: &str,
 ) -> Result<Outcome, AllocError>
-    requires rows { HaveRows F.Fn routines.now }
+    requires answers { HaveAnswers F.Fn routines.now }
     requires synced { S.Tells stage.old → IsStable (S.standing stage.old).disk }
 {
     let words = words_of(alloc, words)?;

@@ -1,7 +1,7 @@
 // Playing the game of an image file: a walk, a new session, and one that is resumed.
 
 ghost use Rattle.std.specs.Prelude.{◌≡◌, ◌≢◌, [], ◌∷◌, ◌++◌};
-ghost use Rattle.paw_base.specs.Bytes.{RoutineRows};
+ghost use Rattle.paw_base.specs.Bytes.{RoutineAnswers};
 ghost use Rattle.paw_effects.specs.Story.{Story};
 ghost use Rattle.paw_play.specs.inner.Telling.{with_shown_steps};
 ghost use Rattle.paw_play.specs.Calls.{walk_calls, session_calls};
@@ -10,7 +10,7 @@ ghost use Rattle.paw_play.specs.Play.{NotYet, store_bytes};
 ghost use Rattle.paw_play.specs.Played.{PlayedSession, GoesOnFrom, begun};
 ghost use Rattle.paw_reading.specs.Turn.{reading};
 ghost use Rattle.paw_stage.specs.Across.{IfTelling, InTwoParts, FailsOnlyBy, IsOneOf};
-ghost use Rattle.paw_routines.specs.Routines.{AreRowsOf, HaveRows};
+ghost use Rattle.paw_routines.specs.Routines.{AreAnswersOf, HaveAnswers};
 ghost use Rattle.paw_stage.specs.Disk.{IsStable};
 ghost use Rattle.paw_stage.specs.Loads.{load_calls};
 ghost use Rattle.paw_top.specs.Answers.{IfMemory, load_memory, failed_call};
@@ -41,10 +41,10 @@ pub(crate) fn walk<P: Preface, S: Stage, F: Fn(u8, u8) -> u8>(
     image: &str,
     seed: u64,
 ) -> Outcome
-    requires rows { HaveRows F.Fn routines.now }
+    requires answers { HaveAnswers F.Fn routines.now }
     ensures serves { FailsOnlyBy S.Stage (load_calls ++ walk_calls) (failed_call result) stage.old stage.new }
-    ensures walks { IfTelling S.Stage stage.old stage.new (λ old new. (X : RoutineRows) →
-        AreRowsOf F.Fn routines.now X →
+    ensures walks { IfTelling S.Stage stage.old stage.new (λ old new. (X : RoutineAnswers) →
+        AreAnswersOf F.Fn routines.now X →
         WalksAs (λ s n. with_shown_steps P.telling (reading s n)) X image.now seed old new result) }
     ensures form { result ≢ outcome.Usage }
     ensures memory { IfMemory result (IsOneOf (memory.Play ∷ load_memory)) }
@@ -63,15 +63,15 @@ pub(crate) fn play<S: Stage, F: Fn(u8, u8) -> u8>(
     store: &str,
     seed: u64,
 ) -> Outcome
-    requires rows { HaveRows F.Fn routines.now }
+    requires answers { HaveAnswers F.Fn routines.now }
     requires synced { S.Tells stage.old → IsStable (S.standing stage.old).disk }
     ensures serves { FailsOnlyBy S.Stage (load_calls ++ session_calls) (failed_call result) stage.old stage.new }
     ensures form { result ≢ outcome.Usage }
     ensures memory { IfMemory result (IsOneOf (memory.Play ∷ load_memory)) }
-    ensures plays { IfTelling S.Stage stage.old stage.new (λ old new. (X : RoutineRows) →
-        AreRowsOf F.Fn routines.now X → PlaysNewIn X image.now store.now seed old new result) }
+    ensures plays { IfTelling S.Stage stage.old stage.new (λ old new. (X : RoutineAnswers) →
+        AreAnswersOf F.Fn routines.now X → PlaysNewIn X image.now store.now seed old new result) }
     ensures any_moment { IfTelling S.Stage stage.old stage.new (λ old new. (s : Story) →
-        AreRowsOf F.Fn routines.now s.rows → Holds old image.now s.game → store_bytes old store.now ≡ [] →
+        AreAnswersOf F.Fn routines.now s.answers → Holds old image.now s.game → store_bytes old store.now ≡ [] →
         InTwoParts S.Stage stage.old stage.new (NotYet store.now old) (InNewSession (begun s seed store.now) old)) }
 {
     let bytes = or_return!(load(alloc, stage, image, IMAGE_LIMIT));
@@ -89,17 +89,17 @@ pub(crate) fn resume<S: Stage, F: Fn(u8, u8) -> u8>(
     store: &str,
 ) -> Outcome
     requires synced { S.Tells stage.old → IsStable (S.standing stage.old).disk }
-    requires rows { HaveRows F.Fn routines.now }
+    requires answers { HaveAnswers F.Fn routines.now }
     ensures serves { FailsOnlyBy S.Stage (load_calls ++ session_calls) (failed_call result) stage.old stage.new }
     ensures form { result ≢ outcome.Usage }
     ensures memory { IfMemory result (IsOneOf (memory.Play ∷ load_memory)) }
-    ensures plays { IfTelling S.Stage stage.old stage.new (λ old new. (X : RoutineRows) →
-        AreRowsOf F.Fn routines.now X → PlaysAgainIn X image.now store.now old new result) }
+    ensures plays { IfTelling S.Stage stage.old stage.new (λ old new. (X : RoutineAnswers) →
+        AreAnswersOf F.Fn routines.now X → PlaysAgainIn X image.now store.now old new result) }
     ensures goes_on { IfTelling S.Stage stage.old stage.new (λ old new. (g : Story) (s : PlayedSession) →
-        AreRowsOf F.Fn routines.now g.rows → Holds old image.now g.game →
+        AreAnswersOf F.Fn routines.now g.answers → Holds old image.now g.game →
         GoesOnFrom g store.now (store_bytes old store.now) s → GoesOnIn image.now g.game s old new result) }
     ensures any_moment { IfTelling S.Stage stage.old stage.new (λ old new. (g : Story) (s : PlayedSession) →
-        AreRowsOf F.Fn routines.now g.rows → Holds old image.now g.game →
+        AreAnswersOf F.Fn routines.now g.answers → Holds old image.now g.game →
         GoesOnFrom g store.now (store_bytes old store.now) s →
         InTwoParts S.Stage stage.old stage.new (NotYet store.now old) (InPlay s old)) }
 {

@@ -1,8 +1,8 @@
 // The top call.
 
 ghost use Rattle.std.specs.Prelude.{◌≡◌, ◌↔◌, None, IfSome};
-ghost use Rattle.paw_base.specs.Bytes.{RoutineRows};
-ghost use Rattle.paw_routines.specs.Routines.{AreRowsOf, HaveRows};
+ghost use Rattle.paw_base.specs.Bytes.{RoutineAnswers};
+ghost use Rattle.paw_routines.specs.Routines.{AreAnswersOf, HaveAnswers};
 ghost use Rattle.paw_stage.specs.Across.{IfTelling, InTwoParts, FailsOnlyBy, IsOneOf};
 ghost use Rattle.paw_stage.specs.Disk.{IsStable};
 ghost use Rattle.paw_top.specs.Answers.{IfMemory, failed_call};
@@ -46,7 +46,7 @@ pub fn paw<S: Stage, F: Fn(u8, u8) -> u8>(
     routines: &Routines<F>,
     words: &[String],
 ) -> Outcome
-    requires rows { HaveRows F.Fn routines.now }
+    requires answers { HaveAnswers F.Fn routines.now }
     requires synced { S.Tells stage.old → IsStable (S.standing stage.old).disk }
     ensures usage { (result ≡ outcome.Usage) ↔ (asked_for words.now ≡ None) }
     ensures idle { asked_for words.now ≡ None → stage.new ≡ stage.old }
@@ -54,11 +54,11 @@ pub fn paw<S: Stage, F: Fn(u8, u8) -> u8>(
         FailsOnlyBy S.Stage (meaning c).calls (failed_call result) stage.old stage.new) }
     ensures memory { IfSome (asked_for words.now) (λ c. IfMemory result (IsOneOf (meaning c).memory)) }
     ensures comes { IfTelling S.Stage stage.old stage.new (λ old new. IfSome (asked_for words.now) (λ c.
-        (X : RoutineRows) → AreRowsOf F.Fn routines.now X → (meaning c).comes X old new result)) }
+        (X : RoutineAnswers) → AreAnswersOf F.Fn routines.now X → (meaning c).comes X old new result)) }
     ensures moments { IfTelling S.Stage stage.old stage.new (λ old new. IfSome (asked_for words.now) (λ c.
-        (X : RoutineRows) → AreRowsOf F.Fn routines.now X →
+        (X : RoutineAnswers) → AreAnswersOf F.Fn routines.now X →
         (meaning c).moments (InTwoParts S.Stage stage.old stage.new) X old)) }
-    ensures completes { NoFailure (S.faults stage.old) (S.faults stage.new) → IsUnhindered result }
+    ensures completes { NoFailure (S.failures stage.old) (S.failures stage.new) → IsUnhindered result }
 {
     match command_of(words) {
         Some(command) => command.run(alloc, stage, routines),

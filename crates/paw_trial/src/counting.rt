@@ -1,7 +1,7 @@
 // What the session of a trial counts.
 
 ghost use Rattle.std.specs.Prelude.{◌≡◌, IfOk};
-ghost use Rattle.paw_routines.specs.Routines.{HaveRows};
+ghost use Rattle.paw_routines.specs.Routines.{HaveAnswers};
 ghost use Rattle.paw_stage.specs.inner.Memory.{standing_of};
 ghost use Rattle.paw_gen.specs.Trial.{trial_lines};
 ghost use Rattle.paw_trial.specs.Trial.{trial_reading};
@@ -40,7 +40,7 @@ pub(crate) fn count_session<F: Fn(u8, u8) -> u8>(
     routines: &Routines<F>,
     stage: &mut MemoryStage,
 ) -> Result<Tally, NoRoom>
-    requires rows { HaveRows F.Fn routines.now }
+    requires answers { HaveAnswers F.Fn routines.now }
     requires holds { HoldsLines setting.now (trial_lines setting.now) (standing_of stage.old) }
     ensures tally { IfOk result (IsTallyOf (trial_reading setting.now)) }
 {

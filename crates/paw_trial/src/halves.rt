@@ -3,7 +3,7 @@
 ghost use Rattle.std.specs.Prelude.{◌≡◌, ◌++◌, [], IfOk, OnOk};
 ghost use Rattle.paw_stage.specs.Disk.{IsStable};
 ghost use Rattle.paw_stage.specs.inner.Memory.{empty, standing_of};
-ghost use Rattle.paw_routines.specs.Routines.{AreRowsOf};
+ghost use Rattle.paw_routines.specs.Routines.{AreAnswersOf};
 ghost use Rattle.paw_trial.specs.inner.Session.{lines_by, IsReadyFor, PlaysHalf, HoldsOrStops};
 ghost use Rattle.paw_trial.specs.inner.Session.{stop_early, stop_of};
 
@@ -82,7 +82,7 @@ fn play_lines<F: Fn(u8, u8) -> u8>(
     routines: &Routines<F>,
     stage: &mut MemoryStage,
 ) -> PlayEnd
-    requires rows { AreRowsOf F.Fn routines.now [] }
+    requires answers { AreAnswersOf F.Fn routines.now [] }
     requires stable { IsStable (standing_of stage.old).disk }
     ensures plays { PlaysHalf half setting.now (standing_of stage.old) (standing_of stage.new) result }
 {
@@ -103,7 +103,7 @@ pub(crate) fn play_half<F: Fn(u8, u8) -> u8>(
     routines: &Routines<F>,
     stage: &mut MemoryStage,
 ) -> Option<TrialEnd>
-    requires rows { AreRowsOf F.Fn routines.now [] }
+    requires answers { AreAnswersOf F.Fn routines.now [] }
     requires ready { IsReadyFor half setting.now stage.old }
     ensures plays { HoldsOrStops setting.now (lines_by half setting.now) (standing_of stage.new) result }
 {

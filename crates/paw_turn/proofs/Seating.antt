@@ -25,14 +25,14 @@ use Rattle.paw_phrase.specs.Pending.{PendingLine}
 use Rattle.paw_process.specs.inner.OpenTables.{OpenTables}
 use Rattle.paw_process.specs.inner.OpenTables.{IsWaiting, IsClosed, new_machine, refilled}
 use Rattle.paw_process.specs.inner.Kept.{kept, is_that_table}
-use Rattle.paw_process.specs.inner.Kept.{rows_fault, loop_stands, loop_fault}
+use Rattle.paw_process.specs.inner.Kept.{first_frame_fault, loop_stands, loop_fault}
 use Rattle.paw_process.specs.Kept.{count_fits, waiting_code}
 use Rattle.paw_process.specs.inner.Kept.{fault_at, frames_fault}
 use Rattle.paw_process.specs.inner.Kept.{restored, waiting_at}
 use Rattle.paw_process.specs.inner.Kept.{WaitsAtPrompt as MachineStandsAt}
 use Rattle.paw_process.specs.declared.kept.Frames.{Frames}
 use Rattle.paw_process.proofs.Restored.{first_of, second, no_first}
-use Rattle.paw_process.proofs.Rows.{table_of}
+use Rattle.paw_process.proofs.OpenFrames.{table_of}
 use Rattle.paw_process.proofs.Again.{restored_again}
 use Rattle.paw_process.proofs.Fitting.{places_fit, kept_places}
 use Rattle.paw_turn.specs.declared.Step.{Step}
@@ -68,7 +68,7 @@ kept_loop : (g : GameLists) (code : ℕ) (k : Frames) → fault_at g (Some code)
 kept_loop g code k h = go (count_fits (Some code) k.count) refl h
   where
     go : (b : Bool) → count_fits (Some code) k.count ≡ b
-        → ◌≡◌ {A = Option ℕ} (if b then option_or (rows_fault g code None k.count 0 k.rows) (loop_fault g k k.turning) else Some 0) None
+        → ◌≡◌ {A = Option ℕ} (if b then option_or (first_frame_fault g code None k.count 0 k.rows) (loop_fault g k k.turning) else Some 0) None
         → IsLoopOf (first_table (reverse (reverse (take k.count k.rows)))) k.turning
     go true e q = rw (reverse-reverse (take k.count k.rows)) (first_loop g k k.turning (no_first _ (loop_fault g k k.turning) q).1)
     go false e q = cc

@@ -10,7 +10,7 @@ use Rattle.paw_game.specs.Valid.{Valid}
 use Rattle.paw_world.specs.World.{World}
 use Rattle.paw_phrase.specs.Pending.{PendingLine}
 use Rattle.paw_routines.specs.declared.routines.Routines.{Routines}
-use Rattle.paw_routines.specs.Routines.{AreRowsOf}
+use Rattle.paw_routines.specs.Routines.{AreAnswersOf}
 use Rattle.paw_effects.specs.declared.act.Prompt.{Prompt}
 use Rattle.paw_effects.specs.declared.act.Prompt.TheVariants as prompt
 use Rattle.paw_effects.specs.Standing.{AreBytes}
@@ -34,8 +34,8 @@ use Rattle.paw_turn.specs.inner.Player.{IsStanding, prompt_at, run_at, run_with}
 
 -- Answers that stand for routines make a story of a valid game.
 pub valid_story : {F : Type 0} (calls : Shared F (ℕ × (ℕ × Unit {0})) ℕ) (routines : Routines F) (g : GameLists) (X : List (List ℕ)) → Valid g
-    → AreRowsOf calls routines X → ValidStory (story_of g X)
-valid_story calls routines g X v rows = record { game = v; whole = rows.whole; bytes = rows.bytes }
+    → AreAnswersOf calls routines X → ValidStory (story_of g X)
+valid_story calls routines g X v answers = record { game = v; whole = answers.whole; bytes = answers.bytes }
 
 pub bytes_each : (bytes : List ℕ) → ((i : ℕ) → get_or bytes i 0 < 256) → AreBytes bytes
 bytes_each [] h k d low = absurd (omega (arith, low))
@@ -131,22 +131,22 @@ seated_so g own routines mid h s game valid settled stopped rightly =
 
 pub start_seated : {F : Type 0} (calls : Shared F (ℕ × (ℕ × Unit {0})) ℕ) (routines : Routines F) (old : PlayerView F) (own : GameLists) (mid h : PlayState)
     (s : Step)
-    (X : List (List ℕ)) → AreRowsOf calls old.routines X → IsSeated old → own ≡ old.game → h ≡ turn_settled s mid → StandsClosed s mid.machine
+    (X : List (List ℕ)) → AreAnswersOf calls old.routines X → IsSeated old → own ≡ old.game → h ≡ turn_settled s mid → StandsClosed s mid.machine
     → PlaysTo (story_of old.game X) (reading (story_of old.game X) old.world.seed) s (seat_of own routines h s) [] []
     → IsSeated (seat_of own routines h s)
-start_seated calls routines old own mid h s X rows seated game settled stopped plays =
+start_seated calls routines old own mid h s X answers seated game settled stopped plays =
     seated_so old.game own routines mid h s game seated.valid settled stopped
     (λ stands. started (story_of old.game X) old.world.seed s (seat_of own routines h s)
-    (valid_story calls old.routines old.game X seated.valid rows) stands plays)
+    (valid_story calls old.routines old.game X seated.valid answers) stands plays)
 
 pub take_seated : {F : Type 0} (calls : Shared F (ℕ × (ℕ × Unit {0})) ℕ) (routines : Routines F) (old : PlayerView F) (own : GameLists) (mid h : PlayState)
     (s : Step)
-    (X : List (List ℕ)) (q : Prompt) (line : List ℕ) → AreRowsOf calls old.routines X → IsSeated old → own ≡ old.game → h ≡ turn_settled s mid
+    (X : List (List ℕ)) (q : Prompt) (line : List ℕ) → AreAnswersOf calls old.routines X → IsSeated old → own ≡ old.game → h ≡ turn_settled s mid
     → StandsClosed s mid.machine → old.last ≡ step.Waits q → IsLine line
     → PlaysTo (story_of old.game X) (λ lines. going_on_from (story_of old.game X) q (reverse old.machine.frames) (run_at old [] [] (line ∷ lines))) s
     (seat_of own routines h s) [] []
     → IsSeated (seat_of own routines h s)
-take_seated calls routines old own mid h s X q line rows seated game settled stopped waits is plays =
+take_seated calls routines old own mid h s X q line answers seated game settled stopped waits is plays =
     seated_so old.game own routines mid h s game seated.valid settled stopped
-    (λ stands. taken_on (story_of old.game X) old (seat_of own routines h s) line q s (valid_story calls old.routines old.game X seated.valid rows) refl
+    (λ stands. taken_on (story_of old.game X) old (seat_of own routines h s) line q s (valid_story calls old.routines old.game X seated.valid answers) refl
     seated waits is stands plays)

@@ -1,9 +1,9 @@
 // The lines that a player takes.
 
 ghost use Rattle.std.specs.Prelude.{◌≡◌, ◌+◌, ◌<◌, ◌≤◌, false, length, reverse};
-ghost use Rattle.paw_base.specs.Bytes.{RoutineRows};
+ghost use Rattle.paw_base.specs.Bytes.{RoutineAnswers};
 ghost use Rattle.paw_base.specs.declared.limits.TheConstants.{LINE_LIMIT};
-ghost use Rattle.paw_routines.specs.Routines.{HaveRows};
+ghost use Rattle.paw_routines.specs.Routines.{HaveAnswers};
 ghost use Rattle.paw_effects.specs.Story.{story_of};
 ghost use Rattle.paw_effects.specs.declared.act.Prompt.TheVariants as prompt;
 ghost use Rattle.paw_reading.specs.Run.{is_timeout, is_ignored, reply, begins_with};
@@ -69,7 +69,7 @@ impl PlayState {
         requires heard { is_ignored self.old.surroundings.world line.now ≡ false }
         requires playable { IsPlayable (T.game tables.now) self.old }
         requires closed { IsClosed self.old.machine }
-        ensures meaning { (X : RoutineRows) → let g = story_of (T.game tables.now) X in
+        ensures meaning { (X : RoutineAnswers) → let g = story_of (T.game tables.now) X in
             PlaysAs g (from_prompt g prompt.Main self.old line.now) self.old result self.new }
         ensures keeps { StaysInGame (T.game tables.now) self.old result self.new }
     {
@@ -88,7 +88,7 @@ impl PlayState {
         requires heard { is_ignored self.old.surroundings.world line.now ≡ false }
         requires playable { IsPlayable (T.game tables.now) self.old }
         requires waits { WaitsIn prompt.Again self.old.machine }
-        ensures meaning { (X : RoutineRows) → let g = story_of (T.game tables.now) X in
+        ensures meaning { (X : RoutineAnswers) → let g = story_of (T.game tables.now) X in
             PlaysAs g (from_prompt g prompt.Again self.old line.now) self.old result self.new }
         ensures keeps { StaysInGame (T.game tables.now) self.old result self.new }
     {
@@ -114,7 +114,7 @@ impl<T: Tables, F: Fn(u8, u8) -> u8> TurnRules<'_, T, F> {
     /// Takes a line at a prompt, and plays on to the next one or to the end.
     pub(crate) fn take(&self, state: &mut PlayState, prompt: Prompt, line: &[u8]) -> TurnStop
         requires line { length line.now ≤ LINE_LIMIT }
-        requires rows { HaveRows F.Fn self.now.routines.now }
+        requires answers { HaveAnswers F.Fn self.now.routines.now }
         requires ready { MayHear (T.game self.now.tables.now) prompt state.old }
         ensures meaning { InStories F.Fn self.now.routines.now (T.game self.now.tables.now) (λ g.
             PlaysAs g (from_prompt g prompt state.old line.now) state.old (next.Stop result) state.new) }
@@ -129,7 +129,7 @@ impl<T: Tables, F: Fn(u8, u8) -> u8> TurnRules<'_, T, F> {
     /// Takes a line at a prompt. One that is ignored changes nothing.
     fn hear(&self, state: &mut PlayState, prompt: Prompt, line: &[u8]) -> Next
         requires line { length line.now ≤ LINE_LIMIT }
-        requires rows { HaveRows F.Fn self.now.routines.now }
+        requires answers { HaveAnswers F.Fn self.now.routines.now }
         requires ready { MayHear (T.game self.now.tables.now) prompt state.old }
         ensures meaning { InStories F.Fn self.now.routines.now (T.game self.now.tables.now) (λ g.
             PlaysAs g (from_prompt g prompt state.old line.now) state.old result state.new) }
@@ -148,7 +148,7 @@ impl<T: Tables, F: Fn(u8, u8) -> u8> TurnRules<'_, T, F> {
 
     /// Takes the answer to QUIT's question, or a key, that isn't ignored, and goes on where the tables wait.
     fn hear_answer(&self, state: &mut PlayState, prompt: Prompt, line: &[u8]) -> Next
-        requires rows { HaveRows F.Fn self.now.routines.now }
+        requires answers { HaveAnswers F.Fn self.now.routines.now }
         requires ready { MayAnswer (T.game self.now.tables.now) prompt line.now state.old }
         ensures meaning { InStories F.Fn self.now.routines.now (T.game self.now.tables.now) (λ g.
             PlaysAs g (from_prompt g prompt state.old line.now) state.old result state.new) }
@@ -161,7 +161,7 @@ impl<T: Tables, F: Fn(u8, u8) -> u8> TurnRules<'_, T, F> {
 
     /// Gives the machine an answer that isn't ignored, and lets it read on to its next stop.
     fn run_answered(&self, state: &mut PlayState, prompt: Prompt, line: &[u8]) -> Turned
-        requires rows { HaveRows F.Fn self.now.routines.now }
+        requires answers { HaveAnswers F.Fn self.now.routines.now }
         requires ready { MayAnswer (T.game self.now.tables.now) prompt line.now state.old }
         ensures runs { InStories F.Fn self.now.routines.now (T.game self.now.tables.now) (λ g.
             RunsAs g (from_path g prompt state.old line.now) state.old result state.new) }

@@ -1,9 +1,9 @@
 // A player of a game.
 
 ghost use Rattle.std.specs.Prelude.{◌≡◌, ◌+◌, ◌<◌, ◌≤◌, ◌^◌, List, [], ◌∷◌, None, length, reverse, IfOk};
-ghost use Rattle.paw_base.specs.Bytes.{RoutineRows, Texts};
+ghost use Rattle.paw_base.specs.Bytes.{RoutineAnswers, Texts};
 ghost use Rattle.paw_base.specs.declared.limits.TheConstants.{LINE_LIMIT, PIECE_LIMIT, READ_LIMIT};
-ghost use Rattle.paw_routines.specs.Routines.{AreRowsOf, HaveRows};
+ghost use Rattle.paw_routines.specs.Routines.{AreAnswersOf, HaveAnswers};
 ghost use Rattle.paw_effects.specs.Story.{story_of};
 ghost use Rattle.paw_effects.specs.declared.act.Prompt.{Prompt as AtPrompt};
 ghost use Rattle.paw_effects.specs.declared.act.Prompt.TheVariants as prompt;
@@ -147,12 +147,12 @@ impl<'a, T: Tables, F: Fn(u8, u8) -> u8> Player<'a, T, F> {
     /// Plays the piece before the first line. It is asked for once, right after `new` or `renew`.
     pub fn start(&mut self) -> Step
         requires seated { IsSeated self.old }
-        requires rows { HaveRows F.Fn self.old.routines }
+        requires answers { HaveAnswers F.Fn self.old.routines }
         requires new { IsNew self.old self.old.world.seed }
         ensures last { self.new.last ≡ result }
         ensures game { self.new.game ≡ self.old.game }
         ensures routines { self.new.routines ≡ self.old.routines }
-        ensures meaning { (X : RoutineRows) → AreRowsOf F.Fn self.old.routines X →
+        ensures meaning { (X : RoutineAnswers) → AreAnswersOf F.Fn self.old.routines X →
             let g = story_of self.old.game X in
             PlaysTo g (reading g self.old.world.seed) result self.new [] [] }
         ensures seated { IsSeated self.new }
@@ -168,13 +168,13 @@ impl<'a, T: Tables, F: Fn(u8, u8) -> u8> Player<'a, T, F> {
     /// same again, with an empty piece; its other parts stay as they are.
     pub fn take(&mut self, line: &[u8]) -> Step
         requires seated { IsSeated self.old }
-        requires rows { HaveRows F.Fn self.old.routines }
+        requires answers { HaveAnswers F.Fn self.old.routines }
         requires line { length line.now ≤ LINE_LIMIT }
         requires draws { self.old.world.draws + READ_LIMIT < 2 ^ 64 }
         ensures last { self.new.last ≡ result }
         ensures game { self.new.game ≡ self.old.game }
         ensures routines { self.new.routines ≡ self.old.routines }
-        ensures meaning { (X : RoutineRows) → AreRowsOf F.Fn self.old.routines X →
+        ensures meaning { (X : RoutineAnswers) → AreAnswersOf F.Fn self.old.routines X →
             (p : AtPrompt) → self.old.last ≡ step.Waits p → (pieces : Texts) (traces : List (List Read)) →
             let g = story_of self.old.game X in
             let frames = self.old.machine.frames in

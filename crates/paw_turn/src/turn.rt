@@ -2,7 +2,7 @@
 
 ghost use Rattle.std.specs.Prelude.{◌≡◌, suc, ◌+◌, ◌*◌, ◌<◌, ◌≤◌, ℕ, [], length, None};
 ghost use Rattle.std.specs.Prelude.{false};
-ghost use Rattle.paw_base.specs.Bytes.{RoutineRows};
+ghost use Rattle.paw_base.specs.Bytes.{RoutineAnswers};
 ghost use Rattle.paw_base.specs.declared.limits.TheConstants.{PIECE_LIMIT};
 ghost use Rattle.paw_base.specs.declared.words.TheConstants.{NO_WORD};
 ghost use Rattle.paw_base.specs.inner.Piece.{Puts};
@@ -172,7 +172,7 @@ impl PlayState {
     /// Says a system message, and goes on with a phase.
     pub(crate) fn say<T: Tables>(&mut self, tables: &T, message: u8, phase: Phase) -> Next
         requires ready { MayGoOn (T.game tables.now) self.old }
-        ensures meaning { (X : RoutineRows) → let g = story_of (T.game tables.now) X in
+        ensures meaning { (X : RoutineAnswers) → let g = story_of (T.game tables.now) X in
             Moves g
             (λ n r. saying (say_text (T.game tables.now) self.old.surroundings.world message)
             (turn g n (at_phase phase)) r)
@@ -224,7 +224,7 @@ impl PlayState {
     /// Shows the prompt once no phrase is left, and waits for a line.
     fn prompt<T: Tables>(&mut self, tables: &T) -> Next
         requires ready { MayGoOn (T.game tables.now) self.old }
-        ensures meaning { (X : RoutineRows) → let g = story_of (T.game tables.now) X in
+        ensures meaning { (X : RoutineAnswers) → let g = story_of (T.game tables.now) X in
             Moves g (λ n r. after_phrase g (turn g n) r IsNoPhrase) self.old result self.new }
         ensures keeps { StaysInGame (T.game tables.now) self.old result self.new }
         ensures falls { (most : ℕ) → Falls most result self.new }
@@ -241,7 +241,7 @@ impl PlayState {
     /// Says that no entry answered and no exit leads on, drops the rest of the line, and goes on with the time frame.
     fn refuse<T: Tables>(&mut self, tables: &T) -> Next
         requires ready { MayGoOn (T.game tables.now) self.old }
-        ensures meaning { (X : RoutineRows) → let g = story_of (T.game tables.now) X in
+        ensures meaning { (X : RoutineAnswers) → let g = story_of (T.game tables.now) X in
             Moves g (λ n r. saying (refusal_text (T.game tables.now) r.world) (turn g n AtTimeFrame) (line_dropped r))
             self.old result self.new }
         ensures keeps { StaysInGame (T.game tables.now) self.old result self.new }
@@ -260,7 +260,7 @@ impl PlayState {
     /// Takes the exit for the verb, where the location has one.
     fn connect<T: Tables>(&mut self, tables: &T) -> Next
         requires ready { MayGoOn (T.game tables.now) self.old }
-        ensures meaning { (X : RoutineRows) → let g = story_of (T.game tables.now) X in
+        ensures meaning { (X : RoutineAnswers) → let g = story_of (T.game tables.now) X in
             Moves g (λ n r. after_left g (turn g n) 0 false r) self.old result self.new }
         ensures keeps { StaysInGame (T.game tables.now) self.old result self.new }
         ensures falls { Falls (work phase.Response self.old) result self.new }
@@ -279,7 +279,7 @@ impl PlayState {
     /// Goes on after table 0, 1 or 2, which was left with an action carried out or not.
     fn after_left<T: Tables>(&mut self, tables: &T, table: u8, acted: bool) -> Next
         requires ready { MayGoOn (T.game tables.now) self.old }
-        ensures meaning { (X : RoutineRows) → let g = story_of (T.game tables.now) X in
+        ensures meaning { (X : RoutineAnswers) → let g = story_of (T.game tables.now) X in
             Moves g (λ n r. after_left g (turn g n) table acted r) self.old result self.new }
         ensures keeps { StaysInGame (T.game tables.now) self.old result self.new }
         ensures falls { Falls (4 * left_of self.old + table_rank table) result self.new }
@@ -300,7 +300,7 @@ impl PlayState {
     pub(crate) fn after_table<T: Tables>(&mut self, tables: &T, table: u8, turned: Turned) -> Next
         requires playable { IsPlayable (T.game tables.now) self.old }
         requires stops { StopsInTable table turned self.old.machine }
-        ensures meaning { (X : RoutineRows) →
+        ensures meaning { (X : RoutineAnswers) →
             MovesAfter (story_of (T.game tables.now) X) table turned self.old result self.new }
         ensures left { ReadsNone self.old.machine self.new.machine }
         ensures keeps { StaysInGame (T.game tables.now) self.old result self.new }
@@ -318,7 +318,7 @@ impl PlayState {
     /// of the line is dropped; with none left the prompt comes.
     fn phrase<T: Tables>(&mut self, tables: &T) -> Next
         requires ready { MayGoOn (T.game tables.now) self.old }
-        ensures meaning { (X : RoutineRows) → let g = story_of (T.game tables.now) X in
+        ensures meaning { (X : RoutineAnswers) → let g = story_of (T.game tables.now) X in
             Moves g (λ n r. turn g (suc n) AtPhrase r) self.old result self.new }
         ensures keeps { StaysInGame (T.game tables.now) self.old result self.new }
         ensures falls { Falls (work phase.Phrase self.old) result self.new }

@@ -43,7 +43,7 @@ abbrev pub kind_in : Prints → Printed → Condact → ℕ
 kind_in p printed.Nothing c = 0
 kind_in p printed.Newline c = 1
 kind_in p printed.Flag c = 3
-kind_in p printed.Mark c = 20
+kind_in p printed.Sign c = 20
 kind_in p printed.Action c = p.action
 kind_in p printed.Inventory c = p.inventory
 kind_in p printed.Turns c = p.turns

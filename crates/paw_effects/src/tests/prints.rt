@@ -73,7 +73,7 @@ const TOO_MUCH: [Case; 4] = [
 ];
 
 #[test]
-fn counts_marks_and_lists(rt: HostRuntime) -> Result<(), Fail> {
+fn counts_signs_and_lists(rt: HostRuntime) -> Result<(), Fail> {
     for scenes in [COUNTS, MARKS, LISTS] {
         run(&rt, rt.alloc(), parts(rt.alloc(), scenes)?, scenes)?;
     }

@@ -2,12 +2,12 @@
 use Rattle.std.specs.Prelude.{◌≡◌, ℕ, ◌+◌, ◌*◌, ◌≤◌}
 use Rattle.std.specs.Fn.{Shared}
 use Rattle.sha2.specs.Sha256.{sha256}
-use Rattle.paw_base.specs.Bytes.{Bytes, RoutineRows}
+use Rattle.paw_base.specs.Bytes.{Bytes, RoutineAnswers}
 use Rattle.paw_base.specs.declared.limits.TheConstants.{EVENT_LIMIT, READ_LIMIT}
 use Rattle.paw_game.specs.Game.{GameLists}
 use Rattle.paw_game.specs.Image.{image}
 use Rattle.paw_routines.specs.Measure.{measure}
-use Rattle.paw_routines.specs.Routines.{AreRowsOf, HaveRows}
+use Rattle.paw_routines.specs.Routines.{AreAnswersOf, HaveAnswers}
 use Rattle.paw_routines.specs.declared.routines.Routines.{Routines}
 use Rattle.paw_turn.specs.inner.Player.{PlayerView, IsSeated}
 use Rattle.paw_turn.specs.inner.Parts.{IsStanding}
@@ -31,7 +31,7 @@ pub record StandsAfter {F : Type 0} (events : ℕ) (seat : PlayerView F) : Type 
 
 -- These bytes are the digest of the routines.
 abbrev pub IsMeasureOf : {F : Type 0} → Shared F (ℕ × (ℕ × Unit {0})) ℕ → Routines F → Bytes → Type 0
-IsMeasureOf calls routines rules = (X : RoutineRows) → AreRowsOf calls routines X → rules ≡ measure X
+IsMeasureOf calls routines rules = (X : RoutineAnswers) → AreAnswersOf calls routines X → rules ≡ measure X
 
 -- These bytes are the digests of a game's image and of the routines.
 pub record AreDigestsOf {F : Type 0} (calls : Shared F (ℕ × (ℕ × Unit {0})) ℕ) (g : GameLists) (routines : Routines F)
@@ -43,7 +43,7 @@ pub record AreDigestsOf {F : Type 0} (calls : Shared F (ℕ × (ℕ × Unit {0})
 pub record IsPrepared {F : Type 0} (calls : Shared F (ℕ × (ℕ × Unit {0})) ℕ) (game rules : Bytes) (seat : PlayerView F)
     : Type 0 where
   pub seated : IsSeated seat
-  pub rows : HaveRows calls seat.routines
+  pub answers : HaveAnswers calls seat.routines
   pub digests : AreDigestsOf calls seat.game seat.routines game rules
 
 -- A player of the hosted game: its game is that of these tables, and these are the digests of what it plays with.
@@ -56,5 +56,5 @@ pub record IsHosted {F : Type 0} (calls : Shared F (ℕ × (ℕ × Unit {0})) �
 pub record MayTake {F : Type 0} (calls : Shared F (ℕ × (ℕ × Unit {0})) ℕ) (events : ℕ)
     (seat : PlayerView F) : Type 0 where
   pub seated : IsSeated seat
-  pub rows : HaveRows calls seat.routines
+  pub answers : HaveAnswers calls seat.routines
   pub stands : StandsAfter events seat

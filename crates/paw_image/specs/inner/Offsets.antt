@@ -8,7 +8,7 @@ use Rattle.paw_game.specs.Image.{entry_image, table_image}
 use Rattle.paw_image.specs.declared.head.Front.{Front}
 use Rattle.paw_image.specs.declared.offsets.Offsets.{Offsets}
 use Rattle.paw_image.specs.declared.offsets.TableIndex.{TableIndex}
-use Rattle.paw_image.specs.inner.CondactMarks.{IsEnd, IsMarked}
+use Rattle.paw_image.specs.inner.Milestones.{IsEnd, HasMilestones}
 use Rattle.paw_image.specs.Damage.{ImagePreface, Passing, front, each, checked_number, after_text}
 use Rattle.paw_image.specs.Damage.{after_object, after_exits, after_entry, after_table}
 use Rattle.paw_image.specs.inner.Orders.{IsOrder}
@@ -88,4 +88,4 @@ pub record IsPassed (bytes : Bytes) (front_read : Front) (rest : Bytes) (p : Off
   pub declared : front bytes ≡ Ok (preface_of front_read, rest)
   pub over : AreGoneOver (preface_of front_read) (length bytes) rest p
   pub order : AllByRecursion (λ t. IsOrder bytes t.entries.items t.order) p.tables.items
-  pub marked : IsEnd bytes rest → AllByRecursion (IsMarked bytes) p.tables.items
+  pub marked : IsEnd bytes rest → AllByRecursion (HasMilestones bytes) p.tables.items

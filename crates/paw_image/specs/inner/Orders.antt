@@ -33,16 +33,16 @@ ranks_of n (e ∷ es) = ranked (kept_word e.verb) (kept_word e.noun) n ∷ ranks
 
 -- ---- the order ----
 
--- Before this place stand ranks with a verb below this one.
+-- Before this index stand ranks with a verb below this one.
 abbrev pub IsBefore : List ℕ → ℕ → ℕ → Type 0
-IsBefore ranks verb place = (place ≤ length ranks) × AllWithin (λ r. r < ranked verb 0 0) ranks 0 place
+IsBefore ranks verb index = (index ≤ length ranks) × AllWithin (λ r. r < ranked verb 0 0) ranks 0 index
 
--- Before this place stand the ranks with a verb below this one, and no others.
+-- Before this index stand the ranks with a verb below this one, and no others.
 pub record IsStart (ranks : List ℕ) (verb start : ℕ) : Type 0 where
   pub within : start ≤ length ranks
   pub parts : IsPartitionPoint (λ r. r < ranked verb 0 0) (λ r. ranked verb 0 0 ≤ r) ranks start
 
--- There is such a place for each verb, and one after the last.
+-- There is such an index for each verb, and one after the last.
 pub record AreStarts (ranks starts : List ℕ) : Type 0 where
   pub long : length starts ≡ 257
   pub each : (verb : ℕ) → verb ≤ 256 → IsStart ranks verb (slice_index starts verb)

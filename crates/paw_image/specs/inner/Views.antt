@@ -10,7 +10,7 @@ use Rattle.paw_game.specs.Game.{GameLists, counts_of}
 use Rattle.paw_game.specs.Image.{word_image, text_image, object_image, exits_image}
 use Rattle.paw_game.specs.inner.Tables.{text_at}
 use Rattle.paw_image.specs.declared.offsets.Offsets.{Offsets}
-use Rattle.paw_image.specs.inner.CondactMarks.{IsMarked}
+use Rattle.paw_image.specs.inner.Milestones.{HasMilestones}
 use Rattle.paw_image.specs.Images.{IsImage}
 use Rattle.paw_image.specs.inner.Orders.{IsOrder}
 use Rattle.paw_image.specs.inner.Offsets.{offsets, entry_offsets, entries_of}
@@ -79,11 +79,12 @@ span_at g p n = spanned (slice_get (rows_begin g p) n) (text_at g p n)
 abbrev pub AreOrdered : Bytes → Offsets → Type 0
 AreOrdered bytes p = AllByRecursion (λ t. IsOrder bytes t.entries.items t.order) p.tables.items
 
--- The entries of each table have their marks.
-abbrev pub AreMarked : Bytes → Offsets → Type 0
-AreMarked bytes p = AllByRecursion (IsMarked bytes) p.tables.items
+-- The entries of each table have their milestones.
+abbrev pub HaveMilestones : Bytes → Offsets → Type 0
+HaveMilestones bytes p = AllByRecursion (HasMilestones bytes) p.tables.items
 
--- The bytes are the image of a game with these counts and words, rows at these offsets, entries in order, and marks.
+-- The bytes are the image of a game with these counts and words, rows at these offsets, entries in order, and
+-- milestones.
 pub record IsIndex (bytes : Bytes) (counts : Counts) (words : List Word) (p : Offsets) : Type 0 where
   pub image : IsImage bytes (game_read bytes)
   pub counted : counts ≡ counts_of (game_read bytes)
@@ -95,4 +96,4 @@ pub record IsIndex (bytes : Bytes) (counts : Counts) (words : List Word) (p : Of
   pub exits : p.exits.items ≡ offsets exits_image (exits_begin (game_read bytes)) (game_read bytes).exits
   pub tables : entries_of p.tables.items ≡ entry_offsets (tables_begin_at (game_read bytes)) (game_read bytes).tables
   pub ordered : AreOrdered bytes p
-  pub marked : AreMarked bytes p
+  pub marked : HaveMilestones bytes p

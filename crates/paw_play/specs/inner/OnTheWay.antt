@@ -10,7 +10,7 @@ use Rattle.paw_stage.specs.Stage.{Standing}
 use Rattle.paw_stage.specs.Moments.{Moment}
 use Rattle.paw_stage.specs.declared.StageCall.TheVariants as call
 use Rattle.paw_game.specs.Game.{GameLists}
-use Rattle.paw_routines.specs.Routines.{AreRowsOf, HaveRows}
+use Rattle.paw_routines.specs.Routines.{AreAnswersOf, HaveAnswers}
 use Rattle.paw_routines.specs.declared.routines.Routines.{Routines}
 use Rattle.paw_effects.specs.Story.{Story, story_of}
 use Rattle.paw_effects.specs.declared.act.Prompt.{Prompt}
@@ -24,7 +24,7 @@ use Rattle.paw_turn.specs.inner.Player.{step_halt, brings_piece, PlayerView, run
 use Rattle.paw_turn.specs.inner.Parts.{prompt_at, IsStanding}
 use Rattle.paw_turn.specs.declared.Step.{Step}
 use Rattle.paw_turn.specs.declared.Step.TheVariants as step
-use Rattle.paw_base.specs.Bytes.{Bytes, Lines, Name, RoutineRows, Seed, Text, Texts, zeros}
+use Rattle.paw_base.specs.Bytes.{Bytes, Lines, Name, RoutineAnswers, Seed, Text, Texts, zeros}
 use Rattle.paw_journal.specs.Session.{Digests, Recovered, Shown, recover, kept_digests, base_length, state_length}
 use Rattle.paw_journal.specs.Session.{committed}
 use Rattle.paw_journal.specs.inner.Store.{InStore, CrashLeavesSuch, IsOldOrNew}
@@ -162,13 +162,13 @@ end_of (refusal.Outside c) = end.Outside c
 -- A player may take lines: it has a seat, its routines have answers, and it drew at most this many numbers.
 pub record MayPlay {F : Type 0} (calls : Shared F (ℕ × (ℕ × Unit {0})) ℕ) (draws : ℕ) (p : PlayerView F) : Type 0 where
   pub seated : IsSeated p
-  pub rows : HaveRows calls p.routines
+  pub answers : HaveAnswers calls p.routines
   pub drew : p.world.draws ≤ draws
 
 -- A player was made just now: it has a seat, its routines have answers, and it has played nothing.
 pub record MayBegin {F : Type 0} (calls : Shared F (ℕ × (ℕ × Unit {0})) ℕ) (p : PlayerView F) : Type 0 where
   pub seated : IsSeated p
-  pub rows : HaveRows calls p.routines
+  pub answers : HaveAnswers calls p.routines
   pub new : IsNew p p.world.seed
 
 -- The player still plays the same game with the same routines, and drew at most this many numbers.
@@ -193,7 +193,7 @@ pub record HoldsSession (tells : Type 0) (n : ℕ) (room : Room) (now : Standing
 -- A fact about the game's story, whatever answers stand for its routines.
 abbrev pub EachStory : {F : Type 0} → Shared F (ℕ × (ℕ × Unit {0})) ℕ → Routines F → GameLists →
     (Story → Type 0) → Type 0
-EachStory calls routines game Holds = (X : RoutineRows) → AreRowsOf calls routines X → Holds (story_of game X)
+EachStory calls routines game Holds = (X : RoutineAnswers) → AreAnswersOf calls routines X → Holds (story_of game X)
 
 -- A fact about each session that is at its prompt with this player, after this number of lines in all: n were taken
 -- since `first` stood, of at most `most`.

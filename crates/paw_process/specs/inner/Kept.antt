@@ -67,18 +67,18 @@ is_unused f = (f.table == 0) && ((f.entry == 0) && ((f.at == 0) && not f.acted))
 
 -- Whether a frame follows its rules, where n frames are used from it on: each of these is of a table that may be open
 -- there; all but the last are at a PROCESS, and the last is at this condact; an unused frame is 0.
-abbrev pub row_stands : GameLists → ℕ → Option ℕ → ℕ → Frame → Bool
-row_stands g code caller n f =
+abbrev pub frame_stands : GameLists → ℕ → Option ℕ → ℕ → Frame → Bool
+frame_stands g code caller n f =
     if n == 0 then is_unused f
     else may_open caller f.table && has_code (if n == 1 then code else PROCESS) (condact_at_frame g f)
 
 -- The depth of the first frame that breaks a rule, counted from d on, where n of the frames are used; each PROCESS
 -- calls the next frame's table.
-unfoldable pub rows_fault : GameLists → ℕ → Option ℕ → ℕ → ℕ → List Frame → Option ℕ
-rows_fault g code caller n d [] = None
-rows_fault g code caller n d (f ∷ fs) =
-    if row_stands g code caller n f
-    then rows_fault g code (Some (parameter_of (condact_at_frame g f))) (n - 1) (suc d) fs else Some d
+unfoldable pub first_frame_fault : GameLists → ℕ → Option ℕ → ℕ → ℕ → List Frame → Option ℕ
+first_frame_fault g code caller n d [] = None
+first_frame_fault g code caller n d (f ∷ fs) =
+    if frame_stands g code caller n f
+    then first_frame_fault g code (Some (parameter_of (condact_at_frame g f))) (n - 1) (suc d) fs else Some d
 
 -- Whether there is a table, and it is this one.
 abbrev pub is_that_table : Option ℕ → ℕ → Bool
@@ -99,7 +99,7 @@ loop_fault g k o = if option_map_or (loop_stands g k) o true then None else Some
 abbrev pub fault_at : GameLists → Option ℕ → Frames → Option ℕ
 fault_at g code k =
     if count_fits code k.count
-    then option_or (rows_fault g (unwrap_or code 0) None k.count 0 k.rows) (loop_fault g k k.turning) else Some 0
+    then option_or (first_frame_fault g (unwrap_or code 0) None k.count 0 k.rows) (loop_fault g k k.turning) else Some 0
 
 -- The least depth at which what is kept of a machine that waits at this prompt breaks a rule: that of a frame, 11 for
 -- the loop, or 0 for the number of frames; none where it follows them all.

@@ -1,11 +1,11 @@
 -- What a machine's answers mean in the reading.
 use Rattle.std.specs.Prelude.{◌≡◌, ◌⊎◌, ℕ, Bool, false, List, [], ◌∷◌, ◌++◌, length, reverse}
 use Rattle.std.specs.Fn.{Shared}
-use Rattle.paw_base.specs.Bytes.{Line, Lines, RoutineRows}
+use Rattle.paw_base.specs.Bytes.{Line, Lines, RoutineAnswers}
 use Rattle.paw_game.specs.Game.{GameLists}
 use Rattle.paw_game.specs.Valid.{Valid}
 use Rattle.paw_routines.specs.declared.routines.Routines.{Routines}
-use Rattle.paw_routines.specs.Routines.{AreRowsOf}
+use Rattle.paw_routines.specs.Routines.{AreAnswersOf}
 use Rattle.paw_effects.specs.Story.{Story, story_of}
 use Rattle.paw_effects.specs.declared.act.Prompt.TheVariants as prompt
 use Rattle.paw_reading.specs.declared.places.Frame.{Frame}
@@ -25,7 +25,7 @@ use Rattle.paw_process.specs.declared.Turned.TheVariants as turned
 -- This holds of the story that the game is with any answers that stand for the routines.
 abbrev pub InStories :
     {F : Type 0} → Shared F (ℕ × (ℕ × Unit {0})) ℕ → Routines F → GameLists → (Story → Type 0) → Type 0
-InStories calls routines g P = (X : RoutineRows) → AreRowsOf calls routines X → P (story_of g X)
+InStories calls routines g P = (X : RoutineAnswers) → AreAnswersOf calls routines X → P (story_of g X)
 
 -- ---- what is held ----
 

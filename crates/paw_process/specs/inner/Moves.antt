@@ -1,7 +1,7 @@
 -- What each move of the machine makes of the reading.
 use Rattle.std.specs.Prelude.{◌≡◌, ℕ, suc, ◌+◌, ◌<◌, ◌≤◌, ◌++◌, Bool, true, false, List, ◌∷◌, Option, Some, None}
 use Rattle.std.specs.Prelude.{length}
-use Rattle.paw_base.specs.Bytes.{Lines, RoutineRows}
+use Rattle.paw_base.specs.Bytes.{Lines, RoutineAnswers}
 use Rattle.paw_base.specs.declared.limits.TheConstants.{ENTRY_LIMIT}
 use Rattle.paw_base.specs.declared.parts.Condact.{Condact}
 use Rattle.paw_game.specs.Game.{GameLists}
@@ -13,7 +13,7 @@ use Rattle.paw_effects.specs.declared.act.Effect.{Effect}
 use Rattle.paw_reading.specs.declared.places.Frame.{Frame}
 use Rattle.paw_reading.specs.declared.places.OpenLoop.{OpenLoop}
 use Rattle.paw_reading.specs.Run.{Run, Step}
-use Rattle.paw_reading.specs.Reading.{Out, Left, next_object_or, over_objects, rest_of_loop, deeper, from_place}
+use Rattle.paw_reading.specs.Reading.{Out, Left, next_object_or, over_objects, rest_of_loop, deeper, from_condact}
 use Rattle.paw_reading.specs.Reading.{rest_of_entry}
 use Rattle.paw_reading.specs.Reading.{after_action, step_at, noted, reads_one}
 use Rattle.paw_reading.specs.inner.GoingOn.{along}
@@ -46,11 +46,11 @@ resolved g fs x = along g fs (next_object_or (length fs) (rest_of_loop g (deeper
 
 -- Reads on in the innermost table at the entry after this frame's.
 abbrev pub next_of : Story → List Frame → Frame → Bool → Run → Out
-next_of g fs f = from_place g (deeper g (length fs)) (length fs) f.table (suc f.entry) 0
+next_of g fs f = from_condact g (deeper g (length fs)) (length fs) f.table (suc f.entry) 0
 
 -- Reads on in the innermost table at the condact after this frame's.
 abbrev pub past_of : Story → List Frame → Frame → Bool → Run → Out
-past_of g fs f = from_place g (deeper g (length fs)) (length fs) f.table f.entry (suc f.at)
+past_of g fs f = from_condact g (deeper g (length fs)) (length fs) f.table f.entry (suc f.at)
 
 -- Reads the condacts of this frame's entry from its condact on.
 abbrev pub reading_at : Story → List Frame → Frame → Run → Out
@@ -66,7 +66,7 @@ acted_at g fs f e r =
 abbrev pub loop_at_frames : Story → List Frame → OpenLoop → ℕ → Run → Out
 loop_at_frames g fs l n r =
     along g fs (over_objects g (length fs) (record l { last = 0 })
-    (from_place g (deeper g (length fs)) (length fs) l.table l.entry (suc l.at) true) n r)
+    (from_condact g (deeper g (length fs)) (length fs) l.table l.entry (suc l.at) true) n r)
 
 -- Reading as x says leads from what stood to what stands now: there are condacts that were read, of which the machine
 -- keeps the steps, so that, whatever lines come, the machine goes on to what x is, or has stopped at it.
@@ -81,13 +81,13 @@ ReadsTable g x old t new =
 pub record Enters (g : GameLists) (w : World) (f e : Frame) : Type 0 where
   pub entry : e.entry < ENTRY_LIMIT
   pub low : f.entry ≤ e.entry
-  pub goes : (X : RoutineRows) (fs : List Frame) (r : Run) → r.world ≡ w →
+  pub goes : (X : RoutineAnswers) (fs : List Frame) (r : Run) → r.world ≡ w →
       going_in (story_of g X) (f ∷ fs) r ≡ reading_at (story_of g X) fs e r
 
 -- From this frame reading goes on at no condact: the innermost table is left.
 abbrev pub EntersNone : GameLists → World → Frame → Type 0
 EntersNone g w f =
-    (X : RoutineRows) (fs : List Frame) (r : Run) → r.world ≡ w →
+    (X : RoutineAnswers) (fs : List Frame) (r : Run) → r.world ≡ w →
     going_in (story_of g X) (f ∷ fs) r ≡ resolved (story_of g X) fs (Left f.acted r)
 
 -- Reads one condact of this frame.

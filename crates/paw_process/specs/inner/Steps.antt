@@ -6,7 +6,7 @@ use Rattle.paw_game.specs.Game.{GameLists}
 use Rattle.paw_game.specs.inner.Valid.{is_right}
 use Rattle.paw_world.specs.World.{World}
 use Rattle.paw_routines.specs.declared.routines.Routines.{Routines}
-use Rattle.paw_routines.specs.Routines.{HaveRows}
+use Rattle.paw_routines.specs.Routines.{HaveAnswers}
 use Rattle.paw_effects.specs.Worlds.{IsOf}
 use Rattle.paw_reading.specs.declared.places.Frame.{Frame}
 use Rattle.paw_process.specs.inner.OpenTables.{OpenTables}
@@ -24,7 +24,7 @@ pub record IsReady (g : GameLists) (m : OpenTables) (w : World) : Type 0 where
 pub record MayReadNext {F : Type 0} (calls : Shared F (ℕ × (ℕ × Unit {0})) ℕ) (routines : Routines F) (g : GameLists)
     (m : OpenTables) (w : World) : Type 0 where
   pub ready : IsReady g m w
-  pub rows : HaveRows calls routines
+  pub answers : HaveAnswers calls routines
   pub draws : w.draws + m.left < 2 ^ 64
 
 -- The innermost frame is this one, and it stands at a condact.

@@ -26,7 +26,7 @@ use Rattle.paw_reading.specs.Reading.{Redescribes, Restarts, Out, Left, Waits, S
 use Rattle.paw_reading.specs.Reading.{halts, noted, after_call, at_level, next_object_or, is_taken, taken, over_objects}
 use Rattle.paw_reading.specs.Reading.{loop_of}
 use Rattle.paw_reading.specs.Reading.{over, coming_phrase, after_action, carried_out, frame_at}
-use Rattle.paw_reading.specs.Reading.{is_for_now, rest_of_entry, from_place, rest_of_loop, deeper, rest_of_table}
+use Rattle.paw_reading.specs.Reading.{is_for_now, rest_of_entry, from_condact, rest_of_loop, deeper, rest_of_table}
 use Rattle.paw_reading.specs.inner.Steps.{quit_question}
 use Rattle.paw_reading.specs.GoingOn.{on_path}
 
@@ -53,16 +53,16 @@ leaves g lv acted r = next_object_or lv (rest_of_loop g (deeper g lv) lv) (Left 
 -- Lets a loop look for its next object from number o on, and read on after its DOALL.
 abbrev pub looks : Story → ℕ → OpenLoop → ℕ → Run → Out
 looks g lv l o r =
-    let body = from_place g (deeper g lv) lv l.table l.entry (suc l.at) true in
+    let body = from_condact g (deeper g lv) lv l.table l.entry (suc l.at) true in
     over_objects g lv (record l { last = 0 }) body (length g.game.objects - o) r
 
 -- Reads the table from the condact after a frame's, whatever loop is open.
 abbrev pub plain_past : Story → ℕ → Frame → Bool → Run → Out
-plain_past g lv f = from_place g (deeper g lv) lv f.table f.entry (suc f.at)
+plain_past g lv f = from_condact g (deeper g lv) lv f.table f.entry (suc f.at)
 
 -- Reads the table from the entry after a frame's, whatever loop is open.
 abbrev pub plain_next : Story → ℕ → Frame → Bool → Run → Out
-plain_next g lv f = from_place g (deeper g lv) lv f.table (suc f.entry) 0
+plain_next g lv f = from_condact g (deeper g lv) lv f.table (suc f.entry) 0
 
 -- How reading goes on after the action at a frame.
 abbrev pub goes : Story → ℕ → Frame → Effect → Run → Out

@@ -1,7 +1,7 @@
 -- The rules that make calls fail: those with listed numbers, and all after a number of calls that pass.
 use Rattle.std.specs.Prelude.{ℕ, ◌==◌, Bool, List}
 use Rattle.std.specs.List.{list_any}
-use Rattle.paw_stage.specs.inner.Faults.{one_more}
+use Rattle.paw_stage.specs.inner.Failures.{one_more}
 
 -- The numbers of the calls that should fail, and the number of the next call.
 pub record Listing : Type 0 where

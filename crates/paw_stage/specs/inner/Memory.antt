@@ -4,10 +4,10 @@ use Rattle.std.specs.Prelude.{Result, OnOk, OnErr, IsErr}
 use Rattle.paw_base.specs.Bytes.{Bytes, Line, Lines, Name}
 use Rattle.paw_stage.specs.declared.StageCall.{StageCall}
 use Rattle.paw_stage.specs.declared.StageCall.TheVariants as call
-use Rattle.paw_stage.specs.declared.faults.FailureCounts.{FailureCounts}
+use Rattle.paw_stage.specs.declared.failures.FailureCounts.{FailureCounts}
 use Rattle.paw_stage.specs.Stage.{Standing}
 use Rattle.paw_stage.specs.Moments.{Moment, Moments, moment_of}
-use Rattle.paw_stage.specs.inner.Faults.{raised, no_failures}
+use Rattle.paw_stage.specs.inner.Failures.{raised, no_failures}
 use Rattle.paw_stage.specs.inner.Done.{DoneCall, size_of, added, loaded_file, took, fresh, after}
 use Rattle.paw_stage.specs.inner.Replay.{since_of, only_now}
 use Rattle.paw_stage.specs.inner.Log.{Logged, has_room, logged, call_logged}

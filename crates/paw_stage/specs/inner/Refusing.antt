@@ -8,10 +8,10 @@ use Rattle.paw_stage.specs.declared.StageCall.{StageCall}
 use Rattle.paw_stage.specs.declared.StageCall.TheVariants as call
 use Rattle.paw_stage.specs.declared.LoadRefusal.{LoadRefusal}
 use Rattle.paw_stage.specs.declared.LoadRefusal.TheVariants as refusal
-use Rattle.paw_stage.specs.declared.faults.FailureCounts.{FailureCounts}
+use Rattle.paw_stage.specs.declared.failures.FailureCounts.{FailureCounts}
 use Rattle.paw_stage.specs.Stage.{Standing}
 use Rattle.paw_stage.specs.Moments.{Moment}
-use Rattle.paw_stage.specs.inner.Faults.{count_of, raised}
+use Rattle.paw_stage.specs.inner.Failures.{count_of, raised}
 use Rattle.paw_stage.specs.inner.Done.{DoneCall, loaded_file}
 use Rattle.paw_stage.specs.inner.Memory as memory
 use Rattle.paw_stage.specs.inner.Memory.{Memory, can_note, recorded, failed, found_none}

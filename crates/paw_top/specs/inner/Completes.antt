@@ -1,6 +1,6 @@
 -- How a command ends where nothing outside fails: words of a law that follows from what is said of each command.
 use Rattle.std.specs.Prelude.{◌≡◌, ◌≢◌, ℕ, [], ◌∷◌, length, Result, Ok, Err, Some, nat_le, if◌then◌else◌}
-use Rattle.paw_base.specs.Bytes.{Bytes, Name, RoutineRows, Seed, Text}
+use Rattle.paw_base.specs.Bytes.{Bytes, Name, RoutineAnswers, Seed, Text}
 use Rattle.paw_base.specs.declared.fault.SourceFault.{SourceFault}
 use Rattle.paw_game.specs.Game.{GameLists}
 use Rattle.paw_effects.specs.Story.{Story, story_of}
@@ -97,16 +97,16 @@ pub record EachCompletes : Type 0 where
       IsUnhindered o → CompletesCompile source old o
   pub decompile : (image : Name) (old new : Standing) (o : Outcome) → Decompiles image old new o →
       IsUnhindered o → CompletesImage image (λ g. Comes outcome.Done) old o
-  pub walk : (rows : RoutineRows) (image : Name) (seed : Seed) (old new : Standing) (o : Outcome) →
-      WalksAs reading rows image seed old new o → IsUnhindered o → CompletesImage image (λ g. IsWalked) old o
-  pub play : (rows : RoutineRows) (image store : Name) (seed : Seed) (old new : Standing) (o : Outcome) →
-      PlaysNewIn rows image store seed old new o →
+  pub walk : (answers : RoutineAnswers) (image : Name) (seed : Seed) (old new : Standing) (o : Outcome) →
+      WalksAs reading answers image seed old new o → IsUnhindered o → CompletesImage image (λ g. IsWalked) old o
+  pub play : (answers : RoutineAnswers) (image store : Name) (seed : Seed) (old new : Standing) (o : Outcome) →
+      PlaysNewIn answers image store seed old new o →
       IsUnhindered o → CompletesImage image (λ g. CompletesNew (store_bytes old store)) old o
-  pub resume : (rows : RoutineRows) (image store : Name) (old new : Standing) (o : Outcome) →
-      PlaysAgainIn rows image store old new o →
-      IsUnhindered o → CompletesImage image (λ g. CompletesAgain (story_of g rows) (store_bytes old store)) old o
-  pub trace : (rows : RoutineRows) (image : Name) (seed : Seed) (old new : Standing) (o : Outcome) →
-      WalksAs reading_traced rows image seed old new o → IsUnhindered o → CompletesImage image (λ g. IsWalked) old o
+  pub resume : (answers : RoutineAnswers) (image store : Name) (old new : Standing) (o : Outcome) →
+      PlaysAgainIn answers image store old new o →
+      IsUnhindered o → CompletesImage image (λ g. CompletesAgain (story_of g answers) (store_bytes old store)) old o
+  pub trace : (answers : RoutineAnswers) (image : Name) (seed : Seed) (old new : Standing) (o : Outcome) →
+      WalksAs reading_traced answers image seed old new o → IsUnhindered o → CompletesImage image (λ g. IsWalked) old o
   pub trial : (n : ℕ) (old new : Standing) (o : Outcome) → Tries n old new o →
       IsUnhindered o → Comes (due (trial_reading n)) o
   pub check : (image : Name) (old new : Standing) (o : Outcome) → Checks image old new o →

@@ -10,7 +10,7 @@ use Rattle.paw_game.specs.Valid.{Valid}
 use Rattle.paw_world.specs.World.{World}
 use Rattle.paw_phrase.specs.Pending.{PendingLine}
 use Rattle.paw_routines.specs.declared.routines.Routines.{Routines}
-use Rattle.paw_routines.specs.Routines.{HaveRows}
+use Rattle.paw_routines.specs.Routines.{HaveAnswers}
 use Rattle.paw_effects.specs.declared.act.Prompt.{Prompt}
 use Rattle.paw_effects.specs.declared.act.Prompt.TheVariants as prompt
 use Rattle.paw_effects.specs.Worlds.{IsOf}
@@ -169,7 +169,7 @@ pub record MayGoOn (g : GameLists) (h : PlayState) : Type 0 where
 -- Tables may be read in a phase.
 pub record MayReadTables {F : Type 0} (calls : Shared F (ℕ × (ℕ × Unit {0})) ℕ) (routines : Routines F)
     (g : GameLists) (h : PlayState) : Type 0 where
-  pub rows : HaveRows calls routines
+  pub answers : HaveAnswers calls routines
   pub read : HasReadSome h.machine
   pub ready : MayGoOn g h
 

@@ -2,7 +2,7 @@
 // again.
 
 ghost use Rattle.std.specs.Prelude.{◌≡◌, true, IfOk};
-ghost use Rattle.paw_routines.specs.Routines.{HaveRows};
+ghost use Rattle.paw_routines.specs.Routines.{HaveAnswers};
 ghost use Rattle.paw_turn.specs.inner.Parts.{Fits};
 ghost use Rattle.paw_turn.specs.inner.Player.{IsSeated, IsStanding};
 
@@ -227,9 +227,9 @@ fn taken_up<'a, R: AllocGlobal, F: Fn(u8, u8) -> u8>(
     player: Player<'a, Game, F>,
     between: Between,
 ) -> Result<Player<'a, Game, F>, Fail>
-    requires rows { HaveRows F.Fn player.routines }
+    requires answers { HaveAnswers F.Fn player.routines }
     requires seated { IsSeated player }
-    ensures rows { IfOk result (λ p. HaveRows F.Fn p.routines) }
+    ensures answers { IfOk result (λ p. HaveAnswers F.Fn p.routines) }
     ensures seated { IfOk result IsSeated }
 {
     if between == Between::Nothing || !is_standing(step_of(player.last)) {
@@ -271,9 +271,9 @@ fn compare<F: Fn(u8, u8) -> u8>(
 
 // Takes a line.
 fn take<F: Fn(u8, u8) -> u8>(rt: &impl Abort, player: &mut Player<'_, Game, F>, line: &str)
-    requires rows { HaveRows F.Fn player.old.routines }
+    requires answers { HaveAnswers F.Fn player.old.routines }
     requires seated { IsSeated player.old }
-    ensures rows { HaveRows F.Fn player.new.routines }
+    ensures answers { HaveAnswers F.Fn player.new.routines }
     ensures seated { IsSeated player.new }
 {
     assert!(rt; line.len() <= LINE_LIMIT);
@@ -288,9 +288,9 @@ fn take_all<'a, R: Abort + AllocGlobal, F: Fn(u8, u8) -> u8>(
     between: Between,
     lines: &[Taken],
 ) -> Result<Player<'a, Game, F>, Fail>
-    requires rows { HaveRows F.Fn first.routines }
+    requires answers { HaveAnswers F.Fn first.routines }
     requires seated { IsSeated first }
-    ensures rows { IfOk result (λ p. HaveRows F.Fn p.routines) }
+    ensures answers { IfOk result (λ p. HaveAnswers F.Fn p.routines) }
     ensures seated { IfOk result IsSeated }
 {
     let mut player = first;
@@ -309,8 +309,8 @@ fn begun<'a, R: Abort + AllocGlobal, F: Fn(u8, u8) -> u8>(
     routines: &'a Routines<F>,
     first: Brought,
 ) -> Result<Player<'a, Game, F>, Fail>
-    requires rows { HaveRows F.Fn routines.now }
-    ensures rows { IfOk result (λ p. HaveRows F.Fn p.routines) }
+    requires answers { HaveAnswers F.Fn routines.now }
+    ensures answers { IfOk result (λ p. HaveAnswers F.Fn p.routines) }
     ensures seated { IfOk result IsSeated }
 {
     let mut player = Player::new(rt.alloc(), game, routines, 7)?;
@@ -325,9 +325,9 @@ fn begin_again<F: Fn(u8, u8) -> u8>(
     player: &mut Player<'_, Game, F>,
     first: Brought,
 )
-    requires rows { HaveRows F.Fn player.old.routines }
+    requires answers { HaveAnswers F.Fn player.old.routines }
     requires seated { IsSeated player.old }
-    ensures rows { HaveRows F.Fn player.new.routines }
+    ensures answers { HaveAnswers F.Fn player.new.routines }
     ensures seated { IsSeated player.new }
 {
     player.renew(7);
@@ -437,7 +437,7 @@ fn compare_steps<R: Abort + AllocGlobal, F: Fn(u8, u8) -> u8>(
     lines: &[Taken],
     steps: &[StepRow],
 ) -> Result<(), Fail>
-    requires rows { HaveRows F.Fn routines.now }
+    requires answers { HaveAnswers F.Fn routines.now }
 {
     let player = begun(rt, game, routines, HALL)?;
     let player = take_all(rt, player, Between::Nothing, lines)?;

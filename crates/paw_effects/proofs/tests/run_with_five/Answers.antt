@@ -1,5 +1,5 @@
 use Rattle.std.proofs.Common.{arith, ◌<◌, ◌+◌, ◌*◌, ◌%◌, rules, ℕ}
-use Rattle.paw_routines.proofs.FunctionRows.{rows_of, stand_for}
+use Rattle.paw_routines.proofs.FunctionAnswers.{answers_of, stand_for}
 use Rattle.paw_effects.proofs.tests.run_with_five.Goals as goal
 
 -- What each routine gives.
@@ -14,8 +14,8 @@ pub new-routines-requires : goal.new-routines-requires
 unfolding given
 new-routines-requires g c =
     record {
-      rows = (
-        rows_of given 5,
+      answers = (
+        answers_of given 5,
         stand_for _ _ given 5 (λ n x below small. given_small n x) (λ n x below small. tt) (λ n x y below small byte called. search rules),
       );
     }

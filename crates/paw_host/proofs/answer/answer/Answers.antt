@@ -46,7 +46,7 @@ returns-in-Err-clause-leaves g c = record {
 }
 
 pub returns-in-Err-clause-promises : goal.returns-in-Err-clause-promises
-returns-in-Err-clause-promises g c = λ tells X rows before may stores.
+returns-in-Err-clause-promises g c = λ tells X answers before may stores.
     record {
       meaning = tt;
       any_moment =
@@ -61,7 +61,7 @@ returns-then-at-eq0-clause-leaves g c =
     (λ tells. (c.in-Ok.ensures.attached tells).1) c.answer_new.ensures.leaves
 
 pub returns-then-at-eq0-clause-promises : goal.returns-then-at-eq0-clause-promises
-returns-then-at-eq0-clause-promises g c = λ tells X rows before may stores.
+returns-then-at-eq0-clause-promises g c = λ tells X answers before may stores.
     let story : Story = story_of c.args.player.now.game X in
     let seed = c.args.hosted.now.seed in
     let name = c.args.store.now in
@@ -80,11 +80,11 @@ returns-then-at-eq0-clause-promises g c = λ tells X rows before may stores.
           on_ok_weaker c.answer_new.result
           (λ h. subst (λ s. Answers story (answer story seed s text) c.args.reply.now c.answer_new.new.reply (file_bytes new name)) (sym none)
           (subst (λ b. Answers story (answer story seed Absent text) c.args.reply.now c.answer_new.new.reply b) (sym there) h))
-          (c.answer_new.ensures.promises now X rows).meaning;
+          (c.answer_new.ensures.promises now X answers).meaning;
       any_moment =
           Passes_on _ _ _ _ _ _ (InAnswer story seed name before after old) _
           (attaches g (goal.at.returns-then-at-eq0-clause-promises g c).After-attach tells X before after stores (inl a.1))
-          (c.answer_new.ensures.promises now X rows).any_moment
+          (c.answer_new.ensures.promises now X answers).any_moment
           (λ m i. answer_in_new story seed name before after old mid m stores none a.1
           (subst (λ s. InFile (LeftOf story seed Absent (answer story seed s text).session) mid m) (sym none) i));
     }
@@ -97,7 +97,7 @@ returns-else-at-eq0-clause-leaves g c =
     (λ tells. (c.in-Ok.ensures.attached tells).1) c.answer_kept.ensures.leaves
 
 pub returns-else-at-eq0-clause-promises : goal.returns-else-at-eq0-clause-promises
-returns-else-at-eq0-clause-promises g c = λ tells X rows before may stores.
+returns-else-at-eq0-clause-promises g c = λ tells X answers before may stores.
     let story : Story = story_of c.args.player.now.game X in
     let name = c.args.store.now in
     let old : Standing = g.S.Stage.standing c.args.stage.now in
@@ -115,10 +115,10 @@ returns-else-at-eq0-clause-promises g c = λ tells X rows before may stores.
           on_ok_weaker c.answer_kept.result
           (λ h. subst (λ b. Answers story (answer story c.args.hosted.now.seed before (option_copied c.args.text)) c.args.reply.now c.answer_kept.new.reply b)
           (sym there) h)
-          (c.answer_kept.ensures.promises now X rows before may here).meaning;
+          (c.answer_kept.ensures.promises now X answers before may here).meaning;
       any_moment =
           Passes_on _ _ _ _ _ _ (InAnswer story seed name before after old) _
           (attaches g (goal.at.returns-else-at-eq0-clause-promises g c).After-attach tells X before after stores (inl a.1))
-          (c.answer_kept.ensures.promises now X rows before may here).any_moment
+          (c.answer_kept.ensures.promises now X answers before may here).any_moment
           (λ m i. answer_in_kept story seed name before after old mid m stores a.1 i);
     }

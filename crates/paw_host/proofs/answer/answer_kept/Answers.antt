@@ -5,7 +5,7 @@ use Rattle.paw_game.specs.Game.{GameLists}
 use Rattle.paw_stage.specs.Stage.{Standing}
 use Rattle.paw_stage.specs.Moments.{Passes}
 use Rattle.paw_stage.proofs.Time.{Passes_map, Passes_on}
-use Rattle.paw_routines.specs.Routines.{AreRowsOf, HaveRows}
+use Rattle.paw_routines.specs.Routines.{AreAnswersOf, HaveAnswers}
 use Rattle.paw_journal.specs.inner.Journal.{IsAtRest, failed_stage_call}
 use Rattle.paw_journal.specs.inner.Store.{ChangesStoreOnly}
 use Rattle.paw_journal.proofs.Serving.{serves_then, serves_among}
@@ -25,7 +25,7 @@ use Rattle.paw_host.proofs.answer.answer_kept.Goals as goal
 pub take_text-requires-clause-player : goal.take_text-requires-clause-player
 take_text-requires-clause-player g c = record {
   seated = c.take_up.ensures.stays.seated;
-  rows = subst (λ r. HaveRows g.F.Fn r) (sym c.take_up.ensures.stays.routines) c.requires.hosted.prepared.rows;
+  answers = subst (λ r. HaveAnswers g.F.Fn r) (sym c.take_up.ensures.stays.routines) c.requires.hosted.prepared.answers;
   stands = rw c.in-Ok-Some.field-0-is at c.in-Ok-Some.ensures.opened;
 }
 
@@ -40,11 +40,11 @@ returns-in-Ok-None-clause-leaves g c =
     (λ tells. subst IsAtRest (sym (c.take_up.ensures.reads.still tells)) (c.requires.store.rests tells))
 
 pub returns-in-Ok-None-clause-promises : goal.returns-in-Ok-None-clause-promises
-returns-in-Ok-None-clause-promises g c = λ tells X rows before may stores.
+returns-in-Ok-None-clause-promises g c = λ tells X answers before may stores.
     let story : Story = story_of c.args.player.now.game X in
     let seed = c.args.hosted.now.seed in
     let old : Standing = g.S.Stage.standing c.args.stage.now in
-    let t = rw c.in-Ok-None.field-0-is at (c.in-Ok-None.ensures.meaning tells X rows) in
+    let t = rw c.in-Ok-None.field-0-is at (c.in-Ok-None.ensures.meaning tells X answers) in
     let after : NamedSession = (answer story c.args.hosted.now.seed before (option_copied c.args.text)).session in
     record {
       meaning =
@@ -63,7 +63,7 @@ pub returns-in-Err-clause-leaves : goal.returns-in-Err-clause-leaves
 returns-in-Err-clause-leaves g c = leaves_read g.S.Stage _ _ _ _ c.in-Err.ensures.reads (λ tells. tt)
 
 pub returns-in-Err-clause-promises : goal.returns-in-Err-clause-promises
-returns-in-Err-clause-promises g c = λ tells X rows before may stores.
+returns-in-Err-clause-promises g c = λ tells X answers before may stores.
     let story : Story = story_of c.args.player.now.game X in
     let old : Standing = g.S.Stage.standing c.args.stage.now in
     let after : NamedSession = (answer story c.args.hosted.now.seed before (option_copied c.args.text)).session in
@@ -91,7 +91,7 @@ returns-in-Some-clause-leaves g c = record {
 }
 
 pub returns-in-Some-clause-promises : goal.returns-in-Some-clause-promises
-returns-in-Some-clause-promises g c = λ tells X rows before may stores.
+returns-in-Some-clause-promises g c = λ tells X answers before may stores.
     let story : Story = story_of c.args.player.now.game X in
     let seed = c.args.hosted.now.seed in
     let text = c.in-Some.text.now in
@@ -99,8 +99,8 @@ returns-in-Some-clause-promises g c = λ tells X rows before may stores.
     let mid : Standing = g.S.Stage.standing c.take_up.new.stage in
     let new : Standing = g.S.Stage.standing c.take_text.new.stage in
     let game = c.take_up.ensures.stays.game in
-    let own = subst (λ r. AreRowsOf g.F.Fn r X) (sym c.take_up.ensures.stays.routines) rows in
-    let t = rw c.in-Ok-Some.field-0-is at (c.in-Ok-Some.ensures.meaning tells X rows) in
+    let own = subst (λ r. AreAnswersOf g.F.Fn r X) (sym c.take_up.ensures.stays.routines) answers in
+    let t = rw c.in-Ok-Some.field-0-is at (c.in-Ok-Some.ensures.meaning tells X answers) in
     let rests = (c.requires.store.rests tells).stable in
     record {
       meaning =
@@ -146,11 +146,11 @@ returns-in-None-clause-leaves g c =
     leaves_read g.S.Stage _ _ _ _ c.in-Ok-Some.ensures.reads (λ tells. (rw c.in-Ok-Some.field-0-is at (c.in-Ok-Some.ensures.kept tells)).rests)
 
 pub returns-in-None-clause-promises : goal.returns-in-None-clause-promises
-returns-in-None-clause-promises g c = λ tells X rows before may stores.
+returns-in-None-clause-promises g c = λ tells X answers before may stores.
     let story : Story = story_of c.args.player.now.game X in
     let seed = c.args.hosted.now.seed in
     let old : Standing = g.S.Stage.standing c.args.stage.now in
-    let t = rw c.in-Ok-Some.field-0-is at (c.in-Ok-Some.ensures.meaning tells X rows) in
+    let t = rw c.in-Ok-Some.field-0-is at (c.in-Ok-Some.ensures.meaning tells X answers) in
     let after : NamedSession = (answer story c.args.hosted.now.seed before (option_copied c.args.text)).session in
     record {
       meaning =

@@ -5,7 +5,7 @@ use Rattle.paw_game.specs.Game.{GameLists}
 use Rattle.paw_stage.specs.Stage.{Standing}
 use Rattle.paw_stage.specs.Moments.{Passes}
 use Rattle.paw_stage.proofs.Time.{Passes_map, Passes_on}
-use Rattle.paw_routines.specs.Routines.{AreRowsOf, HaveRows}
+use Rattle.paw_routines.specs.Routines.{AreAnswersOf, HaveAnswers}
 use Rattle.paw_journal.specs.inner.Journal.{IsAtRest, failed_stage_call}
 use Rattle.paw_journal.proofs.Moved.{beside_on}
 use Rattle.paw_journal.proofs.Serving.{serves_then}
@@ -23,7 +23,7 @@ use Rattle.paw_host.proofs.answer.answer_new.Goals as goal
 pub take_text-requires-clause-player : goal.take_text-requires-clause-player
 take_text-requires-clause-player g c = record {
   seated = c.begin.ensures.anew.stays.seated;
-  rows = subst (λ r. HaveRows g.F.Fn r) (sym c.begin.ensures.anew.stays.routines) c.requires.player.rows;
+  answers = subst (λ r. HaveAnswers g.F.Fn r) (sym c.begin.ensures.anew.stays.routines) c.requires.player.answers;
   stands = (rw c.in-Ok-Some.field-0-is at c.in-Ok-Some.ensures.opened).1;
 }
 
@@ -40,9 +40,9 @@ returns-in-Ok-None-clause-leaves g c = record {
 }
 
 pub returns-in-Ok-None-clause-promises : goal.returns-in-Ok-None-clause-promises
-returns-in-Ok-None-clause-promises g c = λ tells X rows.
+returns-in-Ok-None-clause-promises g c = λ tells X answers.
     let story : Story = story_of c.args.player.now.game X in
-    let b = rw c.in-Ok-None.field-0-is at (c.in-Ok-None.ensures.promises tells X rows).meaning in
+    let b = rw c.in-Ok-None.field-0-is at (c.in-Ok-None.ensures.promises tells X answers).meaning in
     let old : Standing = g.S.Stage.standing c.args.stage.now in
     record {
       meaning =
@@ -52,7 +52,7 @@ returns-in-Ok-None-clause-promises g c = λ tells X rows.
       any_moment =
           Passes_map _ _ _ _ _
           (InFile (LeftOf story c.args.hosted.now.seed Absent (answer story c.args.hosted.now.seed Absent (option_copied c.args.text)).session) old)
-          (c.begin.ensures.promises tells X rows).any_moment
+          (c.begin.ensures.promises tells X answers).any_moment
           (λ m i. in_new_begun story c.args.hosted.now.seed (option_copied c.args.text) old m i);
     }
 
@@ -66,7 +66,7 @@ returns-in-Err-clause-leaves g c = record {
 }
 
 pub returns-in-Err-clause-promises : goal.returns-in-Err-clause-promises
-returns-in-Err-clause-promises g c = λ tells X rows.
+returns-in-Err-clause-promises g c = λ tells X answers.
     let story : Story = story_of c.args.player.now.game X in
     let old : Standing = g.S.Stage.standing c.args.stage.now in
     record {
@@ -74,7 +74,7 @@ returns-in-Err-clause-promises g c = λ tells X rows.
       any_moment =
           Passes_map _ _ _ _ _
           (InFile (LeftOf story c.args.hosted.now.seed Absent (answer story c.args.hosted.now.seed Absent (option_copied c.args.text)).session) old)
-          (c.begin.ensures.promises tells X rows).any_moment
+          (c.begin.ensures.promises tells X answers).any_moment
           (λ m i. in_new_begun story c.args.hosted.now.seed (option_copied c.args.text) old m i);
     }
 
@@ -94,14 +94,14 @@ returns-in-Some-clause-leaves g c = record {
 }
 
 pub returns-in-Some-clause-promises : goal.returns-in-Some-clause-promises
-returns-in-Some-clause-promises g c = λ tells X rows.
+returns-in-Some-clause-promises g c = λ tells X answers.
     let story : Story = story_of c.args.player.now.game X in
     let seed = c.args.hosted.now.seed in
     let text = c.in-Some.text.now in
     let mid : Standing = g.S.Stage.standing c.begin.new.stage in
     let new : Standing = g.S.Stage.standing c.take_text.new.stage in
-    let own = subst (λ r. AreRowsOf g.F.Fn r X) (sym c.begin.ensures.anew.stays.routines) rows in
-    let b = rw c.in-Ok-Some.field-0-is at (c.in-Ok-Some.ensures.promises tells X rows).meaning in
+    let own = subst (λ r. AreAnswersOf g.F.Fn r X) (sym c.begin.ensures.anew.stays.routines) answers in
+    let b = rw c.in-Ok-Some.field-0-is at (c.in-Ok-Some.ensures.promises tells X answers).meaning in
     let sits = subst (λ (h : GameLists). SitsAt (story_of h X) seed [] c.begin.new.player) (sym c.begin.ensures.anew.stays.game) b.0 in
     let stands = subst (λ (h : GameLists). Stands (story_of h X) seed [] mid.disk.bytes) (sym c.begin.ensures.anew.stays.game) b.1 in
     let is = ap option_copied c.in-Some.is in
@@ -120,7 +120,7 @@ returns-in-Some-clause-promises g c = λ tells X rows.
           (g.S.Stage.since c.take_text.new.stage) (InFile (LeftOf story seed Absent (answer story seed Absent t).session) old)) (sym is)
           (Passes_on _ _ _ _ _ _ (InFile (LeftOf story seed Absent (answer story seed Absent (Some text)).session) old) _
           (Passes_map _ _ _ _ _ (InFile (LeftOf story seed Absent (answer story seed Absent (Some text)).session) old)
-          (c.begin.ensures.promises tells X rows).any_moment (λ m i. in_new_begun story seed (Some text) old m i))
+          (c.begin.ensures.promises tells X answers).any_moment (λ m i. in_new_begun story seed (Some text) old m i))
           (c.take_text.ensures.promises (c.begin.ensures.leaves.serves.tells.0 tells) X own seed [] sits
           (rw c.in-Ok-Some.field-0-is at c.in-Ok-Some.ensures.opened).0 stands).any_moment
           (λ m i. in_new_taking story seed text old mid m b.2 (c.begin.ensures.leaves.beside tells)
@@ -138,11 +138,11 @@ returns-in-None-clause-leaves g c = record {
 }
 
 pub returns-in-None-clause-promises : goal.returns-in-None-clause-promises
-returns-in-None-clause-promises g c = λ tells X rows.
+returns-in-None-clause-promises g c = λ tells X answers.
     let story : Story = story_of c.args.player.now.game X in
     let seed = c.args.hosted.now.seed in
     let bytes = (g.S.Stage.standing c.begin.new.stage).disk.bytes in
-    let b = rw c.in-Ok-Some.field-0-is at (c.in-Ok-Some.ensures.promises tells X rows).meaning in
+    let b = rw c.in-Ok-Some.field-0-is at (c.in-Ok-Some.ensures.promises tells X answers).meaning in
     let old : Standing = g.S.Stage.standing c.args.stage.now in
     record {
       meaning =
@@ -151,6 +151,6 @@ returns-in-None-clause-promises g c = λ tells X rows.
       any_moment =
           Passes_map _ _ _ _ _
           (InFile (LeftOf story c.args.hosted.now.seed Absent (answer story c.args.hosted.now.seed Absent (option_copied c.args.text)).session) old)
-          (c.begin.ensures.promises tells X rows).any_moment
+          (c.begin.ensures.promises tells X answers).any_moment
           (λ m i. in_new_begun story c.args.hosted.now.seed (option_copied c.args.text) old m i);
     }

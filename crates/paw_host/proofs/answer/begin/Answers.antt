@@ -31,16 +31,16 @@ returns-clause-leaves g c =
     record { serves = c.in-Ok.ensures.serves; beside = c.create.ensures.beside; left = c.in-Ok.ensures.kept }
 
 pub returns-in-Some-clause-promises : goal.returns-in-Some-clause-promises
-returns-in-Some-clause-promises g c = λ tells X rows.
+returns-in-Some-clause-promises g c = λ tells X answers.
     let r = first_refused (story_of c.args.player.now.game X) c.args.seed c.start_anew-step.result c.start_anew-step.new.player c.start_anew-step.ensures.last
-    c.start_anew-step.ensures.anew.stays.seated (c.start_anew-step.ensures.meaning X rows) c.in-Some.word.now c.in-Some.ensures.value in
+    c.start_anew-step.ensures.anew.stays.seated (c.start_anew-step.ensures.meaning X answers) c.in-Some.word.now c.in-Some.ensures.value in
     record {
       meaning = (ap (λ (a : Answer). a.session) r, c.push.ensures.value ∙ ap (λ (a : Answer). c.args.reply.now ++ a.body) (sym r));
       any_moment = Passes_none _ _ _;
     }
 
 pub returns-in-Err-clause-promises : goal.returns-in-Err-clause-promises
-returns-in-Err-clause-promises g c = λ tells X rows.
+returns-in-Err-clause-promises g c = λ tells X answers.
     let story : Story = story_of c.args.player.now.game X in
     let old : Standing = g.S.Stage.standing c.args.stage.now in
     let shows = shows_by c.start_anew-step.result c.in_default.ensures.value in
@@ -49,18 +49,18 @@ returns-in-Err-clause-promises g c = λ tells X rows.
       any_moment = Passes_map _ _ _ _ _ (InFile (LeftOfBeginning story c.args.seed) old) (c.create.ensures.any_moment tells)
           (λ m i. in_beginning story c.args.seed c.start_anew-step.result c.start_anew-step.new.player c.start_anew-step.ensures.last
           c.start_anew-step.ensures.anew.stays.seated
-          (c.start_anew-step.ensures.meaning X rows) _ old m shows c.put_state.ensures.state
+          (c.start_anew-step.ensures.meaning X answers) _ old m shows c.put_state.ensures.state
           (subst (λ p. LeavesMade (story_digests story) c.put_state.new.into p old m) c.piece.ensures.value
           (subst (λ d. LeavesMade d c.put_state.new.into c.piece.result.now old m)
-          (same_digests _ _ _ _ c.requires.player.digests.digest (c.requires.player.digests.measured X rows)) i)));
+          (same_digests _ _ _ _ c.requires.player.digests.digest (c.requires.player.digests.measured X answers)) i)));
     }
 
 pub returns-clause-promises : goal.returns-clause-promises
-returns-clause-promises g c = λ tells X rows.
+returns-clause-promises g c = λ tells X answers.
     let story : Story = story_of c.args.player.now.game X in
     let old : Standing = g.S.Stage.standing c.args.stage.now in
     let shows = shows_by c.start_anew-step.result c.in_default.ensures.value in
-    let plays = c.start_anew-step.ensures.meaning X rows in
+    let plays = c.start_anew-step.ensures.meaning X answers in
     let r = first_answer story c.args.seed c.start_anew-step.result c.start_anew-step.new.player c.start_anew-step.ensures.last
     c.start_anew-step.ensures.anew.stays.seated plays shows in
     record {
@@ -70,15 +70,15 @@ returns-clause-promises g c = λ tells X rows.
         first_stands story c.args.seed c.start_anew-step.result c.start_anew-step.new.player c.start_anew-step.ensures.last
             c.start_anew-step.ensures.anew.stays.seated plays _ shows
             (c.in-Ok.ensures.shown tells ∙ same_shown _ _ _ _ _ _ (same_digests _ _ _ _ c.requires.player.digests.digest
-            (c.requires.player.digests.measured X rows)) c.put_state.ensures.state c.piece.ensures.value),
+            (c.requires.player.digests.measured X answers)) c.put_state.ensures.state c.piece.ensures.value),
         ap (λ (a : Answer). a.session) r,
         c.push-2.ensures.value ∙ ap (λ x. c.args.reply.now ++ x) c.piece-2.ensures.value ∙ ap (λ (a : Answer). c.args.reply.now ++ a.body) (sym r),
       );
       any_moment = Passes_map _ _ _ _ _ (InFile (LeftOfBeginning story c.args.seed) old) (c.create.ensures.any_moment tells)
           (λ m i. in_beginning story c.args.seed c.start_anew-step.result c.start_anew-step.new.player c.start_anew-step.ensures.last
           c.start_anew-step.ensures.anew.stays.seated
-          (c.start_anew-step.ensures.meaning X rows) _ old m shows c.put_state.ensures.state
+          (c.start_anew-step.ensures.meaning X answers) _ old m shows c.put_state.ensures.state
           (subst (λ p. LeavesMade (story_digests story) c.put_state.new.into p old m) c.piece.ensures.value
           (subst (λ d. LeavesMade d c.put_state.new.into c.piece.result.now old m)
-          (same_digests _ _ _ _ c.requires.player.digests.digest (c.requires.player.digests.measured X rows)) i)));
+          (same_digests _ _ _ _ c.requires.player.digests.digest (c.requires.player.digests.measured X answers)) i)));
     }

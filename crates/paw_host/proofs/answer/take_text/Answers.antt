@@ -4,7 +4,7 @@ use Rattle.paw_stage.specs.Stage.{Standing}
 use Rattle.paw_stage.specs.Across.{EachMoment}
 use Rattle.paw_stage.proofs.Time.{Passes_map, Passes_none}
 use Rattle.paw_journal.specs.Session.{Shown}
-use Rattle.paw_routines.specs.Routines.{AreRowsOf}
+use Rattle.paw_routines.specs.Routines.{AreAnswersOf}
 use Rattle.paw_effects.specs.Story.{Story, story_of}
 use Rattle.paw_turn.specs.inner.Parts.{prompt_at}
 use Rattle.paw_play.specs.Stands.{Stands}
@@ -22,7 +22,7 @@ pub returns-then-is_over-clause-leaves : goal.returns-then-is_over-clause-leaves
 returns-then-is_over-clause-leaves g c = leaves_none g.S.Stage _ _ _ (λ tells. (c.requires.kept tells).rests)
 
 pub returns-then-is_over-clause-promises : goal.returns-then-is_over-clause-promises
-returns-then-is_over-clause-promises g c = λ tells X rows seed es s count stands.
+returns-then-is_over-clause-promises g c = λ tells X answers seed es s count stands.
     record {
       meaning =
           rw (over_answer s c.requires.player.seated c.args.text.now c.if-is_over.ensures.cases) (record { body = c.push.ensures.value; stores = stands });
@@ -33,7 +33,7 @@ pub returns-then-is_full-clause-leaves : goal.returns-then-is_full-clause-leaves
 returns-then-is_full-clause-leaves g c = leaves_none g.S.Stage _ _ _ (λ tells. (c.requires.kept tells).rests)
 
 pub returns-then-is_full-clause-promises : goal.returns-then-is_full-clause-promises
-returns-then-is_full-clause-promises g c = λ tells X rows seed es s count stands.
+returns-then-is_full-clause-promises g c = λ tells X answers seed es s count stands.
     record {
       meaning =
           rw (full_answer s c.requires.player.seated c.args.text.now (prompt_at c.args.player.now.last) c.if-is_over.ensures.cases
@@ -45,7 +45,7 @@ pub returns-in-Some-clause-leaves : goal.returns-in-Some-clause-leaves
 returns-in-Some-clause-leaves g c = leaves_none g.S.Stage _ _ _ (λ tells. (c.requires.kept tells).rests)
 
 pub returns-in-Some-clause-promises : goal.returns-in-Some-clause-promises
-returns-in-Some-clause-promises g c = λ tells X rows seed es s count stands.
+returns-in-Some-clause-promises g c = λ tells X answers seed es s count stands.
     let p = prompt_at c.args.player.now.last in
     let last = c.if-is_over.ensures.cases in
     let few : length es < EVENT_LIMIT = omega (arith, c.if-is_full.ensures.cases, count) in
@@ -53,25 +53,25 @@ returns-in-Some-clause-promises g c = λ tells X rows seed es s count stands.
       meaning =
           rw (refused_answer s c.requires.player.seated c.args.text.now p last few c.take-step.result c.take-step.new.self
           c.take-step.ensures.last c.take-step.ensures.seated
-          (c.take-step.ensures.meaning X rows p last s.pieces s.traces) c.in-Some.word.now c.in-Some.ensures.value)
+          (c.take-step.ensures.meaning X answers p last s.pieces s.traces) c.in-Some.word.now c.in-Some.ensures.value)
           (record { body = c.push-in-Some.ensures.value; stores = stands });
       any_moment = Passes_none _ _ _;
     }
 
 -- Whether the commit was done or failed, its moments are of the line that was taken.
 commits : (g : Over) (c : After-commit g) (tells : g.S.Stage.Tells c.args.stage.now) (X : List (List ℕ))
-    → AreRowsOf g.F.Fn c.args.player.now.routines X → (seed : ℕ) (es : List (List ℕ))
+    → AreAnswersOf g.F.Fn c.args.player.now.routines X → (seed : ℕ) (es : List (List ℕ))
     → SitsAt (story_of c.args.player.now.game X) seed es c.args.player.now → c.args.opened.events ≡ length es
     → Stands (story_of c.args.player.now.game X) seed es (g.S.Stage.standing c.args.stage.now).disk.bytes
     → EachMoment g.S.Stage c.args.stage.now c.commit.new.stage (InFile (StoresEither (story_of c.args.player.now.game X) (At seed es)
     (answer_taking (story_of c.args.player.now.game X) seed es c.args.text.now).session) (g.S.Stage.standing c.args.stage.now))
-commits g c tells X rows seed es s count stands =
+commits g c tells X answers seed es s count stands =
     let story : Story = story_of c.args.player.now.game X in
     let old : Standing = g.S.Stage.standing c.args.stage.now in
     let p = prompt_at c.args.player.now.last in
     let last = c.if-is_over.ensures.cases in
     let few : length es < EVENT_LIMIT = omega (arith, c.if-is_full.ensures.cases, count) in
-    let plays = c.take-step.ensures.meaning X rows p last s.pieces s.traces in
+    let plays = c.take-step.ensures.meaning X answers p last s.pieces s.traces in
     let shows = shows_by c.take-step.result c.in_default.ensures.value in
     Passes_map _ _ _ _ _ (InFile (StoresEither story (At seed es) (answer_taking story seed es c.args.text.now).session) old)
     (c.commit.ensures.any_moment tells)
@@ -87,11 +87,11 @@ returns-in-Err-clause-leaves g c = record {
 }
 
 pub returns-in-Err-clause-promises : goal.returns-in-Err-clause-promises
-returns-in-Err-clause-promises g c = λ tells X rows seed es s count stands.
+returns-in-Err-clause-promises g c = λ tells X answers seed es s count stands.
     record {
       meaning = tt;
       any_moment =
-          commits g (goal.at.returns-in-Err-clause-promises g c).After-commit tells X rows seed es s count stands;
+          commits g (goal.at.returns-in-Err-clause-promises g c).After-commit tells X answers seed es s count stands;
     }
 
 pub returns-clause-leaves : goal.returns-clause-leaves
@@ -102,11 +102,11 @@ returns-clause-leaves g c = record {
 }
 
 pub returns-clause-promises : goal.returns-clause-promises
-returns-clause-promises g c = λ tells X rows seed es s count stands.
+returns-clause-promises g c = λ tells X answers seed es s count stands.
     let p = prompt_at c.args.player.now.last in
     let last = c.if-is_over.ensures.cases in
     let few : length es < EVENT_LIMIT = omega (arith, c.if-is_full.ensures.cases, count) in
-    let plays = c.take-step.ensures.meaning X rows p last s.pieces s.traces in
+    let plays = c.take-step.ensures.meaning X answers p last s.pieces s.traces in
     let shows = shows_by c.take-step.result c.in_default.ensures.value in
     let next = c.take-step.new.self in
     record {
@@ -117,5 +117,5 @@ returns-clause-promises g c = λ tells X rows seed es s count stands.
           (digests_are (story_of c.args.player.now.game X) seed es _ _ _ stands (c.requires.kept tells).shown))
           (c.push-2.ensures.value ∙ ap (λ x. c.args.reply.now ++ x) c.piece.ensures.value);
       any_moment =
-          commits g (goal.at.returns-clause-promises g c).After-commit tells X rows seed es s count stands;
+          commits g (goal.at.returns-clause-promises g c).After-commit tells X answers seed es s count stands;
     }

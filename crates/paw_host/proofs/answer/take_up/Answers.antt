@@ -57,12 +57,12 @@ stays_at : {F : Type 0} (w : World) (m : OpenTables) (p : PendingLine) (at : Pro
 stays_at {F} w m p at old new seated is =
     record { seated = seated; game = ap (λ (q : PlayerView F). q.game) is; routines = ap (λ (q : PlayerView F). q.routines) is }
 
-of_story : (g : Story) (game rules bytes : List ℕ) → game ≡ sha256 (image g.game) → rules ≡ measure g.rows → BelongsTo game rules (kept_digests bytes) →
+of_story : (g : Story) (game rules bytes : List ℕ) → game ≡ sha256 (image g.game) → rules ≡ measure g.answers → BelongsTo game rules (kept_digests bytes) →
     IsOfStory g (kept_digests bytes)
-of_story g game rules bytes e f b = subst (λ x. BelongsTo x (measure g.rows) (kept_digests bytes)) e (subst (λ x. BelongsTo game x (kept_digests bytes)) f b)
+of_story g game rules bytes e f b = subst (λ x. BelongsTo x (measure g.answers) (kept_digests bytes)) e (subst (λ x. BelongsTo game x (kept_digests bytes)) f b)
 
 pub returns-in-Err-clause-meaning : goal.returns-in-Err-clause-meaning
-returns-in-Err-clause-meaning g c = λ tells X rows.
+returns-in-Err-clause-meaning g c = λ tells X answers.
     let old : Standing = g.S.Stage.standing c.args.stage.now in
     let state = c.find.new.room.state in
     let piece = c.find.new.room.piece in
@@ -86,7 +86,7 @@ returns-clause-opened g c =
     stands_after (g.T.Tables.game c.args.tables.now) _ _ c.in-Ok-read_state.restored c.seat.new.self c.in-Ok-read_state.ensures.read.keeps c.seat.ensures.value
 
 pub returns-clause-meaning : goal.returns-clause-meaning
-returns-clause-meaning g c = λ tells X rows.
+returns-clause-meaning g c = λ tells X answers.
     let story : Story = story_of c.args.player.now.game X in
     let old : Standing = g.S.Stage.standing c.args.stage.now in
     let state = c.find.new.room.state in
@@ -97,7 +97,7 @@ returns-clause-meaning g c = λ tells X rows.
     (c.in-Ok.ensures.kept tells).shown in
     let belongs = subst (λ (q : Standing). IsOfStory story (kept_digests q.disk.bytes)) still
     (of_story story c.args.game.now c.args.rules.now (g.S.Stage.standing c.find.new.stage).disk.bytes c.requires.digests.digest
-    (c.requires.digests.measured X rows) (c.in-Ok.ensures.belongs tells)) in
+    (c.requires.digests.measured X answers) (c.in-Ok.ensures.belongs tells)) in
     let read = subst (λ (h : GameLists). IsRead h c.state.result.now r) (sym c.requires.same) c.in-Ok-read_state.ensures.read in
     taken_up story (kept_digests old.disk.bytes) old.disk.bytes state c.state.result.now piece r c.args.player.now.routines c.seat.new.self shown
     c.state.ensures.value belongs read c.in-Ok-read_state.ensures.piece c.seat.ensures.value

@@ -29,39 +29,39 @@ host_game-requires-clause-synced g c = λ tells.
 
 pub returns-in-Err-clause-comes : goal.returns-in-Err-clause-comes
 returns-in-Err-clause-comes g c = λ tells. rw c.in-Some.ensures.value
-    (λ X rows. unloaded X c.in-Some.call.image.now c.in-Some.call.seed _ _ c.in-Err.outcome (c.in-Err.ensures.none tells))
+    (λ X answers. unloaded X c.in-Some.call.image.now c.in-Some.call.seed _ _ c.in-Err.outcome (c.in-Err.ensures.none tells))
 
 pub returns-in-Err-view_in-clause-comes : goal.returns-in-Err-view_in-clause-comes
 returns-in-Err-view_in-clause-comes g c = λ tells. rw c.in-Some.ensures.value
-    (λ X rows. undecoded X c.in-Some.call.image.now _ _ c.in-Some.call.seed _ _ c.in-Err-view_in.outcome c.as_slice.ensures.value
+    (λ X answers. undecoded X c.in-Some.call.image.now _ _ c.in-Some.call.seed _ _ c.in-Err-view_in.outcome c.as_slice.ensures.value
     (c.in-Ok.ensures.some tells) c.in-Err-view_in.ensures.none)
 
 pub returns-clause-comes : goal.returns-clause-comes
 returns-clause-comes g c = λ tells. rw c.in-Some.ensures.value
-    (λ X rows.
+    (λ X answers.
     let f = c.in-Ok.ensures.some tells in
     let game = game_read c.in-Ok-view_in.view in
     hosted X c.in-Some.call.image.now c.in-Some.call.seed _ _ _ c.host_game.result game
     (holds_loaded c.in-Some.call.image.now _ _ _ _ game c.as_slice.ensures.value f c.in-Ok-view_in.ensures.found) f.3
-    (c.host_game.ensures.ends (c.load.ensures.serves.tells.0 tells)) (c.host_game.ensures.meaning (c.load.ensures.serves.tells.0 tells) X rows))
+    (c.host_game.ensures.ends (c.load.ensures.serves.tells.0 tells)) (c.host_game.ensures.meaning (c.load.ensures.serves.tells.0 tells) X answers))
 
 pub returns-in-Err-clause-moments : goal.returns-in-Err-clause-moments
 returns-in-Err-clause-moments g c = λ tells. rw c.in-Some.ensures.value
-    (λ X rows k first holds b.
+    (λ X answers k first holds b.
     let files : FilesHold (g.S.Stage.standing c.args.stage.now) = λ name e. g.met.S.Stage.files_hold c.args.stage.now name tells e in
     Passes_map _ _ _ _ _ _ (c.load.ensures.time tells)
     (at_first (story_of k X) c.in-Some.call.seed first _ b (c.requires.synced tells) files))
 
 pub returns-in-Err-view_in-clause-moments : goal.returns-in-Err-view_in-clause-moments
 returns-in-Err-view_in-clause-moments g c = λ tells. rw c.in-Some.ensures.value
-    (λ X rows k first holds b.
+    (λ X answers k first holds b.
     let files : FilesHold (g.S.Stage.standing c.args.stage.now) = λ name e. g.met.S.Stage.files_hold c.args.stage.now name tells e in
     Passes_map _ _ _ _ _ _ (c.load.ensures.time tells)
     (at_first (story_of k X) c.in-Some.call.seed first _ b (c.requires.synced tells) files))
 
 pub returns-clause-moments : goal.returns-clause-moments
 returns-clause-moments g c = λ tells. rw c.in-Some.ensures.value
-    (λ X rows k first holds b.
+    (λ X answers k first holds b.
     let f = c.in-Ok.ensures.some tells in
     let old : Standing = g.S.Stage.standing c.args.stage.now in
     let seed = c.in-Some.call.seed in
@@ -72,7 +72,7 @@ returns-clause-moments g c = λ tells. rw c.in-Some.ensures.value
     Passes_on _ _ _ _ _ _ (InHost (story_of k X) seed first old) _
     (Passes_map _ _ _ _ _ (InHost (story_of k X) seed first old) (c.load.ensures.time tells)
     (at_first (story_of k X) seed first old b (c.requires.synced tells) files))
-    (c.host_game.ensures.any_moment (c.load.ensures.serves.tells.0 tells) X rows first
+    (c.host_game.ensures.any_moment (c.load.ensures.serves.tells.0 tells) X answers first
     (subst (λ q. BeginsWith (story_of game X) first q) (sym f.3) (subst (λ s. BeginsWith s first old) (sym same) b)))
     (λ m i. subst (λ s. InHost s seed first old m) same (subst (λ q. InHost (story_of game X) seed first q m) f.3 i)))
 

@@ -1,6 +1,6 @@
 use Rattle.std.proofs.Common.{length, arith}
 use Rattle.std.proofs.lemmas.Result.{err_from_is_err_and}
-use Rattle.paw_image.specs.inner.CondactMarks.{IsMarked}
+use Rattle.paw_image.specs.inner.Milestones.{HasMilestones}
 use Rattle.paw_image.specs.Damage.{after_table}
 use Rattle.paw_image.specs.inner.Orders.{IsOrder}
 use Rattle.paw_image.specs.declared.offsets.TableIndex.{TableIndex}
@@ -30,7 +30,7 @@ loop-preserved c = record {
       table_end c.args.all.now c.loop.rest.now c.in_ok-table.after.now (λ i. omega (arith, c.type_inv.all i))
       (c.loop.invariant.end at) c.args.rules.now c.in_ok-table.ensures.gives;
   marked = λ at. rw c.in_ok-push.ensures.items
-      (all_more (IsMarked c.args.all.now) c.loop.tables.items c.in_ok-table.table (c.loop.invariant.marked at)
+      (all_more (HasMilestones c.args.all.now) c.loop.tables.items c.in_ok-table.table (c.loop.invariant.marked at)
       (c.in_ok-table.ensures.marked (c.loop.invariant.end at)));
 }
 

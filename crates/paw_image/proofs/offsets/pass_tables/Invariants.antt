@@ -1,6 +1,6 @@
 use Rattle.std.proofs.Common.{◌≡◌, ◌-◌, ◌++◌, length}
 use Rattle.std.specs.List.{AllByRecursion}
-use Rattle.paw_image.specs.inner.CondactMarks.{IsEnd, IsMarked}
+use Rattle.paw_image.specs.inner.Milestones.{IsEnd, HasMilestones}
 use Rattle.paw_image.specs.Damage.{each, after_table}
 use Rattle.paw_image.specs.inner.Orders.{IsOrder}
 use Rattle.paw_image.specs.inner.Offsets.{entries_of, tables_begin}
@@ -12,5 +12,5 @@ invariant-loop l = record {
   kept : entries_of l.tables.items ++ tables_begin l.rules (length l.all) (l.count - l.counter) l.rest ≡ tables_begin l.rules (length l.all) l.count l.bytes;
   order : AllByRecursion (λ t. IsOrder l.all t.entries.items t.order) l.tables.items;
   end : IsEnd l.all l.bytes → IsEnd l.all l.rest;
-  marked : IsEnd l.all l.bytes → AllByRecursion (IsMarked l.all) l.tables.items;
+  marked : IsEnd l.all l.bytes → AllByRecursion (HasMilestones l.all) l.tables.items;
 }

@@ -1,11 +1,11 @@
 use Rattle.std.proofs.Common.{◌≡◌, ◌+◌, length, set, sym, ap, subst, ◌∙◌, arith}
-use Rattle.paw_phrase.proofs.Marks.{IsToken, kept, cut, marks-token}
+use Rattle.paw_phrase.proofs.Lexemes.{IsToken, kept, cut, lexemes-token}
 use Rattle.paw_phrase.proofs.tokens.first_token.Goals as goal
 use Rattle.paw_phrase.proofs.tokens.first_token.Goals.{then-i-lt-WORD_LENGTH, else-i-lt-WORD_LENGTH}
 
 pub returns-then-not-is_ascii_alphanumeric-clause-value : goal.returns-then-not-is_ascii_alphanumeric-clause-value
 returns-then-not-is_ascii_alphanumeric-clause-value c =
-    marks-token c.args.bytes.now c.loop-i.i c.loop-i.letters c.requires.begins c.requires.token (omega arith)
+    lexemes-token c.args.bytes.now c.loop-i.i c.loop-i.letters c.requires.begins c.requires.token (omega arith)
     (λ _. sym c.if-not-is_ascii_alphanumeric.ensures.value) c.loop-i.invariant
 
 pub loop-i-preserved : goal.loop-i-preserved
@@ -25,5 +25,5 @@ pub returns-clause-value : goal.returns-clause-value
 returns-clause-value c =
     let s = c.args.bytes.now in
     let all : c.loop-i.i ≡ length s = omega arith in
-    marks-token s (length s) c.loop-i.letters c.requires.begins c.requires.token (omega arith)
+    lexemes-token s (length s) c.loop-i.letters c.requires.begins c.requires.token (omega arith)
     (λ more. absurd (omega arith)) (subst (λ n. IsToken s n c.loop-i.letters) all c.loop-i.invariant)

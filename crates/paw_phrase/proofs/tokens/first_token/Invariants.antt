@@ -1,4 +1,4 @@
-use Rattle.paw_phrase.proofs.Marks.{IsToken}
+use Rattle.paw_phrase.proofs.Lexemes.{IsToken}
 use Rattle.paw_phrase.proofs.tokens.first_token.Given as goal
 
 -- The bytes so far are the token's.

@@ -16,24 +16,24 @@ commit-requires-clause-kept g c = λ tells.
     (g.S.Stage.standing c.ask.new.self) (c.requires.kept before) (c.in-Line.ensures.answer before).3
 
 pub returns-in-End-clause-serves : goal.returns-in-End-clause-serves
-returns-in-End-clause-serves g c = record { tells = c.ask.ensures.tells; faulted = c.in-End.ensures.faulted; among = tt }
+returns-in-End-clause-serves g c = record { tells = c.ask.ensures.tells; counts_failure = c.in-End.ensures.counts_failure; among = tt }
 
 pub returns-in-Failed-clause-serves : goal.returns-in-Failed-clause-serves
-returns-in-Failed-clause-serves g c = record { tells = c.ask.ensures.tells; faulted = c.in-Failed.ensures.faulted; among = inr (inr (inl refl)) }
+returns-in-Failed-clause-serves g c = record { tells = c.ask.ensures.tells; counts_failure = c.in-Failed.ensures.counts_failure; among = inr (inr (inl refl)) }
 
 pub returns-in-Some-clause-serves : goal.returns-in-Some-clause-serves
-returns-in-Some-clause-serves g c = rw c.in-Some.ensures.fine (record { tells = c.ask.ensures.tells; faulted = c.in-Line.ensures.faulted; among = tt })
+returns-in-Some-clause-serves g c = rw c.in-Some.ensures.fine (record { tells = c.ask.ensures.tells; counts_failure = c.in-Line.ensures.counts_failure; among = tt })
 
 pub returns-in-Err-clause-serves : goal.returns-in-Err-clause-serves
 returns-in-Err-clause-serves g c =
-    serves_then g.S.Stage _ _ (Some c.in-Err.call) _ _ _ (serves_done g.S.Stage _ _ c.ask.ensures.tells c.in-Line.ensures.faulted)
+    serves_then g.S.Stage _ _ (Some c.in-Err.call) _ _ _ (serves_done g.S.Stage _ _ c.ask.ensures.tells c.in-Line.ensures.counts_failure)
     (serves_among g.S.Stage _ _ (Some c.in-Err.call) _ _ writing_plays c.in-Err.ensures.serves)
 
 pub returns-clause-serves : goal.returns-clause-serves
 returns-clause-serves g c =
     rw c.unless_ended.ensures.value
     (serves_then g.S.Stage _ _ _ _ _ _ (serves_then g.S.Stage _ _ None _ _ _
-    (serves_done g.S.Stage _ _ c.ask.ensures.tells c.in-Line.ensures.faulted) c.in-Ok.ensures.serves)
+    (serves_done g.S.Stage _ _ c.ask.ensures.tells c.in-Line.ensures.counts_failure) c.in-Ok.ensures.serves)
     (serves_unless g.S.Stage c.show_step.result _ _ _ c.show_step.ensures.serves))
 
 pub returns-clause-refused : goal.returns-clause-refused
@@ -48,50 +48,50 @@ returns-clause-session g c =
     (λ tells. c.show_step.ensures.meaning (c.commit.ensures.serves.tells.0 (c.ask.ensures.tells.0 tells))))
 
 pub returns-in-End-clause-meaning : goal.returns-in-End-clause-meaning
-returns-in-End-clause-meaning g c = λ tells X rows s most n first w events few.
+returns-in-End-clause-meaning g c = λ tells X answers s most n first w events few.
     no_line (story_of c.args.player.now.game X) s most n first _ c.args.player.now w c.requires.player.seated few _ (c.in-End.ensures.answer tells)
 
 pub returns-in-Failed-clause-meaning : goal.returns-in-Failed-clause-meaning
-returns-in-Failed-clause-meaning g c = λ tells X rows s most n first w events few.
+returns-in-Failed-clause-meaning g c = λ tells X answers s most n first w events few.
     no_ask (story_of c.args.player.now.game X) s most n first _ c.args.player.now w c.requires.player.seated few _ (c.in-Failed.ensures.answer tells)
 
 pub returns-in-Some-clause-meaning : goal.returns-in-Some-clause-meaning
-returns-in-Some-clause-meaning g c = λ tells X rows s most n first w events few.
+returns-in-Some-clause-meaning g c = λ tells X answers s most n first w events few.
     let a = c.in-Line.ensures.answer tells in
     plays_refused (story_of c.args.player.now.game X) s most n first _ c.args.player.now w c.requires.player.seated few _
     c.take-step.new.self _ a.0 c.take-step.result c.take-step.ensures.seated c.take-step.ensures.last a.1 a.2.same a.3
-    (c.take-step.ensures.meaning X rows w.walking.prompt w.walking.waits w.walking.pieces w.walking.traces)
+    (c.take-step.ensures.meaning X answers w.walking.prompt w.walking.waits w.walking.pieces w.walking.traces)
     c.in-Some.end (sym c.in-Some.ensures.value)
 
 pub returns-in-End-clause-any_moment : goal.returns-in-End-clause-any_moment
-returns-in-End-clause-any_moment g c = λ tells X rows s most n first w events few.
+returns-in-End-clause-any_moment g c = λ tells X answers s most n first w events few.
     Passes_map _ _ _ _ _ (InPlay s first) (c.in-End.ensures.time tells) (in_ask w (g.S.Stage.standing c.ask.new.self) asked.End c.ask.new.into
     c.requires.player.seated (omega (arith, events, c.requires.few)) (c.in-End.ensures.answer tells))
 
 pub returns-in-Failed-clause-any_moment : goal.returns-in-Failed-clause-any_moment
-returns-in-Failed-clause-any_moment g c = λ tells X rows s most n first w events few.
+returns-in-Failed-clause-any_moment g c = λ tells X answers s most n first w events few.
     Passes_map _ _ _ _ _ (InPlay s first) (c.in-Failed.ensures.time tells) (in_ask w (g.S.Stage.standing c.ask.new.self) asked.Failed c.ask.new.into
     c.requires.player.seated (omega (arith, events, c.requires.few)) (c.in-Failed.ensures.answer tells))
 
 pub returns-in-Some-clause-any_moment : goal.returns-in-Some-clause-any_moment
-returns-in-Some-clause-any_moment g c = λ tells X rows s most n first w events few.
+returns-in-Some-clause-any_moment g c = λ tells X answers s most n first w events few.
     Passes_map _ _ _ _ _ (InPlay s first) (c.in-Line.ensures.time tells) (in_ask w (g.S.Stage.standing c.ask.new.self) (asked.Line c.in-Line.n)
     c.ask.new.into c.requires.player.seated (omega (arith, events, c.requires.few)) (c.in-Line.ensures.answer tells))
 
 pub returns-in-Err-clause-meaning : goal.returns-in-Err-clause-meaning
-returns-in-Err-clause-meaning g c = λ tells X rows s most n first w events few.
+returns-in-Err-clause-meaning g c = λ tells X answers s most n first w events few.
     let a = c.in-Line.ensures.answer tells in
     let t = taken (story_of c.args.player.now.game X) s most n (c.args.session.events + 1) first _ _ c.args.player.now c.take-step.new.self _ a.0 _
-    w few c.requires.player.seated c.take-step.ensures.seated c.take-step.ensures.last a.1 a.2.same a.3 (c.take-step.ensures.meaning X rows w.walking.prompt
+    w few c.requires.player.seated c.take-step.ensures.seated c.take-step.ensures.last a.1 a.2.same a.3 (c.take-step.ensures.meaning X answers w.walking.prompt
     w.walking.waits w.walking.pieces w.walking.traces) c.in_default.ensures.value (omega (arith, events)) (omega (arith, c.requires.few)) in
     plays_not t (g.S.Stage.standing c.commit.new.stage) (c.commit.ensures.beside (c.ask.ensures.tells.0 tells)) c.in-Err.call c.in-Err.ensures.serves.among
 
 pub returns-in-Err-clause-any_moment : goal.returns-in-Err-clause-any_moment
-returns-in-Err-clause-any_moment g c = λ tells X rows s most n first w events few.
+returns-in-Err-clause-any_moment g c = λ tells X answers s most n first w events few.
     let commits = c.commit.ensures.any_moment (c.ask.ensures.tells.0 tells) in
     let a = c.in-Line.ensures.answer tells in
     let t = taken (story_of c.args.player.now.game X) s most n (c.args.session.events + 1) first _ _ c.args.player.now c.take-step.new.self _ a.0 _
-    w few c.requires.player.seated c.take-step.ensures.seated c.take-step.ensures.last a.1 a.2.same a.3 (c.take-step.ensures.meaning X rows w.walking.prompt
+    w few c.requires.player.seated c.take-step.ensures.seated c.take-step.ensures.last a.1 a.2.same a.3 (c.take-step.ensures.meaning X answers w.walking.prompt
     w.walking.waits w.walking.pieces w.walking.traces) c.in_default.ensures.value (omega (arith, events)) (omega (arith, c.requires.few)) in
     Passes_on _ _ _ _ _ _ (InPlay s first) _
     (Passes_map _ _ _ _ _ (InPlay s first) (c.in-Line.ensures.time tells) (in_ask w (g.S.Stage.standing c.ask.new.self) (asked.Line c.in-Line.n)
@@ -99,10 +99,10 @@ returns-in-Err-clause-any_moment g c = λ tells X rows s most n first w events f
     commits (in_commit t)
 
 pub returns-clause-meaning : goal.returns-clause-meaning
-returns-clause-meaning g c = λ tells X rows s most n first w events few.
+returns-clause-meaning g c = λ tells X answers s most n first w events few.
     let a = c.in-Line.ensures.answer tells in
     let t = taken (story_of c.args.player.now.game X) s most n (c.args.session.events + 1) first _ _ c.args.player.now c.take-step.new.self _ a.0 _
-    w few c.requires.player.seated c.take-step.ensures.seated c.take-step.ensures.last a.1 a.2.same a.3 (c.take-step.ensures.meaning X rows w.walking.prompt
+    w few c.requires.player.seated c.take-step.ensures.seated c.take-step.ensures.last a.1 a.2.same a.3 (c.take-step.ensures.meaning X answers w.walking.prompt
     w.walking.waits w.walking.pieces w.walking.traces) c.in_default.ensures.value (omega (arith, events)) (omega (arith, c.requires.few)) in
     let now = c.ask.ensures.tells.0 tells in
     rw c.unless_ended.ensures.value (plays_to t (g.S.Stage.standing c.commit.new.stage) (c.commit.ensures.beside now)
@@ -110,11 +110,11 @@ returns-clause-meaning g c = λ tells X rows s most n first w events few.
     _ (g.S.Stage.standing c.show_step.new.stage) c.show_step.result (c.show_step.ensures.meaning (c.commit.ensures.serves.tells.0 now)))
 
 pub returns-clause-any_moment : goal.returns-clause-any_moment
-returns-clause-any_moment g c = λ tells X rows s most n first w events few.
+returns-clause-any_moment g c = λ tells X answers s most n first w events few.
     let now = c.ask.ensures.tells.0 tells in
     let a = c.in-Line.ensures.answer tells in
     let t = taken (story_of c.args.player.now.game X) s most n (c.args.session.events + 1) first _ _ c.args.player.now c.take-step.new.self _ a.0 _
-    w few c.requires.player.seated c.take-step.ensures.seated c.take-step.ensures.last a.1 a.2.same a.3 (c.take-step.ensures.meaning X rows w.walking.prompt
+    w few c.requires.player.seated c.take-step.ensures.seated c.take-step.ensures.last a.1 a.2.same a.3 (c.take-step.ensures.meaning X answers w.walking.prompt
     w.walking.waits w.walking.pieces w.walking.traces) c.in_default.ensures.value (omega (arith, events)) (omega (arith, c.requires.few)) in
     Passes_on _ _ _ _ _ _ (InPlay s first) _
     (Passes_on _ _ _ _ _ _ (InPlay s first) _

@@ -52,49 +52,49 @@ returns-clause-session g c =
     c.show_step.result _ refl c.in-Ok.ensures.kept (λ tells. c.show_step.ensures.meaning (c.create.ensures.serves.tells.0 tells)))
 
 pub returns-in-Some-clause-meaning : goal.returns-in-Some-clause-meaning
-returns-in-Some-clause-meaning g c = λ tells X rows name store.
+returns-in-Some-clause-meaning g c = λ tells X answers name store.
     let story = story_of c.args.player.now.game X in
     begin_refused story (begun_with story c.args.player.now.world.seed (digests_of c.args.game.now c.args.rules.now) name) _ c.start-step.result
-    c.start-step.new.self c.in-Some.end (c.start-step.ensures.meaning X rows)
+    c.start-step.new.self c.in-Some.end (c.start-step.ensures.meaning X answers)
     (sym c.in-Some.ensures.value)
 
 pub returns-in-Err-clause-meaning : goal.returns-in-Err-clause-meaning
-returns-in-Err-clause-meaning g c = λ tells X rows name store.
+returns-in-Err-clause-meaning g c = λ tells X answers name store.
     let story = story_of c.args.player.now.game X in
     let b = begun story c.args.player.now.world.seed
     (digests_of c.args.game.now c.args.rules.now) name _ _ c.start-step.new.self c.start-step.result store c.start-step.ensures.seated
-    c.start-step.ensures.last (c.start-step.ensures.meaning X rows) c.in_default.ensures.value (c.create.ensures.beside tells) in
+    c.start-step.ensures.last (c.start-step.ensures.meaning X answers) c.in_default.ensures.value (c.create.ensures.beside tells) in
     not_begun b c.in-Err.call c.in-Err.ensures.serves.among
 
 pub returns-in-Err-clause-any_moment : goal.returns-in-Err-clause-any_moment
-returns-in-Err-clause-any_moment g c = λ tells X rows name store.
+returns-in-Err-clause-any_moment g c = λ tells X answers name store.
     let story = story_of c.args.player.now.game X in
     let old = g.S.Stage.standing c.args.stage.now in
     let b = begun story c.args.player.now.world.seed
     (digests_of c.args.game.now c.args.rules.now) name old _ c.start-step.new.self c.start-step.result store c.start-step.ensures.seated
-    c.start-step.ensures.last (c.start-step.ensures.meaning X rows) c.in_default.ensures.value (c.create.ensures.beside tells) in
+    c.start-step.ensures.last (c.start-step.ensures.meaning X answers) c.in_default.ensures.value (c.create.ensures.beside tells) in
     Passes_map _ _ _ _ _ (InNewSession (begun_with story c.args.player.now.world.seed (digests_of c.args.game.now c.args.rules.now) name) old)
     (c.create.ensures.any_moment tells) (λ m i. inl (in_making b m (subst (λ x. InStore old (CrashLeavesSuch (λ r. IsUnmade r ⊎ (r ≡ x))) m)
     (shown_as _ c.put_state.ensures.state c.piece.ensures.value) i)))
 
 pub returns-clause-meaning : goal.returns-clause-meaning
-returns-clause-meaning g c = λ tells X rows name store.
+returns-clause-meaning g c = λ tells X answers name store.
     let story = story_of c.args.player.now.game X in
     let b = begun story c.args.player.now.world.seed
     (digests_of c.args.game.now c.args.rules.now) name _ _ c.start-step.new.self c.start-step.result store c.start-step.ensures.seated
-    c.start-step.ensures.last (c.start-step.ensures.meaning X rows) c.in_default.ensures.value (c.create.ensures.beside tells) in
+    c.start-step.ensures.last (c.start-step.ensures.meaning X answers) c.in_default.ensures.value (c.create.ensures.beside tells) in
     rw c.unless_ended.ensures.value (begins_to b (sym (c.requires.attached tells).long ∙ c.requires.empty) (c.in-Ok.ensures.kept tells).rests.stable
     (c.in-Ok.ensures.shown tells ∙ shown_as _ c.put_state.ensures.state c.piece.ensures.value) (c.in-Ok.ensures.digests tells)
     (c.in-Ok.ensures.made tells ∙ made_same (digests_of c.args.game.now c.args.rules.now) _ _ _ _ c.put_state.ensures.base c.piece.ensures.value)
     _ (g.S.Stage.standing c.show_step.new.stage) c.show_step.result (c.show_step.ensures.meaning (c.create.ensures.serves.tells.0 tells)))
 
 pub returns-clause-any_moment : goal.returns-clause-any_moment
-returns-clause-any_moment g c = λ tells X rows name store.
+returns-clause-any_moment g c = λ tells X answers name store.
     let story = story_of c.args.player.now.game X in
     let old = g.S.Stage.standing c.args.stage.now in
     let b = begun story c.args.player.now.world.seed
     (digests_of c.args.game.now c.args.rules.now) name old _ c.start-step.new.self c.start-step.result store c.start-step.ensures.seated
-    c.start-step.ensures.last (c.start-step.ensures.meaning X rows) c.in_default.ensures.value (c.create.ensures.beside tells) in
+    c.start-step.ensures.last (c.start-step.ensures.meaning X answers) c.in_default.ensures.value (c.create.ensures.beside tells) in
     let same = shown_as (digests_of c.args.game.now c.args.rules.now) c.put_state.ensures.state c.piece.ensures.value in
     Passes_on _ _ _ _ _ _ _ _
     (Passes_map _ _ _ _ _ (InNewSession (begun_with story c.args.player.now.world.seed (digests_of c.args.game.now c.args.rules.now) name) old)

@@ -1,5 +1,5 @@
 use Rattle.std.proofs.Common.{inr, refl, sym, ◌∙◌, subst, arith}
-use Rattle.paw_routines.specs.Routines.{AreRowsOf, HaveRows}
+use Rattle.paw_routines.specs.Routines.{AreAnswersOf, HaveAnswers}
 use Rattle.paw_stage.specs.Moments.{Passes}
 use Rattle.paw_stage.proofs.Time.{Passes_on}
 use Rattle.paw_routines.specs.Measure.{measure}
@@ -16,7 +16,7 @@ use Rattle.paw_play.proofs.play.play_in.Goals as goal
 pub make_session-requires-clause-player : goal.make_session-requires-clause-player
 make_session-requires-clause-player g c = record {
   seated = c.in-Ok-new.ensures.seated;
-  rows = subst (λ r. HaveRows g.F.Fn r) (sym c.in-Ok-new.ensures.routines) c.requires.rows;
+  answers = subst (λ r. HaveAnswers g.F.Fn r) (sym c.in-Ok-new.ensures.routines) c.requires.answers;
   new = own_seed c.in-Ok-new.player c.args.seed c.in-Ok-new.ensures.new;
 }
 
@@ -26,7 +26,7 @@ make_session-requires-clause-attached g c = λ tells. record { rests = c.require
 pub play_lines-requires-clause-player : goal.play_lines-requires-clause-player
 play_lines-requires-clause-player g c = record {
   seated = c.make_session.ensures.player.seated;
-  rows = subst (λ r. HaveRows g.F.Fn r) (sym (c.make_session.ensures.player.routines ∙ c.in-Ok-new.ensures.routines)) c.requires.rows;
+  answers = subst (λ r. HaveAnswers g.F.Fn r) (sym (c.make_session.ensures.player.routines ∙ c.in-Ok-new.ensures.routines)) c.requires.answers;
   drew = omega (arith, c.make_session.ensures.player.drew, c.in-Ok-make_session.ensures.session.events);
 }
 
@@ -34,39 +34,39 @@ pub play_lines-requires-clause-kept : goal.play_lines-requires-clause-kept
 play_lines-requires-clause-kept g c = λ tells. c.in-Ok-make_session.ensures.session.kept (c.make_session.ensures.serves.tells.1 tells)
 
 pub returns-in_default-clause-plays : goal.returns-in_default-clause-plays
-returns-in_default-clause-plays g c = λ tells X rows name store. memory refl
+returns-in_default-clause-plays g c = λ tells X answers name store. memory refl
 
 pub returns-in_default-new-clause-plays : goal.returns-in_default-new-clause-plays
-returns-in_default-new-clause-plays g c = λ tells X rows name store. memory refl
+returns-in_default-new-clause-plays g c = λ tells X answers name store. memory refl
 
 pub returns-in-Ok-make_session-clause-plays : goal.returns-in-Ok-make_session-clause-plays
-returns-in-Ok-make_session-clause-plays g c = λ tells X rows name store.
+returns-in-Ok-make_session-clause-plays g c = λ tells X answers name store.
     let old = g.S.Stage.standing c.args.stage.now in
     let s = begun_with (story_of c.in-Ok-new.player.game X) c.in-Ok-new.player.world.seed (digests_of c.args.game.now c.measure.result) name in
-    let own = subst (λ r. AreRowsOf g.F.Fn r X) (sym c.in-Ok-new.ensures.routines) rows in
+    let own = subst (λ r. AreAnswersOf g.F.Fn r X) (sym c.in-Ok-new.ensures.routines) answers in
     let playing =
     subst (λ k. IsPlaying (story_of k X) s old (g.S.Stage.standing c.make_session.new.stage) c.make_session.new.player 0)
     (sym c.make_session.ensures.player.game)
     (c.in-Ok-make_session.ensures.meaning tells X own name store) in
     subst (λ q. MadeAndPlayed q old (g.S.Stage.standing c.play_lines.new.stage) c.play_lines.result)
     (session_of c.in-Ok-new.player (g.T.Tables.game c.args.tables.now) X c.args.seed c.args.game.now c.measure.result (measure X) name
-    c.in-Ok-new.ensures.new c.in-Ok-new.ensures.game (c.measure.ensures.value X rows))
+    c.in-Ok-new.ensures.new c.in-Ok-new.ensures.game (c.measure.ensures.value X answers))
     (plays c.play_lines.result (c.play_lines.ensures.meaning (c.make_session.ensures.serves.tells.0 tells) X
-    (subst (λ r. AreRowsOf g.F.Fn r X) (sym c.make_session.ensures.player.routines) own) s old playing c.in-Ok-make_session.ensures.session.events))
+    (subst (λ r. AreAnswersOf g.F.Fn r X) (sym c.make_session.ensures.player.routines) own) s old playing c.in-Ok-make_session.ensures.session.events))
 
 pub returns-clause-plays : goal.returns-clause-plays
-returns-clause-plays g c = λ tells X rows name store.
-    let own = subst (λ r. AreRowsOf g.F.Fn r X) (sym c.in-Ok-new.ensures.routines) rows in
+returns-clause-plays g c = λ tells X answers name store.
+    let own = subst (λ r. AreAnswersOf g.F.Fn r X) (sym c.in-Ok-new.ensures.routines) answers in
     subst (λ q. MadeAndPlayed q (g.S.Stage.standing c.args.stage.now) (g.S.Stage.standing c.make_session.new.stage) c.in-Err.end)
     (session_of c.in-Ok-new.player (g.T.Tables.game c.args.tables.now) X c.args.seed c.args.game.now c.measure.result (measure X) name
-    c.in-Ok-new.ensures.new c.in-Ok-new.ensures.game (c.measure.ensures.value X rows))
+    c.in-Ok-new.ensures.new c.in-Ok-new.ensures.game (c.measure.ensures.value X answers))
     (begun_plays (begun_with (story_of c.in-Ok-new.player.game X) c.in-Ok-new.player.world.seed
     (digests_of c.args.game.now c.measure.result) name) _ _ c.in-Err.end
     (c.in-Err.ensures.meaning tells X own name store))
 
 pub returns-in-Ok-make_session-clause-any_moment : goal.returns-in-Ok-make_session-clause-any_moment
-returns-in-Ok-make_session-clause-any_moment g c = λ tells X rows name store.
-    let own = subst (λ r. AreRowsOf g.F.Fn r X) (sym c.in-Ok-new.ensures.routines) rows in
+returns-in-Ok-make_session-clause-any_moment g c = λ tells X answers name store.
+    let own = subst (λ r. AreAnswersOf g.F.Fn r X) (sym c.in-Ok-new.ensures.routines) answers in
     let s = begun_with (story_of c.in-Ok-new.player.game X) c.in-Ok-new.player.world.seed (digests_of c.args.game.now c.measure.result) name in
     let old = g.S.Stage.standing c.args.stage.now in
     let playing =
@@ -76,19 +76,19 @@ returns-in-Ok-make_session-clause-any_moment g c = λ tells X rows name store.
     subst (λ q. Passes (g.S.Stage.clock c.args.stage.now) (g.S.Stage.clock c.play_lines.new.stage)
     (g.S.Stage.since c.args.stage.now) (g.S.Stage.since c.play_lines.new.stage) (InNewSession q old))
     (session_of c.in-Ok-new.player (g.T.Tables.game c.args.tables.now) X c.args.seed c.args.game.now c.measure.result (measure X) name
-    c.in-Ok-new.ensures.new c.in-Ok-new.ensures.game (c.measure.ensures.value X rows))
+    c.in-Ok-new.ensures.new c.in-Ok-new.ensures.game (c.measure.ensures.value X answers))
     (Passes_on _ _ _ _ _ _ (InNewSession s old) _ (c.make_session.ensures.any_moment tells X own name store)
     (c.play_lines.ensures.any_moment (c.make_session.ensures.serves.tells.0 tells) X
-    (subst (λ r. AreRowsOf g.F.Fn r X) (sym c.make_session.ensures.player.routines) own) s old
+    (subst (λ r. AreAnswersOf g.F.Fn r X) (sym c.make_session.ensures.player.routines) own) s old
     playing c.in-Ok-make_session.ensures.session.events) (λ m i. inr i))
 
 pub returns-clause-any_moment : goal.returns-clause-any_moment
-returns-clause-any_moment g c = λ tells X rows name store.
-    let own = subst (λ r. AreRowsOf g.F.Fn r X) (sym c.in-Ok-new.ensures.routines) rows in
+returns-clause-any_moment g c = λ tells X answers name store.
+    let own = subst (λ r. AreAnswersOf g.F.Fn r X) (sym c.in-Ok-new.ensures.routines) answers in
     subst (λ q. Passes (g.S.Stage.clock c.args.stage.now) (g.S.Stage.clock c.make_session.new.stage)
     (g.S.Stage.since c.args.stage.now) (g.S.Stage.since c.make_session.new.stage) (InNewSession q (g.S.Stage.standing c.args.stage.now)))
     (session_of c.in-Ok-new.player (g.T.Tables.game c.args.tables.now) X c.args.seed c.args.game.now c.measure.result (measure X) name
-    c.in-Ok-new.ensures.new c.in-Ok-new.ensures.game (c.measure.ensures.value X rows))
+    c.in-Ok-new.ensures.new c.in-Ok-new.ensures.game (c.measure.ensures.value X answers))
     (c.make_session.ensures.any_moment tells X own name store)
 
 pub returns-in-Ok-make_session-clause-serves : goal.returns-in-Ok-make_session-clause-serves

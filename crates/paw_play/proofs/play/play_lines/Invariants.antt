@@ -1,7 +1,7 @@
 use Rattle.std.proofs.Common.{◌≡◌, ◌+◌, ◌-◌, ◌*◌, ◌≤◌, ℕ, List, None}
 use Rattle.paw_base.specs.declared.limits.TheConstants.{READ_LIMIT}
 use Rattle.paw_base.specs.declared.limits.TheConstants.{EVENT_LIMIT}
-use Rattle.paw_routines.specs.Routines.{AreRowsOf, HaveRows}
+use Rattle.paw_routines.specs.Routines.{AreAnswersOf, HaveAnswers}
 use Rattle.paw_effects.specs.Story.{story_of}
 use Rattle.paw_stage.specs.Stage.{Standing}
 use Rattle.paw_stage.specs.Across.{FailsOnlyBy}
@@ -19,17 +19,17 @@ abbrev pub invariant-loop : goal.invariant-loop
 invariant-loop g l = record {
   seated : IsSeated l.player;
   routines : l.player.routines ≡ l.fn.player.routines;
-  rows : HaveRows g.F.Fn l.player.routines;
+  answers : HaveAnswers g.F.Fn l.player.routines;
   events : l.session.events ≡ l.counter;
   from : l.fn.session.events ≤ l.counter;
   few : l.counter ≤ EVENT_LIMIT;
   draws : l.player.world.draws ≤ READ_LIMIT * (l.counter + 1);
   serves : FailsOnlyBy g.S.Stage play_calls None l.fn.stage l.stage;
   kept : g.S.Stage.Tells l.fn.stage → KeptIn l.session.journal l.room (g.S.Stage.standing l.stage);
-  playing : g.S.Stage.Tells l.fn.stage → (X : List (List ℕ)) → AreRowsOf g.F.Fn l.fn.player.routines X → (s : PlayedSession) (first : Standing) →
+  playing : g.S.Stage.Tells l.fn.stage → (X : List (List ℕ)) → AreAnswersOf g.F.Fn l.fn.player.routines X → (s : PlayedSession) (first : Standing) →
       IsPlaying (story_of l.fn.player.game X) s first (g.S.Stage.standing l.fn.stage) l.fn.player 0 → l.fn.session.events ≡ s.before →
       IsPlaying (story_of l.player.game X) s first (g.S.Stage.standing l.stage) l.player (l.counter - s.before);
-  passes : g.S.Stage.Tells l.fn.stage → (X : List (List ℕ)) → AreRowsOf g.F.Fn l.fn.player.routines X → (s : PlayedSession) (first : Standing) →
+  passes : g.S.Stage.Tells l.fn.stage → (X : List (List ℕ)) → AreAnswersOf g.F.Fn l.fn.player.routines X → (s : PlayedSession) (first : Standing) →
       IsPlaying (story_of l.fn.player.game X) s first (g.S.Stage.standing l.fn.stage) l.fn.player 0 → l.fn.session.events ≡ s.before →
       Passes (g.S.Stage.clock l.fn.stage) (g.S.Stage.clock l.stage) (g.S.Stage.since l.fn.stage) (g.S.Stage.since l.stage) (InPlay s first);
 }

@@ -19,16 +19,16 @@ use Rattle.paw_effects.specs.Story.{Story, story_of}
 use Rattle.paw_play.proofs.play.play_loop.Goals as goal
 
 pub returns-in-Err-clause-plays : goal.returns-in-Err-clause-plays
-returns-in-Err-clause-plays g c = λ tells X rows.
+returns-in-Err-clause-plays g c = λ tells X answers.
     rw (the_only_one c.in-Err.call call.Attach c.in-Err.ensures.serves.among) (unattached (c.in-Err.ensures.left tells))
 
 pub returns-then-at-ne0-clause-plays : goal.returns-then-at-ne0-clause-plays
-returns-then-at-ne0-clause-plays g c = λ tells X rows.
+returns-then-at-ne0-clause-plays g c = λ tells X answers.
     let a = c.in-Ok.ensures.attached tells in
     rw a.0 (occupied (subst (λ n. 0 < n) a.0 (omega (arith, c.if-at-ne0.true))) a.1)
 
 pub returns-clause-plays : goal.returns-clause-plays
-returns-clause-plays g c = λ tells X rows.
+returns-clause-plays g c = λ tells X answers.
     let story : Story = story_of (g.T.Tables.game c.args.tables.now) X in
     let after_attach = g.S.Stage.standing c.attach.new.stage in
     let after_play_in = g.S.Stage.standing c.play_in.new.stage in
@@ -40,19 +40,19 @@ returns-clause-plays g c = λ tells X rows.
     plays_in c.play_in.result (store_empty old _ name c.in-Ok.at.length a (omega (arith, c.if-at-ne0.false)))
     (subst (λ q. MadeAndPlayed (begun story c.args.seed name) q after_play_in c.play_in.result) a.1
     (subst (λ s. MadeAndPlayed s after_attach after_play_in c.play_in.result) own
-    (c.play_in.ensures.plays (c.attach.ensures.serves.tells.0 tells) X rows name store)))
+    (c.play_in.ensures.plays (c.attach.ensures.serves.tells.0 tells) X answers name store)))
 
 pub returns-in-Err-clause-any_moment : goal.returns-in-Err-clause-any_moment
-returns-in-Err-clause-any_moment g c = λ tells X rows empty.
+returns-in-Err-clause-any_moment g c = λ tells X answers empty.
     attach_failed g.S.Stage c.args.stage.now c.attach.new.stage c.args.name.now _ (c.in-Err.ensures.left tells) (c.attach.ensures.time tells)
 
 pub returns-then-at-ne0-clause-any_moment : goal.returns-then-at-ne0-clause-any_moment
-returns-then-at-ne0-clause-any_moment g c = λ tells X rows empty.
+returns-then-at-ne0-clause-any_moment g c = λ tells X answers empty.
     let a = c.in-Ok.ensures.attached tells in
     absurd (omega (arith, c.if-at-ne0.true, a.0 ∙ ap length empty))
 
 pub returns-clause-any_moment : goal.returns-clause-any_moment
-returns-clause-any_moment g c = λ tells X rows empty.
+returns-clause-any_moment g c = λ tells X answers empty.
     let story = story_of (g.T.Tables.game c.args.tables.now) X in
     let old : Standing = g.S.Stage.standing c.args.stage.now in
     let after_attach : Standing = g.S.Stage.standing c.attach.new.stage in
@@ -64,7 +64,7 @@ returns-clause-any_moment g c = λ tells X rows empty.
     let store : IsRestingStore name after_attach = subst (IsRestingStore name) (sym a.1) (store_attached old name) in
     then_attached g.S.Stage g.met.S.Stage.only_now g.met.S.Stage.counts_now c.args.stage.now c.attach.new.stage c.play_in.new.stage
     name (InNewSession s old) now (at_new_attach s old after_attach a.1 empty) (c.in-Ok.ensures.time tells)
-    (Passes_map _ _ _ _ _ _ (c.play_in.ensures.any_moment now X rows name store)
+    (Passes_map _ _ _ _ _ _ (c.play_in.ensures.any_moment now X answers name store)
     (λ m i. new_from s old m (subst (λ q. InNewSession s q m) a.1 (subst (λ q. InNewSession q after_attach m) own i))))
 
 pub returns-in-Err-clause-serves : goal.returns-in-Err-clause-serves

@@ -2,7 +2,7 @@ use Rattle.std.proofs.Common.{◌≡◌, ◌-◌, refl, sym, subst, Some, None, 
 use Rattle.paw_base.specs.declared.limits.TheConstants.{EVENT_LIMIT}
 use Rattle.paw_stage.specs.Moments.{Passes, InShow}
 use Rattle.paw_stage.proofs.Time.{Passes_map, Passes_on}
-use Rattle.paw_routines.specs.Routines.{AreRowsOf, HaveRows}
+use Rattle.paw_routines.specs.Routines.{AreAnswersOf, HaveAnswers}
 use Rattle.paw_effects.specs.Story.{story_of}
 use Rattle.std.specs.Prelude.{Result, Ok, Err, IsOk}
 use Rattle.paw_state.specs.declared.StateFault.{StateFault}
@@ -26,8 +26,8 @@ play_lines-requires-clause-player g c =
     let r = c.in-Ok.restored in
     record {
       seated = c.in-Ok-adopt.ensures.seated;
-      rows = subst (λ q. HaveRows g.F.Fn q)
-          (sym (seat_routines game2 c.args.routines.now r.world r.machine r.pending r.prompt c.in-Ok-adopt.player c.in-Ok-adopt.ensures.value)) c.requires.rows;
+      answers = subst (λ q. HaveAnswers g.F.Fn q)
+          (sym (seat_routines game2 c.args.routines.now r.world r.machine r.pending r.prompt c.in-Ok-adopt.player c.in-Ok-adopt.ensures.value)) c.requires.answers;
       drew = omega (
         arith,
         seat_draws game2 c.args.routines.now r.world r.machine r.pending r.prompt c.in-Ok-adopt.player c.in-Ok-adopt.ensures.value,
@@ -49,7 +49,7 @@ not_ok (Ok x) e is h = cc
 not_ok (Err f) e is h = cc
 
 pub returns-in-Err-clause-plays : goal.returns-in-Err-clause-plays
-returns-in-Err-clause-plays g c = λ tells X rows name store.
+returns-in-Err-clause-plays g c = λ tells X answers name store.
     let sym2 = sym c.state.ensures.value in
     let game2 = g.T.Tables.game c.args.tables.now in
     no_state c.in-Err.fault.at c.args.room.now.state c.args.room.now.piece (c.requires.kept tells).shown
@@ -60,10 +60,10 @@ pub adopt-requires : goal.adopt-requires
 adopt-requires g c = record { fits = read_fits (g.T.Tables.game c.args.tables.now) c.state.result.now c.in-Ok.restored c.in-Ok.ensures.read }
 
 pub returns-in_default-clause-plays : goal.returns-in_default-clause-plays
-returns-in_default-clause-plays g c = λ tells X rows name store. memory refl
+returns-in_default-clause-plays g c = λ tells X answers name store. memory refl
 
 pub returns-in-Some-clause-plays : goal.returns-in-Some-clause-plays
-returns-in-Some-clause-plays g c = λ tells X rows name store.
+returns-in-Some-clause-plays g c = λ tells X answers name store.
     let u = resumed (story_of (g.T.Tables.game c.args.tables.now) X) name c.state.result.now _ c.args.room.now.piece c.in-Ok.restored _ c.args.routines.now
     c.in-Ok-adopt.player (c.requires.kept tells).shown c.state.ensures.value c.in-Ok.ensures.read c.in-Ok.ensures.piece c.in-Ok-adopt.ensures.value
     c.in-Ok-adopt.ensures.seated store in
@@ -73,7 +73,7 @@ returns-in-Some-clause-plays g c = λ tells X rows name store.
     c.piece.ensures.value (c.in-Some.ensures.meaning tells)))
 
 pub returns-in-Some-clause-any_moment : goal.returns-in-Some-clause-any_moment
-returns-in-Some-clause-any_moment g c = λ tells X rows name store d st piece shows.
+returns-in-Some-clause-any_moment g c = λ tells X answers name store d st piece shows.
     let u = resumed (story_of (g.T.Tables.game c.args.tables.now) X) name c.state.result.now _ c.args.room.now.piece c.in-Ok.restored _ c.args.routines.now
     c.in-Ok-adopt.player (c.requires.kept tells).shown c.state.ensures.value c.in-Ok.ensures.read c.in-Ok.ensures.piece c.in-Ok-adopt.ensures.value
     c.in-Ok-adopt.ensures.seated store in
@@ -85,19 +85,19 @@ returns-in-Some-clause-any_moment g c = λ tells X rows name store d st piece sh
     (λ m i. in_again_show u m (subst (λ x. InShow (g.S.Stage.standing c.args.stage.now) x m) c.piece.ensures.value i)))
 
 pub returns-clause-plays : goal.returns-clause-plays
-returns-clause-plays g c = λ tells X rows name store.
+returns-clause-plays g c = λ tells X answers name store.
     let u = resumed (story_of (g.T.Tables.game c.args.tables.now) X) name c.state.result.now _ c.args.room.now.piece c.in-Ok.restored _ c.args.routines.now
     c.in-Ok-adopt.player (c.requires.kept tells).shown c.state.ensures.value c.in-Ok.ensures.read c.in-Ok.ensures.piece c.in-Ok-adopt.ensures.value
     c.in-Ok-adopt.ensures.seated store in
     let after_show_again = g.S.Stage.standing c.show_again.new.stage in
     let start = again_next u after_show_again (subst (λ x. ShowsAgain (g.S.Stage.standing c.args.stage.now) after_show_again x c.in-Ok.restored.prompt None)
     c.piece.ensures.value (c.in_default-show_again.ensures.meaning tells)) in
-    let own = subst (λ r. AreRowsOf g.F.Fn r X) (sym (seat_routines _ c.args.routines.now _ _ _ _ c.in-Ok-adopt.player c.in-Ok-adopt.ensures.value)) rows in
+    let own = subst (λ r. AreAnswersOf g.F.Fn r X) (sym (seat_routines _ c.args.routines.now _ _ _ _ c.in-Ok-adopt.player c.in-Ok-adopt.ensures.value)) answers in
     plays_on c.play_lines.result (state_read c.in-Ok.restored) c.args.room.now.piece u.state
     (c.play_lines.ensures.meaning (c.show_again.ensures.serves.tells.0 tells) X own _ (g.S.Stage.standing c.args.stage.now) start refl)
 
 pub returns-clause-any_moment : goal.returns-clause-any_moment
-returns-clause-any_moment g c = λ tells X rows name store d st piece shows.
+returns-clause-any_moment g c = λ tells X answers name store d st piece shows.
     let u = resumed (story_of (g.T.Tables.game c.args.tables.now) X) name c.state.result.now _ c.args.room.now.piece c.in-Ok.restored _ c.args.routines.now
     c.in-Ok-adopt.player (c.requires.kept tells).shown c.state.ensures.value c.in-Ok.ensures.read c.in-Ok.ensures.piece c.in-Ok-adopt.ensures.value
     c.in-Ok-adopt.ensures.seated store in
@@ -105,7 +105,7 @@ returns-clause-any_moment g c = λ tells X rows name store d st piece shows.
     let after_show_again = g.S.Stage.standing c.show_again.new.stage in
     let start = again_next u after_show_again (subst (λ x. ShowsAgain (g.S.Stage.standing c.args.stage.now) after_show_again x c.in-Ok.restored.prompt None)
     c.piece.ensures.value (c.in_default-show_again.ensures.meaning tells)) in
-    let own = subst (λ r. AreRowsOf g.F.Fn r X) (sym (seat_routines _ c.args.routines.now _ _ _ _ c.in-Ok-adopt.player c.in-Ok-adopt.ensures.value)) rows in
+    let own = subst (λ r. AreAnswersOf g.F.Fn r X) (sym (seat_routines _ c.args.routines.now _ _ _ _ c.in-Ok-adopt.player c.in-Ok-adopt.ensures.value)) answers in
     let session = read_session (story_of (g.T.Tables.game c.args.tables.now) X) name c.args.room.now.piece c.in-Ok.restored
     (g.S.Stage.standing c.args.stage.now) in
     subst (λ q. Passes (g.S.Stage.clock c.args.stage.now) (g.S.Stage.clock c.play_lines.new.stage) (g.S.Stage.since c.args.stage.now)

@@ -28,17 +28,17 @@ pub play_recovered-requires-clause-kept : goal.play_recovered-requires-clause-ke
 play_recovered-requires-clause-kept g c = λ tells. c.in-Ok-find.ensures.kept (c.find.ensures.serves.tells.1 tells)
 
 pub returns-in-Err-clause-plays : goal.returns-in-Err-clause-plays
-returns-in-Err-clause-plays g c = λ tells X rows.
+returns-in-Err-clause-plays g c = λ tells X answers.
     rw (the_only_one c.in-Err.call call.Attach c.in-Err.ensures.serves.among) (unattached (c.in-Err.ensures.left tells))
 
 pub returns-in_default-clause-plays : goal.returns-in_default-clause-plays
-returns-in_default-clause-plays g c = λ tells X rows. wanting (c.in-Ok.ensures.attached tells).1
+returns-in_default-clause-plays g c = λ tells X answers. wanting (c.in-Ok.ensures.attached tells).1
 
 pub returns-in-Err-find-clause-refused : goal.returns-in-Err-find-clause-refused
 returns-in-Err-find-clause-refused g c = rw c.not_found.ensures.value (not_for_call c.in-Err-find.refusal)
 
 pub returns-in-Err-find-clause-plays : goal.returns-in-Err-find-clause-plays
-returns-in-Err-find-clause-plays g c = λ tells X rows.
+returns-in-Err-find-clause-plays g c = λ tells X answers.
     let a = c.in-Ok.ensures.attached tells in
     let now = c.attach.ensures.serves.tells.0 tells in
     let refused = c.in-Err-find.ensures.refused now in
@@ -47,14 +47,14 @@ returns-in-Err-find-clause-plays g c = λ tells X rows.
     (g.S.Stage.standing c.args.stage.now) (g.S.Stage.standing c.find.new.stage) c.in-Err-find.refusal
     (subst (λ r. IsSessionRefused (recover (store_bytes (g.S.Stage.standing c.args.stage.now) c.args.name.now))
     (sha256 (image (g.T.Tables.game c.args.tables.now)))
-    r c.in-Err-find.refusal) (c.measure.ensures.value X rows)
+    r c.in-Err-find.refusal) (c.measure.ensures.value X answers)
     (subst (λ d. IsSessionRefused (recover (store_bytes (g.S.Stage.standing c.args.stage.now) c.args.name.now)) d c.measure.result c.in-Err-find.refusal)
     c.requires.game
     (subst (λ (q : Standing). IsSessionRefused (recover q.disk.bytes) c.args.game.now c.measure.result c.in-Err-find.refusal) a.1 refused)))
     c.in-Err-find.ensures.serves.among (c.find.ensures.still now ∙ a.1))
 
 pub returns-clause-plays : goal.returns-clause-plays
-returns-clause-plays g c = λ tells X rows.
+returns-clause-plays g c = λ tells X answers.
     let story : Story = story_of (g.T.Tables.game c.args.tables.now) X in
     let old = g.S.Stage.standing c.args.stage.now in
     let name = c.args.name.now in
@@ -64,44 +64,44 @@ returns-clause-plays g c = λ tells X rows.
     let now = c.attach.ensures.serves.tells.0 tells in
     let digests : Digests = kept_digests after_find.disk.bytes in
     let belongs : IsOfStory story digests =
-    subst (λ r. BelongsTo (sha256 (image (g.T.Tables.game c.args.tables.now))) r digests) (c.measure.ensures.value X rows)
+    subst (λ r. BelongsTo (sha256 (image (g.T.Tables.game c.args.tables.now))) r digests) (c.measure.ensures.value X answers)
     (subst (λ d. BelongsTo d c.measure.result digests) c.requires.game (c.in-Ok-find.ensures.belongs now)) in
     let is : after_find ≡ attached_to old name = c.find.ensures.still now ∙ a.1 in
     let store : IsRestingStore name after_find = subst (IsRestingStore name) (sym is) (store_attached old name) in
     plays_up c.play_recovered.result digests belongs
     (subst (λ q. Resumed story digests name q after_take_up c.play_recovered.result) is
-    (c.play_recovered.ensures.plays (c.find.ensures.serves.tells.0 now) X rows name store))
+    (c.play_recovered.ensures.plays (c.find.ensures.serves.tells.0 now) X answers name store))
 
 -- ---- by the session that goes on ----
 
 pub returns-in-Err-clause-goes_on : goal.returns-in-Err-clause-goes_on
-returns-in-Err-clause-goes_on g c = λ tells X rows s from.
+returns-in-Err-clause-goes_on g c = λ tells X answers s from.
     again_goes_on (story_of (g.T.Tables.game c.args.tables.now) X) c.args.name.now (g.S.Stage.standing c.args.stage.now) _ s
-    c.counts-counts.ensures.valid from _ (returns-in-Err-clause-plays g c tells X rows)
+    c.counts-counts.ensures.valid from _ (returns-in-Err-clause-plays g c tells X answers)
 
 pub returns-in_default-clause-goes_on : goal.returns-in_default-clause-goes_on
-returns-in_default-clause-goes_on g c = λ tells X rows s from.
+returns-in_default-clause-goes_on g c = λ tells X answers s from.
     again_goes_on (story_of (g.T.Tables.game c.args.tables.now) X) c.args.name.now (g.S.Stage.standing c.args.stage.now) _ s
-    c.counts-counts.ensures.valid from _ (returns-in_default-clause-plays g c tells X rows)
+    c.counts-counts.ensures.valid from _ (returns-in_default-clause-plays g c tells X answers)
 
 pub returns-in-Err-find-clause-goes_on : goal.returns-in-Err-find-clause-goes_on
-returns-in-Err-find-clause-goes_on g c = λ tells X rows s from.
+returns-in-Err-find-clause-goes_on g c = λ tells X answers s from.
     again_goes_on (story_of (g.T.Tables.game c.args.tables.now) X) c.args.name.now (g.S.Stage.standing c.args.stage.now) _ s
-    c.counts-counts.ensures.valid from _ (returns-in-Err-find-clause-plays g c tells X rows)
+    c.counts-counts.ensures.valid from _ (returns-in-Err-find-clause-plays g c tells X answers)
 
 pub returns-clause-goes_on : goal.returns-clause-goes_on
-returns-clause-goes_on g c = λ tells X rows s from.
+returns-clause-goes_on g c = λ tells X answers s from.
     again_goes_on (story_of (g.T.Tables.game c.args.tables.now) X) c.args.name.now (g.S.Stage.standing c.args.stage.now) _ s
-    c.counts-counts.ensures.valid from _ (returns-clause-plays g c tells X rows)
+    c.counts-counts.ensures.valid from _ (returns-clause-plays g c tells X answers)
 
 -- ---- its moments ----
 
 pub returns-in-Err-clause-any_moment : goal.returns-in-Err-clause-any_moment
-returns-in-Err-clause-any_moment g c = λ tells X rows s from.
+returns-in-Err-clause-any_moment g c = λ tells X answers s from.
     attach_failed g.S.Stage c.args.stage.now c.attach.new.stage c.args.name.now _ (c.in-Err.ensures.left tells) (c.attach.ensures.time tells)
 
 pub returns-in_default-clause-any_moment : goal.returns-in_default-clause-any_moment
-returns-in_default-clause-any_moment g c = λ tells X rows s from.
+returns-in_default-clause-any_moment g c = λ tells X answers s from.
     let story : Story = story_of (g.T.Tables.game c.args.tables.now) X in
     let old : Standing = g.S.Stage.standing c.args.stage.now in
     let name = c.args.name.now in
@@ -112,7 +112,7 @@ returns-in_default-clause-any_moment g c = λ tells X rows s from.
     (c.attach.ensures.serves.tells.0 tells) (c.in-Ok.ensures.attached tells).1 (c.in-Ok.ensures.time tells) (Passes_none _ _ _))
 
 pub returns-in-Err-find-clause-any_moment : goal.returns-in-Err-find-clause-any_moment
-returns-in-Err-find-clause-any_moment g c = λ tells X rows s from.
+returns-in-Err-find-clause-any_moment g c = λ tells X answers s from.
     let story : Story = story_of (g.T.Tables.game c.args.tables.now) X in
     let old : Standing = g.S.Stage.standing c.args.stage.now in
     let name = c.args.name.now in
@@ -126,7 +126,7 @@ returns-in-Err-find-clause-any_moment g c = λ tells X rows s from.
     story k.digests name k.state k.piece c.counts-counts.ensures.valid k.shows there (c.find.ensures.time now)))
 
 pub returns-clause-any_moment : goal.returns-clause-any_moment
-returns-clause-any_moment g c = λ tells X rows s from.
+returns-clause-any_moment g c = λ tells X answers s from.
     let game = g.T.Tables.game c.args.tables.now in
     let story : Story = story_of game X in
     let old : Standing = g.S.Stage.standing c.args.stage.now in
@@ -140,7 +140,7 @@ returns-clause-any_moment g c = λ tells X rows s from.
     let is : after_find ≡ attached_to old name = c.find.ensures.still now ∙ attached in
     let store : IsRestingStore name after_find = subst (IsRestingStore name) (sym is) (store_attached old name) in
     let there = subst (λ (q : Standing). ShowsState game k.digests q.disk.bytes k.state k.piece) (sym is) k.shows in
-    let up = c.play_recovered.ensures.any_moment (c.find.ensures.serves.tells.0 now) X rows name store k.digests k.state k.piece there in
+    let up = c.play_recovered.ensures.any_moment (c.find.ensures.serves.tells.0 now) X answers name store k.digests k.state k.piece there in
     subst (λ q. InTwoParts g.S.Stage c.args.stage.now c.play_recovered.new.stage (NotYet name old) (InPlay q old)) k.same
     (taken_up_again g.S.Stage g.met.S.Stage.only_now g.met.S.Stage.counts_now c.args.stage.now c.attach.new.stage c.play_recovered.new.stage
     story k.digests name k.state k.piece valid k.shows now attached (c.in-Ok.ensures.time tells)

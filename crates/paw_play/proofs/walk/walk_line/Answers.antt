@@ -6,29 +6,29 @@ use Rattle.paw_play.specs.inner.Calls.{failed_so_far}
 use Rattle.paw_play.proofs.walk.walk_line.Goals as goal
 
 pub returns-in-Line-clause-meaning : goal.returns-in-Line-clause-meaning
-returns-in-Line-clause-meaning g c = λ tells X rows whole most n first w few.
+returns-in-Line-clause-meaning g c = λ tells X answers whole most n first w few.
     let a = c.in-Line.ensures.answer tells in
     walks_on g.P.Preface.telling (story_of c.args.player.now.game X) whole most n first _ _ _ c.args.player.now c.take-step.new.self _ a.0
     c.take-step.result c.show_step.result w few c.requires.seated c.take-step.ensures.seated
-    c.take-step.ensures.last a.1 a.2.same a.3 (c.take-step.ensures.meaning X rows w.prompt w.waits w.pieces w.traces)
+    c.take-step.ensures.last a.1 a.2.same a.3 (c.take-step.ensures.meaning X answers w.prompt w.waits w.pieces w.traces)
     (c.show_step.ensures.meaning (c.ask.ensures.tells.0 tells))
 
 pub returns-in-End-clause-meaning : goal.returns-in-End-clause-meaning
-returns-in-End-clause-meaning g c = λ tells X rows whole most n first w few. none_left
+returns-in-End-clause-meaning g c = λ tells X answers whole most n first w few. none_left
     g.P.Preface.telling (story_of c.args.player.now.game X) whole most n first _ _ c.args.player.now w c.requires.seated few
     (c.in-End.ensures.answer tells)
 
 pub returns-in-Failed-clause-meaning : goal.returns-in-Failed-clause-meaning
-returns-in-Failed-clause-meaning g c = λ tells X rows whole most n first w few. none_asked
+returns-in-Failed-clause-meaning g c = λ tells X answers whole most n first w few. none_asked
     g.P.Preface.telling (story_of c.args.player.now.game X) whole most n first _ _ c.args.player.now w c.requires.seated few
     (c.in-Failed.ensures.answer tells)
 
 pub returns-in-Line-clause-serves : goal.returns-in-Line-clause-serves
 returns-in-Line-clause-serves g c = serves_then g.S.Stage _ _ (failed_so_far c.show_step.result) _ _ _
-    (serves_done g.S.Stage _ _ c.ask.ensures.tells c.in-Line.ensures.faulted) c.show_step.ensures.serves
+    (serves_done g.S.Stage _ _ c.ask.ensures.tells c.in-Line.ensures.counts_failure) c.show_step.ensures.serves
 
 pub returns-in-End-clause-serves : goal.returns-in-End-clause-serves
-returns-in-End-clause-serves g c = record { tells = c.ask.ensures.tells; faulted = c.in-End.ensures.faulted; among = tt }
+returns-in-End-clause-serves g c = record { tells = c.ask.ensures.tells; counts_failure = c.in-End.ensures.counts_failure; among = tt }
 
 pub returns-in-Failed-clause-serves : goal.returns-in-Failed-clause-serves
-returns-in-Failed-clause-serves g c = record { tells = c.ask.ensures.tells; faulted = c.in-Failed.ensures.faulted; among = inl refl }
+returns-in-Failed-clause-serves g c = record { tells = c.ask.ensures.tells; counts_failure = c.in-Failed.ensures.counts_failure; among = inl refl }

@@ -6,7 +6,7 @@ use Rattle.paw_turn.specs.inner.Player.{IsSeated}
 use Rattle.paw_play.specs.Calls.{walk_calls}
 use Rattle.paw_play.specs.Walk.{EndingOf}
 use Rattle.paw_play.specs.inner.OnTheWay.{IsWalking}
-use Rattle.paw_routines.specs.Routines.{AreRowsOf, HaveRows}
+use Rattle.paw_routines.specs.Routines.{AreAnswersOf, HaveAnswers}
 use Rattle.paw_effects.specs.Story.{story_of}
 use Rattle.paw_play.proofs.walk.walk_lines.Given as goal
 
@@ -18,8 +18,8 @@ invariant-loop g l = record {
   draws : l.player.world.draws ≤ READ_LIMIT * (l.counter + 1);
   serves : FailsOnlyBy g.S.Stage walk_calls None l.fn.stage l.stage;
   routines : l.player.routines ≡ l.fn.player.routines;
-  rows : HaveRows g.F.Fn l.player.routines;
-  walking : g.S.Stage.Tells l.fn.stage → (X : List (List ℕ)) → AreRowsOf g.F.Fn l.fn.player.routines X → (whole : EndingOf) (first : Standing) →
+  answers : HaveAnswers g.F.Fn l.player.routines;
+  walking : g.S.Stage.Tells l.fn.stage → (X : List (List ℕ)) → AreAnswersOf g.F.Fn l.fn.player.routines X → (whole : EndingOf) (first : Standing) →
       IsWalking g.P.Preface.telling (story_of l.fn.player.game X) whole first (g.S.Stage.standing l.fn.stage) l.fn.player 0 →
       IsWalking g.P.Preface.telling (story_of l.player.game X) whole first (g.S.Stage.standing l.stage) l.player l.counter;
 }

@@ -1,6 +1,6 @@
 use Rattle.std.proofs.Common.{◌∙◌, Some, None, sym, subst}
 use Rattle.paw_base.specs.declared.limits.TheConstants.{EVENT_LIMIT}
-use Rattle.paw_routines.specs.Routines.{AreRowsOf, HaveRows}
+use Rattle.paw_routines.specs.Routines.{AreAnswersOf, HaveAnswers}
 use Rattle.paw_reading.specs.Turn.{reading}
 use Rattle.paw_play.specs.Walk.{Walks}
 use Rattle.paw_play.specs.inner.Telling.{with_shown_steps}
@@ -11,15 +11,15 @@ use Rattle.paw_effects.specs.Story.{story_of}
 use Rattle.paw_play.specs.inner.Calls.{call_of_end}
 use Rattle.paw_play.proofs.walk.walk_loop.Goals as goal
 
-pub start-step-requires-clause-rows : goal.start-step-requires-clause-rows
-start-step-requires-clause-rows g c = subst (λ r. HaveRows g.F.Fn r) (sym c.in-Ok-new.ensures.routines) c.requires.rows
+pub start-step-requires-clause-answers : goal.start-step-requires-clause-answers
+start-step-requires-clause-answers g c = subst (λ r. HaveAnswers g.F.Fn r) (sym c.in-Ok-new.ensures.routines) c.requires.answers
 
-pub walk_lines-requires-clause-rows : goal.walk_lines-requires-clause-rows
-walk_lines-requires-clause-rows g c = subst (λ r. HaveRows g.F.Fn r) (sym (c.start-step.ensures.routines ∙ c.in-Ok-new.ensures.routines)) c.requires.rows
+pub walk_lines-requires-clause-answers : goal.walk_lines-requires-clause-answers
+walk_lines-requires-clause-answers g c = subst (λ r. HaveAnswers g.F.Fn r) (sym (c.start-step.ensures.routines ∙ c.in-Ok-new.ensures.routines)) c.requires.answers
 
 pub returns-in-Some-clause-walks : goal.returns-in-Some-clause-walks
-returns-in-Some-clause-walks g c = λ tells X rows.
-    let own = subst (λ r. AreRowsOf g.F.Fn r X) (sym c.in-Ok-new.ensures.routines) rows in
+returns-in-Some-clause-walks g c = λ tells X answers.
+    let own = subst (λ r. AreAnswersOf g.F.Fn r X) (sym c.in-Ok-new.ensures.routines) answers in
     subst (λ k. Walks (with_shown_steps g.P.Preface.telling (reading (story_of k X) c.args.seed)) EVENT_LIMIT (g.S.Stage.standing c.args.stage.now)
     (g.S.Stage.standing c.show_step.new.stage) c.in-Some.end) c.in-Ok-new.ensures.game
     (walk_starts g.P.Preface.telling (story_of c.in-Ok-new.player.game X) c.args.seed EVENT_LIMIT _ _ c.in-Ok-new.player
@@ -27,12 +27,12 @@ returns-in-Some-clause-walks g c = λ tells X rows.
     c.start-step.ensures.last (c.start-step.ensures.meaning X own) (c.in-Some.ensures.meaning tells))
 
 pub returns-clause-walks : goal.returns-clause-walks
-returns-clause-walks g c = λ tells X rows.
+returns-clause-walks g c = λ tells X answers.
     let telling = g.P.Preface.telling in
     let story = story_of c.in-Ok-new.player.game X in
     let old = g.S.Stage.standing c.args.stage.now in
-    let own = subst (λ r. AreRowsOf g.F.Fn r X) (sym c.in-Ok-new.ensures.routines) rows in
-    let later = subst (λ r. AreRowsOf g.F.Fn r X) (sym (c.start-step.ensures.routines ∙ c.in-Ok-new.ensures.routines)) rows in
+    let own = subst (λ r. AreAnswersOf g.F.Fn r X) (sym c.in-Ok-new.ensures.routines) answers in
+    let later = subst (λ r. AreAnswersOf g.F.Fn r X) (sym (c.start-step.ensures.routines ∙ c.in-Ok-new.ensures.routines)) answers in
     let walking = walk_starts telling story c.args.seed EVENT_LIMIT _ _ c.in-Ok-new.player c.start-step.new.self c.start-step.result
     None c.in-Ok-new.ensures.new c.start-step.ensures.seated
     c.start-step.ensures.last (c.start-step.ensures.meaning X own) (c.in_default-show_step.ensures.meaning tells) in

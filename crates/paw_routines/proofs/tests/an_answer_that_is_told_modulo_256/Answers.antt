@@ -1,5 +1,5 @@
 use Rattle.std.proofs.Common.{arith, ◌<◌, ◌≡◌, ◌+◌, ◌%◌, ℕ}
-use Rattle.paw_routines.proofs.FunctionRows.{rows_of, stand_for}
+use Rattle.paw_routines.proofs.FunctionAnswers.{answers_of, stand_for}
 use Rattle.paw_routines.proofs.tests.an_answer_that_is_told_modulo_256.Goals as goal
 
 -- What each routine gives.
@@ -16,8 +16,8 @@ told x y byte h = omega (arith, byte, h)
 pub new-routines-requires : goal.new-routines-requires
 unfolding given
 new-routines-requires g c = record {
-  rows = (
-    rows_of given 5,
+  answers = (
+    answers_of given 5,
     stand_for _ _ given 5 (λ n x below small. given_small n x) (λ n x below small. tt) (λ n x y below small byte called. told x y byte called),
   );
 }

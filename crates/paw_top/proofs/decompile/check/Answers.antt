@@ -28,7 +28,7 @@ returns-clause-checks g c = λ tells.
     let f = c.in-Ok.ensures.some tells in
     let holds = holds_loaded c.args.image.now _ _ _ _ c.in-Ok-game_in.given c.as_slice.ensures.value f c.in-Ok-game_in.ensures.found in
     shows_told (λ (g : GameLists).
-        verdict_text (bounds g)) memory.Check c.args.image.now c.as_bytes.result.now c.in-Ok-game_in.given _ _ _ c.tell.result holds f.3
+    verdict_text (bounds g)) memory.Check c.args.image.now c.as_bytes.result.now c.in-Ok-game_in.given _ _ _ c.tell.result holds f.3
     (c.as_bytes.ensures.value ∙ c.in-Ok-verdict_of.ensures.text)
     (c.tell.ensures.shows (c.load.ensures.serves.tells.0 tells))
 

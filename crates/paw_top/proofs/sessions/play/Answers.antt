@@ -23,31 +23,31 @@ pub play_loop-requires-clause-game : goal.play_loop-requires-clause-game
 play_loop-requires-clause-game g c = c.digest-kept.ensures.value ∙ ap sha256 (c.bytes.ensures.value ∙ c.bytes.ensures.image.spelled)
 
 pub returns-in-Err-clause-plays : goal.returns-in-Err-clause-plays
-returns-in-Err-clause-plays g c = λ tells X rows. unloaded c.args.image.now _ _ c.in-Err.outcome (c.in-Err.ensures.none tells)
+returns-in-Err-clause-plays g c = λ tells X answers. unloaded c.args.image.now _ _ c.in-Err.outcome (c.in-Err.ensures.none tells)
 
 pub returns-in-Err-clause-any_moment : goal.returns-in-Err-clause-any_moment
-returns-in-Err-clause-any_moment g c = λ tells s rows holds empty.
+returns-in-Err-clause-any_moment g c = λ tells s answers holds empty.
     first_alone (Passes_map _ _ _ _ _ _ (c.load.ensures.time tells) (not_yet c.args.store.now (g.S.Stage.standing c.args.stage.now)))
 
 pub returns-in-Err-view_in-clause-plays : goal.returns-in-Err-view_in-clause-plays
-returns-in-Err-view_in-clause-plays g c = λ tells X rows.
+returns-in-Err-view_in-clause-plays g c = λ tells X answers.
     undecoded c.args.image.now _ _ _ _ c.in-Err-view_in.outcome c.as_slice.ensures.value (c.in-Ok.ensures.some tells) c.in-Err-view_in.ensures.none
 
 pub returns-in-Err-view_in-clause-any_moment : goal.returns-in-Err-view_in-clause-any_moment
-returns-in-Err-view_in-clause-any_moment g c = λ tells s rows holds empty.
+returns-in-Err-view_in-clause-any_moment g c = λ tells s answers holds empty.
     first_alone (Passes_map _ _ _ _ _ _ (c.load.ensures.time tells) (not_yet c.args.store.now (g.S.Stage.standing c.args.stage.now)))
 
 pub returns-clause-plays : goal.returns-clause-plays
-returns-clause-plays g c = λ tells X rows.
+returns-clause-plays g c = λ tells X answers.
     let f = c.in-Ok.ensures.some tells in
     let game = game_read c.in-Ok-view_in.given in
     rw c.outcome_of.ensures.value
     (plays game c.play_loop.result (holds_loaded c.args.image.now _ _ _ _ game c.as_slice.ensures.value f c.in-Ok-view_in.ensures.found)
     (plays_new (begun (story_of game X) c.args.seed c.args.store.now) _ _ _ c.play_loop.result f.3
-    (c.play_loop.ensures.plays (c.load.ensures.serves.tells.0 tells) X rows)))
+    (c.play_loop.ensures.plays (c.load.ensures.serves.tells.0 tells) X answers)))
 
 pub returns-clause-any_moment : goal.returns-clause-any_moment
-returns-clause-any_moment g c = λ tells s rows holds empty.
+returns-clause-any_moment g c = λ tells s answers holds empty.
     let f = c.in-Ok.ensures.some tells in
     let old : Standing = g.S.Stage.standing c.args.stage.now in
     let game = game_read c.in-Ok-view_in.given in
@@ -56,9 +56,9 @@ returns-clause-any_moment g c = λ tells s rows holds empty.
     then_two_parts g.S.Stage c.args.stage.now c.load.new.stage c.play_loop.new.stage
     (NotYet c.args.store.now old) (InNewSession (begun s c.args.seed c.args.store.now) old)
     (Passes_map _ _ _ _ _ _ (c.load.ensures.time tells) (not_yet c.args.store.now old))
-    (new_parts g.S.Stage c.load.new.stage c.play_loop.new.stage s (story_of game s.rows) c.args.seed c.args.store.now old
+    (new_parts g.S.Stage c.load.new.stage c.play_loop.new.stage s (story_of game s.answers) c.args.seed c.args.store.now old
     (g.S.Stage.standing c.load.new.stage) f.3 same
-    (c.play_loop.ensures.any_moment (c.load.ensures.serves.tells.0 tells) s.rows rows (subst (λ q. store_bytes q c.args.store.now ≡ []) (sym f.3) empty)))
+    (c.play_loop.ensures.any_moment (c.load.ensures.serves.tells.0 tells) s.answers answers (subst (λ q. store_bytes q c.args.store.now ≡ []) (sym f.3) empty)))
 
 pub returns-in-Err-clause-serves : goal.returns-in-Err-clause-serves
 returns-in-Err-clause-serves g c = serves_among _ _ _ _ _ _ (in_front load_calls session_calls) c.in-Err.ensures.serves

@@ -24,39 +24,39 @@ pub resume_loop-requires-clause-game : goal.resume_loop-requires-clause-game
 resume_loop-requires-clause-game g c = c.digest-kept.ensures.value ∙ ap sha256 (c.bytes.ensures.value ∙ c.bytes.ensures.image.spelled)
 
 pub returns-in-Err-clause-plays : goal.returns-in-Err-clause-plays
-returns-in-Err-clause-plays g c = λ tells X rows. unloaded c.args.image.now _ _ c.in-Err.outcome (c.in-Err.ensures.none tells)
+returns-in-Err-clause-plays g c = λ tells X answers. unloaded c.args.image.now _ _ c.in-Err.outcome (c.in-Err.ensures.none tells)
 
 pub returns-in-Err-clause-goes_on : goal.returns-in-Err-clause-goes_on
-returns-in-Err-clause-goes_on g c = λ tells k s rows holds goes.
+returns-in-Err-clause-goes_on g c = λ tells k s answers holds goes.
     unloaded c.args.image.now _ _ c.in-Err.outcome (c.in-Err.ensures.none tells)
 
 pub returns-in-Err-clause-any_moment : goal.returns-in-Err-clause-any_moment
-returns-in-Err-clause-any_moment g c = λ tells k s rows holds goes.
+returns-in-Err-clause-any_moment g c = λ tells k s answers holds goes.
     first_alone (Passes_map _ _ _ _ _ _ (c.load.ensures.time tells) (not_yet c.args.store.now (g.S.Stage.standing c.args.stage.now)))
 
 pub returns-in-Err-view_in-clause-plays : goal.returns-in-Err-view_in-clause-plays
-returns-in-Err-view_in-clause-plays g c = λ tells X rows.
+returns-in-Err-view_in-clause-plays g c = λ tells X answers.
     undecoded c.args.image.now _ _ _ _ c.in-Err-view_in.outcome c.as_slice.ensures.value (c.in-Ok.ensures.some tells) c.in-Err-view_in.ensures.none
 
 pub returns-in-Err-view_in-clause-goes_on : goal.returns-in-Err-view_in-clause-goes_on
-returns-in-Err-view_in-clause-goes_on g c = λ tells k s rows holds goes.
+returns-in-Err-view_in-clause-goes_on g c = λ tells k s answers holds goes.
     undecoded c.args.image.now _ _ _ _ c.in-Err-view_in.outcome c.as_slice.ensures.value (c.in-Ok.ensures.some tells) c.in-Err-view_in.ensures.none
 
 pub returns-in-Err-view_in-clause-any_moment : goal.returns-in-Err-view_in-clause-any_moment
-returns-in-Err-view_in-clause-any_moment g c = λ tells k s rows holds goes.
+returns-in-Err-view_in-clause-any_moment g c = λ tells k s answers holds goes.
     first_alone (Passes_map _ _ _ _ _ _ (c.load.ensures.time tells) (not_yet c.args.store.now (g.S.Stage.standing c.args.stage.now)))
 
 pub returns-clause-plays : goal.returns-clause-plays
-returns-clause-plays g c = λ tells X rows.
+returns-clause-plays g c = λ tells X answers.
     let f = c.in-Ok.ensures.some tells in
     let game = game_read c.in-Ok-view_in.given in
     rw c.outcome_of.ensures.value
     (plays game c.resume_loop.result (holds_loaded c.args.image.now _ _ _ _ game c.as_slice.ensures.value f c.in-Ok-view_in.ensures.found)
     (plays_again (story_of game X) c.args.store.now _ _ _ c.resume_loop.result f.3
-    (c.resume_loop.ensures.plays (c.load.ensures.serves.tells.0 tells) X rows)))
+    (c.resume_loop.ensures.plays (c.load.ensures.serves.tells.0 tells) X answers)))
 
 pub returns-clause-goes_on : goal.returns-clause-goes_on
-returns-clause-goes_on g c = λ tells k s rows holds goes.
+returns-clause-goes_on g c = λ tells k s answers holds goes.
     let f = c.in-Ok.ensures.some tells in
     let old : Standing = g.S.Stage.standing c.args.stage.now in
     let mid : Standing = g.S.Stage.standing c.load.new.stage in
@@ -66,12 +66,12 @@ returns-clause-goes_on g c = λ tells k s rows holds goes.
     (plays game c.resume_loop.result mine (
       same_game old c.args.image.now game k.game mine holds,
       opened.goes_on s old mid (g.S.Stage.standing c.resume_loop.new.stage) c.resume_loop.result f.3
-          (c.resume_loop.ensures.goes_on (c.load.ensures.serves.tells.0 tells) k.rows rows s
-          (goes_from k (story_of game k.rows) s c.args.store.now old mid f.3 (same_story old c.args.image.now game k mine holds) goes)),
+          (c.resume_loop.ensures.goes_on (c.load.ensures.serves.tells.0 tells) k.answers answers s
+          (goes_from k (story_of game k.answers) s c.args.store.now old mid f.3 (same_story old c.args.image.now game k mine holds) goes)),
     ))
 
 pub returns-clause-any_moment : goal.returns-clause-any_moment
-returns-clause-any_moment g c = λ tells k s rows holds goes.
+returns-clause-any_moment g c = λ tells k s answers holds goes.
     let f = c.in-Ok.ensures.some tells in
     let old : Standing = g.S.Stage.standing c.args.stage.now in
     let mid : Standing = g.S.Stage.standing c.load.new.stage in
@@ -80,8 +80,8 @@ returns-clause-any_moment g c = λ tells k s rows holds goes.
     then_two_parts g.S.Stage c.args.stage.now c.load.new.stage c.resume_loop.new.stage (NotYet c.args.store.now old) (InPlay s old)
     (Passes_map _ _ _ _ _ _ (c.load.ensures.time tells) (not_yet c.args.store.now old))
     (again_parts g.S.Stage c.load.new.stage c.resume_loop.new.stage s c.args.store.now old mid f.3
-    (c.resume_loop.ensures.any_moment (c.load.ensures.serves.tells.0 tells) k.rows rows s
-    (goes_from k (story_of game k.rows) s c.args.store.now old mid f.3 (same_story old c.args.image.now game k mine holds) goes)))
+    (c.resume_loop.ensures.any_moment (c.load.ensures.serves.tells.0 tells) k.answers answers s
+    (goes_from k (story_of game k.answers) s c.args.store.now old mid f.3 (same_story old c.args.image.now game k mine holds) goes)))
 
 pub returns-in-Err-clause-serves : goal.returns-in-Err-clause-serves
 returns-in-Err-clause-serves g c = serves_among _ _ _ _ _ _ (in_front load_calls session_calls) c.in-Err.ensures.serves

@@ -15,21 +15,21 @@ use Rattle.paw_top.proofs.Refusals.{unloaded, undecoded}
 use Rattle.paw_top.proofs.sessions.walk.Goals as goal
 
 pub returns-in-Err-clause-walks : goal.returns-in-Err-clause-walks
-returns-in-Err-clause-walks g c = λ tells X rows. unloaded c.args.image.now _ _ c.in-Err.outcome (c.in-Err.ensures.none tells)
+returns-in-Err-clause-walks g c = λ tells X answers. unloaded c.args.image.now _ _ c.in-Err.outcome (c.in-Err.ensures.none tells)
 
 pub returns-in-Err-view_in-clause-walks : goal.returns-in-Err-view_in-clause-walks
-returns-in-Err-view_in-clause-walks g c = λ tells X rows.
+returns-in-Err-view_in-clause-walks g c = λ tells X answers.
     undecoded c.args.image.now _ _ _ _ c.in-Err-view_in.outcome c.as_slice.ensures.value (c.in-Ok.ensures.some tells) c.in-Err-view_in.ensures.none
 
 pub returns-clause-walks : goal.returns-clause-walks
-returns-clause-walks g c = λ tells X rows.
+returns-clause-walks g c = λ tells X answers.
     let new = g.S.Stage.standing c.walk_loop.new.stage in
     let f = c.in-Ok.ensures.some tells in
     let game = game_read c.in-Ok-view_in.given in
     rw c.outcome_of.ensures.value
     (plays game c.walk_loop.result (holds_loaded c.args.image.now _ _ _ _ game c.as_slice.ensures.value f c.in-Ok-view_in.ensures.found)
     (subst (λ s. Walks (with_shown_steps g.P.Preface.telling (reading (story_of game X) c.args.seed)) EVENT_LIMIT s new c.walk_loop.result) f.3
-    (c.walk_loop.ensures.walks (c.load.ensures.serves.tells.0 tells) X rows)))
+    (c.walk_loop.ensures.walks (c.load.ensures.serves.tells.0 tells) X answers)))
 
 pub returns-in-Err-clause-serves : goal.returns-in-Err-clause-serves
 returns-in-Err-clause-serves g c = serves_among _ _ _ _ _ _ (in_front load_calls walk_calls) c.in-Err.ensures.serves

@@ -8,14 +8,14 @@ use Rattle.paw_play.specs.Play.{NewSession, PlaysAgain}
 use Rattle.paw_trial.specs.inner.Session.{PlaysHalf, trial_store}
 use Rattle.paw_trial.proofs.halves.play_lines.Goals as goal
 
-pub play_loop-requires-clause-rows : goal.play_loop-requires-clause-rows
-play_loop-requires-clause-rows g c = ([], c.requires.rows)
+pub play_loop-requires-clause-answers : goal.play_loop-requires-clause-answers
+play_loop-requires-clause-answers g c = ([], c.requires.answers)
 
 pub play_loop-requires-clause-game : goal.play_loop-requires-clause-game
 play_loop-requires-clause-game g c = c.digest-digest.ensures.digest ∙ ap (λ g. sha256 (image g)) (sym c.game-game.ensures.value)
 
-pub resume_loop-requires-clause-rows : goal.resume_loop-requires-clause-rows
-resume_loop-requires-clause-rows g c = ([], c.requires.rows)
+pub resume_loop-requires-clause-answers : goal.resume_loop-requires-clause-answers
+resume_loop-requires-clause-answers g c = ([], c.requires.answers)
 
 pub resume_loop-requires-clause-game : goal.resume_loop-requires-clause-game
 resume_loop-requires-clause-game g c = c.digest-digest.ensures.digest ∙ ap (λ g. sha256 (image g)) (sym c.game-game.ensures.value)
@@ -30,7 +30,7 @@ returns-in-First g c = record {
       subst (λ h. PlaysHalf h n old new c.play_loop.result) (sym c.in-First.is)
       (subst (λ g. NewSession (begun (story_of g []) n trial_store) old new c.play_loop.result) c.game-game.ensures.value
       (subst (λ s. NewSession (begun (story_of c.game-game.result.now []) s trial_store) old new c.play_loop.result) seed
-      (c.play_loop.ensures.plays tt [] c.requires.rows)));
+      (c.play_loop.ensures.plays tt [] c.requires.answers)));
 }
 
 pub returns-in-Second : goal.returns-in-Second
@@ -41,5 +41,5 @@ returns-in-Second g c = record {
       let new = standing_of c.resume_loop.new.stage in
       subst (λ h. PlaysHalf h n old new c.resume_loop.result) (sym c.in-Second.is)
       (subst (λ g. PlaysAgain (story_of g []) trial_store old new c.resume_loop.result)
-      c.game-game.ensures.value (c.resume_loop.ensures.plays tt [] c.requires.rows));
+      c.game-game.ensures.value (c.resume_loop.ensures.plays tt [] c.requires.answers));
 }

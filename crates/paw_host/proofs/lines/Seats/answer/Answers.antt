@@ -28,7 +28,7 @@ returns-clause-leaves g c = record {
 }
 
 pub returns-clause-done : goal.returns-clause-done
-returns-clause-done g c = λ tells X rows sessions may stores.
+returns-clause-done g c = λ tells X answers sessions may stores.
     let story : Story = story_of c.args.self.now.player.game X in
     let name = c.args.request.name.now in
     let store = c.as_str.result.now in
@@ -37,27 +37,27 @@ returns-clause-done g c = λ tells X rows sessions may stores.
     let here = subst (λ x. Stores story (sessions name) (file_bytes old x)) (sym is) (stores name c.requires.name) in
     does_request story c.args.hosted.now.seed sessions old _ (asks c.args.request) store _ _ _ stores c.requires.name is
     (c.answer.ensures.leaves.beside tells) (c.in-Ok.ensures.leaves.left tells).attached c.begin.ensures.value
-    (c.in-Ok.ensures.promises tells X rows (sessions name) (may name c.requires.name) here).meaning
+    (c.in-Ok.ensures.promises tells X answers (sessions name) (may name c.requires.name) here).meaning
     c.push.ensures.value
 
 pub returns-in-Err-clause-any_moment : goal.returns-in-Err-clause-any_moment
-returns-in-Err-clause-any_moment g c = λ tells X rows sessions may stores.
+returns-in-Err-clause-any_moment g c = λ tells X answers sessions may stores.
     let story : Story = story_of c.args.self.now.player.game X in
     let name = c.args.request.name.now in
     let is = c.as_str.ensures.value ∙ c.set.ensures.value in
     let old = g.S.Stage.standing c.args.stage.now in
     let here = subst (λ x. Stores story (sessions name) (file_bytes old x)) (sym is) (stores name c.requires.name) in
     Passes_map _ _ _ _ _ (Doing story c.args.hosted.now.seed sessions _ old)
-    (c.answer.ensures.promises tells X rows (sessions name) (may name c.requires.name) here).any_moment
+    (c.answer.ensures.promises tells X answers (sessions name) (may name c.requires.name) here).any_moment
     (λ m i. doing_request story c.args.hosted.now.seed sessions old (asks c.args.request) c.as_str.result.now m stores is i)
 
 pub returns-clause-any_moment : goal.returns-clause-any_moment
-returns-clause-any_moment g c = λ tells X rows sessions may stores.
+returns-clause-any_moment g c = λ tells X answers sessions may stores.
     let story : Story = story_of c.args.self.now.player.game X in
     let name = c.args.request.name.now in
     let is = c.as_str.ensures.value ∙ c.set.ensures.value in
     let old = g.S.Stage.standing c.args.stage.now in
     let here = subst (λ x. Stores story (sessions name) (file_bytes old x)) (sym is) (stores name c.requires.name) in
     Passes_map _ _ _ _ _ (Doing story c.args.hosted.now.seed sessions _ old)
-    (c.answer.ensures.promises tells X rows (sessions name) (may name c.requires.name) here).any_moment
+    (c.answer.ensures.promises tells X answers (sessions name) (may name c.requires.name) here).any_moment
     (λ m i. doing_request story c.args.hosted.now.seed sessions old (asks c.args.request) c.as_str.result.now m stores is i)

@@ -3,7 +3,7 @@ use Rattle.paw_base.specs.declared.limits.TheConstants.{EVENT_LIMIT}
 use Rattle.paw_stage.proofs.Time.{Passes_on, Passes_none}
 use Rattle.paw_stage.specs.Moments.{moment_of}
 use Rattle.paw_journal.proofs.Serving.{serves_none, serves_then}
-use Rattle.paw_routines.specs.Routines.{AreRowsOf}
+use Rattle.paw_routines.specs.Routines.{AreAnswersOf}
 use Rattle.paw_effects.specs.Story.{story_of}
 use Rattle.paw_host.specs.Outcomes.{host_failure}
 use Rattle.paw_host.specs.Hosts.{HasTaken}
@@ -21,8 +21,8 @@ loop-init g c = record {
   serves = serves_none g.S.Stage _ _;
   synced = c.requires.synced;
   taken = λ tells. taken_none _;
-  serving = λ tells X rows first b. serving_first _ _ first _ b (c.requires.synced tells);
-  passes = λ tells X rows first b. Passes_none _ _ _;
+  serving = λ tells X answers first b. serving_first _ _ first _ b (c.requires.synced tells);
+  passes = λ tells X answers first b. Passes_none _ _ _;
 }
 
 pub returns-in-Some-clause-serves : goal.returns-in-Some-clause-serves
@@ -41,29 +41,29 @@ returns-clause-ends g c = λ tells.
     (refl, subst (HasTaken (g.S.Stage.standing c.args.stage.now) (g.S.Stage.standing c.loop.stage)) all (i.taken tells))
 
 pub returns-in-Some-clause-any_moment : goal.returns-in-Some-clause-any_moment
-returns-in-Some-clause-any_moment g c = λ tells X rows first b.
+returns-in-Some-clause-any_moment g c = λ tells X answers first b.
     let i = c.loop.invariant in
     let seed = c.args.hosted.now.seed in
     let start = g.S.Stage.standing c.args.stage.now in
     let now = g.S.Stage.standing c.loop.stage in
     let story = story_of c.args.self.now.player.game X in
-    let serving = subst (λ k. IsServing (story_of k X) seed first start now c.loop.counter) (sym i.stays.game) (i.serving tells X rows first b) in
-    Passes_on _ _ _ _ _ _ (InHost story seed first start) _ (i.passes tells X rows first b)
-    (c.in-Some.ensures.any_moment (i.serves.tells.0 tells) X (subst (λ r. AreRowsOf g.F.Fn r X) (sym i.stays.routines) rows) first start c.loop.counter
+    let serving = subst (λ k. IsServing (story_of k X) seed first start now c.loop.counter) (sym i.stays.game) (i.serving tells X answers first b) in
+    Passes_on _ _ _ _ _ _ (InHost story seed first start) _ (i.passes tells X answers first b)
+    (c.in-Some.ensures.any_moment (i.serves.tells.0 tells) X (subst (λ r. AreAnswersOf g.F.Fn r X) (sym i.stays.routines) answers) first start c.loop.counter
     (omega arith) b.lines serving) (λ m j. subst (λ k. InHost (story_of k X) seed first start m) i.stays.game j)
 
 pub returns-in-Some-clause-meaning : goal.returns-in-Some-clause-meaning
-returns-in-Some-clause-meaning g c = λ tells X rows first b.
+returns-in-Some-clause-meaning g c = λ tells X answers first b.
     let i = c.loop.invariant in
     let seed = c.args.hosted.now.seed in
     let start = g.S.Stage.standing c.args.stage.now in
     let now = g.S.Stage.standing c.loop.stage in
     let story = story_of c.args.self.now.player.game X in
-    let own = subst (λ r. AreRowsOf g.F.Fn r X) (sym i.stays.routines) rows in
+    let own = subst (λ r. AreAnswersOf g.F.Fn r X) (sym i.stays.routines) answers in
     let here = i.serves.tells.0 tells in
     let holds : FilesHold start = λ name e. g.met.S.Stage.files_hold c.args.stage.now name tells e in
-    let serving = subst (λ k. IsServing (story_of k X) seed first start now c.loop.counter) (sym i.stays.game) (i.serving tells X rows first b) in
-    let passes = Passes_on _ _ _ _ _ _ (InHost story seed first start) _ (i.passes tells X rows first b)
+    let serving = subst (λ k. IsServing (story_of k X) seed first start now c.loop.counter) (sym i.stays.game) (i.serving tells X answers first b) in
+    let passes = Passes_on _ _ _ _ _ _ (InHost story seed first start) _ (i.passes tells X answers first b)
     (c.in-Some.ensures.any_moment here X own first start c.loop.counter (omega arith) b.lines serving)
     (λ m j. subst (λ k. InHost (story_of k X) seed first start m) i.stays.game j) in
     hosts_by story seed first start (g.S.Stage.standing c.serve.new.stage) c.loop.counter c.in-Some.outcome
@@ -75,12 +75,12 @@ returns-in-Some-clause-meaning g c = λ tells X rows first b.
     (g.met.S.Stage.only_now c.args.stage.now (moment_of (g.S.Stage.standing c.serve.new.stage)) tells past)))
 
 pub returns-clause-meaning : goal.returns-clause-meaning
-returns-clause-meaning g c = λ tells X rows first b.
+returns-clause-meaning g c = λ tells X answers first b.
     let i = c.loop.invariant in
     let story = story_of c.args.self.now.player.game X in
     let start = g.S.Stage.standing c.args.stage.now in
     let all : c.loop.counter ≡ EVENT_LIMIT = omega (arith, i.few, c.loop-test.false) in
-    (refl, subst (Answered story c.args.hosted.now.seed first start (g.S.Stage.standing c.loop.stage)) all (i.serving tells X rows first b).answered)
+    (refl, subst (Answered story c.args.hosted.now.seed first start (g.S.Stage.standing c.loop.stage)) all (i.serving tells X answers first b).answered)
 
 pub loop-preserved : goal.loop-preserved
 loop-preserved g c =
@@ -97,17 +97,17 @@ loop-preserved g c =
       synced = λ tells. c.in_default.ensures.synced (c.serve.ensures.serves.tells.1 tells);
       taken = λ tells.
           taken_more start now next c.loop.counter (i.taken tells) (c.in_default.ensures.takes (i.serves.tells.0 tells));
-      serving = λ tells X rows first b.
-          let own = subst (λ r. AreRowsOf g.F.Fn r X) (sym i.stays.routines) rows in
-          let serving = subst (λ k. IsServing (story_of k X) seed first start now c.loop.counter) (sym i.stays.game) (i.serving tells X rows first b) in
+      serving = λ tells X answers first b.
+          let own = subst (λ r. AreAnswersOf g.F.Fn r X) (sym i.stays.routines) answers in
+          let serving = subst (λ k. IsServing (story_of k X) seed first start now c.loop.counter) (sym i.stays.game) (i.serving tells X answers first b) in
           let served = c.in_default.ensures.meaning (i.serves.tells.0 tells) X own first start c.loop.counter (omega arith) b.lines serving in
           let n : suc c.loop.counter ≡ c.loop.counter + 1 = omega arith in
           subst (λ k. IsServing (story_of game X) seed first start next k) n
           (subst (λ k. IsServing (story_of k X) seed first start next (suc c.loop.counter)) i.stays.game served);
-      passes = λ tells X rows first b.
-          let own = subst (λ r. AreRowsOf g.F.Fn r X) (sym i.stays.routines) rows in
-          let serving = subst (λ k. IsServing (story_of k X) seed first start now c.loop.counter) (sym i.stays.game) (i.serving tells X rows first b) in
-          Passes_on _ _ _ _ _ _ (InHost (story_of game X) seed first start) _ (i.passes tells X rows first b)
+      passes = λ tells X answers first b.
+          let own = subst (λ r. AreAnswersOf g.F.Fn r X) (sym i.stays.routines) answers in
+          let serving = subst (λ k. IsServing (story_of k X) seed first start now c.loop.counter) (sym i.stays.game) (i.serving tells X answers first b) in
+          Passes_on _ _ _ _ _ _ (InHost (story_of game X) seed first start) _ (i.passes tells X answers first b)
           (c.in_default.ensures.any_moment (i.serves.tells.0 tells) X own first start c.loop.counter (omega arith) b.lines serving)
           (λ m j. subst (λ k. InHost (story_of k X) seed first start m) i.stays.game j);
     }

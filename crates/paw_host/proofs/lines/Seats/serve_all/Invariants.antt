@@ -2,7 +2,7 @@ use Rattle.std.proofs.Common.{◌≤◌, ℕ, List, None}
 use Rattle.paw_stage.specs.Disk.{IsStable}
 use Rattle.paw_stage.specs.Across.{FailsOnlyBy}
 use Rattle.paw_stage.specs.Moments.{Passes}
-use Rattle.paw_routines.specs.Routines.{AreRowsOf}
+use Rattle.paw_routines.specs.Routines.{AreAnswersOf}
 use Rattle.paw_effects.specs.Story.{story_of}
 use Rattle.paw_play.specs.Calls.{session_calls}
 use Rattle.paw_host.specs.Replies.{Sessions}
@@ -21,10 +21,10 @@ invariant-loop g l = record {
   serves : FailsOnlyBy g.S.Stage session_calls None l.fn.stage l.stage;
   synced : g.S.Stage.Tells l.stage → IsStable (g.S.Stage.standing l.stage).disk;
   taken : g.S.Stage.Tells l.fn.stage → HasTaken (g.S.Stage.standing l.fn.stage) (g.S.Stage.standing l.stage) l.counter;
-  serving : g.S.Stage.Tells l.fn.stage → (X : List (List ℕ)) → AreRowsOf g.F.Fn l.fn.self.player.routines X → (first : Sessions) →
+  serving : g.S.Stage.Tells l.fn.stage → (X : List (List ℕ)) → AreAnswersOf g.F.Fn l.fn.self.player.routines X → (first : Sessions) →
       BeginsWith (story_of l.fn.self.player.game X) first (g.S.Stage.standing l.fn.stage) →
       IsServing (story_of l.fn.self.player.game X) l.fn.hosted.seed first (g.S.Stage.standing l.fn.stage) (g.S.Stage.standing l.stage) l.counter;
-  passes : g.S.Stage.Tells l.fn.stage → (X : List (List ℕ)) → AreRowsOf g.F.Fn l.fn.self.player.routines X → (first : Sessions) →
+  passes : g.S.Stage.Tells l.fn.stage → (X : List (List ℕ)) → AreAnswersOf g.F.Fn l.fn.self.player.routines X → (first : Sessions) →
       BeginsWith (story_of l.fn.self.player.game X) first (g.S.Stage.standing l.fn.stage) →
       Passes (g.S.Stage.clock l.fn.stage) (g.S.Stage.clock l.stage) (g.S.Stage.since l.fn.stage) (g.S.Stage.since l.stage)
       (InHost (story_of l.fn.self.player.game X) l.fn.hosted.seed first (g.S.Stage.standing l.fn.stage));

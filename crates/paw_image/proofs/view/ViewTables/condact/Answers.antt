@@ -8,7 +8,7 @@ use Rattle.paw_game.specs.Valid.{is_condact}
 use Rattle.paw_game.proofs.Kept.{IfSome-from, condact-early, condact-small, condact_kept}
 use Rattle.paw_image.specs.inner.Views.{game_read}
 use Rattle.paw_image.specs.declared.offsets.TableIndex.{TableIndex}
-use Rattle.paw_image.proofs.ViewLaws.{no_index_read, no_place_read, condact_by_index, marks_by_index}
+use Rattle.paw_image.proofs.ViewLaws.{no_index_read, no_place_read, condact_by_index, milestones_by_index}
 use Rattle.paw_image.proofs.view.ViewTables.condact.Goals as goal
 
 pub returns-in_err-index-clause-value : goal.returns-in_err-index-clause-value
@@ -36,8 +36,8 @@ condact_in-requires c =
     let begins = ap (λ (ps : List ℕ). slice_get ps c.args.entry) (sym c.deref-2.ensures.value)
     ∙ sym c.in_ok-offset.ensures.value in
     let index = c.in_ok-index.index.now in
-    let marks = marks_by_index c.self.invariant c.args.table index there c.args.entry c.in_ok-offset.offset begins in
-    record { marks = marks }
+    let milestones = milestones_by_index c.self.invariant c.args.table index there c.args.entry c.in_ok-offset.offset begins in
+    record { milestones = milestones }
 
 pub returns : goal.returns
 returns c =

@@ -1,5 +1,5 @@
 use Rattle.std.proofs.Common.{◌≡◌, None, reverse, sym, subst, arith}
-use Rattle.paw_process.proofs.Rows.{kept_rows}
+use Rattle.paw_process.proofs.OpenFrames.{kept_frames}
 use Rattle.paw_process.proofs.Again.{kept_again}
 use Rattle.paw_process.proofs.Fitting.{places_fit}
 use Rattle.paw_process.specs.Kept.{waiting_code}
@@ -10,7 +10,7 @@ use Rattle.paw_process.proofs.machine.Machine.frames.Goals as goal
 pub returns-clause-value : goal.returns-clause-value
 returns-clause-value c =
     rw c.start_of-rows.ensures.value
-    (kept_rows c.args.self.now c.self.inside.rows c.copy_from_slice.new.self c.self.inside.count c.self.inside.turning c.self.inside.waiting
+    (kept_frames c.args.self.now c.self.inside.frames c.copy_from_slice.new.self c.self.inside.count c.self.inside.turning c.self.inside.waiting
     c.self.inside.left c.self.inside.steps c.self.view_is c.copy_from_slice.ensures.after (omega arith) (omega arith))
 
 pub returns-clause-again : goal.returns-clause-again

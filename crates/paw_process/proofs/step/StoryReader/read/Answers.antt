@@ -7,23 +7,23 @@ use Rattle.paw_process.specs.inner.OpenTables.{below}
 use Rattle.paw_process.proofs.step.StoryReader.read.Goals as goal
 
 pub returns-then-not-may_read-clause-meaning : goal.returns-then-not-may_read-clause-meaning
-returns-then-not-may_read-clause-meaning g c X rows =
+returns-then-not-may_read-clause-meaning g c X answers =
     reads_spent (story_of (g.T.Tables.game c.args.self.now.tables.now) X) (below c.args.machine.now.frames) c.args.f c.args.c
     (having c.args.surroundings.now c.args.machine.now) c.stop.result (having c.args.surroundings.now c.stop.new.self) c.requires.found
     (grind (arith, nat_tests)) (moved_none _ _ _ _ _ c.stop.ensures.closed) c.stop.ensures.value
 
 pub returns-then-is_condition-clause-meaning : goal.returns-then-is_condition-clause-meaning
-returns-then-is_condition-clause-meaning g c X rows =
+returns-then-is_condition-clause-meaning g c X answers =
     reads_one (story_of (g.T.Tables.game c.args.self.now.tables.now) X) c.args.f c.args.c (having c.args.surroundings.now c.args.machine.now) c.test.result
     (having c.test.new.surroundings c.test.new.machine) c.requires.found (grind (arith, nat_tests)) (c.test.ensures.meaning X)
 
 pub returns-else-is_condition-clause-meaning : goal.returns-else-is_condition-clause-meaning
-returns-else-is_condition-clause-meaning g c X rows =
+returns-else-is_condition-clause-meaning g c X answers =
     reads_one (story_of (g.T.Tables.game c.args.self.now.tables.now) X) c.args.f c.args.c (having c.args.surroundings.now c.args.machine.now) c.act.result
-    (having c.act.new.surroundings c.act.new.machine) c.requires.found (grind (arith, nat_tests)) (c.act.ensures.meaning X rows)
+    (having c.act.new.surroundings c.act.new.machine) c.requires.found (grind (arith, nat_tests)) (c.act.ensures.meaning X answers)
 
 pub returns-then-is_condition-clause-counts : goal.returns-then-is_condition-clause-counts
 returns-then-is_condition-clause-counts g c none = (c.test.ensures.meaning []).1.left
 
 pub returns-else-is_condition-clause-counts : goal.returns-else-is_condition-clause-counts
-returns-else-is_condition-clause-counts g c none = let (X, rows) = c.requires.may.rows in (c.act.ensures.meaning X rows).1.left
+returns-else-is_condition-clause-counts g c none = let (X, answers) = c.requires.may.answers in (c.act.ensures.meaning X answers).1.left

@@ -1,9 +1,9 @@
 use Rattle.std.proofs.Common.{ℕ, List, ◌∷◌, length, take}
 use Rattle.std.specs.List.{concat}
 use Rattle.sha2.specs.Hashers.{Holds256}
-use Rattle.paw_routines.specs.Routines.{AreRowsOf}
+use Rattle.paw_routines.specs.Routines.{AreAnswersOf}
 use Rattle.paw_routines.proofs.routines.Routines.measure.Given as goal
 
 -- The hasher has the number of routines and the answers so far.
 abbrev pub invariant-loop-n : goal.invariant-loop-n
-invariant-loop-n g l = (X : List (List ℕ)) → AreRowsOf g.F.Fn l.self X → Holds256 l.hasher (length X ∷ concat (take l.n X))
+invariant-loop-n g l = (X : List (List ℕ)) → AreAnswersOf g.F.Fn l.self X → Holds256 l.hasher (length X ∷ concat (take l.n X))

@@ -1,5 +1,5 @@
 use Rattle.std.proofs.Common.{◌≡◌, [], ◌∷◌, reverse, ap, ◌∙◌, sym, subst}
-use Rattle.paw_routines.specs.Routines.{AreRowsOf}
+use Rattle.paw_routines.specs.Routines.{AreAnswersOf}
 use Rattle.paw_effects.specs.declared.act.Prompt.{Prompt}
 use Rattle.paw_effects.specs.Story.{story_of}
 use Rattle.paw_reading.specs.Bounds.{IsLine}
@@ -20,9 +20,9 @@ same_prompt : (p q : Prompt) (s : TurnStop) (t : Step) → s ≡ stop.Waits p �
 same_prompt p q s t is same waits = let w : step.Waits p ≡ step.Waits q = ap step_of (sym is) ∙ (same ∙ waits) in cc
 
 pub returns-clause-meaning : goal.returns-clause-meaning
-returns-clause-meaning g c X rows = λ p waits pieces traces.
+returns-clause-meaning g c X answers = λ p waits pieces traces.
     let routines = c.self.inside.rules.routines.now in
-    let own_rows = subst (λ (q : PlayerView g.row.F.Denot). AreRowsOf g.F.Fn q.routines X) (sym c.self.view_is) rows in
+    let own_rows = subst (λ (q : PlayerView g.row.F.Denot). AreAnswersOf g.F.Fn q.routines X) (sym c.self.view_is) answers in
     let own = g.T.Tables.game c.self.inside.rules.tables.now in
     let old = c.self.inside.turn in
     let new = c.take-stop.new.state in
@@ -45,6 +45,6 @@ returns-clause-seated g c =
     let waits = sym (ap (λ (q : PlayerView g.row.F.Denot). q.last) c.self.view_is) ∙ ap step_of c.in-Waits.is in
     let line : IsLine c.args.line.now = record { short = c.requires.line; bytes = bytes_each c.args.line.now (λ i. (c.type_inv.line i).fits) } in
     take_seated g.F.Fn c.self.inside.rules.routines.now c.args.self.now (g.T.Tables.game c.self.inside.rules.tables.now)
-    c.take-stop.new.state c.settle.new.self (step_of c.take-stop.result) c.requires.rows.0 c.in-Waits.prompt c.args.line.now c.requires.rows.1 c.requires.seated
+    c.take-stop.new.state c.settle.new.self (step_of c.take-stop.result) c.requires.answers.0 c.in-Waits.prompt c.args.line.now c.requires.answers.1 c.requires.seated
     (ap (λ (q : PlayerView g.row.F.Denot). q.game) c.self.view_is) c.settle.ensures.value c.take-stop.ensures.keeps.machine waits line
-    (rw c.step_of-2.ensures.value at (returns-clause-meaning g c c.requires.rows.0 c.requires.rows.1 c.in-Waits.prompt waits [] []))
+    (rw c.step_of-2.ensures.value at (returns-clause-meaning g c c.requires.answers.0 c.requires.answers.1 c.in-Waits.prompt waits [] []))

@@ -1,6 +1,6 @@
 use Rattle.std.proofs.Common.{ap, sym, ◌∙◌, subst}
 use Rattle.paw_game.specs.Game.{GameLists}
-use Rattle.paw_routines.specs.Routines.{HaveRows}
+use Rattle.paw_routines.specs.Routines.{HaveAnswers}
 use Rattle.paw_turn.specs.inner.Parts.{Fits}
 use Rattle.paw_turn.specs.inner.Player.{PlayerView, IsStanding}
 use Rattle.paw_turn.proofs.player.tests.taken_up.Goals as goal
@@ -24,11 +24,11 @@ seat-requires-clause-fits g c =
     subst (λ (h : GameLists). Fits h a.world a.machine a.pending a.prompt)
     (sym (game ∙ ap (λ (q : PlayerView g.row.F.Denot). q.game) c.player.view_is)) c.in_ok-apart.ensures.fits
 
-pub start-requires-clause-rows : goal.start-requires-clause-rows
-start-requires-clause-rows g c =
-    subst (λ r. HaveRows g.F.Fn r) (sym (c.in_ok-other-2.ensures.routines ∙ ap (λ (q : PlayerView g.row.F.Denot). q.routines) c.player.view_is)) c.requires.rows
+pub start-requires-clause-answers : goal.start-requires-clause-answers
+start-requires-clause-answers g c =
+    subst (λ r. HaveAnswers g.F.Fn r) (sym (c.in_ok-other-2.ensures.routines ∙ ap (λ (q : PlayerView g.row.F.Denot). q.routines) c.player.view_is)) c.requires.answers
 
-pub returns-clause-rows : goal.returns-clause-rows
-returns-clause-rows g c =
+pub returns-clause-answers : goal.returns-clause-answers
+returns-clause-answers g c =
     let kept = c.start.ensures.routines ∙ (c.in_ok-other-2.ensures.routines ∙ ap (λ (q : PlayerView g.row.F.Denot). q.routines) c.player.view_is) in
-    subst (λ r. HaveRows g.F.Fn r) (sym (ap (λ (q : PlayerView g.row.F.Denot). q.routines) c.seat.ensures.value ∙ kept)) c.requires.rows
+    subst (λ r. HaveAnswers g.F.Fn r) (sym (ap (λ (q : PlayerView g.row.F.Denot). q.routines) c.seat.ensures.value ∙ kept)) c.requires.answers

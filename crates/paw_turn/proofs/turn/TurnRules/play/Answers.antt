@@ -11,7 +11,7 @@ pub loop-phase-init : goal.loop-phase-init
 loop-phase-init g c = record {
   playable = c.requires.may.ready.playable;
   read = c.requires.may.read;
-  plays = λ X rows. plays_none (story_of (g.T.Tables.game c.args.self.now.tables.now) X) c.args.first c.args.state.now;
+  plays = λ X answers. plays_none (story_of (g.T.Tables.game c.args.self.now.tables.now) X) c.args.first c.args.state.now;
   keeps = record {
     stays = record { world = c.requires.may.ready.playable.world; left = omega arith; draws = omega arith };
     machine = c.requires.may.ready.closed;
@@ -25,14 +25,14 @@ loop-phase-preserved g c =
     let phase = c.loop-phase.phase in
     let before = c.loop-phase.state in
     let after = c.phase.new.state in
-    let own : Story = story_of (g.T.Tables.game c.args.self.now.tables.now) c.requires.may.rows.0 in
+    let own : Story = story_of (g.T.Tables.game c.args.self.now.tables.now) c.requires.may.answers.0 in
     record {
       playable = record { world = e.keeps.stays.world; budget = omega arith; draws = omega arith };
       read = reads_read own (λ n r. turn own (suc n) (at_phase phase) r) before (next.Go c.in-Go.next) after
-          (e.meaning c.requires.may.rows.0 c.requires.may.rows.1) v.read;
-      plays = λ X rows.
+          (e.meaning c.requires.may.answers.0 c.requires.may.answers.1) v.read;
+      plays = λ X answers.
           plays_on (story_of (g.T.Tables.game c.args.self.now.tables.now) X) c.args.first phase c.args.state.now before after
-          (next.Go c.in-Go.next) (v.plays X rows) (e.meaning X rows);
+          (next.Go c.in-Go.next) (v.plays X answers) (e.meaning X answers);
       keeps = record {
         stays = record { world = e.keeps.stays.world; left = omega arith; draws = omega arith };
         machine = e.keeps.machine;
@@ -40,6 +40,6 @@ loop-phase-preserved g c =
     }
 
 pub returns-in-Stop-clause-meaning : goal.returns-in-Stop-clause-meaning
-returns-in-Stop-clause-meaning g c X rows =
+returns-in-Stop-clause-meaning g c X answers =
     plays_on (story_of (g.T.Tables.game c.args.self.now.tables.now) X) c.args.first c.loop-phase.phase c.args.state.now c.loop-phase.state c.phase.new.state
-    (next.Stop c.in-Stop.stop) (c.loop-phase.invariant.plays X rows) (c.in-Stop.ensures.meaning X rows)
+    (next.Stop c.in-Stop.stop) (c.loop-phase.invariant.plays X answers) (c.in-Stop.ensures.meaning X answers)

@@ -1,5 +1,5 @@
 use Rattle.std.proofs.Common.{ℕ, List}
-use Rattle.paw_routines.specs.Routines.{AreRowsOf}
+use Rattle.paw_routines.specs.Routines.{AreAnswersOf}
 use Rattle.paw_effects.specs.Story.{story_of}
 use Rattle.paw_turn.specs.declared.phase.Next.TheVariants as next
 use Rattle.paw_turn.specs.inner.Phases.{Plays, IsPlayable, HasReadSome, StaysInGame, work}
@@ -9,7 +9,7 @@ abbrev pub invariant-loop-phase : goal.invariant-loop-phase
 invariant-loop-phase g l = record {
   playable : IsPlayable (g.T.Tables.game l.self.tables.now) l.state;
   read : HasReadSome l.state.machine;
-  plays : (X : List (List ℕ)) → AreRowsOf g.F.Fn l.self.routines.now X →
+  plays : (X : List (List ℕ)) → AreAnswersOf g.F.Fn l.self.routines.now X →
       Plays (story_of (g.T.Tables.game l.self.tables.now) X) l.fn.first l.initial.state (next.Go l.phase) l.state;
   keeps : StaysInGame (g.T.Tables.game l.self.tables.now) l.initial.state (next.Go l.phase) l.state;
 }

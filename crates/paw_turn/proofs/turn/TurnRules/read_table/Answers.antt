@@ -4,11 +4,11 @@ use Rattle.paw_turn.proofs.Falling.{table_falls}
 use Rattle.paw_turn.proofs.turn.TurnRules.read_table.Goals as goal
 
 pub returns-clause-meaning : goal.returns-clause-meaning
-returns-clause-meaning g c X rows =
+returns-clause-meaning g c X answers =
     let a = c.after_table in
     read_on (story_of (g.T.Tables.game c.args.self.now.tables.now) X)
     c.args.table c.args.state.now c.run_table-turned.new.state a.new.self c.run_table-turned.result a.result
-    (c.run_table-turned.ensures.runs X rows) (a.ensures.meaning X) a.ensures.left
+    (c.run_table-turned.ensures.runs X answers) (a.ensures.meaning X) a.ensures.left
 
 pub returns-clause-falls : goal.returns-clause-falls
 returns-clause-falls g c =

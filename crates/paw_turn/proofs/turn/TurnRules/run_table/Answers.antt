@@ -7,22 +7,22 @@ use Rattle.paw_turn.proofs.Waiting.{table_stops}
 use Rattle.paw_turn.proofs.turn.TurnRules.run_table.Goals as goal
 
 pub returns-clause-runs : goal.returns-clause-runs
-returns-clause-runs g c X rows =
+returns-clause-runs g c X answers =
     let new : PlayState = record { surroundings = c.run.new.surroundings; machine = c.run.new.self } in
     begun_runs (story_of (g.T.Tables.game c.args.self.now.tables.now) X) c.args.table c.args.state.now new
-    c.begin.new.self c.run.result c.begin.ensures.value (c.run.ensures.meaning X rows)
+    c.begin.new.self c.run.result c.begin.ensures.value (c.run.ensures.meaning X answers)
 
 pub returns-clause-uses : goal.returns-clause-uses
 returns-clause-uses g c =
     let new : PlayState = record { surroundings = c.run.new.surroundings; machine = c.run.new.self } in
-    uses (story_of (g.T.Tables.game c.args.self.now.tables.now) c.requires.may.rows.0) c.args.table c.args.state.now new
-    c.run.result c.requires.may.read (returns-clause-runs g c c.requires.may.rows.0 c.requires.may.rows.1)
+    uses (story_of (g.T.Tables.game c.args.self.now.tables.now) c.requires.may.answers.0) c.args.table c.args.state.now new
+    c.run.result c.requires.may.read (returns-clause-runs g c c.requires.may.answers.0 c.requires.may.answers.1)
 
 pub returns-clause-stops : goal.returns-clause-stops
 returns-clause-stops g c =
     let new : PlayState = record { surroundings = c.run.new.surroundings; machine = c.run.new.self } in
-    table_stops (story_of (g.T.Tables.game c.args.self.now.tables.now) c.requires.may.rows.0) c.args.table c.args.state.now new
-    c.run.result c.requires.may.read c.requires.may.ready.closed (returns-clause-runs g c c.requires.may.rows.0 c.requires.may.rows.1) c.run.ensures.stopped
+    table_stops (story_of (g.T.Tables.game c.args.self.now.tables.now) c.requires.may.answers.0) c.args.table c.args.state.now new
+    c.run.result c.requires.may.read c.requires.may.ready.closed (returns-clause-runs g c c.requires.may.answers.0 c.requires.may.answers.1) c.run.ensures.stopped
 
 pub returns-clause-stays : goal.returns-clause-stays
 returns-clause-stays g c =
