@@ -45,6 +45,14 @@ impl Game {
         Ok(Game { parts })
     }
 
+    /// The game of lists that keep the rules, which aren't gone over for it.
+    pub fn from_valid(parts: GameParts) -> Game
+        requires valid { Valid parts }
+        ensures value { result ≡ parts }
+    {
+        Game { parts }
+    }
+
     /// The seven lists.
     pub fn parts(&self) -> &GameParts
         ensures value { result.now ≡ self.now }

@@ -1,6 +1,6 @@
 // The rules of texts.
 
-ghost use Rattle.std.specs.Prelude.{◌≡◌, ◌<◌, ◌^◌, IfSome, length, true};
+ghost use Rattle.std.specs.Prelude.{◌≡◌, ◌<◌, ◌^◌, ◌&&◌, IfSome, length, not, true};
 ghost use Rattle.paw_game.specs.inner.Fault.{first_bad, texts_fault};
 ghost use Rattle.paw_game.specs.Valid.{begins_no_line, is_printed, is_text, is_text_byte};
 
@@ -36,14 +36,21 @@ pub(crate) fn is_text(text: &Text) -> bool
 pub fn is_printed(bytes: &[u8]) -> bool
     ensures value { result ≡ is_printed true bytes.now }
 {
+    // There is no way out at a bad byte: without one, the compiler has many bytes tested at once.
+    let mut printed = true;
     let mut line_begins = true;
     for byte in bytes {
-        if !is_text_byte(*byte) || line_begins && begins_no_line(*byte) {
-            return false;
-        }
+        printed = printed & may_stand(line_begins, *byte);
         line_begins = *byte == b'\n';
     }
-    true
+    printed
+}
+
+/// Whether a byte may stand in a text, where `line_begins` says whether a line begins with it.
+fn may_stand(line_begins: bool, byte: u8) -> bool
+    ensures value { result ≡ (is_text_byte byte && not (line_begins && begins_no_line byte)) }
+{
+    is_text_byte(byte) & !(line_begins & begins_no_line(byte))
 }
 
 fn is_text_byte(byte: u8) -> bool

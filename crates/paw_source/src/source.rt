@@ -83,7 +83,7 @@ fn whole(alloc: Global, lines: u32, draft: Draft) -> Result<Game, SourceRefusal>
     }
     let parts = draft.into_parts(alloc)?;
     // The lines of a draft follow the rules of a game.
-    let game = Game::new(parts).unwrap();
+    let game = Game::from_valid(parts);
     if image_length(&game) > IMAGE_LIMIT as u64 {
         return Err(at_line(line, ReadError::Fault(SourceKind::TooBig)));
     }
