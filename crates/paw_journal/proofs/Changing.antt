@@ -7,11 +7,11 @@ use Rattle.std.specs.Prelude.{Option, Some, None, cond, not, ◌==◌, if◌then
 use Rattle.std.specs.List.{position_from}
 use Rattle.std.proofs.lemmas.Bool.Decides.{nat_tests}
 use Rattle.std.proofs.lemmas.Iterator.Adapters.{position_from-zero}
-use Rattle.std.proofs.lemmas.List.{length-append, length-take-le, take_all, drop_all}
+use Rattle.std.proofs.lemmas.List.{length-append, length-take-le, take_all, drop_all, get_or-drop, get_or-take}
 use Rattle.std.proofs.Math.Seq.{take-suc, drop-cons, set-append_seam}
 use Rattle.paw_journal.specs.Session.{Change, changes, changed, is_sound, first_unsound}
-use Rattle.paw_journal.specs.Session.{differing, change_bytes, differences_from, differences}
-use Rattle.paw_journal.specs.inner.Steps.{ChangesInto}
+use Rattle.paw_journal.specs.Session.{differing, change_bytes, differences_from}
+use Rattle.paw_journal.specs.inner.Steps.{ChangesInto, TurnsTo}
 use Rattle.paw_journal.specs.Session.{base_length}
 
 pub changes-append : (n : ℕ) (a b : List ℕ) → length a ≡ 4 * n → changes (a ++ b) ≡ changes a ++ changes b
@@ -78,15 +78,7 @@ difference_step old new i n low t e =
     ∙ (ap (λ b. differences_from i (get_or old i 0 ∷ drop (suc i) old) b) (drop-cons new i 0 l)
     ∙ ap (λ c. (if c then [] else change_bytes i (get_or new i 0)) ++ differences_from (suc i) (drop (suc i) old) (drop (suc i) new)) e)
 
--- Change records that turn this many bytes of one state into those of another.
-pub record ChangesTo (old new : List ℕ) (i : ℕ) (records : List ℕ) : Type 0 where
-  pub exact : records ++ differences_from i (drop i old) (drop i new) ≡ differences old new
-  pub many : length records ≡ 4 * differing (take i old) (take i new)
-  pub few : length records ≤ 4 * i
-  pub sound : first_unsound (changes records) ≡ None
-  pub turned : changed (changes records) old ≡ take i new ++ drop i old
-
-pub leads_none : (old new records : List ℕ) → records ≡ [] → ChangesTo old new 0 records
+pub turns_none : (old new records : List ℕ) → records ≡ [] → TurnsTo old new 0 records
 unfolding differing
 leads_none old new records e = record {
   exact = ap (λ r. r ++ differences_from 0 old new) e;
@@ -124,6 +116,20 @@ leads_same old new records i h n low e =
           ∙ (sym (append_assoc (take i new) (get_or new i 0 ∷ []) (drop (suc i) old))
           ∙ ap (λ l. l ++ drop (suc i) old) (sym (take-suc new i 0 l))));
     }
+
+-- a byte of a stretch is a byte of the whole
+read_at : (xs : List ℕ) (i n k : ℕ) → k < n → get_or (take n (drop i xs)) k 0 ≡ get_or xs (i + k) 0
+read_at xs i n k low = get_or-take n (drop i xs) k 0 low ∙ get_or-drop i xs k 0
+
+-- bytes that are the same in both states need no records
+pub turns_stretch : (old new records : List ℕ) (i n : ℕ) (k : ℕ) → TurnsTo old new i records → length old ≡ length new →
+    i + n ≤ length old → take n (drop i old) ≡ take n (drop i new) → k ≤ n → TurnsTo old new (i + k) records
+turns_stretch old new records i n zero h l low e le = subst (λ m. TurnsTo old new m records) (omega arith) h
+turns_stretch old new records i n (suc k) h l low e le =
+    let same : get_or old (i + k) 0 ≡ get_or new (i + k) 0 =
+    sym (read_at old i n k (omega arith)) ∙ ap (λ xs. get_or xs k 0) e ∙ read_at new i n k (omega arith) in
+    let before : TurnsTo old new (i + k) records = turns_stretch old new records i n k h l low e (omega arith) in
+    subst (λ m. TurnsTo old new m records) (omega arith) (turns_same old new records (i + k) before l (omega arith) same)
 
 one_change : (x y z i : ℕ) → x + 256 * y ≡ i → changes (x ∷ y ∷ z ∷ 0 ∷ []) ≡ record { at = i; byte = z; last = 0 } ∷ []
 one_change x y z i e = ap (λ k. record { at = k; byte = z; last = 0 } ∷ []) e

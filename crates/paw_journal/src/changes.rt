@@ -1,11 +1,15 @@
 // The change records of a slot.
 
-ghost use Rattle.std.specs.Prelude.{◌≡◌, ◌+◌, ◌*◌, ◌<◌, ◌≤◌, [], ◌++◌, length, None, IfSome};
+ghost use Rattle.std.specs.Prelude.{◌≡◌, ◌+◌, ◌*◌, ◌<◌, ◌≤◌, [], ◌++◌, length, None, IfSome, Decides};
 ghost use Rattle.std.specs.Prelude.{vec_capacity};
+ghost use Rattle.paw_journal.specs.declared.changes.TheConstants.{STRETCH};
 ghost use Rattle.paw_journal.specs.Session.{changes, changed, first_unsound, change_bytes};
-ghost use Rattle.paw_journal.specs.inner.Steps.{ChangesInto};
+ghost use Rattle.paw_journal.specs.inner.Steps.{ChangesInto, TurnsTo};
 
 use crate::layout::BASE_LENGTH;
+
+/// How many bytes of two states are compared at once. A turn changes few bytes, so most stretches are the same in both.
+pub(crate) const STRETCH: usize = 64;
 
 /// Applies change records in order, up to the first one that isn't sound, and returns the number of that one.
 pub(crate) fn apply(records: &[u8], state: &mut [u8; 4096]) -> Option<usize>
@@ -35,7 +39,43 @@ pub(crate) fn add_changes(old: &[u8; 4096], new: &[u8; 4096], records: &mut Vec<
     ensures few { length records.new.items ≤ 4 * 4096 }
     ensures capacity { vec_capacity records.old ≤ vec_capacity records.new }
 {
-    for at in 0..BASE_LENGTH {
+    for stretch in 0..BASE_LENGTH / STRETCH {
+        add_stretch(stretch * STRETCH, old, new, records);
+    }
+}
+
+// Adds the change records of the stretch that begins here.
+fn add_stretch(from: usize, old: &[u8; 4096], new: &[u8; 4096], records: &mut Vec<u8>)
+    requires place { from + STRETCH ≤ 4096 }
+    requires room { 4 * 4096 ≤ vec_capacity records.old }
+    requires turning { TurnsTo old.now new.now from records.old.items }
+    ensures turned { TurnsTo old.now new.now (from + STRETCH) records.new.items }
+    ensures capacity { vec_capacity records.old ≤ vec_capacity records.new }
+{
+    let to = from + STRETCH;
+    if are_same(&old[from..to], &new[from..to]) {
+        return;
+    }
+    add_bytes(from, to, old, new, records);
+}
+
+// Whether these bytes of two states are the same.
+fn are_same(old: &[u8], new: &[u8]) -> bool
+    ensures value { Decides result (old.now ≡ new.now) }
+{
+    old == new
+}
+
+// Adds the change records of the bytes from one place up to another.
+fn add_bytes(from: usize, to: usize, old: &[u8; 4096], new: &[u8; 4096], records: &mut Vec<u8>)
+    requires order { from ≤ to }
+    requires place { to ≤ 4096 }
+    requires room { 4 * 4096 ≤ vec_capacity records.old }
+    requires turning { TurnsTo old.now new.now from records.old.items }
+    ensures turned { TurnsTo old.now new.now to records.new.items }
+    ensures capacity { vec_capacity records.old ≤ vec_capacity records.new }
+{
+    for at in from..to {
         if old[at] != new[at] {
             add_change(at, new[at], records);
         }

@@ -1,6 +1,6 @@
 -- What the writes of a journal's calls leave.
 use Rattle.std.specs.Prelude.{◌≡◌, ◌⊎◌, ℕ, ◌+◌, ◌-◌, ◌*◌, ◌<◌, ◌≤◌, [], ◌∷◌, length, slice_index, true}
-use Rattle.std.specs.Prelude.{false, Option, Some, None}
+use Rattle.std.specs.Prelude.{false, Option, Some, None, ◌++◌, take, drop}
 use Rattle.paw_base.specs.Bytes.{Bytes, Text}
 use Rattle.paw_base.specs.declared.limits.TheConstants.{PIECE_LIMIT}
 use Rattle.paw_stage.specs.Disk.{Disk, is_dirty, put}
@@ -14,7 +14,8 @@ use Rattle.paw_journal.specs.Session.{version}
 use Rattle.paw_journal.specs.Session.{is_version}
 use Rattle.paw_journal.specs.Session.{Digests, kept_digests, changes, changed, first_unsound, slot, recover}
 use Rattle.paw_journal.specs.inner.Session.{digests_of, session_shown}
-use Rattle.paw_journal.specs.Session.{made_session, differing, differences, rewritten, committed_slot, committed}
+use Rattle.paw_journal.specs.Session.{made_session, differing, differences, differences_from, rewritten}
+use Rattle.paw_journal.specs.Session.{committed_slot, committed}
 use Rattle.paw_journal.specs.inner.Room.{slot_number, kept_slot}
 use Rattle.paw_journal.specs.inner.Written.{most_written}
 use Rattle.paw_journal.specs.inner.Store.{ChangesStoreOnly, HoldsStable}
@@ -105,6 +106,14 @@ pub record ChangesInto (old new records : Bytes) : Type 0 where
   pub many : length records ≡ 4 * differing old new
   pub sound : first_unsound (changes records) ≡ None
   pub turned : changed (changes records) old ≡ new
+
+-- Change records turn this many bytes of one state into those of another.
+pub record TurnsTo (old new : Bytes) (i : ℕ) (records : Bytes) : Type 0 where
+  pub exact : records ++ differences_from i (drop i old) (drop i new) ≡ differences old new
+  pub many : length records ≡ 4 * differing (take i old) (take i new)
+  pub few : length records ≤ 4 * i
+  pub sound : first_unsound (changes records) ≡ None
+  pub turned : changed (changes records) old ≡ take i new ++ drop i old
 
 -- The bytes of a slot once a commit has written it.
 abbrev pub written_slot : CommitDraft → Bytes → Text → Bytes → Bytes
