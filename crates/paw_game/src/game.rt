@@ -45,7 +45,7 @@ impl Game {
         Ok(Game { parts })
     }
 
-    /// The game of lists that keep the rules, which aren't gone over for it.
+    /// The game of lists that follow the rules, which aren't gone over for it.
     pub fn from_valid(parts: GameParts) -> Game
         requires valid { Valid parts }
         ensures value { result ≡ parts }

@@ -11,7 +11,7 @@ use Rattle.std.proofs.lemmas.List.{length-append, length-take-le, take_all, drop
 use Rattle.std.proofs.Math.Seq.{take-suc, drop-cons, set-append_seam}
 use Rattle.paw_journal.specs.Session.{Change, changes, changed, is_sound, first_unsound}
 use Rattle.paw_journal.specs.Session.{differing, change_bytes, differences_from}
-use Rattle.paw_journal.specs.inner.Steps.{ChangesInto, TurnsTo}
+use Rattle.paw_journal.specs.inner.Steps.{ChangesInto, ChangesTo}
 use Rattle.paw_journal.specs.Session.{base_length}
 
 pub changes-append : (n : ℕ) (a b : List ℕ) → length a ≡ 4 * n → changes (a ++ b) ≡ changes a ++ changes b
@@ -78,7 +78,7 @@ difference_step old new i n low t e =
     ∙ (ap (λ b. differences_from i (get_or old i 0 ∷ drop (suc i) old) b) (drop-cons new i 0 l)
     ∙ ap (λ c. (if c then [] else change_bytes i (get_or new i 0)) ++ differences_from (suc i) (drop (suc i) old) (drop (suc i) new)) e)
 
-pub turns_none : (old new records : List ℕ) → records ≡ [] → TurnsTo old new 0 records
+pub leads_none : (old new records : List ℕ) → records ≡ [] → ChangesTo old new 0 records
 unfolding differing
 leads_none old new records e = record {
   exact = ap (λ r. r ++ differences_from 0 old new) e;
@@ -117,19 +117,19 @@ leads_same old new records i h n low e =
           ∙ ap (λ l. l ++ drop (suc i) old) (sym (take-suc new i 0 l))));
     }
 
--- a byte of a stretch is a byte of the whole
+-- A byte of a stretch is a byte of the whole.
 read_at : (xs : List ℕ) (i n k : ℕ) → k < n → get_or (take n (drop i xs)) k 0 ≡ get_or xs (i + k) 0
 read_at xs i n k low = get_or-take n (drop i xs) k 0 low ∙ get_or-drop i xs k 0
 
--- bytes that are the same in both states need no records
-pub turns_stretch : (old new records : List ℕ) (i n : ℕ) (k : ℕ) → TurnsTo old new i records → length old ≡ length new →
-    i + n ≤ length old → take n (drop i old) ≡ take n (drop i new) → k ≤ n → TurnsTo old new (i + k) records
-turns_stretch old new records i n zero h l low e le = subst (λ m. TurnsTo old new m records) (omega arith) h
+-- Bytes that are the same in both states need no records.
+pub turns_stretch : (old new records : List ℕ) (i n : ℕ) (k : ℕ) → ChangesTo old new i records → length old ≡ length new →
+    i + n ≤ length old → take n (drop i old) ≡ take n (drop i new) → k ≤ n → ChangesTo old new (i + k) records
+turns_stretch old new records i n zero h l low e le = subst (λ m. ChangesTo old new m records) (omega arith) h
 turns_stretch old new records i n (suc k) h l low e le =
     let same : get_or old (i + k) 0 ≡ get_or new (i + k) 0 =
     sym (read_at old i n k (omega arith)) ∙ ap (λ xs. get_or xs k 0) e ∙ read_at new i n k (omega arith) in
-    let before : TurnsTo old new (i + k) records = turns_stretch old new records i n k h l low e (omega arith) in
-    subst (λ m. TurnsTo old new m records) (omega arith) (turns_same old new records (i + k) before l (omega arith) same)
+    let before : ChangesTo old new (i + k) records = turns_stretch old new records i n k h l low e (omega arith) in
+    subst (λ m. ChangesTo old new m records) (omega arith) (leads_same old new records (i + k) before l (omega arith) same)
 
 one_change : (x y z i : ℕ) → x + 256 * y ≡ i → changes (x ∷ y ∷ z ∷ 0 ∷ []) ≡ record { at = i; byte = z; last = 0 } ∷ []
 one_change x y z i e = ap (λ k. record { at = k; byte = z; last = 0 } ∷ []) e

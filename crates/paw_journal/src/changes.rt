@@ -4,7 +4,7 @@ ghost use Rattle.std.specs.Prelude.{◌≡◌, ◌+◌, ◌*◌, ◌<◌, ◌≤
 ghost use Rattle.std.specs.Prelude.{vec_capacity};
 ghost use Rattle.paw_journal.specs.declared.changes.TheConstants.{STRETCH};
 ghost use Rattle.paw_journal.specs.Session.{changes, changed, first_unsound, change_bytes};
-ghost use Rattle.paw_journal.specs.inner.Steps.{ChangesInto, TurnsTo};
+ghost use Rattle.paw_journal.specs.inner.Steps.{ChangesInto, ChangesTo};
 
 use crate::layout::BASE_LENGTH;
 
@@ -48,8 +48,8 @@ pub(crate) fn add_changes(old: &[u8; 4096], new: &[u8; 4096], records: &mut Vec<
 fn add_stretch(from: usize, old: &[u8; 4096], new: &[u8; 4096], records: &mut Vec<u8>)
     requires place { from + STRETCH ≤ 4096 }
     requires room { 4 * 4096 ≤ vec_capacity records.old }
-    requires turning { TurnsTo old.now new.now from records.old.items }
-    ensures turned { TurnsTo old.now new.now (from + STRETCH) records.new.items }
+    requires turning { ChangesTo old.now new.now from records.old.items }
+    ensures turned { ChangesTo old.now new.now (from + STRETCH) records.new.items }
     ensures capacity { vec_capacity records.old ≤ vec_capacity records.new }
 {
     let to = from + STRETCH;
@@ -66,13 +66,13 @@ fn are_same(old: &[u8], new: &[u8]) -> bool
     old == new
 }
 
-// Adds the change records of the bytes from one place up to another.
+// Adds the change records of the bytes from one offset up to another.
 fn add_bytes(from: usize, to: usize, old: &[u8; 4096], new: &[u8; 4096], records: &mut Vec<u8>)
     requires order { from ≤ to }
     requires place { to ≤ 4096 }
     requires room { 4 * 4096 ≤ vec_capacity records.old }
-    requires turning { TurnsTo old.now new.now from records.old.items }
-    ensures turned { TurnsTo old.now new.now to records.new.items }
+    requires turning { ChangesTo old.now new.now from records.old.items }
+    ensures turned { ChangesTo old.now new.now to records.new.items }
     ensures capacity { vec_capacity records.old ≤ vec_capacity records.new }
 {
     for at in from..to {

@@ -80,4 +80,5 @@ parsed_lexemes-fall g pending e n a (m ∷ ms) h =
 -- A phrase that is taken leaves nothing, or at least two bytes less.
 pub phrases_take_two : PhrasesTakeTwo
 unfolding parsed
-phrases_take_two g pending e n a = parsed_lexemes-fall g pending e n a (lexemes pending) (Fall_up _ _ (lexemes pending) (omega arith) (lexemes_from-fall pending []))
+phrases_take_two g pending e n a =
+    parsed_lexemes-fall g pending e n a (lexemes pending) (Fall_up _ _ (lexemes pending) (omega arith) (lexemes_from-fall pending []))

@@ -72,7 +72,8 @@ unfolding first_frame_fault
 none_used g code caller d [] h = refl
 none_used g code caller d (f ∷ fs) h = go (none_used g code (Some (parameter_of (condact_at_frame g f))) (suc d) fs) (is_unused f) refl h
   where
-    go : (first_frame_fault g code (Some (parameter_of (condact_at_frame g f))) 0 (suc d) fs ≡ None → fs ≡ replicate (length fs) unused) → (b : Bool) → is_unused f ≡ b
+    go : (first_frame_fault g code (Some (parameter_of (condact_at_frame g f))) 0 (suc d) fs ≡ None → fs ≡ replicate (length fs) unused) →
+        (b : Bool) → is_unused f ≡ b
         → ◌≡◌ {A = Option ℕ} (if b then first_frame_fault g code (Some (parameter_of (condact_at_frame g f))) (0 - 1) (suc d) fs else Some d) None
         → f ∷ fs ≡ replicate (length (f ∷ fs)) unused
     go later true e q = let same = unused_is f e in let rest = later q in cc (same, rest)

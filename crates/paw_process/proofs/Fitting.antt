@@ -75,7 +75,8 @@ frame_says g code caller f h =
     let at = coded code (condact_at_frame g f) (second (may_open caller f.table) _ h) in
     record { opens = first_of (may_open caller f.table) _ h; condact = at.0; stands = at.1.0; is = at.1.1 }
 
-later_frames : (g : GameLists) (code : ℕ) (caller : Option ℕ) (n d : ℕ) (f : Frame) (fs : List Frame) → first_frame_fault g code caller (suc n) d (f ∷ fs) ≡ None
+later_frames : (g : GameLists) (code : ℕ) (caller : Option ℕ) (n d : ℕ) (f : Frame) (fs : List Frame) →
+    first_frame_fault g code caller (suc n) d (f ∷ fs) ≡ None
     → (frame_stands g code caller (suc n) f ≡ true) × (first_frame_fault g code (Some (parameter_of (condact_at_frame g f))) n (suc d) fs ≡ None)
 unfolding first_frame_fault
 later_frames g code caller n d f fs h = go (frame_stands g code caller (suc n) f) refl h
@@ -87,7 +88,8 @@ later_frames g code caller n d f fs h = go (frame_stands g code caller (suc n) f
     go false e q = cc
 
 -- The frames that are used lead to the condact.
-frames_lead : (g : GameLists) (code : ℕ) (caller : Option ℕ) (n d : ℕ) (rows : List Frame) → suc n ≤ length rows → first_frame_fault g code caller (suc n) d rows ≡ None
+frames_lead : (g : GameLists) (code : ℕ) (caller : Option ℕ) (n d : ℕ) (rows : List Frame) → suc n ≤ length rows →
+    first_frame_fault g code caller (suc n) d rows ≡ None
     → LeadsTo g code (take (suc n) rows) × (may_open caller (first_table (take (suc n) rows)) ≡ true)
 frames_lead g code caller n d [] size h = absurd (omega arith)
 frames_lead g code caller zero d (f ∷ fs) size h =

@@ -42,7 +42,8 @@ all_answers calls f count answers stand n own below size values =
     found ∙ ap (λ (l : List ℕ). Some l) (same_number_lists r own (long ∙ sym size) each)
 
 -- The answers of the first routines and of the next one, in order.
-pub concat-more : (answers : List (List ℕ)) (n : ℕ) (own : List ℕ) → slice_get answers n ≡ Some own → concat (take (n + 1) answers) ≡ concat (take n answers) ++ own
+pub concat-more : (answers : List (List ℕ)) (n : ℕ) (own : List ℕ) → slice_get answers n ≡ Some own →
+    concat (take (n + 1) answers) ≡ concat (take n answers) ++ own
 concat-more answers n own at =
     ap concat (take_more answers n own (slice_get_within answers n own at) ∙ ap (λ r. take n answers ++ r ∷ []) (get_or_from_slice_get answers n own own at))
     ∙ concat-append (take n answers) (own ∷ [])

@@ -108,7 +108,7 @@ pub record ChangesInto (old new records : Bytes) : Type 0 where
   pub turned : changed (changes records) old ≡ new
 
 -- Change records turn this many bytes of one state into those of another.
-pub record TurnsTo (old new : Bytes) (i : ℕ) (records : Bytes) : Type 0 where
+pub record ChangesTo (old new : Bytes) (i : ℕ) (records : Bytes) : Type 0 where
   pub exact : records ++ differences_from i (drop i old) (drop i new) ≡ differences old new
   pub many : length records ≡ 4 * differing (take i old) (take i new)
   pub few : length records ≤ 4 * i

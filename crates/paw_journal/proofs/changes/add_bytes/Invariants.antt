@@ -1,7 +1,7 @@
 use Rattle.std.proofs.Common.{◌≤◌}
 use Rattle.std.specs.Prelude.{vec_capacity}
-use Rattle.paw_journal.specs.inner.Steps.{TurnsTo}
+use Rattle.paw_journal.specs.inner.Steps.{ChangesTo}
 use Rattle.paw_journal.proofs.changes.add_bytes.Given as goal
 
 abbrev pub invariant-loop-at : goal.invariant-loop-at
-invariant-loop-at l = record { turns : TurnsTo l.old l.new l.at l.records.items; capacity : vec_capacity l.initial.records ≤ vec_capacity l.records }
+invariant-loop-at l = record { turns : ChangesTo l.old l.new l.at l.records.items; capacity : vec_capacity l.initial.records ≤ vec_capacity l.records }

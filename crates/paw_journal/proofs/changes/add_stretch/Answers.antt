@@ -1,6 +1,6 @@
 use Rattle.std.proofs.Common.{◌+◌, ◌-◌, ◌∙◌, arith, sym}
 use Rattle.paw_journal.specs.declared.changes.TheConstants.{STRETCH}
-use Rattle.paw_journal.proofs.Turning.{turns_stretch}
+use Rattle.paw_journal.proofs.Changing.{turns_stretch}
 use Rattle.paw_journal.proofs.changes.add_stretch.Goals as goal
 
 pub returns-then-are_same-clause-turned : goal.returns-then-are_same-clause-turned

@@ -22,7 +22,8 @@ pub returns-in-Failed-clause-serves : goal.returns-in-Failed-clause-serves
 returns-in-Failed-clause-serves g c = record { tells = c.ask.ensures.tells; counts_failure = c.in-Failed.ensures.counts_failure; among = inr (inr (inl refl)) }
 
 pub returns-in-Some-clause-serves : goal.returns-in-Some-clause-serves
-returns-in-Some-clause-serves g c = rw c.in-Some.ensures.fine (record { tells = c.ask.ensures.tells; counts_failure = c.in-Line.ensures.counts_failure; among = tt })
+returns-in-Some-clause-serves g c =
+    rw c.in-Some.ensures.fine (record { tells = c.ask.ensures.tells; counts_failure = c.in-Line.ensures.counts_failure; among = tt })
 
 pub returns-in-Err-clause-serves : goal.returns-in-Err-clause-serves
 returns-in-Err-clause-serves g c =

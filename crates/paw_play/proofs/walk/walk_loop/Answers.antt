@@ -15,7 +15,8 @@ pub start-step-requires-clause-answers : goal.start-step-requires-clause-answers
 start-step-requires-clause-answers g c = subst (λ r. HaveAnswers g.F.Fn r) (sym c.in-Ok-new.ensures.routines) c.requires.answers
 
 pub walk_lines-requires-clause-answers : goal.walk_lines-requires-clause-answers
-walk_lines-requires-clause-answers g c = subst (λ r. HaveAnswers g.F.Fn r) (sym (c.start-step.ensures.routines ∙ c.in-Ok-new.ensures.routines)) c.requires.answers
+walk_lines-requires-clause-answers g c =
+    subst (λ r. HaveAnswers g.F.Fn r) (sym (c.start-step.ensures.routines ∙ c.in-Ok-new.ensures.routines)) c.requires.answers
 
 pub returns-in-Some-clause-walks : goal.returns-in-Some-clause-walks
 returns-in-Some-clause-walks g c = λ tells X answers.

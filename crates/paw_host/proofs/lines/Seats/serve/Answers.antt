@@ -23,7 +23,8 @@ pub returns-in-End-clause-serves : goal.returns-in-End-clause-serves
 returns-in-End-clause-serves g c = record { tells = c.ask.ensures.tells; counts_failure = c.in-End.ensures.counts_failure; among = tt }
 
 pub returns-in-Failed-clause-serves : goal.returns-in-Failed-clause-serves
-returns-in-Failed-clause-serves g c = record { tells = c.ask.ensures.tells; counts_failure = c.in-Failed.ensures.counts_failure; among = inr (inr (inr (inr (inl refl)))) }
+returns-in-Failed-clause-serves g c =
+    record { tells = c.ask.ensures.tells; counts_failure = c.in-Failed.ensures.counts_failure; among = inr (inr (inr (inr (inl refl)))) }
 
 pub returns-in-Err-clause-serves : goal.returns-in-Err-clause-serves
 returns-in-Err-clause-serves g c =
