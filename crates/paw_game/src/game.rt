@@ -5,6 +5,7 @@ ghost use Rattle.paw_game.specs.Valid.{Valid};
 ghost use Rattle.paw_game.specs.inner.Fault.{game_fault};
 
 use crate::check::check;
+use crate::cursor::CondactCursor;
 use crate::lookup;
 use crate::parts::{GameFault, GamePart, GameParts};
 use crate::tables::Tables;
@@ -65,6 +66,8 @@ impl Game {
 impl Tables for Game {
     ghost game = { λ g. g };
 
+    ghost stands = { λ _ _. Unit {0} };
+
     fn counts(&self) -> Counts {
         let parts = &self.parts;
         Counts {
@@ -95,6 +98,22 @@ impl Tables for Game {
 
     fn condact(&self, table: u8, entry: u16, at: u8) -> Option<Condact> {
         lookup::condact_at(&self.parts, table, entry, at)
+    }
+
+    fn cursor(&self, table: u8, entry: u16, at: u8) -> CondactCursor {
+        CondactCursor {
+            table,
+            entry,
+            at,
+            left: 0,
+            offset: 0,
+        }
+    }
+
+    fn next_condact(&self, cursor: &mut CondactCursor) -> Option<Condact> {
+        let condact = lookup::condact_at(&self.parts, cursor.table, cursor.entry, cursor.at)?;
+        cursor.at += 1;
+        Some(condact)
     }
 
     fn next_match(&self, table: u8, from: u16, verb: u8, noun: u8) -> Option<u16> {

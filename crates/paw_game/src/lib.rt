@@ -2,6 +2,7 @@
 #![tactic(auto)]
 
 mod check;
+pub mod cursor;
 pub mod game;
 mod inspector;
 pub mod lookup;

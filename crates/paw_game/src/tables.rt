@@ -1,5 +1,6 @@
 // How a player reads a game: each part by its number.
 
+use crate::cursor::CondactCursor;
 use crate::parts::GamePart;
 use paw_base::limits::WORD_LENGTH;
 use paw_base::parts::{Condact, Counts, ObjectFacts};
@@ -13,10 +14,14 @@ pub trait Tables {
     ghost use Rattle.paw_game.specs.Game.{GameLists, counts_of};
     ghost use Rattle.paw_game.specs.Valid.{Valid, is_condact, is_place};
     ghost use Rattle.paw_game.specs.Tables.{facts_at, exit_at, head_at, condact_at, word_at};
-    ghost use Rattle.paw_game.specs.inner.Tables.{text_at, match_at, matches_at};
+    ghost use Rattle.paw_game.specs.inner.Tables.{text_at, match_at, matches_at, MovesPast};
+    ghost use Rattle.paw_game.specs.declared.cursor.CondactCursor.{CondactCursor};
 
     /// The game.
     ghost game: { Self → GameLists };
+
+    /// What a cursor keeps for reading on is that of its condact.
+    ghost stands: { Self → CondactCursor → Type 0 };
 
     /// How many rows each list has.
     fn counts(&self) -> Counts
@@ -49,6 +54,24 @@ pub trait Tables {
         ensures value { result ≡ condact_at (game self.now) table entry at }
         ensures small { OnSome result (entry < ENTRY_LIMIT) }
         ensures early { OnSome result (at < CONDACT_LIMIT) }
+        ensures kept { IfSome result (λ c. IsTrue (is_condact (game self.now) c)) };
+
+    /// The cursor at a condact of an entry, whether or not there is such a condact.
+    fn cursor(&self, table: u8, entry: u16, at: u8) -> CondactCursor
+        ensures stands { stands self.now result }
+        ensures table { result.table ≡ table }
+        ensures entry { result.entry ≡ entry }
+        ensures at { result.at ≡ at };
+
+    /// The condact at a cursor, which moves on to the next one; None exactly where there is no such condact, and then
+    /// the cursor stays.
+    fn next_condact(&self, cursor: &mut CondactCursor) -> Option<Condact>
+        requires stands { stands self.now cursor.old }
+        ensures stands { stands self.now cursor.new }
+        ensures moves { MovesPast result cursor.old cursor.new }
+        ensures value { result ≡ condact_at (game self.now) cursor.old.table cursor.old.entry cursor.old.at }
+        ensures small { OnSome result (cursor.old.entry < ENTRY_LIMIT) }
+        ensures early { OnSome result (cursor.old.at < CONDACT_LIMIT) }
         ensures kept { IfSome result (λ c. IsTrue (is_condact (game self.now) c)) };
 
     /// The least entry not below `from` that matches this verb and noun; None exactly where there is none.

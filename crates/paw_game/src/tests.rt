@@ -171,6 +171,10 @@ fn tells_entries(rt: HostRuntime) -> Result<(), Fail> {
     };
     assert_eq!(rt; game.head(0, 1), Some((NO_WORD, ANY_WORD)));
     assert_eq!(rt; game.condact(0, 0, 1), Some(done));
+    let mut cursor = game.cursor(0, 0, 1);
+    assert_eq!(rt; game.next_condact(&mut cursor), Some(done));
+    assert_eq!(rt; (cursor.table, cursor.entry, cursor.at), (0, 0, 2));
+    assert_eq!(rt; game.next_condact(&mut cursor), None);
     for (from, noun, want) in [(0, 50, Some(0)), (0, 51, Some(1)), (2, 50, None)] {
         assert_eq!(rt; game.next_match(0, from, 30, noun), want);
     }

@@ -3,7 +3,7 @@ use Rattle.std.proofs.Common.{◌≡◌, ℕ, zero, suc, ◌+◌, ◌-◌, ◌*�
 use Rattle.std.proofs.Common.{get_or, take, drop, Option, Result, Some, Ok, Err, refl, sym, ap, subst, ◌∙◌, inl, inr}
 use Rattle.std.proofs.Common.{arith, suc-mul}
 use Rattle.std.specs.Prelude.{◌^◌, slice_get, OnOk}
-use Rattle.std.proofs.lemmas.Bool.{cases_lt, lt-ltb}
+use Rattle.std.proofs.lemmas.Bool.{cases_lt}
 use Rattle.std.proofs.lemmas.List.{length-append, get_or_append_left, take_all}
 use Rattle.std.proofs.Math.Seq.{get_or-append_seam}
 use Rattle.std.proofs.lemmas.Option.{none-some, same_Some, slice_get_within}
@@ -18,7 +18,7 @@ use Rattle.paw_image.specs.Damage.{ImagePreface, Passing, each, after_condact}
 use Rattle.paw_read_error.specs.Bind.{◌>>=◌}
 use Rattle.paw_image.specs.Reading.{byte_at}
 use Rattle.paw_read_error.specs.inner.Gives.{Fails}
-use Rattle.paw_image.specs.inner.Rows.{past_condact, condact_after, condact_among, value_of}
+use Rattle.paw_image.specs.inner.Rows.{past_condact}
 use Rattle.paw_read_error.specs.declared.read_error.ReadError.{ReadError}
 use Rattle.paw_image.proofs.EndLaws.{end_whole, end_taken, end_of_end}
 use Rattle.paw_image.proofs.Faults.{fails_next}
@@ -185,13 +185,6 @@ pub milestone_of : (milestones condacts : List ℕ) (count at eights : ℕ) → 
 milestone_of milestones condacts count at eights are lt e =
     let m = are eights (omega (arith, lt, e)) in
     (m.0, m.1, subst (λ (n : ℕ). GoesOnAt (n * 8) condacts m.0) (sym e) m.2)
-
--- A condact is read from its milestone on.
-pub condact_from : (at count : ℕ) (condacts rest : List ℕ) (x : Option Condact) → at < count → each past_condact (at / 8 * 8) condacts ≡ Ok rest
-    → value_of (condact_after (at % 8) rest) ≡ x → x ≡ condact_among at count condacts
-condact_from at count condacts rest x lt e is =
-    let same = each_more past_condact (at / 8 * 8) (at % 8) at condacts rest (omega arith) e in
-    sym (rw (lt-ltb at count lt, same) is)
 
 -- The milestones of the entry at the front, whose first three bytes are its verb, its noun and its number of condacts.
 pub milestones_at : (milestones row : List ℕ) → 3 ≤ length row → EntryMilestones milestones row → AreMilestones milestones (get_or row 2 0) (take (length row - 3) (drop 3 row))

@@ -1,4 +1,5 @@
 pub mod CondactLaws
+pub mod CursorLaws
 pub mod EachLoop
 pub mod EndLaws
 pub mod ExitLoop

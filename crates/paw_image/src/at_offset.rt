@@ -1,13 +1,14 @@
 // One row of an image, read where it stands.
 
-ghost use Rattle.std.specs.Prelude.{◌≡◌, ◌*◌, ◌/◌, ◌<◌, drop, Ok, OnErr};
+ghost use Rattle.std.specs.Prelude.{◌≡◌, ◌*◌, ◌/◌, ◌<◌, drop, Ok, None, OnErr, IfSome, IfNone};
 ghost use Rattle.std.specs.Option.{option_copied, option_map};
-ghost use Rattle.paw_image.specs.inner.Milestones.{AreMilestones, EntryMilestones, milestones_of};
+ghost use Rattle.paw_image.specs.inner.Milestones.{AreMilestones, AreFrom, AreNth, IsEnd, EntryMilestones};
+ghost use Rattle.paw_image.specs.inner.Milestones.{milestones_of};
 ghost use Rattle.paw_image.specs.Damage.{each};
 ghost use Rattle.paw_read_error.specs.inner.Gives.{Gives};
-ghost use Rattle.paw_image.specs.inner.Reading.{IsFault, sized_text_at};
-ghost use Rattle.paw_image.specs.inner.Rows.{condact_after, condact_among, entry_here, exit_here, exit_in, exits_here};
-ghost use Rattle.paw_image.specs.inner.Rows.{facts_here, head_here, nth_condact, past_condact, up_to, value_of};
+ghost use Rattle.paw_image.specs.inner.Reading.{IsFault, leading_condact, sized_text_at};
+ghost use Rattle.paw_image.specs.inner.Rows.{entry_here, exit_here, exit_in, exits_here, facts_here, head_here};
+ghost use Rattle.paw_image.specs.inner.Rows.{past_condact, up_to, value_of};
 
 use crate::fault::ReadFault;
 use crate::milestones::Milestones;
@@ -18,10 +19,9 @@ use paw_base::parts::{Condact, ObjectFacts};
 use paw_game::parts::Exit;
 
 /// The bytes from an offset on; none past the end.
-fn from_offset(bytes: &[u8], place: u32) -> &[u8]
+fn from_offset(bytes: &[u8], place: usize) -> &[u8]
     ensures value { result.now ≡ drop place bytes.now }
 {
-    let place = place as usize;
     if place > bytes.len() {
         return &[];
     }
@@ -33,7 +33,7 @@ fn from_offset(bytes: &[u8], place: u32) -> &[u8]
 pub fn text_in(bytes: &[u8], place: u32) -> Option<&[u8]>
     ensures value { option_copied result ≡ value_of (sized_text_at (drop place bytes.now)) }
 {
-    match read_text(from_offset(bytes, place)) {
+    match read_text(from_offset(bytes, place as usize)) {
         Ok((text, _)) => Some(text),
         Err(_) => None,
     }
@@ -44,7 +44,7 @@ pub fn text_in(bytes: &[u8], place: u32) -> Option<&[u8]>
 pub fn facts_in(bytes: &[u8], place: u32) -> Option<ObjectFacts>
     ensures value { result ≡ facts_here (drop place bytes.now) }
 {
-    match read_after_text(from_offset(bytes, place)) {
+    match read_after_text(from_offset(bytes, place as usize)) {
         Ok((facts, _)) => Some(facts),
         Err(_) => None,
     }
@@ -87,7 +87,7 @@ fn exit_of(verb: u8, count: u8, bytes: &[u8]) -> Option<u8>
 pub fn exit_at(bytes: &[u8], place: u32, verb: u8) -> Option<u8>
     ensures value { result ≡ exits_here verb (drop place bytes.now) }
 {
-    match from_offset(bytes, place) {
+    match from_offset(bytes, place as usize) {
         [count, rest @ ..] => exit_of(verb, *count, rest),
         [] => None,
     }
@@ -98,7 +98,7 @@ pub fn exit_at(bytes: &[u8], place: u32, verb: u8) -> Option<u8>
 pub fn head_in(bytes: &[u8], place: u32) -> Option<(u8, u8)>
     ensures value { result ≡ head_here (drop place bytes.now) }
 {
-    match from_offset(bytes, place) {
+    match from_offset(bytes, place as usize) {
         [verb, noun, ..] => Some((*verb, *noun)),
         _ => None,
     }
@@ -115,16 +115,6 @@ fn past_condacts(count: u8, bytes: &[u8]) -> Result<&[u8], ReadFault>
         rest = after;
     }
     Ok(rest)
-}
-
-/// The condact after this number of condacts.
-#[tactic(auto, using(crate::proofs::Faults::fault_steps))]
-fn condact_after(count: u8, bytes: &[u8]) -> Result<(Condact, &[u8]), ReadFault>
-    ensures gives { Gives (λ x. (x.0, x.1.now)) result (condact_after count bytes.now) }
-    ensures fails { OnErr result (IsFault (condact_after count bytes.now)) }
-{
-    let rest = past_condacts(count, bytes)?;
-    read_condact(rest)
 }
 
 /// The bytes of an entry's `count` condacts from the last milestone on that isn't past condact `at`.
@@ -144,48 +134,63 @@ fn from_milestone<'a>(
         return condacts;
     }
     let milestones = milestones.from_entry(entry);
-    from_offset(condacts, milestones[eights - 1] as u32)
+    from_offset(condacts, milestones[eights - 1] as usize)
 }
 
-/// One of this number of condacts of an entry.
-#[tactic(auto, using(crate::proofs::Faults::no_value))]
-fn condact_of(
+/// The bytes of an entry's condacts from one of them on, and how many there are from it on.
+fn from_condact<'a>(
     milestones: &Milestones,
     entry: u16,
     at: u8,
     count: u8,
-    condacts: &[u8],
-) -> Option<Condact>
+    condacts: &'a [u8],
+) -> (u8, &'a [u8])
     requires milestones { AreMilestones (milestones_of milestones.now entry) count condacts.now }
-    ensures value { result ≡ condact_among at count condacts.now }
+    ensures value { AreFrom at count condacts.now result.0 result.1.now }
+    ensures end { IsEnd condacts.now result.1.now }
 {
     if at >= count {
-        return None;
+        return (0, condacts);
     }
-    match condact_after(
+    match past_condacts(
         at % 8,
         from_milestone(milestones, entry, at, count, condacts),
     ) {
-        Ok((condact, _)) => Some(condact),
-        Err(_) => None,
+        Ok(rest) => (count - at, rest),
+        Err(_) => (0, condacts),
     }
 }
 
-/// A condact, by its number, of the entry that begins at an offset.
+/// Of the entry that begins at an offset: how many condacts it has from one of them on, and where that one begins.
 #[tactic(auto, unfolding(crate::specs::inner::Rows::nth_condact))]
-pub fn condact_in(
+pub fn condacts_in(
     bytes: &[u8],
     place: u32,
     milestones: &Milestones,
     entry: u16,
     at: u8,
-) -> Option<Condact>
+) -> (u8, usize)
     requires milestones { EntryMilestones (milestones_of milestones.now entry) (drop place bytes.now) }
-    ensures value { result ≡ nth_condact at (drop place bytes.now) }
+    ensures value { AreNth at (drop place bytes.now) result.0 (drop result.1 bytes.now) }
 {
-    match from_offset(bytes, place) {
-        [_, _, count, condacts @ ..] => condact_of(milestones, entry, at, *count, condacts),
-        _ => None,
+    match from_offset(bytes, place as usize) {
+        [_, _, count, condacts @ ..] => {
+            let (left, rest) = from_condact(milestones, entry, at, *count, condacts);
+            (left, bytes.len().saturating_sub(rest.len()))
+        }
+        _ => (0, 0),
+    }
+}
+
+/// The condact that begins at an offset, and where the next one does.
+#[tactic(auto, using(crate::proofs::Faults::no_value))]
+pub fn condact_at(bytes: &[u8], place: usize) -> Option<(Condact, usize)>
+    ensures some { IfSome result (λ x. leading_condact (drop place bytes.now) ≡ Ok (x.0, drop x.1 bytes.now)) }
+    ensures none { IfNone result (value_of (leading_condact (drop place bytes.now)) ≡ None) }
+{
+    match read_condact(from_offset(bytes, place)) {
+        Ok((condact, rest)) => Some((condact, bytes.len().saturating_sub(rest.len()))),
+        Err(_) => None,
     }
 }
 
@@ -205,7 +210,7 @@ fn up_to<'a>(row: &'a [u8], count: u8, condacts: &[u8]) -> Option<&'a [u8]>
 pub fn entry_in(bytes: &[u8], place: u32) -> Option<&[u8]>
     ensures value { option_copied result ≡ entry_here (drop place bytes.now) }
 {
-    let row = from_offset(bytes, place);
+    let row = from_offset(bytes, place as usize);
     match row {
         [_, _, count, condacts @ ..] => up_to(row, *count, condacts),
         _ => None,

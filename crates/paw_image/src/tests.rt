@@ -491,3 +491,74 @@ fn both_tell_every_kind_of_row(rt: HostRuntime) -> Result<(), Fail> {
     assert_eq!(rt; again.as_slice(), image.as_slice());
     Ok(())
 }
+
+/// The condact of this number, plain or indirect: one, two or three bytes.
+fn mixed(number: u8) -> Condact {
+    let (code, a, b) = match number % 4 {
+        0 => (32, 0, 0),
+        1 => (178, number, 0),
+        2 => (70, number, 255 - number),
+        _ => (139, number, 0),
+    };
+    Condact { code, a, b }
+}
+
+/// An image with a table that has an entry of 20 condacts, and an empty one.
+fn of_twenty(alloc: Global) -> Result<Vec<u8>, AllocError> {
+    let mut image = changed(alloc, &SMALLEST[..20], 4, &[2])?;
+    image.extend_from_slice(&[2, 0, 255, 255, 20])?;
+    for number in 0..20 {
+        let Condact { code, a, b } = mixed(number);
+        match number % 4 {
+            0 => image.push(code)?,
+            2 => image.extend_from_slice(&[code, a, b])?,
+            _ => image.extend_from_slice(&[code, a])?,
+        }
+    }
+    image.extend_from_slice(&[255, 255, 0, 0, 0, 0, 0])?;
+    Ok(image)
+}
+
+/// Whether a cursor reads on over the entry of 20 condacts from each of them on, and stays past the last one.
+fn reads_on<T: Tables>(tables: &T) -> bool {
+    for from in 0..21 {
+        let mut cursor = tables.cursor(0, 0, from);
+        for at in from..20 {
+            if cursor.at != at || tables.next_condact(&mut cursor) != Some(mixed(at)) {
+                return false;
+            }
+        }
+        let last = cursor;
+        if tables.next_condact(&mut cursor).is_some() || cursor != last {
+            return false;
+        }
+    }
+    true
+}
+
+/// Whether no condact stands at this offset.
+fn reads_nothing<T: Tables>(tables: &T, table: u8, entry: u16, at: u8) -> bool {
+    let mut cursor = tables.cursor(table, entry, at);
+    tables.next_condact(&mut cursor).is_none()
+        && (cursor.table, cursor.entry, cursor.at) == (table, entry, at)
+}
+
+/// Whether no condact stands in an empty entry, past the entries, past the tables, and far past the last condact.
+fn reads_none_elsewhere<T: Tables>(tables: &T) -> bool {
+    reads_nothing(tables, 0, 1, 0)
+        && reads_nothing(tables, 0, 2, 0)
+        && reads_nothing(tables, 3, 0, 0)
+        && reads_nothing(tables, 0, 0, 255)
+}
+
+#[test]
+fn both_read_on_from_a_cursor(rt: HostRuntime) -> Result<(), Fail> {
+    let image = of_twenty(rt.alloc())?;
+    let game = decode(rt.alloc(), &image)?;
+    let view = View::new(rt.alloc(), &image)?;
+    assert!(rt; reads_on(&game));
+    assert!(rt; reads_on(&view));
+    assert!(rt; reads_none_elsewhere(&game));
+    assert!(rt; reads_none_elsewhere(&view));
+    Ok(())
+}

@@ -1,6 +1,6 @@
 // A game read in place, in the bytes of its image.
 
-ghost use Rattle.std.specs.Prelude.{◌≡◌, [], Some, slice_get, IfOk, OnOk};
+ghost use Rattle.std.specs.Prelude.{◌≡◌, [], Some, None, drop, slice_get, IfOk, OnOk, IfSome, IfNone};
 ghost use Rattle.std.specs.Option.{option_copied, option_map, unwrap_or};
 ghost use Rattle.paw_game.specs.Game.{GameLists};
 ghost use Rattle.paw_game.specs.Image.{entry_image};
@@ -9,15 +9,19 @@ ghost use Rattle.paw_image.specs.Damage.{bad};
 ghost use Rattle.paw_image.specs.Images.{IsImage};
 ghost use Rattle.paw_image.specs.inner.Images.{IfDamaged};
 ghost use Rattle.paw_image.specs.inner.Offsets.{entries_of};
+ghost use Rattle.paw_image.specs.inner.Milestones.{EntryMilestones, milestones_of};
 ghost use Rattle.paw_image.specs.inner.Views.{game_read, rows_begin, span_at};
+ghost use Rattle.paw_image.specs.inner.Views.{CondactsStand, CursorStands, EntryStands};
 
-use crate::at_offset::{condact_in, entry_in, exit_at, facts_in, head_in, text_in};
+use crate::at_offset::{condact_at, condacts_in, entry_in, exit_at, facts_in, head_in, text_in};
 use crate::damage::pass_whole;
+use crate::milestones::Milestones;
 use crate::offsets::{Offsets, TableIndex};
 use crate::order::next_in;
 use crate::refusal::ImageRefusal;
 use paw_base::limits::{IMAGE_LIMIT, WORD_LENGTH};
 use paw_base::parts::{Condact, Counts, ObjectFacts};
+use paw_game::cursor::CondactCursor;
 use paw_game::lookup::{is_for, word_of};
 use paw_game::parts::{GamePart, Word};
 use paw_game::tables::Tables;
@@ -129,6 +133,27 @@ impl<'a> View<'a> {
         Some((from, from + text.len()))
     }
 
+    /// Where an entry begins, and the milestones of its table.
+    fn marked_entry(&self, table: u8, entry: u16) -> Option<(u32, &Milestones)>
+        ensures milestones { IfSome result (λ x. EntryMilestones (milestones_of x.1.now entry) (drop x.0 self.now)) }
+        ensures stands { IfSome result (λ x. EntryStands self.now table entry x.0) }
+        ensures none { IfNone result (entry_at (game_read self.now) table entry ≡ None) }
+    {
+        let index = index_of(&self.offsets.tables, table)?;
+        let offset = offset_in(&index.entries, entry as usize)?;
+        Some((offset, &index.milestones))
+    }
+
+    /// How many condacts an entry has from one of them on, and where that one begins; none where there is no entry.
+    fn condacts_from(&self, table: u8, entry: u16, at: u8) -> (u8, usize)
+        ensures value { CondactsStand self.now table entry at result.0 result.1 }
+    {
+        match self.marked_entry(table, entry) {
+            Some((offset, milestones)) => condacts_in(self.bytes, offset, milestones, entry, at),
+            None => (0, 0),
+        }
+    }
+
     /// The bytes of an entry, its verb first; None exactly where there is no such entry.
     pub fn entry(&self, table: u8, number: u16) -> Option<&'a [u8]>
         ensures value { option_copied result ≡ option_map entry_image (entry_at (game_read self.now) table number) }
@@ -140,6 +165,8 @@ impl<'a> View<'a> {
 
 impl<'a> Tables for View<'a> {
     ghost game = { game_read };
+
+    ghost stands = { CursorStands };
 
     fn counts(&self) -> Counts {
         self.counts
@@ -166,9 +193,30 @@ impl<'a> Tables for View<'a> {
     }
 
     fn condact(&self, table: u8, entry: u16, at: u8) -> Option<Condact> {
-        let index = index_of(&self.offsets.tables, table)?;
-        let offset = offset_in(&index.entries, entry as usize)?;
-        condact_in(self.bytes, offset, &index.milestones, entry, at)
+        let mut cursor = self.cursor(table, entry, at);
+        self.next_condact(&mut cursor)
+    }
+
+    fn cursor(&self, table: u8, entry: u16, at: u8) -> CondactCursor {
+        let (left, offset) = self.condacts_from(table, entry, at);
+        CondactCursor {
+            table,
+            entry,
+            at,
+            left,
+            offset,
+        }
+    }
+
+    fn next_condact(&self, cursor: &mut CondactCursor) -> Option<Condact> {
+        if cursor.left == 0 {
+            return None;
+        }
+        let (condact, next) = condact_at(self.bytes, cursor.offset)?;
+        cursor.at += 1;
+        cursor.left -= 1;
+        cursor.offset = next;
+        Some(condact)
     }
 
     fn next_match(&self, table: u8, from: u16, verb: u8, noun: u8) -> Option<u16> {

@@ -6,6 +6,8 @@ use Rattle.paw_base.specs.declared.limits.TheConstants.{READ_LIMIT}
 use Rattle.paw_base.specs.declared.parts.Condact.{Condact}
 use Rattle.paw_base.specs.declared.fault.SpentKind.TheVariants as spent
 use Rattle.paw_effects.specs.Story.{Story}
+use Rattle.paw_game.specs.declared.cursor.CondactCursor.{CondactCursor}
+use Rattle.paw_game.specs.Game.{GameLists}
 use Rattle.paw_game.specs.Tables.{condact_at}
 use Rattle.paw_game.specs.inner.Tables.{match_at}
 use Rattle.paw_world.specs.World.{flag}
@@ -27,6 +29,7 @@ use Rattle.paw_reading.proofs.Rules.{plain_match, plain_inside, again_closed, af
 use Rattle.paw_reading.proofs.Along.{along_stopped, on_path_reverse}
 use Rattle.paw_process.specs.inner.Objects.{is_next, least_taken}
 use Rattle.paw_process.specs.inner.Meaning.{going_in}
+use Rattle.paw_process.specs.inner.Steps.{IsCursorOf}
 use Rattle.paw_process.specs.inner.Moves.{resolved, next_of, past_of, reading_at, acted_at, loop_at_frames}
 
 -- ---- the loop ----
@@ -169,3 +172,8 @@ pub reading_none : (g : Story) (fs : List Frame) (f : Frame) (r : Run) (c : Cond
 reading_none g fs f r c h low =
     ap (resolved g fs) (inside_condact g (deeper g (length fs)) (length fs) f.table f.entry f.at f.acted r c h ∙ within_none r _ low)
     ∙ along_stopped g fs (Halts (halt.Spent spent.Condacts)) r
+
+-- A cursor of a frame stands at its condact.
+pub cursor_condact : (g : GameLists) (f : Frame) (cursor : CondactCursor) → IsCursorOf f cursor
+    → condact_at g cursor.table cursor.entry cursor.at ≡ condact_at g f.table f.entry f.at
+cursor_condact g f cursor is = rw (is.table, is.entry, is.at) refl

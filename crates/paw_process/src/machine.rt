@@ -147,8 +147,9 @@ impl Machine {
             (having surroundings.new self.new) }
     {
         let reader = StoryReader { tables, routines };
+        let mut cursor = tables.cursor(0, 0, 0);
         loop {
-            match reader.read_next(self, surroundings) {
+            match reader.read_next(self, surroundings, &mut cursor) {
                 Some(turned) => return turned,
                 None => {}
             }

@@ -26,6 +26,7 @@ ghost use Rattle.paw_process.specs.inner.Moves.{acted_at};
 ghost use Rattle.paw_process.specs.inner.Moves.{next_of, past_of, loop_at_frames, reading_at, Enters, EntersNone};
 ghost use Rattle.paw_process.specs.inner.Moves.{ReadsTable, ReadsOne};
 ghost use Rattle.paw_process.specs.inner.Steps.{IsReady, IsInnermost, MayReadOne, MayReadNext, HasMoved, HasStepped};
+ghost use Rattle.paw_process.specs.inner.Steps.{IsCursorOf};
 ghost use Rattle.paw_process.specs.inner.Work.{machine_work, frames_work, Progress};
 ghost use Rattle.paw_world.specs.inner.Places.{left_above};
 
@@ -42,6 +43,7 @@ use paw_base::parts::Condact;
 use paw_effects::act::{Act, Effect, Prompt, Truth};
 use paw_effects::condact::{act, is_condition, test};
 use paw_effects::text::put;
+use paw_game::cursor::CondactCursor;
 use paw_game::tables::Tables;
 use paw_phrase::Pending;
 use paw_reading::places::{Frame, Halt, OpenLoop};
@@ -394,13 +396,26 @@ impl<T: Tables, F: Fn(u8, u8) -> u8> StoryReader<'_, T, F> {
         }
     }
 
+    /// Moves a cursor to the condact of a frame, unless it stands there.
+    fn seek(&self, cursor: &mut CondactCursor, f: Frame)
+        requires stands { T.stands self.now.tables.now cursor.old }
+        ensures stands { T.stands self.now.tables.now cursor.new }
+        ensures at { IsCursorOf f cursor.new }
+    {
+        if cursor.table != f.table || cursor.entry != f.entry || cursor.at != f.at {
+            *cursor = self.tables.cursor(f.table, f.entry, f.at);
+        }
+    }
+
     /// Goes on with the condacts of the innermost frame's entry.
     fn rest_of_entry(
         &self,
         machine: &mut Machine,
         surroundings: &mut Surroundings,
+        cursor: &mut CondactCursor,
         f: Frame,
     ) -> Option<Turned>
+        requires stands { T.stands self.now.tables.now cursor.old }
         requires may { MayReadNext F.Fn self.now.routines.now
             (T.game self.now.tables.now) machine.old surroundings.old.world }
         requires top { machine.old.frames ≡ f ∷ below machine.old.frames }
@@ -412,8 +427,10 @@ impl<T: Tables, F: Fn(u8, u8) -> u8> StoryReader<'_, T, F> {
         ensures progress { IsNone result → Progress machine.old machine.new }
         ensures after { HasStepped (T.game self.now.tables.now) (having surroundings.old machine.old) result
             (having surroundings.new machine.new) }
+        ensures stands { T.stands self.now.tables.now cursor.new }
     {
-        match self.tables.condact(f.table, f.entry, f.at) {
+        self.seek(cursor, f);
+        match self.tables.next_condact(cursor) {
             None => {
                 machine.set_top(next_entry(f));
                 None
@@ -444,11 +461,14 @@ impl<T: Tables, F: Fn(u8, u8) -> u8> StoryReader<'_, T, F> {
     }
 
     /// Reads on by at most one condact: from the start of an entry to the next one that matches, and a condact there.
+    /// The cursor is that of the condact read last, from which reading most often goes on.
     pub(crate) fn read_next(
         &self,
         machine: &mut Machine,
         surroundings: &mut Surroundings,
+        cursor: &mut CondactCursor,
     ) -> Option<Turned>
+        requires stands { T.stands self.now.tables.now cursor.old }
         requires may { MayReadNext F.Fn self.now.routines.now
             (T.game self.now.tables.now) machine.old surroundings.old.world }
         ensures meaning { InStories F.Fn self.now.routines.now (T.game self.now.tables.now) (λ g.
@@ -457,6 +477,7 @@ impl<T: Tables, F: Fn(u8, u8) -> u8> StoryReader<'_, T, F> {
         ensures progress { IsNone result → Progress machine.old machine.new }
         ensures after { HasStepped (T.game self.now.tables.now) (having surroundings.old machine.old) result
             (having surroundings.new machine.new) }
+        ensures stands { T.stands self.now.tables.now cursor.new }
     {
         // The clause of this call says that the game is valid, which the proof needs. The compiler leaves the call out.
         let _counts = self.tables.counts();
@@ -465,7 +486,7 @@ impl<T: Tables, F: Fn(u8, u8) -> u8> StoryReader<'_, T, F> {
             None => self.leave_level(machine, &mut surroundings.world, f.acted),
             Some(entered) => {
                 machine.set_top(entered);
-                self.rest_of_entry(machine, surroundings, entered)
+                self.rest_of_entry(machine, surroundings, cursor, entered)
             }
         }
     }

@@ -1,8 +1,10 @@
 -- What a game's lists hold at a number: definitions for contracts and proofs, besides those of specs/Tables.antt.
-use Rattle.std.specs.Prelude.{ℕ, suc, Bool, false, List, [], ◌∷◌, Option}
+use Rattle.std.specs.Prelude.{◌≡◌, ℕ, suc, ◌+◌, Bool, false, List, [], ◌∷◌, Option}
 use Rattle.std.specs.Prelude.{Some, None, slice_get, drop, if◌then◌else◌}
 use Rattle.std.specs.Option.{option_map, option_map_or}
 use Rattle.paw_base.specs.Bytes.{Text}
+use Rattle.paw_base.specs.declared.parts.Condact.{Condact}
+use Rattle.paw_game.specs.declared.cursor.CondactCursor.{CondactCursor}
 use Rattle.paw_game.specs.declared.parts.Entry.{Entry}
 use Rattle.paw_game.specs.declared.parts.GamePart.{GamePart}
 use Rattle.paw_game.specs.declared.parts.GamePart.TheVariants as part
@@ -31,3 +33,8 @@ first_match verb noun e (en ∷ es) = if matches verb noun en then Some e else f
 -- The least matching entry of a table that isn't below `from`.
 abbrev pub match_at : GameLists → ℕ → ℕ → ℕ → ℕ → Option ℕ
 match_at g t from verb noun = first_match verb noun from (drop from (table_at g t))
+
+-- The cursor has moved on to the condact after one that was read, and stays where there was none.
+abbrev pub MovesPast : Option Condact → (old new : CondactCursor) → Type 0
+MovesPast None old new = new ≡ old
+MovesPast (Some c) old new = (new.table ≡ old.table) × (new.entry ≡ old.entry) × (new.at ≡ old.at + 1)

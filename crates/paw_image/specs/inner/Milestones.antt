@@ -1,8 +1,9 @@
 -- Milestones in the condacts of entries: where they go on after each eight of them.
-use Rattle.std.specs.Prelude.{◌≡◌, ℕ, suc, ◌*◌, ◌-◌, ◌<◌, List, [], ◌∷◌, length, drop, Some, Ok, slice_get, slice_index}
+use Rattle.std.specs.Prelude.{◌≡◌, ℕ, suc, ◌+◌, ◌*◌, ◌-◌, ◌<◌, List, [], ◌∷◌, length, drop, Some, Ok, slice_get}
+use Rattle.std.specs.Prelude.{slice_index}
 use Rattle.paw_base.specs.Bytes.{Bytes}
 use Rattle.paw_image.specs.Damage.{each}
-use Rattle.paw_image.specs.inner.Rows.{past_condact}
+use Rattle.paw_image.specs.inner.Rows.{past_condact, condact_among, nth_condact}
 use Rattle.paw_image.specs.declared.milestones.Milestones.{Milestones}
 use Rattle.paw_image.specs.declared.offsets.TableIndex.{TableIndex}
 
@@ -43,3 +44,11 @@ EntriesMilestones bytes offsets firsts milestones =
 -- The entries of a table in an index have their milestones.
 abbrev pub HasMilestones : Bytes → TableIndex → Type 0
 HasMilestones bytes t = EntriesMilestones bytes t.entries.items t.milestones.firsts.items t.milestones.milestones.items
+
+-- The condacts at the front of the rest, `left` of them, are those of an entry's condacts from number `at` on.
+abbrev pub AreFrom : (at count : ℕ) → Bytes → (left : ℕ) → Bytes → Type 0
+AreFrom at count condacts left rest = (k : ℕ) → condact_among k left rest ≡ condact_among (at + k) count condacts
+
+-- They are those of the entry at the front of a row from number `at` on.
+abbrev pub AreNth : (at : ℕ) → Bytes → (left : ℕ) → Bytes → Type 0
+AreNth at row left rest = (k : ℕ) → condact_among k left rest ≡ nth_condact (at + k) row

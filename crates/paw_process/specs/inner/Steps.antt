@@ -2,6 +2,7 @@
 use Rattle.std.specs.Prelude.{◌≡◌, ℕ, ◌+◌, ◌-◌, ◌<◌, ◌≤◌, ◌^◌, true, ◌∷◌, Option}
 use Rattle.std.specs.Fn.{Shared}
 use Rattle.paw_base.specs.declared.parts.Condact.{Condact}
+use Rattle.paw_game.specs.declared.cursor.CondactCursor.{CondactCursor}
 use Rattle.paw_game.specs.Game.{GameLists}
 use Rattle.paw_game.specs.inner.Valid.{is_right}
 use Rattle.paw_world.specs.World.{World}
@@ -39,6 +40,12 @@ pub record MayReadOne (g : GameLists) (f : Frame) (c : Condact) (m : OpenTables)
   pub left : 0 < m.left
   pub condact : is_right g c ≡ true
   pub draws : w.draws < 2 ^ 64 - 1
+
+-- The cursor stands at the frame's condact.
+pub record IsCursorOf (f : Frame) (cursor : CondactCursor) : Type 0 where
+  pub table : cursor.table ≡ f.table
+  pub entry : cursor.entry ≡ f.entry
+  pub at : cursor.at ≡ f.at
 
 -- The machine may read on or has stopped; no condact is read, the world is the game's still, and nothing is drawn.
 pub record HasMoved (g : GameLists) (old : OpenTables) (w : World) (t : Option Turned)

@@ -7,6 +7,7 @@ use Rattle.paw_process.proofs.machine.Machine.run.Given as goal
 abbrev pub invariant-loop-turned : goal.invariant-loop-turned
 invariant-loop-turned g l =
     IsRunning g.F.Fn l.routines (g.T.Tables.game l.tables) (having l.initial.surroundings l.initial.self) (having l.surroundings l.self)
+    × g.T.Tables.stands l.tables l.cursor
 
 abbrev pub decreases-loop-turned : goal.decreases-loop-turned
 decreases-loop-turned g l = l.self.left * 134217728 + machine_work l.self
