@@ -26,7 +26,8 @@ ghost use Rattle.paw_host.specs.inner.Answers.{InFile, InAnswer, IsAside, Stores
 ghost use Rattle.paw_host.specs.inner.Answers.{answer_calls, LeavesBegun};
 ghost use Rattle.paw_host.specs.inner.Seats.{AreDigestsOf, IsHosted, IsPrepared, MayTake, PlaysAnew};
 ghost use Rattle.paw_host.specs.inner.Seats.{StandsAfter, StaysSeated};
-ghost use Rattle.paw_host.specs.inner.Store.{IsAttachedAtRest, IsAttachedStable, LeavesStage, Promises, ReadsOnly};
+ghost use Rattle.paw_host.specs.inner.Store.{DoneWithMoments, IsAttachedAtRest, IsAttachedStable, LeavesStage};
+ghost use Rattle.paw_host.specs.inner.Store.{ReadsOnly};
 ghost use Rattle.paw_host.specs.declared.reply.TheConstants.{REPLY_LIMIT};
 
 use crate::reply::Reply;
@@ -104,7 +105,7 @@ fn begin<S: Stage, T: Tables, F: Fn(u8, u8) -> u8>(
         (λ old new. IfOk result (LeavesBegun room.new old new)) stage.old stage.new }
     ensures promises { IfTelling S.Stage stage.old stage.new (λ old new.
         EachStory F.Fn player.old.routines player.old.game (λ g.
-        Promises S.Stage stage.old stage.new
+        DoneWithMoments S.Stage stage.old stage.new
         (IfOk result (BeginsTo g seed reply.old reply.new player.new new.disk.bytes))
         (InFile (LeftOfBeginning g seed) old))) }
 {
@@ -211,7 +212,7 @@ fn take_text<S: Stage, T: Tables, F: Fn(u8, u8) -> u8>(
     ensures promises { IfTelling S.Stage stage.old stage.new (λ old new.
         EachStory F.Fn player.old.routines player.old.game (λ g. (seed : Seed) (es : Lines) →
         SitsAt g seed es player.old → opened.events ≡ length es → Stands g seed es old.disk.bytes →
-        Promises S.Stage stage.old stage.new
+        DoneWithMoments S.Stage stage.old stage.new
         (OnOk result (Answers g (answer_taking g seed es text.now) reply.old reply.new new.disk.bytes))
         (InFile (StoresEither g (At seed es) (answer_taking g seed es text.now).session) old))) }
 {
@@ -267,7 +268,7 @@ fn answer_new<S: Stage, T: Tables, F: Fn(u8, u8) -> u8>(
         (λ old new. OnOk result (IsAtRest new)) stage.old stage.new }
     ensures promises { IfTelling S.Stage stage.old stage.new (λ old new.
         EachStory F.Fn player.old.routines player.old.game (λ g.
-        Promises S.Stage stage.old stage.new
+        DoneWithMoments S.Stage stage.old stage.new
         (OnOk result
         (Answers g (answer g hosted.now.seed Absent (option_copied text.entry)) reply.old reply.new new.disk.bytes))
         (InFile (LeftOf g hosted.now.seed Absent
@@ -315,7 +316,7 @@ fn answer_kept<S: Stage, T: Tables, F: Fn(u8, u8) -> u8>(
     ensures promises { IfTelling S.Stage stage.old stage.new (λ old new.
         EachStory F.Fn player.old.routines player.old.game (λ g. (before : NamedSession) → MayBe g before →
         Stores g before old.disk.bytes →
-        Promises S.Stage stage.old stage.new
+        DoneWithMoments S.Stage stage.old stage.new
         (OnOk result
         (Answers g (answer g hosted.now.seed before (option_copied text.entry)) reply.old reply.new new.disk.bytes))
         (InFile (StoresEither g before (answer g hosted.now.seed before (option_copied text.entry)).session) old))) }
@@ -366,7 +367,7 @@ pub(crate) fn answer<S: Stage, T: Tables, F: Fn(u8, u8) -> u8>(
     ensures promises { IfTelling S.Stage stage.old stage.new (λ old new.
         EachStory F.Fn player.old.routines player.old.game (λ g. (before : NamedSession) → MayBe g before →
         Stores g before (file_bytes old store.now) →
-        Promises S.Stage stage.old stage.new
+        DoneWithMoments S.Stage stage.old stage.new
         (OnOk result
         (Answers g (answer g hosted.now.seed before (option_copied text.entry)) reply.old reply.new
         (file_bytes new store.now)))
