@@ -20,8 +20,8 @@ fn print_parameter(piece: &mut Piece, kind: ParamKind, number: u8) -> bool
     }
 }
 
-/// Prints the mark of the condact with this code and these parameters.
-fn print_mark_of(piece: &mut Piece, code: u8, a: u8, b: u8) -> bool
+/// Prints the sign of the condact with this code and these parameters.
+fn print_sign_of(piece: &mut Piece, code: u8, a: u8, b: u8) -> bool
     requires code { IsCode code }
     ensures puts { Puts piece.old piece.new result (sign_text (record { code = code; a = a; b = b })) }
 {
@@ -41,5 +41,5 @@ pub(crate) fn print_sign(piece: &mut Piece, c: Condact) -> bool
     requires code { IsCode c.code }
     ensures puts { Puts piece.old piece.new result (sign_text c) }
 {
-    print_mark_of(piece, c.code, c.a, c.b)
+    print_sign_of(piece, c.code, c.a, c.b)
 }
