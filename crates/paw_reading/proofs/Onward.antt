@@ -71,7 +71,7 @@ module _ (g : Story) (lv : ℕ) where
   one_read : (f : Frame) (c : Condact) (r : Run) → MayRead g f c r →
       at_frame g lv f r ≡ next_object_or lv (rest_of_loop g (deeper g lv) lv)
       (reads_one g (deeper g lv) lv f (from_condact g (deeper g lv) lv f.table (suc f.entry) 0)
-          (from_condact g (deeper g lv) lv f.table f.entry (suc f.at)) c r)
+      (from_condact g (deeper g lv) lv f.table f.entry (suc f.at)) c r)
   one_read f c r h =
       same (inside_condact g (deeper g lv) lv f.table f.entry f.at f.acted r c h.stands ∙ within_budget r _ h.left)
 

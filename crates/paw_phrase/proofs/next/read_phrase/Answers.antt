@@ -38,4 +38,4 @@ returns-clause-value g c e =
     let game = g.T.Tables.game c.args.tables.now in
     let s = c.args.bytes.now in
     along-end game e s c.loop-lexeme.end c.loop-lexeme.draft (parsed game s e c.args.noun c.args.adjective)
-        (c.loop-lexeme.invariant.1 e) c.in_default.ensures.value
+    (c.loop-lexeme.invariant.1 e) c.in_default.ensures.value

@@ -28,7 +28,7 @@ play_lines-requires-clause-player g c =
       seated = c.in-Ok-adopt.ensures.seated;
       answers = subst (λ q. HaveAnswers g.F.Fn q)
           (sym (seat_routines game2 c.args.routines.now r.world r.machine r.pending r.prompt c.in-Ok-adopt.player c.in-Ok-adopt.ensures.value))
-              c.requires.answers;
+          c.requires.answers;
       drew = omega (
         arith,
         seat_draws game2 c.args.routines.now r.world r.machine r.pending r.prompt c.in-Ok-adopt.player c.in-Ok-adopt.ensures.value,
@@ -94,7 +94,7 @@ returns-clause-plays g c = λ tells X answers name store.
     let start = again_next u after_show_again (subst (λ x. ShowsAgain (g.S.Stage.standing c.args.stage.now) after_show_again x c.in-Ok.restored.prompt None)
     c.piece.ensures.value (c.in_default-show_again.ensures.meaning tells)) in
     let own = subst (λ r. AreAnswersOf g.F.Fn r X)
-        (sym (seat_routines _ c.args.routines.now _ _ _ _ c.in-Ok-adopt.player c.in-Ok-adopt.ensures.value)) answers in
+    (sym (seat_routines _ c.args.routines.now _ _ _ _ c.in-Ok-adopt.player c.in-Ok-adopt.ensures.value)) answers in
     plays_on c.play_lines.result (state_read c.in-Ok.restored) c.args.room.now.piece u.state
     (c.play_lines.ensures.meaning (c.show_again.ensures.serves.tells.0 tells) X own _ (g.S.Stage.standing c.args.stage.now) start refl)
 
@@ -108,7 +108,7 @@ returns-clause-any_moment g c = λ tells X answers name store d st piece shows.
     let start = again_next u after_show_again (subst (λ x. ShowsAgain (g.S.Stage.standing c.args.stage.now) after_show_again x c.in-Ok.restored.prompt None)
     c.piece.ensures.value (c.in_default-show_again.ensures.meaning tells)) in
     let own = subst (λ r. AreAnswersOf g.F.Fn r X)
-        (sym (seat_routines _ c.args.routines.now _ _ _ _ c.in-Ok-adopt.player c.in-Ok-adopt.ensures.value)) answers in
+    (sym (seat_routines _ c.args.routines.now _ _ _ _ c.in-Ok-adopt.player c.in-Ok-adopt.ensures.value)) answers in
     let session = read_session (story_of (g.T.Tables.game c.args.tables.now) X) name c.args.room.now.piece c.in-Ok.restored
     (g.S.Stage.standing c.args.stage.now) in
     subst (λ q. Passes (g.S.Stage.clock c.args.stage.now) (g.S.Stage.clock c.play_lines.new.stage) (g.S.Stage.since c.args.stage.now)

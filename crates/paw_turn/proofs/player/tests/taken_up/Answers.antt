@@ -27,7 +27,7 @@ seat-requires-clause-fits g c =
 pub start-requires-clause-answers : goal.start-requires-clause-answers
 start-requires-clause-answers g c =
     subst (λ r. HaveAnswers g.F.Fn r)
-        (sym (c.in_ok-other-2.ensures.routines ∙ ap (λ (q : PlayerView g.row.F.Denot). q.routines) c.player.view_is)) c.requires.answers
+    (sym (c.in_ok-other-2.ensures.routines ∙ ap (λ (q : PlayerView g.row.F.Denot). q.routines) c.player.view_is)) c.requires.answers
 
 pub returns-clause-answers : goal.returns-clause-answers
 returns-clause-answers g c =

@@ -23,7 +23,7 @@ returns-clause-stops g c =
     let new : PlayState = record { surroundings = c.run.new.surroundings; machine = c.run.new.self } in
     table_stops (story_of (g.T.Tables.game c.args.self.now.tables.now) c.requires.may.answers.0) c.args.table c.args.state.now new
     c.run.result c.requires.may.read c.requires.may.ready.closed
-        (returns-clause-runs g c c.requires.may.answers.0 c.requires.may.answers.1) c.run.ensures.stopped
+    (returns-clause-runs g c c.requires.may.answers.0 c.requires.may.answers.1) c.run.ensures.stopped
 
 pub returns-clause-stays : goal.returns-clause-stays
 returns-clause-stays g c =
