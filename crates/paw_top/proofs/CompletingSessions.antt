@@ -68,8 +68,8 @@ no_writing c (inr (inl h)) = λ q. cc
 no_writing c (inr (inr h)) = absurd h
 
 -- A halt ends a walk.
-halted_walked : (o : PlayEnd) (halt : Halt) → end_halt o ≡ Some halt → IsWalked (outcome_of o)
-halted_walked o halt e = subst (λ x. IsWalked (outcome_of x)) (sym (ends_by_halt o halt e)) (walked halt)
+halted_walked : (o : PlayEnd) (ended : Halt) → end_halt o ≡ Some ended → IsWalked (outcome_of o)
+halted_walked o ended e = subst (λ x. IsWalked (outcome_of x)) (sym (ends_by_halt o ended e)) (walked ended)
   where
     walked : (h : Halt) → IsWalked (outcome_of (end_of_halt h))
     walked halt.Over = halted halt.Over
