@@ -277,7 +277,7 @@ class Constants(dict):
 
     def __missing__(self, name):
         for crate in sorted(os.listdir(CRATES)):
-            found = re.search(r"^pub(?:\(crate\))? const %s: \w+ = ([^;]+);" % name, self.sources[crate], re.M)
+            found = re.search(r"^pub(?:\(crate\))? const %s: (?:\w+|\[[^]]*\]) = ([^;]+);" % name, self.sources[crate], re.M)
             if found:
                 self[name] = eval(re.sub(r" as \w+", "", found.group(1)), {}, self)
                 return self[name]
