@@ -1,5 +1,5 @@
--- Names for lists of bytes, by what the bytes are, and for seeds. Each is another name for a list of numbers, or for a
--- number, and unfolds by itself.
+-- Names for lists of bytes, by what the bytes are, for places of objects, and for seeds. Each is another name for a
+-- list of numbers, or for a number, and unfolds by itself.
 use Rattle.std.specs.Prelude.{ℕ, List, replicate}
 
 -- A list of bytes, each below 256.
@@ -45,6 +45,10 @@ Tokens = List Token
 -- The answers of routines: for each routine those to the bytes 0 to 255, in this order.
 abbrev pub RoutineAnswers : Type 0
 RoutineAnswers = List Bytes
+
+-- The places of the objects, in their order.
+abbrev pub ObjectPlaces : Type 0
+ObjectPlaces = List ℕ
 
 -- The number from which a play draws its random words. A play has one below 2^64.
 abbrev pub Seed : Type 0

@@ -21,6 +21,7 @@ pub record CondactLine : Type 0 where
 abbrev pub condition : Name → ParamKind → ParamKind → CondactLine
 condition name first second = record { name = name; first = first; second = second; acts = false }
 
+-- The line of an action.
 abbrev pub action : Name → ParamKind → ParamKind → CondactLine
 action name first second = record { name = name; first = first; second = second; acts = true }
 

@@ -59,7 +59,7 @@ impl CondactRow {
     }
 }
 
-/// What stands before the first space.
+// What stands before the first space.
 fn up_to_space(name: &[u8]) -> &[u8]
     ensures value { result.now ≡ before_space name.now }
 {
@@ -198,7 +198,7 @@ pub fn condact_row(code: u8) -> Option<CondactRow>
     }
 }
 
-/// The row of a plain code.
+// The row of a plain code.
 fn plain_row(code: u8) -> Option<CondactRow>
     ensures value { SomeIff result (IsPlainCode code) (row_of_line (plain_line code)) }
 {
@@ -211,7 +211,7 @@ fn plain_row(code: u8) -> Option<CondactRow>
     })
 }
 
-/// The row of the indirect condact of a plain code: its first parameter is a flag. None where it can't be indirect.
+// The row of the indirect condact of a plain code: its first parameter is a flag. None where it can't be indirect.
 fn indirect_row(code: u8) -> Option<CondactRow>
     ensures value { SomeIff result (may_be_indirect code ≡ true) (row_of_line (indirect_line code)) }
 {
@@ -260,7 +260,7 @@ pub fn condact_named(name: &[u8]) -> Option<u8>
     Some(code as u8)
 }
 
-/// The index in the table of the condact with this name, in any case of letters.
+// The index in the table of the condact with this name, in any case of letters.
 fn code_of(name: &[u8]) -> Option<usize>
     ensures value { result ≡ code_named name.now }
 {
@@ -268,14 +268,14 @@ fn code_of(name: &[u8]) -> Option<usize>
     index_of_name(wanted)
 }
 
-/// The code of the condact with this name in capitals, filled up with spaces.
+// The code of the condact with this name in capitals, filled up with spaces.
 fn index_of_name(name: [u8; 8]) -> Option<usize>
     ensures value { result ≡ position (λ row. bytes_eq row.0 name) CONDACTS }
 {
     CONDACTS.iter().position(|row| row.0 == name)
 }
 
-/// The name in capitals, filled up with spaces; None where it has a space or more than eight bytes.
+// The name in capitals, filled up with spaces; None where it has a space or more than eight bytes.
 fn filled_up_capitals(name: &[u8]) -> Option<[u8; 8]>
     ensures plain { is_plain name.now ≡ is_some result }
     ensures value { IfSome result (λ filled. filled ≡ filled_up (capitals name.now)) }

@@ -85,14 +85,14 @@ impl Steps {
     }
 }
 
-/// The first `count` rows, or all where there are fewer.
+// The first `count` rows, or all where there are fewer.
 fn up_to(rows: &[StepRow], count: usize) -> &[StepRow]
     ensures value { result.now ≡ take count rows.now }
 {
     &rows[..count.min(rows.len())]
 }
 
-/// Puts a step after the first `count` rows, where there is room.
+// Puts a step after the first `count` rows, where there is room.
 fn keep(rows: &mut [StepRow], count: usize, row: StepRow)
     ensures rows { take (suc count) rows.new ≡ take (length rows.old) (take count rows.old ++ row ∷ []) }
     ensures length { length rows.new ≡ length rows.old }

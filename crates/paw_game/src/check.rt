@@ -28,7 +28,7 @@ pub(crate) fn check(parts: &GameParts) -> Result<(), GameFault>
     within(GamePart::Tables, inspector.tables_fault())
 }
 
-/// No error where no row of the part is at fault.
+// No error where no row of the part is at fault.
 fn within(part: GamePart, row: Option<u32>) -> Result<(), GameFault>
     ensures value { result_err result ≡ fault_in part row }
 {

@@ -121,6 +121,11 @@ impl Tables for Game {
         Some(entry as u16)
     }
 
+    fn match_cursor(&self, table: u8, from: u16, verb: u8, noun: u8) -> Option<CondactCursor> {
+        let entry = self.next_match(table, from, verb, noun)?;
+        Some(self.cursor(table, entry, 0))
+    }
+
     fn word(&self, letters: &[u8; WORD_LENGTH]) -> Option<(u8, u8)> {
         lookup::word_at(&self.parts, letters)
     }

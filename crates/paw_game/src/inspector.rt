@@ -62,7 +62,7 @@ impl<'a> Inspector<'a> {
         row_fault(0, OBJECT_LIMIT, parts.objects.len(), self.bad_object())
     }
 
-    /// The first object that breaks a rule.
+    // The first object that breaks a rule.
     fn bad_object(&self) -> Option<usize>
         ensures value { result ≡ first_bad (is_object self.now.words (length self.now.locations)) self.now.objects }
         ensures within { IfSome result (λ row. row < length self.now.objects) }
@@ -91,7 +91,7 @@ impl<'a> Inspector<'a> {
         row_fault(locations, locations, parts.exits.len(), self.bad_exits())
     }
 
-    /// The first location whose exits break a rule.
+    // The first location whose exits break a rule.
     fn bad_exits(&self) -> Option<usize>
         ensures value { result ≡ first_bad (exits_are_valid self.now.words (length self.now.locations)) self.now.exits }
         ensures within { IfSome result (λ row. row < length self.now.exits) }
@@ -142,7 +142,7 @@ impl<'a> Inspector<'a> {
         )
     }
 
-    /// The first table that breaks a rule.
+    // The first table that breaks a rule.
     fn bad_table(&self) -> Option<usize>
         ensures value { result ≡ first_bad (is_table self.now) self.now.tables }
         ensures within { IfSome result (λ row. row < length self.now.tables) }
@@ -190,7 +190,7 @@ impl<'a> Inspector<'a> {
     }
 }
 
-/// Whether one of the exits has this verb.
+// Whether one of the exits has this verb.
 fn has_verb(exits: &[Exit], verb: u8) -> bool
     ensures value { result ≡ list_any (λ x. x.verb == verb) exits.now }
 {

@@ -31,7 +31,7 @@ pub(crate) fn text_at(parts: &GameParts, part: GamePart, number: u8) -> Option<&
     }
 }
 
-/// The bytes of a text, if there is one with this number.
+// The bytes of a text, if there is one with this number.
 fn text_in(texts: &[Text], number: u8) -> Option<&[u8]>
     ensures value { option_copied result ≡ slice_get texts.now number }
 {
@@ -54,7 +54,7 @@ pub(crate) fn exit_at(parts: &GameParts, location: u8, verb: u8) -> Option<u8>
     exit_of(exits.rows.as_slice(), verb)
 }
 
-/// The location to which the exit of this verb leads, if there is one.
+// The location to which the exit of this verb leads, if there is one.
 fn exit_of(exits: &[Exit], verb: u8) -> Option<u8>
     ensures value { result ≡ exit_of exits.now verb }
 {
@@ -96,7 +96,7 @@ pub(crate) fn match_at(parts: &GameParts, table: u8, from: u16, verb: u8, noun: 
     first_match(table.rows.as_slice(), from as usize, verb, noun)
 }
 
-/// The first of these entries, from number `from` on, that matches this verb and noun.
+// The first of these entries, from number `from` on, that matches this verb and noun.
 fn first_match(entries: &[Entry], from: usize, verb: u8, noun: u8) -> Option<usize>
     ensures value { result ≡ first_match verb noun from (drop from entries.now) }
 {

@@ -8,7 +8,7 @@ use paw_base::parts::{Condact, Counts, ObjectFacts};
 /// A valid game that answers what its lists hold, by number. No call takes memory.
 pub trait Tables {
     ghost use Rattle.std.specs.Prelude.{◌≡◌, ◌≤◌, ◌<◌, length, IsTrue, IfSome, OnSome};
-    ghost use Rattle.std.specs.Option.{option_copied};
+    ghost use Rattle.std.specs.Option.{option_copied, option_map};
     ghost use Rattle.paw_base.specs.declared.limits.TheConstants.{CONDACT_LIMIT, ENTRY_LIMIT, TEXT_LIMIT, WEIGHT_LIMIT};
     ghost use Rattle.paw_base.specs.declared.words.TheConstants.{GREATEST_WORD, LEAST_WORD, PRONOUN_CLASS};
     ghost use Rattle.paw_game.specs.Game.{GameLists, counts_of};
@@ -80,6 +80,15 @@ pub trait Tables {
         ensures reached { IfSome result (λ entry. from ≤ entry) }
         ensures small { IfSome result (λ entry. entry < ENTRY_LIMIT) }
         ensures matching { IfSome result (λ entry. IsTrue (matches_at (game self.now) table entry verb noun)) };
+
+    /// The cursor at the first condact of the entry that `next_match` gives; None exactly where it gives none.
+    fn match_cursor(&self, table: u8, from: u16, verb: u8, noun: u8) -> Option<CondactCursor>
+        ensures value { option_map (λ c. c.entry) result ≡ match_at (game self.now) table from verb noun }
+        ensures table { IfSome result (λ c. c.table ≡ table) }
+        ensures start { IfSome result (λ c. c.at ≡ 0) }
+        ensures stands { IfSome result (λ c. stands self.now c) }
+        ensures reached { IfSome result (λ c. from ≤ c.entry) }
+        ensures small { IfSome result (λ c. c.entry < ENTRY_LIMIT) };
 
     /// The value and the class of the word with these letters; None exactly where there is no such word.
     fn word(&self, letters: &[u8; WORD_LENGTH]) -> Option<(u8, u8)>

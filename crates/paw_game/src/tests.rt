@@ -19,7 +19,7 @@ const LAMP: ObjectFacts = ObjectFacts {
     wearable: true,
 };
 
-/// Two locations, one north of the other, a lamp, and two entries.
+// Two locations, one north of the other, a lamp, and two entries.
 fn small(alloc: Global) -> Result<GameParts, AllocError> {
     let words = vec![in alloc;
         Word::new(*b"GET  ", 30, VERB_CLASS),
@@ -57,8 +57,8 @@ fn fault(parts: GameParts) -> Option<(GamePart, u32)> {
     Some((fault.part, fault.row))
 }
 
-/// The small game with one part broken at its end.
-fn broken(alloc: Global, part: GamePart) -> Result<GameParts, AllocError> {
+// The small game with one part broken at its end.
+fn parts_with_fault(alloc: Global, part: GamePart) -> Result<GameParts, AllocError> {
     let mut parts = small(alloc)?;
     match part {
         GamePart::Words => parts.words.push(Word::new(*b"ROPE ", 51, NOUN_CLASS))?,
@@ -82,7 +82,7 @@ fn broken(alloc: Global, part: GamePart) -> Result<GameParts, AllocError> {
     Ok(parts)
 }
 
-/// The small game, where the second location leads to a third, which isn't there.
+// The small game, where the second location leads to a third, which isn't there.
 fn leads_nowhere(alloc: Global) -> Result<GameParts, AllocError> {
     let mut parts = small(alloc)?;
     parts.exits.pop();
@@ -91,7 +91,7 @@ fn leads_nowhere(alloc: Global) -> Result<GameParts, AllocError> {
     Ok(parts)
 }
 
-/// The small game with too many messages.
+// The small game with too many messages.
 fn talks_much(alloc: Global) -> Result<GameParts, AllocError> {
     let mut parts = small(alloc)?;
     for _ in 0..256 {
@@ -100,9 +100,9 @@ fn talks_much(alloc: Global) -> Result<GameParts, AllocError> {
     Ok(parts)
 }
 
-/// The small game with two bad messages after a good one, and a bad object in an earlier row.
+// The small game with two bad messages after a good one, and a bad object in an earlier row.
 fn broken_twice(alloc: Global) -> Result<GameParts, AllocError> {
-    let mut parts = broken(alloc, GamePart::Objects)?;
+    let mut parts = parts_with_fault(alloc, GamePart::Objects)?;
     for line in [b"Go.".as_slice(), b"/Stay.", b";"] {
         parts.messages.push(Text::from_slice(alloc, line)?)?;
     }
@@ -121,7 +121,7 @@ fn names_the_first_fault(rt: HostRuntime) -> Result<(), Fail> {
         (GamePart::Exits, 1),
         (GamePart::Tables, 2),
     ] {
-        let parts = broken(alloc, part)?;
+        let parts = parts_with_fault(alloc, part)?;
         assert_eq!(rt; fault(parts), Some((part, row)));
     }
     Ok(())

@@ -17,7 +17,7 @@ pub(crate) fn texts_fault(least: usize, most: usize, texts: &[Text]) -> Option<u
     row_fault(least, most, texts.len(), bad_text(texts))
 }
 
-/// The first of these texts that breaks the rules.
+// The first of these texts that breaks the rules.
 fn bad_text(texts: &[Text]) -> Option<usize>
     ensures value { result ≡ first_bad is_text texts.now }
     ensures within { IfSome result (λ row. row < length texts.now) }
@@ -46,7 +46,7 @@ pub fn is_printed(bytes: &[u8]) -> bool
     printed
 }
 
-/// Whether a byte may stand in a text, where `line_begins` says whether a line begins with it.
+// Whether a byte may stand in a text, where `line_begins` says whether a line begins with it.
 fn may_stand(line_begins: bool, byte: u8) -> bool
     ensures value { result ≡ (is_text_byte byte && not (line_begins && begins_no_line byte)) }
 {

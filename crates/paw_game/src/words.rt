@@ -17,7 +17,7 @@ pub(crate) fn words_fault(words: &[Word]) -> Option<u32>
     row_fault(0, WORD_LIMIT, words.len(), bad_word(words))
 }
 
-/// The first word that breaks a rule, or doesn't stand above the one before it.
+// The first word that breaks a rule, or doesn't stand above the one before it.
 fn bad_word(words: &[Word]) -> Option<usize>
     ensures value { result ≡ bad_word 0 [] words.now }
     ensures within { IfSome result (λ row. row < length words.now) }
@@ -32,7 +32,7 @@ fn bad_word(words: &[Word]) -> Option<usize>
     None
 }
 
-/// Whether a word follows the rules of its letters, its value and its class.
+// Whether a word follows the rules of its letters, its value and its class.
 fn is_word(word: &Word) -> bool
     ensures value { result ≡ is_word word.now }
 {
@@ -49,7 +49,7 @@ pub fn are_letters(letters: &[u8; WORD_LENGTH]) -> bool
     is_letter(letters[0]) && is_filled(letters.as_slice())
 }
 
-/// Whether letters are capitals and digits, and then only spaces.
+// Whether letters are capitals and digits, and then only spaces.
 fn is_filled(letters: &[u8]) -> bool
     ensures value { result ≡ is_filled letters.now }
 {

@@ -17,7 +17,7 @@ use std::alloc::Global;
 /// How many system messages the game has: those that the tool itself shows.
 const SYSTEM_COUNT: u16 = 54;
 
-/// The lists of the game.
+// The lists of the game.
 #[tactic(auto, unfolding(crate::specs::Trial::trial_game))]
 fn parts_of(alloc: Global, n: u16) -> Result<GameParts, NoRoom>
     ensures value { IfOk result (λ parts. parts ≡ trial_game n) }

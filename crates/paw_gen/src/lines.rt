@@ -8,7 +8,7 @@ use paw_base::fault::NoRoom;
 use paw_game::parts::Text;
 use std::alloc::Global;
 
-/// A line, by its number.
+// A line, by its number.
 fn line_at(number: u16) -> &'static [u8]
     ensures value { result.now ≡ trial_line number }
 {

@@ -15,7 +15,7 @@ use paw_base::words::{CONJUNCTION_CLASS, FIRST_NAMED_NOUN, NO_WORD, NOUN_CLASS, 
 use paw_game::parts::{Exit, Exits, ObjectRow, Word};
 use std::alloc::Global;
 
-/// The words other than the objects' nouns.
+// The words other than the objects' nouns.
 fn named_words() -> [Word; 8]
     ensures value { result ≡ named_words }
 {
@@ -31,7 +31,7 @@ fn named_words() -> [Word; 8]
     ]
 }
 
-/// The letters of an object's noun: T and three digits.
+// The letters of an object's noun: T and three digits.
 fn object_letters(number: u16) -> [u8; 5]
     requires number { number < 1000 }
     ensures value { result ≡ object_letters number }
@@ -42,7 +42,7 @@ fn object_letters(number: u16) -> [u8; 5]
     [b'T', hundreds, tens, ones, b' ']
 }
 
-/// An object's noun.
+// An object's noun.
 fn object_word(number: u16) -> Word
     requires number { number < 200 }
     ensures value { result ≡ object_word number }
@@ -66,7 +66,7 @@ pub(crate) fn words(alloc: Global, objects: u16) -> Result<Vec<Word>, NoRoom>
     Ok(words)
 }
 
-/// The facts of an object: where it begins, and its weight.
+// The facts of an object: where it begins, and its weight.
 fn object_facts(locations: u16, number: u16) -> ObjectFacts
     requires some { 0 < locations }
     requires places { locations ≤ LOCATION_LIMIT }
@@ -100,7 +100,7 @@ pub(crate) fn objects(alloc: Global, locations: u16, objects: u16) -> Result<Vec
     Ok(all)
 }
 
-/// The ways out of a location of the ring.
+// The ways out of a location of the ring.
 fn ring_exits(alloc: Global, locations: u16, number: u16) -> Result<Exits, NoRoom>
     requires some { 0 < locations }
     requires places { locations ≤ LOCATION_LIMIT }

@@ -11,7 +11,7 @@ use paw_base::words::NO_WORD;
 use paw_game::parts::{Entry, Table};
 use std::alloc::Global;
 
-/// The table that answers lines.
+// The table that answers lines.
 fn answers(alloc: Global) -> Result<Table, NoRoom>
     ensures value { IfOk result (λ table. table ≡ answer_entries) }
 {
@@ -26,7 +26,7 @@ fn answers(alloc: Global) -> Result<Table, NoRoom>
     Ok(Table { rows: entries })
 }
 
-/// The table that lists the objects at a location after its text.
+// The table that lists the objects at a location after its text.
 fn listing(alloc: Global) -> Result<Table, NoRoom>
     ensures value { IfOk result (λ table. table ≡ listing) }
 {

@@ -5,14 +5,14 @@ use Rattle.std.specs.Prelude.{Some, None, not, if◌then◌else◌}
 use Rattle.std.specs.List.{position_from}
 use Rattle.std.proofs.lemmas.Iterator.Adapters.{position_from-zero}
 use Rattle.std.proofs.lemmas.Bool.Decides.{nat_tests}
-use Rattle.paw_journal.specs.Session.{Change, changes, changed, is_sound, first_unsound}
+use Rattle.paw_journal.specs.Session.{Change, changes, with_changes, is_sound, first_unsound}
 use Rattle.paw_journal.specs.Session.{base_length}
 
 -- This number of records was sound and is applied, and these bytes hold the others.
 pub record Applies (all old : List ℕ) (number : ℕ) (rest now : List ℕ) : Type 0 where
   pub few : 4 * number + length rest ≤ length all
   pub unsound : position_from (λ c. not (is_sound c)) 0 (changes all) ≡ position_from (λ c. not (is_sound c)) number (changes rest)
-  pub applied : changed (changes all) old ≡ changed (changes rest) now
+  pub applied : with_changes (changes all) old ≡ with_changes (changes rest) now
 
 first_is : (all : List Change) → first_unsound all ≡ position_from (λ c. not (is_sound c)) 0 all
 first_is all = position_from-zero (λ c. not (is_sound c)) all

@@ -9,7 +9,7 @@ use Rattle.std.proofs.lemmas.Bool.Decides.{nat_tests}
 use Rattle.std.proofs.lemmas.Iterator.Adapters.{position_from-zero}
 use Rattle.std.proofs.lemmas.List.{length-append, length-take-le, take_all, drop_all, get_or-drop, get_or-take}
 use Rattle.std.proofs.Math.Seq.{take-suc, drop-cons, set-append_seam}
-use Rattle.paw_journal.specs.Session.{Change, changes, changed, is_sound, first_unsound}
+use Rattle.paw_journal.specs.Session.{Change, changes, with_changes, is_sound, first_unsound}
 use Rattle.paw_journal.specs.Session.{differing, change_bytes, differences_from}
 use Rattle.paw_journal.specs.inner.Steps.{ChangesInto, ChangesTo}
 use Rattle.paw_journal.specs.Session.{base_length}
@@ -23,7 +23,7 @@ changes-append (suc n) (w ∷ []) b e = absurd (omega arith)
 changes-append (suc n) (w ∷ x ∷ []) b e = absurd (omega arith)
 changes-append (suc n) (w ∷ x ∷ y ∷ []) b e = absurd (omega arith)
 
-pub changed-append : (a b : List Change) (bytes : List ℕ) → changed (a ++ b) bytes ≡ changed b (changed a bytes)
+pub changed-append : (a b : List Change) (bytes : List ℕ) → with_changes (a ++ b) bytes ≡ with_changes b (with_changes a bytes)
 changed-append [] b bytes = refl
 changed-append (c ∷ a) b bytes = changed-append a b (slice_set bytes c.at c.byte)
 
@@ -86,7 +86,7 @@ leads_none old new records e = record {
   few = omega (arith, ap length e);
   sound =
       ap (λ r. first_unsound (changes r)) e;
-  turned = ap (λ r. changed (changes r) old) e;
+  turned = ap (λ r. with_changes (changes r) old) e;
 }
 
 more : (old new : List ℕ) (i : ℕ) → length old ≡ length new → i < length old →
@@ -159,7 +159,7 @@ leads_other old new records now i z h n low short ne q e =
       few = omega (arith, h.few, m);
       sound = ap first_unsound all ∙ sound-append (changes records) (c ∷ []) h.sound (sound_one c short refl);
       turned =
-          ap (λ cs. changed cs old) all
+          ap (λ cs. with_changes cs old) all
           ∙ (changed-append (changes records) (c ∷ []) old
           ∙ (ap (λ l. slice_set l i z) (h.turned ∙ ap (λ l. take i new ++ l) (drop-cons old i 0 low))
           ∙ (ap (λ k. slice_set (take i new ++ get_or old i 0 ∷ drop (suc i) old) k z) at

@@ -1,12 +1,12 @@
 -- The selector of a session, and what a crash leaves while it is written.
 use Rattle.std.proofs.Common.{◌≡◌, ◌≢◌, ℕ, ◌+◌, ◌-◌, ◌*◌, ◌%◌, ◌≤◌, ◌<◌, List, [], ◌∷◌, length, ap, ◌∙◌, arith, get_or}
 use Rattle.std.proofs.Common.{◌⊎◌, inl, inr}
-use Rattle.paw_stage.specs.Disk.{Disk, put, stable, IsStable, touched}
+use Rattle.paw_stage.specs.Disk.{Disk, put_at, stable, IsStable, disk_written}
 use Rattle.paw_stage.specs.Stage.{Standing, wrote}
 use Rattle.paw_stage.specs.Moments.{Moment, InWrite, InSync}
 use Rattle.paw_journal.specs.declared.layout.Slot.{Slot}
 use Rattle.paw_journal.specs.declared.layout.Slot.TheVariants as which
-use Rattle.paw_journal.specs.Session.{recover, recover_by, chosen, kept_digests, slot, session_length, header_length}
+use Rattle.paw_journal.specs.Session.{recover, recover_by, slot_in_use, kept_digests, slot, session_length, header_length}
 use Rattle.paw_journal.specs.Session.{slot_length}
 use Rattle.paw_journal.specs.inner.Steps.{IsWithin, chosen_session}
 use Rattle.paw_journal.specs.inner.Store.{InStore, CrashLeavesSuch, IsOldOrNew}
@@ -53,7 +53,7 @@ in_choosing k s m low long h w = in_moved_write 1 2 1 1 s s _ m (moved_none 1 2 
     (omega arith) (λ d i. choosing k s.disk.bytes d low long i) w
 
 pub chose : (x : ℕ) (s t : Standing) (n : ℕ) → length s.disk.bytes ≡ session_length → IsStable s.disk →
-    t ≡ wrote s (touched 1 1 (x ∷ []) s.disk) n → IsMoved 1 2 s t
+    t ≡ wrote s (disk_written 1 1 (x ∷ []) s.disk) n → IsMoved 1 2 s t
 chose x s t n long h e = moved_wrote 1 2 1 1 n (x ∷ []) s s t (moved_none 1 2 s h) (omega arith) (omega arith) (omega arith) (omega arith) e
 
 pub in_chosen : (k : ℕ) (s t : Standing) (m : Moment) → k < 2 → length s.disk.bytes ≡ session_length → IsMoved 1 2 s t →
@@ -63,14 +63,14 @@ in_chosen k s t m low long h w = in_moved_sync 1 2 s t
     (λ d i. choosing k s.disk.bytes d low long i) w
 
 -- The selector is the slot's.
-pub selector_is : (k : ℕ) (old : List ℕ) → k < 2 → length old ≡ session_length → chosen (chosen_session k old) ≡ k
+pub selector_is : (k : ℕ) (old : List ℕ) → k < 2 → length old ≡ session_length → slot_in_use (chosen_session k old) ≡ k
 selector_is k old low long = let h : k % 2 ≡ k = grind arith in ap (λ b. b % 2) (put_one 1 k old (omega arith)) ∙ h
 
 -- And a crash leaves just that.
-pub chose_all : (k x n : ℕ) (s t u : Standing) → x ≡ k → t ≡ wrote s (touched 1 1 (x ∷ []) s.disk) n →
+pub chose_all : (k x n : ℕ) (s t u : Standing) → x ≡ k → t ≡ wrote s (disk_written 1 1 (x ∷ []) s.disk) n →
     u ≡ record t { disk = stable t.disk.bytes } → u.disk ≡ stable (chosen_session k s.disk.bytes)
 chose_all k x n s t u e w q =
-    ap (λ y. y.disk) q ∙ (ap (λ y. stable y.disk.bytes) w ∙ ap (λ j. stable (put 1 (j ∷ []) s.disk.bytes)) e)
+    ap (λ y. y.disk) q ∙ (ap (λ y. stable y.disk.bytes) w ∙ ap (λ j. stable (put_at 1 (j ∷ []) s.disk.bytes)) e)
 
 -- All but the selector is as it was.
 pub chosen_digests : (k : ℕ) (old : List ℕ) → length old ≡ session_length → kept_digests (chosen_session k old) ≡ kept_digests old

@@ -2,15 +2,15 @@
 use Rattle.std.proofs.Common.{◌≡◌, ℕ, ◌+◌, ◌-◌, ◌*◌, ◌≤◌, ◌<◌, List, [], ◌∷◌, length, take, refl, sym, ap, ◌∙◌, subst}
 use Rattle.std.proofs.Common.{arith}
 use Rattle.std.specs.Prelude.{Option, Some, IsSome}
-use Rattle.paw_stage.specs.Disk.{put, stable, IsStable}
+use Rattle.paw_stage.specs.Disk.{put_at, stable, IsStable}
 use Rattle.paw_stage.specs.Stage.{Standing}
 use Rattle.paw_journal.specs.declared.journal.Journal.{Journal}
 use Rattle.paw_journal.specs.declared.layout.Slot.{Slot}
 use Rattle.paw_journal.specs.declared.layout.Slot.TheVariants as which
 use Rattle.paw_journal.specs.declared.drafting.SlotState.{SlotState}
 use Rattle.paw_journal.specs.declared.drafting.CommitDraft.{CommitDraft}
-use Rattle.paw_journal.specs.Session.{Shown, recover, recover_by, chosen, slot, slot_length, session_length}
-use Rattle.paw_journal.specs.Session.{slot_shows, stretch, kept_digests, piece_length, state_length, committed}
+use Rattle.paw_journal.specs.Session.{Shown, recover, recover_by, slot_in_use, slot, slot_length, session_length}
+use Rattle.paw_journal.specs.Session.{slot_shows, stretch, kept_digests, piece_length, state_length, session_committed}
 use Rattle.paw_journal.specs.Session.{committed_in}
 use Rattle.paw_journal.specs.inner.Room.{Room, kept_slot, kept_of, with_slot_kept, KeepsSlots, slot_number}
 use Rattle.paw_journal.specs.inner.Written.{most_written}
@@ -94,7 +94,7 @@ module _ (w : Slot) (draft : CommitDraft) (kept : Option SlotState) (state bytes
     written_in =
         let new : List ℕ = written_slot draft bytes piece (slot (slot_number w) s.disk.bytes) in
         ap (λ y. slot (slot_number w) y.bytes) e
-        ∙ (ap (λ n. stretch (start_of (slot_number w)) n (put (start_of (slot_number w)) new s.disk.bytes)) (sym slot_as)
+        ∙ (ap (λ n. stretch (start_of (slot_number w)) n (put_at (start_of (slot_number w)) new s.disk.bytes)) (sym slot_as)
         ∙ stretch_written (start_of (slot_number w)) new s.disk.bytes (low (slot_number w) (length s.disk.bytes) (slot_small w) spare.made.long))
       where
         low : (k n : ℕ) → k < 2 → n ≡ session_length → header_length + slot_length * k ≤ n
@@ -113,17 +113,17 @@ module _ (w : Slot) (draft : CommitDraft) (kept : Option SlotState) (state bytes
 -- Once that slot is chosen, all is as a commit leaves it.
 pub committed_exact : (w used : Slot) (draft : CommitDraft) (kept : Option SlotState) (state bytes piece : List ℕ) (s t u : Standing) →
     Drafts kept state bytes draft → kept ≡ kept_slot (slot (slot_number w) s.disk.bytes) →
-    slot_number w ≡ 1 - slot_number used → chosen s.disk.bytes ≡ slot_number used →
+    slot_number w ≡ 1 - slot_number used → slot_in_use s.disk.bytes ≡ slot_number used →
     t.disk ≡ stable (written_session (slot_number w) draft bytes piece s.disk.bytes) →
-    u.disk ≡ stable (chosen_session (slot_number w) t.disk.bytes) → u.disk.bytes ≡ committed state piece s.disk.bytes
-unfolding committed committed_in
+    u.disk ≡ stable (chosen_session (slot_number w) t.disk.bytes) → u.disk.bytes ≡ session_committed state piece s.disk.bytes
+unfolding session_committed committed_in
 committed_exact w used draft kept state bytes piece s t u d e o c p q =
     let k : ℕ = slot_number w in
     let old : List ℕ = s.disk.bytes in
-    let n : slot_number w ≡ 1 - chosen s.disk.bytes = o ∙ ap (λ i. 1 - i) (sym c) in
+    let n : slot_number w ≡ 1 - slot_in_use s.disk.bytes = o ∙ ap (λ i. 1 - i) (sym c) in
     ap (λ y. y.bytes) q
-    ∙ (ap (λ y. put 1 (k ∷ []) y.bytes) p
-    ∙ (ap (λ x. put 1 (k ∷ []) (put (start_of k) x old)) (d.exact (slot k old) piece (sym e))
+    ∙ (ap (λ y. put_at 1 (k ∷ []) y.bytes) p
+    ∙ (ap (λ x. put_at 1 (k ∷ []) (put_at (start_of k) x old)) (d.exact (slot k old) piece (sym e))
     ∙ ap (λ i. committed_in i state piece old) n))
 
 -- The states of both slots afterwards.
@@ -166,7 +166,7 @@ same_second which.Second x a b e = refl
 pub committed_keeps : (w : Slot) (x : SlotState) (old drafted held now : Room) (state piece : List ℕ)
     (s t u : Standing) → KeepsSlots old s.disk.bytes → drafted ≡ record old { slot = drafted.slot } →
     held ≡ record drafted { state = state; piece = piece } → now ≡ with_slot_kept w (Some x) held → IsAtRest u →
-    chosen u.disk.bytes ≡ slot_number w →
+    slot_in_use u.disk.bytes ≡ slot_number w →
     recover u.disk.bytes ≡ Shown (kept_digests s.disk.bytes) (take state_length state) piece →
     kept_digests u.disk.bytes ≡ kept_digests s.disk.bytes →
     slot (1 - slot_number w) t.disk.bytes ≡ slot (1 - slot_number w) s.disk.bytes →

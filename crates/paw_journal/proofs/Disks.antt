@@ -3,7 +3,7 @@ use Rattle.std.proofs.Common.{◌≡◌, ℕ, ◌+◌, ◌≤◌, ◌<◌, false
 use Rattle.std.proofs.Common.{◌⊎◌, inl, inr}
 use Rattle.std.proofs.lemmas.Bool.Decides.{nat_tests}
 use Rattle.std.proofs.lemmas.List.{ext_get_or}
-use Rattle.paw_stage.specs.Disk.{Range, Disk, is_dirty, MayLeave, touched, stable, IsStable, IsInWrite, put}
+use Rattle.paw_stage.specs.Disk.{Range, Disk, is_dirty, MayLeave, disk_written, stable, IsStable, IsInWrite, put_at}
 use Rattle.paw_journal.specs.inner.Steps.{IsWithin}
 use Rattle.paw_journal.proofs.Parts.{length_put, put_below, put_above}
 
@@ -18,7 +18,7 @@ within_stable lo hi d h = record {
 }
 
 within_touched : (lo hi at n : ℕ) (old new : List ℕ) (d : Disk) → IsWithin lo hi old d → lo ≤ at → at + n ≤ hi →
-    hi ≤ length old → length new ≤ n → IsWithin lo hi old (touched at n new d)
+    hi ≤ length old → length new ≤ n → IsWithin lo hi old (disk_written at n new d)
 within_touched lo hi at n old new d h low high long short =
     record {
       long = omega (arith, length_put at new d.bytes (omega (arith, h.long)), h.long);
@@ -64,9 +64,9 @@ stable_leaves d image h m =
     ext_get_or 0 image d.bytes n (λ i low. m.clean i (omega (arith, ap length h.kept)) (ap (λ r. is_dirty r i) h.dirty))
 
 -- A stretch that was written and synced.
-pub put_within : (at n : ℕ) (new old : List ℕ) → length new ≡ n → at + length new ≤ length old → IsWithin at (at + n) old (stable (put at new old))
+pub put_within : (at n : ℕ) (new old : List ℕ) → length new ≡ n → at + length new ≤ length old → IsWithin at (at + n) old (stable (put_at at new old))
 put_within at n new old l fits =
-    let long : length (put at new old) ≡ length old = omega (arith, length_put at new old (omega arith)) in
+    let long : length (put_at at new old) ≡ length old = omega (arith, length_put at new old (omega arith)) in
     record {
       long = long;
       synced = long;

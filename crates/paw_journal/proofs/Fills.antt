@@ -1,11 +1,11 @@
 -- The slot that isn't in use, and what a crash leaves while it is written.
 use Rattle.std.proofs.Common.{◌≡◌, ℕ, ◌+◌, ◌-◌, ◌*◌, ◌%◌, ◌≤◌, ◌<◌, List, length, refl, sym, ap, subst, ◌∙◌, arith}
 use Rattle.std.proofs.Common.{get_or, ◌⊎◌, inl}
-use Rattle.paw_stage.specs.Disk.{Disk, put, stable, IsStable, touched}
+use Rattle.paw_stage.specs.Disk.{Disk, put_at, stable, IsStable, disk_written}
 use Rattle.paw_stage.specs.Stage.{Standing, wrote}
 use Rattle.paw_stage.specs.Moments.{Moment, Passes, InWrite, InSync}
 use Rattle.paw_stage.proofs.Time.{Passes_on}
-use Rattle.paw_journal.specs.Session.{recover, recover_by, is_version, slot, chosen, kept_digests, session_length}
+use Rattle.paw_journal.specs.Session.{recover, recover_by, is_version, slot, slot_in_use, kept_digests, session_length}
 use Rattle.paw_journal.specs.Session.{header_length, slot_length}
 use Rattle.paw_journal.specs.inner.Store.{ChangesStoreOnly, InStore, CrashLeavesSuch, LeavesSame}
 use Rattle.paw_journal.specs.inner.Steps.{IsMade, IsSpare, IsWithin, IsFilling, IsStillFilling, start_of}
@@ -30,17 +30,17 @@ slot_hidden k j image old low e n long same =
     apart i l h = grind arith
 
 -- While the other slot is written a crash leaves what was shown before.
-pub filling : (k : ℕ) (old : List ℕ) (d : Disk) → k < 2 → length old ≡ session_length → chosen old ≡ 1 - k →
+pub filling : (k : ℕ) (old : List ℕ) (d : Disk) → k < 2 → length old ≡ session_length → slot_in_use old ≡ 1 - k →
     IsWithin (header_length + slot_length * k) (header_length + slot_length * k + slot_length) old d →
     CrashLeavesSuch (λ r. r ≡ recover old) d
 filling k old d low long other h image l =
     let n : length image ≡ length old = within_long _ _ old image d h l in
-    let e : chosen image ≡ 1 - k = ap (λ b. b % 2) (within_same _ _ old image d h l 1 (omega arith) (inl (omega arith))) ∙ other in
+    let e : slot_in_use image ≡ 1 - k = ap (λ b. b % 2) (within_same _ _ old image d h l 1 (omega arith) (inl (omega arith))) ∙ other in
     recover_is (1 - k) image e ∙ (slot_hidden k (1 - k) image old low refl n long (within_same _ _ old image d h l) ∙ sym (recover_is (1 - k) old other))
 
 -- ---- a slot that is being written ----
 
-pub filling_none : (k : ℕ) (s : Standing) → k < 2 → IsStable s.disk → IsMade s.disk.bytes → chosen s.disk.bytes ≡ 1 - k → IsFilling k s s
+pub filling_none : (k : ℕ) (s : Standing) → k < 2 → IsStable s.disk → IsMade s.disk.bytes → slot_in_use s.disk.bytes ≡ 1 - k → IsFilling k s s
 filling_none k s low h made other = record { low = low; made = made; other = other; beside = beside_none s; within = within_stable _ _ s.disk h }
 
 moved : (k : ℕ) (s t : Standing) → IsFilling k s t → IsMoved (header_length + slot_length * k) (header_length + slot_length * k + slot_length) s t
@@ -48,7 +48,7 @@ moved k s t h = record { beside = h.beside; within = h.within }
 
 pub filling_wrote : (k at a : ℕ) (new : List ℕ) (s t u : Standing) → IsFilling k s t →
     at ≡ header_length + slot_length * k + a → a + length new ≤ slot_length →
-    u ≡ wrote t (touched at (length new) new t.disk) (length new) → IsFilling k s u
+    u ≡ wrote t (disk_written at (length new) new t.disk) (length new) → IsFilling k s u
 filling_wrote k at a new s t u h e fits w =
     let l = h.low in
     let b = h.made.long in
@@ -78,25 +78,25 @@ parts_on k s t x y z p q r keeps one two first h = Passes_on _ _ _ _ _ _ _ _ (on
 -- The bytes of the slot itself.
 pub wrote_slot : (k at a : ℕ) (new : List ℕ) (t u : Standing) → k < 2 → length t.disk.bytes ≡ session_length →
     at ≡ header_length + slot_length * k + a → a + length new ≤ slot_length →
-    u ≡ wrote t (touched at (length new) new t.disk) (length new) →
-    slot k u.disk.bytes ≡ put a new (slot k t.disk.bytes)
+    u ≡ wrote t (disk_written at (length new) new t.disk) (length new) →
+    slot k u.disk.bytes ≡ put_at a new (slot k t.disk.bytes)
 wrote_slot k at a new t u low long e fits w =
     ap (λ x. slot k x.disk.bytes) w
-    ∙ (ap (λ i. slot k (put i new t.disk.bytes)) e
+    ∙ (ap (λ i. slot k (put_at i new t.disk.bytes)) e
     ∙ stretch_put (header_length + slot_length * k) slot_length a new t.disk.bytes fits (omega arith))
 
 pub slot_long : (k : ℕ) (bytes : List ℕ) → k < 2 → length bytes ≡ session_length → length (slot k bytes) ≡ slot_length
 slot_long k bytes low long = stretch_long (header_length + slot_length * k) slot_length bytes (omega arith)
 
 pub wrote_nothing : (k at : ℕ) (new bytes : List ℕ) → k < 2 → length bytes ≡ session_length → length new ≡ 0 →
-    at + length new ≤ slot_length → slot k bytes ≡ put at new (slot k bytes)
+    at + length new ≤ slot_length → slot k bytes ≡ put_at at new (slot k bytes)
 wrote_nothing k at new bytes low long none fits = put_nothing at new (slot k bytes) none (omega (arith, slot_long k bytes low long))
 
 -- ---- what stands once it is written ----
 
 -- The slot alone was written.
 pub filled_bytes : (k : ℕ) (new : List ℕ) (s t : Standing) → IsFilling k s t → length new ≡ slot_length →
-    slot k t.disk.bytes ≡ new → t.disk.bytes ≡ put (start_of k) new s.disk.bytes
+    slot k t.disk.bytes ≡ new → t.disk.bytes ≡ put_at (start_of k) new s.disk.bytes
 filled_bytes k new s t h l e =
     put_between (start_of k) slot_length new s.disk.bytes t.disk.bytes l (fits k (length s.disk.bytes) h.low h.made.long)
     h.within.long h.within.same e
@@ -106,12 +106,12 @@ filled_bytes k new s t h l e =
 
 pub filled_stable : (k : ℕ) (new : List ℕ) (s t u : Standing) → IsFilling k s t → length new ≡ slot_length →
     slot k t.disk.bytes ≡ new → u ≡ record t { disk = stable t.disk.bytes } →
-    u.disk ≡ stable (put (start_of k) new s.disk.bytes)
+    u.disk ≡ stable (put_at (start_of k) new s.disk.bytes)
 filled_stable k new s t u h l e q = ap (λ x. x.disk) q ∙ ap stable (filled_bytes k new s t h l e)
 
 -- And so the session is being filled, where nothing is unsynced.
 pub filling_put : (k : ℕ) (new : List ℕ) (s t : Standing) → k < 2 → IsSpare k s.disk.bytes → ChangesStoreOnly s t →
-    length new ≡ slot_length → t.disk ≡ stable (put (start_of k) new s.disk.bytes) → IsFilling k s t
+    length new ≡ slot_length → t.disk ≡ stable (put_at (start_of k) new s.disk.bytes) → IsFilling k s t
 filling_put k new s t low spare beside l e =
     let fits : start_of k + length new ≤ length s.disk.bytes = room k (length new) (length s.disk.bytes) low l spare.made.long in
     record {

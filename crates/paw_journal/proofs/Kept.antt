@@ -4,11 +4,11 @@ use Rattle.std.proofs.Common.{refl, sym, ap, subst, ◌∙◌, arith}
 use Rattle.std.specs.Prelude.{◌==◌, Option, Some, None, if◌then◌else◌, is_none, nat_le, ◌&&◌}
 use Rattle.std.proofs.lemmas.Bool.Decides.{nat_tests}
 use Rattle.std.proofs.lemmas.List.{append-nil}
-use Rattle.paw_stage.specs.Disk.{put}
+use Rattle.paw_stage.specs.Disk.{put_at}
 use Rattle.paw_journal.specs.declared.refusal.SessionPart.TheVariants as part
 use Rattle.paw_journal.specs.declared.drafting.SlotState.{SlotState}
 use Rattle.paw_journal.specs.declared.drafting.CommitDraft.{CommitDraft}
-use Rattle.paw_journal.specs.Session.{Digests, Damaged, Shown, stretch, two_byte_number, base, changes, changed}
+use Rattle.paw_journal.specs.Session.{Digests, Damaged, Shown, stretch, two_byte_number, base, changes, with_changes}
 use Rattle.paw_journal.specs.Session.{first_unsound, slot_changes, slot_state}
 use Rattle.paw_journal.specs.Session.{has_state, differing, differences, slot_head, rewritten, records_with}
 use Rattle.paw_journal.specs.Session.{takes_changes, committed_slot}
@@ -18,7 +18,8 @@ use Rattle.paw_journal.specs.Session.{piece_length, state_length}
 use Rattle.paw_journal.specs.inner.Room.{kept_slot}
 use Rattle.paw_journal.specs.inner.Written.{most_written}
 use Rattle.paw_journal.specs.inner.Steps.{ChangesInto, Drafts}
-use Rattle.paw_journal.specs.declared.layout.TheConstants.{VERSION, BASE_AT, CHANGES_AT, PIECE_AT}
+use Rattle.paw_journal.specs.declared.layout.TheConstants.{BASE_AT, CHANGES_AT, PIECE_AT}
+use Rattle.paw_base.specs.declared.layout.TheConstants.{VERSION}
 use Rattle.paw_journal.specs.Session.{base_length, slot_length}
 use Rattle.paw_journal.proofs.Puts.{stretch_long, put_long, stretch_past, stretch_before, stretch_written}
 use Rattle.paw_journal.proofs.Puts.{stretch_behind}
@@ -30,7 +31,7 @@ pub record IsKept (bytes : List ℕ) (records : ℕ) (state : List ℕ) : Type 0
   pub number : two_byte_number 0 bytes ≡ records
   pub few : records ≤ most_changes
   pub sound : first_unsound (changes (stretch CHANGES_AT (4 * records) bytes)) ≡ None
-  pub told : changed (changes (stretch CHANGES_AT (4 * records) bytes)) (base bytes) ≡ state
+  pub told : with_changes (changes (stretch CHANGES_AT (4 * records) bytes)) (base bytes) ≡ state
 
 holds_state : (bytes : List ℕ) (n : ℕ) (unsound : Option ℕ) → n ≤ most_changes → unsound ≡ None →
     (nat_le n most_changes && is_none unsound) ≡ true
@@ -63,7 +64,7 @@ kept_is bytes records state h =
     let r : stretch CHANGES_AT (4 * two_byte_number 0 bytes) bytes ≡ stretch CHANGES_AT (4 * records) bytes =
     ap (λ n. stretch CHANGES_AT (4 * n) bytes) h.number in
     let t : has_state bytes ≡ true = has_state_is bytes (omega (arith, h.number, h.few)) (ap (λ l. first_unsound (changes l)) r ∙ h.sound) in
-    let s : slot_state bytes ≡ state = ap (λ l. changed (changes l) (base bytes)) r ∙ h.told in
+    let s : slot_state bytes ≡ state = ap (λ l. with_changes (changes l) (base bytes)) r ∙ h.told in
     kept_of_both bytes h.current t
     ∙ (ap (λ n. Some (record { records = n; state = slot_state bytes })) h.number ∙ ap (λ l. Some (record { records = records; state = l })) s)
 
@@ -100,7 +101,7 @@ is_kept bytes records state e =
       number = k.2;
       few = omega (arith, k.2, h.few);
       sound = ap (λ l. first_unsound (changes l)) r ∙ h.sound;
-      told = ap (λ l. changed (changes l) (base bytes)) r ∙ k.3;
+      told = ap (λ l. with_changes (changes l) (base bytes)) r ∙ k.3;
     }
 
 -- A slot that has a state shows it, in the form of its version.
@@ -131,14 +132,14 @@ kept_shows digests bytes records state h =
     let r : stretch CHANGES_AT (4 * two_byte_number 0 bytes) bytes ≡ stretch CHANGES_AT (4 * records) bytes =
     ap (λ n. stretch CHANGES_AT (4 * n) bytes) h.number in
     let t : has_state bytes ≡ true = has_state_is bytes (omega (arith, h.number, h.few)) (ap (λ l. first_unsound (changes l)) r ∙ h.sound) in
-    let s : slot_state bytes ≡ state = ap (λ l. changed (changes l) (base bytes)) r ∙ h.told in
+    let s : slot_state bytes ≡ state = ap (λ l. with_changes (changes l) (base bytes)) r ∙ h.told in
     sound_shows digests bytes t
     ∙ (ap (λ l. Shown digests l (slot_piece bytes)) (current_shown bytes h.current)
     ∙ ap (λ l. Shown digests (take state_length l) (stretch PIECE_AT (piece_length l) bytes)) s)
 
 -- ---- a slot that was written ----
 
-head_number : (records : ℕ) (bytes : List ℕ) → records < 65536 → two_byte_number 0 (put 0 (slot_head records) bytes) ≡ records
+head_number : (records : ℕ) (bytes : List ℕ) → records < 65536 → two_byte_number 0 (put_at 0 (slot_head records) bytes) ≡ records
 head_number records bytes low = whole records (records % 256) (records / 256) refl refl
   where
     whole : (n a b : ℕ) → a ≡ n % 256 → b ≡ n / 256 → a + 256 * b ≡ n
@@ -146,67 +147,68 @@ head_number records bytes low = whole records (records % 256) (records / 256) re
 
 module _ (records at : ℕ) (bytes piece old : List ℕ) (long : length old ≡ slot_length) (fits : at + length bytes ≤ slot_length)
     (short : length piece ≤ 65535) (few : records ≤ most_changes) where
-  one : length (put at bytes old) ≡ slot_length
+  one : length (put_at at bytes old) ≡ slot_length
   one = put_long at bytes old (omega arith) ∙ long
 
-  two : length (put PIECE_AT piece (put at bytes old)) ≡ slot_length
-  two = put_long PIECE_AT piece (put at bytes old) (omega (arith, one)) ∙ one
+  two : length (put_at PIECE_AT piece (put_at at bytes old)) ≡ slot_length
+  two = put_long PIECE_AT piece (put_at at bytes old) (omega (arith, one)) ∙ one
 
   now : List ℕ
-  now = put 0 (slot_head records) (put PIECE_AT piece (put at bytes old))
+  now = put_at 0 (slot_head records) (put_at PIECE_AT piece (put_at at bytes old))
 
-  pub written_number : two_byte_number 0 (put 0 (slot_head records) (put PIECE_AT piece (put at bytes old))) ≡ records
-  written_number = head_number records (put PIECE_AT piece (put at bytes old)) (omega arith)
+  pub written_number : two_byte_number 0 (put_at 0 (slot_head records) (put_at PIECE_AT piece (put_at at bytes old))) ≡ records
+  written_number = head_number records (put_at PIECE_AT piece (put_at at bytes old)) (omega arith)
 
   -- The piece of a slot that was written.
-  pub written_piece : stretch PIECE_AT (length piece) (put 0 (slot_head records) (put PIECE_AT piece (put at bytes old))) ≡ piece
+  pub written_piece : stretch PIECE_AT (length piece) (put_at 0 (slot_head records) (put_at PIECE_AT piece (put_at at bytes old))) ≡ piece
   written_piece =
-      stretch_past PIECE_AT (length piece) 0 (slot_head records) (put PIECE_AT piece (put at bytes old)) (omega arith) (omega (arith, two))
-      ∙ stretch_written PIECE_AT piece (put at bytes old) (omega (arith, one))
+      stretch_past PIECE_AT (length piece) 0 (slot_head records) (put_at PIECE_AT piece (put_at at bytes old)) (omega arith) (omega (arith, two))
+      ∙ stretch_written PIECE_AT piece (put_at at bytes old) (omega (arith, one))
 
-  pub written_base : stretch BASE_AT base_length (put 0 (slot_head records) (put PIECE_AT piece (put at bytes old)))
-      ≡ stretch BASE_AT base_length (put at bytes old)
+  pub written_base : stretch BASE_AT base_length (put_at 0 (slot_head records) (put_at PIECE_AT piece (put_at at bytes old)))
+      ≡ stretch BASE_AT base_length (put_at at bytes old)
   written_base =
-      stretch_past BASE_AT base_length 0 (slot_head records) (put PIECE_AT piece (put at bytes old)) (omega arith) (omega (arith, two))
-      ∙ stretch_before BASE_AT base_length PIECE_AT piece (put at bytes old) (omega arith) (omega (arith, one))
+      stretch_past BASE_AT base_length 0 (slot_head records) (put_at PIECE_AT piece (put_at at bytes old)) (omega arith) (omega (arith, two))
+      ∙ stretch_before BASE_AT base_length PIECE_AT piece (put_at at bytes old) (omega arith) (omega (arith, one))
 
   pub written_records : (n : ℕ) →
-      stretch CHANGES_AT n (put 0 (slot_head records) (put PIECE_AT piece (put at bytes old))) ≡ stretch CHANGES_AT n (put at bytes old)
+      stretch CHANGES_AT n (put_at 0 (slot_head records) (put_at PIECE_AT piece (put_at at bytes old))) ≡ stretch CHANGES_AT n (put_at at bytes old)
   written_records n =
-      stretch_past CHANGES_AT n 0 (slot_head records) (put PIECE_AT piece (put at bytes old)) (omega arith) (omega (arith, two))
-      ∙ stretch_past CHANGES_AT n PIECE_AT piece (put at bytes old) (omega arith) (omega (arith, one))
+      stretch_past CHANGES_AT n 0 (slot_head records) (put_at PIECE_AT piece (put_at at bytes old)) (omega arith) (omega (arith, two))
+      ∙ stretch_past CHANGES_AT n PIECE_AT piece (put_at at bytes old) (omega arith) (omega (arith, one))
 
 -- The base whole.
 whole_gives : (state piece old : List ℕ) → length state ≡ base_length → length old ≡ slot_length →
     length piece ≤ 65535 →
-    IsKept (put 0 (slot_head 0) (put PIECE_AT piece (put BASE_AT state old))) 0 state
+    IsKept (put_at 0 (slot_head 0) (put_at PIECE_AT piece (put_at BASE_AT state old))) 0 state
 whole_gives state piece old n long short = record {
   current = refl;
   number = written_number 0 BASE_AT state piece old long (omega arith) short (omega arith);
   few = omega arith;
   sound = refl;
   told = written_base 0 BASE_AT state piece old long (omega arith) short (omega arith)
-      ∙ (ap (λ k. stretch BASE_AT k (put BASE_AT state old)) (sym n) ∙ stretch_written BASE_AT state old (omega arith));
+      ∙ (ap (λ k. stretch BASE_AT k (put_at BASE_AT state old)) (sym n) ∙ stretch_written BASE_AT state old (omega arith));
 }
 
 -- Change records are added after those that are there.
 behind_gives : (n c : ℕ) (was state records piece old : List ℕ) → IsKept old n was → ChangesInto was state records →
     length records ≡ 4 * c → n + c ≤ most_changes → length old ≡ slot_length → length piece ≤ 65535 →
-    IsKept (put 0 (slot_head (n + c)) (put PIECE_AT piece (put (CHANGES_AT + 4 * n) records old))) (n + c) state
+    IsKept (put_at 0 (slot_head (n + c)) (put_at PIECE_AT piece (put_at (CHANGES_AT + 4 * n) records old))) (n + c) state
 behind_gives n c was state records piece old h t l few long short =
     let at = CHANGES_AT + 4 * n in
     let fits : at + length records ≤ slot_length = omega (arith, l) in
     let m : 4 * (n + c) ≡ 4 * n + length records = omega (arith, l) in
-    let r : stretch CHANGES_AT (4 * (n + c)) (put 0 (slot_head (n + c)) (put PIECE_AT piece (put at records old))) ≡ stretch CHANGES_AT (4 * n) old ++ records =
+    let r : stretch CHANGES_AT (4 * (n + c)) (put_at 0 (slot_head (n + c)) (put_at PIECE_AT piece (put_at at records old)))
+    ≡ stretch CHANGES_AT (4 * n) old ++ records =
     written_records (n + c) at records piece old long fits short few (4 * (n + c))
-    ∙ (ap (λ k. stretch CHANGES_AT k (put at records old)) m
+    ∙ (ap (λ k. stretch CHANGES_AT k (put_at at records old)) m
     ∙ stretch_behind CHANGES_AT (4 * n) at records old refl (omega (arith, long))) in
     let q : length (stretch CHANGES_AT (4 * n) old) ≡ 4 * n =
     stretch_long CHANGES_AT (4 * n) old (omega (arith, h.few, long)) in
-    let all : changes (stretch CHANGES_AT (4 * (n + c)) (put 0 (slot_head (n + c)) (put PIECE_AT piece (put at records old))))
+    let all : changes (stretch CHANGES_AT (4 * (n + c)) (put_at 0 (slot_head (n + c)) (put_at PIECE_AT piece (put_at at records old))))
     ≡ changes (stretch CHANGES_AT (4 * n) old) ++ changes records =
     ap changes r ∙ changes-append n (stretch CHANGES_AT (4 * n) old) records q in
-    let b : base (put 0 (slot_head (n + c)) (put PIECE_AT piece (put at records old))) ≡ base old =
+    let b : base (put_at 0 (slot_head (n + c)) (put_at PIECE_AT piece (put_at at records old))) ≡ base old =
     written_base (n + c) at records piece old long fits short few
     ∙ stretch_before BASE_AT base_length at records old (omega arith) (omega (arith, long)) in
     record {
@@ -216,10 +218,10 @@ behind_gives n c was state records piece old h t l few long short =
       sound = ap first_unsound all
           ∙ sound-append (changes (stretch CHANGES_AT (4 * n) old)) (changes records) h.sound t.sound;
       told =
-          ap (λ cs. changed cs (base (put 0 (slot_head (n + c)) (put PIECE_AT piece (put at records old))))) all
-          ∙ (ap (changed (changes (stretch CHANGES_AT (4 * n) old) ++ changes records)) b
+          ap (λ cs. with_changes cs (base (put_at 0 (slot_head (n + c)) (put_at PIECE_AT piece (put_at at records old))))) all
+          ∙ (ap (with_changes (changes (stretch CHANGES_AT (4 * n) old) ++ changes records)) b
           ∙ (changed-append (changes (stretch CHANGES_AT (4 * n) old)) (changes records) (base old)
-          ∙ (ap (changed (changes records)) h.told ∙ t.turned)));
+          ∙ (ap (with_changes (changes records)) h.told ∙ t.turned)));
     }
 
 -- ---- what a commit makes of a slot ----
@@ -272,7 +274,7 @@ pub drafts_whole : (kept : Option SlotState) (state bytes : List ℕ) → bytes 
 drafts_whole kept state bytes e n most takes = record {
   inside = omega (arith, ap length e);
   exact = λ old piece is. exact_base state bytes piece old e (takes old is);
-  gives = λ old piece long is short. kept_is (put 0 (slot_head 0) (put PIECE_AT piece (put BASE_AT bytes old))) 0 state
+  gives = λ old piece long is short. kept_is (put_at 0 (slot_head 0) (put_at PIECE_AT piece (put_at BASE_AT bytes old))) 0 state
       (let h = whole_gives state piece old n long short in rw e h);
   few = λ piece. omega (arith, most piece, ap length e);
 }
@@ -284,7 +286,7 @@ drafts_behind n c was state bytes t l few = record {
   inside = omega (arith, l);
   exact = λ old piece is. exact_behind n c was state bytes piece old t.exact (omega (arith, l, t.many)) few is;
   gives = λ old piece long is short. kept_is
-      (put 0 (slot_head (n + c)) (put PIECE_AT piece (put (CHANGES_AT + 4 * n) bytes old))) (n + c) state
+      (put_at 0 (slot_head (n + c)) (put_at PIECE_AT piece (put_at (CHANGES_AT + 4 * n) bytes old))) (n + c) state
       (behind_gives n c was state bytes piece old (is_kept old n was is) t l few long short);
   few = λ piece. let d : differing was state ≡ c = omega (arith, l, t.many) in most n c (differing was state) (length bytes) (length piece) d l few;
 }

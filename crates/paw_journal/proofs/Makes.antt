@@ -6,11 +6,11 @@ use Rattle.std.specs.Prelude.{replicate}
 use Rattle.std.proofs.lemmas.Bool.{cases_eq}
 use Rattle.std.proofs.lemmas.Bool.Decides.{nat_tests}
 use Rattle.std.proofs.lemmas.List.{length-append, length-drop, length-replicate, take_all, take_at, drop_at, ext_get_or}
-use Rattle.paw_stage.specs.Disk.{Range, Disk, is_dirty, IsInWrite, put, IsStable, touched}
+use Rattle.paw_stage.specs.Disk.{Range, Disk, is_dirty, IsInWrite, put_at, IsStable, disk_written}
 use Rattle.paw_stage.specs.Stage.{Standing, wrote, with_written}
 use Rattle.paw_stage.specs.Moments.{Moment, Passes, InWrite, InSync}
 use Rattle.paw_stage.proofs.Time.{Passes_map, Passes_on}
-use Rattle.paw_journal.specs.declared.layout.TheConstants.{VERSION}
+use Rattle.paw_base.specs.declared.layout.TheConstants.{VERSION}
 use Rattle.paw_journal.specs.Session.{Digests, IsUnmade, recover, session_mark, zeros, made_mark, session_length}
 use Rattle.paw_journal.specs.Session.{made_header}
 use Rattle.paw_journal.specs.inner.Session.{digests_of}
@@ -37,7 +37,7 @@ pub in_beginning : (s : Standing) (m : Moment) → s.disk.longest ≤ 1 → InWr
 in_beginning s m h w = in_write s 0 1 (CrashLeavesSuch IsUnmade) m (λ d i. short_leaves d (short_write s.disk d h i)) w
 
 pub in_begun : (x n : ℕ) (s t : Standing) (m : Moment) → s.disk.longest ≤ 1 →
-    t ≡ wrote s (touched 0 1 (x ∷ []) s.disk) n → InSync t m → InStore s (CrashLeavesSuch IsUnmade) m
+    t ≡ wrote s (disk_written 0 1 (x ∷ []) s.disk) n → InSync t m → InStore s (CrashLeavesSuch IsUnmade) m
 in_begun x n s t m h e w =
     let l : t.disk.longest ≤ 1 = let q : t.disk.longest ≡ max s.disk.longest 1 = ap (λ x. x.disk.longest) e in omega arith in
     in_later s t (CrashLeavesSuch IsUnmade) (CrashLeavesSuch IsUnmade) m (beside_wrote s t _ n e) (λ d p. p) (in_sync t IsUnmade m (short_leaves t.disk l) w)
@@ -51,7 +51,8 @@ blank_leaves held d h image l =
 pub blank_now : (held : List ℕ) (d : Disk) → IsBlank held d → IsBlank d.bytes d
 blank_now held d h = record { bytes = refl; long = h.long; blank = h.blank; clean = h.clean }
 
-blank_touched : (at n : ℕ) (new : List ℕ) (d : Disk) → IsBlank d.bytes d → 1 ≤ at → at ≤ length d.bytes → IsBlank (put at new d.bytes) (touched at n new d)
+blank_touched : (at n : ℕ) (new : List ℕ) (d : Disk) → IsBlank d.bytes d → 1 ≤ at → at ≤ length d.bytes →
+    IsBlank (put_at at new d.bytes) (disk_written at n new d)
 blank_touched at n new d h low high = record {
   bytes = refl;
   long = h.long;
@@ -77,8 +78,9 @@ in_blank_sync s t m b h w =
     in_later s t (CrashLeavesSuch IsUnmade) (CrashLeavesSuch IsUnmade) m b (λ d p. p) (in_sync t IsUnmade m (blank_leaves t.disk.bytes t.disk h) w)
 
 pub blank_wrote : (at : ℕ) (new : List ℕ) (s t : Standing) (n c : ℕ) → IsBlank s.disk.bytes s.disk → 1 ≤ at →
-    at ≤ length s.disk.bytes → t ≡ wrote s (touched at n new s.disk) c → IsBlank (put at new s.disk.bytes) t.disk
-blank_wrote at new s t n c h low high e = subst (λ d. IsBlank (put at new s.disk.bytes) d) (sym (ap (λ x. x.disk) e)) (blank_touched at n new s.disk h low high)
+    at ≤ length s.disk.bytes → t ≡ wrote s (disk_written at n new s.disk) c → IsBlank (put_at at new s.disk.bytes) t.disk
+blank_wrote at new s t n c h low high e =
+    subst (λ d. IsBlank (put_at at new s.disk.bytes) d) (sym (ap (λ x. x.disk) e)) (blank_touched at n new s.disk h low high)
 
 pub length_zeros : (n : ℕ) → length (zeros n) ≡ n
 unfolding zeros
@@ -102,32 +104,32 @@ length_header first digests n = header (first ∷ 0 ∷ VERSION ∷ zeros 29) di
     )
 
 -- Bytes written over as many others.
-put_over : (at : ℕ) (a b c new : List ℕ) → length a ≡ at → length new ≡ length b → put at new (a ++ b ++ c) ≡ a ++ new ++ c
+put_over : (at : ℕ) (a b c new : List ℕ) → length a ≡ at → length new ≡ length b → put_at at new (a ++ b ++ c) ≡ a ++ new ++ c
 put_over at a b c new n m =
     ap (λ x. x ++ new ++ drop (at + length new) (a ++ b ++ c)) (ap (take at) (append_assoc a b c) ∙ take_at a (b ++ c) at n)
     ∙ ap (λ x. a ++ new ++ x) (drop_at (a ++ b) c (at + length new) (omega (arith, length-append a b)))
 
 -- The digests written into a header that has none.
 pub header_is : (game routines : List ℕ) → length game ≡ 32 → length routines ≡ 32 →
-    put 64 routines (put 32 game (0 ∷ 0 ∷ VERSION ∷ replicate 125 0)) ≡ made_header 0 (digests_of game routines)
+    put_at 64 routines (put_at 32 game (0 ∷ 0 ∷ VERSION ∷ replicate 125 0)) ≡ made_header 0 (digests_of game routines)
 unfolding zeros
 header_is game routines n m = over (0 ∷ 0 ∷ VERSION ∷ replicate 29 0) (replicate 32 0) (replicate 32 0) (replicate 32 0) refl refl n m
   where
     over : (head one two behind : List ℕ) → length head ≡ 32 → length one ≡ 32 → length game ≡ 32 → length routines ≡ length two →
-        put 64 routines (put 32 game (head ++ one ++ two ++ behind)) ≡ head ++ game ++ routines ++ behind
+        put_at 64 routines (put_at 32 game (head ++ one ++ two ++ behind)) ≡ head ++ game ++ routines ++ behind
     over head one two behind h o n m =
-        ap (λ x. put 64 routines (put 32 game x)) (append_assoc (head ++ one) two behind)
-        ∙ (ap (put 64 routines) (put_over 32 head one (two ++ behind) game h (n ∙ sym o))
-        ∙ (ap (put 64 routines) (sym (append_assoc (head ++ game) two behind))
+        ap (λ x. put_at 64 routines (put_at 32 game x)) (append_assoc (head ++ one) two behind)
+        ∙ (ap (put_at 64 routines) (put_over 32 head one (two ++ behind) game h (n ∙ sym o))
+        ∙ (ap (put_at 64 routines) (sym (append_assoc (head ++ game) two behind))
         ∙ put_over 64 (head ++ game) two behind routines (omega (arith, length-append head game)) m))
 
 -- The header without its first byte is written after that byte.
 pub header_written : (digests : Digests) (header old : List ℕ) → AreLong digests → header ≡ made_header 0 digests →
-    old ≡ 0 ∷ [] → put 1 (take 127 (drop 1 header)) old ≡ made_header 0 digests
+    old ≡ 0 ∷ [] → put_at 1 (take 127 (drop 1 header)) old ≡ made_header 0 digests
 header_written digests header old n e o =
     let l : length (drop 1 (made_header 0 digests)) ≤ 127 =
     omega (arith, length-drop 1 (made_header 0 digests), length_header 0 digests n) in
-    ap (λ x. put 1 (take 127 (drop 1 header)) x) o
+    ap (λ x. put_at 1 (take 127 (drop 1 header)) x) o
     ∙ (put_end 1 (take 127 (drop 1 header)) (0 ∷ []) refl
     ∙ (ap (λ h. 0 ∷ take 127 (drop 1 h)) e
     ∙ ap (λ x. 0 ∷ x) (take_all 127 (drop 1 (made_header 0 digests)) l)))
@@ -159,7 +161,7 @@ in_marking s m long h w = in_moved_write 0 1 0 1 s s
     (omega arith) (omega arith) (λ d i. marking s.disk.bytes d long i) w
 
 pub in_marked : (x c : ℕ) (s t : Standing) (m : Moment) → length s.disk.bytes ≡ session_length → IsStable s.disk →
-    t ≡ wrote s (touched 0 1 (x ∷ []) s.disk) c → InSync t m →
+    t ≡ wrote s (disk_written 0 1 (x ∷ []) s.disk) c → InSync t m →
     InStore s (CrashLeavesSuch (λ r. IsUnmade r ⊎ (r ≡ recover (made_mark ∷ drop 1 s.disk.bytes)))) m
 in_marked x c s t m long h e w =
     in_moved_sync 0 1 s t (λ r. IsUnmade r ⊎ (r ≡ recover (made_mark ∷ drop 1 s.disk.bytes))) m
@@ -168,11 +170,11 @@ in_marked x c s t m long h e w =
 
 -- Bytes are written at the end of such a store.
 pub blank_end : (at : ℕ) (new : List ℕ) (s t : Standing) (n c : ℕ) → IsBlank s.disk.bytes s.disk → 1 ≤ at →
-    at ≡ length s.disk.bytes → t ≡ wrote s (touched at n new s.disk) c → IsBlank t.disk.bytes t.disk
+    at ≡ length s.disk.bytes → t ≡ wrote s (disk_written at n new s.disk) c → IsBlank t.disk.bytes t.disk
 blank_end at new s t n c h low e w = blank_now _ t.disk (blank_wrote at new s t n c h low (omega arith) w)
 
 pub end_length : (at : ℕ) (new : List ℕ) (s t : Standing) (n c : ℕ) → at ≡ length s.disk.bytes →
-    t ≡ wrote s (touched at n new s.disk) c → length t.disk.bytes ≡ at + length new
+    t ≡ wrote s (disk_written at n new s.disk) c → length t.disk.bytes ≡ at + length new
 end_length at new s t n c e w = ap (λ x. length x.disk.bytes) w
     ∙ (ap length (put_end at new s.disk.bytes (sym e))
     ∙ (length-append s.disk.bytes new ∙ ap (λ k. k + length new) (sym e)))

@@ -1,7 +1,7 @@
 -- Calls that move a stretch of the attached store alone.
 use Rattle.std.proofs.Common.{◌≡◌, ℕ, ◌+◌, ◌≤◌, List, length, inl, inr, ◌⊎◌, refl, sym, ap, subst, ◌∙◌}
 use Rattle.std.specs.Prelude.{Option, Some}
-use Rattle.paw_stage.specs.Disk.{Disk, IsInWrite, IsStable, touched, stable}
+use Rattle.paw_stage.specs.Disk.{Disk, IsInWrite, IsStable, disk_written, stable}
 use Rattle.paw_stage.specs.Stage.{Standing, WritesPart, Files, store_holding, wrote}
 use Rattle.paw_stage.specs.Moments.{Moment, InWrite, InSync}
 use Rattle.paw_stage.proofs.Names.{held_other, holds_same}
@@ -88,7 +88,7 @@ pub moved_none : (lo hi : ℕ) (s : Standing) → IsStable s.disk → IsMoved lo
 moved_none lo hi s h = record { beside = beside_none s; within = within_stable lo hi s.disk h }
 
 pub moved_wrote : (lo hi at n c : ℕ) (new : List ℕ) (s t u : Standing) → IsMoved lo hi s t → lo ≤ at → at + n ≤ hi →
-    hi ≤ length s.disk.bytes → length new ≤ n → u ≡ wrote t (touched at n new t.disk) c → IsMoved lo hi s u
+    hi ≤ length s.disk.bytes → length new ≤ n → u ≡ wrote t (disk_written at n new t.disk) c → IsMoved lo hi s u
 moved_wrote lo hi at n c new s t u h low high long short e =
     record {
       beside = beside_on s t u h.beside (beside_wrote t u _ c e);

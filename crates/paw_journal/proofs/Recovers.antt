@@ -5,7 +5,7 @@ use Rattle.std.specs.Prelude.{if◌then◌else◌, ◌==◌, ◌&&◌}
 use Rattle.std.proofs.lemmas.Bool.Decides.{nat_tests}
 use Rattle.paw_journal.specs.declared.refusal.SessionPart.TheVariants as part
 use Rattle.paw_journal.specs.Session.{Recovered, Unmade, Damaged, Shown, IsUnmade, recover, recover_by, slot_shows}
-use Rattle.paw_journal.specs.Session.{slot, chosen, session_mark, version}
+use Rattle.paw_journal.specs.Session.{slot, slot_in_use, session_mark, version}
 use Rattle.paw_journal.specs.Session.{is_version}
 use Rattle.paw_journal.specs.Session.{Digests, kept_digests, stretch, session_length, slot_length, header_length}
 use Rattle.paw_journal.specs.Session.{made_mark}
@@ -13,7 +13,7 @@ use Rattle.paw_journal.specs.inner.Session.{digests_of}
 use Rattle.paw_journal.specs.inner.Steps.{IsMade}
 use Rattle.paw_journal.proofs.Parts.{stretch_same}
 
-pub recover_is : (k : ℕ) (a : List ℕ) → chosen a ≡ k → recover a ≡ recover_by k a
+pub recover_is : (k : ℕ) (a : List ℕ) → slot_in_use a ≡ k → recover a ≡ recover_by k a
 unfolding recover
 recover_is k a e = ap (λ j. recover_by j a) e
 

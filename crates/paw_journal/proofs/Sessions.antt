@@ -17,12 +17,13 @@ use Rattle.paw_journal.specs.declared.layout.Slot.TheVariants as which
 use Rattle.paw_journal.specs.inner.Journal.{IsAtRest, KeptIn}
 use Rattle.paw_journal.specs.inner.Room.{Room, kept_slot, with_slot_kept, KeepsSlots, slot_number}
 use Rattle.paw_journal.specs.Session.{Digests, Recovered, Shown, IsUnmade, recover, slot_shows, slot, stretch, base}
-use Rattle.paw_journal.specs.Session.{chosen, kept_digests, piece_length, state_length}
+use Rattle.paw_journal.specs.Session.{slot_in_use, kept_digests, piece_length, state_length}
 use Rattle.paw_journal.specs.Session.{session_length, slot_length, zeros, made_mark}
 use Rattle.paw_journal.specs.Session.{made_header, made_slot, made_session}
 use Rattle.paw_journal.specs.inner.Store.{ChangesStoreOnly, InStore, CrashLeavesSuch, IsOldOrNew}
 use Rattle.paw_journal.specs.inner.Steps.{Introduces}
-use Rattle.paw_journal.specs.declared.layout.TheConstants.{VERSION, BASE_AT, PIECE_AT}
+use Rattle.paw_journal.specs.declared.layout.TheConstants.{BASE_AT, PIECE_AT}
+use Rattle.paw_base.specs.declared.layout.TheConstants.{VERSION}
 use Rattle.paw_journal.specs.Session.{base_length}
 use Rattle.paw_journal.proofs.Recovers.{recover_is, recover_made, both_digests}
 use Rattle.paw_journal.proofs.Makes.{AreLong, length_zeros, length_header}
@@ -284,7 +285,7 @@ made_keeps digests state piece bytes room s t r a d b e f one two n m few names 
     let k : kept_digests t.disk.bytes ≡ digests = ap kept_digests h ∙ session_digests digests state piece n in
     record {
       rests = record { attached = subst (λ x. IsSome x) (sym a) r.attached; stable = subst (λ x. IsStable x) (sym d) (stable_is bytes) };
-      chosen = ap chosen h;
+      chosen = ap slot_in_use h;
       shown = ap recover h ∙ (session_shows digests state piece n m few names
           ∙ (ap (λ x. Shown x (take state_length state) piece) (sym k)
           ∙ (ap (λ x. Shown (kept_digests t.disk.bytes) (take state_length x) piece) (sym e)

@@ -6,7 +6,7 @@ use Rattle.std.specs.Prelude.{if◌then◌else◌, nat_le}
 use Rattle.std.proofs.lemmas.List.{length-append, length-take-le, length-drop, get_or-take}
 use Rattle.paw_base.specs.declared.layout.TheConstants.{PIECE_LENGTH_AT}
 use Rattle.paw_journal.specs.declared.refusal.SessionPart.TheVariants as part
-use Rattle.paw_journal.specs.Session.{Digests, Damaged, Shown, recover, chosen, kept_digests, slot, slot_shows}
+use Rattle.paw_journal.specs.Session.{Digests, Damaged, Shown, recover, slot_in_use, kept_digests, slot, slot_shows}
 use Rattle.paw_journal.specs.Session.{shown_unless, first_unsound, slot_changes, slot_state}
 use Rattle.paw_journal.specs.Session.{slot_piece, shown_state, form_length, slot_version, two_byte_number, piece_length}
 use Rattle.paw_journal.specs.Session.{most_changes, state_length, zeros}
@@ -44,13 +44,13 @@ unfolding slot_shows
 by_slot digests s d st p e = by_count digests s d st p (nat_le (two_byte_number 0 s) most_changes) e
 
 of_chosen : (bytes : List ℕ) (digests : Digests) (state piece : List ℕ) → recover bytes ≡ Shown digests state piece →
-    (kept_digests bytes ≡ digests) × (shown_state (slot (chosen bytes) bytes) ≡ state) × (slot_piece (slot (chosen bytes) bytes) ≡ piece)
-    × (length (slot (chosen bytes) bytes) ≡ slot_length)
+    (kept_digests bytes ≡ digests) × (shown_state (slot (slot_in_use bytes) bytes) ≡ state) × (slot_piece (slot (slot_in_use bytes) bytes) ≡ piece)
+    × (length (slot (slot_in_use bytes) bytes) ≡ slot_length)
 of_chosen bytes digests state piece e =
     let made = shown_made bytes digests state piece e in
-    let p = by_slot (kept_digests bytes) (slot (chosen bytes) bytes) digests state piece
-    (sym (recover_is (chosen bytes) bytes refl ∙ recover_made (chosen bytes) bytes made) ∙ e) in
-    (p.0, p.1, p.2, slot_long (chosen bytes) bytes (omega arith) made.long)
+    let p = by_slot (kept_digests bytes) (slot (slot_in_use bytes) bytes) digests state piece
+    (sym (recover_is (slot_in_use bytes) bytes refl ∙ recover_made (slot_in_use bytes) bytes made) ∙ e) in
+    (p.0, p.1, p.2, slot_long (slot_in_use bytes) bytes (omega arith) made.long)
 
 -- The digests that are shown are those that the header keeps.
 pub shown_digests : (bytes : List ℕ) (digests : Digests) (state piece : List ℕ) → recover bytes ≡ Shown digests state piece → kept_digests bytes ≡ digests
@@ -61,7 +61,7 @@ pub shown_whole : (bytes : List ℕ) (digests : Digests) (state piece : List ℕ
     recover bytes ≡ Shown digests state piece → length state ≡ state_length
 shown_whole bytes digests state piece e =
     let h = of_chosen bytes digests state piece e in
-    let s = slot (chosen bytes) bytes in
+    let s = slot (slot_in_use bytes) bytes in
     ap length (sym h.1) ∙ form_long (form_length (slot_version s)) (slot_state s) (form_bounds (slot_version s)).1 (state_long s h.3)
 
 -- And the piece is as long as the state says.
@@ -69,7 +69,7 @@ pub shown_long : (bytes : List ℕ) (digests : Digests) (state piece : List ℕ)
     piece_length state ≤ 81920 → length piece ≡ piece_length state
 shown_long bytes digests state piece e few =
     let h = of_chosen bytes digests state piece e in
-    let s = slot (chosen bytes) bytes in
+    let s = slot (slot_in_use bytes) bytes in
     let m = form_length (slot_version s) in
     let bounds = form_bounds (slot_version s) in
     let n : piece_length state ≡ piece_length (slot_state s) =

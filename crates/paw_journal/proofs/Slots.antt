@@ -1,27 +1,30 @@
 -- A slot that is put together, and one that is read.
-use Rattle.std.proofs.Common.{◌≡◌, ℕ, ◌+◌, ◌-◌, ◌*◌, ◌≤◌, ◌<◌, min, List, [], ◌∷◌, ◌++◌, get_or, length, take, drop}
-use Rattle.std.proofs.Common.{replicate, refl, sym, ap, ◌∙◌, true, false}
+use Rattle.std.proofs.Common.{◌≡◌, ℕ, ◌+◌, ◌-◌, ◌*◌, ◌≤◌, ◌<◌, min, List, [], ◌∷◌, ◌++◌, get_or, length, take, drop, zero, suc}
+use Rattle.std.proofs.Common.{replicate, refl, sym, ap, ◌∙◌, subst, true, false}
 use Rattle.std.proofs.Common.{arith, lit≤}
-use Rattle.std.specs.Prelude.{slice_set, ◌==◌, Bool, ◌&&◌, Option, Some, None, is_none, Result, Ok, is_ok}
+use Rattle.std.specs.Prelude.{slice_set, Bool, ◌&&◌, Option, Some, None, is_none, Result, Ok, is_ok}
 use Rattle.std.specs.Prelude.{if◌then◌else◌, nat_le}
 use Rattle.std.proofs.lemmas.Bool.Decides.{nat_tests}
 use Rattle.std.proofs.lemmas.List.{drop-replicate}
+use Rattle.std.specs.List.{list_all, slice_index_or}
+use Rattle.std.proofs.lemmas.Bool.{leb-true, and_parts}
 use Rattle.std.proofs.lemmas.List.{length-append, take-replicate, length-take-le, length-set, get_or-take}
-use Rattle.std.proofs.lemmas.List.{get_or_append_left, take_all, take_at}
+use Rattle.std.proofs.lemmas.List.{get_or_append_left, get_or_read_under, take_all, take_at}
 use Rattle.std.proofs.Math.Seq.{take-append-add}
-use Rattle.paw_base.specs.declared.layout.TheConstants.{PIECE_LENGTH_AT}
+use Rattle.paw_base.specs.declared.layout.TheConstants.{FORM_LENGTHS, PIECE_LENGTH_AT}
 use Rattle.paw_journal.specs.declared.layout.Slot.{Slot}
 use Rattle.paw_journal.specs.declared.layout.Slot.TheVariants as which
 use Rattle.paw_journal.specs.declared.drafting.SlotState.{SlotState}
 use Rattle.paw_journal.specs.declared.refusal.SessionPart.TheVariants as part
 use Rattle.paw_journal.specs.Session.{Change, Digests, Damaged, Shown, piece_length, state_length, first_length}
 use Rattle.paw_journal.specs.Session.{is_current, slot_piece, stretch, two_byte_number, base}
-use Rattle.paw_journal.specs.Session.{changes, changed, first_unsound, slot_changes, slot_state, slot_shows}
+use Rattle.paw_journal.specs.Session.{changes, with_changes, first_unsound, slot_changes, slot_state, slot_shows}
 use Rattle.paw_journal.specs.Session.{shown_unless, most_changes, slot}
 use Rattle.paw_journal.specs.Session.{has_state, form_length, slot_version, shown_state}
 use Rattle.paw_journal.specs.Session.{slot_length, header_length, session_length, zeros}
 use Rattle.paw_journal.specs.inner.Room.{Room, kept_slot, with_slot_kept}
-use Rattle.paw_journal.specs.declared.layout.TheConstants.{VERSION, BASE_AT, CHANGES_AT, PIECE_AT}
+use Rattle.paw_journal.specs.declared.layout.TheConstants.{BASE_AT, CHANGES_AT, PIECE_AT}
+use Rattle.paw_base.specs.declared.layout.TheConstants.{VERSION}
 use Rattle.paw_journal.specs.Session.{base_length}
 use Rattle.paw_journal.proofs.Kept.{has_state_is, state_has, kept_shows, sound_shows, kept_of_both, kept_of_older}
 use Rattle.paw_journal.proofs.Kept.{kept_of_broken}
@@ -77,11 +80,11 @@ few_changes digests bytes records count first e h r u =
     below n count e h = grind (arith, nat_tests)
 
 pub state_is : (bytes records old now : List ℕ) (count : ℕ) → count ≡ two_byte_number 0 bytes →
-    records ≡ stretch CHANGES_AT (4 * count) bytes → old ≡ base bytes → now ≡ changed (changes records) old →
+    records ≡ stretch CHANGES_AT (4 * count) bytes → old ≡ base bytes → now ≡ with_changes (changes records) old →
     now ≡ slot_state bytes
 state_is bytes records old now count e r b n =
-    n ∙ (ap (λ l. changed (changes l) old) (r ∙ ap (λ n. stretch CHANGES_AT (4 * n) bytes) e)
-    ∙ ap (changed (slot_changes bytes)) b)
+    n ∙ (ap (λ l. with_changes (changes l) old) (r ∙ ap (λ n. stretch CHANGES_AT (4 * n) bytes) e)
+    ∙ ap (with_changes (slot_changes bytes)) b)
 
 pub broken_many : (bytes : List ℕ) (count : ℕ) → count ≡ two_byte_number 0 bytes → most_changes < count → has_state bytes ≡ false
 broken_many bytes count e h = above (two_byte_number 0 bytes) count (is_none (first_unsound (slot_changes bytes))) e h
@@ -112,7 +115,7 @@ pub whole_slot : (bytes records : List ℕ) (count : ℕ) → count ≡ two_byte
 whole_slot bytes records count e low r u = has_state_is bytes (omega (arith, e)) (same_unsound bytes records count None e r u)
 
 pub whole_state : (bytes records old now : List ℕ) (count : ℕ) → count ≡ two_byte_number 0 bytes →
-    records ≡ stretch CHANGES_AT (4 * count) bytes → old ≡ base bytes → now ≡ changed (changes records) old →
+    records ≡ stretch CHANGES_AT (4 * count) bytes → old ≡ base bytes → now ≡ with_changes (changes records) old →
     ◌≡◌ {A = SlotState} (record { records = count; state = now })
     (record { records = two_byte_number 0 bytes; state = slot_state bytes })
 whole_state bytes records old now count e r b n = let s = state_is bytes records old now count e r b n in cc (e, s)
@@ -167,7 +170,7 @@ pub piece_stays : (w : Slot) (kept : Option SlotState) (room : Room) → (with_s
 piece_stays which.First kept room = refl
 piece_stays which.Second kept room = refl
 
-length-changed : (all : List Change) (bytes : List ℕ) → length (changed all bytes) ≡ length bytes
+length-changed : (all : List Change) (bytes : List ℕ) → length (with_changes all bytes) ≡ length bytes
 length-changed [] bytes = refl
 length-changed (c ∷ all) bytes = length-changed all (slice_set bytes c.at c.byte) ∙ length-set bytes c.at c.byte
 
@@ -176,13 +179,34 @@ state_long bytes n =
     length-changed (slot_changes bytes) (base bytes)
     ∙ stretch_long BASE_AT base_length bytes (omega arith)
 
--- A slot of any version has the bytes of a state up to those of the piece's length, and no more than a state has.
+-- ---- how many bytes of a state a slot has ----
+
+-- This number of bytes of a state has those up to the piece's length, and is no more than a state has.
+abbrev IsLength : ℕ → Type 0
+IsLength n = (first_length ≤ n) × (n ≤ state_length)
+
+abbrev is_length : ℕ → Bool
+is_length n = nat_le first_length n && nat_le n state_length
+
+length_is : (n : ℕ) → is_length n ≡ true → IsLength n
+length_is n h =
+    let p = and_parts (nat_le first_length n) (nat_le n state_length) h in
+    (leb-true first_length n p.0, leb-true n state_length p.1)
+
+in_list : (l : List ℕ) (i : ℕ) → list_all is_length l ≡ true → IsLength (slice_index_or l i first_length)
+in_list [] i h = (lit≤ tt, lit≤ tt)
+in_list (n ∷ ns) zero h = length_is n (and_parts (is_length n) (list_all is_length ns) h).0
+in_list (n ∷ ns) (suc i) h = in_list ns i (and_parts (is_length n) (list_all is_length ns) h).1
+
+-- That of any version.
 pub form_bounds : (version : ℕ) → (first_length ≤ form_length version) × (form_length version ≤ state_length)
-form_bounds version = bounds (version == VERSION)
-  where
-    bounds : (b : Bool) → let n = if b then state_length else first_length in (first_length ≤ n) × (n ≤ state_length)
-    bounds true = (lit≤ tt, lit≤ tt)
-    bounds false = (lit≤ tt, lit≤ tt)
+form_bounds version = in_list FORM_LENGTHS (version - 1) refl
+
+-- A length that is found in the list.
+pub form_few : (i n : ℕ) → n ≡ slice_index_or FORM_LENGTHS i n → i < length FORM_LENGTHS → n ≤ state_length
+form_few i n is low =
+    let same : n ≡ slice_index_or FORM_LENGTHS i first_length = get_or_read_under FORM_LENGTHS i (length FORM_LENGTHS) n first_length is low refl in
+    subst (λ (k : ℕ). k ≤ state_length) (sym same) (in_list FORM_LENGTHS i refl).1
 
 -- The first n bytes of a state, and zeros.
 brought_shown : (n : ℕ) (state : List ℕ) → n ≤ state_length → length state ≡ base_length →

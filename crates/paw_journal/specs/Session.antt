@@ -1,15 +1,16 @@
 -- How a session lies in the bytes of a store, and what bytes of a store stand for.
-use Rattle.std.specs.Prelude.{◌≡◌, ◌⊎◌, ◌==◌, ◌&&◌, ◌||◌, ℕ, ◌+◌, ◌-◌, ◌*◌, ◌/◌, ◌%◌, Bool, not, nat_lt, nat_le, List}
+use Rattle.std.specs.Prelude.{◌≡◌, ◌⊎◌, ◌==◌, ◌&&◌, ℕ, ◌+◌, ◌-◌, ◌*◌, ◌/◌, ◌%◌, Bool, not, nat_lt, nat_le, List}
 use Rattle.std.specs.Prelude.{[], suc}
 use Rattle.std.specs.Prelude.{◌∷◌, ◌++◌, length, take, drop, slice_index, slice_set, position, Option, Some}
 use Rattle.std.specs.Prelude.{None, is_none, if◌then◌else◌}
-use Rattle.paw_base.specs.declared.layout.TheConstants.{STATE_LENGTH, FIRST_LENGTH, PIECE_LENGTH_AT}
+use Rattle.std.specs.List.{slice_index_or}
+use Rattle.paw_base.specs.declared.layout.TheConstants.{STATE_LENGTH, FIRST_LENGTH, FORM_LENGTHS, PIECE_LENGTH_AT}
 unfoldable pub use Rattle.paw_base.specs.Bytes.{zeros}
 use Rattle.paw_base.specs.Bytes.{Bytes, Text}
-use Rattle.paw_stage.specs.Disk.{put}
+use Rattle.paw_stage.specs.Disk.{put_at}
 use Rattle.paw_journal.specs.declared.layout.TheConstants.{HEADER_LENGTH, SLOT_LENGTH, SESSION_LENGTH, BASE_AT}
 use Rattle.paw_journal.specs.declared.layout.TheConstants.{BASE_LENGTH, PIECE_AT, CHANGES_AT, MOST_CHANGES}
-use Rattle.paw_journal.specs.declared.layout.TheConstants.{FIRST_VERSION, VERSION}
+use Rattle.paw_base.specs.declared.layout.TheConstants.{FIRST_VERSION, VERSION}
 use Rattle.paw_journal.specs.declared.refusal.SessionPart.{SessionPart}
 use Rattle.paw_journal.specs.declared.refusal.SessionPart.TheVariants as part
 
@@ -42,8 +43,8 @@ abbrev pub session_mark : Bytes → ℕ
 session_mark bytes = slice_index bytes 0
 
 -- Which slot is in use: 0 or 1.
-abbrev pub chosen : Bytes → ℕ
-chosen bytes = slice_index bytes 1 % 2
+abbrev pub slot_in_use : Bytes → ℕ
+slot_in_use bytes = slice_index bytes 1 % 2
 
 -- Byte 2: the version of the session.
 abbrev pub version : Bytes → ℕ
@@ -118,13 +119,13 @@ abbrev pub first_unsound : List Change → Option ℕ
 first_unsound all = position (λ c. not (is_sound c)) all
 
 -- The bytes with changes applied in order.
-abbrev pub changed : List Change → Bytes → Bytes
-changed [] bytes = bytes
-changed (c ∷ more) bytes = changed more (slice_set bytes c.at c.byte)
+abbrev pub with_changes : List Change → Bytes → Bytes
+with_changes [] bytes = bytes
+with_changes (c ∷ more) bytes = with_changes more (slice_set bytes c.at c.byte)
 
 -- The state of a slot: its base with its change records applied.
 abbrev pub slot_state : Bytes → Bytes
-slot_state bytes = changed (slot_changes bytes) (base bytes)
+slot_state bytes = with_changes (slot_changes bytes) (base bytes)
 
 -- Whether a slot has a state: it has at most 4,096 change records, and each is sound.
 abbrev pub has_state : Bytes → Bool
@@ -139,10 +140,10 @@ state_length = STATE_LENGTH
 abbrev pub first_length : ℕ
 first_length = FIRST_LENGTH
 
--- How many bytes of a state a slot of this version has. A slot of another version than the one that is written is read
--- as one of version 1.
+-- How many bytes of a state a slot of this version has. A slot of a version that isn't known is read as one of
+-- version 1.
 abbrev pub form_length : ℕ → ℕ
-form_length version = if version == VERSION then state_length else first_length
+form_length version = slice_index_or FORM_LENGTHS (version - 1) first_length
 
 -- The state that a slot shows: the bytes that its version has, whatever stands after them, and zeros for the others.
 abbrev pub shown_state : Bytes → Bytes
@@ -186,7 +187,7 @@ recover_by k bytes =
 
 -- What the bytes stand for, by the slot that is in use.
 unfoldable pub recover : Bytes → Recovered
-recover bytes = recover_by (chosen bytes) bytes
+recover bytes = recover_by (slot_in_use bytes) bytes
 
 -- The bytes do not hold a session.
 abbrev pub IsUnmade : Recovered → Type 0
@@ -236,7 +237,7 @@ slot_head records = (records % 256) ∷ (records / 256) ∷ VERSION ∷ []
 -- A slot once it is given the version that is written, this number of change records, this piece, and these bytes at an
 -- offset. All its other bytes stay.
 abbrev pub rewritten : ℕ → Bytes → ℕ → Text → Bytes → Bytes
-rewritten at new records piece bytes = put 0 (slot_head records) (put PIECE_AT piece (put at new bytes))
+rewritten at new records piece bytes = put_at 0 (slot_head records) (put_at PIECE_AT piece (put_at at new bytes))
 
 -- How many change records a slot has once those are added that give it this state: those that it has, and one for each
 -- byte at which its state differs from this one.
@@ -260,8 +261,8 @@ committed_slot state piece bytes =
 -- The bytes of a session after a commit to slot k, which is then in use. All other bytes stay.
 unfoldable pub committed_in : ℕ → Bytes → Text → Bytes → Bytes
 committed_in k state piece bytes =
-    put 1 (k ∷ []) (put (header_length + slot_length * k) (committed_slot state piece (slot k bytes)) bytes)
+    put_at 1 (k ∷ []) (put_at (header_length + slot_length * k) (committed_slot state piece (slot k bytes)) bytes)
 
 -- The bytes of a session after a commit of this state and this piece, to the slot that isn't in use.
-unfoldable pub committed : Bytes → Text → Bytes → Bytes
-committed state piece bytes = committed_in (1 - chosen bytes) state piece bytes
+unfoldable pub session_committed : Bytes → Text → Bytes → Bytes
+session_committed state piece bytes = committed_in (1 - slot_in_use bytes) state piece bytes

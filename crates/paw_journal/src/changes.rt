@@ -3,7 +3,7 @@
 ghost use Rattle.std.specs.Prelude.{◌≡◌, ◌+◌, ◌*◌, ◌<◌, ◌≤◌, [], ◌++◌, length, None, IfSome, Decides};
 ghost use Rattle.std.specs.Prelude.{vec_capacity};
 ghost use Rattle.paw_journal.specs.declared.changes.TheConstants.{STRETCH};
-ghost use Rattle.paw_journal.specs.Session.{changes, changed, first_unsound, change_bytes};
+ghost use Rattle.paw_journal.specs.Session.{changes, with_changes, first_unsound, change_bytes};
 ghost use Rattle.paw_journal.specs.inner.Steps.{ChangesInto, ChangesTo};
 
 use crate::layout::BASE_LENGTH;
@@ -15,7 +15,7 @@ pub(crate) const STRETCH: usize = 64;
 pub(crate) fn apply(records: &[u8], state: &mut [u8; 4096]) -> Option<usize>
     ensures unsound { result ≡ first_unsound (changes records.now) }
     ensures few { IfSome result (λ n. 4 * n < length records.now) }
-    ensures applied { result ≡ None → state.new ≡ changed (changes records.now) state.old }
+    ensures applied { result ≡ None → state.new ≡ with_changes (changes records.now) state.old }
 {
     let mut rest = records;
     let mut number = 0;

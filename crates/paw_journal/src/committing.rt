@@ -2,7 +2,7 @@
 
 ghost use Rattle.std.specs.Prelude.{◌≡◌, ◌+◌, ◌-◌, ◌≤◌, length, IsSome, OnOk};
 ghost use Rattle.paw_base.specs.declared.limits.TheConstants.{PIECE_LIMIT};
-ghost use Rattle.paw_stage.specs.Disk.{put};
+ghost use Rattle.paw_stage.specs.Disk.{put_at};
 ghost use Rattle.paw_stage.specs.Stage.{Standing};
 ghost use Rattle.paw_stage.specs.inner.Stage.{WritesAtMost};
 ghost use Rattle.paw_stage.specs.Across.{IfTelling, EachMoment, FailsOnlyBy};
@@ -16,8 +16,9 @@ ghost use Rattle.paw_journal.specs.Journal.{writing_calls};
 ghost use Rattle.paw_journal.specs.inner.Journal.{IsAtRest, failed_stage_call};
 
 use crate::drafting::CommitDraft;
-use crate::layout::{PIECE_AT, SELECTOR_AT, Slot, VERSION};
+use crate::layout::{PIECE_AT, SELECTOR_AT, Slot};
 use crate::store::{sync, write};
+use paw_base::layout::VERSION;
 use paw_stage::{Stage, StageCall};
 
 /// Writes to the slot that isn't in use what makes it show this state and this piece, and makes the store stable.
@@ -65,7 +66,7 @@ fn write_part<S: Stage>(
     ensures serves { FailsOnlyBy S.Stage writing_calls (failed_stage_call result) stage.old stage.new }
     ensures few { IfTelling S.Stage stage.old stage.new (WritesAtMost (length bytes.now)) }
     ensures filling { OnSuccess S.Stage stage.old stage.new result (IsStillFilling (slot_number which)) }
-    ensures written { OnSuccess S.Stage stage.old stage.new result (Fills which (put at bytes.now)) }
+    ensures written { OnSuccess S.Stage stage.old stage.new result (Fills which (put_at at bytes.now)) }
     ensures beside { IfTelling S.Stage stage.old stage.new ChangesStoreOnly }
     ensures any_moment { S.Tells stage.old → (first : Standing) →
         IsFilling (slot_number which) first (S.standing stage.old) →

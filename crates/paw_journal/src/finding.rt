@@ -12,11 +12,12 @@ ghost use Rattle.paw_journal.specs.inner.Steps.{IsHeaderOf, header_digests};
 ghost use Rattle.paw_journal.specs.inner.Journal.{IsSessionRefused, refused_call, outside};
 
 use crate::layout::{
-    DIGEST_LENGTH, FIRST_VERSION, GAME_AT, HEADER_LENGTH, MADE, MARK_AT, ROUTINES_AT, SELECTOR_AT,
-    SESSION_LENGTH, Slot, VERSION, VERSION_AT,
+    DIGEST_LENGTH, GAME_AT, HEADER_LENGTH, MADE, MARK_AT, ROUTINES_AT, SELECTOR_AT, SESSION_LENGTH,
+    Slot, VERSION_AT,
 };
 use crate::refusal::{JournalRefusal, SessionPart};
 use crate::store::read;
+use paw_base::layout::{FIRST_VERSION, VERSION};
 use paw_stage::Stage;
 
 // What stands in place of the digest of routines where a session isn't measured.

@@ -27,11 +27,6 @@ pub(crate) const DIGEST_LENGTH: usize = 32;
 
 pub(crate) const MADE: u8 = 0x50;
 
-/// The versions of a session and of a slot: the first, and that which is written.
-pub(crate) const FIRST_VERSION: u8 = 1;
-
-pub(crate) const VERSION: u8 = 2;
-
 /// A slot's bytes: the number of its change records, the version, the base, the piece, and the change records.
 pub(crate) const SLOT_VERSION_AT: usize = 2;
 

@@ -1,21 +1,22 @@
 // The writes that make a session: a store with byte 0 as 0, the rest of it, and then its mark.
 
 ghost use Rattle.std.specs.Prelude.{◌≡◌, ◌+◌, ◌≤◌, [], ◌∷◌, length, IsSome, OnOk};
-ghost use Rattle.paw_stage.specs.Disk.{put};
+ghost use Rattle.paw_stage.specs.Disk.{put_at};
 ghost use Rattle.paw_stage.specs.Across.{IfTelling, FailsOnlyBy};
 ghost use Rattle.paw_stage.specs.inner.Across.{OnSuccess, AtEachMoment};
 ghost use Rattle.paw_journal.specs.Session.{session_length, header_length, slot_length, made_header};
-ghost use Rattle.paw_journal.specs.inner.Session.{digests_of, laid_session, marked};
+ghost use Rattle.paw_journal.specs.inner.Session.{digests_of, laid_session, with_made_mark};
 ghost use Rattle.paw_journal.specs.inner.Store.{ChangesStoreOnly, HoldsStable, LaysSlots, LeavesUnmade, LeavesMarked};
 ghost use Rattle.paw_journal.specs.inner.Steps.{IsBlank};
 ghost use Rattle.paw_journal.specs.Journal.{writing_calls};
 ghost use Rattle.paw_journal.specs.inner.Journal.{IsAtRest, failed_stage_call};
 
 use crate::layout::{
-    DIGEST_LENGTH, GAME_AT, HEADER_LENGTH, MADE, MARK_AT, ROUTINES_AT, SELECTOR_AT, Slot, VERSION,
+    DIGEST_LENGTH, GAME_AT, HEADER_LENGTH, MADE, MARK_AT, ROUTINES_AT, SELECTOR_AT, Slot,
     VERSION_AT,
 };
 use crate::store::{sync, write};
+use paw_base::layout::VERSION;
 use paw_stage::{Stage, StageCall};
 
 // Begins a session in the attached store, which is empty: its first byte is 0, and stable.
@@ -59,7 +60,7 @@ fn header_of(game: &[u8; 32], rules: &[u8; 32]) -> [u8; HEADER_LENGTH]
 // Writes a digest into a header, at this offset.
 fn put_digest(header: &mut [u8; HEADER_LENGTH], at: usize, digest: &[u8; DIGEST_LENGTH])
     requires inside { at + 32 ≤ header_length }
-    ensures value { header.new ≡ put at digest.now header.old }
+    ensures value { header.new ≡ put_at at digest.now header.old }
 {
     header[at..at + DIGEST_LENGTH].copy_from_slice(digest);
 }
@@ -107,7 +108,7 @@ pub(crate) fn mark<S: Stage>(stage: &mut S) -> Result<(), StageCall>
     requires rests { S.Tells stage.old → IsAtRest (S.standing stage.old) }
     requires long { S.Tells stage.old → length (S.standing stage.old).disk.bytes ≡ session_length }
     ensures serves { FailsOnlyBy S.Stage writing_calls (failed_stage_call result) stage.old stage.new }
-    ensures marked { OnSuccess S.Stage stage.old stage.new result (λ old. HoldsStable (marked old.disk.bytes)) }
+    ensures marked { OnSuccess S.Stage stage.old stage.new result (λ old. HoldsStable (with_made_mark old.disk.bytes)) }
     ensures beside { IfTelling S.Stage stage.old stage.new ChangesStoreOnly }
     ensures any_moment { AtEachMoment S.Stage stage.old stage.new LeavesMarked }
 {

@@ -10,10 +10,9 @@ ghost use Rattle.paw_journal.specs.inner.Room.{kept_slot, slot_with_records};
 use crate::changes::apply;
 use crate::drafting::SlotState;
 use crate::layout::{
-    BASE_AT, BASE_LENGTH, CHANGE_LENGTH, CHANGES_AT, MOST_CHANGES, SLOT_VERSION_AT, VERSION,
-    number_at,
+    BASE_AT, BASE_LENGTH, CHANGE_LENGTH, CHANGES_AT, MOST_CHANGES, SLOT_VERSION_AT, number_at,
 };
-use paw_base::layout::{FIRST_LENGTH, STATE_LENGTH};
+use paw_base::layout::{FIRST_LENGTH, FORM_LENGTHS, VERSION};
 
 /// The state of a slot with these bytes: its base with its change records applied.
 ///
@@ -64,15 +63,14 @@ pub(crate) fn kept_in(slot: &[u8]) -> Option<SlotState>
     }
 }
 
-/// How many bytes of a state a slot of this version has.
+// How many bytes of a state a slot of this version has.
 fn form_length(version: u8) -> usize
     ensures value { result ≡ form_length version }
     ensures few { result ≤ state_length }
 {
-    if version == VERSION {
-        STATE_LENGTH
-    } else {
-        FIRST_LENGTH
+    match FORM_LENGTHS.get(version.saturating_sub(1) as usize) {
+        Some(length) => *length,
+        None => FIRST_LENGTH,
     }
 }
 

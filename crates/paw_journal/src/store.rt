@@ -3,7 +3,7 @@
 ghost use Rattle.std.specs.Prelude.{◌≡◌, ◌+◌, ◌≤◌, [], ◌∷◌, length, IsSome, OnOk, OnErr, IfOk};
 ghost use Rattle.paw_stage.specs.declared.StageCall.TheVariants as call;
 ghost use Rattle.paw_stage.specs.Disk.{IsStable};
-ghost use Rattle.paw_stage.specs.Stage.{Unattached, WritesSome, part_of, with_written, settled};
+ghost use Rattle.paw_stage.specs.Stage.{Unattached, WritesSome, part_of, with_written, with_store_synced};
 ghost use Rattle.paw_stage.specs.inner.Stage.{WritesAtMost};
 ghost use Rattle.paw_stage.specs.Moments.{Still, InAttach, InWrite, InSync};
 ghost use Rattle.paw_stage.specs.Across.{IfTelling, FailsOnlyBy};
@@ -83,7 +83,7 @@ pub(crate) fn write<S: Stage>(stage: &mut S, at: u64, bytes: &[u8]) -> Result<()
 pub(crate) fn sync<S: Stage>(stage: &mut S) -> Result<(), StageCall>
     ensures serves { FailsOnlyBy S.Stage (call.Sync ∷ []) (failed_stage_call result) stage.old stage.new }
     ensures few { S.Tells stage.old → (S.standing stage.new).written ≡ (S.standing stage.old).written }
-    ensures synced { OnSuccess S.Stage stage.old stage.new result (λ old new. new ≡ settled old) }
+    ensures synced { OnSuccess S.Stage stage.old stage.new result (λ old new. new ≡ with_store_synced old) }
     ensures part { S.Tells stage.old → OnErr result (S.standing stage.new ≡ S.standing stage.old) }
     ensures beside { IfTelling S.Stage stage.old stage.new ChangesStoreOnly }
     ensures time { AtEachMoment S.Stage stage.old stage.new InSync }

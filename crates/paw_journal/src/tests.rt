@@ -108,7 +108,7 @@ fn with_bytes(alloc: Global, whole: &[u8], changes: &[(usize, u8)]) -> Result<Ve
 
 // Finds the session of the game in a store that has these bytes: the first byte of its state, and the length of its
 // piece.
-fn found(
+fn find_in(
     alloc: Global,
     bytes: &[u8],
     room: &mut Room,
@@ -155,7 +155,7 @@ fn a_crash_leaves_the_prompt_before_or_the_one_after(rt: HostRuntime) -> Result<
             assert_eq!(rt; sessions(&mut stage, &mut room), done, "{passes}");
             for pick in 0..3u8 {
                 let bytes = stage.inner().crash(rt.alloc(), pick)?;
-                let seen = found(rt.alloc(), bytes.as_slice(), &mut room, &GAME)?;
+                let seen = find_in(rt.alloc(), bytes.as_slice(), &mut room, &GAME)?;
                 assert_eq!(rt; seen.ok(), left[pick as usize], "{passes} {pick}");
             }
         }
@@ -208,7 +208,7 @@ fn the_first_broken_rule_is_named(rt: HostRuntime) -> Result<(), Fail> {
     ] {
         let bytes = with_bytes(rt.alloc(), whole.as_slice(), &changes)?;
         assert_eq!(rt;
-            found(rt.alloc(), bytes.as_slice(), &mut room, &GAME)?,
+            find_in(rt.alloc(), bytes.as_slice(), &mut room, &GAME)?,
             expected
         );
     }
@@ -221,20 +221,20 @@ fn other_stores_hold_no_session_of_the_game(rt: HostRuntime) -> Result<(), Fail>
     let whole = whole_session(rt.alloc(), &mut room)?;
     let other = [8; 32];
     let unmade = |length, mark| Err(JournalRefusal::Unmade { length, mark });
-    assert_eq!(rt; found(rt.alloc(), b"", &mut room, &GAME)?, unmade(0, 0));
+    assert_eq!(rt; find_in(rt.alloc(), b"", &mut room, &GAME)?, unmade(0, 0));
     assert_eq!(rt;
-        found(rt.alloc(), b"\x50\x00", &mut room, &GAME)?,
+        find_in(rt.alloc(), b"\x50\x00", &mut room, &GAME)?,
         unmade(2, 0x50)
     );
     assert_eq!(rt;
-        found(rt.alloc(), whole.as_slice(), &mut room, &other)?,
+        find_in(rt.alloc(), whole.as_slice(), &mut room, &other)?,
         Err(JournalRefusal::WrongGame {
             kept: GAME,
             found: other
         })
     );
     assert_eq!(rt;
-        found(rt.alloc(), whole.as_slice(), &mut room, &GAME)?,
+        find_in(rt.alloc(), whole.as_slice(), &mut room, &GAME)?,
         Ok((2, 8))
     );
     Ok(())
@@ -369,7 +369,7 @@ fn a_commit_writes_what_differs(rt: HostRuntime) -> Result<(), Fail> {
         assert!(rt; plays(&mut stage, &mut room, turns, many));
         assert_eq!(rt; stage.written(), written);
         let bytes = stage.crash(rt.alloc(), 0)?;
-        let seen = found(rt.alloc(), bytes.as_slice(), &mut room, &GAME)?;
+        let seen = find_in(rt.alloc(), bytes.as_slice(), &mut room, &GAME)?;
         assert_eq!(rt; seen, Ok((first, 3)));
     }
     Ok(())
@@ -404,7 +404,7 @@ fn a_slot_without_a_state_is_written_whole(rt: HostRuntime) -> Result<(), Fail> 
         let after = stage.crash(rt.alloc(), 0)?;
         assert!(rt; after.len() > 129);
         assert_eq!(rt; (after[128], after[129]), (0, 0));
-        let seen = found(rt.alloc(), after.as_slice(), &mut room, &GAME)?;
+        let seen = find_in(rt.alloc(), after.as_slice(), &mut room, &GAME)?;
         assert_eq!(rt; seen, Ok((2, 3)));
     }
     Ok(())
@@ -446,7 +446,7 @@ fn a_session_of_version_1_goes_on(rt: HostRuntime) -> Result<(), Fail> {
         );
         for pick in 0..3u8 {
             let bytes = stage.inner().crash(rt.alloc(), pick)?;
-            let seen = found(rt.alloc(), bytes.as_slice(), &mut room, &GAME)?;
+            let seen = find_in(rt.alloc(), bytes.as_slice(), &mut room, &GAME)?;
             assert_eq!(rt; seen, left[pick as usize], "{passes} {pick}");
             assert_eq!(rt; room.state()[FIRST_LENGTH], 0, "{passes} {pick}");
         }
@@ -495,7 +495,7 @@ fn changes<S: Stage>(stage: &mut S, room: &mut Room, changes: &[(usize, u8)], pi
 
 // The bytes of this session once a commit changed these bytes of its state, and gave it this piece: of all its bytes
 // these ones are other ones.
-fn committed(
+fn bytes_after_commit(
     alloc: Global,
     session: &[u8],
     state: &[(usize, u8)],
@@ -516,7 +516,7 @@ fn committed(
 }
 
 // A session as it was made, with a state of which one byte isn't 0 beside the length of its piece.
-fn made(alloc: Global) -> Result<Vec<u8>, Fail> {
+fn new_session(alloc: Global) -> Result<Vec<u8>, Fail> {
     let mut room = Room::new(alloc)?;
     let mut stage = memory(alloc, b"")?;
     if !plays(&mut stage, &mut room, 0, 0) {
@@ -527,7 +527,7 @@ fn made(alloc: Global) -> Result<Vec<u8>, Fail> {
 
 #[test]
 fn each_byte_of_a_session_that_is_made(rt: HostRuntime) -> Result<(), Fail> {
-    let bytes = made(rt.alloc())?;
+    let bytes = new_session(rt.alloc())?;
     assert_eq!(rt; bytes.len(), 172_288);
     let mut zeros = Vec::new(rt.alloc());
     zeros.resize(bytes.len(), 0)?;
@@ -574,7 +574,7 @@ fn with_digests(alloc: Global, whole: &[u8]) -> Result<Vec<u8>, Fail> {
 // A session of another hand: the selector's other bits are set, the version is 1, and the bytes of the header that
 // nothing reads aren't 0.
 fn strange(alloc: Global) -> Result<Vec<u8>, Fail> {
-    let mut bytes = made(alloc)?;
+    let mut bytes = new_session(alloc)?;
     if bytes.len() < 128 {
         return Err(Fail::from("length"));
     }
@@ -593,7 +593,7 @@ fn strange(alloc: Global) -> Result<Vec<u8>, Fail> {
 fn each_byte_that_commits_leave(rt: HostRuntime) -> Result<(), Fail> {
     let session = strange(rt.alloc())?;
     // Slot 1, from 86,208 on, gets four change records, in rising offsets: 0, 300, 1,369 and 4,095.
-    let session = committed(
+    let session = bytes_after_commit(
         rt.alloc(),
         session.as_slice(),
         &[(4_095, 1), (300, 4), (1_369, 2), (0, 9)],
@@ -616,7 +616,7 @@ fn each_byte_that_commits_leave(rt: HostRuntime) -> Result<(), Fail> {
         ],
     )?;
     // Slot 0, from 128 on, gets those that make the new state of the first one; no piece is written.
-    let session = committed(
+    let session = bytes_after_commit(
         rt.alloc(),
         session.as_slice(),
         &[(300, 5), (1_369, 0)],
@@ -636,7 +636,7 @@ fn each_byte_that_commits_leave(rt: HostRuntime) -> Result<(), Fail> {
         ],
     )?;
     // Slot 1 again: four more, after those that it has.
-    let session = committed(
+    let session = bytes_after_commit(
         rt.alloc(),
         session.as_slice(),
         &[(2, 200), (4_095, 0), (1_369, 4)],
@@ -661,7 +661,7 @@ fn each_byte_that_commits_leave(rt: HostRuntime) -> Result<(), Fail> {
         ],
     )?;
     // Slot 0 gets three more, and has the state of slot 1 then; which has it already, and gets none.
-    let session = committed(
+    let session = bytes_after_commit(
         rt.alloc(),
         session.as_slice(),
         &[],
@@ -682,7 +682,7 @@ fn each_byte_that_commits_leave(rt: HostRuntime) -> Result<(), Fail> {
             (69_849, 15),
         ],
     )?;
-    committed(rt.alloc(), session.as_slice(), &[], b"Dark", &[(1, 1)])?;
+    bytes_after_commit(rt.alloc(), session.as_slice(), &[], b"Dark", &[(1, 1)])?;
     Ok(())
 }
 
@@ -710,7 +710,7 @@ fn each_byte_where_the_base_is_written_whole(rt: HostRuntime) -> Result<(), Fail
     ] {
         let session = with_bytes(rt.alloc(), session.as_slice(), &slot)?;
         let session = with_bytes(rt.alloc(), session.as_slice(), &[(86_280, 1)])?;
-        committed(
+        bytes_after_commit(
             rt.alloc(),
             session.as_slice(),
             &[(0, 3), (1_369, 1), (4_095, 6)],
@@ -724,7 +724,7 @@ fn each_byte_where_the_base_is_written_whole(rt: HostRuntime) -> Result<(), Fail
         session.as_slice(),
         &[(86_208, 0xfd), (86_209, 15)],
     )?;
-    committed(
+    bytes_after_commit(
         rt.alloc(),
         session.as_slice(),
         &[(0, 3), (1_369, 1), (4_095, 6)],

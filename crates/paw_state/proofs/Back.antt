@@ -13,9 +13,9 @@ use Rattle.paw_effects.specs.declared.act.Prompt.{Prompt}
 use Rattle.paw_effects.specs.declared.act.Prompt.TheVariants as prompt
 use Rattle.paw_reading.specs.declared.places.OpenLoop.{OpenLoop}
 use Rattle.paw_process.specs.declared.kept.Frames.{Frames}
-use Rattle.paw_state.specs.declared.layout.TheConstants.{HELD_LENGTH}
+use Rattle.paw_state.specs.declared.fields.TheConstants.{HELD_LENGTH}
 use Rattle.paw_state.specs.declared.position_field.PositionField.{PositionField}
-use Rattle.paw_state.specs.State.{zeros, filled, held_of, prompt_code}
+use Rattle.paw_state.specs.State.{zeros, filled_with_zeros, held_of, prompt_code}
 use Rattle.paw_state.specs.inner.State.{loop_or_zeros}
 use Rattle.paw_state.specs.inner.Faults.{rule, first_not, is_zero, places_fault, absent_fault, held_fault, kept_fault}
 use Rattle.paw_state.specs.Fields.{prompt_of}
@@ -42,7 +42,7 @@ zeros_behind g at places h =
     (first_not is_zero (at + length g.objects) (drop (length g.objects) places)) h).1
 
 pub places_back : (g : GameLists) (at : ℕ) (places : List ℕ) → Valid g → length places ≡ 255 → places_fault g at places ≡ None
-    → filled 255 (take (length g.objects) places) ≡ places
+    → filled_with_zeros 255 (take (length g.objects) places) ≡ places
 places_back g at places v size h = filled_take (at + length g.objects) (length g.objects) places size (few_objects g v) (zeros_behind g at places h)
 
 -- A position without a fault.

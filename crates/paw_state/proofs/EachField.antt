@@ -1,25 +1,27 @@
 -- What takes the fields of a state one by one.
-use Rattle.std.proofs.Common.{◌≡◌, ℕ, ◌*◌, ◌<◌, ◌≤◌, List, [], ◌∷◌, ◌++◌, length, take, true, refl, ap, ◌∙◌}
+use Rattle.std.proofs.Common.{◌≡◌, ℕ, ◌-◌, ◌<◌, ◌≤◌, List, [], ◌∷◌, ◌++◌, length, map, take, replicate, true}
+use Rattle.std.proofs.Common.{Option, None, refl, ap, ◌∙◌}
 use Rattle.std.specs.Prelude.{All, flat_map}
 use Rattle.std.specs.Int.{w64, to_le_bytes}
 use Rattle.std.proofs.lemmas.List.{append_assoc}
 use Rattle.paw_base.specs.declared.layout.TheConstants.{STATE_LENGTH}
 use Rattle.paw_base.specs.declared.limits.TheConstants.{POSITION_COUNT}
 use Rattle.paw_game.specs.Image.{two_bytes}
-use Rattle.paw_state.specs.declared.layout.TheConstants.{HELD_LENGTH, PENDING}
+use Rattle.paw_state.specs.declared.fields.TheConstants.{PENDING, KEPT}
 use Rattle.paw_state.specs.declared.fields.Fields.{Fields}
 use Rattle.paw_state.specs.declared.position_field.PositionField.{PositionField}
 use Rattle.paw_state.specs.Fields.{IsSizedHeld, AreSized}
 use Rattle.paw_state.specs.State.{AreBytes}
-use Rattle.paw_state.specs.inner.Fields.{frame_shape, loop_shape, held_shape, fields_shape, field_bytes, fields_at}
+use Rattle.paw_state.specs.inner.Fields.{frame_shape, loop_shape, held_shape, fields_shape, after_piece}
+use Rattle.paw_state.specs.inner.Fields.{field_bytes, fields_at}
 use Rattle.paw_state.proofs.Pieces.{each_byte}
 use Rattle.paw_state.proofs.Listed.{each_bytes, join, held_same, kept_same, frames_same, pending_same, looping_same}
-use Rattle.paw_state.proofs.Shaped.{IsSound, one_byte_sound, two_byte_sound, eight_byte_sound, array_sound, pair_sound}
-use Rattle.paw_state.proofs.Shaped.{through_sound, times_sound, frame_shape_sound, loop_shape_sound, held_shape_sound}
-use Rattle.paw_state.proofs.Shaped.{held_fits}
+use Rattle.paw_state.proofs.Shaped.{IsSound, one_byte_sound, two_byte_sound, eight_byte_sound, array_sound, times_sound}
+use Rattle.paw_state.proofs.Shaped.{field_sound, last_sound, made_of_sound, frame_shape_sound, loop_shape_sound}
+use Rattle.paw_state.proofs.Shaped.{held_shape_sound, held_fits}
 use Rattle.std.specs.Option.{unwrap_or}
-use Rattle.std.proofs.Common.{None}
-use Rattle.paw_state.specs.State.{State, fields_of, state_bytes}
+use Rattle.paw_world.specs.World.{Position}
+use Rattle.paw_state.specs.State.{State, fields_of, state_bytes, held_of, zeros}
 use Rattle.paw_state.specs.Fields.{Field, two, bytes_of, held_fields, state_fields, flag_fields, place_fields}
 use Rattle.paw_state.specs.Fields.{number_fields}
 use Rattle.paw_state.specs.Fields.{prompt_fields, table_fields, looping_fields, pending_fields, inside}
@@ -28,23 +30,23 @@ use Rattle.paw_state.specs.Fields.{prompt_fields, table_fields, looping_fields, 
 
 fields_shape_sound : IsSound fields_shape
 fields_shape_sound =
-    through_sound _ _ _ (λ f. refl) (λ p. refl)
-    (pair_sound _ _ (array_sound 256)
-    (pair_sound _ _ (array_sound 255)
-    (pair_sound _ _ held_shape_sound
-    (pair_sound _ _ eight_byte_sound
-    (pair_sound _ _ eight_byte_sound
-    (pair_sound _ _ eight_byte_sound
-    (pair_sound _ _ one_byte_sound
-    (pair_sound _ _ one_byte_sound
-    (pair_sound _ _ (times_sound 11 frame_shape frame_shape_sound)
-    (pair_sound _ _ one_byte_sound
-    (pair_sound _ _ loop_shape_sound
-    (pair_sound _ _ one_byte_sound
-    (pair_sound _ _ one_byte_sound
-    (pair_sound _ _ (array_sound 255)
-    (pair_sound _ _ two_byte_sound
-    (times_sound 4 held_shape held_shape_sound))))))))))))))))
+    made_of_sound _ _ (λ f. refl) (λ p. refl)
+    (field_sound _ _ _ (array_sound 256)
+    (field_sound _ _ _ (array_sound 255)
+    (field_sound _ _ _ held_shape_sound
+    (field_sound _ _ _ eight_byte_sound
+    (field_sound _ _ _ eight_byte_sound
+    (field_sound _ _ _ eight_byte_sound
+    (field_sound _ _ _ one_byte_sound
+    (field_sound _ _ _ one_byte_sound
+    (field_sound _ _ _ (times_sound 11 frame_shape frame_shape_sound)
+    (field_sound _ _ _ one_byte_sound
+    (field_sound _ _ _ loop_shape_sound
+    (field_sound _ _ _ one_byte_sound
+    (field_sound _ _ _ one_byte_sound
+    (field_sound _ _ _ (array_sound 255)
+    (field_sound _ _ _ two_byte_sound
+    (last_sound _ _ (times_sound 4 held_shape held_shape_sound)))))))))))))))))
 
 -- ---- sizes ----
 
@@ -163,8 +165,8 @@ fields_join bytes n h = fields_shape_sound.read bytes 0 n h
 pub length-fields : (f : Fields) → AreSized f → length (field_bytes f) ≡ STATE_LENGTH
 length-fields f s = fields_shape_sound.long f (fits_of f s)
 
-pub kept-length : (f : Fields) → AreSized f → length (flat_map held_shape.bytes f.kept) ≡ POSITION_COUNT * HELD_LENGTH
-kept-length f s = (times_sound 4 held_shape held_shape_sound).long f.kept (s.four, helds_fit f.kept s.kept)
+pub length-later : (f : Fields) → AreSized f → length (after_piece f) ≡ STATE_LENGTH - KEPT
+length-later f s = (times_sound 4 held_shape held_shape_sound).long f.kept (s.four, helds_fit f.kept s.kept)
 
 -- ---- the same fields ----
 
@@ -204,10 +206,6 @@ before_piece f =
     ++ ((to_le_bytes w64 f.seed ++ (to_le_bytes w64 f.draws ++ (to_le_bytes w64 f.events ++ (f.prompt ∷ f.count ∷ []))))
     ++ (flat_map frame_shape.bytes f.rows ++ ((f.looping ∷ (loop_shape.bytes f.turning ++ (f.earlier ∷ f.pending ∷ []))) ++ f.line)))))))
 
--- And those after it.
-abbrev pub after_piece : Fields → List ℕ
-after_piece f = flat_map held_shape.bytes f.kept
-
 parted : (a b c d e n r l m z : List ℕ) →
     a ++ (b ++ ((c ++ (d ++ e)) ++ (n ++ (r ++ (l ++ (m ++ z)))))) ≡ (a ++ (b ++ (c ++ (d ++ (e ++ (n ++ (r ++ (l ++ m)))))))) ++ z
 parted a b c d e n r l m z = simp append_assoc
@@ -218,7 +216,18 @@ state_ends f =
     parted f.flags f.places (f.saved.there ∷ []) f.saved.flags f.saved.places
     (to_le_bytes w64 f.seed ++ (to_le_bytes w64 f.draws ++ (to_le_bytes w64 f.events ++ (f.prompt ∷ f.count ∷ []))))
     (flat_map frame_shape.bytes f.rows) (f.looping ∷ (loop_shape.bytes f.turning ++ (f.earlier ∷ f.pending ∷ []))) f.line
-    (two_bytes f.piece ++ flat_map held_shape.bytes f.kept)
+    (two_bytes f.piece ++ after_piece f)
+
+-- A state that has nothing to show there: it keeps no position.
+abbrev pub IsOlder : State → Type 0
+IsOlder s = s.world.kept ≡ replicate POSITION_COUNT None
+
+none_bytes : flat_map held_shape.bytes (map held_of (replicate POSITION_COUNT None)) ≡ zeros (STATE_LENGTH - KEPT)
+unfolding zeros
+none_bytes = refl
+
+pub older_bytes : (s : State) → IsOlder s → after_piece (fields_of s) ≡ zeros (STATE_LENGTH - KEPT)
+older_bytes s none = ap (λ (ks : List (Option Position)). flat_map held_shape.bytes (map held_of ks)) none ∙ none_bytes
 
 -- ---- the list, from its parts on ----
 
@@ -265,8 +274,7 @@ listed f =
 
 pub bytes_same : (f : Fields) → bytes_of (state_fields f) ≡ field_bytes f
 bytes_same f =
-    let tail = flat_map held_shape.bytes f.kept in
-    let piece : bytes_of (from_piece f) ≡ two_bytes f.piece ++ tail = ap (λ (l : List ℕ). two_bytes f.piece ++ l) (kept_same f.kept) in
+    let piece : bytes_of (from_piece f) ≡ two_bytes f.piece ++ after_piece f = ap (λ (l : List ℕ). two_bytes f.piece ++ l) (kept_same f.kept) in
     let pending = join (pending_fields f) (from_piece f) ((f.earlier ∷ f.pending ∷ []) ++ f.line) _ (pending_same f) piece in
     let looping = join (looping_fields f) (from_pending f) ((f.looping ∷ []) ++ loop_shape.bytes f.turning) _ (looping_same f) pending in
     let tables = join (table_fields f) (from_looping f) (flat_map frame_shape.bytes f.rows) _

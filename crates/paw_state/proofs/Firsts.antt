@@ -10,7 +10,7 @@ use Rattle.paw_game.specs.Tables.{head_at, condact_at}
 use Rattle.paw_game.specs.Valid.{is_place}
 use Rattle.paw_process.specs.Kept.{may_open, has_code, parameter_of}
 use Rattle.paw_process.specs.inner.Kept.{is_that_table}
-use Rattle.paw_state.specs.declared.layout.TheConstants.{HELD_LENGTH}
+use Rattle.paw_state.specs.declared.fields.TheConstants.{HELD_LENGTH}
 use Rattle.paw_state.specs.declared.fields.FrameField.{FrameField}
 use Rattle.paw_state.specs.declared.fields.Fields.{Fields}
 use Rattle.paw_state.specs.declared.position_field.PositionField.{PositionField}

@@ -6,7 +6,7 @@ use Rattle.std.proofs.lemmas.List.{length-take, length-drop, length-replicate, l
 use Rattle.std.proofs.lemmas.List.{drop_at}
 use Rattle.std.proofs.lemmas.List.Elements.{All-cons}
 use Rattle.std.proofs.lemmas.Bool.{eqb-true}
-use Rattle.paw_state.specs.State.{zeros, filled}
+use Rattle.paw_state.specs.State.{zeros, filled_with_zeros}
 use Rattle.std.specs.Option.{option_or}
 use Rattle.paw_state.specs.inner.Faults.{rule, first, first_not, is_zero}
 
@@ -67,7 +67,8 @@ length-zeros n = length-replicate n 0
 -- ---- bytes that are filled up ----
 
 -- Bytes of which the ones from n on are 0 are the first n, filled up.
-pub filled_take : (at n : ℕ) (bytes : List ℕ) → length bytes ≡ 255 → n ≤ 255 → first_not is_zero at (drop n bytes) ≡ None → filled 255 (take n bytes) ≡ bytes
+pub filled_take : (at n : ℕ) (bytes : List ℕ) → length bytes ≡ 255 → n ≤ 255 → first_not is_zero at (drop n bytes) ≡ None →
+    filled_with_zeros 255 (take n bytes) ≡ bytes
 filled_take at n bytes size low h =
     let k : length (take n bytes) ≡ n = omega (arith, length-take n bytes) in
     let m : length (drop n bytes) ≡ 255 - n = omega (arith, length-drop n bytes) in
@@ -75,13 +76,13 @@ filled_take at n bytes size low h =
     rw k (rw (sym z) (take-append-drop n bytes))
 
 -- Bytes that were filled up are first themselves, and then zeros.
-pub take_filled : (n : ℕ) (bytes : List ℕ) → length bytes ≡ n → take n (filled 255 bytes) ≡ bytes
+pub take_filled : (n : ℕ) (bytes : List ℕ) → length bytes ≡ n → take n (filled_with_zeros 255 bytes) ≡ bytes
 take_filled n bytes k = take_at bytes (zeros (255 - length bytes)) n k
 
-pub drop_filled : (n : ℕ) (bytes : List ℕ) → length bytes ≡ n → drop n (filled 255 bytes) ≡ zeros (255 - length bytes)
+pub drop_filled : (n : ℕ) (bytes : List ℕ) → length bytes ≡ n → drop n (filled_with_zeros 255 bytes) ≡ zeros (255 - length bytes)
 drop_filled n bytes k = drop_at bytes (zeros (255 - length bytes)) n k
 
-pub length-filled : (bytes : List ℕ) → length bytes ≤ 255 → length (filled 255 bytes) ≡ 255
+pub length-filled : (bytes : List ℕ) → length bytes ≤ 255 → length (filled_with_zeros 255 bytes) ≡ 255
 length-filled bytes low = omega (arith, length-append bytes (zeros (255 - length bytes)), length-zeros (255 - length bytes))
 
 -- ---- two faults ----

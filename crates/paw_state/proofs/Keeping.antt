@@ -18,10 +18,10 @@ use Rattle.paw_process.specs.Kept.{count_fits}
 use Rattle.paw_process.specs.inner.Kept.{fault_at}
 use Rattle.paw_process.specs.inner.Kept.{first_frame_fault as machine_rows, loop_fault as machine_loop}
 use Rattle.paw_process.proofs.Restored.{no_first as no_machine_first}
-use Rattle.paw_state.specs.declared.layout.TheConstants.{HELD_LENGTH}
+use Rattle.paw_state.specs.declared.fields.TheConstants.{HELD_LENGTH}
 use Rattle.paw_state.specs.declared.position_field.PositionField.{PositionField}
 use Rattle.paw_effects.specs.inner.Worlds.{ArePlacesOf, StandsIn}
-use Rattle.paw_state.specs.State.{zeros, filled, held_of, prompt_code}
+use Rattle.paw_state.specs.State.{zeros, filled_with_zeros, held_of, prompt_code}
 use Rattle.paw_state.specs.inner.Faults.{rule, first_not, is_zero, places_fault, absent_fault, held_fault, kept_fault}
 use Rattle.paw_state.specs.inner.Parts.{held_in}
 use Rattle.paw_state.proofs.Positions.{IsHeldOf}
@@ -87,10 +87,10 @@ line_kept (Some code) n line h = tt
 -- ---- the fields of a state that follows its rules have no fault ----
 
 pub places_sound : (g : GameLists) (at : ℕ) (places : List ℕ) → length places ≡ length g.objects → ArePlacesOf g places
-    → places_fault g at (filled 255 places) ≡ None
+    → places_fault g at (filled_with_zeros 255 places) ≡ None
 places_sound g at places size h =
-    two_none (first_not (is_place (length g.locations)) at (take (length g.objects) (filled 255 places)))
-    (first_not is_zero (at + length g.objects) (drop (length g.objects) (filled 255 places)))
+    two_none (first_not (is_place (length g.locations)) at (take (length g.objects) (filled_with_zeros 255 places)))
+    (first_not is_zero (at + length g.objects) (drop (length g.objects) (filled_with_zeros 255 places)))
     (ap (first_not (is_place (length g.locations)) at) (take_filled (length g.objects) places size) ∙ none_not (is_place (length g.locations)) at places h)
     (ap (first_not is_zero (at + length g.objects)) (drop_filled (length g.objects) places size) ∙ none_in_zeros (at + length g.objects) (255 - length places))
 
@@ -99,7 +99,7 @@ held_sound g at None h =
     two_none (rule at true) (absent_fault at (held_of None)) refl
     (two_none (first_not is_zero (at + 1) (zeros 256)) (first_not is_zero (at + 257) (zeros 255)) (none_in_zeros (at + 1) 256) (none_in_zeros (at + 257) 255))
 held_sound g at (Some q) h =
-    two_none (rule at true) (places_fault g (at + 257) (filled 255 q.places)) refl (places_sound g (at + 257) q.places h.each h.places)
+    two_none (rule at true) (places_fault g (at + 257) (filled_with_zeros 255 q.places)) refl (places_sound g (at + 257) q.places h.each h.places)
 
 pub kept_sound : (g : GameLists) (at : ℕ) (kept : List (Option Position)) → All (IsHeldOf g) kept → kept_fault g at (map held_of kept) ≡ None
 unfolding kept_fault
@@ -125,16 +125,16 @@ pub saved_sized : (n : ℕ) (o : Option Position) → n ≤ 255 → IsSavedFor n
 saved_sized n None low h = record { flags = length-zeros 256; places = length-zeros 255 }
 saved_sized n (Some q) low h = record { flags = h.flags; places = length-filled q.places (omega (arith, h.places, low)) }
 
-pub places_from : (g : GameLists) (at : ℕ) (places : List ℕ) → length places ≡ length g.objects → places_fault g at (filled 255 places) ≡ None
+pub places_from : (g : GameLists) (at : ℕ) (places : List ℕ) → length places ≡ length g.objects → places_fault g at (filled_with_zeros 255 places) ≡ None
     → ArePlacesOf g places
 places_from g at places size h =
     subst (ArePlacesOf g) (take_filled (length g.objects) places size)
-    (all_so (is_place (length g.locations)) at (take (length g.objects) (filled 255 places)) (objects_stand g at (filled 255 places) h))
+    (all_so (is_place (length g.locations)) at (take (length g.objects) (filled_with_zeros 255 places)) (objects_stand g at (filled_with_zeros 255 places) h))
 
 pub saved_from : (g : GameLists) (at n : ℕ) (o : Option Position) → n ≡ length g.objects → IsSavedFor n o → held_fault g at (held_of o) ≡ None → StandsIn g o
 saved_from g at n None same alike h = tt
 saved_from g at n (Some q) same alike h =
-    places_from g (at + 257) q.places (alike.places ∙ same) (two (rule at (nat_le 1 1)) (places_fault g (at + 257) (filled 255 q.places)) h).1
+    places_from g (at + 257) q.places (alike.places ∙ same) (two (rule at (nat_le 1 1)) (places_fault g (at + 257) (filled_with_zeros 255 q.places)) h).1
 
 pub kept_from : (g : GameLists) (at n : ℕ) (kept : List (Option Position)) → n ≡ length g.objects → All (IsSavedFor n) kept
     → kept_fault g at (map held_of kept) ≡ None → All (StandsIn g) kept

@@ -4,8 +4,8 @@ use Rattle.std.proofs.lemmas.List.{take-append-drop, take_at}
 use Rattle.paw_base.specs.declared.layout.TheConstants.{STATE_LENGTH}
 use Rattle.paw_game.specs.Game.{GameLists}
 use Rattle.paw_game.specs.Valid.{Valid}
-use Rattle.paw_process.specs.inner.Kept.{kept}
-use Rattle.paw_process.specs.inner.Kept.{restored, waiting_at, WaitsAtPrompt}
+use Rattle.paw_process.specs.inner.Kept.{machine_kept}
+use Rattle.paw_process.specs.inner.Kept.{machine_restored, waiting_at, WaitsAtPrompt}
 use Rattle.paw_state.specs.State.{State, IsValidState, FitsFields, AreBytes}
 use Rattle.paw_state.specs.State.{fields_of, state_bytes}
 use Rattle.paw_state.specs.inner.Fields.{field_bytes}
@@ -14,12 +14,12 @@ use Rattle.paw_state.specs.inner.Faults.{fields_fault}
 use Rattle.paw_state.specs.inner.State.{KeepsEach}
 use Rattle.paw_state.specs.inner.Fields.{parts_fault}
 use Rattle.paw_state.specs.inner.State.{state_in}
-use Rattle.paw_state.specs.declared.Restored.{Restored}
+use Rattle.paw_state.specs.declared.parts.Restored.{Restored}
 use Rattle.paw_state.specs.Fit.{Fit, Unfit}
 use Rattle.paw_state.specs.inner.Fit.{unfit}
 use Rattle.paw_state.specs.inner.Fit.{state_read, IsRead}
 use Rattle.paw_state.specs.inner.Laws.{FieldsStand, OneFault, FitOrUnfit, BytesTellTheState, WrittenIsFit}
-use Rattle.paw_state.proofs.EachField.{fields_join, fields_cut, kept-length, length-fields, sized_at, bytes_same}
+use Rattle.paw_state.proofs.EachField.{fields_join, fields_cut, length-later, length-fields, sized_at, bytes_same}
 use Rattle.paw_state.proofs.EachField.{state_same, lengths_sized}
 use Rattle.paw_state.proofs.Ruled.{AreSound, faults_same, sound_of, each_of, keeps_of, keeps_in, state_back}
 use Rattle.paw_state.proofs.Ruled.{fields_back, fits_at, sized_of}
@@ -95,7 +95,7 @@ bytes_tell_the_state g s t v ks hs kt ht e =
 pub long_state : (g : GameLists) (s : State) → Valid g → IsValidState g s → FitsFields s → AreLong s
 long_state g s v k h =
     let z = sized_of g s v (each_of g s k) h in
-    record { all = ap length (state_same s) ∙ length-fields (fields_of s) z; behind = kept-length (fields_of s) z }
+    record { all = ap length (state_same s) ∙ length-fields (fields_of s) z; behind = length-later (fields_of s) z }
 
 pub written_is_fit : WrittenIsFit
 written_is_fit g s rest v k h =
@@ -105,7 +105,8 @@ written_is_fit g s rest v k h =
 -- ---- what is read ----
 
 pub is_read : (g : GameLists) (bytes : List ℕ) (r : Restored) → Valid g → STATE_LENGTH ≤ length bytes → AreBytes bytes → unfit g bytes ≡ None
-    → state_read r ≡ state_in g (fields_at bytes) → r.machine ≡ restored (kept r.machine) (waiting_at r.prompt) → WaitsAtPrompt r.prompt r.machine →
+    → state_read r ≡ state_in g (fields_at bytes) → r.machine ≡ machine_restored (machine_kept r.machine) (waiting_at r.prompt) →
+    WaitsAtPrompt r.prompt r.machine →
     IsRead g bytes r
 is_read g bytes r v n b h e machine at = record {
   are = bytes_are g bytes v n b h ∙ ap state_bytes (sym e);

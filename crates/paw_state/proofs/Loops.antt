@@ -19,8 +19,8 @@ use Rattle.paw_process.specs.inner.Kept.{loop_stands}
 use Rattle.paw_process.specs.inner.Kept.{loop_fault as machine_fault}
 use Rattle.paw_process.proofs.Restored.{first_of, second}
 use Rattle.paw_process.proofs.OpenFrames.{table_of}
-use Rattle.paw_state.specs.declared.layout.TheConstants.{LOOP_LEVEL, LOOP_TABLE, LOOP_ENTRY, LOOP_AT, LOOP_PLACE}
-use Rattle.paw_state.specs.declared.layout.TheConstants.{LOOP_LAST, EARLIER}
+use Rattle.paw_state.specs.declared.fields.TheConstants.{LOOP_LEVEL, LOOP_TABLE, LOOP_ENTRY, LOOP_AT, LOOP_PLACE}
+use Rattle.paw_state.specs.declared.fields.TheConstants.{LOOP_LAST, EARLIER}
 use Rattle.paw_state.specs.declared.fields.FrameField.{FrameField}
 use Rattle.paw_state.specs.declared.fields.Fields.{Fields}
 use Rattle.paw_state.specs.State.{frame_field_of}

@@ -42,11 +42,11 @@ use Rattle.paw_state.proofs.Sizes.{helds_at_fit, held_at_fits, held_size, kept_s
 use Rattle.paw_state.specs.Fields.{IsSizedHeld, AreSized, held_fields, flag_fields, place_fields, number_fields}
 use Rattle.paw_state.specs.Fields.{prompt_fields, table_fields, looping_fields, pending_fields, inside, fault_from}
 use Rattle.paw_state.specs.Fields.{prompt_of}
-use Rattle.paw_state.specs.State.{AreBytes, State, fields_of, filled, held_of, frame_field_of, IsValidState, FitsFields}
+use Rattle.paw_state.specs.State.{AreBytes, State, fields_of, filled_with_zeros, held_of, frame_field_of, IsValidState, FitsFields}
 use Rattle.paw_state.specs.declared.fields.Fields.{Fields}
-use Rattle.paw_state.specs.declared.layout.TheConstants.{HELD_LENGTH, PENDING, PLACES, SAVED, SEED, PROMPT, FRAMES}
-use Rattle.paw_state.specs.declared.layout.TheConstants.{LOOPING, EARLIER, PIECE, KEPT, DRAWS, EVENTS, COUNT, LINE}
-use Rattle.paw_state.specs.declared.layout.TheConstants.{FLAGS}
+use Rattle.paw_state.specs.declared.fields.TheConstants.{HELD_LENGTH, PENDING, PLACES, SAVED, SEED, PROMPT, FRAMES}
+use Rattle.paw_state.specs.declared.fields.TheConstants.{LOOPING, EARLIER, PIECE, KEPT, DRAWS, EVENTS, COUNT, LINE}
+use Rattle.paw_state.specs.declared.fields.TheConstants.{FLAGS}
 use Rattle.paw_state.specs.inner.Faults.{first, first_not, is_zero, places_fault, held_fault, kept_fault}
 use Rattle.paw_state.specs.inner.Faults.{frame_fields_fault, fields_fault}
 use Rattle.paw_state.specs.inner.Fields.{parts_fault}
@@ -58,9 +58,9 @@ use Rattle.paw_world.specs.World.{Position, IsSavedFor, IsWorld}
 use Rattle.std.proofs.Common.{reverse}
 use Rattle.paw_reading.specs.declared.places.OpenLoop.{OpenLoop}
 use Rattle.paw_process.specs.Kept.{frames_at}
-use Rattle.paw_state.specs.Record.{last_piece}
+use Rattle.paw_state.specs.State.{last_piece}
 use Rattle.paw_state.specs.inner.State.{state_with}
-use Rattle.paw_state.specs.inner.Record.{StateOfParts}
+use Rattle.paw_state.specs.inner.State.{StateOfParts}
 
 -- ---- from each part on ----
 
@@ -336,8 +336,8 @@ each_of g s k =
           (subst (λ (p : Prompt). fault_at g (waiting_code p) (frames_in f) ≡ None) (prompt_again s.prompt) (frames_kept g f sound));
       line = k.line;
       pending = subst (λ (l : List ℕ). IfNone (waiting_code s.prompt) (l ≡ [])) (take_filled (length s.pending.bytes) s.pending.bytes refl)
-          (subst (λ (p : Prompt). IfNone (waiting_code p) (take (length s.pending.bytes) (filled 255 s.pending.bytes) ≡ [])) (prompt_again s.prompt)
-          (line_kept (waiting_code (prompt_of f.prompt)) (length s.pending.bytes) (filled 255 s.pending.bytes) sound.pending));
+          (subst (λ (p : Prompt). IfNone (waiting_code p) (take (length s.pending.bytes) (filled_with_zeros 255 s.pending.bytes) ≡ [])) (prompt_again s.prompt)
+          (line_kept (waiting_code (prompt_of f.prompt)) (length s.pending.bytes) (filled_with_zeros 255 s.pending.bytes) sound.pending));
     }
 
 -- ---- to fields ----

@@ -12,7 +12,8 @@ use Rattle.paw_base.specs.Bytes.{Bytes}
 use Rattle.paw_game.specs.Image.{two_bytes}
 use Rattle.paw_state.specs.State.{AreBytes}
 use Rattle.paw_state.specs.inner.Shapes.{Shape, one_byte, two_byte, eight_byte, array, pair, values_at, times, through}
-use Rattle.paw_state.specs.declared.layout.TheConstants.{HELD_LENGTH}
+use Rattle.paw_state.specs.inner.Shapes.{FieldRows, field, last_field, made_of}
+use Rattle.paw_state.specs.declared.fields.TheConstants.{HELD_LENGTH}
 use Rattle.paw_state.specs.declared.position_field.PositionField.{PositionField}
 use Rattle.paw_state.specs.Fields.{IsSizedHeld}
 use Rattle.paw_state.specs.inner.Fields.{frame_shape, loop_shape, held_shape}
@@ -167,22 +168,49 @@ pub values_read : {A : Type 0} → (c : Shape A) (l : List A) (n m : ℕ) (bytes
     take n l ≡ values_at c n bytes at → l ≡ values_at c m bytes at
 values_read c l n m bytes at k e h = sym (take_all m l (omega (arith, k))) ∙ subst (λ (i : ℕ). take i l ≡ values_at c i bytes at) e h
 
+-- ---- records, a row for each field ----
+
+pub record AreSoundRows {R P F M : Type 0} (rows : FieldRows R P F M) : Type 0 where
+  pub values : IsSound rows.shape
+
+pub last_sound : {R A M : Type 0} → (get : R → A) (c : Shape A) → IsSound c → AreSoundRows (last_field {M = M} get c)
+last_sound get c s = record { values = s }
+
+pub field_sound : {R A P F M : Type 0} → (get : R → A) (c : Shape A) (rows : FieldRows R P F M) → IsSound c → AreSoundRows rows
+    → AreSoundRows (field get c rows)
+field_sound get c rows s later = record { values = pair_sound c rows.shape s later.values }
+
+-- A record that is made of its values again, with values that are those of the record made of them.
+pub made_of_sound : {R P F : Type 0} → (f : F) (rows : FieldRows R P F R) → ((r : R) → rows.make f (rows.values r) ≡ r)
+    → ((p : P) → rows.values (rows.make f p) ≡ p) → AreSoundRows rows → IsSound (made_of f rows)
+made_of_sound f rows there again s = through_sound (rows.make f) rows.values rows.shape there again s.values
+
 -- ---- the shapes of frames, loops and positions ----
 
 pub frame_shape_sound : IsSound frame_shape
 frame_shape_sound =
-    through_sound _ _ _ (λ f. refl) (λ p. refl)
-    (pair_sound _ _ one_byte_sound (pair_sound _ _ two_byte_sound (pair_sound _ _ one_byte_sound one_byte_sound)))
+    made_of_sound _ _ (λ f. refl) (λ p. refl)
+    (field_sound _ _ _ one_byte_sound
+    (field_sound _ _ _ two_byte_sound
+    (field_sound _ _ _ one_byte_sound
+    (last_sound _ _ one_byte_sound))))
 
 pub loop_shape_sound : IsSound loop_shape
 loop_shape_sound =
-    through_sound _ _ _ (λ l. refl) (λ p. refl)
-    (pair_sound _ _ one_byte_sound (pair_sound _ _ one_byte_sound (pair_sound _ _ two_byte_sound
-    (pair_sound _ _ one_byte_sound (pair_sound _ _ one_byte_sound one_byte_sound)))))
+    made_of_sound _ _ (λ l. refl) (λ p. refl)
+    (field_sound _ _ _ one_byte_sound
+    (field_sound _ _ _ one_byte_sound
+    (field_sound _ _ _ two_byte_sound
+    (field_sound _ _ _ one_byte_sound
+    (field_sound _ _ _ one_byte_sound
+    (last_sound _ _ one_byte_sound))))))
 
 pub held_shape_sound : IsSound held_shape
 held_shape_sound =
-    through_sound _ _ _ (λ h. refl) (λ p. refl) (pair_sound _ _ one_byte_sound (pair_sound _ _ (array_sound 256) (array_sound 255)))
+    made_of_sound _ _ (λ h. refl) (λ p. refl)
+    (field_sound _ _ _ one_byte_sound
+    (field_sound _ _ _ (array_sound 256)
+    (last_sound _ _ (array_sound 255))))
 
 pub held_fits : (h : PositionField) → IsSizedHeld h → held_shape.fits h
 held_fits h s = (tt, (s.flags, s.places))

@@ -21,7 +21,7 @@ use Rattle.paw_process.specs.inner.Kept.{loop_stands}
 use Rattle.paw_process.proofs.OpenFrames.{table_of}
 use Rattle.paw_process.specs.inner.Kept.{first_frame_fault as machine_rows, loop_fault as machine_loop}
 use Rattle.paw_process.proofs.Restored.{first_of, second}
-use Rattle.paw_state.specs.declared.layout.TheConstants.{HELD_LENGTH}
+use Rattle.paw_state.specs.declared.fields.TheConstants.{HELD_LENGTH}
 use Rattle.paw_state.specs.declared.fields.FrameField.{FrameField}
 use Rattle.paw_state.specs.declared.position_field.PositionField.{PositionField}
 use Rattle.paw_state.specs.State.{AreBytes, HoldsBytes}

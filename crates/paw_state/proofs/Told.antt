@@ -1,15 +1,17 @@
 -- The two bytes of a state that give the length of the piece.
 use Rattle.std.proofs.Common.{◌≡◌, ℕ, ◌+◌, ◌*◌, ◌<◌, ◌^◌, List, ◌++◌, length, take, drop, get_or, sym, ap}
-use Rattle.std.proofs.Common.{◌∙◌, arith, length-append, ◌-◌}
+use Rattle.std.proofs.Common.{◌∙◌, arith, length-append, ◌-◌, subst}
 use Rattle.std.proofs.lemmas.List.{get_or_append_left, get_or-append-add, take-append-drop}
 use Rattle.paw_base.specs.declared.layout.TheConstants.{STATE_LENGTH}
 use Rattle.paw_state.proofs.Found.{length-zeros}
 use Rattle.paw_state.proofs.EachField.{state_same}
 use Rattle.paw_game.specs.Image.{two_bytes}
-use Rattle.paw_state.specs.declared.layout.TheConstants.{PIECE, STATE_ROOM}
-use Rattle.paw_state.specs.State.{State}
-use Rattle.paw_state.specs.State.{fields_of, state_bytes, zeros}
-use Rattle.paw_state.proofs.EachField.{before_piece, after_piece, state_ends}
+use Rattle.paw_process.specs.declared.kept.Frames.{Frames}
+use Rattle.paw_state.specs.declared.fields.Fields.{Fields}
+use Rattle.paw_state.specs.declared.fields.TheConstants.{PIECE, KEPT, STATE_ROOM}
+use Rattle.paw_state.specs.State.{State, FitsFields, fields_of, state_bytes, zeros}
+use Rattle.paw_state.specs.inner.Fields.{after_piece, field_bytes}
+use Rattle.paw_state.proofs.EachField.{before_piece, state_ends}
 
 -- The two bytes from 1,369 on.
 two_there : (front : List ℕ) (n : ℕ) (q : List ℕ) → length front ≡ PIECE → n < 2 ^ 16
@@ -64,3 +66,28 @@ piece_read s bytes e l h =
     let whole : bytes ≡ state_bytes s ++ drop STATE_LENGTH bytes =
     sym (take-append-drop STATE_LENGTH bytes) ∙ ap (λ x. x ++ drop STATE_LENGTH bytes) e in
     piece_in s (drop STATE_LENGTH bytes) bytes whole l h
+
+-- A buffer with a state: its bytes, how many they are, and the length of the piece.
+pub record IsWritten (s : State) (into : List ℕ) : Type 0 where
+  pub value : into ≡ state_bytes s ++ zeros (STATE_ROOM - STATE_LENGTH)
+  pub long : length (state_bytes s) ≡ STATE_LENGTH
+  pub piece : get_or into PIECE 0 + 256 * get_or into (PIECE + 1) 0 ≡ s.piece
+
+-- A buffer to which the fields of a state are written.
+written_state : (s : State) (f : Fields) (into : List ℕ) → FitsFields s → f ≡ fields_of s → into ≡ field_bytes f ++ zeros (STATE_ROOM - STATE_LENGTH)
+    → length into ≡ STATE_ROOM → length (after_piece f) ≡ STATE_LENGTH - KEPT → IsWritten s into
+written_state s f into h same is room later =
+    let value : into ≡ state_bytes s ++ zeros (STATE_ROOM - STATE_LENGTH) =
+    is ∙ ap (λ (l : List ℕ). l ++ zeros (STATE_ROOM - STATE_LENGTH)) (ap field_bytes same ∙ sym (state_same s)) in
+    let long : AreLong s = record {
+      all = buffer_long (state_bytes s) into value room;
+      behind = ap (λ (x : Fields). length (after_piece x)) (sym same) ∙ later;
+    } in
+    record { value = value; long = long.all; piece = piece_in s (zeros (STATE_ROOM - STATE_LENGTH)) into value long h.piece }
+
+-- The frames of that state are these.
+pub fields_written : (s : State) (k : Frames) (f : Fields) (into : List ℕ) → FitsFields s → s.frames ≡ k → f ≡ fields_of s
+    → into ≡ field_bytes f ++ zeros (STATE_ROOM - STATE_LENGTH) → length into ≡ STATE_ROOM → length (after_piece f) ≡ STATE_LENGTH - KEPT
+    → IsWritten (record s { frames = k }) into
+fields_written s k f into h frames same is room later =
+    subst (λ (x : Frames). IsWritten (record s { frames = x }) into) frames (written_state s f into h same is room later)

@@ -7,9 +7,9 @@ use Rattle.std.proofs.lemmas.List.{append_assoc, take_all, length-append, length
 use Rattle.std.proofs.lemmas.List.{drop-replicate, length-take}
 use Rattle.std.proofs.lemmas.Slice.{take-put_mid, drop-put_mid}
 use borrow.Rule.Slice.PartMut.{put_mid}
-use Rattle.paw_state.specs.declared.layout.TheConstants.{STATE_ROOM}
+use Rattle.paw_state.specs.declared.fields.TheConstants.{STATE_ROOM}
 use Rattle.paw_state.specs.declared.fields.FrameField.{FrameField}
-use Rattle.paw_state.specs.State.{zeros, filled}
+use Rattle.paw_state.specs.State.{zeros, filled_with_zeros}
 use Rattle.paw_state.specs.inner.Fields.{frame_shape}
 
 -- ---- zeros ----
@@ -50,7 +50,7 @@ pub three : (w0 w1 w2 w3 x y z : List ℕ) → w1 ≡ w0 ++ x → w2 ≡ w1 ++ y
 three w0 w1 w2 w3 x y z e f g = rw (g, f, e) (simp append_assoc)
 
 -- Bytes in front of 255 zeros.
-pub filled_behind : (bytes new : List ℕ) → new ≡ bytes → new ++ drop (length bytes) (replicate 255 0) ≡ filled 255 bytes
+pub filled_behind : (bytes new : List ℕ) → new ≡ bytes → new ++ drop (length bytes) (replicate 255 0) ≡ filled_with_zeros 255 bytes
 filled_behind bytes new h = rw (h, zeros_all 255) (ap (λ (l : List ℕ). bytes ++ l) (drop-zeros (length bytes) 255))
 
 -- ---- frames ----

@@ -1,5 +1,4 @@
 pub mod Fields
 pub mod State
 pub mod Fit
-pub mod Record
 pub mod inner

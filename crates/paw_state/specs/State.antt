@@ -1,9 +1,9 @@
 -- What a session keeps of a game that is played, its fields and bytes, and the rules that it follows.
-use Rattle.std.specs.Prelude.{◌≡◌, ℕ, ◌-◌, ◌^◌, ◌<◌, ◌≤◌, ◌++◌, Option, Some, None, length, map, is_some, All, IfSome}
-use Rattle.std.specs.Prelude.{if◌then◌else◌}
+use Rattle.std.specs.Prelude.{◌≡◌, ℕ, ◌-◌, ◌^◌, ◌<◌, ◌≤◌, List, [], ◌∷◌, ◌++◌, Option, Some, None, length, map, is_some}
+use Rattle.std.specs.Prelude.{All, IfSome, if◌then◌else◌}
 use Rattle.std.specs.Option.{unwrap_or}
 unfoldable pub use Rattle.paw_base.specs.Bytes.{zeros}
-use Rattle.paw_base.specs.Bytes.{Bytes}
+use Rattle.paw_base.specs.Bytes.{Bytes, Text, Texts}
 use Rattle.paw_base.specs.declared.limits.TheConstants.{LINE_LIMIT, OBJECT_LIMIT, FLAG_COUNT}
 use Rattle.paw_game.specs.Game.{GameLists}
 use Rattle.paw_world.specs.World.{World, Position, IsWorld}
@@ -13,8 +13,10 @@ use Rattle.paw_effects.specs.declared.act.Prompt.TheVariants as prompt
 use Rattle.paw_effects.specs.Worlds.{IsOf}
 pub use Rattle.paw_effects.specs.Standing.{AreBytes}
 use Rattle.paw_reading.specs.declared.places.Frame.{Frame}
+use Rattle.paw_reading.specs.Run.{Run}
 use Rattle.paw_process.specs.declared.machine.TheConstants.{MOST_FRAMES}
 use Rattle.paw_process.specs.declared.kept.Frames.{Frames}
+use Rattle.paw_process.specs.Kept.{frames_at}
 use Rattle.paw_state.specs.declared.fields.FrameField.{FrameField}
 use Rattle.paw_state.specs.declared.fields.Fields.{Fields}
 use Rattle.paw_state.specs.declared.position_field.PositionField.{PositionField}
@@ -30,16 +32,35 @@ pub record State : Type 0 where
   pub events : ℕ
   pub piece : ℕ
 
+-- ---- what a session keeps of a run ----
+
+-- The piece that was closed last; empty where none was closed.
+abbrev pub last_piece : Texts → Text
+last_piece [] = []
+last_piece (piece ∷ []) = piece
+last_piece (piece ∷ next ∷ pieces) = last_piece (next ∷ pieces)
+
+-- The state of a run that waits at a prompt with these open frames, the outermost first, after this number of lines.
+abbrev pub state_at : ℕ → Prompt → List Frame → Run → State
+state_at lines at path r = record {
+  world = r.world;
+  frames = frames_at path r.turning;
+  pending = record { bytes = r.pending; earlier = r.earlier };
+  prompt = at;
+  events = lines;
+  piece = length (last_piece r.pieces);
+}
+
 -- ---- its fields ----
 
 -- These bytes, filled up with zeros to a length of n.
-abbrev pub filled : ℕ → Bytes → Bytes
-filled n bytes = bytes ++ zeros (n - length bytes)
+abbrev pub filled_with_zeros : ℕ → Bytes → Bytes
+filled_with_zeros n bytes = bytes ++ zeros (n - length bytes)
 
 -- The fields of a position, with its flags and places; all of them 0 where there is no position.
 abbrev pub held_of : Option Position → PositionField
 held_of None = record { there = 0; flags = zeros FLAG_COUNT; places = zeros OBJECT_LIMIT }
-held_of (Some q) = record { there = 1; flags = q.flags; places = filled OBJECT_LIMIT q.places }
+held_of (Some q) = record { there = 1; flags = q.flags; places = filled_with_zeros OBJECT_LIMIT q.places }
 
 -- The code of a prompt, from 0 to 4.
 abbrev pub prompt_code : Prompt → ℕ
@@ -57,7 +78,7 @@ frame_field_of f = record { table = f.table; entry = f.entry; at = f.at; acted =
 abbrev pub fields_of : State → Fields
 fields_of s = record {
   flags = s.world.flags;
-  places = filled OBJECT_LIMIT s.world.places;
+  places = filled_with_zeros OBJECT_LIMIT s.world.places;
   saved = held_of s.world.saved;
   kept = map held_of s.world.kept;
   seed = s.world.seed;
@@ -70,7 +91,7 @@ fields_of s = record {
   turning = unwrap_or s.frames.turning (record { level = 0; table = 0; entry = 0; at = 0; place = 0; last = 0 });
   earlier = s.pending.earlier;
   pending = length s.pending.bytes;
-  line = filled LINE_LIMIT s.pending.bytes;
+  line = filled_with_zeros LINE_LIMIT s.pending.bytes;
   piece = s.piece;
 }
 

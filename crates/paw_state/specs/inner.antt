@@ -6,5 +6,4 @@ pub mod State
 pub mod Faults
 pub mod Parts
 pub mod Fit
-pub mod Record
 pub mod Laws

@@ -4,8 +4,8 @@ ghost use Rattle.std.specs.Prelude.{◌≡◌, ◌+◌, ◌<◌, ◌≤◌, ◌^
 ghost use Rattle.std.specs.Prelude.{None, drop, ◌≢◌, ◌==◌, false};
 ghost use Rattle.std.specs.Option.{option_map_or, unwrap_or};
 ghost use Rattle.paw_game.specs.Valid.{Valid, is_place};
-ghost use Rattle.paw_state.specs.declared.layout.TheConstants.{HELD_LENGTH, FRAME_LENGTH, STATE_ROOM, SEED, PROMPT};
-ghost use Rattle.paw_state.specs.declared.layout.TheConstants.{FRAMES, LOOPING, LOOP_LEVEL, EARLIER, LINE};
+ghost use Rattle.paw_state.specs.declared.fields.TheConstants.{HELD_LENGTH, FRAME_LENGTH, STATE_ROOM, SEED, PROMPT};
+ghost use Rattle.paw_state.specs.declared.fields.TheConstants.{FRAMES, LOOPING, LOOP_LEVEL, EARLIER, LINE};
 ghost use Rattle.paw_state.specs.inner.Faults.{rule, first_not, is_zero, places_fault, absent_fault, held_fault};
 ghost use Rattle.paw_state.specs.inner.Faults.{kept_fault, unused_fault, used_fault, frame_fault, frame_fields_fault};
 ghost use Rattle.paw_state.specs.inner.Fields.{parts_fault};
@@ -14,11 +14,10 @@ ghost use Rattle.paw_state.specs.Fields.{prompt_of, fault_from, number_fields, p
 ghost use Rattle.paw_state.specs.Fields.{loop_fields, pending_fields, inside};
 
 use crate::StateFault;
-use crate::fields::{Fields, FrameField};
-use crate::layout::{
-    COUNT, DRAWS, EVENTS, FRAME_ACTED, FRAME_AT, FRAME_ENTRY, FRAME_LENGTH, FRAMES, HELD_FLAGS,
-    HELD_LENGTH, HELD_PLACES, KEPT, LINE, LOOP_AT, LOOP_ENTRY, LOOP_LAST, LOOP_LEVEL, LOOP_PLACE,
-    LOOP_TABLE, LOOPING, PENDING, PLACES, PROMPT, SAVED,
+use crate::fields::{
+    COUNT, DRAWS, EVENTS, FRAME_ACTED, FRAME_AT, FRAME_ENTRY, FRAME_LENGTH, FRAMES, Fields,
+    FrameField, HELD_FLAGS, HELD_LENGTH, HELD_PLACES, KEPT, LINE, LOOP_AT, LOOP_ENTRY, LOOP_LAST,
+    LOOP_LEVEL, LOOP_PLACE, LOOP_TABLE, LOOPING, PENDING, PLACES, PROMPT, SAVED,
 };
 use crate::position_field::PositionField;
 use paw_base::codes::{DOALL, PROCESS};
@@ -31,7 +30,7 @@ use paw_reading::places::OpenLoop;
 /// The most random words that may be drawn in a piece.
 const MOST_DRAWS: u64 = READ_LIMIT as u64;
 
-/// Names this offset as a fault, unless the rule holds.
+// Names this offset as a fault, unless the rule holds.
 fn rule(at: usize, holds: bool) -> Result<(), StateFault>
     ensures value { fault_of result ≡ rule at holds }
 {
@@ -42,7 +41,7 @@ fn rule(at: usize, holds: bool) -> Result<(), StateFault>
     }
 }
 
-/// Names the first byte that isn't 0 as a fault.
+// Names the first byte that isn't 0 as a fault.
 fn all_zero(at: usize, bytes: &[u8]) -> Result<(), StateFault>
     requires near { at + length bytes.now < 2 ^ 64 }
     ensures value { fault_of result ≡ first_not is_zero at bytes.now }
@@ -53,7 +52,7 @@ fn all_zero(at: usize, bytes: &[u8]) -> Result<(), StateFault>
     Ok(())
 }
 
-/// Names the first byte that is no place of a game with this many locations as a fault.
+// Names the first byte that is no place of a game with this many locations as a fault.
 fn all_places(locations: u16, at: usize, places: &[u8]) -> Result<(), StateFault>
     requires near { at + length places.now < 2 ^ 64 }
     ensures value { fault_of result ≡ first_not (is_place locations) at places.now }
@@ -64,7 +63,7 @@ fn all_places(locations: u16, at: usize, places: &[u8]) -> Result<(), StateFault
     Ok(())
 }
 
-/// Checks the places of the objects, and the zeros after them.
+// Checks the places of the objects, and the zeros after them.
 fn check_places<T: Tables>(tables: &T, at: usize, places: &[u8; 255]) -> Result<(), StateFault>
     requires near { at < STATE_ROOM }
     ensures value { fault_of result ≡ places_fault (T.game tables.now) at places.now }
@@ -76,7 +75,7 @@ fn check_places<T: Tables>(tables: &T, at: usize, places: &[u8; 255]) -> Result<
     all_zero(at + objects, &places[objects..])
 }
 
-/// Checks the flags and the places of a position that isn't there.
+// Checks the flags and the places of a position that isn't there.
 fn check_absent(at: usize, held: &PositionField) -> Result<(), StateFault>
     requires near { at + HELD_LENGTH ≤ STATE_ROOM }
     ensures value { fault_of result ≡ absent_fault at held.now }
@@ -85,7 +84,7 @@ fn check_absent(at: usize, held: &PositionField) -> Result<(), StateFault>
     all_zero(at + HELD_PLACES, &held.places)
 }
 
-/// Checks a position that may be there.
+// Checks a position that may be there.
 fn check_held<T: Tables>(tables: &T, at: usize, held: &PositionField) -> Result<(), StateFault>
     requires near { at + HELD_LENGTH ≤ STATE_ROOM }
     ensures value { fault_of result ≡ held_fault (T.game tables.now) at held.now }
@@ -98,7 +97,7 @@ fn check_held<T: Tables>(tables: &T, at: usize, held: &PositionField) -> Result<
     }
 }
 
-/// Checks these positions, the first of which stands at this offset.
+// Checks these positions, the first of which stands at this offset.
 fn check_kept<T: Tables>(tables: &T, at: usize, kept: &[PositionField]) -> Result<(), StateFault>
     requires near { at + HELD_LENGTH * length kept.now ≤ STATE_ROOM }
     ensures value { fault_of result ≡ kept_fault (T.game tables.now) at kept.now }
@@ -110,7 +109,7 @@ fn check_kept<T: Tables>(tables: &T, at: usize, kept: &[PositionField]) -> Resul
     check_kept(tables, at + HELD_LENGTH, rest)
 }
 
-/// Checks the numbers of lines and of draws.
+// Checks the numbers of lines and of draws.
 #[tactic(auto, unfolding(crate::specs::Fields::fault_from))]
 fn check_numbers<T: Tables>(_tables: &T, fields: &Fields) -> Result<(), StateFault>
     ensures value { fault_of result ≡ fault_from (T.game _tables.now) SEED (number_fields fields.now) }
@@ -133,7 +132,7 @@ pub(crate) fn prompt_of(code: u8) -> Prompt
     }
 }
 
-/// Checks the prompt, and the number of open tables.
+// Checks the prompt, and the number of open tables.
 #[tactic(auto, unfolding(crate::specs::Fields::fault_from))]
 fn check_prompt<T: Tables>(_tables: &T, fields: &Fields) -> Result<(), StateFault>
     ensures value { fault_of result ≡ fault_from (T.game _tables.now) PROMPT (prompt_fields fields.now) }
@@ -145,7 +144,7 @@ fn check_prompt<T: Tables>(_tables: &T, fields: &Fields) -> Result<(), StateFaul
     )
 }
 
-/// Checks a frame that isn't used.
+// Checks a frame that isn't used.
 fn check_unused(at: usize, row: &FrameField) -> Result<(), StateFault>
     requires near { at < STATE_ROOM }
     ensures value { fault_of result ≡ unused_fault at row.now }
@@ -156,7 +155,7 @@ fn check_unused(at: usize, row: &FrameField) -> Result<(), StateFault>
     rule(at + FRAME_ACTED, row.acted == 0)
 }
 
-/// Checks a frame that is used, at a condact of this code.
+// Checks a frame that is used, at a condact of this code.
 fn check_used<T: Tables>(
     tables: &T,
     code: u8,
@@ -177,7 +176,7 @@ fn check_used<T: Tables>(
     rule(at + FRAME_ACTED, row.acted <= 1)
 }
 
-/// Checks a frame from which on this many are used: the last of these at this condact.
+// Checks a frame from which on this many are used: the last of these at this condact.
 fn check_frame<T: Tables>(
     tables: &T,
     code: u8,
@@ -196,7 +195,7 @@ fn check_frame<T: Tables>(
     }
 }
 
-/// Checks these frames, the first of which stands at this offset.
+// Checks these frames, the first of which stands at this offset.
 fn check_each_frame<T: Tables>(
     tables: &T,
     code: u8,
@@ -217,7 +216,7 @@ fn check_each_frame<T: Tables>(
     check_each_frame(tables, code, Some(called), left, at + FRAME_LENGTH, rest)
 }
 
-/// Checks the frames of the open tables, and the unused ones after them.
+// Checks the frames of the open tables, and the unused ones after them.
 fn check_frames<T: Tables>(tables: &T, fields: &Fields) -> Result<(), StateFault>
     ensures value { fault_of result ≡
         frame_fields_fault (T.game tables.now) (unwrap_or (inside fields.now) 0) None fields.now.count FRAMES
@@ -227,7 +226,7 @@ fn check_frames<T: Tables>(tables: &T, fields: &Fields) -> Result<(), StateFault
     check_each_frame(tables, code, None, fields.count, FRAMES, &fields.rows)
 }
 
-/// Checks the bytes of a loop where none is open.
+// Checks the bytes of a loop where none is open.
 #[tactic(auto, unfolding(crate::specs::Fields::fault_from, crate::specs::Fields::if_there))]
 fn check_no_loop<T: Tables>(
     _tables: &T,
@@ -245,7 +244,7 @@ fn check_no_loop<T: Tables>(
     rule(LOOP_LAST, turning.last == 0)
 }
 
-/// Checks an open loop.
+// Checks an open loop.
 #[tactic(auto, unfolding(crate::specs::Fields::fault_from, crate::specs::Fields::if_there))]
 fn check_loop<T: Tables>(tables: &T, fields: &Fields, turning: &OpenLoop) -> Result<(), StateFault>
     ensures value { fields.now.looping ≢ 0 →
@@ -267,7 +266,7 @@ fn check_loop<T: Tables>(tables: &T, fields: &Fields, turning: &OpenLoop) -> Res
     rule(LOOP_LAST, u16::from(turning.last) < counts.objects)
 }
 
-/// Whether the frame of this level belongs to this table.
+// Whether the frame of this level belongs to this table.
 fn is_table_at(rows: &[FrameField], level: u8, table: u8) -> bool
     ensures value { result ≡ option_map_or (λ r. table == r.table) (slice_get rows.now level) false }
 {
@@ -277,7 +276,7 @@ fn is_table_at(rows: &[FrameField], level: u8, table: u8) -> bool
     }
 }
 
-/// Checks the bytes of the loop, open or not.
+// Checks the bytes of the loop, open or not.
 fn check_turning<T: Tables>(tables: &T, fields: &Fields) -> Result<(), StateFault>
     ensures value { fault_of result ≡
         fault_from (T.game tables.now) LOOP_LEVEL (loop_fields fields.now fields.now.turning) }
@@ -289,7 +288,7 @@ fn check_turning<T: Tables>(tables: &T, fields: &Fields) -> Result<(), StateFaul
     }
 }
 
-/// Checks whether a loop is open, and its bytes.
+// Checks whether a loop is open, and its bytes.
 #[tactic(auto, unfolding(crate::specs::Fields::fault_from))]
 fn check_open_loop<T: Tables>(tables: &T, fields: &Fields) -> Result<(), StateFault>
     ensures value { fault_of result ≡ fault_from (T.game tables.now) LOOPING (looping_fields fields.now) }
@@ -299,7 +298,7 @@ fn check_open_loop<T: Tables>(tables: &T, fields: &Fields) -> Result<(), StateFa
     check_turning(tables, fields)
 }
 
-/// Checks the zeros after the bytes that are pending.
+// Checks the zeros after the bytes that are pending.
 fn check_rest(fields: &Fields) -> Result<(), StateFault>
     ensures value { fault_of result ≡
         first_not is_zero (LINE + fields.now.pending) (drop fields.now.pending fields.now.line) }
@@ -308,7 +307,7 @@ fn check_rest(fields: &Fields) -> Result<(), StateFault>
     all_zero(LINE + pending, &fields.line[pending..])
 }
 
-/// Checks what is pending.
+// Checks what is pending.
 #[tactic(auto, using(crate::proofs::Firsts::line_same), unfolding(crate::specs::Fields::fault_from))]
 fn check_pending<T: Tables>(_tables: &T, fields: &Fields) -> Result<(), StateFault>
     ensures value { fault_of result ≡ fault_from (T.game _tables.now) EARLIER (pending_fields fields.now) }

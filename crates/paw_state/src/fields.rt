@@ -1,32 +1,107 @@
-// The fields of a state, as they stand in its bytes.
+// The fields of a state, as they stand in its bytes, and where each stands, from the first byte on: after the field
+// before.
 
-ghost use Rattle.std.specs.Prelude.{◌≡◌, ◌+◌, ◌-◌, ◌*◌, ◌≤◌, [], ◌∷◌, ◌++◌, length, flat_map, slice_range};
+ghost use Rattle.std.specs.Prelude.{◌≡◌, ◌+◌, ◌-◌, ◌≤◌, [], ◌∷◌, ◌++◌, length, flat_map, slice_range};
 ghost use Rattle.std.specs.Int.{w64, to_le_bytes};
 ghost use Rattle.paw_base.specs.declared.layout.TheConstants.{STATE_LENGTH};
-ghost use Rattle.paw_base.specs.declared.limits.TheConstants.{POSITION_COUNT};
 ghost use Rattle.paw_process.specs.declared.machine.TheConstants.{MOST_FRAMES};
-ghost use Rattle.paw_state.specs.declared.layout.TheConstants.{HELD_LENGTH, SEED, PROMPT, FRAMES, FRAME_LENGTH};
-ghost use Rattle.paw_state.specs.declared.layout.TheConstants.{LOOPING};
-ghost use Rattle.paw_state.specs.declared.layout.TheConstants.{LOOP_LEVEL, EARLIER, KEPT};
-ghost use Rattle.paw_state.specs.declared.layout.TheConstants.{STATE_ROOM};
+ghost use Rattle.paw_state.specs.declared.fields.TheConstants.{SEED, PROMPT, FRAMES, FRAME_LENGTH, LOOPING};
+ghost use Rattle.paw_state.specs.declared.fields.TheConstants.{LOOP_LEVEL, EARLIER, KEPT, STATE_ROOM};
 ghost use Rattle.paw_state.specs.inner.Parts.{frame_in};
 ghost use Rattle.paw_state.specs.inner.Writer.{WritesField};
 ghost use Rattle.paw_state.specs.State.{AreBytes};
 ghost use Rattle.paw_state.specs.State.{zeros, frame_field_of};
 ghost use Rattle.paw_game.specs.Image.{two_bytes};
 ghost use Rattle.paw_state.specs.inner.Shapes.{two_at, eight_at, values_at};
-ghost use Rattle.paw_state.specs.inner.Fields.{frame_shape, loop_shape, held_shape, field_bytes, fields_at};
+ghost use Rattle.paw_state.specs.inner.Fields.{frame_shape, loop_shape, held_shape, after_piece};
+ghost use Rattle.paw_state.specs.inner.Fields.{field_bytes, fields_at};
 
-use crate::layout::{
-    COUNT, DRAWS, EARLIER, EVENTS, FLAGS, FRAME_ACTED, FRAME_AT, FRAME_ENTRY, FRAME_LENGTH, FRAMES,
-    HELD_LENGTH, KEPT, LINE, LOOP_AT, LOOP_ENTRY, LOOP_LAST, LOOP_LEVEL, LOOP_PLACE, LOOP_TABLE,
-    LOOPING, PENDING, PIECE, PLACES, PROMPT, SAVED, SEED, STATE_ROOM,
-};
 use crate::position_field::PositionField;
 use crate::writer::Writer;
-use paw_base::limits::POSITION_COUNT;
+use paw_base::layout::{FIRST_LENGTH, PIECE_LENGTH_AT};
+use paw_base::limits::{FLAG_COUNT, OBJECT_LIMIT, POSITION_COUNT};
 use paw_process::MOST_FRAMES;
 use paw_reading::places::{Frame, OpenLoop};
+
+/// The length of the room in which a state is kept. The bytes after the state are 0.
+pub const STATE_ROOM: usize = 4096;
+
+/// 256 flags.
+pub const FLAGS: usize = 0;
+
+/// 255 places of objects.
+pub const PLACES: usize = FLAGS + FLAG_COUNT;
+
+/// The saved position: 512 bytes, as for each kept one.
+pub const SAVED: usize = PLACES + OBJECT_LIMIT;
+
+/// From the start of such a position, whose first byte is 1 where it is there and else 0, to its 256 flags.
+pub const HELD_FLAGS: usize = 1;
+
+/// From its start to its 255 places.
+pub const HELD_PLACES: usize = HELD_FLAGS + FLAG_COUNT;
+
+/// The length of such a position.
+pub const HELD_LENGTH: usize = HELD_PLACES + OBJECT_LIMIT;
+
+/// The seed of the random words: eight bytes, as for the next two.
+pub const SEED: usize = SAVED + HELD_LENGTH;
+
+/// The number of words that were drawn.
+pub const DRAWS: usize = SEED + 8;
+
+/// The number of lines that were taken.
+pub const EVENTS: usize = DRAWS + 8;
+
+/// The prompt: 0 to 4.
+pub const PROMPT: usize = EVENTS + 8;
+
+/// The number of open tables: 0 to 11.
+pub const COUNT: usize = PROMPT + 1;
+
+/// Eleven frames of five bytes: table, entry (two bytes), condact, and whether an action was carried out.
+pub const FRAMES: usize = COUNT + 1;
+
+/// From the start of a frame to its entry, its condact, and whether an action was carried out.
+pub const FRAME_ENTRY: usize = 1;
+
+pub const FRAME_AT: usize = FRAME_ENTRY + 2;
+
+pub const FRAME_ACTED: usize = FRAME_AT + 1;
+
+/// The length of a frame.
+pub const FRAME_LENGTH: usize = FRAME_ACTED + 1;
+
+/// Whether a loop is open: 0 or 1.
+pub const LOOPING: usize = FRAMES + MOST_FRAMES * FRAME_LENGTH;
+
+/// The open loop's level, table, entry (two bytes), condact, place and last object.
+pub const LOOP_LEVEL: usize = LOOPING + 1;
+
+pub const LOOP_TABLE: usize = LOOP_LEVEL + 1;
+
+pub const LOOP_ENTRY: usize = LOOP_TABLE + 1;
+
+pub const LOOP_AT: usize = LOOP_ENTRY + 2;
+
+pub const LOOP_PLACE: usize = LOOP_AT + 1;
+
+pub const LOOP_LAST: usize = LOOP_PLACE + 1;
+
+/// The verb of the sentence before.
+pub const EARLIER: usize = LOOP_LAST + 1;
+
+/// The number of pending bytes.
+pub const PENDING: usize = EARLIER + 1;
+
+/// These bytes, with room for 255.
+pub const LINE: usize = PENDING + 1;
+
+/// The length of the last piece: two bytes.
+pub const PIECE: usize = PIECE_LENGTH_AT;
+
+/// The kept positions, one after the other.
+pub const KEPT: usize = FIRST_LENGTH;
 
 /// A frame, as it is kept: a byte says whether an action was carried out.
 #[derive(Clone, Copy, Drop)]
@@ -102,7 +177,7 @@ pub(crate) fn array_at<const N: usize>(bytes: &[u8; STATE_ROOM], at: usize) -> [
     array
 }
 
-/// The number of two bytes at an offset.
+// The number of two bytes at an offset.
 fn two_at(bytes: &[u8; STATE_ROOM], at: usize) -> u16
     requires inside { at + 2 ≤ STATE_ROOM }
     ensures value { result ≡ two_at bytes.now at }
@@ -110,7 +185,7 @@ fn two_at(bytes: &[u8; STATE_ROOM], at: usize) -> u16
     u16::from_le_bytes(array_at(bytes, at))
 }
 
-/// The number of eight bytes at an offset.
+// The number of eight bytes at an offset.
 fn eight_at(bytes: &[u8; STATE_ROOM], at: usize) -> u64
     requires inside { at + 8 ≤ STATE_ROOM }
     ensures value { result ≡ eight_at bytes.now at }
@@ -118,7 +193,7 @@ fn eight_at(bytes: &[u8; STATE_ROOM], at: usize) -> u64
     u64::from_le_bytes(array_at(bytes, at))
 }
 
-/// The kept positions.
+// The kept positions.
 fn kept_at(bytes: &[u8; STATE_ROOM]) -> [PositionField; POSITION_COUNT]
     ensures value { result ≡ (fields_at bytes.now).kept }
 {
@@ -130,7 +205,7 @@ fn kept_at(bytes: &[u8; STATE_ROOM]) -> [PositionField; POSITION_COUNT]
     ]
 }
 
-/// The frame at a place.
+// The frame at an offset.
 fn frame_at(bytes: &[u8; STATE_ROOM], at: usize) -> FrameField
     requires inside { at + FRAME_LENGTH ≤ STATE_ROOM }
     ensures value { result ≡ frame_shape.value bytes.now at }
@@ -143,7 +218,7 @@ fn frame_at(bytes: &[u8; STATE_ROOM], at: usize) -> FrameField
     }
 }
 
-/// All frames.
+// All frames.
 fn frames_at(bytes: &[u8; STATE_ROOM]) -> [FrameField; MOST_FRAMES]
     ensures value { result ≡ values_at frame_shape MOST_FRAMES bytes.now FRAMES }
 {
@@ -154,7 +229,7 @@ fn frames_at(bytes: &[u8; STATE_ROOM]) -> [FrameField; MOST_FRAMES]
     rows
 }
 
-/// The bytes of the open loop.
+// The bytes of the open loop.
 fn loop_at(bytes: &[u8; STATE_ROOM]) -> OpenLoop
     ensures value { result ≡ (fields_at bytes.now).turning }
 {
@@ -198,7 +273,7 @@ impl Fields {
     /// The bytes of these fields, and zeros after them.
     pub(crate) fn bytes(&self) -> [u8; STATE_ROOM]
         ensures value { result ≡ field_bytes self.now ++ zeros (STATE_ROOM - STATE_LENGTH) }
-        ensures kept { length (flat_map held_shape.bytes self.now.kept) ≡ POSITION_COUNT * HELD_LENGTH }
+        ensures later { length (after_piece self.now) ≡ STATE_LENGTH - KEPT }
         ensures room { length result ≡ STATE_ROOM }
     {
         let mut writer = Writer::new();
@@ -206,11 +281,11 @@ impl Fields {
         self.put_numbers(&mut writer);
         self.put_tables(&mut writer);
         self.put_pending(&mut writer);
-        self.put_kept(&mut writer);
+        self.put_later(&mut writer);
         writer.finish()
     }
 
-    /// Writes flags and places, now and in the saved position.
+    // Writes flags and places, now and in the saved position.
     fn put_world(&self, writer: &mut Writer)
         requires room { length writer.old + SEED ≤ STATE_ROOM }
         ensures writes { WritesField (self.now.flags ++ (self.now.places ++ held_shape.bytes self.now.saved))
@@ -221,7 +296,7 @@ impl Fields {
         self.saved.put(writer);
     }
 
-    /// Writes the seed, the draws and the lines.
+    // Writes the seed, the draws and the lines.
     fn put_numbers(&self, writer: &mut Writer)
         requires room { length writer.old + (PROMPT - SEED) ≤ STATE_ROOM }
         ensures writes { WritesField
@@ -233,7 +308,7 @@ impl Fields {
         writer.put(&self.events.to_le_bytes());
     }
 
-    /// Writes the prompt, the frames of the open tables, and the open loop.
+    // Writes the prompt, the frames of the open tables, and the open loop.
     fn put_tables(&self, writer: &mut Writer)
         requires room { length writer.old + (EARLIER - PROMPT) ≤ STATE_ROOM }
         ensures writes { WritesField
@@ -247,7 +322,7 @@ impl Fields {
         self.put_loop(writer);
     }
 
-    /// Writes the frames of the open tables.
+    // Writes the frames of the open tables.
     fn put_frames(&self, writer: &mut Writer)
         requires room { length writer.old + (LOOPING - FRAMES) ≤ STATE_ROOM }
         ensures writes { WritesField (flat_map frame_shape.bytes self.now.rows)
@@ -259,7 +334,7 @@ impl Fields {
         }
     }
 
-    /// Writes the open loop.
+    // Writes the open loop.
     fn put_loop(&self, writer: &mut Writer)
         requires room { length writer.old + (EARLIER - LOOP_LEVEL) ≤ STATE_ROOM }
         ensures writes { WritesField (loop_shape.bytes self.now.turning) (EARLIER - LOOP_LEVEL) writer.old writer.new }
@@ -270,7 +345,7 @@ impl Fields {
         writer.put(&[turning.at, turning.place, turning.last]);
     }
 
-    /// Writes what is pending, and the length of the last piece.
+    // Writes what is pending, and the length of the last piece.
     fn put_pending(&self, writer: &mut Writer)
         requires room { length writer.old + (KEPT - EARLIER) ≤ STATE_ROOM }
         ensures writes { WritesField ((self.now.earlier ∷ self.now.pending ∷ self.now.line) ++ two_bytes self.now.piece)
@@ -281,11 +356,10 @@ impl Fields {
         writer.put(&self.piece.to_le_bytes());
     }
 
-    /// Writes the kept positions.
-    fn put_kept(&self, writer: &mut Writer)
-        requires room { length writer.old + POSITION_COUNT * HELD_LENGTH ≤ STATE_ROOM }
-        ensures writes { WritesField (flat_map held_shape.bytes self.now.kept)
-            (POSITION_COUNT * HELD_LENGTH) writer.old writer.new }
+    // Writes what stands after the length of the last piece: the kept positions.
+    fn put_later(&self, writer: &mut Writer)
+        requires room { length writer.old + (STATE_LENGTH - KEPT) ≤ STATE_ROOM }
+        ensures writes { WritesField (after_piece self.now) (STATE_LENGTH - KEPT) writer.old writer.new }
     {
         for held in &self.kept {
             held.put(writer);

@@ -1,7 +1,7 @@
-// The laws of a state's bytes.
+// The laws of a state, and of its bytes.
 
 ghost use Rattle.paw_state.specs.inner.Laws.{FieldsStand, OneFault, FitOrUnfit, BytesTellTheState, WrittenIsFit};
-ghost use Rattle.paw_state.specs.inner.Record.{StateOfParts};
+ghost use Rattle.paw_state.specs.inner.State.{StateOfParts};
 
 /// Fields stand at their offsets in the bytes that they are written to, so bytes never have two first faults.
 pub fn fields_stand()

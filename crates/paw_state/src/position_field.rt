@@ -1,12 +1,11 @@
 // A position that may be there, as it stands in the bytes of a state.
 
 ghost use Rattle.std.specs.Prelude.{◌≡◌, ◌+◌, ◌≤◌, length};
-ghost use Rattle.paw_state.specs.declared.layout.TheConstants.{HELD_LENGTH, STATE_ROOM};
+ghost use Rattle.paw_state.specs.declared.fields.TheConstants.{HELD_LENGTH, STATE_ROOM};
 ghost use Rattle.paw_state.specs.inner.Fields.{held_shape};
 ghost use Rattle.paw_state.specs.inner.Writer.{WritesField};
 
-use crate::fields::array_at;
-use crate::layout::{HELD_FLAGS, HELD_PLACES, STATE_ROOM};
+use crate::fields::{HELD_FLAGS, HELD_PLACES, STATE_ROOM, array_at};
 use crate::writer::Writer;
 
 /// A position, or its absence: whether it is there, its flags and its places.

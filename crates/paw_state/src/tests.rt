@@ -29,12 +29,12 @@ fn object(alloc: Global, start: u8) -> ObjectRow {
     }
 }
 
-/// An entry of any words.
+// An entry of any words.
 fn entry(alloc: Global, codes: &[(u8, u8, u8)]) -> Result<Entry, AllocError> {
     Entry::from_codes(alloc, NO_WORD, NO_WORD, codes)
 }
 
-/// A response table with a loop and with a call of table 3, which asks.
+// A response table with a loop and with a call of table 3, which asks.
 fn tables(alloc: Global) -> Result<Vec<Table>, AllocError> {
     let goes_round = entry(alloc, &[(DOALL, HERE_PLACE, 0)])?;
     let calls = entry(alloc, &[(PROCESS, 3, 0), (DONE, 0, 0)])?;
@@ -49,7 +49,7 @@ fn tables(alloc: Global) -> Result<Vec<Table>, AllocError> {
     ]?)
 }
 
-/// A game of two locations and two objects, of which the second is carried.
+// A game of two locations and two objects, of which the second is carried.
 fn small_game(alloc: Global) -> Result<Game, Fail> {
     let game = Game::new(GameParts {
         words: Vec::new(alloc),
@@ -63,8 +63,8 @@ fn small_game(alloc: Global) -> Result<Game, Fail> {
     Ok(game)
 }
 
-/// The state at the start of a game with seed 7, whose first piece has 300 bytes.
-fn opened(game: &Game) -> [u8; STATE_ROOM] {
+// The state at the start of a game with seed 7, whose first piece has 300 bytes.
+fn opening_state(game: &Game) -> [u8; STATE_ROOM] {
     let mut bytes = [255; STATE_ROOM];
     let world = opening_world(game, 7);
     let machine = Machine::new();
@@ -97,7 +97,7 @@ const WAITING: [(usize, u8); 13] = [
     (1370, 0),
 ];
 
-/// These bytes with a byte changed.
+// These bytes with a byte changed.
 fn with_byte(rt: &impl Abort, bytes: &[u8; STATE_ROOM], at: usize, byte: u8) -> [u8; STATE_ROOM] {
     assert!(rt; at < STATE_ROOM);
     let mut changed = *bytes;
@@ -106,14 +106,14 @@ fn with_byte(rt: &impl Abort, bytes: &[u8; STATE_ROOM], at: usize, byte: u8) -> 
 }
 
 fn waiting(rt: &impl Abort, game: &Game) -> [u8; STATE_ROOM] {
-    let mut bytes = opened(game);
+    let mut bytes = opening_state(game);
     for (at, byte) in &WAITING {
         bytes = with_byte(rt, &bytes, *at, *byte);
     }
     bytes
 }
 
-/// The offset that is named as a fault, or none.
+// The offset that is named as a fault, or none.
 fn fault(game: &Game, bytes: &[u8; STATE_ROOM]) -> Option<u64> {
     match read_state(game, bytes) {
         Ok(_) => None,
@@ -121,8 +121,8 @@ fn fault(game: &Game, bytes: &[u8; STATE_ROOM]) -> Option<u64> {
     }
 }
 
-/// The bytes written of what was read.
-fn written(read: &Restored) -> [u8; STATE_ROOM] {
+// The bytes written of what was read.
+fn bytes_of(read: &Restored) -> [u8; STATE_ROOM] {
     let mut bytes = [255; STATE_ROOM];
     write_state(
         &read.world,
@@ -239,7 +239,7 @@ const LIMITS: [(usize, u64, Option<u64>); 4] = [
     (1039, 1_000_000_001, Some(1039)),
 ];
 
-/// These bytes with a number of eight bytes changed.
+// These bytes with a number of eight bytes changed.
 fn with_number(
     rt: &impl Abort,
     bytes: &[u8; STATE_ROOM],
@@ -255,7 +255,7 @@ fn with_number(
 #[test]
 fn draws_and_lines_at_their_limits(rt: HostRuntime) -> Result<(), Fail> {
     let game = small_game(rt.alloc())?;
-    let bytes = opened(&game);
+    let bytes = opening_state(&game);
     for (at, number, named) in &LIMITS {
         let changed = with_number(&rt, &bytes, *at, *number);
         assert_eq!(rt; fault(&game, &changed), *named, "{number}");
@@ -266,7 +266,7 @@ fn draws_and_lines_at_their_limits(rt: HostRuntime) -> Result<(), Fail> {
 #[test]
 fn the_first_broken_rule_is_named(rt: HostRuntime) -> Result<(), Fail> {
     let game = small_game(rt.alloc())?;
-    let bytes = opened(&game);
+    let bytes = opening_state(&game);
     assert_eq!(rt; fault(&game, &bytes), None);
     for (at, byte, named) in &NAMED {
         let changed = with_byte(&rt, &bytes, *at, *byte);
@@ -282,7 +282,7 @@ fn the_first_broken_rule_is_named(rt: HostRuntime) -> Result<(), Fail> {
 #[test]
 fn a_kept_position_names_its_bytes_after_all_others(rt: HostRuntime) -> Result<(), Fail> {
     let game = small_game(rt.alloc())?;
-    let bytes = with_byte(&rt, &opened(&game), 1883, 1);
+    let bytes = with_byte(&rt, &opening_state(&game), 1883, 1);
     assert_eq!(rt; fault(&game, &bytes), None);
     for (at, byte, named) in &NAMED_KEPT {
         let changed = with_byte(&rt, &bytes, *at, *byte);
@@ -309,9 +309,9 @@ fn a_state_that_waits_names_its_frames_and_loop(rt: HostRuntime) -> Result<(), F
 #[test]
 fn what_is_read_is_written_again(rt: HostRuntime) -> Result<(), Fail> {
     let game = small_game(rt.alloc())?;
-    for bytes in [opened(&game), waiting(&rt, &game)] {
+    for bytes in [opening_state(&game), waiting(&rt, &game)] {
         let read = read_state(&game, &bytes)?;
-        assert_eq!(rt; written(&read), bytes);
+        assert_eq!(rt; bytes_of(&read), bytes);
     }
     Ok(())
 }
@@ -360,7 +360,7 @@ fn a_saved_position_and_draws_come_back(rt: HostRuntime) -> Result<(), Fail> {
         &mut bytes,
     );
     let mut read = read_state(&game, &bytes)?;
-    assert_eq!(rt; written(&read), bytes);
+    assert_eq!(rt; bytes_of(&read), bytes);
     assert_eq!(rt; read.prompt, Prompt::Over);
     assert_eq!(rt; read.world.places(), [252, 253].as_slice());
     assert_eq!(rt; read.world.draws(), 400_000);
@@ -407,7 +407,7 @@ fn kept_positions_come_back(rt: HostRuntime) -> Result<(), Fail> {
         [3, CARRIED_PLACE]
     );
     let read = read_state(&game, &bytes)?;
-    assert_eq!(rt; written(&read), bytes);
+    assert_eq!(rt; bytes_of(&read), bytes);
     assert!(rt; !read.world.has_kept(0) && !read.world.has_kept(2));
     let (kept_flags, kept_places) = read.world.kept_position(1).expect(&rt, "a kept position");
     assert_eq!(rt; kept_flags[200], 5);

@@ -1,11 +1,11 @@
 // Writing one field after the other.
 
 ghost use Rattle.std.specs.Prelude.{◌≡◌, ◌+◌, ◌-◌, ◌≤◌, [], ◌++◌, length};
-ghost use Rattle.paw_state.specs.declared.layout.TheConstants.{STATE_ROOM};
+ghost use Rattle.paw_state.specs.declared.fields.TheConstants.{STATE_ROOM};
 ghost use Rattle.paw_state.specs.State.{zeros};
 ghost use Rattle.paw_state.specs.inner.Writer.{WritesField};
 
-use crate::layout::STATE_ROOM;
+use crate::fields::STATE_ROOM;
 use std::marker::Model;
 
 /// The room of a state, of which a first part is written. Contracts see the bytes of that part.
@@ -17,7 +17,7 @@ pub(crate) struct Writer {
 
 impl Model for Writer {
     ghost use Rattle.std.specs.Prelude.{◌≡◌, ◌-◌, ◌≤◌, List, ℕ, take, drop};
-    ghost use Rattle.paw_state.specs.declared.layout.TheConstants.{STATE_ROOM};
+    ghost use Rattle.paw_state.specs.declared.fields.TheConstants.{STATE_ROOM};
     ghost use Rattle.paw_state.specs.State.{zeros};
 
     ghost Value = { List ℕ };

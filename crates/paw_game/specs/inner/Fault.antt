@@ -36,19 +36,24 @@ bad_word n before (w ∷ ws) =
 unfoldable pub words_fault : List Word → Option ℕ
 words_fault ws = part_row_fault 0 WORD_LIMIT (length ws) (bad_word 0 [] ws)
 
+-- The first row at fault of texts of which there are at least and at most these.
 unfoldable pub texts_fault : ℕ → ℕ → Texts → Option ℕ
 texts_fault least most texts = part_row_fault least most (length texts) (first_bad is_text texts)
 
+-- The first row at fault of the objects.
 unfoldable pub objects_fault : List Word → ℕ → List ObjectRow → Option ℕ
 objects_fault ws locations os = part_row_fault 0 OBJECT_LIMIT (length os) (first_bad (is_object ws locations) os)
 
+-- The first row at fault of the exits: there is one for each location.
 unfoldable pub exits_fault : List Word → ℕ → List (List Exit) → Option ℕ
 exits_fault ws locations es =
     part_row_fault locations locations (length es) (first_bad (exits_are_valid ws locations) es)
 
+-- The first row at fault of the tables.
 unfoldable pub tables_fault : GameLists → Option ℕ
 tables_fault g = part_row_fault TABLE_LEAST TABLE_LIMIT (length g.tables) (first_bad (is_table g) g.tables)
 
+-- The fault of a part, given its first row at fault.
 abbrev pub fault_in : GamePart → Option ℕ → Option GameFault
 fault_in p None = None
 fault_in p (Some row) = Some (record { part = p; row = row })

@@ -8,7 +8,7 @@ use Rattle.paw_stage.specs.Stage.{Standing}
 use Rattle.paw_journal.specs.declared.journal.Journal.{Journal}
 use Rattle.paw_journal.specs.declared.refusal.JournalRefusal.{JournalRefusal}
 use Rattle.paw_journal.specs.declared.refusal.JournalRefusal.TheVariants as refusal
-use Rattle.paw_journal.specs.Session.{Recovered, Unmade, Damaged, Shown, recover, chosen, kept_digests, zeros}
+use Rattle.paw_journal.specs.Session.{Recovered, Unmade, Damaged, Shown, recover, slot_in_use, kept_digests, zeros}
 use Rattle.paw_journal.specs.inner.Session.{digests_of, session_shown}
 use Rattle.paw_journal.specs.inner.Room.{Room, KeepsSlots, slot_number}
 
@@ -21,7 +21,7 @@ pub record IsAtRest (s : Standing) : Type 0 where
 -- the states of both slots.
 pub record KeptIn (journal : Journal) (room : Room) (s : Standing) : Type 0 where
   pub rests : IsAtRest s
-  pub chosen : chosen s.disk.bytes ≡ slot_number journal.slot
+  pub chosen : slot_in_use s.disk.bytes ≡ slot_number journal.slot
   pub shown : recover s.disk.bytes ≡ session_shown (kept_digests s.disk.bytes) room.state room.piece
   pub slots : KeepsSlots room s.disk.bytes
 

@@ -23,5 +23,5 @@ abbrev pub laid_session : Digests → Bytes → Bytes
 laid_session digests bytes = made_header 0 digests ++ bytes ++ bytes
 
 -- These bytes, with the mark of a session that is made.
-abbrev pub marked : Bytes → Bytes
-marked bytes = made_mark ∷ drop 1 bytes
+abbrev pub with_made_mark : Bytes → Bytes
+with_made_mark bytes = made_mark ∷ drop 1 bytes

@@ -3,19 +3,19 @@ use Rattle.std.specs.Prelude.{◌≡◌, ◌⊎◌, ℕ, ◌+◌, ◌-◌, ◌*�
 use Rattle.std.specs.Prelude.{false, Option, Some, None, ◌++◌, take, drop}
 use Rattle.paw_base.specs.Bytes.{Bytes, Text}
 use Rattle.paw_base.specs.declared.limits.TheConstants.{PIECE_LIMIT}
-use Rattle.paw_stage.specs.Disk.{Disk, is_dirty, put}
+use Rattle.paw_stage.specs.Disk.{Disk, is_dirty, put_at}
 use Rattle.paw_stage.specs.Stage.{Standing}
 use Rattle.paw_journal.specs.declared.drafting.SlotState.{SlotState}
 use Rattle.paw_journal.specs.declared.drafting.CommitDraft.{CommitDraft}
 use Rattle.paw_journal.specs.declared.layout.Slot.{Slot}
 use Rattle.paw_journal.specs.declared.finding.Header.{Header}
-use Rattle.paw_journal.specs.Session.{session_length, header_length, slot_length, made_mark, session_mark, chosen}
+use Rattle.paw_journal.specs.Session.{session_length, header_length, slot_length, made_mark, session_mark, slot_in_use}
 use Rattle.paw_journal.specs.Session.{version}
 use Rattle.paw_journal.specs.Session.{is_version}
-use Rattle.paw_journal.specs.Session.{Digests, kept_digests, changes, changed, first_unsound, slot, recover}
+use Rattle.paw_journal.specs.Session.{Digests, kept_digests, changes, with_changes, first_unsound, slot, recover}
 use Rattle.paw_journal.specs.inner.Session.{digests_of, session_shown}
 use Rattle.paw_journal.specs.Session.{made_session, differing, differences, differences_from, rewritten}
-use Rattle.paw_journal.specs.Session.{committed_slot, committed}
+use Rattle.paw_journal.specs.Session.{committed_slot, session_committed}
 use Rattle.paw_journal.specs.inner.Room.{slot_number, kept_slot}
 use Rattle.paw_journal.specs.inner.Written.{most_written}
 use Rattle.paw_journal.specs.inner.Store.{ChangesStoreOnly, HoldsStable}
@@ -36,7 +36,7 @@ pub record IsBlank (held : Bytes) (d : Disk) : Type 0 where
 -- What a header says of a session that is made of these bytes: the slot in use, and whose session it is.
 pub record Introduces (number : ℕ) (whose : Digests) (bytes : Bytes) : Type 0 where
   pub made : IsMade bytes
-  pub slot : number ≡ chosen bytes
+  pub slot : number ≡ slot_in_use bytes
   pub digests : whose ≡ kept_digests bytes
 
 -- The store is as long as it was, and of its bytes only those from one offset up to another may differ.
@@ -55,7 +55,7 @@ start_of k = header_length + slot_length * k
 pub record IsFilling (k : ℕ) (old new : Standing) : Type 0 where
   pub low : k < 2
   pub made : IsMade old.disk.bytes
-  pub other : chosen old.disk.bytes ≡ 1 - k
+  pub other : slot_in_use old.disk.bytes ≡ 1 - k
   pub beside : ChangesStoreOnly old new
   pub within : IsWithin (start_of k) (start_of k + slot_length) old.disk.bytes new.disk
 
@@ -66,7 +66,7 @@ IsStillFilling k old new = (first : Standing) → IsFilling k first old → IsFi
 -- A session is made of the store's bytes, and this slot isn't in use.
 pub record IsSpare (k : ℕ) (bytes : Bytes) : Type 0 where
   pub made : IsMade bytes
-  pub other : chosen bytes ≡ 1 - k
+  pub other : slot_in_use bytes ≡ 1 - k
 
 -- A slot is what this makes of it.
 abbrev pub Fills : Slot → (Bytes → Bytes) → Standing → Standing → Type 0
@@ -86,7 +86,7 @@ ShowsNext state piece old new = ShowsIn (kept_digests old.disk.bytes) state piec
 
 -- The store holds the session as a commit of this state and this piece leaves it.
 abbrev pub HoldsCommitted : Bytes → Text → Standing → Standing → Type 0
-HoldsCommitted state piece old new = new.disk.bytes ≡ committed state piece old.disk.bytes
+HoldsCommitted state piece old new = new.disk.bytes ≡ session_committed state piece old.disk.bytes
 
 -- The store holds the session as it is made.
 abbrev pub HoldsMade : Digests → Bytes → Text → Standing → Type 0
@@ -105,7 +105,7 @@ pub record ChangesInto (old new records : Bytes) : Type 0 where
   pub exact : records ≡ differences old new
   pub many : length records ≡ 4 * differing old new
   pub sound : first_unsound (changes records) ≡ None
-  pub turned : changed (changes records) old ≡ new
+  pub turned : with_changes (changes records) old ≡ new
 
 -- Change records turn this many bytes of one state into those of another.
 pub record ChangesTo (old new : Bytes) (i : ℕ) (records : Bytes) : Type 0 where
@@ -113,7 +113,7 @@ pub record ChangesTo (old new : Bytes) (i : ℕ) (records : Bytes) : Type 0 wher
   pub many : length records ≡ 4 * differing (take i old) (take i new)
   pub few : length records ≤ 4 * i
   pub sound : first_unsound (changes records) ≡ None
-  pub turned : changed (changes records) old ≡ take i new ++ drop i old
+  pub turned : with_changes (changes records) old ≡ take i new ++ drop i old
 
 -- The bytes of a slot once a commit has written it.
 abbrev pub written_slot : CommitDraft → Bytes → Text → Bytes → Bytes
@@ -121,11 +121,11 @@ written_slot draft bytes piece old = rewritten draft.at bytes draft.records piec
 
 -- The bytes of a session once a commit has written this slot, and not chosen it yet.
 abbrev pub written_session : ℕ → CommitDraft → Bytes → Text → Bytes → Bytes
-written_session k draft bytes piece old = put (start_of k) (written_slot draft bytes piece (slot k old)) old
+written_session k draft bytes piece old = put_at (start_of k) (written_slot draft bytes piece (slot k old)) old
 
 -- The bytes of a session once this slot is chosen.
 abbrev pub chosen_session : ℕ → Bytes → Bytes
-chosen_session k old = put 1 (k ∷ []) old
+chosen_session k old = put_at 1 (k ∷ []) old
 
 -- A commit has written this slot, and not chosen it yet: a crash leaves just the bytes of such a session.
 abbrev pub WritesSlot : Slot → CommitDraft → Bytes → Text → Standing → Standing → Type 0

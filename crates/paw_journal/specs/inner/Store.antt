@@ -2,12 +2,12 @@
 use Rattle.std.specs.Prelude.{◌≡◌, ◌≢◌, ◌⊎◌, ℕ, ◌-◌, ◌++◌, length, Some}
 use Rattle.paw_base.specs.Bytes.{Bytes, Name, Text}
 use Rattle.paw_stage.specs.Disk.{Disk, MayLeave, stable}
-use Rattle.paw_stage.specs.Stage.{Standing, file_bytes, opened}
+use Rattle.paw_stage.specs.Stage.{Standing, file_bytes, with_store_opened}
 use Rattle.paw_stage.specs.Moments.{Moment}
 use Rattle.paw_journal.specs.declared.layout.Slot.{Slot}
 use Rattle.paw_journal.specs.declared.store.Attached.{Attached}
 use Rattle.paw_journal.specs.Session.{Digests, Recovered, IsUnmade, recover, recover_by, kept_digests}
-use Rattle.paw_journal.specs.inner.Session.{session_shown, marked}
+use Rattle.paw_journal.specs.inner.Session.{session_shown, with_made_mark}
 use Rattle.paw_journal.specs.inner.Room.{slot_number}
 
 -- All but the attached store stands as it did. Where its file held the bytes of the store, it still does.
@@ -46,7 +46,7 @@ IsUnmadeOr made r = IsUnmade r ⊎ (r ≡ made)
 
 -- What attaching the store of this name did, which then has this length.
 abbrev pub Opens : Standing → Standing → Name → Attached → Type 0
-Opens old new name at = (at.length ≡ length (file_bytes old name)) × (new ≡ opened name old)
+Opens old new name at = (at.length ≡ length (file_bytes old name)) × (new ≡ with_store_opened name old)
 
 -- The store holds these bytes, and a crash leaves just these.
 abbrev pub HoldsStable : Bytes → Standing → Type 0
@@ -72,7 +72,7 @@ LeavesMade digests state piece old m = LeavesUnmadeOr (session_shown digests sta
 
 -- A crash leaves no session, or the one that stands there once it is marked.
 abbrev pub LeavesMarked : Standing → Moment → Type 0
-LeavesMarked old m = LeavesUnmadeOr (recover (marked old.disk.bytes)) old m
+LeavesMarked old m = LeavesUnmadeOr (recover (with_made_mark old.disk.bytes)) old m
 
 -- A crash leaves what the session showed before.
 abbrev pub LeavesSame : Standing → Moment → Type 0

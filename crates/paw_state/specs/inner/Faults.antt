@@ -9,9 +9,9 @@ use Rattle.paw_game.specs.Game.{GameLists}
 use Rattle.paw_game.specs.Tables.{head_at, condact_at}
 use Rattle.paw_game.specs.Valid.{is_place}
 use Rattle.paw_process.specs.Kept.{may_open, has_code, parameter_of}
-use Rattle.paw_state.specs.declared.layout.TheConstants.{HELD_FLAGS, HELD_PLACES, HELD_LENGTH}
-use Rattle.paw_state.specs.declared.layout.TheConstants.{FRAME_LENGTH, FRAME_ENTRY, FRAME_AT}
-use Rattle.paw_state.specs.declared.layout.TheConstants.{FRAME_ACTED}
+use Rattle.paw_state.specs.declared.fields.TheConstants.{HELD_FLAGS, HELD_PLACES, HELD_LENGTH}
+use Rattle.paw_state.specs.declared.fields.TheConstants.{FRAME_LENGTH, FRAME_ENTRY, FRAME_AT}
+use Rattle.paw_state.specs.declared.fields.TheConstants.{FRAME_ACTED}
 use Rattle.paw_state.specs.declared.fields.FrameField.{FrameField}
 use Rattle.paw_state.specs.declared.fields.Fields.{Fields}
 use Rattle.paw_state.specs.declared.position_field.PositionField.{PositionField}

@@ -3,9 +3,9 @@ use Rattle.paw_base.specs.declared.layout.TheConstants.{STATE_LENGTH}
 use Rattle.std.specs.Prelude.{◌≡◌, ℕ, Option, take}
 use Rattle.paw_base.specs.Bytes.{Bytes}
 use Rattle.paw_game.specs.Game.{GameLists}
-use Rattle.paw_process.specs.inner.Kept.{kept}
-use Rattle.paw_process.specs.inner.Kept.{restored, waiting_at, WaitsAtPrompt}
-use Rattle.paw_state.specs.declared.Restored.{Restored}
+use Rattle.paw_process.specs.inner.Kept.{machine_kept}
+use Rattle.paw_process.specs.inner.Kept.{machine_restored, waiting_at, WaitsAtPrompt}
+use Rattle.paw_state.specs.declared.parts.Restored.{Restored}
 use Rattle.paw_state.specs.State.{IsValidState, FitsFields}
 pub use Rattle.paw_state.specs.inner.State.{state_read}
 use Rattle.paw_state.specs.State.{state_bytes}
@@ -22,5 +22,5 @@ pub record IsRead (g : GameLists) (bytes : Bytes) (r : Restored) : Type 0 where
   pub are : take STATE_LENGTH bytes ≡ state_bytes (state_read r)
   pub keeps : IsValidState g (state_read r)
   pub fits : FitsFields (state_read r)
-  pub machine : r.machine ≡ restored (kept r.machine) (waiting_at r.prompt)
+  pub machine : r.machine ≡ machine_restored (machine_kept r.machine) (waiting_at r.prompt)
   pub stands : WaitsAtPrompt r.prompt r.machine

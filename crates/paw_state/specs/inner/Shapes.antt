@@ -1,11 +1,11 @@
--- How values stand in bytes, one after the other: the bytes of a value, and the value at a place of bytes.
+-- How values stand in bytes, one after the other: the bytes of a value, and the value at an offset.
 use Rattle.std.specs.Prelude.{◌≡◌, ℕ, zero, suc, ◌+◌, ◌*◌, ◌<◌, ◌^◌, ⊤, List, [], ◌∷◌, ◌++◌, All, length, flat_map}
 use Rattle.std.specs.Prelude.{slice_index, slice_range}
 use Rattle.std.specs.Int.{w16, w64, from_le_bytes, to_le_bytes}
 use Rattle.paw_base.specs.Bytes.{Bytes}
 use Rattle.paw_game.specs.Image.{two_bytes}
 
--- A shape: how many bytes a value has, which these are, the value that stands at a place, and which values fit.
+-- A shape: how many bytes a value has, which these are, the value that stands at an offset, and which values fit.
 pub record Shape (A : Type 0) : Type 1 where
   pub size : ℕ
   pub bytes : A → Bytes
@@ -72,3 +72,28 @@ through made parts c = record {
   value = λ bytes at. made (c.value bytes at);
   fits = λ b. c.fits (parts b);
 }
+
+-- ---- records, a row for each field ----
+
+-- Fields of a record that stand one after the other: the shape of their values, these values of a record, and what a
+-- function of the values makes of them.
+pub record FieldRows (R P F M : Type 0) : Type 1 where
+  pub shape : Shape P
+  pub values : R → P
+  pub make : F → P → M
+
+-- The last field: what it is of a record, and its shape.
+abbrev pub last_field : {R A M : Type 0} → (R → A) → Shape A → FieldRows R A (A → M) M
+last_field get c = record { shape = c; values = get; make = λ f a. f a }
+
+-- A field, and those after it.
+abbrev pub field : {R A P F M : Type 0} → (R → A) → Shape A → FieldRows R P F M → FieldRows R (A × P) (A → F) M
+field get c rows = record {
+  shape = pair c rows.shape;
+  values = λ r. (get r, rows.values r);
+  make = λ f p. rows.make (f p.0) p.1;
+}
+
+-- A record of these fields, made of their values by this function.
+abbrev pub made_of : {R P F : Type 0} → F → FieldRows R P F R → Shape R
+made_of f rows = through (rows.make f) rows.values rows.shape

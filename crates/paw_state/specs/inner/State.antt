@@ -1,7 +1,7 @@
 -- What a session keeps of a game that is played, and the rules that it follows: words that contracts between crates and
 -- proofs use besides those of specs/State.antt.
 use Rattle.std.specs.Option.{unwrap_or}
-use Rattle.std.specs.Prelude.{◌≡◌, ℕ, ◌+◌, ◌*◌, ◌≤◌, [], Option, None, length, All, IfNone}
+use Rattle.std.specs.Prelude.{◌≡◌, ℕ, ◌+◌, ◌*◌, ◌≤◌, [], Option, None, length, reverse, All, IfNone}
 use Rattle.paw_base.specs.declared.limits.TheConstants.{LINE_LIMIT, READ_LIMIT, EVENT_LIMIT}
 use Rattle.paw_game.specs.Game.{GameLists}
 use Rattle.paw_world.specs.World.{World, IsWorld}
@@ -12,14 +12,15 @@ use Rattle.paw_effects.specs.inner.Worlds.{ArePlacesOf, StandsIn}
 use Rattle.paw_process.specs.inner.OpenTables.{OpenTables}
 use Rattle.paw_process.specs.declared.machine.TheConstants.{MOST_FRAMES}
 use Rattle.paw_process.specs.Kept.{waiting_code}
-use Rattle.paw_process.specs.inner.Kept.{kept}
+use Rattle.paw_process.specs.inner.Kept.{machine_kept}
 use Rattle.paw_process.specs.inner.Kept.{frames_fault}
 use Rattle.paw_process.specs.declared.kept.Frames.{Frames}
 use Rattle.paw_reading.specs.declared.places.OpenLoop.{OpenLoop}
+use Rattle.paw_reading.specs.Run.{Run}
 use Rattle.paw_state.specs.declared.fields.Fields.{Fields}
-use Rattle.paw_state.specs.declared.Restored.{Restored}
+use Rattle.paw_state.specs.declared.parts.Restored.{Restored}
 use Rattle.paw_state.specs.Fields.{prompt_of}
-use Rattle.paw_state.specs.State.{State}
+use Rattle.paw_state.specs.State.{State, last_piece, state_at}
 use Rattle.paw_state.specs.inner.Parts.{world_in, frames_in, pending_in}
 
 -- The state of a game that waits at a prompt with these parts, its tables as they are kept.
@@ -29,7 +30,14 @@ state_with w frames p at events piece =
 
 -- The state of a game that waits at a prompt with these parts.
 abbrev pub state_of : World → OpenTables → PendingLine → Prompt → ℕ → ℕ → State
-state_of w m p at events piece = state_with w (kept m) p at events piece
+state_of w m p at events piece = state_with w (machine_kept m) p at events piece
+
+-- The state of a run is that of the parts that it shows.
+abbrev pub StateOfParts : Type 0
+StateOfParts =
+    (lines : ℕ) (at : Prompt) (m : OpenTables) (r : Run) → r.turning ≡ m.turning →
+    state_at lines at (reverse m.frames) r
+    ≡ state_of r.world m (record { bytes = r.pending; earlier = r.earlier }) at lines (length (last_piece r.pieces))
 
 -- The state of these fields.
 abbrev pub state_in : GameLists → Fields → State

@@ -1,6 +1,6 @@
 use Rattle.std.proofs.Common.{ap, ◌∙◌}
 use Rattle.std.proofs.lemmas.Result.{on_ok_weaker}
-use Rattle.paw_stage.specs.Disk.{put}
+use Rattle.paw_stage.specs.Disk.{put_at}
 use Rattle.paw_stage.specs.Stage.{Standing}
 use Rattle.paw_stage.proofs.Time.{Passes_map}
 use Rattle.paw_journal.specs.declared.layout.Slot.{Slot}
@@ -42,10 +42,10 @@ returns-clause-written g c tells =
     let full = c.in_ok-write_part-3.ensures.filling last s (c.in_ok-write_part-2.ensures.filling later s
     (c.in_ok-write_part.ensures.filling tells s (begins c.args.which s (c.requires.rests tells) (c.requires.spare tells)))) in
     let one = c.in_ok-write_part.ensures.written tells in
-    let two = c.in_ok-write_part-2.ensures.written later ∙ ap (put PIECE_AT c.args.piece.now) one in
+    let two = c.in_ok-write_part-2.ensures.written later ∙ ap (put_at PIECE_AT c.args.piece.now) one in
     let three = c.in_ok-write_part-3.ensures.written last
-    ∙ (ap (λ h. put 0 h (slot k (g.S.Stage.standing c.write_part-2.new.stage).disk.bytes)) c.head_of.ensures.value
-    ∙ ap (put 0 (slot_head c.args.draft.records)) two) in
+    ∙ (ap (λ h. put_at 0 h (slot k (g.S.Stage.standing c.write_part-2.new.stage).disk.bytes)) c.head_of.ensures.value
+    ∙ ap (put_at 0 (slot_head c.args.draft.records)) two) in
     on_ok_weaker c.sync.result (filled_stable k _ s (g.S.Stage.standing c.write_part-3.new.stage)
     (g.S.Stage.standing c.sync.new.stage) full
     (rewritten_long c.args.draft.at c.args.draft.records c.args.bytes.now c.args.piece.now _ c.requires.inside c.requires.short

@@ -1,4 +1,3 @@
-use Rattle.std.proofs.Common.{◌∙◌}
 use Rattle.paw_journal.proofs.Slots.{brought_is}
 use Rattle.paw_journal.proofs.reading.brought_up.Goals as goal
 

@@ -1,6 +1,6 @@
 use Rattle.std.proofs.Common.{◌≡◌, ◌+◌, ◌*◌, refl, ap, ◌∙◌, arith}
 use Rattle.std.proofs.lemmas.List.{length-set}
-use Rattle.paw_state.specs.declared.layout.TheConstants.{FRAMES}
+use Rattle.paw_state.specs.declared.fields.TheConstants.{FRAMES}
 use Rattle.paw_state.specs.inner.Fields.{frame_shape}
 use Rattle.paw_state.proofs.Shaped.{no_values, value_read, values_read}
 use Rattle.paw_state.proofs.fields.frames_at.Goals as goal

@@ -1,5 +1,5 @@
 use Rattle.std.proofs.Common.{◌≡◌, length, take}
-use Rattle.paw_state.specs.declared.layout.TheConstants.{FRAMES}
+use Rattle.paw_state.specs.declared.fields.TheConstants.{FRAMES}
 use Rattle.paw_state.specs.inner.Shapes.{values_at}
 use Rattle.paw_state.specs.inner.Fields.{frame_shape}
 use Rattle.paw_state.proofs.fields.frames_at.Given as goal

@@ -4,7 +4,7 @@ use Rattle.std.specs.Prelude.{Some}
 use Rattle.paw_stage.specs.Stage.{Standing}
 use Rattle.paw_stage.specs.Across.{EachMoment}
 use Rattle.paw_stage.proofs.Time.{Passes_map, Passes_on}
-use Rattle.paw_journal.specs.Session.{recover, recover_by, kept_digests, chosen, slot, session_length}
+use Rattle.paw_journal.specs.Session.{recover, recover_by, kept_digests, slot_in_use, slot, session_length}
 use Rattle.paw_journal.specs.inner.Session.{session_shown}
 use Rattle.paw_journal.specs.inner.Room.{kept_of, kept_slot, slot_number}
 use Rattle.paw_journal.specs.inner.Written.{WritesLittle}
@@ -190,7 +190,7 @@ returns-clause-kept g c tells =
     c.args.piece.now s t u (c.requires.kept tells).slots c.draft-draft.ensures.same c.hold.ensures.value c.keep.ensures.value
     (rests_on _ t u (rests_on _ s t (c.requires.kept tells).rests (c.in_ok-write_slot.ensures.beside tells)
     (c.in_ok-write_slot.ensures.written tells)) (c.in_ok-choose.ensures.beside later) e)
-    (ap (λ d. chosen d.bytes) e ∙ selector_is (slot_number w) t.disk.bytes (slot_small w) l)
+    (ap (λ d. slot_in_use d.bytes) e ∙ selector_is (slot_number w) t.disk.bytes (slot_small w) l)
     (ap (λ d. recover d.bytes) e ∙ (chosen_shown (slot_number w) t.disk.bytes (slot_small w) l ∙ shows g a tells))
     (ap (λ d. kept_digests d.bytes) e ∙ (chosen_digests (slot_number w) t.disk.bytes l ∙ filled_digests (slot_number w) s t full))
     (filled_other (slot_number w) s t full) (now_kept g a tells)

@@ -3,7 +3,7 @@ use Rattle.paw_stage.specs.Stage.{Standing}
 use Rattle.paw_stage.specs.Across.{EachMoment}
 use Rattle.paw_stage.proofs.Time.{Passes_map, Passes_on}
 use Rattle.paw_journal.specs.Session.{recover, kept_digests, slot_length, made_slot, made_session}
-use Rattle.paw_journal.specs.inner.Session.{digests_of, marked, session_shown}
+use Rattle.paw_journal.specs.inner.Session.{digests_of, with_made_mark, session_shown}
 use Rattle.paw_journal.specs.inner.Store.{LeavesMade}
 use Rattle.paw_journal.proofs.Moved.{beside_none}
 use Rattle.paw_journal.proofs.Sessions.{length_slot, laid_long, short_piece, marked_session, session_digests}
@@ -33,7 +33,7 @@ module _ (g : Over) (c : After-mark g) (few : length c.args.piece.now ≤ 65535)
   abbrev laid : Standing
   laid = g.S.Stage.standing c.lay_out.new.stage
 
-  made : marked laid.disk.bytes ≡ made_session (digests_of c.args.game.now c.args.rules.now) c.args.state.now c.args.piece.now
+  made : with_made_mark laid.disk.bytes ≡ made_session (digests_of c.args.game.now c.args.rules.now) c.args.state.now c.args.piece.now
   made = marked_session (digests_of c.args.game.now c.args.rules.now) c.slot.result.now _ _ laid.disk (c.in_ok-lay_out.ensures.laid tells) are
 
   shows : recover (made_session (digests_of c.args.game.now c.args.rules.now) c.args.state.now c.args.piece.now)

@@ -1,5 +1,5 @@
 use Rattle.std.proofs.Common.{lit≤}
-use Rattle.paw_state.specs.declared.layout.TheConstants.{STATE_ROOM}
+use Rattle.paw_state.specs.declared.fields.TheConstants.{STATE_ROOM}
 use Rattle.paw_state.proofs.Written.{zeros_all}
 use Rattle.paw_state.proofs.writer.Writer.new.Goals as goal
 

@@ -1,6 +1,6 @@
 use Rattle.std.proofs.Common.{◌+◌, ◌≤◌, length, ap, ◌∙◌, arith}
 use Rattle.std.proofs.lemmas.List.{length-append}
-use Rattle.paw_state.specs.declared.layout.TheConstants.{STATE_ROOM}
+use Rattle.paw_state.specs.declared.fields.TheConstants.{STATE_ROOM}
 use Rattle.paw_state.proofs.Written.{zeros_behind, one_more, count_of}
 use Rattle.paw_state.proofs.writer.Writer.put.Goals as goal
 

@@ -1,0 +1,349 @@
+// The parts of a game that is played, read from the bytes of a state, and written to them.
+
+ghost use Rattle.std.specs.Prelude.{◌+◌, ◌-◌, ◌*◌, slice_index, ◌≡◌, ◌≢◌, ◌<◌, ◌≤◌, ◌↔◌, ◌++◌, Some, None};
+ghost use Rattle.std.specs.Prelude.{length, map, replicate, slice_set, All, IsOk, IfOk, IfErr};
+ghost use Rattle.paw_base.specs.declared.layout.TheConstants.{STATE_LENGTH};
+ghost use Rattle.paw_base.specs.declared.limits.TheConstants.{POSITION_COUNT};
+ghost use Rattle.paw_process.specs.inner.Kept.{machine_kept};
+ghost use Rattle.paw_process.specs.inner.Kept.{frames_fault};
+ghost use Rattle.paw_process.specs.inner.Kept.{machine_restored, waiting_at, WaitsAtPrompt};
+ghost use Rattle.paw_world.specs.World.{kept_position, IsWorld};
+ghost use Rattle.paw_state.specs.declared.fields.TheConstants.{PIECE, STATE_ROOM};
+ghost use Rattle.paw_state.specs.State.{AreBytes, HoldsBytes, FitsFields};
+ghost use Rattle.paw_state.specs.State.{zeros, filled_with_zeros, held_of, prompt_code, frame_field_of};
+ghost use Rattle.paw_state.specs.State.{fields_of, state_bytes};
+ghost use Rattle.paw_state.specs.Fit.{Fit, Unfit};
+ghost use Rattle.paw_state.specs.inner.Fields.{parts_fault};
+ghost use Rattle.paw_state.specs.inner.Parts.{SetsSaved, held_in, world_in, frame_in, frames_in};
+ghost use Rattle.paw_state.specs.inner.State.{state_in, state_of, state_with, loop_or_zeros};
+ghost use Rattle.paw_state.specs.inner.Fit.{state_read, IsRead};
+
+use crate::StateFault;
+use crate::checks::{check, prompt_of};
+use crate::fields::{Fields, FrameField, STATE_ROOM};
+use crate::position_field::PositionField;
+use paw_base::limits::POSITION_COUNT;
+use paw_effects::act::Prompt;
+use paw_effects::opening::opening_world;
+use paw_game::tables::Tables;
+use paw_phrase::Pending;
+use paw_process::{Frames, MOST_FRAMES, Machine};
+use paw_reading::places::{Frame, OpenLoop};
+use paw_world::world::World;
+
+/// What is read back from a state's bytes: the parts with which a player goes on, the number of lines taken (at most
+/// 1,000,000,000), and the length of the last piece.
+#[derive(Drop)]
+pub struct Restored {
+    pub world: World,
+    pub machine: Machine,
+    pub pending: Pending,
+    pub prompt: Prompt,
+    pub events: u64,
+    pub piece: u16,
+}
+
+// ---- reading ----
+
+/// What the bytes of a state hold: the parts with which a player of this game goes on. The bytes after the state aren't
+/// read. Takes no memory.
+///
+/// # Errors
+/// The offset of the first field that breaks its rule, exactly where the bytes are no state of this game.
+pub fn read_state<T: Tables>(tables: &T, bytes: &[u8; STATE_ROOM]) -> Result<Restored, StateFault>
+    ensures read { IfOk result (IsRead (T.game tables.now) bytes.now) }
+    ensures fit { IsOk result ↔ Fit (T.game tables.now) bytes.now }
+    ensures fault { IfErr result (λ e. Unfit (T.game tables.now) bytes.now e.at) }
+    ensures piece { IfOk result (λ r. slice_index bytes.now PIECE + 256 * slice_index bytes.now (PIECE + 1) ≡ r.piece) }
+{
+    let fields = Fields::at(bytes);
+    check(tables, &fields)?;
+    Ok(restore_fields(tables, &fields))
+}
+
+// Makes this the saved position, if it is there.
+fn put_saved(world: &mut World, held: &PositionField)
+    requires few { length world.old.places ≤ 255 }
+    ensures none { held.now.there ≡ 0 → world.new ≡ world.old }
+    ensures saved { held.now.there ≢ 0 → SetsSaved held.now world.old world.new }
+{
+    if held.there == 0 {
+        return;
+    }
+    let objects = world.objects() as usize;
+    world.set_position(&held.flags, &held.places[..objects]);
+    world.ramsave();
+}
+
+// Makes this the kept position of this number, which had none.
+fn put_kept(world: &mut World, n: u8, held: &PositionField)
+    requires few { n < POSITION_COUNT }
+    requires none { kept_position world.old n ≡ None }
+    ensures value { world.new ≡ record world.old {
+      kept = slice_set world.old.kept n (held_in (length world.old.places) held.now);
+    } }
+{
+    if held.there == 0 {
+        return;
+    }
+    let objects = world.objects() as usize;
+    world.set_kept(n, &held.flags, &held.places[..objects]);
+}
+
+// Makes these the kept positions, none of which was kept before.
+fn put_all_kept(world: &mut World, kept: &[PositionField; POSITION_COUNT])
+    requires none { world.old.kept ≡ replicate POSITION_COUNT None }
+    ensures value { world.new ≡ record world.old { kept = map (held_in (length world.old.places)) kept.now } }
+{
+    for n in 0..POSITION_COUNT {
+        put_kept(world, n as u8, &kept[n]);
+    }
+}
+
+// The world of a game that these fields describe.
+fn world_in<T: Tables>(tables: &T, fields: &Fields) -> World
+    ensures value { result ≡ world_in (T.game tables.now) fields.now }
+{
+    let mut world = opening_world(tables, fields.seed);
+    let objects = world.objects() as usize;
+    put_saved(&mut world, &fields.saved);
+    put_all_kept(&mut world, &fields.kept);
+    world.set_position(&fields.flags, &fields.places[..objects]);
+    world.skip(fields.draws);
+    world
+}
+
+// The frames of the open tables that these fields describe.
+fn frames_in(fields: &Fields) -> Frames
+    ensures value { result ≡ frames_in fields.now }
+{
+    Frames {
+        count: fields.count,
+        rows: frames_of_fields(&fields.rows),
+        turning: if fields.looping == 0 {
+            None
+        } else {
+            Some(fields.turning)
+        },
+    }
+}
+
+// The frames that these fields say.
+fn frames_of_fields(rows: &[FrameField; MOST_FRAMES]) -> [Frame; MOST_FRAMES]
+    ensures value { result ≡ map frame_in rows.now }
+{
+    let mut frames = [rows[0].frame(); MOST_FRAMES];
+    for i in 0..MOST_FRAMES {
+        frames[i] = rows[i].frame();
+    }
+    frames
+}
+
+// The parts of a game that these fields describe, which follow their rules.
+fn restore_fields<T: Tables>(tables: &T, fields: &Fields) -> Restored
+    requires sound { parts_fault (T.game tables.now) fields.now ≡ None }
+    ensures state { state_read result ≡ state_in (T.game tables.now) fields.now }
+    ensures machine { result.machine ≡ machine_restored (machine_kept result.machine) (waiting_at result.prompt) }
+    ensures stands { WaitsAtPrompt result.prompt result.machine }
+{
+    let prompt = prompt_of(fields.prompt);
+    let pending = fields.pending as usize;
+    Restored {
+        world: world_in(tables, fields),
+        machine: machine_in(tables, fields, prompt),
+        pending: Pending::of(&fields.line[..pending], fields.earlier),
+        prompt,
+        events: fields.events,
+        piece: fields.piece,
+    }
+}
+
+// The machine that waits at this prompt in the tables that these fields describe.
+fn machine_in<T: Tables>(tables: &T, fields: &Fields, prompt: Prompt) -> Machine
+    requires sound { frames_fault (T.game tables.now) prompt (frames_in fields.now) ≡ None }
+    ensures value { result ≡ machine_restored (machine_kept result) (waiting_at prompt) }
+    ensures kept { machine_kept result ≡ frames_in fields.now }
+    ensures stands { WaitsAtPrompt prompt result }
+{
+    match Machine::restore(tables, &frames_in(fields), prompt) {
+        Ok(machine) => machine,
+        Err(_) => unreachable!(),
+    }
+}
+
+// ---- writing ----
+
+/// Writes the state of a game that waits at a prompt, or is over, with these parts: the number of lines that were
+/// taken, and the length of the last piece. The bytes after the state become 0. Takes no memory.
+pub fn write_state(
+    world: &World,
+    machine: &Machine,
+    pending: &Pending,
+    prompt: Prompt,
+    events: u64,
+    piece: u16,
+    into: &mut [u8; STATE_ROOM],
+)
+    ensures value { into.new ≡
+        state_bytes (state_of world.now machine.now pending.now prompt events piece)
+        ++ zeros (STATE_ROOM - STATE_LENGTH) }
+    ensures fits { FitsFields (state_of world.now machine.now pending.now prompt events piece) }
+    ensures length { length (state_bytes (state_of world.now machine.now pending.now prompt events piece))
+        ≡ STATE_LENGTH }
+    ensures piece { slice_index into.new PIECE + 256 * slice_index into.new (PIECE + 1) ≡ piece }
+{
+    // The clause of this call says that a world has at most 255 objects. The compiler leaves the call out.
+    let _objects = world.objects();
+    let frames = machine.frames();
+    let fields = fields_of(world, &frames, pending, prompt, events, piece);
+    *into = fields.bytes();
+}
+
+// The same flags. The clause says that they are bytes.
+fn flag_array(flags: &[u8]) -> [u8; 256]
+    requires all { length flags.now ≡ 256 }
+    ensures value { result ≡ flags.now }
+    ensures bytes { AreBytes flags.now }
+{
+    let mut all = [0; 256];
+    all.copy_from_slice(flags);
+    all
+}
+
+// These bytes, filled up with zeros to 255.
+fn place_array(bytes: &[u8]) -> [u8; 255]
+    requires few { length bytes.now ≤ 255 }
+    ensures value { result ≡ filled_with_zeros 255 bytes.now }
+    ensures bytes { AreBytes bytes.now }
+{
+    let mut all = [0; 255];
+    all[..bytes.len()].copy_from_slice(bytes);
+    all
+}
+
+// The code of a prompt.
+fn prompt_code(prompt: Prompt) -> u8
+    ensures value { result ≡ prompt_code prompt }
+{
+    match prompt {
+        Prompt::Main => 0,
+        Prompt::Quit => 1,
+        Prompt::Again => 2,
+        Prompt::Key => 3,
+        Prompt::Over => 4,
+    }
+}
+
+// The fields of frames.
+fn frame_fields_of(frames: &[Frame; MOST_FRAMES]) -> [FrameField; MOST_FRAMES]
+    ensures value { result ≡ map frame_field_of frames.now }
+{
+    let mut rows = [FrameField::EMPTY; MOST_FRAMES];
+    for i in 0..MOST_FRAMES {
+        rows[i] = FrameField::of(&frames[i]);
+    }
+    rows
+}
+
+// The open loop, or zeros where none is open.
+fn loop_or_zeros(turning: Option<OpenLoop>) -> OpenLoop
+    ensures value { result ≡ loop_or_zeros turning }
+{
+    match turning {
+        Some(found) => found,
+        None => OpenLoop {
+            level: 0,
+            table: 0,
+            entry: 0,
+            at: 0,
+            place: 0,
+            last: 0,
+        },
+    }
+}
+
+// The fields of a position with these flags and places.
+fn position_field(flags: &[u8; 256], places: &[u8]) -> PositionField
+    requires few { length places.now ≤ 255 }
+    ensures value { result ≡ held_of (Some (record { flags = flags.now; places = places.now })) }
+    ensures bytes { HoldsBytes (Some (record { flags = flags.now; places = places.now })) }
+{
+    PositionField {
+        there: 1,
+        flags: flag_array(flags),
+        places: place_array(places),
+    }
+}
+
+// The fields of the saved position, if there is one.
+fn saved_of(world: &World) -> PositionField
+    requires few { IsWorld world.now }
+    ensures value { result ≡ held_of world.now.saved }
+    ensures bytes { HoldsBytes world.now.saved }
+{
+    match world.saved_position() {
+        None => PositionField::NONE,
+        Some((flags, places)) => position_field(flags, places),
+    }
+}
+
+// The fields of the kept position of this number, if it was kept.
+fn kept_of(world: &World, n: u8) -> PositionField
+    requires few { IsWorld world.now }
+    requires known { n < POSITION_COUNT }
+    ensures value { result ≡ held_of (kept_position world.now n) }
+    ensures bytes { HoldsBytes (kept_position world.now n) }
+{
+    match world.kept_position(n) {
+        None => PositionField::NONE,
+        Some((flags, places)) => position_field(flags, places),
+    }
+}
+
+// The fields of the kept positions.
+fn all_kept(world: &World) -> [PositionField; POSITION_COUNT]
+    requires few { IsWorld world.now }
+    ensures value { result ≡ map held_of world.now.kept }
+    ensures bytes { All HoldsBytes world.now.kept }
+{
+    [
+        kept_of(world, 0),
+        kept_of(world, 1),
+        kept_of(world, 2),
+        kept_of(world, 3),
+    ]
+}
+
+// The fields of a state.
+fn fields_of(
+    world: &World,
+    frames: &Frames,
+    pending: &Pending,
+    prompt: Prompt,
+    events: u64,
+    piece: u16,
+) -> Fields
+    requires few { IsWorld world.now }
+    ensures value { result ≡ fields_of (state_with world.now frames.now pending.now prompt events piece) }
+    ensures fits { FitsFields (state_with world.now frames.now pending.now prompt events piece) }
+{
+    let line = pending.bytes();
+    Fields {
+        flags: flag_array(world.flags()),
+        places: place_array(world.places()),
+        saved: saved_of(world),
+        seed: world.seed(),
+        draws: world.draws(),
+        events,
+        prompt: prompt_code(prompt),
+        count: frames.count,
+        rows: frame_fields_of(&frames.rows),
+        looping: u8::from(frames.turning.is_some()),
+        turning: loop_or_zeros(frames.turning),
+        earlier: pending.earlier(),
+        pending: line.len() as u8,
+        line: place_array(line),
+        piece,
+        kept: all_kept(world),
+    }
+}
