@@ -125,7 +125,8 @@ abbrev pub MilestonesSoFar : List ℕ → (start eights : ℕ) → List ℕ → 
 MilestonesSoFar milestones start eights condacts =
     (k : ℕ) → k < eights → (milestone : ℕ) × (slice_get milestones (start + k) ≡ Some milestone) × GoesOnAt (suc k * 8) condacts milestone
 
-pub one_more_milestone : (milestones condacts : List ℕ) (start eights milestone : ℕ) → length milestones ≡ start + eights → MilestonesSoFar milestones start eights condacts
+pub one_more_milestone : (milestones condacts : List ℕ) (start eights milestone : ℕ) → length milestones ≡ start + eights
+    → MilestonesSoFar milestones start eights condacts
     → GoesOnAt (suc eights * 8) condacts milestone → MilestonesSoFar (milestones ++ milestone ∷ []) start (eights + 1) condacts
 one_more_milestone milestones condacts start eights milestone len so_far goes_on k lt =
     elim (cases_lt k eights) [
@@ -133,8 +134,11 @@ one_more_milestone milestones condacts start eights milestone len so_far goes_on
           let m = so_far k before in
           (m.0, kept_before milestones (milestone ∷ []) (start + k) m.0 m.1, m.2)
       | inr le ↦
-          let same : k ≡ eights = omega (arith, lt, le) in
-          (milestone, last_of milestones milestone (start + k) (omega (arith, same, len)), subst (λ (n : ℕ). GoesOnAt (suc n * 8) condacts milestone) (sym same) goes_on)
+          let same : k ≡ eights = omega (arith, lt, le) in (
+            milestone,
+            last_of milestones milestone (start + k) (omega (arith, same, len)),
+            subst (λ (n : ℕ). GoesOnAt (suc n * 8) condacts milestone) (sym same) goes_on,
+          )
     ]
 
 pub all_milestones : (milestones condacts : List ℕ) (start count : ℕ) → MilestonesSoFar milestones start ((count - 1) / 8) condacts
@@ -151,7 +155,8 @@ milestone_is d n bytes rest fits e =
     walked.past ∙ ap (λ (r : List ℕ). Ok r) (sym walked.end)
 
 -- Milestones that are kept milestone the same entry.
-pub entry_kept : (first : ℕ) (milestones more bytes : List ℕ) → BeginsWithList milestones more → EntryMilestones (drop first milestones) bytes → EntryMilestones (drop first more) bytes
+pub entry_kept : (first : ℕ) (milestones more bytes : List ℕ) → BeginsWithList milestones more
+    → EntryMilestones (drop first milestones) bytes → EntryMilestones (drop first more) bytes
 entry_kept first milestones more [] keeps h = tt
 entry_kept first milestones more (verb ∷ []) keeps h = tt
 entry_kept first milestones more (verb ∷ noun ∷ []) keeps h = tt
@@ -187,7 +192,8 @@ milestone_of milestones condacts count at eights are lt e =
     (m.0, m.1, subst (λ (n : ℕ). GoesOnAt (n * 8) condacts m.0) (sym e) m.2)
 
 -- The milestones of the entry at the front, whose first three bytes are its verb, its noun and its number of condacts.
-pub milestones_at : (milestones row : List ℕ) → 3 ≤ length row → EntryMilestones milestones row → AreMilestones milestones (get_or row 2 0) (take (length row - 3) (drop 3 row))
+pub milestones_at : (milestones row : List ℕ) → 3 ≤ length row → EntryMilestones milestones row
+    → AreMilestones milestones (get_or row 2 0) (take (length row - 3) (drop 3 row))
 milestones_at milestones [] le h = absurd (omega (arith, le))
 milestones_at milestones (verb ∷ []) le h = absurd (omega (arith, le))
 milestones_at milestones (verb ∷ noun ∷ []) le h = absurd (omega (arith, le))

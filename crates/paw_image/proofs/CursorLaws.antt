@@ -39,10 +39,6 @@ walked_end (suc n) bytes rest fits e =
     let first = at_ok (λ (r : List ℕ). IsEnd bytes r) c.1 after same (end_taken bytes _ c.1 (condact_takes bytes c fits c_ok)) in
     end_of_end bytes after rest first (walked_end n after rest (end_fits bytes after fits first) e)))
 
--- The bytes after a condact are the last of all bytes.
-pub condact_end : (bytes rest : List ℕ) (c : Condact) → IsBytes bytes → leading_condact bytes ≡ Ok (c, rest) → IsEnd bytes rest
-condact_end bytes rest c fits e = end_taken bytes _ rest (condact_takes bytes (c, rest) fits e)
-
 -- ---- condacts after others ----
 
 among_past : (k count : ℕ) (bytes : List ℕ) → count ≤ k → condact_among k count bytes ≡ None

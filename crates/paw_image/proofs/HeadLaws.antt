@@ -25,7 +25,7 @@ use Rattle.paw_image.specs.declared.version.Version.{Version}
 use Rattle.paw_image.specs.declared.version.Version.TheVariants.{One, Two}
 use Rattle.paw_image.specs.Reading.{byte_at, bytes_at, number_at}
 use Rattle.paw_image.specs.inner.Reading.{version_byte}
-use Rattle.paw_image.specs.Damage.{ImagePreface, checked_number, version_told, checked_version, checked_counts}
+use Rattle.paw_image.specs.Damage.{ImagePreface, checked_number, version_of_byte, checked_version, checked_counts}
 use Rattle.paw_image.specs.Damage.{checked_word, words_above, front}
 use Rattle.paw_image.proofs.FieldLaws.{IsBytes, Takes, Takes-then, at_ok, bind_then, byte_takes, bytes_take}
 use Rattle.paw_image.proofs.FieldLaws.{bytes_again}
@@ -38,7 +38,7 @@ use Rattle.paw_image.proofs.ValidLaws.{letters_fit, ValidParts}
 -- ---- signature and version ----
 
 -- A byte that stands for a version is the byte of that version.
-told : (byte : ℕ) → is_within 1 2 byte ≡ true → byte ≡ version_byte (version_told byte)
+told : (byte : ℕ) → is_within 1 2 byte ≡ true → byte ≡ version_byte (version_of_byte byte)
 told zero h = absurd cc
 told (suc zero) h = refl
 told (suc (suc zero)) h = refl
@@ -56,7 +56,7 @@ version_takes bytes x fits e =
     let byte_taken = (byte_takes signature.1 byte signature_taken.rest_fits byte_ok).0 in
     let is_signature = (bytes_eq-Decides signature.0 (codes "PAWI")).0 signature_kept in
     at_ok (λ (y : Version × List ℕ). Takes bytes (codes "PAWI" ++ version_byte y.0 ∷ []) y.1) _ x e
-    (Takes-then (codes "PAWI") (version_byte (version_told byte.0) ∷ [])
+    (Takes-then (codes "PAWI") (version_byte (version_of_byte byte.0) ∷ [])
     (subst (λ (m : List ℕ). Takes bytes m signature.1) is_signature signature_taken)
     (subst (λ (b : ℕ). Takes signature.1 (b ∷ []) byte.1) (told byte.0 byte_kept) byte_taken))))
 

@@ -1,3 +1,4 @@
+pub mod AnyLaws
 pub mod CondactLaws
 pub mod CursorLaws
 pub mod EachLoop
@@ -7,6 +8,7 @@ pub mod Faults
 pub mod FieldLaws
 pub mod GameLaws
 pub mod HeadLaws
+pub mod HereLaws
 pub mod ImageLaws
 pub mod LengthLaws
 pub mod ListLaws

@@ -9,7 +9,7 @@ use Rattle.paw_game.specs.declared.parts.Entry.{Entry}
 use Rattle.paw_game.specs.Game.{GameLists}
 use Rattle.paw_game.specs.Tables.{entry_at, head_at, is_for, matches, table_at}
 use Rattle.paw_game.specs.inner.Tables.{match_at}
-use Rattle.paw_game.proofs.Matches.{match-step}
+use Rattle.paw_game.proofs.Matches.{match-is, match-step}
 
 abbrev words_of : Option Entry → Option (ℕ × ℕ)
 words_of found = option_map {U = ℕ × ℕ} (λ (en : Entry). (en.verb, en.noun)) found
@@ -35,3 +35,10 @@ none_behind (suc n) (x ∷ xs) h = none_behind n xs h
 
 pub no_match_behind : (g : GameLists) (t e verb noun : ℕ) → head_at g t e ≡ None → match_at g t e verb noun ≡ None
 no_match_behind g t e verb noun h = rw (none_behind e (table_at g t) h) refl
+
+-- An entry that matches is there.
+pub match_has_head : (g : GameLists) (t from verb noun e : ℕ) → match_at g t from verb noun ≡ Some e → head_at g t e ≡ None → ⊥
+match_has_head g t from verb noun e h none =
+    let found = (match-is g t from verb noun e h).1 in
+    let head : head_at g t e ≡ Some (found.0.verb, found.0.noun) = rw found.1 refl in
+    none-some (found.0.verb, found.0.noun) (sym none ∙ head)

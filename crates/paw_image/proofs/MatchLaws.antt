@@ -18,7 +18,7 @@ use Rattle.paw_game.specs.Valid.{is_wildcard}
 use Rattle.paw_game.specs.inner.Tables.{first_match}
 use Rattle.paw_game.proofs.Matches.{IsFound, found_here, found_later, slice_get-drop}
 use Rattle.paw_image.specs.declared.order.Order.{Order}
-use Rattle.paw_image.specs.inner.Orders.{is_kept_for, is_match, kept_word, ranked, ranks_at, ranks_of, IsOrder, IsLeast}
+use Rattle.paw_image.specs.inner.Orders.{is_kept_for, is_match, kept_word, entry_rank, ranks_at, ranks_of, IsOrder, IsLeast}
 use Rattle.paw_image.specs.inner.Orders.{IsMatch}
 use Rattle.paw_image.specs.inner.Offsets.{offsets}
 use Rattle.paw_image.proofs.OrderLaws.{IsLeast-same, one_least}
@@ -95,28 +95,28 @@ nouns_small bytes rest (x ∷ xs) at fits e =
 record OfEntry (es : List Entry) (n k r : ℕ) : Type 0 where
   entry : Entry
   is : slice_get es k ≡ Some entry
-  rank : r ≡ ranked (kept_word entry.verb) (kept_word entry.noun) (n + k)
+  rank : r ≡ entry_rank (kept_word entry.verb) (kept_word entry.noun) (n + k)
 
 entry_of_rank : (es : List Entry) (n k r : ℕ) → slice_get (ranks_of n es) k ≡ Some r → OfEntry es n k r
 entry_of_rank [] n k r e = absurd (none-some r e)
 entry_of_rank (x ∷ xs) n zero r e =
     let same = sym (same_Some _ r e) in
-    record { entry = x; is = refl; rank = same ∙ ap (ranked (kept_word x.verb) (kept_word x.noun)) (sym (add-zero n)) }
+    record { entry = x; is = refl; rank = same ∙ ap (entry_rank (kept_word x.verb) (kept_word x.noun)) (sym (add-zero n)) }
 entry_of_rank (x ∷ xs) n (suc k) r e =
     let o = entry_of_rank xs (suc n) k r e in
     let number : suc n + k ≡ n + suc k = omega arith in
-    record { entry = o.entry; is = o.is; rank = o.rank ∙ ap (ranked (kept_word o.entry.verb) (kept_word o.entry.noun)) number }
+    record { entry = o.entry; is = o.is; rank = o.rank ∙ ap (entry_rank (kept_word o.entry.verb) (kept_word o.entry.noun)) number }
 
 rank_of_entry : (es : List Entry) (n k : ℕ) (x : Entry) → slice_get es k ≡ Some x
-    → slice_get (ranks_of n es) k ≡ Some (ranked (kept_word x.verb) (kept_word x.noun) (n + k))
+    → slice_get (ranks_of n es) k ≡ Some (entry_rank (kept_word x.verb) (kept_word x.noun) (n + k))
 rank_of_entry [] n k x e = absurd (none-some x e)
 rank_of_entry (y ∷ ys) n zero x e = rw (add-zero n, ← same_Some y x e) refl
 rank_of_entry (y ∷ ys) n (suc k) x e =
     let number : suc n + k ≡ n + suc k = omega arith in
-    rank_of_entry ys (suc n) k x e ∙ ap (λ (i : ℕ). Some (ranked (kept_word x.verb) (kept_word x.noun) i)) number
+    rank_of_entry ys (suc n) k x e ∙ ap (λ (i : ℕ). Some (entry_rank (kept_word x.verb) (kept_word x.noun) i)) number
 
 -- A rank gives the verb, the noun and the number.
-parts_same : (v n e v' n' e' : ℕ) → ranked v n e ≡ ranked v' n' e' → n < 256 → e < 65536 → n' < 256 → e' < 65536
+parts_same : (v n e v' n' e' : ℕ) → entry_rank v n e ≡ entry_rank v' n' e' → n < 256 → e < 65536 → n' < 256 → e' < 65536
     → (v ≡ v') × ((n ≡ n') × (e ≡ e'))
 parts_same v n e v' n' e' same a b c d =
     let third : e ≡ e' = omega (arith, same, a, b, c, d) in
@@ -166,7 +166,7 @@ module _ (es : List Entry) (ranks : List ℕ) (perm : IsPermutation (ranks_of 0 
   -- The entry of a rank that matches.
   entry_found : (e : ℕ) → IsMatch ranks (is_match verb noun) from e → IsFound verb noun from (drop from es) e
   entry_found e m =
-      let r = ranked m.verb m.noun e in
+      let r = entry_rank m.verb m.noun e in
       let found = at_contains (ranks_of 0 es) r (Contains-permutation ranks (ranks_of 0 es) r (IsPermutation-sym (ranks_of 0 es) ranks perm) m.is) in
       let o = entry_of_rank es 0 found.0 r found.1 in
       let there = contains_at es found.0 o.entry o.is in
@@ -189,7 +189,7 @@ module _ (es : List Entry) (ranks : List ℕ) (perm : IsPermutation (ranks_of 0 
   rank_found e f =
       let place : e ≡ from + (e - from) = omega (arith, f.reached) in
       let is = ap (slice_get es) place ∙ sym (slice_get-drop from es (e - from)) ∙ f.is in
-      let rank = λ (i : ℕ). ranked (kept_word f.entry.verb) (kept_word f.entry.noun) i in
+      let rank = λ (i : ℕ). entry_rank (kept_word f.entry.verb) (kept_word f.entry.noun) i in
       let number : 0 + e ≡ e = omega arith in
       let found = rank_of_entry es 0 e f.entry is ∙ ap (λ (i : ℕ). Some (rank i)) number in
       record {

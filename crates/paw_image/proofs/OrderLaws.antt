@@ -9,7 +9,7 @@ use Rattle.std.proofs.lemmas.List.{get_or-take, get_or-drop, get_or_default}
 use Rattle.std.proofs.lemmas.List.Sorted.{IsNonDecreasingBy-take, IsNonDecreasingBy-drop}
 use Rattle.paw_base.specs.declared.words.TheConstants.{NO_WORD}
 use Rattle.paw_image.specs.declared.order.Order.{Order}
-use Rattle.paw_image.specs.inner.Orders.{is_kept_for, is_match, is_pair, lower, ranked, ranks_at, AreStarts}
+use Rattle.paw_image.specs.inner.Orders.{is_kept_for, is_match, is_pair, lower, entry_rank, ranks_at, AreStarts}
 use Rattle.paw_image.specs.inner.Orders.{IsLeast, IsMatch, IsRun, IsSorted, IsStart}
 use Rattle.paw_image.proofs.Stands.{and_true}
 
@@ -151,20 +151,20 @@ module _ (ranks : List ℕ) (up : IsNonDecreasing ranks) (verb start end : ℕ) 
 -- ---- in ranks that rise ----
 
 -- The rank of a match is that of the pair, with its number.
-pair_is : (ranks : List ℕ) (verb noun from e : ℕ) (m : IsMatch ranks (is_pair verb noun) from e) → ranked m.verb m.noun e ≡ ranked verb noun e
+pub pair_is : (ranks : List ℕ) (verb noun from e : ℕ) (m : IsMatch ranks (is_pair verb noun) from e) → entry_rank m.verb m.noun e ≡ entry_rank verb noun e
 pair_is ranks verb noun from e m =
     let both = and_parts (eqb m.verb verb) (eqb m.noun noun) m.matching in
     rw (eqb-true m.verb verb both.0, eqb-true m.noun noun both.1) refl
 
 module _ (ranks : List ℕ) (verb noun from at : ℕ) (up : IsNonDecreasing ranks) (small : noun < 256) (few : from < 65536)
-    (parted : IsPartitionPoint (λ r. ltb r (ranked verb noun from) ≡ true) (λ r. ltb r (ranked verb noun from) ≡ false) ranks at) where
+    (parted : IsPartitionPoint (λ r. ltb r (entry_rank verb noun from) ≡ true) (λ r. ltb r (entry_rank verb noun from) ≡ false) ranks at) where
   -- A match stands not before the number that was searched from.
   not_before : (e : ℕ) (m : IsMatch ranks (is_pair verb noun) from e) → at ≤ m.is.0
   not_before e m =
       elim (cases_lt m.is.0 at) [
         | inl before ↦
-            let rank = ranked m.verb m.noun e in
-            let low = ltb-true rank (ranked verb noun from) (rw m.is.2 at (parted.0 m.is.0 rank (omega arith) before)) in
+            let rank = entry_rank m.verb m.noun e in
+            let low = ltb-true rank (entry_rank verb noun from) (rw m.is.2 at (parted.0 m.is.0 rank (omega arith) before)) in
             absurd (omega (arith, low, pair_is ranks verb noun from e m, m.reached))
         | inr le ↦ le
       ]
@@ -173,39 +173,39 @@ module _ (ranks : List ℕ) (verb noun from at : ℕ) (up : IsNonDecreasing rank
   none_past past = λ e m. omega (arith, not_before e m, m.is.1)
 
   module _ (r : ℕ) (lt : at < length ranks) (is : r ≡ get_or ranks at r) where
-    at_least : ranked verb noun from ≤ r
+    at_least : entry_rank verb noun from ≤ r
     at_least = let low = ltb-false _ _ (parted.1 at r (omega arith) lt) in rw (← is) at low
 
     -- The rank there is no later than that of a match.
-    no_later : (e : ℕ) (m : IsMatch ranks (is_pair verb noun) from e) → r ≤ ranked verb noun e
+    no_later : (e : ℕ) (m : IsMatch ranks (is_pair verb noun) from e) → r ≤ entry_rank verb noun e
     no_later e m =
-        let rank = ranked m.verb m.noun e in
+        let rank = entry_rank m.verb m.noun e in
         let here : r ≡ get_or ranks at rank = is ∙ get_or_default ranks at r rank lt in
         omega (arith, up at m.is.0 rank (not_before e m) m.is.1, here, m.is.2, pair_is ranks verb noun from e m)
 
-    pub first_is : r / 65536 ≡ ranked verb noun from / 65536 → IsLeast (IsMatch ranks (is_pair verb noun) from) (Some (r % 65536))
+    pub first_is : r / 65536 ≡ entry_rank verb noun from / 65536 → IsLeast (IsMatch ranks (is_pair verb noun) from) (Some (r % 65536))
     first_is same =
-        let whole : r ≡ ranked verb noun (r % 65536) = omega (arith, same, few) in (
+        let whole : r ≡ entry_rank verb noun (r % 65536) = omega (arith, same, few) in (
           record {
             reached = omega (arith, at_least, whole);
             verb = verb;
             noun = noun;
             low = small;
             few = omega arith;
-            is = (at, lt, sym (get_or_default ranks at r (ranked verb noun (r % 65536)) lt) ∙ sym is ∙ whole);
+            is = (at, lt, sym (get_or_default ranks at r (entry_rank verb noun (r % 65536)) lt) ∙ sym is ∙ whole);
             matching = and_true (eqb verb verb) (eqb noun noun) (eq-eqb verb verb refl) (eq-eqb noun noun refl);
           },
           λ f m. omega (arith, no_later f m, whole),
         )
 
-    pub other_is : (r / 65536 ≡ ranked verb noun from / 65536 → ⊥) → IsLeast (IsMatch ranks (is_pair verb noun) from) None
+    pub other_is : (r / 65536 ≡ entry_rank verb noun from / 65536 → ⊥) → IsLeast (IsMatch ranks (is_pair verb noun) from) None
     other_is other = λ e m. other (omega (arith, at_least, no_later e m, m.few, few))
 
 -- The first rank is above those of the pair.
 pub all_above : (ranks : List ℕ) (verb noun from r : ℕ) → IsNonDecreasing ranks → 0 < length ranks → r ≡ get_or ranks 0 r
-    → ranked verb noun 65535 < r → IsLeast (IsMatch ranks (is_pair verb noun) from) None
+    → entry_rank verb noun 65535 < r → IsLeast (IsMatch ranks (is_pair verb noun) from) None
 all_above ranks verb noun from r up some is above = λ e m.
-    let rank = ranked m.verb m.noun e in
+    let rank = entry_rank m.verb m.noun e in
     let first : r ≡ get_or ranks 0 rank = is ∙ get_or_default ranks 0 r rank some in
     omega (arith, up 0 m.is.0 rank (omega arith) m.is.1, first, m.is.2, pair_is ranks verb noun from e m, m.few, above)
 
@@ -222,7 +222,7 @@ least_in_run ranks run verb noun from is r least =
       noun = m.noun;
       low = m.low;
       few = m.few;
-      is = is.inside (ranked m.verb m.noun e) m.is;
+      is = is.inside (entry_rank m.verb m.noun e) m.is;
       matching = m.matching;
     })
     (λ e m.
@@ -233,7 +233,7 @@ least_in_run ranks run verb noun from is r least =
       noun = m.noun;
       low = m.low;
       few = m.few;
-      is = is.whole (ranked m.verb m.noun e) m.is (omega (arith, same)) (omega (arith, same, m.low, m.few));
+      is = is.whole (entry_rank m.verb m.noun e) m.is (omega (arith, same)) (omega (arith, same, m.low, m.few));
       matching = m.matching;
     })
     r least
@@ -243,14 +243,21 @@ pair_or_pair true m n = refl
 pair_or_pair false m n = refl
 
 -- The noun of an entry matches where it was kept for any noun, or is this one.
+pub least_of_any : (ranks run : List ℕ) (verb noun from : ℕ) → IsRun ranks verb run → (none same : Option ℕ)
+    → IsLeast (IsMatch ranks (is_pair verb NO_WORD) from) none → IsLeast (IsMatch run (is_pair verb noun) from) same
+    → IsLeast (IsMatch ranks (λ v n. eqb v verb && is_kept_for n noun) from) (lower none same)
+least_of_any ranks run verb noun from is none same h k =
+    IsLeast-test ranks (λ v n. is_pair verb NO_WORD v n || is_pair verb noun v n) (λ v n. eqb v verb && is_kept_for n noun)
+    (λ v n. pair_or_pair (eqb v verb) (eqb n NO_WORD) (eqb n noun)) from (lower none same)
+    (either_least ranks (is_pair verb NO_WORD) (is_pair verb noun) from none same h
+    (least_in_run ranks run verb noun from is same k))
+
+-- The same, where both were found among the ranks of the verb.
 pub least_of_nouns : (ranks run : List ℕ) (verb noun from : ℕ) → IsRun ranks verb run → (none same : Option ℕ)
     → IsLeast (IsMatch run (is_pair verb NO_WORD) from) none → IsLeast (IsMatch run (is_pair verb noun) from) same
     → IsLeast (IsMatch ranks (λ v n. eqb v verb && is_kept_for n noun) from) (lower none same)
 least_of_nouns ranks run verb noun from is none same h k =
-    IsLeast-test ranks (λ v n. is_pair verb NO_WORD v n || is_pair verb noun v n) (λ v n. eqb v verb && is_kept_for n noun)
-    (λ v n. pair_or_pair (eqb v verb) (eqb n NO_WORD) (eqb n noun)) from (lower none same)
-    (either_least ranks (is_pair verb NO_WORD) (is_pair verb noun) from none same
-    (least_in_run ranks run verb NO_WORD from is none h) (least_in_run ranks run verb noun from is same k))
+    least_of_any ranks run verb noun from is none same (least_in_run ranks run verb NO_WORD from is none h) k
 
 one_of_two : (a b m : Bool) → ((a && m) || (b && m)) ≡ ((a || b) && m)
 one_of_two true b true = refl

@@ -292,7 +292,7 @@ condact_there e after k fits =
       | inr le ↦ rw (le-ltb k (length e.condacts) le) (sym (slice_get_past e.condacts k le))
     ]
 
-pub head_there : (e : Entry) (after : List ℕ) → head_here (entry_image e ++ after) ≡ Some (e.verb, e.noun)
+pub head_there : (e : Entry) (after : List ℕ) → head_here (entry_image e ++ after) ≡ Some ((e.verb, e.noun), length e.condacts)
 unfolding head_here
 head_there e after = refl
 

@@ -118,8 +118,8 @@ entry_at_place bytes is t k p h = entry_lies bytes (game_read bytes) (lists_of b
 pub head_read : (bytes : List ℕ) → IsImage bytes (game_read bytes) → (t k p : ℕ)
     → slice_get (unwrap_or (slice_get (entry_offsets (tables_begin_at (game_read bytes)) (game_read bytes).tables) t) []) k
     ≡ Some p
-    → head_here (drop p bytes) ≡ head_at (game_read bytes) t k
-head_read bytes is t k p h = let r = entry_at_place bytes is t k p h in rw (r.lies, r.is) (head_there r.row r.after)
+    → option_map {U = ℕ × ℕ} (λ (x : (ℕ × ℕ) × ℕ). x.0) (head_here (drop p bytes)) ≡ head_at (game_read bytes) t k
+head_read bytes is t k p h = let r = entry_at_place bytes is t k p h in rw (r.lies, r.is, head_there r.row r.after) refl
 
 pub condact_read : (bytes : List ℕ) → IsImage bytes (game_read bytes) → (t k p at : ℕ)
     → slice_get (unwrap_or (slice_get (entry_offsets (tables_begin_at (game_read bytes)) (game_read bytes).tables) t) []) k

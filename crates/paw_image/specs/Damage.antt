@@ -50,15 +50,15 @@ pub record ImagePreface : Type 0 where
 -- ---- the head ----
 
 -- The version that a byte stands for: One for 1, and Two for any other byte.
-abbrev pub version_told : ℕ → Version
-version_told byte = if byte == 1 then One else Two
+abbrev pub version_of_byte : ℕ → Version
+version_of_byte byte = if byte == 1 then One else Two
 
 -- The signature PAWI, and a version that is 1 or 2; the version is what is read.
 unfoldable pub checked_version : Bytes → Reading Version
 checked_version bytes = do
   signature ← checked_field (λ m. bytes_eq m (codes "PAWI")) (bytes_at 4) bytes
   byte ← checked_field (is_within 1 2) byte_at signature.1
-  Ok (version_told byte.0, byte.1)
+  Ok (version_of_byte byte.0, byte.1)
 
 -- A number of two bytes within a range, both ends included.
 abbrev pub checked_number : ℕ → ℕ → Bytes → Reading ℕ
@@ -200,6 +200,7 @@ abbrev pub needs_no_2 : Version → Passing → Bool
 needs_no_2 One with_plain_codes = false
 needs_no_2 Two with_plain_codes = is_end with_plain_codes
 
+-- Whether an image that begins with this preface has version 2 though no code needs it.
 abbrev pub is_needless_after : Reading ImagePreface → Bool
 is_needless_after (Ok d) = needs_no_2 d.0.version (after_lists (as_version_1 d.0) d.1)
 is_needless_after (Err left) = false

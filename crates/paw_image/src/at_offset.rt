@@ -1,12 +1,13 @@
 // One row of an image, read where it stands.
 
-ghost use Rattle.std.specs.Prelude.{◌≡◌, ◌*◌, ◌/◌, ◌<◌, drop, Ok, None, OnErr, IfSome, IfNone};
+ghost use Rattle.std.specs.Prelude.{◌≡◌, ◌+◌, ◌*◌, ◌/◌, ◌^◌, ◌<◌, drop, Ok, None, slice_get};
+ghost use Rattle.std.specs.Prelude.{OnErr, IfSome, OnSome, IfNone};
 ghost use Rattle.std.specs.Option.{option_copied, option_map};
 ghost use Rattle.paw_image.specs.inner.Milestones.{AreMilestones, AreFrom, AreNth, IsEnd, EntryMilestones};
 ghost use Rattle.paw_image.specs.inner.Milestones.{milestones_of};
 ghost use Rattle.paw_image.specs.Damage.{each};
 ghost use Rattle.paw_read_error.specs.inner.Gives.{Gives};
-ghost use Rattle.paw_image.specs.inner.Reading.{IsFault, leading_condact, sized_text_at};
+ghost use Rattle.paw_image.specs.inner.Reading.{IsFault, leading_condact, parameter_at, sized_text_at};
 ghost use Rattle.paw_image.specs.inner.Rows.{entry_here, exit_here, exit_in, exits_here, facts_here, head_here};
 ghost use Rattle.paw_image.specs.inner.Rows.{past_condact, up_to, value_of};
 
@@ -16,9 +17,10 @@ use crate::objects::read_after_text;
 use crate::tables::read_condact;
 use crate::texts::read_text;
 use paw_base::parts::{Condact, ObjectFacts};
+use paw_base::rows::{ParamKind, condact_row};
 use paw_game::parts::Exit;
 
-/// The bytes from an offset on; none past the end.
+// The bytes from an offset on; none past the end.
 fn from_offset(bytes: &[u8], place: usize) -> &[u8]
     ensures value { result.now ≡ drop place bytes.now }
 {
@@ -26,6 +28,18 @@ fn from_offset(bytes: &[u8], place: usize) -> &[u8]
         return &[];
     }
     &bytes[place..]
+}
+
+// The byte at an offset, if there is one. An offset comes after it then, which `get` doesn't say.
+fn byte_in(bytes: &[u8], place: usize) -> Option<u8>
+    ensures value { result ≡ slice_get bytes.now place }
+    ensures below { OnSome result (place + 1 < 2 ^ 64) }
+{
+    if place < bytes.len() {
+        Some(bytes[place])
+    } else {
+        None
+    }
 }
 
 /// The text that begins at an offset, with its length.
@@ -50,7 +64,7 @@ pub fn facts_in(bytes: &[u8], place: u32) -> Option<ObjectFacts>
     }
 }
 
-/// The exit at the front, and the bytes after it.
+// The exit at the front, and the bytes after it.
 fn exit_here(bytes: &[u8]) -> Option<(Exit, &[u8])>
     ensures value { option_map (λ x. (x.0, x.1.now)) result ≡ exit_here bytes.now }
 {
@@ -66,7 +80,7 @@ fn exit_here(bytes: &[u8]) -> Option<(Exit, &[u8])>
     }
 }
 
-/// Where the first of `count` exits with this verb leads.
+// Where the first of `count` exits with this verb leads.
 #[tactic(auto, using(crate::proofs::ExitLoop::exit_none, crate::proofs::ExitLoop::exit_past))]
 fn exit_of(verb: u8, count: u8, bytes: &[u8]) -> Option<u8>
     ensures value { result ≡ exit_in verb count bytes.now }
@@ -93,18 +107,16 @@ pub fn exit_at(bytes: &[u8], place: u32, verb: u8) -> Option<u8>
     }
 }
 
-/// The verb and the noun of the entry that begins at an offset.
-#[tactic(auto, unfolding(crate::specs::inner::Rows::head_here))]
-pub fn head_in(bytes: &[u8], place: u32) -> Option<(u8, u8)>
+/// The verb and the noun of the entry that begins at an offset, and how many condacts it has.
+pub fn head_in(bytes: &[u8], place: u32) -> Option<((u8, u8), u8)>
     ensures value { result ≡ head_here (drop place bytes.now) }
 {
-    match from_offset(bytes, place as usize) {
-        [verb, noun, ..] => Some((*verb, *noun)),
-        _ => None,
-    }
+    let place = place as usize;
+    let count = byte_in(bytes, place + 2)?;
+    Some(((bytes[place], bytes[place + 1]), count))
 }
 
-/// The bytes after this number of condacts.
+// The bytes after this number of condacts.
 fn past_condacts(count: u8, bytes: &[u8]) -> Result<&[u8], ReadFault>
     ensures gives { Gives (λ x. x.now) result (each past_condact count bytes.now) }
     ensures fails { OnErr result (IsFault (each past_condact count bytes.now)) }
@@ -117,7 +129,7 @@ fn past_condacts(count: u8, bytes: &[u8]) -> Result<&[u8], ReadFault>
     Ok(rest)
 }
 
-/// The bytes of an entry's `count` condacts from the last milestone on that isn't past condact `at`.
+// The bytes of an entry's `count` condacts from the last milestone on that isn't past condact `at`.
 fn from_milestone<'a>(
     milestones: &Milestones,
     entry: u16,
@@ -137,7 +149,7 @@ fn from_milestone<'a>(
     from_offset(condacts, milestones[eights - 1] as usize)
 }
 
-/// The bytes of an entry's condacts from one of them on, and how many there are from it on.
+// The bytes of an entry's condacts from one of them on, and how many there are from it on.
 fn from_condact<'a>(
     milestones: &Milestones,
     entry: u16,
@@ -182,19 +194,33 @@ pub fn condacts_in(
     }
 }
 
+// The parameter of this kind at an offset, and where the bytes after it begin; 0 where there is none.
+fn parameter_in(kind: ParamKind, bytes: &[u8], place: usize) -> Option<(u8, usize)>
+    ensures some { IfSome result (λ x. parameter_at kind (drop place bytes.now) ≡ Ok (x.0, drop x.1 bytes.now)) }
+    ensures none { IfNone result (IsFault (parameter_at kind (drop place bytes.now))) }
+{
+    match kind {
+        ParamKind::Absent => Some((0, place)),
+        _ => {
+            let value = byte_in(bytes, place)?;
+            Some((value, place + 1))
+        }
+    }
+}
+
 /// The condact that begins at an offset, and where the next one does.
-#[tactic(auto, using(crate::proofs::Faults::no_value))]
 pub fn condact_at(bytes: &[u8], place: usize) -> Option<(Condact, usize)>
     ensures some { IfSome result (λ x. leading_condact (drop place bytes.now) ≡ Ok (x.0, drop x.1 bytes.now)) }
     ensures none { IfNone result (value_of (leading_condact (drop place bytes.now)) ≡ None) }
 {
-    match read_condact(from_offset(bytes, place)) {
-        Ok((condact, rest)) => Some((condact, bytes.len().saturating_sub(rest.len()))),
-        Err(_) => None,
-    }
+    let code = byte_in(bytes, place)?;
+    let row = condact_row(code)?;
+    let (a, place) = parameter_in(row.first, bytes, place + 1)?;
+    let (b, place) = parameter_in(row.second, bytes, place)?;
+    Some((Condact { code, a, b }, place))
 }
 
-/// A row up to this number of condacts, and with them.
+// A row up to this number of condacts, and with them.
 fn up_to<'a>(row: &'a [u8], count: u8, condacts: &[u8]) -> Option<&'a [u8]>
     ensures value { option_copied result ≡ up_to row.now (each past_condact count condacts.now) }
 {

@@ -29,7 +29,7 @@ pub struct Passed<'a> {
     pub offsets: Offsets,
 }
 
-/// Passes over all fields of an image: its front, its offsets, and the bytes after the last field.
+// Passes over all fields of an image: its front, its offsets, and the bytes after the last field.
 #[tactic(auto, unfolding(crate::specs::Damage::after_all))]
 fn pass_all<'a>(alloc: Global, bytes: &'a [u8]) -> Result<(Passed<'a>, &'a [u8]), ReadFault>
     requires small { length bytes.now < 2 ^ 32 }
@@ -47,7 +47,7 @@ fn pass_all<'a>(alloc: Global, bytes: &'a [u8]) -> Result<(Passed<'a>, &'a [u8])
     Ok((passed, rest))
 }
 
-/// Whether the lists pass with the codes of version 1 too.
+// Whether the lists pass with the codes of version 1 too.
 fn pass_as_version_1(alloc: Global, bytes: &[u8], passed: &Passed) -> Result<bool, AllocError>
     requires small { length bytes.now < 2 ^ 32 }
     ensures value { IfOk result (λ passes. passes
@@ -61,8 +61,8 @@ fn pass_as_version_1(alloc: Global, bytes: &[u8], passed: &Passed) -> Result<boo
     }
 }
 
-/// Whether the version is 2, and no code needs it. The lists are passed a second time only in version 2, and there only
-/// up to the first indirect condact.
+// Whether the version is 2, and no code needs it. The lists are passed a second time only in version 2, and there only
+// up to the first indirect condact.
 #[tactic(auto, unfolding(crate::specs::Damage::is_needless))]
 fn is_needless(alloc: Global, bytes: &[u8], passed: &Passed) -> Result<bool, AllocError>
     requires small { length bytes.now < 2 ^ 32 }

@@ -15,7 +15,7 @@ use paw_game::game::Game;
 use paw_read_error::read_error::ReadError;
 use std::alloc::Global;
 
-/// The game whose image the bytes are; None where they aren't an image.
+// The game whose image the bytes are; None where they aren't an image.
 fn read_game(alloc: Global, bytes: &[u8]) -> Result<Option<Game>, ImageRefusal>
     requires short { length bytes.now ≤ IMAGE_LIMIT }
     ensures found { IfOk result (λ o. IfSome o (IsImage bytes.now)) }

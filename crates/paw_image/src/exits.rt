@@ -63,7 +63,7 @@ impl Row for Exits {
     }
 }
 
-/// The verb of the exit at the front, which isn't one of the marked verbs, and the bytes after the exit.
+// The verb of the exit at the front, which isn't one of the marked verbs, and the bytes after the exit.
 #[tactic(auto, unfolding(crate::specs::Damage::checked_exit))]
 fn read_exit<'a>(
     rules: &FieldRules,
@@ -84,7 +84,7 @@ fn read_exit<'a>(
     Ok((verb, rest))
 }
 
-/// The bytes after this number of exits of one location.
+// The bytes after this number of exits of one location.
 fn pass_exits<'a>(rules: &FieldRules, count: u8, bytes: &'a [u8]) -> Result<&'a [u8], ReadFault>
     ensures gives { Gives (λ x. x.now) result (after_exits_of rules.now [] count bytes.now) }
 {

@@ -27,7 +27,7 @@ pub struct Front {
     pub words: Vec<Word>,
 }
 
-/// The version after the signature.
+// The version after the signature.
 #[tactic(auto, unfolding(crate::specs::Damage::checked_version))]
 fn read_version(bytes: &[u8]) -> Result<(Version, &[u8]), ReadFault>
     ensures gives { Gives (λ x. (x.0, x.1.now)) result (checked_version bytes.now) }
@@ -44,7 +44,7 @@ fn read_version(bytes: &[u8]) -> Result<(Version, &[u8]), ReadFault>
     }
 }
 
-/// How many rows each list has.
+// How many rows each list has.
 #[tactic(auto, unfolding(crate::specs::Damage::checked_counts))]
 fn read_counts(bytes: &[u8]) -> Result<(Counts, &[u8]), ReadFault>
     ensures gives { Gives (λ x. (x.0, x.1.now)) result (checked_counts bytes.now) }

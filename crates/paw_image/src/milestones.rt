@@ -41,7 +41,7 @@ impl Milestones {
     }
 }
 
-/// The bytes after this number of condacts; a milestone is noted after each eight that another follows.
+// The bytes after this number of condacts; a milestone is noted after each eight that another follows.
 fn pass_condacts<'a>(
     rules: &FieldRules,
     count: u8,
@@ -63,7 +63,7 @@ fn pass_condacts<'a>(
     pass_each::<Condact>(rules, (count - eights * 8) as usize, rest)
 }
 
-/// The bytes after the entry at the front, whose milestones are noted.
+// The bytes after the entry at the front, whose milestones are noted.
 #[tactic(auto, unfolding(crate::specs::Damage::after_entry))]
 fn pass_entry<'a>(
     rules: &FieldRules,

@@ -58,7 +58,7 @@ pub fn read_after_text(bytes: &[u8]) -> Result<(ObjectFacts, &[u8]), ReadFault>
     read_facts(rest)
 }
 
-/// The last byte of an object: its weight, and a bit for each of a container and what may be worn.
+// The last byte of an object: its weight, and a bit for each of a container and what may be worn.
 fn last_byte(facts: ObjectFacts) -> u8
     requires fits { facts.weight < 64 }
     ensures value { result ≡ weight_byte facts.weight facts.container facts.wearable }
@@ -95,7 +95,7 @@ impl ReadRow for ObjectRow {
     }
 }
 
-/// The bytes after the facts of an object, which follow its text.
+// The bytes after the facts of an object, which follow its text.
 #[tactic(auto, unfolding(crate::specs::Damage::after_facts))]
 fn pass_facts<'a>(rules: &FieldRules, bytes: &'a [u8]) -> Result<&'a [u8], ReadFault>
     ensures gives { Gives (λ x. x.now) result (after_facts rules.now bytes.now) }

@@ -38,7 +38,7 @@ pub struct TableIndex {
     pub order: Order,
 }
 
-/// Passes over the table at the front of the last of all bytes: its index, and the bytes after it.
+// Passes over the table at the front of the last of all bytes: its index, and the bytes after it.
 #[tactic(auto, unfolding(crate::specs::Damage::after_table, crate::specs::inner::Offsets::entries_begin))]
 fn pass_table<'a>(
     alloc: Global,
@@ -63,7 +63,7 @@ fn pass_table<'a>(
     Ok((table, rest))
 }
 
-/// Passes over a number of tables: the index of each, and the bytes after them.
+// Passes over a number of tables: the index of each, and the bytes after them.
 fn pass_tables<'a>(
     alloc: Global,
     rules: &FieldRules,

@@ -1,10 +1,10 @@
 // The entries of a table in order of verb and noun.
 
-ghost use Rattle.std.specs.Prelude.{◌≡◌, ◌≤◌, ◌&&◌, ◌==◌, IfOk, false, length, nat_lt, slice_index, true};
+ghost use Rattle.std.specs.Prelude.{◌≡◌, ◌≤◌, ◌&&◌, ◌==◌, IfOk, false, length, nat_lt, slice_get, slice_index, true};
 ghost use Rattle.std.specs.List.Sorted.{IsNonDecreasing, IsPartitionPoint, IsPermutation};
-ghost use Rattle.paw_image.specs.inner.Orders.{is_kept_for, is_match, is_pair, kept_word, lower, ranked, ranks_at};
-ghost use Rattle.paw_image.specs.inner.Orders.{AreStarts, IsBefore, IsLeast, IsMatch, IsOrder, IsRun, IsSorted};
-ghost use Rattle.paw_image.specs.inner.Orders.{IsStart};
+ghost use Rattle.paw_image.specs.inner.Orders.{is_kept_for, is_match, is_pair, kept_word, lower, entry_rank, ranks_at};
+ghost use Rattle.paw_image.specs.inner.Orders.{AreStarts, IsBefore, IsLeast, IsMatch, IsNextAny, IsOrder, IsRun};
+ghost use Rattle.paw_image.specs.inner.Orders.{IsSorted, IsStart};
 
 use paw_base::limits::ENTRY_LIMIT;
 use paw_base::words::NO_WORD;
@@ -20,23 +20,25 @@ pub struct Order {
     pub ranks: Vec<u32>,
     /// Where the entries of each verb begin, and where those of the last one end.
     pub starts: Vec<u16>,
+    /// For each entry up to the last that matches any verb and any noun: which of these comes next, from it on.
+    pub next_any: Vec<u16>,
 }
 
-/// The word that is kept of an entry's word: the same for both words that match any.
+// The word that is kept of an entry's word: the same for both words that match any.
 fn kept_word(word: u8) -> u8
     ensures value { result ≡ kept_word word }
 {
     if is_wildcard(word) { NO_WORD } else { word }
 }
 
-/// The rank of an entry in the order of verb, noun and number.
+// The rank of an entry in the order of verb, noun and number.
 fn rank_of(verb: u8, noun: u8, entry: u16) -> u32
-    ensures value { result ≡ ranked verb noun entry }
+    ensures value { result ≡ entry_rank verb noun entry }
 {
     (verb as u32 * 256 + noun as u32) * 65536 + entry as u32
 }
 
-/// The byte at an offset; 0 past the end.
+// The byte at an offset; 0 past the end.
 fn byte_at(bytes: &[u8], offset: usize) -> u8
     ensures value { result ≡ slice_index bytes.now offset }
 {
@@ -46,7 +48,7 @@ fn byte_at(bytes: &[u8], offset: usize) -> u8
     }
 }
 
-/// The ranks of the entries that begin at these offsets.
+// The ranks of the entries that begin at these offsets.
 fn ranks_at(alloc: Global, bytes: &[u8], offsets: &[u32]) -> Result<Vec<u32>, AllocError>
     requires few { length offsets.now ≤ ENTRY_LIMIT }
     ensures value { IfOk result (λ v. v.items ≡ ranks_at bytes.now 0 offsets.now) }
@@ -61,7 +63,7 @@ fn ranks_at(alloc: Global, bytes: &[u8], offsets: &[u32]) -> Result<Vec<u32>, Al
     Ok(ranks)
 }
 
-/// The ranks of the entries that begin at these offsets, in order.
+// The ranks of the entries that begin at these offsets, in order.
 fn sorted_ranks(alloc: Global, bytes: &[u8], offsets: &[u32]) -> Result<Vec<u32>, AllocError>
     requires few { length offsets.now ≤ ENTRY_LIMIT }
     ensures same { IfOk result (λ v. IsPermutation (ranks_at bytes.now 0 offsets.now) v.items) }
@@ -73,7 +75,7 @@ fn sorted_ranks(alloc: Global, bytes: &[u8], offsets: &[u32]) -> Result<Vec<u32>
     Ok(ranks)
 }
 
-/// Where the ranks of a verb begin, which is not before this index.
+// Where the ranks of a verb begin, which is not before this index.
 fn start_from(ranks: &[u32], before: usize, verb: u16) -> usize
     requires rises { IsNonDecreasing ranks.now }
     requires verb { verb ≤ 256 }
@@ -90,7 +92,7 @@ fn start_from(ranks: &[u32], before: usize, verb: u16) -> usize
     at
 }
 
-/// Where the ranks of each verb begin, and where those of the last one end.
+// Where the ranks of each verb begin, and where those of the last one end.
 fn starts_of(alloc: Global, ranks: &[u32]) -> Result<Vec<u16>, AllocError>
     requires rises { IsNonDecreasing ranks.now }
     requires few { length ranks.now ≤ ENTRY_LIMIT }
@@ -105,6 +107,22 @@ fn starts_of(alloc: Global, ranks: &[u32]) -> Result<Vec<u16>, AllocError>
     Ok(starts)
 }
 
+// For each entry up to the last that matches any verb and any noun: which of these comes next, from it on.
+fn next_any_of(alloc: Global, ranks: &[u32]) -> Result<Vec<u16>, AllocError>
+    requires rises { IsNonDecreasing ranks.now }
+    ensures next { IfOk result (λ v. IsNextAny ranks.now v.items) }
+{
+    let least = rank_of(NO_WORD, NO_WORD, 0);
+    let mut next = Vec::with_capacity(alloc, ranks.len())?;
+    for rank in ranks {
+        if *rank >= least {
+            let entry = (*rank % 65536) as u16;
+            next.resize(entry as usize + 1, entry)?;
+        }
+    }
+    Ok(next)
+}
+
 /// The entries that begin at these offsets, in order.
 pub fn order_of(alloc: Global, bytes: &[u8], offsets: &[u32]) -> Result<Order, AllocError>
     requires few { length offsets.now ≤ ENTRY_LIMIT }
@@ -112,10 +130,15 @@ pub fn order_of(alloc: Global, bytes: &[u8], offsets: &[u32]) -> Result<Order, A
 {
     let ranks = sorted_ranks(alloc, bytes, offsets)?;
     let starts = starts_of(alloc, &ranks)?;
-    Ok(Order { ranks, starts })
+    let next_any = next_any_of(alloc, &ranks)?;
+    Ok(Order {
+        ranks,
+        starts,
+        next_any,
+    })
 }
 
-/// The ranks with this verb.
+// The ranks with this verb.
 fn run_of(order: &Order, verb: u8) -> &[u32]
     requires sorted { IsSorted order.now }
     ensures run { IsRun order.now.ranks.items verb result.now }
@@ -126,7 +149,7 @@ fn run_of(order: &Order, verb: u8) -> &[u32]
     &order.ranks[start..end]
 }
 
-/// The index of the first rank that isn't below this one.
+// The index of the first rank that isn't below this one.
 fn index_of_rank(run: &[u32], least: u32) -> usize
     requires rises { IsNonDecreasing run.now }
     ensures parts { IsPartitionPoint (λ r. nat_lt r least ≡ true) (λ r. nat_lt r least ≡ false) run.now result }
@@ -138,7 +161,7 @@ fn index_of_rank(run: &[u32], least: u32) -> usize
     )
 }
 
-/// The least entry not below `from` that has this verb and this noun, found by a search.
+// The least entry not below `from` that has this verb and this noun, found by a search.
 fn search_with(run: &[u32], verb: u8, noun: u8, from: u16) -> Option<u16>
     requires rises { IsNonDecreasing run.now }
     ensures least { IsLeast (IsMatch run.now (is_pair verb noun) from) result }
@@ -151,8 +174,8 @@ fn search_with(run: &[u32], verb: u8, noun: u8, from: u16) -> Option<u16>
     }
 }
 
-/// The least entry not below `from` that has this verb and this noun. Where the first rank is above them no search is
-/// needed: so it is with most nouns of sentences.
+// The least entry not below `from` that has this verb and this noun. Where the first rank is above them no search is
+// needed: so it is with most nouns of sentences.
 fn first_with(run: &[u32], verb: u8, noun: u8, from: u16) -> Option<u16>
     requires rises { IsNonDecreasing run.now }
     ensures least { IsLeast (IsMatch run.now (is_pair verb noun) from) result }
@@ -164,7 +187,7 @@ fn first_with(run: &[u32], verb: u8, noun: u8, from: u16) -> Option<u16>
     search_with(run, verb, noun, from)
 }
 
-/// The lower of two numbers, or the one that is there.
+// The lower of two numbers, or the one that is there.
 fn lower(first: Option<u16>, second: Option<u16>) -> Option<u16>
     ensures value { result ≡ lower first second }
 {
@@ -175,7 +198,7 @@ fn lower(first: Option<u16>, second: Option<u16>) -> Option<u16>
     }
 }
 
-/// The least entry not below `from` that is kept with this verb, and whose noun matches.
+// The least entry not below `from` that is kept with this verb, and whose noun matches.
 fn first_for(order: &Order, verb: u8, noun: u8, from: u16) -> Option<u16>
     requires sorted { IsSorted order.now }
     ensures least { IsLeast (IsMatch order.now.ranks.items (λ v n. (v == verb) && is_kept_for n noun) from) result }
@@ -186,13 +209,31 @@ fn first_for(order: &Order, verb: u8, noun: u8, from: u16) -> Option<u16>
     lower(none, same)
 }
 
+// The least entry not below `from` that matches any verb and any noun.
+fn any_from(order: &Order, from: u16) -> Option<u16>
+    ensures value { result ≡ slice_get order.now.next_any.items from }
+{
+    order.next_any.get(from as usize).copied()
+}
+
+// The least entry not below `from` that matches any verb, and whose noun matches. No search is needed for one that
+// matches any noun too, as most do that come next in games.
+fn first_for_any(order: &Order, noun: u8, from: u16) -> Option<u16>
+    requires sorted { IsSorted order.now }
+    ensures least { IsLeast (IsMatch order.now.ranks.items (λ v n. (v == NO_WORD) && is_kept_for n noun) from) result }
+{
+    let none = any_from(order, from);
+    let same = first_with(run_of(order, NO_WORD), NO_WORD, noun, from);
+    lower(none, same)
+}
+
 /// The least entry not below `from` that matches this verb and noun: the lower of those found for any verb and for the
 /// verb itself.
 pub fn next_in(order: &Order, from: u16, verb: u8, noun: u8) -> Option<u16>
     requires sorted { IsSorted order.now }
     ensures least { IsLeast (IsMatch order.now.ranks.items (is_match verb noun) from) result }
 {
-    let none = first_for(order, NO_WORD, noun, from);
+    let none = first_for_any(order, noun, from);
     let same = first_for(order, verb, noun, from);
     lower(none, same)
 }

@@ -18,7 +18,7 @@ use std::alloc::{AllocError, Global};
 /// The bytes of the signature, the version and the six counts.
 const HEAD_LENGTH: usize = 17;
 
-/// The lists after this front.
+// The lists after this front.
 #[tactic(auto, unfolding(crate::specs::inner::Reading::lists_at))]
 fn read_lists(alloc: Global, front: Front, bytes: &[u8]) -> Result<(GameParts, &[u8]), ReadFault>
     ensures gives { Gives (λ x. (x.0, x.1.now)) result (lists_at (preface_of front) bytes.now) }
@@ -72,7 +72,7 @@ pub fn length_of_parts(parts: &GameParts) -> usize
         + length_of_rows(&parts.tables)
 }
 
-/// Writes the signature, the version and the counts at the end.
+// Writes the signature, the version and the counts at the end.
 fn write_head(parts: &GameParts, out: &mut Vec<u8>) -> Result<(), AllocError>
     requires fits { FitsCounts parts.now }
     ensures writes { OnOk result (out.new.items ≡ out.old.items ++ head_image parts.now) }

@@ -22,7 +22,7 @@ use paw_game::parts::{Condacts, Entry, Table};
 use paw_read_error::read_error::ReadError;
 use std::alloc::{AllocError, Global};
 
-/// A code of a condact, and the kinds of its parameters.
+// A code of a condact, and the kinds of its parameters.
 fn read_code(bytes: &[u8]) -> Result<((u8, (ParamKind, ParamKind)), &[u8]), ReadFault>
     ensures gives { Gives (λ x. (x.0.0, x.1.now)) result (code_at bytes.now) }
     ensures fails { OnErr result (IsFault (code_at bytes.now)) }
@@ -36,7 +36,7 @@ fn read_code(bytes: &[u8]) -> Result<((u8, (ParamKind, ParamKind)), &[u8]), Read
     }
 }
 
-/// A parameter of this kind; 0 where there is none.
+// A parameter of this kind; 0 where there is none.
 fn read_parameter(kind: ParamKind, bytes: &[u8]) -> Result<(u8, &[u8]), ReadFault>
     ensures gives { Gives (λ x. (x.0, x.1.now)) result (parameter_at kind bytes.now) }
     ensures fails { OnErr result (IsFault (parameter_at kind bytes.now)) }
@@ -47,7 +47,7 @@ fn read_parameter(kind: ParamKind, bytes: &[u8]) -> Result<(u8, &[u8]), ReadFaul
     }
 }
 
-/// Writes a parameter of this kind at the end; nothing where there is none.
+// Writes a parameter of this kind at the end; nothing where there is none.
 fn write_parameter(kind: ParamKind, value: u8, out: &mut Vec<u8>) -> Result<(), AllocError>
     ensures writes { OnOk result (out.new.items ≡ out.old.items ++ parameter_image kind value) }
 {
@@ -154,7 +154,7 @@ impl Row for Table {
     }
 }
 
-/// The bytes after a parameter of this kind.
+// The bytes after a parameter of this kind.
 fn pass_parameter<'a>(
     rules: &FieldRules,
     kind: ParamKind,
@@ -172,7 +172,7 @@ fn pass_parameter<'a>(
     Ok(rest)
 }
 
-/// The bytes after the condact at the front.
+// The bytes after the condact at the front.
 #[tactic(auto, unfolding(crate::specs::Damage::after_condact))]
 fn pass_condact<'a>(rules: &FieldRules, bytes: &'a [u8]) -> Result<&'a [u8], ReadFault>
     ensures gives { Gives (λ x. x.now) result (after_condact rules.now bytes.now) }

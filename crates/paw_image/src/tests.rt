@@ -102,7 +102,7 @@ fn a_table_of_the_lantern_game(rt: HostRuntime) -> Result<(), Fail> {
     Ok(())
 }
 
-/// The offset at which bytes are damaged, as both readers name it; None where they differ.
+// The offset at which bytes are damaged, as both readers name it; None where they differ.
 fn damaged_at(alloc: Global, bytes: &[u8]) -> Option<u64> {
     let seen = View::new(alloc, bytes).err()?;
     let read = decode(alloc, bytes).err()?;
@@ -114,8 +114,13 @@ fn damaged_at(alloc: Global, bytes: &[u8]) -> Option<u64> {
     }
 }
 
-/// The image with these bytes from an offset on.
-fn changed(alloc: Global, image: &[u8], place: usize, bytes: &[u8]) -> Result<Vec<u8>, AllocError> {
+// The image with these bytes from an offset on.
+fn image_with(
+    alloc: Global,
+    image: &[u8],
+    place: usize,
+    bytes: &[u8],
+) -> Result<Vec<u8>, AllocError> {
     let mut changed = image.to_vec(alloc)?;
     for (step, byte) in bytes.iter().enumerate() {
         let here = place.saturating_add(step);
@@ -146,7 +151,7 @@ fn every_damaged_byte_is_named(rt: HostRuntime) -> Result<(), Fail> {
         (85, &[161, 15], 85),
     ];
     for (place, bytes, at) in changes {
-        let image = changed(rt.alloc(), &LANTERN, place, bytes)?;
+        let image = image_with(rt.alloc(), &LANTERN, place, bytes)?;
         assert_eq!(rt;
             damaged_at(rt.alloc(), &image),
             Some(at),
@@ -176,7 +181,7 @@ fn damage_of_version_2_is_named(rt: HostRuntime) -> Result<(), Fail> {
         (36, &[50, 1, 70, 100, 9, 50, 0, 161, 15], 43),
     ];
     for (place, bytes, at) in changes {
-        let image = changed(rt.alloc(), &FLAGGED, place, bytes)?;
+        let image = image_with(rt.alloc(), &FLAGGED, place, bytes)?;
         assert_eq!(rt;
             damaged_at(rt.alloc(), &image),
             Some(at),
@@ -189,7 +194,7 @@ fn damage_of_version_2_is_named(rt: HostRuntime) -> Result<(), Fail> {
 #[test]
 fn bytes_too_many_come_before_the_version(rt: HostRuntime) -> Result<(), Fail> {
     let alloc = rt.alloc();
-    let mut longer = changed(alloc, &FLAGGED, 36, &[50, 1, 70, 100, 9, 50, 0])?;
+    let mut longer = image_with(alloc, &FLAGGED, 36, &[50, 1, 70, 100, 9, 50, 0])?;
     longer.push(0)?;
     assert_eq!(rt; damaged_at(alloc, &longer), Some(45));
     assert_eq!(rt; damaged_at(alloc, &FLAGGED[..37]), Some(37));
@@ -249,7 +254,7 @@ const MATCHES: [u8; 55] = [
     0,
 ];
 
-/// The next matches of the table, for numbers of entries, verbs and nouns.
+// The next matches of the table, for numbers of entries, verbs and nouns.
 fn next_matches<T: Tables>(tables: &T) -> [Option<u16>; 10] {
     [
         tables.next_match(0, 0, 30, 50),
@@ -262,6 +267,28 @@ fn next_matches<T: Tables>(tables: &T) -> [Option<u16>; 10] {
         tables.next_match(0, 4, 99, 50),
         tables.next_match(0, 0, 30, 60),
         tables.next_match(3, 0, 30, 50),
+    ]
+}
+
+// The entry of the cursor at the next match.
+fn cursor_entry<T: Tables>(tables: &T, table: u8, from: u16, verb: u8, noun: u8) -> Option<u16> {
+    let cursor = tables.match_cursor(table, from, verb, noun)?;
+    Some(cursor.entry)
+}
+
+// The entries of the cursors at the same matches.
+fn cursor_entries<T: Tables>(tables: &T) -> [Option<u16>; 10] {
+    [
+        cursor_entry(tables, 0, 0, 30, 50),
+        cursor_entry(tables, 0, 1, 30, 50),
+        cursor_entry(tables, 0, 2, 30, 50),
+        cursor_entry(tables, 0, 4, 30, 50),
+        cursor_entry(tables, 0, 5, 30, 50),
+        cursor_entry(tables, 0, 0, 99, 50),
+        cursor_entry(tables, 0, 2, 99, 50),
+        cursor_entry(tables, 0, 4, 99, 50),
+        cursor_entry(tables, 0, 0, 30, 60),
+        cursor_entry(tables, 3, 0, 30, 50),
     ]
 }
 
@@ -283,10 +310,70 @@ fn both_find_the_next_match(rt: HostRuntime) -> Result<(), Fail> {
     assert_eq!(rt; next_matches(&game), want);
     let view = View::new(rt.alloc(), &MATCHES)?;
     assert_eq!(rt; next_matches(&view), want);
+    assert_eq!(rt; cursor_entries(&game), want);
+    assert_eq!(rt; cursor_entries(&view), want);
     Ok(())
 }
 
-/// The facts of an object that isn't a container and can't be worn.
+/// The entries of MATCHES, each of which sets the flag of its number to 9; the third is done then.
+const SETTINGS: [u8; 71] = [
+    80, 65, 87, 73, 1, 2, 0, 0, 0, 0, 0, 0, 0, 1, 0, 3, 0, 71, 69, 84, 32, 32, 30, 0, 76, 65, 77,
+    80, 32, 50, 2, 0, 0, 0, 5, 0, 30, 50, 1, 70, 0, 9, 255, 50, 1, 70, 1, 9, 30, 255, 2, 70, 2, 9,
+    32, 1, 50, 1, 70, 3, 9, 30, 50, 1, 70, 4, 9, 0, 0, 0, 0,
+];
+
+// The condact that sets a flag to 9.
+fn setting(flag: u8) -> Condact {
+    Condact {
+        code: 70,
+        a: flag,
+        b: 9,
+    }
+}
+
+// The first two condacts that are read on from the cursor at the next match.
+fn read_from_match<T: Tables>(tables: &T, from: u16, verb: u8, noun: u8) -> [Option<Condact>; 2] {
+    match tables.match_cursor(0, from, verb, noun) {
+        Some(cursor) => {
+            let mut cursor = cursor;
+            let first = tables.next_condact(&mut cursor);
+            let second = tables.next_condact(&mut cursor);
+            [first, second]
+        }
+        None => [None, None],
+    }
+}
+
+// What is read on from a match at hand, from those that are searched for, and where there is none.
+fn read_from_matches<T: Tables>(tables: &T) -> [[Option<Condact>; 2]; 6] {
+    [
+        read_from_match(tables, 0, 30, 50),
+        read_from_match(tables, 0, 99, 50),
+        read_from_match(tables, 0, 30, 60),
+        read_from_match(tables, 2, 99, 50),
+        read_from_match(tables, 4, 30, 50),
+        read_from_match(tables, 4, 99, 50),
+    ]
+}
+
+#[test]
+fn both_read_on_from_the_next_match(rt: HostRuntime) -> Result<(), Fail> {
+    let want = [
+        [Some(setting(0)), None],
+        [Some(setting(1)), None],
+        [Some(setting(2)), Some(DONE)],
+        [Some(setting(3)), None],
+        [Some(setting(4)), None],
+        [None, None],
+    ];
+    let game = decode(rt.alloc(), &SETTINGS)?;
+    assert_eq!(rt; read_from_matches(&game), want);
+    let view = View::new(rt.alloc(), &SETTINGS)?;
+    assert_eq!(rt; read_from_matches(&view), want);
+    Ok(())
+}
+
+// The facts of an object that isn't a container and can't be worn.
 fn facts(noun: u8, adjective: u8, start: u8, weight: u8) -> ObjectFacts {
     ObjectFacts {
         noun,
@@ -298,7 +385,7 @@ fn facts(noun: u8, adjective: u8, start: u8, weight: u8) -> ObjectFacts {
     }
 }
 
-/// Whether a game is that of the lantern.
+// Whether a game is that of the lantern.
 fn is_lantern<T: Tables>(tables: &T) -> bool {
     let counts = Counts {
         words: 4,
@@ -320,7 +407,7 @@ fn is_lantern<T: Tables>(tables: &T) -> bool {
         && tables.word(b"DROP ").is_none()
 }
 
-/// The condacts of the first entry.
+// The condacts of the first entry.
 fn condacts<T: Tables>(tables: &T) -> [Option<Condact>; 3] {
     [
         tables.condact(0, 0, 0),
@@ -343,8 +430,8 @@ fn both_tell_the_lantern(rt: HostRuntime) -> Result<(), Fail> {
 /// How many condacts the entries of a table have.
 const ENTRY_LENGTHS: [u8; 6] = [0, 1, 8, 9, 64, 255];
 
-/// The condact of this number: one, two or three bytes.
-fn numbered(number: u8) -> Condact {
+// The condact of this number: one, two or three bytes.
+fn condact_of(number: u8) -> Condact {
     let (code, a, b) = match number % 3 {
         0 => (32, 0, 0),
         1 => (11, number, 0),
@@ -353,14 +440,14 @@ fn numbered(number: u8) -> Condact {
     Condact { code, a, b }
 }
 
-/// An image with a table whose entries have these numbers of condacts.
+// An image with a table whose entries have these numbers of condacts.
 fn of_many_lengths(alloc: Global) -> Result<Vec<u8>, AllocError> {
     let mut image = SMALLEST[..20].to_vec(alloc)?;
     image.extend_from_slice(&[6, 0])?;
     for count in ENTRY_LENGTHS {
         image.extend_from_slice(&[255, 255, count])?;
         for number in 0..count {
-            let Condact { code, a, b } = numbered(number);
+            let Condact { code, a, b } = condact_of(number);
             match number % 3 {
                 0 => image.push(code)?,
                 1 => image.extend_from_slice(&[code, a])?,
@@ -372,12 +459,12 @@ fn of_many_lengths(alloc: Global) -> Result<Vec<u8>, AllocError> {
     Ok(image)
 }
 
-/// Whether each entry has its condacts, and none past the last.
+// Whether each entry has its condacts, and none past the last.
 fn has_each_condact<T: Tables>(tables: &T) -> bool {
     for (entry, count) in ENTRY_LENGTHS.iter().enumerate() {
         let entry = entry as u16;
         for at in 0..*count {
-            if tables.condact(0, entry, at) != Some(numbered(at)) {
+            if tables.condact(0, entry, at) != Some(condact_of(at)) {
                 return false;
             }
         }
@@ -416,8 +503,8 @@ fn a_view_lends_its_bytes(rt: HostRuntime) -> Result<(), Fail> {
     Ok(())
 }
 
-/// An image with all seven classes of words, a text of 300 bytes, a container, a thing that may be worn, an entry with
-/// 255 condacts, and a condact with two parameters.
+// An image with all seven classes of words, a text of 300 bytes, a container, a thing that may be worn, an entry with
+// 255 condacts, and a condact with two parameters.
 fn every_kind(alloc: Global) -> Result<Vec<u8>, AllocError> {
     let mut image = b"PAWI\x01\x07\x00\x00\x00\x01\x00\x02\x00\x01\x00\x03\x00".to_vec(alloc)?;
     image.extend_from_slice(b"ABLE \x1E\x00BADLY\x1F\x01COAT \x32\x02DARK \x28\x03")?;
@@ -432,7 +519,7 @@ fn every_kind(alloc: Global) -> Result<Vec<u8>, AllocError> {
     Ok(image)
 }
 
-/// The classes of the seven words.
+// The classes of the seven words.
 fn classes<T: Tables>(tables: &T) -> [Option<(u8, u8)>; 7] {
     [
         tables.word(b"ABLE "),
@@ -445,7 +532,7 @@ fn classes<T: Tables>(tables: &T) -> [Option<(u8, u8)>; 7] {
     ]
 }
 
-/// Whether the objects and the condacts of the game are as they were written.
+// Whether the objects and the condacts of the game are as they were written.
 fn has_every_kind<T: Tables>(tables: &T) -> bool {
     let sack = ObjectFacts {
         container: true,
@@ -492,8 +579,8 @@ fn both_tell_every_kind_of_row(rt: HostRuntime) -> Result<(), Fail> {
     Ok(())
 }
 
-/// The condact of this number, plain or indirect: one, two or three bytes.
-fn mixed(number: u8) -> Condact {
+// The condact of this number, plain or indirect: one, two or three bytes.
+fn any_condact_of(number: u8) -> Condact {
     let (code, a, b) = match number % 4 {
         0 => (32, 0, 0),
         1 => (178, number, 0),
@@ -503,12 +590,12 @@ fn mixed(number: u8) -> Condact {
     Condact { code, a, b }
 }
 
-/// An image with a table that has an entry of 20 condacts, and an empty one.
+// An image with a table that has an entry of 20 condacts, and an empty one.
 fn of_twenty(alloc: Global) -> Result<Vec<u8>, AllocError> {
-    let mut image = changed(alloc, &SMALLEST[..20], 4, &[2])?;
+    let mut image = image_with(alloc, &SMALLEST[..20], 4, &[2])?;
     image.extend_from_slice(&[2, 0, 255, 255, 20])?;
     for number in 0..20 {
-        let Condact { code, a, b } = mixed(number);
+        let Condact { code, a, b } = any_condact_of(number);
         match number % 4 {
             0 => image.push(code)?,
             2 => image.extend_from_slice(&[code, a, b])?,
@@ -519,12 +606,12 @@ fn of_twenty(alloc: Global) -> Result<Vec<u8>, AllocError> {
     Ok(image)
 }
 
-/// Whether a cursor reads on over the entry of 20 condacts from each of them on, and stays past the last one.
+// Whether a cursor reads on over the entry of 20 condacts from each of them on, and stays past the last one.
 fn reads_on<T: Tables>(tables: &T) -> bool {
     for from in 0..21 {
         let mut cursor = tables.cursor(0, 0, from);
         for at in from..20 {
-            if cursor.at != at || tables.next_condact(&mut cursor) != Some(mixed(at)) {
+            if cursor.at != at || tables.next_condact(&mut cursor) != Some(any_condact_of(at)) {
                 return false;
             }
         }
@@ -536,14 +623,14 @@ fn reads_on<T: Tables>(tables: &T) -> bool {
     true
 }
 
-/// Whether no condact stands at this offset.
+// Whether no condact stands at this offset.
 fn reads_nothing<T: Tables>(tables: &T, table: u8, entry: u16, at: u8) -> bool {
     let mut cursor = tables.cursor(table, entry, at);
     tables.next_condact(&mut cursor).is_none()
         && (cursor.table, cursor.entry, cursor.at) == (table, entry, at)
 }
 
-/// Whether no condact stands in an empty entry, past the entries, past the tables, and far past the last condact.
+// Whether no condact stands in an empty entry, past the entries, past the tables, and far past the last condact.
 fn reads_none_elsewhere<T: Tables>(tables: &T) -> bool {
     reads_nothing(tables, 0, 1, 0)
         && reads_nothing(tables, 0, 2, 0)

@@ -44,7 +44,7 @@ impl Version {
     }
 }
 
-/// What the table of condacts says of a plain code.
+// What the table of condacts says of a plain code.
 fn plain_row(code: u8) -> Option<CondactRow>
     ensures value { SomeIff result (IsPlainCode code) (condact_row_of code) }
 {
@@ -76,7 +76,7 @@ fn has_indirect(tables: &[Table]) -> bool
         .any(|table| any_entry_indirect(table.rows.as_slice()))
 }
 
-/// Whether one of the entries has an indirect condact.
+// Whether one of the entries has an indirect condact.
 fn any_entry_indirect(entries: &[Entry]) -> bool
     ensures value { result ≡ list_any (λ e. any_indirect e.condacts) entries.now }
 {
@@ -85,7 +85,7 @@ fn any_entry_indirect(entries: &[Entry]) -> bool
         .any(|entry| any_indirect(entry.condacts.rows.as_slice()))
 }
 
-/// Whether one of the condacts is indirect.
+// Whether one of the condacts is indirect.
 fn any_indirect(condacts: &[Condact]) -> bool
     ensures value { result ≡ any_indirect condacts.now }
 {

@@ -1,10 +1,12 @@
 // A game read in place, in the bytes of its image.
 
-ghost use Rattle.std.specs.Prelude.{◌≡◌, [], Some, None, drop, slice_get, IfOk, OnOk, IfSome, IfNone};
+ghost use Rattle.std.specs.Prelude.{◌≡◌, ◌<◌, [], Some, None, drop, slice_get, IfOk, OnOk, IfSome, OnSome, IfNone};
+ghost use Rattle.paw_base.specs.declared.limits.TheConstants.{ENTRY_LIMIT};
 ghost use Rattle.std.specs.Option.{option_copied, option_map, unwrap_or};
 ghost use Rattle.paw_game.specs.Game.{GameLists};
 ghost use Rattle.paw_game.specs.Image.{entry_image};
-ghost use Rattle.paw_game.specs.Tables.{entry_at};
+ghost use Rattle.paw_game.specs.Tables.{entry_at, head_at};
+ghost use Rattle.paw_game.specs.inner.Tables.{match_at};
 ghost use Rattle.paw_image.specs.Damage.{bad};
 ghost use Rattle.paw_image.specs.Images.{IsImage};
 ghost use Rattle.paw_image.specs.inner.Images.{IfDamaged};
@@ -50,21 +52,21 @@ impl<'a> Model for View<'a> {
     ghost invariant = { λ v. IsIndex v.bytes.now v.counts v.words.items v.offsets };
 }
 
-/// Where a row of this number begins.
+// Where a row of this number begins.
 fn offset_in(offsets: &[u32], number: usize) -> Option<u32>
     ensures value { result ≡ slice_get offsets.now number }
 {
     offsets.get(number).copied()
 }
 
-/// The index of a table.
+// The index of a table.
 fn index_of(tables: &[TableIndex], table: u8) -> Option<&TableIndex>
     ensures value { option_copied result ≡ slice_get tables.now table }
 {
     tables.get(table as usize)
 }
 
-/// Where an entry begins.
+// Where an entry begins.
 fn entry_offset(tables: &[TableIndex], table: u8, entry: u16) -> Option<u32>
     ensures value { result ≡ slice_get (unwrap_or (slice_get (entries_of tables.now) table) []) entry }
 {
@@ -108,7 +110,7 @@ impl<'a> View<'a> {
         self.bytes
     }
 
-    /// Where a row begins of a part that has texts.
+    // Where a row begins of a part that has texts.
     fn offset(&self, part: GamePart, number: u8) -> Option<u32>
         ensures value { result ≡ slice_get (rows_begin (game_read self.now) part) number }
     {
@@ -133,7 +135,7 @@ impl<'a> View<'a> {
         Some((from, from + text.len()))
     }
 
-    /// Where an entry begins, and the milestones of its table.
+    // Where an entry begins, and the milestones of its table.
     fn marked_entry(&self, table: u8, entry: u16) -> Option<(u32, &Milestones)>
         ensures milestones { IfSome result (λ x. EntryMilestones (milestones_of x.1.now entry) (drop x.0 self.now)) }
         ensures stands { IfSome result (λ x. EntryStands self.now table entry x.0) }
@@ -144,7 +146,36 @@ impl<'a> View<'a> {
         Some((offset, &index.milestones))
     }
 
-    /// How many condacts an entry has from one of them on, and where that one begins; none where there is no entry.
+    // An entry's verb and noun, and the cursor at its first condact.
+    fn start_of(&self, table: u8, entry: u16) -> Option<((u8, u8), CondactCursor)>
+        ensures head { option_map (λ x. x.0) result ≡ head_at (game_read self.now) table entry }
+        ensures stands { IfSome result (λ x. CursorStands self.now x.1) }
+        ensures table { IfSome result (λ x. x.1.table ≡ table) }
+        ensures entry { IfSome result (λ x. x.1.entry ≡ entry) }
+        ensures start { IfSome result (λ x. x.1.at ≡ 0) }
+        ensures small { OnSome result (entry < ENTRY_LIMIT) }
+    {
+        let offset = entry_offset(&self.offsets.tables, table, entry)?;
+        let (head, left) = head_in(self.bytes, offset)?;
+        let cursor = CondactCursor {
+            table,
+            entry,
+            at: 0,
+            left,
+            offset: offset as usize + 3,
+        };
+        Some((head, cursor))
+    }
+
+    // The least entry not below `from` that matches this verb and noun, by the order of the entries.
+    fn search(&self, table: u8, from: u16, verb: u8, noun: u8) -> Option<u16>
+        ensures value { result ≡ match_at (game_read self.now) table from verb noun }
+    {
+        let index = index_of(&self.offsets.tables, table)?;
+        next_in(&index.order, from, verb, noun)
+    }
+
+    // How many condacts an entry has from one of them on, and where that one begins; none where there is no entry.
     fn condacts_from(&self, table: u8, entry: u16, at: u8) -> (u8, usize)
         ensures value { CondactsStand self.now table entry at result.0 result.1 }
     {
@@ -188,8 +219,8 @@ impl<'a> Tables for View<'a> {
     }
 
     fn head(&self, table: u8, entry: u16) -> Option<(u8, u8)> {
-        let offset = entry_offset(&self.offsets.tables, table, entry)?;
-        head_in(self.bytes, offset)
+        let (head, _) = self.start_of(table, entry)?;
+        Some(head)
     }
 
     fn condact(&self, table: u8, entry: u16, at: u8) -> Option<Condact> {
@@ -220,13 +251,19 @@ impl<'a> Tables for View<'a> {
     }
 
     fn next_match(&self, table: u8, from: u16, verb: u8, noun: u8) -> Option<u16> {
+        let cursor = self.match_cursor(table, from, verb, noun)?;
+        Some(cursor.entry)
+    }
+
+    fn match_cursor(&self, table: u8, from: u16, verb: u8, noun: u8) -> Option<CondactCursor> {
         // Most often the entry at hand matches, and no search is needed; where it isn't there, none comes after it.
-        let (own_verb, own_noun) = self.head(table, from)?;
+        let ((own_verb, own_noun), own) = self.start_of(table, from)?;
         if is_for(own_verb, verb) && is_for(own_noun, noun) {
-            return Some(from);
+            return Some(own);
         }
-        let index = index_of(&self.offsets.tables, table)?;
-        next_in(&index.order, from, verb, noun)
+        let entry = self.search(table, from, verb, noun)?;
+        let (_, cursor) = self.start_of(table, entry)?;
+        Some(cursor)
     }
 
     fn word(&self, letters: &[u8; WORD_LENGTH]) -> Option<(u8, u8)> {

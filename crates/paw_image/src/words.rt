@@ -31,7 +31,7 @@ impl Row for Word {
     }
 }
 
-/// The word at the front, which stands above these letters.
+// The word at the front, which stands above these letters.
 #[tactic(auto, unfolding(crate::specs::Damage::checked_word))]
 fn read_checked<'a>(before: &[u8], bytes: &'a [u8]) -> Result<(Word, &'a [u8]), ReadFault>
     ensures gives { Gives (λ x. (x.0, x.1.now)) result (checked_word before.now bytes.now) }
@@ -56,7 +56,7 @@ fn read_checked<'a>(before: &[u8], bytes: &'a [u8]) -> Result<(Word, &'a [u8]), 
     Ok((word, rest))
 }
 
-/// The letters of the last word; none where there is no word.
+// The letters of the last word; none where there is no word.
 fn last_letters(words: &[Word]) -> &[u8]
     ensures value { result.now ≡ last_letters words.now }
 {

@@ -36,6 +36,7 @@ unfoldable pub begins : (Bytes → Passing) → ℕ → ℕ → Bytes → List �
 begins row total zero bytes = []
 begins row total (suc n) bytes = (total - length bytes) ∷ on_rest (begins row total n) (row bytes)
 
+-- Where the entries begin, given their number and the bytes after it.
 abbrev pub entries_after : ImagePreface → ℕ → Result (ℕ × Bytes) ℕ → List ℕ
 entries_after d total (Ok count) = begins (after_entry d) total count.0 count.1
 entries_after d total (Err left) = []
@@ -54,15 +55,19 @@ tables_begin d total (suc n) bytes =
 abbrev pub to_messages : ImagePreface → Bytes → Passing
 to_messages d bytes = each after_text d.counts.system bytes
 
+-- The bytes after the messages, where the objects begin.
 abbrev pub to_objects : ImagePreface → Bytes → Passing
 to_objects d bytes = to_messages d bytes >>= each after_text d.counts.messages
 
+-- The bytes after the objects, where the locations begin.
 abbrev pub to_locations : ImagePreface → Bytes → Passing
 to_locations d bytes = to_objects d bytes >>= each (after_object d) d.counts.objects
 
+-- The bytes after the locations, where the exits begin.
 abbrev pub to_exits : ImagePreface → Bytes → Passing
 to_exits d bytes = to_locations d bytes >>= each after_text d.counts.locations
 
+-- The bytes after the exits, where the tables begin.
 abbrev pub to_tables : ImagePreface → Bytes → Passing
 to_tables d bytes = to_exits d bytes >>= each (after_exits d) d.counts.locations
 

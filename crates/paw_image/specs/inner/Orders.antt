@@ -1,6 +1,6 @@
 -- The entries of a table in order of verb and noun, and what is looked up in it.
 use Rattle.std.specs.Prelude.{◌≡◌, ℕ, suc, ◌+◌, ◌*◌, ◌≤◌, ◌<◌, ◌&&◌, ◌||◌, ◌==◌, Bool, List, [], ◌∷◌}
-use Rattle.std.specs.Prelude.{length, Option, Some, None, IsTrue, slice_index, min, if◌then◌else◌}
+use Rattle.std.specs.Prelude.{length, Option, Some, None, IsTrue, slice_get, slice_index, min, if◌then◌else◌}
 use Rattle.std.specs.List.{AllWithin, Contains}
 use Rattle.std.specs.List.Sorted.{IsPermutation, IsNonDecreasing, IsPartitionPoint}
 use Rattle.paw_base.specs.Bytes.{Bytes}
@@ -17,53 +17,41 @@ abbrev pub kept_word : ℕ → ℕ
 kept_word word = if is_wildcard word then NO_WORD else word
 
 -- A rank by verb, then by noun, then by the number of the entry.
-abbrev pub ranked : ℕ → ℕ → ℕ → ℕ
-ranked verb noun entry = (verb * 256 + noun) * 65536 + entry
+abbrev pub entry_rank : ℕ → ℕ → ℕ → ℕ
+entry_rank verb noun entry = (verb * 256 + noun) * 65536 + entry
 
 -- The ranks of the entries that begin at each of these offsets, numbered from n on.
 abbrev pub ranks_at : Bytes → ℕ → List ℕ → List ℕ
 ranks_at bytes n [] = []
 ranks_at bytes n (p ∷ ps) =
-    ranked (kept_word (slice_index bytes p)) (kept_word (slice_index bytes (p + 1))) n ∷ ranks_at bytes (suc n) ps
+    entry_rank (kept_word (slice_index bytes p)) (kept_word (slice_index bytes (p + 1))) n ∷ ranks_at bytes (suc n) ps
 
 -- The same for entries.
 abbrev pub ranks_of : ℕ → List Entry → List ℕ
 ranks_of n [] = []
-ranks_of n (e ∷ es) = ranked (kept_word e.verb) (kept_word e.noun) n ∷ ranks_of (suc n) es
+ranks_of n (e ∷ es) = entry_rank (kept_word e.verb) (kept_word e.noun) n ∷ ranks_of (suc n) es
 
 -- ---- the order ----
 
 -- Before this index stand ranks with a verb below this one.
 abbrev pub IsBefore : List ℕ → ℕ → ℕ → Type 0
-IsBefore ranks verb index = (index ≤ length ranks) × AllWithin (λ r. r < ranked verb 0 0) ranks 0 index
+IsBefore ranks verb index = (index ≤ length ranks) × AllWithin (λ r. r < entry_rank verb 0 0) ranks 0 index
 
 -- Before this index stand the ranks with a verb below this one, and no others.
 pub record IsStart (ranks : List ℕ) (verb start : ℕ) : Type 0 where
   pub within : start ≤ length ranks
-  pub parts : IsPartitionPoint (λ r. r < ranked verb 0 0) (λ r. ranked verb 0 0 ≤ r) ranks start
+  pub parts : IsPartitionPoint (λ r. r < entry_rank verb 0 0) (λ r. entry_rank verb 0 0 ≤ r) ranks start
 
 -- There is such an index for each verb, and one after the last.
 pub record AreStarts (ranks starts : List ℕ) : Type 0 where
   pub long : length starts ≡ 257
   pub each : (verb : ℕ) → verb ≤ 256 → IsStart ranks verb (slice_index starts verb)
 
-pub record IsSorted (order : Order) : Type 0 where
-  pub rises : IsNonDecreasing order.ranks.items
-  pub starts : AreStarts order.ranks.items order.starts.items
-
--- The ranks of the entries at these offsets, sorted. They are not too many, and each byte is one, so that a rank gives
--- the verb, the noun and the number.
-pub record IsOrder (bytes offsets : List ℕ) (order : Order) : Type 0 where
-  pub same : IsPermutation (ranks_at bytes 0 offsets) order.ranks.items
-  pub few : length offsets ≤ ENTRY_LIMIT
-  pub fits : (at : ℕ) → slice_index bytes at < 256
-  pub sorted : IsSorted order
-
 -- The ranks with this verb, in order.
 pub record IsRun (ranks : List ℕ) (verb : ℕ) (run : List ℕ) : Type 0 where
   pub rises : IsNonDecreasing run
   pub inside : (r : ℕ) → Contains run r → Contains ranks r
-  pub whole : (r : ℕ) → Contains ranks r → ranked verb 0 0 ≤ r → r < ranked (suc verb) 0 0 → Contains run r
+  pub whole : (r : ℕ) → Contains ranks r → entry_rank verb 0 0 ≤ r → r < entry_rank (suc verb) 0 0 → Contains run r
 
 -- ---- what is looked up ----
 
@@ -91,7 +79,7 @@ pub record IsMatch (ranks : List ℕ) (has : ℕ → ℕ → Bool) (from e : ℕ
   pub noun : ℕ
   pub low : noun < 256
   pub few : e < 65536
-  pub is : Contains ranks (ranked verb noun e)
+  pub is : Contains ranks (entry_rank verb noun e)
   pub matching : IsTrue (has verb noun)
 
 -- The lower of two numbers, where there are two.
@@ -99,3 +87,24 @@ abbrev pub lower : Option ℕ → Option ℕ → Option ℕ
 lower None b = b
 lower (Some a) None = Some a
 lower (Some a) (Some b) = Some (min a b)
+
+-- The list says for each entry which one comes next, from it on, that matches any verb and any noun; past its end none
+-- does.
+abbrev pub IsNextAny : (ranks next : List ℕ) → Type 0
+IsNextAny ranks next = (from : ℕ) → IsLeast (IsMatch ranks (is_pair NO_WORD NO_WORD) from) (slice_get next from)
+
+-- ---- the whole index ----
+
+-- The ranks rise, and the two lists beside them are theirs.
+pub record IsSorted (order : Order) : Type 0 where
+  pub rises : IsNonDecreasing order.ranks.items
+  pub starts : AreStarts order.ranks.items order.starts.items
+  pub next_any : IsNextAny order.ranks.items order.next_any.items
+
+-- The ranks of the entries at these offsets, sorted. They are not too many, and each byte is one, so that a rank gives
+-- the verb, the noun and the number.
+pub record IsOrder (bytes offsets : List ℕ) (order : Order) : Type 0 where
+  pub same : IsPermutation (ranks_at bytes 0 offsets) order.ranks.items
+  pub few : length offsets ≤ ENTRY_LIMIT
+  pub fits : (at : ℕ) → slice_index bytes at < 256
+  pub sorted : IsSorted order

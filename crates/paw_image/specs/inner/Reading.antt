@@ -129,6 +129,7 @@ leading_table bytes = do
 
 -- ---- the whole image ----
 
+-- The game that has these lists.
 abbrev pub game_with : List Word → Texts → Texts → List ObjectRow → Texts → List (List Exit)
     → List (List Entry) → GameLists
 game_with words system messages objects locations exits tables = record {

@@ -29,25 +29,27 @@ exit_here [] = None
 exit_here (verb ∷ []) = None
 exit_here (verb ∷ to ∷ bytes) = Some (record { verb = verb; to = to }, bytes)
 
-abbrev pub led : ℕ → (Bytes → Option ℕ) → Option (Exit × Bytes) → Option ℕ
-led verb others None = None
-led verb others (Some x) = if x.0.verb == verb then Some x.0.to else others x.1
+-- Where the exit at the front leads if it has this verb; otherwise what the bytes after it give.
+abbrev pub exit_or_next : ℕ → (Bytes → Option ℕ) → Option (Exit × Bytes) → Option ℕ
+exit_or_next verb others None = None
+exit_or_next verb others (Some x) = if x.0.verb == verb then Some x.0.to else others x.1
 
 -- Where the first of n exits with this verb leads.
 unfoldable pub exit_in : ℕ → ℕ → Bytes → Option ℕ
 exit_in verb zero bytes = None
-exit_in verb (suc n) bytes = led verb (exit_in verb n) (exit_here bytes)
+exit_in verb (suc n) bytes = exit_or_next verb (exit_in verb n) (exit_here bytes)
 
 -- Where the exit for a verb leads, among the exits at the front.
 unfoldable pub exits_here : ℕ → Bytes → Option ℕ
 exits_here verb [] = None
 exits_here verb (count ∷ bytes) = exit_in verb count bytes
 
--- The verb and the noun of the entry at the front.
-unfoldable pub head_here : Bytes → Option (ℕ × ℕ)
+-- The verb and the noun of the entry at the front, and how many condacts it has.
+unfoldable pub head_here : Bytes → Option ((ℕ × ℕ) × ℕ)
 head_here [] = None
 head_here (verb ∷ []) = None
-head_here (verb ∷ noun ∷ bytes) = Some (record { 0 = verb; 1 = noun })
+head_here (verb ∷ noun ∷ []) = None
+head_here (verb ∷ noun ∷ count ∷ bytes) = Some ((verb, noun), count)
 
 -- The bytes after a condact.
 abbrev pub past_condact : Bytes → Passing

@@ -43,18 +43,23 @@ game_read bytes = or_no_game (all_of bytes)
 abbrev pub system_begins : GameLists → ℕ
 system_begins g = 17 + length (flat_map word_image g.words)
 
+-- Where the messages begin.
 abbrev pub messages_begin : GameLists → ℕ
 messages_begin g = system_begins g + length (flat_map text_image g.system)
 
+-- Where the objects begin.
 abbrev pub objects_begin : GameLists → ℕ
 objects_begin g = messages_begin g + length (flat_map text_image g.messages)
 
+-- Where the locations begin.
 abbrev pub locations_begin : GameLists → ℕ
 locations_begin g = objects_begin g + length (flat_map object_image g.objects)
 
+-- Where the exits begin.
 abbrev pub exits_begin : GameLists → ℕ
 exits_begin g = locations_begin g + length (flat_map text_image g.locations)
 
+-- Where the tables begin.
 abbrev pub tables_begin_at : GameLists → ℕ
 tables_begin_at g = exits_begin g + length (flat_map exits_image g.exits)
 
@@ -69,13 +74,14 @@ rows_begin g part.Exits = []
 rows_begin g part.Tables = []
 
 -- The two offsets between which a text stands: its row begins with the two bytes of its length.
-abbrev pub spanned : Option ℕ → Option Text → Option (ℕ × ℕ)
-spanned None text = None
-spanned (Some at) None = None
-spanned (Some at) (Some text) = Some (record { 0 = at + 2; 1 = at + 2 + length text })
+abbrev pub text_span : Option ℕ → Option Text → Option (ℕ × ℕ)
+text_span None text = None
+text_span (Some at) None = None
+text_span (Some at) (Some text) = Some (record { 0 = at + 2; 1 = at + 2 + length text })
 
+-- The two offsets between which the text with this number in a part stands.
 abbrev pub span_at : GameLists → GamePart → ℕ → Option (ℕ × ℕ)
-span_at g p n = spanned (slice_get (rows_begin g p) n) (text_at g p n)
+span_at g p n = text_span (slice_get (rows_begin g p) n) (text_at g p n)
 
 -- ---- what a view keeps ----
 

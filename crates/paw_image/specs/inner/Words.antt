@@ -3,6 +3,7 @@ use Rattle.std.specs.Prelude.{◌-◌, List, [], length, Option, Some, None, sli
 use Rattle.paw_base.specs.Bytes.{Bytes}
 use Rattle.paw_game.specs.declared.parts.Word.{Word}
 
+-- The letters of a word; none where there is no word.
 abbrev pub letters_if_word : Option Word → Bytes
 letters_if_word None = []
 letters_if_word (Some w) = w.letters

@@ -15,7 +15,8 @@ pub returns-in-Ok : goal.returns-in-Ok
 returns-in-Ok c =
     let condacts = c.args.condacts.now in
     let rest = c.in-Ok.rest.now in
-    let walk = each_more past_condact (c.args.at / 8 * 8) (c.args.at % 8) c.args.at condacts c.from_milestone.result.now (omega arith) c.from_milestone.ensures.value
+    let walk = each_more past_condact (c.args.at / 8 * 8) (c.args.at % 8) c.args.at condacts c.from_milestone.result.now
+    (omega arith) c.from_milestone.ensures.value
     ∙ c.in-Ok.ensures.gives in
     record {
       value = among_from c.args.at c.args.count _ condacts rest walk (omega (arith, c.if-at-count.false));

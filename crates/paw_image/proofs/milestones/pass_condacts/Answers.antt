@@ -47,7 +47,8 @@ loop-preserved c =
       left = subst (λ (k : ℕ). each (after_condact d) k bytes ≡ Ok rest) same gone;
       long = ap length items ∙ omega (arith, length-append milestones (c.saturating_sub.result ∷ []), c.loop.invariant.long);
       marked = rw (items, c.saturating_sub.ensures)
-          (one_more_milestone milestones bytes (length c.args.milestones.now.items) i (length bytes - length rest) c.loop.invariant.long c.loop.invariant.marked goes_on);
+          (one_more_milestone milestones bytes (length c.args.milestones.now.items) i (length bytes - length rest)
+          c.loop.invariant.long c.loop.invariant.marked goes_on);
       kept = λ k x e. rw items (kept_before milestones (c.saturating_sub.result ∷ []) k x (c.loop.invariant.kept k x e));
     }
 

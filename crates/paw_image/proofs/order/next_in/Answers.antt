@@ -5,5 +5,5 @@ pub returns : goal.returns
 returns c = record {
   least = rw c.lower.ensures.value
       (least_of_verbs c.args.order.now.ranks.items c.args.verb c.args.noun c.args.from _ _
-      c.first_for-none.ensures.least c.first_for-same.ensures.least);
+      c.first_for_any-none.ensures.least c.first_for-same.ensures.least);
 }

@@ -1,13 +1,13 @@
 use Rattle.std.proofs.Common.{refl, ℕ, Option, sym, ap, ◌∙◌}
 use Rattle.paw_game.specs.inner.Tables.{text_at}
-use Rattle.paw_image.specs.inner.Views.{game_read, spanned}
+use Rattle.paw_image.specs.inner.Views.{game_read, text_span}
 use Rattle.paw_image.proofs.ViewLaws.{span_read, text_read}
 use Rattle.paw_image.proofs.view.View.span.Goals as goal
 
 pub returns-in_err-offset : goal.returns-in_err-offset
 returns-in_err-offset c =
     let text = text_at (game_read c.args.self.now) c.args.part c.args.number in
-    record { value = c.from_residual.ensures ∙ ap (λ (o : Option ℕ). spanned o text) c.in_err-offset.ensures.value }
+    record { value = c.from_residual.ensures ∙ ap (λ (o : Option ℕ). text_span o text) c.in_err-offset.ensures.value }
 
 pub returns-in_err-text : goal.returns-in_err-text
 returns-in_err-text c =

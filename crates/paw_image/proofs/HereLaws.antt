@@ -1,0 +1,140 @@
+-- What stands at an offset of bytes: the head of an entry, or a condact.
+use Rattle.std.proofs.Common.{◌≡◌, ℕ, zero, suc, ◌+◌, List, [], ◌∷◌, drop, get_or, Some, None, Ok, refl, sym, ap, ◌∙◌, arith}
+use Rattle.std.specs.Prelude.{slice_get}
+use Rattle.std.proofs.lemmas.List.{drop-drop}
+use Rattle.std.proofs.lemmas.Option.{none-some, same_Some}
+use Rattle.std.proofs.lemmas.Bool.{false_from_ne_true}
+use Rattle.paw_base.specs.declared.parts.Condact.{Condact}
+use Rattle.paw_base.specs.declared.rows.ParamKind.{ParamKind}
+use Rattle.paw_base.specs.declared.rows.ParamKind.TheVariants as kind
+use Rattle.paw_base.specs.Condacts.{is_code, first_kind, second_kind}
+use Rattle.paw_base.specs.inner.Condacts.{IsCode}
+use Rattle.paw_game.specs.Tables.{condact_at}
+use Rattle.paw_read_error.specs.Bind.{◌>>=◌}
+use Rattle.paw_image.specs.Reading.{Reading, byte_at}
+use Rattle.paw_image.specs.inner.Reading.{IsFault, leading_condact, parameter_at}
+use Rattle.paw_image.specs.inner.Rows.{head_here, condact_among, nth_condact, value_of}
+use Rattle.paw_image.specs.inner.Views.{game_read, CondactsStand, EntryStands}
+use Rattle.paw_image.proofs.Faults.{fault_first, no_value}
+
+-- ---- the head of an entry ----
+
+head_from : (p : ℕ) (bytes : List ℕ) (count : ℕ) → slice_get bytes (suc (suc p)) ≡ Some count
+    → head_here (drop p bytes) ≡ Some ((get_or bytes p 0, get_or bytes (suc p) 0), count)
+unfolding head_here
+head_from p [] count h = absurd (none-some count h)
+head_from zero (b ∷ []) count h = absurd (none-some count h)
+head_from zero (b ∷ c ∷ []) count h = absurd (none-some count h)
+head_from zero (b ∷ c ∷ d ∷ bytes) count h = rw (same_Some d count h) refl
+head_from (suc p) (b ∷ bytes) count h = head_from p bytes count h
+
+no_head_from : (p : ℕ) (bytes : List ℕ) → slice_get bytes (suc (suc p)) ≡ None → head_here (drop p bytes) ≡ None
+unfolding head_here
+no_head_from zero [] h = refl
+no_head_from (suc p) [] h = refl
+no_head_from zero (b ∷ []) h = refl
+no_head_from zero (b ∷ c ∷ []) h = refl
+no_head_from zero (b ∷ c ∷ d ∷ bytes) h = absurd (none-some d (sym h))
+no_head_from (suc p) (b ∷ bytes) h = no_head_from p bytes h
+
+pub head_is : (p : ℕ) (bytes : List ℕ) (count : ℕ) → slice_get bytes (p + 2) ≡ Some count
+    → head_here (drop p bytes) ≡ Some ((get_or bytes p 0, get_or bytes (p + 1) 0), count)
+head_is p bytes count h =
+    let one : p + 1 ≡ suc p = omega arith in
+    let two : p + 2 ≡ suc (suc p) = omega arith in
+    rw one (head_from p bytes count (rw two at h))
+
+pub no_head : (p : ℕ) (bytes : List ℕ) → slice_get bytes (p + 2) ≡ None → head_here (drop p bytes) ≡ None
+no_head p bytes h = let two : p + 2 ≡ suc (suc p) = omega arith in no_head_from p bytes (rw two at h)
+
+-- ---- the first condact of an entry ----
+
+among_head : (row : List ℕ) (head : ℕ × ℕ) (left k : ℕ) → head_here row ≡ Some (head, left)
+    → condact_among k left (drop 3 row) ≡ nth_condact k row
+unfolding head_here nth_condact
+among_head [] head left k h = absurd (none-some (head, left) h)
+among_head (b ∷ []) head left k h = absurd (none-some (head, left) h)
+among_head (b ∷ c ∷ []) head left k h = absurd (none-some (head, left) h)
+among_head (b ∷ c ∷ d ∷ bytes) head left k h =
+    let same = ap (λ (x : (ℕ × ℕ) × ℕ). x.1) (same_Some ((b, c), d) (head, left) h) in
+    rw same refl
+
+-- The condacts of an entry begin after its head.
+pub stands_at_first : (bytes : List ℕ) (t e place : ℕ) (head : ℕ × ℕ) (left : ℕ) → EntryStands bytes t e place
+    → head_here (drop place bytes) ≡ Some (head, left) → CondactsStand bytes t e 0 left (place + 3)
+stands_at_first bytes t e place head left there h k =
+    let none : 0 + k ≡ k = omega arith in
+    rw (none, ← drop-drop 3 place bytes) (among_head (drop place bytes) head left k h ∙ there k)
+
+-- ---- a condact ----
+
+here_from : (p : ℕ) (bytes : List ℕ) (b : ℕ) → slice_get bytes p ≡ Some b → drop p bytes ≡ b ∷ drop (suc p) bytes
+here_from p [] b h = absurd (none-some b h)
+here_from zero (x ∷ bytes) b h = rw (same_Some x b h) refl
+here_from (suc p) (x ∷ bytes) b h = here_from p bytes b h
+
+-- The byte at an offset is the first of the bytes from there on.
+here : (p : ℕ) (bytes : List ℕ) (b : ℕ) → slice_get bytes p ≡ Some b → drop p bytes ≡ b ∷ drop (p + 1) bytes
+here p bytes b h = let next : p + 1 ≡ suc p = omega arith in rw next (here_from p bytes b h)
+
+nothing_here : (p : ℕ) (bytes : List ℕ) → slice_get bytes p ≡ None → drop p bytes ≡ []
+nothing_here zero [] h = refl
+nothing_here (suc p) [] h = refl
+nothing_here zero (x ∷ bytes) h = absurd (none-some x (sym h))
+nothing_here (suc p) (x ∷ bytes) h = nothing_here p bytes h
+
+by_kind : (k : ParamKind) (bytes : List ℕ) → (k ≡ kind.Absent → ⊥) → parameter_at k bytes ≡ byte_at bytes
+by_kind kind.Absent bytes other = absurd (other refl)
+by_kind kind.Location bytes other = refl
+by_kind kind.Place bytes other = refl
+by_kind kind.Object bytes other = refl
+by_kind kind.Flag bytes other = refl
+by_kind kind.Number bytes other = refl
+by_kind kind.Message bytes other = refl
+by_kind kind.System bytes other = refl
+by_kind kind.Table bytes other = refl
+by_kind kind.Adverb bytes other = refl
+by_kind kind.Noun bytes other = refl
+by_kind kind.Adjective bytes other = refl
+by_kind kind.Preposition bytes other = refl
+
+pub parameter_is : (k : ParamKind) (p : ℕ) (bytes : List ℕ) (b : ℕ) → (k ≡ kind.Absent → ⊥) → slice_get bytes p ≡ Some b
+    → parameter_at k (drop p bytes) ≡ Ok (b, drop (p + 1) bytes)
+parameter_is k p bytes b other h = rw (by_kind k (drop p bytes) other, here p bytes b h) refl
+
+pub no_parameter : (k : ParamKind) (p : ℕ) (bytes : List ℕ) → (k ≡ kind.Absent → ⊥) → slice_get bytes p ≡ None → IsFault (parameter_at k (drop p bytes))
+no_parameter k p bytes other h = rw (by_kind k (drop p bytes) other, nothing_here p bytes h) tt
+
+-- What is read of a condact from its code on.
+abbrev parameters_at : ℕ → List ℕ → Reading Condact
+parameters_at code bytes =
+    parameter_at (first_kind code) bytes >>= λ a. parameter_at (second_kind code) a.1 >>= λ b.
+    Ok (record { code = code; a = a.0; b = b.0 }, b.1)
+
+module _ (p : ℕ) (bytes : List ℕ) (code : ℕ) (h : slice_get bytes p ≡ Some code) where
+  pub no_code : (IsCode code → ⊥) → value_of (leading_condact (drop p bytes)) ≡ None
+  unfolding leading_condact
+  no_code other = rw (here p bytes code h, false_from_ne_true (is_code code) other) refl
+
+  from_code : IsCode code → leading_condact (drop p bytes) ≡ parameters_at code (drop (p + 1) bytes)
+  unfolding leading_condact
+  from_code is = rw (here p bytes code h, is) refl
+
+  pub condact_is : IsCode code → (a b after next : ℕ) → parameter_at (first_kind code) (drop (p + 1) bytes) ≡ Ok (a, drop after bytes)
+      → parameter_at (second_kind code) (drop after bytes) ≡ Ok (b, drop next bytes)
+      → leading_condact (drop p bytes) ≡ Ok (record { code = code; a = a; b = b }, drop next bytes)
+  condact_is is a b after next first second = rw (from_code is, first, second) refl
+
+  pub no_first : IsCode code → IsFault (parameter_at (first_kind code) (drop (p + 1) bytes)) → value_of (leading_condact (drop p bytes)) ≡ None
+  no_first is fault =
+      no_value (leading_condact (drop p bytes)) (rw (from_code is) (fault_first (parameter_at (first_kind code) (drop (p + 1) bytes)) _ fault))
+
+  pub no_second : IsCode code → (a after : ℕ) → parameter_at (first_kind code) (drop (p + 1) bytes) ≡ Ok (a, drop after bytes)
+      → IsFault (parameter_at (second_kind code) (drop after bytes)) → value_of (leading_condact (drop p bytes)) ≡ None
+  no_second is a after first fault =
+      no_value (leading_condact (drop p bytes))
+      (rw (from_code is, first) (fault_first (parameter_at (second_kind code) (drop after bytes)) _ fault))
+
+pub nothing_read : (p : ℕ) (bytes : List ℕ) → slice_get bytes p ≡ None → value_of (leading_condact (drop p bytes)) ≡ None
+unfolding leading_condact
+nothing_read p bytes h = rw (nothing_here p bytes h) refl
