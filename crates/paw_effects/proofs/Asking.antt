@@ -16,10 +16,10 @@ use Rattle.paw_effects.specs.declared.object_actions.Action.{Action}
 use Rattle.paw_effects.specs.declared.object_actions.Action.TheVariants as action
 use Rattle.paw_effects.specs.declared.object_words.ObjectReply.{ObjectReply}
 use Rattle.paw_effects.specs.Story.{Story}
-use Rattle.paw_effects.specs.Positions.{loaded, position_number}
-use Rattle.paw_effects.specs.Referring.{referred}
+use Rattle.paw_effects.specs.Positions.{position_loaded, position_number}
+use Rattle.paw_effects.specs.Referring.{object_referred}
 use Rattle.paw_effects.specs.ObjectSearch.{first_fitting}
-use Rattle.paw_effects.specs.ObjectActions.{first_that_holds, hindrances, tried, acted_on}
+use Rattle.paw_effects.specs.ObjectActions.{first_that_holds, hindrances, action_tried, acted_on}
 use Rattle.paw_effects.specs.AutoActions.{looks_at, acted_on_found, acted_by_name}
 use Rattle.paw_effects.specs.Meanings.{Meaning, Tests, Acts}
 use Rattle.paw_effects.specs.Indirect.{as_plain}
@@ -99,12 +99,12 @@ module _ (g : GameLists) (w : World) (c d : Condact) (is : as_plain g w c ≡ So
 
 -- ---- actions on objects, and positions ----
 
-tried_leads : (g : GameLists) (w v : World) (c : Condact) (o : ℕ) (a : Action) (said : Option ObjectReply) → Leads w c (tried g v o a said).act.effect
+tried_leads : (g : GameLists) (w v : World) (c : Condact) (o : ℕ) (a : Action) (said : Option ObjectReply) → Leads w c (action_tried g v o a said).act.effect
 tried_leads g w v c o a (Some said) = tt
 tried_leads g w v c o a None = tt
 
 pub acted_leads : (g : GameLists) (w : World) (c : Condact) (o : ℕ) (a : Action) → Leads w c (acted_on g w o a).act.effect
-acted_leads g w c o a = tried_leads g w (referred w o) c o a (first_that_holds (hindrances (referred w o) o a))
+acted_leads g w c o a = tried_leads g w (object_referred w o) c o a (first_that_holds (hindrances (object_referred w o) o a))
 
 found_leads : (g : GameLists) (w : World) (c : Condact) (a : Action) (found : Option ℕ) → Leads w c (acted_on_found g w a found).act.effect
 found_leads g w c a (Some o) = acted_leads g w c o a
@@ -113,7 +113,7 @@ found_leads g w c a None = tt
 pub named_leads : (g : GameLists) (w : World) (c : Condact) (a : Action) → Leads w c (acted_by_name g w a).act.effect
 named_leads g w c a = found_leads g w c a (first_fitting w (looks_at a))
 
-pub loaded_leads : (g : GameLists) (w : World) (c : Condact) (kept : Option Position) → Leads w c (loaded g w kept).act.effect
+pub loaded_leads : (g : GameLists) (w : World) (c : Condact) (kept : Option Position) → Leads w c (position_loaded g w kept).act.effect
 loaded_leads g w c None = tt
 loaded_leads g w c (Some q) = tt
 

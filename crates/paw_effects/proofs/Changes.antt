@@ -26,14 +26,14 @@ use Rattle.paw_game.specs.Valid.{Valid, is_argument, is_parameter, is_within}
 use Rattle.paw_game.specs.inner.Valid.{is_right}
 use Rattle.paw_game.proofs.Kept.{exit-leads}
 use Rattle.paw_game.proofs.Right.{right-first, right-second}
-use Rattle.paw_world.specs.World.{World, Position, is_somewhere, flag, with_flag, place, here, moved}
+use Rattle.paw_world.specs.World.{World, Position, is_somewhere, flag, with_flag, place, here, object_moved}
 use Rattle.paw_world.specs.World.{with_objects_returned, at_position}
 use Rattle.paw_world.specs.World.{drawn_on, position_of, keeping, kept_position}
 use Rattle.paw_world.specs.Draws.{random_word}
 use Rattle.paw_routines.specs.Answers.{value_in, value_at}
 use Rattle.paw_world.specs.Weight.{weight, carried_weight, objects_at}
-use Rattle.paw_effects.specs.Chance.{rolled}
-use Rattle.paw_effects.specs.Positions.{position_number, loaded}
+use Rattle.paw_effects.specs.Chance.{percent_drawn}
+use Rattle.paw_effects.specs.Positions.{position_number, position_loaded}
 use Rattle.paw_effects.specs.MoveActions.{names_place}
 use Rattle.paw_effects.specs.Presence.{named_place, held_objects}
 use Rattle.paw_effects.specs.declared.object_actions.Action.{Action}
@@ -42,11 +42,11 @@ use Rattle.paw_effects.specs.declared.object_search.Spot.{Spot}
 use Rattle.paw_effects.specs.declared.object_search.Spot.TheVariants as spot
 use Rattle.paw_effects.specs.declared.object_search.Spot.TheVariants.{Here, At}
 use Rattle.paw_effects.specs.declared.object_words.ObjectReply.{ObjectReply}
-use Rattle.paw_effects.specs.ObjectActions.{first_that_holds, hindrances, destination, tried, acted_on}
+use Rattle.paw_effects.specs.ObjectActions.{first_that_holds, hindrances, destination, action_tried, acted_on}
 use Rattle.paw_effects.specs.ObjectSearch.{fits_sentence, names as names_facts, least_fitting, fitting_at}
 use Rattle.paw_effects.specs.ObjectSearch.{first_fitting}
 use Rattle.paw_effects.specs.AutoActions.{looks_at, acted_on_found}
-use Rattle.paw_effects.specs.Referring.{referred, referred_to_none, with_referred_facts, flag_of_fact}
+use Rattle.paw_effects.specs.Referring.{object_referred, referred_to_none, with_referred_facts, flag_of_fact}
 use Rattle.paw_effects.specs.Meanings.{Meaning, Tests, Acts}
 use Rattle.paw_effects.specs.Effects.{done_by}
 use Rattle.paw_effects.specs.Story.{story_of}
@@ -147,7 +147,7 @@ module _ (g : GameLists) (v : Valid g) (seed n : ℕ) where
     draws = k.draws;
   }
 
-  pub back_so : (w : World) → Is w → (q : Option Position) → MayBePosition g q → Is (loaded g w q).world
+  pub back_so : (w : World) → Is w → (q : Option Position) → MayBePosition g q → Is (position_loaded g w q).world
   back_so w k None at = k
   back_so w k (Some q) at = record {
     of = record { facts = k.of.facts; locations = k.of.locations; flags = at.flags; places = at.each };
@@ -160,7 +160,7 @@ module _ (g : GameLists) (v : Valid g) (seed n : ℕ) where
     draws = k.draws;
   }
 
-  pub rolled_small : (w : World) → rolled w < 256
+  pub rolled_small : (w : World) → percent_drawn w < 256
   rolled_small w = of_hundred (random_word w.seed w.draws)
     where
       of_hundred : (x : ℕ) → 1 + x % 100 < 256
@@ -179,9 +179,9 @@ module _ (g : GameLists) (v : Valid g) (seed n : ℕ) where
 
   -- ---- moves ----
 
-  pub all_so : (p : ℕ) → IsPlace g v seed p → (objects : List ℕ) (w : World) → Is w → Is (fold (λ u o. moved u o p) w objects)
+  pub all_so : (p : ℕ) → IsPlace g v seed p → (objects : List ℕ) (w : World) → Is w → Is (fold (λ u o. object_moved u o p) w objects)
   all_so p at [] w k = k
-  all_so p at (o ∷ objects) w k = all_so p at objects (moved w o p) (moved_so g v seed n w k o p at)
+  all_so p at (o ∷ objects) w k = all_so p at objects (object_moved w o p) (moved_so g v seed n w k o p at)
 
   -- What a parameter of this code may be.
   first_of : (c : Condact) (code : ℕ) → c.code ≡ code → is_right g c ≡ true → IsTrue (is_argument g (first_kind code) c.a)
@@ -215,7 +215,7 @@ module _ (g : GameLists) (v : Valid g) (seed n : ℕ) where
   pub names : (w : World) → Is w → (p : ℕ) → names_place w p ≡ true → IsPlace g v seed (named_place w p)
   names w k p h = named g v seed n w k p (subst (λ l. (nat_lt p l || is_within NOT_CREATED_PLACE HERE_PLACE p) ≡ true) k.of.locations h)
 
-  pub to : (w : World) → Is w → (o p : ℕ) → IsPlace g v seed p → IsNext (moved w o p)
+  pub to : (w : World) → Is w → (o p : ℕ) → IsPlace g v seed p → IsNext (object_moved w o p)
   to w k o p at = next _ (moved_so g v seed n w k o p at)
 
   pub if_so : (b : Bool) (x y : World) → (b ≡ true → IsNext x) → IsNext y → IsNext (if b then x else y)
@@ -237,7 +237,7 @@ module _ (g : GameLists) (v : Valid g) (seed n : ℕ) where
       (flagged g v seed n heavy heavy_so 56 (flag_of_fact f.container) (class_small f.container))
       57 (flag_of_fact f.wearable) (class_small f.wearable)
 
-  pub referred_so : (w : World) → Is w → (o : ℕ) → o < 256 → Is (referred w o)
+  pub referred_so : (w : World) → Is w → (o : ℕ) → o < 256 → Is (object_referred w o)
   referred_so w k o small =
       facts_so (with_flag (with_flag w 51 o) 54 (place w o))
       (flagged g v seed n (with_flag w 51 o) (flagged g v seed n w k 51 o small) 54 (place w o) (place_is_small g v seed n w k o)) o (slice_get w.facts o)
@@ -274,19 +274,19 @@ module _ (g : GameLists) (v : Valid g) (seed n : ℕ) where
   destination_place w k (action.PutIn l) p = p
   destination_place w k (action.TakeOut l) p = held_place CARRIED_PLACE refl
 
-  tried_so : (w : World) → Is w → (o : ℕ) (a : Action) (said : Option ObjectReply) → Puts a → Is (tried g w o a said).world
+  tried_so : (w : World) → Is w → (o : ℕ) (a : Action) (said : Option ObjectReply) → Puts a → Is (action_tried g w o a said).world
   tried_so w k o a (Some said) p = k
   tried_so w k o a None p = moved_so g v seed n w k o (destination w a) (destination_place w k a p.at)
 
   pub acted_so : (w : World) → Is w → (o : ℕ) (a : Action) → o < 256 → Puts a → Is (acted_on g w o a).world
-  acted_so w k o a small p = tried_so (referred w o) (referred_so w k o small) o a (first_that_holds (hindrances (referred w o) o a)) p
+  acted_so w k o a small p = tried_so (object_referred w o) (referred_so w k o small) o a (first_that_holds (hindrances (object_referred w o) o a)) p
 
   found_so : (w : World) → Is w → (a : Action) (found : Option ℕ) → Puts a → ((o : ℕ) → found ≡ Some o → o < 256) → Is (acted_on_found g w a found).world
   found_so w k a (Some o) p small = acted_so w k o a (small o refl) p
   found_so w k a None p small = k
 
   pub meant_so : (w : World) → Is w → (found : Option ℕ) → ((o : ℕ) → found ≡ Some o → o < 256)
-      → Is (option_map_or (referred w) found (referred_to_none w))
+      → Is (option_map_or (object_referred w) found (referred_to_none w))
   meant_so w k (Some o) small = referred_so w k o (small o refl)
   meant_so w k None small = none_so w k
 
@@ -343,10 +343,10 @@ module _ (g : GameLists) (v : Valid g) (seed n : ℕ) where
   pub named_so : (w : World) → Is w → (a : Action) → Puts a → IsNext (acted_on_found g w a (first_fitting w (looks_at a))).world
   named_so w k a p = next _ (found_so w k a (first_fitting w (looks_at a)) p (first_small w k (looks_at a)))
 
-  pub swapped_so : (w : World) → Is w → (o m : ℕ) → IsNext (moved (moved w o (place w m)) m (place w o))
+  pub swapped_so : (w : World) → Is w → (o m : ℕ) → IsNext (object_moved (object_moved w o (place w m)) m (place w o))
   swapped_so w k o m =
-      let first : Is (moved w o (place w m)) = moved_so g v seed n w k o (place w m) (place_of g v seed n w k m) in
-      next _ (moved_so g v seed n (moved w o (place w m)) first m (place w o) (place_of g v seed n w k o))
+      let first : Is (object_moved w o (place w m)) = moved_so g v seed n w k o (place w m) (place_of g v seed n w k m) in
+      next _ (moved_so g v seed n (object_moved w o (place w m)) first m (place w o) (place_of g v seed n w k o))
 
   pub less_small : (w : World) → Is w → (f x : ℕ) → flag w f - x < 256
   less_small w k f x = let small = flag_small g v seed n w k f in omega (arith, small)

@@ -14,7 +14,7 @@ use Rattle.paw_game.specs.Valid.{Valid, is_condact, is_place}
 use Rattle.paw_game.specs.inner.Valid.{is_right}
 use Rattle.paw_game.proofs.Right.{right-first, right-second, right_condact}
 use Rattle.paw_routines.specs.Answers.{value_at}
-use Rattle.paw_world.specs.World.{World, Position, flag, with_flag, place, here, moved, drawn_on, kept_position}
+use Rattle.paw_world.specs.World.{World, Position, flag, with_flag, place, here, object_moved, drawn_on, kept_position}
 use Rattle.paw_world.specs.World.{with_objects_returned}
 use Rattle.paw_world.specs.Weight.{carried_weight}
 use Rattle.paw_effects.specs.declared.act.Act.{Act}
@@ -22,7 +22,7 @@ use Rattle.paw_effects.specs.declared.act.Truth.TheVariants as truth
 use Rattle.paw_effects.specs.declared.object_actions.Action.{Action}
 use Rattle.paw_effects.specs.declared.object_actions.Action.TheVariants as action
 use Rattle.paw_effects.specs.Story.{Story, story_of}
-use Rattle.paw_effects.specs.Chance.{rolled}
+use Rattle.paw_effects.specs.Chance.{percent_drawn}
 use Rattle.paw_effects.specs.Presence.{named_place, held_objects}
 use Rattle.paw_effects.specs.Positions.{position_number}
 use Rattle.paw_effects.specs.MoveActions.{names_place}
@@ -129,7 +129,7 @@ moving : (code : ℕ) (o p : World → Condact → ℕ)
     → is_place (length g.locations) (p w c) ≡ true)
     → ((g : GameLists) (v : Valid g) (seed n : ℕ) (w : World) (c : Condact) → c.code ≡ code → Is g v seed n w → is_right g c ≡ true
     → IsPlace g v seed (p w c))
-    → Facts code (changing (λ w c. moved w (o w c) (p w c)))
+    → Facts code (changing (λ w c. object_moved w (o w c) (p w c)))
 moving code o p at stands = record {
   leads = λ s w c is. tt;
   places = λ s w c is v r k. moved_placed s.game w (o w c) (p w c) (at s.game w c is v r k) k;
@@ -269,7 +269,7 @@ each_row =
       leads = λ s w c is. tt;
       places = λ s w c is v r k. swapped_placed s.game v w c.a c.b k;
       stays = λ g v seed n X w c is bytes k kept a b. swapped_so g v seed n w k c.a c.b;
-      keeps = λ ks s w c is o k. moved_kept ks (moved w c.a (place w c.b)) c.b (place w c.a) (moved_kept ks w c.a (place w c.b) k);
+      keeps = λ ks s w c is o k. moved_kept ks (object_moved w c.a (place w c.b)) c.b (place w c.a) (moved_kept ks w c.a (place w c.b) k);
     }) &  -- SWAP
     moving _ _ _ (λ g w c is v r k. named_is_place g w c.b k.1.0 (second_kept g c PLACE kind.Place place_takes is r))
     (λ g v seed n w c is k kept. named g v seed n w k c.b (place_is g v seed n c is kept)) &  -- PLACE
@@ -291,7 +291,7 @@ each_row =
       leads = λ s w c is. tt;
       places = λ s w c is v r k. k;
       stays = λ g v seed n X w c is bytes k kept a b.
-          flagged g v seed (suc n) (drawn_on w 1) (drawn_so g v seed n w k) c.a (rolled w) (rolled_small g v seed n w);
+          flagged g v seed (suc n) (drawn_on w 1) (drawn_so g v seed n w k) c.a (percent_drawn w) (rolled_small g v seed n w);
       keeps = λ ks s w c is o k. k;
     }) &  -- RANDOM
     moving _ _ _ (λ g w c is v r k. at_place g v w.places c.a k.1.1.0)

@@ -9,7 +9,7 @@ use Rattle.std.proofs.lemmas.List.Sums.{fold-append}
 use Rattle.paw_base.specs.declared.places.TheConstants.{CARRIED_PLACE, WORN_PLACE}
 use Rattle.paw_world.proofs.WorldLemmas.{place-moved_other, length-moved}
 use Rattle.paw_game.specs.Game.{GameLists}
-use Rattle.paw_world.specs.World.{World, with_flag, place, with_place, let_go, taken_up, moved, here}
+use Rattle.paw_world.specs.World.{World, with_flag, place, with_place, let_go, taken_up, object_moved, here}
 use Rattle.paw_effects.specs.Worlds.{IsOf}
 use Rattle.paw_effects.specs.Presence.{named_place, held_objects, is_held}
 use Rattle.paw_effects.specs.MoveActions.{all_dropped, moved_if_place, names_place}
@@ -50,16 +50,16 @@ Alike-let_go w p = Alike-either (p == CARRIED_PLACE) w _ w (Alike-with_flag w 1 
 Alike-taken_up : (w : World) (p : ℕ) → Alike w (taken_up w p)
 Alike-taken_up w p = Alike-either (p == CARRIED_PLACE) w _ w (Alike-with_flag w 1 _) (Alike-same w)
 
-pub Alike-moved : (w : World) (o p : ℕ) → Alike w (moved w o p)
+pub Alike-moved : (w : World) (o p : ℕ) → Alike w (object_moved w o p)
 Alike-moved w o p =
     let gone = let_go w (place w o) in
     let up = taken_up gone p in
     Alike-either (place w o == p) w w (with_place up o p) (Alike-same w)
     (Alike-then w up (with_place up o p) (Alike-then w gone up (Alike-let_go w (place w o)) (Alike-taken_up gone p)) (Alike-with_place up o p))
 
-Alike-all : (p : ℕ) (os : List ℕ) (w : World) → Alike w (fold (λ v o. moved v o p) w os)
+Alike-all : (p : ℕ) (os : List ℕ) (w : World) → Alike w (fold (λ v o. object_moved v o p) w os)
 Alike-all p [] w = Alike-same w
-Alike-all p (o ∷ os) w = Alike-then w (moved w o p) _ (Alike-moved w o p) (Alike-all p os (moved w o p))
+Alike-all p (o ∷ os) w = Alike-then w (object_moved w o p) _ (Alike-moved w o p) (Alike-all p os (object_moved w o p))
 
 pub Alike-all_dropped : (w v : World) → v ≡ all_dropped w → Alike w v
 Alike-all_dropped w v is = let P : World → Type 0 = λ u. Alike w u in subst P (sym is) (Alike-all (here w) (held_objects w) w)
@@ -86,15 +86,15 @@ range_more a (suc n) =
 
 -- What is held of the objects below a number is dropped.
 abbrev pub dropped_below : World → ℕ → World
-dropped_below w n = fold (λ v o. moved v o (here w)) w (filter (is_held w) (range_with_len 0 n))
+dropped_below w n = fold (λ v o. object_moved v o (here w)) w (filter (is_held w) (range_with_len 0 n))
 
 filter_one : (w : World) (n : ℕ) (b : Bool) → is_held w n ≡ b → filter (is_held w) (n ∷ []) ≡ cond b (n ∷ []) []
 filter_one w n b is = ap (λ (x : Bool). cond x (n ∷ []) []) is
 
 dropped_one_more : (w : World) (n : ℕ) (b : Bool) → is_held w n ≡ b
-    → dropped_below w (n + 1) ≡ fold (λ v o. moved v o (here w)) (dropped_below w n) (cond b (n ∷ []) [])
+    → dropped_below w (n + 1) ≡ fold (λ v o. object_moved v o (here w)) (dropped_below w n) (cond b (n ∷ []) [])
 dropped_one_more w n b is =
-    let F : World → ℕ → World = λ v o. moved v o (here w) in
+    let F : World → ℕ → World = λ v o. object_moved v o (here w) in
     let same : 0 + n ≡ n = omega arith in
     let next : n + 1 ≡ suc n = omega arith in
     let last : range_with_len 0 (n + 1) ≡ range_with_len 0 n ++ n ∷ [] =
@@ -116,12 +116,12 @@ none_dropped w = record { dropped = refl; others = λ k h. refl; count = refl }
 same_held : (w v : World) (n : ℕ) → AreDropped w n v → is_held v n ≡ is_held w n
 same_held w v n so_far = ap (λ (p : ℕ). (p == WORN_PLACE) || (p == CARRIED_PLACE)) (so_far.others n (omega arith))
 
-pub one_dropped : (w v u : World) (n to : ℕ) → AreDropped w n v → is_held v n ≡ true → to ≡ here w → u ≡ moved v n to → AreDropped w (n + 1) u
+pub one_dropped : (w v u : World) (n to : ℕ) → AreDropped w n v → is_held v n ≡ true → to ≡ here w → u ≡ object_moved v n to → AreDropped w (n + 1) u
 one_dropped w v u n to so_far held place_is is =
-    let same : u ≡ moved v n (here w) = is ∙ ap (moved v n) place_is in
+    let same : u ≡ object_moved v n (here w) = is ∙ ap (object_moved v n) place_is in
     record {
       dropped = same
-          ∙ (ap (λ (x : World). moved x n (here w)) so_far.dropped ∙ sym (dropped_one_more w n true (sym (same_held w v n so_far) ∙ held)));
+          ∙ (ap (λ (x : World). object_moved x n (here w)) so_far.dropped ∙ sym (dropped_one_more w n true (sym (same_held w v n so_far) ∙ held)));
       others = λ k h. ap (λ (x : World). place x k) same
           ∙ (place-moved_other v n (here w) k (λ equal. absurd (omega arith)) ∙ so_far.others k (omega arith));
       count = ap (λ (x : World). length x.places) same ∙ (length-moved v n (here w) ∙ so_far.count);

@@ -23,9 +23,9 @@ use Rattle.paw_game.specs.Valid.{Valid, is_argument, is_within, is_place, is_tex
 use Rattle.paw_game.specs.inner.Valid.{is_right}
 use Rattle.paw_game.proofs.Kept.{first_of_and, facts-start}
 use Rattle.paw_game.proofs.Right.{right-first, right-second}
-use Rattle.paw_world.specs.World.{World, Position, flag, with_flag, place, with_place, here, let_go, taken_up, moved}
+use Rattle.paw_world.specs.World.{World, Position, flag, with_flag, place, with_place, here, let_go, taken_up, object_moved}
 use Rattle.paw_world.specs.World.{opening_places}
-use Rattle.paw_world.specs.World.{starting_world, restarted, with_objects_returned, at_position, position_of, keeping}
+use Rattle.paw_world.specs.World.{starting_world, world_restarted, with_objects_returned, at_position, position_of, keeping}
 use Rattle.paw_world.specs.World.{kept_position}
 use Rattle.paw_effects.specs.declared.object_actions.Action.{Action}
 use Rattle.paw_effects.specs.declared.object_actions.Action.TheVariants as action
@@ -33,12 +33,12 @@ use Rattle.paw_effects.specs.declared.object_words.ObjectReply.{ObjectReply}
 use Rattle.paw_effects.specs.inner.Worlds.{ArePlacesOf, StandsIn}
 use Rattle.paw_effects.specs.Story.{Story}
 use Rattle.paw_routines.specs.Answers.{value_at}
-use Rattle.paw_effects.specs.Positions.{loaded, position_number}
+use Rattle.paw_effects.specs.Positions.{position_loaded, position_number}
 use Rattle.paw_effects.specs.Presence.{named_place, held_objects}
 use Rattle.paw_effects.specs.MoveActions.{names_place, moved_if_place}
-use Rattle.paw_effects.specs.Referring.{with_referred_facts, referred, referred_to_none}
+use Rattle.paw_effects.specs.Referring.{with_referred_facts, object_referred, referred_to_none}
 use Rattle.paw_effects.specs.ObjectSearch.{first_fitting}
-use Rattle.paw_effects.specs.ObjectActions.{destination, first_that_holds, hindrances, tried}
+use Rattle.paw_effects.specs.ObjectActions.{destination, first_that_holds, hindrances, action_tried}
 use Rattle.paw_effects.specs.AutoActions.{looks_at, acted_on_found}
 use Rattle.paw_effects.specs.Meanings.{Meaning, Tests, Acts}
 use Rattle.paw_effects.specs.Effects.{done_by}
@@ -97,7 +97,7 @@ flag_placed : (g : GameLists) (b : Bool) (w : World) (f x : ℕ) → IsPlaced g 
 flag_placed g true w f x k = k
 flag_placed g false w f x k = k
 
-pub moved_placed : (g : GameLists) (w : World) (o p : ℕ) → is_place (length g.locations) p ≡ true → IsPlaced g w → IsPlaced g (moved w o p)
+pub moved_placed : (g : GameLists) (w : World) (o p : ℕ) → is_place (length g.locations) p ≡ true → IsPlaced g w → IsPlaced g (object_moved w o p)
 moved_placed g w o p at k =
     let left : World = let_go w (place w o) in
     let come : World = taken_up left p in
@@ -119,7 +119,7 @@ begins_placed g facts v is = subst (λ fs. ArePlacesOf g (opening_places fs)) (s
 pub opened_placed : (g : GameLists) (seed : ℕ) → Valid g → IsPlaced g (starting_world (map (λ o. o.facts) g.objects) (length g.locations) seed)
 opened_placed g seed v = (refl, (refl, (opening_at g v, (tt, All-replicate (StandsIn g) 4 None tt))))
 
-pub restarted_placed : (g : GameLists) (w : World) → Valid g → IsPlaced g w → IsPlaced g (restarted w)
+pub restarted_placed : (g : GameLists) (w : World) → Valid g → IsPlaced g w → IsPlaced g (world_restarted w)
 restarted_placed g w v k = (k.0, (k.1.0, (begins_placed g w.facts v k.0, k.1.1.1)))
 
 pub returned_placed : (g : GameLists) (w : World) → Valid g → IsPlaced g w → IsPlaced g (with_objects_returned w)
@@ -168,13 +168,13 @@ doall_place g w c of kept is = named_is_place g w c.a of (first_kept g c DOALL k
 -- ---- actions that move objects ----
 
 pub dropped : (g : GameLists) (p : ℕ) (os : List ℕ) (w : World) → is_place (length g.locations) p ≡ true → IsPlaced g w →
-    IsPlaced g (fold (λ v o. moved v o p) w os)
+    IsPlaced g (fold (λ v o. object_moved v o p) w os)
 dropped g p [] w at k = k
-dropped g p (o ∷ os) w at k = dropped g p os (moved w o p) at (moved_placed g w o p at k)
+dropped g p (o ∷ os) w at k = dropped g p os (object_moved w o p) at (moved_placed g w o p at k)
 
 pub if_place : (g : GameLists) (w : World) (o p : ℕ) → IsPlaced g w → IsPlaced g (moved_if_place w o p)
 if_place g w o p k =
-    by_test g (names_place w p) (moved w o (named_place w p)) w
+    by_test g (names_place w p) (object_moved w o (named_place w p)) w
     (λ names. moved_placed g w o (named_place w p)
     (named_is_place g w p k.1.0 (subst (λ n. (nat_lt p n || is_within NOT_CREATED_PLACE HERE_PLACE p) ≡ true) k.1.0 names)) k)
     (λ none. k)
@@ -182,14 +182,14 @@ if_place g w o p k =
 pub not_created : (g : GameLists) → is_place (length g.locations) NOT_CREATED_PLACE ≡ true
 not_created g = grind (arith, nat_tests)
 
-pub swapped_placed : (g : GameLists) → Valid g → (w : World) (o k : ℕ) → IsPlaced g w → IsPlaced g (moved (moved w o (place w k)) k (place w o))
+pub swapped_placed : (g : GameLists) → Valid g → (w : World) (o k : ℕ) → IsPlaced g w → IsPlaced g (object_moved (object_moved w o (place w k)) k (place w o))
 swapped_placed g v w o k h =
     let at : (x : ℕ) → is_place (length g.locations) (place w x) ≡ true = λ x. at_place g v w.places x h.1.1.0 in
-    moved_placed g (moved w o (place w k)) k (place w o) (at o) (moved_placed g w o (place w k) (at k) h)
+    moved_placed g (object_moved w o (place w k)) k (place w o) (at o) (moved_placed g w o (place w k) (at k) h)
 
 pub to_placed : (g : GameLists) (w : World) (p : ℕ) → is_place (length g.locations) p ≡ true → IsPlaced g w →
-    IsPlaced g (if nat_lt (flag w 51) (length w.places) then moved w (flag w 51) p else w)
-to_placed g w p at k = one_placed g (nat_lt (flag w 51) (length w.places)) (moved w (flag w 51) p) w (moved_placed g w (flag w 51) p at k) k
+    IsPlaced g (if nat_lt (flag w 51) (length w.places) then object_moved w (flag w 51) p else w)
+to_placed g w p at k = one_placed g (nat_lt (flag w 51) (length w.places)) (object_moved w (flag w 51) p) w (moved_placed g w (flag w 51) p at k) k
 
 -- ---- actions on objects ----
 
@@ -197,7 +197,7 @@ facts_placed : (g : GameLists) (w : World) (o : ℕ) (f : Option ObjectFacts) �
 facts_placed g w o None k = k
 facts_placed g w o (Some f) k = k
 
-pub referred_placed : (g : GameLists) (w : World) (o : ℕ) → IsPlaced g w → IsPlaced g (referred w o)
+pub referred_placed : (g : GameLists) (w : World) (o : ℕ) → IsPlaced g w → IsPlaced g (object_referred w o)
 referred_placed g w o k = facts_placed g (with_flag (with_flag w 51 o) 54 (place w o)) o (slice_get w.facts o) k
 
 -- An action puts objects only in at places.
@@ -228,20 +228,21 @@ autop_goes g c is r = record { to = low_place (length g.locations) c.a (first_ke
 pub putin_goes : (g : GameLists) (c : Condact) → c.code ≡ PUTIN → IsTrue (is_right g c) → Goes g (action.PutIn c.b)
 putin_goes g c is r = record { to = low_place (length g.locations) c.b (second_kept g c PUTIN kind.Location putin_takes is r) }
 
-tried_placed : (g : GameLists) (w : World) (o : ℕ) (a : Action) (said : Option ObjectReply) → Goes g a → IsPlaced g w → IsPlaced g (tried g w o a said).world
+tried_placed : (g : GameLists) (w : World) (o : ℕ) (a : Action) (said : Option ObjectReply) → Goes g a → IsPlaced g w →
+    IsPlaced g (action_tried g w o a said).world
 tried_placed g w o a (Some said) h k = k
 tried_placed g w o a None h k = moved_placed g w o (destination w a) (destined g w a k.1.0 h.to) k
 
 pub acted_placed : (g : GameLists) (w : World) (o : ℕ) (a : Action) → Goes g a → IsPlaced g w →
-    IsPlaced g (tried g (referred w o) o a (first_that_holds (hindrances (referred w o) o a))).world
-acted_placed g w o a h k = tried_placed g (referred w o) o a (first_that_holds (hindrances (referred w o) o a)) h (referred_placed g w o k)
+    IsPlaced g (action_tried g (object_referred w o) o a (first_that_holds (hindrances (object_referred w o) o a))).world
+acted_placed g w o a h k = tried_placed g (object_referred w o) o a (first_that_holds (hindrances (object_referred w o) o a)) h (referred_placed g w o k)
 
 pub found_placed : (g : GameLists) (w : World) (a : Action) (found : Option ℕ) → Goes g a → IsPlaced g w → IsPlaced g (acted_on_found g w a found).world
 found_placed g w a (Some o) h k = acted_placed g w o a h k
 found_placed g w a None h k = k
 
 pub referred_found : (g : GameLists) (w : World) (found : Option ℕ) → IsPlaced g w
-    → IsPlaced g (option_map_or (referred w) found (referred_to_none w))
+    → IsPlaced g (option_map_or (object_referred w) found (referred_to_none w))
 referred_found g w (Some o) k = referred_placed g w o k
 referred_found g w None k = k
 
@@ -255,7 +256,7 @@ loaded_placed g w n (Some q) is k =
 
 -- ---- positions that are kept ----
 
-pub taken_placed : (g : GameLists) (w : World) (kept : Option Position) → StandsIn g kept → IsPlaced g w → IsPlaced g (loaded g w kept).world
+pub taken_placed : (g : GameLists) (w : World) (kept : Option Position) → StandsIn g kept → IsPlaced g w → IsPlaced g (position_loaded g w kept).world
 taken_placed g w None at k = k
 taken_placed g w (Some q) at k = (k.0, (k.1.0, (at, k.1.1.1)))
 

@@ -8,19 +8,19 @@ use Rattle.paw_base.specs.declared.parts.Condact.{Condact}
 use Rattle.paw_base.specs.declared.parts.ObjectFacts.{ObjectFacts}
 use Rattle.paw_game.specs.Game.{GameLists}
 use Rattle.paw_routines.specs.Answers.{value_at}
-use Rattle.paw_world.specs.World.{World, Position, flag, with_flag, place, with_place, here, let_go, taken_up, moved}
+use Rattle.paw_world.specs.World.{World, Position, flag, with_flag, place, with_place, here, let_go, taken_up, object_moved}
 use Rattle.paw_world.specs.World.{at_position}
 use Rattle.paw_world.specs.World.{kept_position}
 use Rattle.paw_effects.specs.declared.object_actions.Action.{Action}
 use Rattle.paw_effects.specs.declared.object_actions.Action.TheVariants as action
 use Rattle.paw_effects.specs.declared.object_words.ObjectReply.{ObjectReply}
 use Rattle.paw_effects.specs.Story.{Story}
-use Rattle.paw_effects.specs.Positions.{loaded, position_number}
+use Rattle.paw_effects.specs.Positions.{position_loaded, position_number}
 use Rattle.paw_effects.specs.Presence.{named_place, held_objects}
 use Rattle.paw_effects.specs.MoveActions.{names_place}
-use Rattle.paw_effects.specs.Referring.{with_referred_facts, referred, referred_to_none}
+use Rattle.paw_effects.specs.Referring.{with_referred_facts, object_referred, referred_to_none}
 use Rattle.paw_effects.specs.ObjectSearch.{first_fitting}
-use Rattle.paw_effects.specs.ObjectActions.{destination, first_that_holds, hindrances, tried}
+use Rattle.paw_effects.specs.ObjectActions.{destination, first_that_holds, hindrances, action_tried}
 use Rattle.paw_effects.specs.AutoActions.{looks_at, acted_on_found}
 use Rattle.paw_effects.specs.Meanings.{Meaning, Tests, Acts}
 use Rattle.paw_effects.specs.Effects.{done_by}
@@ -42,15 +42,15 @@ module _ (ks : List (Option Position)) where
   flag_kept true w f x k = k
   flag_kept false w f x k = k
 
-  pub moved_kept : (w : World) (o p : ℕ) → AreKept w → AreKept (moved w o p)
+  pub moved_kept : (w : World) (o p : ℕ) → AreKept w → AreKept (object_moved w o p)
   moved_kept w o p k =
       let left : World = let_go w (place w o) in
       one_kept (place w o == p) w (with_place (taken_up left p) o p) k
       (flag_kept (p == CARRIED_PLACE) left 1 _ (flag_kept (place w o == CARRIED_PLACE) w 1 _ k))
 
-  pub dropped_kept : (p : ℕ) (os : List ℕ) (w : World) → AreKept w → AreKept (fold (λ v o. moved v o p) w os)
+  pub dropped_kept : (p : ℕ) (os : List ℕ) (w : World) → AreKept w → AreKept (fold (λ v o. object_moved v o p) w os)
   dropped_kept p [] w k = k
-  dropped_kept p (o ∷ os) w k = dropped_kept p os (moved w o p) (moved_kept w o p k)
+  dropped_kept p (o ∷ os) w k = dropped_kept p os (object_moved w o p) (moved_kept w o p k)
 
   -- ---- actions on objects ----
 
@@ -58,22 +58,22 @@ module _ (ks : List (Option Position)) where
   facts_kept w o None k = k
   facts_kept w o (Some f) k = k
 
-  pub referred_kept : (w : World) (o : ℕ) → AreKept w → AreKept (referred w o)
+  pub referred_kept : (w : World) (o : ℕ) → AreKept w → AreKept (object_referred w o)
   referred_kept w o k = facts_kept (with_flag (with_flag w 51 o) 54 (place w o)) o (slice_get w.facts o) k
 
-  tried_kept : (g : GameLists) (w : World) (o : ℕ) (a : Action) (said : Option ObjectReply) → AreKept w → AreKept (tried g w o a said).world
+  tried_kept : (g : GameLists) (w : World) (o : ℕ) (a : Action) (said : Option ObjectReply) → AreKept w → AreKept (action_tried g w o a said).world
   tried_kept g w o a (Some said) k = k
   tried_kept g w o a None k = moved_kept w o (destination w a) k
 
   pub acted_kept : (g : GameLists) (w : World) (o : ℕ) (a : Action) → AreKept w →
-      AreKept (tried g (referred w o) o a (first_that_holds (hindrances (referred w o) o a))).world
-  acted_kept g w o a k = tried_kept g (referred w o) o a (first_that_holds (hindrances (referred w o) o a)) (referred_kept w o k)
+      AreKept (action_tried g (object_referred w o) o a (first_that_holds (hindrances (object_referred w o) o a))).world
+  acted_kept g w o a k = tried_kept g (object_referred w o) o a (first_that_holds (hindrances (object_referred w o) o a)) (referred_kept w o k)
 
   pub found_kept : (g : GameLists) (w : World) (a : Action) (found : Option ℕ) → AreKept w → AreKept (acted_on_found g w a found).world
   found_kept g w a (Some o) k = acted_kept g w o a k
   found_kept g w a None k = k
 
-  pub referred_found : (w : World) (found : Option ℕ) → AreKept w → AreKept (option_map_or (referred w) found (referred_to_none w))
+  pub referred_found : (w : World) (found : Option ℕ) → AreKept w → AreKept (option_map_or (object_referred w) found (referred_to_none w))
   referred_found w (Some o) k = referred_kept w o k
   referred_found w None k = k
 
@@ -84,7 +84,7 @@ module _ (ks : List (Option Position)) where
   ramloaded_kept w n (Some q) k = k
 
   -- LOAD takes a position and changes none.
-  pub loaded_kept : (g : GameLists) (w : World) (kept : Option Position) → AreKept w → AreKept (loaded g w kept).world
+  pub loaded_kept : (g : GameLists) (w : World) (kept : Option Position) → AreKept w → AreKept (position_loaded g w kept).world
   loaded_kept g w None k = k
   loaded_kept g w (Some q) k = k
 

@@ -25,9 +25,9 @@ use Rattle.paw_game.specs.Tables.{facts_at}
 use Rattle.paw_game.specs.Valid.{Valid, is_argument, is_place, is_parameter, is_within, is_word, words_rise}
 use Rattle.paw_game.specs.Valid.{are_letters, has_word, is_word_or_none, is_object, is_text}
 use Rattle.paw_game.proofs.Kept.{first_of_and, second_of_and, facts_kept, facts-weight}
-use Rattle.paw_world.specs.World.{World, flag, with_flag, place, with_place, here, let_go, taken_up, moved}
+use Rattle.paw_world.specs.World.{World, flag, with_flag, place, with_place, here, let_go, taken_up, object_moved}
 use Rattle.paw_world.specs.World.{first_carried, flags_with}
-use Rattle.paw_world.specs.World.{opening_places, starting_world, restarted, with_objects_returned}
+use Rattle.paw_world.specs.World.{opening_places, starting_world, world_restarted, with_objects_returned}
 use Rattle.paw_world.specs.Weight.{filled_weight, weight_down, weight, objects_at}
 use Rattle.paw_effects.specs.Worlds.{IsOf}
 use Rattle.paw_effects.specs.inner.Worlds.{ArePlacesOf}
@@ -237,7 +237,7 @@ module _ (g : GameLists) (v : Valid g) (seed : ℕ) where
         let most = min-le_left 255 (flag w 1 + 1) in
         world_of (p == CARRIED_PLACE) (with_flag w 1 (min 255 (flag w 1 + 1))) w (flagged w k 1 (min 255 (flag w 1 + 1)) (omega arith)) k
 
-    pub moved_so : (w : World) → IsWorldAt g seed n w → (o p : ℕ) → IsPlace p → IsWorldAt g seed n (moved w o p)
+    pub moved_so : (w : World) → IsWorldAt g seed n w → (o p : ℕ) → IsPlace p → IsWorldAt g seed n (object_moved w o p)
     moved_so w k o p at =
         let free : World = let_go w (place w o) in
         let up : World = taken_up free p in
@@ -329,7 +329,7 @@ module _ (g : GameLists) (v : Valid g) (seed : ℕ) where
       }
 
   module _ (n : ℕ) (w : World) (k : IsWorldAt g seed n w) where
-    pub anew_so : IsWorldAt g seed n (restarted w)
+    pub anew_so : IsWorldAt g seed n (world_restarted w)
     anew_so =
         let start = flags_at_start (first_carried (map (λ o. o.facts) g.objects)) carried_small in
         record {

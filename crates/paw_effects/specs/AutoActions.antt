@@ -13,7 +13,7 @@ use Rattle.paw_effects.specs.declared.object_search.Spot.TheVariants.{Here, At}
 use Rattle.paw_effects.specs.declared.object_words.ObjectReply.{ObjectReply}
 use Rattle.paw_effects.specs.declared.object_words.ObjectReply.TheVariants.{Says, Names}
 use Rattle.paw_effects.specs.Done.{Done}
-use Rattle.paw_effects.specs.Referring.{referred, referred_to_none}
+use Rattle.paw_effects.specs.Referring.{object_referred, referred_to_none}
 use Rattle.paw_effects.specs.ObjectSearch.{some_fits, first_fitting}
 use Rattle.paw_effects.specs.ObjectActions.{refuses, acted_on}
 
@@ -43,4 +43,4 @@ acted_by_name g w a = acted_on_found g w a (first_fitting w (looks_at a))
 
 -- Refers to the object that the sentence means, which is looked for as DROP does, or to none.
 abbrev pub referred_by_name : World → World
-referred_by_name w = option_map_or (referred w) (first_fitting w (looks_at action.Drop)) (referred_to_none w)
+referred_by_name w = option_map_or (object_referred w) (first_fitting w (looks_at action.Drop)) (referred_to_none w)

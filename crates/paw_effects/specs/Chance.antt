@@ -4,5 +4,5 @@ use Rattle.paw_world.specs.Draws.{random_word}
 use Rattle.paw_world.specs.World.{World}
 
 -- A number from 1 to 100, by the next random word.
-abbrev pub rolled : World → ℕ
-rolled w = 1 + random_word w.seed w.draws % 100
+abbrev pub percent_drawn : World → ℕ
+percent_drawn w = 1 + random_word w.seed w.draws % 100

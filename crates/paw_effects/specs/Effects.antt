@@ -5,7 +5,7 @@ use Rattle.paw_world.specs.World.{World}
 pub use Rattle.paw_effects.specs.Done.{Done, dropping, leads, prints, makes}
 pub use Rattle.paw_effects.specs.inner.Done.{DoesAs, Does}
 use Rattle.paw_effects.specs.Story.{Story}
-pub use Rattle.paw_effects.specs.Referring.{referred}
+pub use Rattle.paw_effects.specs.Referring.{object_referred}
 use Rattle.paw_effects.specs.Indirect.{as_plain}
 use Rattle.paw_effects.specs.Meanings.{Meaning, Tests, Acts, meaning_of}
 

@@ -14,7 +14,8 @@ use Rattle.paw_base.specs.declared.places.TheConstants.{WORN_PLACE, CARRIED_PLAC
 use Rattle.paw_base.specs.declared.parts.Condact.{Condact}
 use Rattle.paw_game.specs.Game.{GameLists}
 use Rattle.paw_routines.specs.Answers.{value_at}
-use Rattle.paw_world.specs.World.{World, flag, with_flag, place, moved, here, is_present, drawn_on, ramsaved, ramloaded}
+use Rattle.paw_world.specs.World.{World, flag, with_flag, place, object_moved, here, is_present, drawn_on}
+use Rattle.paw_world.specs.World.{position_saved, saved_position_loaded}
 use Rattle.paw_world.specs.World.{keeping, kept_position}
 use Rattle.paw_world.specs.Weight.{weight, carried_weight}
 use Rattle.paw_effects.specs.declared.act.Truth.TheVariants as truth
@@ -24,14 +25,14 @@ use Rattle.paw_effects.specs.declared.object_actions.Action.TheVariants as actio
 use Rattle.paw_effects.specs.Story.{Story}
 use Rattle.paw_effects.specs.Done.{Done, dropping, tells, leads, prints, makes}
 use Rattle.paw_effects.specs.Tested.{Tested, answers, moves}
-use Rattle.paw_effects.specs.Chance.{rolled}
+use Rattle.paw_effects.specs.Chance.{percent_drawn}
 use Rattle.paw_effects.specs.Presence.{named_place}
 use Rattle.paw_effects.specs.Texts.{message_text, put_text, say_text}
 use Rattle.paw_effects.specs.Counts.{turns_text, score_text}
 use Rattle.paw_effects.specs.Lists.{inventory_text, here_list_text, list_or_say, texts_at}
 use Rattle.paw_effects.specs.Signs.{sign_text}
-use Rattle.paw_effects.specs.Positions.{position_number, loaded}
-use Rattle.paw_effects.specs.MoveActions.{all_dropped, swapped, referred_moved, moved_if_place, reset}
+use Rattle.paw_effects.specs.Positions.{position_number, position_loaded}
+use Rattle.paw_effects.specs.MoveActions.{all_dropped, objects_swapped, referred_moved, moved_if_place, reset}
 use Rattle.paw_effects.specs.ObjectActions.{acted_on}
 use Rattle.paw_effects.specs.AutoActions.{acted_by_name, referred_by_name}
 
@@ -77,7 +78,7 @@ meanings =
     tests (λ w c. not (place w c.a == WORN_PLACE)) ∷  -- NOTWORN
     tests (λ w c. place w c.a == CARRIED_PLACE) ∷  -- CARRIED
     tests (λ w c. not (place w c.a == CARRIED_PLACE)) ∷  -- NOTCARR
-    Tests (λ g w c. answers (drawn_on w 1) (nat_le (rolled w) c.a)) ∷  -- CHANCE
+    Tests (λ g w c. answers (drawn_on w 1) (nat_le (percent_drawn w) c.a)) ∷  -- CHANCE
     tests (λ w c. flag w c.a == 0) ∷  -- ZERO
     tests (λ w c. not (flag w c.a == 0)) ∷  -- NOTZERO
     tests (λ w c. flag w c.a == c.b) ∷  -- EQ
@@ -104,9 +105,9 @@ meanings =
     doing (λ g w c. tells w (say_text g w OK_MESSAGE) (effect.Exit true)) ∷  -- OK
     doing (λ g w c. tells w (put_text g w KEY_MESSAGE) (effect.Ask prompt.Key)) ∷  -- ANYKEY
     doing (λ g w c. leads (keeping w (position_number w)) effect.Redescribe) ∷  -- SAVE
-    doing (λ g w c. loaded g w (kept_position w (position_number w))) ∷  -- LOAD
-    changing (λ w c. ramsaved w) ∷  -- RAMSAVE
-    changing (λ w c. ramloaded w c.a) ∷  -- RAMLOAD
+    doing (λ g w c. position_loaded g w (kept_position w (position_number w))) ∷  -- LOAD
+    changing (λ w c. position_saved w) ∷  -- RAMSAVE
+    changing (λ w c. saved_position_loaded w c.a) ∷  -- RAMLOAD
     printing_action (λ g w c. turns_text g w) ∷  -- TURNS
     printing_action (λ g w c. score_text g w) ∷  -- SCORE
     changing (λ w c. all_dropped w) ∷  -- DROPALL
@@ -128,10 +129,10 @@ meanings =
     doing (λ g w c. acted_on g w c.a action.Remove) ∷  -- REMOVE
     doing (λ g w c. acted_on g w c.a (action.PutIn c.b)) ∷  -- PUTIN
     doing (λ g w c. acted_on g w c.a (action.TakeOut c.b)) ∷  -- TAKEOUT
-    changing (λ w c. moved w c.a (here w)) ∷  -- CREATE
-    changing (λ w c. moved w c.a NOT_CREATED_PLACE) ∷  -- DESTROY
-    changing (λ w c. swapped w c.a c.b) ∷  -- SWAP
-    changing (λ w c. moved w c.a (named_place w c.b)) ∷  -- PLACE
+    changing (λ w c. object_moved w c.a (here w)) ∷  -- CREATE
+    changing (λ w c. object_moved w c.a NOT_CREATED_PLACE) ∷  -- DESTROY
+    changing (λ w c. objects_swapped w c.a c.b) ∷  -- SWAP
+    changing (λ w c. object_moved w c.a (named_place w c.b)) ∷  -- PLACE
     changing (λ w c. referred_moved w (named_place w c.a)) ∷  -- PUTO
     changing (λ w c. with_flag w c.a 255) ∷  -- SET
     changing (λ w c. with_flag w c.a 0) ∷  -- CLEAR
@@ -140,8 +141,8 @@ meanings =
     changing (λ w c. with_flag w c.a c.b) ∷  -- LET
     changing (λ w c. with_flag w c.b (min 255 (flag w c.b + flag w c.a))) ∷  -- ADD
     changing (λ w c. with_flag w c.b (flag w c.b - flag w c.a)) ∷  -- SUB
-    changing (λ w c. with_flag (drawn_on w 1) c.a (rolled w)) ∷  -- RANDOM
-    changing (λ w c. moved w c.b (place w c.a)) ∷  -- COPYOO
+    changing (λ w c. with_flag (drawn_on w 1) c.a (percent_drawn w)) ∷  -- RANDOM
+    changing (λ w c. object_moved w c.b (place w c.a)) ∷  -- COPYOO
     changing (λ w c. with_flag w c.b (place w c.a)) ∷  -- COPYOF
     changing (λ w c. moved_if_place w c.b (flag w c.a)) ∷  -- COPYFO
     changing (λ w c. with_flag w c.b (flag w c.a)) ∷  -- COPYFF

@@ -12,7 +12,7 @@ use Rattle.paw_base.specs.declared.messages.TheConstants.{PUT_IN_MESSAGE, NOT_TA
 use Rattle.paw_base.specs.declared.messages.TheConstants.{NOT_PUT_ON_MESSAGE, NOT_INSIDE_MESSAGE}
 use Rattle.paw_base.specs.declared.places.TheConstants.{WORN_PLACE, CARRIED_PLACE}
 use Rattle.paw_game.specs.Game.{GameLists}
-use Rattle.paw_world.specs.World.{World, flag, place, here, is_here, moved}
+use Rattle.paw_world.specs.World.{World, flag, place, here, is_here, object_moved}
 use Rattle.paw_world.specs.Weight.{weight, carried_weight}
 use Rattle.paw_effects.specs.declared.act.Act.{Act}
 use Rattle.paw_effects.specs.declared.act.Effect.TheVariants as effect
@@ -22,7 +22,7 @@ use Rattle.paw_effects.specs.declared.object_words.ObjectReply.{ObjectReply}
 use Rattle.paw_effects.specs.declared.object_words.ObjectReply.TheVariants.{Says, Names}
 use Rattle.paw_effects.specs.Done.{Done, prints}
 use Rattle.paw_effects.specs.Presence.{is_held}
-use Rattle.paw_effects.specs.Referring.{referred}
+use Rattle.paw_effects.specs.Referring.{object_referred}
 use Rattle.paw_effects.specs.ObjectWords.{spoken_words, ends_loop}
 
 -- ---- what the tests ask ----
@@ -102,10 +102,11 @@ refuses g w said =
 
 -- An action on an object: it is refused with this message, or carried out where there is no message, and then a message
 -- says so.
-abbrev pub tried : GameLists → World → ℕ → Action → Option ObjectReply → Done
-tried g w o a (Some said) = refuses g w said
-tried g w o a None = let after = moved w o (destination w a) in prints after (spoken_words g after (outcome a))
+abbrev pub action_tried : GameLists → World → ℕ → Action → Option ObjectReply → Done
+action_tried g w o a (Some said) = refuses g w said
+action_tried g w o a None =
+    let after = object_moved w o (destination w a) in prints after (spoken_words g after (outcome a))
 
 -- An action on an object, which is referred to first.
 abbrev pub acted_on : GameLists → World → ℕ → Action → Done
-acted_on g w o a = let w' = referred w o in tried g w' o a (first_that_holds (hindrances w' o a))
+acted_on g w o a = let w' = object_referred w o in action_tried g w' o a (first_that_holds (hindrances w' o a))

@@ -15,6 +15,6 @@ position_number w = flag w POSITION_FLAG % POSITION_COUNT
 
 -- All flags, the count of carried objects too, and all places become those of a position; where none was kept, a
 -- message says that this can't be done. Either way the location is described again.
-abbrev pub loaded : GameLists → World → Option Position → Done
-loaded g w None = tells w (say_text g w IMPOSSIBLE_MESSAGE) effect.Redescribe
-loaded g w (Some q) = leads (record w { flags = q.flags; places = q.places }) effect.Redescribe
+abbrev pub position_loaded : GameLists → World → Option Position → Done
+position_loaded g w None = tells w (say_text g w IMPOSSIBLE_MESSAGE) effect.Redescribe
+position_loaded g w (Some q) = leads (record w { flags = q.flags; places = q.places }) effect.Redescribe

@@ -22,8 +22,8 @@ with_referred_facts w o (Some f) =
     with_flag held REFERRED_WEARABLE_FLAG (flag_of_fact f.wearable)
 
 -- Refers to an object: flags become its number, place and weight, and say whether it is a container and may be worn.
-abbrev pub referred : World → ℕ → World
-referred w o =
+abbrev pub object_referred : World → ℕ → World
+object_referred w o =
     with_referred_facts (with_flag (with_flag w REFERRED_FLAG o) REFERRED_PLACE_FLAG (place w o)) o
     (slice_get w.facts o)
 

@@ -16,7 +16,7 @@ use paw_base::piece::Piece;
 use paw_game::tables::Tables;
 use paw_world::world::World;
 
-/// The object that an action looks for.
+// The object that an action looks for.
 fn object_looked_for(world: &World, action: Action) -> Option<u8>
     ensures value { result ≡ first_fitting world.now (looks_at action) }
     ensures known { IfSome result (λ o. o < length world.now.places) }
@@ -32,7 +32,7 @@ fn object_looked_for(world: &World, action: Action) -> Option<u8>
     }
 }
 
-/// The object that fits among those carried, then those worn, then those here.
+// The object that fits among those carried, then those worn, then those here.
 fn found_carried_first(world: &World) -> Option<u8>
     ensures value { result ≡ first_fitting world.now (looks_at action.Drop) }
     ensures known { IfSome result (λ o. o < length world.now.places) }
@@ -40,7 +40,7 @@ fn found_carried_first(world: &World) -> Option<u8>
     first_fitting(world, &[Spot::CARRIED, Spot::WORN, Spot::Here])
 }
 
-/// The message where the object of an action isn't found.
+// The message where the object of an action isn't found.
 fn missing(action: Action) -> ObjectReply
     ensures value { result ≡ missing action }
 {

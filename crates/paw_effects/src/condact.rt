@@ -11,7 +11,7 @@ ghost use Rattle.paw_effects.specs.Effects.{effect_of, plain_effect, Does};
 ghost use Rattle.paw_effects.specs.Meanings.{answered_by};
 ghost use Rattle.paw_effects.specs.Story.{story_of};
 ghost use Rattle.paw_effects.specs.Texts.{put_text};
-ghost use Rattle.paw_effects.specs.Chance.{rolled};
+ghost use Rattle.paw_effects.specs.Chance.{percent_drawn};
 ghost use Rattle.paw_effects.specs.declared.act.Effect.TheVariants as effect;
 ghost use Rattle.paw_game.specs.Game.{GameLists};
 ghost use Rattle.paw_routines.specs.Routines.{AreAnswersOf, HaveAnswers};
@@ -43,7 +43,7 @@ use paw_game::tables::Tables;
 use paw_routines::routines::Routines;
 use paw_world::world::World;
 
-/// Prints a question, and waits for its answer.
+// Prints a question, and waits for its answer.
 fn ask<T: Tables>(tables: &T, world: &World, piece: &mut Piece, question: u8, prompt: Prompt) -> Act
     ensures does { Does (tells world.now (put_text (T.game tables.now) world.now question) (effect.Ask prompt))
         piece.old piece.new world.now result }
@@ -51,16 +51,16 @@ fn ask<T: Tables>(tables: &T, world: &World, piece: &mut Piece, question: u8, pr
     after(put(tables, world, piece, question), Effect::Ask(prompt))
 }
 
-/// Gives a flag a number from 1 to 100, by the next random word.
+// Gives a flag a number from 1 to 100, by the next random word.
 fn set_by_chance(world: &mut World, f: u8)
     requires draws { world.old.draws < 2 ^ 64 - 1 }
-    ensures value { world.new ≡ with_flag (drawn_on world.old 1) f (rolled world.old) }
+    ensures value { world.new ≡ with_flag (drawn_on world.old 1) f (percent_drawn world.old) }
 {
     let x = roll(world);
     world.set_flag(f, x);
 }
 
-/// Gives two flags these values, one after the other.
+// Gives two flags these values, one after the other.
 fn set_both(world: &mut World, first: (u8, u8), second: (u8, u8))
     ensures value { world.new ≡ with_flag (with_flag world.old first.0 first.1) second.0 second.1 }
 {
@@ -68,7 +68,7 @@ fn set_both(world: &mut World, first: (u8, u8), second: (u8, u8))
     world.set_flag(second.0, second.1);
 }
 
-/// EXTERN sets a flag to the answer of a routine to the flag's value. Nothing changes where there is no such routine.
+// EXTERN sets a flag to the answer of a routine to the flag's value. Nothing changes where there is no such routine.
 fn answer_by_routine<F: Fn(u8, u8) -> u8>(world: &mut World, routines: &Routines<F>, n: u8, f: u8)
     requires answers { HaveAnswers F.Fn routines.now }
     ensures value { (X : RoutineAnswers) → AreAnswersOf F.Fn routines.now X → world.new ≡ answered_by X world.old n f }
@@ -80,15 +80,15 @@ fn answer_by_routine<F: Fn(u8, u8) -> u8>(world: &mut World, routines: &Routines
     }
 }
 
-/// The answer of an action that printed its text, and goes on where the text fits.
+// The answer of an action that printed its text, and goes on where the text fits.
 fn after_printing(fits: bool) -> Act
     ensures value { result ≡ plainly (if fits then effect.Go else effect.Spent) }
 {
     after(fits, Effect::Go)
 }
 
-/// The answer of an action that is done, and goes on.
-fn done(_change: ()) -> Act
+// The answer of an action that is done, and goes on.
+fn going_on(_change: ()) -> Act
     ensures value { result ≡ plainly effect.Go }
 {
     plain_act(Effect::Go)
@@ -117,11 +117,11 @@ pub fn act<T: Tables, F: Fn(u8, u8) -> u8>(
 {
     match as_plain(tables, world, c) {
         Some(plain) => act_plain(tables, world, routines, piece, plain),
-        None => done(print_nothing(piece)),
+        None => going_on(print_nothing(piece)),
     }
 }
 
-/// Does a plain action.
+// Does a plain action.
 #[tactic(auto, using(crate::proofs::Parameters::objects_stand), unfolding(crate::proofs::KnownCodes::known_action))]
 fn act_plain<T: Tables, F: Fn(u8, u8) -> u8>(
     tables: &T,
@@ -157,18 +157,18 @@ fn act_plain<T: Tables, F: Fn(u8, u8) -> u8>(
             plain_act(Effect::Redescribe)
         }
         codes::LOAD => load(tables, world, piece),
-        codes::RAMSAVE => done(world.ramsave()),
-        codes::RAMLOAD => done(world.ramload(c.a)),
+        codes::RAMSAVE => going_on(world.ramsave()),
+        codes::RAMLOAD => going_on(world.ramload(c.a)),
         codes::TURNS => after_printing(tell_turns(tables, world, piece)),
         codes::SCORE => after_printing(tell_score(tables, world, piece)),
-        codes::DROPALL => done(drop_all(world)),
+        codes::DROPALL => going_on(drop_all(world)),
         codes::AUTOG => act_by_name(tables, world, piece, Action::Get),
         codes::AUTOD => act_by_name(tables, world, piece, Action::Drop),
         codes::AUTOW => act_by_name(tables, world, piece, Action::Wear),
         codes::AUTOR => act_by_name(tables, world, piece, Action::Remove),
         codes::AUTOP => act_by_name(tables, world, piece, Action::PutIn(c.a)),
         codes::AUTOT => act_by_name(tables, world, piece, Action::TakeOut(c.a)),
-        codes::GOTO => done(world.set_flag(LOCATION_FLAG, c.a)),
+        codes::GOTO => going_on(world.set_flag(LOCATION_FLAG, c.a)),
         codes::MES => after_printing(message(tables, world, piece, c.a)),
         codes::MESSAGE => after_printing(message(tables, world, piece, c.a) && piece.push(b"\n")),
         codes::SYSMESS => after_printing(put(tables, world, piece, c.a)),
@@ -180,56 +180,66 @@ fn act_plain<T: Tables, F: Fn(u8, u8) -> u8>(
         codes::REMOVE => act_on(tables, world, piece, c.a, Action::Remove),
         codes::PUTIN => act_on(tables, world, piece, c.a, Action::PutIn(c.b)),
         codes::TAKEOUT => act_on(tables, world, piece, c.a, Action::TakeOut(c.b)),
-        codes::CREATE => done(world.move_to(c.a, here(world))),
-        codes::DESTROY => done(world.move_to(c.a, NOT_CREATED_PLACE)),
-        codes::SWAP => done(swap(world, c.a, c.b)),
-        codes::PLACE => done(world.move_to(c.a, named_place(world, c.b))),
-        codes::PUTO => done(move_referred(world, named_place(world, c.a))),
-        codes::SET => done(world.set_flag(c.a, 255)),
-        codes::CLEAR => done(world.set_flag(c.a, 0)),
-        codes::PLUS => done(world.set_flag(c.a, world.flag(c.a).saturating_add(c.b))),
-        codes::MINUS => done(world.set_flag(c.a, world.flag(c.a).saturating_sub(c.b))),
-        codes::LET => done(world.set_flag(c.a, c.b)),
-        codes::ADD => done(world.set_flag(c.b, world.flag(c.b).saturating_add(world.flag(c.a)))),
-        codes::SUB => done(world.set_flag(c.b, world.flag(c.b).saturating_sub(world.flag(c.a)))),
-        codes::RANDOM => done(set_by_chance(world, c.a)),
-        codes::COPYOO => done(world.move_to(c.b, world.place(c.a))),
-        codes::COPYOF => done(world.set_flag(c.b, world.place(c.a))),
-        codes::COPYFO => done(move_if_place(world, c.b, world.flag(c.a))),
-        codes::COPYFF => done(world.set_flag(c.b, world.flag(c.a))),
+        codes::CREATE => going_on(world.move_to(c.a, here(world))),
+        codes::DESTROY => going_on(world.move_to(c.a, NOT_CREATED_PLACE)),
+        codes::SWAP => going_on(swap(world, c.a, c.b)),
+        codes::PLACE => going_on(world.move_to(c.a, named_place(world, c.b))),
+        codes::PUTO => going_on(move_referred(world, named_place(world, c.a))),
+        codes::SET => going_on(world.set_flag(c.a, 255)),
+        codes::CLEAR => going_on(world.set_flag(c.a, 0)),
+        codes::PLUS => going_on(world.set_flag(c.a, world.flag(c.a).saturating_add(c.b))),
+        codes::MINUS => going_on(world.set_flag(c.a, world.flag(c.a).saturating_sub(c.b))),
+        codes::LET => going_on(world.set_flag(c.a, c.b)),
+        codes::ADD => going_on(world.set_flag(
+            c.b,
+            world.flag(c.b).saturating_add(world.flag(c.a)),
+        )),
+        codes::SUB => going_on(world.set_flag(
+            c.b,
+            world.flag(c.b).saturating_sub(world.flag(c.a)),
+        )),
+        codes::RANDOM => going_on(set_by_chance(world, c.a)),
+        codes::COPYOO => going_on(world.move_to(c.b, world.place(c.a))),
+        codes::COPYOF => going_on(world.set_flag(c.b, world.place(c.a))),
+        codes::COPYFO => going_on(move_if_place(world, c.b, world.flag(c.a))),
+        codes::COPYFF => going_on(world.set_flag(c.b, world.flag(c.a))),
         codes::LISTOBJ => after_printing(print_here(tables, world, piece)),
         codes::LISTAT => after_printing(print_place(tables, world, piece, named_place(world, c.a))),
-        codes::WHATO => done(refer_by_name(tables, world)),
-        codes::WEIGH => done(world.set_flag(c.b, world.weight(c.a))),
-        codes::WEIGHT => done(world.set_flag(c.a, world.carried_weight())),
-        codes::ABILITY => done(set_both(world, (MOST_CARRIED_FLAG, c.a), (MOST_WEIGHT_FLAG, c.b))),
+        codes::WHATO => going_on(refer_by_name(tables, world)),
+        codes::WEIGH => going_on(world.set_flag(c.b, world.weight(c.a))),
+        codes::WEIGHT => going_on(world.set_flag(c.a, world.carried_weight())),
+        codes::ABILITY => going_on(set_both(
+            world,
+            (MOST_CARRIED_FLAG, c.a),
+            (MOST_WEIGHT_FLAG, c.b),
+        )),
         codes::PARSE => plain_act(Effect::Parse),
         codes::PROCESS => plain_act(Effect::Call(c.a)),
         codes::DOALL => plain_act(Effect::Loop(named_place(world, c.a))),
-        codes::PROMPT => done(world.set_flag(PROMPT_FLAG, c.a)),
-        codes::TIME => done(set_both(world, (TIMEOUT_FLAG, c.a), (TIMED_OUT_FLAG, c.b))),
+        codes::PROMPT => going_on(world.set_flag(PROMPT_FLAG, c.a)),
+        codes::TIME => going_on(set_both(world, (TIMEOUT_FLAG, c.a), (TIMED_OUT_FLAG, c.b))),
         codes::NEWTEXT => dropping(Effect::Go),
         codes::RESET => {
             reset(world, c.a);
             plain_act(Effect::Redescribe)
         }
-        codes::EXTERN => done(answer_by_routine(world, routines, c.a, c.b)),
-        codes::PICTURE => after_printing(print_sign(piece, c)),
-        codes::GRAPHIC => after_printing(print_sign(piece, c)),
-        codes::BEEP => after_printing(print_sign(piece, c)),
-        codes::CLS => after_printing(print_sign(piece, c)),
-        codes::PAPER => after_printing(print_sign(piece, c)),
-        codes::INK => after_printing(print_sign(piece, c)),
-        codes::BORDER => after_printing(print_sign(piece, c)),
-        codes::CHARSET => after_printing(print_sign(piece, c)),
-        codes::PROTECT => after_printing(print_sign(piece, c)),
-        codes::SAVEAT => after_printing(print_sign(piece, c)),
-        codes::BACKAT => after_printing(print_sign(piece, c)),
-        codes::PRINTAT => after_printing(print_sign(piece, c)),
-        codes::PAUSE => after_printing(print_sign(piece, c)),
-        codes::MODE => after_printing(print_sign(piece, c)),
-        codes::LINE => after_printing(print_sign(piece, c)),
-        codes::INPUT => after_printing(print_sign(piece, c)),
+        codes::EXTERN => going_on(answer_by_routine(world, routines, c.a, c.b)),
+        codes::PICTURE => after_printing(print_sign(piece, c.code, c.a, c.b)),
+        codes::GRAPHIC => after_printing(print_sign(piece, c.code, c.a, c.b)),
+        codes::BEEP => after_printing(print_sign(piece, c.code, c.a, c.b)),
+        codes::CLS => after_printing(print_sign(piece, c.code, c.a, c.b)),
+        codes::PAPER => after_printing(print_sign(piece, c.code, c.a, c.b)),
+        codes::INK => after_printing(print_sign(piece, c.code, c.a, c.b)),
+        codes::BORDER => after_printing(print_sign(piece, c.code, c.a, c.b)),
+        codes::CHARSET => after_printing(print_sign(piece, c.code, c.a, c.b)),
+        codes::PROTECT => after_printing(print_sign(piece, c.code, c.a, c.b)),
+        codes::SAVEAT => after_printing(print_sign(piece, c.code, c.a, c.b)),
+        codes::BACKAT => after_printing(print_sign(piece, c.code, c.a, c.b)),
+        codes::PRINTAT => after_printing(print_sign(piece, c.code, c.a, c.b)),
+        codes::PAUSE => after_printing(print_sign(piece, c.code, c.a, c.b)),
+        codes::MODE => after_printing(print_sign(piece, c.code, c.a, c.b)),
+        codes::LINE => after_printing(print_sign(piece, c.code, c.a, c.b)),
+        codes::INPUT => after_printing(print_sign(piece, c.code, c.a, c.b)),
         _ => unreachable!(),
     }
 }

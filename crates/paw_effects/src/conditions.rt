@@ -33,8 +33,8 @@ fn truth(holds: bool) -> Truth
     if holds { Truth::Yes } else { Truth::No }
 }
 
-/// MOVE takes the exit for the verb from the location in a flag, which becomes the one that it leads to. False exactly
-/// where there is no such exit.
+// MOVE takes the exit for the verb from the location in a flag, which becomes the one that it leads to. False exactly
+// where there is no such exit.
 fn moves<T: Tables>(tables: &T, world: &mut World, f: u8) -> bool
     requires game { IsOf (T.game tables.now) world.old }
     ensures answer { truth_of result ≡ (moves (T.game tables.now) world.old f).answer }
@@ -78,7 +78,7 @@ pub fn test<T: Tables>(tables: &T, world: &mut World, c: Condact) -> Truth
     }
 }
 
-/// What a plain condition answers.
+// What a plain condition answers.
 #[tactic(auto, using(crate::proofs::Parameters::object_stands), unfolding(crate::proofs::KnownCodes::known_condition))]
 fn test_plain<T: Tables>(tables: &T, world: &mut World, c: Condact) -> Truth
     requires kind { is_condition c ≡ true }

@@ -24,7 +24,7 @@ pub fn turns_taken(world: &World) -> u16
     u16::from(world.flag(LOW_TURNS_FLAG)) + 256 * u16::from(world.flag(HIGH_TURNS_FLAG))
 }
 
-/// Prints the plural ending, unless the number is 1.
+// Prints the plural ending, unless the number is 1.
 fn put_plural<T: Tables>(tables: &T, world: &World, piece: &mut Piece, number: u16) -> bool
     ensures puts { Puts piece.old piece.new result
         (if number == 1 then [] else put_text (T.game tables.now) world.now PLURAL_MESSAGE) }

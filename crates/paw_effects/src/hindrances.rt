@@ -32,7 +32,7 @@ fn can_be_worn(world: &World, o: u8) -> bool
     world.facts(o).wearable
 }
 
-/// Whether more weight would be carried with this object than is allowed.
+// Whether more weight would be carried with this object than is allowed.
 fn is_too_heavy(world: &World, o: u8) -> bool
     requires known { o < length world.now.places }
     ensures value { result ≡ is_too_heavy world.now o }
@@ -41,21 +41,21 @@ fn is_too_heavy(world: &World, o: u8) -> bool
     total > u16::from(world.flag(MOST_WEIGHT_FLAG))
 }
 
-/// Whether as many objects are carried as are allowed.
+// Whether as many objects are carried as are allowed.
 fn is_laden(world: &World) -> bool
     ensures value { result ≡ is_laden world.now }
 {
     world.flag(CARRIED_FLAG) >= world.flag(MOST_CARRIED_FLAG)
 }
 
-/// Whether the object whose number is that of a place is worn or carried.
+// Whether the object whose number is that of a place is worn or carried.
 fn holds_place(world: &World, place: u8) -> bool
     ensures value { result ≡ holds_place world.now place }
 {
     place < world.objects() && is_held(world, place)
 }
 
-/// The message of the first test that holds.
+// The message of the first test that holds.
 fn first_that_holds(tests: &[(bool, ObjectReply)]) -> Option<ObjectReply>
     ensures value { result ≡ first_that_holds tests.now }
 {

@@ -16,7 +16,7 @@ use paw_base::rows::{ParamKind, condact_row, plain_code};
 use paw_game::tables::Tables;
 use paw_world::world::World;
 
-/// Whether a value that arises in play follows the rule of this kind.
+// Whether a value that arises in play follows the rule of this kind.
 fn is_argument<T: Tables>(tables: &T, kind: ParamKind, value: u8) -> bool
     ensures value { result ≡ is_argument (T.game tables.now) kind value }
 {
@@ -35,8 +35,8 @@ fn is_argument<T: Tables>(tables: &T, kind: ParamKind, value: u8) -> bool
     }
 }
 
-/// The plain condact of an indirect one, with this value as its first parameter. None exactly where the value breaks
-/// the rule of what that parameter names.
+// The plain condact of an indirect one, with this value as its first parameter. None exactly where the value breaks
+// the rule of what that parameter names.
 fn plain_with<T: Tables>(tables: &T, c: Condact, value: u8) -> Option<Condact>
     requires indirect { is_indirect c.code ≡ true }
     ensures value { result ≡ plain_with (T.game tables.now) c value }

@@ -25,7 +25,7 @@ pub(crate) enum ListKind {
     Held,
 }
 
-/// The lesser of two numbers, or the one that is there.
+// The lesser of two numbers, or the one that is there.
 fn lesser(a: Option<u8>, b: Option<u8>) -> Option<u8>
     ensures value { result ≡ lesser a b }
 {
@@ -36,8 +36,8 @@ fn lesser(a: Option<u8>, b: Option<u8>) -> Option<u8>
     }
 }
 
-/// The least object of a list above `above`, or the least of all without `above`. None exactly where there is no such
-/// object.
+// The least object of a list above `above`, or the least of all without `above`. None exactly where there is no such
+// object.
 fn next(world: &World, listed: ListKind, above: Option<u8>) -> Option<u8>
     ensures none { IfNone result (listed_above world.now listed above ≡ []) }
     ensures some { IfSome result (λ o.
@@ -54,14 +54,14 @@ fn next(world: &World, listed: ListKind, above: Option<u8>) -> Option<u8>
     }
 }
 
-/// Whether lists are sentences.
+// Whether lists are sentences.
 fn lists_are_sentences(world: &World) -> bool
     ensures value { result ≡ lists_are_sentences world.now }
 {
     world.flag(LISTING_FLAG) & LISTING_BIT != 0
 }
 
-/// Prints the message that an object is worn, where it is.
+// Prints the message that an object is worn, where it is.
 fn put_if_worn<T: Tables>(tables: &T, world: &World, piece: &mut Piece, o: u8) -> bool
     requires known { o < length world.now.places }
     ensures puts { Puts piece.old piece.new result (worn_text (T.game tables.now) world.now o) }
@@ -95,7 +95,7 @@ impl<'a, T: Tables> Model for ObjectList<'a, T> {
 }
 
 impl<'a, T: Tables> ObjectList<'a, T> {
-    /// The least object of the list above `above`, or the least of all without `above`.
+    // The least object of the list above `above`, or the least of all without `above`.
     fn next(&self, above: Option<u8>) -> Option<u8>
         ensures none { IfNone result (listed_above self.now.world self.now.listed above ≡ []) }
         ensures some { IfSome result (λ o. listed_above self.now.world self.now.listed above
@@ -106,7 +106,7 @@ impl<'a, T: Tables> ObjectList<'a, T> {
         next(self.world, self.listed, above)
     }
 
-    /// Prints the text of an object of the list.
+    // Prints the text of an object of the list.
     fn print_text(&self, piece: &mut Piece, o: u8) -> bool
         requires known { o < length self.now.world.places }
         ensures puts { Puts piece.old piece.new result
@@ -121,7 +121,7 @@ impl<'a, T: Tables> ObjectList<'a, T> {
         }
     }
 
-    /// Prints the text of an object of the list in a line of its own.
+    // Prints the text of an object of the list in a line of its own.
     fn print_in_line(&self, piece: &mut Piece, o: u8) -> bool
         requires known { o < length self.now.world.places }
         ensures puts { Puts piece.old piece.new result
@@ -130,7 +130,7 @@ impl<'a, T: Tables> ObjectList<'a, T> {
         self.print_text(piece, o) && piece.push(b"\n")
     }
 
-    /// Prints the objects of the list, each in a line of its own.
+    // Prints the objects of the list, each in a line of its own.
     fn print_lines(&self, piece: &mut Piece) -> bool
         ensures puts { Puts piece.old piece.new result
             (as_lines (texts_above self.now.game self.now.world self.now.listed None)) }
@@ -145,7 +145,7 @@ impl<'a, T: Tables> ObjectList<'a, T> {
         piece.push(&[])
     }
 
-    /// What joins the text of an object to the one before it: a comma, or the word `and` before the last.
+    // What joins the text of an object to the one before it: a comma, or the word `and` before the last.
     fn joint(&self, o: u8) -> &'static [u8]
         ensures value { result.now ≡ joint (listed_above self.now.world self.now.listed (Some o)) }
     {
@@ -155,7 +155,7 @@ impl<'a, T: Tables> ObjectList<'a, T> {
         }
     }
 
-    /// Prints the text of an object of the list after another one.
+    // Prints the text of an object of the list after another one.
     fn print_joined(&self, piece: &mut Piece, o: u8) -> bool
         requires known { o < length self.now.world.places }
         ensures puts { Puts piece.old piece.new result
@@ -165,7 +165,7 @@ impl<'a, T: Tables> ObjectList<'a, T> {
         piece.push(self.joint(o)) && self.print_text(piece, o)
     }
 
-    /// Prints the objects of the list above this one, each after the one before it, and ends the sentence.
+    // Prints the objects of the list above this one, each after the one before it, and ends the sentence.
     fn print_others(&self, piece: &mut Piece, first: u8) -> bool
         ensures puts { Puts piece.old piece.new result
             (others_joined (texts_above self.now.game self.now.world self.now.listed (Some first))) }
@@ -180,7 +180,7 @@ impl<'a, T: Tables> ObjectList<'a, T> {
         piece.push(b".\n")
     }
 
-    /// Prints the list, which begins with this object.
+    // Prints the list, which begins with this object.
     fn print_from(&self, piece: &mut Piece, first: u8) -> bool
         requires known { first < length self.now.world.places }
         requires first { listed_above self.now.world self.now.listed None
@@ -195,7 +195,7 @@ impl<'a, T: Tables> ObjectList<'a, T> {
         }
     }
 
-    /// Prints the list, or a system message where there is nothing to list.
+    // Prints the list, or a system message where there is nothing to list.
     fn print_or_say(&self, piece: &mut Piece, s: u8) -> bool
         ensures puts { Puts piece.old piece.new result (list_or_say self.now.game self.now.world s
             (texts_above self.now.game self.now.world self.now.listed None)) }

@@ -4,7 +4,7 @@ ghost use Rattle.std.specs.Prelude.{◌≡◌, ◌<◌, length};
 ghost use Rattle.paw_game.specs.Game.{GameLists};
 ghost use Rattle.paw_effects.specs.Worlds.{IsOf};
 ghost use Rattle.paw_effects.specs.MoveActions.{all_dropped, referred_moved, moved_if_place, names_place};
-ghost use Rattle.paw_effects.specs.MoveActions.{reset, swapped};
+ghost use Rattle.paw_effects.specs.MoveActions.{reset, objects_swapped};
 
 use crate::presence::{here, is_held, named_place};
 use paw_base::flags::{LOCATION_FLAG, REFERRED_FLAG};
@@ -27,7 +27,7 @@ pub(crate) fn drop_all(world: &mut World)
 pub(crate) fn swap(world: &mut World, o: u8, k: u8)
     requires first { o < length world.old.places }
     requires second { k < length world.old.places }
-    ensures value { world.new ≡ swapped world.old o k }
+    ensures value { world.new ≡ objects_swapped world.old o k }
 {
     let first = world.place(o);
     let second = world.place(k);
@@ -45,7 +45,7 @@ pub(crate) fn move_referred(world: &mut World, p: u8)
     }
 }
 
-/// Whether a number names a place.
+// Whether a number names a place.
 fn names_place(world: &World, p: u8) -> bool
     ensures value { result ≡ names_place world.now p }
 {

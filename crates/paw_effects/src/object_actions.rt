@@ -27,7 +27,7 @@ pub(crate) enum Action {
 }
 
 impl Action {
-    /// Where the object moves.
+    // Where the object moves.
     fn destination(self, world: &World) -> u8
         ensures value { result ≡ destination world.now self }
     {
@@ -39,7 +39,7 @@ impl Action {
         }
     }
 
-    /// The message once it is done.
+    // The message once it is done.
     fn outcome(self) -> ObjectReply
         ensures value { result ≡ outcome self }
     {

@@ -22,7 +22,7 @@ impl Spot {
     pub(crate) const CARRIED: Spot = Spot::At(CARRIED_PLACE);
 }
 
-/// Whether an object fits the sentence: by its noun, and by its adjective where the sentence has one.
+// Whether an object fits the sentence: by its noun, and by its adjective where the sentence has one.
 fn fits(world: &World, o: u8) -> bool
     requires known { o < length world.now.places }
     ensures value { result ≡ fits_sentence world.now o }
@@ -45,7 +45,7 @@ pub(crate) fn some_fits(world: &World) -> bool
     false
 }
 
-/// The least object at a place that fits the sentence.
+// The least object at a place that fits the sentence.
 fn least_fitting(world: &World, place: u8) -> Option<u8>
     ensures value { result ≡ least_fitting world.now place }
     ensures known { IfSome result (λ o. o < length world.now.places) }
@@ -60,7 +60,7 @@ fn least_fitting(world: &World, place: u8) -> Option<u8>
     None
 }
 
-/// The least object that fits the sentence and stands there.
+// The least object that fits the sentence and stands there.
 fn fitting_at(world: &World, spot: Spot) -> Option<u8>
     ensures value { result ≡ fitting_at world.now spot }
     ensures known { IfSome result (λ o. o < length world.now.places) }

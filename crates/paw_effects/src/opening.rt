@@ -10,7 +10,7 @@ use paw_base::parts::ObjectFacts;
 use paw_game::tables::Tables;
 use paw_world::world::{NO_OBJECT, World};
 
-/// Copies the facts of a game's objects.
+// Copies the facts of a game's objects.
 fn take_facts<T: Tables>(tables: &T, facts: &mut [ObjectFacts])
     requires few { length facts.old ≤ OBJECT_LIMIT }
     requires all { length facts.old ≡ length (T.game tables.now).objects }

@@ -5,7 +5,7 @@ ghost use Rattle.paw_base.specs.declared.limits.TheConstants.{POSITION_COUNT};
 ghost use Rattle.paw_game.specs.Game.{GameLists};
 ghost use Rattle.paw_effects.specs.Worlds.{IsOf};
 ghost use Rattle.paw_effects.specs.inner.Done.{Does};
-ghost use Rattle.paw_effects.specs.Positions.{loaded, position_number};
+ghost use Rattle.paw_effects.specs.Positions.{position_loaded, position_number};
 ghost use Rattle.paw_world.specs.World.{keeping, kept_position};
 
 use crate::act::{Act, Effect, after, plain_act};
@@ -20,7 +20,7 @@ use paw_world::world::World;
 /// How many positions there are.
 const POSITIONS: u8 = POSITION_COUNT as u8;
 
-/// The number of the position that is meant, of four.
+// The number of the position that is meant, of four.
 fn position_number(world: &World) -> u8
     ensures value { result ≡ position_number world.now }
     ensures bound { result < POSITION_COUNT }
@@ -28,10 +28,10 @@ fn position_number(world: &World) -> u8
     world.flag(POSITION_FLAG) % POSITIONS
 }
 
-/// Takes a position back, or prints that this can't be done where it wasn't kept.
+// Takes a position back, or prints that this can't be done where it wasn't kept.
 fn load_position<T: Tables>(tables: &T, world: &mut World, piece: &mut Piece, n: u8) -> Act
     requires known { n < POSITION_COUNT }
-    ensures does { Does (loaded (T.game tables.now) world.old (kept_position world.old n))
+    ensures does { Does (position_loaded (T.game tables.now) world.old (kept_position world.old n))
         piece.old piece.new world.new result }
     ensures game { (g : GameLists) → IsOf g world.old → IsOf g world.new }
     ensures draws { world.new.draws ≡ world.old.draws }
@@ -61,7 +61,8 @@ pub(crate) fn save(world: &mut World)
 
 /// Takes back the position that is meant, or prints that this can't be done where it wasn't kept.
 pub(crate) fn load<T: Tables>(tables: &T, world: &mut World, piece: &mut Piece) -> Act
-    ensures does { Does (loaded (T.game tables.now) world.old (kept_position world.old (position_number world.old)))
+    ensures does { Does (position_loaded (T.game tables.now) world.old
+        (kept_position world.old (position_number world.old)))
         piece.old piece.new world.new result }
     ensures game { (g : GameLists) → IsOf g world.old → IsOf g world.new }
     ensures draws { world.new.draws ≡ world.old.draws }

@@ -2,7 +2,7 @@
 
 ghost use Rattle.std.specs.Prelude.{◌≡◌, ◌<◌, length};
 ghost use Rattle.paw_effects.specs.Worlds.{IsOf};
-ghost use Rattle.paw_effects.specs.Referring.{flag_of_fact, referred, referred_to_none};
+ghost use Rattle.paw_effects.specs.Referring.{flag_of_fact, object_referred, referred_to_none};
 
 use paw_base::flags::{
     FACT_HOLDS, REFERRED_CONTAINER_FLAG, REFERRED_FLAG, REFERRED_PLACE_FLAG,
@@ -18,7 +18,7 @@ use paw_world::world::World;
 pub fn refer<T: Tables>(tables: &T, world: &mut World, o: u8)
     requires game { IsOf (T.game tables.now) world.old }
     requires object { o < length (T.game tables.now).objects }
-    ensures value { world.new ≡ referred world.old o }
+    ensures value { world.new ≡ object_referred world.old o }
     ensures game { IsOf (T.game tables.now) world.new }
     ensures draws { world.new.draws ≡ world.old.draws }
 {

@@ -6,11 +6,10 @@ ghost use Rattle.paw_base.specs.inner.Piece.{Puts};
 ghost use Rattle.paw_effects.specs.Signs.{parameter_text, sign_text};
 
 use crate::text::print_number;
-use paw_base::parts::Condact;
 use paw_base::piece::Piece;
 use paw_base::rows::{ParamKind, condact_row};
 
-/// Prints a space and the number, where there is a parameter of this kind.
+// Prints a space and the number, where there is a parameter of this kind.
 fn print_parameter(piece: &mut Piece, kind: ParamKind, number: u8) -> bool
     ensures puts { Puts piece.old piece.new result (parameter_text kind number) }
 {
@@ -20,8 +19,9 @@ fn print_parameter(piece: &mut Piece, kind: ParamKind, number: u8) -> bool
     }
 }
 
-/// Prints the sign of the condact with this code and these parameters.
-fn print_sign_of(piece: &mut Piece, code: u8, a: u8, b: u8) -> bool
+/// Prints the sign of the condact with this code and these parameters. They come apart, since each of the many arms
+/// that call this would otherwise keep a place in memory for a condact of its own.
+pub(crate) fn print_sign(piece: &mut Piece, code: u8, a: u8, b: u8) -> bool
     requires code { IsCode code }
     ensures puts { Puts piece.old piece.new result (sign_text (record { code = code; a = a; b = b })) }
 {
@@ -33,13 +33,4 @@ fn print_sign_of(piece: &mut Piece, code: u8, a: u8, b: u8) -> bool
         && print_parameter(piece, row.first, a)
         && print_parameter(piece, row.second, b)
         && piece.push(b"]\n")
-}
-
-/// Prints the sign of a condact. It is taken apart here, since each of the many arms that call this would otherwise
-/// keep a place in memory for a condact of its own.
-pub(crate) fn print_sign(piece: &mut Piece, c: Condact) -> bool
-    requires code { IsCode c.code }
-    ensures puts { Puts piece.old piece.new result (sign_text c) }
-{
-    print_sign_of(piece, c.code, c.a, c.b)
 }

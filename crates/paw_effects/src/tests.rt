@@ -284,7 +284,7 @@ fn objects(alloc: Global) -> Result<Vec<ObjectRow>, AllocError> {
     Ok(rows)
 }
 
-/// The entry with these condacts, whatever the sentence is.
+// The entry with these condacts, whatever the sentence is.
 fn entry(alloc: Global, cases: &[Case]) -> Result<Entry, AllocError> {
     let rows = cases
         .iter()
@@ -297,7 +297,7 @@ fn entry(alloc: Global, cases: &[Case]) -> Result<Entry, AllocError> {
     })
 }
 
-/// Table 0 has an entry for each of these scenes, and the two others have none.
+// Table 0 has an entry for each of these scenes, and the two others have none.
 fn tables(alloc: Global, scenes: &[Scene]) -> Result<Vec<Table>, AllocError> {
     let mut entries = Vec::new(alloc);
     for &(cases, _) in scenes {
@@ -310,8 +310,8 @@ fn tables(alloc: Global, scenes: &[Scene]) -> Result<Vec<Table>, AllocError> {
     ]?)
 }
 
-/// A game in which table 0 has an entry for each of these scenes. System message n is the letter that stands n bytes
-/// after A.
+// A game in which table 0 has an entry for each of these scenes. System message n is the letter that stands n bytes
+// after A.
 fn parts(alloc: Global, scenes: &[Scene]) -> Result<GameParts, AllocError> {
     let mut system = Vec::new(alloc);
     for letter in b'A'..=b'v' {
@@ -335,15 +335,15 @@ fn parts(alloc: Global, scenes: &[Scene]) -> Result<GameParts, AllocError> {
     })
 }
 
-/// The facts of these objects.
+// The facts of these objects.
 fn facts_of(alloc: Global, rows: &[ObjectRow]) -> Result<Vec<ObjectFacts>, AllocError>
     ensures { IfOk result (λ facts. facts.items ≡ map (λ row. row.facts) rows.now) }
 {
     rows.iter().map(|row| row.facts).collect(alloc)
 }
 
-/// The world at the start of this game.
-fn opened(rt: &impl Abort, alloc: Global, game: &Game) -> Result<World, AllocError>
+// The world at the start of this game.
+fn opening_world(rt: &impl Abort, alloc: Global, game: &Game) -> Result<World, AllocError>
     ensures game { IfOk result (λ world. IsOf game.now world) }
 {
     let parts = game.parts();
@@ -354,7 +354,7 @@ fn opened(rt: &impl Abort, alloc: Global, game: &Game) -> Result<World, AllocErr
     Ok(world)
 }
 
-/// What an action answers.
+// What an action answers.
 fn answer_of(act: Act) -> Answer {
     match (act.drop_line, act.cancel_loop) {
         (false, false) => Does(act.effect),
@@ -364,7 +364,7 @@ fn answer_of(act: Act) -> Answer {
     }
 }
 
-/// Reads a condact of an entry of table 0.
+// Reads a condact of an entry of table 0.
 fn read<F: Fn(u8, u8) -> u8>(
     game: &Game,
     world: &mut World,
@@ -387,7 +387,7 @@ fn read<F: Fn(u8, u8) -> u8>(
     answer_of(act(game, world, routines, piece, c))
 }
 
-/// Reads these condacts, which are those of an entry of table 0.
+// Reads these condacts, which are those of an entry of table 0.
 fn read_all<F: Fn(u8, u8) -> u8>(
     rt: &impl Abort,
     game: &Game,
@@ -413,7 +413,7 @@ fn read_all<F: Fn(u8, u8) -> u8>(
     }
 }
 
-/// Reads these scenes, which are the entries of the game's table 0, each in an empty piece, with these routines.
+// Reads these scenes, which are the entries of the game's table 0, each in an empty piece, with these routines.
 fn run_with<F: Fn(u8, u8) -> u8>(
     rt: &impl Abort,
     alloc: Global,
@@ -423,7 +423,7 @@ fn run_with<F: Fn(u8, u8) -> u8>(
 ) -> Result<(), Fail>
     requires answers { HaveAnswers F.Fn routines.now }
 {
-    let mut world = opened(rt, alloc, game)?;
+    let mut world = opening_world(rt, alloc, game)?;
     let mut piece = Piece::new(alloc)?;
     for (entry, &(cases, printed)) in scenes.iter().enumerate() {
         assert!(rt; entry < 4_000);
@@ -442,14 +442,14 @@ fn run_with<F: Fn(u8, u8) -> u8>(
     Ok(())
 }
 
-/// Reads these scenes in a game of these parts, whose table 0 they are, with no routines.
+// Reads these scenes in a game of these parts, whose table 0 they are, with no routines.
 fn run(rt: &impl Abort, alloc: Global, parts: GameParts, scenes: &[Scene]) -> Result<(), Fail> {
     let game = Game::new(parts)?;
     let routines = Routines::new(0, |_, x| x);
     run_with(rt, alloc, &game, &routines, scenes)
 }
 
-/// Reads these condacts in a piece that holds this number of bytes already.
+// Reads these condacts in a piece that holds this number of bytes already.
 fn run_behind(
     rt: &impl Abort,
     alloc: Global,
@@ -457,7 +457,7 @@ fn run_behind(
     cases: &'static [Case],
 ) -> Result<(), Fail> {
     let game = Game::new(parts(alloc, &[(cases, "")])?)?;
-    let mut world = opened(rt, alloc, &game)?;
+    let mut world = opening_world(rt, alloc, &game)?;
     let routines = Routines::new(0, |_, x| x);
     let most = vec![in alloc; b'x'; bytes]?;
     let mut piece = Piece::new(alloc)?;
@@ -466,14 +466,14 @@ fn run_behind(
     Ok(())
 }
 
-/// What routine n of five gives: twice the number, and n.
+// What routine n of five gives: twice the number, and n.
 fn double(n: u8, x: u8) -> u8
     ensures value { result ≡ ((x * 2) % 256 + n) % 256 }
 {
     x.wrapping_mul(2).wrapping_add(n)
 }
 
-/// Reads these scenes with the five routines.
+// Reads these scenes with the five routines.
 fn run_with_five(rt: &impl Abort, alloc: Global, scenes: &[Scene]) -> Result<(), Fail> {
     let game = Game::new(parts(alloc, scenes)?)?;
     let routines = Routines::new(5, double);
@@ -503,7 +503,7 @@ fn a_text_that_does_not_fit(rt: HostRuntime) -> Result<(), Fail> {
     run_behind(&rt, rt.alloc(), 65_530, &TOO_LONG_BEFORE_OK)
 }
 
-/// What NOUN2 answers for a word, which may be any byte.
+// What NOUN2 answers for a word, which may be any byte.
 fn second_noun_is(game: &Game, world: &mut World, value: u8) -> Truth
     requires game { IsOf game.now world.old }
     requires draws { world.old.draws < 2 ^ 64 - 1 }
@@ -517,7 +517,7 @@ fn second_noun_is(game: &Game, world: &mut World, value: u8) -> Truth
     test(game, world, c)
 }
 
-/// What NOUN2 answers for a word before it becomes the second noun, and then.
+// What NOUN2 answers for a word before it becomes the second noun, and then.
 fn become_second_noun(rt: &impl Abort, game: &Game, world: &mut World, value: u8) -> (Truth, Truth)
     requires game { IsOf game.now world.old }
     ensures game { IsOf game.now world.new }
@@ -532,7 +532,7 @@ fn become_second_noun(rt: &impl Abort, game: &Game, world: &mut World, value: u8
 #[test]
 fn a_word_that_the_game_does_not_have(rt: HostRuntime) -> Result<(), Fail> {
     let game = Game::new(parts(rt.alloc(), &[])?)?;
-    let mut world = opened(&rt, rt.alloc(), &game)?;
+    let mut world = opening_world(&rt, rt.alloc(), &game)?;
     let found = (Truth::No, Truth::Yes);
     assert_eq!(rt; become_second_noun(&rt, &game, &mut world, 200), found);
     assert_eq!(rt; become_second_noun(&rt, &game, &mut world, 50), found);

@@ -18,7 +18,7 @@ use paw_game::parts::GamePart;
 use paw_game::tables::Tables;
 use paw_world::world::World;
 
-/// The text before the first underscore, and the text after it; None where there is no underscore.
+// The text before the first underscore, and the text after it; None where there is no underscore.
 fn split_at_underscore(text: &[u8]) -> Option<(&[u8], &[u8])>
     ensures none { IfNone result ((name : Text) → with_name name text.now ≡ text.now) }
     ensures some { IfSome result (λ p. (name : Text) →
@@ -29,14 +29,14 @@ fn split_at_underscore(text: &[u8]) -> Option<(&[u8], &[u8])>
     Some((&text[..at], &text[at + 1..]))
 }
 
-/// Prints two texts, and answers true; or false exactly where they don't fit.
+// Prints two texts, and answers true; or false exactly where they don't fit.
 fn print_both(piece: &mut Piece, first: &[u8], second: &[u8]) -> bool
     ensures puts { Puts piece.old piece.new result (first.now ++ second.now) }
 {
     piece.push(first) && piece.push(second)
 }
 
-/// A text of a part of the game, as it is; empty where there is none.
+// A text of a part of the game, as it is; empty where there is none.
 fn text_of<T: Tables>(tables: &T, part: GamePart, number: u8) -> &[u8]
     ensures value { result.now ≡ unwrap_or (text_at (T.game tables.now) part number) [] }
 {
@@ -46,7 +46,7 @@ fn text_of<T: Tables>(tables: &T, part: GamePart, number: u8) -> &[u8]
     }
 }
 
-/// The text of an object, as it is; empty where there is no such object.
+// The text of an object, as it is; empty where there is no such object.
 fn object_text<T: Tables>(tables: &T, o: u8) -> &[u8]
     ensures value { result.now ≡ object_text (T.game tables.now) o }
 {

@@ -19,7 +19,7 @@ use Rattle.paw_reading.specs.declared.places.OpenLoop.{OpenLoop}
 use Rattle.paw_reading.specs.Turn.{first_table}
 use Rattle.paw_reading.specs.inner.Places.{LeadsTo, tables_of, IsLoopIn, AreOpenTo, AreOpenAt, AreFramesAndLoop}
 use Rattle.paw_process.specs.Kept.{frames_at, has_code, may_open, parameter_of}
-use Rattle.paw_process.specs.inner.Kept.{unused}
+use Rattle.paw_process.specs.inner.Kept.{blank_frame}
 use Rattle.paw_process.specs.inner.Kept.{condact_at_frame, frame_stands, first_frame_fault}
 use Rattle.paw_process.proofs.OpenFrames.{table_of}
 use Rattle.paw_process.specs.Kept.{count_fits}
@@ -37,21 +37,23 @@ some_table g code (f ∷ path) leads = omega arith
 
 pub places_fit : (g : GameLists) (code : Option ℕ) (path : List Frame) (turning : Option OpenLoop) → AreOpenAt g code path turning
     → fault_at g code (frames_at path turning) ≡ None
-places_fit g None path turning at = rw (at.0, at.1) (both_none (first_frame_fault g 0 None 0 0 (replicate 11 unused)) None (unused_stand g 0 None 0 11) refl)
+places_fit g None path turning at =
+    rw (at.0, at.1) (both_none (first_frame_fault g 0 None 0 0 (replicate 11 blank_frame)) None (unused_stand g 0 None 0 11) refl)
 places_fit g (Some code) path turning at =
     let fits : count_fits (Some code) (length path) ≡ true = let few = at.few in let some = some_table g code path at.leads in grind (arith, nat_tests) in
     let opens : may_open None (first_table path) ≡ true = let low = at.outermost in grind (arith, nat_tests) in
     rw fits
-    (both_none (first_frame_fault g code None (length path) 0 (path ++ replicate (11 - length path) unused)) (loop_fault g (frames_at path turning) turning)
+    (both_none (first_frame_fault g code None (length path) 0 (path ++ replicate (11 - length path) blank_frame))
+    (loop_fault g (frames_at path turning) turning)
     (path_stands g code None path 0 (11 - length path) at.leads opens)
-    (loop_fits g path (replicate (11 - length path) unused) (length path) turning turning refl at.loop))
+    (loop_fits g path (replicate (11 - length path) blank_frame) (length path) turning turning refl at.loop))
 
 -- There are eleven frames.
 pub eleven_frames : (g : GameLists) (code : Option ℕ) (path : List Frame) (turning : Option OpenLoop) → AreOpenAt g code path turning
     → length (frames_at path turning).rows ≡ 11
 eleven_frames g None path turning at = rw at.0 refl
 eleven_frames g (Some code) path turning at =
-    omega (arith, length-append path (replicate (11 - length path) unused), length-replicate (11 - length path) unused, at.few)
+    omega (arith, length-append path (replicate (11 - length path) blank_frame), length-replicate (11 - length path) blank_frame, at.few)
 
 -- ---- frames that stand are those of a run ----
 
@@ -63,14 +65,14 @@ opened_by : (c : Condact) (u : ℕ) (o : Option Condact) → o ≡ Some c → ma
 opened_by c u o at h = sym (eqb-true u c.a (rw at at h))
 
 -- What a frame that stands says.
-record Row (g : GameLists) (code : ℕ) (caller : Option ℕ) (f : Frame) : Type 0 where
+record FrameStands (g : GameLists) (code : ℕ) (caller : Option ℕ) (f : Frame) : Type 0 where
   opens : may_open caller f.table ≡ true
   condact : Condact
   stands : condact_at_frame g f ≡ Some condact
   is : condact.code ≡ code
 
 frame_says : (g : GameLists) (code : ℕ) (caller : Option ℕ) (f : Frame) → (may_open caller f.table && has_code code (condact_at_frame g f)) ≡ true →
-    Row g code caller f
+    FrameStands g code caller f
 frame_says g code caller f h =
     let at = coded code (condact_at_frame g f) (second (may_open caller f.table) _ h) in
     record { opens = first_of (may_open caller f.table) _ h; condact = at.0; stands = at.1.0; is = at.1.1 }

@@ -4,6 +4,7 @@ pub mod OpenFrames
 pub mod Stops
 pub mod Readings
 pub mod Works
+pub mod AfterCondacts
 pub mod Hearing
 pub mod Runs
 pub mod Restored

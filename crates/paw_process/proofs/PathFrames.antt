@@ -14,17 +14,17 @@ use Rattle.paw_reading.specs.declared.places.OpenLoop.{OpenLoop}
 use Rattle.paw_reading.specs.Turn.{first_table}
 use Rattle.paw_reading.specs.inner.Places.{LeadsTo, tables_of, IsLoopIn}
 use Rattle.paw_process.specs.Kept.{has_code, may_open, parameter_of}
-use Rattle.paw_process.specs.inner.Kept.{unused}
+use Rattle.paw_process.specs.inner.Kept.{blank_frame}
 use Rattle.paw_process.specs.inner.Kept.{condact_at_frame, frame_stands, first_frame_fault}
 use Rattle.paw_process.specs.inner.Kept.{is_that_table}
 use Rattle.paw_process.specs.inner.Kept.{loop_fault}
 use Rattle.paw_process.proofs.OpenFrames.{table_of}
 
 -- Frames that aren't used stand.
-pub unused_stand : (g : GameLists) (code : ℕ) (caller : Option ℕ) (d k : ℕ) → first_frame_fault g code caller 0 d (replicate k unused) ≡ None
+pub unused_stand : (g : GameLists) (code : ℕ) (caller : Option ℕ) (d k : ℕ) → first_frame_fault g code caller 0 d (replicate k blank_frame) ≡ None
 unfolding first_frame_fault
 unused_stand g code caller d zero = refl
-unused_stand g code caller d (suc k) = unused_stand g code (Some (parameter_of (condact_at_frame g unused))) (suc d) k
+unused_stand g code caller d (suc k) = unused_stand g code (Some (parameter_of (condact_at_frame g blank_frame))) (suc d) k
 
 has : (code : ℕ) (c : Condact) (o : Option Condact) → o ≡ Some c → c.code ≡ code → has_code code o ≡ true
 has code c o at is = rw (at, is) (grind (arith, nat_tests))
@@ -46,13 +46,13 @@ frame_calls g code caller n f =
     rw (some, more) refl
 
 pub path_stands : (g : GameLists) (code : ℕ) (caller : Option ℕ) (path : List Frame) (d k : ℕ) → LeadsTo g code path → may_open caller (first_table path) ≡ true
-    → first_frame_fault g code caller (length path) d (path ++ replicate k unused) ≡ None
+    → first_frame_fault g code caller (length path) d (path ++ replicate k blank_frame) ≡ None
 path_stands g code caller [] d k leads opens = absurd leads
 path_stands g code caller (f ∷ []) d k leads opens =
-    frame_goes g code caller 0 d f (replicate k unused) (rw (opens, has code leads.condact (condact_at_frame g f) leads.stands leads.is) refl)
+    frame_goes g code caller 0 d f (replicate k blank_frame) (rw (opens, has code leads.condact (condact_at_frame g f) leads.stands leads.is) refl)
     (unused_stand g code (Some (parameter_of (condact_at_frame g f))) (suc d) k)
 path_stands g code caller (f ∷ h ∷ path) d k leads opens =
-    frame_goes g code caller (suc (length path)) d f ((h ∷ path) ++ replicate k unused)
+    frame_goes g code caller (suc (length path)) d f ((h ∷ path) ++ replicate k blank_frame)
     (frame_calls g code caller (length path) f ∙ rw (opens, has 85 leads.0.condact (condact_at_frame g f) leads.0.stands leads.0.process) refl)
     (path_stands g code (Some (parameter_of (condact_at_frame g f))) (h ∷ path) (suc d) k leads.1
     (names leads.0.condact h.table (condact_at_frame g f) leads.0.stands leads.0.called))

@@ -25,9 +25,9 @@ use Rattle.paw_effects.specs.Effects.{Done, Does, DoesAs, effect_of}
 use Rattle.paw_effects.specs.Texts.{put_text}
 use Rattle.paw_reading.specs.declared.places.Frame.{Frame}
 use Rattle.paw_reading.specs.declared.places.OpenLoop.{OpenLoop}
-use Rattle.paw_reading.specs.Run.{Run, Step, closed, with_world}
+use Rattle.paw_reading.specs.Run.{Run, Step, piece_closed, with_world}
 use Rattle.paw_reading.specs.declared.places.Halt.TheVariants as halt
-use Rattle.paw_reading.specs.Reading.{Out, halts, step_at, noted, printing, waits}
+use Rattle.paw_reading.specs.Reading.{Out, halts, step_at, step_noted, printing, waits}
 use Rattle.paw_reading.specs.Reading.{acts, carried_out, after_action, loop_of, deeper}
 use Rattle.paw_reading.specs.inner.Steps.{tests_condition, parses}
 use Rattle.paw_reading.specs.GoingOn.{on_path}
@@ -36,7 +36,7 @@ use Rattle.paw_process.specs.inner.OpenTables.{OpenTables}
 use Rattle.paw_process.specs.inner.OpenTables.{HasRead, ReadsNone, ReadsStep, below}
 use Rattle.paw_process.specs.inner.Meaning.{Held, having, ShowsHeld, run_held, with_steps, to_come, going_in, ComesTo}
 use Rattle.paw_process.specs.inner.Meaning.{RunsTo}
-use Rattle.paw_process.specs.inner.Moves.{Continues, resolved, next_of, past_of, reading_at, acted_at, loop_at_frames}
+use Rattle.paw_process.specs.inner.Moves.{Continues, loop_resolved, next_of, past_of, reading_at, acted_at, loop_at_frames}
 use Rattle.paw_process.specs.inner.Moves.{one_at, ReadsTable, ReadsOne, after_found}
 use Rattle.paw_process.specs.inner.Phrases.{Speaks}
 use Rattle.paw_process.specs.declared.surroundings.Surroundings.{Surroundings}
@@ -49,25 +49,25 @@ use Rattle.paw_process.proofs.Stops.{goes_from, stops_halted, fit, ask_spent}
 
 module _ (g : Story) (fs : List Frame) (f : Frame) (c : Condact) (r : Run) where
   pub one_tests : is_condition c ≡ true
-      → one_at g fs f c r ≡ resolved g fs (tests_condition g f (next_of g fs f) (past_of g fs f) c r (holds g.game r.world c))
+      → one_at g fs f c r ≡ loop_resolved g fs (tests_condition g f (next_of g fs f) (past_of g fs f) c r (holds g.game r.world c))
   one_tests h = rw h refl
 
   pub one_acts : is_condition c ≡ false
       → one_at g fs f c r
-      ≡ resolved g fs (acts g (deeper g (length fs)) (length fs) f (next_of g fs f) (past_of g fs f) (effect_of g r.world c) (noted f c true r))
+      ≡ loop_resolved g fs (acts g (deeper g (length fs)) (length fs) f (next_of g fs f) (past_of g fs f) (effect_of g r.world c) (step_noted f c true r))
   one_acts h = rw h refl
 
   pub test_holds : (w : World) → is_condition c ≡ true → truth.Yes ≡ (holds g.game r.world c).answer → w ≡ (holds g.game r.world c).world
-      → one_at g fs f c r ≡ going_in g (record f { at = f.at + 1 } ∷ fs) (noted f c true (with_world w r))
+      → one_at g fs f c r ≡ going_in g (record f { at = f.at + 1 } ∷ fs) (step_noted f c true (with_world w r))
   test_holds w kind h e = one_tests kind ∙ rw (← h, e, add-one) refl
 
   pub test_fails : (w : World) → is_condition c ≡ true → truth.No ≡ (holds g.game r.world c).answer → w ≡ (holds g.game r.world c).world
-      → one_at g fs f c r ≡ going_in g (record f { entry = f.entry + 1; at = 0 } ∷ fs) (noted f c false (with_world w r))
+      → one_at g fs f c r ≡ going_in g (record f { entry = f.entry + 1; at = 0 } ∷ fs) (step_noted f c false (with_world w r))
   test_fails w kind h e = one_tests kind ∙ rw (← h, e, add-one) refl
 
   pub test_asks : (w : World) → is_condition c ≡ true → truth.Ask ≡ (holds g.game r.world c).answer → w ≡ (holds g.game r.world c).world
       → one_at g fs f c r
-      ≡ resolved g fs (printing (put_text g.game w 12) (waits g prompt.Quit f (past_of g fs f)) (noted f c true (with_world w r)))
+      ≡ loop_resolved g fs (printing (put_text g.game w 12) (waits g prompt.Quit f (past_of g fs f)) (step_noted f c true (with_world w r)))
   test_asks w kind h e = one_tests kind ∙ rw (← h, e) refl
 
 -- ---- actions ----
@@ -86,12 +86,12 @@ pub loop_at : (g : Story) (fs : List Frame) (f : Frame) (p : ℕ) (r : Run) (l :
 loop_at g fs f p r l n e q = rw (e, q) (acted_loop g fs f p r)
 
 pub ask_at : (g : Story) (old fs : List Frame) (f : Frame) (p : Prompt) (r : Run) → old ≡ f ∷ fs
-    → acted_at g fs f (effect.Ask p) r ≡ on_path g p 0 (reverse old) (closed r)
+    → acted_at g fs f (effect.Ask p) r ≡ on_path g p 0 (reverse old) (piece_closed r)
 ask_at g old fs f p r top = settled_waits g fs f p r ∙ rw top refl
 
 pub parse_at : (g : Story) (fs : List Frame) (f : Frame) (x : Found) (s : Surroundings) (m : OpenTables) (w : World) (p : PendingLine) (r : Run)
     → Speaks g.game x s.world w s.pending p
-    → resolved g fs (parses g f (next_of g fs f) (past_of g fs f) (run_held (having s m) r))
+    → loop_resolved g fs (parses g f (next_of g fs f) (past_of g fs f) (run_held (having s m) r))
     ≡ going_in g (after_found x f ∷ fs) (run_held (having (record s { world = w; pending = p }) m) r)
 parse_at g fs f found.Sentence s m w p r (t, e, ew, ev) = rw (e, ew, ev, add-one) refl
 parse_at g fs f found.Nothing s m w p r (e, ew, ev) = rw (e, ew, ev, add-one) refl
@@ -127,10 +127,10 @@ pub act_at : (g : Story) (fs : List Frame) (f : Frame) (d : Done) (s s' : Surrou
     → length s.piece + length d.text ≤ 65535 → s'.piece ≡ s.piece ++ d.text → s'.world ≡ d.world → a ≡ d.act
     → s'.pending ≡ record s.pending { bytes = if a.drop_line then [] else s.pending.bytes }
     → m'.turning ≡ (if a.cancel_loop then None else m.turning)
-    → resolved g fs (acts g (deeper g (length fs)) (length fs) f (next_of g fs f) (past_of g fs f) d (run_held (having s m) r))
+    → loop_resolved g fs (acts g (deeper g (length fs)) (length fs) f (next_of g fs f) (past_of g fs f) d (run_held (having s m) r))
     ≡ acted_at g fs f a.effect (run_held (having s' m') r)
 act_at g fs f d s s' m m' a r low ep ew ea eq eo =
-    ap (resolved g fs) (fit (run_held (having s m) r) d.text (carrying_on g fs f d) low) ∙ rw (eq, eo, ep, ew, ea) refl
+    ap (loop_resolved g fs) (fit (run_held (having s m) r) d.text (carrying_on g fs f d) low) ∙ rw (eq, eo, ep, ew, ea) refl
 
 -- An action that isn't spent is carried out, and reading goes on.
 pub act_follows : (g : Story) (old mid : OpenTables) (f : Frame) (c : Condact) (s s' : Surroundings) (a : Act) (r : Run)
@@ -138,23 +138,23 @@ pub act_follows : (g : Story) (old mid : OpenTables) (f : Frame) (c : Condact) (
     → s'.pending ≡ record s.pending { bytes = if a.drop_line then [] else s.pending.bytes }
     → mid ≡ record old { turning = if a.cancel_loop then None else old.turning }
     → one_at g (below old.frames) f c (run_held (having s old) r)
-    ≡ acted_at g (below mid.frames) f a.effect (run_held (having s' mid) (noted f c true r))
+    ≡ acted_at g (below mid.frames) f a.effect (run_held (having s' mid) (step_noted f c true r))
 act_follows g old mid f c s s' a r kind does unspent eq em =
     let d = effect_of g s.world c in
     let m = did d s.piece s'.piece s'.world a does unspent in
     let cancelled : OpenTables = record old { turning = if a.cancel_loop then None else old.turning } in
     rw em
     (one_acts g (below old.frames) f c (run_held (having s old) r) kind
-    ∙ act_at g (below old.frames) f d s s' old cancelled a (noted f c true r) m.0 m.1 m.2 m.3 eq refl)
+    ∙ act_at g (below old.frames) f d s s' old cancelled a (step_noted f c true r) m.0 m.1 m.2 m.3 eq refl)
 
 -- An action whose text doesn't fit.
 pub act_spends : (g : Story) (old : OpenTables) (f : Frame) (c : Condact) (s s' : Surroundings) (a : Act) (r : Run)
     → is_condition c ≡ false → Does (effect_of g s.world c) s.piece s'.piece s'.world a → effect.Spent ≡ a.effect
-    → one_at g (below old.frames) f c (run_held (having s old) r) ≡ halts (halt.Spent spent.Text) (noted f c true (run_held (having s old) r))
+    → one_at g (below old.frames) f c (run_held (having s old) r) ≡ halts (halt.Spent spent.Text) (step_noted f c true (run_held (having s old) r))
 act_spends g old f c s s' a r kind does is =
     let d = effect_of g s.world c in
     one_acts g (below old.frames) f c (run_held (having s old) r) kind
-    ∙ ask_spent g (below old.frames) d.text (carrying_on g (below old.frames) f d) (noted f c true (run_held (having s old) r))
+    ∙ ask_spent g (below old.frames) d.text (carrying_on g (below old.frames) f d) (step_noted f c true (run_held (having s old) r))
     (did_spent d s.piece s'.piece s'.world a does is)
 
 -- ---- what one condact is ----
@@ -195,7 +195,7 @@ module _ (g : Story) (old mid : OpenTables) (f : Frame) (c : Condact) (s : Surro
   pub test_ask : (w : World) (new : OpenTables) (s' : Surroundings) (t : Option Turned) → is_condition c ≡ true
       → truth.Ask ≡ (holds g.game s.world c).answer → w ≡ (holds g.game s.world c).world
       → ReadsStep (step_at f c true) old mid → mid ≡ record old { left = left; steps = steps } → ReadsNone mid new
-      → ((r : Run) → Continues g (resolved g (below mid.frames)
+      → ((r : Run) → Continues g (loop_resolved g (below mid.frames)
       (printing (put_text g.game w 12) (waits g prompt.Quit f (past_of g (below mid.frames) f)) (run_held (having (record s { world = w }) mid) r)))
       t new.frames (run_held (having s' new) r))
       → ReadsOne g (below old.frames) f c (having s old) t (having s' new)
@@ -203,9 +203,9 @@ module _ (g : Story) (old mid : OpenTables) (f : Frame) (c : Condact) (s : Surro
     true,
     step_then (step_at f c true) old mid new one none,
     λ r.
-        goes_from g _ _ t new.frames (noted f c true (run_held (having s' new) r))
+        goes_from g _ _ t new.frames (step_noted f c true (run_held (having s' new) r))
         (test_asks g (below old.frames) f c (run_held (having s old) r) w kind answer is)
-        (rw em at (asks (noted f c true r))),
+        (rw em at (asks (step_noted f c true r))),
   )
 
   pub act_on : (s' s'' : Surroundings) (cancelled new : OpenTables) (a : Act) (t : Option Turned) → is_condition c ≡ false
@@ -220,9 +220,9 @@ module _ (g : Story) (old mid : OpenTables) (f : Frame) (c : Condact) (s : Surro
     true,
     step_then (step_at f c true) old cancelled new (step_then (step_at f c true) old mid cancelled one (moved_none _ _ _ _ _ ec)) none,
     λ r.
-        goes_from g _ _ t new.frames (noted f c true (run_held (having s'' new) r))
+        goes_from g _ _ t new.frames (step_noted f c true (run_held (having s'' new) r))
         (act_follows g old (record old { turning = if a.cancel_loop then None else old.turning }) f c s s' a r kind does unspent ep refl)
-        (rw (ec, em) at (follows (noted f c true r))),
+        (rw (ec, em) at (follows (step_noted f c true r))),
   )
 
   pub act_ends : (s' : Surroundings) (new : OpenTables) (a : Act) (t : Option Turned) → is_condition c ≡ false
@@ -234,7 +234,7 @@ module _ (g : Story) (old mid : OpenTables) (f : Frame) (c : Condact) (s : Surro
     step_then (step_at f c true) old mid new one none,
     λ r.
         stops_halted g (one_at g (below old.frames) f c (run_held (having s old) r)) t (halt.Spent spent.Text) new.frames
-        (noted f c true (run_held (having s' new) r)) (noted f c true (run_held (having s old) r)) refl e
+        (step_noted f c true (run_held (having s' new) r)) (step_noted f c true (run_held (having s old) r)) refl e
         (act_spends g old f c s s' a r kind does is)
         (record { pieces = refl; traces = refl; events = refl }),
   )

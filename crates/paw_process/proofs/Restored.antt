@@ -22,7 +22,7 @@ use Rattle.paw_process.specs.inner.Kept.{condact_at_frame, frame_stands, first_f
 use Rattle.paw_process.proofs.OpenFrames.{table_of}
 use Rattle.paw_process.specs.Kept.{count_fits}
 use Rattle.paw_process.specs.inner.Kept.{loop_stands, loop_fault, fault_at, frames_fault}
-use Rattle.paw_process.specs.inner.Kept.{restored, waiting_at, WaitsAtPrompt}
+use Rattle.paw_process.specs.inner.Kept.{machine_restored, waiting_at, WaitsAtPrompt}
 use Rattle.paw_process.specs.declared.kept.Frames.{Frames}
 use Rattle.paw_process.specs.inner.OpenTables.{below, IsAtCondact, AtCondacts, InTable, IsLoopWithin, LoopFits}
 use Rattle.paw_process.specs.inner.OpenTables.{IsWaiting, IsClosed}
@@ -121,12 +121,12 @@ below_in (f ∷ fs) h = h.1
 
 -- Kept frames, one to eleven of them, are those of a machine that waits.
 waits_at : (g : GameLists) (p : Prompt) (code : ℕ) (k : Frames) → Valid g → length k.rows ≡ 11 → fault_at g (Some code) k ≡ None
-    → IsWaiting p (restored k (Some p))
+    → IsWaiting p (machine_restored k (Some p))
 waits_at g p code k v size h = go (count_fits (Some code) k.count) refl h
   where
     go : (b : Bool) → count_fits (Some code) k.count ≡ b
         → ◌≡◌ {A = Option ℕ} (if b then option_or (first_frame_fault g code None k.count 0 k.rows) (loop_fault g k k.turning) else Some 0) None
-        → IsWaiting p (restored k (Some p))
+        → IsWaiting p (machine_restored k (Some p))
     go true e q =
         let fits = no_first (first_frame_fault g code None k.count 0 k.rows) (loop_fault g k k.turning) q in
         let some : 0 < k.count = ltb-true 0 k.count (first_of (nat_lt 0 k.count) _ e) in
@@ -147,7 +147,7 @@ waits_at g p code k v size h = go (count_fits (Some code) k.count) refl h
     go false e q = cc
 
 -- Kept frames of which none is used are those of a machine with nothing open.
-pub none_open : (g : GameLists) (k : Frames) → fault_at g None k ≡ None → IsClosed (restored k None)
+pub none_open : (g : GameLists) (k : Frames) → fault_at g None k ≡ None → IsClosed (machine_restored k None)
 none_open g k h = go (count_fits None k.count) refl h
   where
     loop_gone : (o : Option OpenLoop) → k.count ≡ 0 → loop_fault g k o ≡ None → o ≡ None
@@ -159,7 +159,7 @@ none_open g k h = go (count_fits None k.count) refl h
 
     go : (b : Bool) → count_fits None k.count ≡ b
         → ◌≡◌ {A = Option ℕ} (if b then option_or (first_frame_fault g 0 None k.count 0 k.rows) (loop_fault g k k.turning) else Some 0) None
-        → IsClosed (restored k None)
+        → IsClosed (machine_restored k None)
     go true e q =
         let fits = no_first (first_frame_fault g 0 None k.count 0 k.rows) (loop_fault g k k.turning) q in
         let z : k.count ≡ 0 = eqb-true k.count 0 e in
@@ -167,7 +167,7 @@ none_open g k h = go (count_fits None k.count) refl h
     go false e q = cc
 
 pub stands_at : (g : GameLists) (p : Prompt) (k : Frames) → Valid g → length k.rows ≡ 11 → frames_fault g p k ≡ None →
-    WaitsAtPrompt p (restored k (waiting_at p))
+    WaitsAtPrompt p (machine_restored k (waiting_at p))
 stands_at g prompt.Main k v size h = none_open g k h
 stands_at g prompt.Quit k v size h = waits_at g prompt.Quit 27 k v size h
 stands_at g prompt.Again k v size h = waits_at g prompt.Again 31 k v size h

@@ -6,8 +6,6 @@ use Rattle.paw_base.specs.declared.limits.TheConstants.{READ_LIMIT}
 use Rattle.paw_base.specs.declared.parts.Condact.{Condact}
 use Rattle.paw_base.specs.declared.fault.SpentKind.TheVariants as spent
 use Rattle.paw_effects.specs.Story.{Story}
-use Rattle.paw_game.specs.declared.cursor.CondactCursor.{CondactCursor}
-use Rattle.paw_game.specs.Game.{GameLists}
 use Rattle.paw_game.specs.Tables.{condact_at}
 use Rattle.paw_game.specs.inner.Tables.{match_at}
 use Rattle.paw_world.specs.World.{flag}
@@ -15,10 +13,10 @@ use Rattle.paw_effects.specs.declared.act.Prompt.{Prompt}
 use Rattle.paw_effects.specs.declared.act.Effect.TheVariants as effect
 use Rattle.paw_reading.specs.declared.places.Frame.{Frame}
 use Rattle.paw_reading.specs.declared.places.OpenLoop.{OpenLoop}
-use Rattle.paw_reading.specs.Run.{Run, closed, without_loop}
+use Rattle.paw_reading.specs.Run.{Run, piece_closed, without_loop}
 use Rattle.paw_reading.specs.declared.places.Halt.TheVariants as halt
 use Rattle.paw_reading.specs.Reading.{Redescribes, Halts, Out, Left, Stopped, halts, at_level, next_object_or}
-use Rattle.paw_reading.specs.Reading.{taken, over_objects, loop_of, waits, from_condact, rest_of_loop, deeper}
+use Rattle.paw_reading.specs.Reading.{object_taken, over_objects, loop_of, waits, from_condact, rest_of_loop, deeper}
 use Rattle.paw_reading.specs.Reading.{rest_of_table, reads_one}
 use Rattle.paw_reading.specs.GoingOn.{on_path}
 use Rattle.paw_reading.specs.inner.GoingOn.{along}
@@ -29,8 +27,7 @@ use Rattle.paw_reading.proofs.Rules.{plain_match, plain_inside, again_closed, af
 use Rattle.paw_reading.proofs.Along.{along_stopped, on_path_reverse}
 use Rattle.paw_process.specs.inner.Objects.{is_next, least_taken}
 use Rattle.paw_process.specs.inner.Meaning.{going_in}
-use Rattle.paw_process.specs.inner.Steps.{IsCursorOf}
-use Rattle.paw_process.specs.inner.Moves.{resolved, next_of, past_of, reading_at, acted_at, loop_at_frames}
+use Rattle.paw_process.specs.inner.Moves.{loop_resolved, next_of, past_of, reading_at, acted_at, loop_at_frames}
 
 -- ---- the loop ----
 
@@ -41,7 +38,7 @@ module _ (g : Story) (lv : ℕ) (l : OpenLoop) (body : Run → Out) where
 
   -- The loop once it has taken an object, with n objects after it.
   abbrev taking : ℕ → ℕ → Run → Out
-  taking o n r = next_object_or lv (λ _. over n) (body (taken g.game l o r))
+  taking o n r = next_object_or lv (λ _. over n) (body (object_taken g.game l o r))
 
   -- No object is left.
   turns_none : (n : ℕ) (r : Run) → least_taken g.game r.world l.place n ≡ None → over n r ≡ Left true (without_loop r)
@@ -79,21 +76,22 @@ turning_none g fs l n r h = ap (along g fs) (turns_none g (length fs) l _ n r h)
 -- A loop takes the next object.
 pub turning_some : (g : Story) (fs : List Frame) (l : OpenLoop) (n : ℕ) (r : Run) (o : ℕ) → l.level ≡ length fs → n ≤ length g.game.objects
     → least_taken g.game r.world l.place n ≡ Some o
-    → loop_at_frames g fs l n r ≡ along g fs (rest_of_table g (length fs) l.table l.entry (suc l.at) true (taken g.game l o r))
+    → loop_at_frames g fs l n r ≡ along g fs (rest_of_table g (length fs) l.table l.entry (suc l.at) true (object_taken g.game l o r))
 turning_some g fs l n r o own low h =
     ap (along g fs) (turns_some g (length fs) l _ n r o low h
     ∙ taken_again g (deeper g (length fs)) (length fs) l o _ own
-    (plain_keeps g (deeper g (length fs)) (length fs) (deeper_keeps g (length fs)) l.table l.entry (suc l.at) true (taken g.game l o r)))
+    (plain_keeps g (deeper g (length fs)) (length fs) (deeper_keeps g (length fs)) l.table l.entry (suc l.at) true (object_taken g.game l o r)))
 
 -- ---- a table is left ----
 
 -- At a level with no loop of its own.
-pub settled_left : (g : Story) (fs : List Frame) (a : Bool) (r : Run) → at_level (length fs) r.turning ≡ None → resolved g fs (Left a r) ≡ along g fs (Left a r)
+pub settled_left : (g : Story) (fs : List Frame) (a : Bool) (r : Run) → at_level (length fs) r.turning ≡ None →
+    loop_resolved g fs (Left a r) ≡ along g fs (Left a r)
 settled_left g fs a r h = rw h refl
 
 -- At the level of the open loop.
 pub settled_looped : (g : Story) (fs : List Frame) (a : Bool) (r : Run) (l : OpenLoop) → r.turning ≡ Some l → l.level ≡ length fs
-    → resolved g fs (Left a r) ≡ loop_at_frames g fs l (length g.game.objects - suc l.last) r
+    → loop_resolved g fs (Left a r) ≡ loop_at_frames g fs l (length g.game.objects - suc l.last) r
 settled_looped g fs a r l h own =
     let q : at_level (length fs) r.turning ≡ Some l = rw h (at_level_own (length fs) l own) in rw q refl
 
@@ -124,56 +122,51 @@ acted_spent g fs f r = along_stopped g fs (Halts (halt.Spent spent.Text)) r
 
 -- The piece is closed, and the run goes on at the prompt along the frames.
 pub settled_waits : (g : Story) (fs : List Frame) (f : Frame) (p : Prompt) (r : Run)
-    → resolved g fs (waits g p f (past_of g fs f) r) ≡ on_path g p 0 (reverse (f ∷ fs)) (closed r)
-settled_waits g fs f p r = sym (on_path_reverse g p f fs (closed r))
+    → loop_resolved g fs (waits g p f (past_of g fs f) r) ≡ on_path g p 0 (reverse (f ∷ fs)) (piece_closed r)
+settled_waits g fs f p r = sym (on_path_reverse g p f fs (piece_closed r))
 
 -- ---- places ----
 
 -- In an entry.
 pub going_inside : (g : Story) (fs : List Frame) (f : Frame) (r : Run) → 0 < f.at → going_in g (f ∷ fs) r ≡ reading_at g fs f r
 going_inside g fs f r h =
-    ap (resolved g fs) (plain_inside g (deeper g (length fs)) (length fs) f.table f.entry f.at f.acted r h)
+    ap (loop_resolved g fs) (plain_inside g (deeper g (length fs)) (length fs) f.table f.entry f.at f.acted r h)
 
 -- Before an entry.
 going_before : (g : Story) (fs : List Frame) (f : Frame) (r : Run) → f.at ≡ 0
-    → going_in g (f ∷ fs) r ≡ resolved g fs (from_condact g (deeper g (length fs)) (length fs) f.table f.entry 0 f.acted r)
+    → going_in g (f ∷ fs) r ≡ loop_resolved g fs (from_condact g (deeper g (length fs)) (length fs) f.table f.entry 0 f.acted r)
 going_before g fs f r h = rw h refl
 
 pub going_left : (g : Story) (fs : List Frame) (f : Frame) (r : Run) → f.at ≡ 0
-    → match_at g.game f.table f.entry (flag r.world 33) (flag r.world 34) ≡ None → going_in g (f ∷ fs) r ≡ resolved g fs (Left f.acted r)
+    → match_at g.game f.table f.entry (flag r.world 33) (flag r.world 34) ≡ None → going_in g (f ∷ fs) r ≡ loop_resolved g fs (Left f.acted r)
 going_left g fs f r zero_at h =
     going_before g fs f r zero_at
-    ∙ ap (resolved g fs) (plain_left g (deeper g (length fs)) (length fs) f.table f.entry f.acted r h)
+    ∙ ap (loop_resolved g fs) (plain_left g (deeper g (length fs)) (length fs) f.table f.entry f.acted r h)
 
 pub going_match : (g : Story) (fs : List Frame) (f : Frame) (r : Run) (found : ℕ) → f.at ≡ 0
     → match_at g.game f.table f.entry (flag r.world 33) (flag r.world 34) ≡ Some found
     → going_in g (f ∷ fs) r ≡ reading_at g fs (record { table = f.table; entry = found; at = 0; acted = f.acted }) r
 going_match g fs f r found zero_at h =
     going_before g fs f r zero_at
-    ∙ ap (resolved g fs) (plain_match g (deeper g (length fs)) (length fs) f.table f.entry found f.acted r h)
+    ∙ ap (loop_resolved g fs) (plain_match g (deeper g (length fs)) (length fs) f.table f.entry found f.acted r h)
 
 -- Past the last condact of an entry.
 pub reading_end : (g : Story) (fs : List Frame) (f : Frame) (r : Run) → condact_at g.game f.table f.entry f.at ≡ None
     → reading_at g fs f r ≡ along g fs (rest_of_table g (length fs) f.table (f.entry + 1) 0 f.acted r)
 reading_end g fs f r h =
-    ap (resolved g fs) (inside_end g (deeper g (length fs)) (length fs) f.table f.entry f.at f.acted r h) ∙ rw add-one refl
+    ap (loop_resolved g fs) (inside_end g (deeper g (length fs)) (length fs) f.table f.entry f.at f.acted r h) ∙ rw add-one refl
 
 -- At a condact.
 pub reading_condact : (g : Story) (fs : List Frame) (f : Frame) (r : Run) (c : Condact) → condact_at g.game f.table f.entry f.at ≡ Some c
     → length r.read < READ_LIMIT
-    → reading_at g fs f r ≡ resolved g fs (reads_one g (deeper g (length fs)) (length fs) f (next_of g fs f) (past_of g fs f) c r)
+    → reading_at g fs f r ≡ loop_resolved g fs (reads_one g (deeper g (length fs)) (length fs) f (next_of g fs f) (past_of g fs f) c r)
 reading_condact g fs f r c h low =
-    ap (resolved g fs) (inside_condact g (deeper g (length fs)) (length fs) f.table f.entry f.at f.acted r c h ∙ within_budget r _ low)
+    ap (loop_resolved g fs) (inside_condact g (deeper g (length fs)) (length fs) f.table f.entry f.at f.acted r c h ∙ within_budget r _ low)
 
 -- The budget is used up.
 pub reading_none : (g : Story) (fs : List Frame) (f : Frame) (r : Run) (c : Condact) →
     condact_at g.game f.table f.entry f.at ≡ Some c → READ_LIMIT ≤ length r.read →
     reading_at g fs f r ≡ halts (halt.Spent spent.Condacts) r
 reading_none g fs f r c h low =
-    ap (resolved g fs) (inside_condact g (deeper g (length fs)) (length fs) f.table f.entry f.at f.acted r c h ∙ within_none r _ low)
+    ap (loop_resolved g fs) (inside_condact g (deeper g (length fs)) (length fs) f.table f.entry f.at f.acted r c h ∙ within_none r _ low)
     ∙ along_stopped g fs (Halts (halt.Spent spent.Condacts)) r
-
--- A cursor of a frame stands at its condact.
-pub cursor_condact : (g : GameLists) (f : Frame) (cursor : CondactCursor) → IsCursorOf f cursor
-    → condact_at g cursor.table cursor.entry cursor.at ≡ condact_at g f.table f.entry f.at
-cursor_condact g f cursor is = rw (is.table, is.entry, is.at) refl

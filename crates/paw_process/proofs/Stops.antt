@@ -8,7 +8,7 @@ use Rattle.paw_base.specs.inner.Piece.{Puts}
 use Rattle.paw_effects.specs.Story.{Story}
 use Rattle.paw_effects.specs.declared.act.Prompt.{Prompt}
 use Rattle.paw_reading.specs.declared.places.Frame.{Frame}
-use Rattle.paw_reading.specs.Run.{Run, closed, printed}
+use Rattle.paw_reading.specs.Run.{Run, piece_closed, text_printed}
 use Rattle.paw_reading.specs.declared.places.Halt.{Halt}
 use Rattle.paw_reading.specs.declared.places.Halt.TheVariants as halt
 use Rattle.paw_reading.specs.Reading.{Halts, Out, closes_piece, halts, printing, waits, deeper}
@@ -19,7 +19,7 @@ use Rattle.paw_reading.proofs.Along.{along_stopped}
 use Rattle.paw_process.proofs.Steps.{settled_waits}
 use Rattle.paw_process.specs.inner.OpenTables.{below}
 use Rattle.paw_process.specs.inner.Meaning.{going_in, SamePast}
-use Rattle.paw_process.specs.inner.Moves.{Continues, resolved, past_of}
+use Rattle.paw_process.specs.inner.Moves.{Continues, loop_resolved, past_of}
 use Rattle.paw_process.specs.declared.Turned.{Turned}
 use Rattle.paw_process.specs.declared.Turned.TheVariants as turned
 
@@ -53,22 +53,22 @@ pub no_fit : (r : Run) (text : List ℕ) (go : Run → Out) → 65535 < length r
 no_fit r text go h =
     let t : nat_le (length r.current + length text) 65535 ≡ false = grind (arith, nat_tests) in rw t refl
 
-pub fit : (r : Run) (text : List ℕ) (go : Run → Out) → length r.current + length text ≤ 65535 → printing text go r ≡ go (printed text r)
+pub fit : (r : Run) (text : List ℕ) (go : Run → Out) → length r.current + length text ≤ 65535 → printing text go r ≡ go (text_printed text r)
 fit r text go h =
     let t : nat_le (length r.current + length text) 65535 ≡ true = grind (arith, nat_tests) in rw t refl
 
 -- The question doesn't fit.
 pub ask_spent : (g : Story) (fs : List Frame) (text : List ℕ) (go : Run → Out) (r : Run) →
-    65535 < length r.current + length text → resolved g fs (printing text go r) ≡ halts (halt.Spent spent.Text) r
-ask_spent g fs text go r h = ap (resolved g fs) (no_fit r text go h) ∙ along_stopped g fs (Halts (halt.Spent spent.Text)) r
+    65535 < length r.current + length text → loop_resolved g fs (printing text go r) ≡ halts (halt.Spent spent.Text) r
+ask_spent g fs text go r h = ap (loop_resolved g fs) (no_fit r text go h) ∙ along_stopped g fs (Halts (halt.Spent spent.Text)) r
 
 -- The question is put, and the run goes on at the prompt along the frames.
 pub ask_waits : (g : Story) (fs old : List Frame) (f : Frame) (p : Prompt) (text piece : List ℕ) (r : Run) → old ≡ f ∷ fs
     → length r.current + length text ≤ 65535 → piece ≡ r.current ++ text
-    → resolved g fs (printing text (waits g p f (past_of g fs f)) r) ≡ on_path g p 0 (reverse old) (closed (record r { current = piece }))
+    → loop_resolved g fs (printing text (waits g p f (past_of g fs f)) r) ≡ on_path g p 0 (reverse old) (piece_closed (record r { current = piece }))
 ask_waits g fs old f p text piece r top h is =
-    ap (resolved g fs) (fit r text (waits g p f (past_of g fs f)) h)
-    ∙ (settled_waits g fs f p (printed text r) ∙ rw (top, is) refl)
+    ap (loop_resolved g fs) (fit r text (waits g p f (past_of g fs f)) h)
+    ∙ (settled_waits g fs f p (text_printed text r) ∙ rw (top, is) refl)
 
 -- What stands where text was put or not.
 pub put_no : (old new text : List ℕ) (ok : Bool) → Puts old new ok text → ok ≡ false → 65535 < length old + length text
@@ -83,6 +83,6 @@ goes_from g x y t fs r e h = subst (λ (z : Out). Continues g z t fs r) (sym e) 
 
 pub ask_stops : (g : Story) (fs : List Frame) (text : List ℕ) (go : Run → Out) (r : Run) (t : Option Turned) (fs' : List Frame) (s : Run)
     → t ≡ Some (turned.Halted (halt.Spent spent.Text)) → 65535 < length r.current + length text → SamePast s r
-    → Continues g (resolved g fs (printing text go r)) t fs' s
+    → Continues g (loop_resolved g fs (printing text go r)) t fs' s
 ask_stops g fs text go r t fs' s e h past =
-    stops_halted g (resolved g fs (printing text go r)) t (halt.Spent spent.Text) fs' s r refl e (ask_spent g fs text go r h) past
+    stops_halted g (loop_resolved g fs (printing text go r)) t (halt.Spent spent.Text) fs' s r refl e (ask_spent g fs text go r h) past

@@ -6,6 +6,7 @@ use Rattle.paw_reading.specs.declared.places.OpenLoop.{OpenLoop}
 use Rattle.paw_process.specs.inner.OpenTables.{OpenTables}
 use Rattle.paw_process.specs.inner.OpenTables.{below, IsReading}
 use Rattle.paw_process.specs.inner.Work.{frames_work, loop_work, machine_work, Progress, counts, falls}
+use Rattle.paw_process.specs.inner.Work.{IsNoFurther, counted, stays}
 
 top_work : (fs : List Frame) → 0 < length fs → 1 + frames_work (below fs) ≤ frames_work fs
 top_work [] h = absurd (omega arith)
@@ -41,10 +42,21 @@ match_work old new f f' top e low =
     omega (arith, a, b)
 
 progress_after : (old mid new : OpenTables) → mid.left ≡ old.left → machine_work mid ≤ machine_work old → Progress mid new → Progress old new
-progress_after old mid new e low (counts k) = counts (k ∙ e)
+progress_after old mid new e low (counts k) = counts (omega arith)
 progress_after old mid new e low (falls k less) = falls (k ∙ e) (omega arith)
 
 pub match_progress : (old mid new : OpenTables) (f f' : Frame) → old.frames ≡ f ∷ below old.frames
     → mid ≡ record old { frames = f' ∷ below old.frames } → f.entry ≤ f'.entry → Progress mid new → Progress old new
 match_progress old mid new f f' top e low h =
     progress_after old mid new (ap (λ (m : OpenTables). m.left) e) (match_work old mid f f' top e low) h
+
+-- No further, and then on.
+pub progress_on : (first now new : OpenTables) → IsNoFurther first now → Progress now new → Progress first new
+progress_on first now new (counted e) (counts k) = counts (omega arith)
+progress_on first now new (counted e) (falls k less) = counts (omega arith)
+progress_on first now new (stays e low) (counts k) = counts (omega arith)
+progress_on first now new (stays e low) (falls k less) = falls (k ∙ e) (omega arith)
+
+pub no_further : (old new : OpenTables) → Progress old new → IsNoFurther old new
+no_further old new (counts k) = counted k
+no_further old new (falls k less) = stays k (omega arith)

@@ -7,4 +7,5 @@ pub mod Objects
 pub mod Phrases
 pub mod Work
 pub mod Running
+pub mod AfterCondact
 pub mod Kept

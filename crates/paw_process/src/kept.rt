@@ -91,15 +91,15 @@ pub fn parameter_of(condact: Option<Condact>) -> u8
     }
 }
 
-/// Whether a frame is unused.
+// Whether a frame is unused.
 fn is_unused(f: &Frame) -> bool
     ensures value { result ≡ is_unused f.now }
 {
     f.table == 0 && f.entry == 0 && f.at == 0 && !f.acted
 }
 
-/// Whether a frame follows its rules, where this many frames are used from it on: the last of these waits at this
-/// condact.
+// Whether a frame follows its rules, where this many frames are used from it on: the last of these waits at this
+// condact.
 fn frame_stands<T: Tables>(tables: &T, code: u8, caller: Option<u8>, used: u8, f: &Frame) -> bool
     ensures value { result ≡ frame_stands (T.game tables.now) code caller used f.now }
 {
@@ -110,7 +110,7 @@ fn frame_stands<T: Tables>(tables: &T, code: u8, caller: Option<u8>, used: u8, f
     may_open(caller, f.table) && has_code(wanted, tables.condact(f.table, f.entry, f.at))
 }
 
-/// The depth of the first frame that breaks a rule, counted from `depth` on.
+// The depth of the first frame that breaks a rule, counted from `depth` on.
 fn first_frame_fault<T: Tables>(
     tables: &T,
     code: u8,
@@ -142,7 +142,7 @@ pub fn is_place(locations: u16, place: u8) -> bool
     u16::from(place) < locations || (NOT_CREATED_PLACE <= place && place <= CARRIED_PLACE)
 }
 
-/// Whether the frame of this level belongs to this table.
+// Whether the frame of this level belongs to this table.
 fn is_table(rows: &[Frame], level: u8, table: u8) -> bool
     ensures value { result ≡ is_that_table (option_map (λ f. f.table) (slice_get rows.now level)) table }
 {
@@ -152,7 +152,7 @@ fn is_table(rows: &[Frame], level: u8, table: u8) -> bool
     }
 }
 
-/// Whether an open loop follows its rules.
+// Whether an open loop follows its rules.
 fn loop_stands<T: Tables>(tables: &T, kept: &Frames, l: OpenLoop) -> bool
     ensures value { result ≡ loop_stands (T.game tables.now) kept.now l }
 {
@@ -164,7 +164,7 @@ fn loop_stands<T: Tables>(tables: &T, kept: &Frames, l: OpenLoop) -> bool
         && u16::from(l.last) < counts.objects
 }
 
-/// The depth of an open loop that breaks a rule: 11.
+// The depth of an open loop that breaks a rule: 11.
 fn loop_fault<T: Tables>(tables: &T, kept: &Frames) -> Option<u8>
     ensures value { result ≡ loop_fault (T.game tables.now) kept.now kept.now.turning }
 {

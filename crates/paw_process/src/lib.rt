@@ -2,6 +2,7 @@
 //! objects, and the budget of condacts.
 #![tactic(auto)]
 
+mod after_condact;
 mod frame;
 mod kept;
 mod machine;

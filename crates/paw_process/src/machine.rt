@@ -12,15 +12,16 @@ ghost use Rattle.paw_reading.specs.inner.Places.{AreFramesAndLoop};
 ghost use Rattle.paw_process.specs.declared.machine.TheConstants.{MOST_FRAMES};
 ghost use Rattle.paw_process.specs.inner.OpenTables.{OpenTables};
 ghost use Rattle.paw_process.specs.inner.OpenTables.{below, ReadsStep, IsReading, IsClosed};
-ghost use Rattle.paw_process.specs.inner.OpenTables.{new_machine, refilled, table_begun};
-ghost use Rattle.paw_process.specs.inner.Kept.{kept as kept_of};
+ghost use Rattle.paw_process.specs.inner.OpenTables.{new_machine, budget_refilled, table_begun};
+ghost use Rattle.paw_process.specs.inner.Kept.{machine_kept as kept_of};
 ghost use Rattle.paw_process.specs.inner.Kept.{frames_fault};
-ghost use Rattle.paw_process.specs.inner.Kept.{restored, waiting_at, WaitsAtPrompt};
+ghost use Rattle.paw_process.specs.inner.Kept.{machine_restored, waiting_at, WaitsAtPrompt};
 ghost use Rattle.paw_process.specs.inner.Meaning.{InStories, having, RunsTo, IsStopped, AwaitsAnswer};
 ghost use Rattle.paw_process.specs.inner.Meaning.{AnswersQuit, AnswersKey};
 ghost use Rattle.paw_process.specs.inner.Steps.{IsReady, IsAfterReading};
 
 use crate::Turned;
+use crate::after_condact::NextFrame;
 use crate::frame::{frame_after_answer, start_of};
 use crate::kept::{FrameFault, Frames, frames_fault, waiting_at};
 use crate::step::StoryReader;
@@ -38,22 +39,21 @@ use std::marker::Model;
 pub const MOST_FRAMES: usize = LEVEL_LIMIT + 1;
 
 /// Reads a game's tables in written order, up to the next stop. It holds the frames of the tables that are open, the
-/// open loop, how many condacts the open piece may still read, and the steps of that piece; contracts see the frames
-/// with the innermost first.
+/// open loop, and the steps of the open piece; contracts see the frames with the innermost first, and how many condacts
+/// the piece may still read.
 #[derive(Drop)]
 pub struct Machine {
     frames: [Frame; MOST_FRAMES],
     count: usize,
     turning: Option<OpenLoop>,
     waiting: Option<Prompt>,
-    left: u32,
     steps: Steps,
 }
 
 impl Model for Machine {
     ghost use Rattle.paw_base.specs.declared.limits.TheConstants.{READ_LIMIT};
     ghost use Rattle.paw_process.specs.declared.machine.TheConstants.{MOST_FRAMES};
-    ghost use Rattle.std.specs.Prelude.{◌≡◌, ◌+◌, ◌≤◌, length, take, reverse};
+    ghost use Rattle.std.specs.Prelude.{◌≡◌, ◌-◌, ◌≤◌, length, take, reverse};
     ghost use Rattle.paw_process.specs.inner.OpenTables.{OpenTables};
 
     ghost Value = { OpenTables };
@@ -62,12 +62,12 @@ impl Model for Machine {
       frames = reverse (take m.count m.frames);
       turning = m.turning;
       waiting = m.waiting;
-      left = m.left;
+      left = READ_LIMIT - m.steps.count;
       steps = m.steps;
     } };
 
     ghost invariant = { λ m.
-        (m.count ≤ MOST_FRAMES) × (length m.frames ≡ MOST_FRAMES) × (m.steps.count + m.left ≡ READ_LIMIT) };
+        (m.count ≤ MOST_FRAMES) × (length m.frames ≡ MOST_FRAMES) × (m.steps.count ≤ READ_LIMIT) };
 }
 
 impl Machine {
@@ -80,7 +80,6 @@ impl Machine {
             count: 0,
             turning: None,
             waiting: None,
-            left: READ_LIMIT,
             steps: Steps::new(),
         }
     }
@@ -96,9 +95,8 @@ impl Machine {
 
     /// Fills up the budget and drops the steps, as for a new piece.
     pub fn refill(&mut self)
-        ensures value { self.new ≡ refilled self.old }
+        ensures value { self.new ≡ budget_refilled self.old }
     {
-        self.left = READ_LIMIT;
         self.steps.clear();
     }
 
@@ -147,11 +145,12 @@ impl Machine {
             (having surroundings.new self.new) }
     {
         let reader = StoryReader { tables, routines };
-        let mut cursor = tables.cursor(0, 0, 0);
+        // The innermost frame. The machine takes it back where reading leaves its table or waits.
+        let mut f = self.top();
         loop {
-            match reader.read_next(self, surroundings, &mut cursor) {
-                Some(turned) => return turned,
-                None => {}
+            match reader.read_on(self, surroundings, f) {
+                NextFrame::At(next) => f = next,
+                NextFrame::Stopped(turned) => return turned,
             }
         }
     }
@@ -161,7 +160,8 @@ impl Machine {
     /// run.
     pub fn frames(&self) -> Frames
         ensures value { result ≡ kept_of self.now }
-        ensures again { (p : AtPrompt) → WaitsAtPrompt p self.now → restored result (waiting_at p) ≡ refilled self.now }
+        ensures again { (p : AtPrompt) → WaitsAtPrompt p self.now →
+            machine_restored result (waiting_at p) ≡ budget_refilled self.now }
         ensures sound { (g : GameLists) (p : AtPrompt) →
             AreFramesAndLoop g p (reverse self.now.frames) self.now.turning → frames_fault g p result ≡ None }
     {
@@ -187,7 +187,7 @@ impl Machine {
         kept: &Frames,
         prompt: Prompt,
     ) -> Result<Machine, FrameFault>
-        ensures value { IfOk result (λ m. m ≡ restored kept.now (waiting_at prompt)) }
+        ensures value { IfOk result (λ m. m ≡ machine_restored kept.now (waiting_at prompt)) }
         ensures stands { IfOk result (λ m. WaitsAtPrompt prompt m) }
         ensures places { IfOk result (λ m. AreFramesAndLoop (T.game tables.now) prompt (reverse m.frames) m.turning) }
         ensures again { IfOk result (λ m. kept_of m ≡ kept.now) }
@@ -204,7 +204,6 @@ impl Machine {
             count: kept.count as usize,
             turning: kept.turning,
             waiting: waiting_at(prompt),
-            left: READ_LIMIT,
             steps: Steps::new(),
         })
     }
@@ -280,7 +279,7 @@ impl Machine {
         self.turning = turning;
     }
 
-    /// The prompt at which the machine waited; afterwards it waits at none.
+    // The prompt at which the machine waited; afterwards it waits at none.
     fn take_waiting(&mut self) -> Option<Prompt>
         ensures was { result ≡ self.old.waiting }
         ensures rest { self.new ≡ record self.old { waiting = None } }
@@ -299,7 +298,7 @@ impl Machine {
     pub(crate) fn may_read(&self) -> bool
         ensures value { result ≡ nat_lt 0 self.now.left }
     {
-        self.left > 0
+        self.steps.count() < READ_LIMIT
     }
 
     /// Notes that a frame's condact was read: with yes, or with no for a condition that failed.
@@ -316,6 +315,5 @@ impl Machine {
             yes,
         };
         self.steps.note(step);
-        self.left -= 1;
     }
 }

@@ -3,7 +3,7 @@
 ghost use Rattle.std.specs.Prelude.{◌≡◌, ◌<◌, ◌-◌, length, IfSome, Some, None};
 ghost use Rattle.paw_effects.specs.Worlds.{IsOf};
 ghost use Rattle.paw_game.specs.Tables.{facts_at};
-ghost use Rattle.paw_reading.specs.Reading.{may_be_taken, is_excepted, named};
+ghost use Rattle.paw_reading.specs.Reading.{may_be_taken, is_excepted, object_named};
 ghost use Rattle.paw_process.specs.inner.Objects.{least_taken, with_taken};
 ghost use Rattle.paw_world.specs.inner.Places.{left_above};
 
@@ -16,7 +16,7 @@ use paw_effects::condact::refer;
 use paw_game::tables::Tables;
 use paw_world::world::World;
 
-/// Whether the sentence excepts an object: by its second noun, and by its second adjective, if any.
+// Whether the sentence excepts an object: by its second noun, and by its second adjective, if any.
 fn is_excepted(world: &World, facts: ObjectFacts) -> bool
     ensures value { result ≡ is_excepted world.now facts }
 {
@@ -25,7 +25,7 @@ fn is_excepted(world: &World, facts: ObjectFacts) -> bool
     noun != NO_WORD && facts.noun == noun && (adjective == NO_WORD || facts.adjective == adjective)
 }
 
-/// Whether a loop may take an object: it has a noun and isn't excepted.
+// Whether a loop may take an object: it has a noun and isn't excepted.
 fn may_be_taken<T: Tables>(tables: &T, world: &World, o: u8) -> bool
     ensures value { result ≡ may_be_taken world.now (facts_at (T.game tables.now) o) }
 {
@@ -52,9 +52,9 @@ pub fn next_taken<T: Tables>(tables: &T, world: &World, place: u8, above: Option
     None
 }
 
-/// Puts an object's noun and adjective into the sentence.
+// Puts an object's noun and adjective into the sentence.
 fn name<T: Tables>(tables: &T, world: &mut World, o: u8)
-    ensures value { world.new ≡ named world.old (facts_at (T.game tables.now) o) }
+    ensures value { world.new ≡ object_named world.old (facts_at (T.game tables.now) o) }
 {
     match tables.facts(o) {
         Some(facts) => {

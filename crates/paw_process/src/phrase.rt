@@ -2,7 +2,7 @@
 
 ghost use Rattle.std.specs.Prelude.{◌≡◌};
 ghost use Rattle.paw_effects.specs.Worlds.{IsOf};
-ghost use Rattle.paw_reading.specs.Run.{spoken};
+ghost use Rattle.paw_reading.specs.Run.{with_sentence};
 ghost use Rattle.paw_process.specs.inner.Phrases.{Speaks};
 
 use paw_base::flags::{
@@ -32,9 +32,9 @@ pub fn take_phrase<T: Tables>(tables: &T, world: &mut World, pending: &mut Pendi
     found
 }
 
-/// Puts a sentence into the flags.
+// Puts a sentence into the flags.
 fn speak(world: &mut World, s: Sentence)
-    ensures value { world.new ≡ spoken s world.old }
+    ensures value { world.new ≡ with_sentence s world.old }
 {
     world.set_flag(VERB_FLAG, s.verb);
     world.set_flag(NOUN_FLAG, s.noun);

@@ -1,7 +1,7 @@
 // The reading of one condact, and how reading goes on after it.
 
 ghost use Rattle.std.specs.Prelude.{◌≡◌, ◌+◌, ◌-◌, ◌<◌, [], ◌∷◌, length};
-ghost use Rattle.std.specs.Prelude.{true, false, Some, None, IfNone, IfSome, IsNone, if◌then◌else◌};
+ghost use Rattle.std.specs.Prelude.{Bool, true, false, Some, None, IfNone, IfSome, IsNone, if◌then◌else◌};
 ghost use Rattle.paw_base.specs.Bytes.{RoutineAnswers};
 ghost use Rattle.paw_base.specs.declared.limits.TheConstants.{ENTRY_LIMIT};
 ghost use Rattle.paw_base.specs.declared.messages.TheConstants.{QUIT_MESSAGE};
@@ -12,25 +12,29 @@ ghost use Rattle.paw_routines.specs.Routines.{HaveAnswers};
 ghost use Rattle.paw_effects.specs.Story.{Story, story_of};
 ghost use Rattle.paw_effects.specs.Holds.{is_condition};
 ghost use Rattle.paw_effects.specs.Texts.{put_text};
+ghost use Rattle.paw_effects.specs.declared.act.Effect.TheVariants as effects;
 ghost use Rattle.paw_effects.specs.declared.act.Prompt.TheVariants as prompt;
 ghost use Rattle.paw_reading.specs.declared.places.Frame.{Frame};
 ghost use Rattle.paw_reading.specs.Run.{Run};
 ghost use Rattle.paw_reading.specs.Reading.{Left, deeper, printing, waits, loop_of};
 ghost use Rattle.paw_reading.specs.inner.Steps.{parses};
 ghost use Rattle.paw_reading.specs.inner.GoingOn.{along};
-ghost use Rattle.paw_process.specs.inner.OpenTables.{below, ReadsNone, AtCondacts};
+ghost use Rattle.paw_process.specs.inner.OpenTables.{below, ReadsNone, IsAtCondact, AtCondacts};
 ghost use Rattle.paw_process.specs.inner.OpenTables.{IsLoopWithin, LoopFits, IsReading};
 ghost use Rattle.paw_process.specs.inner.Meaning.{InStories, having, going_in, run_held};
-ghost use Rattle.paw_process.specs.inner.Moves.{Continues, StandsOrStopped, with_open_loop, looping, resolved};
+ghost use Rattle.paw_process.specs.inner.Moves.{Continues, StandsOrStopped, with_open_loop, looping, loop_resolved};
 ghost use Rattle.paw_process.specs.inner.Moves.{acted_at};
 ghost use Rattle.paw_process.specs.inner.Moves.{next_of, past_of, loop_at_frames, reading_at, Enters, EntersNone};
 ghost use Rattle.paw_process.specs.inner.Moves.{ReadsTable, ReadsOne};
 ghost use Rattle.paw_process.specs.inner.Steps.{IsReady, IsInnermost, MayReadOne, MayReadNext, HasMoved, HasStepped};
-ghost use Rattle.paw_process.specs.inner.Steps.{IsCursorOf};
+ghost use Rattle.paw_process.specs.inner.AfterCondact.{with_frame, frame_of, moved_on, stop_after_condact, held_at};
+ghost use Rattle.paw_process.specs.inner.AfterCondact.{stop_at, ReachesTable};
 ghost use Rattle.paw_process.specs.inner.Work.{machine_work, frames_work, Progress};
+ghost use Rattle.paw_process.specs.declared.after_condact.AfterCondact.TheVariants as after_condact;
 ghost use Rattle.paw_world.specs.inner.Places.{left_above};
 
 use crate::Turned;
+use crate::after_condact::{AfterCondact, NextFrame};
 use crate::frame::{after_found, next_entry, past, start_of};
 use crate::machine::{MOST_FRAMES, Machine};
 use crate::objects::{next_taken, take};
@@ -50,7 +54,7 @@ use paw_reading::places::{Frame, Halt, OpenLoop};
 use paw_routines::routines::Routines;
 use paw_world::world::World;
 
-/// Drops the rest of the line, if the action says so.
+// Drops the rest of the line, if the action says so.
 fn drop_line(pending: &mut Pending, done: Act)
     ensures value { pending.new ≡ record pending.old { bytes = if done.drop_line then [] else pending.old.bytes } }
 {
@@ -67,7 +71,7 @@ pub(crate) struct StoryReader<'a, T: Tables, F: Fn(u8, u8) -> u8> {
 }
 
 impl Machine {
-    /// Leaves the innermost table, which has no open loop of its own: its caller goes on after the call.
+    // Leaves the innermost table, which has no open loop of its own: its caller goes on after the call.
     fn leave(&mut self, acted: bool) -> Option<Turned>
         requires reading { IsReading self.old }
         requires no_loop { LoopFits (length (below self.old.frames)) self.old.turning }
@@ -86,7 +90,7 @@ impl Machine {
         None
     }
 
-    /// Stops where the location is described again or play has ended: nothing is open any more.
+    // Stops where the location is described again or play has ended: nothing is open any more.
     fn stop(&mut self, turned: Turned) -> Option<Turned>
         ensures value { result ≡ Some turned }
         ensures closed { self.new ≡ record self.old { frames = []; turning = None; waiting = None } }
@@ -95,7 +99,20 @@ impl Machine {
         Some(turned)
     }
 
-    /// Begins to read a table one level deeper, from its start.
+    // Where reading goes on after a move of the machine: at its innermost frame, unless it has stopped.
+    fn next_frame(&self, turned: Option<Turned>) -> NextFrame
+        requires stands { StandsOrStopped turned self.now }
+        ensures stop { stop_at result ≡ turned }
+        ensures held { held_at result self.now ≡ self.now }
+        ensures in_table { ReachesTable result }
+    {
+        match turned {
+            None => NextFrame::At(self.top()),
+            Some(turned) => NextFrame::Stopped(turned),
+        }
+    }
+
+    // Begins to read a table one level deeper, from its start.
     fn call(&mut self, table: u8) -> Option<Turned>
         requires reading { IsReading self.old }
         requires place { AtCondacts self.old.frames }
@@ -114,7 +131,7 @@ impl Machine {
         None
     }
 
-    /// The loop that the innermost frame's DOALL opens.
+    // The loop that the innermost frame's DOALL opens.
     fn loop_at(&self, f: Frame, place: u8) -> OpenLoop
         requires some { 0 < length self.now.frames }
         ensures value { result ≡ loop_of (length (below self.now.frames)) f place }
@@ -129,7 +146,7 @@ impl Machine {
         }
     }
 
-    /// Cancels the open loop, if the action says so.
+    // Cancels the open loop, if the action says so.
     fn cancel_loop(&mut self, done: Act)
         ensures value { self.new ≡ record self.old { turning = if done.cancel_loop then None else self.old.turning } }
     {
@@ -140,8 +157,8 @@ impl Machine {
 }
 
 impl<T: Tables, F: Fn(u8, u8) -> u8> StoryReader<'_, T, F> {
-    /// Lets the innermost table's loop take its next object above this one, or its first one. With none left the loop
-    /// is closed, and the table is left with an action carried out.
+    // Lets the innermost table's loop take its next object above this one, or its first one. With none left the loop
+    // is closed, and the table is left with an action carried out.
     fn next_object(
         &self,
         machine: &mut Machine,
@@ -186,11 +203,12 @@ impl<T: Tables, F: Fn(u8, u8) -> u8> StoryReader<'_, T, F> {
         }
     }
 
-    /// Leaves the innermost table or, where its level's loop is open, takes the next object.
+    // Leaves the innermost table or, where its level's loop is open, takes the next object.
     fn leave_level(&self, machine: &mut Machine, world: &mut World, acted: bool) -> Option<Turned>
         requires ready { IsReady (T.game self.now.tables.now) machine.old world.old }
         ensures meaning { (X : RoutineAnswers) (r : Run) → let g = story_of (T.game self.now.tables.now) X in
-            Continues g (resolved g (below machine.old.frames) (Left acted (looping world.old machine.old.turning r)))
+            Continues g (loop_resolved g (below machine.old.frames)
+            (Left acted (looping world.old machine.old.turning r)))
             result machine.new.frames (looping world.new machine.new.turning r) }
         ensures after { HasMoved (T.game self.now.tables.now) machine.old world.old result machine.new world.new }
         ensures falls { machine_work machine.new < machine_work machine.old }
@@ -207,12 +225,12 @@ impl<T: Tables, F: Fn(u8, u8) -> u8> StoryReader<'_, T, F> {
         }
     }
 
-    /// Takes the next phrase: after a sentence reading goes on at the next entry, otherwise at the next condact.
+    // Takes the next phrase: after a sentence reading goes on at the next entry, otherwise at the next condact.
     fn parse(&self, machine: &mut Machine, surroundings: &mut Surroundings, f: Frame)
         requires ready { IsReady (T.game self.now.tables.now) machine.old surroundings.old.world }
         requires at { IsInnermost f machine.old }
         ensures meaning { (X : RoutineAnswers) (r : Run) → let g = story_of (T.game self.now.tables.now) X in
-            resolved g (below machine.old.frames)
+            loop_resolved g (below machine.old.frames)
             (parses g f (next_of g (below machine.old.frames) f) (past_of g (below machine.old.frames) f)
             (run_held (having surroundings.old machine.old) r))
             ≡ going_in g machine.new.frames (run_held (having surroundings.new machine.new) r) }
@@ -228,8 +246,8 @@ impl<T: Tables, F: Fn(u8, u8) -> u8> StoryReader<'_, T, F> {
         machine.set_top(after_found(found, f));
     }
 
-    /// Goes on after an action of the innermost frame.
-    fn follow(
+    // Goes on after an action of the innermost frame, as an effect other than Go says.
+    fn go_elsewhere(
         &self,
         machine: &mut Machine,
         surroundings: &mut Surroundings,
@@ -238,6 +256,7 @@ impl<T: Tables, F: Fn(u8, u8) -> u8> StoryReader<'_, T, F> {
     ) -> Option<Turned>
         requires ready { IsReady (T.game self.now.tables.now) machine.old surroundings.old.world }
         requires at { IsInnermost f machine.old }
+        requires elsewhere { effect ≡ effects.Go → ⊥ }
         ensures meaning { (X : RoutineAnswers) (r : Run) → let g = story_of (T.game self.now.tables.now) X in
             Continues g
             (acted_at g (below machine.old.frames) f effect (run_held (having surroundings.old machine.old) r))
@@ -246,10 +265,7 @@ impl<T: Tables, F: Fn(u8, u8) -> u8> StoryReader<'_, T, F> {
             machine.new surroundings.new.world }
     {
         match effect {
-            Effect::Go => {
-                machine.set_top(past(f, true));
-                None
-            }
+            Effect::Go => unreachable!(),
             Effect::Exit(acted) => self.leave_level(machine, &mut surroundings.world, acted),
             Effect::Redescribe => machine.stop(Turned::Redescribe),
             Effect::Call(table) => machine.call(table),
@@ -269,48 +285,74 @@ impl<T: Tables, F: Fn(u8, u8) -> u8> StoryReader<'_, T, F> {
         }
     }
 
-    /// Tests a condition of the innermost frame.
+    // Goes on after an action of a frame.
+    fn follow(
+        &self,
+        machine: &mut Machine,
+        surroundings: &mut Surroundings,
+        f: Frame,
+        effect: Effect,
+    ) -> AfterCondact
+        requires ready { IsReady (T.game self.now.tables.now) machine.old surroundings.old.world }
+        requires place { IsAtCondact f }
+        ensures meaning { (X : RoutineAnswers) (r : Run) → let g = story_of (T.game self.now.tables.now) X in
+            Continues g
+            (acted_at g (below machine.old.frames) f effect (run_held (having surroundings.old machine.old) r))
+            (stop_after_condact result) (moved_on f result machine.new).frames
+            (run_held (having surroundings.new (moved_on f result machine.new)) r) }
+        ensures after { HasMoved (T.game self.now.tables.now) machine.old surroundings.old.world
+            (stop_after_condact result) machine.new surroundings.new.world }
+    {
+        match effect {
+            Effect::Go => AfterCondact::Next(true),
+            effect => {
+                machine.set_top(f);
+                AfterCondact::Moved(self.go_elsewhere(machine, surroundings, f, effect))
+            }
+        }
+    }
+
+    // Tests a condition of a frame.
     fn test(
         &self,
         machine: &mut Machine,
         surroundings: &mut Surroundings,
         f: Frame,
         c: Condact,
-    ) -> Option<Turned>
+    ) -> AfterCondact
         requires may { MayReadOne (T.game self.now.tables.now) f c machine.old surroundings.old.world }
         requires kind { is_condition c ≡ true }
         ensures meaning { (X : RoutineAnswers) → let g = story_of (T.game self.now.tables.now) X in
-            ReadsOne g (below machine.old.frames) f c (having surroundings.old machine.old) result
-            (having surroundings.new machine.new) }
-        ensures after { HasStepped (T.game self.now.tables.now) (having surroundings.old machine.old) result
-            (having surroundings.new machine.new) }
+            ReadsOne g (below machine.old.frames) f c (having surroundings.old machine.old)
+            (stop_after_condact result) (having surroundings.new (moved_on f result machine.new)) }
+        ensures after { HasStepped (T.game self.now.tables.now) (having surroundings.old machine.old)
+            (stop_after_condact result) (having surroundings.new machine.new) }
     {
         match test(self.tables, &mut surroundings.world, c) {
             Truth::Yes => {
                 machine.note(f, c, true);
-                machine.set_top(past(f, f.acted));
-                None
+                AfterCondact::Next(f.acted)
             }
             Truth::No => {
                 machine.note(f, c, false);
-                machine.set_top(next_entry(f));
-                None
+                AfterCondact::NextEntry
             }
             Truth::Ask => {
                 machine.note(f, c, true);
-                self.ask(machine, surroundings)
+                machine.set_top(f);
+                AfterCondact::Moved(self.ask(machine, surroundings))
             }
         }
     }
 
-    /// Asks QUIT's question, and waits for the answer.
+    // Asks QUIT's question, and waits for the answer.
     fn ask(&self, machine: &mut Machine, surroundings: &mut Surroundings) -> Option<Turned>
         requires ready { IsReady (T.game self.now.tables.now) machine.old surroundings.old.world }
         requires place { AtCondacts machine.old.frames }
         ensures meaning { (X : RoutineAnswers) (f : Frame) (r : Run) →
             machine.old.frames ≡ f ∷ below machine.old.frames →
             let g = story_of (T.game self.now.tables.now) X in
-            Continues g (resolved g (below machine.old.frames)
+            Continues g (loop_resolved g (below machine.old.frames)
             (printing (put_text g.game surroundings.old.world QUIT_MESSAGE)
             (waits g prompt.Quit f (past_of g (below machine.old.frames) f))
             (run_held (having surroundings.old machine.old) r)))
@@ -331,22 +373,22 @@ impl<T: Tables, F: Fn(u8, u8) -> u8> StoryReader<'_, T, F> {
         Some(Turned::Waits(Prompt::Quit))
     }
 
-    /// Carries out an action of the innermost frame.
+    // Carries out an action of a frame.
     fn act(
         &self,
         machine: &mut Machine,
         surroundings: &mut Surroundings,
         f: Frame,
         c: Condact,
-    ) -> Option<Turned>
+    ) -> AfterCondact
         requires answers { HaveAnswers F.Fn self.now.routines.now }
         requires may { MayReadOne (T.game self.now.tables.now) f c machine.old surroundings.old.world }
         requires kind { is_condition c ≡ false }
         ensures meaning { InStories F.Fn self.now.routines.now (T.game self.now.tables.now) (λ g.
-            ReadsOne g (below machine.old.frames) f c (having surroundings.old machine.old) result
-            (having surroundings.new machine.new)) }
-        ensures after { HasStepped (T.game self.now.tables.now) (having surroundings.old machine.old) result
-            (having surroundings.new machine.new) }
+            ReadsOne g (below machine.old.frames) f c (having surroundings.old machine.old)
+            (stop_after_condact result) (having surroundings.new (moved_on f result machine.new))) }
+        ensures after { HasStepped (T.game self.now.tables.now) (having surroundings.old machine.old)
+            (stop_after_condact result) (having surroundings.new machine.new) }
     {
         machine.note(f, c, true);
         let done = act(
@@ -357,7 +399,9 @@ impl<T: Tables, F: Fn(u8, u8) -> u8> StoryReader<'_, T, F> {
             c,
         );
         match done.effect {
-            Effect::Spent => machine.stop(Turned::Halted(Halt::Spent(SpentKind::Text))),
+            Effect::Spent => AfterCondact::Moved(machine.stop(Turned::Halted(Halt::Spent(
+                SpentKind::Text,
+            )))),
             effect => {
                 drop_line(&mut surroundings.pending, done);
                 machine.cancel_loop(done);
@@ -366,28 +410,31 @@ impl<T: Tables, F: Fn(u8, u8) -> u8> StoryReader<'_, T, F> {
         }
     }
 
-    /// Reads the condact of the innermost frame, where the piece may read one more.
+    // Reads the condact of a frame, where the piece may read one more.
     fn read(
         &self,
         machine: &mut Machine,
         surroundings: &mut Surroundings,
         f: Frame,
         c: Condact,
-    ) -> Option<Turned>
+    ) -> AfterCondact
         requires may { MayReadNext F.Fn self.now.routines.now
             (T.game self.now.tables.now) machine.old surroundings.old.world }
-        requires at { IsInnermost f machine.old }
+        requires place { IsAtCondact f }
         requires found { condact_at (T.game self.now.tables.now) f.table f.entry f.at ≡ Some c }
         requires condact { is_right (T.game self.now.tables.now) c ≡ true }
         ensures meaning { InStories F.Fn self.now.routines.now (T.game self.now.tables.now) (λ g.
-            ReadsTable g (reading_at g (below machine.old.frames) f)
-            (having surroundings.old machine.old) result (having surroundings.new machine.new)) }
-        ensures counts { IsNone result → machine.old.left ≡ machine.new.left + 1 }
-        ensures after { HasStepped (T.game self.now.tables.now) (having surroundings.old machine.old) result
-            (having surroundings.new machine.new) }
+            ReadsTable g (reading_at g (below machine.old.frames) f) (having surroundings.old machine.old)
+            (stop_after_condact result) (having surroundings.new (moved_on f result machine.new))) }
+        ensures counts { IsNone (stop_after_condact result) →
+            machine.old.left ≡ (moved_on f result machine.new).left + 1 }
+        ensures after { HasStepped (T.game self.now.tables.now) (having surroundings.old machine.old)
+            (stop_after_condact result) (having surroundings.new machine.new) }
     {
         if !machine.may_read() {
-            return machine.stop(Turned::Halted(Halt::Spent(SpentKind::Condacts)));
+            return AfterCondact::Moved(machine.stop(Turned::Halted(Halt::Spent(
+                SpentKind::Condacts,
+            ))));
         }
         if is_condition(c) {
             self.test(machine, surroundings, f, c)
@@ -396,98 +443,129 @@ impl<T: Tables, F: Fn(u8, u8) -> u8> StoryReader<'_, T, F> {
         }
     }
 
-    /// Moves a cursor to the condact of a frame, unless it stands there.
-    fn seek(&self, cursor: &mut CondactCursor, f: Frame)
-        requires stands { T.stands self.now.tables.now cursor.old }
-        ensures stands { T.stands self.now.tables.now cursor.new }
-        ensures at { IsCursorOf f cursor.new }
-    {
-        if cursor.table != f.table || cursor.entry != f.entry || cursor.at != f.at {
-            *cursor = self.tables.cursor(f.table, f.entry, f.at);
-        }
-    }
-
-    /// Goes on with the condacts of the innermost frame's entry.
-    fn rest_of_entry(
+    // Reads the condact at a cursor, which moves on to the next one. Where there is none, reading goes on at the next
+    // entry.
+    fn read_at_cursor(
         &self,
         machine: &mut Machine,
         surroundings: &mut Surroundings,
         cursor: &mut CondactCursor,
-        f: Frame,
-    ) -> Option<Turned>
+        acted: bool,
+    ) -> AfterCondact
         requires stands { T.stands self.now.tables.now cursor.old }
         requires may { MayReadNext F.Fn self.now.routines.now
             (T.game self.now.tables.now) machine.old surroundings.old.world }
-        requires top { machine.old.frames ≡ f ∷ below machine.old.frames }
-        requires entry { f.entry < ENTRY_LIMIT }
+        requires entry { cursor.old.entry < ENTRY_LIMIT }
         requires valid { Valid (T.game self.now.tables.now) }
         ensures meaning { InStories F.Fn self.now.routines.now (T.game self.now.tables.now) (λ g.
-            ReadsTable g (reading_at g (below machine.old.frames) f)
-            (having surroundings.old machine.old) result (having surroundings.new machine.new)) }
-        ensures progress { IsNone result → Progress machine.old machine.new }
-        ensures after { HasStepped (T.game self.now.tables.now) (having surroundings.old machine.old) result
-            (having surroundings.new machine.new) }
+            let f = frame_of cursor.old acted in
+            ReadsTable g (reading_at g (below machine.old.frames) f) (having surroundings.old machine.old)
+            (stop_after_condact result) (having surroundings.new (moved_on f result machine.new))) }
+        ensures progress { let f = frame_of cursor.old acted in IsNone (stop_after_condact result) →
+            Progress (with_frame f machine.old) (moved_on f result machine.new) }
+        ensures after { HasStepped (T.game self.now.tables.now) (having surroundings.old machine.old)
+            (stop_after_condact result) (having surroundings.new machine.new) }
         ensures stands { T.stands self.now.tables.now cursor.new }
+        ensures moves { (yes : Bool) → result ≡ after_condact.Next yes →
+            frame_of cursor.new yes ≡ record (frame_of cursor.old yes) { at = cursor.old.at + 1 } }
     {
-        self.seek(cursor, f);
+        let f = Frame {
+            table: cursor.table,
+            entry: cursor.entry,
+            at: cursor.at,
+            acted,
+        };
         match self.tables.next_condact(cursor) {
-            None => {
-                machine.set_top(next_entry(f));
-                None
-            }
+            None => AfterCondact::NextEntry,
             Some(c) => self.read(machine, surroundings, f, c),
         }
     }
 
-    /// The frame at which reading goes on from this one: inside an entry its own, and at the start of an entry that of
-    /// the next entry that matches. None exactly where none matches.
-    fn enter(&self, world: &World, f: Frame) -> Option<Frame>
-        requires place { 0 < f.at → f.entry < ENTRY_LIMIT }
-        ensures some { IfSome result (λ e. Enters (T.game self.now.tables.now) world.now f e) }
-        ensures none { IfNone result (EntersNone (T.game self.now.tables.now) world.now f) }
-    {
-        if f.at > 0 {
-            return Some(f);
-        }
-        let verb = world.flag(VERB_FLAG);
-        let noun = world.flag(NOUN_FLAG);
-        let entry = self.tables.next_match(f.table, f.entry, verb, noun)?;
-        Some(Frame {
-            table: f.table,
-            entry,
-            at: 0,
-            acted: f.acted,
-        })
-    }
-
-    /// Reads on by at most one condact: from the start of an entry to the next one that matches, and a condact there.
-    /// The cursor is that of the condact read last, from which reading most often goes on.
-    pub(crate) fn read_next(
+    // Reads the condacts of an entry from a cursor on, as long as reading goes on from one to the next.
+    fn rest_of_entry(
         &self,
         machine: &mut Machine,
         surroundings: &mut Surroundings,
-        cursor: &mut CondactCursor,
-    ) -> Option<Turned>
-        requires stands { T.stands self.now.tables.now cursor.old }
+        start: CondactCursor,
+        acted: bool,
+    ) -> NextFrame
+        requires stands { T.stands self.now.tables.now start }
         requires may { MayReadNext F.Fn self.now.routines.now
             (T.game self.now.tables.now) machine.old surroundings.old.world }
+        requires entry { start.entry < ENTRY_LIMIT }
+        requires valid { Valid (T.game self.now.tables.now) }
         ensures meaning { InStories F.Fn self.now.routines.now (T.game self.now.tables.now) (λ g.
-            ReadsTable g (going_in g machine.old.frames) (having surroundings.old machine.old) result
-            (having surroundings.new machine.new)) }
-        ensures progress { IsNone result → Progress machine.old machine.new }
-        ensures after { HasStepped (T.game self.now.tables.now) (having surroundings.old machine.old) result
-            (having surroundings.new machine.new) }
-        ensures stands { T.stands self.now.tables.now cursor.new }
+            ReadsTable g (reading_at g (below machine.old.frames) (frame_of start acted))
+            (having surroundings.old machine.old) (stop_at result)
+            (having surroundings.new (held_at result machine.new))) }
+        ensures progress { IsNone (stop_at result) →
+            Progress (with_frame (frame_of start acted) machine.old) (held_at result machine.new) }
+        ensures after { HasStepped (T.game self.now.tables.now) (having surroundings.old machine.old)
+            (stop_at result) (having surroundings.new machine.new) }
+        ensures in_table { ReachesTable result }
+    {
+        let mut cursor = start;
+        let mut acted = acted;
+        loop {
+            let f = Frame {
+                table: cursor.table,
+                entry: cursor.entry,
+                at: cursor.at,
+                acted,
+            };
+            match self.read_at_cursor(machine, surroundings, &mut cursor, acted) {
+                AfterCondact::Next(by_now) => acted = by_now,
+                AfterCondact::NextEntry => return NextFrame::At(next_entry(f)),
+                AfterCondact::Moved(turned) => return machine.next_frame(turned),
+            }
+        }
+    }
+
+    // The cursor at which reading goes on from a frame: inside an entry that of its condact, and at the start of an
+    // entry that of the first condact of the next entry that matches. None exactly where none matches.
+    fn enter(&self, world: &World, f: Frame) -> Option<CondactCursor>
+        requires place { 0 < f.at → f.entry < ENTRY_LIMIT }
+        ensures stands { IfSome result (λ c. T.stands self.now.tables.now c) }
+        ensures some { IfSome result (λ c. Enters (T.game self.now.tables.now) world.now f (frame_of c f.acted)) }
+        ensures none { IfNone result (EntersNone (T.game self.now.tables.now) world.now f) }
+    {
+        if f.at > 0 {
+            return Some(self.tables.cursor(f.table, f.entry, f.at));
+        }
+        let verb = world.flag(VERB_FLAG);
+        let noun = world.flag(NOUN_FLAG);
+        self.tables.match_cursor(f.table, f.entry, verb, noun)
+    }
+
+    /// Reads on at a frame in the place of the innermost one: in its entry, or in the next one that matches, as far as
+    /// reading goes on there from one condact to the next.
+    pub(crate) fn read_on(
+        &self,
+        machine: &mut Machine,
+        surroundings: &mut Surroundings,
+        f: Frame,
+    ) -> NextFrame
+        requires may { MayReadNext F.Fn self.now.routines.now
+            (T.game self.now.tables.now) machine.old surroundings.old.world }
+        requires place { 0 < f.at → f.entry < ENTRY_LIMIT }
+        ensures meaning { InStories F.Fn self.now.routines.now (T.game self.now.tables.now) (λ g.
+            ReadsTable g (going_in g (f ∷ below machine.old.frames)) (having surroundings.old machine.old)
+            (stop_at result) (having surroundings.new (held_at result machine.new))) }
+        ensures progress { IsNone (stop_at result) →
+            Progress (with_frame f machine.old) (held_at result machine.new) }
+        ensures after { HasStepped (T.game self.now.tables.now) (having surroundings.old machine.old)
+            (stop_at result) (having surroundings.new machine.new) }
+        ensures in_table { ReachesTable result }
     {
         // The clause of this call says that the game is valid, which the proof needs. The compiler leaves the call out.
         let _counts = self.tables.counts();
-        let f = machine.top();
         match self.enter(&surroundings.world, f) {
-            None => self.leave_level(machine, &mut surroundings.world, f.acted),
-            Some(entered) => {
-                machine.set_top(entered);
-                self.rest_of_entry(machine, surroundings, cursor, entered)
+            None => {
+                machine.set_top(f);
+                let turned = self.leave_level(machine, &mut surroundings.world, f.acted);
+                machine.next_frame(turned)
             }
+            Some(cursor) => self.rest_of_entry(machine, surroundings, cursor, f.acted),
         }
     }
 }

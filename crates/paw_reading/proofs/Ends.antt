@@ -13,13 +13,13 @@ use Rattle.paw_effects.specs.declared.act.Prompt.{Prompt}
 use Rattle.paw_effects.specs.declared.act.Prompt.TheVariants as prompt
 use Rattle.paw_effects.specs.Texts.{say_text}
 use Rattle.paw_reading.specs.declared.places.Frame.{Frame}
-use Rattle.paw_reading.specs.Run.{Run, closed, fits, printed, with_world, line_dropped, is_timeout, is_ignored, heard}
+use Rattle.paw_reading.specs.Run.{Run, piece_closed, fits, text_printed, with_world, line_dropped, is_timeout, is_ignored, with_line_heard}
 use Rattle.paw_reading.specs.Run.{with_timeout}
 use Rattle.paw_reading.specs.declared.places.Halt.TheVariants as halt
 use Rattle.paw_reading.specs.Reading.{Redescribes, Restarts, Halts, Out, Left, Waits, Stopped, table_read}
 use Rattle.paw_reading.specs.Turn.{TurnPhase, AtDescribe, AtTimeFrame, AtPhrase, AtResponse, Ending, Halted, Unended}
-use Rattle.paw_reading.specs.Turn.{saying, described, time_frame_passed}
-use Rattle.paw_reading.specs.Turn.{view_text, prompt_text, at_main, after_phrase, refusal_text, connected, after_left}
+use Rattle.paw_reading.specs.Turn.{saying, location_described, time_frame_passed}
+use Rattle.paw_reading.specs.Turn.{view_text, prompt_text, at_main, after_phrase, refusal_text, exit_taken, after_left}
 use Rattle.paw_reading.specs.Turn.{table_done, turn, left_to_read, phases_left, first_table, goes_on}
 use Rattle.paw_reading.specs.inner.Steps.{line_set, in_table, unknown_text}
 use Rattle.paw_reading.specs.inner.Turn.{TurnsEnd, EndsOnce, GoingOnEnds, GoesOnOnce}
@@ -45,18 +45,18 @@ needed_granted AtResponse r = omega arith
 abbrev pub EndsWithin : ℕ → (TurnPhase → Run → Ending) → Type 0
 EndsWithin n go = (s : TurnPhase) (r : Run) → phases_needed s r ≤ n → go s r ≢ Unended
 
-saying_ends : (text : List ℕ) (go : Run → Ending) (r : Run) → go (printed text r) ≢ Unended → saying text go r ≢ Unended
+saying_ends : (text : List ℕ) (go : Run → Ending) (r : Run) → go (text_printed text r) ≢ Unended → saying text go r ≢ Unended
 saying_ends text go r h = by_test (fits r text)
   where
-    by_test : (b : Bool) → (if b then go (printed text r) else Halted (halt.Spent spent.Text) r) ≢ Unended
+    by_test : (b : Bool) → (if b then go (text_printed text r) else Halted (halt.Spent spent.Text) r) ≢ Unended
     by_test true = h
     by_test false = λ e. cc
 
 connected_ends : (g : Story) (n : ℕ) (go : TurnPhase → Run → Ending) → EndsWithin n go → (r : Run) → 4 * left_to_read r + 3 ≤ n → (to : Option ℕ) →
-    connected g go r to ≢ Unended
+    exit_taken g go r to ≢ Unended
 connected_ends g n go h r k None =
     saying_ends (refusal_text g.game r.world) (go AtTimeFrame) (line_dropped r)
-    (h AtTimeFrame (printed (refusal_text g.game r.world) (line_dropped r)) (omega arith))
+    (h AtTimeFrame (text_printed (refusal_text g.game r.world) (line_dropped r)) (omega arith))
 connected_ends g n go h r k (Some to) = h AtDescribe (with_world (with_flag r.world 38 to) r) (omega arith)
 
 -- How many phases a table needs after it.
@@ -96,8 +96,8 @@ at_main_ends g n go h r (line ∷ lines) k =
     let s : Run = record r { events = lines } in
     let said : List ℕ = say_text g.game (with_timeout true r.world) 35 in
     by_test (is_ignored r.world line) (is_timeout line)
-    (at_main_ends g n go h (closed s) lines (omega (arith, m, k)))
-    (saying_ends said (go AtTimeFrame) (heard line s) (h AtTimeFrame (printed said (heard line s)) (omega (arith, m, k))))
+    (at_main_ends g n go h (piece_closed s) lines (omega (arith, m, k)))
+    (saying_ends said (go AtTimeFrame) (with_line_heard line s) (h AtTimeFrame (text_printed said (with_line_heard line s)) (omega (arith, m, k))))
     (h AtPhrase (line_set line s) (omega (arith, m, k)))
   where
     by_test : (ignored timeout : Bool) → {x y z : Ending} → x ≢ Unended → y ≢ Unended → z ≢ Unended →
@@ -111,11 +111,11 @@ after_phrase_ends : (g : Story) (n : ℕ) (go : TurnPhase → Run → Ending) �
 after_phrase_ends g n go h r k (IsSentence s rest) less = h AtResponse _ (omega arith)
 after_phrase_ends g n go h r k (IsUnknown rest) less =
     let text : List ℕ = unknown_text g.game r.world in
-    saying_ends text (go AtTimeFrame) (line_dropped r) (h AtTimeFrame (printed text (line_dropped r)) (omega arith))
+    saying_ends text (go AtTimeFrame) (line_dropped r) (h AtTimeFrame (text_printed text (line_dropped r)) (omega arith))
 after_phrase_ends g n go h r k IsNoPhrase less =
     let text : List ℕ = prompt_text g.game r.world in
-    let shown : Run = closed (printed text (line_dropped r)) in
-    saying_ends text (λ s. at_main g go (closed s) s.events) (line_dropped r)
+    let shown : Run = piece_closed (text_printed text (line_dropped r)) in
+    saying_ends text (λ s. at_main g go (piece_closed s) s.events) (line_dropped r)
     (at_main_ends g n go h shown r.events (omega arith))
 
 -- With this number of phases each turn ends.
@@ -126,10 +126,10 @@ turn_ends g zero AtTimeFrame r h = absurd (omega arith)
 turn_ends g zero AtPhrase r h = absurd (omega arith)
 turn_ends g zero AtResponse r h = absurd (omega arith)
 turn_ends g (suc n) AtDescribe r h =
-    let text : List ℕ = view_text g.game (described r.world) in
-    let s : Run = with_world (described r.world) r in
+    let text : List ℕ = view_text g.game (location_described r.world) in
+    let s : Run = with_world (location_described r.world) r in
     saying_ends text (λ q. table_done g (turn g n) 1 (table_read g 1 q)) s
-    (table_done_ends g n (turn g n) (turn_ends g n) 1 (left_to_read r) (omega arith) _ (table_spends g 1 (printed text s)))
+    (table_done_ends g n (turn g n) (turn_ends g n) 1 (left_to_read r) (omega arith) _ (table_spends g 1 (text_printed text s)))
 turn_ends g (suc n) AtTimeFrame r h =
     table_done_ends g n (turn g n) (turn_ends g n) 2 (left_to_read r) (omega arith) _ (table_spends g 2 r)
 turn_ends g (suc n) AtPhrase r h =
@@ -172,14 +172,14 @@ saying_more : (text : List ℕ) (go more : Run → Ending) (r : Run) → ((s : R
     saying text more r ≡ saying text go r
 saying_more text go more r h = by_test (fits r text)
   where
-    by_test : (b : Bool) → (if b then go (printed text r) else Halted (halt.Spent spent.Text) r) ≢ Unended →
-        (if b then more (printed text r) else Halted (halt.Spent spent.Text) r)
-        ≡ (if b then go (printed text r) else Halted (halt.Spent spent.Text) r)
-    by_test true k = h (printed text r) k
+    by_test : (b : Bool) → (if b then go (text_printed text r) else Halted (halt.Spent spent.Text) r) ≢ Unended →
+        (if b then more (text_printed text r) else Halted (halt.Spent spent.Text) r)
+        ≡ (if b then go (text_printed text r) else Halted (halt.Spent spent.Text) r)
+    by_test true k = h (text_printed text r) k
     by_test false k = refl
 
 connected_more : (g : Story) (go more : TurnPhase → Run → Ending) → Refines go more → (r : Run) (to : Option ℕ) →
-    connected g go r to ≢ Unended → connected g more r to ≡ connected g go r to
+    exit_taken g go r to ≢ Unended → exit_taken g more r to ≡ exit_taken g go r to
 connected_more g go more h r None k = saying_more _ (go AtTimeFrame) (more AtTimeFrame) _ (h AtTimeFrame) k
 connected_more g go more h r (Some to) k = h AtDescribe _ k
 
@@ -204,7 +204,7 @@ unfolding at_main
 at_main_more g go more h r [] k = refl
 at_main_more g go more h r (line ∷ lines) k =
     by_test (is_ignored r.world line) (is_timeout line)
-    (at_main_more g go more h (closed (record r { events = lines })) lines)
+    (at_main_more g go more h (piece_closed (record r { events = lines })) lines)
     (saying_more _ (go AtTimeFrame) (more AtTimeFrame) _ (h AtTimeFrame))
     (h AtPhrase _) k
   where
@@ -221,8 +221,8 @@ after_phrase_more : (g : Story) (go more : TurnPhase → Run → Ending) → Ref
 after_phrase_more g go more h r (IsSentence s rest) k = h AtResponse _ k
 after_phrase_more g go more h r (IsUnknown rest) k = saying_more _ (go AtTimeFrame) (more AtTimeFrame) _ (h AtTimeFrame) k
 after_phrase_more g go more h r IsNoPhrase k =
-    saying_more _ (λ s. at_main g go (closed s) s.events) (λ s. at_main g more (closed s) s.events) _
-    (λ s. at_main_more g go more h (closed s) s.events) k
+    saying_more _ (λ s. at_main g go (piece_closed s) s.events) (λ s. at_main g more (piece_closed s) s.events) _
+    (λ s. at_main_more g go more h (piece_closed s) s.events) k
 
 pub turn_more : (g : Story) (n : ℕ) → Refines (turn g n) (turn g (suc n))
 unfolding turn

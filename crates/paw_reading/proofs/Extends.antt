@@ -22,12 +22,12 @@ use Rattle.paw_effects.specs.Holds.{is_condition, holds}
 use Rattle.paw_effects.specs.Effects.{Done, effect_of}
 use Rattle.paw_reading.specs.declared.places.Frame.{Frame}
 use Rattle.paw_reading.specs.declared.places.OpenLoop.{OpenLoop}
-use Rattle.paw_reading.specs.Run.{Run, Step, closed, fits, printed, with_world, without_loop, line_dropped, anew}
-use Rattle.paw_reading.specs.Run.{is_ignored, heard, reply}
+use Rattle.paw_reading.specs.Run.{Run, Step, piece_closed, fits, text_printed, with_world, without_loop, line_dropped, anew}
+use Rattle.paw_reading.specs.Run.{is_ignored, with_line_heard, reply}
 use Rattle.paw_reading.specs.Run.{is_yes, is_no, taken_phrase}
 use Rattle.paw_reading.specs.declared.places.Halt.TheVariants as halt
-use Rattle.paw_reading.specs.Reading.{Restarts, Out, Left, Waits, Stopped, halts, noted, printing, after_call, at_level}
-use Rattle.paw_reading.specs.Reading.{next_object_or, is_taken, taken, over_objects, loop_of, over, answered, asked}
+use Rattle.paw_reading.specs.Reading.{Restarts, Out, Left, Waits, Stopped, halts, step_noted, printing, after_call, at_level}
+use Rattle.paw_reading.specs.Reading.{next_object_or, is_taken, object_taken, over_objects, loop_of, over, prompt_answered, prompt_asked}
 use Rattle.paw_reading.specs.Reading.{waits, after_test}
 use Rattle.paw_reading.specs.Reading.{after_parse, after_action, carried_out, acts, reads_one, is_for_now}
 use Rattle.paw_reading.specs.Reading.{rest_of_entry, from_condact, rest_of_loop, deeper}
@@ -45,7 +45,8 @@ use Rattle.paw_reading.proofs.Stops.{Stops, deeper_stops, path_stops}
 abbrev pub around : List (List ℕ) → List (List Step) → List (List ℕ) → Run → Run
 around ps ts lines r = record r { pieces = ps ++ r.pieces; traces = ts ++ r.traces; events = r.events ++ lines }
 
-closed_around : (ps : List (List ℕ)) (ts : List (List Step)) (lines : List (List ℕ)) (r : Run) → closed (around ps ts lines r) ≡ around ps ts lines (closed r)
+closed_around : (ps : List (List ℕ)) (ts : List (List Step)) (lines : List (List ℕ)) (r : Run) →
+    piece_closed (around ps ts lines r) ≡ around ps ts lines (piece_closed r)
 closed_around ps ts lines r = rw (append_assoc ps r.pieces (r.current ∷ []), append_assoc ts r.traces (r.read ∷ [])) refl
 
 module _ (g : Story) (ps : List (List ℕ)) (ts : List (List Step)) (lines : List (List ℕ)) where
@@ -85,11 +86,12 @@ module _ (g : Story) (ps : List (List ℕ)) (ts : List (List Step)) (lines : Lis
     settles_or true x x' y y' h k = h
     settles_or false x x' y y' h k = k
 
-    settles_printing : (text : List ℕ) (go : Run → Out) (r : Run) → loops lv (go (around ps ts lines (printed text r))) ≡ settles lv (go (printed text r)) →
+    settles_printing : (text : List ℕ) (go : Run → Out) (r : Run) →
+        loops lv (go (around ps ts lines (text_printed text r))) ≡ settles lv (go (text_printed text r)) →
         loops lv (printing text go (around ps ts lines r)) ≡ settles lv (printing text go r)
     settles_printing text go r h =
-        settles_or (fits r text) (go (around ps ts lines (printed text r)))
-        (halts (halt.Spent spent.Text) (around ps ts lines r)) (go (printed text r)) (halts (halt.Spent spent.Text) r) h refl
+        settles_or (fits r text) (go (around ps ts lines (text_printed text r)))
+        (halts (halt.Spent spent.Text) (around ps ts lines r)) (go (text_printed text r)) (halts (halt.Spent spent.Text) r) h refl
 
     -- ---- calls ----
 
@@ -107,28 +109,28 @@ module _ (g : Story) (ps : List (List ℕ)) (ts : List (List Step)) (lines : Lis
     settles_over : IsSettling lv (over g)
     settles_over r =
         settles_printing (goodbye g r) game_over r
-        (ap (halts halt.Over) (closed_around ps ts lines (without_loop (line_dropped (printed (goodbye g r) r)))))
+        (ap (halts halt.Over) (closed_around ps ts lines (without_loop (line_dropped (text_printed (goodbye g r) r)))))
 
     settles_answered : (p : Prompt) (f : Frame) (go : Bool → Run → Out) → ((a : Bool) → IsSettling lv (go a)) → (line : List ℕ) →
-        IsSettling lv (answered g p f go line)
+        IsSettling lv (prompt_answered g p f go line)
     settles_answered prompt.Quit f go hg line r = settles_or (is_yes line) _ _ (go f.acted r) (Left true r) (hg f.acted r) refl
     settles_answered prompt.Again f go hg line r =
         settles_or (is_no line) _ _ (over g r) (Stopped Restarts (anew r)) (settles_over r) refl
     settles_answered _ f go hg line r = hg true r
 
     settles_asked : (p : Prompt) (f : Frame) → ((a : Bool) → IsSettling lv (past_of lv f a)) → (r : Run) (es : List (List ℕ)) →
-        loops lv (asked g p f (past_of lv f) (around ps ts lines (record r { events = es })) (es ++ lines))
-        ≡ settles lv (asked g p f (past_of lv f) r es)
-    unfolding asked
+        loops lv (prompt_asked g p f (past_of lv f) (around ps ts lines (record r { events = es })) (es ++ lines))
+        ≡ settles lv (prompt_asked g p f (past_of lv f) r es)
+    unfolding prompt_asked
     settles_asked p f hg r [] = refl
     settles_asked p f hg r (line ∷ es) =
         settles_or (is_ignored r.world line) _ _ _ _
-        (rw (closed_around ps ts lines (record r { events = es })) (settles_asked p f hg (closed (record r { events = es })) es))
-        (settles_answered p f _ hg (reply line) (heard line (record r { events = es })))
+        (rw (closed_around ps ts lines (record r { events = es })) (settles_asked p f hg (piece_closed (record r { events = es })) es))
+        (settles_answered p f _ hg (reply line) (with_line_heard line (record r { events = es })))
 
     settles_waits : (p : Prompt) (f : Frame) → ((a : Bool) → IsSettling lv (past_of lv f a)) →
         IsSettling lv (waits g p f (past_of lv f))
-    settles_waits p f hg r = rw (closed_around ps ts lines r) (settles_asked p f hg (closed r) r.events)
+    settles_waits p f hg r = rw (closed_around ps ts lines r) (settles_asked p f hg (piece_closed r) r.events)
 
     -- ---- phrases ----
 
@@ -157,8 +159,8 @@ module _ (g : Story) (ps : List (List ℕ)) (ts : List (List Step)) (lines : Lis
         more : Run → Out
         more = over_objects g lv (record l { last = 0 }) body n
 
-        keeps : (o : ℕ) (s : Run) → Keeps (Some (record l { last = o })) (body (taken g.game l o s))
-        keeps o s = plain_keeps g (deeper g lv) lv (deeper_keeps g lv) l.table l.entry (suc l.at) true (taken g.game l o s)
+        keeps : (o : ℕ) (s : Run) → Keeps (Some (record l { last = o })) (body (object_taken g.game l o s))
+        keeps o s = plain_keeps g (deeper g lv) lv (deeper_keeps g lv) l.table l.entry (suc l.at) true (object_taken g.game l o s)
 
         after : (o : ℕ) → length g.game.objects - suc o ≡ n → IsSettling lv more → (y : Out) → Keeps (Some (record l { last = o })) y →
             settles lv y ≡ settles lv (next_object_or lv (λ _. more) y)
@@ -174,18 +176,19 @@ module _ (g : Story) (ps : List (List ℕ)) (ts : List (List Step)) (lines : Lis
         after o e ih (Stopped stop s) k = refl
 
         takes : (o : ℕ) → length g.game.objects - suc o ≡ n → IsSettling lv more →
-            loops lv (next_object_or lv (λ _. more) (body (taken g.game l o (around ps ts lines r))))
-            ≡ settles lv (next_object_or lv (λ _. more) (body (taken g.game l o r)))
+            loops lv (next_object_or lv (λ _. more) (body (object_taken g.game l o (around ps ts lines r))))
+            ≡ settles lv (next_object_or lv (λ _. more) (body (object_taken g.game l o r)))
         takes o e ih =
             let p : next_object_or lv (λ _. over_objects g lv (record l { last = 0 }) body (length g.game.objects - suc o))
-            (body (taken g.game l o (around ps ts lines r)))
-            ≡ loops lv (body (taken g.game l o (around ps ts lines r))) =
+            (body (object_taken g.game l o (around ps ts lines r)))
+            ≡ loops lv (body (object_taken g.game l o (around ps ts lines r))) =
             taken_again g (deeper g lv) lv l o _ own (keeps o (around ps ts lines r)) in
-            let q : next_object_or lv (λ _. more) (body (taken g.game l o (around ps ts lines r))) ≡ loops lv (body (taken g.game l o (around ps ts lines r))) =
+            let q : next_object_or lv (λ _. more) (body (object_taken g.game l o (around ps ts lines r)))
+            ≡ loops lv (body (object_taken g.game l o (around ps ts lines r))) =
             rw e at p in
-            ap (λ x. loops lv x) q ∙ again_again g (deeper g lv) lv (deeper_keeps g lv) (body (taken g.game l o (around ps ts lines r)))
-            ∙ hb (taken g.game l o r)
-            ∙ after o e ih (body (taken g.game l o r)) (keeps o r)
+            ap (λ x. loops lv x) q ∙ again_again g (deeper g lv) lv (deeper_keeps g lv) (body (object_taken g.game l o (around ps ts lines r)))
+            ∙ hb (object_taken g.game l o r)
+            ∙ after o e ih (body (object_taken g.game l o r)) (keeps o r)
 
     -- ---- one condact ----
 
@@ -207,17 +210,17 @@ module _ (g : Story) (ps : List (List ℕ)) (ts : List (List Step)) (lines : Lis
           IsSettling lv (acts g (deeper g lv) lv f (next_of lv f) (past_of lv f) d)
       settles_acts f hn hg d r =
           settles_printing d.text (λ s. after_action g (deeper g lv) lv f (next_of lv f) (past_of lv f) d.act.effect (carried_out d s)) r
-          (settles_action f hn hg d.act.effect (carried_out d (printed d.text r)))
+          (settles_action f hn hg d.act.effect (carried_out d (text_printed d.text r)))
 
       settles_test : (f : Frame) → ((a : Bool) → IsSettling lv (next_of lv f a)) →
           ((a : Bool) → IsSettling lv (past_of lv f a)) → (c : Condact) (r : Run) (t : Truth) →
           loops lv (after_test g f (next_of lv f) (past_of lv f) c (around ps ts lines r) t)
           ≡ settles lv (after_test g f (next_of lv f) (past_of lv f) c r t)
-      settles_test f hn hg c r truth.Yes = hg f.acted (noted f c true r)
-      settles_test f hn hg c r truth.No = hn f.acted (noted f c false r)
+      settles_test f hn hg c r truth.Yes = hg f.acted (step_noted f c true r)
+      settles_test f hn hg c r truth.No = hn f.acted (step_noted f c false r)
       settles_test f hn hg c r truth.Ask =
-          settles_printing (quit_question g r) (waits g prompt.Quit f (past_of lv f)) (noted f c true r)
-          (settles_waits prompt.Quit f hg (printed (quit_question g r) (noted f c true r)))
+          settles_printing (quit_question g r) (waits g prompt.Quit f (past_of lv f)) (step_noted f c true r)
+          (settles_waits prompt.Quit f hg (text_printed (quit_question g r) (step_noted f c true r)))
 
       settles_one : (f : Frame) → ((a : Bool) → IsSettling lv (next_of lv f a)) →
           ((a : Bool) → IsSettling lv (past_of lv f a)) → (c : Condact) →
@@ -225,7 +228,7 @@ module _ (g : Story) (ps : List (List ℕ)) (ts : List (List Step)) (lines : Lis
       settles_one f hn hg c r =
           settles_or (is_condition c) _ _ _ _
           (settles_test f hn hg c (with_world (holds g.game r.world c).world r) (holds g.game r.world c).answer)
-          (settles_acts f hn hg (effect_of g r.world c) (noted f c true r))
+          (settles_acts f hn hg (effect_of g r.world c) (step_noted f c true r))
 
       -- ---- entries, tables ----
 
@@ -294,7 +297,7 @@ module _ (g : Story) (ps : List (List ℕ)) (ts : List (List Step)) (lines : Lis
       asked_extends : (p : Prompt) (f : Frame) (r : Run) → on_path g p lv (f ∷ []) (around ps ts lines r) ≡ extends lv (on_path g p lv (f ∷ []) r)
       asked_extends p f r =
           settles_asked p f (settles_plain f.table f.entry (suc f.at)) r r.events
-          ∙ settles_extends (asked g p f (past_of lv f) r r.events)
+          ∙ settles_extends (prompt_asked g p f (past_of lv f) r r.events)
 
   -- ---- levels ----
 

@@ -10,21 +10,21 @@ use Rattle.paw_phrase.specs.Sentence.{Parsed, IsSentence, IsUnknown, IsNoPhrase}
 use Rattle.paw_effects.specs.declared.act.Prompt.{Prompt}
 use Rattle.paw_effects.specs.declared.act.Prompt.TheVariants as prompt
 use Rattle.paw_reading.specs.declared.places.Frame.{Frame}
-use Rattle.paw_reading.specs.Run.{Run, closed, fits, printed, with_world, line_dropped, is_timeout, is_ignored, heard}
+use Rattle.paw_reading.specs.Run.{Run, piece_closed, fits, text_printed, with_world, line_dropped, is_timeout, is_ignored, with_line_heard}
 use Rattle.paw_reading.specs.Run.{taken_phrase}
 use Rattle.paw_reading.specs.declared.places.Halt.TheVariants as halt
 use Rattle.paw_reading.specs.Reading.{Redescribes, Restarts, Halts, Out, Left, Waits, Stopped, deeper, table_read}
 use Rattle.paw_reading.specs.Reading.{coming_phrase}
 use Rattle.paw_reading.specs.GoingOn.{on_path}
-use Rattle.paw_reading.specs.inner.GoingOn.{with_lines, extended}
+use Rattle.paw_reading.specs.inner.GoingOn.{with_lines, out_followed}
 use Rattle.paw_reading.specs.Turn.{TurnPhase, AtDescribe, AtTimeFrame, AtPhrase, AtResponse, Ending, WaitsAt, Halted}
 use Rattle.paw_reading.specs.Turn.{Unended, saying}
-use Rattle.paw_reading.specs.Turn.{described, time_frame_passed, view_text, counted, prompt_text, at_main, after_phrase}
+use Rattle.paw_reading.specs.Turn.{location_described, time_frame_passed, view_text, turn_counted, prompt_text, at_main, after_phrase}
 use Rattle.paw_reading.specs.Turn.{refusal_text}
-use Rattle.paw_reading.specs.Turn.{connected, after_left, table_done, turn, phases_left, turns_from, opening}
+use Rattle.paw_reading.specs.Turn.{exit_taken, after_left, table_done, turn, phases_left, turns_from, opening}
 use Rattle.paw_reading.specs.Turn.{first_table, goes_on, timeout_text}
 use Rattle.paw_reading.specs.inner.Steps.{line_set, unknown_text}
-use Rattle.paw_reading.specs.inner.Turn.{followed, GoingOnIsReading}
+use Rattle.paw_reading.specs.inner.Turn.{ending_followed, GoingOnIsReading}
 use Rattle.paw_reading.specs.inner.Longer.{TurnsGoOn}
 use Rattle.paw_reading.specs.inner.Places.{IsLoopOf}
 use Rattle.paw_reading.proofs.Keeps.{Keeps, reads_keeps, deeper_keeps}
@@ -53,21 +53,22 @@ module _ (g : Story) (lines : List (List ℕ)) where
   abbrev AreFollowing : ℕ → (TurnPhase → Run → Ending) → (TurnPhase → Run → Ending) → Type 0
   AreFollowing m go more = (s : TurnPhase) (r : Run) → r.turning ≡ None → Follows m (go s r) (more s (with_lines lines r))
 
-  saying_follows : (m : ℕ) (text : List ℕ) (go more : Run → Ending) (r : Run) → Follows m (go (printed text r)) (more (with_lines lines (printed text r))) →
+  saying_follows : (m : ℕ) (text : List ℕ) (go more : Run → Ending) (r : Run) →
+      Follows m (go (text_printed text r)) (more (with_lines lines (text_printed text r))) →
       Follows m (saying text go r) (saying text more (with_lines lines r))
   saying_follows m text go more r h = by_test (fits r text)
     where
-      by_test : (b : Bool) → Follows m (if b then go (printed text r) else Halted (halt.Spent spent.Text) r)
-          (if b then more (with_lines lines (printed text r)) else Halted (halt.Spent spent.Text) (with_lines lines r))
+      by_test : (b : Bool) → Follows m (if b then go (text_printed text r) else Halted (halt.Spent spent.Text) r)
+          (if b then more (with_lines lines (text_printed text r)) else Halted (halt.Spent spent.Text) (with_lines lines r))
       by_test true k = h k
       by_test false k = refl
 
   module _ (m : ℕ) (go more : TurnPhase → Run → Ending) (follows : AreFollowing m go more) (refines : Refines (turn g m) more) where
     connected_follows : (r : Run) → r.turning ≡ None → (to : Option ℕ) →
-        Follows m (connected g go r to) (connected g more (with_lines lines r) to)
+        Follows m (exit_taken g go r to) (exit_taken g more (with_lines lines r) to)
     connected_follows r none None k =
         saying_follows m (refusal_text g.game r.world) (go AtTimeFrame) (more AtTimeFrame) (line_dropped r)
-        (follows AtTimeFrame (printed (refusal_text g.game r.world) (line_dropped r)) none) k
+        (follows AtTimeFrame (text_printed (refusal_text g.game r.world) (line_dropped r)) none) k
     connected_follows r none (Some to) k = follows AtDescribe (with_world (with_flag r.world 38 to) r) none k
 
     after_left_follows : (t : ℕ) (a : Bool) (r : Run) → r.turning ≡ None → Follows m (after_left g go t a r) (after_left g more t a (with_lines lines r))
@@ -91,7 +92,8 @@ module _ (g : Story) (lines : List (List ℕ)) where
         (table_done_more g (turn g m) more refines (first_table path) (on_path g prompt.Key 0 path (with_lines lines r)) k)
     waits_follow t prompt.Over path r inner e k = absurd inner
 
-    table_done_follows : (t : ℕ) (x : Out) → Keeps None x → Stops x → Stays t 0 x → Follows m (table_done g go t x) (table_done g more t (extended g lines 0 x))
+    table_done_follows : (t : ℕ) (x : Out) → Keeps None x → Stops x → Stays t 0 x →
+        Follows m (table_done g go t x) (table_done g more t (out_followed g lines 0 x))
     table_done_follows t (Left a r) keeps stops stays k = after_left_follows t a r (left_none a r keeps) k
     table_done_follows t (Waits p path r) keeps stops stays k = waits_follow t p path r stays.inner (stays.first refl) k
     table_done_follows t (Stopped Redescribes r) keeps stops stays k = follows AtDescribe r stops k
@@ -115,13 +117,13 @@ module _ (g : Story) (lines : List (List ℕ)) where
     at_main_follows r [] none k = at_main_more g (turn g m) more refines (with_lines lines (record r { events = [] })) lines k
     at_main_follows r (line ∷ es) none k =
         by_test (is_ignored r.world line) (is_timeout line)
-        (at_main g go (closed (record r { events = es })) es)
-        (saying (timeout_text g.game r.world) (go AtTimeFrame) (heard line (record r { events = es })))
+        (at_main g go (piece_closed (record r { events = es })) es)
+        (saying (timeout_text g.game r.world) (go AtTimeFrame) (with_line_heard line (record r { events = es })))
         (go AtPhrase (line_set line (record r { events = es })))
-        (at_main_follows (closed (record r { events = es })) es none)
+        (at_main_follows (piece_closed (record r { events = es })) es none)
         (saying_follows m (timeout_text g.game r.world) (go AtTimeFrame) (more AtTimeFrame)
-        (heard line (record r { events = es }))
-        (follows AtTimeFrame (printed (timeout_text g.game r.world) (heard line (record r { events = es }))) none))
+        (with_line_heard line (record r { events = es }))
+        (follows AtTimeFrame (text_printed (timeout_text g.game r.world) (with_line_heard line (record r { events = es }))) none))
         (follows AtPhrase (line_set line (record r { events = es })) none) k
       where
         by_test : (ignored timeout : Bool) (x y z : Ending) → {x' y' z' : Ending} → Follows m x x' → Follows m y y' → Follows m z z' →
@@ -133,15 +135,16 @@ module _ (g : Story) (lines : List (List ℕ)) where
     after_phrase_follows : (r : Run) → r.turning ≡ None → (p : Parsed) →
         Follows m (after_phrase g go r p)
         (after_phrase g more (with_lines lines r) p)
-    after_phrase_follows r none (IsSentence s rest) k = follows AtResponse (with_world (counted (taken_phrase s rest r).world) (taken_phrase s rest r)) none k
+    after_phrase_follows r none (IsSentence s rest) k =
+        follows AtResponse (with_world (turn_counted (taken_phrase s rest r).world) (taken_phrase s rest r)) none k
     after_phrase_follows r none (IsUnknown rest) k =
         let text : List ℕ = unknown_text g.game r.world in
         saying_follows m text (go AtTimeFrame) (more AtTimeFrame) (line_dropped r)
-        (follows AtTimeFrame (printed text (line_dropped r)) none) k
+        (follows AtTimeFrame (text_printed text (line_dropped r)) none) k
     after_phrase_follows r none IsNoPhrase k =
-        saying_follows m (prompt_text g.game r.world) (λ s. at_main g go (closed s) s.events)
-        (λ s. at_main g more (closed s) s.events) (line_dropped r)
-        (at_main_follows (closed (printed (prompt_text g.game r.world) (line_dropped r))) r.events none) k
+        saying_follows m (prompt_text g.game r.world) (λ s. at_main g go (piece_closed s) s.events)
+        (λ s. at_main g more (piece_closed s) s.events) (line_dropped r)
+        (at_main_follows (piece_closed (text_printed (prompt_text g.game r.world) (line_dropped r))) r.events none) k
 
   more_phases : (n m : ℕ) → Refines (turn g m) (turn g (n + m))
   more_phases n m s r k = many_more (λ i. turn g i s r) (λ i. turn_more g i s r) n m k
@@ -152,10 +155,10 @@ module _ (g : Story) (lines : List (List ℕ)) where
   turn_follows zero m s r none k = absurd (k refl)
   turn_follows (suc n) m AtDescribe r none k =
       let e : suc n + m ≡ suc (n + m) = omega arith in
-      let text : List ℕ = view_text g.game (described r.world) in
-      let s : Run = with_world (described r.world) r in
+      let text : List ℕ = view_text g.game (location_described r.world) in
+      let s : Run = with_world (location_described r.world) r in
       rw e (saying_follows m text (λ q. table_done g (turn g n) 1 (table_read g 1 q)) (λ q. table_done g (turn g (n + m)) 1 (table_read g 1 q)) s
-      (read_follows m (turn g n) (turn g (n + m)) (turn_follows n m) (more_phases n m) 1 (printed text s) none) k)
+      (read_follows m (turn g n) (turn g (n + m)) (turn_follows n m) (more_phases n m) 1 (text_printed text s) none) k)
   turn_follows (suc n) m AtTimeFrame r none k =
       let e : suc n + m ≡ suc (n + m) = omega arith in
       rw e (read_follows m (turn g n) (turn g (n + m)) (turn_follows n m) (more_phases n m) 2 r none k)
@@ -181,7 +184,7 @@ turns_go_on g lines s r none = by_ending (turns_from g s r) refl
     at : (m : ℕ) (x : Ending) → turns_from g s r ≡ x → goes_from g lines m x ≢ Unended → turns_from g s (with_lines lines r) ≡ goes_from g lines m x
     at m x e h = subst (λ y. goes_from g lines m y ≢ Unended → turns_from g s (with_lines lines r) ≡ goes_from g lines m y) e (enough g lines m s r none) h
 
-    by_ending : (x : Ending) → turns_from g s r ≡ x → turns_from g s (with_lines lines r) ≡ followed g lines x
+    by_ending : (x : Ending) → turns_from g s r ≡ x → turns_from g s (with_lines lines r) ≡ ending_followed g lines x
     by_ending (WaitsAt p path q) e = at (phases_left (with_lines lines q)) (WaitsAt p path q) e (going_on_ends g p path (with_lines lines q))
     by_ending (Halted halt q) e = at 0 (Halted halt q) e (λ u. cc)
     by_ending Unended e = absurd (turns_end g s r e)

@@ -31,15 +31,15 @@ use Rattle.paw_effects.proofs.EachRow.{effect_leads, condition_asks, effect_plac
 use Rattle.paw_effects.proofs.Placed.{IsPlaced, doall_place, referred_placed, restarted_placed}
 use Rattle.paw_reading.specs.declared.places.Frame.{Frame}
 use Rattle.paw_reading.specs.declared.places.OpenLoop.{OpenLoop}
-use Rattle.paw_reading.specs.Run.{Run, closed, fits, printed, with_world, anew, is_ignored, heard, reply, is_yes, is_no}
+use Rattle.paw_reading.specs.Run.{Run, piece_closed, fits, text_printed, with_world, anew, is_ignored, with_line_heard, reply, is_yes, is_no}
 use Rattle.paw_reading.specs.Run.{taken_phrase}
 use Rattle.paw_reading.specs.declared.places.Halt.TheVariants as halt
-use Rattle.paw_reading.specs.Reading.{Restarts, Halts, Out, Left, Waits, Stopped, halts, noted, after_call, at_level}
-use Rattle.paw_reading.specs.Reading.{next_object_or, is_taken, named, taken, over_objects, loop_of, over, answered}
-use Rattle.paw_reading.specs.Reading.{asked, after_test, after_parse}
+use Rattle.paw_reading.specs.Reading.{Restarts, Halts, Out, Left, Waits, Stopped, halts, step_noted, after_call, at_level}
+use Rattle.paw_reading.specs.Reading.{next_object_or, is_taken, object_named, object_taken, over_objects, loop_of, over, prompt_answered}
+use Rattle.paw_reading.specs.Reading.{prompt_asked, after_test, after_parse}
 use Rattle.paw_reading.specs.Reading.{after_action, carried_out, acts, reads_one, condacts, is_for_now, entries}
 use Rattle.paw_reading.specs.Reading.{from_condact, rest_of_loop, read_at_level}
-use Rattle.paw_reading.specs.Reading.{called, deeper, rest_of_table, table_read, game_over, waits}
+use Rattle.paw_reading.specs.Reading.{table_called, deeper, rest_of_table, table_read, game_over, waits}
 use Rattle.paw_reading.specs.GoingOn.{on_path}
 use Rattle.paw_reading.specs.Turn.{first_table}
 use Rattle.paw_reading.specs.inner.Steps.{goodbye, quit_question}
@@ -126,12 +126,12 @@ left_wider g ts u (Left a r) k = widened g ts u r.world r.turning k
 left_wider g ts u (Waits p path r) k = k
 left_wider g ts u (Stopped stop r) k = k
 
-named_placed : (g : GameLists) (w : World) (f : Option ObjectFacts) → IsPlaced g w → IsPlaced g (named w f)
+named_placed : (g : GameLists) (w : World) (f : Option ObjectFacts) → IsPlaced g w → IsPlaced g (object_named w f)
 named_placed g w None k = k
 named_placed g w (Some f) k = k
 
-taken_placed : (g : GameLists) (l : OpenLoop) (o : ℕ) (r : Run) → IsPlaced g r.world → IsPlaced g (taken g l o r).world
-taken_placed g l o r k = referred_placed g (with_flag (named r.world (facts_at g o)) 50 o) o (named_placed g r.world (facts_at g o) k)
+taken_placed : (g : GameLists) (l : OpenLoop) (o : ℕ) (r : Run) → IsPlaced g r.world → IsPlaced g (object_taken g l o r).world
+taken_placed g l o r k = referred_placed g (with_flag (object_named r.world (facts_at g o)) 50 o) o (named_placed g r.world (facts_at g o) k)
 
 -- What an action of a condact leads to in a game.
 abbrev LeadsIn : GameLists → Condact → Effect → Type 0
@@ -191,8 +191,8 @@ module _ (g : Story) (v : Valid g.game) (ts : List ℕ) (lv : ℕ) (deep : lengt
   turns_held l body at h (suc n) few r of =
       let o : ℕ = length g.game.objects - suc n in
       either (Held g.game ts ts u) (is_taken g.game r.world l o) _ _
-      (again_held (λ _. over_objects g lv l body n) (λ m s e k. turns_held l body at h n (omega arith) s k.of) (body (taken g.game l o r))
-      (h (taken g.game l o r) (record { of = taken_placed g.game l o r of; loop = at o (omega arith) })))
+      (again_held (λ _. over_objects g lv l body n) (λ m s e k. turns_held l body at h n (omega arith) s k.of) (body (object_taken g.game l o r))
+      (h (object_taken g.game l o r) (record { of = taken_placed g.game l o r of; loop = at o (omega arith) })))
       (turns_held l body at h n (omega arith) r of)
 
   -- ---- calls, prompts, phrases ----
@@ -224,7 +224,7 @@ module _ (g : Story) (v : Valid g.game) (ts : List ℕ) (lv : ℕ) (deep : lengt
   after_call_held left f go c t own at is called h (Stopped stop r) k = k
 
   answered_held : (p : Prompt) (f : Frame) (go : Bool → Run → Out) → GoesHeld (ts ++ u ∷ []) go → (line : List ℕ) (r : Run) → IsSound r
-      → Inside (answered g p f go line r)
+      → Inside (prompt_answered g p f go line r)
   answered_held prompt.Quit f go h line r k = either Inside (is_yes line) _ (Left true r) (h f.acted r k) k
   answered_held prompt.Again f go h line r k =
       either Inside (is_no line) (over g r) (Stopped Restarts (anew r))
@@ -234,8 +234,8 @@ module _ (g : Story) (v : Valid g.game) (ts : List ℕ) (lv : ℕ) (deep : lengt
 
   asked_held : (p : Prompt) (f : Frame) (code : ℕ) (go : Bool → Run → Out) → AsksAt code p → f.table ≡ u → IsAt g.game code f.table f.entry f.at →
       GoesHeld (ts ++ u ∷ []) go
-      → (r : Run) (lines : List (List ℕ)) → IsSound r → Inside (asked g p f go r lines)
-  unfolding asked
+      → (r : Run) (lines : List (List ℕ)) → IsSound r → Inside (prompt_asked g p f go r lines)
+  unfolding prompt_asked
   asked_held p f code go asks own at h r [] k = record {
     code = code;
     asks = asks;
@@ -245,8 +245,8 @@ module _ (g : Story) (v : Valid g.game) (ts : List ℕ) (lv : ℕ) (deep : lengt
     sound = subst (λ t. Sound g.game (ts ++ t ∷ []) r.world r.turning) (sym own) k;
   }
   asked_held p f code go asks own at h r (line ∷ lines) k =
-      either Inside (is_ignored r.world line) _ _ (asked_held p f code go asks own at h (closed (record r { events = lines })) lines k)
-      (answered_held p f go h (reply line) (heard line (record r { events = lines })) (record { of = k.of; loop = k.loop }))
+      either Inside (is_ignored r.world line) _ _ (asked_held p f code go asks own at h (piece_closed (record r { events = lines })) lines k)
+      (answered_held p f go h (reply line) (with_line_heard line (record r { events = lines })) (record { of = k.of; loop = k.loop }))
 
   after_parse_held : (f : Frame) (next go : Bool → Run → Out) → GoesHeld (ts ++ u ∷ []) next → GoesHeld (ts ++ u ∷ []) go → (r : Run) (p : Parsed) → IsSound r
       → Inside (after_parse f next go r p)
@@ -264,12 +264,12 @@ module _ (g : Story) (v : Valid g.game) (ts : List ℕ) (lv : ℕ) (deep : lengt
     after_test_held : (f : Frame) (next go : Bool → Run → Out) (c : Condact) → f.table ≡ u → condact_at g.game f.table f.entry f.at ≡ Some c
         → GoesHeld (ts ++ u ∷ []) next → GoesHeld (ts ++ u ∷ []) go → (r : Run) (x : Truth) → (x ≡ truth.Ask → c.code ≡ QUIT) → IsSound r
         → Inside (after_test g f next go c r x)
-    after_test_held f next go c own at hn hg r truth.Yes asks k = hg f.acted (noted f c true r) k
-    after_test_held f next go c own at hn hg r truth.No asks k = hn f.acted (noted f c false r) k
+    after_test_held f next go c own at hn hg r truth.Yes asks k = hg f.acted (step_noted f c true r) k
+    after_test_held f next go c own at hn hg r truth.No asks k = hn f.acted (step_noted f c false r) k
     after_test_held f next go c own at hn hg r truth.Ask asks k =
-        prints Inside (quit_question g r) (waits g prompt.Quit f go) (noted f c true r)
+        prints Inside (quit_question g r) (waits g prompt.Quit f go) (step_noted f c true r)
         (asked_held prompt.Quit f c.code go (asks refl) own (record { condact = c; stands = at; is = refl }) hg
-        (closed (printed (quit_question g r) (noted f c true r))) r.events k) tt
+        (piece_closed (text_printed (quit_question g r) (step_noted f c true r))) r.events k) tt
 
     after_action_held : (f : Frame) (next go : Bool → Run → Out) (c : Condact) → f.table ≡ u → condact_at g.game f.table f.entry f.at ≡ Some c
         → GoesHeld (ts ++ u ∷ []) next → GoesHeld (ts ++ u ∷ []) go → (e : Effect) → LeadsIn g.game c e → (r : Run) → IsSound r
@@ -289,7 +289,7 @@ module _ (g : Story) (v : Valid g.game) (ts : List ℕ) (lv : ℕ) (deep : lengt
           last = few;
         }) (hg true) (length g.game.objects) (omega arith) r k.of)
     after_action_held f next go c own at hn hg (effect.Ask p) leads r k =
-        asked_held p f c.code go leads own (record { condact = c; stands = at; is = refl }) hg (closed r) r.events k
+        asked_held p f c.code go leads own (record { condact = c; stands = at; is = refl }) hg (piece_closed r) r.events k
     after_action_held f next go c own at hn hg effect.Parse leads r k = after_parse_held f next go hn hg r _ k
     after_action_held f next go c own at hn hg effect.Spent leads r k = tt
 
@@ -299,7 +299,7 @@ module _ (g : Story) (v : Valid g.game) (ts : List ℕ) (lv : ℕ) (deep : lengt
         → Inside (acts g sub lv f next go d r)
     acts_held f next go c own at hn hg d leads r k =
         either Inside (fits r d.text) _ (halts (halt.Spent spent.Text) r)
-        (after_action_held f next go c own at hn hg d.act.effect leads (carried_out d (printed d.text r))
+        (after_action_held f next go c own at hn hg d.act.effect leads (carried_out d (text_printed d.text r))
         (cancelled g.game (ts ++ u ∷ []) d.world d.act.cancel_loop r.turning k)) tt
 
     reads_one_held : (f : Frame) (next go : Bool → Run → Out) (c : Condact) → f.table ≡ u → condact_at g.game f.table f.entry f.at ≡ Some c
@@ -310,7 +310,7 @@ module _ (g : Story) (v : Valid g.game) (ts : List ℕ) (lv : ℕ) (deep : lengt
         (condition_asks g.game r.world c)
         (record { of = condition_placed g.game r.world c k.of; loop = k.loop }))
         (acts_held f next go c own at hn hg (effect_of g r.world c) (leads_in g.game r.world f.table f.entry f.at c _ v k.of.1.0 at (effect_leads g r.world c))
-        (noted f c true r)
+        (step_noted f c true r)
         (record { of = effect_placed g r.world c v (right_at g.game v f.table f.entry f.at c at) k.of; loop = k.loop }))
 
     -- ---- entries, tables ----
@@ -359,11 +359,11 @@ one_more : (ts : List ℕ) (u lv : ℕ) → length ts ≡ lv → length (ts ++ u
 one_more ts u lv h = omega (arith, length-append ts (u ∷ []), h)
 
 called_held : (g : Story) (v : Valid g.game) (n lv : ℕ) (ts : List ℕ) → length ts ≡ suc lv → n + lv ≡ 10
-    → (u : ℕ) (r : Run) → Sound g.game ts r.world r.turning → Held g.game ts ts u (called g n lv u r)
-unfolding called
+    → (u : ℕ) (r : Run) → Sound g.game ts r.world r.turning → Held g.game ts ts u (table_called g n lv u r)
+unfolding table_called
 called_held g v zero lv ts deep levels u r h = tt
 called_held g v (suc n) lv ts deep levels u r h =
-    reads_held g v ts (suc lv) deep (omega arith) u (called g n (suc lv))
+    reads_held g v ts (suc lv) deep (omega arith) u (table_called g n (suc lv))
     (called_held g v n (suc lv) (ts ++ u ∷ []) (one_more ts u (suc lv) deep) (omega arith)) 0 0 false r (widened g.game ts u r.world r.turning h)
 
 deeper_held : (g : Story) (v : Valid g.game) (ts : List ℕ) (lv u : ℕ) → length ts ≡ lv → lv ≤ 10

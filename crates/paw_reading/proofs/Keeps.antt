@@ -20,14 +20,14 @@ use Rattle.paw_effects.specs.Holds.{is_condition, holds}
 use Rattle.paw_effects.specs.Effects.{Done, effect_of}
 use Rattle.paw_reading.specs.declared.places.Frame.{Frame}
 use Rattle.paw_reading.specs.declared.places.OpenLoop.{OpenLoop}
-use Rattle.paw_reading.specs.Run.{Run, closed, fits, printed, with_world, anew, is_ignored, heard, reply, is_yes, is_no}
+use Rattle.paw_reading.specs.Run.{Run, piece_closed, fits, text_printed, with_world, anew, is_ignored, with_line_heard, reply, is_yes, is_no}
 use Rattle.paw_reading.specs.Run.{taken_phrase}
 use Rattle.paw_reading.specs.declared.places.Halt.TheVariants as halt
-use Rattle.paw_reading.specs.Reading.{Restarts, Out, Left, Waits, Stopped, halts, noted, after_call, at_level}
+use Rattle.paw_reading.specs.Reading.{Restarts, Out, Left, Waits, Stopped, halts, step_noted, after_call, at_level}
 use Rattle.paw_reading.specs.Reading.{next_object_or}
-use Rattle.paw_reading.specs.Reading.{taken, over_objects, loop_of, over, answered, asked, after_test, after_parse}
+use Rattle.paw_reading.specs.Reading.{object_taken, over_objects, loop_of, over, prompt_answered, prompt_asked, after_test, after_parse}
 use Rattle.paw_reading.specs.Reading.{after_action, carried_out}
-use Rattle.paw_reading.specs.Reading.{acts, reads_one, from_condact, rest_of_loop, read_at_level, called, deeper}
+use Rattle.paw_reading.specs.Reading.{acts, reads_one, from_condact, rest_of_loop, read_at_level, table_called, deeper}
 use Rattle.paw_reading.specs.Reading.{game_over, printing}
 use Rattle.paw_reading.specs.Reading.{waits}
 use Rattle.paw_reading.specs.inner.Steps.{goodbye, quit_question}
@@ -67,9 +67,9 @@ either P true x y h k = h
 either P false x y h k = k
 
 -- What holds after a print, whether its text fits or not.
-pub prints : (P : Out → Type 0) (text : List ℕ) (go : Run → Out) (r : Run) → P (go (printed text r)) →
+pub prints : (P : Out → Type 0) (text : List ℕ) (go : Run → Out) (r : Run) → P (go (text_printed text r)) →
     P (halts (halt.Spent spent.Text) r) → P (printing text go r)
-prints P text go r h k = either P (fits r text) (go (printed text r)) (halts (halt.Spent spent.Text) r) h k
+prints P text go r h k = either P (fits r text) (go (text_printed text r)) (halts (halt.Spent spent.Text) r) h k
 
 pub open_or_not : (P : Out → Type 0) (next : OpenLoop → Out) (x : Out) (o : Option OpenLoop) → ((l : OpenLoop) → o ≡ Some l → P (next l)) →
     (o ≡ None → P x) → P (option_map_or next o x)
@@ -106,7 +106,8 @@ turns_closes g lv l body own h zero r = inr refl
 turns_closes g lv l body own h (suc n) r =
     let o : ℕ = length g.game.objects - suc n in
     either (Keeps None) _ _ _
-    (again_closes lv (record l { last = o }) _ own (λ m s. turns_closes g lv l body own h n s) (body (taken g.game l o r)) (h (taken g.game l o r)))
+    (again_closes lv (record l { last = o }) _ own (λ m s. turns_closes g lv l body own h n s) (body (object_taken g.game l o r))
+    (h (object_taken g.game l o r)))
     (turns_closes g lv l body own h n r)
 
 -- ---- calls, prompts, phrases ----
@@ -117,7 +118,7 @@ after_call_keeps f go h o (Waits p path r) k = tt
 after_call_keeps f go h o (Stopped stop r) k = tt
 
 answered_keeps : (g : Story) (p : Prompt) (f : Frame) (go : Bool → Run → Out) → GoesKeeping go → (line : List ℕ) (r : Run) →
-    Keeps r.turning (answered g p f go line r)
+    Keeps r.turning (prompt_answered g p f go line r)
 answered_keeps g prompt.Quit f go h line r = either (Keeps r.turning) (is_yes line) _ (Left true r) (h f.acted r) (inl refl)
 answered_keeps g prompt.Again f go h line r =
     let ends : Keeps r.turning (over g r) = prints (Keeps r.turning) (goodbye g r) game_over r tt tt in
@@ -125,12 +126,12 @@ answered_keeps g prompt.Again f go h line r =
 answered_keeps g _ f go h line r = h true r
 
 pub asked_keeps : (g : Story) (p : Prompt) (f : Frame) (go : Bool → Run → Out) → GoesKeeping go → (r : Run) (lines : List (List ℕ)) →
-    Keeps r.turning (asked g p f go r lines)
-unfolding asked
+    Keeps r.turning (prompt_asked g p f go r lines)
+unfolding prompt_asked
 asked_keeps g p f go h r [] = tt
 asked_keeps g p f go h r (line ∷ lines) =
-    either (Keeps r.turning) (is_ignored r.world line) _ _ (asked_keeps g p f go h (closed (record r { events = lines })) lines)
-    (answered_keeps g p f go h (reply line) (heard line (record r { events = lines })))
+    either (Keeps r.turning) (is_ignored r.world line) _ _ (asked_keeps g p f go h (piece_closed (record r { events = lines })) lines)
+    (answered_keeps g p f go h (reply line) (with_line_heard line (record r { events = lines })))
 
 after_parse_keeps : (f : Frame) (next go : Bool → Run → Out) → GoesKeeping next → GoesKeeping go → (r : Run) (p : Parsed) →
     Keeps r.turning (after_parse f next go r p)
@@ -143,11 +144,11 @@ after_parse_keeps f next go hn hg r IsNoPhrase = hg f.acted r
 module _ (g : Story) (sub : ℕ → Run → Out) (lv : ℕ) (calls : CallsKeeping sub) where
   after_test_keeps : (f : Frame) (next go : Bool → Run → Out) → GoesKeeping next → GoesKeeping go → (c : Condact) (r : Run) (t : Truth) →
       Keeps r.turning (after_test g f next go c r t)
-  after_test_keeps f next go hn hg c r truth.Yes = hg f.acted (noted f c true r)
-  after_test_keeps f next go hn hg c r truth.No = hn f.acted (noted f c false r)
+  after_test_keeps f next go hn hg c r truth.Yes = hg f.acted (step_noted f c true r)
+  after_test_keeps f next go hn hg c r truth.No = hn f.acted (step_noted f c false r)
   after_test_keeps f next go hn hg c r truth.Ask =
-      prints (Keeps r.turning) (quit_question g r) (waits g prompt.Quit f go) (noted f c true r)
-      (asked_keeps g prompt.Quit f go hg (closed (printed (quit_question g r) (noted f c true r))) r.events) tt
+      prints (Keeps r.turning) (quit_question g r) (waits g prompt.Quit f go) (step_noted f c true r)
+      (asked_keeps g prompt.Quit f go hg (piece_closed (text_printed (quit_question g r) (step_noted f c true r))) r.events) tt
 
   after_action_keeps : (f : Frame) (next go : Bool → Run → Out) → GoesKeeping next → GoesKeeping go → (e : Effect) (r : Run) →
       Keeps r.turning (after_action g sub lv f next go e r)
@@ -157,7 +158,7 @@ module _ (g : Story) (sub : ℕ → Run → Out) (lv : ℕ) (calls : CallsKeepin
   after_action_keeps f next go hn hg (effect.Call u) r = after_call_keeps f go hg r.turning (sub u r) (calls u r)
   after_action_keeps f next go hn hg (effect.Loop p) r =
       Keeps_none r.turning _ (turns_closes g lv (loop_of lv f p) (go true) refl (hg true) (length g.game.objects) r)
-  after_action_keeps f next go hn hg (effect.Ask p) r = asked_keeps g p f go hg (closed r) r.events
+  after_action_keeps f next go hn hg (effect.Ask p) r = asked_keeps g p f go hg (piece_closed r) r.events
   after_action_keeps f next go hn hg effect.Parse r = after_parse_keeps f next go hn hg r _
   after_action_keeps f next go hn hg effect.Spent r = tt
 
@@ -168,7 +169,7 @@ module _ (g : Story) (sub : ℕ → Run → Out) (lv : ℕ) (calls : CallsKeepin
   acts_keeps : (f : Frame) (next go : Bool → Run → Out) → GoesKeeping next → GoesKeeping go → (d : Done) (r : Run) →
       Keeps r.turning (acts g sub lv f next go d r)
   acts_keeps f next go hn hg d r =
-      let s : Run = carried_out d (printed d.text r) in
+      let s : Run = carried_out d (text_printed d.text r) in
       either (Keeps r.turning) (fits r d.text) _ (halts (halt.Spent spent.Text) r)
       (Keeps_from r.turning s.turning _ (cancelled d.act.cancel_loop r.turning) (after_action_keeps f next go hn hg d.act.effect s)) tt
 
@@ -177,7 +178,7 @@ module _ (g : Story) (sub : ℕ → Run → Out) (lv : ℕ) (calls : CallsKeepin
   reads_one_keeps f next go hn hg c r =
       either (Keeps r.turning) (is_condition c) _ _
       (after_test_keeps f next go hn hg c (with_world (holds g.game r.world c).world r) (holds g.game r.world c).answer)
-      (acts_keeps f next go hn hg (effect_of g r.world c) (noted f c true r))
+      (acts_keeps f next go hn hg (effect_of g r.world c) (step_noted f c true r))
 
   -- ---- tables ----
 
@@ -201,10 +202,10 @@ module _ (g : Story) (sub : ℕ → Run → Out) (lv : ℕ) (calls : CallsKeepin
   reads_keeps t e k a r = again_keeps r.turning _ (plain_keeps t e k a r)
 
 -- A table that is called leaves the loop, or none.
-pub called_keeps : (g : Story) (n lv : ℕ) → CallsKeeping (called g n lv)
-unfolding called
+pub called_keeps : (g : Story) (n lv : ℕ) → CallsKeeping (table_called g n lv)
+unfolding table_called
 called_keeps g zero lv u r = tt
-called_keeps g (suc n) lv u r = reads_keeps g (called g n (suc lv)) (suc lv) (called_keeps g n (suc lv)) u 0 0 false r
+called_keeps g (suc n) lv u r = reads_keeps g (table_called g n (suc lv)) (suc lv) (called_keeps g n (suc lv)) u 0 0 false r
 
 pub deeper_keeps : (g : Story) (lv : ℕ) → CallsKeeping (deeper g lv)
 deeper_keeps g lv = called_keeps g (10 - lv) lv

@@ -10,9 +10,9 @@ use Rattle.paw_effects.specs.declared.act.Prompt.{Prompt}
 use Rattle.paw_effects.specs.declared.act.Effect.TheVariants as effect
 use Rattle.paw_reading.specs.declared.places.Frame.{Frame}
 use Rattle.paw_reading.specs.declared.places.OpenLoop.{OpenLoop}
-use Rattle.paw_reading.specs.Run.{Run, without_loop, heard}
-use Rattle.paw_reading.specs.Reading.{Out, Left, Waits, Stopped, after_call, at_level, next_object_or, is_taken, taken}
-use Rattle.paw_reading.specs.Reading.{over_objects, loop_of, over, asked}
+use Rattle.paw_reading.specs.Run.{Run, without_loop, with_line_heard}
+use Rattle.paw_reading.specs.Reading.{Out, Left, Waits, Stopped, after_call, at_level, next_object_or, is_taken, object_taken}
+use Rattle.paw_reading.specs.Reading.{over_objects, loop_of, over, prompt_asked}
 use Rattle.paw_reading.specs.Reading.{reads_one, entries, is_for_now, rest_of_entry, from_condact, rest_of_loop, deeper}
 use Rattle.paw_reading.specs.Reading.{rest_of_table, game_over}
 use Rattle.paw_reading.specs.inner.Steps.{goodbye}
@@ -119,11 +119,11 @@ module _ (g : Story) (lv : ℕ) where
   takes_one : (l : OpenLoop) (n o : ℕ) (r : Run) → l.level ≡ lv → length g.game.objects - suc n ≡ o → length g.game.objects - suc o ≡ n →
       is_taken g.game r.world l o ≡ true →
       over_objects g lv (record l { last = 0 }) (from_condact g (deeper g lv) lv l.table l.entry (suc l.at) true) (suc n) r
-      ≡ rest_of_table g lv l.table l.entry (suc l.at) true (taken g.game l o r)
+      ≡ rest_of_table g lv l.table l.entry (suc l.at) true (object_taken g.game l o r)
   unfolding over_objects
   takes_one l n o r own e n_is h =
       rw (e, h) (rw n_is at (taken_again g (deeper g lv) lv l o _ own
-      (plain_keeps g (deeper g lv) lv (deeper_keeps g lv) l.table l.entry (suc l.at) true (taken g.game l o r))))
+      (plain_keeps g (deeper g lv) lv (deeper_keeps g lv) l.table l.entry (suc l.at) true (object_taken g.game l o r))))
 
   none_more : (l : OpenLoop) (n : ℕ) (r : Run) → n ≡ 0 →
       over_objects g lv (record l { last = 0 }) (from_condact g (deeper g lv) lv l.table l.entry (suc l.at) true) n r ≡ Left true (without_loop r)
@@ -147,7 +147,7 @@ module _ (g : Story) (lv : ℕ) where
   }
 
   pub waits_on : (p : Prompt) (f : Frame) (r : Run) → r.events ≡ [] → on_path g p lv (f ∷ []) r ≡ Waits p (f ∷ []) r
-  unfolding asked
+  unfolding prompt_asked
   waits_on p f r h =
       let here : on_path g p lv (f ∷ []) r ≡ Waits p (f ∷ []) (record r { events = [] }) = rw h refl in
       here ∙ ap (λ es. Waits p (f ∷ []) (record r { events = es })) (sym h)
@@ -157,7 +157,7 @@ module _ (g : Story) (lv : ℕ) where
   over_stays r = prints (λ x. next_object_or lv (rest_of_loop g (deeper g lv) lv) x ≡ x) (goodbye g r) game_over r refl refl
 
   answers_prompts : AnswersPrompts g lv
-  unfolding asked
+  unfolding prompt_asked
   answers_prompts = record {
     above = λ p f h path r. refl;
     no_line = waits_on;
@@ -165,7 +165,7 @@ module _ (g : Story) (lv : ℕ) where
     quit_yes = λ f line lines r h y. rw (h.comes, h.counts, y) refl;
     quit_no = λ f line lines r h y. rw (h.comes, h.counts, y) refl;
     key = λ f line lines r h. rw (h.comes, h.counts) refl;
-    end_no = λ f line lines r h n. rw (h.comes, h.counts, n) (over_stays (heard line (record r { events = lines })));
+    end_no = λ f line lines r h n. rw (h.comes, h.counts, n) (over_stays (with_line_heard line (record r { events = lines })));
     end_anew = λ f line lines r h n. rw (h.comes, h.counts, n) refl;
   }
 

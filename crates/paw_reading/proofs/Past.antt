@@ -12,8 +12,8 @@ use Rattle.paw_phrase.specs.Sentence.{Parsed, IsSentence, IsUnknown, IsNoPhrase}
 use Rattle.paw_effects.specs.declared.act.Prompt.{Prompt}
 use Rattle.paw_effects.specs.declared.act.Prompt.TheVariants as prompt
 use Rattle.paw_reading.specs.declared.places.Frame.{Frame}
-use Rattle.paw_reading.specs.Run.{Run, Step, closed, fits, printed, with_world, line_dropped, is_timeout, is_ignored}
-use Rattle.paw_reading.specs.Run.{heard, taken_phrase}
+use Rattle.paw_reading.specs.Run.{Run, Step, piece_closed, fits, text_printed, with_world, line_dropped, is_timeout, is_ignored}
+use Rattle.paw_reading.specs.Run.{with_line_heard, taken_phrase}
 use Rattle.paw_reading.specs.declared.places.Halt.TheVariants as halt
 use Rattle.paw_reading.specs.Reading.{Redescribes, Restarts, Halts, Out, Left, Waits, Stopped, rest_of_table}
 use Rattle.paw_reading.specs.Reading.{table_read, coming_phrase}
@@ -21,9 +21,9 @@ use Rattle.paw_reading.specs.GoingOn.{on_path}
 use Rattle.paw_reading.specs.inner.GoingOn.{with_lines}
 use Rattle.paw_reading.specs.Turn.{TurnPhase, AtDescribe, AtTimeFrame, AtPhrase, AtResponse, Ending, WaitsAt, Halted}
 use Rattle.paw_reading.specs.Turn.{Unended, saying}
-use Rattle.paw_reading.specs.Turn.{described, time_frame_passed, view_text, counted, prompt_text, at_main, after_phrase}
+use Rattle.paw_reading.specs.Turn.{location_described, time_frame_passed, view_text, turn_counted, prompt_text, at_main, after_phrase}
 use Rattle.paw_reading.specs.Turn.{refusal_text}
-use Rattle.paw_reading.specs.Turn.{connected, after_left, table_done, turn, phases_left, first_table, goes_on}
+use Rattle.paw_reading.specs.Turn.{exit_taken, after_left, table_done, turn, phases_left, first_table, goes_on}
 use Rattle.paw_reading.specs.Turn.{going_on_from, reading}
 use Rattle.paw_reading.specs.Turn.{text_of, timeout_text}
 use Rattle.paw_reading.specs.inner.Steps.{line_set, in_table, unknown_text}
@@ -48,7 +48,7 @@ module _ (g : Story) (ps : List (List ℕ)) (ts : List (List Step)) where
   out_with_past (Waits p path r) = Waits p path (with_past ps ts r)
   out_with_past (Stopped stop r) = Stopped stop (with_past ps ts r)
 
-  closed_past : (r : Run) → closed (with_past ps ts r) ≡ with_past ps ts (closed r)
+  closed_past : (r : Run) → piece_closed (with_past ps ts r) ≡ with_past ps ts (piece_closed r)
   closed_past r = rw (append_assoc ps r.pieces (r.current ∷ []), append_assoc ts r.traces (r.read ∷ [])) refl
 
   -- With no lines more.
@@ -70,21 +70,22 @@ module _ (g : Story) (ps : List (List ℕ)) (ts : List (List Step)) where
 
   -- ---- turns ----
 
-  saying_past : (text : List ℕ) (go : Run → Ending) (r : Run) → go (with_past ps ts (printed text r)) ≡ ending_with_past ps ts (go (printed text r)) →
+  saying_past : (text : List ℕ) (go : Run → Ending) (r : Run) → go (with_past ps ts (text_printed text r)) ≡ ending_with_past ps ts (go (text_printed text r)) →
       saying text go (with_past ps ts r) ≡ ending_with_past ps ts (saying text go r)
   saying_past text go r h = by_test (fits r text)
     where
       by_test : (b : Bool) →
-          (if b then go (with_past ps ts (printed text r)) else Halted (halt.Spent spent.Text) (with_past ps ts r))
-          ≡ ending_with_past ps ts (if b then go (printed text r) else Halted (halt.Spent spent.Text) r)
+          (if b then go (with_past ps ts (text_printed text r)) else Halted (halt.Spent spent.Text) (with_past ps ts r))
+          ≡ ending_with_past ps ts (if b then go (text_printed text r) else Halted (halt.Spent spent.Text) r)
       by_test true = h
       by_test false = refl
 
   module _ (go : TurnPhase → Run → Ending) (pasts : (s : TurnPhase) (r : Run) → go s (with_past ps ts r) ≡ ending_with_past ps ts (go s r)) where
     connected_past : (r : Run) (to : Option ℕ) →
-        connected g go (with_past ps ts r) to ≡ ending_with_past ps ts (connected g go r to)
+        exit_taken g go (with_past ps ts r) to ≡ ending_with_past ps ts (exit_taken g go r to)
     connected_past r None =
-        saying_past (refusal_text g.game r.world) (go AtTimeFrame) (line_dropped r) (pasts AtTimeFrame (printed (refusal_text g.game r.world) (line_dropped r)))
+        saying_past (refusal_text g.game r.world) (go AtTimeFrame) (line_dropped r)
+        (pasts AtTimeFrame (text_printed (refusal_text g.game r.world) (line_dropped r)))
     connected_past r (Some to) = pasts AtDescribe (with_world (with_flag r.world 38 to) r)
 
     after_left_past : (t : ℕ) (a : Bool) (r : Run) → after_left g go t a (with_past ps ts r) ≡ ending_with_past ps ts (after_left g go t a r)
@@ -109,12 +110,12 @@ module _ (g : Story) (ps : List (List ℕ)) (ts : List (List Step)) where
     at_main_past r [] = refl
     at_main_past r (line ∷ es) =
         by_test (is_ignored r.world line) (is_timeout line)
-        (at_main g go (closed (record r { events = es })) es)
-        (saying (timeout_text g.game r.world) (go AtTimeFrame) (heard line (record r { events = es })))
+        (at_main g go (piece_closed (record r { events = es })) es)
+        (saying (timeout_text g.game r.world) (go AtTimeFrame) (with_line_heard line (record r { events = es })))
         (go AtPhrase (line_set line (record r { events = es })))
-        (rw (closed_past (record r { events = es })) (at_main_past (closed (record r { events = es })) es))
-        (saying_past (timeout_text g.game r.world) (go AtTimeFrame) (heard line (record r { events = es }))
-        (pasts AtTimeFrame (printed (timeout_text g.game r.world) (heard line (record r { events = es })))))
+        (rw (closed_past (record r { events = es })) (at_main_past (piece_closed (record r { events = es })) es))
+        (saying_past (timeout_text g.game r.world) (go AtTimeFrame) (with_line_heard line (record r { events = es }))
+        (pasts AtTimeFrame (text_printed (timeout_text g.game r.world) (with_line_heard line (record r { events = es })))))
         (pasts AtPhrase (line_set line (record r { events = es })))
       where
         by_test : (ignored timeout : Bool) (x y z : Ending) → {x' y' z' : Ending} → x' ≡ ending_with_past ps ts x → y' ≡ ending_with_past ps ts y →
@@ -126,21 +127,22 @@ module _ (g : Story) (ps : List (List ℕ)) (ts : List (List Step)) where
 
     after_phrase_past : (r : Run) (p : Parsed) → after_phrase g go (with_past ps ts r) p
         ≡ ending_with_past ps ts (after_phrase g go r p)
-    after_phrase_past r (IsSentence s rest) = pasts AtResponse (with_world (counted (taken_phrase s rest r).world) (taken_phrase s rest r))
+    after_phrase_past r (IsSentence s rest) = pasts AtResponse (with_world (turn_counted (taken_phrase s rest r).world) (taken_phrase s rest r))
     after_phrase_past r (IsUnknown rest) =
         let text : List ℕ = unknown_text g.game r.world in
-        saying_past text (go AtTimeFrame) (line_dropped r) (pasts AtTimeFrame (printed text (line_dropped r)))
+        saying_past text (go AtTimeFrame) (line_dropped r) (pasts AtTimeFrame (text_printed text (line_dropped r)))
     after_phrase_past r IsNoPhrase =
-        saying_past (prompt_text g.game r.world) (λ s. at_main g go (closed s) s.events) (line_dropped r)
-        (rw (closed_past (printed (prompt_text g.game r.world) (line_dropped r)))
-        (at_main_past (closed (printed (prompt_text g.game r.world) (line_dropped r))) r.events))
+        saying_past (prompt_text g.game r.world) (λ s. at_main g go (piece_closed s) s.events) (line_dropped r)
+        (rw (closed_past (text_printed (prompt_text g.game r.world) (line_dropped r)))
+        (at_main_past (piece_closed (text_printed (prompt_text g.game r.world) (line_dropped r))) r.events))
 
   turn_past : (n : ℕ) (s : TurnPhase) (r : Run) → turn g n s (with_past ps ts r) ≡ ending_with_past ps ts (turn g n s r)
   unfolding turn
   turn_past zero s r = refl
   turn_past (suc n) AtDescribe r =
-      saying_past (view_text g.game (described r.world)) (λ q. table_done g (turn g n) 1 (table_read g 1 q)) (with_world (described r.world) r)
-      (read_past (turn g n) (turn_past n) 1 (printed (view_text g.game (described r.world)) (with_world (described r.world) r)))
+      saying_past (view_text g.game (location_described r.world)) (λ q. table_done g (turn g n) 1 (table_read g 1 q))
+      (with_world (location_described r.world) r)
+      (read_past (turn g n) (turn_past n) 1 (text_printed (view_text g.game (location_described r.world)) (with_world (location_described r.world) r)))
   turn_past (suc n) AtTimeFrame r = read_past (turn g n) (turn_past n) 2 r
   turn_past (suc n) AtPhrase r = after_phrase_past (turn g n) (turn_past n) r (coming_phrase g r)
   turn_past (suc n) AtResponse r = read_past (turn g n) (turn_past n) 0 r

@@ -9,7 +9,7 @@ use Rattle.paw_base.specs.declared.fault.SpentKind.TheVariants as spent
 use Rattle.paw_game.specs.Game.{GameLists}
 use Rattle.paw_game.specs.Tables.{exit_at}
 use Rattle.paw_game.specs.Valid.{Valid}
-use Rattle.paw_world.specs.World.{World, Position, flag, with_flag, is_dark, is_unlit, fallen, fallen_if}
+use Rattle.paw_world.specs.World.{World, Position, flag, with_flag, is_dark, is_unlit, flag_lowered, flag_lowered_if}
 use Rattle.paw_phrase.specs.Sentence.{Parsed, IsSentence, IsUnknown, IsNoPhrase}
 use Rattle.paw_effects.specs.inner.Worlds.{StandsIn}
 use Rattle.paw_effects.specs.inner.Standing.{MayBePosition}
@@ -20,16 +20,16 @@ use Rattle.paw_effects.proofs.Asking.{AsksAt}
 use Rattle.paw_effects.proofs.Placed.{IsPlaced, opened_placed}
 use Rattle.paw_reading.specs.declared.places.Frame.{Frame}
 use Rattle.paw_reading.specs.declared.places.OpenLoop.{OpenLoop}
-use Rattle.paw_reading.specs.Run.{Run, Step, closed, fits, printed, with_world, line_dropped, is_timeout, is_ignored}
-use Rattle.paw_reading.specs.Run.{heard, taken_phrase}
+use Rattle.paw_reading.specs.Run.{Run, Step, piece_closed, fits, text_printed, with_world, line_dropped, is_timeout, is_ignored}
+use Rattle.paw_reading.specs.Run.{with_line_heard, taken_phrase}
 use Rattle.paw_reading.specs.declared.places.Halt.TheVariants as halt
 use Rattle.paw_reading.specs.Reading.{Redescribes, Restarts, Halts, Out, Left, Waits, Stopped, table_read}
 use Rattle.paw_reading.specs.Reading.{coming_phrase}
 use Rattle.paw_reading.specs.Turn.{TurnPhase, AtDescribe, AtTimeFrame, AtPhrase, AtResponse, Ending, WaitsAt, Halted}
 use Rattle.paw_reading.specs.Turn.{reading, going_on_from, saying}
-use Rattle.paw_reading.specs.Turn.{described, time_frame_passed, view_text, counted, prompt_text, at_main, after_phrase}
+use Rattle.paw_reading.specs.Turn.{location_described, time_frame_passed, view_text, turn_counted, prompt_text, at_main, after_phrase}
 use Rattle.paw_reading.specs.Turn.{refusal_text}
-use Rattle.paw_reading.specs.Turn.{connected, after_left, table_done, turn, phases_left, opening, first_table, goes_on}
+use Rattle.paw_reading.specs.Turn.{exit_taken, after_left, table_done, turn, phases_left, opening, first_table, goes_on}
 use Rattle.paw_reading.specs.Turn.{timeout_text}
 use Rattle.paw_reading.specs.inner.Steps.{line_set, in_table, unknown_text}
 use Rattle.paw_reading.specs.Bounds.{IsLine, ValidStory}
@@ -47,17 +47,17 @@ use Rattle.paw_reading.proofs.Sounding.{IsResting, EndsSound, are_lines, reading
 
 -- ---- worlds ----
 
-fallen_placed : (g : GameLists) (b : Bool) (n : ℕ) (w : World) → IsPlaced g w → IsPlaced g (fallen_if b n w)
+fallen_placed : (g : GameLists) (b : Bool) (n : ℕ) (w : World) → IsPlaced g w → IsPlaced g (flag_lowered_if b n w)
 fallen_placed g true n w k = k
 fallen_placed g false n w k = k
 
-described_placed : (g : GameLists) (w : World) → IsPlaced g w → IsPlaced g (described w)
-described_placed g w k = fallen_placed g (is_unlit w) 4 (fallen_if (is_dark w) 3 (fallen 2 w)) (fallen_placed g (is_dark w) 3 (fallen 2 w) k)
+described_placed : (g : GameLists) (w : World) → IsPlaced g w → IsPlaced g (location_described w)
+described_placed g w k = fallen_placed g (is_unlit w) 4 (flag_lowered_if (is_dark w) 3 (flag_lowered 2 w)) (fallen_placed g (is_dark w) 3 (flag_lowered 2 w) k)
 
 time_frame_placed : (g : GameLists) (w : World) → IsPlaced g w → IsPlaced g (time_frame_passed w)
 time_frame_placed g w k =
-    let first : World = fallen 8 (fallen 7 (fallen 6 (fallen 5 w))) in
-    fallen_placed g (is_unlit w) 10 (fallen_if (is_dark w) 9 first) (fallen_placed g (is_dark w) 9 first k)
+    let first : World = flag_lowered 8 (flag_lowered 7 (flag_lowered 6 (flag_lowered 5 w))) in
+    fallen_placed g (is_unlit w) 10 (flag_lowered_if (is_dark w) 9 first) (fallen_placed g (is_dark w) 9 first k)
 
 -- ---- waits in tables ----
 
@@ -108,11 +108,11 @@ module _ (g : Story) (v : Valid g.game) where
 
   saying_rightly : (text : List ℕ) (go : Run → Ending) → GoRightly go → GoRightly (saying text go)
   saying_rightly text go h r k =
-      let printed_so : IsBetween (printed text r) = record { of = k.of; none = k.none } in
-      either IsRightly (fits r text) _ (Halted (halt.Spent spent.Text) r) (h (printed text r) printed_so) tt
+      let printed_so : IsBetween (text_printed text r) = record { of = k.of; none = k.none } in
+      either IsRightly (fits r text) _ (Halted (halt.Spent spent.Text) r) (h (text_printed text r) printed_so) tt
 
   module _ (go : TurnPhase → Run → Ending) (goes : (s : TurnPhase) → GoRightly (go s)) where
-    connected_rightly : (to : Option ℕ) → GoRightly (λ r. connected g go r to)
+    connected_rightly : (to : Option ℕ) → GoRightly (λ r. exit_taken g go r to)
     connected_rightly None r k =
         saying_rightly (refusal_text g.game r.world) (go AtTimeFrame) (goes AtTimeFrame) (line_dropped r) (record { of = k.of; none = k.none })
     connected_rightly (Some to) r k = goes AtDescribe (with_world (with_flag r.world 38 to) r) (record { of = k.of; none = k.none })
@@ -146,30 +146,30 @@ module _ (g : Story) (v : Valid g.game) where
     at_main_rightly r (line ∷ lines) k empty =
         let s : Run = record r { events = lines } in
         either IsRightly (is_ignored r.world line) _ _
-        (at_main_rightly (closed s) lines (record { of = k.of; none = k.none }) empty)
+        (at_main_rightly (piece_closed s) lines (record { of = k.of; none = k.none }) empty)
         (either IsRightly (is_timeout line) _ _
-        (saying_rightly (timeout_text g.game r.world) (go AtTimeFrame) (goes AtTimeFrame) (heard line s)
+        (saying_rightly (timeout_text g.game r.world) (go AtTimeFrame) (goes AtTimeFrame) (with_line_heard line s)
         (record { of = k.of; none = k.none }))
         (goes AtPhrase (line_set line s) (record { of = k.of; none = k.none })))
 
     after_phrase_rightly : (p : Parsed) → GoRightly (λ r. after_phrase g go r p)
     after_phrase_rightly (IsSentence s rest) r k =
-        goes AtResponse (with_world (counted (taken_phrase s rest r).world) (taken_phrase s rest r)) (record { of = k.of; none = k.none })
+        goes AtResponse (with_world (turn_counted (taken_phrase s rest r).world) (taken_phrase s rest r)) (record { of = k.of; none = k.none })
     after_phrase_rightly (IsUnknown rest) r k =
         saying_rightly (unknown_text g.game r.world) (go AtTimeFrame) (goes AtTimeFrame) (line_dropped r)
         (record { of = k.of; none = k.none })
     after_phrase_rightly IsNoPhrase r k =
         either IsRightly (fits (line_dropped r) (prompt_text g.game r.world)) _
         (Halted (halt.Spent spent.Text) (line_dropped r))
-        (at_main_rightly (closed (printed (prompt_text g.game r.world) (line_dropped r))) r.events (record { of = k.of; none = k.none }) refl) tt
+        (at_main_rightly (piece_closed (text_printed (prompt_text g.game r.world) (line_dropped r))) r.events (record { of = k.of; none = k.none }) refl) tt
 
   turn_rightly : (n : ℕ) (s : TurnPhase) → GoRightly (turn g n s)
   unfolding turn
   turn_rightly zero s r k = tt
   turn_rightly (suc n) AtDescribe r k =
-      saying_rightly (view_text g.game (described r.world)) (λ q. table_done g (turn g n) 1 (table_read g 1 q))
+      saying_rightly (view_text g.game (location_described r.world)) (λ q. table_done g (turn g n) 1 (table_read g 1 q))
       (read_rightly (turn g n) (turn_rightly n) 1 (omega arith))
-      (with_world (described r.world) r) (record { of = described_placed g.game r.world k.of; none = k.none })
+      (with_world (location_described r.world) r) (record { of = described_placed g.game r.world k.of; none = k.none })
   turn_rightly (suc n) AtTimeFrame r k = read_rightly (turn g n) (turn_rightly n) 2 (omega arith) r k
   turn_rightly (suc n) AtPhrase r k =
       after_phrase_rightly (turn g n) (turn_rightly n) (coming_phrase g r) r k

@@ -22,7 +22,7 @@ use Rattle.paw_reading.specs.declared.places.Halt.TheVariants as halt
 use Rattle.paw_reading.specs.Reading.{Out, Left, Waits, Stopped, halts, within, after_call, at_level, next_object_or}
 use Rattle.paw_reading.specs.Reading.{reads_one, condacts, is_for_now, entries, rest_of_entry, from_condact}
 use Rattle.paw_reading.specs.Reading.{rest_of_loop}
-use Rattle.paw_reading.specs.Reading.{called, deeper, rest_of_table}
+use Rattle.paw_reading.specs.Reading.{table_called, deeper, rest_of_table}
 use Rattle.paw_reading.proofs.Lists.{drop_none, drop_some, drop_more}
 use Rattle.paw_reading.proofs.Keeps.{Keeps, CallsKeeping, at_level_is, looped_closes}
 
@@ -128,12 +128,12 @@ module _ (g : Story) (sub : ℕ → Run → Out) (lv : ℕ) where
 
 -- A table that is called is read at the next level.
 pub deeper_rest : (g : Story) (lv u : ℕ) (r : Run) → lv < 10 → deeper g lv u r ≡ rest_of_table g (suc lv) u 0 0 false r
-unfolding called
+unfolding table_called
 deeper_rest g lv u r h = let e : 10 - lv ≡ suc (10 - suc lv) = omega arith in rw e refl
 
 -- At the deepest level no table can be called.
 pub deeper_none : (g : Story) (lv u : ℕ) (r : Run) → 10 ≤ lv → deeper g lv u r ≡ halts (halt.TooDeep u) r
-unfolding called
+unfolding table_called
 deeper_none g lv u r h = let e : 10 - lv ≡ 0 = omega arith in rw e refl
 
 -- The entry that matches next isn't below the one from which it is looked for, and stands in the table.

@@ -8,7 +8,7 @@ use Rattle.paw_base.specs.declared.parts.ObjectFacts.{ObjectFacts}
 use Rattle.paw_base.specs.declared.fault.SpentKind.TheVariants as spent
 use Rattle.paw_game.specs.declared.parts.Entry.{Entry}
 use Rattle.paw_game.specs.Tables.{table_at, entry_at, condacts_of, condact_at, facts_at, exit_at}
-use Rattle.paw_world.specs.World.{World, Position, flag, with_flag, is_dark, is_unlit, fallen, fallen_if}
+use Rattle.paw_world.specs.World.{World, Position, flag, with_flag, is_dark, is_unlit, flag_lowered, flag_lowered_if}
 use Rattle.paw_phrase.specs.Sentence.{Parsed, IsSentence, IsUnknown, IsNoPhrase}
 use Rattle.paw_effects.specs.Story.{Story}
 use Rattle.paw_effects.specs.declared.act.Prompt.{Prompt}
@@ -23,21 +23,21 @@ use Rattle.paw_effects.proofs.Saving.{AreKept, referred_kept}
 use Rattle.paw_effects.proofs.EachRow.{effect_kept, condition_kept}
 use Rattle.paw_reading.specs.declared.places.Frame.{Frame}
 use Rattle.paw_reading.specs.declared.places.OpenLoop.{OpenLoop}
-use Rattle.paw_reading.specs.Run.{Run, closed, fits, printed, with_world, line_dropped, anew, is_timeout, is_ignored}
-use Rattle.paw_reading.specs.Run.{heard, reply, is_yes, is_no, taken_phrase}
+use Rattle.paw_reading.specs.Run.{Run, piece_closed, fits, text_printed, with_world, line_dropped, anew, is_timeout, is_ignored}
+use Rattle.paw_reading.specs.Run.{with_line_heard, reply, is_yes, is_no, taken_phrase}
 use Rattle.paw_reading.specs.declared.places.Halt.TheVariants as halt
-use Rattle.paw_reading.specs.Reading.{Restarts, Redescribes, Halts, Out, Left, Waits, Stopped, halts, noted, after_call}
+use Rattle.paw_reading.specs.Reading.{Restarts, Redescribes, Halts, Out, Left, Waits, Stopped, halts, step_noted, after_call}
 use Rattle.paw_reading.specs.Reading.{at_level}
-use Rattle.paw_reading.specs.Reading.{next_object_or, is_taken, named, taken, over_objects, loop_of, over, answered}
-use Rattle.paw_reading.specs.Reading.{asked, after_test, after_parse}
+use Rattle.paw_reading.specs.Reading.{next_object_or, is_taken, object_named, object_taken, over_objects, loop_of, over, prompt_answered}
+use Rattle.paw_reading.specs.Reading.{prompt_asked, after_test, after_parse}
 use Rattle.paw_reading.specs.Reading.{after_action, carried_out, acts, reads_one, condacts, is_for_now, entries}
 use Rattle.paw_reading.specs.Reading.{from_condact, rest_of_loop, read_at_level}
-use Rattle.paw_reading.specs.Reading.{called, deeper, rest_of_table, table_read, game_over, waits, coming_phrase}
+use Rattle.paw_reading.specs.Reading.{table_called, deeper, rest_of_table, table_read, game_over, waits, coming_phrase}
 use Rattle.paw_reading.specs.GoingOn.{on_path}
 use Rattle.paw_reading.specs.Turn.{TurnPhase, AtDescribe, AtTimeFrame, AtPhrase, AtResponse, Ending, Halted, saying}
-use Rattle.paw_reading.specs.Turn.{described, time_frame_passed, view_text, counted, prompt_text, at_main, after_phrase}
+use Rattle.paw_reading.specs.Turn.{location_described, time_frame_passed, view_text, turn_counted, prompt_text, at_main, after_phrase}
 use Rattle.paw_reading.specs.Turn.{refusal_text}
-use Rattle.paw_reading.specs.Turn.{connected, after_left, table_done, turn, phases_left, opening, first_table, goes_on}
+use Rattle.paw_reading.specs.Turn.{exit_taken, after_left, table_done, turn, phases_left, opening, first_table, goes_on}
 use Rattle.paw_reading.specs.Turn.{timeout_text}
 use Rattle.paw_reading.specs.Saving.{NeverSaves}
 use Rattle.paw_reading.specs.inner.Saving.{no_positions, EndsKeeping, ReadingsKeepNoPosition, GoingOnKeepsPositions}
@@ -68,12 +68,12 @@ module _ (g : Story) (never : NeverSaves g.game) (ks : List (Option Position)) w
 
   -- ---- loops and calls ----
 
-  named_kept : (w : World) (f : Option ObjectFacts) → AreKept ks w → AreKept ks (named w f)
+  named_kept : (w : World) (f : Option ObjectFacts) → AreKept ks w → AreKept ks (object_named w f)
   named_kept w None k = k
   named_kept w (Some f) k = k
 
-  taken_kept : (l : OpenLoop) (o : ℕ) (r : Run) → Is r → Is (taken g.game l o r)
-  taken_kept l o r k = referred_kept ks (with_flag (named r.world (facts_at g.game o)) 50 o) o (named_kept r.world (facts_at g.game o) k)
+  taken_kept : (l : OpenLoop) (o : ℕ) (r : Run) → Is r → Is (object_taken g.game l o r)
+  taken_kept l o r k = referred_kept ks (with_flag (object_named r.world (facts_at g.game o)) 50 o) o (named_kept r.world (facts_at g.game o) k)
 
   again_keeps : (lv : ℕ) (next : OpenLoop → Run → Out) → ((l : OpenLoop) (r : Run) → Is r → Keeps (next l r)) → (x : Out) → Keeps x →
       Keeps (next_object_or lv next x)
@@ -88,8 +88,8 @@ module _ (g : Story) (never : NeverSaves g.game) (ks : List (Option Position)) w
   turns_keep lv l body h (suc n) r k =
       let o : ℕ = length g.game.objects - suc n in
       either Keeps (is_taken g.game r.world l o) _ _
-      (again_keeps lv (λ _. over_objects g lv l body n) (λ m s. turns_keep lv l body h n s) (body (taken g.game l o r))
-      (h (taken g.game l o r) (taken_kept l o r k)))
+      (again_keeps lv (λ _. over_objects g lv l body n) (λ m s. turns_keep lv l body h n s) (body (object_taken g.game l o r))
+      (h (object_taken g.game l o r) (taken_kept l o r k)))
       (turns_keep lv l body h n r k)
 
   after_call_keeps : (f : Frame) (go : Bool → Run → Out) → GoesKeeping go → (x : Out) → Keeps x → Keeps (after_call f go x)
@@ -99,18 +99,20 @@ module _ (g : Story) (never : NeverSaves g.game) (ks : List (Option Position)) w
 
   -- ---- prompts and phrases ----
 
-  answered_keeps : (p : Prompt) (f : Frame) (go : Bool → Run → Out) → GoesKeeping go → (line : List ℕ) (r : Run) → Is r → Keeps (answered g p f go line r)
+  answered_keeps : (p : Prompt) (f : Frame) (go : Bool → Run → Out) → GoesKeeping go → (line : List ℕ) (r : Run) → Is r →
+      Keeps (prompt_answered g p f go line r)
   answered_keeps prompt.Quit f go h line r k = either Keeps (is_yes line) _ (Left true r) (h f.acted r k) k
   answered_keeps prompt.Again f go h line r k =
       either Keeps (is_no line) (over g r) (Stopped Restarts (anew r)) (prints Keeps (goodbye g r) game_over r k k) k
   answered_keeps _ f go h line r k = h true r k
 
-  asked_keeps : (p : Prompt) (f : Frame) (go : Bool → Run → Out) → GoesKeeping go → (r : Run) (lines : List (List ℕ)) → Is r → Keeps (asked g p f go r lines)
-  unfolding asked
+  asked_keeps : (p : Prompt) (f : Frame) (go : Bool → Run → Out) → GoesKeeping go → (r : Run) (lines : List (List ℕ)) → Is r →
+      Keeps (prompt_asked g p f go r lines)
+  unfolding prompt_asked
   asked_keeps p f go h r [] k = k
   asked_keeps p f go h r (line ∷ lines) k =
-      either Keeps (is_ignored r.world line) _ _ (asked_keeps p f go h (closed (record r { events = lines })) lines k)
-      (answered_keeps p f go h (reply line) (heard line (record r { events = lines })) k)
+      either Keeps (is_ignored r.world line) _ _ (asked_keeps p f go h (piece_closed (record r { events = lines })) lines k)
+      (answered_keeps p f go h (reply line) (with_line_heard line (record r { events = lines })) k)
 
   after_parse_keeps : (f : Frame) (next go : Bool → Run → Out) → GoesKeeping next → GoesKeeping go → (r : Run) (p : Parsed) → Is r →
       Keeps (after_parse f next go r p)
@@ -123,11 +125,11 @@ module _ (g : Story) (never : NeverSaves g.game) (ks : List (Option Position)) w
   module _ (sub : ℕ → Run → Out) (lv : ℕ) (calls : CallsKeeping sub) where
     after_test_keeps : (f : Frame) (next go : Bool → Run → Out) → GoesKeeping next → GoesKeeping go → (c : Condact) (r : Run) (t : Truth) → Is r →
         Keeps (after_test g f next go c r t)
-    after_test_keeps f next go hn hg c r truth.Yes k = hg f.acted (noted f c true r) k
-    after_test_keeps f next go hn hg c r truth.No k = hn f.acted (noted f c false r) k
+    after_test_keeps f next go hn hg c r truth.Yes k = hg f.acted (step_noted f c true r) k
+    after_test_keeps f next go hn hg c r truth.No k = hn f.acted (step_noted f c false r) k
     after_test_keeps f next go hn hg c r truth.Ask k =
-        prints Keeps (quit_question g r) (waits g prompt.Quit f go) (noted f c true r)
-        (asked_keeps prompt.Quit f go hg (closed (printed (quit_question g r) (noted f c true r))) r.events k) k
+        prints Keeps (quit_question g r) (waits g prompt.Quit f go) (step_noted f c true r)
+        (asked_keeps prompt.Quit f go hg (piece_closed (text_printed (quit_question g r) (step_noted f c true r))) r.events k) k
 
     after_action_keeps : (f : Frame) (next go : Bool → Run → Out) → GoesKeeping next → GoesKeeping go → (e : Effect) (r : Run) → Is r →
         Keeps (after_action g sub lv f next go e r)
@@ -136,7 +138,7 @@ module _ (g : Story) (never : NeverSaves g.game) (ks : List (Option Position)) w
     after_action_keeps f next go hn hg effect.Redescribe r k = k
     after_action_keeps f next go hn hg (effect.Call u) r k = after_call_keeps f go hg (sub u r) (calls u r k)
     after_action_keeps f next go hn hg (effect.Loop p) r k = turns_keep lv (loop_of lv f p) (go true) (hg true) (length g.game.objects) r k
-    after_action_keeps f next go hn hg (effect.Ask p) r k = asked_keeps p f go hg (closed r) r.events k
+    after_action_keeps f next go hn hg (effect.Ask p) r k = asked_keeps p f go hg (piece_closed r) r.events k
     after_action_keeps f next go hn hg effect.Parse r k = after_parse_keeps f next go hn hg r _ k
     after_action_keeps f next go hn hg effect.Spent r k = k
 
@@ -144,7 +146,7 @@ module _ (g : Story) (never : NeverSaves g.game) (ks : List (Option Position)) w
         Keeps (acts g sub lv f next go d r)
     acts_keep f next go hn hg d r k h =
         either Keeps (fits r d.text) _ (halts (halt.Spent spent.Text) r)
-        (after_action_keeps f next go hn hg d.act.effect (carried_out d (printed d.text r)) h) k
+        (after_action_keeps f next go hn hg d.act.effect (carried_out d (text_printed d.text r)) h) k
 
     reads_one_keeps : (f : Frame) (next go : Bool → Run → Out) → GoesKeeping next → GoesKeeping go → (c : Condact) →
         condact_at g.game f.table f.entry f.at ≡ Some c → (r : Run) → Is r → Keeps (reads_one g sub lv f next go c r)
@@ -152,7 +154,7 @@ module _ (g : Story) (never : NeverSaves g.game) (ks : List (Option Position)) w
         either Keeps (is_condition c) _ _
         (after_test_keeps f next go hn hg c (with_world (holds g.game r.world c).world r) (holds g.game r.world c).answer
         (condition_kept ks g.game r.world c k))
-        (acts_keep f next go hn hg (effect_of g r.world c) (noted f c true r) k
+        (acts_keep f next go hn hg (effect_of g r.world c) (step_noted f c true r) k
         (effect_kept ks g r.world c (never f.table f.entry f.at c at) k))
 
     -- ---- entries, tables ----
@@ -192,10 +194,10 @@ module _ (g : Story) (never : NeverSaves g.game) (ks : List (Option Position)) w
 
   -- ---- levels ----
 
-  called_keeps : (n lv : ℕ) → CallsKeeping (called g n lv)
-  unfolding called
+  called_keeps : (n lv : ℕ) → CallsKeeping (table_called g n lv)
+  unfolding table_called
   called_keeps zero lv u r h = h
-  called_keeps (suc n) lv u r h = reads_keep (called g n (suc lv)) (suc lv) (called_keeps n (suc lv)) u 0 0 false r h
+  called_keeps (suc n) lv u r h = reads_keep (table_called g n (suc lv)) (suc lv) (called_keeps n (suc lv)) u 0 0 false r h
 
   deeper_keeps : (lv : ℕ) → CallsKeeping (deeper g lv)
   deeper_keeps lv = called_keeps (10 - lv) lv
@@ -216,17 +218,17 @@ module _ (g : Story) (never : NeverSaves g.game) (ks : List (Option Position)) w
 
   -- ---- turns ----
 
-  fallen_kept : (b : Bool) (n : ℕ) (w : World) → AreKept ks w → AreKept ks (fallen_if b n w)
+  fallen_kept : (b : Bool) (n : ℕ) (w : World) → AreKept ks w → AreKept ks (flag_lowered_if b n w)
   fallen_kept true n w k = k
   fallen_kept false n w k = k
 
-  described_kept : (w : World) → AreKept ks w → AreKept ks (described w)
-  described_kept w k = fallen_kept (is_unlit w) 4 (fallen_if (is_dark w) 3 (fallen 2 w)) (fallen_kept (is_dark w) 3 (fallen 2 w) k)
+  described_kept : (w : World) → AreKept ks w → AreKept ks (location_described w)
+  described_kept w k = fallen_kept (is_unlit w) 4 (flag_lowered_if (is_dark w) 3 (flag_lowered 2 w)) (fallen_kept (is_dark w) 3 (flag_lowered 2 w) k)
 
   time_frame_kept : (w : World) → AreKept ks w → AreKept ks (time_frame_passed w)
   time_frame_kept w k =
-      let first : World = fallen 8 (fallen 7 (fallen 6 (fallen 5 w))) in
-      fallen_kept (is_unlit w) 10 (fallen_if (is_dark w) 9 first) (fallen_kept (is_dark w) 9 first k)
+      let first : World = flag_lowered 8 (flag_lowered 7 (flag_lowered 6 (flag_lowered 5 w))) in
+      fallen_kept (is_unlit w) 10 (flag_lowered_if (is_dark w) 9 first) (fallen_kept (is_dark w) 9 first k)
 
   abbrev Ends : Ending → Type 0
   Ends e = EndsKeeping ks e
@@ -235,10 +237,10 @@ module _ (g : Story) (never : NeverSaves g.game) (ks : List (Option Position)) w
   GoEnding go = (r : Run) → Is r → Ends (go r)
 
   saying_ends : (text : List ℕ) (go : Run → Ending) → GoEnding go → GoEnding (saying text go)
-  saying_ends text go h r k = either Ends (fits r text) _ (Halted (halt.Spent spent.Text) r) (h (printed text r) k) k
+  saying_ends text go h r k = either Ends (fits r text) _ (Halted (halt.Spent spent.Text) r) (h (text_printed text r) k) k
 
   module _ (go : TurnPhase → Run → Ending) (goes : (s : TurnPhase) → GoEnding (go s)) where
-    connected_ends : (to : Option ℕ) → GoEnding (λ r. connected g go r to)
+    connected_ends : (to : Option ℕ) → GoEnding (λ r. exit_taken g go r to)
     connected_ends None r k = saying_ends (refusal_text g.game r.world) (go AtTimeFrame) (goes AtTimeFrame) (line_dropped r) k
     connected_ends (Some to) r k = goes AtDescribe (with_world (with_flag r.world 38 to) r) k
 
@@ -263,26 +265,26 @@ module _ (g : Story) (never : NeverSaves g.game) (ks : List (Option Position)) w
     at_main_ends r [] k = k
     at_main_ends r (line ∷ lines) k =
         let s : Run = record r { events = lines } in
-        either Ends (is_ignored r.world line) _ _ (at_main_ends (closed s) lines k)
+        either Ends (is_ignored r.world line) _ _ (at_main_ends (piece_closed s) lines k)
         (either Ends (is_timeout line) _ _
-        (saying_ends (timeout_text g.game r.world) (go AtTimeFrame) (goes AtTimeFrame) (heard line s) k)
+        (saying_ends (timeout_text g.game r.world) (go AtTimeFrame) (goes AtTimeFrame) (with_line_heard line s) k)
         (goes AtPhrase (line_set line s) k))
 
     after_phrase_ends : (p : Parsed) → GoEnding (λ r. after_phrase g go r p)
     after_phrase_ends (IsSentence s rest) r k =
-        goes AtResponse (with_world (counted (taken_phrase s rest r).world) (taken_phrase s rest r)) k
+        goes AtResponse (with_world (turn_counted (taken_phrase s rest r).world) (taken_phrase s rest r)) k
     after_phrase_ends (IsUnknown rest) r k =
         saying_ends (unknown_text g.game r.world) (go AtTimeFrame) (goes AtTimeFrame) (line_dropped r) k
     after_phrase_ends IsNoPhrase r k =
         either Ends (fits (line_dropped r) (prompt_text g.game r.world)) _ (Halted (halt.Spent spent.Text) (line_dropped r))
-        (at_main_ends (closed (printed (prompt_text g.game r.world) (line_dropped r))) r.events k) k
+        (at_main_ends (piece_closed (text_printed (prompt_text g.game r.world) (line_dropped r))) r.events k) k
 
   turn_ends : (n : ℕ) (s : TurnPhase) → GoEnding (turn g n s)
   unfolding turn
   turn_ends zero s r k = tt
   turn_ends (suc n) AtDescribe r k =
-      saying_ends (view_text g.game (described r.world)) (λ q. table_done g (turn g n) 1 (table_read g 1 q))
-      (read_ends (turn g n) (turn_ends n) 1) (with_world (described r.world) r) (described_kept r.world k)
+      saying_ends (view_text g.game (location_described r.world)) (λ q. table_done g (turn g n) 1 (table_read g 1 q))
+      (read_ends (turn g n) (turn_ends n) 1) (with_world (location_described r.world) r) (described_kept r.world k)
   turn_ends (suc n) AtTimeFrame r k = read_ends (turn g n) (turn_ends n) 2 r k
   turn_ends (suc n) AtPhrase r k = after_phrase_ends (turn g n) (turn_ends n) (coming_phrase g r) r k
   turn_ends (suc n) AtResponse r k = read_ends (turn g n) (turn_ends n) 0 r k

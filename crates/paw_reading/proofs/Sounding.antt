@@ -16,7 +16,7 @@ use Rattle.paw_game.specs.Game.{GameLists}
 use Rattle.paw_game.specs.Tables.{table_at, entry_at, condacts_of, facts_at, exit_at}
 use Rattle.paw_game.specs.Valid.{Valid, is_condact, is_entry, is_wildcard, is_verb_value, has_word}
 use Rattle.paw_game.proofs.Kept.{first_of_and, second_of_and, table_kept, entry_kept, exit-leads}
-use Rattle.paw_world.specs.World.{World, flag, with_flag, is_dark, is_unlit, fallen, fallen_if}
+use Rattle.paw_world.specs.World.{World, flag, with_flag, is_dark, is_unlit, flag_lowered, flag_lowered_if}
 use Rattle.paw_phrase.specs.declared.Sentence.{Sentence}
 use Rattle.paw_phrase.specs.Sentence.{Parsed, IsSentence, IsUnknown, IsNoPhrase}
 use Rattle.paw_phrase.proofs.Phrases.{IsRest as IsRestOf, rest-shorter, rest-all, sentence-rest, unknown-rest}
@@ -33,21 +33,21 @@ use Rattle.paw_effects.specs.Holds.{is_condition, holds}
 use Rattle.paw_effects.specs.Effects.{Done, effect_of}
 use Rattle.paw_reading.specs.declared.places.Frame.{Frame}
 use Rattle.paw_reading.specs.declared.places.OpenLoop.{OpenLoop}
-use Rattle.paw_reading.specs.Run.{Run, closed, fits, printed, with_world, without_loop, line_dropped, anew, is_timeout}
-use Rattle.paw_reading.specs.Run.{is_ignored, heard}
-use Rattle.paw_reading.specs.Run.{with_timeout, reply, is_yes, is_no, spoken, taken_phrase}
+use Rattle.paw_reading.specs.Run.{Run, piece_closed, fits, text_printed, with_world, without_loop, line_dropped, anew, is_timeout}
+use Rattle.paw_reading.specs.Run.{is_ignored, with_line_heard}
+use Rattle.paw_reading.specs.Run.{with_timeout, reply, is_yes, is_no, with_sentence, taken_phrase}
 use Rattle.paw_reading.specs.declared.places.Halt.TheVariants as halt
-use Rattle.paw_reading.specs.Reading.{Redescribes, Restarts, Halts, Out, Left, Waits, Stopped, halts, noted, printing}
-use Rattle.paw_reading.specs.Reading.{after_call, at_level, next_object_or, is_taken, named, taken, over_objects}
-use Rattle.paw_reading.specs.Reading.{loop_of, over, answered, asked, waits}
+use Rattle.paw_reading.specs.Reading.{Redescribes, Restarts, Halts, Out, Left, Waits, Stopped, halts, step_noted, printing}
+use Rattle.paw_reading.specs.Reading.{after_call, at_level, next_object_or, is_taken, object_named, object_taken, over_objects}
+use Rattle.paw_reading.specs.Reading.{loop_of, over, prompt_answered, prompt_asked, waits}
 use Rattle.paw_reading.specs.Reading.{after_test, after_parse, after_action, carried_out, acts, reads_one, condacts}
 use Rattle.paw_reading.specs.Reading.{is_for_now, entries}
-use Rattle.paw_reading.specs.Reading.{from_condact, rest_of_loop, read_at_level, called, deeper, table_read, game_over}
+use Rattle.paw_reading.specs.Reading.{from_condact, rest_of_loop, read_at_level, table_called, deeper, table_read, game_over}
 use Rattle.paw_reading.specs.Reading.{coming_phrase}
 use Rattle.paw_reading.specs.GoingOn.{on_path}
 use Rattle.paw_reading.specs.Turn.{TurnPhase, AtDescribe, AtTimeFrame, AtPhrase, AtResponse, Ending, WaitsAt, Halted}
-use Rattle.paw_reading.specs.Turn.{saying, described, time_frame_passed}
-use Rattle.paw_reading.specs.Turn.{view_text, counted, prompt_text, at_main, after_phrase, refusal_text, connected}
+use Rattle.paw_reading.specs.Turn.{saying, location_described, time_frame_passed}
+use Rattle.paw_reading.specs.Turn.{view_text, turn_counted, prompt_text, at_main, after_phrase, refusal_text, exit_taken}
 use Rattle.paw_reading.specs.Turn.{after_left}
 use Rattle.paw_reading.specs.Turn.{table_done, turn, phases_left, opening, reading, first_table, goes_on, going_on_from}
 use Rattle.paw_reading.specs.Turn.{timeout_text}
@@ -151,7 +151,7 @@ module _ (g : Story) (valid : ValidStory g) (seed base : ℕ) where
   resting_events : (r : Run) → Rests r → (lines : List (List ℕ)) → AreLines lines → Rests (record r { events = lines })
   resting_events r k lines are = record { sound = with_events r k.sound lines are; current = k.current; read = k.read }
 
-  printed_so : (r : Run) (text : List ℕ) → Is r → fits r text ≡ true → Is (printed text r)
+  printed_so : (r : Run) (text : List ℕ) → Is r → fits r text ≡ true → Is (text_printed text r)
   printed_so r text k fit = record {
     world = k.world;
     few = k.few;
@@ -164,11 +164,11 @@ module _ (g : Story) (valid : ValidStory g) (seed base : ℕ) where
   }
 
   noted_so : (r : Run) (f : Frame) (c : Condact) (b : Bool) (w : World) → Is r → length r.read < READ_LIMIT → IsWorldAt g.game seed (suc (bound r)) w →
-      Is (noted f c b (with_world w r))
+      Is (step_noted f c b (with_world w r))
   noted_so r f c b w k few world =
-      let size : length (noted f c b r).read ≡ length r.read + 1 = length-append r.read _ in
+      let size : length (step_noted f c b r).read ≡ length r.read + 1 = length-append r.read _ in
       record {
-        world = later g.game v seed (suc (bound r)) w world (bound (noted f c b r)) (omega (arith, size));
+        world = later g.game v seed (suc (bound r)) w world (bound (step_noted f c b r)) (omega (arith, size));
         few = omega (arith, size);
         line = k.line;
         earlier = k.earlier;
@@ -178,12 +178,12 @@ module _ (g : Story) (valid : ValidStory g) (seed base : ℕ) where
         traced = k.traced;
       }
 
-  pub closed_rests : (r : Run) → Is r → Rests (closed r)
+  pub closed_rests : (r : Run) → Is r → Rests (piece_closed r)
   closed_rests r k =
-      let size : length (closed r).pieces ≡ length r.pieces + 1 = length-append r.pieces (r.current ∷ []) in
+      let size : length (piece_closed r).pieces ≡ length r.pieces + 1 = length-append r.pieces (r.current ∷ []) in
       record {
         sound = record {
-          world = later g.game v seed (bound r) r.world k.world (bound (closed r)) (omega (arith, size, k.few));
+          world = later g.game v seed (bound r) r.world k.world (bound (piece_closed r)) (omega (arith, size, k.few));
           few = omega arith;
           line = k.line;
           earlier = k.earlier;
@@ -206,13 +206,13 @@ module _ (g : Story) (valid : ValidStory g) (seed base : ℕ) where
       low : (x : ℕ) → x % 128 < 256
       low x = omega arith
 
-  heard_so : (line : List ℕ) (r : Run) → Is r → Is (heard line r)
+  heard_so : (line : List ℕ) (r : Run) → Is r → Is (with_line_heard line r)
   heard_so line r k = in_world r k (with_timeout (is_timeout line) r.world) (timeout_so (bound r) (is_timeout line) r.world k.world)
 
   anew_run : (r : Run) → Is r → Is (anew r)
   anew_run r k = changed r k _ (anew_so g.game v seed (bound r) r.world k.world) [] no_line 255 (omega arith) None
 
-  spoken_so : (n : ℕ) (s : Sentence) (w : World) → AreWords s → IsWorldAt g.game seed n w → IsWorldAt g.game seed n (spoken s w)
+  spoken_so : (n : ℕ) (s : Sentence) (w : World) → AreWords s → IsWorldAt g.game seed n w → IsWorldAt g.game seed n (with_sentence s w)
   spoken_so n s w b k =
       let set : (u : World) → IsWorldAt g.game seed n u → (f x : ℕ) → x < 256 → IsWorldAt g.game seed n (with_flag u f x) = λ u. flagged g.game v seed n u in
       set _ (set _ (set _ (set _ (set _ (set _ (set _ (set _ (set w k 33 s.verb b.verb) 34 s.noun b.noun) 35 s.adjective b.adjective) 36 s.adverb b.adverb)
@@ -232,7 +232,7 @@ module _ (g : Story) (valid : ValidStory g) (seed base : ℕ) where
       let words =
       parsed-bytes g.game r.pending r.earlier (flag r.world 46) (flag r.world 47) s left v k.earlier
       (flag_small g.game v seed (bound r) r.world k.world 46) (flag_small g.game v seed (bound r) r.world k.world 47) e in
-      changed r k (spoken s r.world) (spoken_so (bound r) s r.world words k.world) left
+      changed r k (with_sentence s r.world) (spoken_so (bound r) s r.world words k.world) left
       (left_line r.pending left (sentence-rest g.game r.pending r.earlier (flag r.world 46) (flag r.world 47) s left e) k.line) s.verb words.verb r.turning
 
   unknown_so : (r : Run) → Is r → (left : List ℕ) → coming_phrase g r ≡ IsUnknown left →
@@ -240,15 +240,16 @@ module _ (g : Story) (valid : ValidStory g) (seed base : ℕ) where
   unknown_so r k left e =
       with_pending r k left (left_line r.pending left (unknown-rest g.game r.pending r.earlier (flag r.world 46) (flag r.world 47) left e) k.line)
 
-  named_so : (n : ℕ) (w : World) → IsWorldAt g.game seed n w → (o : ℕ) (f : Option ObjectFacts) → facts_at g.game o ≡ f → IsWorldAt g.game seed n (named w f)
+  named_so : (n : ℕ) (w : World) → IsWorldAt g.game seed n w → (o : ℕ) (f : Option ObjectFacts) → facts_at g.game o ≡ f →
+      IsWorldAt g.game seed n (object_named w f)
   named_so n w k o None e = k
   named_so n w k o (Some f) e =
       let small = facts_small g.game v o f e in
       flagged g.game v seed n (with_flag w 34 f.noun) (flagged g.game v seed n w k 34 f.noun small.noun) 35 f.adjective small.adjective
 
-  taken_so : (l : OpenLoop) (o : ℕ) (r : Run) → o < 256 → Is r → Is (taken g.game l o r)
+  taken_so : (l : OpenLoop) (o : ℕ) (r : Run) → o < 256 → Is r → Is (object_taken g.game l o r)
   taken_so l o r small k =
-      let w : World = named r.world (facts_at g.game o) in
+      let w : World = object_named r.world (facts_at g.game o) in
       let w_so : IsWorldAt g.game seed (bound r) w = named_so (bound r) r.world k.world o (facts_at g.game o) refl in
       changed r k _ (referred_so g.game v seed (bound r) (with_flag w 50 o) (flagged g.game v seed (bound r) w w_so 50 o small) o small)
       r.pending k.line r.earlier k.earlier (Some (record l { last = o }))
@@ -269,8 +270,8 @@ module _ (g : Story) (valid : ValidStory g) (seed base : ℕ) where
       let o : ℕ = length g.game.objects - suc n in
       let small : o < 256 = omega (arith, few_objects g.game v) in
       either Sounds (is_taken g.game r.world l o) _ _
-      (again_sounds lv (λ _. over_objects g lv l body n) (λ m s j. turns_sound lv l body h n s j) (body (taken g.game l o r))
-      (h (taken g.game l o r) (taken_so l o r small k)))
+      (again_sounds lv (λ _. over_objects g lv l body n) (λ m s j. turns_sound lv l body h n s j) (body (object_taken g.game l o r))
+      (h (object_taken g.game l o r) (taken_so l o r small k)))
       (turns_sound lv l body h n r k)
 
   after_call_sounds : (f : Frame) (go : Bool → Run → Out) → GoesSound go → (x : Out) → Sounds x → Sounds (after_call f go x)
@@ -283,31 +284,32 @@ module _ (g : Story) (valid : ValidStory g) (seed base : ℕ) where
   printing_sounds : (text : List ℕ) (go : Run → Out) → ((r : Run) → Is r → Sounds (go r)) → (r : Run) → Is r → Sounds (printing text go r)
   printing_sounds text go h r k =
       by_test Sounds (fits r text) _ (halts (halt.Spent spent.Text) r)
-      (λ fit. h (printed text r) (printed_so r text k fit)) tt
+      (λ fit. h (text_printed text r) (printed_so r text k fit)) tt
 
   over_sounds : (r : Run) → Is r → Sounds (over g r)
   over_sounds r k =
       printing_sounds (goodbye g r) game_over
       (λ s j. closed_rests (without_loop (line_dropped s)) (no_loop (line_dropped s) (dropped s j) None)) r k
 
-  answered_sounds : (p : Prompt) (f : Frame) (go : Bool → Run → Out) → GoesSound go → (line : List ℕ) (r : Run) → Is r → Sounds (answered g p f go line r)
+  answered_sounds : (p : Prompt) (f : Frame) (go : Bool → Run → Out) → GoesSound go → (line : List ℕ) (r : Run) → Is r →
+      Sounds (prompt_answered g p f go line r)
   answered_sounds prompt.Quit f go h line r k = either Sounds (is_yes line) _ (Left true r) (h f.acted r k) k
   answered_sounds prompt.Again f go h line r k =
       either Sounds (is_no line) (over g r) (Stopped Restarts (anew r)) (over_sounds r k) (anew_run r k)
   answered_sounds _ f go h line r k = h true r k
 
   asked_sounds : (p : Prompt) (f : Frame) (go : Bool → Run → Out) → GoesSound go → (r : Run) (lines : List (List ℕ)) → Rests r → AreLines lines →
-      Sounds (asked g p f go r lines)
-  unfolding asked
+      Sounds (prompt_asked g p f go r lines)
+  unfolding prompt_asked
   asked_sounds p f go h r [] k are = resting_events r k [] tt
   asked_sounds p f go h r (line ∷ lines) k are =
       let s : Run = record r { events = lines } in
       let s_so : Is s = with_events r k.sound lines are.1 in
-      either Sounds (is_ignored r.world line) _ _ (asked_sounds p f go h (closed s) lines (closed_rests s s_so) are.1)
-      (answered_sounds p f go h (reply line) (heard line s) (heard_so line s s_so))
+      either Sounds (is_ignored r.world line) _ _ (asked_sounds p f go h (piece_closed s) lines (closed_rests s s_so) are.1)
+      (answered_sounds p f go h (reply line) (with_line_heard line s) (heard_so line s s_so))
 
   waits_sounds : (p : Prompt) (f : Frame) (go : Bool → Run → Out) → GoesSound go → (r : Run) → Is r → Sounds (waits g p f go r)
-  waits_sounds p f go h r k = asked_sounds p f go h (closed r) r.events (closed_rests r k) k.lines
+  waits_sounds p f go h r k = asked_sounds p f go h (piece_closed r) r.events (closed_rests r k) k.lines
 
   -- ---- one condact ----
 
@@ -323,13 +325,13 @@ module _ (g : Story) (valid : ValidStory g) (seed base : ℕ) where
 
   module _ (sub : ℕ → Run → Out) (lv : ℕ) (calls : CallsSound sub) where
     after_test_sounds : (f : Frame) (next go : Bool → Run → Out) → GoesSound next → GoesSound go → (c : Condact) (r : Run) (t : Truth) →
-        ((b : Bool) → Is (noted f c b r)) →
+        ((b : Bool) → Is (step_noted f c b r)) →
         Sounds (after_test g f next go c r t)
-    after_test_sounds f next go hn hg c r truth.Yes k = hg f.acted (noted f c true r) (k true)
-    after_test_sounds f next go hn hg c r truth.No k = hn f.acted (noted f c false r) (k false)
+    after_test_sounds f next go hn hg c r truth.Yes k = hg f.acted (step_noted f c true r) (k true)
+    after_test_sounds f next go hn hg c r truth.No k = hn f.acted (step_noted f c false r) (k false)
     after_test_sounds f next go hn hg c r truth.Ask k =
         printing_sounds (quit_question g r) (waits g prompt.Quit f go) (waits_sounds prompt.Quit f go hg)
-        (noted f c true r) (k true)
+        (step_noted f c true r) (k true)
 
     after_action_sounds : (f : Frame) (next go : Bool → Run → Out) → GoesSound next → GoesSound go → (e : Effect) (r : Run) → Is r →
         Sounds (after_action g sub lv f next go e r)
@@ -351,8 +353,8 @@ module _ (g : Story) (valid : ValidStory g) (seed base : ℕ) where
         Sounds (acts g sub lv f next go d r)
     acts_sound f next go hn hg d r k world =
         by_test Sounds (fits r d.text) _ (halts (halt.Spent spent.Text) r)
-        (λ fit. after_action_sounds f next go hn hg d.act.effect (carried_out d (printed d.text r))
-        (carried_so d (printed d.text r) (printed_so r d.text k fit) world)) tt
+        (λ fit. after_action_sounds f next go hn hg d.act.effect (carried_out d (text_printed d.text r))
+        (carried_so d (text_printed d.text r) (printed_so r d.text k fit) world)) tt
 
     reads_one_sounds : (f : Frame) (next go : Bool → Run → Out) → GoesSound next → GoesSound go → (c : Condact) (r : Run) → is_condact g.game c ≡ true →
         length r.read < READ_LIMIT → Is r →
@@ -363,7 +365,7 @@ module _ (g : Story) (valid : ValidStory g) (seed base : ℕ) where
         either Sounds (is_condition c) _ _
         (after_test_sounds f next go hn hg c (with_world (holds g.game r.world c).world r) (holds g.game r.world c).answer
         (λ b. noted_so r f c b (holds g.game r.world c).world k few (condition_so g.game v seed (bound r) r.world c k.world)))
-        (acts_sound f next go hn hg d (noted f c true r)
+        (acts_sound f next go hn hg d (step_noted f c true r)
         (noted_so r f c true r.world k few (later g.game v seed (bound r) r.world k.world (suc (bound r)) (omega arith)))
         (noted_so r f c true d.world k few d_so).world)
 
@@ -417,10 +419,10 @@ module _ (g : Story) (valid : ValidStory g) (seed base : ℕ) where
     reads_sound : (t e k : ℕ) → GoesSound (read_at_level g sub lv t e k)
     reads_sound t e k a r h = again_sounds lv (rest_of_loop g sub lv) looped_sounds _ (plain_sounds t e k a r h)
 
-  called_sounds : (n lv : ℕ) → CallsSound (called g n lv)
-  unfolding called
+  called_sounds : (n lv : ℕ) → CallsSound (table_called g n lv)
+  unfolding table_called
   called_sounds zero lv u r h = tt
-  called_sounds (suc n) lv u r h = reads_sound (called g n (suc lv)) (suc lv) (called_sounds n (suc lv)) u 0 0 false r h
+  called_sounds (suc n) lv u r h = reads_sound (table_called g n (suc lv)) (suc lv) (called_sounds n (suc lv)) u 0 0 false r h
 
   table_sounds : (t : ℕ) (r : Run) → Is r → Sounds (table_read g t r)
   table_sounds t r h = reads_sound (deeper g 0) 0 (called_sounds 10 0) t 0 0 false r h
@@ -450,26 +452,26 @@ module _ (g : Story) (valid : ValidStory g) (seed base : ℕ) where
 
   saying_sounds : (text : List ℕ) (go : Run → Ending) → TurnsSound go → TurnsSound (saying text go)
   saying_sounds text go h r k =
-      one_of (fits r text) _ (Halted (halt.Spent spent.Text) r) (λ fit. h (printed text r) (printed_so r text k fit)) tt
+      one_of (fits r text) _ (Halted (halt.Spent spent.Text) r) (λ fit. h (text_printed text r) (printed_so r text k fit)) tt
 
-  fallen_so : (n f : ℕ) (w : World) → IsWorldAt g.game seed n w → IsWorldAt g.game seed n (fallen f w)
+  fallen_so : (n f : ℕ) (w : World) → IsWorldAt g.game seed n w → IsWorldAt g.game seed n (flag_lowered f w)
   fallen_so n f w k = flagged g.game v seed n w k f (flag w f - 1) (omega (arith, flag_small g.game v seed n w k f))
 
-  fallen_if_so : (n : ℕ) (b : Bool) (f : ℕ) (w : World) → IsWorldAt g.game seed n w → IsWorldAt g.game seed n (fallen_if b f w)
+  fallen_if_so : (n : ℕ) (b : Bool) (f : ℕ) (w : World) → IsWorldAt g.game seed n w → IsWorldAt g.game seed n (flag_lowered_if b f w)
   fallen_if_so n true f w k = fallen_so n f w k
   fallen_if_so n false f w k = k
 
-  described_so : (n : ℕ) (w : World) → IsWorldAt g.game seed n w → IsWorldAt g.game seed n (described w)
+  described_so : (n : ℕ) (w : World) → IsWorldAt g.game seed n w → IsWorldAt g.game seed n (location_described w)
   described_so n w k =
-      fallen_if_so n (is_unlit w) 4 (fallen_if (is_dark w) 3 (fallen 2 w)) (fallen_if_so n (is_dark w) 3 (fallen 2 w) (fallen_so n 2 w k))
+      fallen_if_so n (is_unlit w) 4 (flag_lowered_if (is_dark w) 3 (flag_lowered 2 w)) (fallen_if_so n (is_dark w) 3 (flag_lowered 2 w) (fallen_so n 2 w k))
 
   time_frame_so : (n : ℕ) (w : World) → IsWorldAt g.game seed n w → IsWorldAt g.game seed n (time_frame_passed w)
   time_frame_so n w k =
-      let first : World = fallen 8 (fallen 7 (fallen 6 (fallen 5 w))) in
-      fallen_if_so n (is_unlit w) 10 (fallen_if (is_dark w) 9 first) (fallen_if_so n (is_dark w) 9 first
+      let first : World = flag_lowered 8 (flag_lowered 7 (flag_lowered 6 (flag_lowered 5 w))) in
+      fallen_if_so n (is_unlit w) 10 (flag_lowered_if (is_dark w) 9 first) (fallen_if_so n (is_dark w) 9 first
       (fallen_so n 8 _ (fallen_so n 7 _ (fallen_so n 6 _ (fallen_so n 5 w k)))))
 
-  counted_so : (n : ℕ) (w : World) → IsWorldAt g.game seed n w → IsWorldAt g.game seed n (counted w)
+  counted_so : (n : ℕ) (w : World) → IsWorldAt g.game seed n w → IsWorldAt g.game seed n (turn_counted w)
   counted_so n w k =
       let turns_now : ℕ = min 65535 (turns_taken w + 1) in
       flagged g.game v seed n (with_flag w 31 (turns_now % 256)) (flagged g.game v seed n w k 31 (turns_now % 256) (low turns_now)) 32 (turns_now / 256)
@@ -483,7 +485,7 @@ module _ (g : Story) (valid : ValidStory g) (seed base : ℕ) where
 
   module _ (go : TurnPhase → Run → Ending) (goes : (s : TurnPhase) → TurnsSound (go s)) where
     connected_sounds : (r : Run) → Is r → (to : Option ℕ) → exit_at g.game (flag r.world 38) (flag r.world 33) ≡ to →
-        EndsSound (connected g go r to)
+        EndsSound (exit_taken g go r to)
     connected_sounds r k None e = saying_sounds (refusal_text g.game r.world) (go AtTimeFrame) (goes AtTimeFrame) (line_dropped r) (dropped r k)
     connected_sounds r k (Some to) e =
         goes AtDescribe (with_world (with_flag r.world 38 to) r)
@@ -519,31 +521,32 @@ module _ (g : Story) (valid : ValidStory g) (seed base : ℕ) where
         let s : Run = record r { events = lines } in
         let s_so : Is s = with_events r k.sound lines are.1 in
         one_of (is_ignored r.world line) _ _
-        (λ e. at_main_sounds (closed s) lines (closed_rests s s_so) are.1)
+        (λ e. at_main_sounds (piece_closed s) lines (closed_rests s s_so) are.1)
         (one_of (is_timeout line) _ _
         (λ e.
-        saying_sounds (timeout_text g.game r.world) (go AtTimeFrame) (goes AtTimeFrame) (heard line s) (heard_so line s s_so))
+        saying_sounds (timeout_text g.game r.world) (go AtTimeFrame) (goes AtTimeFrame) (with_line_heard line s) (heard_so line s s_so))
         (goes AtPhrase (line_set line s) (line_set_so line s are.0 s_so)))
 
     after_phrase_sounds : (r : Run) → Is r → (p : Parsed) → coming_phrase g r ≡ p →
         EndsSound (after_phrase g go r p)
     after_phrase_sounds r k (IsSentence s left) e =
         let taken_run : Is (taken_phrase s left r) = phrase_so r k s left e in
-        goes AtResponse (with_world (counted (taken_phrase s left r).world) (taken_phrase s left r))
-        (in_world (taken_phrase s left r) taken_run (counted (taken_phrase s left r).world)
+        goes AtResponse (with_world (turn_counted (taken_phrase s left r).world) (taken_phrase s left r))
+        (in_world (taken_phrase s left r) taken_run (turn_counted (taken_phrase s left r).world)
         (counted_so (bound r) (taken_phrase s left r).world taken_run.world))
     after_phrase_sounds r k (IsUnknown left) e =
         saying_sounds (unknown_text g.game r.world) (go AtTimeFrame) (goes AtTimeFrame) (line_dropped r) (dropped r k)
     after_phrase_sounds r k IsNoPhrase e =
-        saying_sounds (prompt_text g.game r.world) (λ s. at_main g go (closed s) s.events)
-        (λ s j. at_main_sounds (closed s) s.events (closed_rests s j) j.lines) (line_dropped r) (dropped r k)
+        saying_sounds (prompt_text g.game r.world) (λ s. at_main g go (piece_closed s) s.events)
+        (λ s j. at_main_sounds (piece_closed s) s.events (closed_rests s j) j.lines) (line_dropped r) (dropped r k)
 
   turn_sounds : (n : ℕ) (s : TurnPhase) → TurnsSound (turn g n s)
   unfolding turn
   turn_sounds zero s r k = tt
   turn_sounds (suc n) AtDescribe r k =
-      saying_sounds (view_text g.game (described r.world)) (λ q. table_done g (turn g n) 1 (table_read g 1 q)) (read_sounds (turn g n) (turn_sounds n) 1)
-      (with_world (described r.world) r) (in_world r k (described r.world) (described_so (bound r) r.world k.world))
+      saying_sounds (view_text g.game (location_described r.world)) (λ q. table_done g (turn g n) 1 (table_read g 1 q))
+      (read_sounds (turn g n) (turn_sounds n) 1)
+      (with_world (location_described r.world) r) (in_world r k (location_described r.world) (described_so (bound r) r.world k.world))
   turn_sounds (suc n) AtTimeFrame r k = read_sounds (turn g n) (turn_sounds n) 2 r k
   turn_sounds (suc n) AtPhrase r k = after_phrase_sounds (turn g n) (turn_sounds n) r k (coming_phrase g r) refl
   turn_sounds (suc n) AtResponse r k = read_sounds (turn g n) (turn_sounds n) 0 r k

@@ -20,14 +20,14 @@ use Rattle.paw_effects.specs.Holds.{is_condition, holds}
 use Rattle.paw_effects.specs.Effects.{Done, effect_of}
 use Rattle.paw_reading.specs.declared.places.Frame.{Frame}
 use Rattle.paw_reading.specs.declared.places.OpenLoop.{OpenLoop}
-use Rattle.paw_reading.specs.Run.{Run, closed, fits, printed, with_world, anew, is_ignored, heard, reply, is_yes, is_no}
+use Rattle.paw_reading.specs.Run.{Run, piece_closed, fits, text_printed, with_world, anew, is_ignored, with_line_heard, reply, is_yes, is_no}
 use Rattle.paw_reading.specs.Run.{taken_phrase}
 use Rattle.paw_reading.specs.declared.places.Halt.TheVariants as halt
-use Rattle.paw_reading.specs.Reading.{Restarts, Halts, Out, Left, Waits, Stopped, halts, noted, after_call, at_level}
+use Rattle.paw_reading.specs.Reading.{Restarts, Halts, Out, Left, Waits, Stopped, halts, step_noted, after_call, at_level}
 use Rattle.paw_reading.specs.Reading.{next_object_or}
-use Rattle.paw_reading.specs.Reading.{is_taken, taken, over_objects, loop_of, over, answered, asked, after_test}
+use Rattle.paw_reading.specs.Reading.{is_taken, object_taken, over_objects, loop_of, over, prompt_answered, prompt_asked, after_test}
 use Rattle.paw_reading.specs.Reading.{after_parse, after_action}
-use Rattle.paw_reading.specs.Reading.{carried_out, acts, reads_one, from_condact, rest_of_loop, read_at_level, called}
+use Rattle.paw_reading.specs.Reading.{carried_out, acts, reads_one, from_condact, rest_of_loop, read_at_level, table_called}
 use Rattle.paw_reading.specs.Reading.{deeper, rest_of_table, table_read}
 use Rattle.paw_reading.specs.Reading.{coming_phrase}
 use Rattle.paw_reading.specs.Reading.{game_over, waits}
@@ -83,8 +83,8 @@ turns_spend g lv l body h zero r = omega arith
 turns_spend g lv l body h (suc n) r =
     let o : ℕ = length g.game.objects - suc n in
     either (Spends (left_to_read r)) (is_taken g.game r.world l o) _ _
-    (again_spends lv (λ _. over_objects g lv l body n) (λ m s. turns_spend g lv l body h n s) (left_to_read r) (body (taken g.game l o r))
-    (h (taken g.game l o r)))
+    (again_spends lv (λ _. over_objects g lv l body n) (λ m s. turns_spend g lv l body h n s) (left_to_read r) (body (object_taken g.game l o r))
+    (h (object_taken g.game l o r)))
     (turns_spend g lv l body h n r)
 
 after_call_spends : (f : Frame) (go : Bool → Run → Out) → AreSpending go → (v : ℕ) (x : Out) → Spends v x → Spends v (after_call f go x)
@@ -98,7 +98,7 @@ over_spends : (g : Story) (v : ℕ) (r : Run) → Spends v (over g r)
 over_spends g v r = prints (Spends v) (goodbye g r) game_over r tt tt
 
 answered_spends : (g : Story) (p : Prompt) (f : Frame) (go : Bool → Run → Out) → AreSpending go → (line : List ℕ) (r : Run) (v : ℕ) →
-    left_to_read r < v → brought r.events + READ_LIMIT < v → Spends v (answered g p f go line r)
+    left_to_read r < v → brought r.events + READ_LIMIT < v → Spends v (prompt_answered g p f go line r)
 answered_spends g prompt.Quit f go h line r v k n =
     either (Spends v) (is_yes line) _ (Left true r) (Spends_up (left_to_read r) v (omega arith) _ (h f.acted r)) (omega arith)
 answered_spends g prompt.Again f go h line r v k n =
@@ -106,15 +106,15 @@ answered_spends g prompt.Again f go h line r v k n =
 answered_spends g _ f go h line r v k n = Spends_up (left_to_read r) v (omega arith) _ (h true r)
 
 pub asked_spends : (g : Story) (p : Prompt) (f : Frame) (go : Bool → Run → Out) → AreSpending go → (r : Run) (lines : List (List ℕ)) →
-    Spends (length r.pending + brought lines) (asked g p f go r lines)
-unfolding asked
+    Spends (length r.pending + brought lines) (prompt_asked g p f go r lines)
+unfolding prompt_asked
 asked_spends g p f go h r [] = tt
 asked_spends g p f go h r (line ∷ lines) =
     let v : ℕ = length r.pending + brought (line ∷ lines) in
     let m : brought (line ∷ lines) ≡ length line + 200001 + brought lines = brought_more line lines in
     either (Spends v) (is_ignored r.world line) _ _
-    (Spends_up (length r.pending + brought lines) v (omega (arith, m)) _ (asked_spends g p f go h (closed (record r { events = lines })) lines))
-    (answered_spends g p f go h (reply line) (heard line (record r { events = lines })) v (omega (arith, m)) (omega (arith, m)))
+    (Spends_up (length r.pending + brought lines) v (omega (arith, m)) _ (asked_spends g p f go h (piece_closed (record r { events = lines })) lines))
+    (answered_spends g p f go h (reply line) (with_line_heard line (record r { events = lines })) v (omega (arith, m)) (omega (arith, m)))
 
 -- ---- one condact ----
 
@@ -128,13 +128,13 @@ after_parse_spends f next go hn hg r IsNoPhrase k = hg f.acted r
 
 module _ (g : Story) (sub : ℕ → Run → Out) (lv : ℕ) (calls : CallsSpending sub) where
   after_test_spends : (f : Frame) (next go : Bool → Run → Out) → AreSpending next → AreSpending go → (c : Condact) (r : Run) (t : Truth) (v : ℕ) →
-      left_to_read (noted f c true r) ≤ v → left_to_read (noted f c false r) ≤ v → Spends v (after_test g f next go c r t)
-  after_test_spends f next go hn hg c r truth.Yes v k n = Spends_up (left_to_read (noted f c true r)) v k _ (hg f.acted (noted f c true r))
-  after_test_spends f next go hn hg c r truth.No v k n = Spends_up (left_to_read (noted f c false r)) v n _ (hn f.acted (noted f c false r))
+      left_to_read (step_noted f c true r) ≤ v → left_to_read (step_noted f c false r) ≤ v → Spends v (after_test g f next go c r t)
+  after_test_spends f next go hn hg c r truth.Yes v k n = Spends_up (left_to_read (step_noted f c true r)) v k _ (hg f.acted (step_noted f c true r))
+  after_test_spends f next go hn hg c r truth.No v k n = Spends_up (left_to_read (step_noted f c false r)) v n _ (hn f.acted (step_noted f c false r))
   after_test_spends f next go hn hg c r truth.Ask v k n =
-      prints (Spends v) (quit_question g r) (waits g prompt.Quit f go) (noted f c true r)
+      prints (Spends v) (quit_question g r) (waits g prompt.Quit f go) (step_noted f c true r)
       (Spends_up (length r.pending + brought r.events) v (omega arith) _
-      (asked_spends g prompt.Quit f go hg (closed (printed (quit_question g r) (noted f c true r))) r.events)) tt
+      (asked_spends g prompt.Quit f go hg (piece_closed (text_printed (quit_question g r) (step_noted f c true r))) r.events)) tt
 
   -- Redescribing leaves as much as there is, so it counts what was read before it.
   after_action_spends : (f : Frame) (next go : Bool → Run → Out) → AreSpending next → AreSpending go → (e : Effect) (r : Run) →
@@ -147,7 +147,7 @@ module _ (g : Story) (sub : ℕ → Run → Out) (lv : ℕ) (calls : CallsSpendi
   after_action_spends f next go hn hg (effect.Loop p) r =
       Spends_up (left_to_read r) _ (omega arith) _ (turns_spend g lv (loop_of lv f p) (go true) (hg true) (length g.game.objects) r)
   after_action_spends f next go hn hg (effect.Ask p) r =
-      Spends_up (length r.pending + brought r.events) _ (omega arith) _ (asked_spends g p f go hg (closed r) r.events)
+      Spends_up (length r.pending + brought r.events) _ (omega arith) _ (asked_spends g p f go hg (piece_closed r) r.events)
   after_action_spends f next go hn hg effect.Parse r =
       Spends_up (left_to_read r) _ (omega arith) _
       (after_parse_spends f next go hn hg r (coming_phrase g r)
@@ -161,7 +161,7 @@ module _ (g : Story) (sub : ℕ → Run → Out) (lv : ℕ) (calls : CallsSpendi
   acts_spend : (f : Frame) (next go : Bool → Run → Out) → AreSpending next → AreSpending go → (d : Done) (r : Run) →
       Spends (suc (left_to_read r)) (acts g sub lv f next go d r)
   acts_spend f next go hn hg d r =
-      let s : Run = carried_out d (printed d.text r) in
+      let s : Run = carried_out d (text_printed d.text r) in
       let less : length s.pending ≤ length r.pending = dropped_less d.act.drop_line r.pending in
       either (Spends (suc (left_to_read r))) (fits r d.text) _ (halts (halt.Spent spent.Text) r)
       (Spends_up (suc (left_to_read s)) _ (omega (arith, less)) _ (after_action_spends f next go hn hg d.act.effect s)) tt
@@ -169,11 +169,12 @@ module _ (g : Story) (sub : ℕ → Run → Out) (lv : ℕ) (calls : CallsSpendi
   reads_one_spends : (f : Frame) (next go : Bool → Run → Out) → AreSpending next → AreSpending go → (c : Condact) (r : Run) → length r.read < READ_LIMIT →
       Spends (left_to_read r) (reads_one g sub lv f next go c r)
   reads_one_spends f next go hn hg c r low =
-      let more : (b : Bool) → length (noted f c b r).read ≡ length r.read + 1 = λ b. length-append r.read _ in
+      let more : (b : Bool) → length (step_noted f c b r).read ≡ length r.read + 1 = λ b. length-append r.read _ in
       either (Spends (left_to_read r)) (is_condition c) _ _
       (after_test_spends f next go hn hg c (with_world (holds g.game r.world c).world r) (holds g.game r.world c).answer (left_to_read r)
       (omega (arith, more true)) (omega (arith, more false)))
-      (Spends_up (suc (left_to_read (noted f c true r))) _ (omega (arith, more true)) _ (acts_spend f next go hn hg (effect_of g r.world c) (noted f c true r)))
+      (Spends_up (suc (left_to_read (step_noted f c true r))) _ (omega (arith, more true)) _
+      (acts_spend f next go hn hg (effect_of g r.world c) (step_noted f c true r)))
 
   -- ---- tables ----
 
@@ -191,10 +192,10 @@ module _ (g : Story) (sub : ℕ → Run → Out) (lv : ℕ) (calls : CallsSpendi
   reads_spend : (t e k : ℕ) → AreSpending (read_at_level g sub lv t e k)
   reads_spend t e k a r = again_looped_spends (left_to_read r) _ (plain_spends t e k a r)
 
-called_spend : (g : Story) (n lv : ℕ) → CallsSpending (called g n lv)
-unfolding called
+called_spend : (g : Story) (n lv : ℕ) → CallsSpending (table_called g n lv)
+unfolding table_called
 called_spend g zero lv u r = tt
-called_spend g (suc n) lv u r = reads_spend g (called g n (suc lv)) (suc lv) (called_spend g n (suc lv)) u 0 0 false r
+called_spend g (suc n) lv u r = reads_spend g (table_called g n (suc lv)) (suc lv) (called_spend g n (suc lv)) u 0 0 false r
 
 -- Reading on at a level spends.
 pub rest_spends : (g : Story) (lv t e k : ℕ) → AreSpending (rest_of_table g lv t e k)

@@ -19,14 +19,14 @@ use Rattle.paw_effects.proofs.Asking.{AsksInner}
 use Rattle.paw_effects.proofs.EachRow.{effect_asks}
 use Rattle.paw_reading.specs.declared.places.Frame.{Frame}
 use Rattle.paw_reading.specs.declared.places.OpenLoop.{OpenLoop}
-use Rattle.paw_reading.specs.Run.{Run, closed, fits, printed, with_world, anew, is_ignored, heard, reply, is_yes, is_no}
+use Rattle.paw_reading.specs.Run.{Run, piece_closed, fits, text_printed, with_world, anew, is_ignored, with_line_heard, reply, is_yes, is_no}
 use Rattle.paw_reading.specs.Run.{taken_phrase}
 use Rattle.paw_reading.specs.declared.places.Halt.TheVariants as halt
-use Rattle.paw_reading.specs.Reading.{Restarts, Out, Left, Waits, Stopped, halts, noted, after_call, at_level}
+use Rattle.paw_reading.specs.Reading.{Restarts, Out, Left, Waits, Stopped, halts, step_noted, after_call, at_level}
 use Rattle.paw_reading.specs.Reading.{next_object_or, is_taken}
-use Rattle.paw_reading.specs.Reading.{taken, over_objects, loop_of, over, answered, asked, after_test, after_parse}
+use Rattle.paw_reading.specs.Reading.{object_taken, over_objects, loop_of, over, prompt_answered, prompt_asked, after_test, after_parse}
 use Rattle.paw_reading.specs.Reading.{after_action, carried_out}
-use Rattle.paw_reading.specs.Reading.{acts, reads_one, from_condact, rest_of_loop, read_at_level, called, deeper}
+use Rattle.paw_reading.specs.Reading.{acts, reads_one, from_condact, rest_of_loop, read_at_level, table_called, deeper}
 use Rattle.paw_reading.specs.Reading.{rest_of_table, table_read, game_over}
 use Rattle.paw_reading.specs.Reading.{waits}
 use Rattle.paw_reading.specs.GoingOn.{on_path}
@@ -74,7 +74,7 @@ module _ (t : ℕ) where
   turns_stays g lv l body own h (suc n) r =
       let o : ℕ = length g.game.objects - suc n in
       either (Stays t lv) (is_taken g.game r.world l o) _ _
-      (again_stays lv _ (λ m s e k. turns_stays g lv l body own h n s) (body (taken g.game l o r)) (h (taken g.game l o r) own))
+      (again_stays lv _ (λ m s e k. turns_stays g lv l body own h n s) (body (object_taken g.game l o r)) (h (object_taken g.game l o r) own))
       (turns_stays g lv l body own h n r)
 
   -- ---- calls, prompts, phrases ----
@@ -86,7 +86,7 @@ module _ (t : ℕ) where
   after_call_stays lv f go own h (Stopped stop r) k = tt
 
   answered_stays : (g : Story) (p : Prompt) (lv : ℕ) (f : Frame) (go : Bool → Run → Out) → GoesStaying lv go → (line : List ℕ) (r : Run) → IsLoopOf t r.turning
-      → Stays t lv (answered g p f go line r)
+      → Stays t lv (prompt_answered g p f go line r)
   answered_stays g prompt.Quit lv f go h line r k = either (Stays t lv) (is_yes line) _ (Left true r) (h f.acted r k) k
   answered_stays g prompt.Again lv f go h line r k =
       either (Stays t lv) (is_no line) (over g r) (Stopped Restarts (anew r))
@@ -94,12 +94,12 @@ module _ (t : ℕ) where
   answered_stays g _ lv f go h line r k = h true r k
 
   asked_stays : (g : Story) (p : Prompt) (lv : ℕ) (f : Frame) (go : Bool → Run → Out) → IsInner p → IsOwn lv f.table → GoesStaying lv go
-      → (r : Run) (lines : List (List ℕ)) → IsLoopOf t r.turning → Stays t lv (asked g p f go r lines)
-  unfolding asked
+      → (r : Run) (lines : List (List ℕ)) → IsLoopOf t r.turning → Stays t lv (prompt_asked g p f go r lines)
+  unfolding prompt_asked
   asked_stays g p lv f go inner own h r [] k = record { inner = inner; first = own; loop = k }
   asked_stays g p lv f go inner own h r (line ∷ lines) k =
-      either (Stays t lv) (is_ignored r.world line) _ _ (asked_stays g p lv f go inner own h (closed (record r { events = lines })) lines k)
-      (answered_stays g p lv f go h (reply line) (heard line (record r { events = lines })) k)
+      either (Stays t lv) (is_ignored r.world line) _ _ (asked_stays g p lv f go inner own h (piece_closed (record r { events = lines })) lines k)
+      (answered_stays g p lv f go h (reply line) (with_line_heard line (record r { events = lines })) k)
 
   after_parse_stays : (lv : ℕ) (f : Frame) (next go : Bool → Run → Out) → GoesStaying lv next → GoesStaying lv go → (r : Run) (p : Parsed) →
       IsLoopOf t r.turning
@@ -118,11 +118,11 @@ module _ (t : ℕ) where
     after_test_stays : (f : Frame) (next go : Bool → Run → Out) → IsOwn lv f.table → GoesStaying lv next → GoesStaying lv go →
         (c : Condact) (r : Run) (v : Truth) → IsLoopOf t r.turning
         → Stays t lv (after_test g f next go c r v)
-    after_test_stays f next go own hn hg c r truth.Yes k = hg f.acted (noted f c true r) k
-    after_test_stays f next go own hn hg c r truth.No k = hn f.acted (noted f c false r) k
+    after_test_stays f next go own hn hg c r truth.Yes k = hg f.acted (step_noted f c true r) k
+    after_test_stays f next go own hn hg c r truth.No k = hn f.acted (step_noted f c false r) k
     after_test_stays f next go own hn hg c r truth.Ask k =
-        prints (Stays t lv) (quit_question g r) (waits g prompt.Quit f go) (noted f c true r)
-        (asked_stays g prompt.Quit lv f go tt own hg (closed (printed (quit_question g r) (noted f c true r)))
+        prints (Stays t lv) (quit_question g r) (waits g prompt.Quit f go) (step_noted f c true r)
+        (asked_stays g prompt.Quit lv f go tt own hg (piece_closed (text_printed (quit_question g r) (step_noted f c true r)))
         r.events k) tt
 
     after_action_stays : (f : Frame) (next go : Bool → Run → Out) → IsOwn lv f.table → GoesStaying lv next → GoesStaying lv go → (e : Effect) →
@@ -133,7 +133,7 @@ module _ (t : ℕ) where
     after_action_stays f next go own hn hg effect.Redescribe asks r k = tt
     after_action_stays f next go own hn hg (effect.Call u) asks r k = after_call_stays lv f go own hg (sub u r) (calls u r k)
     after_action_stays f next go own hn hg (effect.Loop p) asks r k = turns_stays g lv (loop_of lv f p) (go true) own (hg true) (length g.game.objects) r
-    after_action_stays f next go own hn hg (effect.Ask p) asks r k = asked_stays g p lv f go asks own hg (closed r) r.events k
+    after_action_stays f next go own hn hg (effect.Ask p) asks r k = asked_stays g p lv f go asks own hg (piece_closed r) r.events k
     after_action_stays f next go own hn hg effect.Parse asks r k = after_parse_stays lv f next go hn hg r _ k
     after_action_stays f next go own hn hg effect.Spent asks r k = tt
 
@@ -142,7 +142,7 @@ module _ (t : ℕ) where
         → Stays t lv (acts g sub lv f next go d r)
     acts_stays f next go own hn hg d asks r k =
         either (Stays t lv) (fits r d.text) _ (halts (halt.Spent spent.Text) r)
-        (after_action_stays f next go own hn hg d.act.effect asks (carried_out d (printed d.text r)) (cancelled d.act.cancel_loop r.turning k)) tt
+        (after_action_stays f next go own hn hg d.act.effect asks (carried_out d (text_printed d.text r)) (cancelled d.act.cancel_loop r.turning k)) tt
 
     reads_one_stays : (f : Frame) (next go : Bool → Run → Out) → IsOwn lv f.table → GoesStaying lv next → GoesStaying lv go → (c : Condact) (r : Run) →
         IsLoopOf t r.turning
@@ -150,7 +150,7 @@ module _ (t : ℕ) where
     reads_one_stays f next go own hn hg c r k =
         either (Stays t lv) (is_condition c) _ _
         (after_test_stays f next go own hn hg c (with_world (holds g.game r.world c).world r) (holds g.game r.world c).answer k)
-        (acts_stays f next go own hn hg (effect_of g r.world c) (effect_asks g r.world c) (noted f c true r) k)
+        (acts_stays f next go own hn hg (effect_of g r.world c) (effect_asks g r.world c) (step_noted f c true r) k)
 
     -- ---- tables ----
 
@@ -169,10 +169,10 @@ module _ (t : ℕ) where
     reads_stay : (u e k : ℕ) → IsOwn lv u → GoesStaying lv (read_at_level g sub lv u e k)
     reads_stay u e k own a r h = again_stays lv (rest_of_loop g sub lv) looped_stays _ (plain_stays u e k own a r h)
 
-  called_stays : (g : Story) (n lv : ℕ) → CallsStaying lv (called g n lv)
-  unfolding called
+  called_stays : (g : Story) (n lv : ℕ) → CallsStaying lv (table_called g n lv)
+  unfolding table_called
   called_stays g zero lv u r h = tt
-  called_stays g (suc n) lv u r h = reads_stay g (called g n (suc lv)) (suc lv) (called_stays g n (suc lv)) u 0 0 (λ z. cc) false r h
+  called_stays g (suc n) lv u r h = reads_stay g (table_called g n (suc lv)) (suc lv) (called_stays g n (suc lv)) u 0 0 (λ z. cc) false r h
 
   pub rest_stays : (g : Story) (lv u e k : ℕ) → IsOwn lv u → GoesStaying lv (rest_of_table g lv u e k)
   rest_stays g lv u e k own a r h = reads_stay g (deeper g lv) lv (called_stays g (10 - lv) lv) u e k own a r h

@@ -15,14 +15,14 @@ use Rattle.paw_effects.specs.Holds.{is_condition, holds}
 use Rattle.paw_effects.specs.Effects.{Done, effect_of}
 use Rattle.paw_reading.specs.declared.places.Frame.{Frame}
 use Rattle.paw_reading.specs.declared.places.OpenLoop.{OpenLoop}
-use Rattle.paw_reading.specs.Run.{Run, closed, fits, printed, with_world, anew, is_ignored, heard, reply, is_yes, is_no}
+use Rattle.paw_reading.specs.Run.{Run, piece_closed, fits, text_printed, with_world, anew, is_ignored, with_line_heard, reply, is_yes, is_no}
 use Rattle.paw_reading.specs.Run.{taken_phrase}
 use Rattle.paw_reading.specs.declared.places.Halt.TheVariants as halt
-use Rattle.paw_reading.specs.Reading.{Restarts, Halts, Out, Left, Waits, Stopped, halts, noted, after_call, at_level}
+use Rattle.paw_reading.specs.Reading.{Restarts, Halts, Out, Left, Waits, Stopped, halts, step_noted, after_call, at_level}
 use Rattle.paw_reading.specs.Reading.{next_object_or}
-use Rattle.paw_reading.specs.Reading.{is_taken, taken, over_objects, loop_of, over, answered, asked, after_test}
+use Rattle.paw_reading.specs.Reading.{is_taken, object_taken, over_objects, loop_of, over, prompt_answered, prompt_asked, after_test}
 use Rattle.paw_reading.specs.Reading.{after_parse, after_action}
-use Rattle.paw_reading.specs.Reading.{carried_out, acts, reads_one, from_condact, rest_of_loop, read_at_level, called}
+use Rattle.paw_reading.specs.Reading.{carried_out, acts, reads_one, from_condact, rest_of_loop, read_at_level, table_called}
 use Rattle.paw_reading.specs.Reading.{deeper, rest_of_table, game_over}
 use Rattle.paw_reading.specs.Reading.{waits}
 use Rattle.paw_reading.specs.inner.Steps.{goodbye, quit_question}
@@ -60,7 +60,7 @@ turns_stop g lv l body h zero r = tt
 turns_stop g lv l body h (suc n) r =
     let o : ℕ = length g.game.objects - suc n in
     either Stops (is_taken g.game r.world l o) _ _
-    (again_stops lv (λ _. over_objects g lv l body n) (λ m s. turns_stop g lv l body h n s) (body (taken g.game l o r)) (h (taken g.game l o r)))
+    (again_stops lv (λ _. over_objects g lv l body n) (λ m s. turns_stop g lv l body h n s) (body (object_taken g.game l o r)) (h (object_taken g.game l o r)))
     (turns_stop g lv l body h n r)
 
 pub after_call_stops : (f : Frame) (go : Bool → Run → Out) → AreStopping go → (x : Out) → Stops x → Stops (after_call f go x)
@@ -70,18 +70,20 @@ after_call_stops f go h (Stopped stop r) k = k
 
 -- ---- prompts ----
 
-answered_stops : (g : Story) (p : Prompt) (f : Frame) (go : Bool → Run → Out) → AreStopping go → (line : List ℕ) (r : Run) → Stops (answered g p f go line r)
+answered_stops : (g : Story) (p : Prompt) (f : Frame) (go : Bool → Run → Out) → AreStopping go → (line : List ℕ) (r : Run) →
+    Stops (prompt_answered g p f go line r)
 answered_stops g prompt.Quit f go h line r = either Stops (is_yes line) _ (Left true r) (h f.acted r) tt
 answered_stops g prompt.Again f go h line r =
     either Stops (is_no line) (over g r) (Stopped Restarts (anew r)) (prints Stops (goodbye g r) game_over r tt tt) refl
 answered_stops g _ f go h line r = h true r
 
-asked_stops : (g : Story) (p : Prompt) (f : Frame) (go : Bool → Run → Out) → AreStopping go → (r : Run) (lines : List (List ℕ)) → Stops (asked g p f go r lines)
-unfolding asked
+asked_stops : (g : Story) (p : Prompt) (f : Frame) (go : Bool → Run → Out) → AreStopping go → (r : Run) (lines : List (List ℕ)) →
+    Stops (prompt_asked g p f go r lines)
+unfolding prompt_asked
 asked_stops g p f go h r [] = record { some = λ e. cc; none_left = refl }
 asked_stops g p f go h r (line ∷ lines) =
-    either Stops (is_ignored r.world line) _ _ (asked_stops g p f go h (closed (record r { events = lines })) lines)
-    (answered_stops g p f go h (reply line) (heard line (record r { events = lines })))
+    either Stops (is_ignored r.world line) _ _ (asked_stops g p f go h (piece_closed (record r { events = lines })) lines)
+    (answered_stops g p f go h (reply line) (with_line_heard line (record r { events = lines })))
 
 -- ---- one condact ----
 
@@ -93,11 +95,11 @@ after_parse_stops f next go hn hg r IsNoPhrase = hg f.acted r
 module _ (g : Story) (sub : ℕ → Run → Out) (lv : ℕ) (calls : CallsStopping sub) where
   after_test_stops : (f : Frame) (next go : Bool → Run → Out) → AreStopping next → AreStopping go → (c : Condact) (r : Run) (t : Truth) →
       Stops (after_test g f next go c r t)
-  after_test_stops f next go hn hg c r truth.Yes = hg f.acted (noted f c true r)
-  after_test_stops f next go hn hg c r truth.No = hn f.acted (noted f c false r)
+  after_test_stops f next go hn hg c r truth.Yes = hg f.acted (step_noted f c true r)
+  after_test_stops f next go hn hg c r truth.No = hn f.acted (step_noted f c false r)
   after_test_stops f next go hn hg c r truth.Ask =
-      prints Stops (quit_question g r) (waits g prompt.Quit f go) (noted f c true r)
-      (asked_stops g prompt.Quit f go hg (closed (printed (quit_question g r) (noted f c true r))) r.events) tt
+      prints Stops (quit_question g r) (waits g prompt.Quit f go) (step_noted f c true r)
+      (asked_stops g prompt.Quit f go hg (piece_closed (text_printed (quit_question g r) (step_noted f c true r))) r.events) tt
 
   after_action_stops : (f : Frame) (next go : Bool → Run → Out) → AreStopping next → AreStopping go → (e : Effect) (r : Run) →
       Stops (after_action g sub lv f next go e r)
@@ -106,21 +108,21 @@ module _ (g : Story) (sub : ℕ → Run → Out) (lv : ℕ) (calls : CallsStoppi
   after_action_stops f next go hn hg effect.Redescribe r = refl
   after_action_stops f next go hn hg (effect.Call u) r = after_call_stops f go hg (sub u r) (calls u r)
   after_action_stops f next go hn hg (effect.Loop p) r = turns_stop g lv (loop_of lv f p) (go true) (hg true) (length g.game.objects) r
-  after_action_stops f next go hn hg (effect.Ask p) r = asked_stops g p f go hg (closed r) r.events
+  after_action_stops f next go hn hg (effect.Ask p) r = asked_stops g p f go hg (piece_closed r) r.events
   after_action_stops f next go hn hg effect.Parse r = after_parse_stops f next go hn hg r _
   after_action_stops f next go hn hg effect.Spent r = tt
 
   acts_stop : (f : Frame) (next go : Bool → Run → Out) → AreStopping next → AreStopping go → (d : Done) (r : Run) → Stops (acts g sub lv f next go d r)
   acts_stop f next go hn hg d r =
       either Stops (fits r d.text) _ (halts (halt.Spent spent.Text) r)
-      (after_action_stops f next go hn hg d.act.effect (carried_out d (printed d.text r))) tt
+      (after_action_stops f next go hn hg d.act.effect (carried_out d (text_printed d.text r))) tt
 
   reads_one_stops : (f : Frame) (next go : Bool → Run → Out) → AreStopping next → AreStopping go → (c : Condact) (r : Run) →
       Stops (reads_one g sub lv f next go c r)
   reads_one_stops f next go hn hg c r =
       either Stops (is_condition c) _ _
       (after_test_stops f next go hn hg c (with_world (holds g.game r.world c).world r) (holds g.game r.world c).answer)
-      (acts_stop f next go hn hg (effect_of g r.world c) (noted f c true r))
+      (acts_stop f next go hn hg (effect_of g r.world c) (step_noted f c true r))
 
   -- ---- tables ----
 
@@ -138,10 +140,10 @@ module _ (g : Story) (sub : ℕ → Run → Out) (lv : ℕ) (calls : CallsStoppi
   reads_stop : (t e k : ℕ) → AreStopping (read_at_level g sub lv t e k)
   reads_stop t e k a r = again_looped_stops _ (plain_stops t e k a r)
 
-called_stops : (g : Story) (n lv : ℕ) → CallsStopping (called g n lv)
-unfolding called
+called_stops : (g : Story) (n lv : ℕ) → CallsStopping (table_called g n lv)
+unfolding table_called
 called_stops g zero lv u r = tt
-called_stops g (suc n) lv u r = reads_stop g (called g n (suc lv)) (suc lv) (called_stops g n (suc lv)) u 0 0 false r
+called_stops g (suc n) lv u r = reads_stop g (table_called g n (suc lv)) (suc lv) (called_stops g n (suc lv)) u 0 0 false r
 
 pub deeper_stops : (g : Story) (lv : ℕ) → CallsStopping (deeper g lv)
 deeper_stops g lv = called_stops g (10 - lv) lv

@@ -5,14 +5,14 @@ use Rattle.paw_effects.specs.declared.act.Prompt.{Prompt}
 use Rattle.paw_effects.specs.declared.act.Prompt.TheVariants as prompt
 use Rattle.paw_reading.specs.declared.places.Frame.{Frame}
 use Rattle.paw_reading.specs.Run.{Run}
-use Rattle.paw_reading.specs.Reading.{Waits, after_call, asked, rest_of_table}
+use Rattle.paw_reading.specs.Reading.{Waits, after_call, prompt_asked, rest_of_table}
 use Rattle.paw_reading.specs.GoingOn.{on_path}
 use Rattle.paw_reading.specs.Turn.{WaitsAt, at_main, table_done, turn, phases_left, first_table, going_on_from}
 use Rattle.paw_reading.specs.inner.Turn.{MayWaitAlong, WaitsOn}
 
 path_waits : (g : Story) (p : Prompt) (lv : ℕ) (f : Frame) (path : List Frame) (r : Run) →
     on_path g p lv (f ∷ path) (record r { events = [] }) ≡ Waits p (f ∷ path) (record r { events = [] })
-unfolding asked
+unfolding prompt_asked
 path_waits g p lv f [] r = refl
 path_waits g p lv f (h ∷ path) r = ap (after_call f (rest_of_table g lv f.table f.entry (suc f.at))) (path_waits g p (suc lv) h path r)
 

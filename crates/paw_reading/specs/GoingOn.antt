@@ -4,7 +4,8 @@ use Rattle.paw_effects.specs.Story.{Story}
 use Rattle.paw_effects.specs.declared.act.Prompt.{Prompt}
 use Rattle.paw_reading.specs.declared.places.Frame.{Frame}
 use Rattle.paw_reading.specs.Run.{Run}
-use Rattle.paw_reading.specs.Reading.{Out, Left, after_call, next_object_or, asked, rest_of_loop, from_condact, deeper}
+use Rattle.paw_reading.specs.Reading.{Out, Left, after_call, next_object_or, prompt_asked, rest_of_loop, from_condact}
+use Rattle.paw_reading.specs.Reading.{deeper}
 use Rattle.paw_reading.specs.Reading.{rest_of_table}
 
 -- Goes on along the path of a wait, from level lv on, the outermost frame first: the innermost frame takes the lines,
@@ -13,7 +14,7 @@ use Rattle.paw_reading.specs.Reading.{rest_of_table}
 abbrev pub on_path : Story → Prompt → ℕ → List Frame → Run → Out
 on_path g p lv (f ∷ []) r =
     next_object_or lv (rest_of_loop g (deeper g lv) lv)
-    (asked g p f (from_condact g (deeper g lv) lv f.table f.entry (suc f.at)) r r.events)
+    (prompt_asked g p f (from_condact g (deeper g lv) lv f.table f.entry (suc f.at)) r r.events)
 on_path g p lv (f ∷ h ∷ path) r =
     after_call f (rest_of_table g lv f.table f.entry (suc f.at)) (on_path g p (suc lv) (h ∷ path) r)
 on_path g p lv [] r = Left true r

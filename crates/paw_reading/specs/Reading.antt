@@ -16,7 +16,7 @@ use Rattle.paw_game.specs.declared.parts.Entry.{Entry}
 use Rattle.paw_game.specs.Game.{GameLists}
 use Rattle.paw_game.specs.Tables.{table_at, entry_at, condacts_of, facts_at, matches}
 use Rattle.paw_world.specs.World.{World, flag, place, with_flag}
-use Rattle.paw_phrase.specs.Sentence.{Parsed, IsSentence, IsUnknown, IsNoPhrase, parsed}
+use Rattle.paw_phrase.specs.Sentence.{Parsed, IsSentence, IsUnknown, IsNoPhrase, phrase_parsed}
 use Rattle.paw_effects.specs.Story.{Story}
 use Rattle.paw_effects.specs.declared.act.Prompt.{Prompt}
 use Rattle.paw_effects.specs.declared.act.Prompt.TheVariants as prompt
@@ -26,13 +26,13 @@ use Rattle.paw_effects.specs.declared.act.Effect.{Effect}
 use Rattle.paw_effects.specs.declared.act.Effect.TheVariants as effect
 use Rattle.paw_effects.specs.Texts.{put_text, say_text}
 use Rattle.paw_effects.specs.Holds.{is_condition, holds}
-use Rattle.paw_effects.specs.Effects.{Done, effect_of, referred}
+use Rattle.paw_effects.specs.Effects.{Done, effect_of, object_referred}
 use Rattle.paw_reading.specs.declared.places.Frame.{Frame}
 use Rattle.paw_reading.specs.declared.places.OpenLoop.{OpenLoop}
 use Rattle.paw_reading.specs.declared.places.Halt.{Halt}
 use Rattle.paw_reading.specs.declared.places.Halt.TheVariants as halt
-use Rattle.paw_reading.specs.Run.{Run, Step, closed, fits, printed, with_world, without_loop, line_dropped}
-use Rattle.paw_reading.specs.Run.{anew, is_ignored, heard, reply, is_yes, is_no, taken_phrase}
+use Rattle.paw_reading.specs.Run.{Run, Step, piece_closed, fits, text_printed, with_world, without_loop, line_dropped}
+use Rattle.paw_reading.specs.Run.{anew, is_ignored, with_line_heard, reply, is_yes, is_no, taken_phrase}
 
 -- What stops a table, and all that called it: the location is described again; the game starts anew; or play ends for
 -- good.
@@ -52,8 +52,7 @@ pub data Out : Type 0 where
 abbrev pub halts : Halt → Run → Out
 halts halt r = Stopped (Halts halt) r
 
--- Whether the last piece of play that ended for good is closed. It is only where the game is over; otherwise that piece
--- is dropped.
+-- Whether the last piece is closed where play ends for good: only where the game is over. Otherwise it is dropped.
 abbrev pub closes_piece : Halt → Bool
 closes_piece halt.Over = true
 closes_piece _ = false
@@ -77,12 +76,12 @@ abbrev pub step_at : Frame → Condact → Bool → Step
 step_at f c passed = record { table = f.table; entry = f.entry; at = f.at; code = c.code; yes = passed }
 
 -- The run with one more step in its open piece: this condact, with yes or no.
-abbrev pub noted : Frame → Condact → Bool → Run → Run
-noted f c passed r = record r { read = r.read ++ step_at f c passed ∷ [] }
+abbrev pub step_noted : Frame → Condact → Bool → Run → Run
+step_noted f c passed r = record r { read = r.read ++ step_at f c passed ∷ [] }
 
 -- Prints the text if the open piece has room for it, and reads on; otherwise play ends.
 abbrev pub printing : Text → (Run → Out) → Run → Out
-printing text go r = if fits r text then go (printed text r) else halts (halt.Spent spent.Text) r
+printing text go r = if fits r text then go (text_printed text r) else halts (halt.Spent spent.Text) r
 
 -- ---- calls ----
 
@@ -120,14 +119,14 @@ abbrev pub is_taken : GameLists → World → OpenLoop → ℕ → Bool
 is_taken g w l o = (place w o == l.place) && may_be_taken w (facts_at g o)
 
 -- The world with the object's noun and adjective in the sentence; unchanged where there is no such object.
-abbrev pub named : World → Option ObjectFacts → World
-named w facts = option_map_or (λ f. with_flag (with_flag w NOUN_FLAG f.noun) ADJECTIVE_FLAG f.adjective) facts w
+abbrev pub object_named : World → Option ObjectFacts → World
+object_named w facts = option_map_or (λ f. with_flag (with_flag w NOUN_FLAG f.noun) ADJECTIVE_FLAG f.adjective) facts w
 
 -- The run once the loop took this object: it is in the sentence and in the loop's flag, and is referred to.
-abbrev pub taken : GameLists → OpenLoop → ℕ → Run → Run
-taken g l o r = record r {
+abbrev pub object_taken : GameLists → OpenLoop → ℕ → Run → Run
+object_taken g l o r = record r {
   turning = Some (record l { last = o });
-  world = referred (with_flag (named r.world (facts_at g o)) LOOP_FLAG o) o;
+  world = object_referred (with_flag (object_named r.world (facts_at g o)) LOOP_FLAG o) o;
 }
 
 -- Runs the loop over its last n objects, in rising order. For each that it takes, `body` is read; after the last the
@@ -136,7 +135,8 @@ unfoldable pub over_objects : Story → ℕ → OpenLoop → (Run → Out) → �
 over_objects g lv l body zero r = Left true (without_loop r)
 over_objects g lv l body (suc n) r =
     if is_taken g.game r.world l (length g.game.objects - suc n)
-    then next_object_or lv (λ _. over_objects g lv l body n) (body (taken g.game l (length g.game.objects - suc n) r))
+    then next_object_or lv (λ _. over_objects g lv l body n)
+    (body (object_taken g.game l (length g.game.objects - suc n) r))
     else over_objects g lv l body n r
 
 -- The loop that the DOALL at this frame opens over a place.
@@ -147,7 +147,7 @@ loop_of lv f p = record { level = lv; table = f.table; entry = f.entry; at = f.a
 
 -- Play ends because the game is over, with its last piece closed.
 abbrev pub game_over : Run → Out
-game_over r = halts halt.Over (closed (without_loop (line_dropped r)))
+game_over r = halts halt.Over (piece_closed (without_loop (line_dropped r)))
 
 -- What follows a no to END's question: the game says goodbye and is over.
 abbrev pub over : Story → Run → Out
@@ -156,32 +156,32 @@ over g r = printing (say_text g.game r.world GOODBYE_MESSAGE) game_over r
 -- What an answer does at a prompt in a table. For QUIT, yes reads on, and all else leaves the table with an action
 -- carried out. For END, no ends the game, and all else starts it anew. A key, the only other prompt there, reads on
 -- with an action carried out.
-abbrev pub answered : Story → Prompt → Frame → Onward → Line → Run → Out
-answered g prompt.Quit f go line r = if is_yes line then go f.acted r else Left true r
-answered g prompt.Again f go line r = if is_no line then over g r else Stopped Restarts (anew r)
-answered g _ f go line r = go true r  -- Key
+abbrev pub prompt_answered : Story → Prompt → Frame → Onward → Line → Run → Out
+prompt_answered g prompt.Quit f go line r = if is_yes line then go f.acted r else Left true r
+prompt_answered g prompt.Again f go line r = if is_no line then over g r else Stopped Restarts (anew r)
+prompt_answered g _ f go line r = go true r  -- Key
 
 -- A prompt in a table, once the piece is closed. With no line left the run waits; an ignored line closes an empty
 -- piece, and the next one is taken; any other line is heard and answers.
-unfoldable pub asked : Story → Prompt → Frame → Onward → Run → Lines → Out
-asked g p f go r [] = Waits p (f ∷ []) (record r { events = [] })
-asked g p f go r (line ∷ lines) =
-    if is_ignored r.world line then asked g p f go (closed (record r { events = lines })) lines
-    else answered g p f go (reply line) (heard line (record r { events = lines }))
+unfoldable pub prompt_asked : Story → Prompt → Frame → Onward → Run → Lines → Out
+prompt_asked g p f go r [] = Waits p (f ∷ []) (record r { events = [] })
+prompt_asked g p f go r (line ∷ lines) =
+    if is_ignored r.world line then prompt_asked g p f go (piece_closed (record r { events = lines })) lines
+    else prompt_answered g p f go (reply line) (with_line_heard line (record r { events = lines }))
 
 -- The open piece is closed, and the run waits at a prompt in a table.
 abbrev pub waits : Story → Prompt → Frame → Onward → Run → Out
-waits g p f go r = asked g p f go (closed r) r.events
+waits g p f go r = prompt_asked g p f go (piece_closed r) r.events
 
 -- ---- one condact ----
 
 -- How reading goes on after a condition: where it holds, `go` reads on at the next condact; where it fails, `next`
 -- reads on at the next entry; QUIT asks its question.
 abbrev pub after_test : Story → Frame → Onward → Onward → Condact → Run → Truth → Out
-after_test g f next go c r truth.Yes = go f.acted (noted f c true r)
-after_test g f next go c r truth.No = next f.acted (noted f c false r)
+after_test g f next go c r truth.Yes = go f.acted (step_noted f c true r)
+after_test g f next go c r truth.No = next f.acted (step_noted f c false r)
 after_test g f next go c r truth.Ask =
-    printing (put_text g.game r.world QUIT_MESSAGE) (waits g prompt.Quit f go) (noted f c true r)
+    printing (put_text g.game r.world QUIT_MESSAGE) (waits g prompt.Quit f go) (step_noted f c true r)
 
 -- How reading goes on after PARSE: where there is a sentence it is taken, and `next` reads on at the next entry;
 -- otherwise `go` reads on at the next condact. The bytes of a phrase with no known word are dropped.
@@ -193,7 +193,7 @@ after_parse f next go r IsNoPhrase = go f.acted r
 -- The next phrase of the line, read with the verb of the phrase before, and the pronoun's meaning from the flags.
 abbrev pub coming_phrase : Story → Run → Parsed
 coming_phrase g r =
-    parsed g.game r.pending r.earlier (flag r.world PRONOUN_NOUN_FLAG) (flag r.world PRONOUN_ADJECTIVE_FLAG)
+    phrase_parsed g.game r.pending r.earlier (flag r.world PRONOUN_NOUN_FLAG) (flag r.world PRONOUN_ADJECTIVE_FLAG)
 
 -- How reading goes on after an action: `go` reads on at the next condact, `next` at the next entry, and `sub` reads a
 -- table one level deeper. The last row, that of Spent, is never used: an action of the program answers Spent where a
@@ -226,7 +226,7 @@ abbrev pub reads_one : Story → Called → ℕ → Frame → Onward → Onward 
 reads_one g sub lv f next go c r =
     let tested = holds g.game r.world c in
     if is_condition c then after_test g f next go c (with_world tested.world r) tested.answer
-    else acts g sub lv f next go (effect_of g r.world c) (noted f c true r)
+    else acts g sub lv f next go (effect_of g r.world c) (step_noted f c true r)
 
 -- ---- entries, tables, levels ----
 
@@ -274,13 +274,13 @@ abbrev pub read_at_level : Story → Called → ℕ → ℕ → ℕ → ℕ → 
 read_at_level g sub lv t e k acted r = next_object_or lv (rest_of_loop g sub lv) (from_condact g sub lv t e k acted r)
 
 -- Reads a table called from level lv, where n more levels may open; with none left the call is too deep, and play ends.
-unfoldable pub called : Story → ℕ → ℕ → ℕ → Run → Out
-called g zero lv u r = halts (halt.TooDeep u) r
-called g (suc n) lv u r = read_at_level g (called g n (suc lv)) (suc lv) u 0 0 false r
+unfoldable pub table_called : Story → ℕ → ℕ → ℕ → Run → Out
+table_called g zero lv u r = halts (halt.TooDeep u) r
+table_called g (suc n) lv u r = read_at_level g (table_called g n (suc lv)) (suc lv) u 0 0 false r
 
 -- Reads a table called from level lv; levels go from 0 to 10.
 abbrev pub deeper : Story → ℕ → ℕ → Run → Out
-deeper g lv = called g (LEVEL_LIMIT - lv) lv
+deeper g lv = table_called g (LEVEL_LIMIT - lv) lv
 
 -- Reads on at level lv in table t, from condact k of entry e.
 abbrev pub rest_of_table : Story → ℕ → ℕ → ℕ → ℕ → Bool → Run → Out

@@ -11,7 +11,7 @@ use Rattle.paw_base.specs.declared.flags.TheConstants.{TIMED_OUT_FLAG, TIMED_OUT
 use Rattle.paw_base.specs.declared.limits.TheConstants.{PIECE_LIMIT}
 use Rattle.paw_base.specs.declared.words.TheConstants.{NO_WORD}
 pub use Rattle.paw_base.specs.declared.steps.StepRow.{StepRow as Step}
-use Rattle.paw_world.specs.World.{World, flag, with_flag, restarted}
+use Rattle.paw_world.specs.World.{World, flag, with_flag, world_restarted}
 use Rattle.paw_phrase.specs.declared.Sentence.{Sentence}
 use Rattle.paw_reading.specs.declared.places.OpenLoop.{OpenLoop}
 
@@ -30,16 +30,22 @@ pub record Run : Type 0 where
   pub events : Lines
 
 -- Closes the open piece, and begins the next one.
-abbrev pub closed : Run → Run
-closed r = record r { current = []; read = []; pieces = r.pieces ++ r.current ∷ []; traces = r.traces ++ r.read ∷ [] }
+abbrev pub piece_closed : Run → Run
+piece_closed r = record r {
+  current = [];
+  read = [];
+  pieces = r.pieces ++ r.current ∷ [];
+  traces =
+      r.traces ++ r.read ∷ [];
+}
 
 -- Whether a text fits into the open piece, which holds at most 65,535 bytes.
 abbrev pub fits : Run → Text → Bool
 fits r text = nat_le (length r.current + length text) PIECE_LIMIT
 
 -- The run with this text printed into its open piece.
-abbrev pub printed : Text → Run → Run
-printed text r = record r { current = r.current ++ text }
+abbrev pub text_printed : Text → Run → Run
+text_printed text r = record r { current = r.current ++ text }
 
 -- The run with this world in place of its own.
 abbrev pub with_world : World → Run → Run
@@ -56,7 +62,7 @@ line_dropped r = record r { pending = [] }
 -- The game starts anew, with the rest of the line dropped and no loop open. Seed and draws, the saved and the kept
 -- positions, all pieces and the lines to come stay.
 abbrev pub anew : Run → Run
-anew r = record r { world = restarted r.world; pending = []; earlier = NO_WORD; turning = None }
+anew r = record r { world = world_restarted r.world; pending = []; earlier = NO_WORD; turning = None }
 
 -- ---- lines ----
 
@@ -75,8 +81,8 @@ with_timeout b w =
     with_flag w TIMED_OUT_FLAG (if b then TIMED_OUT_BIT + rest else rest)
 
 -- The run once it heard a line: a flag says whether it was a timeout.
-abbrev pub heard : Line → Run → Run
-heard line r = with_world (with_timeout (is_timeout line) r.world) r
+abbrev pub with_line_heard : Line → Run → Run
+with_line_heard line r = with_world (with_timeout (is_timeout line) r.world) r
 
 -- The answer that a line gives to a question; a timeout gives an empty line.
 abbrev pub reply : Line → Line
@@ -98,8 +104,8 @@ is_no line = begins_with 78 line
 -- ---- sentences ----
 
 -- The world with this sentence in its flags.
-abbrev pub spoken : Sentence → World → World
-spoken s w =
+abbrev pub with_sentence : Sentence → World → World
+with_sentence s w =
     let noun = with_flag (with_flag (with_flag w VERB_FLAG s.verb) NOUN_FLAG s.noun) ADJECTIVE_FLAG s.adjective in
     let first = with_flag (with_flag noun ADVERB_FLAG s.adverb) PREPOSITION_FLAG s.preposition in
     let second = with_flag (with_flag first SECOND_NOUN_FLAG s.second_noun) SECOND_ADJECTIVE_FLAG s.second_adjective in
@@ -108,4 +114,4 @@ spoken s w =
 -- The run once it took a phrase: its sentence is in the flags, and its verb is kept for the next phrase, which may lack
 -- one.
 abbrev pub taken_phrase : Sentence → Bytes → Run → Run
-taken_phrase s rest r = record r { world = spoken s r.world; pending = rest; earlier = s.verb }
+taken_phrase s rest r = record r { world = with_sentence s r.world; pending = rest; earlier = s.verb }

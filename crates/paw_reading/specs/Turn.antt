@@ -16,7 +16,8 @@ use Rattle.paw_base.specs.declared.words.TheConstants.{NO_WORD, FIRST_PLAIN_VERB
 use Rattle.paw_base.specs.declared.fault.SpentKind.TheVariants as spent
 use Rattle.paw_game.specs.Game.{GameLists}
 use Rattle.paw_game.specs.Tables.{exit_at}
-use Rattle.paw_world.specs.World.{World, flag, with_flag, starting_world, is_dark, is_unlit, fallen, fallen_if}
+use Rattle.paw_world.specs.World.{World, flag, with_flag, starting_world, is_dark, is_unlit, flag_lowered}
+use Rattle.paw_world.specs.World.{flag_lowered_if}
 use Rattle.paw_phrase.specs.Sentence.{Parsed, IsSentence, IsUnknown, IsNoPhrase}
 use Rattle.paw_effects.specs.Story.{Story}
 use Rattle.paw_effects.specs.declared.act.Prompt.{Prompt}
@@ -24,8 +25,8 @@ use Rattle.paw_effects.specs.declared.act.Prompt.TheVariants as prompt
 use Rattle.paw_effects.specs.Counts.{turns_taken}
 use Rattle.paw_effects.specs.Texts.{put_text, say_text, location_text}
 use Rattle.paw_reading.specs.declared.places.Frame.{Frame}
-use Rattle.paw_reading.specs.Run.{Run, closed, fits, printed, with_world, line_dropped, is_timeout}
-use Rattle.paw_reading.specs.Run.{is_ignored, heard, with_timeout, taken_phrase}
+use Rattle.paw_reading.specs.Run.{Run, piece_closed, fits, text_printed, with_world, line_dropped, is_timeout}
+use Rattle.paw_reading.specs.Run.{is_ignored, with_line_heard, with_timeout, taken_phrase}
 use Rattle.paw_reading.specs.declared.places.Halt.{Halt}
 use Rattle.paw_reading.specs.declared.places.Halt.TheVariants as halt
 use Rattle.paw_reading.specs.Reading.{Halts}
@@ -53,27 +54,27 @@ Sequel = Run → Ending
 
 -- Prints the text if the open piece has room for it, and the turn goes on; otherwise play ends.
 abbrev pub saying : Text → Sequel → Run → Ending
-saying text go r = if fits r text then go (printed text r) else Halted (halt.Spent spent.Text) r
+saying text go r = if fits r text then go (text_printed text r) else Halted (halt.Spent spent.Text) r
 
 -- The world once a location is described: one flag falls always, one more in the dark, and one more in the dark without
 -- light.
-abbrev pub described : World → World
-described w =
-    fallen_if (is_unlit w) UNLIT_VIEW_FLAG (fallen_if (is_dark w) DARK_VIEW_FLAG (fallen VIEW_FLAG w))
+abbrev pub location_described : World → World
+location_described w =
+    flag_lowered_if (is_unlit w) UNLIT_VIEW_FLAG (flag_lowered_if (is_dark w) DARK_VIEW_FLAG (flag_lowered VIEW_FLAG w))
 
 -- The world after a time frame: flags 5 to 8 fall; one more falls in the dark, and one more in the dark without light.
 abbrev pub time_frame_passed : World → World
 time_frame_passed w =
-    let always = fallen LAST_FRAME_FLAG (fallen 7 (fallen 6 (fallen FIRST_FRAME_FLAG w))) in
-    fallen_if (is_unlit w) UNLIT_FRAME_FLAG (fallen_if (is_dark w) DARK_FRAME_FLAG always)
+    let always = flag_lowered LAST_FRAME_FLAG (flag_lowered 7 (flag_lowered 6 (flag_lowered FIRST_FRAME_FLAG w))) in
+    flag_lowered_if (is_unlit w) UNLIT_FRAME_FLAG (flag_lowered_if (is_dark w) DARK_FRAME_FLAG always)
 
 -- What is shown of a location before table 1 is read: a message where it is dark without light, and its text otherwise.
 abbrev pub view_text : GameLists → World → Text
 view_text g w = if is_unlit w then say_text g w DARK_MESSAGE else location_text g w (flag w LOCATION_FLAG)
 
 -- The world with one more turn counted, up to 65,535; two flags hold the number, the low byte and the high one.
-abbrev pub counted : World → World
-counted w =
+abbrev pub turn_counted : World → World
+turn_counted w =
     let n = min 65535 (turns_taken w + 1) in with_flag (with_flag w LOW_TURNS_FLAG (n % 256)) HIGH_TURNS_FLAG (n / 256)
 
 -- The prompt: the message that a flag names, or the usual one where the flag is 0, and then the sign at which a line is
@@ -93,8 +94,8 @@ unfoldable pub at_main : Story → (TurnPhase → Sequel) → Run → Lines → 
 at_main g go r [] = WaitsAt prompt.Main [] (record r { events = [] })
 at_main g go r (line ∷ lines) =
     let s = record r { events = lines } in
-    if is_ignored r.world line then at_main g go (closed s) lines
-    else if is_timeout line then saying (timeout_text g.game r.world) (go AtTimeFrame) (heard line s)
+    if is_ignored r.world line then at_main g go (piece_closed s) lines
+    else if is_timeout line then saying (timeout_text g.game r.world) (go AtTimeFrame) (with_line_heard line s)
     else go AtPhrase (record s { world = with_timeout false r.world; pending = line; earlier = NO_WORD })
 
 -- How a turn goes on with the next phrase. A sentence counts a turn and is responded to. To a phrase with no known word
@@ -102,10 +103,10 @@ at_main g go r (line ∷ lines) =
 -- closed, and a line is awaited.
 abbrev pub after_phrase : Story → (TurnPhase → Sequel) → Run → Parsed → Ending
 after_phrase g go r (IsSentence s rest) =
-    go AtResponse (with_world (counted (taken_phrase s rest r).world) (taken_phrase s rest r))
+    go AtResponse (with_world (turn_counted (taken_phrase s rest r).world) (taken_phrase s rest r))
 after_phrase g go r (IsUnknown _) = saying (say_text g.game r.world UNKNOWN_MESSAGE) (go AtTimeFrame) (line_dropped r)
 after_phrase g go r IsNoPhrase =
-    saying (prompt_text g.game r.world) (λ s. at_main g go (closed s) s.events) (line_dropped r)
+    saying (prompt_text g.game r.world) (λ s. at_main g go (piece_closed s) s.events) (line_dropped r)
 
 -- What is said where no entry answered and no exit is there: for a direction, that there is no way; for any other verb,
 -- that it is impossible.
@@ -115,15 +116,15 @@ refusal_text g w =
 
 -- Takes the exit for the verb, and describes the location that it leads to. Where there is no such exit a message says
 -- so, the line is dropped, and the time frame comes.
-abbrev pub connected : Story → (TurnPhase → Sequel) → Run → Option ℕ → Ending
-connected g go r None = saying (refusal_text g.game r.world) (go AtTimeFrame) (line_dropped r)
-connected g go r (Some to) = go AtDescribe (with_world (with_flag r.world LOCATION_FLAG to) r)
+abbrev pub exit_taken : Story → (TurnPhase → Sequel) → Run → Option ℕ → Ending
+exit_taken g go r None = saying (refusal_text g.game r.world) (go AtTimeFrame) (line_dropped r)
+exit_taken g go r (Some to) = go AtDescribe (with_world (with_flag r.world LOCATION_FLAG to) r)
 
 -- What follows a table of level 0 that was left. After table 0, of responses: the time frame if an action was carried
 -- out, and otherwise the location's exit for the verb. After table 1, of descriptions: the time frame. After table 2,
 -- of the time frame: the fall of flags and the next phrase.
 abbrev pub after_left : Story → (TurnPhase → Sequel) → ℕ → Bool → Run → Ending
-after_left g go zero false r = connected g go r (exit_at g.game (flag r.world LOCATION_FLAG) (flag r.world VERB_FLAG))
+after_left g go zero false r = exit_taken g go r (exit_at g.game (flag r.world LOCATION_FLAG) (flag r.world VERB_FLAG))
 after_left g go (suc (suc t)) acted r = go AtPhrase (with_world (time_frame_passed r.world) r)
 after_left g go _ acted r = go AtTimeFrame r
 
@@ -140,9 +141,9 @@ table_done g go t (Stopped _ r) = go AtDescribe r
 unfoldable pub turn : Story → ℕ → TurnPhase → Run → Ending
 turn g zero s r = Unended
 turn g (suc n) AtDescribe r =
-    let view = view_text g.game (described r.world) in
+    let view = view_text g.game (location_described r.world) in
     saying view (λ s. table_done g (turn g n) DESCRIBED_TABLE (table_read g DESCRIBED_TABLE s))
-    (with_world (described r.world) r)
+    (with_world (location_described r.world) r)
 turn g (suc n) AtTimeFrame r = table_done g (turn g n) FRAME_TABLE (table_read g FRAME_TABLE r)
 turn g (suc n) AtPhrase r = after_phrase g (turn g n) r (coming_phrase g r)
 turn g (suc n) AtResponse r = table_done g (turn g n) RESPONSE_TABLE (table_read g RESPONSE_TABLE r)

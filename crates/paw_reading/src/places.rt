@@ -2,7 +2,7 @@
 
 use paw_base::fault::SpentKind;
 
-/// A place in an open table, counted from 0 in each part, and whether an action was carried out there before it.
+/// A point in an open table, counted from 0 in each part, and whether an action was carried out there before it.
 #[derive(Clone, Copy, Drop, PartialEq, Eq, Debug)]
 pub struct Frame {
     pub table: u8,

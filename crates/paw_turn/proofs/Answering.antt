@@ -8,8 +8,8 @@ use Rattle.paw_world.specs.World.{World}
 use Rattle.paw_effects.specs.declared.act.Prompt.{Prompt}
 use Rattle.paw_effects.specs.declared.act.Prompt.TheVariants as prompt
 use Rattle.paw_reading.specs.declared.places.Frame.{Frame}
-use Rattle.paw_reading.specs.Run.{Run, closed, is_timeout, is_ignored, with_timeout, reply, is_yes}
-use Rattle.paw_reading.specs.Reading.{Out, Waits, after_call, asked, rest_of_table}
+use Rattle.paw_reading.specs.Run.{Run, piece_closed, is_timeout, is_ignored, with_timeout, reply, is_yes}
+use Rattle.paw_reading.specs.Reading.{Out, Waits, after_call, prompt_asked, rest_of_table}
 use Rattle.paw_reading.specs.GoingOn.{on_path}
 use Rattle.paw_reading.specs.Turn.{table_done, turn, first_table}
 use Rattle.paw_reading.specs.inner.Places.{IsLoopOf}
@@ -34,14 +34,14 @@ use Rattle.paw_turn.proofs.Hearing.{main_ignored}
 
 path_ignores : (g : Story) (p : Prompt) (lv : ℕ) (f : Frame) (path : List Frame) (r : Run) (line : List ℕ) (lines : List (List ℕ))
     → is_ignored r.world line ≡ true
-    → on_path g p lv (f ∷ path) (to_come (line ∷ lines) r) ≡ on_path g p lv (f ∷ path) (closed (to_come lines r))
-unfolding asked
+    → on_path g p lv (f ∷ path) (to_come (line ∷ lines) r) ≡ on_path g p lv (f ∷ path) (piece_closed (to_come lines r))
+unfolding prompt_asked
 path_ignores g p lv f [] r line lines ignored = rw ignored refl
 path_ignores g p lv f (h ∷ path) r line lines ignored =
     ap (after_call f (rest_of_table g lv f.table f.entry (suc f.at))) (path_ignores g p (suc lv) h path r line lines ignored)
 
 some_ignores : (g : Story) (p : Prompt) (path : List Frame) (r : Run) (line : List ℕ) (lines : List (List ℕ)) → 0 < length path
-    → is_ignored r.world line ≡ true → on_path g p 0 path (to_come (line ∷ lines) r) ≡ on_path g p 0 path (closed (to_come lines r))
+    → is_ignored r.world line ≡ true → on_path g p 0 path (to_come (line ∷ lines) r) ≡ on_path g p 0 path (piece_closed (to_come lines r))
 some_ignores g p [] r line lines some ignored = absurd (omega arith)
 some_ignores g p (f ∷ path) r line lines some ignored = path_ignores g p 0 f path r line lines ignored
 
@@ -49,7 +49,7 @@ some_ignores g p (f ∷ path) r line lines some ignored = path_ignores g p 0 f p
 in_table_ignored : (g : Story) (p : Prompt) (old : PlayState) (line : List ℕ) → 0 < length old.machine.frames → is_ignored old.surroundings.world line ≡ true
     → (n : ℕ) (past : Past) (lines : List (List ℕ))
     → table_done g (turn g n) (first_table (reverse old.machine.frames)) (on_path g p 0 (reverse old.machine.frames) (run_now old past (line ∷ lines)))
-    ≡ table_done g (turn g n) (first_table (reverse old.machine.frames)) (on_path g p 0 (reverse old.machine.frames) (closed (run_now old past lines)))
+    ≡ table_done g (turn g n) (first_table (reverse old.machine.frames)) (on_path g p 0 (reverse old.machine.frames) (piece_closed (run_now old past lines)))
 in_table_ignored g p old line some ignored n past lines =
     let many : 0 < length (reverse old.machine.frames) = omega (arith, length-reverse old.machine.frames) in
     ap (table_done g (turn g n) (first_table (reverse old.machine.frames)))

@@ -5,7 +5,7 @@ use Rattle.paw_effects.specs.Story.{Story}
 use Rattle.paw_world.specs.World.{World}
 use Rattle.paw_reading.specs.Run.{with_world}
 use Rattle.paw_reading.specs.Reading.{table_read}
-use Rattle.paw_reading.specs.Turn.{AtDescribe, described, view_text, table_done, turn}
+use Rattle.paw_reading.specs.Turn.{AtDescribe, location_described, view_text, table_done, turn}
 use Rattle.paw_reading.specs.declared.places.Halt.TheVariants as halt
 use Rattle.paw_turn.specs.declared.phase.Next.{Next}
 use Rattle.paw_turn.specs.declared.turn.PlayState.{PlayState}
@@ -14,7 +14,7 @@ use Rattle.paw_turn.specs.inner.Phases.{run_now, GoesOnAs, ReadsTurn, having_rea
 use Rattle.paw_turn.proofs.Says.{said, unsaid}
 
 -- Once the location is described table 1 is read.
-pub described_reads : (g : Story) (old mid new : PlayState) (nx : Next) (w : World) → w ≡ described old.surroundings.world
+pub described_reads : (g : Story) (old mid new : PlayState) (nx : Next) (w : World) → w ≡ location_described old.surroundings.world
     → length old.surroundings.piece + length (view_text g.game w) ≤ 65535
     → mid ≡ with_piece (old.surroundings.piece ++ view_text g.game w) (in_world w old)
     → ReadsTurn g (λ n r. table_done g (turn g n) 1 (table_read g 1 r)) mid nx new
@@ -30,14 +30,14 @@ described_reads g old mid new nx w world fits is reads past has =
         t.1.0,
         λ n lines.
             subst (GoesOnAs g n nx new.machine.frames (run_now new (having_read t.0 past) lines))
-            (sym (said (view_text g.game (described old.surroundings.world)) (λ s. table_done g (turn g n) 1 (table_read g 1 s))
-            (with_world (described old.surroundings.world) (run_now old past lines)) fits'))
+            (sym (said (view_text g.game (location_described old.surroundings.world)) (λ s. table_done g (turn g n) 1 (table_read g 1 s))
+            (with_world (location_described old.surroundings.world) (run_now old past lines)) fits'))
             (t.1.1 n lines),
       ),
     )
 
 -- A description that doesn't fit.
-pub described_not : (g : Story) (old new : PlayState) (w : World) → w ≡ described old.surroundings.world
+pub described_not : (g : Story) (old new : PlayState) (w : World) → w ≡ location_described old.surroundings.world
     → 65535 < length old.surroundings.piece + length (view_text g.game w) → new.machine ≡ old.machine
     → ReadsTurn g (λ n r. turn g (suc n) AtDescribe r) old (halting (halt.Spent spent.Text)) new
 unfolding turn
@@ -47,9 +47,9 @@ described_not g old new w world past_fits same past has =
       (
         subst (HasRead past.read) (sym same) has,
         λ n lines. (
-          with_world (described old.surroundings.world) (run_now old past lines),
-          unsaid (view_text g.game (described old.surroundings.world)) (λ s. table_done g (turn g n) 1 (table_read g 1 s))
-              (with_world (described old.surroundings.world) (run_now old past lines)) past_fits',
+          with_world (location_described old.surroundings.world) (run_now old past lines),
+          unsaid (view_text g.game (location_described old.surroundings.world)) (λ s. table_done g (turn g n) 1 (table_read g 1 s))
+              (with_world (location_described old.surroundings.world) (run_now old past lines)) past_fits',
           record { pieces = refl; traces = refl; events = refl },
         ),
       ),

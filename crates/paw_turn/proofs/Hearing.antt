@@ -4,7 +4,7 @@ use Rattle.paw_effects.specs.Story.{Story}
 use Rattle.paw_world.specs.World.{World}
 use Rattle.paw_effects.specs.declared.act.Prompt.TheVariants as prompt
 use Rattle.paw_effects.specs.Texts.{say_text}
-use Rattle.paw_reading.specs.Run.{Run, is_timeout, is_ignored, with_timeout, closed}
+use Rattle.paw_reading.specs.Run.{Run, is_timeout, is_ignored, with_timeout, piece_closed}
 use Rattle.paw_reading.specs.Turn.{Ending, AtTimeFrame, AtPhrase, saying, at_main, turn, goes_on}
 use Rattle.paw_turn.specs.declared.phase.TurnStop.TheVariants as stop
 use Rattle.paw_turn.specs.declared.phase.Phase.TheVariants as phase
@@ -70,5 +70,5 @@ pub main_ignored : (g : Story) (old : PlayState) (line : List ℕ) → is_ignore
 unfolding at_main
 main_ignored g old line ignored past has = (past.read, (has, λ n lines. (n, is n lines)))
   where
-    is : (n : ℕ) (lines : List (List ℕ)) → from_prompt g prompt.Main old line n past lines ≡ goes_on g n prompt.Main [] (closed (run_now old past lines))
+    is : (n : ℕ) (lines : List (List ℕ)) → from_prompt g prompt.Main old line n past lines ≡ goes_on g n prompt.Main [] (piece_closed (run_now old past lines))
     is n lines = rw ignored refl

@@ -9,7 +9,7 @@ use Rattle.paw_phrase.specs.Sentence.{Parsed, IsUnknown, IsNoPhrase}
 use Rattle.paw_phrase.proofs.Phrases.{LeavesBytes, parsed-shorter}
 use Rattle.paw_effects.specs.Texts.{say_text}
 use Rattle.paw_reading.specs.Run.{Run}
-use Rattle.paw_reading.specs.Turn.{Ending, AtPhrase, AtResponse, saying, counted, after_phrase, turn}
+use Rattle.paw_reading.specs.Turn.{Ending, AtPhrase, AtResponse, saying, turn_counted, after_phrase, turn}
 use Rattle.paw_process.specs.inner.Phrases.{next_phrase, Speaks}
 use Rattle.paw_turn.specs.declared.phase.Next.{Next}
 use Rattle.paw_turn.specs.declared.phase.Next.TheVariants as next
@@ -24,7 +24,7 @@ phrased g n r = after_phrase g (turn g n) r
 -- A sentence counts a turn and is responded to.
 pub sentence_moves : (g : Story) (old new : PlayState) (w : World)
     → Speaks g.game found.Sentence old.surroundings.world w old.surroundings.pending new.surroundings.pending
-    → new.surroundings.world ≡ counted w → new.machine ≡ old.machine → new.surroundings.piece ≡ old.surroundings.piece
+    → new.surroundings.world ≡ turn_counted w → new.machine ≡ old.machine → new.surroundings.piece ≡ old.surroundings.piece
     → Moves g (λ n r. turn g (suc n) AtPhrase r) old (next.Go phase.Response) new
 unfolding turn
 sentence_moves g old new w speaks world machine piece past n lines =

@@ -3,7 +3,7 @@ use Rattle.std.proofs.Common.{◌+◌, ◌<◌, length, refl}
 use Rattle.paw_base.specs.declared.fault.SpentKind.TheVariants as spent
 use Rattle.paw_phrase.specs.Sentence.{IsNoPhrase}
 use Rattle.paw_effects.specs.Story.{Story}
-use Rattle.paw_reading.specs.Run.{line_dropped, closed}
+use Rattle.paw_reading.specs.Run.{line_dropped, piece_closed}
 use Rattle.paw_reading.specs.Turn.{at_main, prompt_text, after_phrase, turn}
 use Rattle.paw_reading.specs.declared.places.Halt.TheVariants as halt
 use Rattle.paw_turn.specs.declared.turn.PlayState.{PlayState}
@@ -16,7 +16,7 @@ pub prompt_unsaid : (g : Story) (old new : PlayState) → 65535 < length old.sur
 prompt_unsaid g old new h past n lines = (
   line_dropped (run_now old past lines),
   unsaid (prompt_text g.game old.surroundings.world)
-      (λ x. at_main g (turn g n) (closed x) x.events) (line_dropped (run_now old past lines))
+      (λ x. at_main g (turn g n) (piece_closed x) x.events) (line_dropped (run_now old past lines))
       h,
   record { pieces = refl; traces = refl; events = refl },
 )

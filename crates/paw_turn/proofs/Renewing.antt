@@ -9,16 +9,16 @@ use Rattle.paw_base.specs.declared.parts.ObjectFacts.{ObjectFacts}
 use Rattle.paw_base.specs.inner.Piece.{Puts}
 use Rattle.paw_game.specs.Game.{GameLists}
 use Rattle.paw_effects.specs.Story.{Story}
-use Rattle.paw_world.specs.World.{World, flags_with, restarted}
+use Rattle.paw_world.specs.World.{World, flags_with, world_restarted}
 use Rattle.paw_effects.specs.Worlds.{IsOf}
 use Rattle.paw_effects.specs.declared.act.Prompt.TheVariants as prompt
 use Rattle.paw_effects.specs.Texts.{say_text}
 use Rattle.paw_reading.specs.declared.places.Frame.{Frame}
 use Rattle.paw_reading.specs.declared.places.OpenLoop.{OpenLoop}
-use Rattle.paw_reading.specs.Run.{Run, closed, fits, printed, without_loop, line_dropped, anew, is_timeout, is_ignored}
-use Rattle.paw_reading.specs.Run.{heard, with_timeout, reply, is_no}
+use Rattle.paw_reading.specs.Run.{Run, piece_closed, fits, text_printed, without_loop, line_dropped, anew, is_timeout, is_ignored}
+use Rattle.paw_reading.specs.Run.{with_line_heard, with_timeout, reply, is_no}
 use Rattle.paw_reading.specs.declared.places.Halt.TheVariants as halt
-use Rattle.paw_reading.specs.Reading.{Restarts, Out, Stopped, halts, after_call, next_object_or, asked, rest_of_loop}
+use Rattle.paw_reading.specs.Reading.{Restarts, Out, Stopped, halts, after_call, next_object_or, prompt_asked, rest_of_loop}
 use Rattle.paw_reading.specs.Reading.{deeper, rest_of_table}
 use Rattle.paw_reading.specs.GoingOn.{on_path}
 use Rattle.paw_reading.specs.Turn.{Ending, Halted, AtDescribe, TurnPhase, table_done, turn, first_table}
@@ -38,7 +38,8 @@ final declines fit e s d =
 -- The answer, once it is heard.
 abbrev answer_of : Story → List ℕ → Run → Out
 answer_of g line r =
-    final (is_no (reply line)) (fits r (say_text g.game r.world 14)) (closed (without_loop (line_dropped (printed (say_text g.game r.world 14) r)))) r (anew r)
+    final (is_no (reply line)) (fits r (say_text g.game r.world 14))
+    (piece_closed (without_loop (line_dropped (text_printed (say_text g.game r.world 14) r)))) r (anew r)
 
 final_again : (lv : ℕ) (next : OpenLoop → Run → Out) (declines fit : Bool) (e s d : Run) → next_object_or lv next (final declines fit e s d)
     ≡ final declines fit e s d
@@ -53,15 +54,15 @@ final_call f go false fit e s d = refl
 
 -- The answer is the same in all tables.
 path_again : (g : Story) (lv : ℕ) (f : Frame) (path : List Frame) (r : Run) (line : List ℕ) (lines : List (List ℕ)) → is_ignored r.world line ≡ false
-    → on_path g prompt.Again lv (f ∷ path) (to_come (line ∷ lines) r) ≡ answer_of g line (heard line (to_come lines r))
-unfolding asked
+    → on_path g prompt.Again lv (f ∷ path) (to_come (line ∷ lines) r) ≡ answer_of g line (with_line_heard line (to_come lines r))
+unfolding prompt_asked
 path_again g lv f [] r line lines hears = rw hears (final_again lv (rest_of_loop g (deeper g lv) lv) _ _ _ _ _)
 path_again g lv f (h ∷ path) r line lines hears =
     ap (after_call f (rest_of_table g lv f.table f.entry (suc f.at))) (path_again g (suc lv) h path r line lines hears)
     ∙ final_call f (rest_of_table g lv f.table f.entry (suc f.at)) _ _ _ _ _
 
 some_again : (g : Story) (path : List Frame) (r : Run) (line : List ℕ) (lines : List (List ℕ)) → 0 < length path → is_ignored r.world line ≡ false
-    → on_path g prompt.Again 0 path (to_come (line ∷ lines) r) ≡ answer_of g line (heard line (to_come lines r))
+    → on_path g prompt.Again 0 path (to_come (line ∷ lines) r) ≡ answer_of g line (with_line_heard line (to_come lines r))
 some_again g [] r line lines some hears = absurd (omega arith)
 some_again g (f ∷ path) r line lines some hears = path_again g 0 f path r line lines hears
 
@@ -69,7 +70,7 @@ some_again g (f ∷ path) r line lines some hears = path_again g 0 f path r line
 again_is : (g : Story) (old : PlayState) (line : List ℕ) → 0 < length old.machine.frames → is_ignored old.surroundings.world line ≡ false
     → (n : ℕ) (past : Past) (lines : List (List ℕ))
     → from_prompt g prompt.Again old line n past lines
-    ≡ table_done g (turn g n) (first_table (reverse old.machine.frames)) (answer_of g line (heard line (run_now old past lines)))
+    ≡ table_done g (turn g n) (first_table (reverse old.machine.frames)) (answer_of g line (with_line_heard line (run_now old past lines)))
 again_is g old line some hears n past lines =
     let many : 0 < length (reverse old.machine.frames) = omega (arith, length-reverse old.machine.frames) in
     ap (table_done g (turn g n) (first_table (reverse old.machine.frames)))
@@ -90,7 +91,7 @@ final_spends g go t declines fit e s d is fitting = rw (is, fitting) refl
 -- At any answer but no the game starts anew.
 pub again_restarts : (g : Story) (old new : PlayState) (line : List ℕ) → 0 < length old.machine.frames → is_ignored old.surroundings.world line ≡ false
     → is_no (reply line) ≡ false
-    → new.surroundings.world ≡ restarted (with_timeout (is_timeout line) old.surroundings.world) → new.surroundings.pending.bytes ≡ []
+    → new.surroundings.world ≡ world_restarted (with_timeout (is_timeout line) old.surroundings.world) → new.surroundings.pending.bytes ≡ []
     → new.surroundings.pending.earlier ≡ 255
     → new.machine.turning ≡ None → ReadsNone old.machine new.machine → new.surroundings.piece ≡ old.surroundings.piece
     → PlaysAs g (from_prompt g prompt.Again old line) old (next.Go phase.Describe) new
@@ -137,7 +138,7 @@ again_ends g old new line w some hears declines world fit piece stays bytes earl
     held_is : (past : Past) (lines : List (List ℕ)) (u : World) (text : List ℕ)
         (v : World) (b : List ℕ) (e : ℕ) (o : Option OpenLoop) (q : List ℕ)
         → v ≡ u → b ≡ [] → e ≡ old.surroundings.pending.earlier → o ≡ None → q ≡ text
-        → closed (run_from u [] old.surroundings.pending.earlier None text past lines) ≡ closed (run_from v b e o q past lines)
+        → piece_closed (run_from u [] old.surroundings.pending.earlier None text past lines) ≡ piece_closed (run_from v b e o q past lines)
     held_is past lines u text v b e o q world bytes earlier turning piece = rw (world, bytes, earlier, turning, piece) refl
 
 -- Where the farewell doesn't fit the piece is spent.
@@ -156,7 +157,7 @@ again_spends g old new line w some hears declines world full none past has =
         λ n lines. (
           n,
           (
-            heard line (run_now old past lines),
+            with_line_heard line (run_now old past lines),
             again_is g old line some hears n past lines ∙ final_spends g (turn g n) _ _ _ _ _ _ declines t,
             record { pieces = refl; traces = refl; events = refl },
           ),
@@ -184,7 +185,7 @@ unfolding flags_with
 length_flags carried = refl
 
 -- A game that starts anew has a world of its own.
-pub restarted_of : (g : GameLists) (w : World) → IsOf g w → IsOf g (restarted w)
+pub restarted_of : (g : GameLists) (w : World) → IsOf g w → IsOf g (world_restarted w)
 restarted_of g w of = record {
   facts = of.facts;
   locations = of.locations;

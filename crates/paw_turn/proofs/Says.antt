@@ -3,12 +3,12 @@ use Rattle.std.proofs.Common.{◌≡◌, ℕ, ◌+◌, ◌<◌, ◌≤◌, true,
 use Rattle.std.specs.Prelude.{nat_le}
 use Rattle.std.proofs.lemmas.Bool.Decides.{nat_tests}
 use Rattle.paw_base.specs.declared.fault.SpentKind.TheVariants as spent
-use Rattle.paw_reading.specs.Run.{Run, printed}
+use Rattle.paw_reading.specs.Run.{Run, text_printed}
 use Rattle.paw_reading.specs.declared.places.Halt.TheVariants as halt
 use Rattle.paw_reading.specs.Turn.{Ending, Halted, saying}
 
 -- A text that fits is printed.
-pub said : (text : List ℕ) (go : Run → Ending) (r : Run) → length r.current + length text ≤ 65535 → saying text go r ≡ go (printed text r)
+pub said : (text : List ℕ) (go : Run → Ending) (r : Run) → length r.current + length text ≤ 65535 → saying text go r ≡ go (text_printed text r)
 said text go r h = let t : nat_le (length r.current + length text) 65535 ≡ true = grind (arith, nat_tests) in rw t refl
 
 -- At one that doesn't the piece is spent.

@@ -23,12 +23,12 @@ use Rattle.paw_reading.specs.Turn.{first_table}
 use Rattle.paw_reading.specs.inner.Places.{AreFramesAndLoop, IsLoopOf}
 use Rattle.paw_phrase.specs.Pending.{PendingLine}
 use Rattle.paw_process.specs.inner.OpenTables.{OpenTables}
-use Rattle.paw_process.specs.inner.OpenTables.{IsWaiting, IsClosed, new_machine, refilled}
-use Rattle.paw_process.specs.inner.Kept.{kept, is_that_table}
+use Rattle.paw_process.specs.inner.OpenTables.{IsWaiting, IsClosed, new_machine, budget_refilled}
+use Rattle.paw_process.specs.inner.Kept.{machine_kept, is_that_table}
 use Rattle.paw_process.specs.inner.Kept.{first_frame_fault, loop_stands, loop_fault}
 use Rattle.paw_process.specs.Kept.{count_fits, waiting_code}
 use Rattle.paw_process.specs.inner.Kept.{fault_at, frames_fault}
-use Rattle.paw_process.specs.inner.Kept.{restored, waiting_at}
+use Rattle.paw_process.specs.inner.Kept.{machine_restored, waiting_at}
 use Rattle.paw_process.specs.inner.Kept.{WaitsAtPrompt as MachineStandsAt}
 use Rattle.paw_process.specs.declared.kept.Frames.{Frames}
 use Rattle.paw_process.proofs.Restored.{first_of, second, no_first}
@@ -73,12 +73,12 @@ kept_loop g code k h = go (count_fits (Some code) k.count) refl h
     go true e q = rw (reverse-reverse (take k.count k.rows)) (first_loop g k k.turning (no_first _ (loop_fault g k k.turning) q).1)
     go false e q = cc
 
-waits_again : (g : GameLists) (p : Prompt) (code : ℕ) (k : Frames) (m : OpenTables) → m ≡ restored k (Some p) → IsWaiting p m
+waits_again : (g : GameLists) (p : Prompt) (code : ℕ) (k : Frames) (m : OpenTables) → m ≡ machine_restored k (Some p) → IsWaiting p m
     → fault_at g (Some code) k ≡ None → WaitsIn p m
 waits_again g p code k m is stands sound =
     record { tables = stands; loop = subst (λ (n : OpenTables). IsLoopOf (first_table (reverse n.frames)) n.turning) (sym is) (kept_loop g code k sound) }
 
-stands_again : (g : GameLists) (at : Prompt) (k : Frames) (m : OpenTables) → m ≡ restored k (waiting_at at) → MachineStandsAt at m
+stands_again : (g : GameLists) (at : Prompt) (k : Frames) (m : OpenTables) → m ≡ machine_restored k (waiting_at at) → MachineStandsAt at m
     → frames_fault g at k ≡ None → StandsClosed (prompt_step at) m
 stands_again g prompt.Main k m is stands sound = stands
 stands_again g prompt.Quit k m is stands sound = waits_again g prompt.Quit 27 k m is stands sound
@@ -130,7 +130,7 @@ module _ {F : Type 0} (p : PlayerView F) (seated : IsSeated p) (standing : IsSta
   }
 
   -- Its frames are never refused.
-  pub places_kept : frames_fault p.game (prompt_at p.last) (kept p.machine) ≡ None
+  pub places_kept : frames_fault p.game (prompt_at p.last) (machine_kept p.machine) ≡ None
   places_kept =
       places_fit p.game (waiting_code (prompt_at p.last)) (reverse p.machine.frames) p.machine.turning (seated.rightly standing).places
 
@@ -140,7 +140,7 @@ module _ {F : Type 0} (p : PlayerView F) (seated : IsSeated p) (standing : IsSta
       ap (λ (s : Step). record { game = p.game; routines = p.routines; world = p.world; pending = p.pending; machine = p.machine; piece = []; last = s })
       (step_again p.last p.machine seated.machine standing)
 
-  pub seated_as : seated_again p ≡ record p { piece = []; machine = refilled p.machine }
+  pub seated_as : seated_again p ≡ record p { piece = []; machine = budget_refilled p.machine }
   seated_as =
       ap (λ (m : OpenTables). seat_at p.game p.routines p.world m p.pending (prompt_at p.last))
       (restored_again (prompt_at p.last) p.machine (machine_stands p.last p.machine seated.machine standing))
@@ -149,7 +149,7 @@ module _ {F : Type 0} (p : PlayerView F) (seated : IsSeated p) (standing : IsSta
         routines = p.routines;
         world = p.world;
         pending = p.pending;
-        machine = refilled p.machine;
+        machine = budget_refilled p.machine;
         piece =
             [];
         last = s;
@@ -186,7 +186,7 @@ machine_alike prompt.Over m left steps k = closed_alike m left steps k
 
 -- With its own parts, and a machine that was restored from what is kept of its own, a player fits its game.
 pub taken_fits : {F : Type 0} (p : PlayerView F) (m : OpenTables) → IsSeated p → IsStanding p.last → m
-    ≡ restored (kept p.machine) (waiting_at (prompt_at p.last))
+    ≡ machine_restored (machine_kept p.machine) (waiting_at (prompt_at p.last))
     → Fits p.game p.world m p.pending (prompt_at p.last)
 taken_fits p m seated standing is =
     let fits = parts_fit p seated standing in
@@ -200,9 +200,9 @@ taken_fits p m seated standing is =
 
 -- So do parts that are the same as its own.
 pub same_fits : {F : Type 0} (p : PlayerView F) (g : GameLists) (w : World) (m : OpenTables) (q : PendingLine) (at : Prompt) → IsSeated p → IsStanding p.last
-    → g ≡ p.game → w ≡ p.world → m ≡ restored (kept p.machine) (waiting_at at) → q ≡ p.pending → at ≡ prompt_at p.last → Fits g w m q at
+    → g ≡ p.game → w ≡ p.world → m ≡ machine_restored (machine_kept p.machine) (waiting_at at) → q ≡ p.pending → at ≡ prompt_at p.last → Fits g w m q at
 same_fits p g w m q at seated standing game world machine pending prompt_is =
-    let fits = taken_fits p m seated standing (subst (λ (a : Prompt). m ≡ restored (kept p.machine) (waiting_at a)) prompt_is machine) in
+    let fits = taken_fits p m seated standing (subst (λ (a : Prompt). m ≡ machine_restored (machine_kept p.machine) (waiting_at a)) prompt_is machine) in
     subst (λ (h : GameLists). Fits h w m q at) (sym game) (subst (λ (v : World). Fits p.game v m q at) (sym world)
     (subst (λ (l : PendingLine). Fits p.game p.world m l at) (sym pending) (subst (λ (a : Prompt). Fits p.game p.world m p.pending a) (sym prompt_is) fits)))
 

@@ -7,7 +7,7 @@ use Rattle.paw_routines.specs.declared.routines.Routines.{Routines}
 use Rattle.paw_effects.specs.declared.act.Prompt.{Prompt}
 use Rattle.paw_effects.specs.inner.Opening.{opening_world}
 use Rattle.paw_reading.specs.declared.places.OpenLoop.{OpenLoop}
-use Rattle.paw_reading.specs.Run.{Run, Step as Read, closed}
+use Rattle.paw_reading.specs.Run.{Run, Step as Read, piece_closed}
 use Rattle.paw_reading.specs.declared.places.Halt.{Halt}
 use Rattle.paw_reading.specs.declared.places.Halt.TheVariants as halt
 use Rattle.paw_reading.specs.Turn.{Ending, Unended, AtDescribe, turns_from, phases_left, opening, reading}
@@ -54,7 +54,7 @@ settles g routines whole total once (stop.Waits p) last new past has stops = (
   (
     has.steps,
     λ lines.
-        let r : Run = closed (run_now new past lines) in
+        let r : Run = piece_closed (run_now new past lines) in
         let k = stops (phases_left r) lines in
         sym (once k.0 lines (λ e. going_on_ends g p (reverse new.machine.frames) r (sym k.1 ∙ e))) ∙ k.1,
   ),

@@ -5,7 +5,7 @@ use Rattle.paw_effects.specs.Story.{Story}
 use Rattle.paw_effects.specs.declared.act.Prompt.{Prompt}
 use Rattle.paw_effects.specs.declared.act.Prompt.TheVariants as prompt
 use Rattle.paw_reading.specs.declared.places.Frame.{Frame}
-use Rattle.paw_reading.specs.Run.{Run, closed}
+use Rattle.paw_reading.specs.Run.{Run, piece_closed}
 use Rattle.paw_reading.specs.Reading.{Out, Waits}
 use Rattle.paw_reading.specs.inner.Places.{IsLoopOf}
 use Rattle.paw_process.specs.inner.OpenTables.{OpenTables}
@@ -37,7 +37,7 @@ pub stops_in : (g : Story) (t : ℕ) (x : Past → List (List ℕ) → Out) (old
 stops_in g t x old mid (turned.Waits p) budget there runs stopped =
     let some = some_past old budget in
     let run = runs some.0 some.1 in
-    let r : Run = closed (run_now mid (having_read (some.0.read ++ run.0) some.0) []) in
+    let r : Run = piece_closed (run_now mid (having_read (some.0.read ++ run.0) some.0) []) in
     let many : 0 < length (reverse mid.machine.frames) = omega (arith, length-reverse mid.machine.frames, stopped.tables.some) in
     waits_in p t mid.machine stopped
     (there some.0 p (reverse mid.machine.frames) r (run.1.1 [] ∙ some_waits g p (reverse mid.machine.frames) r many))

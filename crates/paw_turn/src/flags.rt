@@ -1,9 +1,9 @@
 // What a turn does to the flags by itself.
 
 ghost use Rattle.std.specs.Prelude.{◌≡◌};
-ghost use Rattle.paw_world.specs.World.{fallen, fallen_if, is_dark, is_unlit};
+ghost use Rattle.paw_world.specs.World.{flag_lowered, flag_lowered_if, is_dark, is_unlit};
 ghost use Rattle.paw_reading.specs.Run.{with_timeout};
-ghost use Rattle.paw_reading.specs.Turn.{described, time_frame_passed, counted};
+ghost use Rattle.paw_reading.specs.Turn.{location_described, time_frame_passed, turn_counted};
 ghost use Rattle.paw_turn.specs.inner.Phases.{ChangesFlags};
 
 use paw_base::flags::{
@@ -14,16 +14,16 @@ use paw_effects::counts::turns_taken;
 use paw_effects::presence::is_lit;
 use paw_world::world::World;
 
-/// A flag loses one unless it is 0.
+// A flag loses one unless it is 0.
 fn fall(world: &mut World, f: u8)
-    ensures value { world.new ≡ fallen f world.old }
+    ensures value { world.new ≡ flag_lowered f world.old }
     ensures only { ChangesFlags world.old world.new }
 {
     let x = world.flag(f);
     world.set_flag(f, x.saturating_sub(1));
 }
 
-/// Whether it is dark.
+// Whether it is dark.
 fn is_dark(world: &World) -> bool
     ensures value { result ≡ is_dark world.now }
 {
@@ -37,10 +37,10 @@ pub(crate) fn is_unlit(world: &World) -> bool
     is_dark(world) && !is_lit(world)
 }
 
-/// Lets one flag fall in the dark, and another without light.
+// Lets one flag fall in the dark, and another without light.
 fn fall_in_dark(world: &mut World, dark: u8, unlit: u8)
     ensures value { world.new ≡
-        fallen_if (is_unlit world.old) unlit (fallen_if (is_dark world.old) dark world.old) }
+        flag_lowered_if (is_unlit world.old) unlit (flag_lowered_if (is_dark world.old) dark world.old) }
     ensures only { ChangesFlags world.old world.new }
 {
     let without_light = is_unlit(world);
@@ -54,7 +54,7 @@ fn fall_in_dark(world: &mut World, dark: u8, unlit: u8)
 
 /// Lets the flags fall that fall when a location is described.
 pub(crate) fn describe(world: &mut World)
-    ensures value { world.new ≡ described world.old }
+    ensures value { world.new ≡ location_described world.old }
     ensures only { ChangesFlags world.old world.new }
 {
     fall(world, VIEW_FLAG);
@@ -75,7 +75,7 @@ pub(crate) fn pass_time_frame(world: &mut World)
 
 /// Counts one more turn, up to 65,535.
 pub(crate) fn count_turn(world: &mut World)
-    ensures value { world.new ≡ counted world.old }
+    ensures value { world.new ≡ turn_counted world.old }
     ensures only { ChangesFlags world.old world.new }
 {
     let next = turns_taken(world).saturating_add(1);

@@ -29,7 +29,7 @@ pub enum Step {
     TooDeep { table: u8 },
 }
 
-/// The step of a player whose turn stopped so.
+/// The step of a player whose turn stopped for this reason.
 pub(crate) fn step_of(stop: TurnStop) -> Step
     ensures value { result ≡ step_of stop }
 {

@@ -27,28 +27,28 @@ use paw_process::Turned;
 use paw_reading::places::Halt;
 use paw_world::world::World;
 
-/// Whether a line is ~, which stands for a timeout.
+// Whether a line is ~, which stands for a timeout.
 fn is_timeout(line: &[u8]) -> bool
     ensures value { result ≡ is_timeout line.now }
 {
     line == b"~".as_slice()
 }
 
-/// Whether a line changes nothing: it is a timeout, and flag 48 is 0.
+// Whether a line changes nothing: it is a timeout, and flag 48 is 0.
 fn is_ignored(world: &World, line: &[u8]) -> bool
     ensures value { result ≡ is_ignored world.now line.now }
 {
     is_timeout(line) && world.flag(TIMEOUT_FLAG) == 0
 }
 
-/// The answer that a line gives to a question: a timeout gives an empty line.
+// The answer that a line gives to a question: a timeout gives an empty line.
 fn reply(line: &[u8]) -> &[u8]
     ensures value { result.now ≡ reply line.now }
 {
     if is_timeout(line) { &[] } else { line }
 }
 
-/// Whether the first byte that isn't a space is this letter, as a capital or a small one.
+// Whether the first byte that isn't a space is this letter, as a capital or a small one.
 fn begins_with(capital: u8, line: &[u8]) -> bool
     requires letter { capital + 32 < 256 }
     ensures value { result ≡ begins_with capital line.now }
@@ -62,8 +62,8 @@ fn begins_with(capital: u8, line: &[u8]) -> bool
 }
 
 impl PlayState {
-    /// Takes a line that isn't ignored at the main prompt: a timeout says message 35 and leads to the time frame; any
-    /// other line becomes the pending one.
+    // Takes a line that isn't ignored at the main prompt: a timeout says message 35 and leads to the time frame; any
+    // other line becomes the pending one.
     fn hear_line<T: Tables>(&mut self, tables: &T, line: &[u8]) -> Next
         requires line { length line.now ≤ LINE_LIMIT }
         requires heard { is_ignored self.old.surroundings.world line.now ≡ false }
@@ -83,7 +83,7 @@ impl PlayState {
         }
     }
 
-    /// Takes the answer to END's question that isn't ignored: at no the game is over, and otherwise it starts anew.
+    // Takes the answer to END's question that isn't ignored: at no the game is over, and otherwise it starts anew.
     fn hear_again<T: Tables>(&mut self, tables: &T, line: &[u8]) -> Next
         requires heard { is_ignored self.old.surroundings.world line.now ≡ false }
         requires playable { IsPlayable (T.game tables.now) self.old }
@@ -126,7 +126,7 @@ impl<T: Tables, F: Fn(u8, u8) -> u8> TurnRules<'_, T, F> {
         }
     }
 
-    /// Takes a line at a prompt. One that is ignored changes nothing.
+    // Takes a line at a prompt. One that is ignored changes nothing.
     fn hear(&self, state: &mut PlayState, prompt: Prompt, line: &[u8]) -> Next
         requires line { length line.now ≤ LINE_LIMIT }
         requires answers { HaveAnswers F.Fn self.now.routines.now }
@@ -146,7 +146,7 @@ impl<T: Tables, F: Fn(u8, u8) -> u8> TurnRules<'_, T, F> {
         }
     }
 
-    /// Takes the answer to QUIT's question, or a key, that isn't ignored, and goes on where the tables wait.
+    // Takes the answer to QUIT's question, or a key, that isn't ignored, and goes on where the tables wait.
     fn hear_answer(&self, state: &mut PlayState, prompt: Prompt, line: &[u8]) -> Next
         requires answers { HaveAnswers F.Fn self.now.routines.now }
         requires ready { MayAnswer (T.game self.now.tables.now) prompt line.now state.old }
@@ -159,7 +159,7 @@ impl<T: Tables, F: Fn(u8, u8) -> u8> TurnRules<'_, T, F> {
         state.after_table(self.tables, table, turned)
     }
 
-    /// Gives the machine an answer that isn't ignored, and lets it read on to its next stop.
+    // Gives the machine an answer that isn't ignored, and lets it read on to its next stop.
     fn run_answered(&self, state: &mut PlayState, prompt: Prompt, line: &[u8]) -> Turned
         requires answers { HaveAnswers F.Fn self.now.routines.now }
         requires ready { MayAnswer (T.game self.now.tables.now) prompt line.now state.old }

@@ -30,7 +30,7 @@ pub(crate) fn stop_at(prompt: Prompt) -> TurnStop
     }
 }
 
-/// The prompt at which a player stands whose turn stopped so.
+/// The prompt at which a player stands whose turn stopped for this reason.
 pub(crate) fn prompt_at(stop: TurnStop) -> Prompt
     ensures value { result ≡ prompt_at (step_of stop) }
 {

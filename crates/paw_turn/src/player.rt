@@ -9,7 +9,7 @@ ghost use Rattle.paw_effects.specs.declared.act.Prompt.{Prompt as AtPrompt};
 ghost use Rattle.paw_effects.specs.declared.act.Prompt.TheVariants as prompt;
 ghost use Rattle.paw_reading.specs.Run.{Step as Read};
 ghost use Rattle.paw_reading.specs.Turn.{reading, going_on_from};
-ghost use Rattle.paw_process.specs.inner.Kept.{kept};
+ghost use Rattle.paw_process.specs.inner.Kept.{machine_kept};
 ghost use Rattle.paw_process.specs.inner.Kept.{frames_fault};
 ghost use Rattle.paw_turn.specs.declared.Step.TheVariants as step;
 ghost use Rattle.paw_turn.specs.inner.Parts.{Fits, IsStanding, seat_at, prompt_at};
@@ -227,7 +227,7 @@ impl<'a, T: Tables, F: Fn(u8, u8) -> u8> Player<'a, T, F> {
             seat_at self.now.game self.now.routines self.now.world self.now.machine self.now.pending
             (prompt_at self.now.last) ≡ record self.now { piece = [] } }
         ensures kept { IsSeated self.now → IsStanding self.now.last →
-            frames_fault self.now.game (prompt_at self.now.last) (kept self.now.machine) ≡ None }
+            frames_fault self.now.game (prompt_at self.now.last) (machine_kept self.now.machine) ≡ None }
     {
         Parts {
             world: &self.turn.surroundings.world,

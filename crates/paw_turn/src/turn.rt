@@ -61,7 +61,7 @@ pub(crate) struct TurnRules<'a, T: Tables, F: Fn(u8, u8) -> u8> {
     pub(crate) routines: &'a Routines<F>,
 }
 
-/// Play has ended so, and nothing goes on.
+/// Play has ended for this reason, and nothing goes on.
 pub(crate) fn halting(halt: Halt) -> Next
     ensures value { result ≡ halting halt }
 {
@@ -155,7 +155,7 @@ impl PlayState {
         }
     }
 
-    /// Says a system message, unless the piece has no room for it.
+    // Says a system message, unless the piece has no room for it.
     fn put_message<T: Tables>(&mut self, tables: &T, message: u8) -> bool
         ensures puts { Puts self.old.surroundings.piece self.new.surroundings.piece result
             (say_text (T.game tables.now) self.old.surroundings.world message) }
@@ -184,7 +184,7 @@ impl PlayState {
         or_spent(self.put_message(tables, message), Next::Go(phase))
     }
 
-    /// Shows where the game is: a message where it is dark without light, and otherwise the location's text.
+    // Shows where the game is: a message where it is dark without light, and otherwise the location's text.
     fn show_view<T: Tables>(&mut self, tables: &T) -> bool
         ensures puts { Puts self.old.surroundings.piece self.new.surroundings.piece result
             (view_text (T.game tables.now) self.old.surroundings.world) }
@@ -202,7 +202,7 @@ impl PlayState {
         }
     }
 
-    /// Shows the prompt.
+    // Shows the prompt.
     fn show_prompt<T: Tables>(&mut self, tables: &T) -> bool
         ensures puts { Puts self.old.surroundings.piece self.new.surroundings.piece result
             (prompt_text (T.game tables.now) self.old.surroundings.world) }
@@ -221,7 +221,7 @@ impl PlayState {
             )
     }
 
-    /// Shows the prompt once no phrase is left, and waits for a line.
+    // Shows the prompt once no phrase is left, and waits for a line.
     fn prompt<T: Tables>(&mut self, tables: &T) -> Next
         requires ready { MayGoOn (T.game tables.now) self.old }
         ensures meaning { (X : RoutineAnswers) → let g = story_of (T.game tables.now) X in
@@ -238,7 +238,7 @@ impl PlayState {
         }
     }
 
-    /// Says that no entry answered and no exit leads on, drops the rest of the line, and goes on with the time frame.
+    // Says that no entry answered and no exit leads on, drops the rest of the line, and goes on with the time frame.
     fn refuse<T: Tables>(&mut self, tables: &T) -> Next
         requires ready { MayGoOn (T.game tables.now) self.old }
         ensures meaning { (X : RoutineAnswers) → let g = story_of (T.game tables.now) X in
@@ -257,7 +257,7 @@ impl PlayState {
         self.say(tables, message, Phase::TimeFrame)
     }
 
-    /// Takes the exit for the verb, where the location has one.
+    // Takes the exit for the verb, where the location has one.
     fn connect<T: Tables>(&mut self, tables: &T) -> Next
         requires ready { MayGoOn (T.game tables.now) self.old }
         ensures meaning { (X : RoutineAnswers) → let g = story_of (T.game tables.now) X in
@@ -276,7 +276,7 @@ impl PlayState {
         }
     }
 
-    /// Goes on after table 0, 1 or 2, which was left with an action carried out or not.
+    // Goes on after table 0, 1 or 2, which was left with an action carried out or not.
     fn after_left<T: Tables>(&mut self, tables: &T, table: u8, acted: bool) -> Next
         requires ready { MayGoOn (T.game tables.now) self.old }
         ensures meaning { (X : RoutineAnswers) → let g = story_of (T.game tables.now) X in
@@ -314,8 +314,8 @@ impl PlayState {
         }
     }
 
-    /// Takes the next phrase. A sentence counts a turn; at a phrase with no known word message 6 is said, and the rest
-    /// of the line is dropped; with none left the prompt comes.
+    // Takes the next phrase. A sentence counts a turn; at a phrase with no known word message 6 is said, and the rest
+    // of the line is dropped; with none left the prompt comes.
     fn phrase<T: Tables>(&mut self, tables: &T) -> Next
         requires ready { MayGoOn (T.game tables.now) self.old }
         ensures meaning { (X : RoutineAnswers) → let g = story_of (T.game tables.now) X in
@@ -343,7 +343,7 @@ impl PlayState {
 }
 
 impl<T: Tables, F: Fn(u8, u8) -> u8> TurnRules<'_, T, F> {
-    /// Reads table 0, 1 or 2 from its start, up to the machine's next stop.
+    // Reads table 0, 1 or 2 from its start, up to the machine's next stop.
     fn run_table(&self, state: &mut PlayState, table: u8) -> Turned
         requires may { MayReadTables F.Fn self.now.routines.now (T.game self.now.tables.now) state.old }
         ensures runs { InStories F.Fn self.now.routines.now (T.game self.now.tables.now) (λ g.
@@ -358,7 +358,7 @@ impl<T: Tables, F: Fn(u8, u8) -> u8> TurnRules<'_, T, F> {
             .run(self.tables, self.routines, &mut state.surroundings)
     }
 
-    /// Reads table 0, 1 or 2, and goes on after it.
+    // Reads table 0, 1 or 2, and goes on after it.
     fn read_table(&self, state: &mut PlayState, table: u8) -> Next
         requires may { MayReadTables F.Fn self.now.routines.now (T.game self.now.tables.now) state.old }
         ensures meaning { InStories F.Fn self.now.routines.now (T.game self.now.tables.now) (λ g.
@@ -370,7 +370,7 @@ impl<T: Tables, F: Fn(u8, u8) -> u8> TurnRules<'_, T, F> {
         state.after_table(self.tables, table, turned)
     }
 
-    /// Describes the location, and reads table 1.
+    // Describes the location, and reads table 1.
     fn describe(&self, state: &mut PlayState) -> Next
         requires may { MayReadTables F.Fn self.now.routines.now (T.game self.now.tables.now) state.old }
         ensures meaning { InStories F.Fn self.now.routines.now (T.game self.now.tables.now) (λ g.
@@ -386,7 +386,7 @@ impl<T: Tables, F: Fn(u8, u8) -> u8> TurnRules<'_, T, F> {
         }
     }
 
-    /// Goes through one phase.
+    // Goes through one phase.
     fn phase(&self, state: &mut PlayState, phase: Phase) -> Next
         requires may { MayReadTables F.Fn self.now.routines.now (T.game self.now.tables.now) state.old }
         ensures meaning { InStories F.Fn self.now.routines.now (T.game self.now.tables.now) (λ g.

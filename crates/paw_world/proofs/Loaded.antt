@@ -4,7 +4,7 @@ use Rattle.std.proofs.Common.{add-one, length-append, length-drop}
 use Rattle.std.specs.Option.{option_map_or}
 use Rattle.std.proofs.lemmas.List.{length-take-le}
 use Rattle.paw_base.specs.declared.parts.ObjectFacts.{ObjectFacts}
-use Rattle.paw_world.specs.World.{World, Position, ramloaded, at_position, IsPosition, IsSavedFor}
+use Rattle.paw_world.specs.World.{World, Position, saved_position_loaded, at_position, IsPosition, IsSavedFor}
 use Rattle.paw_world.specs.inner.World.{IsStored}
 
 saved_for : (objects : ℕ) (saved : Option Position) (q : Position) → saved ≡ Some q → IsSavedFor objects saved → IsPosition objects q
@@ -43,7 +43,7 @@ pub loaded_is : (facts : List ObjectFacts) (locations : ℕ) (flags places : Lis
     (kept : List (Option Position)) (seed draws : ℕ) (q : Position) (n : ℕ) (front moved : List ℕ) → IsSavedFor (length places) saved
     → saved ≡ Some q → front ≡ take (n + 1) q.flags → moved ≡ q.places
     → with_parts facts locations saved kept seed draws (front ++ drop (n + 1) flags) moved (length moved)
-    ≡ ramloaded (with_parts facts locations saved kept seed draws flags places (length places)) n
+    ≡ saved_position_loaded (with_parts facts locations saved kept seed draws flags places (length places)) n
 loaded_is facts locations flags places saved kept seed draws q n front moved alike is first all =
     let position = saved_for (length places) saved q is alike in
     let same : length moved ≡ length places = ap length all ∙ position.places in

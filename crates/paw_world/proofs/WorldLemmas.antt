@@ -12,11 +12,11 @@ use Rattle.paw_base.specs.declared.parts.ObjectFacts.{ObjectFacts}
 use Rattle.paw_base.specs.declared.places.TheConstants.{CARRIED_PLACE}
 use Rattle.paw_world.specs.World.{World, Position, flag, with_flag, place, with_place, flags_with, first_carried}
 use Rattle.paw_world.specs.World.{opening_places}
-use Rattle.paw_world.specs.World.{with_objects_returned, starting_world, restarted, let_go, taken_up, moved, ramsaved}
-use Rattle.paw_world.specs.World.{ramloaded, at_position}
+use Rattle.paw_world.specs.World.{with_objects_returned, starting_world, world_restarted, let_go, taken_up, object_moved, position_saved}
+use Rattle.paw_world.specs.World.{saved_position_loaded, at_position}
 use Rattle.paw_world.specs.World.{drawn_on, position_of, kept_position, keeping, IsPosition, IsSavedFor, AreSavedFor}
 use Rattle.paw_world.specs.World.{IsWorld}
-use Rattle.paw_world.specs.inner.World.{taken_back, recalled, with_kept}
+use Rattle.paw_world.specs.inner.World.{taken_back, kept_position_loaded, with_kept}
 use Rattle.paw_world.proofs.Kept.{kept_with, kept_alike, none_kept}
 
 -- ---- a flag that was given a value
@@ -58,14 +58,14 @@ IsWorld-taken_up w p sound =
     let x = min 255 (flag w 1 + 1) in
     either P (p == CARRIED_PLACE) (with_flag w 1 x) w (IsWorld-with_flag w 1 x sound) sound
 
-pub IsWorld-moved : (w : World) (o p : ℕ) → IsWorld w → IsWorld (moved w o p)
+pub IsWorld-moved : (w : World) (o p : ℕ) → IsWorld w → IsWorld (object_moved w o p)
 IsWorld-moved w o p sound =
     let P : World → Type 0 = λ v. IsWorld v in
     let v = taken_up (let_go w (place w o)) p in
     either P (place w o == p) w (with_place v o p) sound
     (IsWorld-with_place v o p (IsWorld-taken_up (let_go w (place w o)) p (IsWorld-let_go w (place w o) sound)))
 
-pub IsWorld-ramsaved : (w : World) → IsWorld w → IsWorld (ramsaved w)
+pub IsWorld-ramsaved : (w : World) → IsWorld w → IsWorld (position_saved w)
 IsWorld-ramsaved w sound =
     record { objects = sound.objects; facts = sound.facts; flags = sound.flags; saved = record { flags = sound.flags; places = refl }; kept = sound.kept }
 
@@ -82,7 +82,7 @@ loaded w n (Some q) small alike sound =
       kept = sound.kept;
     })
 
-pub IsWorld-ramloaded : (w : World) (n : ℕ) → n < 256 → IsWorld w → IsWorld (ramloaded w n)
+pub IsWorld-ramloaded : (w : World) (n : ℕ) → n < 256 → IsWorld w → IsWorld (saved_position_loaded w n)
 IsWorld-ramloaded w n small sound = loaded w n w.saved small sound.saved sound
 
 pub IsWorld-with_kept : (w : World) (n : ℕ) (q : Position) → IsPosition (length w.places) q → IsWorld w → IsWorld (with_kept w n q)
@@ -102,7 +102,7 @@ placed w None alike sound = sound
 placed w (Some q) alike sound = same_count (record w { flags = q.flags }) q.places alike.places
     (record { objects = sound.objects; facts = sound.facts; flags = alike.flags; saved = sound.saved; kept = sound.kept })
 
-pub IsWorld-recalled : (w : World) (n : ℕ) → n < 4 → IsWorld w → IsWorld (recalled w n)
+pub IsWorld-recalled : (w : World) (n : ℕ) → n < 4 → IsWorld w → IsWorld (kept_position_loaded w n)
 IsWorld-recalled w n few sound = placed w (kept_position w n) (kept_alike (length w.places) w.kept n few sound.kept) sound
 
 pub IsWorld-drawn_on : (w : World) (n : ℕ) → IsWorld w → IsWorld (drawn_on w n)
@@ -121,7 +121,7 @@ IsWorld-opened facts locations seed few = record {
   kept = none_kept _;
 }
 
-pub IsWorld-restarted : (w : World) → IsWorld w → IsWorld (restarted w)
+pub IsWorld-restarted : (w : World) → IsWorld w → IsWorld (world_restarted w)
 IsWorld-restarted w sound =
     let same = length-map w.facts (λ (f : ObjectFacts). f.start) in
     record {
@@ -153,7 +153,7 @@ taken_where_other : (a b : ℕ) (v w : World) → a ≢ b → (if a == b then v 
 taken_where_other a b v w other = grind (arith, nat_tests)
 
 -- Whether it stood there before or not, the places are those with this one written.
-pub places-moved : (w : World) (o p : ℕ) → (moved w o p).places ≡ set w.places o p
+pub places-moved : (w : World) (o p : ℕ) → (object_moved w o p).places ≡ set w.places o p
 places-moved w o p =
     let v = with_place (taken_up (let_go w (place w o)) p) o p in
     elim (cases_eq (place w o) p) [
@@ -163,11 +163,11 @@ places-moved w o p =
           ∙ ap (λ (l : List ℕ). set l o p) (places-taken_up (let_go w (place w o)) p ∙ places-let_go w (place w o))
     ]
 
-pub place-moved_same : (w : World) (o p : ℕ) → o < length w.places → place (moved w o p) o ≡ p
+pub place-moved_same : (w : World) (o p : ℕ) → o < length w.places → place (object_moved w o p) o ≡ p
 place-moved_same w o p known = ap (λ (l : List ℕ). get_or l o 0) (places-moved w o p) ∙ get_or-set_same w.places o p 0 known
 
-pub place-moved_other : (w : World) (o p k : ℕ) → k ≢ o → place (moved w o p) k ≡ place w k
+pub place-moved_other : (w : World) (o p k : ℕ) → k ≢ o → place (object_moved w o p) k ≡ place w k
 place-moved_other w o p k other = ap (λ (l : List ℕ). get_or l k 0) (places-moved w o p) ∙ get_or-set_other w.places o k p 0 other
 
-pub length-moved : (w : World) (o p : ℕ) → length (moved w o p).places ≡ length w.places
+pub length-moved : (w : World) (o p : ℕ) → length (object_moved w o p).places ≡ length w.places
 length-moved w o p = ap length (places-moved w o p) ∙ length-set w.places o p

@@ -4,7 +4,7 @@ use Rattle.std.specs.Prelude.{map, take, drop, count_by, replicate, min, Option,
 use Rattle.std.specs.Prelude.{slice_index, slice_index_or, slice_set, if◌then◌else◌, IfSome}
 use Rattle.std.specs.List.{All}
 use Rattle.std.specs.Option.{option_map_or}
-use Rattle.paw_base.specs.Bytes.{Bytes, Seed}
+use Rattle.paw_base.specs.Bytes.{Bytes, ObjectPlaces, Seed}
 use Rattle.paw_base.specs.declared.flags.TheConstants.{DARK_FLAG, CARRIED_FLAG, VERB_FLAG, NOUN_FLAG, ADJECTIVE_FLAG}
 use Rattle.paw_base.specs.declared.flags.TheConstants.{ADVERB_FLAG, MOST_CARRIED_FLAG, LOCATION_FLAG, PREPOSITION_FLAG}
 use Rattle.paw_base.specs.declared.flags.TheConstants.{SECOND_NOUN_FLAG, SECOND_ADJECTIVE_FLAG, PRONOUN_NOUN_FLAG}
@@ -18,7 +18,7 @@ use Rattle.paw_base.specs.declared.parts.ObjectFacts.{ObjectFacts}
 -- The flags and places that are saved or kept together.
 pub record Position : Type 0 where
   pub flags : Bytes
-  pub places : List ℕ
+  pub places : ObjectPlaces
 
 -- The facts of the objects and the number of locations, which never change; the flags; the place of each object; the
 -- saved position; the kept positions; the seed of the random words, and how many of them were drawn.
@@ -26,7 +26,7 @@ pub record World : Type 0 where
   pub facts : List ObjectFacts
   pub locations : ℕ
   pub flags : Bytes
-  pub places : List ℕ
+  pub places : ObjectPlaces
   pub saved : Option Position
   pub kept : List (Option Position)
   pub seed : Seed
@@ -64,7 +64,7 @@ flags_with carried =
     slice_set (slice_set more MOST_CARRIED_FLAG STARTING_CARRIED) MOST_WEIGHT_FLAG STARTING_WEIGHT
 
 -- The places of the objects at the start of a game.
-abbrev pub opening_places : List ObjectFacts → List ℕ
+abbrev pub opening_places : List ObjectFacts → ObjectPlaces
 opening_places facts = map (λ f. f.start) facts
 
 -- The world at the start of a game.
@@ -81,8 +81,8 @@ starting_world facts locations seed = record {
 }
 
 -- The world of a game that starts anew: the draws, the saved position and the kept positions stay.
-abbrev pub restarted : World → World
-restarted w = record w { flags = flags_with (first_carried w.facts); places = opening_places w.facts }
+abbrev pub world_restarted : World → World
+world_restarted w = record w { flags = flags_with (first_carried w.facts); places = opening_places w.facts }
 
 -- The world with all objects back where they begin. A flag counts those that begin carried; the other flags stay.
 abbrev pub with_objects_returned : World → World
@@ -118,12 +118,12 @@ abbrev pub is_unlit : World → Bool
 is_unlit w = is_dark w && not (is_lit w)
 
 -- The world with a flag lower by one, unless it is 0.
-abbrev pub fallen : ℕ → World → World
-fallen f w = with_flag w f (flag w f - 1)
+abbrev pub flag_lowered : ℕ → World → World
+flag_lowered f w = with_flag w f (flag w f - 1)
 
 -- The world with a flag lower by one where this condition holds, and the same world otherwise.
-abbrev pub fallen_if : Bool → ℕ → World → World
-fallen_if b f w = if b then fallen f w else w
+abbrev pub flag_lowered_if : Bool → ℕ → World → World
+flag_lowered_if b f w = if b then flag_lowered f w else w
 
 -- An object leaves a place: where it was carried, the count of carried objects falls by one.
 abbrev pub let_go : World → ℕ → World
@@ -134,24 +134,24 @@ abbrev pub taken_up : World → ℕ → World
 taken_up w p = if p == CARRIED_PLACE then with_flag w CARRIED_FLAG (min 255 (flag w CARRIED_FLAG + 1)) else w
 
 -- An object moves to a place; nothing happens where it stands there already.
-abbrev pub moved : World → ℕ → ℕ → World
-moved w o p = if place w o == p then w else with_place (taken_up (let_go w (place w o)) p) o p
+abbrev pub object_moved : World → ℕ → ℕ → World
+object_moved w o p = if place w o == p then w else with_place (taken_up (let_go w (place w o)) p) o p
 
 -- The flags and places of a world.
 abbrev pub position_of : World → Position
 position_of w = record { flags = w.flags; places = w.places }
 
 -- The world with its flags and places as the saved position.
-abbrev pub ramsaved : World → World
-ramsaved w = record w { saved = Some (position_of w) }
+abbrev pub position_saved : World → World
+position_saved w = record w { saved = Some (position_of w) }
 
 -- The world with flags 0 to n and all places taken from a position.
 abbrev pub at_position : World → ℕ → Position → World
 at_position w n q = record w { flags = take (suc n) q.flags ++ drop (suc n) w.flags; places = q.places }
 
 -- The world with flags 0 to n and all places taken from the saved position; the same world where nothing is saved.
-abbrev pub ramloaded : World → ℕ → World
-ramloaded w n = option_map_or (at_position w n) w.saved w
+abbrev pub saved_position_loaded : World → ℕ → World
+saved_position_loaded w n = option_map_or (at_position w n) w.saved w
 
 -- The kept position with a number below 4; nothing where none was kept.
 abbrev pub kept_position : World → ℕ → Option Position

@@ -53,7 +53,7 @@ impl Places {
         all
     }
 
-    /// The places of no objects.
+    // The places of no objects.
     fn empty() -> Places
         ensures value { result ≡ [] }
     {
@@ -64,7 +64,7 @@ impl Places {
         }
     }
 
-    /// One object more, at this place.
+    // One object more, at this place.
     fn add(&mut self, p: u8)
         requires room { length self.old < OBJECT_LIMIT }
         ensures adds { self.new ≡ self.old ++ p ∷ [] }

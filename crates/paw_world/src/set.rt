@@ -62,7 +62,7 @@ impl ObjectSet {
     }
 }
 
-/// The lowest bit of a word that is 1 and isn't below `from`.
+// The lowest bit of a word that is 1 and isn't below `from`.
 fn lowest_from(word: u64, from: u8) -> Option<u8>
     requires bound { from < 64 }
     ensures lowest { IsLowestFrom word from result }

@@ -4,10 +4,12 @@ ghost use Rattle.std.specs.Prelude.{◌≡◌, ◌+◌, ◌-◌, ◌^◌, ◌<�
 ghost use Rattle.std.specs.Prelude.{is_some, IsSome, IfSome, MatchOption};
 ghost use Rattle.paw_base.specs.declared.limits.TheConstants.{OBJECT_LIMIT, POSITION_COUNT};
 ghost use Rattle.paw_world.specs.Draws.{random_word};
-ghost use Rattle.paw_world.specs.World.{starting_world, flag, with_flag, place, moved, ramsaved, ramloaded};
-ghost use Rattle.paw_world.specs.World.{kept_position, keeping, restarted, with_objects_returned};
+ghost use Rattle.paw_world.specs.World.{starting_world, flag, with_flag, place, object_moved, position_saved};
+ghost use Rattle.paw_world.specs.World.{saved_position_loaded};
+ghost use Rattle.paw_world.specs.World.{kept_position, keeping, world_restarted, with_objects_returned};
 ghost use Rattle.paw_world.specs.World.{drawn_on, first_carried, IsWorld};
-ghost use Rattle.paw_world.specs.inner.World.{opening_flags, first_at, saved_flag, saved_place, recalled, with_kept};
+ghost use Rattle.paw_world.specs.inner.World.{opening_flags, first_at, saved_flag, saved_place, kept_position_loaded};
+ghost use Rattle.paw_world.specs.inner.World.{with_kept};
 ghost use Rattle.paw_world.specs.inner.World.{kept_flag, kept_place};
 ghost use Rattle.paw_world.specs.Weight.{weight, weight_down, carried_weight};
 ghost use Rattle.paw_world.specs.inner.Weight.{weight_with};
@@ -159,7 +161,7 @@ impl World {
     /// not below 0, where the object was carried (254), and rises by one, but not above 255, where it is carried now.
     pub fn move_to(&mut self, o: u8, p: u8)
         requires known { o < length self.old.places }
-        ensures change { self.new ≡ moved self.old o p }
+        ensures change { self.new ≡ object_moved self.old o p }
     {
         let old = self.places.place(o);
         if old == p {
@@ -188,7 +190,7 @@ impl World {
 
     /// Flags and places become the saved position.
     pub fn ramsave(&mut self)
-        ensures change { self.new ≡ ramsaved self.old }
+        ensures change { self.new ≡ position_saved self.old }
     {
         let saved = self.saved.get_or_insert_with(Position::empty);
         saved.put(&self.flags, self.places.all());
@@ -196,7 +198,7 @@ impl World {
 
     /// Takes flags 0 to n and all places from the saved position. Where nothing is saved nothing changes.
     pub fn ramload(&mut self, n: u8)
-        ensures change { self.new ≡ ramloaded self.old n }
+        ensures change { self.new ≡ saved_position_loaded self.old n }
     {
         let Some(saved) = &self.saved else {
             return;
@@ -262,7 +264,7 @@ impl World {
     pub fn recall(&mut self, n: u8) -> bool
         requires known { n < POSITION_COUNT }
         ensures found { result ≡ is_some (kept_position self.old n) }
-        ensures change { self.new ≡ recalled self.old n }
+        ensures change { self.new ≡ kept_position_loaded self.old n }
     {
         let Some(kept) = &self.kept[n as usize] else {
             return false;
@@ -362,7 +364,7 @@ impl World {
 
     /// Gives the flags and places of a game's start. Seed, draws, the saved position and the kept positions stay.
     pub fn restart(&mut self)
-        ensures change { self.new ≡ restarted self.old }
+        ensures change { self.new ≡ world_restarted self.old }
     {
         let objects = self.places.count() as usize;
         let facts = &self.facts[..objects];
@@ -390,7 +392,7 @@ impl World {
         self.weight_down(o, LEVELS)
     }
 
-    /// The weight of an object where contents count down to this number of levels below it, at most 255.
+    // The weight of an object where contents count down to this number of levels below it, at most 255.
     #[cycle(weigh)]
     fn weight_down(&self, o: u8, levels: u8) -> u8
         requires known { o < length self.now.places }
@@ -403,7 +405,7 @@ impl World {
         self.weight_with(facts.weight, o, levels - 1)
     }
 
-    /// A weight together with that of all objects at a place, at most 255.
+    // A weight together with that of all objects at a place, at most 255.
     #[cycle(weigh)]
     fn weight_with(&self, own: u8, p: u8, levels: u8) -> u8
         ensures value { result ≡ weight_with self.now levels own p }
@@ -426,7 +428,7 @@ impl World {
     }
 }
 
-/// These facts, followed by others up to the greatest number of objects.
+// These facts, followed by others up to the greatest number of objects.
 fn facts_array(facts: &[ObjectFacts]) -> [ObjectFacts; OBJECT_LIMIT]
     requires few { length facts.now ≤ OBJECT_LIMIT }
     ensures begins { take (length facts.now) result ≡ facts.now }
@@ -436,7 +438,7 @@ fn facts_array(facts: &[ObjectFacts]) -> [ObjectFacts; OBJECT_LIMIT]
     all
 }
 
-/// How many objects begin carried.
+// How many objects begin carried.
 fn first_carried(facts: &[ObjectFacts]) -> u8
     requires few { length facts.now ≤ OBJECT_LIMIT }
     ensures value { result ≡ first_carried facts.now }
@@ -444,7 +446,7 @@ fn first_carried(facts: &[ObjectFacts]) -> u8
     facts.iter().filter(|f| f.start == CARRIED_PLACE).count() as u8
 }
 
-/// The flags at the start of a game.
+// The flags at the start of a game.
 fn opening_flags(facts: &[ObjectFacts]) -> [u8; FLAG_COUNT]
     requires few { length facts.now ≤ OBJECT_LIMIT }
     ensures value { result ≡ opening_flags facts.now }

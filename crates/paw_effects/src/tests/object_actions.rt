@@ -163,7 +163,7 @@ fn words(alloc: Global) -> Result<Vec<Word>, AllocError> {
     Ok(words)
 }
 
-/// Each message is its number and the name of the object last referred to.
+// Each message is its number and the name of the object last referred to.
 fn system(alloc: Global) -> Result<Vec<Text>, AllocError> {
     let mut system = Vec::new(alloc);
     for n in 0..54u8 {

@@ -22,16 +22,16 @@ use Rattle.paw_process.specs.inner.OpenTables.{IsWaiting, IsClosed}
 use Rattle.paw_process.specs.declared.kept.Frames.{Frames}
 
 -- An unused frame.
-abbrev pub unused : Frame
-unused = record { table = 0; entry = 0; at = 0; acted = false }
+abbrev pub blank_frame : Frame
+blank_frame = record { table = 0; entry = 0; at = 0; acted = false }
 
 -- What is kept of a machine: its frames, the outermost first, and its loop.
-abbrev pub kept : OpenTables → Frames
-kept m = frames_at (reverse m.frames) m.turning
+abbrev pub machine_kept : OpenTables → Frames
+machine_kept m = frames_at (reverse m.frames) m.turning
 
 -- The machine of what is kept, which waits at this prompt, with a full budget and no steps.
-abbrev pub restored : Frames → Option Prompt → OpenTables
-restored k waiting = record {
+abbrev pub machine_restored : Frames → Option Prompt → OpenTables
+machine_restored k waiting = record {
   frames = reverse (take k.count k.rows);
   turning = k.turning;
   waiting = waiting;

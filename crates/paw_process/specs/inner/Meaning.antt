@@ -9,7 +9,7 @@ use Rattle.paw_routines.specs.Routines.{AreAnswersOf}
 use Rattle.paw_effects.specs.Story.{Story, story_of}
 use Rattle.paw_effects.specs.declared.act.Prompt.TheVariants as prompt
 use Rattle.paw_reading.specs.declared.places.Frame.{Frame}
-use Rattle.paw_reading.specs.Run.{Run, Step, closed, is_ignored, heard, reply, is_yes}
+use Rattle.paw_reading.specs.Run.{Run, Step, piece_closed, is_ignored, with_line_heard, reply, is_yes}
 use Rattle.paw_reading.specs.declared.places.Halt.{Halt}
 use Rattle.paw_reading.specs.Reading.{Redescribes, Out, Left, Stopped, closes_piece, halts, rest_of_table}
 use Rattle.paw_reading.specs.GoingOn.{on_path}
@@ -83,13 +83,13 @@ pub record SamePast (old new : Run) : Type 0 where
 abbrev pub TableHalts : Halt → Run → Out → Type 0
 TableHalts halt r x = (closes_piece halt ≡ false) × (s : Run) × (x ≡ halts halt s) × SamePast r s
 
--- How a reading ends or goes on where the machine stopped so, with these frames and this run: the outermost table was
--- left; the location is described again; the piece is closed, and the run goes on at the prompt along the frames; or
--- play has ended for good.
+-- How a reading ends or goes on after such a stop of the machine, with these frames and this run: the outermost table
+-- was left; the location is described again; the piece is closed, and the run goes on at the prompt along the frames;
+-- or play has ended for good.
 abbrev pub ComesTo : Story → Turned → List Frame → Run → Out → Type 0
 ComesTo g (turned.Left acted) fs r x = x ≡ Left acted r
 ComesTo g turned.Redescribe fs r x = x ≡ Stopped Redescribes r
-ComesTo g (turned.Waits p) fs r x = x ≡ on_path g p 0 (reverse fs) (closed r)
+ComesTo g (turned.Waits p) fs r x = x ≡ on_path g p 0 (reverse fs) (piece_closed r)
 ComesTo g (turned.Halted halt) fs r x = TableHalts halt r x
 
 -- Running on from what stood to what stands now: for every run that showed what stood there are further condacts that
@@ -118,11 +118,13 @@ abbrev pub AnswersQuit : Bool → List Frame → List Frame → Type 0
 AnswersQuit agrees old new =
     (g : Story) (line : Line) (lines : Lines) (r : Run) →
     Valid g.game → is_ignored r.world line ≡ false → is_yes (reply line) ≡ agrees →
-    on_path g prompt.Quit 0 (reverse old) (to_come (line ∷ lines) r) ≡ going_in g new (heard line (to_come lines r))
+    on_path g prompt.Quit 0 (reverse old) (to_come (line ∷ lines) r)
+    ≡ going_in g new (with_line_heard line (to_come lines r))
 
 -- The same holds of going on from a key, with any line.
 abbrev pub AnswersKey : List Frame → List Frame → Type 0
 AnswersKey old new =
     (g : Story) (line : Line) (lines : Lines) (r : Run) →
     is_ignored r.world line ≡ false →
-    on_path g prompt.Key 0 (reverse old) (to_come (line ∷ lines) r) ≡ going_in g new (heard line (to_come lines r))
+    on_path g prompt.Key 0 (reverse old) (to_come (line ∷ lines) r)
+    ≡ going_in g new (with_line_heard line (to_come lines r))

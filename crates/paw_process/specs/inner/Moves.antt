@@ -15,7 +15,7 @@ use Rattle.paw_reading.specs.declared.places.OpenLoop.{OpenLoop}
 use Rattle.paw_reading.specs.Run.{Run, Step}
 use Rattle.paw_reading.specs.Reading.{Out, Left, next_object_or, over_objects, rest_of_loop, deeper, from_condact}
 use Rattle.paw_reading.specs.Reading.{rest_of_entry}
-use Rattle.paw_reading.specs.Reading.{after_action, step_at, noted, reads_one}
+use Rattle.paw_reading.specs.Reading.{after_action, step_at, step_noted, reads_one}
 use Rattle.paw_reading.specs.inner.GoingOn.{along}
 use Rattle.paw_process.specs.inner.OpenTables.{OpenTables}
 use Rattle.paw_process.specs.inner.OpenTables.{HasRead, ReadsStep, IsReading}
@@ -41,8 +41,8 @@ abbrev pub looping : World → Option OpenLoop → Run → Run
 looping w o r = record r { world = w; turning = o }
 
 -- How the reading ends where the innermost table, above these frames, ends this way: its level's open loop goes on.
-abbrev pub resolved : Story → List Frame → Out → Out
-resolved g fs x = along g fs (next_object_or (length fs) (rest_of_loop g (deeper g (length fs)) (length fs)) x)
+abbrev pub loop_resolved : Story → List Frame → Out → Out
+loop_resolved g fs x = along g fs (next_object_or (length fs) (rest_of_loop g (deeper g (length fs)) (length fs)) x)
 
 -- Reads on in the innermost table at the entry after this frame's.
 abbrev pub next_of : Story → List Frame → Frame → Bool → Run → Out
@@ -55,12 +55,12 @@ past_of g fs f = from_condact g (deeper g (length fs)) (length fs) f.table f.ent
 -- Reads the condacts of this frame's entry from its condact on.
 abbrev pub reading_at : Story → List Frame → Frame → Run → Out
 reading_at g fs f r =
-    resolved g fs (rest_of_entry g (deeper g (length fs)) (length fs) f.table f.entry f.at f.acted r)
+    loop_resolved g fs (rest_of_entry g (deeper g (length fs)) (length fs) f.table f.entry f.at f.acted r)
 
 -- Goes on in the innermost table after an action.
 abbrev pub acted_at : Story → List Frame → Frame → Effect → Run → Out
 acted_at g fs f e r =
-    resolved g fs (after_action g (deeper g (length fs)) (length fs) f (next_of g fs f) (past_of g fs f) e r)
+    loop_resolved g fs (after_action g (deeper g (length fs)) (length fs) f (next_of g fs f) (past_of g fs f) e r)
 
 -- Lets a loop of the innermost table take the next of the last n objects.
 abbrev pub loop_at_frames : Story → List Frame → OpenLoop → ℕ → Run → Out
@@ -88,18 +88,18 @@ pub record Enters (g : GameLists) (w : World) (f e : Frame) : Type 0 where
 abbrev pub EntersNone : GameLists → World → Frame → Type 0
 EntersNone g w f =
     (X : RoutineAnswers) (fs : List Frame) (r : Run) → r.world ≡ w →
-    going_in (story_of g X) (f ∷ fs) r ≡ resolved (story_of g X) fs (Left f.acted r)
+    going_in (story_of g X) (f ∷ fs) r ≡ loop_resolved (story_of g X) fs (Left f.acted r)
 
 -- Reads one condact of this frame.
 abbrev pub one_at : Story → List Frame → Frame → Condact → Run → Out
 one_at g fs f c r =
-    resolved g fs (reads_one g (deeper g (length fs)) (length fs) f (next_of g fs f) (past_of g fs f) c r)
+    loop_resolved g fs (reads_one g (deeper g (length fs)) (length fs) f (next_of g fs f) (past_of g fs f) c r)
 
 -- Reading this condact leads from what stood to what stands now: it is noted with yes or no, and so it is in every run.
 abbrev pub ReadsOne : Story → List Frame → Frame → Condact → Held → Option Turned → Held → Type 0
 ReadsOne g fs f c old t new =
     (passed : Bool) × ReadsStep (step_at f c passed) old.machine new.machine × ((r : Run) →
-    Continues g (one_at g fs f c (run_held old r)) t new.machine.frames (noted f c passed (run_held new r)))
+    Continues g (one_at g fs f c (run_held old r)) t new.machine.frames (step_noted f c passed (run_held new r)))
 
 -- Where reading goes on after QUIT's question: after yes at the next condact, after no past the table, as after DONE.
 abbrev pub after_quit : Bool → Frame → Frame

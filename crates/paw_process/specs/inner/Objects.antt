@@ -4,8 +4,8 @@ use Rattle.paw_base.specs.declared.flags.TheConstants.{LOOP_FLAG}
 use Rattle.paw_game.specs.Game.{GameLists}
 use Rattle.paw_game.specs.Tables.{facts_at}
 use Rattle.paw_world.specs.World.{World, place, with_flag}
-use Rattle.paw_effects.specs.Effects.{referred}
-use Rattle.paw_reading.specs.Reading.{may_be_taken, named}
+use Rattle.paw_effects.specs.Effects.{object_referred}
+use Rattle.paw_reading.specs.Reading.{may_be_taken, object_named}
 
 -- Whether an object is at a place, and a loop may take it.
 abbrev pub is_next : GameLists → World → ℕ → ℕ → Bool
@@ -19,4 +19,4 @@ least_taken g w p (suc n) =
 
 -- The world once a loop has taken an object.
 abbrev pub with_taken : GameLists → World → ℕ → World
-with_taken g w o = referred (with_flag (named w (facts_at g o)) LOOP_FLAG o) o
+with_taken g w o = object_referred (with_flag (object_named w (facts_at g o)) LOOP_FLAG o) o

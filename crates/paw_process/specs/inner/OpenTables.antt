@@ -87,8 +87,8 @@ abbrev pub new_machine : OpenTables
 new_machine = record { frames = []; turning = None; waiting = None; left = READ_LIMIT; steps = no_steps }
 
 -- The budget is full again, and there are no steps.
-abbrev pub refilled : OpenTables → OpenTables
-refilled m = record m { left = READ_LIMIT; steps = no_steps }
+abbrev pub budget_refilled : OpenTables → OpenTables
+budget_refilled m = record m { left = READ_LIMIT; steps = no_steps }
 
 -- This table alone is open, at its start.
 abbrev pub table_begun : ℕ → OpenTables → OpenTables

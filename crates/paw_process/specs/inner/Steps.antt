@@ -2,7 +2,6 @@
 use Rattle.std.specs.Prelude.{◌≡◌, ℕ, ◌+◌, ◌-◌, ◌<◌, ◌≤◌, ◌^◌, true, ◌∷◌, Option}
 use Rattle.std.specs.Fn.{Shared}
 use Rattle.paw_base.specs.declared.parts.Condact.{Condact}
-use Rattle.paw_game.specs.declared.cursor.CondactCursor.{CondactCursor}
 use Rattle.paw_game.specs.Game.{GameLists}
 use Rattle.paw_game.specs.inner.Valid.{is_right}
 use Rattle.paw_world.specs.World.{World}
@@ -33,19 +32,13 @@ pub record IsInnermost (f : Frame) (m : OpenTables) : Type 0 where
   pub top : m.frames ≡ f ∷ below m.frames
   pub place : IsAtCondact f
 
--- This condact may be read at the innermost frame: the budget isn't used up, and the world can make one draw more.
+-- This condact of a frame may be read: the budget isn't used up, and the world can make one draw more.
 pub record MayReadOne (g : GameLists) (f : Frame) (c : Condact) (m : OpenTables) (w : World) : Type 0 where
   pub ready : IsReady g m w
-  pub at : IsInnermost f m
+  pub place : IsAtCondact f
   pub left : 0 < m.left
   pub condact : is_right g c ≡ true
   pub draws : w.draws < 2 ^ 64 - 1
-
--- The cursor stands at the frame's condact.
-pub record IsCursorOf (f : Frame) (cursor : CondactCursor) : Type 0 where
-  pub table : cursor.table ≡ f.table
-  pub entry : cursor.entry ≡ f.entry
-  pub at : cursor.at ≡ f.at
 
 -- The machine may read on or has stopped; no condact is read, the world is the game's still, and nothing is drawn.
 pub record HasMoved (g : GameLists) (old : OpenTables) (w : World) (t : Option Turned)

@@ -1,5 +1,5 @@
 -- What is left to do between two condacts that are read.
-use Rattle.std.specs.Prelude.{◌≡◌, ℕ, suc, ◌+◌, ◌-◌, ◌*◌, ◌<◌, List, [], ◌∷◌, Option, Some, None}
+use Rattle.std.specs.Prelude.{◌≡◌, ℕ, suc, ◌+◌, ◌-◌, ◌*◌, ◌<◌, ◌≤◌, List, [], ◌∷◌, Option, Some, None}
 use Rattle.paw_base.specs.declared.limits.TheConstants.{ENTRY_LIMIT}
 use Rattle.paw_reading.specs.declared.places.Frame.{Frame}
 use Rattle.paw_reading.specs.declared.places.OpenLoop.{OpenLoop}
@@ -19,7 +19,12 @@ loop_work (Some l) = (256 - l.last) * 5000
 abbrev pub machine_work : OpenTables → ℕ
 machine_work m = frames_work m.frames + loop_work m.turning
 
--- A condact was counted, or less is left to do.
+-- Condacts were counted, or less is left to do.
 pub data Progress (old new : OpenTables) : Type 0 where
-  counts : new.left + 1 ≡ old.left → Progress old new
+  counts : new.left < old.left → Progress old new
   falls : new.left ≡ old.left → machine_work new < machine_work old → Progress old new
+
+-- Condacts were counted, or no more is left to do.
+pub data IsNoFurther (old new : OpenTables) : Type 0 where
+  counted : new.left < old.left → IsNoFurther old new
+  stays : new.left ≡ old.left → machine_work new ≤ machine_work old → IsNoFurther old new

@@ -18,7 +18,7 @@ abbrev pub with_lines : Lines → Run → Run
 with_lines lines r = record r { events = r.events ++ lines }
 
 -- How reading at a level ends where these lines follow.
-abbrev pub extended : Story → Lines → ℕ → Out → Out
-extended g lines lv (Left a r) = Left a (with_lines lines r)
-extended g lines lv (Waits p path r) = on_path g p lv path (with_lines lines r)
-extended g lines lv (Stopped stop r) = Stopped stop (with_lines lines r)
+abbrev pub out_followed : Story → Lines → ℕ → Out → Out
+out_followed g lines lv (Left a r) = Left a (with_lines lines r)
+out_followed g lines lv (Waits p path r) = on_path g p lv path (with_lines lines r)
+out_followed g lines lv (Stopped stop r) = Stopped stop (with_lines lines r)

@@ -7,26 +7,26 @@ use Rattle.paw_reading.specs.declared.places.Frame.{Frame}
 use Rattle.paw_reading.specs.Run.{Run, Step}
 use Rattle.paw_reading.specs.Reading.{rest_of_table}
 use Rattle.paw_reading.specs.GoingOn.{on_path}
-use Rattle.paw_reading.specs.inner.GoingOn.{with_lines, extended}
+use Rattle.paw_reading.specs.inner.GoingOn.{with_lines, out_followed}
 use Rattle.paw_reading.specs.Turn.{TurnPhase, Ending, WaitsAt, Halted, Unended, turns_from, reading, text_of}
 use Rattle.paw_reading.specs.Turn.{going_on_from}
-use Rattle.paw_reading.specs.inner.Turn.{followed}
+use Rattle.paw_reading.specs.inner.Turn.{ending_followed}
 
 -- Reading on with more lines is reading on, and then: a reading that waits has closed the same pieces, and goes on with
 -- the lines along its path; any other ends in the same way, and leaves the lines.
 abbrev pub TablesGoOn : Type 0
 TablesGoOn = (g : Story) (lines : Lines) (lv t e k : ℕ) (acted : Bool) (r : Run) →
-    rest_of_table g lv t e k acted (with_lines lines r) ≡ extended g lines lv (rest_of_table g lv t e k acted r)
+    rest_of_table g lv t e k acted (with_lines lines r) ≡ out_followed g lines lv (rest_of_table g lv t e k acted r)
 
 -- The same holds of going on along a path.
 abbrev pub PathsGoOn : Type 0
 PathsGoOn = (g : Story) (lines : Lines) (p : Prompt) (lv : ℕ) (path : List Frame) (r : Run) →
-    on_path g p lv path (with_lines lines r) ≡ extended g lines lv (on_path g p lv path r)
+    on_path g p lv path (with_lines lines r) ≡ out_followed g lines lv (on_path g p lv path r)
 
 -- The same holds of the turns from a phase on, where no loop is open.
 abbrev pub TurnsGoOn : Type 0
 TurnsGoOn = (g : Story) (lines : Lines) (s : TurnPhase) (r : Run) → r.turning ≡ None →
-    turns_from g s (with_lines lines r) ≡ followed g lines (turns_from g s r)
+    turns_from g s (with_lines lines r) ≡ ending_followed g lines (turns_from g s r)
 
 -- ---- what was closed before ----
 

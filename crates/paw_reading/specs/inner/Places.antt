@@ -21,7 +21,7 @@ use Rattle.paw_reading.specs.declared.places.Halt.TheVariants as halt
 use Rattle.paw_reading.specs.Turn.{Ending, WaitsAt, Halted, reading, first_table, going_on_from}
 use Rattle.paw_reading.specs.Places.{waiting_code}
 
--- A condact with this code stands at this place.
+-- A condact with this code stands at this frame.
 pub record IsAt (g : GameLists) (code t e k : ℕ) : Type 0 where
   pub condact : Condact
   pub stands : condact_at g t e k ≡ Some condact

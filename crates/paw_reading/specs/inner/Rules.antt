@@ -19,11 +19,12 @@ use Rattle.paw_effects.specs.Holds.{is_condition, holds}
 use Rattle.paw_effects.specs.Effects.{effect_of}
 use Rattle.paw_reading.specs.declared.places.Frame.{Frame}
 use Rattle.paw_reading.specs.declared.places.OpenLoop.{OpenLoop}
-use Rattle.paw_reading.specs.Run.{Run, closed, fits, printed, with_world, without_loop, anew}
-use Rattle.paw_reading.specs.Run.{is_ignored, heard, reply, is_yes, is_no, taken_phrase}
+use Rattle.paw_reading.specs.Run.{Run, piece_closed, fits, text_printed, with_world, without_loop, anew}
+use Rattle.paw_reading.specs.Run.{is_ignored, with_line_heard, reply, is_yes, is_no, taken_phrase}
 use Rattle.paw_reading.specs.declared.places.Halt.TheVariants as halt
 use Rattle.paw_reading.specs.Reading.{Redescribes, Restarts, Out, Left, Waits, Stopped}
-use Rattle.paw_reading.specs.Reading.{halts, noted, after_call, at_level, next_object_or, is_taken, taken, over_objects}
+use Rattle.paw_reading.specs.Reading.{halts, step_noted, after_call, at_level, next_object_or, is_taken, object_taken}
+use Rattle.paw_reading.specs.Reading.{over_objects}
 use Rattle.paw_reading.specs.Reading.{loop_of}
 use Rattle.paw_reading.specs.Reading.{over, coming_phrase, after_action, carried_out, frame_at}
 use Rattle.paw_reading.specs.Reading.{is_for_now, rest_of_entry, from_condact, rest_of_loop, deeper, rest_of_table}
@@ -71,22 +72,22 @@ goes g lv f e r =
     (after_action g (deeper g lv) lv f (plain_next g lv f) (plain_past g lv f) e r)
 
 -- The run after a condition.
-abbrev pub tested : Story → Condact → Run → Run
-tested g c r = with_world (holds g.game r.world c).world r
+abbrev pub condition_tested : Story → Condact → Run → Run
+condition_tested g c r = with_world (holds g.game r.world c).world r
 
 -- The run after a condition that didn't fail.
-abbrev pub passed : Story → Frame → Condact → Run → Run
-passed g f c r = noted f c true (tested g c r)
+abbrev pub condition_passed : Story → Frame → Condact → Run → Run
+condition_passed g f c r = step_noted f c true (condition_tested g c r)
 
 -- The question of QUIT after its test.
 abbrev pub question : Story → Condact → Run → Text
-question g c r = quit_question g (tested g c r)
+question g c r = quit_question g (condition_tested g c r)
 
 -- The run after an action: its text is printed, and it is carried out.
-abbrev pub done : Story → Frame → Condact → Run → Run
-done g f c r =
+abbrev pub action_done : Story → Frame → Condact → Run → Run
+action_done g f c r =
     let d = effect_of g r.world c in
-    carried_out d (printed d.text (noted f c true r))
+    carried_out d (text_printed d.text (step_noted f c true r))
 
 -- The condact stands at the frame, and the open piece may read one more.
 pub record MayRead (g : Story) (f : Frame) (c : Condact) (r : Run) : Type 0 where
@@ -112,7 +113,7 @@ pub record Hears (line : Line) (lines : Lines) (r : Run) : Type 0 where
 
 -- The run once this line is heard, with these lines to come.
 abbrev pub hearing : Line → Lines → Run → Run
-hearing line lines r = heard line (record r { events = lines })
+hearing line lines r = with_line_heard line (record r { events = lines })
 
 -- ---- rules ----
 
@@ -136,17 +137,18 @@ pub record ReadsCondacts (g : Story) (lv : ℕ) : Type 0 where
   pub used_up : (f : Frame) (c : Condact) (r : Run) → condact_at g.game f.table f.entry f.at ≡ Some c →
       READ_LIMIT ≤ length r.read → at_frame g lv f r ≡ halts (halt.Spent spent.Condacts) r
   pub holding : (f : Frame) (c : Condact) (r : Run) → IsTested g f c r truth.Yes →
-      at_frame g lv f r ≡ past g lv f f.acted (passed g f c r)
+      at_frame g lv f r ≡ past g lv f f.acted (condition_passed g f c r)
   pub failing : (f : Frame) (c : Condact) (r : Run) → IsTested g f c r truth.No →
-      at_frame g lv f r ≡ next g lv f f.acted (noted f c false (tested g c r))
+      at_frame g lv f r ≡ next g lv f f.acted (step_noted f c false (condition_tested g c r))
   pub asking : (f : Frame) (c : Condact) (r : Run) → IsTested g f c r truth.Ask → fits r (question g c r) ≡ true →
-      at_frame g lv f r ≡ on_path g prompt.Quit lv (f ∷ []) (closed (printed (question g c r) (passed g f c r)))
+      at_frame g lv f r ≡ on_path g prompt.Quit lv (f ∷ [])
+      (piece_closed (text_printed (question g c r) (condition_passed g f c r)))
   pub asking_too_long : (f : Frame) (c : Condact) (r : Run) → IsTested g f c r truth.Ask →
-      fits r (question g c r) ≡ false → at_frame g lv f r ≡ halts (halt.Spent spent.Text) (passed g f c r)
+      fits r (question g c r) ≡ false → at_frame g lv f r ≡ halts (halt.Spent spent.Text) (condition_passed g f c r)
   pub acting : (f : Frame) (c : Condact) (r : Run) → IsActing g f c r true →
-      at_frame g lv f r ≡ goes g lv f (effect_of g r.world c).act.effect (done g f c r)
+      at_frame g lv f r ≡ goes g lv f (effect_of g r.world c).act.effect (action_done g f c r)
   pub acting_too_long : (f : Frame) (c : Condact) (r : Run) → IsActing g f c r false →
-      at_frame g lv f r ≡ halts (halt.Spent spent.Text) (noted f c true r)
+      at_frame g lv f r ≡ halts (halt.Spent spent.Text) (step_noted f c true r)
 
 -- What follows an action: the next condact, with an action carried out; the way out of the table; the description, with
 -- no loop; a table one level deeper, down to level 10; a loop, from its first object on; a prompt, the piece closed; or
@@ -159,7 +161,7 @@ pub record FollowsActions (g : Story) (lv : ℕ) : Type 0 where
       goes g lv f (effect.Call u) r ≡ after_call f (past g lv f) (rest_of_table g (suc lv) u 0 0 false r)
   pub deep : (f : Frame) (u : ℕ) (r : Run) → LEVEL_LIMIT ≤ lv → goes g lv f (effect.Call u) r ≡ halts (halt.TooDeep u) r
   pub loop : (f : Frame) (p : ℕ) (r : Run) → goes g lv f (effect.Loop p) r ≡ looks g lv (loop_of lv f p) 0 r
-  pub ask : (f : Frame) (p : Prompt) (r : Run) → goes g lv f (effect.Ask p) r ≡ on_path g p lv (f ∷ []) (closed r)
+  pub ask : (f : Frame) (p : Prompt) (r : Run) → goes g lv f (effect.Ask p) r ≡ on_path g p lv (f ∷ []) (piece_closed r)
   pub sentence : (f : Frame) (s : Sentence) (bytes : Bytes) (r : Run) → coming_phrase g r ≡ IsSentence s bytes →
       goes g lv f effect.Parse r ≡ next g lv f f.acted (taken_phrase s bytes r)
   pub unknown : (f : Frame) (bytes : Bytes) (r : Run) → coming_phrase g r ≡ IsUnknown bytes →
@@ -179,7 +181,7 @@ pub record LoopRules (g : Story) (lv : ℕ) : Type 0 where
       is_taken g.game r.world l o ≡ false → looks g lv l o r ≡ looks g lv l (suc o) r
   pub takes : (l : OpenLoop) (o : ℕ) (r : Run) → l.level ≡ lv → o < length g.game.objects →
       is_taken g.game r.world l o ≡ true →
-      looks g lv l o r ≡ rest_of_table g lv l.table l.entry (suc l.at) true (taken g.game l o r)
+      looks g lv l o r ≡ rest_of_table g lv l.table l.entry (suc l.at) true (object_taken g.game l o r)
   pub none_left : (l : OpenLoop) (o : ℕ) (r : Run) → length g.game.objects ≤ o →
       looks g lv l o r ≡ Left true (without_loop r)
 
@@ -192,7 +194,7 @@ pub record AnswersPrompts (g : Story) (lv : ℕ) : Type 0 where
   pub no_line : (p : Prompt) (f : Frame) (r : Run) → r.events ≡ [] → on_path g p lv (f ∷ []) r ≡ Waits p (f ∷ []) r
   pub ignored : (p : Prompt) (f : Frame) (line : Line) (lines : Lines) (r : Run) →
       r.events ≡ line ∷ lines → is_ignored r.world line ≡ true →
-      on_path g p lv (f ∷ []) r ≡ on_path g p lv (f ∷ []) (closed (record r { events = lines }))
+      on_path g p lv (f ∷ []) r ≡ on_path g p lv (f ∷ []) (piece_closed (record r { events = lines }))
   pub quit_yes : (f : Frame) (line : Line) (lines : Lines) (r : Run) → Hears line lines r →
       is_yes (reply line) ≡ true →
       on_path g prompt.Quit lv (f ∷ []) r ≡ past g lv f f.acted (hearing line lines r)

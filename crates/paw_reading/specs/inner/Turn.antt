@@ -14,10 +14,10 @@ use Rattle.paw_reading.specs.Turn.{going_on_from}
 -- ---- going on ----
 
 -- A reading that waits goes on with these lines; any other stays as it ended, with the lines untaken.
-abbrev pub followed : Story → Lines → Ending → Ending
-followed g lines (WaitsAt p path r) = going_on_from g p path (with_lines lines r)
-followed g lines (Halted halt r) = Halted halt (with_lines lines r)
-followed g lines Unended = Unended
+abbrev pub ending_followed : Story → Lines → Ending → Ending
+ending_followed g lines (WaitsAt p path r) = going_on_from g p path (with_lines lines r)
+ending_followed g lines (Halted halt r) = Halted halt (with_lines lines r)
+ending_followed g lines Unended = Unended
 
 -- ---- the laws ----
 
@@ -55,4 +55,4 @@ WaitsOn = (g : Story) (p : Prompt) (path : List Frame) (r : Run) → MayWaitAlon
 -- Reading more lines is reading some, and going on with the others.
 abbrev pub GoingOnIsReading : Type 0
 GoingOnIsReading = (g : Story) (seed : Seed) (es fs : Lines) →
-    reading g seed (es ++ fs) ≡ followed g fs (reading g seed es)
+    reading g seed (es ++ fs) ≡ ending_followed g fs (reading g seed es)

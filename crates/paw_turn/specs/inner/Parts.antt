@@ -15,10 +15,10 @@ use Rattle.paw_reading.specs.Turn.{going_on_from}
 use Rattle.paw_reading.specs.Bounds.{IsLine}
 use Rattle.paw_process.specs.declared.machine.TheConstants.{MOST_FRAMES}
 use Rattle.paw_process.specs.inner.OpenTables.{OpenTables}
-use Rattle.paw_process.specs.inner.Kept.{kept}
+use Rattle.paw_process.specs.inner.Kept.{machine_kept}
 use Rattle.paw_process.specs.inner.Kept.{frames_fault}
-use Rattle.paw_process.specs.inner.OpenTables.{refilled}
-use Rattle.paw_process.specs.inner.Kept.{restored, waiting_at}
+use Rattle.paw_process.specs.inner.OpenTables.{budget_refilled}
+use Rattle.paw_process.specs.inner.Kept.{machine_restored, waiting_at}
 use Rattle.paw_process.specs.inner.Kept.{WaitsAtPrompt as MachineStandsAt}
 use Rattle.paw_process.specs.declared.kept.Frames.{Frames}
 use Rattle.paw_turn.specs.declared.Step.{Step}
@@ -70,19 +70,19 @@ abbrev pub RestoredFits : Type 0
 RestoredFits =
     (g : GameLists) (at : Prompt) (k : Frames) (w : World) (m : OpenTables) (p : PendingLine) →
     IsWorldOf g w → IsPending m p → length k.rows ≡ MOST_FRAMES →
-    m ≡ restored k (waiting_at at) → MachineStandsAt at m → frames_fault g at k ≡ None → Fits g w m p at
+    m ≡ machine_restored k (waiting_at at) → MachineStandsAt at m → frames_fault g at k ≡ None → Fits g w m p at
 
 -- The player that stands with what is kept of a player's machine, and with its other parts.
 abbrev pub seated_again : {F : Type 0} → PlayerView F → PlayerView F
 seated_again p =
     let at = prompt_at p.last in
-    seat_at p.game p.routines p.world (restored (kept p.machine) (waiting_at at)) p.pending at
+    seat_at p.game p.routines p.world (machine_restored (machine_kept p.machine) (waiting_at at)) p.pending at
 
 -- A player seated with its own parts is the same, except that it shows no piece, keeps no steps, and has a full budget.
 abbrev pub SeatedAgain : Type 0 → Type 0
 SeatedAgain F =
     (p : PlayerView F) → IsSeated p → IsStanding p.last →
-    seated_again p ≡ record p { piece = []; machine = refilled p.machine }
+    seated_again p ≡ record p { piece = []; machine = budget_refilled p.machine }
 
 -- What follows from lines depends on neither the last piece, nor the budget that it left, nor its steps: each line
 -- opens a piece of its own.

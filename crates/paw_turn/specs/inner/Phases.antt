@@ -17,7 +17,7 @@ use Rattle.paw_effects.specs.Worlds.{IsOf}
 use Rattle.paw_effects.specs.Story.{Story}
 use Rattle.paw_reading.specs.declared.places.Frame.{Frame}
 use Rattle.paw_reading.specs.declared.places.OpenLoop.{OpenLoop}
-use Rattle.paw_reading.specs.Run.{Run, Step as Read, closed, is_ignored}
+use Rattle.paw_reading.specs.Run.{Run, Step as Read, piece_closed, is_ignored}
 use Rattle.paw_reading.specs.declared.places.Halt.{Halt}
 use Rattle.paw_reading.specs.declared.places.Halt.TheVariants as halt
 use Rattle.paw_reading.specs.Reading.{Out, closes_piece, table_read}
@@ -25,7 +25,7 @@ use Rattle.paw_reading.specs.GoingOn.{on_path}
 use Rattle.paw_reading.specs.Turn.{Ending, Halted, AtDescribe, AtTimeFrame, AtPhrase, AtResponse}
 use Rattle.paw_reading.specs.Turn.{table_done, turn, first_table, goes_on, TurnPhase}
 use Rattle.paw_process.specs.inner.OpenTables.{OpenTables}
-use Rattle.paw_process.specs.inner.OpenTables.{HasRead, IsClosed, refilled}
+use Rattle.paw_process.specs.inner.OpenTables.{HasRead, IsClosed, budget_refilled}
 use Rattle.paw_process.specs.inner.Meaning.{SamePast, ComesTo}
 use Rattle.paw_process.specs.declared.Turned.{Turned}
 use Rattle.paw_process.specs.declared.Turned.TheVariants as turned
@@ -91,8 +91,9 @@ TurnHalts halt r x = (s : Run) × (x ≡ Halted halt s) × SamePast r s
 
 -- A turn stops here: it waits along the frames; or play has ended with the piece closed, or with no piece more.
 abbrev pub StopsAs : Story → ℕ → TurnStop → List Frame → Run → Ending → Type 0
-StopsAs g n (stop.Waits p) fs r x = x ≡ goes_on g n p (reverse fs) (closed r)
-StopsAs g n (stop.Halted halt) fs r x = MatchBool (closes_piece halt) (x ≡ Halted halt (closed r)) (TurnHalts halt r x)
+StopsAs g n (stop.Waits p) fs r x = x ≡ goes_on g n p (reverse fs) (piece_closed r)
+StopsAs g n (stop.Halted halt) fs r x =
+    MatchBool (closes_piece halt) (x ≡ Halted halt (piece_closed r)) (TurnHalts halt r x)
 
 -- How a turn goes on: with the next phase, or not at all.
 abbrev pub GoesOnAs : Story → ℕ → Next → List Frame → Run → Ending → Type 0
@@ -254,7 +255,7 @@ pub record ChangesFlags (old new : World) : Type 0 where
 
 -- ---- texts ----
 
--- Play has ended so, and nothing goes on.
+-- Play has ended for this reason, and nothing goes on.
 abbrev pub halting : Halt → Next
 halting halt = next.Stop (stop.Halted halt)
 
@@ -322,13 +323,13 @@ abbrev pub with_piece : Text → PlayState → PlayState
 with_piece piece h = record h { surroundings = record h.surroundings { piece = piece } }
 
 -- The piece that is shown: nothing where play ended before the piece was closed.
-abbrev pub shown : Step → Text → Text
-shown s piece = if brings_piece s then piece else []
+abbrev pub piece_shown : Step → Text → Text
+piece_shown s piece = if brings_piece s then piece else []
 
 -- The turn with the piece that is shown after this end of a line.
 abbrev pub turn_settled : Step → PlayState → PlayState
-turn_settled step h = with_piece (shown step h.surroundings.piece) h
+turn_settled step h = with_piece (piece_shown step h.surroundings.piece) h
 
 -- The turn with a new piece to be read.
 abbrev pub opened_piece : PlayState → PlayState
-opened_piece h = record h { surroundings = record h.surroundings { piece = [] }; machine = refilled h.machine }
+opened_piece h = record h { surroundings = record h.surroundings { piece = [] }; machine = budget_refilled h.machine }

@@ -30,7 +30,7 @@ use Rattle.paw_turn.specs.declared.phase.TurnStop.TheVariants as stop
 
 -- ---- steps ----
 
--- The step of a player whose turn stopped so.
+-- The step of a player whose turn stopped for this reason.
 abbrev pub step_of : TurnStop → Step
 step_of (stop.Waits p) = step.Waits p
 step_of (stop.Halted halt.Over) = step.Ended

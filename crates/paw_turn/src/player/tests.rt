@@ -303,7 +303,7 @@ fn take_all<'a, R: Abort + AllocGlobal, F: Fn(u8, u8) -> u8>(
 }
 
 // A player after its start, which brings this.
-fn begun<'a, R: Abort + AllocGlobal, F: Fn(u8, u8) -> u8>(
+fn player_after_start<'a, R: Abort + AllocGlobal, F: Fn(u8, u8) -> u8>(
     rt: &R,
     game: &'a Game,
     routines: &'a Routines<F>,
@@ -342,7 +342,7 @@ fn players_go_on_from_what_was_kept(rt: HostRuntime) -> Result<(), Fail> {
     let routines = Routines::new(0, |_, x| x);
     for between in [Between::Nothing, Between::Adopting, Between::Seating] {
         for case in CASES {
-            let player = begun(&rt, &game, &routines, HALL)?;
+            let player = player_after_start(&rt, &game, &routines, HALL)?;
             take_all(&rt, player, between, case)?;
         }
     }
@@ -355,7 +355,7 @@ fn renewed_players_begin_again(rt: HostRuntime) -> Result<(), Fail> {
     let routines = Routines::new(0, |_, x| x);
     for case in CASES {
         for before in CASES {
-            let player = begun(&rt, &game, &routines, HALL)?;
+            let player = player_after_start(&rt, &game, &routines, HALL)?;
             let mut player = take_all(&rt, player, Between::Nothing, before)?;
             begin_again(&rt, &mut player, HALL);
             take_all(&rt, player, Between::Nothing, case)?;
@@ -370,7 +370,7 @@ fn finished_players_answer_the_same(rt: HostRuntime) -> Result<(), Fail> {
     let routines = Routines::new(0, |_, x| x);
     for (line, brought) in FINISHING {
         let lines = [(line, brought), ("LOOK", brought), ("~", brought)];
-        let player = begun(&rt, &game, &routines, HALL)?;
+        let player = player_after_start(&rt, &game, &routines, HALL)?;
         let player = take_all(&rt, player, Between::Nothing, &lines)?;
         assert_eq!(rt; player.parts().prompt, Prompt::Over);
     }
@@ -381,7 +381,7 @@ fn finished_players_answer_the_same(rt: HostRuntime) -> Result<(), Fail> {
 fn a_player_waits_where_its_tables_stand(rt: HostRuntime) -> Result<(), Fail> {
     let game = asking_game(rt.alloc())?;
     let routines = Routines::new(0, |_, x| x);
-    let player = begun(&rt, &game, &routines, HALL)?;
+    let player = player_after_start(&rt, &game, &routines, HALL)?;
     let player = take_all(&rt, player, Between::Nothing, &[("TWIST ALL", KEY)])?;
     assert_eq!(rt; player.parts().machine.frames(), kept::waiting());
     Ok(())
@@ -392,7 +392,7 @@ fn players_that_never_come_to_a_prompt_are_spent(rt: HostRuntime) -> Result<(), 
     for (location, spent) in [("", READS_TOO_MUCH), ("A cave.", TELLS_TOO_MUCH)] {
         let game = endless_game(rt.alloc(), location)?;
         let routines = Routines::new(0, |_, x| x);
-        let player = begun(&rt, &game, &routines, spent)?;
+        let player = player_after_start(&rt, &game, &routines, spent)?;
         take_all(
             &rt,
             player,
@@ -439,7 +439,7 @@ fn compare_steps<R: Abort + AllocGlobal, F: Fn(u8, u8) -> u8>(
 ) -> Result<(), Fail>
     requires answers { HaveAnswers F.Fn routines.now }
 {
-    let player = begun(rt, game, routines, HALL)?;
+    let player = player_after_start(rt, game, routines, HALL)?;
     let player = take_all(rt, player, Between::Nothing, lines)?;
     assert_eq!(rt; player.steps().rows(), steps, "{lines:?}");
     assert_eq!(rt; player.steps().count() as usize, steps.len(), "{lines:?}");

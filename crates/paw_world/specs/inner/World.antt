@@ -39,8 +39,8 @@ abbrev pub taken_back : World → Position → World
 taken_back w q = record w { flags = q.flags; places = q.places }
 
 -- The world with all flags and places of the kept position with this number; the same world where none was kept.
-abbrev pub recalled : World → ℕ → World
-recalled w n = option_map_or (taken_back w) (kept_position w n) w
+abbrev pub kept_position_loaded : World → ℕ → World
+kept_position_loaded w n = option_map_or (taken_back w) (kept_position w n) w
 
 -- The world with a position as the kept one with this number.
 abbrev pub with_kept : World → ℕ → Position → World

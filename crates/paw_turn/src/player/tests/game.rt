@@ -49,7 +49,7 @@ const CALLS: u8 = 60;
 /// The number of system messages.
 const SYSTEM_TEXTS: usize = 36;
 
-/// The system message of a number; the others are empty.
+// The system message of a number; the others are empty.
 fn system_text(number: usize) -> &'static str {
     match number {
         2 => "What now?",

@@ -46,8 +46,8 @@ pub(super) fn waiting() -> Frames {
     }
 }
 
-/// This many open tables, of which these are the first, and no open loop.
-fn opened(count: u8, first: Frame, second: Frame) -> Frames {
+// This many open tables, of which these are the first, and no open loop.
+fn open_frames(count: u8, first: Frame, second: Frame) -> Frames {
     let mut rows = [UNUSED; 11];
     rows[0] = first;
     rows[1] = second;
@@ -58,7 +58,7 @@ fn opened(count: u8, first: Frame, second: Frame) -> Frames {
     }
 }
 
-/// The depth of the fault with which frames are refused.
+// The depth of the fault with which frames are refused.
 fn refused_at(game: &Game, kept: &Frames, prompt: Prompt) -> Option<u8> {
     match Machine::restore(game, kept, prompt) {
         Ok(_) => None,
@@ -167,42 +167,46 @@ fn prompts_want_their_condact_and_their_number_of_rows(rt: HostRuntime) -> Resul
     let end = row(0, 6, 1, false);
     let called = row(3, 0, 0, false);
     for (prompt, kept, fault) in [
-        (Prompt::Main, opened(0, UNUSED, UNUSED), None),
-        (Prompt::Over, opened(0, UNUSED, UNUSED), None),
-        (Prompt::Quit, opened(1, quit, UNUSED), None),
-        (Prompt::Again, opened(1, end, UNUSED), None),
-        (Prompt::Quit, opened(2, row(0, 1, 0, false), called), None),
-        // The outermost table may not be one that is only called.
-        (Prompt::Quit, opened(1, called, UNUSED), Some(0)),
-        // Another prompt's condact.
-        (Prompt::Again, opened(1, quit, UNUSED), Some(0)),
-        (Prompt::Key, opened(1, quit, UNUSED), Some(0)),
-        (Prompt::Quit, opened(1, end, UNUSED), Some(0)),
-        (Prompt::Quit, waiting(), Some(1)),
-        // Another number of rows.
-        (Prompt::Quit, opened(0, quit, UNUSED), Some(0)),
-        (Prompt::Quit, opened(2, quit, UNUSED), Some(0)),
-        (Prompt::Quit, opened(12, quit, UNUSED), Some(0)),
+        (Prompt::Main, open_frames(0, UNUSED, UNUSED), None),
+        (Prompt::Over, open_frames(0, UNUSED, UNUSED), None),
+        (Prompt::Quit, open_frames(1, quit, UNUSED), None),
+        (Prompt::Again, open_frames(1, end, UNUSED), None),
         (
             Prompt::Quit,
-            opened(1, row(0, 1, 0, false), called),
+            open_frames(2, row(0, 1, 0, false), called),
+            None,
+        ),
+        // The outermost table may not be one that is only called.
+        (Prompt::Quit, open_frames(1, called, UNUSED), Some(0)),
+        // Another prompt's condact.
+        (Prompt::Again, open_frames(1, quit, UNUSED), Some(0)),
+        (Prompt::Key, open_frames(1, quit, UNUSED), Some(0)),
+        (Prompt::Quit, open_frames(1, end, UNUSED), Some(0)),
+        (Prompt::Quit, waiting(), Some(1)),
+        // Another number of rows.
+        (Prompt::Quit, open_frames(0, quit, UNUSED), Some(0)),
+        (Prompt::Quit, open_frames(2, quit, UNUSED), Some(0)),
+        (Prompt::Quit, open_frames(12, quit, UNUSED), Some(0)),
+        (
+            Prompt::Quit,
+            open_frames(1, row(0, 1, 0, false), called),
             Some(0),
         ),
         (
             Prompt::Quit,
-            opened(3, row(0, 1, 0, false), called),
+            open_frames(3, row(0, 1, 0, false), called),
             Some(1),
         ),
-        (Prompt::Main, opened(1, quit, UNUSED), Some(0)),
+        (Prompt::Main, open_frames(1, quit, UNUSED), Some(0)),
         (Prompt::Over, waiting(), Some(0)),
         // Rows where none is used.
-        (Prompt::Main, opened(0, quit, UNUSED), Some(0)),
-        (Prompt::Over, opened(0, UNUSED, called), Some(1)),
+        (Prompt::Main, open_frames(0, quit, UNUSED), Some(0)),
+        (Prompt::Over, open_frames(0, UNUSED, called), Some(1)),
     ] {
         let found = refused_at(&game, &kept, prompt);
         assert_eq!(rt; found, fault, "{prompt:?}, {kept:?}");
     }
-    let mut kept = opened(0, UNUSED, UNUSED);
+    let mut kept = open_frames(0, UNUSED, UNUSED);
     kept.turning = Some(turning(0, 0, 2, 0, 0, 1));
     assert_eq!(rt; refused_at(&game, &kept, Prompt::Main), Some(11));
     Ok(())

@@ -1,4 +1,5 @@
-use Rattle.std.proofs.Common.{◌≡◌, None, reverse, sym, subst, arith}
+use Rattle.std.proofs.Common.{◌≡◌, ◌-◌, None, reverse, sym, subst, arith}
+use Rattle.paw_base.specs.declared.limits.TheConstants.{READ_LIMIT}
 use Rattle.paw_process.proofs.OpenFrames.{kept_frames}
 use Rattle.paw_process.proofs.Again.{kept_again}
 use Rattle.paw_process.proofs.Fitting.{places_fit}
@@ -11,7 +12,7 @@ pub returns-clause-value : goal.returns-clause-value
 returns-clause-value c =
     rw c.start_of-rows.ensures.value
     (kept_frames c.args.self.now c.self.inside.frames c.copy_from_slice.new.self c.self.inside.count c.self.inside.turning c.self.inside.waiting
-    c.self.inside.left c.self.inside.steps c.self.view_is c.copy_from_slice.ensures.after (omega arith) (omega arith))
+    (READ_LIMIT - c.self.inside.steps.count) c.self.inside.steps c.self.view_is c.copy_from_slice.ensures.after (omega arith) (omega arith))
 
 pub returns-clause-again : goal.returns-clause-again
 returns-clause-again c = λ p stands. kept_again p _ c.args.self.now (returns-clause-value c) stands

@@ -3,6 +3,7 @@ use Rattle.std.proofs.lemmas.Bool.Decides.{nat_tests}
 use Rattle.paw_effects.specs.Story.{story_of}
 use Rattle.paw_process.proofs.Readings.{moved_none, reads_one, reads_spent}
 use Rattle.paw_process.specs.inner.Meaning.{having}
+use Rattle.paw_process.specs.inner.AfterCondact.{moved_on, stop_after_condact}
 use Rattle.paw_process.specs.inner.OpenTables.{below}
 use Rattle.paw_process.proofs.step.StoryReader.read.Goals as goal
 
@@ -14,13 +15,18 @@ returns-then-not-may_read-clause-meaning g c X answers =
 
 pub returns-then-is_condition-clause-meaning : goal.returns-then-is_condition-clause-meaning
 returns-then-is_condition-clause-meaning g c X answers =
-    reads_one (story_of (g.T.Tables.game c.args.self.now.tables.now) X) c.args.f c.args.c (having c.args.surroundings.now c.args.machine.now) c.test.result
-    (having c.test.new.surroundings c.test.new.machine) c.requires.found (grind (arith, nat_tests)) (c.test.ensures.meaning X)
+    let f = c.args.f in
+    reads_one (story_of (g.T.Tables.game c.args.self.now.tables.now) X) f c.args.c (having c.args.surroundings.now c.args.machine.now)
+    (stop_after_condact c.test.result) (having c.test.new.surroundings (moved_on f c.test.result c.test.new.machine))
+    c.requires.found (grind (arith, nat_tests))
+    (c.test.ensures.meaning X)
 
 pub returns-else-is_condition-clause-meaning : goal.returns-else-is_condition-clause-meaning
 returns-else-is_condition-clause-meaning g c X answers =
-    reads_one (story_of (g.T.Tables.game c.args.self.now.tables.now) X) c.args.f c.args.c (having c.args.surroundings.now c.args.machine.now) c.act.result
-    (having c.act.new.surroundings c.act.new.machine) c.requires.found (grind (arith, nat_tests)) (c.act.ensures.meaning X answers)
+    let f = c.args.f in
+    reads_one (story_of (g.T.Tables.game c.args.self.now.tables.now) X) f c.args.c (having c.args.surroundings.now c.args.machine.now)
+    (stop_after_condact c.act.result) (having c.act.new.surroundings (moved_on f c.act.result c.act.new.machine)) c.requires.found (grind (arith, nat_tests))
+    (c.act.ensures.meaning X answers)
 
 pub returns-then-is_condition-clause-counts : goal.returns-then-is_condition-clause-counts
 returns-then-is_condition-clause-counts g c none = (c.test.ensures.meaning []).1.left

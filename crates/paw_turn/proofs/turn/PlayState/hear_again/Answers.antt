@@ -1,7 +1,7 @@
 use Rattle.std.proofs.Common.{ap, sym, ◌∙◌, refl, subst, arith}
 use Rattle.paw_effects.specs.Story.{story_of}
 use Rattle.paw_phrase.specs.Pending.{PendingLine}
-use Rattle.paw_world.specs.World.{World, restarted}
+use Rattle.paw_world.specs.World.{World, world_restarted}
 use Rattle.paw_effects.specs.Worlds.{IsOf}
 use Rattle.paw_reading.specs.Run.{begins_with, with_timeout}
 use Rattle.paw_process.specs.inner.OpenTables.{OpenTables}
@@ -15,7 +15,7 @@ returns-then-not-begins_with-clause-meaning g c X =
     (record { surroundings = record c.args.self.now.surroundings { world = c.restart.new.self; pending = c.set.new.self }; machine = c.close.new.self })
     c.args.line.now c.requires.waits.tables.tables.some c.requires.heard
     (sym (c.if-not-begins_with.ensures.value ∙ ap (begins_with 78) c.reply.ensures.value))
-    (c.restart.ensures.change ∙ ap restarted
+    (c.restart.ensures.change ∙ ap world_restarted
     (c.tell_timeout.ensures.value ∙ ap (λ b. with_timeout b c.args.self.now.surroundings.world) c.is_timeout.ensures.value))
     (ap (λ (p : PendingLine). p.bytes) c.set.ensures.value) (ap (λ (p : PendingLine). p.earlier) c.set.ensures.value)
     (ap (λ (m : OpenTables). m.turning) c.close.ensures.value)

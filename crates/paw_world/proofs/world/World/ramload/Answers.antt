@@ -1,5 +1,5 @@
 use Rattle.std.proofs.Common.{arith, ap, ◌∙◌, take, ◌+◌}
-use Rattle.paw_world.specs.World.{World, ramloaded}
+use Rattle.paw_world.specs.World.{World, saved_position_loaded}
 use Rattle.paw_world.proofs.Loaded.{parts_loaded, loaded_is}
 use Rattle.paw_world.proofs.world.World.ramload.Goals as goal
 
@@ -11,7 +11,7 @@ returns c =
           c.self.inside.draws.count c.in-Some.saved c.args.n _ _ c.self.invariant.saved_alike c.in-Some.is
           (c.copy_from_slice.ensures.after ∙ ap (take (c.args.n + 1)) c.flags.ensures.value)
           (c.at-self-inside.ensures.value ∙ c.places.ensures.value)
-          ∙ ap (λ (w : World). ramloaded w c.args.n) c.self.view_is;
+          ∙ ap (λ (w : World). saved_position_loaded w c.args.n) c.self.view_is;
     }
 
 pub invariant_of-self : goal.invariant_of-self

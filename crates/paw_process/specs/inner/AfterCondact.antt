@@ -1,0 +1,71 @@
+-- How reading goes on where the machine doesn't hold the innermost frame yet.
+use Rattle.std.specs.Prelude.{ℕ, ◌+◌, ◌<◌, Bool, ◌∷◌, Option, Some, None}
+use Rattle.std.specs.Fn.{Shared}
+use Rattle.paw_base.specs.declared.limits.TheConstants.{ENTRY_LIMIT}
+use Rattle.paw_game.specs.declared.cursor.CondactCursor.{CondactCursor}
+use Rattle.paw_game.specs.Game.{GameLists}
+use Rattle.paw_routines.specs.declared.routines.Routines.{Routines}
+use Rattle.paw_effects.specs.Story.{Story}
+use Rattle.paw_reading.specs.declared.places.Frame.{Frame}
+use Rattle.paw_process.specs.inner.OpenTables.{OpenTables}
+use Rattle.paw_process.specs.inner.OpenTables.{below}
+use Rattle.paw_process.specs.inner.Meaning.{InStories, Held}
+use Rattle.paw_process.specs.inner.Moves.{ReadsTable, reading_at}
+use Rattle.paw_process.specs.inner.Steps.{MayReadNext, IsAfterReading}
+use Rattle.paw_process.specs.inner.Work.{IsNoFurther}
+use Rattle.paw_process.specs.declared.Turned.{Turned}
+use Rattle.paw_process.specs.declared.after_condact.AfterCondact.{AfterCondact}
+use Rattle.paw_process.specs.declared.after_condact.AfterCondact.TheVariants as after_condact
+use Rattle.paw_process.specs.declared.after_condact.NextFrame.{NextFrame}
+use Rattle.paw_process.specs.declared.after_condact.NextFrame.TheVariants as next_frame
+
+-- The machine with this frame in the place of the innermost one.
+abbrev pub with_frame : Frame → OpenTables → OpenTables
+with_frame f m = record m { frames = f ∷ below m.frames }
+
+-- The frame of a cursor, with an action carried out or not.
+abbrev pub frame_of : CondactCursor → Bool → Frame
+frame_of cursor acted = record { table = cursor.table; entry = cursor.entry; at = cursor.at; acted = acted }
+
+-- The machine with the frame at which reading goes on after a condact of this one.
+abbrev pub moved_on : Frame → AfterCondact → OpenTables → OpenTables
+moved_on f (after_condact.Next acted) m = with_frame (record f { at = f.at + 1; acted = acted }) m
+moved_on f after_condact.NextEntry m = with_frame (record f { entry = f.entry + 1; at = 0 }) m
+moved_on f (after_condact.Moved t) m = m
+
+-- Why the machine has stopped, if it has.
+abbrev pub stop_after_condact : AfterCondact → Option Turned
+stop_after_condact (after_condact.Next acted) = None
+stop_after_condact after_condact.NextEntry = None
+stop_after_condact (after_condact.Moved t) = t
+
+-- The machine with the frame that was reached.
+abbrev pub held_at : NextFrame → OpenTables → OpenTables
+held_at (next_frame.At f) m = with_frame f m
+held_at (next_frame.Stopped t) m = m
+
+-- Why the machine has stopped, if it has.
+abbrev pub stop_at : NextFrame → Option Turned
+stop_at (next_frame.At f) = None
+stop_at (next_frame.Stopped t) = Some t
+
+-- A frame that was reached stands before an entry, or in one.
+abbrev pub ReachesTable : NextFrame → Type 0
+ReachesTable (next_frame.At f) = 0 < f.at → f.entry < ENTRY_LIMIT
+ReachesTable (next_frame.Stopped t) = Unit {0}
+
+-- Whatever reading on at the frame of now leads to, reading from the frame where it began leads to.
+abbrev pub LeadsOn : Story → Frame → Held → Frame → Held → Type 0
+LeadsOn g start first f now =
+    (t : Option Turned) (new : Held) →
+    ReadsTable g (reading_at g (below now.machine.frames) f) now t new →
+    ReadsTable g (reading_at g (below first.machine.frames) start) first t new
+
+-- The machine has read on in an entry from one frame, where it began, to another, and may read the condact there.
+pub record IsInEntry {F : Type 0} (calls : Shared F (ℕ × (ℕ × Unit {0})) ℕ) (routines : Routines F) (g : GameLists)
+    (start : Frame) (first : Held) (f : Frame) (now : Held) : Type 0 where
+  pub leads : InStories calls routines g (λ s. LeadsOn s start first f now)
+  pub may : MayReadNext calls routines g now.machine now.surroundings.world
+  pub entry : f.entry < ENTRY_LIMIT
+  pub after : IsAfterReading g first now
+  pub further : IsNoFurther (with_frame start first.machine) (with_frame f now.machine)
