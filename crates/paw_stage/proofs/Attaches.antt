@@ -1,6 +1,6 @@
 -- What stands inside an attach, part by part.
 use Rattle.std.proofs.Common.{◌≡◌, ◌⊎◌, ℕ, List, inl, inr, ap, ◌∙◌}
-use Rattle.paw_stage.specs.Stage.{Standing, Unattached, made_if_missing, opened}
+use Rattle.paw_stage.specs.Stage.{Standing, Unattached, made_if_missing, with_store_opened}
 use Rattle.paw_stage.specs.Moments.{Moment, moment_of, InAttach}
 
 -- A missing file may be there already, and the store is that before the call or that after it.
@@ -38,7 +38,7 @@ at_new old new name m asked shown files e = record {
 }
 
 -- Inside an attach that was done.
-pub attach_parts : (old new : Standing) (name : List ℕ) (m : Moment) → new ≡ opened name old → InAttach old new name m →
+pub attach_parts : (old new : Standing) (name : List ℕ) (m : Moment) → new ≡ with_store_opened name old → InAttach old new name m →
     AttachParts old new name m
 attach_parts old new name m is (inl e) = at_old old new name m e
 attach_parts old new name m is (inr (inl e)) = at_made old new name m e

@@ -3,10 +3,10 @@ use Rattle.std.proofs.Common.{◌≡◌, ◌≢◌, ◌⊎◌, ℕ, List, [], �
 use Rattle.std.specs.Prelude.{Option, Some, None, if◌then◌else◌, Bool, true, false}
 use Rattle.std.specs.Str.{bytes_eq}
 use Rattle.std.proofs.lemmas.Slice.Eq.{bytes_eq-Decides}
-use Rattle.paw_stage.specs.Disk.{Disk, put, stable}
-use Rattle.paw_stage.specs.Stage.{Standing, Saves, bytes_or_none, opened}
+use Rattle.paw_stage.specs.Disk.{Disk, put_at, stable}
+use Rattle.paw_stage.specs.Stage.{Standing, Saves, bytes_or_none, with_store_opened}
 use Rattle.paw_stage.specs.Moments.{Moment, moment_of, Passes, InAsk, InSave, InAttach, InWrite, InSync}
-use Rattle.paw_stage.specs.inner.Done.{DoneCall, fresh, standing_after, after, filed, is_attached, saved}
+use Rattle.paw_stage.specs.inner.Done.{DoneCall, fresh, standing_after, after, file_replaced, is_attached, saved_file}
 use Rattle.paw_stage.specs.inner.Done.{attached_store}
 use Rattle.paw_stage.specs.inner.Done.{wrote_store, synced_store}
 use Rattle.paw_stage.specs.inner.Replay.{MayStand, StandsInside, since_of}
@@ -14,7 +14,7 @@ use Rattle.paw_stage.specs.declared.log.CallKind.{CallKind}
 use Rattle.paw_stage.specs.declared.log.CallKind.TheVariants as kind
 use Rattle.paw_stage.specs.declared.Asked.{Asked}
 use Rattle.paw_stage.specs.declared.Asked.TheVariants as asked
-use Rattle.paw_stage.specs.inner.Log.{Logged, logged}
+use Rattle.paw_stage.specs.inner.Log.{Logged, logged_in_spare_room}
 use Rattle.paw_stage.specs.inner.Memory.{Memory, standing_of, clock_of, moments_of}
 use Rattle.paw_stage.proofs.Logs.{after-push}
 use Rattle.paw_stage.proofs.Replays.{passes}
@@ -25,7 +25,7 @@ standing_with : List (List ℕ) → List DoneCall → Standing
 standing_with lines ds = record (after fresh ds) { lines = lines }
 
 -- What stands after a call that was recorded.
-pub stood : (m n : Memory) (l : Logged) (d : DoneCall) → m.log ≡ l → n.log ≡ logged d l → n.lines ≡ m.lines →
+pub stood : (m n : Memory) (l : Logged) (d : DoneCall) → m.log ≡ l → n.log ≡ logged_in_spare_room d l → n.lines ≡ m.lines →
     standing_of n ≡ record (standing_after (after fresh m.log.calls) d) { lines = m.lines }
 unfolding standing_with
 stood m n l d em en el =
@@ -36,7 +36,7 @@ stood m n l d em en el =
     a ∙ (b ∙ ap {A = Standing} (λ s. record s { lines = m.lines }) last)
 
 -- The moments of a call that was recorded.
-pub passed : (m n : Memory) (l : Logged) (d : DoneCall) → m.log ≡ l → n.log ≡ logged d l →
+pub passed : (m n : Memory) (l : Logged) (d : DoneCall) → m.log ≡ l → n.log ≡ logged_in_spare_room d l →
     Passes (clock_of m) (clock_of n) (moments_of m) (moments_of n) (StandsInside (after fresh m.log.calls) d)
 passed m n l d em en =
     let calls : n.log.calls ≡ m.log.calls ++ d ∷ [] = ap (λ (k : Logged). k.calls) en ∙ ap (λ (k : Logged). k.calls ++ d ∷ []) (sym em) in
@@ -54,17 +54,17 @@ not_attached (Some n) name x y ne = other (bytes_eq n name) (λ e. ne (ap Some (
 attached_yes : (a : Option (List ℕ)) (name : List ℕ) (x y : Disk) → a ≡ Some name → (if is_attached a name then x else y) ≡ x
 attached_yes a name x y e = ap (λ o. if is_attached o name then x else y) e ∙ ap (λ b. if b then x else y) ((bytes_eq-Decides name name).1 refl)
 
-pub saves : (s new : Standing) (name : List ℕ) (bytes : Option (List ℕ)) → new ≡ filed name bytes s → Saves s new name bytes
+pub saves : (s new : Standing) (name : List ℕ) (bytes : Option (List ℕ)) → new ≡ file_replaced name bytes s → Saves s new name bytes
 saves s new name bytes e =
     record {
-      disk = (filed name bytes s).disk;
+      disk = (file_replaced name bytes s).disk;
       apart = λ ne. not_attached s.attached name (stable (bytes_or_none bytes)) s.disk ne;
       store = λ h. ap (λ d. d.bytes) (attached_yes s.attached name (stable (bytes_or_none bytes)) s.disk h);
       stands = e;
     }
 
 -- What may stand inside each call is what the stage allows there.
-pub in_save : (old : Standing) (name bytes : List ℕ) (m : Moment) → StandsInside old (saved name bytes) m → InSave old name m
+pub in_save : (old : Standing) (name bytes : List ℕ) (m : Moment) → StandsInside old (saved_file name bytes) m → InSave old name m
 in_save old name bytes m (inl e) =
     subst (λ x. InSave old name x) (sym e)
     (record { asked = refl; shown = refl; attached = refl; files = inl refl; disk = λ ne. refl })
@@ -78,7 +78,7 @@ in_save old name bytes m (inr h) =
       disk = λ ne. not_attached old.attached name (stable (bytes_or_none h.0)) old.disk ne;
     })
 
-pub in_attach : (old new : Standing) (name : List ℕ) (m : Moment) → moment_of new ≡ moment_of (opened name old) →
+pub in_attach : (old new : Standing) (name : List ℕ) (m : Moment) → moment_of new ≡ moment_of (with_store_opened name old) →
     StandsInside old (attached_store name) m → InAttach old new name m
 in_attach old new name m e (inl made) = inr (inl made)
 in_attach old new name m e (inr (inl before)) = inl before
@@ -94,7 +94,7 @@ in_write old at bytes m (inr h) =
       asked = refl;
       shown = refl;
       attached = refl;
-      files = inr (put at h.0 old.disk.bytes, refl);
+      files = inr (put_at at h.0 old.disk.bytes, refl);
       disk = inr (h.0, h.1, refl);
     })
 

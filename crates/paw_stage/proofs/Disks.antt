@@ -3,10 +3,10 @@ use Rattle.std.proofs.Common.{◌≡◌, ℕ, zero, suc, ◌+◌, ◌-◌, ◌�
 use Rattle.std.proofs.Common.{refl, sym, ap, ◌∙◌, arith, slice_index}
 use Rattle.std.specs.Prelude.{nat_le, nat_lt, ◌&&◌, ◌||◌, ◌==◌, if◌then◌else◌}
 use Rattle.std.proofs.lemmas.Bool.Decides.{nat_tests}
-use Rattle.paw_stage.specs.Disk.{Disk, Range, is_dirty, MayLeave, put, touched, stable}
+use Rattle.paw_stage.specs.Disk.{Disk, Range, is_dirty, MayLeave, put_at, disk_written, stable}
 use Rattle.paw_stage.specs.Stage.{Standing, bytes_or_none}
-use Rattle.paw_stage.specs.inner.Done.{DoneCall, standing_after, stepped, fresh, after, is_attached}
-use Rattle.paw_stage.specs.inner.Crash.{spoiled_if, spoiled, crashed}
+use Rattle.paw_stage.specs.inner.Done.{DoneCall, standing_after, after_call_of, fresh, after, is_attached}
+use Rattle.paw_stage.specs.inner.Crash.{spoiled_if, bytes_spoiled, bytes_after_crash}
 use Rattle.paw_stage.specs.declared.log.CallKind.{CallKind}
 use Rattle.paw_stage.specs.declared.log.CallKind.TheVariants as kind
 use Rattle.paw_stage.proofs.Writes.{length-put, index-put}
@@ -34,9 +34,9 @@ or_right false b h = h
 outside : (at n len i : ℕ) → (nat_le at i && nat_lt i (at + n)) ≡ false → i < len → (nat_le (min at len) i && nat_lt i (min at len + n)) ≡ false
 outside at n len i h low = grind (arith, nat_tests)
 
-written_is : (d : Disk) (at : ℕ) (bytes : List ℕ) → IsDisk d → IsDisk (touched at (length bytes) bytes d)
+written_is : (d : Disk) (at : ℕ) (bytes : List ℕ) → IsDisk d → IsDisk (disk_written at (length bytes) bytes d)
 written_is d at bytes h =
-    let n : length (put at bytes d.bytes) ≡ max (length d.bytes) (min at (length d.bytes) + length bytes) = length-put at bytes d.bytes in
+    let n : length (put_at at bytes d.bytes) ≡ max (length d.bytes) (min at (length d.bytes) + length bytes) = length-put at bytes d.bytes in
     record {
       low = omega (arith, n, h.low);
       high = omega (arith, n, h.high);
@@ -49,7 +49,7 @@ written_is d at bytes h =
           ∙ sym (index-put at bytes d.bytes i ∙ ap (λ b. if b then slice_index bytes (i - min at (length d.bytes)) else slice_index d.bytes i) t);
     }
 
-stepped_is : (k : CallKind) (name bytes : List ℕ) (s : Standing) → IsDisk s.disk → IsDisk (stepped k name bytes s).disk
+stepped_is : (k : CallKind) (name bytes : List ℕ) (s : Standing) → IsDisk s.disk → IsDisk (after_call_of k name bytes s).disk
 stepped_is kind.Add name bytes s h = either_is (is_attached s.attached name) (stable bytes) s.disk (stable_is bytes) h
 stepped_is kind.Load name bytes s h = h
 stepped_is kind.Save name bytes s h = either_is (is_attached s.attached name) (stable bytes) s.disk (stable_is bytes) h
@@ -78,22 +78,22 @@ synced_leaves d h image l =
           λ i low clean. l.clean i (omega (arith, h.low, low)) refl;
     }
 
-pub length-spoiled : (dirty : List Range) (k : ℕ) (xs : List ℕ) → length (spoiled dirty k xs) ≡ length xs
+pub length-spoiled : (dirty : List Range) (k : ℕ) (xs : List ℕ) → length (bytes_spoiled dirty k xs) ≡ length xs
 length-spoiled dirty k [] = refl
 length-spoiled dirty k (x ∷ xs) = ap suc (length-spoiled dirty (k + 1) xs)
 
 pub index-spoiled : (dirty : List Range) (k : ℕ) (xs : List ℕ) (i : ℕ) → i < length xs →
-    slice_index (spoiled dirty k xs) i ≡ spoiled_if (is_dirty dirty (k + i)) (slice_index xs i)
+    slice_index (bytes_spoiled dirty k xs) i ≡ spoiled_if (is_dirty dirty (k + i)) (slice_index xs i)
 index-spoiled dirty k [] i h = absurd (omega arith)
 index-spoiled dirty k (x ∷ xs) zero h = let e : k ≡ k + 0 = omega arith in ap (λ j. spoiled_if (is_dirty dirty j) x) e
 index-spoiled dirty k (x ∷ xs) (suc i) h =
     let e : k + 1 + i ≡ k + suc i = omega arith in index-spoiled dirty (k + 1) xs i (omega arith) ∙ ap (λ j. spoiled_if (is_dirty dirty j) (slice_index xs i)) e
 
-leaves : (a b : Bool) (d : Disk) → IsDisk d → MayLeave d (if a then d.synced else if b then d.bytes else spoiled d.dirty 0 d.bytes)
+leaves : (a b : Bool) (d : Disk) → IsDisk d → MayLeave d (if a then d.synced else if b then d.bytes else bytes_spoiled d.dirty 0 d.bytes)
 leaves true b d h = record { no_shorter = omega arith; no_longer = omega (arith, h.low, h.high); clean = λ i low c. h.same i low c }
 leaves false true d h = record { no_shorter = h.low; no_longer = h.high; clean = λ i low c. refl }
 leaves false false d h =
-    let n : length (spoiled d.dirty 0 d.bytes) ≡ length d.bytes = length-spoiled d.dirty 0 d.bytes in
+    let n : length (bytes_spoiled d.dirty 0 d.bytes) ≡ length d.bytes = length-spoiled d.dirty 0 d.bytes in
     record {
       no_shorter = omega (arith, n, h.low);
       no_longer = omega (arith, n, h.high);
@@ -104,5 +104,5 @@ leaves false false d h =
     zero_plus : (i : ℕ) → 0 + i ≡ i
     zero_plus i = omega arith
 
-pub crash_leaves : (ds : List DoneCall) (pick : ℕ) → MayLeave (after fresh ds).disk (crashed (after fresh ds).disk pick)
+pub crash_leaves : (ds : List DoneCall) (pick : ℕ) → MayLeave (after fresh ds).disk (bytes_after_crash (after fresh ds).disk pick)
 crash_leaves ds pick = leaves (pick == 0) (pick == 1) (after fresh ds).disk (after_disk ds)

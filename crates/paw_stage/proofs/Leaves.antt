@@ -6,7 +6,7 @@ use Rattle.std.proofs.lemmas.List.{ext_get_or, take_all, length-drop, take-map, 
 use Rattle.paw_stage.specs.Disk.{Disk, is_dirty}
 use Rattle.paw_stage.specs.Stage.{bytes_or_none}
 use Rattle.paw_stage.specs.inner.Done.{DoneCall, fresh, after}
-use Rattle.paw_stage.specs.inner.Crash.{crashed, spoiled, spoiled_if}
+use Rattle.paw_stage.specs.inner.Crash.{bytes_after_crash, bytes_spoiled, spoiled_if}
 use Rattle.paw_stage.specs.inner.Log.{done_in, all_done}
 use Rattle.paw_stage.specs.inner.Seen.{writes, is_written, FindsStore}
 use Rattle.paw_stage.specs.declared.log.Call.{Call}
@@ -53,15 +53,15 @@ pub spoiled_file : (room : List ℕ) (calls : List Call) (store : Store) (whole 
     → ((j : ℕ) → j < length whole → slice_index new j
     ≡ spoiled_if (is_written (all_done room (take (length calls - store.synced) (drop store.synced calls))) j)
     (slice_index whole j))
-    → new ≡ spoiled (after fresh (all_done room calls)).disk.dirty 0 (after fresh (all_done room calls)).disk.bytes
+    → new ≡ bytes_spoiled (after fresh (all_done room calls)).disk.dirty 0 (after fresh (all_done room calls)).disk.bytes
 spoiled_file room calls store whole new h e size each =
     let d : Disk = (after fresh (all_done room calls)).disk in
     let rest : all_done room (take (length calls - store.synced) (drop store.synced calls))
     ≡ drop store.synced (all_done room calls) =
     ap (all_done room) (take_all (length calls - store.synced) (drop store.synced calls)
     (omega (arith, length-drop store.synced calls))) ∙ sym (drop-map (done_in room) store.synced calls) in
-    let long : length (spoiled d.dirty 0 d.bytes) ≡ length d.bytes = length-spoiled d.dirty 0 d.bytes in
-    ext_get_or 0 new (spoiled d.dirty 0 d.bytes) (omega (arith, size, long, ap length e)) (λ j low.
+    let long : length (bytes_spoiled d.dirty 0 d.bytes) ≡ length d.bytes = length-spoiled d.dirty 0 d.bytes in
+    ext_get_or 0 new (bytes_spoiled d.dirty 0 d.bytes) (omega (arith, size, long, ap length e)) (λ j low.
     each j (omega (arith, low, size))
     ∙ (ap (λ ds. spoiled_if (is_written ds j) (slice_index whole j)) rest
     ∙ (ap (λ b. spoiled_if b (slice_index whole j)) (sym (h.1.dirty j))
@@ -70,14 +70,15 @@ spoiled_file room calls store whole new h e size each =
     ∙ sym (index-spoiled d.dirty 0 d.bytes j (omega (arith, low, size, ap length e))))))))
 
 -- Which pick leaves which bytes.
-pub crashed_synced : (d : Disk) (pick : ℕ) → pick ≡ 0 → crashed d pick ≡ d.synced
-crashed_synced d pick e = ap (crashed d) e
+pub crashed_synced : (d : Disk) (pick : ℕ) → pick ≡ 0 → bytes_after_crash d pick ≡ d.synced
+crashed_synced d pick e = ap (bytes_after_crash d) e
 
-pub crashed_read : (d : Disk) (pick : ℕ) → pick ≡ 1 → crashed d pick ≡ d.bytes
-crashed_read d pick e = ap (crashed d) e
+pub crashed_read : (d : Disk) (pick : ℕ) → pick ≡ 1 → bytes_after_crash d pick ≡ d.bytes
+crashed_read d pick e = ap (bytes_after_crash d) e
 
-pub crashed_other : (d : Disk) (pick : ℕ) → pick ≢ 0 → pick ≢ 1 → crashed d pick ≡ spoiled d.dirty 0 d.bytes
+pub crashed_other : (d : Disk) (pick : ℕ) → pick ≢ 0 → pick ≢ 1 → bytes_after_crash d pick ≡ bytes_spoiled d.dirty 0 d.bytes
 crashed_other d pick n m =
     let a : (pick == 0) ≡ false = grind arith in
     let b : (pick == 1) ≡ false = grind arith in
-    ap (λ x. if x then d.synced else if pick == 1 then d.bytes else spoiled d.dirty 0 d.bytes) a ∙ ap (λ x. if x then d.bytes else spoiled d.dirty 0 d.bytes) b
+    ap (λ x. if x then d.synced else if pick == 1 then d.bytes else bytes_spoiled d.dirty 0 d.bytes) a
+    ∙ ap (λ x. if x then d.bytes else bytes_spoiled d.dirty 0 d.bytes) b

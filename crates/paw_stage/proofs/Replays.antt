@@ -6,7 +6,7 @@ use Rattle.std.specs.Prelude.{Some}
 use Rattle.std.proofs.Math.Seq.{take-length}
 use Rattle.paw_stage.specs.Stage.{Standing}
 use Rattle.paw_stage.specs.Moments.{Moment, moment_of, Passes}
-use Rattle.paw_stage.specs.inner.Done.{DoneCall, fresh, standing_after, stepped, after}
+use Rattle.paw_stage.specs.inner.Done.{DoneCall, fresh, standing_after, after_call_of, after}
 use Rattle.paw_stage.specs.inner.Replay.{MayStand, StandsInside, StoodInside, since_of}
 use Rattle.paw_stage.specs.declared.log.CallKind.{CallKind}
 use Rattle.paw_stage.specs.declared.log.CallKind.TheVariants as kind
@@ -26,7 +26,7 @@ begins kind.End name bytes s m e = e
 begins kind.Show name bytes s m e = (0, e ∙ ap (λ t. record (moment_of s) { shown = t }) (sym (append-nil s.shown)))
 
 -- What stands after a call is inside it.
-ends : (k : CallKind) (name bytes : List ℕ) (s : Standing) (m : Moment) → m ≡ moment_of (stepped k name bytes s) → MayStand k name bytes s m
+ends : (k : CallKind) (name bytes : List ℕ) (s : Standing) (m : Moment) → m ≡ moment_of (after_call_of k name bytes s) → MayStand k name bytes s m
 ends kind.Add name bytes s m e = inr e
 ends kind.Load name bytes s m e = e
 ends kind.Save name bytes s m e = inr (Some bytes, e)

@@ -5,7 +5,7 @@ use Rattle.std.proofs.Common.{slice_index}
 use Rattle.std.specs.Prelude.{Option, Some, None, is_some}
 use Rattle.std.proofs.lemmas.Slice.Eq.{bytes_eq-Decides}
 use Rattle.std.proofs.lemmas.List.{ext_get_or, get_or-take, get_or-drop, length-take, length-drop}
-use Rattle.paw_stage.specs.Disk.{put, touched}
+use Rattle.paw_stage.specs.Disk.{put_at, disk_written}
 use Rattle.paw_stage.specs.Stage.{Standing, store_holding, bytes_or_none, wrote}
 use Rattle.paw_stage.specs.inner.Done.{is_attached}
 use Rattle.paw_stage.specs.inner.Seen.{Sees, IsFiled, laid_over}
@@ -21,7 +21,7 @@ attached_is (Some n) name h = ap Some ((bytes_eq-Decides n name).0 h)
 written_bytes : (place at : ℕ) (bytes old into new : List ℕ) (j : ℕ) → j < length into → at + j < max (length old) (min place (length old) + length bytes)
     → (at + j < length old → slice_index into j ≡ slice_index old (at + j))
     → slice_index new j ≡ laid_over (min place (length old)) bytes (at + j) (slice_index into j)
-    → slice_index new j ≡ slice_index (put place bytes old) (at + j)
+    → slice_index new j ≡ slice_index (put_at place bytes old) (at + j)
 written_bytes place at bytes old into new j low within seen e =
     let p : ℕ = min place (length old) in
     e ∙ (elim (where_is (at + j) p (length bytes)) [
@@ -38,13 +38,13 @@ pub sees_written : (s : Standing) (name : List ℕ) (at place : ℕ) (bytes into
     → now ≡ record { here = seen.here; attached = seen.attached; len = max seen.len (min place seen.len + length bytes) }
     → length new ≡ length into
     → ((j : ℕ) → j < length into → slice_index new j ≡ laid_over (min place seen.len) bytes (at + j) (slice_index into j))
-    → Sees (wrote s (touched place (length bytes) bytes s.disk) (length bytes)) name at now new
+    → Sees (wrote s (disk_written place (length bytes) bytes s.disk) (length bytes)) name at now new
 sees_written s name at place bytes into new seen now filed h on is same laid =
     let old : List ℕ = s.disk.bytes in
     let a : s.attached ≡ Some name = attached_is s.attached name (sym h.attached ∙ on) in
     let f : s.files name ≡ Some old = filed name a in
-    let g : store_holding s.attached (put place bytes old) s.files name ≡ Some (put place bytes old) =
-    ap (λ o. store_holding o (put place bytes old) s.files name) a ∙ holds_same name (Some (put place bytes old)) s.files in
+    let g : store_holding s.attached (put_at place bytes old) s.files name ≡ Some (put_at place bytes old) =
+    ap (λ o. store_holding o (put_at place bytes old) s.files name) a ∙ holds_same name (Some (put_at place bytes old)) s.files in
     let n : seen.len ≡ length old = h.len ∙ ap (λ o. length (bytes_or_none o)) f in
     let len : now.len ≡ max (length old) (min place (length old) + length bytes) =
     ap (λ (x : Seen). x.len) is ∙ ap (λ k. max k (min place k + length bytes)) n in

@@ -8,10 +8,10 @@ use Rattle.std.proofs.lemmas.List.{get_or-append_right, get_or-take, get_or-drop
 use Rattle.std.proofs.lemmas.List.{get_or_append_left, get_or-replicate}
 use Rattle.std.proofs.lemmas.List.{length-replicate}
 use Rattle.paw_stage.specs.inner.Crash.{spoiled_if}
-use Rattle.paw_stage.specs.Disk.{put}
+use Rattle.paw_stage.specs.Disk.{put_at}
 use Rattle.paw_stage.specs.inner.Seen.{laid_over}
 
-pub length-put : (at : ℕ) (new old : List ℕ) → length (put at new old) ≡ max (length old) (min at (length old) + length new)
+pub length-put : (at : ℕ) (new old : List ℕ) → length (put_at at new old) ≡ max (length old) (min at (length old) + length new)
 length-put at new old =
     let a : length ((take at old ++ new) ++ drop (at + length new) old)
     ≡ length (take at old ++ new) + length (drop (at + length new) old) =
@@ -49,7 +49,7 @@ behind at n old i high =
     near a b = grind arith
 
 -- New bytes lie over the old ones, or right after them where the offset lies past their end.
-pub index-put : (at : ℕ) (new old : List ℕ) (i : ℕ) → slice_index (put at new old) i ≡ laid_over (min at (length old)) new i (slice_index old i)
+pub index-put : (at : ℕ) (new old : List ℕ) (i : ℕ) → slice_index (put_at at new old) i ≡ laid_over (min at (length old)) new i (slice_index old i)
 index-put at new old i =
     let t : length (take at old) ≡ min at (length old) = length-take at old in
     let b : length (take at old ++ new) ≡ min at (length old) + length new = length-append (take at old) new ∙ ap (λ k. k + length new) t in
@@ -72,7 +72,7 @@ index-put at new old i =
 
 -- Bytes laid over those that stand from another offset on.
 pub lays : (place at from to : ℕ) (bytes into new : List ℕ) (j : ℕ) → from ≡ min (at - place) (length bytes) →
-    to ≡ min (place - at) (length into) → new ≡ put to (take (length into - to) (drop from bytes)) into →
+    to ≡ min (place - at) (length into) → new ≡ put_at to (take (length into - to) (drop from bytes)) into →
     j < length into → slice_index new j ≡ laid_over place bytes (at + j) (slice_index into j)
 lays place at from to bytes into new j ef et e low =
     let part : List ℕ = take (length into - to) (drop from bytes) in
@@ -95,7 +95,7 @@ lays place at from to bytes into new j ef et e low =
 
 -- Another value laid over n bytes, as far as they go.
 pub spoils : (place p n : ℕ) (store new : List ℕ) (j : ℕ) → p ≡ min place (length store) →
-    new ≡ put p (replicate (min n (length store - p)) 255) store → j < length store →
+    new ≡ put_at p (replicate (min n (length store - p)) 255) store → j < length store →
     slice_index new j ≡ spoiled_if (nat_le place j && nat_lt j (place + n)) (slice_index store j)
 spoils place p n store new j ep e low =
     let m : ℕ = min n (length store - p) in

@@ -31,5 +31,5 @@ EachMoment g old new Inside = Moments g.clock g.since old new Inside
 -- second part began, and `Before` for each other moment of the calls. There may be no second part.
 pub data InTwoParts {S : Type 0} (g : Ghosts S) (old new : S) (Before After : Moment → Type 0) : Type 0 where
   first_alone : EachMoment g old new Before → InTwoParts g old new Before After
-  both : (turn : ℕ) → g.clock old ≤ turn → turn ≤ g.clock new → ((m : Moment) → g.since new turn m → After m) →
-      EachMoment g old new (λ m. Before m ⊎ g.since new turn m) → InTwoParts g old new Before After
+  both : (mid : ℕ) → g.clock old ≤ mid → mid ≤ g.clock new → ((m : Moment) → g.since new mid m → After m) →
+      EachMoment g old new (λ m. Before m ⊎ g.since new mid m) → InTwoParts g old new Before After

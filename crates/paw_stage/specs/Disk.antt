@@ -28,13 +28,13 @@ pub record MayLeave (d : Disk) (image : Bytes) : Type 0 where
   pub clean : (i : ℕ) → i < length d.synced → is_dirty d.dirty i ≡ false → slice_index image i ≡ slice_index d.bytes i
 
 -- The bytes, with new ones put at an offset.
-abbrev pub put : ℕ → Bytes → Bytes → Bytes
-put at new old = take at old ++ new ++ drop (at + length new) old
+abbrev pub put_at : ℕ → Bytes → Bytes → Bytes
+put_at at new old = take at old ++ new ++ drop (at + length new) old
 
 -- The disk once a write of n bytes at an offset has put these bytes there: all n count as written.
-abbrev pub touched : ℕ → ℕ → Bytes → Disk → Disk
-touched at n new d = record {
-  bytes = put at new d.bytes;
+abbrev pub disk_written : ℕ → ℕ → Bytes → Disk → Disk
+disk_written at n new d = record {
+  bytes = put_at at new d.bytes;
   synced = d.synced;
   longest = max d.longest (at + n);
   dirty = record { from = at; to = at + n } ∷ d.dirty;
@@ -42,7 +42,7 @@ touched at n new d = record {
 
 -- Inside a write of n bytes, or at its end: nothing was written yet, or up to n bytes were, and these may be any bytes.
 abbrev pub IsInWrite : ℕ → ℕ → Disk → Disk → Type 0
-IsInWrite at n old d = (d ≡ old) ⊎ ((new : Bytes) × (length new ≤ n) × (d ≡ touched at n new old))
+IsInWrite at n old d = (d ≡ old) ⊎ ((new : Bytes) × (length new ≤ n) × (d ≡ disk_written at n new old))
 
 -- A disk with these bytes, of which a crash leaves exactly these.
 abbrev pub stable : Bytes → Disk

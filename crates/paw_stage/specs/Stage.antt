@@ -6,7 +6,7 @@ use Rattle.std.specs.declared.alloc.Global.{Global}
 use Rattle.std.specs.Str.{bytes_eq}
 use Rattle.paw_base.specs.Bytes.{Bytes, Line, Lines, Name, Text}
 use Rattle.paw_base.specs.declared.limits.TheConstants.{LINE_LIMIT}
-use Rattle.paw_stage.specs.Disk.{Disk, stable, touched, IsInWrite}
+use Rattle.paw_stage.specs.Disk.{Disk, stable, disk_written, IsInWrite}
 use Rattle.paw_stage.specs.declared.StageCall.{StageCall}
 use Rattle.paw_stage.specs.declared.StageCall.TheVariants as call
 use Rattle.paw_stage.specs.declared.LoadRefusal.{LoadRefusal}
@@ -118,8 +118,8 @@ SavesTo old new name bytes (Err e) = (new ≡ old) ⊎ ((left : Option Bytes) ×
 
 -- What stands once the file of this name is the attached store. A missing file is made empty; the bytes of the store
 -- are stable.
-abbrev pub opened : Name → Standing → Standing
-opened name s = record s {
+abbrev pub with_store_opened : Name → Standing → Standing
+with_store_opened name s = record s {
   files = made_if_missing name (s.files name) s.files;
   attached = Some name;
   disk = stable (file_bytes s name);
@@ -131,7 +131,7 @@ Unattached old new = (new ≡ old) ⊎ (new ≡ record old { attached = None; di
 
 -- What an attach does: it answers the length of the store, or leaves what a failed one may leave.
 abbrev pub AttachesTo : Standing → Standing → Name → Result ℕ Failed → Type 0
-AttachesTo old new name (Ok n) = (n ≡ length (file_bytes old name)) × (new ≡ opened name old)
+AttachesTo old new name (Ok n) = (n ≡ length (file_bytes old name)) × (new ≡ with_store_opened name old)
 AttachesTo old new name (Err e) = Unattached old new
 
 -- What stands once the store's bytes are those of this disk, and n more bytes were written.
@@ -140,11 +140,11 @@ wrote old d n = record old { files = store_holding old.attached d.bytes old.file
 
 -- What stands once these bytes were written to the store from an offset on.
 abbrev pub with_written : ℕ → Bytes → Standing → Standing
-with_written at bytes s = wrote s (touched at (length bytes) bytes s.disk) (length bytes)
+with_written at bytes s = wrote s (disk_written at (length bytes) bytes s.disk) (length bytes)
 
 -- What stands once the store is synced.
-abbrev pub settled : Standing → Standing
-settled s = record s { disk = stable s.disk.bytes }
+abbrev pub with_store_synced : Standing → Standing
+with_store_synced s = record s { disk = stable s.disk.bytes }
 
 -- What a write of n bytes leaves where it failed in the middle.
 pub record WritesPart (old new : Standing) (at n : ℕ) : Type 0 where
@@ -174,7 +174,7 @@ ReadsTo s at n given (Err e) = Unit {0}
 
 -- What a sync leaves. Where it failed, nothing changed.
 abbrev pub SyncsTo : {A : Type 0} → Standing → Standing → Result A Failed → Type 0
-SyncsTo old new (Ok done) = new ≡ settled old
+SyncsTo old new (Ok done) = new ≡ with_store_synced old
 SyncsTo old new (Err e) = new ≡ old
 
 -- What stands once this text is shown after the text before it.

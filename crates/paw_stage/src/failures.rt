@@ -1,7 +1,7 @@
 // A count of failures for each call, kept by every stage.
 
 ghost use Rattle.std.specs.Prelude.{◌≡◌, Some};
-ghost use Rattle.paw_stage.specs.inner.Failures.{count_of, no_failures, raised, counts_after};
+ghost use Rattle.paw_stage.specs.inner.Failures.{count_of, no_failures, failure_counted, counts_after};
 ghost use Rattle.paw_stage.specs.Stage.{CountsFailure, failed_in};
 
 use crate::{Failed, StageCall};
@@ -40,7 +40,7 @@ impl FailureCounts {
 
     /// Counts one more failure of a call. Its own count rises, and no other changes.
     pub fn raise(&mut self, call: StageCall)
-        ensures raised { self.new ≡ raised call self.old }
+        ensures raised { self.new ≡ failure_counted call self.old }
         ensures counts_failure { CountsFailure (Some call) (count_of self.old) (count_of self.new) }
     {
         match call {

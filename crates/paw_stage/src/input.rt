@@ -32,13 +32,13 @@ pub struct LineReader<R: Drop> {
 }
 
 impl<R: Read + Drop> LineReader<R> {
-    ghost use Rattle.paw_stage.specs.inner.Input.{unread, AsksOf, GathersOf, TakesByteOf};
+    ghost use Rattle.paw_stage.specs.inner.Input.{bytes_unread, AsksOf, GathersOf, TakesByteOf};
     ghost use Rattle.paw_stage.specs.inner.Input.{IsLong};
     ghost use Rattle.paw_stage.specs.declared.input.LineFailure.TheVariants as failure;
 
     /// The lines of a reader, of which nothing was read yet.
     pub fn new(reader: R) -> LineReader<R>
-        ensures unread { unread R.remaining result ≡ R.remaining reader }
+        ensures unread { bytes_unread R.remaining result ≡ R.remaining reader }
     {
         LineReader {
             reader,
@@ -52,7 +52,7 @@ impl<R: Read + Drop> LineReader<R> {
     pub fn next_line(&mut self, into: &mut [u8; LINE_LIMIT]) -> Asked
         ensures line { AsksOf R.remaining self.old self.new result into.new }
         ensures long { IsNone self.old.broken → self.new.broken ≡ Some failure.TooLong →
-            IsLong (unread R.remaining self.old) }
+            IsLong (bytes_unread R.remaining self.old) }
         ensures breaks { (result ≡ asked.Failed) ↔ IsSome self.new.broken }
         ensures stays { IsSome self.old.broken → result ≡ asked.Failed }
     {
@@ -99,7 +99,7 @@ impl<R: Read + Drop> LineReader<R> {
     // Takes the next byte, if there is one.
     fn next_byte(&mut self) -> Result<Option<u8>, Failed>
         ensures taken { TakesByteOf R.remaining self.old self.new result }
-        ensures end { IfOk result (λ byte. IsNone byte → IsAtEnd (unread R.remaining self.new)) }
+        ensures end { IfOk result (λ byte. IsNone byte → IsAtEnd (bytes_unread R.remaining self.new)) }
         ensures rest { self.new.broken ≡ self.old.broken }
     {
         match self.ahead.pop() {

@@ -6,9 +6,11 @@ ghost use Rattle.std.specs.Prelude.{None, OnOk, OnErr, length, take, drop, vec_l
 ghost use Rattle.std.specs.Option.{option_map};
 ghost use Rattle.paw_stage.specs.Stage.{Standing, bytes_or_none};
 ghost use Rattle.paw_stage.specs.inner.Stage.{IfAttached};
-ghost use Rattle.paw_stage.specs.inner.Done.{call_of, call_at, added, fresh, stepped, after, calls_made, right_after};
-ghost use Rattle.paw_stage.specs.inner.Crash.{crashed, HasNoStore};
-ghost use Rattle.paw_stage.specs.inner.Log.{has_room, logged, call_logged, all_done, AreLaid, IsTextOfCall};
+ghost use Rattle.paw_stage.specs.inner.Done.{call_of, call_at, added_file, fresh, after_call_of, after, calls_made};
+ghost use Rattle.paw_stage.specs.inner.Done.{right_after};
+ghost use Rattle.paw_stage.specs.inner.Crash.{bytes_after_crash, HasNoStore};
+ghost use Rattle.paw_stage.specs.inner.Log.{has_room, logged_in_spare_room, call_logged, all_done, AreLaid};
+ghost use Rattle.paw_stage.specs.inner.Log.{IsTextOfCall};
 ghost use Rattle.paw_stage.specs.inner.Seen.{HasLength};
 
 use crate::replay::{
@@ -85,7 +87,7 @@ impl Log {
     /// Records a call, and answers whether there was room for it.
     pub fn add(&mut self, kind: CallKind, name: &[u8], bytes: &[u8]) -> bool
         ensures exact { result ≡ has_room self.old (length name.now + length bytes.now) }
-        ensures kept { IsTrue result → self.new ≡ logged (call_of kind name.now bytes.now) self.old }
+        ensures kept { IsTrue result → self.new ≡ logged_in_spare_room (call_of kind name.now bytes.now) self.old }
         ensures full { IsFalse result → self.new ≡ self.old }
     {
         let n = name.len() + bytes.len();
@@ -102,7 +104,7 @@ impl Log {
 
     /// Records that a file was put there, for which new room is taken. The spare room stays.
     pub fn add_file(&mut self, name: &[u8], bytes: &[u8]) -> Result<(), NoRoom>
-        ensures ok { OnOk result (self.new ≡ call_logged (added name.now bytes.now) self.old) }
+        ensures ok { OnOk result (self.new ≡ call_logged (added_file name.now bytes.now) self.old) }
         ensures err { OnErr result (self.new ≡ self.old) }
     {
         let n = name.len() + bytes.len();
@@ -176,7 +178,8 @@ impl Log {
 
     /// The attached store as a crash may leave it, by a pick, and no bytes where none is attached.
     pub fn crash(&self, alloc: Global, pick: u8) -> Result<Vec<u8>, NoRoom>
-        ensures made { IfAttached (after fresh self.now.calls) (λ d. IfOk result (λ v. v.items ≡ crashed d pick)) }
+        ensures made { IfAttached (after fresh self.now.calls)
+            (λ d. IfOk result (λ v. v.items ≡ bytes_after_crash d pick)) }
         ensures none { (after fresh self.now.calls).attached ≡ None → IfOk result (λ v. v.items ≡ []) }
     {
         crash(self.calls.as_slice(), self.room.as_slice(), alloc, pick)
@@ -191,7 +194,7 @@ impl Log {
         pick: u8,
     ) -> Result<Option<Vec<u8>>, NoRoom>
         ensures made { IfOk result (λ left. IfSome left (λ v.
-            v.items ≡ crashed (right_after number self.now.calls).disk pick)) }
+            v.items ≡ bytes_after_crash (right_after number self.now.calls).disk pick)) }
         ensures none { IfOk result (λ left. (left ≡ None) ↔ HasNoStore number self.now.calls) }
     {
         crash_after(
@@ -288,7 +291,8 @@ fn show_text(text: &mut Vec<u8>, kind: CallKind, bytes: &[u8])
 
 // How many bytes a call wrote to the store.
 fn bytes_written(kind: CallKind, bytes: &[u8]) -> usize
-    ensures counted { (s : Standing) (name : List ℕ) → (stepped kind name bytes.now s).written ≡ s.written + result }
+    ensures counted { (s : Standing) (name : List ℕ) →
+        (after_call_of kind name bytes.now s).written ≡ s.written + result }
     ensures most { result ≤ length bytes.now }
 {
     match kind {

@@ -14,12 +14,12 @@ ghost use Rattle.paw_stage.specs.inner.Stage.{IfAttached};
 ghost use Rattle.paw_stage.specs.Stage.{LoadsTo, SavesTo, AttachesTo, ReadsTo, WritesTo, SyncsTo, AsksTo, ShowsTo};
 ghost use Rattle.paw_stage.specs.Moments.{Still, InAsk, InShow, InSave, InAttach, InWrite, InSync};
 ghost use Rattle.paw_stage.specs.inner.Failures.{count_of};
-ghost use Rattle.paw_stage.specs.inner.Crash.{crashed, HasNoStore};
-ghost use Rattle.paw_stage.specs.inner.Done.{loaded_file, saved, attached_store, read_store};
-ghost use Rattle.paw_stage.specs.inner.Done.{wrote_store, synced_store, took};
-ghost use Rattle.paw_stage.specs.inner.Done.{end_done, showed, call_at, calls_made, right_after};
+ghost use Rattle.paw_stage.specs.inner.Crash.{bytes_after_crash, HasNoStore};
+ghost use Rattle.paw_stage.specs.inner.Done.{loaded_file, saved_file, attached_store, read_store};
+ghost use Rattle.paw_stage.specs.inner.Done.{wrote_store, synced_store, taken_line};
+ghost use Rattle.paw_stage.specs.inner.Done.{end_done, shown_text, call_at, calls_made, right_after};
 ghost use Rattle.paw_stage.specs.inner.Memory.{empty, standing_of, clock_of, moments_of, only_moment, AtEachMoment};
-ghost use Rattle.paw_stage.specs.inner.Memory.{can_note, recorded, failed, Notes, found_none};
+ghost use Rattle.paw_stage.specs.inner.Memory.{can_note, call_recorded, failure_recorded, Notes, found_none};
 ghost use Rattle.paw_stage.specs.inner.Memory.{line_taken, with_file, with_line_left};
 ghost use Rattle.paw_stage.specs.inner.Filed.{file_holds};
 
@@ -115,7 +115,7 @@ impl MemoryStage {
     /// last sync, pick 1 those that a read gives, and any other pick these with 255 for each that was written since the
     /// last sync.
     pub fn crash(&self, alloc: Global, pick: u8) -> Result<Vec<u8>, NoRoom>
-        ensures made { IfAttached (standing_of self.now) (λ d. IfOk result (λ v. v.items ≡ crashed d pick)) }
+        ensures made { IfAttached (standing_of self.now) (λ d. IfOk result (λ v. v.items ≡ bytes_after_crash d pick)) }
         ensures among { IfAttached (standing_of self.now) (λ d. IfOk result (λ v. MayLeave d v.items)) }
         ensures none { (standing_of self.now).attached ≡ None → IfOk result (λ v. v.items ≡ []) }
     {
@@ -135,7 +135,7 @@ impl MemoryStage {
     /// attached by then.
     pub fn crash_after(&self, alloc: Global, call: u64, pick: u8) -> Result<Option<Vec<u8>>, NoRoom>
         ensures made { IfOk result (λ left. IfSome left (λ v.
-            v.items ≡ crashed (right_after call self.now.log.calls).disk pick)) }
+            v.items ≡ bytes_after_crash (right_after call self.now.log.calls).disk pick)) }
         ensures among { IfOk result (λ left. IfSome left (λ v.
             MayLeave (right_after call self.now.log.calls).disk v.items)) }
         ensures none { IfOk result (λ left. (left ≡ None) ↔ HasNoStore call self.now.log.calls) }
@@ -164,10 +164,10 @@ impl Stage for MemoryStage {
 
         // It fails exactly where there is no room, and then leaves no trace but its count.
         ensures exact { (result ≡ Err refusal.Failed) ↔ IsFalse (can_note (loaded_file name.now) self.old) }
-        ensures failed { result ≡ Err refusal.Failed → self.new ≡ failed call.Load self.old }
-        ensures noted { OnOk result (self.new ≡ recorded (loaded_file name.now) self.old) }
+        ensures failed { result ≡ Err refusal.Failed → self.new ≡ failure_recorded call.Load self.old }
+        ensures noted { OnOk result (self.new ≡ call_recorded (loaded_file name.now) self.old) }
         ensures absent { result ≡ Err refusal.Absent → self.new ≡ found_none name.now self.old }
-        ensures wanting { result ≡ Err refusal.Memory → self.new ≡ recorded (loaded_file name.now) self.old }
+        ensures wanting { result ≡ Err refusal.Memory → self.new ≡ call_recorded (loaded_file name.now) self.old }
     {
         if !self.log.add(CallKind::Load, name.as_bytes(), &[]) {
             self.counts.raise(StageCall::Load);
@@ -187,7 +187,7 @@ impl Stage for MemoryStage {
             (count_of self.new.counts) }
         ensures answer { SavesTo (standing_of self.old) (standing_of self.new) name.now bytes.now result }
         ensures time { AtEachMoment self.old self.new (λ s. InSave s name.now) }
-        ensures noted { Notes call.Save (saved name.now bytes.now) result self.old self.new }
+        ensures noted { Notes call.Save (saved_file name.now bytes.now) result self.old self.new }
     {
         if !self.log.add(CallKind::Save, name.as_bytes(), bytes) {
             self.counts.raise(StageCall::Save);
@@ -266,10 +266,10 @@ impl Stage for MemoryStage {
         ensures time { AtEachMoment self.old self.new (λ s. InAsk s result) }
 
         // It fails exactly where there is no room, and then leaves no trace but its count.
-        ensures exact { (result ≡ asked.Failed) ↔ IsFalse (can_note took self.old) }
-        ensures failed { result ≡ asked.Failed → self.new ≡ failed call.Ask self.old }
+        ensures exact { (result ≡ asked.Failed) ↔ IsFalse (can_note taken_line self.old) }
+        ensures failed { result ≡ asked.Failed → self.new ≡ failure_recorded call.Ask self.old }
         ensures noted { (n : ℕ) → result ≡ asked.Line n → self.new ≡ line_taken self.old }
-        ensures noted_end { result ≡ asked.End → self.new ≡ recorded end_done self.old }
+        ensures noted_end { result ≡ asked.End → self.new ≡ call_recorded end_done self.old }
     {
         let kind = if self.lines.is_empty() {
             CallKind::End
@@ -291,7 +291,7 @@ impl Stage for MemoryStage {
             (count_of self.new.counts) }
         ensures answer { ShowsTo (standing_of self.old) (standing_of self.new) text.now result }
         ensures time { AtEachMoment self.old self.new (λ s. InShow s text.now) }
-        ensures noted { Notes call.Show (showed text.now) result self.old self.new }
+        ensures noted { Notes call.Show (shown_text text.now) result self.old self.new }
     {
         if !self.log.add(CallKind::Show, &[], text) {
             self.counts.raise(StageCall::Show);

@@ -9,13 +9,14 @@ ghost use Rattle.paw_stage.specs.Stage.{CountsFailure, failed_in, failed_load, f
 ghost use Rattle.paw_stage.specs.Stage.{LoadsTo, SavesTo, AttachesTo, ReadsTo, WritesTo, SyncsTo, AsksTo, ShowsTo};
 ghost use Rattle.paw_stage.specs.Moments.{Still, InAsk, InShow, InSave, InAttach, InWrite, InSync};
 ghost use Rattle.paw_stage.specs.inner.Failures.{no_failures};
-ghost use Rattle.paw_stage.specs.inner.Done.{saved, attached_store, read_store};
-ghost use Rattle.paw_stage.specs.inner.Done.{wrote_store, synced_store, took};
-ghost use Rattle.paw_stage.specs.inner.Done.{end_done, showed};
-ghost use Rattle.paw_stage.specs.inner.Memory.{clock_of, moments_of, only_moment, recorded, line_taken};
+ghost use Rattle.paw_stage.specs.inner.Done.{saved_file, attached_store, read_store};
+ghost use Rattle.paw_stage.specs.inner.Done.{wrote_store, synced_store, taken_line};
+ghost use Rattle.paw_stage.specs.inner.Done.{end_done, shown_text};
+ghost use Rattle.paw_stage.specs.inner.Memory.{clock_of, moments_of, only_moment, call_recorded, line_taken};
 ghost use Rattle.paw_stage.specs.inner.Filed.{file_holds};
 ghost use Rattle.paw_stage.specs.inner.Refusing.{failures_of, standing_of, AtEachMoment};
-ghost use Rattle.paw_stage.specs.inner.Refusing.{refused, passed_on, FailsBelow, CannotPass, Forwards, ForwardsLoad};
+ghost use Rattle.paw_stage.specs.inner.Refusing.{call_refused, passed_on, FailsBelow, CannotPass, Forwards};
+ghost use Rattle.paw_stage.specs.inner.Refusing.{ForwardsLoad};
 
 use crate::{Asked, Failed, FailureCounts, LoadRefusal, MemoryStage, Stage, StageCall};
 use paw_base::limits::LINE_LIMIT;
@@ -110,7 +111,8 @@ impl<R: Refusals + Drop> Stage for RefusingStage<R> {
             (failures_of self.new) }
         ensures answer { SavesTo (standing_of self.old) (standing_of self.new) name.now bytes.now result }
         ensures time { AtEachMoment self.old self.new (λ s. InSave s name.now) }
-        ensures forwarded { Forwards R.refuses R.later call.Save (saved name.now bytes.now) result self.old self.new }
+        ensures forwarded { Forwards R.refuses R.later call.Save
+            (saved_file name.now bytes.now) result self.old self.new }
     {
         if self.rule.refuses_next() {
             self.counts.raise(StageCall::Save);
@@ -187,11 +189,11 @@ impl<R: Refusals + Drop> Stage for RefusingStage<R> {
         ensures time { AtEachMoment self.old self.new (λ s. InAsk s result) }
 
         // It fails exactly where the rule refuses it, or where there is no room below.
-        ensures exact { (result ≡ asked.Failed) ↔ CannotPass R.refuses took self.old }
-        ensures refused { IsTrue (R.refuses self.old.rule) → self.new ≡ refused R.later call.Ask self.old }
+        ensures exact { (result ≡ asked.Failed) ↔ CannotPass R.refuses taken_line self.old }
+        ensures refused { IsTrue (R.refuses self.old.rule) → self.new ≡ call_refused R.later call.Ask self.old }
         ensures failed { result ≡ asked.Failed → FailsBelow R.refuses R.later call.Ask self.old self.new }
         ensures noted { (n : ℕ) → result ≡ asked.Line n → self.new ≡ passed_on R.later line_taken self.old }
-        ensures noted_end { result ≡ asked.End → self.new ≡ passed_on R.later (recorded end_done) self.old }
+        ensures noted_end { result ≡ asked.End → self.new ≡ passed_on R.later (call_recorded end_done) self.old }
     {
         if self.rule.refuses_next() {
             self.counts.raise(StageCall::Ask);
@@ -205,7 +207,7 @@ impl<R: Refusals + Drop> Stage for RefusingStage<R> {
             (failures_of self.new) }
         ensures answer { ShowsTo (standing_of self.old) (standing_of self.new) text.now result }
         ensures time { AtEachMoment self.old self.new (λ s. InShow s text.now) }
-        ensures forwarded { Forwards R.refuses R.later call.Show (showed text.now) result self.old self.new }
+        ensures forwarded { Forwards R.refuses R.later call.Show (shown_text text.now) result self.old self.new }
     {
         if self.rule.refuses_next() {
             self.counts.raise(StageCall::Show);

@@ -5,12 +5,12 @@ ghost use Rattle.std.specs.Prelude.{true, [], IfOk, IfSome, IfNone, IsSome, Some
 ghost use Rattle.std.specs.Prelude.{slice_range, replicate, List, ℕ};
 ghost use Rattle.std.specs.Option.{option_map};
 ghost use Rattle.paw_stage.specs.declared.log.CallKind.TheVariants as kind;
-ghost use Rattle.paw_stage.specs.Disk.{put};
+ghost use Rattle.paw_stage.specs.Disk.{put_at};
 ghost use Rattle.paw_stage.specs.Stage.{Standing, file_bytes};
 ghost use Rattle.paw_stage.specs.inner.Stage.{IfAttached};
 ghost use Rattle.paw_stage.specs.inner.Done.{DoneCall, standing_after, call_at, is_call, calls_made, right_after};
-ghost use Rattle.paw_stage.specs.inner.Crash.{crashed, all_spoiled, HasNoStore};
-ghost use Rattle.paw_stage.specs.inner.Log.{done_in, all_done, replayed, AreLaid, IsEndOf};
+ghost use Rattle.paw_stage.specs.inner.Crash.{bytes_after_crash, all_spoiled, HasNoStore};
+ghost use Rattle.paw_stage.specs.inner.Log.{done_in, all_done, calls_replayed, AreLaid, IsEndOf};
 ghost use Rattle.paw_stage.specs.inner.Seen.{HasLength, Sees, IsFiled, IsNamed, FindsStore};
 ghost use Rattle.paw_stage.specs.inner.Seen.{FindsNext, LaysOver, Spoils};
 ghost use Rattle.paw_stage.specs.inner.Seen.{writes, is_written};
@@ -49,8 +49,8 @@ pub fn call_at<'a>(calls: &[Call], room: &'a [u8], number: usize) -> Option<(Cal
 /// The length of a file, where it is there.
 pub fn file_len(calls: &[Call], room: &[u8], name: &[u8]) -> Option<usize>
     requires laid { AreLaid calls.now 0 (length room.now) }
-    ensures some { IfSome result (HasLength ((replayed room.now calls.now).files name.now)) }
-    ensures none { IfNone result ((replayed room.now calls.now).files name.now ≡ None) }
+    ensures some { IfSome result (HasLength ((calls_replayed room.now calls.now).files name.now)) }
+    ensures none { IfNone result ((calls_replayed room.now calls.now).files name.now ≡ None) }
 {
     let seen = see(calls, room, name, 0, &mut []);
     if seen.here { Some(seen.len) } else { None }
@@ -65,8 +65,8 @@ pub fn first_bytes(
     n: usize,
 ) -> Result<Vec<u8>, NoRoom>
     requires laid { AreLaid calls.now 0 (length room.now) }
-    requires within { n ≤ length (file_bytes (replayed room.now calls.now) name.now) }
-    ensures value { IfOk result (λ v. v.items ≡ take n (file_bytes (replayed room.now calls.now) name.now)) }
+    requires within { n ≤ length (file_bytes (calls_replayed room.now calls.now) name.now) }
+    ensures value { IfOk result (λ v. v.items ≡ take n (file_bytes (calls_replayed room.now calls.now) name.now)) }
 {
     let mut bytes = vec![in alloc; 0u8; n]?;
     read_file(calls, room, name, 0, bytes.as_mut_slice());
@@ -76,8 +76,8 @@ pub fn first_bytes(
 /// The length of the attached store.
 pub fn store_len(calls: &[Call], room: &[u8]) -> usize
     requires laid { AreLaid calls.now 0 (length room.now) }
-    requires attached { IsSome (replayed room.now calls.now).attached }
-    ensures value { result ≡ length (replayed room.now calls.now).disk.bytes }
+    requires attached { IsSome (calls_replayed room.now calls.now).attached }
+    ensures value { result ≡ length (calls_replayed room.now calls.now).disk.bytes }
 {
     match find_store(calls, room) {
         None => 0,
@@ -88,9 +88,9 @@ pub fn store_len(calls: &[Call], room: &[u8]) -> usize
 /// Fills a slice with bytes of the attached store from an offset on.
 pub fn read_store(calls: &[Call], room: &[u8], at: usize, into: &mut [u8])
     requires laid { AreLaid calls.now 0 (length room.now) }
-    requires attached { IsSome (replayed room.now calls.now).attached }
-    requires within { at + length into.old ≤ length (replayed room.now calls.now).disk.bytes }
-    ensures read { into.new ≡ take (length into.old) (drop at (replayed room.now calls.now).disk.bytes) }
+    requires attached { IsSome (calls_replayed room.now calls.now).attached }
+    requires within { at + length into.old ≤ length (calls_replayed room.now calls.now).disk.bytes }
+    ensures read { into.new ≡ take (length into.old) (drop at (calls_replayed room.now calls.now).disk.bytes) }
 {
     match find_store(calls, room) {
         None => {}
@@ -101,8 +101,9 @@ pub fn read_store(calls: &[Call], room: &[u8], at: usize, into: &mut [u8])
 /// The attached store as a crash may leave it, by a pick, and no bytes where none is attached.
 pub fn crash(calls: &[Call], room: &[u8], alloc: Global, pick: u8) -> Result<Vec<u8>, NoRoom>
     requires laid { AreLaid calls.now 0 (length room.now) }
-    ensures made { IfAttached (replayed room.now calls.now) (λ d. IfOk result (λ v. v.items ≡ crashed d pick)) }
-    ensures none { (replayed room.now calls.now).attached ≡ None → IfOk result (λ v. v.items ≡ []) }
+    ensures made { IfAttached (calls_replayed room.now calls.now)
+        (λ d. IfOk result (λ v. v.items ≡ bytes_after_crash d pick)) }
+    ensures none { (calls_replayed room.now calls.now).attached ≡ None → IfOk result (λ v. v.items ≡ []) }
 {
     match find_store(calls, room) {
         None => Ok(Vec::new(alloc)),
@@ -134,7 +135,7 @@ pub fn crash_after(
 ) -> Result<Option<Vec<u8>>, NoRoom>
     requires laid { AreLaid calls.now 0 (length room.now) }
     ensures made { IfOk result (λ left. IfSome left (λ v.
-        v.items ≡ crashed (right_after number (all_done room.now calls.now)).disk pick)) }
+        v.items ≡ bytes_after_crash (right_after number (all_done room.now calls.now)).disk pick)) }
     ensures none { IfOk result (λ left. (left ≡ None) ↔ HasNoStore number (all_done room.now calls.now)) }
 {
     match end_of(calls, number) {
@@ -151,8 +152,9 @@ fn crash_attached(
     pick: u8,
 ) -> Result<Option<Vec<u8>>, NoRoom>
     requires laid { AreLaid calls.now 0 (length room.now) }
-    ensures made { IfOk result (λ left. IfSome left (λ v. v.items ≡ crashed (replayed room.now calls.now).disk pick)) }
-    ensures none { IfOk result (λ left. (left ≡ None) ↔ ((replayed room.now calls.now).attached ≡ None)) }
+    ensures made { IfOk result (λ left. IfSome left
+        (λ v. v.items ≡ bytes_after_crash (calls_replayed room.now calls.now).disk pick)) }
+    ensures none { IfOk result (λ left. (left ≡ None) ↔ ((calls_replayed room.now calls.now).attached ≡ None)) }
 {
     match find_store(calls, room) {
         None => Ok(None),
@@ -204,7 +206,7 @@ fn leave(
 ) -> Result<Vec<u8>, NoRoom>
     requires laid { AreLaid calls.now 0 (length room.now) }
     requires found { FindsStore room.now (all_done room.now calls.now) (Some store) }
-    ensures value { IfOk result (λ v. v.items ≡ crashed (replayed room.now calls.now).disk pick) }
+    ensures value { IfOk result (λ v. v.items ≡ bytes_after_crash (calls_replayed room.now calls.now).disk pick) }
 {
     let name = name_of(room, store);
     if pick == 0 {
@@ -225,7 +227,7 @@ fn spoiled_store(
 ) -> Result<Vec<u8>, NoRoom>
     requires laid { AreLaid calls.now 0 (length room.now) }
     requires found { FindsStore room.now (all_done room.now calls.now) (Some store) }
-    ensures value { IfOk result (λ v. v.items ≡ all_spoiled (replayed room.now calls.now).disk) }
+    ensures value { IfOk result (λ v. v.items ≡ all_spoiled (calls_replayed room.now calls.now).disk) }
 {
     let mut bytes = whole_file(calls, room, alloc, name_of(room, store))?;
     spoil(&calls[store.synced..], room, bytes.as_mut_slice());
@@ -257,7 +259,7 @@ fn spoil_after(call: Call, room: &[u8], store: &mut [u8])
 // Gives another value to n bytes of a store from an offset on, as far as it goes.
 fn spoil_range(place: usize, n: usize, store: &mut [u8])
     requires within { place ≤ length store.old }
-    ensures spoiled { store.new ≡ put place (replicate (min n (length store.old - place)) SPOILED) store.old }
+    ensures spoiled { store.new ≡ put_at place (replicate (min n (length store.old - place)) SPOILED) store.old }
 {
     let to = place + n.min(store.len() - place);
     store[place..to].fill(SPOILED);
@@ -266,7 +268,7 @@ fn spoil_range(place: usize, n: usize, store: &mut [u8])
 // All bytes of a file; none where it is missing.
 fn whole_file(calls: &[Call], room: &[u8], alloc: Global, name: &[u8]) -> Result<Vec<u8>, NoRoom>
     requires laid { AreLaid calls.now 0 (length room.now) }
-    ensures value { IfOk result (λ v. v.items ≡ file_bytes (replayed room.now calls.now) name.now) }
+    ensures value { IfOk result (λ v. v.items ≡ file_bytes (calls_replayed room.now calls.now) name.now) }
 {
     let n = see(calls, room, name, 0, &mut []).len;
     first_bytes(calls, room, alloc, name, n)
@@ -275,8 +277,9 @@ fn whole_file(calls: &[Call], room: &[u8], alloc: Global, name: &[u8]) -> Result
 // Fills a slice with bytes of a file from an offset on.
 fn read_file(calls: &[Call], room: &[u8], name: &[u8], at: usize, into: &mut [u8])
     requires laid { AreLaid calls.now 0 (length room.now) }
-    requires within { at + length into.old ≤ length (file_bytes (replayed room.now calls.now) name.now) }
-    ensures read { into.new ≡ take (length into.old) (drop at (file_bytes (replayed room.now calls.now) name.now)) }
+    requires within { at + length into.old ≤ length (file_bytes (calls_replayed room.now calls.now) name.now) }
+    ensures read { into.new ≡ take (length into.old)
+        (drop at (file_bytes (calls_replayed room.now calls.now) name.now)) }
 {
     let _ = see(calls, room, name, at, into);
 }
@@ -284,7 +287,7 @@ fn read_file(calls: &[Call], room: &[u8], name: &[u8], at: usize, into: &mut [u8
 // What is seen of a file. A slice is filled with its bytes from an offset on, as far as they go.
 fn see(calls: &[Call], room: &[u8], name: &[u8], at: usize, into: &mut [u8]) -> Seen
     requires laid { AreLaid calls.now 0 (length room.now) }
-    ensures sees { Sees (replayed room.now calls.now) name.now at result into.new }
+    ensures sees { Sees (calls_replayed room.now calls.now) name.now at result into.new }
 {
     let mut seen = Seen {
         here: false,
@@ -384,7 +387,7 @@ fn lay_over(place: usize, bytes: &[u8], at: usize, into: &mut [u8])
 // Copies bytes over those of a slice from an offset on, as many as it has.
 fn copy_over(bytes: &[u8], into: &mut [u8], to: usize)
     requires within { to ≤ length into.old }
-    ensures laid { into.new ≡ put to (take (length into.old - to) bytes.now) into.old }
+    ensures laid { into.new ≡ put_at to (take (length into.old - to) bytes.now) into.old }
 {
     let n = bytes.len().min(into.len() - to);
     into[to..to + n].copy_from_slice(&bytes[..n]);

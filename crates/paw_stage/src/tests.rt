@@ -4,6 +4,7 @@ use crate::input::LineReader;
 use crate::{Asked, FailStage, Failed, LoadRefusal, MemoryStage, RealStage, Stage};
 use std::alloc::{AllocError, Global};
 use std::fs;
+use std::process::Abort;
 use std::test::Fail;
 
 #[derive(Clone, Copy)]
@@ -15,16 +16,20 @@ enum Call<'a> {
 }
 
 // What a call answers: the bytes that it gives, or a word in capitals.
-fn said<S: Stage>(stage: &mut S, alloc: Global, call: Call<'_>) -> Result<Vec<u8>, AllocError> {
+fn answer_of_call<S: Stage>(
+    stage: &mut S,
+    alloc: Global,
+    call: Call<'_>,
+) -> Result<Vec<u8>, AllocError> {
     match call {
-        Call::Load(name, most) => loaded(stage, alloc, name, most),
+        Call::Load(name, most) => answer_of_load(stage, alloc, name, most),
         Call::Save(name, bytes) => word(alloc, stage.save(name, bytes)),
-        Call::Ask => asked(stage, alloc),
+        Call::Ask => answer_of_ask(stage, alloc),
         Call::Show(text) => word(alloc, stage.show(text)),
     }
 }
 
-fn loaded<S: Stage>(
+fn answer_of_load<S: Stage>(
     stage: &mut S,
     alloc: Global,
     name: &str,
@@ -38,7 +43,7 @@ fn loaded<S: Stage>(
     }
 }
 
-fn asked<S: Stage>(stage: &mut S, alloc: Global) -> Result<Vec<u8>, AllocError> {
+fn answer_of_ask<S: Stage>(stage: &mut S, alloc: Global) -> Result<Vec<u8>, AllocError> {
     let mut line = [0u8; 255];
     match stage.ask(&mut line) {
         Asked::Line(n) => Vec::from_slice(alloc, &line[..n as usize]),
@@ -49,6 +54,20 @@ fn asked<S: Stage>(stage: &mut S, alloc: Global) -> Result<Vec<u8>, AllocError> 
 
 fn word(alloc: Global, answer: Result<(), Failed>) -> Result<Vec<u8>, AllocError> {
     Vec::from_slice(alloc, if answer.is_ok() { b"DONE" } else { b"FAILED" })
+}
+
+// Checks that these calls in a row answer so.
+fn answers<S: Stage>(
+    rt: &impl Abort,
+    alloc: Global,
+    stage: &mut S,
+    calls: &[(Call<'_>, &[u8])],
+) -> Result<(), Fail> {
+    for (at, &(call, want)) in calls.iter().enumerate() {
+        let answer = answer_of_call(stage, alloc, call)?;
+        assert_eq!(rt; answer.as_slice(), want, "call {at}");
+    }
+    Ok(())
 }
 
 fn with_files(alloc: Global, calls: u64, bytes: u64) -> Result<MemoryStage, Fail> {
@@ -80,10 +99,7 @@ fn files_are_as_they_were_last_added_or_saved(rt: HostRuntime) -> Result<(), Fai
         (Call::Load("gam", 9), b"saved"),
         (Call::Load("game", 9), b"abcdef"),
     ];
-    for (at, (call, want)) in calls.into_iter().enumerate() {
-        let answer = said(&mut stage, rt.alloc(), call)?;
-        assert_eq!(rt; answer.as_slice(), want, "call {at}");
-    }
+    answers(&rt, rt.alloc(), &mut stage, &calls)?;
     Ok(())
 }
 
@@ -105,10 +121,7 @@ fn calls_fail_where_the_room_is_used_up(rt: HostRuntime) -> Result<(), Fail> {
         (Call::Show(b""), b"FAILED"),
         (Call::Load("", 9), b"FAILED"),
     ];
-    for (at, (call, want)) in calls.into_iter().enumerate() {
-        let answer = said(&mut stage, rt.alloc(), call)?;
-        assert_eq!(rt; answer.as_slice(), want, "call {at}");
-    }
+    answers(&rt, rt.alloc(), &mut stage, &calls)?;
     assert_eq!(rt; stage.shown(), b"123".as_slice());
     Ok(())
 }
@@ -128,10 +141,7 @@ fn the_listed_calls_fail(rt: HostRuntime) -> Result<(), Fail> {
         (Call::Load("game", 9), b"abcdef"),
         (Call::Show(b"no spare call is left"), b"FAILED"),
     ];
-    for (at, (call, want)) in calls.into_iter().enumerate() {
-        let answer = said(&mut stage, rt.alloc(), call)?;
-        assert_eq!(rt; answer.as_slice(), want, "call {at}");
-    }
+    answers(&rt, rt.alloc(), &mut stage, &calls)?;
     assert_eq!(rt; stage.inner().shown(), b"Hall. Yard.".as_slice());
     Ok(())
 }
@@ -154,10 +164,7 @@ fn real_files_are_loaded_and_saved(rt: HostRuntime) -> Result<(), Fail> {
         (Call::Save(".", b"x"), b"FAILED"),
         (Call::Show(b""), b"DONE"),
     ];
-    for (at, (call, want)) in calls.into_iter().enumerate() {
-        let answer = said(&mut stage, rt.alloc(), call)?;
-        assert_eq!(rt; answer.as_slice(), want, "call {at}");
-    }
+    answers(&rt, rt.alloc(), &mut stage, &calls)?;
     fs::remove_file(&rt, "paw_stage_test")?;
     Ok(())
 }
@@ -183,7 +190,7 @@ fn a_line_is_cut_to_255_bytes(rt: HostRuntime) -> Result<(), Fail> {
         let line = line_of(rt.alloc(), length, "")?;
         let mut stage = with_files(rt.alloc(), 1, 0)?;
         stage.add_line(rt.alloc(), line.as_slice())?;
-        let answer = asked(&mut stage, rt.alloc())?;
+        let answer = answer_of_ask(&mut stage, rt.alloc())?;
         assert_eq!(rt; answer.len(), want, "{length}");
     }
     Ok(())

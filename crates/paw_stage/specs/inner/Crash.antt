@@ -9,18 +9,18 @@ abbrev pub spoiled_if : Bool → ℕ → ℕ
 spoiled_if spoiled x = if spoiled then 255 else x
 
 -- The bytes that stand from an offset on, with 255 for each that was written since the last sync.
-abbrev pub spoiled : List Range → ℕ → Bytes → Bytes
-spoiled dirty i [] = []
-spoiled dirty i (x ∷ xs) = spoiled_if (is_dirty dirty i) x ∷ spoiled dirty (i + 1) xs
+abbrev pub bytes_spoiled : List Range → ℕ → Bytes → Bytes
+bytes_spoiled dirty i [] = []
+bytes_spoiled dirty i (x ∷ xs) = spoiled_if (is_dirty dirty i) x ∷ bytes_spoiled dirty (i + 1) xs
 
 -- The bytes that a read gives, with 255 for each that was written since the last sync.
 abbrev pub all_spoiled : Disk → Bytes
-all_spoiled d = spoiled d.dirty 0 d.bytes
+all_spoiled d = bytes_spoiled d.dirty 0 d.bytes
 
 -- What a pick leaves: pick 0 the bytes at the last sync, pick 1 those that a read gives, and any other pick these, all
 -- spoiled.
-abbrev pub crashed : Disk → ℕ → Bytes
-crashed d pick = if pick == 0 then d.synced else if pick == 1 then d.bytes else all_spoiled d
+abbrev pub bytes_after_crash : Disk → ℕ → Bytes
+bytes_after_crash d pick = if pick == 0 then d.synced else if pick == 1 then d.bytes else all_spoiled d
 
 -- Fewer calls were made than up to this number, counted from 0, or no store was attached by then.
 abbrev pub HasNoStore : ℕ → List DoneCall → Type 0

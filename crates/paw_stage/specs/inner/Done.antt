@@ -6,7 +6,8 @@ use Rattle.std.specs.List.{slice_get, filter}
 use Rattle.std.specs.Str.{bytes_eq}
 use Rattle.paw_base.specs.Bytes.{Bytes, Name, Text}
 use Rattle.paw_stage.specs.Disk.{stable}
-use Rattle.paw_stage.specs.Stage.{Standing, file_holding, bytes_or_none, with_shown, opened, with_written, settled}
+use Rattle.paw_stage.specs.Stage.{Standing, file_holding, bytes_or_none, with_shown, with_store_opened, with_written}
+use Rattle.paw_stage.specs.Stage.{with_store_synced}
 use Rattle.paw_stage.specs.declared.log.CallKind.{CallKind}
 use Rattle.paw_stage.specs.declared.log.CallKind.TheVariants as kind
 
@@ -25,34 +26,42 @@ abbrev pub size_of : DoneCall → ℕ
 size_of d = length d.name + length d.bytes
 
 -- A file was put there between the calls; or a call loaded, saved, took a line, found no line left, or showed a text.
-abbrev pub added : Name → Bytes → DoneCall
-added name bytes = call_of kind.Add name bytes
+abbrev pub added_file : Name → Bytes → DoneCall
+added_file name bytes = call_of kind.Add name bytes
 
+-- A file was loaded.
 abbrev pub loaded_file : Name → DoneCall
 loaded_file name = call_of kind.Load name []
 
-abbrev pub saved : Name → Bytes → DoneCall
-saved name bytes = call_of kind.Save name bytes
+-- A file was saved with these bytes.
+abbrev pub saved_file : Name → Bytes → DoneCall
+saved_file name bytes = call_of kind.Save name bytes
 
-abbrev pub took : DoneCall
-took = call_of kind.Take [] []
+-- A line was taken.
+abbrev pub taken_line : DoneCall
+taken_line = call_of kind.Take [] []
 
+-- No line was left to take.
 abbrev pub end_done : DoneCall
 end_done = call_of kind.End [] []
 
-abbrev pub showed : Text → DoneCall
-showed text = call_of kind.Show [] text
+-- A text was shown.
+abbrev pub shown_text : Text → DoneCall
+shown_text text = call_of kind.Show [] text
 
 -- A call attached a store, read it, wrote bytes to it from an offset on, or synced it.
 abbrev pub attached_store : Name → DoneCall
 attached_store name = call_of kind.Attach name []
 
+-- The store was read.
 abbrev pub read_store : DoneCall
 read_store = call_of kind.Read [] []
 
+-- These bytes were written to the store from an offset on.
 abbrev pub wrote_store : ℕ → Bytes → DoneCall
 wrote_store at bytes = call_of (kind.Write at) [] bytes
 
+-- The store was synced.
 abbrev pub synced_store : DoneCall
 synced_store = call_of kind.Sync [] []
 
@@ -71,28 +80,28 @@ is_attached (Some n) name = bytes_eq n name
 
 -- What stands once the file of this name holds these bytes, or is gone where there are none. If it is the file of the
 -- attached store, the store has these bytes, and all of them are synced.
-abbrev pub filed : Name → Option Bytes → Standing → Standing
-filed name bytes s = record s {
+abbrev pub file_replaced : Name → Option Bytes → Standing → Standing
+file_replaced name bytes s = record s {
   files = file_holding name bytes s.files;
   disk = if is_attached s.attached name then stable (bytes_or_none bytes) else s.disk;
 }
 
 -- What a call of a kind makes of what stands. The lines that are left stand elsewhere.
-abbrev pub stepped : CallKind → Name → Bytes → Standing → Standing
-stepped kind.Add name bytes s = filed name (Some bytes) s
-stepped kind.Load name bytes s = s
-stepped kind.Save name bytes s = filed name (Some bytes) s
-stepped kind.Attach name bytes s = opened name s
-stepped kind.Read name bytes s = s
-stepped (kind.Write at) name bytes s = with_written at bytes s
-stepped kind.Sync name bytes s = settled s
-stepped kind.Take name bytes s = record s { asked = s.asked + 1 }
-stepped kind.End name bytes s = s
-stepped kind.Show name bytes s = with_shown bytes s
+abbrev pub after_call_of : CallKind → Name → Bytes → Standing → Standing
+after_call_of kind.Add name bytes s = file_replaced name (Some bytes) s
+after_call_of kind.Load name bytes s = s
+after_call_of kind.Save name bytes s = file_replaced name (Some bytes) s
+after_call_of kind.Attach name bytes s = with_store_opened name s
+after_call_of kind.Read name bytes s = s
+after_call_of (kind.Write at) name bytes s = with_written at bytes s
+after_call_of kind.Sync name bytes s = with_store_synced s
+after_call_of kind.Take name bytes s = record s { asked = s.asked + 1 }
+after_call_of kind.End name bytes s = s
+after_call_of kind.Show name bytes s = with_shown bytes s
 
 -- What stands after a call.
 abbrev pub standing_after : Standing → DoneCall → Standing
-standing_after s d = stepped d.kind d.name d.bytes s
+standing_after s d = after_call_of d.kind d.name d.bytes s
 
 -- What stands after these calls, one after the other.
 abbrev pub after : Standing → List DoneCall → Standing

@@ -25,18 +25,18 @@ abbrev pub one_more : ℕ → ℕ
 one_more n = min (n + 1) (2 ^ 64 - 1)
 
 -- The counts after one more failure of a call: only its own count rises.
-abbrev pub raised : StageCall → FailureCounts → FailureCounts
-raised call.Load c = record c { load = one_more c.load }
-raised call.LoadAbsent c = record c { absent = one_more c.absent }
-raised call.Save c = record c { save = one_more c.save }
-raised call.Attach c = record c { attach = one_more c.attach }
-raised call.Read c = record c { read = one_more c.read }
-raised call.Write c = record c { write = one_more c.write }
-raised call.Sync c = record c { sync = one_more c.sync }
-raised call.Ask c = record c { ask = one_more c.ask }
-raised call.Show c = record c { show = one_more c.show }
+abbrev pub failure_counted : StageCall → FailureCounts → FailureCounts
+failure_counted call.Load c = record c { load = one_more c.load }
+failure_counted call.LoadAbsent c = record c { absent = one_more c.absent }
+failure_counted call.Save c = record c { save = one_more c.save }
+failure_counted call.Attach c = record c { attach = one_more c.attach }
+failure_counted call.Read c = record c { read = one_more c.read }
+failure_counted call.Write c = record c { write = one_more c.write }
+failure_counted call.Sync c = record c { sync = one_more c.sync }
+failure_counted call.Ask c = record c { ask = one_more c.ask }
+failure_counted call.Show c = record c { show = one_more c.show }
 
 -- The counts after a call, by which of them failed: one more failure of that one, or the same where none failed.
 abbrev pub counts_after : Option StageCall → FailureCounts → FailureCounts
 counts_after None c = c
-counts_after (Some failed) c = raised failed c
+counts_after (Some failed) c = failure_counted failed c

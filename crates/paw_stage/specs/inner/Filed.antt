@@ -3,11 +3,11 @@ use Rattle.std.proofs.Common.{◌≡◌, Bool, true, false, List, [], ◌∷◌,
 use Rattle.std.specs.Prelude.{Option, Some, None, if◌then◌else◌}
 use Rattle.std.specs.Str.{bytes_eq}
 use Rattle.paw_base.specs.Bytes.{Bytes, Name}
-use Rattle.paw_stage.specs.Disk.{Disk, put, stable}
+use Rattle.paw_stage.specs.Disk.{Disk, put_at, stable}
 use Rattle.std.proofs.lemmas.Slice.Eq.{bytes_eq-Decides}
 use Rattle.paw_stage.specs.Stage.{Standing, Files, file_holding, store_holding, made_if_missing}
 use Rattle.paw_stage.specs.Stage.{bytes_or_none, file_bytes}
-use Rattle.paw_stage.specs.inner.Done.{DoneCall, fresh, standing_after, stepped, after, is_attached}
+use Rattle.paw_stage.specs.inner.Done.{DoneCall, fresh, standing_after, after_call_of, after, is_attached}
 use Rattle.paw_stage.specs.inner.Seen.{IsFiled}
 use Rattle.paw_stage.specs.inner.Memory.{Memory, standing_of}
 use Rattle.paw_stage.specs.declared.log.CallKind.{CallKind}
@@ -23,22 +23,26 @@ either_filed : (b : Bool) (o : Option Bytes) (bytes : Bytes) (d : Disk) → o �
 either_filed true o bytes d h = refl
 either_filed false o bytes d h = h
 
-saved_filed : (s : Standing) (name : Name) (bytes : Bytes) → IsFiled s → IsFiled (stepped kind.Save name bytes s)
+-- A file that is saved leaves the store's bytes those of its file.
+saved_filed : (s : Standing) (name : Name) (bytes : Bytes) → IsFiled s → IsFiled (after_call_of kind.Save name bytes s)
 saved_filed s name bytes h n e =
     let k : is_attached s.attached name ≡ bytes_eq n name = ap (λ a. is_attached a name) e in
     either_filed (bytes_eq n name) (s.files n) bytes s.disk (h n e)
     ∙ sym (ap (λ b. Some (if b then stable bytes else s.disk).bytes) k)
 
+-- A file that was made where it was missing is there.
 made_gives : (o : Option Bytes) (files : Files) (name : Name) → files name ≡ o →
     made_if_missing name o files name ≡ Some (bytes_or_none o)
 made_gives None files name h = holds name (Some []) files
 made_gives (Some b) files name h = h
 
+-- Values that are there and are the same are the same values.
 some_same : (a b : Bytes) → Some a ≡ Some b → a ≡ b
 some_same a b e = cc
 
+-- A call of any kind leaves the store's bytes those of its file.
 stepped_filed : (k : CallKind) (name : Name) (bytes : Bytes) (s : Standing) → IsFiled s →
-    IsFiled (stepped k name bytes s)
+    IsFiled (after_call_of k name bytes s)
 stepped_filed kind.Add name bytes s h n e = saved_filed s name bytes h n e
 stepped_filed kind.Load name bytes s h n e = h n e
 stepped_filed kind.Save name bytes s h n e = saved_filed s name bytes h n e
@@ -47,17 +51,19 @@ stepped_filed kind.Attach name bytes s h n e =
     (some_same name n e) (made_gives (s.files name) s.files name refl)
 stepped_filed kind.Read name bytes s h n e = h n e
 stepped_filed (kind.Write at) name bytes s h n e =
-    ap (λ a. store_holding a (put at bytes s.disk.bytes) s.files n) e
-    ∙ holds n (Some (put at bytes s.disk.bytes)) s.files
+    ap (λ a. store_holding a (put_at at bytes s.disk.bytes) s.files n) e
+    ∙ holds n (Some (put_at at bytes s.disk.bytes)) s.files
 stepped_filed kind.Sync name bytes s h n e = h n e
 stepped_filed kind.Take name bytes s h n e = h n e
 stepped_filed kind.End name bytes s h n e = h n e
 stepped_filed kind.Show name bytes s h n e = h n e
 
+-- Calls in order leave the store's bytes those of its file.
 later_filed : (s : Standing) (ds : List DoneCall) → IsFiled s → IsFiled (after s ds)
 later_filed s [] h = h
 later_filed s (d ∷ ds) h = later_filed (standing_after s d) ds (stepped_filed d.kind d.name d.bytes s h)
 
+-- After any calls the store's bytes are those of its file.
 pub after_filed : (ds : List DoneCall) → IsFiled (after fresh ds)
 after_filed ds = later_filed fresh ds (λ n e. cc)
 

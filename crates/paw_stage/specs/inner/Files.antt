@@ -10,9 +10,11 @@ StaysWhereItWas old new at = IfSome old (λ _. new ≡ Some at)
 
 -- From this offset on a file gave these bytes, or took them, as far as it shows its offset and its bytes.
 module _ {F : Type 0} (place : F → Option ℕ) (known : F → Option Bytes) (old new : F) (at : ℕ) (bytes : Bytes) where
+  -- A file gave these bytes from this offset on.
   abbrev pub GivesAt : Type 0
   GivesAt = (there : F) × StaysWhereItWas (place old) (place there) at × Consumes (known there) (known new) bytes
 
+  -- A file took these bytes from this offset on.
   abbrev pub TakesAt : Type 0
   TakesAt = (there : F) × StaysWhereItWas (place old) (place there) at × Appends (known there) (known new) bytes
 

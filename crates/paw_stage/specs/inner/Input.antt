@@ -12,8 +12,8 @@ use Rattle.paw_stage.specs.declared.Asked.TheVariants as asked
 use Rattle.paw_stage.specs.declared.input.LineReader.{LineReader}
 
 -- The bytes that are still to be taken, where they are known: those read ahead, and those that reads will give.
-abbrev pub unread : {R : Type 0} → (R → Option Bytes) → LineReader R → Option Bytes
-unread remaining s = prepend_known s.ahead (remaining s.reader)
+abbrev pub bytes_unread : {R : Type 0} → (R → Option Bytes) → LineReader R → Option Bytes
+bytes_unread remaining s = prepend_known s.ahead (remaining s.reader)
 
 -- The greatest length of a line that is taken, in bytes, without its end.
 abbrev pub longest_line : ℕ
@@ -48,15 +48,21 @@ GathersLine bytes left (Some len) into =
 
 -- What an ask, the gathering of a line and the taking of a byte do to a reader, where its bytes are known.
 module _ {R : Type 0} (remaining : R → Option Bytes) (old new : LineReader R) where
+  -- What an ask does to a reader.
   abbrev pub AsksOf : Asked → Bytes → Type 0
-  AsksOf asked into = IfSome (unread remaining old) (λ bytes. TakesLine bytes (unread remaining new) asked into)
+  AsksOf asked into =
+      IfSome (bytes_unread remaining old) (λ bytes. TakesLine bytes (bytes_unread remaining new) asked into)
 
+  -- What the gathering of a line does to a reader.
   abbrev pub GathersOf : {E : Type 0} → Result (Option ℕ) E → Bytes → Type 0
   GathersOf gathered into =
-      IfSome (unread remaining old) (λ bytes. IfOk gathered (λ len. GathersLine bytes (unread remaining new) len into))
+      IfSome (bytes_unread remaining old) (λ bytes. IfOk gathered
+      (λ len. GathersLine bytes (bytes_unread remaining new) len into))
 
+  -- What the taking of a byte does to a reader.
   abbrev pub TakesByteOf : {E : Type 0} → Result (Option ℕ) E → Type 0
-  TakesByteOf taken = IfOk taken (λ byte. Consumes (unread remaining old) (unread remaining new) (option_to_list byte))
+  TakesByteOf taken =
+      IfOk taken (λ byte. Consumes (bytes_unread remaining old) (bytes_unread remaining new) (option_to_list byte))
 
 -- No byte of these is an LF.
 abbrev pub HasNoEnd : Bytes → Type 0

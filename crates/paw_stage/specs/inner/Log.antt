@@ -3,7 +3,7 @@ use Rattle.std.specs.Prelude.{◌≡◌, ℕ, suc, ◌-◌, ◌≤◌, ◌<◌, 
 use Rattle.std.specs.Prelude.{map, length, take, slice_range, Option, Some, None}
 use Rattle.paw_base.specs.Bytes.{Bytes, Name, Text}
 use Rattle.paw_stage.specs.Stage.{Standing}
-use Rattle.paw_stage.specs.inner.Done.{DoneCall, size_of, fresh, stepped, after, calls_made, first_calls}
+use Rattle.paw_stage.specs.inner.Done.{DoneCall, size_of, fresh, after_call_of, after, calls_made, first_calls}
 use Rattle.paw_stage.specs.declared.log.CallKind.{CallKind}
 use Rattle.paw_stage.specs.declared.log.Call.{Call}
 
@@ -18,8 +18,8 @@ abbrev pub has_room : Logged → ℕ → Bool
 has_room l n = nat_lt 0 l.calls_left && nat_le n l.bytes_left
 
 -- One call more, which takes one of the spare calls and its bytes from the spare bytes.
-abbrev pub logged : DoneCall → Logged → Logged
-logged d l = record {
+abbrev pub logged_in_spare_room : DoneCall → Logged → Logged
+logged_in_spare_room d l = record {
   calls = l.calls ++ d ∷ [];
   calls_left = l.calls_left - 1;
   bytes_left = l.bytes_left - size_of d;
@@ -33,17 +33,18 @@ call_logged d l = record l { calls = l.calls ++ d ∷ [] }
 abbrev pub done_in : Bytes → Call → DoneCall
 done_in room c = record { kind = c.kind; name = slice_range room c.from c.mid; bytes = slice_range room c.mid c.to }
 
+-- What calls that lie in this room did, in order.
 abbrev pub all_done : Bytes → List Call → List DoneCall
 all_done room calls = map (done_in room) calls
 
 -- What stands once calls that lie in this room are played again.
-abbrev pub replayed : Bytes → List Call → Standing
-replayed room calls = after fresh (all_done room calls)
+abbrev pub calls_replayed : Bytes → List Call → Standing
+calls_replayed room calls = after fresh (all_done room calls)
 
 -- A text is what was shown before a call of this kind, and another is that after it.
 abbrev pub IsTextOfCall : CallKind → Bytes → Text → Text → Type 0
 IsTextOfCall kind bytes old new =
-    (s : Standing) (name : Name) → s.shown ≡ old → (stepped kind name bytes s).shown ≡ new
+    (s : Standing) (name : Name) → s.shown ≡ old → (after_call_of kind name bytes s).shown ≡ new
 
 -- The offsets of calls that lie one after the other, between start and end.
 abbrev pub AreLaid : List Call → ℕ → ℕ → Type 0

@@ -1,6 +1,6 @@
 -- What stays true of the rooms of a record of calls.
 use Rattle.std.specs.Prelude.{◌≡◌, ◌+◌, ◌≤◌, length, vec_len, vec_capacity}
-use Rattle.paw_stage.specs.inner.Log.{Logged, all_done, replayed, AreLaid}
+use Rattle.paw_stage.specs.inner.Log.{Logged, all_done, calls_replayed, AreLaid}
 use Rattle.paw_stage.specs.declared.log.Log.TheInside.{Inside}
 
 -- The calls that the fields hold.
@@ -15,8 +15,8 @@ logged_in l = record {
 -- theirs, and the spare calls and bytes have room.
 pub record IsLogSound (l : Inside) : Type 0 where
   pub laid : AreLaid l.calls.items 0 (length l.room.items)
-  pub text : l.text.items ≡ (replayed l.room.items l.calls.items).shown
-  pub written : l.written ≡ (replayed l.room.items l.calls.items).written
+  pub text : l.text.items ≡ (calls_replayed l.room.items l.calls.items).shown
+  pub written : l.written ≡ (calls_replayed l.room.items l.calls.items).written
   pub calls_fit : vec_len l.calls + l.calls_left ≤ vec_capacity l.calls
   pub bytes_fit : vec_len l.room + l.bytes_left ≤ vec_capacity l.room
   pub written_fits : l.written ≤ vec_len l.room

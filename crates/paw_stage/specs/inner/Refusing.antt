@@ -11,10 +11,10 @@ use Rattle.paw_stage.specs.declared.LoadRefusal.TheVariants as refusal
 use Rattle.paw_stage.specs.declared.failures.FailureCounts.{FailureCounts}
 use Rattle.paw_stage.specs.Stage.{Standing}
 use Rattle.paw_stage.specs.Moments.{Moment}
-use Rattle.paw_stage.specs.inner.Failures.{count_of, raised}
+use Rattle.paw_stage.specs.inner.Failures.{count_of, failure_counted}
 use Rattle.paw_stage.specs.inner.Done.{DoneCall, loaded_file}
 use Rattle.paw_stage.specs.inner.Memory as memory
-use Rattle.paw_stage.specs.inner.Memory.{Memory, can_note, recorded, failed, found_none}
+use Rattle.paw_stage.specs.inner.Memory.{Memory, can_note, call_recorded, failure_recorded, found_none}
 
 -- The stage below, the rule, and the counts of the calls that the rule made fail.
 pub record Refusing (R : Type 0) : Type 0 where
@@ -35,8 +35,8 @@ abbrev pub AtEachMoment : {R : Type 0} → Refusing R → Refusing R → (Standi
 AtEachMoment old new Inside = memory.AtEachMoment old.inner new.inner Inside
 
 -- The stage after a call that was made to fail. It isn't passed on. Then the rule is the later one.
-abbrev pub refused : {R : Type 0} → (R → R) → StageCall → Refusing R → Refusing R
-refused later c s = record { inner = s.inner; rule = later s.rule; counts = raised c s.counts }
+abbrev pub call_refused : {R : Type 0} → (R → R) → StageCall → Refusing R → Refusing R
+call_refused later c s = record { inner = s.inner; rule = later s.rule; counts = failure_counted c s.counts }
 
 -- The stage after a call that was passed on and did this below.
 abbrev pub passed_on : {R : Type 0} → (R → R) → (Memory → Memory) → Refusing R → Refusing R
@@ -44,7 +44,7 @@ passed_on later did s = record { inner = did s.inner; rule = later s.rule; count
 
 -- What a call leaves that was passed on and failed below.
 abbrev pub FailsBelow : {R : Type 0} → (R → Bool) → (R → R) → StageCall → Refusing R → Refusing R → Type 0
-FailsBelow refuses later c old new = IsFalse (refuses old.rule) → new ≡ passed_on later (failed c) old
+FailsBelow refuses later c old new = IsFalse (refuses old.rule) → new ≡ passed_on later (failure_recorded c) old
 
 -- A call isn't done: the rule makes it fail, or there is no room for it below.
 abbrev pub CannotPass : {R : Type 0} → (R → Bool) → DoneCall → Refusing R → Type 0
@@ -54,16 +54,16 @@ CannotPass refuses d s = IsTrue (refuses s.rule) ⊎ IsFalse (can_note d s.inner
 abbrev pub Forwards : {R A E : Type 0} → (R → Bool) → (R → R) → StageCall → DoneCall → Result A E → Refusing R →
     Refusing R → Type 0
 Forwards refuses later c d result old new =
-    (IsErr result ↔ CannotPass refuses d old) × (IsTrue (refuses old.rule) → new ≡ refused later c old)
-    × OnErr result (FailsBelow refuses later c old new) × OnOk result (new ≡ passed_on later (recorded d) old)
+    (IsErr result ↔ CannotPass refuses d old) × (IsTrue (refuses old.rule) → new ≡ call_refused later c old)
+    × OnErr result (FailsBelow refuses later c old new) × OnOk result (new ≡ passed_on later (call_recorded d) old)
 
 -- A load that is passed on, unless the rule makes it fail. It fails exactly where it can't be done, and it may find no
 -- file, or no memory, below.
 pub record ForwardsLoad {R : Type 0} (refuses : R → Bool) (later : R → R) (name : Name)
     (result : Result (Vec ℕ Global) LoadRefusal) (old new : Refusing R) : Type 0 where
   pub exact : (result ≡ Err refusal.Failed) ↔ CannotPass refuses (loaded_file name) old
-  pub stopped : IsTrue (refuses old.rule) → new ≡ refused later call.Load old
+  pub stopped : IsTrue (refuses old.rule) → new ≡ call_refused later call.Load old
   pub below : result ≡ Err refusal.Failed → FailsBelow refuses later call.Load old new
-  pub noted : OnOk result (new ≡ passed_on later (recorded (loaded_file name)) old)
+  pub noted : OnOk result (new ≡ passed_on later (call_recorded (loaded_file name)) old)
   pub absent : result ≡ Err refusal.Absent → new ≡ passed_on later (found_none name) old
-  pub wanting : result ≡ Err refusal.Memory → new ≡ passed_on later (recorded (loaded_file name)) old
+  pub wanting : result ≡ Err refusal.Memory → new ≡ passed_on later (call_recorded (loaded_file name)) old

@@ -1,11 +1,13 @@
 // Runs of the stage in memory over its store.
 
-ghost use Rattle.std.specs.Prelude.{◌≡◌, IfOk};
-ghost use Rattle.paw_stage.specs.inner.Memory.{empty, with_file};
+ghost use Rattle.std.specs.Prelude.{◌≡◌, IfOk, IsSome};
+ghost use Rattle.paw_stage.specs.Disk.{IsStable};
+ghost use Rattle.paw_stage.specs.inner.Memory.{empty, with_file, standing_of};
 
 use crate::{LoadRefusal, MemoryStage, Stage};
 use paw_base::fault::NoRoom;
-use std::alloc::Global;
+use std::alloc::{AllocError, Global};
+use std::process::Abort;
 use std::test::Fail;
 
 // A stage with spare room for these numbers of calls and bytes, and a file that may become its store.
@@ -23,8 +25,121 @@ fn with_file(
     Ok(stage)
 }
 
-// What a load of a file gives, or a word in capitals.
-fn loaded(stage: &mut MemoryStage, alloc: Global, name: &str) -> Result<Vec<u8>, Fail> {
+// A call of a stage to which a store is attached.
+#[derive(Clone, Copy)]
+enum Call<'a> {
+    /// Syncs the store, which is done, and attaches another file.
+    Attach(&'a str),
+    Read(usize, usize),
+    Write(usize, &'a [u8]),
+    Sync,
+    Load(&'a str),
+    Save(&'a str, &'a [u8]),
+    /// No call of the stage: what a crash leaves.
+    Crash,
+}
+
+// What a call answers: the bytes that it gives, the length of a store as one byte, or a word in capitals.
+fn answer_of_call(
+    rt: &impl Abort,
+    alloc: Global,
+    stage: &mut MemoryStage,
+    call: Call<'_>,
+) -> Result<Vec<u8>, Fail>
+    requires attached { IsSome (standing_of stage.old).attached }
+    ensures attached { IsSome (standing_of stage.new).attached }
+{
+    match call {
+        Call::Attach(name) => attach_next(rt, alloc, stage, name),
+        Call::Read(at, n) => read(rt, alloc, stage, at, n),
+        Call::Write(at, bytes) => write(rt, alloc, stage, at, bytes),
+        Call::Sync => sync(alloc, stage),
+        Call::Load(name) => load(alloc, stage, name),
+        Call::Save(name, bytes) => save(alloc, stage, name, bytes),
+        Call::Crash => crashes(stage, alloc),
+    }
+}
+
+fn word(alloc: Global, fine: bool) -> Result<Vec<u8>, AllocError> {
+    Vec::from_slice(alloc, if fine { b"DONE" } else { b"FAILED" })
+}
+
+// Attaches the first store, which has this many bytes.
+fn attach(rt: &impl Abort, stage: &mut MemoryStage, name: &str, length: u64)
+    requires stable { IsStable (standing_of stage.old).disk }
+    ensures attached { IsSome (standing_of stage.new).attached }
+{
+    assert_eq!(rt; stage.attach(name).ok(), Some(length));
+}
+
+fn attach_next(
+    rt: &impl Abort,
+    alloc: Global,
+    stage: &mut MemoryStage,
+    name: &str,
+) -> Result<Vec<u8>, Fail>
+    requires attached { IsSome (standing_of stage.old).attached }
+    ensures attached { IsSome (standing_of stage.new).attached }
+{
+    assert!(rt; stage.sync().is_ok());
+    match stage.attach(name) {
+        Ok(length) => Ok(Vec::from_slice(alloc, &[length.min(255) as u8])?),
+        Err(_) => Ok(word(alloc, false)?),
+    }
+}
+
+fn read(
+    rt: &impl Abort,
+    alloc: Global,
+    stage: &mut MemoryStage,
+    at: usize,
+    n: usize,
+) -> Result<Vec<u8>, Fail>
+    requires attached { IsSome (standing_of stage.old).attached }
+    ensures attached { IsSome (standing_of stage.new).attached }
+{
+    let length = stage.crash(alloc, 1)?.len();
+    assert!(rt; at <= length && n <= length - at);
+    let mut bytes = vec![in alloc; 0; n]?;
+    if stage.read_at(at as u64, bytes.as_mut_slice()).is_err() {
+        return Ok(word(alloc, false)?);
+    }
+    Ok(bytes)
+}
+
+fn write(
+    rt: &impl Abort,
+    alloc: Global,
+    stage: &mut MemoryStage,
+    at: usize,
+    bytes: &[u8],
+) -> Result<Vec<u8>, Fail>
+    requires attached { IsSome (standing_of stage.old).attached }
+    ensures attached { IsSome (standing_of stage.new).attached }
+{
+    let length = stage.crash(alloc, 1)?.len();
+    assert!(rt; at <= length);
+    Ok(word(alloc, stage.write_at(at as u64, bytes).is_ok())?)
+}
+
+fn sync(alloc: Global, stage: &mut MemoryStage) -> Result<Vec<u8>, Fail>
+    requires attached { IsSome (standing_of stage.old).attached }
+    ensures attached { IsSome (standing_of stage.new).attached }
+{
+    Ok(word(alloc, stage.sync().is_ok())?)
+}
+
+fn save(alloc: Global, stage: &mut MemoryStage, name: &str, bytes: &[u8]) -> Result<Vec<u8>, Fail>
+    requires attached { IsSome (standing_of stage.old).attached }
+    ensures attached { IsSome (standing_of stage.new).attached }
+{
+    Ok(word(alloc, stage.save(name, bytes).is_ok())?)
+}
+
+fn load(alloc: Global, stage: &mut MemoryStage, name: &str) -> Result<Vec<u8>, Fail>
+    requires attached { IsSome (standing_of stage.old).attached }
+    ensures attached { IsSome (standing_of stage.new).attached }
+{
     match stage.load(alloc, name, 99) {
         Ok(bytes) => Ok(bytes),
         Err(LoadRefusal::Absent) => Ok(Vec::from_slice(alloc, b"ABSENT")?),
@@ -42,87 +157,90 @@ fn crashes(stage: &MemoryStage, alloc: Global) -> Result<Vec<u8>, Fail> {
     Ok(left)
 }
 
+// Checks that these calls in a row answer so.
+fn answers(
+    rt: &impl Abort,
+    alloc: Global,
+    stage: &mut MemoryStage,
+    calls: &[(Call<'_>, &[u8])],
+) -> Result<(), Fail>
+    requires attached { IsSome (standing_of stage.old).attached }
+    ensures attached { IsSome (standing_of stage.new).attached }
+{
+    for (at, &(call, want)) in calls.iter().enumerate() {
+        let answer = answer_of_call(rt, alloc, stage, call)?;
+        assert_eq!(rt; answer.as_slice(), want, "call {at}");
+    }
+    Ok(())
+}
+
 #[test]
 fn a_store_is_a_file(rt: HostRuntime) -> Result<(), Fail> {
     let mut stage = with_file(rt.alloc(), 99, 99, "first", b"abc")?;
-    assert_eq!(rt; stage.attach("first").ok(), Some(3));
-    assert!(rt; stage.write_at(2, b"XYZ").is_ok());
-    assert!(rt; stage.sync().is_ok());
-    assert_eq!(rt; stage.attach("second").ok(), Some(0));
-    assert!(rt; stage.write_at(0, b"12").is_ok());
-    assert!(rt; stage.sync().is_ok());
-    assert_eq!(rt; stage.attach("first").ok(), Some(5));
-    let mut into = [0u8; 3];
-    assert!(rt; stage.read_at(1, &mut into).is_ok());
-    assert_eq!(rt; into.as_slice(), b"bXY".as_slice());
+    attach(&rt, &mut stage, "first", 3);
+    let calls: [(Call<'_>, &[u8]); 8] = [
+        (Call::Write(2, b"XYZ"), b"DONE"),
+        (Call::Attach("second"), &[0]),
+        (Call::Write(0, b"12"), b"DONE"),
+        (Call::Attach("first"), &[5]),
+        (Call::Read(1, 3), b"bXY"),
+        (Call::Load("first"), b"abXYZ"),
+        (Call::Load("second"), b"12"),
+        (Call::Load("third"), b"ABSENT"),
+    ];
+    answers(&rt, rt.alloc(), &mut stage, &calls)?;
     assert_eq!(rt; stage.written(), 5);
-    for (name, want) in [
-        ("first", b"abXYZ".as_slice()),
-        ("second", b"12"),
-        ("third", b"ABSENT"),
-    ] {
-        let bytes = loaded(&mut stage, rt.alloc(), name)?;
-        assert_eq!(rt; bytes.as_slice(), want, "{name}");
-    }
     Ok(())
 }
 
 #[test]
 fn a_crash_leaves_by_its_pick(rt: HostRuntime) -> Result<(), Fail> {
     let mut stage = with_file(rt.alloc(), 99, 99, "store", b"abcdef")?;
-    assert_eq!(rt;
-        crashes(&stage, rt.alloc())?.as_slice(),
-        b"\n\n\n\n".as_slice()
-    );
-    assert_eq!(rt; stage.attach("store").ok(), Some(6));
-    assert_eq!(rt;
-        crashes(&stage, rt.alloc())?.as_slice(),
-        b"abcdef\nabcdef\nabcdef\nabcdef\n".as_slice()
-    );
-    assert!(rt; stage.write_at(1, b"XY").is_ok());
-    assert!(rt; stage.write_at(6, b"gh").is_ok());
-    assert_eq!(rt;
-        crashes(&stage, rt.alloc())?.as_slice(),
-        b"abcdef\naXYdefgh\na\xFF\xFFdef\xFF\xFF\na\xFF\xFFdef\xFF\xFF\n".as_slice()
-    );
-    assert!(rt; stage.sync().is_ok());
-    assert!(rt; stage.write_at(0, b"1").is_ok());
-    assert_eq!(rt;
-        crashes(&stage, rt.alloc())?.as_slice(),
-        b"aXYdefgh\n1XYdefgh\n\xFFXYdefgh\n\xFFXYdefgh\n".as_slice()
-    );
-    assert!(rt; stage.save("other", b"x").is_ok());
-    assert_eq!(rt;
-        crashes(&stage, rt.alloc())?.as_slice(),
-        b"aXYdefgh\n1XYdefgh\n\xFFXYdefgh\n\xFFXYdefgh\n".as_slice()
-    );
-    assert!(rt; stage.save("store", b"new").is_ok());
-    assert_eq!(rt;
-        crashes(&stage, rt.alloc())?.as_slice(),
-        b"new\nnew\nnew\nnew\n".as_slice()
-    );
-    Ok(())
+    let none = crashes(&stage, rt.alloc())?;
+    assert_eq!(rt; none.as_slice(), b"\n\n\n\n".as_slice());
+    attach(&rt, &mut stage, "store", 6);
+    let calls: [(Call<'_>, &[u8]); 11] = [
+        (Call::Crash, b"abcdef\nabcdef\nabcdef\nabcdef\n"),
+        (Call::Write(1, b"XY"), b"DONE"),
+        (Call::Write(6, b"gh"), b"DONE"),
+        (
+            Call::Crash,
+            b"abcdef\naXYdefgh\na\xFF\xFFdef\xFF\xFF\na\xFF\xFFdef\xFF\xFF\n",
+        ),
+        (Call::Sync, b"DONE"),
+        (Call::Write(0, b"1"), b"DONE"),
+        (
+            Call::Crash,
+            b"aXYdefgh\n1XYdefgh\n\xFFXYdefgh\n\xFFXYdefgh\n",
+        ),
+        (Call::Save("other", b"x"), b"DONE"),
+        (
+            Call::Crash,
+            b"aXYdefgh\n1XYdefgh\n\xFFXYdefgh\n\xFFXYdefgh\n",
+        ),
+        (Call::Save("store", b"new"), b"DONE"),
+        (Call::Crash, b"new\nnew\nnew\nnew\n"),
+    ];
+    answers(&rt, rt.alloc(), &mut stage, &calls)
 }
 
+// The second store isn't attached where there is no room, once the first is synced.
 #[test]
 fn the_store_fails_where_the_room_is_used_up(rt: HostRuntime) -> Result<(), Fail> {
     let mut stage = with_file(rt.alloc(), 4, 7, "store", b"abc")?;
-    assert_eq!(rt; stage.attach("store").ok(), Some(3));
-    assert!(rt; stage.write_at(0, b"XYZ").is_err());
-    assert!(rt; stage.write_at(1, b"XY").is_ok());
-    assert!(rt; stage.write_at(0, b"X").is_err());
-    assert!(rt; stage.sync().is_ok());
-    assert!(rt; stage.attach("s").is_err());
-    let mut into = [0u8; 3];
-    assert!(rt; stage.read_at(0, &mut into).is_ok());
-    assert_eq!(rt; into.as_slice(), b"aXY".as_slice());
-    assert!(rt; stage.read_at(0, &mut into).is_err());
-    assert!(rt; stage.write_at(0, b"").is_err());
-    assert!(rt; stage.sync().is_err());
-    assert_eq!(rt;
-        crashes(&stage, rt.alloc())?.as_slice(),
-        b"aXY\naXY\naXY\naXY\n".as_slice()
-    );
+    attach(&rt, &mut stage, "store", 3);
+    let calls: [(Call<'_>, &[u8]); 9] = [
+        (Call::Write(0, b"XYZ"), b"FAILED"),
+        (Call::Write(1, b"XY"), b"DONE"),
+        (Call::Write(0, b"X"), b"FAILED"),
+        (Call::Attach("s"), b"FAILED"),
+        (Call::Read(0, 3), b"aXY"),
+        (Call::Read(0, 3), b"FAILED"),
+        (Call::Write(0, b""), b"FAILED"),
+        (Call::Sync, b"FAILED"),
+        (Call::Crash, b"aXY\naXY\naXY\naXY\n"),
+    ];
+    answers(&rt, rt.alloc(), &mut stage, &calls)?;
     assert_eq!(rt; stage.written(), 2);
     Ok(())
 }
@@ -148,19 +266,14 @@ fn a_crash_comes_right_after_a_call(rt: HostRuntime) -> Result<(), Fail> {
     assert!(rt; stage.load(rt.alloc(), "store", 9).is_ok());
     assert!(rt; stage.load(rt.alloc(), "absent", 9).is_err());
     assert_eq!(rt; stage.calls(), 2);
-    assert_eq!(rt; stage.attach("store").ok(), Some(6));
-    assert!(rt; stage.write_at(1, b"XY").is_ok());
-    assert!(rt; stage.sync().is_ok());
-    assert!(rt; stage.write_at(0, b"1").is_ok());
-    assert_eq!(rt; stage.calls(), 6);
-    stage.add_file("other", b"x")?;
-    assert_eq!(rt; stage.calls(), 6);
-    assert!(rt; stage.show(&[b'.'; 99]).is_err());
-    assert_eq!(rt; stage.calls(), 6);
-    assert!(rt; stage.show(b"Hall.").is_ok());
-    stage.add_file("store", b"new")?;
-    assert!(rt; stage.save("other", b"y").is_ok());
-    assert_eq!(rt; stage.calls(), 8);
+    attach(&rt, &mut stage, "store", 6);
+    let calls: [(Call<'_>, &[u8]); 3] = [
+        (Call::Write(1, b"XY"), b"DONE"),
+        (Call::Sync, b"DONE"),
+        (Call::Write(0, b"1"), b"DONE"),
+    ];
+    answers(&rt, rt.alloc(), &mut stage, &calls)?;
+    show_and_save(&rt, &mut stage)?;
     for (pick, want) in [
         (
             0,
@@ -175,13 +288,24 @@ fn a_crash_comes_right_after_a_call(rt: HostRuntime) -> Result<(), Fail> {
             b"NONE\nNONE\nabcdef\na\xFF\xFFdef\naXYdef\n\xFFXYdef\n\xFFXYdef\nnew\nNONE\n",
         ),
     ] {
-        assert_eq!(rt;
-            crashes_after(&stage, rt.alloc(), 8, pick)?.as_slice(),
-            want,
-            "{pick}"
-        );
+        let left = crashes_after(&stage, rt.alloc(), 8, pick)?;
+        assert_eq!(rt; left.as_slice(), want, "{pick}");
     }
     assert!(rt; stage.crash_after(rt.alloc(), u64::MAX, 0)?.is_none());
+    Ok(())
+}
+
+// The calls 6 and 7, with files that are added before them, and a call that is Failed, which has no number.
+fn show_and_save(rt: &impl Abort, stage: &mut MemoryStage) -> Result<(), Fail> {
+    assert_eq!(rt; stage.calls(), 6);
+    stage.add_file("other", b"x")?;
+    assert_eq!(rt; stage.calls(), 6);
+    assert!(rt; stage.show(&[b'.'; 99]).is_err());
+    assert_eq!(rt; stage.calls(), 6);
+    assert!(rt; stage.show(b"Hall.").is_ok());
+    stage.add_file("store", b"new")?;
+    assert!(rt; stage.save("other", b"y").is_ok());
+    assert_eq!(rt; stage.calls(), 8);
     Ok(())
 }
 
@@ -189,17 +313,13 @@ fn a_crash_comes_right_after_a_call(rt: HostRuntime) -> Result<(), Fail> {
 fn the_first_call_of_a_stage_has_number_0(rt: HostRuntime) -> Result<(), Fail> {
     let mut stage = MemoryStage::new(rt.alloc(), 2, 9)?;
     assert!(rt; stage.crash_after(rt.alloc(), 0, 1)?.is_none());
-    assert_eq!(rt; stage.attach("store").ok(), Some(0));
-    assert_eq!(rt;
-        crashes_after(&stage, rt.alloc(), 1, 1)?.as_slice(),
-        b"\nNONE\n".as_slice()
-    );
-    assert!(rt; stage.write_at(0, b"a").is_ok());
-    assert!(rt; stage.sync().is_err());
+    attach(&rt, &mut stage, "store", 0);
+    let left = crashes_after(&stage, rt.alloc(), 1, 1)?;
+    assert_eq!(rt; left.as_slice(), b"\nNONE\n".as_slice());
+    let calls: [(Call<'_>, &[u8]); 2] = [(Call::Write(0, b"a"), b"DONE"), (Call::Sync, b"FAILED")];
+    answers(&rt, rt.alloc(), &mut stage, &calls)?;
     assert_eq!(rt; stage.calls(), 2);
-    assert_eq!(rt;
-        crashes_after(&stage, rt.alloc(), 2, 1)?.as_slice(),
-        b"\na\nNONE\n".as_slice()
-    );
+    let left = crashes_after(&stage, rt.alloc(), 2, 1)?;
+    assert_eq!(rt; left.as_slice(), b"\na\nNONE\n".as_slice());
     Ok(())
 }

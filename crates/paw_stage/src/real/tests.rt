@@ -3,7 +3,9 @@
 use crate::{LoadRefusal, RealStage, Stage};
 use std::alloc::{Alloc, AllocError, Global};
 use std::fs::{self, File};
+use std::io;
 use std::os::unix::fs::symlink;
+use std::process::Abort;
 use std::rt::Files;
 use std::test::Fail;
 
@@ -18,7 +20,7 @@ enum Call<'a> {
 }
 
 // What a call answers: the bytes that it gives, the length of a store as one byte, or a word in capitals.
-fn said<R: Files<File = File> + Input + Print + Alloc + Drop>(
+fn answer_of_call<R: Files<File = File> + Input + Print + Alloc + Drop>(
     stage: &mut RealStage<R>,
     alloc: Global,
     call: Call<'_>,
@@ -40,6 +42,20 @@ fn said<R: Files<File = File> + Input + Print + Alloc + Drop>(
     }
 }
 
+// Checks that these calls in a row answer so.
+fn answers<R: Files<File = File> + Input + Print + Alloc + Drop>(
+    rt: &impl Abort,
+    alloc: Global,
+    stage: &mut RealStage<R>,
+    calls: &[(Call<'_>, &[u8])],
+) -> Result<(), Fail> {
+    for (at, &(call, want)) in calls.iter().enumerate() {
+        let answer = answer_of_call(stage, alloc, call)?;
+        assert_eq!(rt; answer.as_slice(), want, "call {at}");
+    }
+    Ok(())
+}
+
 fn read<R: Files<File = File> + Input + Print + Alloc + Drop>(
     stage: &mut RealStage<R>,
     alloc: Global,
@@ -51,6 +67,14 @@ fn read<R: Files<File = File> + Input + Print + Alloc + Drop>(
         Ok(()) => Ok(bytes),
         Err(_) => word(alloc, false),
     }
+}
+
+// Removes these files.
+fn remove(files: &impl Files, names: &[&str]) -> io::Result<()> {
+    for &name in names {
+        fs::remove_file(files, name)?;
+    }
+    Ok(())
 }
 
 fn word(alloc: Global, fine: bool) -> Result<Vec<u8>, AllocError> {
@@ -95,56 +119,74 @@ fn a_real_file_is_a_store(rt: HostRuntime) -> Result<(), Fail> {
         (Call::Read(0, 6), b"FAILED"),
         (Call::Load("paw_stage_other"), b"other"),
     ];
-    for (at, (call, want)) in calls.into_iter().enumerate() {
-        let answer = said(&mut stage, rt.alloc(), call)?;
-        assert_eq!(rt; answer.as_slice(), want, "call {at}");
-    }
-    fs::remove_file(&rt, "paw_stage_store")?;
-    fs::remove_file(&rt, "paw_stage_other")?;
+    answers(&rt, rt.alloc(), &mut stage, &calls)?;
+    remove(&rt, &["paw_stage_store", "paw_stage_other"])?;
     Ok(())
+}
+
+// Checks that the first stage has each of these stores in turn, and the other one none of them.
+fn has_alone<R: Files<File = File> + Input + Print + Alloc + Drop>(
+    rt: &impl Abort,
+    first: &mut RealStage<R>,
+    other: &mut RealStage<R>,
+    names: &[&str],
+) {
+    for &name in names {
+        assert!(rt; first.attach(name).is_ok(), "{name}");
+        assert!(rt; other.attach(name).is_err(), "{name}");
+    }
 }
 
 // The other stage stands for another program: an open of a file of its own is what a lock is held by.
 #[test]
 fn one_program_at_a_time_has_a_store(rt: HostRuntime) -> Result<(), Fail> {
+    symlink(&rt, "paw_stage_locked", "paw_stage_locked_link")?;
     let mut other = RealStage::new(&rt);
     {
         let mut first = RealStage::new(&rt);
-        for (name, of_first, of_other) in [
-            ("paw_stage_locked", true, false),
-            ("./paw_stage_locked", true, false),
-            ("paw_stage_locked_link", true, false),
-            ("paw_stage_unlocked", true, false),
-            ("paw_stage_locked", true, false),
-        ] {
-            if name == "paw_stage_locked_link" {
-                symlink(&rt, "paw_stage_locked", name)?;
-            }
-            assert_eq!(rt; first.attach(name).is_ok(), of_first, "{name}");
-            assert_eq!(rt; other.attach(name).is_ok(), of_other, "{name}");
-        }
+        let names = [
+            "paw_stage_locked",
+            "./paw_stage_locked",
+            "paw_stage_locked_link",
+            "paw_stage_unlocked",
+            "paw_stage_locked",
+        ];
+        has_alone(&rt, &mut first, &mut other, &names);
         assert!(rt; other.attach("paw_stage_unlocked").is_ok());
         assert!(rt; other.attach("paw_stage_locked").is_err());
         assert!(rt; first.write_at(0, b"bytes").is_ok());
     }
     assert_eq!(rt; other.attach("paw_stage_locked").ok(), Some(5));
-    for name in [
+    let names = [
         "paw_stage_locked_link",
         "paw_stage_locked",
         "paw_stage_unlocked",
-    ] {
-        fs::remove_file(&rt, name)?;
-    }
+    ];
+    remove(&rt, &names)?;
     Ok(())
+}
+
+// Makes a folder, a link to a file in it, and one to a file in a folder that isn't there.
+fn make_links(files: &impl Files) -> io::Result<()> {
+    fs::create_dir(files, "paw_stage_folder")?;
+    symlink(files, "paw_stage_folder/store", "paw_stage_link")?;
+    symlink(files, "paw_stage_no_folder/store", "paw_stage_dead")
+}
+
+// Removes them, and the file in the folder.
+fn remove_links(files: &impl Files) -> io::Result<()> {
+    remove(
+        files,
+        &["paw_stage_link", "paw_stage_dead", "paw_stage_folder/store"],
+    )?;
+    fs::remove_dir(files, "paw_stage_folder")
 }
 
 // A link that leads nowhere makes the file that it names, in the folder of that name.
 #[test]
 fn a_link_is_the_file_that_it_leads_to(rt: HostRuntime) -> Result<(), Fail> {
+    make_links(&rt)?;
     let mut stage = RealStage::new(&rt);
-    fs::create_dir(&rt, "paw_stage_folder")?;
-    symlink(&rt, "paw_stage_folder/store", "paw_stage_link")?;
-    symlink(&rt, "paw_stage_no_folder/store", "paw_stage_dead")?;
     let calls: [(Call<'_>, &[u8]); 9] = [
         (Call::Attach("paw_stage_link"), &[0]),
         (Call::Write(0, b"abc"), b"DONE"),
@@ -156,14 +198,8 @@ fn a_link_is_the_file_that_it_leads_to(rt: HostRuntime) -> Result<(), Fail> {
         (Call::Attach("paw_stage_dead"), b"FAILED"),
         (Call::Save("paw_stage_dead", b"x"), b"FAILED"),
     ];
-    for (at, (call, want)) in calls.into_iter().enumerate() {
-        let answer = said(&mut stage, rt.alloc(), call)?;
-        assert_eq!(rt; answer.as_slice(), want, "call {at}");
-    }
-    for name in ["paw_stage_link", "paw_stage_dead", "paw_stage_folder/store"] {
-        fs::remove_file(&rt, name)?;
-    }
-    fs::remove_dir(&rt, "paw_stage_folder")?;
+    answers(&rt, rt.alloc(), &mut stage, &calls)?;
+    remove_links(&rt)?;
     Ok(())
 }
 
@@ -177,12 +213,9 @@ fn a_file_holds_what_was_saved_last(rt: HostRuntime) -> Result<(), Fail> {
             (Call::Save("paw_stage_saved", text), b"DONE".as_slice()),
             (Call::Load("paw_stage_saved"), text),
         ];
-        for (call, want) in calls {
-            let answer = said(&mut stage, rt.alloc(), call)?;
-            assert_eq!(rt; answer.as_slice(), want, "{text:?}");
-        }
+        answers(&rt, rt.alloc(), &mut stage, &calls)?;
     }
-    let answer = said(&mut stage, rt.alloc(), Call::Save("/dev/full", b"x"))?;
+    let answer = answer_of_call(&mut stage, rt.alloc(), Call::Save("/dev/full", b"x"))?;
     assert_eq!(rt; answer.as_slice(), b"FAILED".as_slice());
     fs::remove_file(&rt, "paw_stage_saved")?;
     Ok(())

@@ -1,6 +1,6 @@
 use Rattle.std.proofs.Common.{◌≡◌, ◌-◌, length, take, drop, ap, ◌∙◌, arith}
 use Rattle.std.proofs.lemmas.List.{length-drop, take_all}
-use Rattle.paw_stage.specs.Disk.{put}
+use Rattle.paw_stage.specs.Disk.{put_at}
 use Rattle.paw_stage.proofs.Writes.{lays}
 use Rattle.paw_stage.proofs.replay.lay_over.Goals as goal
 
@@ -14,5 +14,5 @@ returns c = record {
       let all : take (length bytes - from) (drop from bytes) ≡ drop from bytes =
       take_all (length bytes - from) (drop from bytes) (omega (arith, length-drop from bytes)) in
       lays c.args.place c.args.at from to bytes into c.copy_over.new.into j (omega arith) (omega arith)
-      (c.copy_over.ensures.laid ∙ ap (λ b. put to (take (length into - to) b) into) all) low;
+      (c.copy_over.ensures.laid ∙ ap (λ b. put_at to (take (length into - to) b) into) all) low;
 }

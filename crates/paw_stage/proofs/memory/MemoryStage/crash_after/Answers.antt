@@ -4,7 +4,7 @@ use Rattle.std.proofs.lemmas.Result.{IfOk-weaker}
 use Rattle.std.proofs.lemmas.Option.{IfSome_then}
 use Rattle.paw_stage.specs.Disk.{MayLeave}
 use Rattle.paw_stage.specs.inner.Done.{right_after, first_calls}
-use Rattle.paw_stage.specs.inner.Crash.{crashed}
+use Rattle.paw_stage.specs.inner.Crash.{bytes_after_crash}
 use Rattle.paw_stage.proofs.Disks.{crash_leaves}
 use Rattle.paw_stage.proofs.memory.MemoryStage.crash_after.Goals as goal
 
@@ -14,7 +14,7 @@ returns-clause-among c =
     let number = c.args.call in
     subst (λ ds. IfOk c.crash_after.result (λ left. IfSome left (λ v. MayLeave (right_after number ds).disk v.items)))
     (ap (λ m. m.log.calls) c.self.view_is)
-    (IfOk-weaker c.crash_after.result (λ left. IfSome left (λ v. v.items ≡ crashed (right_after number calls).disk c.args.pick))
+    (IfOk-weaker c.crash_after.result (λ left. IfSome left (λ v. v.items ≡ bytes_after_crash (right_after number calls).disk c.args.pick))
     (λ left. IfSome left (λ v. MayLeave (right_after number calls).disk v.items))
     (λ left made. IfSome_then left {Q = λ v. MayLeave (right_after number calls).disk v.items} made
     (λ v is. subst (λ l. MayLeave (right_after number calls).disk l) (sym is) (crash_leaves (first_calls (suc number) calls) c.args.pick)))

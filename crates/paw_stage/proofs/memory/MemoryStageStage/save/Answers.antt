@@ -1,6 +1,6 @@
 use Rattle.std.proofs.Common.{refl, ap, sym}
 use Rattle.std.specs.Prelude.{Some}
-use Rattle.paw_stage.specs.inner.Done.{saved}
+use Rattle.paw_stage.specs.inner.Done.{saved_file}
 use Rattle.paw_stage.specs.inner.Memory.{standing_of}
 use Rattle.paw_stage.specs.contracts.memory.MemoryStage.{the_view}
 use Rattle.paw_stage.proofs.Time.{Passes_map}
@@ -13,7 +13,7 @@ returns-clause-answer c =
     saves (standing_of c.args.self.now) _ c.args.name.now (Some c.args.bytes.now)
     (stood c.args.self.now
     (the_view (record { lines = c.self.inside.lines; log = c.add.new.self; counts = c.self.inside.counts }))
-    c.self.inside.log (saved c.args.name.now c.args.bytes.now) (ap (λ m. m.log) (sym c.self.view_is)) kept
+    c.self.inside.log (saved_file c.args.name.now c.args.bytes.now) (ap (λ m. m.log) (sym c.self.view_is)) kept
     (ap (λ m. m.lines) c.self.view_is))
 
 pub returns-clause-time : goal.returns-clause-time
@@ -21,5 +21,5 @@ returns-clause-time c =
     let kept = rw c.as_bytes.ensures.value at (c.if-not-add.ensures.kept refl) in
     Passes_map _ _ _ _ _ _ (passed c.args.self.now
     (the_view (record { lines = c.self.inside.lines; log = c.add.new.self; counts = c.self.inside.counts }))
-    c.self.inside.log (saved c.args.name.now c.args.bytes.now) (ap (λ m. m.log) (sym c.self.view_is)) kept)
+    c.self.inside.log (saved_file c.args.name.now c.args.bytes.now) (ap (λ m. m.log) (sym c.self.view_is)) kept)
     (in_save (standing_of c.args.self.now) c.args.name.now c.args.bytes.now)
