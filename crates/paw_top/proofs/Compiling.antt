@@ -7,7 +7,7 @@ use Rattle.paw_base.specs.declared.limits.TheConstants.{SOURCE_LIMIT}
 use Rattle.paw_base.specs.declared.fault.SourceKind.TheVariants as kind
 use Rattle.paw_game.specs.Game.{GameLists}
 use Rattle.paw_game.specs.Image.{image}
-use Rattle.paw_grammar.specs.Spells.{spelled}
+use Rattle.paw_grammar.specs.Spells.{game_spelled}
 use Rattle.paw_stage.specs.Stage.{Standing}
 use Rattle.paw_stage.specs.declared.StageCall.TheVariants as call
 use Rattle.paw_top.specs.Compile.{Compiles, done, refused, absent, unloaded, unsaved, unshown, memory, HoldsSource}
@@ -22,17 +22,17 @@ use Rattle.paw_play.proofs.ImageFiles.{in_order}
 -- ---- the source ----
 
 -- A source with too many bytes has its fault before its first line.
-pub too_long : (bytes : List ℕ) → 8388609 ≤ length bytes → spelled bytes ≡ Err (record { line = 0; kind = kind.TooBig })
-unfolding spelled
+pub too_long : (bytes : List ℕ) → 8388609 ≤ length bytes → game_spelled bytes ≡ Err (record { line = 0; kind = kind.TooBig })
+unfolding game_spelled
 too_long bytes h = let t : nat_lt SOURCE_LIMIT (length bytes) ≡ true = grind (arith, nat_tests) in rw t refl
 
-first_bytes : (bytes : List ℕ) → (length bytes ≤ SOURCE_LIMIT) ⊎ (8388609 ≤ length bytes) → spelled (take 8388609 bytes) ≡ spelled bytes
-first_bytes bytes (inl k) = ap spelled (take_all 8388609 bytes (omega (arith, k)))
+first_bytes : (bytes : List ℕ) → (length bytes ≤ SOURCE_LIMIT) ⊎ (8388609 ≤ length bytes) → game_spelled (take 8388609 bytes) ≡ game_spelled bytes
+first_bytes bytes (inl k) = ap game_spelled (take_all 8388609 bytes (omega (arith, k)))
 first_bytes bytes (inr k) = too_long (take 8388609 bytes) (omega (arith, length-take-le 8388609 bytes k)) ∙ sym (too_long bytes k)
 
 -- What was loaded of a source is read as the whole.
-read_whole : (given bytes : List ℕ) → given ≡ take 8388609 bytes → spelled bytes ≡ spelled given
-read_whole given bytes e = sym (ap spelled e ∙ first_bytes bytes (in_order (length bytes) SOURCE_LIMIT))
+read_whole : (given bytes : List ℕ) → given ≡ take 8388609 bytes → game_spelled bytes ≡ game_spelled given
+read_whole given bytes e = sym (ap game_spelled e ∙ first_bytes bytes (in_order (length bytes) SOURCE_LIMIT))
 
 -- ---- the answers ----
 
@@ -44,7 +44,8 @@ no_source source target old new (outcome.Memory at) h = memory at h
 no_source source target old new _ h = absurd h
 
 -- A source that gives no image says why nothing is compiled.
-pub no_image : (source target given : List ℕ) (old new : Standing) (o : Outcome) → LoadsSome source SOURCE_LIMIT old new given → IsRefusal (spelled given) o →
+pub no_image : (source target given : List ℕ) (old new : Standing) (o : Outcome) → LoadsSome source SOURCE_LIMIT old new given →
+    IsRefusal (game_spelled given) o →
     Compiles source target old new o
 no_image source target given old new (outcome.SourceRefused fault) f h = refused fault (f.0, f.1, read_whole given f.0 f.2 ∙ h) f.3
 no_image source target given old new (outcome.Memory at) f h = memory at f.3
@@ -59,7 +60,7 @@ keeps_so source target g old new _ s k = absurd k.2
 
 -- An image that is kept is compiled, as far as it was kept.
 pub keeps_image : (source target given made line : List ℕ) (old mid new : Standing) (o : Outcome) → LoadsSome source SOURCE_LIMIT old mid given →
-    (g : GameLists) × (spelled given ≡ Ok g) × (made ≡ image g) → line ≡ image_line (length made) →
+    (g : GameLists) × (game_spelled given ≡ Ok g) × (made ≡ image g) → line ≡ image_line (length made) →
     SavesSo target made line mid new o → Compiles source target old new o
 keeps_image source target given made line old mid new o f m l k =
     keeps_so source target m.0 old new o (f.0, f.1, read_whole given f.0 f.2 ∙ m.1)

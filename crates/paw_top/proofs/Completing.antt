@@ -7,7 +7,7 @@ use Rattle.paw_wrap.specs.declared.columns.TheConstants.{WRAP_LIMIT}
 use Rattle.paw_base.specs.declared.fault.SourceFault.{SourceFault}
 use Rattle.paw_base.specs.declared.limits.TheConstants.{EVENT_LIMIT}
 use Rattle.paw_game.specs.Game.{GameLists}
-use Rattle.paw_grammar.specs.Spells.{spelled}
+use Rattle.paw_grammar.specs.Spells.{game_spelled}
 use Rattle.paw_image.specs.Images.{IsImage}
 use Rattle.paw_stage.specs.Stage.{Standing, CountsFailure}
 use Rattle.paw_stage.specs.declared.StageCall.{StageCall}
@@ -25,7 +25,7 @@ use Rattle.paw_top.specs.Shows as shows
 use Rattle.paw_top.specs.inner.Loads.{HoldsNone}
 use Rattle.paw_top.specs.Walk.{WalksAs}
 use Rattle.paw_top.specs.Ends.{outcome_of, PlaysFile, plays, unopened}
-use Rattle.paw_top.specs.Opens.{Unopened, damaged, absent, failed, wanting}
+use Rattle.paw_top.specs.Opens.{Unopened, damaged, absent, failed, without_memory}
 use Rattle.paw_play.specs.Walk.{EndingOf, Walks}
 use Rattle.paw_play.specs.declared.PlayEnd.{PlayEnd}
 use Rattle.paw_play.specs.declared.PlayEnd.TheVariants as end
@@ -67,9 +67,9 @@ for_memory (Ok g) at = tt
 for_memory (Err fault) at = tt
 
 -- What is read of the source settles the answer.
-reads_so : (file : Option (List ℕ)) (a b : List ℕ) (read : Result GameLists SourceFault) (o : Outcome) → file ≡ Some a → spelled a ≡ read → file ≡ Some b →
-    CompletesSource read o → CompletesSource (spelled b) o
-reads_so file a b read o h s k done = subst (λ r. CompletesSource r o) (sym s ∙ ap spelled (same_file file a b h k)) done
+reads_so : (file : Option (List ℕ)) (a b : List ℕ) (read : Result GameLists SourceFault) (o : Outcome) → file ≡ Some a → game_spelled a ≡ read → file ≡ Some b →
+    CompletesSource read o → CompletesSource (game_spelled b) o
+reads_so file a b read o h s k done = subst (λ r. CompletesSource r o) (sym s ∙ ap game_spelled (same_file file a b h k)) done
 
 pub completes_compile : (source target : List ℕ) (old new : Standing) (o : Outcome) → compile.Compiles source target old new o →
     IsUnhindered o → CompletesCompile source old o
@@ -80,7 +80,7 @@ completes_compile source target old new _ (compile.absent s e) free = λ bytes i
 completes_compile source target old new _ (compile.unloaded e) free = λ bytes is. absurd (hindered call.Load (λ q. cc) free)
 completes_compile source target old new _ (compile.unsaved g s e) free = λ bytes is. absurd (hindered call.Save (λ q. cc) free)
 completes_compile source target old new _ (compile.unshown g n s e) free = λ bytes is. absurd (hindered call.Show (λ q. cc) free)
-completes_compile source target old new _ (compile.memory at e) free = λ bytes is. for_memory (spelled bytes) at
+completes_compile source target old new _ (compile.memory at e) free = λ bytes is. for_memory (game_spelled bytes) at
 
 -- A file that is an image isn't none.
 is_some : (s : Standing) (name : List ℕ) (g : GameLists) → Holds s name g → HoldsNone s name → ⊥
@@ -109,7 +109,7 @@ completes_unopened name Such old new _ memory (absent s e) free =
     record { image = λ h k. absurd (is_missing _ k.0 s k.1); other = λ k. absurd (is_missing _ k.0 s k.1) }
 completes_unopened name Such old new _ memory (failed e) free =
     let fault : ⊥ = hindered call.Load (λ q. cc) free in record { image = λ h k. absurd fault; other = λ k. absurd fault }
-completes_unopened name Such old new _ memory (wanting at e) free =
+completes_unopened name Such old new _ memory (without_memory at e) free =
     record { image = λ h k. memory h at; other = λ k. tt }
 
 -- A game of which a text is shown.
@@ -140,7 +140,7 @@ completes_wrap width name old new _ (shows.too_long text h long e) free = λ byt
 completes_wrap width name old new _ (shows.absent h e) free = λ bytes is. absurd (is_missing _ bytes h is)
 completes_wrap width name old new _ (shows.unloaded e) free = λ bytes is. absurd (hindered call.Load (λ q. cc) free)
 completes_wrap width name old new _ (shows.unshown text h e) free = λ bytes is. absurd (hindered call.Show (λ q. cc) free)
-completes_wrap width name old new _ (shows.wanting at one e) free = λ bytes is. tt
+completes_wrap width name old new _ (shows.without_memory at one e) free = λ bytes is. tt
 completes_wrap width name old new _ (shows.unwrapped text h e) free = λ bytes is. tt
 
 -- A file whose game is played, where each end is such as it is to be.

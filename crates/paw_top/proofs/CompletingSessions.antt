@@ -23,7 +23,7 @@ use Rattle.paw_play.specs.Walk.{end_halt, EndingOf}
 use Rattle.paw_play.specs.Play as session
 use Rattle.paw_play.specs.Play.{ShowsAs, MadeAndPlayed, NewSession, Resumed, PlaysAgain, Refuses, attached_to}
 use Rattle.paw_play.specs.Play.{store_bytes}
-use Rattle.paw_play.specs.Played.{PlayedSession, ShowsState, begun}
+use Rattle.paw_play.specs.Played.{PlayedSession, ShowsState, session_begun}
 use Rattle.paw_play.specs.declared.PlayEnd.{PlayEnd}
 use Rattle.paw_play.specs.declared.PlayEnd.TheVariants as end
 use Rattle.paw_top.specs.Completes.{IsUnhindered}
@@ -76,11 +76,11 @@ halted_walked o ended e = subst (λ x. IsWalked (outcome_of x)) (sym (ends_by_ha
     walked (halt.Spent kind) = halted (halt.Spent kind)
     walked (halt.TooDeep table) = halted (halt.TooDeep table)
 
-plays_in : (s : PlayedSession) (old new : Standing) (o : PlayEnd) → MadeAndPlayed s old new o → IsUnhindered (outcome_of o) → IsWalked (outcome_of o)
-plays_in s old new _ (session.memory e) free = no_memory memory.Play
-plays_in s old new _ (session.halts o halt r by cut is e) free = halted_walked o halt by
-plays_in s old new _ (session.unmade c w e stays) free = absurd (hindered c (no_writing c w) free)
-plays_in s old new _ (session.plays o p) free = plays_on _ _ old new o p.shows free
+starts_play : (s : PlayedSession) (old new : Standing) (o : PlayEnd) → MadeAndPlayed s old new o → IsUnhindered (outcome_of o) → IsWalked (outcome_of o)
+starts_play s old new _ (session.memory e) free = no_memory memory.Play
+starts_play s old new _ (session.halts o halt r by cut is e) free = halted_walked o halt by
+starts_play s old new _ (session.unmade c w e stays) free = absurd (hindered c (no_writing c w) free)
+starts_play s old new _ (session.plays o p) free = plays_on _ _ old new o p.shows free
 
 -- A store with bytes is refused for their number.
 occupied_so : (bytes : List ℕ) → 0 < length bytes → CompletesNew bytes (outcome.Occupied (length bytes))
@@ -91,8 +91,8 @@ plays_new : (s : PlayedSession) (old new : Standing) (o : PlayEnd) → NewSessio
     CompletesNew (store_bytes old s.name) (outcome_of o)
 plays_new s old new _ (session.unattached u) free = absurd (hindered call.Attach (λ q. cc) free)
 plays_new s old new _ (session.occupied h e) free = occupied_so (store_bytes old s.name) h
-plays_new s old new _ (session.plays_in o e p) free =
-    subst (λ bytes. CompletesNew bytes (outcome_of o)) (sym e) (plays_in s _ new o p free)
+plays_new s old new _ (session.starts_play o e p) free =
+    subst (λ bytes. CompletesNew bytes (outcome_of o)) (sym e) (starts_play s _ new o p free)
 
 new_memory : (bytes : List ℕ) (at : MemoryAt) → CompletesNew bytes (outcome.Memory at)
 new_memory [] at = no_memory at
@@ -103,7 +103,7 @@ pub completes_play : (answers : List (List ℕ)) (name store : List ℕ) (seed :
     IsUnhindered o → CompletesImage name (λ g. CompletesNew (store_bytes old store)) old o
 completes_play answers name store seed old new o p free =
     completes_file name (λ g. CompletesNew (store_bytes old store)) old new o p
-    (λ g end q free. plays_new (begun (story_of g answers) seed store) old new end q free)
+    (λ g end q free. plays_new (session_begun (story_of g answers) seed store) old new end q free)
     (λ g at. new_memory (store_bytes old store) at) free
 
 -- ---- a session that is taken up again ----
@@ -215,13 +215,13 @@ plays_again : (g : Story) (name : List ℕ) (old new : Standing) (o : PlayEnd) �
     CompletesAgain g (store_bytes old name) (outcome_of o)
 plays_again g name old new _ (session.unattached u) free = absurd (hindered call.Attach (λ q. cc) free)
 plays_again g name old new _ (session.unread e) free = absurd (hindered call.Read (λ q. cc) free)
-plays_again g name old new _ (session.wanting e) free = again_memory g (store_bytes old name) memory.Play
+plays_again g name old new _ (session.without_memory e) free = again_memory g (store_bytes old name) memory.Play
 plays_again g name old new _ (session.refused r h e) free = record {
   shown = λ d st piece b k. absurd (not_shown (story_digests g) d (store_bytes old name) (kept_bytes st) piece r b h k.shown);
   refused = λ q k. comes_so r q (one_refusal (story_digests g) (store_bytes old name) r q h k);
   no_state = λ d state piece b is k. absurd (not_shown (story_digests g) d (store_bytes old name) state piece r b h is);
 }
-plays_again g name old new _ (session.plays_up o d mine p) free = resumed g d name (attached_to old name) new o mine p free
+plays_again g name old new _ (session.resumes_play o d mine p) free = resumed g d name (attached_to old name) new o mine p free
 
 pub completes_resume : (answers : List (List ℕ)) (name store : List ℕ) (old new : Standing) (o : Outcome) → PlaysAgainIn answers name store old new o →
     IsUnhindered o → CompletesImage name (λ g. CompletesAgain (story_of g answers) (store_bytes old store)) old o

@@ -32,7 +32,7 @@ use Rattle.paw_read_error.specs.Bind.{◌>>=◌}
 use Rattle.paw_grammar.specs.Tokens.{at_most, begins_with_at, at_is_next}
 use Rattle.paw_grammar.specs.Vocabulary.{word_or_none}
 use Rattle.paw_grammar.specs.Numbers.{in_range}
-use Rattle.paw_grammar.specs.Condacts.{parameter, is_indirect_before, flag_behind_at, first_parameter, code_of}
+use Rattle.paw_grammar.specs.Condacts.{parameter, is_indirect_before, flag_after_at, first_parameter, code_of}
 use Rattle.paw_grammar.specs.Condacts.{condact, condacts_in, with_more_condacts, more_condacts}
 use Rattle.paw_grammar.proofs.Indirect.{condact_made, name_of-read, second_kind-read}
 use Rattle.paw_print.specs.Lines.{value_token, parameter_tokens, first_tokens}
@@ -205,7 +205,7 @@ record FirstBack (p : ℕ) (g : GameLists) (c : Condact) : Type 0 where
   read : (ts : List (List ℕ))
       → first_parameter (bounds p g) g.words (is_indirect c.code) (first_kind (plain_code c.code)) (first_tokens g.words c ++ ts) ≡ Ok (c.a, ts)
 
-flag_read : (a : ℕ) (ts : List (List ℕ)) → a ≤ 65535 → ltb a 256 ≡ true → flag_behind_at ((64 ∷ decimal a) ∷ ts) ≡ Ok (a, ts)
+flag_read : (a : ℕ) (ts : List (List ℕ)) → a ≤ 65535 → ltb a 256 ≡ true → flag_after_at ((64 ∷ decimal a) ∷ ts) ≡ Ok (a, ts)
 flag_read a ts small low =
     ap (λ (o : Option ℕ). (ok_or o fault.Number >>= λ n. Ok (n, ts)) >>= in_range (λ n. ltb n 256)) (number-decimal a small)
     ∙ rw low refl

@@ -18,8 +18,8 @@ use Rattle.paw_grammar.specs.GrammarState.{Spelt}
 use Rattle.paw_grammar.specs.GrammarTexts.{is_in_text}
 use Rattle.paw_grammar.specs.GrammarHeads.{item_in}
 use Rattle.paw_grammar.specs.GrammarRows.{exit_row, con_row, row_in}
-use Rattle.paw_print.specs.Lines.{verb_token, item_token, spaced}
-use Rattle.paw_print.specs.Canonical.{numbered, location_lines}
+use Rattle.paw_print.specs.Lines.{verb_token, item_token, tokens_spaced}
+use Rattle.paw_print.specs.Canonical.{numbered_lines, location_lines}
 use Rattle.paw_top.proofs.After.{LineReads, Reads, reads_none, reads_line, reads_append}
 use Rattle.paw_top.proofs.Rows.{is_plain, row_step, plain_printed, printed-spaced}
 use Rattle.paw_top.proofs.Digits.{number-decimal, plain-decimal, plain-item, item_begins}
@@ -80,7 +80,7 @@ con_row-is d before done x r =
 
 exit_step : (p : ℕ) (d : Spelt) (before : List (List Exit)) (done : List Exit) (x : Exit) → d.section ≡ section.Con →
     ExitRow d.words (length d.locations) done x
-    → LineReads p (record d { exits = before ++ done ∷ [] }) (spaced (exit_tokens d.words x)) (record d { exits = before ++ (done ++ x ∷ []) ∷ [] })
+    → LineReads p (record d { exits = before ++ done ∷ [] }) (tokens_spaced (exit_tokens d.words x)) (record d { exits = before ++ (done ++ x ∷ []) ∷ [] })
 exit_step p d before done x at r =
     let e : Spelt = record d { exits = before ++ done ∷ [] } in
     let out : is_in_text e ≡ false = rw at refl in
@@ -102,7 +102,8 @@ pub record Scene (d : Spelt) : Type 0 where
 
 exits_rows : (p : ℕ) (d : Spelt) (before : List (List Exit)) (done xs : List Exit) → d.section ≡ section.Con → Scene d →
     are_exits d.words (length d.locations) xs ≡ true → are_fresh done xs ≡ true
-    → Reads p (record d { exits = before ++ done ∷ [] }) (map (λ y. spaced (exit_tokens d.words y)) xs) (record d { exits = before ++ (done ++ xs) ∷ [] })
+    → Reads p (record d { exits = before ++ done ∷ [] }) (map (λ y. tokens_spaced (exit_tokens d.words y)) xs)
+    (record d { exits = before ++ (done ++ xs) ∷ [] })
 exits_rows p d before done [] at scene h fresh = rw (append-nil done) (reads_none p (record d { exits = before ++ done ∷ [] }))
 exits_rows p d before done (x ∷ xs) at scene h fresh =
     let here = and_parts (is_verb_value d.words x.verb &&
@@ -177,7 +178,7 @@ reads_then p d es fs ls ms n all first rest = record { exits = rest.exits; reads
 pub locations_read : (p : ℕ) (d : Spelt) (es all : List (List Exit)) (n m : ℕ) (xss : List (List Exit)) →
     d.section ≡ section.Con → Scene d → Filled es n all → n ≡ length all → m ≡ n + length xss
     → m ≤ length d.locations → list_all (exits_are_valid d.words (length d.locations)) xss ≡ true →
-    ReadsExits p d es (numbered (location_lines d.words) n xss) m (all ++ xss)
+    ReadsExits p d es (numbered_lines (location_lines d.words) n xss) m (all ++ xss)
 locations_read p d es all n m [] at scene f is end within h =
     let same : m ≡ n = omega arith in
     rw (append-nil all, same) (record { exits = es; reads = reads_none p (record d { exits = es }); filled = f })

@@ -20,7 +20,7 @@ use Rattle.paw_game.specs.Valid.{are_letters, is_within, is_word, words_rise, ha
 use Rattle.paw_game.specs.Valid.{is_wildcard}
 use Rattle.paw_game.specs.Tables.{word_of}
 use Rattle.paw_grammar.specs.Tokens.{begins_with_at}
-use Rattle.paw_grammar.specs.Vocabulary.{known, in_class, as_verb, word_or_none, verb_word, entry_verb, entry_noun}
+use Rattle.paw_grammar.specs.Vocabulary.{declared_word, in_class, as_verb, word_or_none, verb_word, entry_verb, entry_noun}
 use Rattle.paw_source.proofs.Faultless.{some_is}
 use Rattle.paw_print.specs.Lines.{spelled_letters, first_word, word_token, value_token, verb_token}
 use Rattle.paw_print.proofs.FirstWords.{means}
@@ -103,7 +103,7 @@ record First (ws : List Word) (class value : ℕ) (w : Word) : Type 0 where
   low : 2 ≤ value
   high : value ≤ GREATEST_WORD
   spelled : Spelling (spelled_letters w) w.letters
-  known_is : known ws (spelled_letters w) ≡ Some w
+  known_is : declared_word ws (spelled_letters w) ≡ Some w
 
 first_is : (ws : List Word) (class value : ℕ) (w : Word) → Words ws → first_word ws class value ≡ Some w → First ws class value w
 first_is ws class value w words h =
@@ -138,7 +138,7 @@ pub record ReadsBack (t : List ℕ) (read : List (List ℕ) → Result (ℕ × L
   pub at : begins_with_at t ≡ false
   pub is : (ts : List (List ℕ)) → read (t ∷ ts) ≡ Ok (value, ts)
 
-in_class-is : (ws : List Word) (class value : ℕ) (w : Word) → First ws class value w → in_class class (known ws (spelled_letters w)) ≡ Some value
+in_class-is : (ws : List Word) (class value : ℕ) (w : Word) → First ws class value w → in_class class (declared_word ws (spelled_letters w)) ≡ Some value
 in_class-is ws class value w f =
     let same : eqb w.class class ≡ true = eq-eqb w.class class f.class_is in
     rw f.known_is (rw same (ap Some f.value_is))
@@ -195,7 +195,7 @@ record Verb (ws : List Word) (value : ℕ) (w : Word) : Type 0 where
   low : 2 ≤ value
   high : value ≤ GREATEST_WORD
   spelled : Spelling (spelled_letters w) w.letters
-  read : as_verb (known ws (spelled_letters w)) ≡ Some value
+  read : as_verb (declared_word ws (spelled_letters w)) ≡ Some value
 
 verb_is : (ws : List Word) (value : ℕ) (w : Word) → Words ws → first_word ws 0 value ≡ Some w → Verb ws value w
 verb_is ws value w words h =

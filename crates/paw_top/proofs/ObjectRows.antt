@@ -19,8 +19,8 @@ use Rattle.paw_grammar.specs.Vocabulary.{kind_named, word_or_none}
 use Rattle.paw_grammar.specs.GrammarState.{Spelt, objects_of}
 use Rattle.paw_grammar.specs.GrammarTexts.{is_in_text}
 use Rattle.paw_grammar.specs.GrammarRows.{object_row, row_in}
-use Rattle.paw_print.specs.Lines.{kind_token, value_token, object_tokens, spaced}
-use Rattle.paw_print.specs.Canonical.{numbered}
+use Rattle.paw_print.specs.Lines.{kind_token, value_token, object_tokens, tokens_spaced}
+use Rattle.paw_print.specs.Canonical.{numbered_lines}
 use Rattle.paw_top.proofs.After.{LineReads, Reads, reads_none, reads_line}
 use Rattle.paw_top.proofs.Rows.{is_plain, row_step, printed-spaced}
 use Rattle.paw_top.proofs.Digits.{number-decimal, plain-decimal, decimal-slash}
@@ -106,7 +106,7 @@ plain_facts ws locations n count f r =
 
 object_step : (p : ℕ) (d : Spelt) (fs : List ObjectFacts) (f : ObjectFacts) → d.section ≡ section.Obj →
     FactsRow d.words (length d.locations) (length fs) (length d.names) f
-    → LineReads p (record d { facts = fs }) (spaced (object_tokens d.words (length fs) f)) (record d { facts = fs ++ f ∷ [] })
+    → LineReads p (record d { facts = fs }) (tokens_spaced (object_tokens d.words (length fs) f)) (record d { facts = fs ++ f ∷ [] })
 object_step p d fs f at r =
     let e : Spelt = record d { facts = fs } in
     let ts : List (List ℕ) = object_tokens d.words (length fs) f in
@@ -127,7 +127,7 @@ object_step p d fs f at r =
 pub objects_read : (p : ℕ) (d : Spelt) (fs : List ObjectFacts) (n : ℕ) (os : List ObjectRow) → d.section ≡ section.Obj →
     Scene d → n ≡ length fs → length fs + length os ≤ length d.names → length d.names ≤ 255
     → list_all (is_object d.words (length d.locations)) os ≡ true →
-    Reads p (record d { facts = fs }) (numbered (λ k (o : ObjectRow). spaced (object_tokens d.words k o.facts) ∷ []) n os)
+    Reads p (record d { facts = fs }) (numbered_lines (λ k (o : ObjectRow). tokens_spaced (object_tokens d.words k o.facts) ∷ []) n os)
     (record d { facts = fs ++ map (λ o. o.facts) os })
 objects_read p d fs n [] at scene is room most h = rw (append-nil fs) (reads_none p (record d { facts = fs }))
 objects_read p d fs n (o ∷ os) at scene is room most h =

@@ -8,7 +8,7 @@ use Rattle.paw_stage.specs.declared.Stage.{Ghosts}
 use Rattle.paw_play.specs.declared.PlayEnd.{PlayEnd}
 use Rattle.paw_play.specs.Keeping.{InNewSession, InPlay}
 use Rattle.paw_play.specs.Play.{NewSession, PlaysAgain, GoesOn, NotYet, store_bytes}
-use Rattle.paw_play.specs.Played.{PlayedSession, GoesOnFrom, begun}
+use Rattle.paw_play.specs.Played.{PlayedSession, GoesOnFrom, session_begun}
 use Rattle.paw_play.specs.ImageFiles.{Holds}
 use Rattle.paw_play.proofs.ImageFiles.{same_game}
 
@@ -36,11 +36,11 @@ goes_from g k s store old mid still same h =
 
 -- The moments of a new session at a stage where nothing has changed since.
 pub new_parts : {S : Type 0} (gs : Ghosts S) (before after : S) (g k : Story) (seed : ℕ) (store : List ℕ) (old mid : Standing) → mid ≡ old → k ≡ g →
-    InTwoParts gs before after (NotYet store mid) (InNewSession (begun k seed store) mid) →
-    InTwoParts gs before after (NotYet store old) (InNewSession (begun g seed store) old)
+    InTwoParts gs before after (NotYet store mid) (InNewSession (session_begun k seed store) mid) →
+    InTwoParts gs before after (NotYet store old) (InNewSession (session_begun g seed store) old)
 new_parts gs before after g k seed store old mid still same p =
-    subst (λ q. InTwoParts gs before after (NotYet store q) (InNewSession (begun g seed store) q)) still
-    (subst (λ q. InTwoParts gs before after (NotYet store mid) (InNewSession (begun q seed store) mid)) same p)
+    subst (λ q. InTwoParts gs before after (NotYet store q) (InNewSession (session_begun g seed store) q)) still
+    (subst (λ q. InTwoParts gs before after (NotYet store mid) (InNewSession (session_begun q seed store) mid)) same p)
 
 -- And those of one that is taken up again.
 pub again_parts : {S : Type 0} (gs : Ghosts S) (before after : S) (s : PlayedSession) (store : List ℕ) (old mid : Standing) → mid ≡ old →

@@ -9,7 +9,7 @@ use Rattle.paw_top.specs.declared.outcome.Outcome.{Outcome}
 use Rattle.paw_top.specs.declared.outcome.Outcome.TheVariants as outcome
 use Rattle.paw_stage.specs.inner.Loads.{LoadsSome}
 use Rattle.paw_top.specs.inner.Loads.{LoadsNone, GivesNone}
-use Rattle.paw_top.specs.Opens.{Unopened, damaged, absent, failed, wanting}
+use Rattle.paw_top.specs.Opens.{Unopened, damaged, absent, failed, without_memory}
 use Rattle.paw_top.specs.Ends.{PlaysFile, unopened}
 use Rattle.paw_play.proofs.ImageFiles.{damage_loaded}
 
@@ -17,13 +17,13 @@ use Rattle.paw_play.proofs.ImageFiles.{damage_loaded}
 pub no_file : (name : List ℕ) (old new : Standing) (o : Outcome) → LoadsNone name old new o → Unopened name old new o
 no_file name old new (outcome.Outside call.LoadAbsent) h = absent h.0 h.1
 no_file name old new (outcome.Outside call.Load) h = failed h
-no_file name old new (outcome.Memory at) h = wanting at h
+no_file name old new (outcome.Memory at) h = without_memory at h
 no_file name old new _ h = absurd h
 
 -- And so do bytes that give no game.
 pub no_image : (name given : List ℕ) (old new : Standing) (o : Outcome) → LoadsSome name IMAGE_LIMIT old new given → GivesNone given o → Unopened name old new o
 no_image name given old new (outcome.ImageDamaged at) f h = damaged at (damage_loaded name given old new at f h.0 h.1) f.3
-no_image name given old new (outcome.Memory at) f h = wanting at f.3
+no_image name given old new (outcome.Memory at) f h = without_memory at f.3
 no_image name given old new _ f h = absurd h
 
 -- So the game of the file isn't played.

@@ -17,7 +17,7 @@ use Rattle.paw_grammar.specs.GrammarHeads.{slash_line}
 use Rattle.paw_grammar.specs.GrammarRows.{row_in}
 use Rattle.paw_grammar.specs.Numbers.{number}
 use Rattle.paw_grammar.specs.Spells.{after_line, begins_with_slash, is_text_line, text_added}
-use Rattle.paw_print.specs.Lines.{behind_spaces, spaced}
+use Rattle.paw_print.specs.Lines.{after_spaces, tokens_spaced}
 
 -- A byte that may stand in a token: printed, no space and no `;`.
 abbrev pub is_clean : ℕ → Bool
@@ -75,23 +75,23 @@ plain_tokens (t ∷ ts) h =
 
 -- ---- tokens ----
 
-spaced-join : (t : List ℕ) (ts : List (List ℕ)) → spaced (t ∷ ts) ≡ join_with_byte 32 (t ∷ ts)
+spaced-join : (t : List ℕ) (ts : List (List ℕ)) → tokens_spaced (t ∷ ts) ≡ join_with_byte 32 (t ∷ ts)
 spaced-join t [] = append-nil t
 spaced-join t (u ∷ us) = ap (λ (s : List ℕ). t ++ (32 ∷ s)) (spaced-join u us)
 
-tokens_of-spaced : (t : List ℕ) (ts : List (List ℕ)) → list_all is_plain (t ∷ ts) ≡ true → tokens_of (spaced (t ∷ ts)) ≡ t ∷ ts
+tokens_of-spaced : (t : List ℕ) (ts : List (List ℕ)) → list_all is_plain (t ∷ ts) ≡ true → tokens_of (tokens_spaced (t ∷ ts)) ≡ t ∷ ts
 tokens_of-spaced t ts h = ap tokens_of (spaced-join t ts) ∙ tokens_of-join (t ∷ ts) (plain_tokens (t ∷ ts) h)
 
-tokens_of-behind : (t : List ℕ) (ts : List (List ℕ)) → list_all is_plain (t ∷ ts) ≡ true → tokens_of (behind_spaces (t ∷ ts)) ≡ t ∷ ts
-tokens_of-behind t ts h = tokens_of-blank 32 (spaced (t ∷ ts)) refl ∙ tokens_of-spaced t ts h
+tokens_of-behind : (t : List ℕ) (ts : List (List ℕ)) → list_all is_plain (t ∷ ts) ≡ true → tokens_of (after_spaces (t ∷ ts)) ≡ t ∷ ts
+tokens_of-behind t ts h = tokens_of-blank 32 (tokens_spaced (t ∷ ts)) refl ∙ tokens_of-spaced t ts h
 
-pub printed-behind : (ts : List (List ℕ)) → list_all is_plain ts ≡ true → list_all is_printed_byte (behind_spaces ts) ≡ true
+pub printed-behind : (ts : List (List ℕ)) → list_all is_plain ts ≡ true → list_all is_printed_byte (after_spaces ts) ≡ true
 printed-behind [] h = refl
 printed-behind (t ∷ ts) h =
     let both = and_parts (is_plain t) _ h in
-    list_all-append is_printed_byte t (behind_spaces ts) ∙ and_from _ _ (plain_printed t both.0) (printed-behind ts both.1)
+    list_all-append is_printed_byte t (after_spaces ts) ∙ and_from _ _ (plain_printed t both.0) (printed-behind ts both.1)
 
-pub printed-spaced : (t : List ℕ) (ts : List (List ℕ)) → list_all is_plain (t ∷ ts) ≡ true → list_all is_printed_byte (spaced (t ∷ ts)) ≡ true
+pub printed-spaced : (t : List ℕ) (ts : List (List ℕ)) → list_all is_plain (t ∷ ts) ≡ true → list_all is_printed_byte (tokens_spaced (t ∷ ts)) ≡ true
 printed-spaced t ts h = printed-behind (t ∷ ts) h
 
 -- ---- bytes ----
@@ -109,16 +109,16 @@ no_forbidden_byte text l h = and_right (not (is_comment l)) _ (none_forbidden te
 
 -- A line of tokens, of which the first has no stroke.
 pub row_step : (p : ℕ) (d : Spelt) (t : List ℕ) (ts : List (List ℕ)) → list_all is_plain (t ∷ ts) ≡ true → begins_with_slash t ≡ false → is_in_text d ≡ false
-    → after_line p d (spaced (t ∷ ts)) ≡ row_in d.section p d false (t ∷ ts)
+    → after_line p d (tokens_spaced (t ∷ ts)) ≡ row_in d.section p d false (t ∷ ts)
 unfolding after_line
 row_step p d [] ts h slash out = absurd cc
 row_step p d (b ∷ bs) ts h slash out =
     let all = and_parts (is_plain (b ∷ bs)) (list_all is_plain ts) h in
     let c = clean b (and_parts (is_clean b) (list_all is_clean bs) all.0).0 in
-    let text : is_text_line d (spaced ((b ∷ bs) ∷ ts)) ≡ false = rw out refl in
+    let text : is_text_line d (tokens_spaced ((b ∷ bs) ∷ ts)) ≡ false = rw out refl in
     rw (
       c.no_semicolon,
-      none_forbidden (is_text_line d (spaced ((b ∷ bs) ∷ ts))) (spaced ((b ∷ bs) ∷ ts))
+      none_forbidden (is_text_line d (tokens_spaced ((b ∷ bs) ∷ ts))) (tokens_spaced ((b ∷ bs) ∷ ts))
           (printed-spaced (b ∷ bs) ts h),
       text,
       slash,
@@ -128,19 +128,19 @@ row_step p d (b ∷ bs) ts h slash out =
 
 -- A line of tokens after spaces.
 pub more_step : (p : ℕ) (d : Spelt) (t : List ℕ) (ts : List (List ℕ)) → list_all is_plain (t ∷ ts) ≡ true → is_in_text d ≡ false
-    → after_line p d (behind_spaces (t ∷ ts)) ≡ row_in d.section p d true (t ∷ ts)
+    → after_line p d (after_spaces (t ∷ ts)) ≡ row_in d.section p d true (t ∷ ts)
 unfolding after_line
 more_step p d t ts h out =
-    let l : List ℕ = behind_spaces (t ∷ ts) in
+    let l : List ℕ = after_spaces (t ∷ ts) in
     let text : is_text_line d l ≡ false = rw out refl in
     rw (no_forbidden_byte (is_text_line d l) l (printed-behind (t ∷ ts) h), text, tokens_of-behind t ts h) refl
 
 -- A line of tokens, of which the first begins with a stroke.
 pub slash_step : (p : ℕ) (d : Spelt) (bs : List ℕ) (ts : List (List ℕ)) → list_all is_plain ((47 ∷ bs) ∷ ts) ≡ true
-    → after_line p d (spaced ((47 ∷ bs) ∷ ts)) ≡ slash_line d (47 ∷ bs) (number bs) ts
+    → after_line p d (tokens_spaced ((47 ∷ bs) ∷ ts)) ≡ slash_line d (47 ∷ bs) (number bs) ts
 unfolding after_line
 slash_step p d bs ts h =
-    let l : List ℕ = spaced ((47 ∷ bs) ∷ ts) in
+    let l : List ℕ = tokens_spaced ((47 ∷ bs) ∷ ts) in
     let text : is_text_line d l ≡ false = and_right (is_in_text d) false refl in
     rw (no_forbidden_byte (is_text_line d l) l (printed-spaced (47 ∷ bs) ts h), text, tokens_of-spaced (47 ∷ bs) ts h) refl
 

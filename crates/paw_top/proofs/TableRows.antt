@@ -22,8 +22,8 @@ use Rattle.paw_grammar.specs.Condacts.{condacts_in, more_condacts}
 use Rattle.paw_grammar.specs.GrammarState.{Spelt, with_last}
 use Rattle.paw_grammar.specs.GrammarHeads.{next_header, section_opened, lacks_rows}
 use Rattle.paw_grammar.specs.GrammarRows.{entry_row, no_entry, more_row}
-use Rattle.paw_print.specs.Lines.{verb_token, value_token, condact_line, spaced}
-use Rattle.paw_print.specs.Canonical.{numbered, entry_lines, table_lines}
+use Rattle.paw_print.specs.Lines.{verb_token, value_token, condact_line, tokens_spaced}
+use Rattle.paw_print.specs.Canonical.{numbered_lines, entry_lines, table_lines}
 use Rattle.paw_top.proofs.After.{LineReads, Reads, reads_none, reads_line, reads_append}
 use Rattle.paw_top.proofs.Rows.{is_plain, row_step, more_step, slash_step, printed-spaced, printed-behind}
 use Rattle.paw_top.proofs.Digits.{number-decimal, plain-decimal}
@@ -113,7 +113,7 @@ entry_row-is p g es e r room =
 
 entry_step : (p : ℕ) (g : GameLists) (exits : List (List Exit)) (ts : List (List Entry)) (es : List Entry) (e : Entry) →
     EntryRow g.words e → length es < ENTRY_LIMIT
-    → LineReads p (spelt_of g exits (ts ++ es ∷ [])) (spaced (entry_tokens g.words e)) (spelt_of g exits (ts ++ (es ++ with_condacts e [] ∷ []) ∷ []))
+    → LineReads p (spelt_of g exits (ts ++ es ∷ [])) (tokens_spaced (entry_tokens g.words e)) (spelt_of g exits (ts ++ (es ++ with_condacts e [] ∷ []) ∷ []))
 entry_step p g exits ts es e r room =
     let d : Spelt = spelt_of g exits (ts ++ es ∷ []) in
     let plain : list_all is_plain (entry_tokens g.words e) ≡ true = rw (r.verb.plain, r.noun.plain) refl in
@@ -150,7 +150,7 @@ abbrev table_begun : Spelt → Spelt
 table_begun d = record (section_opened section.Pro d) { tables = d.tables ++ [] ∷ [] }
 
 header_step : (p : ℕ) (d : Spelt) (n : ℕ) → next_header d.section ≡ (codes "/PRO", section.Pro) → n ≡ length d.tables → n ≤ 255 →
-    lacks_rows d ≡ false → LineReads p d (spaced (codes "/PRO" ∷ decimal n ∷ [])) (table_begun d)
+    lacks_rows d ≡ false → LineReads p d (tokens_spaced (codes "/PRO" ∷ decimal n ∷ [])) (table_begun d)
 header_step p d n at is few rows =
     let small : n ≤ 65535 = omega arith in
     let within : ltb n 256 ≡ true = lt-ltb n 256 (omega arith) in
@@ -177,7 +177,7 @@ no_row_lacks g exits ts some =
 -- The tables after those that were read.
 pub tables_read : (p : ℕ) (g : GameLists) (exits : List (List Exit)) (ts : List (List Entry)) (n : ℕ)
     (rest : List (List Entry)) → Small p g → n ≡ length ts → 0 < n → length (ts ++ rest) ≤ 256
-    → list_all (is_table g) rest ≡ true → Reads p (spelt_of g exits ts) (numbered (table_lines g.words) n rest) (spelt_of g exits (ts ++ rest))
+    → list_all (is_table g) rest ≡ true → Reads p (spelt_of g exits ts) (numbered_lines (table_lines g.words) n rest) (spelt_of g exits (ts ++ rest))
 tables_read p g exits ts n [] s is some few h = rw (append-nil ts) (reads_none p (spelt_of g exits ts))
 tables_read p g exits ts n (es ∷ rest) s is some few h =
     let both = and_parts (is_table g es) (list_all (is_table g) rest) h in

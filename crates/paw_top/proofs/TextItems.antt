@@ -16,7 +16,7 @@ use Rattle.paw_grammar.specs.GrammarTexts.{texts_of, with_texts, text_limit, tex
 use Rattle.paw_grammar.specs.GrammarTexts.{text_line}
 use Rattle.paw_grammar.specs.GrammarHeads.{new_text, item_in}
 use Rattle.paw_print.specs.Lines.{item_token, lines_of_text, text_lines}
-use Rattle.paw_print.specs.Canonical.{numbered}
+use Rattle.paw_print.specs.Canonical.{numbered_lines}
 use Rattle.paw_top.proofs.After.{LineReads, Reads, reads_none, reads_line, reads_append}
 use Rattle.paw_top.proofs.Rows.{text_step, plain_printed}
 use Rattle.paw_top.proofs.Digits.{plain-item, item_begins}
@@ -187,7 +187,7 @@ item_step p s b d before n at text is room =
 pub items_read : (p : ℕ) (s : Section) (b : Bool) (d : Spelt) (before : List (List ℕ)) (n : ℕ) (texts : List (List ℕ)) →
     d.section ≡ s → is_text_section s ≡ true
     → n ≡ length before → length (before ++ texts) ≤ text_limit s → list_all is_text texts ≡ true →
-    Then p s d (with_texts s b before d) (numbered text_lines n texts) (before ++ texts)
+    Then p s d (with_texts s b before d) (numbered_lines text_lines n texts) (before ++ texts)
 items_read p s b d before n [] at text is room all = rw (append-nil before) (b, reads_none p (with_texts s b before d))
 items_read p s b d before n (t ∷ ts) at text is room all =
     let both = and_parts (is_text t) (list_all is_text ts) all in

@@ -17,7 +17,7 @@ use Rattle.paw_top.specs.declared.outcome.MemoryAt.TheVariants as memory
 use Rattle.paw_top.specs.Answers.{IfMemory, failed_call}
 use Rattle.paw_top.specs.Shows.{Shows}
 use Rattle.paw_top.specs.Ends.{outcome_of_halt}
-use Rattle.paw_top.specs.Tries.{Tries, shows, halts, wanting}
+use Rattle.paw_top.specs.Tries.{Tries, shows, halts, without_memory}
 use Rattle.paw_top.specs.Completes.{IsUnhindered}
 use Rattle.paw_top.specs.inner.Completes.{Comes, due}
 use Rattle.paw_top.proofs.Completing.{hindered}
@@ -65,4 +65,4 @@ pub completes_trial : (n : ℕ) (old new : Standing) (o : Outcome) → Tries n o
 completes_trial n old new _ (shows o p path r is s) free = subst (λ e. Comes (due e) o) (sym is) (shown_comes _ old new o s free)
 completes_trial n old new _ (halts halt r is e) free =
     subst (λ x. Comes (due x) (outcome_of_halt halt)) (sym is) (comes_so (outcome_of_halt halt))
-completes_trial n old new _ (wanting e) free = tt
+completes_trial n old new _ (without_memory e) free = tt

@@ -21,11 +21,11 @@ use Rattle.paw_grammar.specs.declared.section.Section.TheVariants as section
 use Rattle.paw_grammar.specs.GrammarState.{Spelt, nothing_yet, all_exits, game_of}
 use Rattle.paw_grammar.specs.GrammarTexts.{with_texts, text_limit}
 use Rattle.paw_grammar.specs.GrammarHeads.{section_opened, lacks_rows}
-use Rattle.paw_grammar.specs.Spells.{begins_table, spelled_after, spelled}
+use Rattle.paw_grammar.specs.Spells.{begins_table, spelled_after, game_spelled}
 use Rattle.paw_source.specs.inner.Laws.{CountsTables}
-use Rattle.paw_print.specs.Lines.{spaced, object_tokens, text_lines}
+use Rattle.paw_print.specs.Lines.{tokens_spaced, object_tokens, text_lines}
 use Rattle.paw_print.specs.Canonical.{words_lines, texts_lines, location_lines, exits_lines, objects_lines, table_lines}
-use Rattle.paw_print.specs.Canonical.{numbered}
+use Rattle.paw_print.specs.Canonical.{numbered_lines}
 use Rattle.paw_print.specs.Canonical.{canonical_lines, canonical_of}
 use Rattle.paw_top.specs.Round.{SpellsItself}
 use Rattle.paw_top.proofs.After.{LineReads, Reads, reads_line, reads_append, reads_whole}
@@ -110,8 +110,8 @@ texts_read : (p : ℕ) (s : Section) (name : List ℕ) (d : Spelt) (before texts
     × Reads p nothing_yet (before ++ texts_lines name texts) (with_texts s b texts (section_opened s d))
 texts_read p s name d before texts reads first none text room all =
     let items = items_read p s false (section_opened s d) [] 0 texts refl text refl room all in
-    let rest : Reads p (section_opened s d) (numbered text_lines 0 texts) (with_texts s items.0 texts (section_opened s d)) = rw none at items.1 in
-    (items.0, reads_append p nothing_yet d _ before _ reads (reads_line p _ _ _ name (numbered text_lines 0 texts) first rest))
+    let rest : Reads p (section_opened s d) (numbered_lines text_lines 0 texts) (with_texts s items.0 texts (section_opened s d)) = rw none at items.1 in
+    (items.0, reads_append p nothing_yet d _ before _ reads (reads_line p _ _ _ name (numbered_lines text_lines 0 texts) first rest))
 
 -- What is spelled before the tables.
 abbrev before_tables : GameLists → Bool → List (List Exit) → Spelt
@@ -125,7 +125,7 @@ no_row_lacks g b exits =
 
 tables_section : (p : ℕ) (g : GameLists) (b : Bool) (exits : List (List Exit)) (ts : List (List Entry)) → Small p g →
     3 ≤ length ts → length ts ≤ 256 → list_all (is_table g) ts ≡ true
-    → Reads p (before_tables g b exits) (numbered (table_lines g.words) 0 ts) (spelt_of g exits ts)
+    → Reads p (before_tables g b exits) (numbered_lines (table_lines g.words) 0 ts) (spelt_of g exits ts)
 tables_section p g b exits [] s some few h = absurd (omega arith)
 tables_section p g b exits (t ∷ ts) s some few h =
     let both = and_parts (is_table g t) (list_all (is_table g) ts) h in
@@ -151,7 +151,8 @@ whole_read p g r s =
     let d1 : Spelt = record d0 { words = g.words } in
     let l1 : List (List ℕ) = words_lines g.words in
     let r1 : Reads p nothing_yet l1 d1 =
-    reads_line p nothing_yet d0 d1 (codes "/VOC") (map (λ (w : Word). spaced (word_tokens w)) g.words) (header_reads p nothing_yet section.Before refl tt)
+    reads_line p nothing_yet d0 d1 (codes "/VOC") (map (λ (w : Word). tokens_spaced (word_tokens w)) g.words)
+    (header_reads p nothing_yet section.Before refl tt)
     (words_read p d0 [] g.words refl r.all_words r.rise r.few_words) in
     -- The texts.
     let t2 = texts_read p section.Stx (codes "/STX") d1 l1 g.system r1 (header_reads p d1 section.Voc refl tt) refl refl r.few_system r.system in
@@ -177,7 +178,7 @@ whole_read p g r s =
     let d6 : Spelt = record c5 { exits = x6.exits } in
     let con : List (List ℕ) = exits_lines g.words g.exits in
     let t6 : Reads p d5 con d6 =
-    reads_line p d5 c5 d6 (codes "/CON") (numbered (location_lines g.words) 0 g.exits) (exits_header_reads p d5 refl some) x6.reads in
+    reads_line p d5 c5 d6 (codes "/CON") (numbered_lines (location_lines g.words) 0 g.exits) (exits_header_reads p d5 refl some) x6.reads in
     let r6 : Reads p nothing_yet (l5 ++ con) d6 = reads_append p nothing_yet d5 d6 l5 con t5.1 t6 in
     -- The objects.
     let c6 : Spelt = section_opened section.Obj d6 in
@@ -186,13 +187,13 @@ whole_read p g r s =
     let d7 : Spelt = record c6 { facts = map (λ (o : ObjectRow). o.facts) g.objects } in
     let obj : List (List ℕ) = objects_lines g.words g.objects in
     let t7 : Reads p d6 obj d7 =
-    reads_line p d6 c6 d7 (codes "/OBJ") (numbered (λ n (o : ObjectRow). spaced (object_tokens g.words n o.facts) ∷ []) 0 g.objects)
+    reads_line p d6 c6 d7 (codes "/OBJ") (numbered_lines (λ n (o : ObjectRow). tokens_spaced (object_tokens g.words n o.facts) ∷ []) 0 g.objects)
     (header_reads p d6 section.Con refl tt) (objects_read p c6 [] 0 g.objects refl scene6 refl rows names_few r.objects) in
     let l7 : List (List ℕ) = l5 ++ con ++ obj in
     let r7 : Reads p nothing_yet l7 d7 = reads_append p nothing_yet d6 d7 (l5 ++ con) obj r6 t7 in
     -- The tables.
     let e : Spelt = spelt_of g x6.exits g.tables in
-    let pro : List (List ℕ) = numbered (table_lines g.words) 0 g.tables in
+    let pro : List (List ℕ) = numbered_lines (table_lines g.words) 0 g.tables in
     let t8 : Reads p d7 pro e = tables_section p g false x6.exits g.tables s r.some_tables r.few_tables r.tables in
     record { exits = x6.exits; reads = reads_append p nothing_yet d7 e l7 pro r7 t8; filled = x6.filled }
 
@@ -227,7 +228,7 @@ lines_are g r = lines_of-printed_lines (canonical_lines g) (whole_read (length g
 
 -- The canonical source of a game spells that game.
 pub spells_itself : CountsTables → SpellsItself
-unfolding spelled
+unfolding game_spelled
 spells_itself counts = λ g v within short.
     let r = rules g v in
     let fits : ltb SOURCE_LIMIT (length (canonical_of g)) ≡ false = le-ltb _ _ short in

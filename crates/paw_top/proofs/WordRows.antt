@@ -23,7 +23,7 @@ use Rattle.paw_grammar.specs.Vocabulary.{class_names, index_among, words_with}
 use Rattle.paw_grammar.specs.GrammarState.{Spelt}
 use Rattle.paw_grammar.specs.GrammarTexts.{is_in_text}
 use Rattle.paw_grammar.specs.GrammarRows.{voc_row}
-use Rattle.paw_print.specs.Lines.{spelled_letters, class_name, spaced}
+use Rattle.paw_print.specs.Lines.{spelled_letters, class_name, tokens_spaced}
 use Rattle.paw_top.proofs.Rows.{is_plain, row_step, printed-spaced}
 use Rattle.paw_top.proofs.Digits.{number-decimal, plain-decimal}
 use Rattle.paw_top.proofs.Letters.{Spelling, spelling}
@@ -103,7 +103,7 @@ voc_row-is vs w ws r rise few =
 
 word_step : (p : ℕ) (d : Spelt) (vs : List Word) (w : Word) (ws : List Word) → d.section ≡ section.Voc →
     is_word w ≡ true → words_rise (vs ++ w ∷ ws) ≡ true → length vs < WORD_LIMIT
-    → LineReads p (record d { words = vs }) (spaced (word_tokens w)) (record d { words = vs ++ w ∷ [] })
+    → LineReads p (record d { words = vs }) (tokens_spaced (word_tokens w)) (record d { words = vs ++ w ∷ [] })
 word_step p d vs w ws at h rise few =
     let r = word_row w h in
     let e : Spelt = record d { words = vs } in
@@ -118,7 +118,7 @@ word_step p d vs w ws at h rise few =
 -- The rows of words after those that were read.
 pub words_read : (p : ℕ) (d : Spelt) (vs ws : List Word) → d.section ≡ section.Voc → list_all is_word ws ≡ true →
     words_rise (vs ++ ws) ≡ true → length (vs ++ ws) ≤ WORD_LIMIT
-    → Reads p (record d { words = vs }) (map (λ w. spaced (word_tokens w)) ws) (record d { words = vs ++ ws })
+    → Reads p (record d { words = vs }) (map (λ w. tokens_spaced (word_tokens w)) ws) (record d { words = vs ++ ws })
 words_read p d vs [] at all rise few = rw (append-nil vs) (reads_none p (record d { words = vs }))
 words_read p d vs (w ∷ ws) at all rise few =
     let both = and_parts (is_word w) (list_all is_word ws) all in

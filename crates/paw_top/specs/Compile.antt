@@ -5,7 +5,7 @@ use Rattle.paw_base.specs.Bytes.{Bytes, Name, Text}
 use Rattle.paw_base.specs.declared.fault.SourceFault.{SourceFault}
 use Rattle.paw_game.specs.Game.{GameLists}
 use Rattle.paw_game.specs.Image.{image}
-use Rattle.paw_grammar.specs.Spells.{spelled}
+use Rattle.paw_grammar.specs.Spells.{game_spelled}
 use Rattle.paw_stage.specs.Stage.{Standing, Saves, with_shown}
 use Rattle.paw_stage.specs.declared.StageCall.TheVariants as call
 use Rattle.paw_top.specs.declared.outcome.Outcome.{Outcome}
@@ -14,7 +14,7 @@ use Rattle.paw_top.specs.declared.outcome.MemoryAt.{MemoryAt}
 
 -- The file of this name holds a source that spells this game, or whose first fault is this one.
 abbrev pub HoldsSource : Standing → Name → Result GameLists SourceFault → Type 0
-HoldsSource s name read = (bytes : Bytes) × (s.files name ≡ Some bytes) × (spelled bytes ≡ read)
+HoldsSource s name read = (bytes : Bytes) × (s.files name ≡ Some bytes) × (game_spelled bytes ≡ read)
 
 -- The line that shows how many bytes an image has.
 abbrev pub image_line : ℕ → Text

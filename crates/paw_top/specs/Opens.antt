@@ -14,4 +14,4 @@ pub data Unopened (name : Name) (old new : Standing) : Outcome → Type 0 where
   damaged : (at : ℕ) → HoldsDamage old name at → new ≡ old → Unopened name old new (outcome.ImageDamaged at)
   absent : old.files name ≡ None → new ≡ old → Unopened name old new (outcome.Outside call.LoadAbsent)
   failed : new ≡ old → Unopened name old new (outcome.Outside call.Load)
-  wanting : (at : MemoryAt) → new ≡ old → Unopened name old new (outcome.Memory at)
+  without_memory : (at : MemoryAt) → new ≡ old → Unopened name old new (outcome.Memory at)

@@ -6,7 +6,7 @@ use Rattle.paw_base.specs.declared.limits.TheConstants.{IMAGE_LIMIT, SOURCE_LIMI
 use Rattle.paw_game.specs.Game.{GameLists}
 use Rattle.paw_game.specs.Valid.{Valid}
 use Rattle.paw_game.specs.Image.{image}
-use Rattle.paw_grammar.specs.Spells.{Spells, spelled, fault}
+use Rattle.paw_grammar.specs.Spells.{Spells, game_spelled, fault}
 use Rattle.paw_print.specs.Canonical.{canonical_of}
 use Rattle.paw_stage.specs.Stage.{Standing}
 use Rattle.paw_top.specs.Compile.{Compiles, SavedAndShown, image_line}
@@ -32,4 +32,4 @@ ComesBack =
 -- A canonical source that is longer than a source may be spells nothing: it is TooBig at line 0.
 abbrev pub LongIsTooBig : Type 0
 LongIsTooBig = (g : GameLists) → SOURCE_LIMIT < length (canonical_of g) →
-    spelled (canonical_of g) ≡ Err (fault 0 kind.TooBig)
+    game_spelled (canonical_of g) ≡ Err (fault 0 kind.TooBig)

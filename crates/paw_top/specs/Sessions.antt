@@ -7,7 +7,7 @@ use Rattle.paw_stage.specs.Stage.{Standing}
 use Rattle.paw_stage.specs.Moments.{Moment}
 use Rattle.paw_play.specs.Keeping.{InNewSession, InPlay}
 use Rattle.paw_play.specs.Play.{NewSession, PlaysAgain, GoesOn, NotYet, store_bytes}
-use Rattle.paw_play.specs.Played.{PlayedSession, GoesOnFrom, begun}
+use Rattle.paw_play.specs.Played.{PlayedSession, GoesOnFrom, session_begun}
 use Rattle.paw_top.specs.Ends.{PlaysFile}
 use Rattle.paw_play.specs.ImageFiles.{Holds}
 use Rattle.paw_top.specs.declared.outcome.Outcome.{Outcome}
@@ -17,7 +17,7 @@ use Rattle.paw_top.specs.declared.outcome.Outcome.{Outcome}
 -- A new session of the game that this file holds is played, with these answers of routines; or why it isn't.
 abbrev pub PlaysNewIn : RoutineAnswers → Name → Name → Seed → Standing → Standing → Outcome → Type 0
 PlaysNewIn answers name store seed old new o =
-    PlaysFile (λ g end. NewSession (begun (story_of g answers) seed store) old new end) name old new o
+    PlaysFile (λ g end. NewSession (session_begun (story_of g answers) seed store) old new end) name old new o
 
 -- A session of the game that this file holds is resumed, with these answers of routines; or why it isn't.
 abbrev pub PlaysAgainIn : RoutineAnswers → Name → Name → Standing → Standing → Outcome → Type 0
@@ -44,7 +44,7 @@ TwoParts = (Moment → Type 0) → (Moment → Type 0) → Type 0
 -- The moments of a new session in an empty store: until the store is attached, and from then on.
 abbrev pub NewAtEachMoment : TwoParts → RoutineAnswers → Name → Name → Seed → Standing → Type 0
 NewAtEachMoment Come answers name store seed old = (g : GameLists) → Holds old name g → store_bytes old store ≡ [] →
-    Come (NotYet store old) (InNewSession (begun (story_of g answers) seed store) old)
+    Come (NotYet store old) (InNewSession (session_begun (story_of g answers) seed store) old)
 
 -- The moments of a session that is resumed, where one of the story goes on from the bytes of its store.
 abbrev pub AgainAtEachMoment : TwoParts → RoutineAnswers → Name → Name → Standing → Type 0

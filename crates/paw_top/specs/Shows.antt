@@ -40,7 +40,7 @@ pub data Wraps (width : ℕ) (name : Name) (old new : Standing) : Outcome → Ty
   unshown : (text : Text) → HoldsText old name text → ShowsPart (first_fit width text).bytes old new →
       Wraps width name old new (outcome.Outside call.Show)
   -- Memory was lacking for the load; nothing is changed.
-  wanting : (at : MemoryAt) → IsOneOf load_memory at → new ≡ old → Wraps width name old new (outcome.Memory at)
+  without_memory : (at : MemoryAt) → IsOneOf load_memory at → new ≡ old → Wraps width name old new (outcome.Memory at)
   -- Memory was lacking for the breaks of the text; nothing is changed.
   unwrapped : (text : Text) → HoldsText old name text → new ≡ old →
       Wraps width name old new (outcome.Memory memory.Wrap)

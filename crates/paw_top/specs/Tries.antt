@@ -19,4 +19,4 @@ pub data Tries (n : ℕ) (old new : Standing) : Outcome → Type 0 where
   shows : (o : Outcome) (p : Prompt) (path : List Frame) (r : Run) → trial_reading n ≡ WaitsAt p path r →
       Shows (trial_text n r.world) old new o → Tries n old new o
   halts : (halt : Halt) (r : Run) → trial_reading n ≡ Halted halt r → new ≡ old → Tries n old new (outcome_of_halt halt)
-  wanting : new ≡ old → Tries n old new (outcome.Memory memory.Trial)
+  without_memory : new ≡ old → Tries n old new (outcome.Memory memory.Trial)

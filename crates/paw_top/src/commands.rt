@@ -11,7 +11,7 @@ ghost use Rattle.paw_play.specs.Numbers.{seed_of};
 ghost use Rattle.paw_top.specs.Answers.{IfMemory, failed_call};
 ghost use Rattle.paw_top.specs.Commands.{command_of, meaning, no_more, next_file, next_number};
 ghost use Rattle.paw_top.specs.Commands.{trial_of, byte_of, width_of};
-ghost use Rattle.paw_top.specs.inner.Commands.{SpellsCommand, meant};
+ghost use Rattle.paw_top.specs.inner.Commands.{SpellsCommand, command_meant};
 ghost use Rattle.paw_top.specs.declared.outcome.Outcome.TheVariants as outcome;
 
 use crate::compile::compile;
@@ -242,13 +242,14 @@ impl<'a> Command<'a> {
         requires answers { HaveAnswers F.Fn routines.now }
         requires synced { S.Tells stage.old → IsStable (S.standing stage.old).disk }
         ensures form { result ≢ outcome.Usage }
-        ensures serves { FailsOnlyBy S.Stage (meaning (meant self.now)).calls (failed_call result) stage.old stage.new }
-        ensures memory { IfMemory result (IsOneOf (meaning (meant self.now)).memory) }
+        ensures serves { FailsOnlyBy S.Stage (meaning (command_meant self.now)).calls
+            (failed_call result) stage.old stage.new }
+        ensures memory { IfMemory result (IsOneOf (meaning (command_meant self.now)).memory) }
         ensures comes { IfTelling S.Stage stage.old stage.new (λ old new. (X : RoutineAnswers) →
-            AreAnswersOf F.Fn routines.now X → (meaning (meant self.now)).comes X old new result) }
+            AreAnswersOf F.Fn routines.now X → (meaning (command_meant self.now)).comes X old new result) }
         ensures moments { IfTelling S.Stage stage.old stage.new (λ old new. (X : RoutineAnswers) →
             AreAnswersOf F.Fn routines.now X →
-            (meaning (meant self.now)).moments (InTwoParts S.Stage stage.old stage.new) X old) }
+            (meaning (command_meant self.now)).moments (InTwoParts S.Stage stage.old stage.new) X old) }
     {
         match *self {
             Command::Compile { source, image } => compile(alloc, stage, source, image),

@@ -4,7 +4,7 @@ ghost use Rattle.std.specs.Prelude.{◌≡◌, ◌≢◌, ◌≤◌, [], ◌∷�
 ghost use Rattle.paw_game.specs.Game.{GameLists};
 ghost use Rattle.paw_game.specs.Image.{image};
 ghost use Rattle.paw_base.specs.declared.limits.TheConstants.{IMAGE_LIMIT};
-ghost use Rattle.paw_grammar.specs.Spells.{spelled};
+ghost use Rattle.paw_grammar.specs.Spells.{game_spelled};
 ghost use Rattle.paw_stage.specs.Across.{IfTelling, FailsOnlyBy, IsOneOf};
 ghost use Rattle.paw_stage.specs.declared.StageCall.TheVariants as call;
 ghost use Rattle.paw_stage.specs.Loads.{load_calls};
@@ -26,11 +26,11 @@ use paw_source::refusal::SourceRefusal;
 use paw_stage::{Stage, StageCall};
 use std::alloc::Global;
 
-/// The game that a source spells, or why there is none.
+// The game that a source spells, or why there is none.
 fn game_of(alloc: Global, source: &[u8]) -> Result<Game, Outcome>
-    ensures game { IfOk result (λ g. spelled source.now ≡ Ok g) }
+    ensures game { IfOk result (λ g. game_spelled source.now ≡ Ok g) }
     ensures short { IfOk result (λ g. length (image g) ≤ IMAGE_LIMIT) }
-    ensures refusal { IfErr result (IsRefusal (spelled source.now)) }
+    ensures refusal { IfErr result (IsRefusal (game_spelled source.now)) }
     ensures memory { IfErr result (λ o. IfMemory o (IsOneOf (memory.Source ∷ load_memory))) }
 {
     match read_source(alloc, source) {
@@ -40,10 +40,10 @@ fn game_of(alloc: Global, source: &[u8]) -> Result<Game, Outcome>
     }
 }
 
-/// The image of the game that a source spells, or why there is none.
+// The image of the game that a source spells, or why there is none.
 fn image_of(alloc: Global, source: &[u8]) -> Result<Vec<u8>, Outcome>
-    ensures image { IfOk result (λ v. (g : GameLists) × (spelled source.now ≡ Ok g) × (v.items ≡ image g)) }
-    ensures refusal { IfErr result (IsRefusal (spelled source.now)) }
+    ensures image { IfOk result (λ v. (g : GameLists) × (game_spelled source.now ≡ Ok g) × (v.items ≡ image g)) }
+    ensures refusal { IfErr result (IsRefusal (game_spelled source.now)) }
     ensures memory { IfErr result (λ o. IfMemory o (IsOneOf (memory.Source ∷ load_memory))) }
 {
     let game = game_of(alloc, source)?;
@@ -54,7 +54,7 @@ fn image_of(alloc: Global, source: &[u8]) -> Result<Vec<u8>, Outcome>
     }
 }
 
-/// The line that shows how many bytes an image has.
+// The line that shows how many bytes an image has.
 fn line_of(alloc: Global, size: usize) -> Result<String, Outcome>
     ensures line { IfOk result (λ text. string_bytes text ≡ image_line size) }
     ensures memory { IfErr result (λ o. o ≡ outcome.Memory memory.Image) }
@@ -65,7 +65,7 @@ fn line_of(alloc: Global, size: usize) -> Result<String, Outcome>
     }
 }
 
-/// Saves an image, and then shows a line.
+// Saves an image, and then shows a line.
 fn keep<S: Stage>(stage: &mut S, name: &str, image: &[u8], line: &[u8]) -> Outcome
     ensures serves { FailsOnlyBy S.Stage (call.Save ∷ call.Show ∷ []) (failed_call result) stage.old stage.new }
     ensures form { result ≢ outcome.Usage }

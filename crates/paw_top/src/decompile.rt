@@ -53,7 +53,7 @@ pub(crate) fn check<S: Stage>(alloc: Global, stage: &mut S, image: &str) -> Outc
     tell(stage, text.as_bytes())
 }
 
-/// What is shown of a game when it is checked.
+// What is shown of a game when it is checked.
 fn verdict_of(alloc: Global, game: &Game) -> Result<String, NoRoom>
     ensures text { IfOk result (λ text. string_bytes text ≡ verdict_text (bounds game.now)) }
 {

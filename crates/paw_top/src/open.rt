@@ -20,7 +20,7 @@ use paw_image::refusal::ImageRefusal;
 use paw_image::view::View;
 use std::alloc::Global;
 
-/// The answer for bytes that give no game.
+// The answer for bytes that give no game.
 fn refused_as(refusal: ImageRefusal) -> Outcome
     ensures none { (bytes : Bytes) → AtDamage refusal (λ _. (g : GameLists) → ¬ IsImage bytes g) →
         AtDamage refusal (λ at. bad bytes ≡ Some at) → GivesNone bytes result }

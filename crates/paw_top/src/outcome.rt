@@ -62,7 +62,7 @@ pub enum Outcome {
     Memory(MemoryAt),
 }
 
-/// The answer for a store that gives no session of the game.
+// The answer for a store that gives no session of the game.
 fn refused_as(refusal: JournalRefusal) -> Outcome
     ensures value { result ≡ refused_as refusal }
 {

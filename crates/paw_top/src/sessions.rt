@@ -7,7 +7,7 @@ ghost use Rattle.paw_play.specs.inner.Telling.{with_shown_steps};
 ghost use Rattle.paw_play.specs.Calls.{walk_calls, session_calls};
 ghost use Rattle.paw_play.specs.Keeping.{InNewSession, InPlay};
 ghost use Rattle.paw_play.specs.Play.{NotYet, store_bytes};
-ghost use Rattle.paw_play.specs.Played.{PlayedSession, GoesOnFrom, begun};
+ghost use Rattle.paw_play.specs.Played.{PlayedSession, GoesOnFrom, session_begun};
 ghost use Rattle.paw_reading.specs.Turn.{reading};
 ghost use Rattle.paw_stage.specs.Across.{IfTelling, InTwoParts, FailsOnlyBy, IsOneOf};
 ghost use Rattle.paw_routines.specs.Routines.{AreAnswersOf, HaveAnswers};
@@ -72,7 +72,8 @@ pub(crate) fn play<S: Stage, F: Fn(u8, u8) -> u8>(
         AreAnswersOf F.Fn routines.now X → PlaysNewIn X image.now store.now seed old new result) }
     ensures any_moment { IfTelling S.Stage stage.old stage.new (λ old new. (s : Story) →
         AreAnswersOf F.Fn routines.now s.answers → Holds old image.now s.game → store_bytes old store.now ≡ [] →
-        InTwoParts S.Stage stage.old stage.new (NotYet store.now old) (InNewSession (begun s seed store.now) old)) }
+        InTwoParts S.Stage stage.old stage.new (NotYet store.now old)
+        (InNewSession (session_begun s seed store.now) old)) }
 {
     let bytes = or_return!(load(alloc, stage, image, IMAGE_LIMIT));
     let view = or_return!(view_in(alloc, bytes.as_slice()));

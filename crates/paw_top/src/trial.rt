@@ -17,7 +17,7 @@ use paw_stage::Stage;
 use paw_trial::{TrialEnd, halt_of, trial_line};
 use std::alloc::Global;
 
-/// The outcome for a trial that shows no line.
+// The outcome for a trial that shows no line.
 fn stopped_as(end: TrialEnd) -> Outcome
     ensures form { result ≢ outcome.Usage }
     ensures memory { IfMemory result (IsOneOf (memory.Trial ∷ [])) }

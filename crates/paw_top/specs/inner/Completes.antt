@@ -4,7 +4,7 @@ use Rattle.paw_base.specs.Bytes.{Bytes, Name, RoutineAnswers, Seed, Text}
 use Rattle.paw_base.specs.declared.fault.SourceFault.{SourceFault}
 use Rattle.paw_game.specs.Game.{GameLists}
 use Rattle.paw_effects.specs.Story.{Story, story_of}
-use Rattle.paw_grammar.specs.Spells.{spelled}
+use Rattle.paw_grammar.specs.Spells.{game_spelled}
 use Rattle.paw_stage.specs.Stage.{Standing}
 use Rattle.paw_state.specs.State.{State}
 use Rattle.paw_journal.specs.Session.{Digests, Shown, recover}
@@ -50,7 +50,7 @@ CompletesSource (Err fault) o = Comes (outcome.SourceRefused fault) o
 
 -- Where the source is there, it is compiled or refused.
 abbrev pub CompletesCompile : Name → Standing → Outcome → Type 0
-CompletesCompile source old o = (bytes : Bytes) → old.files source ≡ Some bytes → CompletesSource (spelled bytes) o
+CompletesCompile source old o = (bytes : Bytes) → old.files source ≡ Some bytes → CompletesSource (game_spelled bytes) o
 
 -- Play has ended for good, no line was left, the session was full, or memory was lacking.
 pub data IsWalked : Outcome → Type 0 where

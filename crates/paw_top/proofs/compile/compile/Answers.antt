@@ -1,5 +1,5 @@
 use Rattle.std.proofs.Common.{[], ◌∷◌, ◌∙◌, ap, sym, subst, length}
-use Rattle.paw_grammar.specs.Spells.{spelled}
+use Rattle.paw_grammar.specs.Spells.{game_spelled}
 use Rattle.paw_top.specs.Compile.{memory, image_line}
 use Rattle.paw_top.specs.inner.Compile.{IsRefusal}
 use Rattle.paw_top.specs.declared.outcome.MemoryAt.TheVariants as at
@@ -17,7 +17,7 @@ returns-in-Err-clause-compiles g c = λ tells. no_source c.args.source.now c.arg
 pub returns-in-Err-image_of-clause-compiles : goal.returns-in-Err-image_of-clause-compiles
 returns-in-Err-image_of-clause-compiles g c = λ tells.
     no_image c.args.source.now c.args.image.now c.in-Ok.given.items _ _ c.in-Err-image_of.refusal (c.in-Ok.ensures.some tells)
-    (subst (λ b. IsRefusal (spelled b) c.in-Err-image_of.refusal) c.as_slice.ensures.value c.in-Err-image_of.ensures.refusal)
+    (subst (λ b. IsRefusal (game_spelled b) c.in-Err-image_of.refusal) c.as_slice.ensures.value c.in-Err-image_of.ensures.refusal)
 
 pub returns-in-Err-line_of-clause-compiles : goal.returns-in-Err-line_of-clause-compiles
 returns-in-Err-line_of-clause-compiles g c = λ tells.
@@ -29,7 +29,7 @@ returns-clause-compiles g c = λ tells.
     let made = c.in-Ok-image_of.ensures.image in
     keeps_image c.args.source.now c.args.image.now c.in-Ok.given.items c.as_slice-2.result.now c.as_bytes.result.now _ _
     _ c.keep.result (c.in-Ok.ensures.some tells)
-    (made.0, ap spelled (sym c.as_slice.ensures.value) ∙ made.1, c.as_slice-2.ensures.value ∙ made.2)
+    (made.0, ap game_spelled (sym c.as_slice.ensures.value) ∙ made.1, c.as_slice-2.ensures.value ∙ made.2)
     (c.as_bytes.ensures.value ∙ c.in-Ok-line_of.ensures.line
     ∙ ap image_line (c.len.ensures ∙ c.in-Ok-image_of.made.ok.0 ∙ ap length (sym c.as_slice-2.ensures.value)))
     (c.keep.ensures.keeps (c.load.ensures.serves.tells.0 tells))

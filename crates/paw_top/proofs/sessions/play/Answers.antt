@@ -8,7 +8,7 @@ use Rattle.paw_stage.specs.Across.{first_alone}
 use Rattle.paw_play.specs.Calls.{session_calls}
 use Rattle.paw_play.specs.Keeping.{InNewSession}
 use Rattle.paw_play.specs.Play.{NotYet, store_bytes}
-use Rattle.paw_play.specs.Played.{begun}
+use Rattle.paw_play.specs.Played.{session_begun}
 use Rattle.paw_play.proofs.Parts.{not_yet, then_two_parts}
 use Rattle.paw_top.specs.Ends.{plays}
 use Rattle.paw_stage.specs.Loads.{load_calls}
@@ -43,7 +43,7 @@ returns-clause-plays g c = λ tells X answers.
     let game = game_read c.in-Ok-view_in.given in
     rw c.outcome_of.ensures.value
     (plays game c.play_loop.result (holds_loaded c.args.image.now _ _ _ _ game c.as_slice.ensures.value f c.in-Ok-view_in.ensures.found)
-    (plays_new (begun (story_of game X) c.args.seed c.args.store.now) _ _ _ c.play_loop.result f.3
+    (plays_new (session_begun (story_of game X) c.args.seed c.args.store.now) _ _ _ c.play_loop.result f.3
     (c.play_loop.ensures.plays (c.load.ensures.serves.tells.0 tells) X answers)))
 
 pub returns-clause-any_moment : goal.returns-clause-any_moment
@@ -54,7 +54,7 @@ returns-clause-any_moment g c = λ tells s answers holds empty.
     let mine = holds_loaded c.args.image.now _ _ old _ game c.as_slice.ensures.value f c.in-Ok-view_in.ensures.found in
     let same = same_story old c.args.image.now game s mine holds in
     then_two_parts g.S.Stage c.args.stage.now c.load.new.stage c.play_loop.new.stage
-    (NotYet c.args.store.now old) (InNewSession (begun s c.args.seed c.args.store.now) old)
+    (NotYet c.args.store.now old) (InNewSession (session_begun s c.args.seed c.args.store.now) old)
     (Passes_map _ _ _ _ _ _ (c.load.ensures.time tells) (not_yet c.args.store.now old))
     (new_parts g.S.Stage c.load.new.stage c.play_loop.new.stage s (story_of game s.answers) c.args.seed c.args.store.now old
     (g.S.Stage.standing c.load.new.stage) f.3 same

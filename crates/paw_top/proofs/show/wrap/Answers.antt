@@ -9,7 +9,7 @@ use Rattle.paw_wrap.specs.FirstFit.{WrappedText, first_fit}
 use Rattle.paw_journal.proofs.Serving.{in_front, behind, serves_among, serves_still, serves_then}
 use Rattle.paw_stage.specs.Loads.{load_calls}
 use Rattle.paw_top.specs.Answers.{IfMemory, load_memory}
-use Rattle.paw_top.specs.Shows.{Shows, HoldsText, Wraps, done, too_long, absent, unloaded, unshown, wanting, unwrapped}
+use Rattle.paw_top.specs.Shows.{Shows, HoldsText, Wraps, done, too_long, absent, unloaded, unshown, without_memory, unwrapped}
 use Rattle.paw_stage.specs.inner.Loads.{LoadsSome}
 use Rattle.paw_top.specs.inner.Loads.{LoadsNone}
 use Rattle.paw_top.specs.declared.outcome.Outcome.{Outcome}
@@ -22,7 +22,7 @@ no_file : (width : ℕ) (name : List ℕ) (old new : Standing) (o : Outcome) →
     IfMemory o (IsOneOf load_memory) → Wraps width name old new o
 no_file width name old new (outcome.Outside call.LoadAbsent) h m = absent h.0 h.1
 no_file width name old new (outcome.Outside call.Load) h m = unloaded h
-no_file width name old new (outcome.Memory at) h m = wanting at m h
+no_file width name old new (outcome.Memory at) h m = without_memory at m h
 no_file width name old new _ h m = absurd h
 
 -- What was loaded and isn't too long is the text of the file.

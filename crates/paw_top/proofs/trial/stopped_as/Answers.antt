@@ -1,6 +1,6 @@
 use Rattle.std.proofs.Common.{refl, sym}
 use Rattle.paw_trial.specs.Trial.{trial_reading}
-use Rattle.paw_top.specs.Tries.{wanting}
+use Rattle.paw_top.specs.Tries.{without_memory}
 use Rattle.paw_top.proofs.Trying.{halt_answers, halted}
 use Rattle.paw_top.proofs.trial.stopped_as.Goals as goal
 
@@ -18,4 +18,4 @@ returns-in-Some-clause-tries c = λ n s h.
     rw c.outcome_of_halt.ensures.value (halted n s c.args.end c.in-Some.halt (trial_reading n) refl (sym c.in-Some.ensures.value) h)
 
 pub returns-in-None-clause-tries : goal.returns-in-None-clause-tries
-returns-in-None-clause-tries c = λ n s h. wanting refl
+returns-in-None-clause-tries c = λ n s h. without_memory refl

@@ -1,10 +1,10 @@
 // Sources that are compiled and played, over a stage in memory.
 
-use crate::compile_tests::{LANTERN, SMALLEST};
-use crate::outcome::Outcome;
-use crate::running_tests::settle_and_run;
-use paw_base::fault::SpentKind;
+use crate::tests::running::settle_and_run;
+use crate::tests::sources::{LANTERN, SMALLEST};
+use paw_base::fault::{NoRoom, SpentKind};
 use paw_stage::{LoadRefusal, MemoryStage, Stage};
+use paw_top::outcome::Outcome;
 use std::alloc::{AllocError, Global};
 use std::process::Abort;
 use std::test::Fail;
@@ -33,25 +33,42 @@ _ _ LET 38 1 DESC MESSAGE 2\n/PRO 8\n_ _ AT 1 MESSAGE 3\n_ _ DONE\n_ _ MESSAGE 2
 const BEFORE_TABLE_1: &str =
     "/VOC\n/STX\n/MTX\n/0\na\n/1\nb\n/OTX\n/LTX\n/0\n/CON\n/OBJ\n/PRO 0\n/PRO 1\n";
 
+// The parts of a source, one after the other.
+fn join(alloc: Global, parts: &[&str]) -> Result<Vec<u8>, AllocError> {
+    let mut text = Vec::new(alloc);
+    for part in parts {
+        text.extend_from_slice(part.as_bytes())?;
+    }
+    Ok(text)
+}
+
+// A stage with a source, and these lines.
+fn stage_of(alloc: Global, source: &[u8], lines: &str) -> Result<MemoryStage, NoRoom> {
+    let mut stage = MemoryStage::new(alloc, 1_000, 100_000)?;
+    stage.add_file("source", source)?;
+    for line in lines.lines() {
+        stage.add_line(alloc, line.as_bytes())?;
+    }
+    Ok(stage)
+}
+
+// Compiles the source as the file `game`; how many bytes were shown by then.
+fn compiles(rt: &impl Abort, alloc: Global, stage: &mut MemoryStage) -> Result<usize, Fail> {
+    let outcome = settle_and_run(rt, alloc, stage, "compile\nsource\ngame")?;
+    assert_eq!(rt; outcome, Outcome::Done);
+    Ok(stage.shown().len())
+}
+
 // Compiles the source and walks through its game with these lines: how the walk ends, and what it shows.
-fn walked(
+fn compile_and_walk(
     rt: &impl Abort,
     alloc: Global,
     source: &[&str],
     lines: &str,
 ) -> Result<(Outcome, Vec<u8>), Fail> {
-    let mut text = Vec::new(alloc);
-    for part in source {
-        text.extend_from_slice(part.as_bytes())?;
-    }
-    let mut stage = MemoryStage::new(alloc, 1_000, 100_000)?;
-    stage.add_file("source", &text)?;
-    for line in lines.lines() {
-        stage.add_line(alloc, line.as_bytes())?;
-    }
-    let outcome = settle_and_run(rt, alloc, &mut stage, "compile\nsource\ngame")?;
-    assert_eq!(rt; outcome, Outcome::Done);
-    let compiled = stage.shown().len();
+    let source = join(alloc, source)?;
+    let mut stage = stage_of(alloc, source.as_slice(), lines)?;
+    let compiled = compiles(rt, alloc, &mut stage)?;
     let outcome = settle_and_run(rt, alloc, &mut stage, "walk\ngame\n7")?;
     let shown = stage.shown().get(compiled..).unwrap_or(b"");
     Ok((outcome, Vec::from_slice(alloc, shown)?))
@@ -66,7 +83,7 @@ fn comes_so(
     wanted: Outcome,
     pieces: &str,
 ) -> Result<(), Fail> {
-    let (outcome, shown) = walked(rt, alloc, source, lines)?;
+    let (outcome, shown) = compile_and_walk(rt, alloc, source, lines)?;
     assert_eq!(rt; outcome, wanted, "{lines:?}");
     assert_eq!(rt; shown.as_slice(), pieces.as_bytes(), "{lines:?}");
     Ok(())
@@ -183,6 +200,12 @@ DOWN _ PROCESS 3\nSING _ MESSAGE 1 NOTDONE\nDANCE _ MESSAGE 1 NOTDONE\nHUM _ PRO
 CLAP _ PROCESS 4\nHOP _ MESSAGE 1 PROCESS 3\n/PRO 1\n/PRO 2\n/PRO 3\n_ _ MESSAGE 1 NOTDONE\n/PRO 4\n\
 _ _ PROCESS 3\n_ _ MESSAGE 1\n";
 
+// Walks through that game with these lines, and compares what is shown after the first piece.
+fn shows_undone(rt: &impl Abort, alloc: Global, lines: &str, pieces: &str) -> Result<(), Fail> {
+    let shown = format!(in alloc; "A hall.\nWhat now?\n> {pieces}")?;
+    shows(rt, alloc, &[UNDONE], lines, shown.as_str())
+}
+
 #[test]
 fn not_done_leads_on_to_the_exits(rt: HostRuntime) -> Result<(), Fail> {
     let alloc = rt.alloc();
@@ -212,8 +235,7 @@ fn not_done_leads_on_to_the_exits(rt: HostRuntime) -> Result<(), Fail> {
         ("CLAP", "Hm.\nHm.\nWhat now?\n> "),
         ("HOP", "Hm.\nHm.\nWhat now?\n> "),
     ] {
-        let shown = format!(in alloc; "A hall.\nWhat now?\n> {pieces}")?;
-        shows(&rt, alloc, &[UNDONE], lines, shown.as_str())?;
+        shows_undone(&rt, alloc, lines, pieces)?;
     }
     Ok(())
 }
@@ -380,9 +402,9 @@ WEAK _ ABILITY 2 10 OK\nTURNS _ TURNS DONE\nHALVE _ LET 60 9 EXTERN 1 60\n PRINT
 /PRO 1\n_ _ LISTOBJ\n/PRO 2\n/PRO 3\n_ _ QUIT MESSAGE 0\n/PRO 4\n_ _ DOALL CARRIED\n\
 _ _ ANYKEY MESSAGE 0\n/PRO 5\n_ _ GT 60 0 MINUS 60 1 PROCESS 5\n";
 
-// What the file `image` holds; no bytes where it is missing.
+// What the file `game` holds; no bytes where it is missing.
 fn image_in(alloc: Global, stage: &mut MemoryStage) -> Result<Vec<u8>, AllocError> {
-    match stage.load(alloc, "image", 100_000) {
+    match stage.load(alloc, "game", 100_000) {
         Ok(bytes) => Ok(bytes),
         Err(LoadRefusal::Memory) => Err(AllocError),
         Err(_) => Ok(Vec::new(alloc)),
@@ -390,27 +412,38 @@ fn image_in(alloc: Global, stage: &mut MemoryStage) -> Result<Vec<u8>, AllocErro
 }
 
 // The image of a source, and the text that it is shown as when it is decompiled.
-fn printed(rt: &impl Abort, alloc: Global, source: &[u8]) -> Result<(Vec<u8>, Vec<u8>), Fail> {
-    let mut stage = MemoryStage::new(alloc, 1_000, 100_000)?;
-    stage.add_file("source", source)?;
-    let outcome = settle_and_run(rt, alloc, &mut stage, "compile\nsource\nimage")?;
+fn decompile_again(
+    rt: &impl Abort,
+    alloc: Global,
+    source: &[u8],
+) -> Result<(Vec<u8>, Vec<u8>), Fail> {
+    let mut stage = stage_of(alloc, source, "")?;
+    let compiled = compiles(rt, alloc, &mut stage)?;
+    let outcome = settle_and_run(rt, alloc, &mut stage, "decompile\ngame")?;
     assert_eq!(rt; outcome, Outcome::Done);
-    let told = stage.shown().len();
-    let outcome = settle_and_run(rt, alloc, &mut stage, "decompile\nimage")?;
-    assert_eq!(rt; outcome, Outcome::Done);
-    let text = Vec::from_slice(alloc, stage.shown().get(told..).unwrap_or(b""))?;
+    let text = Vec::from_slice(alloc, stage.shown().get(compiled..).unwrap_or(b""))?;
     Ok((image_in(alloc, &mut stage)?, text))
+}
+
+// Checks that a source has an image of this length, and that the text that this is shown as has the same one.
+fn goes_there_and_back(
+    rt: &impl Abort,
+    alloc: Global,
+    (source, length): (&str, usize),
+) -> Result<(), Fail> {
+    let (image, text) = decompile_again(rt, alloc, source.as_bytes())?;
+    assert_eq!(rt; image.len(), length);
+    let (again, once_more) = decompile_again(rt, alloc, &text)?;
+    assert_eq!(rt; again, image);
+    assert_eq!(rt; once_more, text);
+    Ok(())
 }
 
 #[test]
 fn games_go_there_and_back(rt: HostRuntime) -> Result<(), Fail> {
     let alloc = rt.alloc();
-    for (source, length) in [(SMALLEST, 26), (LANTERN, 87), (ROOMS, 134), (HALL, 1_311)] {
-        let (image, text) = printed(&rt, alloc, source.as_bytes())?;
-        assert_eq!(rt; image.len(), length);
-        let (again, once_more) = printed(&rt, alloc, &text)?;
-        assert_eq!(rt; again, image);
-        assert_eq!(rt; once_more, text);
+    for row in [(SMALLEST, 26), (LANTERN, 87), (ROOMS, 134), (HALL, 1_311)] {
+        goes_there_and_back(&rt, alloc, row)?;
     }
     Ok(())
 }

@@ -3,11 +3,11 @@
 ghost use Rattle.paw_routines.specs.Routines.{HaveAnswers};
 ghost use Rattle.paw_stage.specs.Disk.{IsStable};
 
-use crate::outcome::Outcome;
-use crate::top::paw;
 use paw_routines::program::{ROUTINES, give};
 use paw_routines::routines::Routines;
 use paw_stage::Stage;
+use paw_top::outcome::Outcome;
+use paw_top::top::paw;
 use std::alloc::{AllocError, Global};
 use std::process::Abort;
 

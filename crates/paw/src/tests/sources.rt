@@ -1,10 +1,10 @@
 // Sources that are compiled and images that are decompiled, over stages in memory, and each way in which one is
 // refused.
 
-use crate::outcome::{MemoryAt, Outcome};
-use crate::running_tests::{run, settle, settle_and_run};
+use crate::tests::running::{run, settle, settle_and_run};
 use paw_base::fault::{SourceFault, SourceKind};
 use paw_stage::{Asked, FailStage, MemoryStage, Stage, StageCall};
+use paw_top::outcome::Outcome;
 use std::alloc::{AllocError, Global};
 use std::process::Abort;
 use std::test::Fail;
@@ -109,7 +109,7 @@ fn comes_so(rt: &impl Abort, alloc: Global, case: &Case<'_>) -> Result<(), Fail>
 }
 
 // A source that is compiled over another file.
-fn compiled<'a>(name: &'a str, source: &'a [u8], shown: &'a [u8], after: &'a [u8]) -> Case<'a> {
+fn compile_case<'a>(name: &'a str, source: &'a [u8], shown: &'a [u8], after: &'a [u8]) -> Case<'a> {
     Case {
         name,
         source,
@@ -122,7 +122,7 @@ fn compiled<'a>(name: &'a str, source: &'a [u8], shown: &'a [u8], after: &'a [u8
 }
 
 // An image that is decompiled.
-fn decompiled<'a>(name: &'a str, image: &'a [u8], shown: &'a [u8]) -> Case<'a> {
+fn decompile_case<'a>(name: &'a str, image: &'a [u8], shown: &'a [u8]) -> Case<'a> {
     Case {
         name,
         source: b"as it was",
@@ -135,7 +135,7 @@ fn decompiled<'a>(name: &'a str, image: &'a [u8], shown: &'a [u8]) -> Case<'a> {
 }
 
 // The same case, where the command is refused and nothing is shown or saved.
-fn refused<'a>(case: Case<'a>, outcome: Outcome) -> Case<'a> {
+fn refused_case<'a>(case: Case<'a>, outcome: Outcome) -> Case<'a> {
     Case {
         outcome,
         shown: b"",
@@ -150,20 +150,20 @@ fn sources_are_compiled(rt: HostRuntime) -> Result<(), Fail> {
     let smallest = b"IMAGE 26 BYTES\n";
     let lantern = b"IMAGE 87 BYTES\n";
     for case in [
-        compiled(
+        compile_case(
             "the smallest",
             SMALLEST.as_bytes(),
             smallest,
             &SMALLEST_IMAGE,
         ),
-        compiled("a lantern", LANTERN.as_bytes(), lantern, &LANTERN_IMAGE),
-        compiled(
+        compile_case("a lantern", LANTERN.as_bytes(), lantern, &LANTERN_IMAGE),
+        compile_case(
             "written otherwise",
             LANTERN_OTHERWISE.as_bytes(),
             lantern,
             &LANTERN_IMAGE,
         ),
-        compiled(
+        compile_case(
             "as it is shown",
             LANTERN_CANONICAL.as_bytes(),
             lantern,
@@ -180,14 +180,14 @@ fn images_are_decompiled(rt: HostRuntime) -> Result<(), Fail> {
     let alloc = rt.alloc();
     let damaged = Outcome::ImageDamaged { at: 0 };
     for case in [
-        decompiled("the smallest", &SMALLEST_IMAGE, SMALLEST.as_bytes()),
-        decompiled("a lantern", &LANTERN_IMAGE, LANTERN_CANONICAL.as_bytes()),
-        refused(decompiled("no byte", b"", b""), damaged),
-        refused(
-            decompiled("without its last byte", &LANTERN_IMAGE[..86], b""),
+        decompile_case("the smallest", &SMALLEST_IMAGE, SMALLEST.as_bytes()),
+        decompile_case("a lantern", &LANTERN_IMAGE, LANTERN_CANONICAL.as_bytes()),
+        refused_case(decompile_case("no byte", b"", b""), damaged),
+        refused_case(
+            decompile_case("without its last byte", &LANTERN_IMAGE[..86], b""),
             Outcome::ImageDamaged { at: 85 },
         ),
-        refused(decompiled("a source", LANTERN.as_bytes(), b""), damaged),
+        refused_case(decompile_case("a source", LANTERN.as_bytes(), b""), damaged),
     ] {
         comes_so(&rt, alloc, &case)?;
     }
@@ -215,10 +215,26 @@ fn three_messages_with(
     Ok(source)
 }
 
+// Checks that the source is refused with this line in another form, by its number and this kind.
+fn is_refused(
+    rt: &impl Abort,
+    alloc: Global,
+    (line, other, kind): (u32, Option<&str>, SourceKind),
+) -> Result<(), Fail> {
+    let source = three_messages_with(alloc, line as usize, other)?;
+    let fault = SourceFault { line, kind };
+    let case = compile_case(other.unwrap_or("left out"), source.as_bytes(), b"", b"");
+    comes_so(
+        rt,
+        alloc,
+        &refused_case(case, Outcome::SourceRefused(fault)),
+    )
+}
+
 #[test]
 fn sources_are_refused_by_line_and_kind(rt: HostRuntime) -> Result<(), Fail> {
     let alloc = rt.alloc();
-    for (number, other, kind) in [
+    for row in [
         (14, Some("_ _ MES 3"), SourceKind::Range),
         (14, Some("_ _ MES"), SourceKind::Missing),
         (14, Some("_ _ MES x"), SourceKind::Number),
@@ -229,13 +245,7 @@ fn sources_are_refused_by_line_and_kind(rt: HostRuntime) -> Result<(), Fail> {
         (4, Some("/1"), SourceKind::Range),
         (16, None, SourceKind::Missing),
     ] {
-        let source = three_messages_with(alloc, number, other)?;
-        let fault = SourceFault {
-            line: number as u32,
-            kind,
-        };
-        let case = compiled(other.unwrap_or("left out"), source.as_bytes(), b"", b"");
-        comes_so(&rt, alloc, &refused(case, Outcome::SourceRefused(fault)))?;
+        is_refused(&rt, alloc, row)?;
     }
     Ok(())
 }
@@ -253,36 +263,45 @@ fn a_condact_line_has_two_forms(rt: HostRuntime) -> Result<(), Fail> {
     Ok(())
 }
 
+// Checks that a command ends where this call fails, and leaves the files as the case says.
+fn ends_in(
+    rt: &impl Abort,
+    alloc: Global,
+    case: &Case<'_>,
+    (call, failed): (u64, StageCall),
+) -> Result<(), Fail> {
+    let mut settled = stage_of(alloc, case)?;
+    settle(rt, &mut settled);
+    let mut stage = FailStage::new(settled, [call].to_vec(alloc)?);
+    let came = run(alloc, &mut stage, case.words)?;
+    assert_eq!(rt;
+        came,
+        Outcome::Outside(failed),
+        "{}, call {call}",
+        case.name
+    );
+    assert_eq!(rt;
+        stage.inner().shown(),
+        b"".as_slice(),
+        "{}, call {call}",
+        case.name
+    );
+    is_left_so(rt, alloc, &mut stage, case)
+}
+
 #[test]
 fn a_call_that_fails_ends_the_command(rt: HostRuntime) -> Result<(), Fail> {
     let alloc = rt.alloc();
-    let compile = compiled("compile", SMALLEST.as_bytes(), b"", &SMALLEST_IMAGE);
-    let decompile = decompiled("decompile", &SMALLEST_IMAGE, b"");
+    let compile = compile_case("compile", SMALLEST.as_bytes(), b"", &SMALLEST_IMAGE);
+    let decompile = decompile_case("decompile", &SMALLEST_IMAGE, b"");
     for (case, call, failed) in [
-        (refused(compile, Outcome::Done), 0, StageCall::Load),
-        (refused(compile, Outcome::Done), 1, StageCall::Save),
+        (refused_case(compile, Outcome::Done), 0, StageCall::Load),
+        (refused_case(compile, Outcome::Done), 1, StageCall::Save),
         (compile, 2, StageCall::Show),
         (decompile, 0, StageCall::Load),
         (decompile, 1, StageCall::Show),
     ] {
-        let listed = [call].to_vec(alloc)?;
-        let mut settled = stage_of(alloc, &case)?;
-        settle(&rt, &mut settled);
-        let mut stage = FailStage::new(settled, listed);
-        let came = run(alloc, &mut stage, case.words)?;
-        assert_eq!(rt;
-            came,
-            Outcome::Outside(failed),
-            "{}, call {call}",
-            case.name
-        );
-        assert_eq!(rt;
-            stage.inner().shown(),
-            b"".as_slice(),
-            "{}, call {call}",
-            case.name
-        );
-        is_left_so(&rt, alloc, &mut stage, &case)?;
+        ends_in(&rt, alloc, &case, (call, failed))?;
     }
     Ok(())
 }
@@ -292,41 +311,8 @@ fn a_missing_file_is_named(rt: HostRuntime) -> Result<(), Fail> {
     let alloc = rt.alloc();
     let absent = Outcome::Outside(StageCall::LoadAbsent);
     for words in ["compile\nmissing\nimage", "decompile\nmissing"] {
-        let case = compiled(words, b"", b"", b"");
-        comes_so(&rt, alloc, &refused(Case { words, ..case }, absent))?;
-    }
-    Ok(())
-}
-
-#[test]
-fn their_outcomes_have_a_status_and_a_text(rt: HostRuntime) -> Result<(), Fail> {
-    let range = SourceFault {
-        line: 14,
-        kind: SourceKind::Range,
-    };
-    let too_big = SourceFault {
-        line: 0,
-        kind: SourceKind::TooBig,
-    };
-    for (outcome, status, text) in [
-        (Outcome::Done, 0, ""),
-        (Outcome::SourceRefused(range), 2, "source line 14: Range\n"),
-        (
-            Outcome::SourceRefused(too_big),
-            2,
-            "source line 0: TooBig\n",
-        ),
-        (
-            Outcome::Outside(StageCall::Save),
-            7,
-            "outside failed: Save\n",
-        ),
-        (Outcome::Memory(MemoryAt::Source), 8, "no memory: Source\n"),
-        (Outcome::Memory(MemoryAt::Print), 8, "no memory: Print\n"),
-    ] {
-        assert_eq!(rt; outcome.status(), status, "{outcome:?}");
-        let said = outcome.text(rt.alloc())?;
-        assert_eq!(rt; said.as_str(), text, "{outcome:?}");
+        let case = compile_case(words, b"", b"", b"");
+        comes_so(&rt, alloc, &refused_case(Case { words, ..case }, absent))?;
     }
     Ok(())
 }

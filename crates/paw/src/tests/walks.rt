@@ -1,12 +1,9 @@
 // Walks over stages in memory, and each way in which a walk is refused.
 
-use crate::commands::USAGE;
-use crate::outcome::{MemoryAt, Outcome};
-use crate::running_tests::{run, settle, settle_and_run};
+use crate::tests::running::{run, settle, settle_and_run};
 use paw_base::fault::SpentKind;
-use paw_base::limits::EVENT_LIMIT;
-use paw_journal::SessionPart;
 use paw_stage::{Asked, FailStage, MemoryStage, Stage, StageCall};
+use paw_top::outcome::Outcome;
 use std::alloc::Global;
 use std::process::Abort;
 use std::test::Fail;
@@ -102,6 +99,12 @@ fn two_rooms_are_walked_piece_by_piece(rt: HostRuntime) -> Result<(), Fail> {
     Ok(())
 }
 
+// The same in the two rooms, after the first piece.
+fn brings(rt: &impl Abort, alloc: Global, lines: &str, pieces: &str) -> Result<(), Fail> {
+    let shown = format!(in alloc; "{FIRST}{pieces}")?;
+    shows(rt, alloc, &TWO_ROOMS, lines, shown.as_str())
+}
+
 #[test]
 fn lines_bring_their_pieces(rt: HostRuntime) -> Result<(), Fail> {
     let alloc = rt.alloc();
@@ -138,16 +141,25 @@ fn lines_bring_their_pieces(rt: HostRuntime) -> Result<(), Fail> {
         ("N\nN\nS\nS", "Yard.\n>\nNo way.\n>\nHall.\n>\nNo way.\n>\n"),
         ("N\n~\nLOOK\n~", "Yard.\n>\nYard.\n>\n"),
     ] {
-        let shown = format!(in alloc; "{FIRST}{pieces}")?;
-        shows(&rt, alloc, &TWO_ROOMS, lines, shown.as_str())?;
+        brings(&rt, alloc, lines, pieces)?;
     }
     Ok(())
+}
+
+// The same of a line that is this number of spaces and then this text.
+fn brings_after(
+    rt: &impl Abort,
+    alloc: Global,
+    (spaces, end, piece): (usize, &str, &str),
+) -> Result<(), Fail> {
+    let line = format!(in alloc; "{}{end}", " ".repeat(alloc, spaces)?)?;
+    brings(rt, alloc, line.as_str(), piece)
 }
 
 #[test]
 fn a_line_counts_to_its_255th_byte(rt: HostRuntime) -> Result<(), Fail> {
     let alloc = rt.alloc();
-    for (spaces, end, piece) in [
+    for row in [
         (251, "LOOK", "Hall.\n>\n"),
         (252, "LOOK", "What?\n>\n"),
         (255, "LOOK", ">\n"),
@@ -159,9 +171,7 @@ fn a_line_counts_to_its_255th_byte(rt: HostRuntime) -> Result<(), Fail> {
         (254, "~", ">\n"),
         (255, "~", ">\n"),
     ] {
-        let line = format!(in alloc; "{}{end}", " ".repeat(alloc, spaces)?)?;
-        let shown = format!(in alloc; "{FIRST}{piece}")?;
-        shows(&rt, alloc, &TWO_ROOMS, line.as_str(), shown.as_str())?;
+        brings_after(&rt, alloc, row)?;
     }
     Ok(())
 }
@@ -364,22 +374,44 @@ fn a_seed_counts_by_its_value(rt: HostRuntime) -> Result<(), Fail> {
     comes_so(&rt, alloc, &missing)
 }
 
+/// The lines of a walk of which one call fails, and the number of that; how the walk ends, what is shown then, and what
+/// is asked for next.
+#[derive(Clone, Copy)]
+struct Failing<'a>(&'a str, u64, Outcome, &'a str, Asked);
+
+// Checks that the walk ends so.
+fn fails_so(rt: &impl Abort, alloc: Global, row: Failing<'_>) -> Result<(), Fail> {
+    let Failing(lines, call, outcome, shown, next) = row;
+    let mut settled = stage_of(alloc, &TWO_ROOMS, lines)?;
+    settle(rt, &mut settled);
+    let mut stage = FailStage::new(settled, [call].to_vec(alloc)?);
+    let came = run(alloc, &mut stage, WALK)?;
+    assert_eq!(rt; came, outcome, "{lines:?}, call {call}");
+    assert_eq!(rt;
+        stage.inner().shown(),
+        shown.as_bytes(),
+        "{lines:?}, call {call}"
+    );
+    let mut line = [0u8; 255];
+    assert_eq!(rt; stage.ask(&mut line), next, "{lines:?}, call {call}");
+    Ok(())
+}
+
 #[test]
 fn a_call_that_fails_ends_the_walk(rt: HostRuntime) -> Result<(), Fail> {
     let alloc = rt.alloc();
     let load = Outcome::Outside(StageCall::Load);
     let ask = Outcome::Outside(StageCall::Ask);
     let show = Outcome::Outside(StageCall::Show);
-    // The number of the call that fails; what is shown then; and what is asked for next.
-    for (lines, call, outcome, shown, next) in [
-        ("N\nLOOK", 0, load, "", Asked::Line(1)),
-        ("N\nLOOK", 1, show, "", Asked::Line(1)),
-        ("N\nLOOK", 2, ask, FIRST, Asked::Line(1)),
-        ("N\nLOOK", 3, show, FIRST, Asked::Line(4)),
-        ("N\nLOOK", 4, ask, "Hall.\n>\nYard.\n>\n", Asked::Line(4)),
-        ("N\nLOOK", 5, show, "Hall.\n>\nYard.\n>\n", Asked::End),
-        ("N", 4, ask, "Hall.\n>\nYard.\n>\n", Asked::End),
-        (
+    for row in [
+        Failing("N\nLOOK", 0, load, "", Asked::Line(1)),
+        Failing("N\nLOOK", 1, show, "", Asked::Line(1)),
+        Failing("N\nLOOK", 2, ask, FIRST, Asked::Line(1)),
+        Failing("N\nLOOK", 3, show, FIRST, Asked::Line(4)),
+        Failing("N\nLOOK", 4, ask, "Hall.\n>\nYard.\n>\n", Asked::Line(4)),
+        Failing("N\nLOOK", 5, show, "Hall.\n>\nYard.\n>\n", Asked::End),
+        Failing("N", 4, ask, "Hall.\n>\nYard.\n>\n", Asked::End),
+        Failing(
             "N",
             5,
             Outcome::InputEnded,
@@ -387,146 +419,9 @@ fn a_call_that_fails_ends_the_walk(rt: HostRuntime) -> Result<(), Fail> {
             Asked::Failed,
         ),
         // An empty piece makes no call.
-        ("~\nN", 3, ask, FIRST, Asked::Line(1)),
+        Failing("~\nN", 3, ask, FIRST, Asked::Line(1)),
     ] {
-        let listed = [call].to_vec(alloc)?;
-        let mut settled = stage_of(alloc, &TWO_ROOMS, lines)?;
-        settle(&rt, &mut settled);
-        let mut stage = FailStage::new(settled, listed);
-        let came = run(alloc, &mut stage, WALK)?;
-        assert_eq!(rt; came, outcome, "{lines:?}, call {call}");
-        assert_eq!(rt;
-            stage.inner().shown(),
-            shown.as_bytes(),
-            "{lines:?}, call {call}"
-        );
-        let mut line = [0u8; 255];
-        assert_eq!(rt; stage.ask(&mut line), next, "{lines:?}, call {call}");
-    }
-    Ok(())
-}
-
-#[test]
-fn outcomes_have_their_status_and_text(rt: HostRuntime) -> Result<(), Fail> {
-    for (outcome, status, text) in [
-        (Outcome::Ended, 0, ""),
-        (Outcome::InputEnded, 0, ""),
-        (Outcome::Usage, 1, USAGE),
-        (Outcome::ImageDamaged { at: 0 }, 3, "image damaged at 0\n"),
-        (
-            Outcome::ImageDamaged { at: u64::MAX },
-            3,
-            "image damaged at 18446744073709551615\n",
-        ),
-        (
-            Outcome::Spent(SpentKind::Condacts),
-            5,
-            "piece spent its condacts\n",
-        ),
-        (Outcome::Spent(SpentKind::Text), 5, "piece spent its text\n"),
-        (
-            Outcome::TooDeep { table: 5 },
-            6,
-            "too many calls at table 5\n",
-        ),
-        (
-            Outcome::Outside(StageCall::Load),
-            7,
-            "outside failed: Load\n",
-        ),
-        (
-            Outcome::Outside(StageCall::LoadAbsent),
-            7,
-            "outside failed: LoadAbsent\n",
-        ),
-        (Outcome::Outside(StageCall::Ask), 7, "outside failed: Ask\n"),
-        (
-            Outcome::Outside(StageCall::Show),
-            7,
-            "outside failed: Show\n",
-        ),
-        (Outcome::Memory(MemoryAt::Load), 8, "no memory: Load\n"),
-        (Outcome::Memory(MemoryAt::Image), 8, "no memory: Image\n"),
-        (Outcome::Memory(MemoryAt::Play), 8, "no memory: Play\n"),
-        (Outcome::Memory(MemoryAt::Trial), 8, "no memory: Trial\n"),
-        (
-            Outcome::Long {
-                events: EVENT_LIMIT,
-            },
-            9,
-            "session is full: 1000000000 events\n",
-        ),
-    ] {
-        assert_eq!(rt; outcome.status(), status, "{text}");
-        let written = outcome.text(rt.alloc())?;
-        assert_eq!(rt; written.as_str(), text);
-    }
-    Ok(())
-}
-
-#[test]
-fn answers_for_a_store_have_their_status_and_text(rt: HostRuntime) -> Result<(), Fail> {
-    let answers: [(Outcome, u8, &[u8]); 7] = [
-        (
-            Outcome::Occupied { length: 4096 },
-            4,
-            b"session has 4096 bytes already\n",
-        ),
-        (
-            Outcome::Unmade {
-                length: 3,
-                mark: 80,
-            },
-            4,
-            b"no session: length 3, mark 80\n",
-        ),
-        (
-            Outcome::SessionDamaged {
-                part: SessionPart::Header,
-                at: 8,
-            },
-            4,
-            b"session damaged: Header at 8\n",
-        ),
-        (
-            Outcome::SessionDamaged {
-                part: SessionPart::Slot,
-                at: 16,
-            },
-            4,
-            b"session damaged: Slot at 16\n",
-        ),
-        (
-            Outcome::SessionDamaged {
-                part: SessionPart::State,
-                at: 256,
-            },
-            4,
-            b"session damaged: State at 256\n",
-        ),
-        (
-            Outcome::WrongGame {
-                kept: [0x1f; 32],
-                found: [0xe0; 32],
-            },
-            4,
-            b"session is of another game: kept 1f1f1f1f1f1f1f1f1f1f1f1f1f1f1f1f1f1f1f1f1f1f1f1f1f1f1f1f1f1f1f1f \
-            found e0e0e0e0e0e0e0e0e0e0e0e0e0e0e0e0e0e0e0e0e0e0e0e0e0e0e0e0e0e0e0e0\n",
-        ),
-        (
-            Outcome::WrongRoutines {
-                kept: [0x1f; 32],
-                found: [0xe0; 32],
-            },
-            4,
-            b"session has other routines: kept 1f1f1f1f1f1f1f1f1f1f1f1f1f1f1f1f1f1f1f1f1f1f1f1f1f1f1f1f1f1f1f1f \
-            found e0e0e0e0e0e0e0e0e0e0e0e0e0e0e0e0e0e0e0e0e0e0e0e0e0e0e0e0e0e0e0e0\n",
-        ),
-    ];
-    for (outcome, status, text) in answers {
-        assert_eq!(rt; outcome.status(), status);
-        let written = outcome.text(rt.alloc())?;
-        assert_eq!(rt; written.as_str().as_bytes(), text);
+        fails_so(&rt, alloc, row)?;
     }
     Ok(())
 }

@@ -1,9 +1,9 @@
 // A session that stops at each call of a command, one by one, and what a crash there leaves of it.
 
-use crate::outcome::Outcome;
-use crate::running_tests::{run, settle, settle_and_run};
-use crate::session_tests::{RESUME, earlier_form, stage_of};
+use crate::tests::running::{run, settle, settle_and_run};
+use crate::tests::sessions::{RESUME, earlier_form, stage_of};
 use paw_stage::{FailStage, StageCall, StopStage};
+use paw_top::outcome::Outcome;
 use std::alloc::Global;
 use std::process::Abort;
 use std::test::Fail;

@@ -1,9 +1,10 @@
 // What each command has in rows: words that form none, and the calls that it makes.
 
-use crate::outcome::{MemoryAt, Outcome};
-use crate::running_tests::{run, settle, settle_and_run};
-use crate::session_tests::{PLAY, RESUME, earlier_form, stage_of};
+use crate::tests::outcomes::is_told;
+use crate::tests::running::{run, settle, settle_and_run};
+use crate::tests::sessions::{PLAY, RESUME, earlier_form, stage_of};
 use paw_stage::{CallKind, MemoryStage};
+use paw_top::outcome::{MemoryAt, Outcome};
 use paw_wrap::WRAP_LIMIT;
 use std::alloc::Global;
 use std::process::Abort;
@@ -13,7 +14,7 @@ use std::test::Fail;
 const MOST_RECORDED: usize = 200;
 
 // How many calls a stage has recorded.
-fn recorded(stage: &MemoryStage) -> usize {
+fn calls_made(stage: &MemoryStage) -> usize {
     for number in 0..MOST_RECORDED {
         if stage.call(number).is_none() {
             return number;
@@ -68,7 +69,7 @@ fn makes(
 ) -> Result<(), Fail> {
     let mut stage = stage_of(rt, alloc, store, lines)?;
     settle(rt, &mut stage);
-    let before = recorded(&stage);
+    let before = calls_made(&stage);
     let _ = run(alloc, &mut stage, words)?;
     let told = told_from(alloc, &stage, before)?;
     assert_eq!(rt; told.as_slice(), calls.as_bytes(), "{words:?} {lines:?}");
@@ -121,6 +122,21 @@ fn nothing_is_loaded_twice_nor_asked_for_behind_the_end(rt: HostRuntime) -> Resu
     let resumed = "load(hall) attach(store) read read read show take \
                    write write write sync write sync show end";
     makes(&rt, alloc, earlier.as_slice(), (RESUME, "Y", resumed))
+}
+
+// Checks that these words have no form, and that nothing at the stage is touched.
+fn is_usage(
+    rt: &impl Abort,
+    alloc: Global,
+    stage: &mut MemoryStage,
+    words: &str,
+) -> Result<(), Fail> {
+    settle(rt, stage);
+    let before = calls_made(stage);
+    let outcome = run(alloc, stage, words)?;
+    assert_eq!(rt; outcome, Outcome::Usage, "{words:?}");
+    assert_eq!(rt; calls_made(stage), before, "{words:?}");
+    Ok(())
 }
 
 #[test]
@@ -182,19 +198,29 @@ fn words_that_have_no_form_are_usage(rt: HostRuntime) -> Result<(), Fail> {
         "wrap\n10\nstore\nstore",
         "dance",
     ] {
-        settle(&rt, &mut stage);
-        let before = recorded(&stage);
-        let outcome = run(alloc, &mut stage, words)?;
-        assert_eq!(rt; outcome, Outcome::Usage, "{words:?}");
-        assert_eq!(rt; recorded(&stage), before, "{words:?}");
+        is_usage(&rt, alloc, &mut stage, words)?;
     }
+    Ok(())
+}
+
+// Checks that a text is shown so.
+fn is_wrapped(
+    rt: &impl Abort,
+    alloc: Global,
+    (words, text, shown): (&str, &str, &str),
+) -> Result<(), Fail> {
+    let mut stage = MemoryStage::new(alloc, 10, 1_000)?;
+    stage.add_file("text", text.as_bytes())?;
+    let outcome = settle_and_run(rt, alloc, &mut stage, words)?;
+    assert_eq!(rt; outcome, Outcome::Done, "{words:?} {text:?}");
+    assert_eq!(rt; stage.shown(), shown.as_bytes(), "{words:?} {text:?}");
     Ok(())
 }
 
 #[test]
 fn a_text_is_shown_in_columns(rt: HostRuntime) -> Result<(), Fail> {
     let alloc = rt.alloc();
-    for (words, text, shown) in [
+    for row in [
         (
             "wrap\n10\ntext",
             "The quick brown fox",
@@ -214,11 +240,7 @@ fn a_text_is_shown_in_columns(rt: HostRuntime) -> Result<(), Fail> {
         ),
         ("wrap\n255\ntext", "", ""),
     ] {
-        let mut stage = MemoryStage::new(alloc, 10, 1_000)?;
-        stage.add_file("text", text.as_bytes())?;
-        let outcome = settle_and_run(&rt, alloc, &mut stage, words)?;
-        assert_eq!(rt; outcome, Outcome::Done, "{words:?} {text:?}");
-        assert_eq!(rt; stage.shown(), shown.as_bytes(), "{words:?} {text:?}");
+        is_wrapped(&rt, alloc, row)?;
     }
     Ok(())
 }
@@ -233,14 +255,12 @@ fn a_text_may_be_too_long(rt: HostRuntime) -> Result<(), Fail> {
     let outcome = settle_and_run(&rt, alloc, &mut stage, "wrap\n10\ntext")?;
     assert_eq!(rt; outcome, Outcome::TextTooLong);
     assert_eq!(rt; stage.shown(), b"".as_slice());
-    for (outcome, status, said) in [
+    for row in [
         (Outcome::TextTooLong, 2, "text is too long\n"),
         (Outcome::Memory(MemoryAt::Check), 8, "no memory: Check\n"),
         (Outcome::Memory(MemoryAt::Wrap), 8, "no memory: Wrap\n"),
     ] {
-        assert_eq!(rt; outcome.status(), status, "{outcome:?}");
-        let written = outcome.text(alloc)?;
-        assert_eq!(rt; written.as_str(), said);
+        is_told(&rt, alloc, row)?;
     }
     Ok(())
 }

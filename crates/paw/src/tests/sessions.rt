@@ -1,9 +1,10 @@
 // Sessions over stages in memory: rounds of one session, stores that give none, and calls that fail.
 
-use crate::outcome::Outcome;
-use crate::running_tests::{run, settle, settle_and_run, settle_and_run_with_none};
+use crate::tests::running::{run, settle, settle_and_run, settle_and_run_with_none};
+use paw_base::fault::NoRoom;
 use paw_journal::{SessionPart, digest};
 use paw_stage::{FailStage, MemoryStage, Stage, StageCall};
+use paw_top::outcome::Outcome;
 use std::alloc::Global;
 use std::process::Abort;
 use std::test::Fail;
@@ -52,6 +53,15 @@ struct Round<'a> {
     shown: &'a str,
 }
 
+// A stage with the sources of the two games, and a store with these bytes.
+fn with_files(alloc: Global, store: &[u8]) -> Result<MemoryStage, NoRoom> {
+    let mut stage = MemoryStage::new(alloc, 400, 8_000_000)?;
+    stage.add_file("hall source", HALL.as_bytes())?;
+    stage.add_file("cave source", CAVE.as_bytes())?;
+    stage.add_file("store", store)?;
+    Ok(stage)
+}
+
 /// A stage with the two games, a store with these bytes, and these lines.
 pub(crate) fn stage_of(
     rt: &impl Abort,
@@ -59,10 +69,7 @@ pub(crate) fn stage_of(
     store: &[u8],
     lines: &str,
 ) -> Result<MemoryStage, Fail> {
-    let mut stage = MemoryStage::new(alloc, 400, 8_000_000)?;
-    stage.add_file("hall source", HALL.as_bytes())?;
-    stage.add_file("cave source", CAVE.as_bytes())?;
-    stage.add_file("store", store)?;
+    let mut stage = with_files(alloc, store)?;
     for line in lines.lines() {
         stage.add_line(alloc, line.as_bytes())?;
     }
@@ -72,9 +79,23 @@ pub(crate) fn stage_of(
     Ok(stage)
 }
 
-// What is shown once a stage is made: two images were compiled.
-fn shown_before(rt: &impl Abort, alloc: Global) -> Result<usize, Fail> {
-    Ok(stage_of(rt, alloc, b"", "")?.shown().len())
+// Checks that a round ends and shows what it should.
+fn comes_so(
+    rt: &impl Abort,
+    alloc: Global,
+    stage: &mut MemoryStage,
+    round: &Round<'_>,
+) -> Result<(), Fail> {
+    let before = stage.shown().len();
+    let outcome = settle_and_run(rt, alloc, stage, round.words)?;
+    assert_eq!(rt; outcome, round.outcome, "{} {:?}", round.words, round.lines);
+    assert_eq!(rt;
+        stage.shown().get(before..).unwrap_or(b""),
+        round.shown.as_bytes(),
+        "{:?}",
+        round.lines
+    );
+    Ok(())
 }
 
 // One round over these bytes of a store; what it leaves of them.
@@ -85,15 +106,7 @@ fn plays_round(
     round: &Round<'_>,
 ) -> Result<Vec<u8>, Fail> {
     let mut stage = stage_of(rt, alloc, store, round.lines)?;
-    let outcome = settle_and_run(rt, alloc, &mut stage, round.words)?;
-    assert_eq!(rt; outcome, round.outcome, "{} {:?}", round.words, round.lines);
-    let before = shown_before(rt, alloc)?;
-    assert_eq!(rt;
-        stage.shown().get(before..).unwrap_or(b""),
-        round.shown.as_bytes(),
-        "{:?}",
-        round.lines
-    );
+    comes_so(rt, alloc, &mut stage, round)?;
     Ok(stage.load(alloc, "store", MOST)?)
 }
 
@@ -155,25 +168,30 @@ fn sessions_are_taken_up_where_they_stood(rt: HostRuntime) -> Result<(), Fail> {
     Ok(())
 }
 
+// Goes on to the end of these lines over these bytes of a store; what that leaves of them.
+fn play_case(
+    rt: &impl Abort,
+    alloc: Global,
+    store: &[u8],
+    (words, lines): (&str, &str),
+) -> Result<Vec<u8>, Fail> {
+    let mut stage = stage_of(rt, alloc, store, lines)?;
+    let outcome = settle_and_run(rt, alloc, &mut stage, words)?;
+    assert_eq!(rt; outcome, Outcome::InputEnded);
+    Ok(stage.load(alloc, "store", MOST)?)
+}
+
 #[test]
 fn random_words_go_on_after_a_resume(rt: HostRuntime) -> Result<(), Fail> {
     let alloc = rt.alloc();
     let lines = "ROLL\nROLL\nROLL\nROLL\nROLL\nROLL\nROLL\nROLL";
-    let mut whole = stage_of(&rt, alloc, b"", lines)?;
-    let outcome = settle_and_run(&rt, alloc, &mut whole, PLAY)?;
-    assert_eq!(rt; outcome, Outcome::InputEnded);
+    let whole = play_case(&rt, alloc, b"", (PLAY, lines))?;
     let mut store: Vec<u8> = Vec::new(alloc);
     for (number, line) in lines.lines().enumerate() {
-        let mut stage = stage_of(&rt, alloc, store.as_slice(), line)?;
         let words = if number == 0 { PLAY } else { RESUME };
-        let outcome = settle_and_run(&rt, alloc, &mut stage, words)?;
-        assert_eq!(rt; outcome, Outcome::InputEnded);
-        store = stage.load(alloc, "store", MOST)?;
+        store = play_case(&rt, alloc, store.as_slice(), (words, line))?;
     }
-    assert_eq!(rt;
-        whole.load(alloc, "store", MOST)?.as_slice(),
-        store.as_slice()
-    );
+    assert_eq!(rt; whole.as_slice(), store.as_slice());
     Ok(())
 }
 
@@ -193,6 +211,25 @@ fn with_bytes(alloc: Global, bytes: &[u8], places: &[usize], byte: u8) -> Result
 fn digest_of(rt: &impl Abort, alloc: Global, file: &str) -> Result<[u8; 32], Fail> {
     let mut stage = stage_of(rt, alloc, b"", "")?;
     Ok(digest(stage.load(alloc, file, MOST)?.as_slice()))
+}
+
+// Checks that a command ends so with these bytes of a store, shows nothing, and leaves them as they are.
+fn is_refused(
+    rt: &impl Abort,
+    alloc: Global,
+    store: &[u8],
+    words: &str,
+    outcome: Outcome,
+) -> Result<(), Fail> {
+    let refused = Round {
+        words,
+        lines: "WAIT",
+        outcome,
+        shown: "",
+    };
+    let left = plays_round(rt, alloc, store, &refused)?;
+    assert_eq!(rt; left.as_slice(), store, "{outcome:?}");
+    Ok(())
 }
 
 #[test]
@@ -262,14 +299,7 @@ fn stores_that_give_no_session_are_refused(rt: HostRuntime) -> Result<(), Fail> 
         ),
     ] {
         let changed = with_bytes(alloc, store.as_slice(), places, byte)?;
-        let refused = Round {
-            words,
-            lines: "WAIT",
-            outcome,
-            shown: "",
-        };
-        let left = plays_round(&rt, alloc, changed.as_slice(), &refused)?;
-        assert_eq!(rt; left.as_slice(), changed.as_slice(), "{outcome:?}");
+        is_refused(&rt, alloc, changed.as_slice(), words, outcome)?;
     }
     // A store that is missing has no session, nor has an empty one; that may be played in.
     let unmade = Outcome::Unmade { length: 0, mark: 0 };
@@ -303,16 +333,24 @@ const NO_ROUTINES: [u8; 32] = [
     0x78, 0x90, 0x1d, 0x3f, 0xb3, 0x37, 0x38, 0x76, 0x85, 0x11, 0xa3, 0x06, 0x17, 0xaf, 0xa0, 0x1d,
 ];
 
+// Goes on with no routines where a session wasn't measured; the bytes of its store afterwards.
+fn resume_unmeasured(rt: &impl Abort, alloc: Global, store: &[u8]) -> Result<Vec<u8>, Fail> {
+    let mut stage = stage_of(rt, alloc, store, "WAIT")?;
+    let compiled = stage.shown().len();
+    let outcome = settle_and_run_with_none(rt, alloc, &mut stage, RESUME)?;
+    assert_eq!(rt; outcome, Outcome::InputEnded);
+    let shown = stage.shown().get(compiled..).unwrap_or(b"");
+    assert_eq!(rt; shown, b"OK.\n>\nOK.\n>\n".as_slice());
+    let after = stage.load(alloc, "store", MOST)?;
+    Ok(after)
+}
+
 #[test]
 fn a_session_knows_its_routines(rt: HostRuntime) -> Result<(), Fail> {
     let alloc = rt.alloc();
-    let mut stage = stage_of(&rt, alloc, b"", "WAIT")?;
-    assert_eq!(rt;
-        settle_and_run(&rt, alloc, &mut stage, PLAY)?,
-        Outcome::InputEnded
-    );
+    let before = play_case(&rt, alloc, b"", (PLAY, "WAIT"))?;
     // Resumed by a program with none it is refused, with both digests, and its file stays as it is.
-    let before = stage.load(alloc, "store", MOST)?;
+    let mut stage = stage_of(&rt, alloc, before.as_slice(), "")?;
     let refused = settle_and_run_with_none(&rt, alloc, &mut stage, RESUME)?;
     assert_eq!(rt;
         refused,
@@ -325,19 +363,8 @@ fn a_session_knows_its_routines(rt: HostRuntime) -> Result<(), Fail> {
         stage.load(alloc, "store", MOST)?.as_slice(),
         before.as_slice()
     );
-    // One that wasn't measured goes on with any, and is never measured.
     let unmeasured = with_bytes(alloc, before.as_slice(), &ROUTINES_PLACES, 0)?;
-    let mut stage = stage_of(&rt, alloc, unmeasured.as_slice(), "WAIT")?;
-    let compiled = stage.shown().len();
-    assert_eq!(rt;
-        settle_and_run_with_none(&rt, alloc, &mut stage, RESUME)?,
-        Outcome::InputEnded
-    );
-    assert_eq!(rt;
-        stage.shown().get(compiled..),
-        Some(b"OK.\n>\nOK.\n>\n".as_slice())
-    );
-    let after = stage.load(alloc, "store", MOST)?;
+    let after = resume_unmeasured(&rt, alloc, unmeasured.as_slice())?;
     assert_eq!(rt; after.get(64..96), Some([0u8; 32].as_slice()));
     Ok(())
 }
@@ -368,21 +395,27 @@ fn a_session_of_the_earlier_form_goes_on(rt: HostRuntime) -> Result<(), Fail> {
     Ok(())
 }
 
+// What a play of a line leaves of the store where this call of it fails; None where that isn't a show.
+fn left_unshown(rt: &impl Abort, alloc: Global, call: u64) -> Result<Option<Vec<u8>>, Fail> {
+    let mut settled = stage_of(rt, alloc, b"", "WAIT")?;
+    settle(rt, &mut settled);
+    let mut stage = FailStage::new(settled, [call].to_vec(alloc)?);
+    if run(alloc, &mut stage, PLAY)? != Outcome::Outside(StageCall::Show) {
+        return Ok(None);
+    }
+    Ok(Some(stage.load(alloc, "store", MOST)?))
+}
+
 #[test]
 fn a_piece_that_was_not_shown_is_shown_again(rt: HostRuntime) -> Result<(), Fail> {
     let alloc = rt.alloc();
     // Of the calls, the show of the first piece and that of the piece of WAIT.
     let mut seen = 0u64;
     for call in 0..40u64 {
-        let listed = [call].to_vec(alloc)?;
-        let mut settled = stage_of(&rt, alloc, b"", "WAIT")?;
-        settle(&rt, &mut settled);
-        let mut stage = FailStage::new(settled, listed);
-        if run(alloc, &mut stage, PLAY)? != Outcome::Outside(StageCall::Show) {
+        let Some(store) = left_unshown(&rt, alloc, call)? else {
             continue;
-        }
+        };
         seen = seen.saturating_add(1);
-        let store = stage.load(alloc, "store", MOST)?;
         let shown = if seen == 1 { FIRST } else { "OK.\n>\n" };
         plays_round(
             &rt,

@@ -1,10 +1,10 @@
 // A session whose program stops in a call, or of which one call fails: where it stands when it is resumed.
 
-use crate::outcome::Outcome;
-use crate::running_tests::settle_and_run;
+use crate::tests::running::settle_and_run;
 use paw_stage::{
     CallKind, FailStage, MemoryStage, Refusals, RefusingStage, Stage, StageCall, StopStage,
 };
+use paw_top::outcome::Outcome;
 use std::alloc::Global;
 use std::process::Abort;
 use std::test::Fail;
@@ -101,7 +101,7 @@ struct Progress {
 impl Progress {
     // The calls to the store, from the words on: those of the making decide by the mark, once it is written for the
     // second time, and those of a commit by the selector.
-    fn written(self, place: u64) -> Progress {
+    fn after_write(self, place: u64) -> Progress {
         let marks = self.marks.saturating_add(usize::from(place == MARK_AT));
         let made = self.stands > 0;
         Progress {
@@ -116,7 +116,7 @@ impl Progress {
     }
 
     // A piece is shown: that of a line more, unless it is the last one again.
-    fn shown(self) -> Progress {
+    fn after_show(self) -> Progress {
         Progress {
             stands: self.stands.saturating_add(usize::from(!self.again)),
             again: false,
@@ -128,8 +128,8 @@ impl Progress {
     // How far it has come once a call of this kind was made.
     fn after(self, kind: CallKind) -> Progress {
         match kind {
-            CallKind::Write(place) => self.written(place),
-            CallKind::Show => self.shown(),
+            CallKind::Write(place) => self.after_write(place),
+            CallKind::Show => self.after_show(),
             _ => self,
         }
     }

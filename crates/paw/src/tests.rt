@@ -1,0 +1,11 @@
+// The commands, over stages in memory.
+
+mod calls;
+mod commands;
+mod games;
+mod outcomes;
+mod running;
+mod sessions;
+mod sources;
+mod stops;
+mod walks;
