@@ -6,17 +6,17 @@ use Rattle.paw_base.specs.declared.codes.TheConstants.{PARSE, DESC, SAVE, LOAD, 
 use Rattle.paw_base.specs.declared.flags.TheConstants.{VERB_FLAG}
 use Rattle.paw_base.specs.declared.parts.Condact.{Condact}
 use Rattle.paw_game.specs.Game.{GameLists}
-use Rattle.paw_world.specs.World.{World, Position, with_flag, moved}
+use Rattle.paw_world.specs.World.{World, Position, with_flag, object_moved}
 use Rattle.paw_effects.specs.declared.act.Act.{Act}
 use Rattle.paw_effects.specs.declared.act.Effect.{Effect}
 use Rattle.paw_effects.specs.declared.act.Effect.TheVariants as effect
 use Rattle.paw_effects.specs.declared.act.Prompt.{Prompt}
 use Rattle.paw_effects.specs.Story.{Story}
-use Rattle.paw_effects.specs.Positions.{loaded}
+use Rattle.paw_effects.specs.Positions.{position_loaded}
 use Rattle.paw_effects.specs.ObjectWords.{spoken_words}
-use Rattle.paw_effects.specs.Referring.{referred}
+use Rattle.paw_effects.specs.Referring.{object_referred}
 use Rattle.paw_effects.specs.ObjectSearch.{first_fitting}
-use Rattle.paw_effects.specs.ObjectActions.{first_that_holds, hindrances, outcome, tried, acted_on}
+use Rattle.paw_effects.specs.ObjectActions.{first_that_holds, hindrances, outcome, action_tried, acted_on}
 use Rattle.paw_effects.specs.AutoActions.{looks_at, missing, acted_on_found, acted_by_name}
 use Rattle.paw_effects.specs.Meanings.{Meaning, Tests, Acts, tests, doing, changing, mark}
 use Rattle.paw_effects.specs.Done.{plainly}
@@ -124,7 +124,7 @@ pub keeps : {code : ℕ} {done : Given Done} → KeepsBy code (Acts done) → Ke
 keeps why = record { kept = why }
 
 -- An object is moved.
-pub moving : {code : ℕ} (o p : World → Condact → ℕ) → Keeps code (changing (λ w c. moved w (o w c) (p w c)))
+pub moving : {code : ℕ} (o p : World → Condact → ℕ) → Keeps code (changing (λ w c. object_moved w (o w c) (p w c)))
 moving o p = record { kept = λ n s w c is spares of k. inl (moved_has n w (o w c) (p w c) k) }
 
 -- This flag is given a value, or these two flags.
@@ -195,17 +195,17 @@ module _ {code : ℕ} {text : Given (List ℕ)} {world : Given World} where
   pub parsing : code ≡ PARSE → Way code (action text world (λ s w c. plainly effect.Parse))
   parsing is = record { led = λ s w c. is }
 
-pub loaded_leads : (g : GameLists) (w : World) (kept : Option Position) → MayLead LOAD (loaded g w kept).act.effect
+pub loaded_leads : (g : GameLists) (w : World) (kept : Option Position) → MayLead LOAD (position_loaded g w kept).act.effect
 loaded_leads g w None = refl
 loaded_leads g w (Some q) = refl
 
 module _ (code : ℕ) (g : GameLists) (w : World) where
-  tried_leads : (v : World) (o : ℕ) (a : _) (words : Option _) → MayLead code (tried g v o a words).act.effect
+  tried_leads : (v : World) (o : ℕ) (a : _) (words : Option _) → MayLead code (action_tried g v o a words).act.effect
   tried_leads v o a (Some x) = tt
   tried_leads v o a None = tt
 
   acted_leads : (o : ℕ) (a : _) → MayLead code (acted_on g w o a).act.effect
-  acted_leads o a = tried_leads (referred w o) o a (first_that_holds (hindrances (referred w o) o a))
+  acted_leads o a = tried_leads (object_referred w o) o a (first_that_holds (hindrances (object_referred w o) o a))
 
   found_leads : (a : _) (found : Option ℕ) → MayLead code (acted_on_found g w a found).act.effect
   found_leads a (Some o) = acted_leads o a

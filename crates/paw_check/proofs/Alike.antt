@@ -24,13 +24,13 @@ use Rattle.paw_effects.specs.Holds.{is_condition, holds}
 use Rattle.paw_effects.specs.Effects.{Done, effect_of}
 use Rattle.paw_reading.specs.declared.places.Frame.{Frame}
 use Rattle.paw_reading.specs.declared.places.OpenLoop.{OpenLoop}
-use Rattle.paw_reading.specs.Run.{Run, closed, fits, printed, with_world, without_loop, anew, is_ignored, heard, reply}
+use Rattle.paw_reading.specs.Run.{Run, piece_closed, fits, text_printed, with_world, without_loop, anew, is_ignored, with_line_heard, reply}
 use Rattle.paw_reading.specs.Run.{is_yes, is_no}
 use Rattle.paw_reading.specs.Run.{taken_phrase}
 use Rattle.paw_reading.specs.declared.places.Halt.TheVariants as halt
-use Rattle.paw_reading.specs.Reading.{Redescribes, Restarts, Halts, Out, Left, Waits, Stopped, halts, printing, noted}
+use Rattle.paw_reading.specs.Reading.{Redescribes, Restarts, Halts, Out, Left, Waits, Stopped, halts, printing, step_noted}
 use Rattle.paw_reading.specs.Reading.{after_call, at_level, next_object_or}
-use Rattle.paw_reading.specs.Reading.{is_taken, taken, over_objects, loop_of, over, answered, asked, waits, after_test}
+use Rattle.paw_reading.specs.Reading.{is_taken, object_taken, over_objects, loop_of, over, prompt_answered, prompt_asked, waits, after_test}
 use Rattle.paw_reading.specs.Reading.{after_parse, after_action}
 use Rattle.paw_reading.specs.Reading.{coming_phrase, carried_out, acts, reads_one, condacts, is_for_now, entries}
 use Rattle.paw_reading.specs.Reading.{from_condact, rest_of_loop, read_at_level}
@@ -99,8 +99,9 @@ module _ (g : Story) (Describes : Type 0) (lv : ℕ) where
   turns_alike l body on low h (suc n) r =
       let o : ℕ = length g.game.objects - suc n in
       both Same (is_taken g.game r.world l o) _ _ _ _
-      (again_alike (λ _. over_objects g lv l body n) (λ _. over_objects g lv l on n) (λ m s j. turns_alike l body on low h n s) (body (taken g.game l o r))
-      (on (taken g.game l o r)) (h (taken g.game l o r) low))
+      (again_alike (λ _. over_objects g lv l body n) (λ _. over_objects g lv l on n) (λ m s j. turns_alike l body on low h n s)
+      (body (object_taken g.game l o r))
+      (on (object_taken g.game l o r)) (h (object_taken g.game l o r) low))
       (turns_alike l body on low h n r)
 
   -- ---- calls and prompts ----
@@ -118,7 +119,7 @@ module _ (g : Story) (Describes : Type 0) (lv : ℕ) where
   over_settled r = prints (Settled Describes lv) (goodbye g r) game_over r tt tt
 
   answered_alike : (p : Prompt) (f : Frame) (go on : Bool → Run → Out) → GoAlike go on → (line : List ℕ) (r : Run) → AtMost lv r.turning →
-      Same (answered g p f go line r) (answered g p f on line r)
+      Same (prompt_answered g p f go line r) (prompt_answered g p f on line r)
   answered_alike prompt.Quit f go on h line r k =
       both Same (is_yes line) (go f.acted r) (Left true r) (on f.acted r) (Left true r) (h f.acted r k) (itself (Left true r) k)
   answered_alike prompt.Again f go on h line r k =
@@ -127,22 +128,22 @@ module _ (g : Story) (Describes : Type 0) (lv : ℕ) where
   answered_alike _ f go on h line r k = h true r k
 
   asked_alike : (p : Prompt) (f : Frame) (go on : Bool → Run → Out) → GoAlike go on → (r : Run) (lines : List (List ℕ)) → AtMost lv r.turning →
-      Same (asked g p f go r lines) (asked g p f on r lines)
-  unfolding asked
+      Same (prompt_asked g p f go r lines) (prompt_asked g p f on r lines)
+  unfolding prompt_asked
   asked_alike p f go on h r [] k = itself (Waits p (f ∷ []) (record r { events = [] })) tt
   asked_alike p f go on h r (line ∷ lines) k =
       let s : Run = record r { events = lines } in
-      both Same (is_ignored r.world line) _ _ _ _ (asked_alike p f go on h (closed s) lines k)
-      (answered_alike p f go on h (reply line) (heard line s) k)
+      both Same (is_ignored r.world line) _ _ _ _ (asked_alike p f go on h (piece_closed s) lines k)
+      (answered_alike p f go on h (reply line) (with_line_heard line s) k)
 
   waits_alike : (p : Prompt) (f : Frame) (go on : Bool → Run → Out) → GoAlike go on → (r : Run) → AtMost lv r.turning →
       Same (waits g p f go r) (waits g p f on r)
-  waits_alike p f go on h r k = asked_alike p f go on h (closed r) r.events k
+  waits_alike p f go on h r k = asked_alike p f go on h (piece_closed r) r.events k
 
-  printing_alike : (text : List ℕ) (go on : Run → Out) (r : Run) → Same (go (printed text r)) (on (printed text r)) →
+  printing_alike : (text : List ℕ) (go on : Run → Out) (r : Run) → Same (go (text_printed text r)) (on (text_printed text r)) →
       Same (printing text go r) (printing text on r)
   printing_alike text go on r h =
-      both Same (fits r text) (go (printed text r)) (halts (halt.Spent spent.Text) r) (on (printed text r)) (halts (halt.Spent spent.Text) r) h
+      both Same (fits r text) (go (text_printed text r)) (halts (halt.Spent spent.Text) r) (on (text_printed text r)) (halts (halt.Spent spent.Text) r) h
       (itself (halts (halt.Spent spent.Text) r) tt)
 
   -- ---- one condact ----
@@ -158,11 +159,11 @@ module _ (g : Story) (Describes : Type 0) (lv : ℕ) where
 
   after_test_alike : (f : Frame) (w : Onwards) (c : Condact) (r : Run) (t : Truth) → AtMost lv r.turning →
       Same (after_test g f w.next w.go c r t) (after_test g f w.on_next w.on_go c r t)
-  after_test_alike f w c r truth.Yes k = w.goes f.acted (noted f c true r) k
-  after_test_alike f w c r truth.No k = w.nexts f.acted (noted f c false r) k
+  after_test_alike f w c r truth.Yes k = w.goes f.acted (step_noted f c true r) k
+  after_test_alike f w c r truth.No k = w.nexts f.acted (step_noted f c false r) k
   after_test_alike f w c r truth.Ask k =
-      printing_alike (quit_question g r) (waits g prompt.Quit f w.go) (waits g prompt.Quit f w.on_go) (noted f c true r)
-      (waits_alike prompt.Quit f w.go w.on_go w.goes (printed (quit_question g r) (noted f c true r)) k)
+      printing_alike (quit_question g r) (waits g prompt.Quit f w.go) (waits g prompt.Quit f w.on_go) (step_noted f c true r)
+      (waits_alike prompt.Quit f w.go w.on_go w.goes (text_printed (quit_question g r) (step_noted f c true r)) k)
 
   after_parse_alike : (f : Frame) (w : Onwards) (r : Run) (p : Parsed) → AtMost lv r.turning →
       Same (after_parse f w.next w.go r p) (after_parse f w.on_next w.on_go r p)
@@ -193,7 +194,7 @@ module _ (g : Story) (Describes : Type 0) (lv : ℕ) where
     acts_alike f w d r l k =
         printing_alike d.text (λ s. after_action g sub lv f w.next w.go d.act.effect (carried_out d s))
         (λ s. after_action g over_sub lv f w.on_next w.on_go d.act.effect (carried_out d s)) r
-        (after_action_alike f w d.act.effect (carried_out d (printed d.text r)) l (cancelled d.act.cancel_loop r.turning k))
+        (after_action_alike f w d.act.effect (carried_out d (text_printed d.text r)) l (cancelled d.act.cancel_loop r.turning k))
 
     module _ (Kept : Condact → Type 0) (leads : (w : World) (c : Condact) → Kept c → LeadsOn Describes Reached (effect_of g w c).act.effect) where
       reads_one_alike : (f : Frame) (w : Onwards) (c : Condact) → Kept c → (r : Run) → AtMost lv r.turning →
@@ -201,7 +202,7 @@ module _ (g : Story) (Describes : Type 0) (lv : ℕ) where
       reads_one_alike f w c kept r k =
           both Same (is_condition c) _ _ _ _
           (after_test_alike f w c (with_world (holds g.game r.world c).world r) (holds g.game r.world c).answer k)
-          (acts_alike f w (effect_of g r.world c) (noted f c true r) (leads r.world c kept) k)
+          (acts_alike f w (effect_of g r.world c) (step_noted f c true r) (leads r.world c kept) k)
 
       -- ---- tables ----
 

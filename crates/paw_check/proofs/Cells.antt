@@ -14,7 +14,7 @@ use Rattle.paw_game.specs.declared.parts.Entry.{Entry}
 use Rattle.paw_game.specs.Game.{GameLists}
 use Rattle.paw_game.specs.Tables.{table_at}
 use Rattle.paw_check.specs.Costs.{counting, passed_over, with_call}
-use Rattle.paw_check.specs.inner.Capped.{HoldsCapped, capped, cell_at, condacts_of_entries, entries_take}
+use Rattle.paw_check.specs.inner.Capped.{HoldsCapped, in_32_bits, cell_at, condacts_of_entries, entries_take}
 use Rattle.paw_check.specs.inner.Levels.{HoldsLevel}
 use Rattle.paw_check.proofs.Capped.{add_alike, product_alike, from_capped}
 use Rattle.paw_check.proofs.FoundLaws.{cell_past}
@@ -23,7 +23,7 @@ use Rattle.paw_check.proofs.FoundLaws.{cell_past}
 pub record HoldBefore (objects : ℕ) (own : Condact → ℕ) (changing : Bool) (tables : List (List Entry)) (called rows : List (List ℕ)) (n : ℕ) : Type 0 where
   pub long : length rows ≡ n
   pub each : (t v : ℕ) → t < n → v < 256 → cell_at rows t v
-      ≡ capped (entries_take objects (with_call own (λ u. cell_at called u v)) changing v (get_or tables t []))
+      ≡ in_32_bits (entries_take objects (with_call own (λ u. cell_at called u v)) changing v (get_or tables t []))
 
 cell_is : (rows : List (List ℕ)) (t v : ℕ) → cell_at rows t v ≡ slice_index_or (get_or rows t []) v 0
 cell_is rows t v = ap (λ (row : List ℕ). slice_index_or row v 0) (unwrap_or-slice_get rows t [])
@@ -45,13 +45,14 @@ before_more objects own changing tables called rows n row es so is holds = recor
         ap (λ (k : ℕ). slice_index_or (get_or (rows ++ row ∷ []) k []) v 0) same
         ∙ ap (λ (r : List ℕ). slice_index_or r v 0) (get_or-append_seam rows row [] [])
         ∙ holds.each v small
-        ∙ ap (λ xs. capped (entries_take objects (with_call own (λ u. cell_at called u v)) changing v xs)) (is ∙ ap (λ (k : ℕ). get_or tables k []) (sym here))
+        ∙ ap (λ xs. in_32_bits (entries_take objects (with_call own (λ u. cell_at called u v)) changing v xs))
+        (is ∙ ap (λ (k : ℕ). get_or tables k []) (sym here))
   ];
 }
 
 -- Where the number of objects is the game's but for the cap, the definition takes as much.
-entries_alike : (g : GameLists) (objects : ℕ) (t : Condact → ℕ) (changing : Bool) (v : ℕ) (es : List Entry) → objects ≡ capped (length g.objects)
-    → capped (entries_take objects t changing v es) ≡ capped (passed_over g t (condacts_of_entries (counting changing v es)))
+entries_alike : (g : GameLists) (objects : ℕ) (t : Condact → ℕ) (changing : Bool) (v : ℕ) (es : List Entry) → objects ≡ in_32_bits (length g.objects)
+    → in_32_bits (entries_take objects t changing v es) ≡ in_32_bits (passed_over g t (condacts_of_entries (counting changing v es)))
 entries_alike g objects t changing v es h =
     product_alike _ _ _ _ (add_alike 1 1 _ _ refl (product_alike objects (length g.objects) _ _ (from_capped _ _ h) refl)) refl
 
@@ -63,16 +64,16 @@ none_taken g t changing v u past =
     ∙ mul-zero _
 
 pub before_all : (g : GameLists) (objects : ℕ) (own : Condact → ℕ) (changing : Bool) (called rows : List (List ℕ)) (n : ℕ)
-    → objects ≡ capped (length g.objects) → length g.tables ≤ n
+    → objects ≡ in_32_bits (length g.objects) → length g.tables ≤ n
     → HoldBefore objects own changing g.tables called rows n → HoldsLevel g own changing called rows
 before_all g objects own changing called rows n many whole so = λ t v small. elim (cases_lt t n) [
   | inl low ↦
       so.each t v low small
-      ∙ ap (λ es. capped (entries_take objects (with_call own (λ u. cell_at called u v)) changing v es)) (sym (unwrap_or-slice_get g.tables t []))
+      ∙ ap (λ es. in_32_bits (entries_take objects (with_call own (λ u. cell_at called u v)) changing v es)) (sym (unwrap_or-slice_get g.tables t []))
       ∙ entries_alike g objects (with_call own (λ u. cell_at called u v)) changing v (table_at g t) many
   | inr high ↦
       cell_past rows t v (omega (arith, high, so.long))
-      ∙ ap capped (sym (none_taken g (with_call own (λ u. cell_at called u v)) changing v t (omega (arith, high, whole))))
+      ∙ ap in_32_bits (sym (none_taken g (with_call own (λ u. cell_at called u v)) changing v t (omega (arith, high, whole))))
 ]
 
 pub before_none : (objects : ℕ) (own : Condact → ℕ) (changing : Bool) (tables : List (List Entry)) (called : List (List ℕ))

@@ -25,7 +25,7 @@ use Rattle.paw_check.specs.Calls.{table_condacts, most_levels}
 use Rattle.paw_check.specs.Costs.{round_cost, verb_may_change}
 use Rattle.paw_check.specs.Prints.{most_text}
 use Rattle.paw_check.specs.Verdicts.{bounds, first_with, call_too_deep, circle_of_descriptions}
-use Rattle.paw_check.specs.inner.Capped.{capped}
+use Rattle.paw_check.specs.inner.Capped.{in_32_bits}
 use Rattle.paw_check.specs.inner.Levels.{round_taken}
 use Rattle.paw_check.specs.inner.Own.{own_in}
 use Rattle.paw_check.specs.inner.Places.{is_wanted, spot_wanted, entry_wanted, any_in_table}
@@ -64,28 +64,28 @@ any_is g p ts =
 
 -- The most condacts of a piece.
 pub condacts_are : (g : GameLists) (changing : Bool) (round n : ℕ) → changing ≡ verb_may_change g
-    → round ≡ capped (round_taken g (own_in own.Condacts) changing) → n ≡ min (round * 129) (2 ^ 32 - 1) → n ≡ capped (most_condacts g)
+    → round ≡ in_32_bits (round_taken g (own_in own.Condacts) changing) → n ≡ min (round * 129) (2 ^ 32 - 1) → n ≡ in_32_bits (most_condacts g)
 condacts_are g changing round n may is so =
     let same : round_taken g (own_in own.Condacts) changing ≡ round_cost g (λ c. 1) =
     ap (λ (b : Bool). round_taken g (own_in own.Condacts) b) may in
-    so ∙ product_alike round (round_cost g (λ c. 1)) 129 129 (from_capped _ _ (is ∙ ap capped same)) refl
-    ∙ ap capped (mul_comm (round_cost g (λ c. 1)) 129)
+    so ∙ product_alike round (round_cost g (λ c. 1)) 129 129 (from_capped _ _ (is ∙ ap in_32_bits same)) refl
+    ∙ ap in_32_bits (mul_comm (round_cost g (λ c. 1)) 129)
 
 -- The most bytes of a piece.
 pub piece_is : (g : GameLists) (p : Prints) (changing : Bool) (round outside end whole rounds n : ℕ) → changing ≡ verb_may_change g
     → ArePrints g p → length g.system ≤ 256 → length g.messages ≤ 256
-    → round ≡ capped (round_taken g (own_in (own.Text p)) changing) → outside ≡ capped (most_outside g) → end ≡ capped (most_end g)
+    → round ≡ in_32_bits (round_taken g (own_in (own.Text p)) changing) → outside ≡ in_32_bits (most_outside g) → end ≡ in_32_bits (most_end g)
     → whole ≡ min (round + outside) (2 ^ 32 - 1) → rounds ≡ min (whole * 129) (2 ^ 32 - 1) → n ≡ min (rounds + end) (2 ^ 32 - 1)
-    → n ≡ capped (most_piece g)
+    → n ≡ in_32_bits (most_piece g)
 piece_is g p changing round outside end whole rounds n may are few many is beside behind first second so =
-    let own : capped (round_taken g (own_in (own.Text p)) changing) ≡ capped (round_cost g (most_text g)) =
-    ap (λ (b : Bool). capped (round_taken g (own_in (own.Text p)) b)) may
+    let own : in_32_bits (round_taken g (own_in (own.Text p)) changing) ≡ in_32_bits (round_cost g (most_text g)) =
+    ap (λ (b : Bool). in_32_bits (round_taken g (own_in (own.Text p)) b)) may
     ∙ round_alike g (own_in (own.Text p)) (most_text g) (verb_may_change g) (text_alike g p are few many) in
     let all : ℕ = round_cost g (most_text g) + most_outside g in
-    let one : capped (round + outside) ≡ capped all =
+    let one : in_32_bits (round + outside) ≡ in_32_bits all =
     add_alike round _ outside _ (from_capped round _ (is ∙ own)) (from_capped outside _ beside) in
-    let times : capped (whole * 129) ≡ capped (129 * all) =
-    product_alike whole all 129 129 (from_capped whole _ (first ∙ one)) refl ∙ ap capped (mul_comm all 129) in
+    let times : in_32_bits (whole * 129) ≡ in_32_bits (129 * all) =
+    product_alike whole all 129 129 (from_capped whole _ (first ∙ one)) refl ∙ ap in_32_bits (mul_comm all 129) in
     so ∙ add_alike rounds (129 * all) end (most_end g) (from_capped rounds _ (second ∙ times)) (from_capped end _ behind)
 
 -- ---- the verdict ----
@@ -96,15 +96,15 @@ above_limit limit n h = lt-ltb limit n h
 within_limit : (limit n : ℕ) → n ≤ limit → nat_lt limit n ≡ false
 within_limit limit n h = le-ltb limit n h
 
-pub too_many : (g : GameLists) (levels n : ℕ) → n ≡ capped (most_condacts g) → READ_LIMIT < n → bound_or_cause g levels ≡ verdict.Unknown cause.Condacts 0 0
+pub too_many : (g : GameLists) (levels n : ℕ) → n ≡ in_32_bits (most_condacts g) → READ_LIMIT < n → bound_or_cause g levels ≡ verdict.Unknown cause.Condacts 0 0
 too_many g levels n is many = rw (above_limit READ_LIMIT (most_condacts g) (omega (arith, is, many))) refl
 
-pub too_long : (g : GameLists) (levels n m : ℕ) → n ≡ capped (most_condacts g) → n ≤ READ_LIMIT → m ≡ capped (most_piece g) → PIECE_LIMIT < m
+pub too_long : (g : GameLists) (levels n m : ℕ) → n ≡ in_32_bits (most_condacts g) → n ≤ READ_LIMIT → m ≡ in_32_bits (most_piece g) → PIECE_LIMIT < m
     → bound_or_cause g levels ≡ verdict.Unknown cause.Text 0 0
 too_long g levels n m is few same long =
     rw (within_limit READ_LIMIT (most_condacts g) (omega (arith, is, few)), above_limit PIECE_LIMIT (most_piece g) (omega (arith, same, long))) refl
 
-pub in_bounds : (g : GameLists) (levels n m : ℕ) → n ≡ capped (most_condacts g) → n ≤ READ_LIMIT → m ≡ capped (most_piece g) → m ≤ PIECE_LIMIT
+pub in_bounds : (g : GameLists) (levels n m : ℕ) → n ≡ in_32_bits (most_condacts g) → n ≤ READ_LIMIT → m ≡ in_32_bits (most_piece g) → m ≤ PIECE_LIMIT
     → bound_or_cause g levels ≡ verdict.Bound levels n m
 in_bounds g levels n m is few same short =
     let condacts : most_condacts g ≡ n = omega (arith, is, few) in

@@ -12,10 +12,10 @@ use Rattle.paw_base.specs.declared.messages.TheConstants.{PUT_IN_MESSAGE}
 use Rattle.paw_game.specs.Game.{GameLists}
 use Rattle.paw_game.specs.Tables.{exit_at}
 use Rattle.paw_routines.specs.Answers.{value_at}
-use Rattle.paw_world.specs.World.{World, Position, flag, place, here, moved, drawn_on, kept_position}
-use Rattle.paw_effects.specs.Chance.{rolled}
+use Rattle.paw_world.specs.World.{World, Position, flag, place, here, object_moved, drawn_on, kept_position}
+use Rattle.paw_effects.specs.Chance.{percent_drawn}
 use Rattle.paw_effects.specs.Presence.{named_place, held_objects}
-use Rattle.paw_effects.specs.Positions.{position_number, loaded}
+use Rattle.paw_effects.specs.Positions.{position_number, position_loaded}
 use Rattle.paw_effects.specs.Texts.{message_text}
 use Rattle.paw_effects.specs.MoveActions.{names_place}
 use Rattle.paw_effects.specs.Meanings.{meanings, meaning_of}
@@ -37,7 +37,7 @@ use Rattle.paw_check.proofs.Verb.{one_has, other_has, answered_has, moves_has, m
 use Rattle.paw_check.proofs.Verb.{referred_found_has, loaded_leaves, ramloaded_has}
 
 loaded_most : (g : GameLists) (w : World) (q : Option Position)
-    → length (loaded g w q).text ≤ most_said g IMPOSSIBLE_MESSAGE
+    → length (position_loaded g w q).text ≤ most_said g IMPOSSIBLE_MESSAGE
 loaded_most g w None = say_most g w IMPOSSIBLE_MESSAGE
 loaded_most g w (Some q) = omega arith
 
@@ -107,13 +107,13 @@ each_action =
     row quiet (moving _ _) going &  -- DESTROY
     row quiet
     (keeps (λ n s w c is spares of k.
-    inl (moved_has n (moved w c.a (place w c.b)) c.b (place w c.a)
+    inl (moved_has n (object_moved w c.a (place w c.b)) c.b (place w c.a)
     (moved_has n w c.a (place w c.b) k)))) going &  -- SWAP
     row quiet (moving _ _) going &  -- PLACE
     row quiet
     (keeps (λ n s w c is spares of k.
     inl (one_has n (nat_lt (flag w REFERRED_FLAG) (length w.places))
-    (moved w (flag w REFERRED_FLAG) (named_place w c.a)) w
+    (object_moved w (flag w REFERRED_FLAG) (named_place w c.a)) w
     (moved_has n w (flag w REFERRED_FLAG) (named_place w c.a) k) k))) going &  -- PUTO
     row quiet (set_first refl) going &  -- SET
     row quiet (set_first refl) going &  -- CLEAR
@@ -124,7 +124,7 @@ each_action =
     row quiet (set_second refl) going &  -- SUB
     row quiet
     (keeps (λ n s w c is spares of k.
-    inl (other_has n (drawn_on w 1) c.a (rolled w)
+    inl (other_has n (drawn_on w 1) c.a (percent_drawn w)
     (spares.first (writes_one writes_first RANDOM c refl is)) k))) going &  -- RANDOM
     row quiet (moving _ _) going &  -- COPYOO
     row quiet (set_second refl) going &  -- COPYOF

@@ -3,7 +3,7 @@ use Rattle.std.proofs.Common.{◌≡◌, ◌≤◌, ◌<◌, ℕ, zero, suc, ◌
 use Rattle.std.proofs.Common.{sym, ap, ◌∙◌, arith}
 use Rattle.std.proofs.lemmas.List.{drop_more, drop_all}
 use Rattle.paw_check.specs.Measures.{greatest}
-use Rattle.paw_check.specs.inner.Capped.{capped}
+use Rattle.paw_check.specs.inner.Capped.{in_32_bits}
 use Rattle.paw_check.proofs.Capped.{capped_max}
 
 greatest_none : greatest [] ≡ 0
@@ -29,28 +29,28 @@ most_all m xs i whole past so =
 
 -- The same of what a list is mapped to, with the cap.
 pub capped_more : {X : Type 0} (f : X → ℕ) (m : ℕ) (xs : List X) (i : ℕ) (d : X) (whole : ℕ) → i < length xs
-    → max m (capped (greatest (map f (drop i xs)))) ≡ whole
-    → max (max m (capped (f (get_or xs i d)))) (capped (greatest (map f (drop (i + 1) xs)))) ≡ whole
+    → max m (in_32_bits (greatest (map f (drop i xs)))) ≡ whole
+    → max (max m (in_32_bits (f (get_or xs i d)))) (in_32_bits (greatest (map f (drop (i + 1) xs)))) ≡ whole
 capped_more f m xs i d whole within so =
     let first = ap (λ ys. greatest (map f ys)) (drop_more xs i d within) ∙ greatest_cons (f (get_or xs i d)) (map f (drop (i + 1) xs)) in
     omega (arith, so, first)
 
 pub capped_all : {X : Type 0} (f : X → ℕ) (m : ℕ) (xs : List X) (i whole : ℕ) → length xs ≤ i
-    → max m (capped (greatest (map f (drop i xs)))) ≡ whole → m ≡ whole
+    → max m (in_32_bits (greatest (map f (drop i xs)))) ≡ whole → m ≡ whole
 capped_all f m xs i whole past so =
     let none = ap (λ ys. greatest (map f ys)) (drop_all i xs past) ∙ greatest_none in
     omega (arith, so, none)
 
 -- The greatest of numbers with the cap is the greatest with the cap.
-pub greatest_capped : {X : Type 0} (f : X → ℕ) (xs : List X) → greatest (map (λ x. capped (f x)) xs) ≡ capped (greatest (map f xs))
-greatest_capped f [] = greatest_none ∙ ap capped (sym greatest_none)
+pub greatest_capped : {X : Type 0} (f : X → ℕ) (xs : List X) → greatest (map (λ x. in_32_bits (f x)) xs) ≡ in_32_bits (greatest (map f xs))
+greatest_capped f [] = greatest_none ∙ ap in_32_bits (sym greatest_none)
 greatest_capped f (x ∷ xs) =
-    greatest_cons (capped (f x)) _ ∙ ap (max (capped (f x))) (greatest_capped f xs)
-    ∙ capped_max (f x) (greatest (map f xs)) ∙ ap capped (sym (greatest_cons (f x) (map f xs)))
+    greatest_cons (in_32_bits (f x)) _ ∙ ap (max (in_32_bits (f x))) (greatest_capped f xs)
+    ∙ capped_max (f x) (greatest (map f xs)) ∙ ap in_32_bits (sym (greatest_cons (f x) (map f xs)))
 
 -- Numbers that are the same but for the cap have the same greatest.
-pub greatest_alike : {X : Type 0} (f h : X → ℕ) (xs : List X) → ((x : X) → capped (f x) ≡ capped (h x))
-    → capped (greatest (map f xs)) ≡ capped (greatest (map h xs))
+pub greatest_alike : {X : Type 0} (f h : X → ℕ) (xs : List X) → ((x : X) → in_32_bits (f x) ≡ in_32_bits (h x))
+    → in_32_bits (greatest (map f xs)) ≡ in_32_bits (greatest (map h xs))
 greatest_alike f h [] same = refl
 greatest_alike f h (x ∷ xs) same =
     let rest = greatest_alike f h xs same in

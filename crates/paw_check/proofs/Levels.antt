@@ -23,7 +23,7 @@ use Rattle.paw_effects.proofs.EachRow.{effect_leads}
 use Rattle.paw_reading.specs.Bounds.{ValidStory}
 use Rattle.paw_reading.specs.Run.{Run}
 use Rattle.paw_reading.specs.Reading.{Redescribes, Restarts, Halts, Out, Left, Waits, Stopped, at_level, read_at_level}
-use Rattle.paw_reading.specs.Reading.{called, table_read}
+use Rattle.paw_reading.specs.Reading.{table_called, table_read}
 use Rattle.paw_reading.proofs.Keeps.{called_keeps}
 use Rattle.paw_check.specs.Calls.{turn_tables, table_condacts, called_below, most_levels}
 use Rattle.paw_check.specs.Verdicts.{call_too_deep, redescribes}
@@ -88,17 +88,18 @@ module _ (s : Story) (v : Valid s.game) (ts : List ℕ) (few : (t : ℕ) → In 
 
   -- A table that is called from level lv reads alike with n levels left and with m, where these are all of ten.
   called_alike : (n m lv : ℕ) → lv + m ≡ 10 → Enough n m lv → (u : ℕ) → TablesAt (suc lv) u → (r : Run) → AtMost lv r.turning →
-      Alike Describes lv (called s n lv u r) (called s m lv u r)
-  unfolding called
+      Alike Describes lv (table_called s n lv u r) (table_called s m lv u r)
+  unfolding table_called
   called_alike zero zero lv ten enough u at r low = (refl, tt)
   called_alike zero (suc m) lv ten (inl e) u at r low = absurd (omega arith)
   called_alike zero (suc m) lv ten (inr none) u at r low = absurd (not_enough lv u at none.0)
   called_alike (suc n) zero lv ten (inl e) u at r low = absurd (omega arith)
   called_alike (suc n) zero lv ten (inr none) u at r low = absurd (not_enough lv u at none.1)
   called_alike (suc n) (suc m) lv ten enough u at r low =
-      reads_alike s Describes lv (suc lv) u (called s n (suc lv)) (called s m (suc lv)) (called_keeps s n (suc lv)) (called_keeps s m (suc lv)) r low
+      reads_alike s Describes lv (suc lv) u (table_called s n (suc lv)) (table_called s m (suc lv)) (called_keeps s n (suc lv))
+      (called_keeps s m (suc lv)) r low
       (none_at lv r.turning low)
-      (plain_alike s Describes (suc lv) (called s n (suc lv)) (called s m (suc lv)) (TablesAt (suc (suc lv)))
+      (plain_alike s Describes (suc lv) (table_called s n (suc lv)) (table_called s m (suc lv)) (TablesAt (suc (suc lv)))
       (called_alike n m (suc lv) (omega arith) (fewer n m lv enough)) (OnLevel (suc lv)) (leads_on (suc lv)) u
       (on_level (suc lv) u (omega arith) at) false r (higher lv r.turning low))
     where
@@ -118,12 +119,13 @@ module _ (s : Story) (v : Valid s.game) (ts : List ℕ) (few : (t : ℕ) → In 
 
   -- So does a table at level 0.
   pub table_alike : (n t : ℕ) → (n ≡ 10) ⊎ (Empty (suc n) × Empty 11) → In t ts → (r : Run) → r.turning ≡ None →
-      Alike Describes 0 (read_at_level s (called s n 0) 0 t 0 0 false r) (table_read s t r)
+      Alike Describes 0 (read_at_level s (table_called s n 0) 0 t 0 0 false r) (table_read s t r)
   unfolding called_below
   table_alike n t enough at r none =
-      reads_alike s Describes 0 0 t (called s n 0) (called s 10 0) (called_keeps s n 0) (called_keeps s 10 0) r (none_open 0 r.turning none)
+      reads_alike s Describes 0 0 t (table_called s n 0) (table_called s 10 0) (called_keeps s n 0) (called_keeps s 10 0) r (none_open 0 r.turning none)
       (none_there 0 r.turning none)
-      (plain_alike s Describes 0 (called s n 0) (called s 10 0) (TablesAt 1) (called_alike n 10 0 refl (from_start n enough)) (OnLevel 0) (leads_on 0) t
+      (plain_alike s Describes 0 (table_called s n 0) (table_called s 10 0) (TablesAt 1) (called_alike n 10 0 refl (from_start n enough)) (OnLevel 0)
+      (leads_on 0) t
       (on_level 0 t (omega arith) at) false r (none_open 0 r.turning none))
 
 -- ---- the tables of a turn ----

@@ -12,15 +12,15 @@ use Rattle.paw_phrase.proofs.Phrases.{parsed-shorter}
 use Rattle.paw_phrase.proofs.Shortens.{phrases_take_two}
 use Rattle.paw_effects.specs.Story.{Story}
 use Rattle.paw_reading.specs.Bounds.{IsLine, ValidStory}
-use Rattle.paw_reading.specs.Run.{Run, closed, fits, printed, with_world, line_dropped, is_timeout, is_ignored, heard}
+use Rattle.paw_reading.specs.Run.{Run, piece_closed, fits, text_printed, with_world, line_dropped, is_timeout, is_ignored, with_line_heard}
 use Rattle.paw_reading.specs.Run.{taken_phrase}
 use Rattle.paw_reading.specs.declared.places.Halt.TheVariants as halt
 use Rattle.paw_reading.specs.Reading.{Redescribes, Restarts, Halts, Out, Left, Waits, Stopped, coming_phrase}
 use Rattle.paw_reading.specs.Reading.{table_read}
 use Rattle.paw_reading.specs.Turn.{TurnPhase, AtDescribe, AtTimeFrame, AtPhrase, AtResponse, Ending, WaitsAt, Halted}
-use Rattle.paw_reading.specs.Turn.{Unended, saying, described}
-use Rattle.paw_reading.specs.Turn.{time_frame_passed, view_text, counted, prompt_text, timeout_text, at_main}
-use Rattle.paw_reading.specs.Turn.{after_phrase, refusal_text, connected}
+use Rattle.paw_reading.specs.Turn.{Unended, saying, location_described}
+use Rattle.paw_reading.specs.Turn.{time_frame_passed, view_text, turn_counted, prompt_text, timeout_text, at_main}
+use Rattle.paw_reading.specs.Turn.{after_phrase, refusal_text, exit_taken}
 use Rattle.paw_reading.specs.Turn.{after_left, table_done, turn, phases_left, opening, reading}
 use Rattle.paw_reading.specs.inner.Steps.{line_set, unknown_text}
 use Rattle.paw_reading.proofs.Ends.{turns_end}
@@ -60,14 +60,14 @@ module _ (g : Story) (valid : ValidStory g) (condacts text : ℕ) (k : Takes) (e
 
   -- ---- what is said ----
 
-  saying_stays : (words : List ℕ) (go : Run → Ending) (r : Run) → length r.current + length words ≤ text → Stays (go (printed words r)) →
+  saying_stays : (words : List ℕ) (go : Run → Ending) (r : Run) → length r.current + length words ≤ text → Stays (go (text_printed words r)) →
       Stays (saying words go r)
   saying_stays words go r within h =
       let fit : fits r words ≡ true = le-leb (length r.current + length words) 65535 (omega (arith, enough.limit)) in rw fit h
 
   -- What is said takes no more than it may, and what follows it stays within the bound.
   says_on : (a b most : ℕ) (words : List ℕ) (go : Run → Ending) (r : Run) → length words ≤ most → Room a (most + b) r →
-      (Room a b (printed words r) → Stays (go (printed words r))) → Stays (saying words go r)
+      (Room a b (text_printed words r) → Stays (go (text_printed words r))) → Stays (saying words go r)
   says_on a b most words go r within h on =
       saying_stays words go r (omega (arith, h.short)) (on (said g valid condacts text k a b most words r within h))
 
@@ -88,13 +88,13 @@ module _ (g : Story) (valid : ValidStory g) (condacts text : ℕ) (k : Takes) (e
         (lesser (reads_behind k 0) (text_behind k 0) (reads_of k AtDescribe) (text_of k AtDescribe) r h (omega arith) (omega arith))
 
     connected_stays : (r : Run) → Room (reads_behind k 0) (text_behind k 0) r → (to : Option ℕ) → exit_at g.game (flag r.world 38) (flag r.world 33) ≡ to →
-        Stays (connected g go r to)
+        Stays (exit_taken g go r to)
     connected_stays r h None e =
         let s : Run = line_dropped r in
         let s_room : Room (reads_behind k 0) (text_behind k 0) s = dropped g valid condacts text k (reads_behind k 0) (text_behind k 0) r h in
         says_on (k.reads 2) (k.prints 2) k.refusal (refusal_text g.game r.world) (go AtTimeFrame) s (says.refused r.world)
         (lesser (reads_behind k 0) (text_behind k 0) (k.reads 2) (k.refusal + k.prints 2) s s_room (omega arith) (omega arith))
-        (goes AtTimeFrame (printed (refusal_text g.game r.world) s))
+        (goes AtTimeFrame (text_printed (refusal_text g.game r.world) s))
     connected_stays r h (Some to) e =
         described_again (with_world (with_flag r.world 38 to) r)
         (moved g valid condacts text k (reads_behind k 0) (text_behind k 0) r h (with_flag r.world 38 to)
@@ -158,7 +158,7 @@ module _ (g : Story) (valid : ValidStory g) (condacts text : ℕ) (k : Takes) (e
     timeout_stays r h w =
         says_on (k.reads 2) (k.prints 2) k.timeout (timeout_text g.game w) (go AtTimeFrame) r (says.timeout w)
         (lesser (round_reads k) (k.timeout + round_text k) (k.reads 2) (k.timeout + k.prints 2) r h (omega arith) (omega arith))
-        (goes AtTimeFrame (printed (timeout_text g.game w) r))
+        (goes AtTimeFrame (text_printed (timeout_text g.game w) r))
 
     -- At the main prompt nothing is used of the open piece.
     at_main_stays : (r : Run) (lines : List (List ℕ)) → IsIn r → length r.read ≤ 0 → length r.current ≤ 0 → All IsLine lines → Stays (at_main g go r lines)
@@ -170,9 +170,9 @@ module _ (g : Story) (valid : ValidStory g) (condacts text : ℕ) (k : Takes) (e
         let s : Run = record r { events = lines } in
         let s_in : IsIn s = with_events g valid condacts text r h lines later in
         either_stays (is_ignored r.world line) _ _
-        (at_main_stays (closed s) lines (closed_ready g valid condacts text s s_in (omega arith) (omega arith)) (omega arith) (omega arith) later)
+        (at_main_stays (piece_closed s) lines (closed_ready g valid condacts text s s_in (omega arith) (omega arith)) (omega arith) (omega arith) later)
         (either_stays (is_timeout line) _ _
-        (timeout_stays (heard line s) (fresh (heard line s) (heard_ready g valid condacts text line s s_in) none empty) r.world)
+        (timeout_stays (with_line_heard line s) (fresh (with_line_heard line s) (heard_ready g valid condacts text line s s_in) none empty) r.world)
         (goes AtPhrase (line_set line s)
         (lesser (round_reads k) (k.timeout + round_text k) 0 0 (line_set line s)
         (fresh (line_set line s) (line_ready g valid condacts text line s is s_in) none empty) (omega arith) (omega arith))))
@@ -185,24 +185,24 @@ module _ (g : Story) (valid : ValidStory g) (condacts text : ℕ) (k : Takes) (e
     unknown_stays r h =
         says_on (k.reads 2) (k.prints 2) k.refusal (unknown_text g.game r.world) (go AtTimeFrame) (line_dropped r) (says.unknown r.world)
         (lesser (round_reads k) (round_text k) (k.reads 2) (k.refusal + k.prints 2) (line_dropped r) h (omega arith) (omega arith))
-        (goes AtTimeFrame (printed (unknown_text g.game r.world) (line_dropped r)))
+        (goes AtTimeFrame (text_printed (unknown_text g.game r.world) (line_dropped r)))
 
     -- The prompt closes the piece.
-    prompt_stays : (r : Run) → Room 0 0 r → Stays (saying (prompt_text g.game r.world) (λ s. at_main g go (closed s) s.events) r)
+    prompt_stays : (r : Run) → Room 0 0 r → Stays (saying (prompt_text g.game r.world) (λ s. at_main g go (piece_closed s) s.events) r)
     prompt_stays r h =
         let words : List ℕ = prompt_text g.game r.world in
-        let s : Run = printed words r in
+        let s : Run = text_printed words r in
         let size : length s.current ≡ length r.current + length words = length-append r.current words in
         let s_in : IsIn s = with_words g valid condacts text r h.ready s.current in
-        saying_stays words (λ s. at_main g go (closed s) s.events) r (omega (arith, says.prompt r.world, h.short))
-        (at_main_stays (closed s) s.events
+        saying_stays words (λ s. at_main g go (piece_closed s) s.events) r (omega (arith, says.prompt r.world, h.short))
+        (at_main_stays (piece_closed s) s.events
         (closed_ready g valid condacts text s s_in (omega (arith, h.few)) (omega (arith, size, says.prompt r.world, h.short))) (omega arith) (omega arith)
         h.ready.lines)
 
     after_phrase_stays : (r : Run) → Room 0 0 r → (p : Parsed) → coming_phrase g r ≡ p → LeavesBytes (λ rest. length rest < length r.pending) p →
         LeavesBytes (IsTwoLess r.pending) p → Stays (after_phrase g go r p)
     after_phrase_stays r h (IsSentence s left) e shorter two =
-        let q : Run = with_world (counted (taken_phrase s left r).world) (taken_phrase s left r) in
+        let q : Run = with_world (turn_counted (taken_phrase s left r).world) (taken_phrase s left r) in
         goes AtResponse q
         (phrase_room g valid condacts text k r h q (taken_ready g valid condacts text r h.ready s left shorter e) (omega arith) (omega arith) shorter two)
     after_phrase_stays r h (IsUnknown left) e shorter two =
@@ -220,11 +220,11 @@ module _ (g : Story) (valid : ValidStory g) (condacts text : ℕ) (k : Takes) (e
   unfolding turn
   turn_stays zero s r h = tt
   turn_stays (suc n) AtDescribe r h =
-      let w : World = described r.world in
+      let w : World = location_described r.world in
       let view : List ℕ = view_text g.game w in
       says_on (k.reads 1 + k.reads 2) (k.prints 1 + k.prints 2) k.view view (λ q. table_done g (turn g n) 1 (table_read g 1 q)) (with_world w r) (says.view w)
       (moved g valid condacts text k (reads_of k AtDescribe) (text_of k AtDescribe) r h w (described_of g.game valid.game r.world h.ready.world))
-      (table_stays (turn g n) (turn_stays n) 1 (omega arith) (printed view (with_world w r)))
+      (table_stays (turn g n) (turn_stays n) 1 (omega arith) (text_printed view (with_world w r)))
   turn_stays (suc n) AtTimeFrame r h =
       table_stays (turn g n) (turn_stays n) 2 (omega arith) r
       (lesser (k.reads 2) (k.prints 2) (k.reads 2 + 0) (k.prints 2 + 0) r h (omega arith) (omega arith))

@@ -10,11 +10,11 @@ use Rattle.paw_phrase.specs.inner.Leaving.{IsTwoLess}
 use Rattle.paw_effects.specs.Story.{Story}
 use Rattle.paw_effects.specs.inner.Standing.{IsWorldOf}
 use Rattle.paw_reading.specs.Bounds.{IsLine, ValidStory}
-use Rattle.paw_reading.specs.Run.{Run, closed, printed, with_world, line_dropped, is_timeout, heard, with_timeout}
-use Rattle.paw_reading.specs.Run.{spoken, taken_phrase}
+use Rattle.paw_reading.specs.Run.{Run, piece_closed, text_printed, with_world, line_dropped, is_timeout, with_line_heard, with_timeout}
+use Rattle.paw_reading.specs.Run.{with_sentence, taken_phrase}
 use Rattle.paw_reading.specs.Reading.{Out, coming_phrase, table_read}
 use Rattle.paw_reading.specs.Turn.{TurnPhase, AtDescribe, AtTimeFrame, AtPhrase, AtResponse, Ending, Unended}
-use Rattle.paw_reading.specs.Turn.{view_text, counted, prompt_text, timeout_text, refusal_text}
+use Rattle.paw_reading.specs.Turn.{view_text, turn_counted, prompt_text, timeout_text, refusal_text}
 use Rattle.paw_reading.specs.Turn.{opening}
 use Rattle.paw_reading.specs.inner.Steps.{line_set, unknown_text}
 use Rattle.paw_check.specs.Promise.{EndsWithin}
@@ -127,7 +127,7 @@ module _ (g : Story) (valid : ValidStory g) (condacts text : ℕ) where
   pub with_events : (r : Run) → Ready r → (lines : List (List ℕ)) → All IsLine lines → Ready (record r { events = lines })
   with_events r h lines are = changed r h r.world h.world r.pending h.line r.earlier h.earlier r.current lines are
 
-  pub heard_ready : (line : List ℕ) (r : Run) → Ready r → Ready (heard line r)
+  pub heard_ready : (line : List ℕ) (r : Run) → Ready r → Ready (with_line_heard line r)
   heard_ready line r h = in_world r h (with_timeout (is_timeout line) r.world) (timeout_of g.game valid.game (is_timeout line) r.world h.world)
 
   pub line_ready : (line : List ℕ) (r : Run) → IsLine line → Ready r → Ready (line_set line r)
@@ -135,13 +135,14 @@ module _ (g : Story) (valid : ValidStory g) (condacts text : ℕ) where
       changed r h (with_timeout false r.world) (timeout_of g.game valid.game false r.world h.world) line is.short 255 (omega arith) r.current r.events h.lines
 
   pub taken_ready : (r : Run) → Ready r → (s : Sentence) (left : List ℕ) → length left < length r.pending → coming_phrase g r ≡ IsSentence s left →
-      Ready (with_world (counted (taken_phrase s left r).world) (taken_phrase s left r))
+      Ready (with_world (turn_counted (taken_phrase s left r).world) (taken_phrase s left r))
   taken_ready r h s left shorter e =
       let spoken_so = phrase_of g.game valid.game g.answers r h.world h.earlier s left e in
-      changed r h (counted (spoken s r.world)) (counted_of g.game valid.game (spoken s r.world) spoken_so.0) left (omega (arith, h.line)) s.verb spoken_so.1
+      changed r h (turn_counted (with_sentence s r.world)) (counted_of g.game valid.game (with_sentence s r.world) spoken_so.0) left
+      (omega (arith, h.line)) s.verb spoken_so.1
       r.current r.events h.lines
 
-  pub closed_ready : (r : Run) → Ready r → length r.read ≤ condacts → length r.current ≤ text → Ready (closed r)
+  pub closed_ready : (r : Run) → Ready r → length r.read ≤ condacts → length r.current ≤ text → Ready (piece_closed r)
   closed_ready r h few short = record {
     world = h.world;
     earlier = h.earlier;
@@ -180,7 +181,7 @@ module _ (g : Story) (valid : ValidStory g) (condacts text : ℕ) where
     moved a b r h w world = record { ready = in_world r h.ready w world; few = h.few; short = h.short }
 
     -- Words are printed.
-    pub said : (a b most : ℕ) (words : List ℕ) (r : Run) → length words ≤ most → HasRoom a (most + b) r → HasRoom a b (printed words r)
+    pub said : (a b most : ℕ) (words : List ℕ) (r : Run) → length words ≤ most → HasRoom a (most + b) r → HasRoom a b (text_printed words r)
     said a b most words r within h = record {
       ready = with_words r h.ready (r.current ++ words);
       few = h.few;

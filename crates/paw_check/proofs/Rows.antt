@@ -10,12 +10,12 @@ use Rattle.std.proofs.lemmas.List.Sums.{sum_by_more}
 use Rattle.paw_base.specs.declared.parts.Condact.{Condact}
 use Rattle.paw_check.specs.Calls.{is_call_of}
 use Rattle.paw_game.specs.declared.parts.Entry.{Entry}
-use Rattle.paw_check.specs.inner.Capped.{HoldsCapped, capped, over_every, over_verb, is_for_every}
+use Rattle.paw_check.specs.inner.Capped.{HoldsCapped, in_32_bits, over_every, over_verb, is_for_every}
 
 -- A row holds these numbers up to one of them, and nothing from there on.
 pub record HoldsUpTo (row : List ℕ) (f : ℕ → ℕ) (n : ℕ) : Type 0 where
   pub long : length row ≡ 256
-  pub done : (v : ℕ) → v < n → slice_index_or row v 0 ≡ capped (f v)
+  pub done : (v : ℕ) → v < n → slice_index_or row v 0 ≡ in_32_bits (f v)
   pub left : (v : ℕ) → n ≤ v → slice_index_or row v 0 ≡ 0
 
 -- 256 zeros.
@@ -38,7 +38,7 @@ upto_none f = record {
   left = λ v high. zero_at v;
 }
 
-pub upto_more : (row : List ℕ) (f : ℕ → ℕ) (n x : ℕ) → n < 256 → x ≡ capped (f n) → HoldsUpTo row f n
+pub upto_more : (row : List ℕ) (f : ℕ → ℕ) (n x : ℕ) → n < 256 → x ≡ in_32_bits (f n) → HoldsUpTo row f n
     → HoldsUpTo (slice_set row n x) f (n + 1)
 upto_more row f n x within is so = record {
   long = length-set row n x ∙ so.long;
@@ -47,7 +47,7 @@ upto_more row f n x within is so = record {
     | inr high ↦
         let same : v ≡ n = omega (arith, low, high) in
         ap (λ (k : ℕ). slice_index_or (slice_set row n x) k 0) same ∙ get_or-set_same row n x 0 (omega (arith, within, so.long))
-        ∙ is ∙ ap (λ (k : ℕ). capped (f k)) (sym same)
+        ∙ is ∙ ap (λ (k : ℕ). in_32_bits (f k)) (sym same)
   ];
   left = λ v high. get_or-set_other row n v x 0 (omega (arith, high)) ∙ so.left v (omega (arith, high));
 }
@@ -58,7 +58,7 @@ upto_rest row f n so none = record {
   long = so.long;
   each = λ v low. elim (cases_lt v n) [
     | inl below ↦ so.done v below
-    | inr high ↦ so.left v high ∙ ap capped (sym (none v high))
+    | inr high ↦ so.left v high ∙ ap in_32_bits (sym (none v high))
   ];
 }
 
@@ -72,26 +72,26 @@ upto_all row f n whole so = record {
 pub holds_none : (f : ℕ → ℕ) → ((v : ℕ) → f v ≡ 0) → HoldsCapped zeros f
 holds_none f none = record {
   long = zeros_long;
-  each = λ v low. zero_at v ∙ ap capped (sym (none v));
+  each = λ v low. zero_at v ∙ ap in_32_bits (sym (none v));
 }
 
 -- A row of numbers that are the same.
 pub holds_same : (f h : ℕ → ℕ) (row : List ℕ) → ((v : ℕ) → f v ≡ h v) → HoldsCapped row f → HoldsCapped row h
 holds_same f h row same so = record {
   long = so.long;
-  each = λ v low. so.each v low ∙ ap capped (same v);
+  each = λ v low. so.each v low ∙ ap in_32_bits (same v);
 }
 
 -- One number more at a place.
-pub holds_one_more : (f h : ℕ → ℕ) (row : List ℕ) (at x : ℕ) → at < 256 → x ≡ capped (f at + 1)
+pub holds_one_more : (f h : ℕ → ℕ) (row : List ℕ) (at x : ℕ) → at < 256 → x ≡ in_32_bits (f at + 1)
     → h at ≡ f at + 1 → ((v : ℕ) → v ≢ at → h v ≡ f v) → HoldsCapped row f → HoldsCapped (slice_set row at x) h
 holds_one_more f h row at x within is here there so = record {
   long = length-set row at x ∙ so.long;
   each = λ v low. elim (cases_eq v at) [
     | inl same ↦ ap (λ (k : ℕ). slice_index_or (slice_set row at x) k 0) same
-        ∙ get_or-set_same row at x 0 (omega (arith, within, so.long)) ∙ is ∙ ap capped (sym here)
-        ∙ ap (λ (k : ℕ). capped (h k)) (sym same)
-    | inr other ↦ get_or-set_other row at v x 0 other ∙ so.each v low ∙ ap capped (sym (there v other))
+        ∙ get_or-set_same row at x 0 (omega (arith, within, so.long)) ∙ is ∙ ap in_32_bits (sym here)
+        ∙ ap (λ (k : ℕ). in_32_bits (h k)) (sym same)
+    | inr other ↦ get_or-set_other row at v x 0 other ∙ so.each v low ∙ ap in_32_bits (sym (there v other))
   ];
 }
 
@@ -111,20 +111,20 @@ counts_all f cs i row past so = holds_same _ _ row (λ u. ap (λ ds. f u + count
 
 -- What is added at a place.
 pub holds_added : (f k : ℕ → ℕ) (row : List ℕ) (at x t : ℕ) → at < 256 → x ≡ min (slice_index_or row at 0 + t) (2 ^ 32 - 1)
-    → t ≡ capped (k at) → HoldsCapped row f → HoldsCapped (slice_set row at x) (λ v. f v + cond (at == v) (k v) 0)
+    → t ≡ in_32_bits (k at) → HoldsCapped row f → HoldsCapped (slice_set row at x) (λ v. f v + cond (at == v) (k v) 0)
 holds_added f k row at x t within is add so = record {
   long = length-set row at x ∙ so.long;
   each = λ v low. elim (cases_eq v at) [
     | inl same ↦
         let here : slice_index_or (slice_set row at x) v 0 ≡ x =
         ap (λ (n : ℕ). slice_index_or (slice_set row at x) n 0) same ∙ get_or-set_same row at x 0 (omega (arith, within, so.long)) in
-        let old : slice_index_or row at 0 ≡ capped (f at) = so.each at within in
+        let old : slice_index_or row at 0 ≡ in_32_bits (f at) = so.each at within in
         let more : f v + cond (at == v) (k v) 0 ≡ f at + k at =
         ap (λ (n : ℕ). f n + cond (at == n) (k n) 0) same ∙ ap (λ (b : Bool). f at + cond b (k at) 0) (eq-eqb at at refl) in
         omega (arith, here, old, is, add, more)
     | inr other ↦
         let there : slice_index_or (slice_set row at x) v 0 ≡ slice_index_or row v 0 = get_or-set_other row at v x 0 other in
-        let old : slice_index_or row v 0 ≡ capped (f v) = so.each v low in
+        let old : slice_index_or row v 0 ≡ in_32_bits (f v) = so.each v low in
         let none : f v + cond (at == v) (k v) 0 ≡ f v + 0 =
         ap (λ (b : Bool). f v + cond b (k v) 0) (ne_eqb at v (λ h. other (sym h))) in
         omega (arith, there, old, none)

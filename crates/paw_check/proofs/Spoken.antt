@@ -11,12 +11,12 @@ use Rattle.paw_base.specs.declared.messages.TheConstants.{TOO_HEAVY_MESSAGE, NOT
 use Rattle.paw_base.specs.declared.messages.TheConstants.{NOT_PUT_ON_MESSAGE, NOT_INSIDE_MESSAGE, NAME_END_MESSAGE}
 use Rattle.paw_base.specs.declared.messages.TheConstants.{IMPOSSIBLE_MESSAGE}
 use Rattle.paw_game.specs.Game.{GameLists}
-use Rattle.paw_world.specs.World.{World, moved}
+use Rattle.paw_world.specs.World.{World, object_moved}
 use Rattle.paw_effects.specs.Texts.{object_text, put_text, say_text}
 use Rattle.paw_effects.specs.ObjectWords.{spoken_words}
-use Rattle.paw_effects.specs.Referring.{referred}
+use Rattle.paw_effects.specs.Referring.{object_referred}
 use Rattle.paw_effects.specs.ObjectSearch.{some_fits}
-use Rattle.paw_effects.specs.ObjectActions.{destination, first_that_holds, hindrances, outcome, tried, acted_on}
+use Rattle.paw_effects.specs.ObjectActions.{destination, first_that_holds, hindrances, outcome, action_tried, acted_on}
 use Rattle.paw_effects.specs.AutoActions.{missing, acted_on_found}
 use Rattle.paw_check.specs.Measures.{most_put}
 use Rattle.paw_check.specs.Prints.{said_of_objects, most_of_action}
@@ -70,14 +70,14 @@ module _ (g : GameLists) (a : _)
     (hinders : (u : World) (o : ℕ) → AllSaid (λ x. (v : World) → length (spoken_words g v x) ≤ most_of_action g) (hindrances u o a))
     (comes : (u : World) → length (spoken_words g u (outcome a)) ≤ most_of_action g) where
   tried_most : (w : World) (o : ℕ) (words : Option _) → IfSome words (λ x. (v : World) → length (spoken_words g v x) ≤ most_of_action g)
-      → length (tried g w o a words).text ≤ most_of_action g
-  tried_most w o None h = comes (moved w o (destination w a))
+      → length (action_tried g w o a words).text ≤ most_of_action g
+  tried_most w o None h = comes (object_moved w o (destination w a))
   tried_most w o (Some x) h = h w
 
   pub acted_most : (w : World) (o : ℕ) → length (acted_on g w o a).text ≤ most_of_action g
   acted_most w o =
-      tried_most (referred w o) o (first_that_holds (hindrances (referred w o) o a))
-      (first_said (λ x. (v : World) → length (spoken_words g v x) ≤ most_of_action g) (hindrances (referred w o) o a) (hinders (referred w o) o))
+      tried_most (object_referred w o) o (first_that_holds (hindrances (object_referred w o) o a))
+      (first_said (λ x. (v : World) → length (spoken_words g v x) ≤ most_of_action g) (hindrances (object_referred w o) o a) (hinders (object_referred w o) o))
 
   either_most : (w : World) (b : Bool) (x y : _) → length (spoken_words g w x) ≤ most_of_action g → length (spoken_words g w y) ≤ most_of_action g
       → length (spoken_words g w (if b then x else y)) ≤ most_of_action g

@@ -8,12 +8,12 @@ use Rattle.paw_base.specs.declared.parts.ObjectFacts.{ObjectFacts}
 use Rattle.paw_game.specs.Game.{GameLists}
 use Rattle.paw_game.specs.Tables.{facts_at}
 use Rattle.paw_game.specs.Valid.{Valid, is_condact}
-use Rattle.paw_world.specs.World.{World, flag, with_flag, place, restarted}
+use Rattle.paw_world.specs.World.{World, flag, with_flag, place, world_restarted}
 use Rattle.paw_world.specs.Weight.{weight}
 use Rattle.paw_effects.specs.Story.{story_of}
 use Rattle.paw_effects.specs.Standing.{AreBytes}
 use Rattle.paw_effects.specs.inner.Standing.{IsWorldOf}
-use Rattle.paw_effects.specs.Referring.{referred, with_referred_facts, flag_of_fact}
+use Rattle.paw_effects.specs.Referring.{object_referred, with_referred_facts, flag_of_fact}
 use Rattle.paw_effects.specs.Holds.{holds}
 use Rattle.paw_effects.specs.Effects.{effect_of}
 use Rattle.paw_effects.proofs.Worlds.{IsWorldAt, world_at, world_is, flagged, facts_small, anew_so}
@@ -21,7 +21,7 @@ use Rattle.paw_effects.proofs.Changes.{referred_so}
 use Rattle.paw_effects.proofs.EachRow.{effect_so, condition_so}
 use Rattle.paw_reading.specs.declared.places.OpenLoop.{OpenLoop}
 use Rattle.paw_reading.specs.Run.{Run, with_timeout}
-use Rattle.paw_reading.specs.Reading.{named, taken}
+use Rattle.paw_reading.specs.Reading.{object_named, object_taken}
 
 -- ---- the world stays one of the game ----
 
@@ -32,21 +32,21 @@ module _ (g : GameLists) (v : Valid g) where
   set : (w : World) → IsWorldOf g w → (f x : ℕ) → x < 256 → IsWorldOf g (with_flag w f x)
   set w k f x small = world_is g w.seed w.draws (with_flag w f x) (flagged g v w.seed w.draws w (now w k) f x small)
 
-  named_of : (w : World) → IsWorldOf g w → (o : ℕ) (f : Option ObjectFacts) → facts_at g o ≡ f → IsWorldOf g (named w f)
+  named_of : (w : World) → IsWorldOf g w → (o : ℕ) (f : Option ObjectFacts) → facts_at g o ≡ f → IsWorldOf g (object_named w f)
   named_of w k o None e = k
   named_of w k o (Some f) e =
       let small = facts_small g v o f e in
       set (with_flag w 34 f.noun) (set w k 34 f.noun small.noun) 35 f.adjective small.adjective
 
   -- A loop takes its next object.
-  pub taken_of : (l : OpenLoop) (o : ℕ) (r : Run) → o < 256 → IsWorldOf g r.world → IsWorldOf g (taken g l o r).world
+  pub taken_of : (l : OpenLoop) (o : ℕ) (r : Run) → o < 256 → IsWorldOf g r.world → IsWorldOf g (object_taken g l o r).world
   taken_of l o r small k =
-      let w : World = with_flag (named r.world (facts_at g o)) 50 o in
-      let h : IsWorldOf g w = set (named r.world (facts_at g o)) (named_of r.world k o (facts_at g o) refl) 50 o small in
-      world_is g w.seed w.draws (referred w o) (referred_so g v w.seed w.draws w (now w h) o small)
+      let w : World = with_flag (object_named r.world (facts_at g o)) 50 o in
+      let h : IsWorldOf g w = set (object_named r.world (facts_at g o)) (named_of r.world k o (facts_at g o) refl) 50 o small in
+      world_is g w.seed w.draws (object_referred w o) (referred_so g v w.seed w.draws w (now w h) o small)
 
-  pub anew_of : (w : World) → IsWorldOf g w → IsWorldOf g (restarted w)
-  anew_of w k = world_is g w.seed w.draws (restarted w) (anew_so g v w.seed w.draws w (now w k))
+  pub anew_of : (w : World) → IsWorldOf g w → IsWorldOf g (world_restarted w)
+  anew_of w k = world_is g w.seed w.draws (world_restarted w) (anew_so g v w.seed w.draws w (now w k))
 
   -- An action is carried out.
   pub acted_of : (answers : List (List ℕ)) → All AreBytes answers → (w : World) → IsWorldOf g w → (c : Condact) → is_condact g c ≡ true →
@@ -68,7 +68,7 @@ pub timeout_verb : (b : Bool) (w : World) → flag (with_timeout b w) 33 ≡ fla
 timeout_verb true w = other w 49 (128 + flag w 49 % 128) (omega arith)
 timeout_verb false w = other w 49 (flag w 49 % 128) (omega arith)
 
-named_verb : (w : World) (f : Option ObjectFacts) → flag (named w f) 33 ≡ flag w 33
+named_verb : (w : World) (f : Option ObjectFacts) → flag (object_named w f) 33 ≡ flag w 33
 named_verb w None = refl
 named_verb w (Some f) = other (with_flag w 34 f.noun) 35 f.adjective (omega arith) ∙ other w 34 f.noun (omega arith)
 
@@ -80,12 +80,12 @@ facts_verb w o (Some f) =
     other held 57 (flag_of_fact f.wearable) (omega arith) ∙ other weighed 56 (flag_of_fact f.container) (omega arith)
     ∙ other w 55 (weight w o) (omega arith)
 
-referred_verb : (w : World) (o : ℕ) → flag (referred w o) 33 ≡ flag w 33
+referred_verb : (w : World) (o : ℕ) → flag (object_referred w o) 33 ≡ flag w 33
 referred_verb w o =
     let s : World = with_flag (with_flag w 51 o) 54 (place w o) in
     facts_verb s o (slice_get w.facts o) ∙ other (with_flag w 51 o) 54 (place w o) (omega arith) ∙ other w 51 o (omega arith)
 
-pub taken_verb : (g : GameLists) (l : OpenLoop) (o : ℕ) (r : Run) → flag (taken g l o r).world 33 ≡ flag r.world 33
+pub taken_verb : (g : GameLists) (l : OpenLoop) (o : ℕ) (r : Run) → flag (object_taken g l o r).world 33 ≡ flag r.world 33
 taken_verb g l o r =
-    let w : World = named r.world (facts_at g o) in
+    let w : World = object_named r.world (facts_at g o) in
     referred_verb (with_flag w 50 o) o ∙ other w 50 o (omega arith) ∙ named_verb r.world (facts_at g o)

@@ -37,12 +37,12 @@ use Rattle.paw_effects.proofs.Worlds.{few_objects}
 use Rattle.paw_reading.specs.Bounds.{IsLine, ValidStory}
 use Rattle.paw_reading.specs.declared.places.Frame.{Frame}
 use Rattle.paw_reading.specs.declared.places.OpenLoop.{OpenLoop}
-use Rattle.paw_reading.specs.Run.{Run, Step, closed, printed, with_world, without_loop, anew, with_timeout, is_timeout}
-use Rattle.paw_reading.specs.Run.{is_ignored, heard, reply, is_yes, is_no, taken_phrase}
+use Rattle.paw_reading.specs.Run.{Run, Step, piece_closed, text_printed, with_world, without_loop, anew, with_timeout, is_timeout}
+use Rattle.paw_reading.specs.Run.{is_ignored, with_line_heard, reply, is_yes, is_no, taken_phrase}
 use Rattle.paw_reading.specs.declared.places.Halt.TheVariants as halt
 use Rattle.paw_reading.specs.Reading.{Redescribes, Restarts, Halts, Stop, Out, Left, Waits, Stopped}
-use Rattle.paw_reading.specs.Reading.{noted, after_call, at_level, next_object_or, is_taken, taken, over_objects}
-use Rattle.paw_reading.specs.Reading.{loop_of, over, answered, asked, waits}
+use Rattle.paw_reading.specs.Reading.{step_noted, after_call, at_level, next_object_or, is_taken, object_taken, over_objects}
+use Rattle.paw_reading.specs.Reading.{loop_of, over, prompt_answered, prompt_asked, waits}
 use Rattle.paw_reading.specs.Reading.{after_test, after_parse, coming_phrase, after_action, carried_out, acts}
 use Rattle.paw_reading.specs.Reading.{reads_one, condacts, is_for_now}
 use Rattle.paw_reading.specs.Reading.{entries, from_condact, rest_of_loop, read_at_level, game_over}
@@ -198,7 +198,7 @@ module _ (g : Story) (valid : ValidStory g) (kind : SpentKind) (limit pending : 
     closed = k.closed;
   }
 
-  closed_is : (lv : ℕ) (r : Run) → Is lv r → used kind r ≤ limit → Is lv (closed r)
+  closed_is : (lv : ℕ) (r : Run) → Is lv r → used kind r ≤ limit → Is lv (piece_closed r)
   closed_is lv r k h = record {
     world = k.world;
     small = k.small;
@@ -220,7 +220,7 @@ module _ (g : Story) (valid : ValidStory g) (kind : SpentKind) (limit pending : 
     closed = k.closed;
   }
 
-  taken_is : (lv : ℕ) (l : OpenLoop) (o : ℕ) (r : Run) → l.level ≡ lv → o < 256 → Is lv r → Is lv (taken g.game l o r)
+  taken_is : (lv : ℕ) (l : OpenLoop) (o : ℕ) (r : Run) → l.level ≡ lv → o < 256 → Is lv r → Is lv (object_taken g.game l o r)
   taken_is lv l o r own few k = record {
     world = taken_of g.game valid.game l o r few k.world;
     small = k.small;
@@ -231,7 +231,7 @@ module _ (g : Story) (valid : ValidStory g) (kind : SpentKind) (limit pending : 
     closed = k.closed;
   }
 
-  heard_is : (lv : ℕ) (line : List ℕ) (r : Run) → Is lv r → Is lv (heard line r)
+  heard_is : (lv : ℕ) (line : List ℕ) (r : Run) → Is lv r → Is lv (with_line_heard line r)
   heard_is lv line r k =
       in_world lv r k (with_timeout (is_timeout line) r.world) (timeout_of g.game valid.game (is_timeout line) r.world k.world)
       (λ e. timeout_verb (is_timeout line) r.world)
@@ -270,12 +270,12 @@ module _ (g : Story) (valid : ValidStory g) (kind : SpentKind) (limit pending : 
     over_ends : (P : Run → Type 0) (n : ℕ) (r : Run) → Is lv r → used kind r ≤ 0 → Ends P n (over g r)
     over_ends P n r k u =
         let text : List ℕ = goodbye g r in
-        let most : used kind (printed text r) ≤ limit = first_use kind limit r text u (bye r.world k.world) in
-        may_print (Ends P n) kind text game_over r (omega (arith, most, low)) (game_over_ends P n (printed text r) most k.closed) (λ h. h)
+        let most : used kind (text_printed text r) ≤ limit = first_use kind limit r text u (bye r.world k.world) in
+        may_print (Ends P n) kind text game_over r (omega (arith, most, low)) (game_over_ends P n (text_printed text r) most k.closed) (λ h. h)
 
     module _ (once more : ℕ) (go : Bool → Run → Out) (goes : Goes once more go) (fits : once + more ≤ limit) where
       answered_ends : (p : Prompt) (f : Frame) (line : List ℕ) (r : Run) → Is lv r → used kind r ≤ 0 →
-          Ends (Inside lv once (once + more)) (once + more) (answered g p f go line r)
+          Ends (Inside lv once (once + more)) (once + more) (prompt_answered g p f go line r)
       answered_ends prompt.Quit f line r k u =
           either (Ends (Inside lv once (once + more)) (once + more)) (is_yes line) _ (Left true r)
           (inside_up lv (0 + once) (0 + (once + more)) once (once + more) (omega arith) (omega arith) (go f.acted r)
@@ -299,20 +299,20 @@ module _ (g : Story) (valid : ValidStory g) (kind : SpentKind) (limit pending : 
           inside_up lv (0 + once) (0 + (once + more)) once (once + more) (omega arith) (omega arith) (go true r) (goes true 0 r k u (omega (arith, fits)))
 
       asked_ends : (p : Prompt) (f : Frame) (r : Run) (lines : List (List ℕ)) → Is lv r → used kind r ≤ 0 → All IsLine lines →
-          Ends (Inside lv once (once + more)) (once + more) (asked g p f go r lines)
-      unfolding asked
+          Ends (Inside lv once (once + more)) (once + more) (prompt_asked g p f go r lines)
+      unfolding prompt_asked
       asked_ends p f r [] k u are = k.closed
       asked_ends p f r (line ∷ lines) k u are =
           let s : Run = record r { events = lines } in
           let rest : All IsLine lines = All-tail IsLine line lines are in
           let is : Is lv s = with_events lv r k lines rest in
           either (Ends (Inside lv once (once + more)) (once + more)) (is_ignored r.world line) _ _
-          (asked_ends p f (closed s) lines (closed_is lv s is (omega (arith, u))) (nothing kind) rest)
-          (answered_ends p f (reply line) (heard line s) (heard_is lv line s is) u)
+          (asked_ends p f (piece_closed s) lines (closed_is lv s is (omega (arith, u))) (nothing kind) rest)
+          (answered_ends p f (reply line) (with_line_heard line s) (heard_is lv line s is) u)
 
       waits_ends : (p : Prompt) (f : Frame) (r : Run) → Is lv r → used kind r ≤ limit →
           Ends (Inside lv once (once + more)) (once + more) (waits g p f go r)
-      waits_ends p f r k u = asked_ends p f (closed r) r.events (closed_is lv r k u) (nothing kind) k.lines
+      waits_ends p f r k u = asked_ends p f (piece_closed r) r.events (closed_is lv r k u) (nothing kind) k.lines
 
     -- ---- loops and calls ----
 
@@ -335,7 +335,7 @@ module _ (g : Story) (valid : ValidStory g) (kind : SpentKind) (limit pending : 
     turns_end l body once more own takes (suc n) few m r k u fits =
         let o : ℕ = length g.game.objects - suc n in
         let small : o < 256 = omega (arith, few_objects g.game valid.game) in
-        let s : Run = taken g.game l o r in
+        let s : Run = object_taken g.game l o r in
         let some : more ≤ turned once more n = more_turned once more n in
         let most : ℕ = m + turned once more (suc n) in
         either (Ends (Outside lv most) most) (is_taken g.game r.world l o) _ _
@@ -385,15 +385,15 @@ module _ (g : Story) (valid : ValidStory g) (kind : SpentKind) (limit pending : 
       after_parse_ends may m r k u fits IsNoPhrase e less = goes_go f.acted m r k u fits
 
       after_test_ends : (c : Condact) (m : ℕ) (r : Run) (t : Truth) → Is lv r → m + (once + more) ≤ limit →
-          ((b : Bool) → used kind (noted f c b r) ≤ m) →
-          (t ≡ truth.Ask → used kind (printed (quit_question g r) (noted f c true r)) ≤ m) →
+          ((b : Bool) → used kind (step_noted f c b r) ≤ m) →
+          (t ≡ truth.Ask → used kind (text_printed (quit_question g r) (step_noted f c true r)) ≤ m) →
           Ends (Inside lv (m + once) (m + (once + more))) (m + (once + more)) (after_test g f next go c r t)
-      after_test_ends c m r truth.Yes k fits uses asks = goes_go f.acted m (noted f c true r) k (uses true) fits
-      after_test_ends c m r truth.No k fits uses asks = goes_next f.acted m (noted f c false r) k (uses false) fits
+      after_test_ends c m r truth.Yes k fits uses asks = goes_go f.acted m (step_noted f c true r) k (uses true) fits
+      after_test_ends c m r truth.No k fits uses asks = goes_next f.acted m (step_noted f c false r) k (uses false) fits
       after_test_ends c m r truth.Ask k fits uses asks =
           let text : List ℕ = quit_question g r in
-          let s : Run = printed text (noted f c true r) in
-          may_print (Ends (Inside lv (m + once) (m + (once + more))) (m + (once + more))) kind text (waits g prompt.Quit f go) (noted f c true r)
+          let s : Run = text_printed text (step_noted f c true r) in
+          may_print (Ends (Inside lv (m + once) (m + (once + more))) (m + (once + more))) kind text (waits g prompt.Quit f go) (step_noted f c true r)
           (omega (arith, asks refl, fits, low))
           (inside_up lv once (once + more) (m + once) (m + (once + more)) (omega arith) (omega arith) (waits g prompt.Quit f go s)
           (waits_ends once more go goes_go (omega (arith, fits)) prompt.Quit f s k (omega (arith, asks refl, fits))))
@@ -501,13 +501,13 @@ module _ (g : Story) (valid : ValidStory g) (kind : SpentKind) (limit pending : 
               own_takes c,
             )))
 
-        acted_ends : (r : Run) → Is lv r → used kind r ≤ m → Comes (acts g sub lv f next go (effect_of g r.world c) (noted f c true r))
+        acted_ends : (r : Run) → Is lv r → used kind r ≤ m → Comes (acts g sub lv f next go (effect_of g r.world c) (step_noted f c true r))
         acted_ends r k u =
             let d : Done = effect_of g r.world c in
-            let s : Run = printed d.text (noted f c true r) in
+            let s : Run = text_printed d.text (step_noted f c true r) in
             let most : used kind s ≤ m + own_of kind g.game c =
             omega (arith, u, printed_use kind g.game r f c true d.text (actions_print_within g r.world c valid k.world (is c has))) in
-            may_print Comes kind d.text (λ j. after_action g sub lv f next go d.act.effect (carried_out d j)) (noted f c true r)
+            may_print Comes kind d.text (λ j. after_action g sub lv f next go d.act.effect (carried_out d j)) (step_noted f c true r)
             (omega (arith, most, own_takes c, fits, low))
             (after_action_ends d.act.effect r.world (effect_leads g r.world c)
             (λ e. subst (MayLead (plain_code c.code)) e (effect_goes g r.world c))

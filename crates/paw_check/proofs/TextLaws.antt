@@ -20,7 +20,7 @@ use Rattle.paw_check.specs.declared.prints.Printed.{Printed}
 use Rattle.paw_check.specs.declared.prints.Printed.TheVariants as printed
 use Rattle.paw_check.specs.declared.prints.Prints.{Prints}
 use Rattle.paw_check.specs.declared.prints.TheConstants.{PRINTED}
-use Rattle.paw_check.specs.inner.Capped.{HoldsCapped, capped}
+use Rattle.paw_check.specs.inner.Capped.{HoldsCapped, in_32_bits}
 use Rattle.paw_check.specs.inner.Own.{byte_in, measure_in, measure_at, kind_in, kind_of, named_in, text_in}
 use Rattle.paw_check.specs.inner.Texts.{ArePrints}
 use Rattle.paw_check.proofs.Capped.{add_alike, sum_alike, from_capped, capped_again}
@@ -29,20 +29,20 @@ use Rattle.paw_check.proofs.Greatest.{greatest_alike, greatest_capped}
 -- ---- measures ----
 
 -- Where a name has as many bytes but for the cap, a text prints as many.
-byte_alike : (name most b : ℕ) → name ≡ capped most → capped (byte_in name b) ≡ capped (byte_in most b)
+byte_alike : (name most b : ℕ) → name ≡ in_32_bits most → in_32_bits (byte_in name b) ≡ in_32_bits (byte_in most b)
 byte_alike name most b h = at (b == 95) where
-  at : (x : Bool) → capped (cond x name 1) ≡ capped (cond x most 1)
+  at : (x : Bool) → in_32_bits (cond x name 1) ≡ in_32_bits (cond x most 1)
   at true = from_capped name most h
   at false = refl
 
-pub measure_alike : (name most : ℕ) (text : List ℕ) → name ≡ capped most → capped (measure_in name text) ≡ capped (measure_in most text)
+pub measure_alike : (name most : ℕ) (text : List ℕ) → name ≡ in_32_bits most → in_32_bits (measure_in name text) ≡ in_32_bits (measure_in most text)
 measure_alike name most text h = sum_alike (byte_in name) (byte_in most) text (λ b. byte_alike name most b h)
 
-pub greatest_measure_alike : (g : GameLists) (name : ℕ) (texts : List (List ℕ)) → name ≡ capped (longest_name g)
-    → capped (greatest (map (measure_in name) texts)) ≡ capped (most_of g texts)
+pub greatest_measure_alike : (g : GameLists) (name : ℕ) (texts : List (List ℕ)) → name ≡ in_32_bits (longest_name g)
+    → in_32_bits (greatest (map (measure_in name) texts)) ≡ in_32_bits (most_of g texts)
 greatest_measure_alike g name texts h = greatest_alike _ _ texts (λ text. measure_alike name (longest_name g) text h)
 
-pub holds_measures : (g : GameLists) (name : ℕ) (texts : List (List ℕ)) (row : List ℕ) → name ≡ capped (longest_name g)
+pub holds_measures : (g : GameLists) (name : ℕ) (texts : List (List ℕ)) (row : List ℕ) → name ≡ in_32_bits (longest_name g)
     → HoldsCapped row (measure_at name texts) → HoldsCapped row (most_at g texts)
 holds_measures g name texts row h holds = record {
   long = holds.long;
@@ -55,7 +55,7 @@ none_past g texts n past = ap (λ text. most_bytes g (unwrap_or text [])) (slice
 
 -- A row holds the measure of each text, and of none past the last.
 pub at_alike : (g : GameLists) (texts : List (List ℕ)) (row : List ℕ) (n : ℕ) → length texts ≤ 256
-    → HoldsCapped row (most_at g texts) → slice_index_or row n 0 ≡ capped (most_at g texts n)
+    → HoldsCapped row (most_at g texts) → slice_index_or row n 0 ≡ in_32_bits (most_at g texts n)
 at_alike g texts row n few holds = elim (cases_lt n 256) [
   | inl low ↦ holds.each n low
   | inr high ↦
@@ -105,14 +105,14 @@ unfolding most_text
 text_is g c = row_at (plain_code c.code) g c
 
 named_alike : (g : GameLists) (texts : List (List ℕ)) (row : List ℕ) (any : ℕ) (c : Condact) → length texts ≤ 256
-    → HoldsCapped row (most_at g texts) → any ≡ capped (most_of g texts) → named_in row any c ≡ capped (most_named g texts c)
+    → HoldsCapped row (most_at g texts) → any ≡ in_32_bits (most_of g texts) → named_in row any c ≡ in_32_bits (most_named g texts c)
 named_alike g texts row any c few holds most = at (is_indirect c.code) where
-  at : (b : Bool) → cond b any (slice_index_or row c.a 0) ≡ capped (cond b (most_of g texts) (most_at g texts c.a))
+  at : (b : Bool) → cond b any (slice_index_or row c.a 0) ≡ in_32_bits (cond b (most_of g texts) (most_at g texts c.a))
   at true = most
   at false = at_alike g texts row c.a few holds
 
 kind_alike : (g : GameLists) (p : Prints) (c : Condact) → ArePrints g p → length g.system ≤ 256 → length g.messages ≤ 256
-    → (k : Printed) → kind_in p k c ≡ capped (kind_most g k c)
+    → (k : Printed) → kind_in p k c ≡ in_32_bits (kind_most g k c)
 kind_alike g p c are few many printed.Nothing = refl
 kind_alike g p c are few many printed.Newline = refl
 kind_alike g p c are few many printed.Flag = refl
@@ -133,14 +133,14 @@ kind_alike g p c are few many printed.System = named_alike g g.system p.system p
 
 -- What the code takes of a condact is the most that it prints.
 pub text_alike : (g : GameLists) (p : Prints) → ArePrints g p → length g.system ≤ 256 → length g.messages ≤ 256
-    → (c : Condact) → capped (text_in p c) ≡ capped (most_text g c)
+    → (c : Condact) → in_32_bits (text_in p c) ≡ in_32_bits (most_text g c)
 text_alike g p are few many c =
-    ap capped (kind_alike g p c are few many (kind_of c.code)) ∙ capped_again (kind_most g (kind_of c.code) c)
-    ∙ ap capped (sym (text_is g c))
+    ap in_32_bits (kind_alike g p c are few many (kind_of c.code)) ∙ capped_again (kind_most g (kind_of c.code) c)
+    ∙ ap in_32_bits (sym (text_is g c))
 
 -- The greatest measure that a row holds for these messages.
 pub greatest_of_row : (g : GameLists) (row : List ℕ) (messages : List ℕ) → length g.system ≤ 256 → HoldsCapped row (most_put g)
-    → greatest (map (λ s. slice_index_or row s 0) messages) ≡ capped (greatest (map (most_put g) messages))
+    → greatest (map (λ s. slice_index_or row s 0) messages) ≡ in_32_bits (greatest (map (most_put g) messages))
 greatest_of_row g row messages few holds =
-    ap greatest (map_same (λ s. slice_index_or row s 0) (λ s. capped (most_put g s)) messages (λ s. at_alike g g.system row s few holds))
+    ap greatest (map_same (λ s. slice_index_or row s 0) (λ s. in_32_bits (most_put g s)) messages (λ s. at_alike g g.system row s few holds))
     ∙ greatest_capped (most_put g) messages

@@ -6,16 +6,16 @@ use Rattle.paw_game.specs.Game.{GameLists}
 use Rattle.paw_game.specs.Tables.{exit_at}
 use Rattle.paw_game.specs.Valid.{Valid}
 use Rattle.paw_game.proofs.Kept.{exit-leads}
-use Rattle.paw_world.specs.World.{World, flag, with_flag, starting_world, is_dark, is_unlit, fallen, fallen_if}
+use Rattle.paw_world.specs.World.{World, flag, with_flag, starting_world, is_dark, is_unlit, flag_lowered, flag_lowered_if}
 use Rattle.paw_phrase.specs.declared.Sentence.{Sentence}
 use Rattle.paw_phrase.specs.Sentence.{IsSentence}
 use Rattle.paw_phrase.proofs.SentenceBytes.{AreBytes as AreWords, parsed-bytes}
 use Rattle.paw_effects.specs.Counts.{turns_taken}
 use Rattle.paw_effects.specs.inner.Standing.{IsWorldOf}
 use Rattle.paw_effects.proofs.Worlds.{world_at, world_is, byte_at, flagged, start_so, few_locations}
-use Rattle.paw_reading.specs.Run.{Run, with_timeout, spoken}
+use Rattle.paw_reading.specs.Run.{Run, with_timeout, with_sentence}
 use Rattle.paw_reading.specs.Reading.{coming_phrase}
-use Rattle.paw_reading.specs.Turn.{described, time_frame_passed, counted}
+use Rattle.paw_reading.specs.Turn.{location_described, time_frame_passed, turn_counted}
 
 module _ (g : GameLists) (v : Valid g) where
   byte_of : (w : World) → IsWorldOf g w → (f : ℕ) → flag w f < 256
@@ -27,21 +27,21 @@ module _ (g : GameLists) (v : Valid g) where
 
   -- ---- flags that fall ----
 
-  fallen_of : (f : ℕ) (w : World) → IsWorldOf g w → IsWorldOf g (fallen f w)
+  fallen_of : (f : ℕ) (w : World) → IsWorldOf g w → IsWorldOf g (flag_lowered f w)
   fallen_of f w k = flag_set w k f (flag w f - 1) (omega (arith, byte_of w k f))
 
-  fallen_if_of : (b : Bool) (f : ℕ) (w : World) → IsWorldOf g w → IsWorldOf g (fallen_if b f w)
+  fallen_if_of : (b : Bool) (f : ℕ) (w : World) → IsWorldOf g w → IsWorldOf g (flag_lowered_if b f w)
   fallen_if_of true f w k = fallen_of f w k
   fallen_if_of false f w k = k
 
-  pub described_of : (w : World) → IsWorldOf g w → IsWorldOf g (described w)
+  pub described_of : (w : World) → IsWorldOf g w → IsWorldOf g (location_described w)
   described_of w k =
-      fallen_if_of (is_unlit w) 4 (fallen_if (is_dark w) 3 (fallen 2 w)) (fallen_if_of (is_dark w) 3 (fallen 2 w) (fallen_of 2 w k))
+      fallen_if_of (is_unlit w) 4 (flag_lowered_if (is_dark w) 3 (flag_lowered 2 w)) (fallen_if_of (is_dark w) 3 (flag_lowered 2 w) (fallen_of 2 w k))
 
   pub time_frame_of : (w : World) → IsWorldOf g w → IsWorldOf g (time_frame_passed w)
   time_frame_of w k =
-      let first : World = fallen 8 (fallen 7 (fallen 6 (fallen 5 w))) in
-      fallen_if_of (is_unlit w) 10 (fallen_if (is_dark w) 9 first) (fallen_if_of (is_dark w) 9 first
+      let first : World = flag_lowered 8 (flag_lowered 7 (flag_lowered 6 (flag_lowered 5 w))) in
+      fallen_if_of (is_unlit w) 10 (flag_lowered_if (is_dark w) 9 first) (fallen_if_of (is_dark w) 9 first
       (fallen_of 8 _ (fallen_of 7 _ (fallen_of 6 _ (fallen_of 5 w k)))))
 
   -- ---- the exit, the number of turns, timeouts ----
@@ -50,7 +50,7 @@ module _ (g : GameLists) (v : Valid g) where
   exit_of w k to e =
       flag_set w k 38 to (omega (arith, exit-leads g v (flag w 38) (flag w 33) to e, (few_locations g v).1))
 
-  pub counted_of : (w : World) → IsWorldOf g w → IsWorldOf g (counted w)
+  pub counted_of : (w : World) → IsWorldOf g w → IsWorldOf g (turn_counted w)
   counted_of w k =
       let n : ℕ = min 65535 (turns_taken w + 1) in
       flag_set (with_flag w 31 (n % 256)) (flag_set w k 31 (n % 256) (low n)) 32 (n / 256) (high n (min-le_left 65535 (turns_taken w + 1)))
@@ -73,7 +73,7 @@ module _ (g : GameLists) (v : Valid g) where
 
   -- ---- phrases ----
 
-  spoken_of : (s : Sentence) (w : World) → AreWords s → IsWorldOf g w → IsWorldOf g (spoken s w)
+  spoken_of : (s : Sentence) (w : World) → AreWords s → IsWorldOf g w → IsWorldOf g (with_sentence s w)
   spoken_of s w b k =
       flag_set _ (flag_set _ (flag_set _ (flag_set _ (flag_set _ (flag_set _ (flag_set _ (flag_set _ (flag_set w k 33 s.verb b.verb) 34 s.noun b.noun)
       35 s.adjective b.adjective) 36 s.adverb b.adverb) 43 s.preposition b.preposition) 44 s.second_noun b.second_noun)
@@ -81,7 +81,7 @@ module _ (g : GameLists) (v : Valid g) where
 
   -- The world in which the sentence of the line's next phrase stands, and its verb is a byte.
   pub phrase_of : (answers : List (List ℕ)) (r : Run) → IsWorldOf g r.world → r.earlier < 256 → (s : Sentence) (left : List ℕ) →
-      coming_phrase (record { game = g; answers = answers }) r ≡ IsSentence s left → IsWorldOf g (spoken s r.world) × (s.verb < 256)
+      coming_phrase (record { game = g; answers = answers }) r ≡ IsSentence s left → IsWorldOf g (with_sentence s r.world) × (s.verb < 256)
   phrase_of answers r k early s left e =
       let words =
       parsed-bytes g r.pending r.earlier (flag r.world 46) (flag r.world 47) s left v early (byte_of r.world k 46) (byte_of r.world k 47) e in

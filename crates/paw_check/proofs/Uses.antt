@@ -10,9 +10,9 @@ use Rattle.paw_base.specs.declared.fault.SpentKind.{SpentKind}
 use Rattle.paw_base.specs.declared.fault.SpentKind.TheVariants as spent
 use Rattle.paw_game.specs.Game.{GameLists}
 use Rattle.paw_reading.specs.declared.places.Frame.{Frame}
-use Rattle.paw_reading.specs.Run.{Run, Step, fits, printed}
+use Rattle.paw_reading.specs.Run.{Run, Step, fits, text_printed}
 use Rattle.paw_reading.specs.declared.places.Halt.TheVariants as halt
-use Rattle.paw_reading.specs.Reading.{Out, halts, within, step_at, noted, printing}
+use Rattle.paw_reading.specs.Reading.{Out, halts, within, step_at, step_noted, printing}
 use Rattle.paw_check.specs.Prints.{most_text}
 
 -- Of two amounts that of this kind.
@@ -48,18 +48,18 @@ nothing spent.Condacts = omega arith
 nothing spent.Text = omega arith
 
 pub noted_use : (kind : SpentKind) (g : GameLists) (r : Run) (f : Frame) (c : Condact) (b : Bool) →
-    used kind (noted f c b r) ≤ used kind r + own_of kind g c
+    used kind (step_noted f c b r) ≤ used kind r + own_of kind g c
 noted_use spent.Condacts g r f c b = omega (arith, length-append r.read (step_at f c b ∷ []))
 noted_use spent.Text g r f c b = omega arith
 
 pub printed_use : (kind : SpentKind) (g : GameLists) (r : Run) (f : Frame) (c : Condact) (b : Bool) (text : List ℕ) →
-    length text ≤ most_text g c → used kind (printed text (noted f c b r)) ≤ used kind r + own_of kind g c
+    length text ≤ most_text g c → used kind (text_printed text (step_noted f c b r)) ≤ used kind r + own_of kind g c
 printed_use spent.Condacts g r f c b text h = omega (arith, length-append r.read (step_at f c b ∷ []))
 printed_use spent.Text g r f c b text h = omega (arith, length-append r.current text)
 
 -- A text is printed at the start of a piece.
 pub first_use : (kind : SpentKind) (limit : ℕ) (r : Run) (text : List ℕ) → used kind r ≤ 0 → of_kind kind 0 (length text) ≤ limit →
-    used kind (printed text r) ≤ limit
+    used kind (text_printed text r) ≤ limit
 first_use spent.Condacts limit r text h k = omega arith
 first_use spent.Text limit r text h k = omega (arith, length-append r.current text)
 
@@ -92,14 +92,14 @@ pub may_read : (P : Out → Type 0) (kind : SpentKind) (g : GameLists) (c : Cond
 may_read P kind g c r x h k spends =
     passes P (nat_lt (length r.read) READ_LIMIT) x (halts (halt.Spent spent.Condacts) r) k (λ e. spends (unread kind g c r h e))
 
-unfit : (kind : SpentKind) (r : Run) (text : List ℕ) → used kind (printed text r) ≤ of_kind kind READ_LIMIT PIECE_LIMIT → fits r text ≡ false →
+unfit : (kind : SpentKind) (r : Run) (text : List ℕ) → used kind (text_printed text r) ≤ of_kind kind READ_LIMIT PIECE_LIMIT → fits r text ≡ false →
     Another kind spent.Text
 unfit spent.Condacts r text h e = tt
 unfit spent.Text r text h e = absurd (omega (arith, length-append r.current text, leb-false (length r.current + length text) PIECE_LIMIT e))
 
 -- A text may be printed where the piece with it is within the limit.
 pub may_print : (P : Out → Type 0) (kind : SpentKind) (text : List ℕ) (go : Run → Out) (r : Run) →
-    used kind (printed text r) ≤ of_kind kind READ_LIMIT PIECE_LIMIT → P (go (printed text r)) →
+    used kind (text_printed text r) ≤ of_kind kind READ_LIMIT PIECE_LIMIT → P (go (text_printed text r)) →
     (Another kind spent.Text → P (halts (halt.Spent spent.Text) r)) → P (printing text go r)
 may_print P kind text go r h k spends =
-    passes P (fits r text) (go (printed text r)) (halts (halt.Spent spent.Text) r) k (λ e. spends (unfit kind r text h e))
+    passes P (fits r text) (go (text_printed text r)) (halts (halt.Spent spent.Text) r) k (λ e. spends (unfit kind r text h e))

@@ -13,14 +13,14 @@ use Rattle.paw_base.specs.declared.flags.TheConstants.{REFERRED_WEIGHT_FLAG}
 use Rattle.paw_base.specs.declared.flags.TheConstants.{REFERRED_CONTAINER_FLAG, REFERRED_WEARABLE_FLAG}
 use Rattle.paw_base.specs.declared.parts.ObjectFacts.{ObjectFacts}
 use Rattle.paw_game.specs.Game.{GameLists}
-use Rattle.paw_world.specs.World.{World, Position, flag, with_flag, place, with_place, let_go, taken_up, moved}
+use Rattle.paw_world.specs.World.{World, Position, flag, with_flag, place, with_place, let_go, taken_up, object_moved}
 use Rattle.paw_world.specs.World.{at_position}
 use Rattle.paw_world.specs.Weight.{weight}
 use Rattle.paw_effects.specs.declared.act.Effect.TheVariants as effect
 use Rattle.paw_effects.specs.Done.{Done}
-use Rattle.paw_effects.specs.Positions.{loaded}
-use Rattle.paw_effects.specs.Referring.{with_referred_facts, flag_of_fact, referred, referred_to_none}
-use Rattle.paw_effects.specs.ObjectActions.{destination, first_that_holds, hindrances, tried, acted_on}
+use Rattle.paw_effects.specs.Positions.{position_loaded}
+use Rattle.paw_effects.specs.Referring.{with_referred_facts, flag_of_fact, object_referred, referred_to_none}
+use Rattle.paw_effects.specs.ObjectActions.{destination, first_that_holds, hindrances, action_tried, acted_on}
 use Rattle.paw_effects.specs.AutoActions.{acted_on_found}
 use Rattle.paw_effects.specs.Holds.{answers}
 use Rattle.paw_effects.specs.inner.Standing.{MayBePosition}
@@ -61,15 +61,15 @@ module _ (n : ℕ) where
 
   -- ---- moves ----
 
-  pub moved_has : (w : World) (o p : ℕ) → HasVerb w → HasVerb (moved w o p)
+  pub moved_has : (w : World) (o p : ℕ) → HasVerb w → HasVerb (object_moved w o p)
   moved_has w o p k =
       let left : World = let_go w (place w o) in
       one_has (place w o == p) w (with_place (taken_up left p) o p) k
       (flag_has (p == CARRIED_PLACE) left 1 _ refl (flag_has (place w o == CARRIED_PLACE) w 1 _ refl k))
 
-  pub dropped_has : (p : ℕ) (os : List ℕ) (w : World) → HasVerb w → HasVerb (fold (λ v o. moved v o p) w os)
+  pub dropped_has : (p : ℕ) (os : List ℕ) (w : World) → HasVerb w → HasVerb (fold (λ v o. object_moved v o p) w os)
   dropped_has p [] w k = k
-  dropped_has p (o ∷ os) w k = dropped_has p os (moved w o p) (moved_has w o p k)
+  dropped_has p (o ∷ os) w k = dropped_has p os (object_moved w o p) (moved_has w o p k)
 
   -- ---- referring ----
 
@@ -81,7 +81,7 @@ module _ (n : ℕ) where
       other_has held REFERRED_WEARABLE_FLAG (flag_of_fact f.wearable) refl
       (other_has weighed REFERRED_CONTAINER_FLAG (flag_of_fact f.container) refl (other_has w REFERRED_WEIGHT_FLAG (weight w o) refl k))
 
-  pub referred_has : (w : World) (o : ℕ) → HasVerb w → HasVerb (referred w o)
+  pub referred_has : (w : World) (o : ℕ) → HasVerb w → HasVerb (object_referred w o)
   referred_has w o k =
       let numbered : World = with_flag w REFERRED_FLAG o in
       facts_has (with_flag numbered REFERRED_PLACE_FLAG (place w o)) o (slice_get w.facts o)
@@ -96,18 +96,18 @@ module _ (n : ℕ) where
       other_has held REFERRED_WEARABLE_FLAG 0 refl (other_has weighed REFERRED_CONTAINER_FLAG 0 refl (other_has placed REFERRED_WEIGHT_FLAG 0 refl
       (other_has numbered REFERRED_PLACE_FLAG NOT_CREATED_PLACE refl (other_has w REFERRED_FLAG NO_WORD refl k))))
 
-  pub referred_found_has : (w : World) (found : Option ℕ) → HasVerb w → HasVerb (option_map_or (referred w) found (referred_to_none w))
+  pub referred_found_has : (w : World) (found : Option ℕ) → HasVerb w → HasVerb (option_map_or (object_referred w) found (referred_to_none w))
   referred_found_has w None k = none_has w k
   referred_found_has w (Some o) k = referred_has w o k
 
   -- ---- actions on objects ----
 
-  tried_has : (g : GameLists) (w : World) (o : ℕ) (a : _) (said : Option _) → HasVerb w → HasVerb (tried g w o a said).world
+  tried_has : (g : GameLists) (w : World) (o : ℕ) (a : _) (said : Option _) → HasVerb w → HasVerb (action_tried g w o a said).world
   tried_has g w o a (Some said) k = k
   tried_has g w o a None k = moved_has w o (destination w a) k
 
   pub acted_has : (g : GameLists) (w : World) (o : ℕ) (a : _) → HasVerb w → HasVerb (acted_on g w o a).world
-  acted_has g w o a k = tried_has g (referred w o) o a (first_that_holds (hindrances (referred w o) o a)) (referred_has w o k)
+  acted_has g w o a k = tried_has g (object_referred w o) o a (first_that_holds (hindrances (object_referred w o) o a)) (referred_has w o k)
 
   pub found_has : (g : GameLists) (w : World) (a : _) (found : Option ℕ) → HasVerb w → HasVerb (acted_on_found g w a found).world
   found_has g w a None k = k
@@ -116,7 +116,7 @@ module _ (n : ℕ) where
   -- ---- positions ----
 
   -- LOAD leaves all tables.
-  pub loaded_leaves : (g : GameLists) (w : World) (q : Option Position) → LeavesVerb (loaded g w q)
+  pub loaded_leaves : (g : GameLists) (w : World) (q : Option Position) → LeavesVerb (position_loaded g w q)
   loaded_leaves g w None = inr refl
   loaded_leaves g w (Some q) = inr refl
 

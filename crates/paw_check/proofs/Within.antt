@@ -23,7 +23,7 @@ use Rattle.paw_reading.specs.declared.places.OpenLoop.{OpenLoop}
 use Rattle.paw_reading.specs.Run.{Run}
 use Rattle.paw_reading.specs.declared.places.Halt.TheVariants as halt
 use Rattle.paw_reading.specs.Reading.{Redescribes, Restarts, Halts, Out, Left, Waits, Stopped, at_level}
-use Rattle.paw_reading.specs.Reading.{read_at_level, called, table_read}
+use Rattle.paw_reading.specs.Reading.{read_at_level, table_called, table_read}
 use Rattle.paw_reading.proofs.Keeps.{called_keeps}
 use Rattle.paw_check.specs.Prints.{most_text}
 use Rattle.paw_check.specs.Verbs.{may_write_verb}
@@ -114,7 +114,7 @@ module _ (g : Story) (valid : ValidStory g) (flat : call_too_deep g.game ≡ Non
   CallsEnd n lv t =
       (c : Condact) → Stands t c → c.code ≡ PROCESS → (m : ℕ) (r : Run) → Steadily lv r → used kind r ≤ m + own c →
       m + takes_at g.game own count n c ≤ limit →
-      EndsSo (Some_way lv (m + takes_at g.game own count n c)) (m + takes_at g.game own count n c) (called g n lv c.a r)
+      EndsSo (Some_way lv (m + takes_at g.game own count n c)) (m + takes_at g.game own count n c) (table_called g n lv c.a r)
 
   loops_take : (k : ℕ) (c : Condact) → c.code ≡ DOALL → if_opens k c ≡ k
   loops_take k c h = rw h refl
@@ -122,19 +122,19 @@ module _ (g : Story) (valid : ValidStory g) (flat : call_too_deep g.game ≡ Non
   -- A table that is read from its start.
   table_end : (n lv t : ℕ) → lv ≤ 10 → In t (called_below g.game turn_tables lv) → CallsEnd n lv t → (m : ℕ) (r : Run) → Steadily lv r →
       at_level lv r.turning ≡ None → used kind r ≤ m → m + cost g.game own count n t ≤ limit →
-      EndsSo (Shut lv (m + cost g.game own count n t)) (m + cost g.game own count n t) (read_at_level g (called g n lv) lv t 0 0 false r)
+      EndsSo (Shut lv (m + cost g.game own count n t)) (m + cost g.game own count n t) (read_at_level g (table_called g n lv) lv t 0 0 false r)
   table_end n lv t few at calls m r k none u fits =
       let cs : List Condact = flat_map (λ e. e.condacts) (count (table_at g.game t)) in
       let all : ℕ = sum_by (takes_at g.game own count n) cs in
       let once_more : ℕ = all + sum_by (if_opens (length g.game.objects * all)) cs in
       let is : cost g.game own count n t ≡ once_more = cost_is g.game own count n t in
-      let ends : EndsSo (Shut lv (m + once_more)) (m + once_more) (read_at_level g (called g n lv) lv t 0 0 false r) =
+      let ends : EndsSo (Shut lv (m + once_more)) (m + once_more) (read_at_level g (table_called g n lv) lv t 0 0 false r) =
       reads_end g valid kind limit pending changing verb low bye lv (Stands t)
       (λ c stands. stands.1) (quiet lv t few at) (takes_at g.game own count n) (if_opens (length g.game.objects * all))
       (own_takes g.game own count n) all (length g.game.objects * all) (loops_take (length g.game.objects * all))
-      (λ once more h. turned_most all once more (length g.game.objects) h) (called g n lv) calls (called_keeps g n lv) t
+      (λ once more h. turned_most all once more (length g.game.objects) h) (table_called g n lv) calls (called_keeps g n lv) t
       (each_of_table g.game valid.game t (Stands t) (λ c member kept. (member, kept))) (omega arith) m r k none u (omega (arith, is, fits)) in
-      subst (λ x. EndsSo (Shut lv (m + x)) (m + x) (read_at_level g (called g n lv) lv t 0 0 false r)) (sym is) ends
+      subst (λ x. EndsSo (Shut lv (m + x)) (m + x) (read_at_level g (table_called g n lv) lv t 0 0 false r)) (sym is) ends
 
   down : (lv : ℕ) (r : Run) → Steadily lv r → Steadily (suc lv) r
   down lv r k = record {
@@ -159,7 +159,7 @@ module _ (g : Story) (valid : ValidStory g) (flat : call_too_deep g.game ≡ Non
   }
 
   calls_end : (n lv t : ℕ) → n + lv ≡ 10 → In t (called_below g.game turn_tables lv) → CallsEnd n lv t
-  unfolding called
+  unfolding table_called
   calls_end zero lv t deep at c stands calls m r k u fits =
       let ten : lv ≡ 10 = omega (arith, deep) in
       absurd (no_first g.game calls_table (called_below g.game turn_tables 10) flat t (rw ten at at) (stands.0 calls_table (rw calls refl)))
@@ -168,12 +168,12 @@ module _ (g : Story) (valid : ValidStory g) (flat : call_too_deep g.game ≡ Non
       calls_below g.game valid.game turn_tables lv t at c stands.0 stands.1 calls in
       let most : ℕ = m + own c + cost g.game own count n c.a in
       let same : takes_at g.game own count (suc n) c ≡ own c + cost g.game own count n c.a = rw calls refl in
-      let ends : EndsSo (Shut (suc lv) most) most (read_at_level g (called g n (suc lv)) (suc lv) c.a 0 0 false r) =
+      let ends : EndsSo (Shut (suc lv) most) most (read_at_level g (table_called g n (suc lv)) (suc lv) c.a 0 0 false r) =
       table_end n (suc lv) c.a (omega (arith, deep)) under (calls_end n (suc lv) c.a (omega (arith, deep)) under) (m + own c) r (down lv r k)
       (shut r.turning lv k.loop) u (omega (arith, same, fits)) in
       ends_up g valid kind limit pending changing verb low bye (Shut (suc lv) most) (Some_way lv (m + takes_at g.game own count (suc n) c)) most
       (m + takes_at g.game own count (suc n) c) (omega (arith, same)) (λ s i. (up lv s i.0 i.1.0, omega (arith, i.1.1, same)))
-      (read_at_level g (called g n (suc lv)) (suc lv) c.a 0 0 false r) ends
+      (read_at_level g (table_called g n (suc lv)) (suc lv) c.a 0 0 false r) ends
 
   -- A table of a turn.
   pub turn_table_end : (t m : ℕ) (r : Run) → In t turn_tables → Steadily 0 r → r.turning ≡ None → used kind r ≤ m →

@@ -6,7 +6,7 @@ use Rattle.paw_effects.specs.Story.{Story}
 use Rattle.paw_reading.specs.Bounds.{IsLine, ValidStory}
 use Rattle.paw_reading.specs.Run.{Run}
 use Rattle.paw_reading.specs.declared.places.Halt.TheVariants as halt
-use Rattle.paw_reading.specs.Reading.{called, read_at_level, table_read}
+use Rattle.paw_reading.specs.Reading.{table_called, read_at_level, table_read}
 use Rattle.paw_reading.specs.Turn.{Ending, WaitsAt, Halted, reading}
 use Rattle.paw_check.specs.declared.verdict.Verdict.{Verdict}
 use Rattle.paw_check.specs.declared.verdict.Verdict.TheVariants as verdict
@@ -27,7 +27,7 @@ EndsWithin condacts text _ = ⊥
 -- A turn's tables read the same with this number of levels of calls as with all ten. So none is read at a deeper one.
 abbrev pub CallsWithin : ℕ → Story → Type 0
 CallsWithin levels g = (t : ℕ) (r : Run) → t ≤ FRAME_TABLE → r.turning ≡ None →
-    read_at_level g (called g levels 0) 0 t 0 0 false r ≡ table_read g t r
+    read_at_level g (table_called g levels 0) 0 t 0 0 false r ≡ table_read g t r
 
 -- What a bound promises of a story, for all seeds and lines.
 pub record StaysWithin (levels condacts text : ℕ) (g : Story) : Type 0 where

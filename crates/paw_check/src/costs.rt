@@ -4,26 +4,26 @@ ghost use Rattle.std.specs.Prelude.{◌≡◌, ◌≤◌, [], IfOk, length, slic
 ghost use Rattle.std.specs.Option.{unwrap_or};
 ghost use Rattle.paw_base.specs.declared.limits.TheConstants.{LEVEL_LIMIT};
 ghost use Rattle.paw_check.specs.Measures.{greatest};
-ghost use Rattle.paw_check.specs.inner.Capped.{capped};
+ghost use Rattle.paw_check.specs.inner.Capped.{in_32_bits};
 ghost use Rattle.paw_check.specs.inner.Levels.{HoldsLevel, HoldsCosts, round_taken};
 ghost use Rattle.paw_check.specs.inner.Own.{own_in};
 
 use crate::own::Own;
-use crate::sums::{Row, greater, table_row};
+use crate::sums::{PerByte, greater, table_row};
 use paw_base::fault::NoRoom;
 use paw_base::limits::LEVEL_LIMIT;
 use paw_base::tables::{DESCRIBED_TABLE, FRAME_TABLE, RESPONSE_TABLE};
 use paw_game::parts::{Entry, GameParts, Table};
 use std::alloc::Global;
 
-/// What reading each table takes for each verb, where the tables that it calls take this.
+// What reading each table takes for each verb, where the tables that it calls take this.
 fn level(
     alloc: Global,
     parts: &GameParts,
     own: &Own,
     changing: bool,
-    called: &[Row],
-) -> Result<Vec<Row>, NoRoom>
+    called: &[PerByte],
+) -> Result<Vec<PerByte>, NoRoom>
     requires few { length called.now ≤ 256 }
     ensures long { IfOk result (λ rows. length rows.items ≡ length parts.now.tables) }
     ensures value { IfOk result (λ rows. HoldsLevel parts.now (own_in own.now) changing called.now rows.items) }
@@ -38,7 +38,7 @@ fn level(
     Ok(rows)
 }
 
-/// The entries of the table with this number; none where there is no such table.
+// The entries of the table with this number; none where there is no such table.
 fn entries_at(tables: &[Table], number: usize) -> &[Entry]
     ensures value { result.now ≡ unwrap_or (slice_get tables.now number) [] }
 {
@@ -50,13 +50,18 @@ fn entries_at(tables: &[Table], number: usize) -> &[Entry]
 
 /// A number of things.
 pub(crate) fn count_of(things: usize) -> u32
-    ensures value { result ≡ capped things }
+    ensures value { result ≡ in_32_bits things }
 {
     things.min(u32::MAX as usize) as u32
 }
 
-/// What reading each table takes for each verb, with ten levels of calls below it.
-fn costs(alloc: Global, parts: &GameParts, own: &Own, changing: bool) -> Result<Vec<Row>, NoRoom>
+// What reading each table takes for each verb, with ten levels of calls below it.
+fn costs(
+    alloc: Global,
+    parts: &GameParts,
+    own: &Own,
+    changing: bool,
+) -> Result<Vec<PerByte>, NoRoom>
     requires few { length parts.now.tables ≤ 256 }
     ensures long { IfOk result (λ rows. length rows.items ≡ length parts.now.tables) }
     ensures value { IfOk result (λ rows. HoldsCosts parts.now (own_in own.now) changing LEVEL_LIMIT rows.items) }
@@ -69,8 +74,8 @@ fn costs(alloc: Global, parts: &GameParts, own: &Own, changing: bool) -> Result<
     Ok(rows)
 }
 
-/// The greatest number of a row.
-fn greatest_of(row: &Row) -> u32
+// The greatest number of a row.
+fn greatest_of(row: &PerByte) -> u32
     ensures value { result ≡ greatest row.now }
     ensures long { length row.now ≡ 256 }
 {
@@ -90,7 +95,7 @@ pub(crate) fn round_cost(
 ) -> Result<u32, NoRoom>
     requires some { 3 ≤ length parts.now.tables }
     requires few { length parts.now.tables ≤ 256 }
-    ensures value { IfOk result (λ taken. taken ≡ capped (round_taken parts.now (own_in own.now) changing)) }
+    ensures value { IfOk result (λ taken. taken ≡ in_32_bits (round_taken parts.now (own_in own.now) changing)) }
 {
     let rows = costs(alloc, parts, own, changing)?;
     let response = greatest_of(&rows[RESPONSE_TABLE as usize]);

@@ -7,7 +7,7 @@ ghost use Rattle.paw_check.specs.Calls.{turn_tables};
 ghost use Rattle.paw_check.specs.Costs.{verb_may_change};
 ghost use Rattle.paw_check.specs.Verdicts.{bounds};
 ghost use Rattle.paw_check.specs.declared.verdict.Verdict.TheVariants as verdict;
-ghost use Rattle.paw_check.specs.inner.Capped.{capped};
+ghost use Rattle.paw_check.specs.inner.Capped.{in_32_bits};
 ghost use Rattle.paw_check.specs.inner.Verdicts.{bound_or_cause};
 
 use crate::costs::round_cost;
@@ -26,21 +26,21 @@ use std::alloc::Global;
 /// The most readings of a turn's tables for a line: one for each of 128 phrases, and one for what was open before.
 const MOST_ROUNDS: u32 = 129;
 
-/// The most condacts that are read for a piece.
+// The most condacts that are read for a piece.
 fn most_condacts(alloc: Global, parts: &GameParts, changing: bool) -> Result<u32, NoRoom>
     requires valid { Valid parts.now }
     requires changing { changing ≡ verb_may_change parts.now }
-    ensures value { IfOk result (λ most. most ≡ capped (most_condacts parts.now)) }
+    ensures value { IfOk result (λ most. most ≡ in_32_bits (most_condacts parts.now)) }
 {
     let round = round_cost(alloc, parts, &Own::Condacts, changing)?;
     Ok(round.saturating_mul(MOST_ROUNDS))
 }
 
-/// The most bytes of a piece.
+// The most bytes of a piece.
 fn most_piece(alloc: Global, parts: &GameParts, changing: bool) -> Result<u32, NoRoom>
     requires valid { Valid parts.now }
     requires changing { changing ≡ verb_may_change parts.now }
-    ensures value { IfOk result (λ most. most ≡ capped (most_piece parts.now)) }
+    ensures value { IfOk result (λ most. most ≡ in_32_bits (most_piece parts.now)) }
 {
     let prints = prints_of(parts);
     let outside = most_outside(parts, &prints);
@@ -51,7 +51,7 @@ fn most_piece(alloc: Global, parts: &GameParts, changing: bool) -> Result<u32, N
     Ok(rounds.saturating_add(end))
 }
 
-/// The verdict on a game that neither calls nor describes too often, by what its pieces take.
+// The verdict on a game that neither calls nor describes too often, by what its pieces take.
 fn bound_or_cause(
     alloc: Global,
     parts: &GameParts,
@@ -77,7 +77,7 @@ fn bound_or_cause(
     })
 }
 
-/// The verdict that no bound is known, for a cause that lies in no single place.
+// The verdict that no bound is known, for a cause that lies in no single place.
 fn nowhere(cause: Cause) -> Verdict
     ensures value { result ≡ verdict.Unknown cause 0 0 }
 {

@@ -3,22 +3,22 @@
 ghost use Rattle.std.specs.Prelude.{◌≡◌, ◌≤◌, [], length, map, sum_by, slice_get};
 ghost use Rattle.std.specs.Option.{unwrap_or};
 ghost use Rattle.paw_check.specs.Measures.{greatest};
-ghost use Rattle.paw_check.specs.inner.Capped.{HoldsCapped, capped};
+ghost use Rattle.paw_check.specs.inner.Capped.{HoldsCapped, in_32_bits};
 ghost use Rattle.paw_check.specs.inner.Own.{byte_in, measure_in, measure_at};
 
-use crate::sums::{Row, greater};
+use crate::sums::{PerByte, greater};
 use paw_game::parts::{ObjectRow, Text};
 
-/// The length of a text.
+// The length of a text.
 fn length_of(text: &[u8]) -> u32
-    ensures value { result ≡ capped (length text.now) }
+    ensures value { result ≡ in_32_bits (length text.now) }
 {
     text.len().min(u32::MAX as usize) as u32
 }
 
 /// The length of the longest text of an object.
 pub(crate) fn longest_name(objects: &[ObjectRow]) -> u32
-    ensures value { result ≡ capped (greatest (map (λ o. length o.text) objects.now)) }
+    ensures value { result ≡ in_32_bits (greatest (map (λ o. length o.text) objects.now)) }
 {
     let mut most = 0u32;
     for object in objects {
@@ -30,7 +30,7 @@ pub(crate) fn longest_name(objects: &[ObjectRow]) -> u32
 
 /// The lengths of the texts of all objects together.
 pub(crate) fn all_names(objects: &[ObjectRow]) -> u32
-    ensures value { result ≡ capped (sum_by (λ o. length o.text) objects.now) }
+    ensures value { result ≡ in_32_bits (sum_by (λ o. length o.text) objects.now) }
 {
     let mut sum = 0u32;
     for object in objects {
@@ -40,7 +40,7 @@ pub(crate) fn all_names(objects: &[ObjectRow]) -> u32
     sum
 }
 
-/// The most bytes that a byte prints, where the longest name has this many.
+// The most bytes that a byte prints, where the longest name has this many.
 fn measure_of(name: u32, byte: u8) -> u32
     ensures value { result ≡ byte_in name byte }
 {
@@ -49,7 +49,7 @@ fn measure_of(name: u32, byte: u8) -> u32
 
 /// The most bytes that a text prints, where the longest name has this many.
 pub(crate) fn measure(name: u32, text: &[u8]) -> u32
-    ensures value { result ≡ capped (measure_in name text.now) }
+    ensures value { result ≡ in_32_bits (measure_in name text.now) }
 {
     let mut sum = 0u32;
     for byte in text {
@@ -58,7 +58,7 @@ pub(crate) fn measure(name: u32, text: &[u8]) -> u32
     sum
 }
 
-/// The text with this number; an empty one where there is no such text.
+// The text with this number; an empty one where there is no such text.
 fn text_of(texts: &[Text], number: usize) -> &[u8]
     ensures value { result.now ≡ unwrap_or (slice_get texts.now number) [] }
 {
@@ -69,7 +69,7 @@ fn text_of(texts: &[Text], number: usize) -> &[u8]
 }
 
 /// The same for each of these texts.
-pub(crate) fn measures(name: u32, texts: &[Text]) -> Row
+pub(crate) fn measures(name: u32, texts: &[Text]) -> PerByte
     requires few { length texts.now ≤ 256 }
     ensures value { HoldsCapped result (measure_at name texts.now) }
 {
@@ -82,7 +82,7 @@ pub(crate) fn measures(name: u32, texts: &[Text]) -> Row
 
 /// The same for the one of these texts that prints most; 0 where there is none.
 pub(crate) fn greatest_measure(name: u32, texts: &[Text]) -> u32
-    ensures value { result ≡ capped (greatest (map (measure_in name) texts.now)) }
+    ensures value { result ≡ in_32_bits (greatest (map (measure_in name) texts.now)) }
 {
     let mut most = 0u32;
     for at in 0..texts.len() {

@@ -2,7 +2,7 @@
 
 ghost use Rattle.std.specs.Prelude.{◌≡◌, ◌≤◌, length};
 ghost use Rattle.paw_base.specs.Condacts.{is_indirect, plain_code};
-ghost use Rattle.paw_check.specs.inner.Capped.{capped};
+ghost use Rattle.paw_check.specs.inner.Capped.{in_32_bits};
 ghost use Rattle.paw_check.specs.inner.Own.{kind_of, kind_in, named_in, text_in, own_in};
 
 use crate::prints::Prints;

@@ -37,7 +37,7 @@ static WRITES_SECOND: [u8; 6] = [
     codes::EXTERN,
 ];
 
-/// Whether a condact may give the verb's flag another value and go on reading the table.
+// Whether a condact may give the verb's flag another value and go on reading the table.
 fn may_write_verb(condact: &Condact) -> bool
     ensures value { result ≡ may_write_verb condact.now }
 {
@@ -49,7 +49,7 @@ fn may_write_verb(condact: &Condact) -> bool
         || (WRITES_SECOND.contains(&code) && condact.b == VERB_FLAG)
 }
 
-/// Whether a condact leads to a description of the location.
+// Whether a condact leads to a description of the location.
 fn redescribes(condact: &Condact) -> bool
     ensures value { result ≡ redescribes condact.now }
 {
@@ -66,7 +66,7 @@ pub(crate) enum Wanted {
 }
 
 impl Wanted {
-    /// Whether a condact is of this kind.
+    // Whether a condact is of this kind.
     fn is(self, condact: &Condact) -> bool
         ensures value { result ≡ is_wanted self condact.now }
     {
@@ -77,14 +77,14 @@ impl Wanted {
         }
     }
 
-    /// Whether one of these condacts is of this kind.
+    // Whether one of these condacts is of this kind.
     fn is_one_of(self, condacts: &[Condact]) -> bool
         ensures value { result ≡ list_any (is_wanted self) condacts.now }
     {
         condacts.iter().any(|condact| self.is(condact))
     }
 
-    /// The first entry with a condact of this kind.
+    // The first entry with a condact of this kind.
     fn entry(self, entries: &[Entry]) -> Option<usize>
         ensures value { result ≡ entry_wanted self entries.now }
         ensures within { IfSome result (λ entry. entry ≤ length entries.now) }
@@ -94,7 +94,7 @@ impl Wanted {
             .position(|entry| self.is_one_of(entry.condacts.rows.as_slice()))
     }
 
-    /// The first entry with a condact of this kind of the table with this number.
+    // The first entry with a condact of this kind of the table with this number.
     fn entry_of(self, tables: &[Table], number: u8) -> Option<usize>
         requires short { All (λ table. length table ≤ ENTRY_LIMIT) tables.now }
         ensures value { result ≡ entry_wanted self (unwrap_or (slice_get tables.now number) []) }
@@ -116,7 +116,7 @@ impl Wanted {
         None
     }
 
-    /// Whether one of these entries has a condact of this kind.
+    // Whether one of these entries has a condact of this kind.
     fn is_in_entries(self, entries: &[Entry]) -> bool
         ensures value { result ≡ any_in_entries (is_wanted self) entries.now }
     {
@@ -125,7 +125,7 @@ impl Wanted {
             .any(|entry| self.is_one_of(entry.condacts.rows.as_slice()))
     }
 
-    /// Whether the table with this number has a condact of this kind.
+    // Whether the table with this number has a condact of this kind.
     fn is_in_table(self, tables: &[Table], number: u8) -> bool
         ensures value { result ≡ any_in_table (is_wanted self) tables.now number }
     {

@@ -3,10 +3,10 @@
 ghost use Rattle.std.specs.Prelude.{◌≡◌, ◌≤◌, length};
 ghost use Rattle.std.specs.List.{slice_index_or};
 ghost use Rattle.paw_base.specs.Condacts.{is_indirect, plain_code};
-ghost use Rattle.paw_check.specs.inner.Capped.{capped};
+ghost use Rattle.paw_check.specs.inner.Capped.{in_32_bits};
 ghost use Rattle.paw_check.specs.inner.Own.{kind_of, kind_in, named_in, text_in};
 
-use crate::sums::Row;
+use crate::sums::PerByte;
 use paw_base::codes::INDIRECT;
 use paw_base::messages::{
     AGAIN_MESSAGE, IMPOSSIBLE_MESSAGE, KEY_MESSAGE, OK_MESSAGE, QUIT_MESSAGE,
@@ -173,7 +173,7 @@ pub(crate) fn plain_code(code: u8) -> u8
     }
 }
 
-/// What a condact with this code prints.
+// What a condact with this code prints.
 fn kind_of(code: u8) -> Printed
     ensures value { result ≡ kind_of code }
 {
@@ -187,8 +187,8 @@ fn kind_of(code: u8) -> Printed
 /// on the game alone.
 #[derive(Drop)]
 pub(crate) struct Prints {
-    pub(crate) system: Row,
-    pub(crate) messages: Row,
+    pub(crate) system: PerByte,
+    pub(crate) messages: PerByte,
     pub(crate) any_system: u32,
     pub(crate) any_message: u32,
     pub(crate) action: u32,
@@ -199,8 +199,8 @@ pub(crate) struct Prints {
     pub(crate) there: u32,
 }
 
-/// The most bytes of the text that a condact's first parameter names: one of these or, where a flag names it, any.
-fn most_named(texts: &Row, any: u32, condact: &Condact) -> u32
+// The most bytes of the text that a condact's first parameter names: one of these or, where a flag names it, any.
+fn most_named(texts: &PerByte, any: u32, condact: &Condact) -> u32
     ensures value { result ≡ named_in texts.now any condact.now }
 {
     if is_indirect(condact.code) {

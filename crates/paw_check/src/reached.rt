@@ -22,7 +22,7 @@ pub(crate) struct Reached {
     pub(crate) levels: u8,
 }
 
-/// Marks the tables with these numbers.
+// Marks the tables with these numbers.
 fn mark(numbers: &[u8], marks: &mut [bool; 256])
     ensures value { MarksTables marks.old marks.new (is_among numbers.now) }
 {
@@ -31,7 +31,7 @@ fn mark(numbers: &[u8], marks: &mut [bool; 256])
     }
 }
 
-/// 1 if there is a table, otherwise 0.
+// 1 if there is a table, otherwise 0.
 fn one_if_any(numbers: &[u8]) -> u8
     ensures value { result ≡ cond (nat_lt 0 (length numbers.now)) 1 0 }
     ensures small { result ≤ 1 }

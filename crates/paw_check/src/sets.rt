@@ -22,7 +22,7 @@ pub(crate) fn entries_of(tables: &[Table], number: u8) -> &[Entry]
     }
 }
 
-/// Marks the tables that these condacts call.
+// Marks the tables that these condacts call.
 fn mark_called(condacts: &[Condact], marks: &mut [bool; 256])
     ensures marks { MarksTables marks.old marks.new (λ u. list_any (is_call_of u) condacts.now) }
 {
@@ -33,7 +33,7 @@ fn mark_called(condacts: &[Condact], marks: &mut [bool; 256])
     }
 }
 
-/// Marks the tables that the condacts of these entries call.
+// Marks the tables that the condacts of these entries call.
 fn mark_called_in(entries: &[Entry], marks: &mut [bool; 256])
     ensures marks { MarksTables marks.old marks.new (λ u. list_any (is_call_of u) (condacts_of_entries entries.now)) }
 {
@@ -42,7 +42,7 @@ fn mark_called_in(entries: &[Entry], marks: &mut [bool; 256])
     }
 }
 
-/// Marks the tables that the condacts of the tables with these numbers call.
+// Marks the tables that the condacts of the tables with these numbers call.
 fn mark_called_from(tables: &[Table], from: &[u8], marks: &mut [bool; 256])
     ensures marks { MarksTables marks.old marks.new
         (λ u. list_any (is_call_of u) (condacts_of_tables tables.now from.now)) }

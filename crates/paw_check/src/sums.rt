@@ -4,7 +4,7 @@ ghost use Rattle.std.specs.Prelude.{◌≡◌, ℕ, ◌+◌, ◌*◌, ◌<◌, �
 ghost use Rattle.std.specs.List.{slice_index_or};
 ghost use Rattle.paw_check.specs.Calls.{is_call_of};
 ghost use Rattle.paw_check.specs.Costs.{with_call};
-ghost use Rattle.paw_check.specs.inner.Capped.{HoldsCapped, capped, cell_at, is_doall, is_for_every, over_every};
+ghost use Rattle.paw_check.specs.inner.Capped.{HoldsCapped, in_32_bits, cell_at, is_doall, is_for_every, over_every};
 ghost use Rattle.paw_check.specs.inner.Capped.{over_verb};
 ghost use Rattle.paw_check.specs.inner.Capped.{dot, entries_take};
 ghost use Rattle.paw_check.specs.inner.Found.{IsFound, found_sum, found_taken};
@@ -17,7 +17,7 @@ use paw_game::parts::Entry;
 use paw_game::values::is_wildcard;
 
 /// A number for each verb, or for each table.
-pub(crate) type Row = [u32; 256];
+pub(crate) type PerByte = [u32; 256];
 
 /// The greater of two numbers.
 pub(crate) fn greater(first: u32, second: u32) -> u32
@@ -26,8 +26,8 @@ pub(crate) fn greater(first: u32, second: u32) -> u32
     if first < second { second } else { first }
 }
 
-/// The number at a table and a verb; 0 past the last table.
-fn cell_at(rows: &[Row], table: usize, verb: usize) -> u32
+// The number at a table and a verb; 0 past the last table.
+fn cell_at(rows: &[PerByte], table: usize, verb: usize) -> u32
     requires within { verb < 256 }
     ensures value { result ≡ cell_at rows.now table verb }
 {
@@ -37,7 +37,7 @@ fn cell_at(rows: &[Row], table: usize, verb: usize) -> u32
     }
 }
 
-/// Whether an entry counts for every verb.
+// Whether an entry counts for every verb.
 fn is_for_every(changing: bool, entry: &Entry) -> bool
     ensures value { result ≡ is_for_every changing entry.now }
 {
@@ -46,9 +46,9 @@ fn is_for_every(changing: bool, entry: &Entry) -> bool
 
 // ---- the condacts of an entry ----
 
-/// The number of these condacts that open a loop.
+// The number of these condacts that open a loop.
 fn doalls(condacts: &[Condact]) -> u32
-    ensures value { result ≡ capped (count_by is_doall condacts.now) }
+    ensures value { result ≡ in_32_bits (count_by is_doall condacts.now) }
 {
     let mut count = 0u32;
     for condact in condacts {
@@ -59,9 +59,9 @@ fn doalls(condacts: &[Condact]) -> u32
     count
 }
 
-/// What these condacts take by themselves.
+// What these condacts take by themselves.
 fn own_sum(own: &Own, condacts: &[Condact]) -> u32
-    ensures value { result ≡ capped (sum_by (own_in own.now) condacts.now) }
+    ensures value { result ≡ in_32_bits (sum_by (own_in own.now) condacts.now) }
 {
     let mut sum = 0u32;
     for condact in condacts {
@@ -70,9 +70,9 @@ fn own_sum(own: &Own, condacts: &[Condact]) -> u32
     sum
 }
 
-/// What a condact takes for a verb, with the table that it calls.
-fn takes(own: &Own, called: &[Row], verb: u8, condact: &Condact) -> u32
-    ensures value { result ≡ capped (with_call (own_in own.now) (λ u. cell_at called.now u verb) condact.now) }
+// What a condact takes for a verb, with the table that it calls.
+fn takes(own: &Own, called: &[PerByte], verb: u8, condact: &Condact) -> u32
+    ensures value { result ≡ in_32_bits (with_call (own_in own.now) (λ u. cell_at called.now u verb) condact.now) }
 {
     let taken = own.of(condact);
     if condact.code == PROCESS {
@@ -82,10 +82,10 @@ fn takes(own: &Own, called: &[Row], verb: u8, condact: &Condact) -> u32
     }
 }
 
-/// What these condacts take for a verb, with the tables that they call.
-fn taken_sum(own: &Own, called: &[Row], verb: u8, condacts: &[Condact]) -> u32
+// What these condacts take for a verb, with the tables that they call.
+fn taken_sum(own: &Own, called: &[PerByte], verb: u8, condacts: &[Condact]) -> u32
     ensures value { result
-        ≡ capped (sum_by (with_call (own_in own.now) (λ u. cell_at called.now u verb)) condacts.now) }
+        ≡ in_32_bits (sum_by (with_call (own_in own.now) (λ u. cell_at called.now u verb)) condacts.now) }
 {
     let mut sum = 0u32;
     for condact in condacts {
@@ -94,8 +94,8 @@ fn taken_sum(own: &Own, called: &[Row], verb: u8, condacts: &[Condact]) -> u32
     sum
 }
 
-/// Adds one for the table that a condact calls, if it calls one.
-fn count_call(condact: &Condact, counts: &mut Row)
+// Adds one for the table that a condact calls, if it calls one.
+fn count_call(condact: &Condact, counts: &mut PerByte)
     ensures value { (f : ℕ → ℕ) → HoldsCapped counts.old f →
         HoldsCapped counts.new (λ u. f u + cond (is_call_of u condact.now) 1 0) }
 {
@@ -105,8 +105,8 @@ fn count_call(condact: &Condact, counts: &mut Row)
     }
 }
 
-/// Adds how often these condacts call each table.
-fn count_calls(condacts: &[Condact], counts: &mut Row)
+// Adds how often these condacts call each table.
+fn count_calls(condacts: &[Condact], counts: &mut PerByte)
     ensures value { (f : ℕ → ℕ) → HoldsCapped counts.old f →
         HoldsCapped counts.new (λ u. f u + count_by (is_call_of u) condacts.now) }
 {
@@ -117,9 +117,9 @@ fn count_calls(condacts: &[Condact], counts: &mut Row)
 
 // ---- the entries of a table ----
 
-/// The number of loops that the entries that count for every verb open.
+// The number of loops that the entries that count for every verb open.
 fn every_doalls(changing: bool, entries: &[Entry]) -> u32
-    ensures value { result ≡ capped (over_every changing (count_by is_doall) entries.now) }
+    ensures value { result ≡ in_32_bits (over_every changing (count_by is_doall) entries.now) }
 {
     let mut count = 0u32;
     for entry in entries {
@@ -130,9 +130,9 @@ fn every_doalls(changing: bool, entries: &[Entry]) -> u32
     count
 }
 
-/// What the entries that count for every verb take by themselves.
+// What the entries that count for every verb take by themselves.
 fn every_own(own: &Own, changing: bool, entries: &[Entry]) -> u32
-    ensures value { result ≡ capped (over_every changing (sum_by (own_in own.now)) entries.now) }
+    ensures value { result ≡ in_32_bits (over_every changing (sum_by (own_in own.now)) entries.now) }
 {
     let mut sum = 0u32;
     for entry in entries {
@@ -143,8 +143,8 @@ fn every_own(own: &Own, changing: bool, entries: &[Entry]) -> u32
     sum
 }
 
-/// Adds how often an entry calls each table, where it counts for every verb.
-fn count_every(changing: bool, entry: &Entry, counts: &mut Row)
+// Adds how often an entry calls each table, where it counts for every verb.
+fn count_every(changing: bool, entry: &Entry, counts: &mut PerByte)
     ensures value { (f : ℕ → ℕ) → HoldsCapped counts.old f → HoldsCapped counts.new
         (λ u. f u + cond (is_for_every changing entry.now) (count_by (is_call_of u) entry.now.condacts) 0) }
 {
@@ -153,8 +153,8 @@ fn count_every(changing: bool, entry: &Entry, counts: &mut Row)
     }
 }
 
-/// How often the entries that count for every verb call each table.
-fn every_calls(changing: bool, entries: &[Entry]) -> Row
+// How often the entries that count for every verb call each table.
+fn every_calls(changing: bool, entries: &[Entry]) -> PerByte
     ensures value { HoldsCapped result (λ u. over_every changing (count_by (is_call_of u)) entries.now) }
 {
     let mut counts = [0u32; 256];
@@ -164,8 +164,8 @@ fn every_calls(changing: bool, entries: &[Entry]) -> Row
     counts
 }
 
-/// The number of loops that the other entries of each verb open.
-fn verb_doalls(changing: bool, entries: &[Entry]) -> Row
+// The number of loops that the other entries of each verb open.
+fn verb_doalls(changing: bool, entries: &[Entry]) -> PerByte
     ensures value { HoldsCapped result (λ v. over_verb changing v (count_by is_doall) entries.now) }
 {
     let mut counts = [0u32; 256];
@@ -178,9 +178,9 @@ fn verb_doalls(changing: bool, entries: &[Entry]) -> Row
     counts
 }
 
-/// What an entry takes for its verb, where it doesn't count for every verb.
-fn taken_for_verb(own: &Own, changing: bool, called: &[Row], entry: &Entry) -> u32
-    ensures value { result ≡ capped (cond (is_for_every changing entry.now) 0
+// What an entry takes for its verb, where it doesn't count for every verb.
+fn taken_for_verb(own: &Own, changing: bool, called: &[PerByte], entry: &Entry) -> u32
+    ensures value { result ≡ in_32_bits (cond (is_for_every changing entry.now) 0
         (sum_by (with_call (own_in own.now) (λ u. cell_at called.now u entry.now.verb)) entry.now.condacts)) }
 {
     if is_for_every(changing, entry) {
@@ -190,17 +190,17 @@ fn taken_for_verb(own: &Own, changing: bool, called: &[Row], entry: &Entry) -> u
     }
 }
 
-/// Adds what is taken for a verb.
-fn add_at(sums: &mut Row, verb: u8, taken: u32)
-    ensures value { (f k : ℕ → ℕ) → taken ≡ capped (k verb) → HoldsCapped sums.old f
+// Adds what is taken for a verb.
+fn add_at(sums: &mut PerByte, verb: u8, taken: u32)
+    ensures value { (f k : ℕ → ℕ) → taken ≡ in_32_bits (k verb) → HoldsCapped sums.old f
         → HoldsCapped sums.new (λ v. f v + cond (verb == v) (k v) 0) }
 {
     let at = verb as usize;
     sums[at] = sums[at].saturating_add(taken);
 }
 
-/// What the other entries of each verb take, with the tables that they call.
-fn verb_taken(own: &Own, changing: bool, called: &[Row], entries: &[Entry]) -> Row
+// What the other entries of each verb take, with the tables that they call.
+fn verb_taken(own: &Own, changing: bool, called: &[PerByte], entries: &[Entry]) -> PerByte
     ensures value { HoldsCapped result (λ v. over_verb changing v
         (sum_by (with_call (own_in own.now) (λ u. cell_at called.now u v))) entries.now) }
 {
@@ -212,20 +212,20 @@ fn verb_taken(own: &Own, changing: bool, called: &[Row], entries: &[Entry]) -> R
     sums
 }
 
-/// What a table takes for a verb, called this many times.
-fn called_times(counts: &Row, called: &[Row], table: usize, verb: usize) -> u32
+// What a table takes for a verb, called this many times.
+fn called_times(counts: &PerByte, called: &[PerByte], table: usize, verb: usize) -> u32
     requires few { table < 256 }
     requires within { verb < 256 }
-    ensures value { result ≡ capped (slice_index_or counts.now table 0 * cell_at called.now table verb) }
+    ensures value { result ≡ in_32_bits (slice_index_or counts.now table 0 * cell_at called.now table verb) }
 {
     counts[table].saturating_mul(cell_at(called, table, verb))
 }
 
-/// What the tables take for a verb, each called this many times.
-fn called_sum(counts: &Row, called: &[Row], verb: usize) -> u32
+// What the tables take for a verb, each called this many times.
+fn called_sum(counts: &PerByte, called: &[PerByte], verb: usize) -> u32
     requires few { length called.now ≤ 256 }
     requires within { verb < 256 }
-    ensures value { result ≡ capped (dot counts.now called.now verb) }
+    ensures value { result ≡ in_32_bits (dot counts.now called.now verb) }
 {
     let mut sum = 0u32;
     for table in 0..called.len() {
@@ -234,9 +234,9 @@ fn called_sum(counts: &Row, called: &[Row], verb: usize) -> u32
     sum
 }
 
-/// What is taken in all passes: in one, and for each loop in one for each object.
+// What is taken in all passes: in one, and for each loop in one for each object.
 fn in_passes(objects: u32, doalls: u32, sum: u32) -> u32
-    ensures value { result ≡ capped ((1 + objects * doalls) * sum) }
+    ensures value { result ≡ in_32_bits ((1 + objects * doalls) * sum) }
 {
     objects
         .saturating_mul(doalls)
@@ -251,13 +251,13 @@ fn in_passes(objects: u32, doalls: u32, sum: u32) -> u32
 struct TableSums {
     doalls: u32,
     own: u32,
-    calls: Row,
-    verb_doalls: Row,
-    verb_taken: Row,
+    calls: PerByte,
+    verb_doalls: PerByte,
+    verb_taken: PerByte,
 }
 
-/// What is found in these entries of a table.
-fn look_over(own: &Own, changing: bool, called: &[Row], entries: &[Entry]) -> TableSums
+// What is found in these entries of a table.
+fn look_over(own: &Own, changing: bool, called: &[PerByte], entries: &[Entry]) -> TableSums
     ensures value { IsFound result (own_in own.now) changing called.now entries.now }
 {
     TableSums {
@@ -270,29 +270,29 @@ fn look_over(own: &Own, changing: bool, called: &[Row], entries: &[Entry]) -> Ta
 }
 
 impl TableSums {
-    /// What the condacts of the entries that count for a verb take together.
-    fn sum(&self, called: &[Row], verb: usize) -> u32
+    // What the condacts of the entries that count for a verb take together.
+    fn sum(&self, called: &[PerByte], verb: usize) -> u32
         requires few { length called.now ≤ 256 }
         requires within { verb < 256 }
-        ensures value { result ≡ capped (found_sum self.now called.now verb) }
+        ensures value { result ≡ in_32_bits (found_sum self.now called.now verb) }
     {
         self.own
             .saturating_add(called_sum(&self.calls, called, verb))
             .saturating_add(self.verb_taken[verb])
     }
 
-    /// What reading the table takes for a verb.
-    fn read_for_verb(&self, objects: u32, called: &[Row], verb: usize) -> u32
+    // What reading the table takes for a verb.
+    fn read_for_verb(&self, objects: u32, called: &[PerByte], verb: usize) -> u32
         requires few { length called.now ≤ 256 }
         requires within { verb < 256 }
-        ensures value { result ≡ capped (found_taken objects self.now called.now verb) }
+        ensures value { result ≡ in_32_bits (found_taken objects self.now called.now verb) }
     {
         let doalls = self.doalls.saturating_add(self.verb_doalls[verb]);
         in_passes(objects, doalls, self.sum(called, verb))
     }
 
-    /// What reading the table takes for each verb.
-    fn row(&self, objects: u32, called: &[Row]) -> Row
+    // What reading the table takes for each verb.
+    fn row(&self, objects: u32, called: &[PerByte]) -> PerByte
         requires few { length called.now ≤ 256 }
         ensures value { HoldsCapped result (found_taken objects self.now called.now) }
     {
@@ -309,9 +309,9 @@ pub(crate) fn table_row(
     own: &Own,
     changing: bool,
     objects: u32,
-    called: &[Row],
+    called: &[PerByte],
     entries: &[Entry],
-) -> Row
+) -> PerByte
     requires few { length called.now ≤ 256 }
     ensures value { HoldsCapped result (λ v. entries_take objects
         (with_call (own_in own.now) (λ u. cell_at called.now u v)) changing v entries.now) }

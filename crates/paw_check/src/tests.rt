@@ -13,7 +13,7 @@ use paw_game::parts::{Entry, Exit, Exits, GameParts, ObjectRow, Table, Text, Wor
 use std::alloc::{AllocError, Global};
 use std::test::Fail;
 
-/// The smallest game: one location, and three tables with no entry.
+// The smallest game: one location, and three tables with no entry.
 fn smallest(alloc: Global) -> Result<GameParts, AllocError> {
     Ok(GameParts {
         words: Vec::new(alloc),
@@ -26,14 +26,14 @@ fn smallest(alloc: Global) -> Result<GameParts, AllocError> {
     })
 }
 
-/// A table of one entry for any sentence.
+// A table of one entry for any sentence.
 fn table_of(alloc: Global, codes: &[(u8, u8, u8)]) -> Result<Table, AllocError> {
     let entry = Entry::from_codes(alloc, ANY_WORD, NO_WORD, codes)?;
     let rows = vec![in alloc; entry]?;
     Ok(Table { rows })
 }
 
-/// The smallest game with three tables of one entry each.
+// The smallest game with three tables of one entry each.
 fn with_tables(
     alloc: Global,
     response: &[(u8, u8, u8)],
@@ -49,8 +49,8 @@ fn with_tables(
     Ok(parts)
 }
 
-/// The line that is shown for a game; none where its parts break a rule.
-fn shown(alloc: Global, parts: GameParts) -> Result<String, NoRoom> {
+// The line that is shown for a game; none where its parts break a rule.
+fn line_shown(alloc: Global, parts: GameParts) -> Result<String, NoRoom> {
     match Game::new(parts) {
         Ok(game) => check(alloc, &game)?.text(alloc),
         Err(_) => Ok(String::new(alloc)),
@@ -59,7 +59,7 @@ fn shown(alloc: Global, parts: GameParts) -> Result<String, NoRoom> {
 
 #[test]
 fn the_smallest_game_prints_its_views_and_a_prompt(rt: HostRuntime) -> Result<(), Fail> {
-    let line = shown(rt.alloc(), smallest(rt.alloc())?)?;
+    let line = line_shown(rt.alloc(), smallest(rt.alloc())?)?;
     assert_eq!(rt; line.as_str(), "BOUND levels 0 condacts 0 text 261\n");
     Ok(())
 }
@@ -77,7 +77,7 @@ fn texts_from_flags_are_the_longest(rt: HostRuntime) -> Result<(), Fail> {
     let mut parts = with_tables(alloc, &[], &codes, &[])?;
     parts.messages.push(Text::from_slice(alloc, b"a")?)?;
     parts.messages.push(Text::from_slice(alloc, b"bc")?)?;
-    let line = shown(alloc, parts)?;
+    let line = line_shown(alloc, parts)?;
     assert_eq!(rt; line.as_str(), "BOUND levels 0 condacts 516 text 777\n");
     Ok(())
 }
@@ -89,7 +89,7 @@ fn calls_are_counted_by_level(rt: HostRuntime) -> Result<(), Fail> {
     let mut parts = with_tables(alloc, &calls, &[], &[])?;
     parts.tables.push(table_of(alloc, &[(PROCESS, 4, 0)])?)?;
     parts.tables.push(table_of(alloc, &[(NEWLINE, 0, 0)])?)?;
-    let line = shown(alloc, parts)?;
+    let line = line_shown(alloc, parts)?;
     assert_eq!(rt; line.as_str(), "BOUND levels 2 condacts 774 text 519\n");
     Ok(())
 }
@@ -99,7 +99,7 @@ fn a_circle_of_calls_has_no_bound(rt: HostRuntime) -> Result<(), Fail> {
     let alloc = rt.alloc();
     let mut parts = with_tables(alloc, &[(PROCESS, 3, 0)], &[], &[])?;
     parts.tables.push(table_of(alloc, &[(PROCESS, 3, 0)])?)?;
-    let line = shown(alloc, parts)?;
+    let line = line_shown(alloc, parts)?;
     assert_eq!(rt; line.as_str(), "UNKNOWN Calls at 3.0\n");
     Ok(())
 }
@@ -108,7 +108,7 @@ fn a_circle_of_calls_has_no_bound(rt: HostRuntime) -> Result<(), Fail> {
 fn descriptions_that_come_round_have_no_bound(rt: HostRuntime) -> Result<(), Fail> {
     let alloc = rt.alloc();
     let parts = with_tables(alloc, &[(DESC, 0, 0)], &[(DESC, 0, 0)], &[])?;
-    let line = shown(alloc, parts)?;
+    let line = line_shown(alloc, parts)?;
     assert_eq!(rt; line.as_str(), "UNKNOWN Redescribe at 1.0\n");
     Ok(())
 }
@@ -123,7 +123,7 @@ fn a_table_may_read_too_much(rt: HostRuntime) -> Result<(), Fail> {
         rows.push(Entry::from_codes(alloc, ANY_WORD, NO_WORD, &many)?)?;
     }
     parts.tables = vec![in alloc; Table { rows }, Table::new(alloc), Table::new(alloc)]?;
-    let line = shown(alloc, parts)?;
+    let line = line_shown(alloc, parts)?;
     assert_eq!(rt; line.as_str(), "UNKNOWN Condacts at 0.0\n");
     Ok(())
 }
@@ -132,12 +132,12 @@ fn a_table_may_read_too_much(rt: HostRuntime) -> Result<(), Fail> {
 fn a_table_may_print_too_much(rt: HostRuntime) -> Result<(), Fail> {
     let alloc = rt.alloc();
     let many = [(NEWLINE, 0, 0); 200];
-    let line = shown(alloc, with_tables(alloc, &many, &many, &many)?)?;
+    let line = line_shown(alloc, with_tables(alloc, &many, &many, &many)?)?;
     assert_eq!(rt; line.as_str(), "UNKNOWN Text at 0.0\n");
     Ok(())
 }
 
-/// The words of two verbs, and a table with an entry of three condacts for the one and of two for the other.
+// The words of two verbs, and a table with an entry of three condacts for the one and of two for the other.
 fn two_verbs(alloc: Global, last: (u8, u8, u8)) -> Result<GameParts, AllocError> {
     let mut parts = smallest(alloc)?;
     parts.words = vec![in alloc;
@@ -160,11 +160,11 @@ fn two_verbs(alloc: Global, last: (u8, u8, u8)) -> Result<GameParts, AllocError>
 #[test]
 fn entries_of_one_verb_count_unless_it_may_change(rt: HostRuntime) -> Result<(), Fail> {
     let alloc = rt.alloc();
-    let kept = shown(alloc, two_verbs(alloc, (RAMLOAD, 32, 0))?)?;
+    let kept = line_shown(alloc, two_verbs(alloc, (RAMLOAD, 32, 0))?)?;
     assert_eq!(rt; kept.as_str(), "BOUND levels 0 condacts 387 text 261\n");
-    let changed = shown(alloc, two_verbs(alloc, (RAMLOAD, 33, 0))?)?;
+    let changed = line_shown(alloc, two_verbs(alloc, (RAMLOAD, 33, 0))?)?;
     assert_eq!(rt; changed.as_str(), "BOUND levels 0 condacts 645 text 261\n");
-    let by_flag = shown(alloc, two_verbs(alloc, (INDIRECT + LET, 100, 0))?)?;
+    let by_flag = line_shown(alloc, two_verbs(alloc, (INDIRECT + LET, 100, 0))?)?;
     assert_eq!(rt; by_flag.as_str(), "BOUND levels 0 condacts 645 text 261\n");
     Ok(())
 }
@@ -186,12 +186,12 @@ fn loops_take_each_object(rt: HostRuntime) -> Result<(), Fail> {
         let text = Text::from_slice(alloc, b"lamp")?;
         parts.objects.push(ObjectRow { text, facts })?;
     }
-    let line = shown(alloc, parts)?;
+    let line = line_shown(alloc, parts)?;
     assert_eq!(rt; line.as_str(), "BOUND levels 0 condacts 1032 text 2841\n");
     Ok(())
 }
 
-/// A game of two locations, in which one may look, sing and go.
+// A game of two locations, in which one may look, sing and go.
 fn of_two_locations(alloc: Global) -> Result<GameParts, AllocError> {
     let mut parts = smallest(alloc)?;
     parts.words = vec![in alloc;
@@ -246,7 +246,7 @@ fn of_two_locations(alloc: Global) -> Result<GameParts, AllocError> {
 
 #[test]
 fn a_round_reads_the_verb_that_takes_most(rt: HostRuntime) -> Result<(), Fail> {
-    let line = shown(rt.alloc(), of_two_locations(rt.alloc())?)?;
+    let line = line_shown(rt.alloc(), of_two_locations(rt.alloc())?)?;
     assert_eq!(rt; line.as_str(), "BOUND levels 0 condacts 774 text 2719\n");
     Ok(())
 }

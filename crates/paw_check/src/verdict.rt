@@ -17,7 +17,7 @@ pub enum Cause {
 }
 
 impl Cause {
-    /// The name of the cause.
+    // The name of the cause.
     fn name(self) -> &'static str
         ensures value { result.now ≡ cause_name self }
     {

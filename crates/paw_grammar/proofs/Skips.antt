@@ -21,7 +21,7 @@ use Rattle.paw_read_error.specs.inner.Gives.{Fails}
 use Rattle.paw_read_error.specs.Bind.{◌>>=◌}
 use Rattle.paw_grammar.specs.Tokens.{read_by, at_is_next}
 use Rattle.paw_grammar.specs.Numbers.{number, in_range, number_below}
-use Rattle.paw_grammar.specs.Vocabulary.{known, in_class, or_none}
+use Rattle.paw_grammar.specs.Vocabulary.{declared_word, in_class, or_none}
 use Rattle.paw_grammar.proofs.Steps.{Reads, bound, pair_parts, meant, ranged}
 use Rattle.paw_grammar.proofs.Indirect.{named_plain, first_kind-indirect, second_kind-read}
 use Rattle.paw_grammar.specs.Condacts.{table, parameter, is_indirect_before, first_parameter, code_of}
@@ -60,11 +60,11 @@ takes bounds ws kind.Message ts rest x e = takes_number (λ n. nat_lt n bounds.m
 takes bounds ws kind.System ts rest x e = takes_number (λ n. nat_lt n bounds.system) fault.Number number ts rest x e
 takes bounds ws kind.Table ts rest x e = takes_table bounds.tables ts rest x e
 takes bounds ws kind.Adverb ts rest x e =
-    takes_meaning fault.Word (or_none (λ t. in_class ADVERB_CLASS (known ws t))) ts rest x e
+    takes_meaning fault.Word (or_none (λ t. in_class ADVERB_CLASS (declared_word ws t))) ts rest x e
 takes bounds ws kind.Noun ts rest x e =
-    takes_meaning fault.Word (or_none (λ t. in_class NOUN_CLASS (known ws t))) ts rest x e
-takes bounds ws kind.Adjective ts rest x e = takes_meaning fault.Word (or_none (λ t. in_class ADJECTIVE_CLASS (known ws t))) ts rest x e
-takes bounds ws kind.Preposition ts rest x e = takes_meaning fault.Word (or_none (λ t. in_class PREPOSITION_CLASS (known ws t))) ts rest x e
+    takes_meaning fault.Word (or_none (λ t. in_class NOUN_CLASS (declared_word ws t))) ts rest x e
+takes bounds ws kind.Adjective ts rest x e = takes_meaning fault.Word (or_none (λ t. in_class ADJECTIVE_CLASS (declared_word ws t))) ts rest x e
+takes bounds ws kind.Preposition ts rest x e = takes_meaning fault.Word (or_none (λ t. in_class PREPOSITION_CLASS (declared_word ws t))) ts rest x e
 
 takes_first : (bounds : Bounds) (ws : List Word) (code : ℕ) (indirect : Bool) (ts rest : List (List ℕ)) (x : ℕ)
     → (indirect ≡ true → may_be_indirect code ≡ true)

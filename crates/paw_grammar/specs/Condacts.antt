@@ -38,7 +38,7 @@ place_up_to last named locations ts =
 abbrev pub first_place : ℕ → Reads ℕ
 first_place locations ts = place_up_to CARRIED_PLACE (index_among place_names) locations ts
 
--- A place that is a parameter.
+-- The place that a parameter names; HERE is one too.
 abbrev pub any_place : ℕ → Reads ℕ
 any_place locations ts = place_up_to HERE_PLACE (index_among (place_names ++ codes "HERE" ∷ [])) locations ts
 
@@ -72,12 +72,12 @@ abbrev pub is_indirect_before : ℕ → Tokens → Bool
 is_indirect_before plain ts = may_be_indirect plain && at_is_next ts
 
 -- The number of a flag after the first byte of a token, which is `@`.
-abbrev pub flag_behind_at : Reads ℕ
-flag_behind_at ts = read_by fault.Number (λ t. number (drop 1 t)) ts >>= in_range (λ n. nat_lt n FLAG_COUNT)
+abbrev pub flag_after_at : Reads ℕ
+flag_after_at ts = read_by fault.Number (λ t. number (drop 1 t)) ts >>= in_range (λ n. nat_lt n FLAG_COUNT)
 
 -- The first parameter: a flag after `@` where the condact is indirect.
 abbrev pub first_parameter : Bounds → List Word → Bool → ParamKind → Reads ℕ
-first_parameter bounds ws indirect k ts = if indirect then flag_behind_at ts else parameter bounds ws k ts
+first_parameter bounds ws indirect k ts = if indirect then flag_after_at ts else parameter bounds ws k ts
 
 -- The code of a condact: that of the plain one, plus 128 where it is indirect.
 abbrev pub code_of : Bool → ℕ → ℕ

@@ -8,7 +8,7 @@ use Rattle.paw_base.specs.declared.fault.SourceKind.TheVariants as kind
 use Rattle.paw_grammar.specs.declared.section.Section.{Section}
 use Rattle.paw_grammar.specs.declared.section.Section.TheVariants as section
 use Rattle.paw_read_error.specs.Bind.{◌>>=◌}
-use Rattle.paw_grammar.specs.Tokens.{ended, is_named}
+use Rattle.paw_grammar.specs.Tokens.{end_of_line, is_named}
 use Rattle.paw_grammar.specs.Numbers.{number_below}
 use Rattle.paw_grammar.specs.GrammarState.{Spelt, all_exits}
 use Rattle.paw_grammar.specs.GrammarTexts.{text_item, text_limit, texts_of, with_texts}
@@ -32,11 +32,11 @@ section_opened s d = record d { section = s; begun = false }
 
 -- A header of one token opens its section.
 abbrev pub plain_header : Section → Spelt → Tokens → Result Spelt SourceKind
-plain_header s d ts = ended ts >>= λ _. Ok (section_opened s d)
+plain_header s d ts = end_of_line ts >>= λ _. Ok (section_opened s d)
 
 -- The header of exits: they lead from location to location, so there has to be a location.
 abbrev pub con_header : Spelt → Tokens → Result Spelt SourceKind
-con_header d ts = ended ts >>= λ _.
+con_header d ts = end_of_line ts >>= λ _.
     if length d.locations == 0 then Err kind.Missing else Ok (section_opened section.Con d)
 
 -- Whether no table has begun and an object still lacks its row.
@@ -48,7 +48,7 @@ abbrev pub pro_header : Spelt → Tokens → Result Spelt SourceKind
 pro_header d ts =
     number_below TABLE_LIMIT ts >>= λ n.
     if not (n.0 == length d.tables) then Err kind.Section
-    else ended n.1 >>= λ _.
+    else end_of_line n.1 >>= λ _.
     if lacks_rows d then Err kind.Missing
     else Ok (record (section_opened section.Pro d) { tables = d.tables ++ [] ∷ [] })
 
@@ -85,5 +85,5 @@ item_in s d n = if nat_lt 0 (text_limit s) then new_text s d n else Err kind.Sec
 
 -- A line that begins with `/`. Where a number follows, the line is an item and ends there; otherwise it is a header.
 abbrev pub slash_line : Spelt → Token → Option ℕ → Tokens → Result Spelt SourceKind
-slash_line d name (Some n) ts = ended ts >>= λ _. item_in d.section d n
+slash_line d name (Some n) ts = end_of_line ts >>= λ _. item_in d.section d n
 slash_line d name None ts = header d name ts

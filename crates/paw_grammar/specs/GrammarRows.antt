@@ -13,9 +13,9 @@ use Rattle.paw_base.specs.declared.parts.ObjectFacts.{ObjectFacts}
 use Rattle.paw_grammar.specs.declared.section.Section.{Section}
 use Rattle.paw_grammar.specs.declared.section.Section.TheVariants as section
 use Rattle.paw_read_error.specs.Bind.{◌>>=◌}
-use Rattle.paw_grammar.specs.Tokens.{ended}
+use Rattle.paw_grammar.specs.Tokens.{end_of_line}
 use Rattle.paw_grammar.specs.Numbers.{number_within, number_below, row_number}
-use Rattle.paw_grammar.specs.Vocabulary.{word, class, object_kind, declared, word_or_none}
+use Rattle.paw_grammar.specs.Vocabulary.{word, class, object_kind, with_word_declared, word_or_none}
 use Rattle.paw_grammar.specs.Vocabulary.{verb_word, entry_verb, entry_noun}
 use Rattle.paw_grammar.specs.declared.bounds.Bounds.{Bounds}
 use Rattle.paw_grammar.specs.Condacts.{first_place, more_condacts}
@@ -29,8 +29,8 @@ voc_row ws ts = do
   w ← word ts
   v ← number_within LEAST_WORD GREATEST_WORD w.1
   c ← class v.1
-  end ← ended c.1
-  declared (record { letters = w.0; value = v.0; class = c.0 }) ws
+  end ← end_of_line c.1
+  with_word_declared (record { letters = w.0; value = v.0; class = c.0 }) ws
 
 -- ---- /CON ----
 
@@ -39,7 +39,7 @@ unfoldable pub exit_row : List Word → ℕ → List Exit → Tokens → Result 
 exit_row ws locations xs ts = do
   v ← verb_word ws ts
   to ← number_below locations v.1
-  end ← ended to.1
+  end ← end_of_line to.1
   if list_any (λ x. x.verb == v.0) xs then Err fault.Duplicate
       else Ok (xs ++ (record { verb = v.0; to = to.0 }) ∷ [])
 
@@ -61,7 +61,7 @@ object_row ws locations next count ts = do
   k ← object_kind weight.1
   noun ← word_or_none ws NOUN_CLASS k.1
   adjective ← word_or_none ws ADJECTIVE_CLASS noun.1
-  end ← ended adjective.1
+  end ← end_of_line adjective.1
   Ok (record {
     noun = noun.0;
     adjective = adjective.0;

@@ -84,11 +84,11 @@ spelled_after p n d (l ∷ ls) = at_line (suc n) (after_line p d l) (λ e. spell
 
 -- The game that a source spells, or the line and the kind of its first fault. A parameter may name each table that has
 -- a header, even in a later line.
-unfoldable pub spelled : Bytes → Result GameLists SourceFault
-spelled source =
+unfoldable pub game_spelled : Bytes → Result GameLists SourceFault
+game_spelled source =
     if nat_lt SOURCE_LIMIT (length source) then Err (fault 0 kind.TooBig)
     else spelled_after (count_by begins_table (lines_of source)) 0 nothing_yet (lines_of source)
 
 -- A source spells this game.
 abbrev pub Spells : Bytes → GameLists → Type 0
-Spells source g = spelled source ≡ Ok g
+Spells source g = game_spelled source ≡ Ok g

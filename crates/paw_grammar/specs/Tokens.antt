@@ -18,9 +18,9 @@ token [] = Err kind.Missing
 token (t ∷ ts) = Ok (t, ts)
 
 -- The end of the line; the fault Extra where one more token stands there.
-abbrev pub ended : Tokens → Result (Unit {0}) SourceKind
-ended [] = Ok tt
-ended (t ∷ ts) = Err kind.Extra
+abbrev pub end_of_line : Tokens → Result (Unit {0}) SourceKind
+end_of_line [] = Ok tt
+end_of_line (t ∷ ts) = Err kind.Extra
 
 -- What the next token means, and the tokens after it; this fault where it has no meaning.
 abbrev pub read_by : {A : Type 0} → SourceKind → (Token → Option A) → Reads A

@@ -70,8 +70,8 @@ words_with w (v ∷ vs) = if is_lt (slice_cmp nat_cmp w.letters v.letters) then 
 
 -- The words with one more: the fault Duplicate where a word of any class has its letters, TooBig where there are as
 -- many as allowed.
-abbrev pub declared : Word → List Word → Result (List Word) SourceKind
-declared w ws =
+abbrev pub with_word_declared : Word → List Word → Result (List Word) SourceKind
+with_word_declared w ws =
     if is_some (word_of w.letters ws) then Err kind.Duplicate
     else if length ws == WORD_LIMIT then Err kind.TooBig
     else Ok (words_with w ws)
@@ -89,8 +89,8 @@ as_verb word = option_and_then (λ (w : Word).
     else None) word
 
 -- The declared word that a token spells.
-abbrev pub known : List Word → Token → Option Word
-known ws t = if is_word_token t then word_of (letters_of t) ws else None
+abbrev pub declared_word : List Word → Token → Option Word
+declared_word ws t = if is_word_token t then word_of (letters_of t) ws else None
 
 -- What a token means where `_` is no word.
 abbrev pub or_none : (Token → Option ℕ) → Token → Option ℕ
@@ -102,16 +102,16 @@ or_any meaning t = if bytes_eq t (codes "*") then Some ANY_WORD else or_none mea
 
 -- The word of an object, or one that is a parameter; `_` is no word.
 abbrev pub word_or_none : List Word → ℕ → Reads ℕ
-word_or_none ws class ts = read_by kind.Word (or_none (λ t. in_class class (known ws t))) ts
+word_or_none ws class ts = read_by kind.Word (or_none (λ t. in_class class (declared_word ws t))) ts
 
 -- The verb of an exit.
 abbrev pub verb_word : List Word → Reads ℕ
-verb_word ws ts = read_by kind.Word (λ t. as_verb (known ws t)) ts
+verb_word ws ts = read_by kind.Word (λ t. as_verb (declared_word ws t)) ts
 
 -- The verb of an entry.
 abbrev pub entry_verb : List Word → Reads ℕ
-entry_verb ws ts = read_by kind.Word (or_any (λ t. as_verb (known ws t))) ts
+entry_verb ws ts = read_by kind.Word (or_any (λ t. as_verb (declared_word ws t))) ts
 
 -- The noun of an entry.
 abbrev pub entry_noun : List Word → Reads ℕ
-entry_noun ws ts = read_by kind.Word (or_any (λ t. in_class NOUN_CLASS (known ws t))) ts
+entry_noun ws ts = read_by kind.Word (or_any (λ t. in_class NOUN_CLASS (declared_word ws t))) ts

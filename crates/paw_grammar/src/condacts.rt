@@ -8,7 +8,7 @@ ghost use Rattle.paw_read_error.specs.inner.Gives.{Gives};
 ghost use Rattle.paw_grammar.specs.Numbers.{number_below};
 ghost use Rattle.paw_grammar.specs.Vocabulary.{word_or_none};
 ghost use Rattle.paw_grammar.specs.Condacts.{table, parameter, condact, condacts_in, with_more_condacts};
-ghost use Rattle.paw_grammar.specs.Condacts.{more_condacts, flag_behind_at, first_parameter, code_of};
+ghost use Rattle.paw_grammar.specs.Condacts.{more_condacts, flag_after_at, first_parameter, code_of};
 ghost use Rattle.paw_grammar.specs.Tokens.{at_is_next};
 
 use crate::bounds::Bounds;
@@ -29,7 +29,7 @@ use std::marker::Model;
 /// How many values a flag, or a number, may have.
 const BYTES: u16 = 256;
 
-/// Takes the number of a table; 255 stands for one that is above.
+// Takes the number of a table; 255 stands for one that is above.
 fn table(tokens: &mut Tokens, tables: u32) -> Result<u8, LineError>
     ensures gives { Gives (λ n. (n, tokens.new)) result (table tables tokens.old) }
 {
@@ -37,9 +37,9 @@ fn table(tokens: &mut Tokens, tables: u32) -> Result<u8, LineError>
     Ok(number.min(u32::from(u8::MAX)) as u8)
 }
 
-/// Takes a token that begins with `@`: the flag whose number follows.
-fn flag_behind_at(tokens: &mut Tokens) -> Result<u8, LineError>
-    ensures gives { Gives (λ n. (n, tokens.new)) result (flag_behind_at tokens.old) }
+// Takes a token that begins with `@`: the flag whose number follows.
+fn flag_after_at(tokens: &mut Tokens) -> Result<u8, LineError>
+    ensures gives { Gives (λ n. (n, tokens.new)) result (flag_after_at tokens.old) }
 {
     let token = tokens.token()?;
     match number(without_first(token)) {
@@ -54,14 +54,14 @@ fn flag_behind_at(tokens: &mut Tokens) -> Result<u8, LineError>
     }
 }
 
-/// Whether the condact of a plain code is indirect: it may be, and `@` follows its name.
+// Whether the condact of a plain code is indirect: it may be, and `@` follows its name.
 fn is_indirect(plain: u8, tokens: &Tokens) -> bool
     ensures value { result ≡ (may_be_indirect plain && at_is_next tokens.now) }
 {
     may_be_indirect(plain) && tokens.at_is_next()
 }
 
-/// The code of the indirect condact with a plain code.
+// The code of the indirect condact with a plain code.
 fn indirect_code(plain: u8) -> u8
     requires plain { IsPlainCode plain }
     ensures value { result ≡ plain + INDIRECT }
@@ -69,7 +69,7 @@ fn indirect_code(plain: u8) -> u8
     plain + INDIRECT
 }
 
-/// The code of the condact with a plain code.
+// The code of the condact with a plain code.
 fn code_of(indirect: bool, plain: u8) -> u8
     requires plain { IsPlainCode plain }
     ensures value { result ≡ code_of indirect plain }
@@ -99,7 +99,7 @@ impl<'a> Model for Scope<'a> {
 }
 
 impl<'a> Scope<'a> {
-    /// Takes a parameter of this kind.
+    // Takes a parameter of this kind.
     fn parameter(&self, kind: ParamKind, tokens: &mut Tokens) -> Result<u8, LineError>
         ensures gives { Gives (λ n. (n, tokens.new)) result (parameter self.now.bounds self.now.words kind tokens.old) }
     {
@@ -120,7 +120,7 @@ impl<'a> Scope<'a> {
         }
     }
 
-    /// Takes a first parameter of this kind or, where the condact is indirect, `@` and a flag.
+    // Takes a first parameter of this kind or, where the condact is indirect, `@` and a flag.
     fn first_parameter(
         &self,
         indirect: bool,
@@ -131,13 +131,13 @@ impl<'a> Scope<'a> {
             (first_parameter self.now.bounds self.now.words indirect kind tokens.old) }
     {
         if indirect {
-            flag_behind_at(tokens)
+            flag_after_at(tokens)
         } else {
             self.parameter(kind, tokens)
         }
     }
 
-    /// Takes the parameters of the condact with this name.
+    // Takes the parameters of the condact with this name.
     #[tactic(auto, unfolding(crate::specs::Condacts::condact))]
     fn condact(&self, name: &[u8], tokens: &mut Tokens) -> Result<Condact, LineError>
         ensures gives { Gives (λ c. (c, tokens.new)) result
@@ -156,7 +156,7 @@ impl<'a> Scope<'a> {
         Ok(Condact { code, a, b })
     }
 
-    /// Takes all condacts up to the end of the line, and adds them.
+    // Takes all condacts up to the end of the line, and adds them.
     fn add_condacts(&self, tokens: &mut Tokens, rows: &mut Vec<Condact>) -> Result<(), LineError>
         ensures gives { Gives (λ _. rows.new.items) result
             (with_more_condacts rows.old.items (condacts_in self.now.bounds self.now.words 0 tokens.old)) }

@@ -29,7 +29,7 @@ pub fn number(token: &[u8]) -> Option<u32>
     Some(number)
 }
 
-/// Takes a number, or 4,294,967,295 for one that is above that.
+// Takes a number, or 4,294,967,295 for one that is above that.
 fn next_number(tokens: &mut Tokens) -> Result<u32, LineError>
     ensures gives { Gives (λ n. (n, tokens.new)) result (capped_number tokens.old) }
 {

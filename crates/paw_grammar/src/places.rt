@@ -27,7 +27,7 @@ static FIRST_PLACE_NAMES: [&[u8]; 3] = [b"NOTCREATED", b"WORN", b"CARRIED"];
 /// The place with the first of the names.
 const FIRST_NAMED: u32 = NOT_CREATED_PLACE as u32;
 
-/// The number that a token is, or the place with the name that it is.
+// The number that a token is, or the place with the name that it is.
 fn place_by(names: &[&[u8]], token: &[u8]) -> Option<u32>
     requires names { length names.now ≤ 4 }
     ensures value { let named = position (λ name. is_named token.now name.now) names.now in
@@ -42,7 +42,7 @@ fn place_by(names: &[&[u8]], token: &[u8]) -> Option<u32>
     }
 }
 
-/// Takes a place: a location, or one from 252 on that has one of these names, by number or by name.
+// Takes a place: a location, or one from 252 on that has one of these names, by number or by name.
 fn named_place(tokens: &mut Tokens, names: &[&[u8]], locations: u16) -> Result<u8, LineError>
     requires locations { locations ≤ 256 }
     requires names { length names.now ≤ 4 }

@@ -41,7 +41,7 @@ fn fault<T>(kind: SourceKind) -> Result<T, LineError> {
     Err(ReadError::Fault(kind))
 }
 
-fn declared(alloc: Global) -> Result<Vocabulary, LineError> {
+fn small_vocabulary(alloc: Global) -> Result<Vocabulary, LineError> {
     let mut words = Vocabulary::new(alloc);
     for (letters, value, class) in [
         (*b"TAKE ", 30, VERB_CLASS),
@@ -68,7 +68,7 @@ fn scope(words: &Vocabulary) -> Scope<'_> {
 
 #[test]
 fn words_stand_in_order_of_their_letters(rt: HostRuntime) -> Result<(), Fail> {
-    let mut words = declared(rt.alloc()).ok().ok_or(NO_ROOM)?;
+    let mut words = small_vocabulary(rt.alloc()).ok().ok_or(NO_ROOM)?;
     let again = Word {
         letters: *b"LANTE",
         value: 9,
@@ -86,7 +86,7 @@ fn words_stand_in_order_of_their_letters(rt: HostRuntime) -> Result<(), Fail> {
 
 #[test]
 fn tokens_of_rows_are_read(rt: HostRuntime) -> Result<(), Fail> {
-    let words = declared(rt.alloc()).ok().ok_or(NO_ROOM)?;
+    let words = small_vocabulary(rt.alloc()).ok().ok_or(NO_ROOM)?;
     let mut row = tokens(b"lanterns 0050 Noun ; a lamp");
     assert_eq!(rt; word(&mut row), Ok(*b"LANTE"));
     assert_eq!(rt; number_within(&mut row, 2, 254), Ok(50));
@@ -119,7 +119,7 @@ fn tokens_of_rows_are_read(rt: HostRuntime) -> Result<(), Fail> {
 
 #[test]
 fn condacts_are_read(rt: HostRuntime) -> Result<(), Fail> {
-    let words = declared(rt.alloc()).ok().ok_or(NO_ROOM)?;
+    let words = small_vocabulary(rt.alloc()).ok().ok_or(NO_ROOM)?;
     let mut rows = Vec::new(rt.alloc());
     let mut line = tokens(
         b"noun2 bag AUTOP 002 LET 60 9 DOALL here OK MES @100 mes @007 NOUN2 @4 EQ @7 3 ; more",
@@ -145,7 +145,7 @@ fn condacts_are_read(rt: HostRuntime) -> Result<(), Fail> {
 
 #[test]
 fn the_first_fault_of_condacts_is_named(rt: HostRuntime) -> Result<(), Fail> {
-    let words = declared(rt.alloc()).ok().ok_or(NO_ROOM)?;
+    let words = small_vocabulary(rt.alloc()).ok().ok_or(NO_ROOM)?;
     let lines: [(&[u8], SourceKind); 17] = [
         (b"OK LOOK", SourceKind::Condact),
         (b"MESSAGE", SourceKind::Missing),

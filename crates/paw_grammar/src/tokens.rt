@@ -5,7 +5,7 @@ ghost use Rattle.paw_lex.specs.inner.Lines.{line_bytes, LiesIn};
 ghost use Rattle.paw_lex.specs.Tokens.{tokens_of};
 ghost use Rattle.paw_lex.specs.inner.Tokens.{tokens_from};
 ghost use Rattle.paw_read_error.specs.inner.Gives.{Gives};
-ghost use Rattle.paw_grammar.specs.Tokens.{token, ended, is_named, at_is_next, begins_with_at};
+ghost use Rattle.paw_grammar.specs.Tokens.{token, end_of_line, is_named, at_is_next, begins_with_at};
 
 use crate::refusal::LineError;
 use paw_base::fault::SourceKind;
@@ -92,7 +92,7 @@ impl<'a> Tokens<'a> {
     /// # Errors
     /// Extra exactly where a token is left.
     pub fn end_line(&mut self) -> Result<(), LineError>
-        ensures gives { Gives (λ _. tt) result (ended self.old) }
+        ensures gives { Gives (λ _. tt) result (end_of_line self.old) }
     {
         match self.next() {
             None => Ok(()),

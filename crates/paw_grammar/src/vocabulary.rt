@@ -4,7 +4,8 @@ ghost use Rattle.std.specs.Prelude.{◌≡◌, [], length, None, Ok, IfOk};
 ghost use Rattle.std.specs.Option.{ok_or};
 ghost use Rattle.paw_game.specs.Tables.{word_of};
 ghost use Rattle.paw_read_error.specs.inner.Gives.{Gives};
-ghost use Rattle.paw_grammar.specs.Vocabulary.{words_with, declared, known, in_class, as_verb, or_none};
+ghost use Rattle.paw_grammar.specs.Vocabulary.{words_with, with_word_declared, declared_word, in_class, as_verb};
+ghost use Rattle.paw_grammar.specs.Vocabulary.{or_none};
 ghost use Rattle.paw_grammar.specs.Vocabulary.{or_any, word_or_none, verb_word, entry_verb, entry_noun};
 ghost use Rattle.paw_grammar.specs.inner.WordMap.{words_in};
 
@@ -27,7 +28,7 @@ struct WordMeaning {
     class: u8,
 }
 
-/// The declared word with these letters.
+// The declared word with these letters.
 fn find(
     words: &BTreeMap<[u8; WORD_LENGTH], WordMeaning>,
     letters: [u8; WORD_LENGTH],
@@ -44,14 +45,14 @@ fn find(
     }
 }
 
-/// How many words are declared.
+// How many words are declared.
 fn count(words: &BTreeMap<[u8; WORD_LENGTH], WordMeaning>) -> usize
     ensures value { result ≡ length (words_in words.now.entries) }
 {
     words.len()
 }
 
-/// Puts a word that isn't among the words in its place.
+// Puts a word that isn't among the words in its place.
 fn put(words: &mut BTreeMap<[u8; WORD_LENGTH], WordMeaning>, word: Word) -> Result<(), LineError>
     requires fresh { word_of word.letters (words_in words.old.entries) ≡ None }
     ensures gives { Gives (λ _. words_in words.new.entries) result (Ok (words_with word (words_in words.old.entries))) }
@@ -66,7 +67,7 @@ fn put(words: &mut BTreeMap<[u8; WORD_LENGTH], WordMeaning>, word: Word) -> Resu
     }
 }
 
-/// The words in order of their letters.
+// The words in order of their letters.
 fn word_list(
     alloc: Global,
     words: &BTreeMap<[u8; WORD_LENGTH], WordMeaning>,
@@ -84,7 +85,7 @@ fn word_list(
     Ok(list)
 }
 
-/// The value of a word, where there is one and it has this class.
+// The value of a word, where there is one and it has this class.
 fn in_class(class: u8, word: Option<Word>) -> Option<u8>
     ensures value { result ≡ in_class class word }
 {
@@ -94,7 +95,7 @@ fn in_class(class: u8, word: Option<Word>) -> Option<u8>
     }
 }
 
-/// The value of a word, where there is one and it is a verb or a noun below 20.
+// The value of a word, where there is one and it is a verb or a noun below 20.
 fn as_verb(word: Option<Word>) -> Option<u8>
     ensures value { result ≡ as_verb word }
 {
@@ -106,7 +107,7 @@ fn as_verb(word: Option<Word>) -> Option<u8>
     }
 }
 
-/// 255 for `_`, and otherwise this value.
+// 255 for `_`, and otherwise this value.
 fn or_none(token: &[u8], value: Option<u8>) -> Option<u8>
     ensures value { result ≡ or_none (λ _. value) token.now }
 {
@@ -116,7 +117,7 @@ fn or_none(token: &[u8], value: Option<u8>) -> Option<u8>
     }
 }
 
-/// 1 for `*`, 255 for `_`, and otherwise this value.
+// 1 for `*`, 255 for `_`, and otherwise this value.
 fn or_any(token: &[u8], value: Option<u8>) -> Option<u8>
     ensures value { result ≡ or_any (λ _. value) token.now }
 {
@@ -126,7 +127,7 @@ fn or_any(token: &[u8], value: Option<u8>) -> Option<u8>
     }
 }
 
-/// The value, or Word where there is none.
+// The value, or Word where there is none.
 fn or_word_fault(value: Option<u8>) -> Result<u8, LineError>
     ensures value { result ≡ ok_or value (ReadError.Fault SourceKind.Word) }
 {
@@ -168,7 +169,7 @@ impl Vocabulary {
     /// Duplicate exactly where its letters are declared, with any class, and otherwise TooBig exactly where there are
     /// 2,000 words. Memory where there is none.
     pub fn declare(&mut self, word: Word) -> Result<(), LineError>
-        ensures gives { Gives (λ _. self.new) result (declared word self.old) }
+        ensures gives { Gives (λ _. self.new) result (with_word_declared word self.old) }
     {
         if find(&self.words, word.letters).is_some() {
             return Err(ReadError::Fault(SourceKind::Duplicate));
@@ -189,24 +190,24 @@ impl Vocabulary {
         word_list(alloc, &self.words)
     }
 
-    /// The declared word that a token spells.
+    // The declared word that a token spells.
     fn find_word(&self, token: &[u8]) -> Option<Word>
-        ensures value { result ≡ known self.now token.now }
+        ensures value { result ≡ declared_word self.now token.now }
     {
         let letters = letters_in(token)?;
         find(&self.words, letters)
     }
 
-    /// The value of the word that a token spells, where it has this class.
+    // The value of the word that a token spells, where it has this class.
     fn word_value(&self, class: u8, token: &[u8]) -> Option<u8>
-        ensures value { result ≡ in_class class (known self.now token.now) }
+        ensures value { result ≡ in_class class (declared_word self.now token.now) }
     {
         in_class(class, self.find_word(token))
     }
 
-    /// The verb value of the word that a token spells.
+    // The verb value of the word that a token spells.
     fn verb_value(&self, token: &[u8]) -> Option<u8>
-        ensures value { result ≡ as_verb (known self.now token.now) }
+        ensures value { result ≡ as_verb (declared_word self.now token.now) }
     {
         as_verb(self.find_word(token))
     }

@@ -37,7 +37,7 @@ fn is_word_token(token: &[u8]) -> bool
     !token.is_empty() && are_letters(token)
 }
 
-/// The letters of a word: capitals, cut to five, filled up with spaces.
+// The letters of a word: capitals, cut to five, filled up with spaces.
 fn letters_of(token: &[u8]) -> [u8; WORD_LENGTH]
     ensures value { result ≡ letters_of token.now }
 {
@@ -80,7 +80,7 @@ pub(crate) fn index_among(names: &[&[u8]], token: &[u8]) -> Option<usize>
     names.iter().position(|name| is_named(token, name))
 }
 
-/// The class that a token names, in any case of letters.
+// The class that a token names, in any case of letters.
 fn class_named(token: &[u8]) -> Option<u8>
     ensures value { result ≡ index_among class_names token.now }
 {
@@ -103,7 +103,7 @@ pub fn class(tokens: &mut Tokens) -> Result<u8, LineError>
     }
 }
 
-/// What a kind says of an object: whether it is a container, and whether it may be worn.
+// What a kind says of an object: whether it is a container, and whether it may be worn.
 fn kind_named(token: &[u8]) -> Option<(bool, bool)>
     ensures value { result ≡ kind_named token.now }
 {

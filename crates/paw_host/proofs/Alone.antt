@@ -13,13 +13,13 @@ use Rattle.paw_reading.specs.declared.places.Frame.{Frame}
 use Rattle.paw_reading.specs.Run.{Run, Step}
 use Rattle.paw_reading.specs.declared.places.Halt.TheVariants as halt
 use Rattle.paw_reading.specs.Turn.{Ending, WaitsAt, Halted, Unended, reading, pieces_of}
-use Rattle.paw_reading.specs.inner.Turn.{followed}
+use Rattle.paw_reading.specs.inner.Turn.{ending_followed}
 use Rattle.paw_reading.specs.inner.Longer.{ending_with_past, goes_on_with}
 use Rattle.paw_reading.specs.inner.Pieces.{Counted}
 use Rattle.paw_reading.proofs.Counts.{pieces_of_lines}
 use Rattle.paw_reading.proofs.Followed.{going_on_is_reading}
 use Rattle.paw_reading.proofs.Past.{longer_reading}
-use Rattle.paw_state.specs.Record.{last_piece}
+use Rattle.paw_state.specs.State.{last_piece}
 use Rattle.paw_host.specs.Names.{Request, request_of}
 use Rattle.paw_host.specs.Replies.{Absent, At, Sessions, Answer, gone_on, answer, is_over, sessions_with}
 use Rattle.paw_host.specs.Replies.{sessions_after}
@@ -78,7 +78,7 @@ each_plays_alone = record { session = session_alone; answers = answers_alone }
 
 -- ---- readings that wait ----
 
-waits_by : (g : Story) (fs : List (List ℕ)) (e : Ending) (p : Prompt) (path : List Frame) (r : Run) → followed g fs e ≡ WaitsAt p path r →
+waits_by : (g : Story) (fs : List (List ℕ)) (e : Ending) (p : Prompt) (path : List Frame) (r : Run) → ending_followed g fs e ≡ WaitsAt p path r →
     (q : Prompt) × (at : List Frame) × (s : Run) × (e ≡ WaitsAt q at s)
 waits_by g fs (WaitsAt q at s) p path r h = (q, at, s, refl)
 waits_by g fs (Halted halt s) p path r h = cc

@@ -8,7 +8,7 @@ use Rattle.paw_stage.specs.Disk.{IsStable}
 use Rattle.paw_stage.specs.Stage.{Standing}
 use Rattle.paw_stage.specs.Moments.{Moment, moment_of}
 use Rattle.paw_journal.proofs.Disks.{stable_leaves}
-use Rattle.paw_state.specs.Record.{last_piece}
+use Rattle.paw_state.specs.State.{last_piece}
 use Rattle.paw_play.specs.Stands.{Stands, IsPlayedWith}
 use Rattle.paw_play.specs.Laws.{ShowsSome}
 use Rattle.paw_play.proofs.Standing.{standing_shows}

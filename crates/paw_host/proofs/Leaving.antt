@@ -6,7 +6,7 @@ use Rattle.paw_stage.specs.declared.Stage.{Ghosts}
 use Rattle.paw_stage.specs.declared.StageCall.{StageCall}
 use Rattle.paw_stage.specs.declared.StageCall.TheVariants as call
 use Rattle.paw_stage.specs.Across.{IsOneOf, FailsOnlyBy}
-use Rattle.paw_stage.specs.Stage.{Standing, opened}
+use Rattle.paw_stage.specs.Stage.{Standing, with_store_opened}
 use Rattle.paw_journal.specs.Journal.{writing_calls}
 use Rattle.paw_journal.specs.inner.Journal.{IsAtRest}
 use Rattle.paw_journal.specs.inner.Store.{ChangesStoreOnly}
@@ -36,7 +36,7 @@ leaves_read g failed Left old new reads left = record {
 -- as before.
 pub leaves_attached : {S A E : Type 0} (g : Ghosts S) (first calls : List StageCall) (failed : Option StageCall) (result : Result A E)
     (name : List ℕ) (old mid new : S) → ((c : StageCall) → IsOneOf calls c → IsOneOf answer_calls c) → FailsOnlyBy g first None old mid →
-    (g.Tells old → g.standing mid ≡ opened name (g.standing old)) →
+    (g.Tells old → g.standing mid ≡ with_store_opened name (g.standing old)) →
     LeavesStage g calls failed ChangesStoreOnly (λ before after. OnOk result (IsAtRest after)) mid new →
     LeavesStage g answer_calls failed (IsAside name) (λ before after. OnOk result (IsAttachedStable name after)) old new
 leaves_attached g first calls failed result name old mid new among attach opens leaves = record {

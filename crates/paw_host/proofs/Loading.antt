@@ -10,7 +10,7 @@ use Rattle.paw_play.specs.ImageFiles.{Holds}
 use Rattle.paw_play.proofs.ImageFiles.{damage_loaded, same_game}
 use Rattle.paw_host.specs.Replies.{Sessions}
 use Rattle.paw_host.specs.Promise.{BeginsWith}
-use Rattle.paw_host.specs.Hosts.{Ends, Hosts, HostsFile, hosts, damaged, absent, failed, wanting}
+use Rattle.paw_host.specs.Hosts.{Ends, Hosts, HostsFile, hosts, damaged, absent, failed, without_memory}
 use Rattle.paw_host.specs.declared.outcome.HostOutcome.{HostOutcome}
 use Rattle.paw_host.specs.declared.outcome.HostOutcome.TheVariants as outcome
 use Rattle.paw_host.specs.inner.Opens.{ReadsNoImage, OpensNone}
@@ -30,7 +30,7 @@ pub unloaded : (answers : List (List ℕ)) (name : List ℕ) (seed : ℕ) (old n
     HostsFile answers name seed old new o
 unloaded answers name seed old new (outcome.Outside call.LoadAbsent) h = absent h.0 h.1
 unloaded answers name seed old new (outcome.Outside call.Load) h = failed h
-unloaded answers name seed old new outcome.Memory h = wanting h
+unloaded answers name seed old new outcome.Memory h = without_memory h
 unloaded answers name seed old new _ h = absurd h
 
 -- Bytes that give no game.
@@ -38,7 +38,7 @@ unopened : (answers : List (List ℕ)) (name given : List ℕ) (seed : ℕ) (old
     LoadsSome name IMAGE_LIMIT old new given → OpensNone given o → HostsFile answers name seed old new o
 unopened answers name given seed old new (outcome.ImageDamaged at) f h =
     damaged at (damage_loaded name given old new at f h.0 h.1) f.3
-unopened answers name given seed old new outcome.Memory f h = wanting f.3
+unopened answers name given seed old new outcome.Memory f h = without_memory f.3
 unopened answers name given seed old new _ f h = absurd h
 
 pub undecoded : (answers : List (List ℕ)) (name given bytes : List ℕ) (seed : ℕ) (old new : Standing) (o : HostOutcome) → bytes ≡ given →

@@ -24,7 +24,7 @@ use Rattle.paw_routines.specs.declared.routines.Routines.{Routines}
 use Rattle.paw_stage.specs.declared.StageCall.{StageCall}
 use Rattle.paw_routines.specs.Measure.{measure}
 use Rattle.paw_base.specs.declared.layout.TheConstants.{STATE_LENGTH}
-use Rattle.paw_state.specs.declared.layout.TheConstants.{PIECE}
+use Rattle.paw_state.specs.declared.fields.TheConstants.{PIECE}
 use Rattle.paw_journal.specs.Session.{Digests, Unmade, Damaged, Shown, recover, state_length, piece_length}
 use Rattle.paw_journal.proofs.ShownPieces.{buffer_long}
 use Rattle.paw_journal.specs.inner.Session.{session_shown}
@@ -34,8 +34,8 @@ use Rattle.paw_journal.specs.declared.refusal.JournalRefusal.{JournalRefusal}
 use Rattle.paw_journal.specs.declared.refusal.JournalRefusal.TheVariants as refusal
 use Rattle.paw_state.specs.State.{State, state_bytes}
 use Rattle.paw_state.specs.Fit.{Fit}
-use Rattle.paw_state.specs.Record.{last_piece}
-use Rattle.paw_state.specs.declared.Restored.{Restored}
+use Rattle.paw_state.specs.State.{last_piece}
+use Rattle.paw_state.specs.declared.parts.Restored.{Restored}
 use Rattle.paw_state.specs.inner.Fit.{IsRead, state_read}
 use Rattle.paw_play.specs.Session.{story_digests, IsOfStory, kept_bytes, IsKept}
 use Rattle.paw_play.specs.Stands.{Stands, IsPlayedWith}

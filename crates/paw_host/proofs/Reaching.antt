@@ -4,7 +4,7 @@ use Rattle.std.proofs.Common.{subst, bytes_eq, length, ◌∷◌}
 use Rattle.std.specs.Prelude.{if◌then◌else◌}
 use Rattle.std.proofs.lemmas.Slice.Eq.{bytes_eq-Decides}
 use Rattle.paw_stage.specs.Disk.{IsStable, stable}
-use Rattle.paw_stage.specs.Stage.{Standing, Files, file_bytes, bytes_or_none, made_if_missing, opened, Unattached}
+use Rattle.paw_stage.specs.Stage.{Standing, Files, file_bytes, bytes_or_none, made_if_missing, with_store_opened, Unattached}
 use Rattle.paw_stage.specs.Moments.{Moment, moment_of, InAttach}
 use Rattle.paw_journal.specs.Session.{IsUnmade, Recovered, Shown, Digests, recover, recover_by}
 use Rattle.paw_journal.specs.inner.Store.{ChangesStoreOnly}
@@ -44,13 +44,13 @@ made_by name f files None e =
       | false ↦ λ t. refl
     ] refl
 
-made_bytes : (old : Standing) (name f : List ℕ) → bytes_or_none ((opened name old).files f) ≡ file_bytes old f
+made_bytes : (old : Standing) (name f : List ℕ) → bytes_or_none ((with_store_opened name old).files f) ≡ file_bytes old f
 made_bytes old name f = made_by name f old.files (old.files name) refl
 
 same_name : (name f : List ℕ) → ◌≡◌ {A = Option (List ℕ)} (Some name) (Some f) → name ≡ f
 same_name name f e = cc
 
-opened_left : (old : Standing) (name f bytes : List ℕ) → MayBeLeft f (moment_of (opened name old)) bytes → bytes ≡ file_bytes old f
+opened_left : (old : Standing) (name f bytes : List ℕ) → MayBeLeft f (moment_of (with_store_opened name old)) bytes → bytes ≡ file_bytes old f
 opened_left old name f bytes (inl h) =
     stable_leaves (stable (file_bytes old name)) bytes (stable_is (file_bytes old name)) h.1 ∙ ap (file_bytes old) (same_name name f h.0)
 opened_left old name f bytes (inr h) = h.1 ∙ made_bytes old name f
@@ -75,7 +75,7 @@ module _ (old new : Standing) (name : List ℕ) (settled : IsStable old.disk) (h
     ];
   }
 
-  opened_it : IsBefore name old (moment_of (opened name old))
+  opened_it : IsBefore name old (moment_of (with_store_opened name old))
   opened_it = record { asked = refl; shown = refl; files = λ f ne. other_file old name f ne; attached = inr (inl refl); left = opened_left old name }
 
   unattached_it : Unattached old new → IsBefore name old (moment_of new)
@@ -84,7 +84,7 @@ module _ (old new : Standing) (name : List ℕ) (settled : IsStable old.disk) (h
       (record { asked = refl; shown = refl; files = λ f ne. refl; attached = inr (inr refl); left = none_left old })
 
   -- Inside the attach.
-  pub in_attach : (new ≡ opened name old) ⊎ Unattached old new → (m : Moment) → InAttach old new name m → IsBefore name old m
+  pub in_attach : (new ≡ with_store_opened name old) ⊎ Unattached old new → (m : Moment) → InAttach old new name m → IsBefore name old m
   in_attach how m (inl e) = subst (IsBefore name old) (sym e) before_it
   in_attach how m (inr (inl e)) = subst (IsBefore name old) (sym e) made_it
   in_attach how m (inr (inr e)) = subst (IsBefore name old) (sym e) (elim how [
@@ -107,7 +107,7 @@ module _ (g : Story) (seed : ℕ) (name : List ℕ) (before after : NamedSession
   }
 
   -- Once the store is attached.
-  pub answer_in_file : (m : Moment) → InFile (LeftOf g seed before after) (opened name old) m → InAnswer g seed name before after old m
+  pub answer_in_file : (m : Moment) → InFile (LeftOf g seed before after) (with_store_opened name old) m → InAnswer g seed name before after old m
   answer_in_file m i = record {
     asked = i.asked;
     shown = i.shown;
@@ -128,20 +128,20 @@ module _ (g : Story) (seed : ℕ) (name : List ℕ) (before after : NamedSession
 
 -- From a store with no bytes, of which there is no session.
 pub answer_in_new : (g : Story) (seed : ℕ) (name : List ℕ) (before after : NamedSession) (old mid : Standing) (m : Moment) →
-    Stores g before (file_bytes old name) → before ≡ Absent → mid ≡ opened name old → InFile (LeftOf g seed Absent after) mid m →
+    Stores g before (file_bytes old name) → before ≡ Absent → mid ≡ with_store_opened name old → InFile (LeftOf g seed Absent after) mid m →
     InAnswer g seed name before after old m
 answer_in_new g seed name before after old mid m stores none is i =
     answer_in_file g seed name before after old stores m
-    (subst (λ s. InFile (LeftOf g seed s after) (opened name old) m) (sym none) (subst (λ q. InFile (LeftOf g seed Absent after) q m) is i))
+    (subst (λ s. InFile (LeftOf g seed s after) (with_store_opened name old) m) (sym none) (subst (λ q. InFile (LeftOf g seed Absent after) q m) is i))
 
 -- From a store with bytes.
 pub answer_in_kept : (g : Story) (seed : ℕ) (name : List ℕ) (before after : NamedSession) (old mid : Standing) (m : Moment) →
-    Stores g before (file_bytes old name) → mid ≡ opened name old → InFile (StoresEither g before after) mid m →
+    Stores g before (file_bytes old name) → mid ≡ with_store_opened name old → InFile (StoresEither g before after) mid m →
     InAnswer g seed name before after old m
 answer_in_kept g seed name before after old mid m stores is i =
     answer_in_file g seed name before after old stores m (either_left (subst (λ q. InFile (StoresEither g before after) q m) is i))
   where
-    either_left : InFile (StoresEither g before after) (opened name old) m → InFile (LeftOf g seed before after) (opened name old) m
+    either_left : InFile (StoresEither g before after) (with_store_opened name old) m → InFile (LeftOf g seed before after) (with_store_opened name old) m
     either_left j = record {
       asked = j.asked;
       shown = j.shown;
@@ -174,7 +174,7 @@ pub aside_unattached : (name : List ℕ) (old new : Standing) → Unattached old
 aside_unattached name old new (inl e) = subst (IsAside name old) (sym e) (record { lines = refl; asked = refl; shown = refl; files = λ f ne. refl })
 aside_unattached name old new (inr e) = subst (IsAside name old) (sym e) (record { lines = refl; asked = refl; shown = refl; files = λ f ne. refl })
 
-module _ (name : List ℕ) (old mid new : Standing) (is : mid ≡ opened name old) (b : ChangesStoreOnly mid new) where
+module _ (name : List ℕ) (old mid new : Standing) (is : mid ≡ with_store_opened name old) (b : ChangesStoreOnly mid new) where
   -- The store is attached still.
   pub attached_still : new.attached ≡ Some name
   attached_still = b.attached ∙ ap (λ (q : Standing). q.attached) is

@@ -51,7 +51,7 @@ pub data HostsFile (answers : RoutineAnswers) (name : Name) (seed : Seed) (old n
       HostsFile answers name seed old new (outcome.ImageDamaged at)
   absent : old.files name ≡ None → new ≡ old → HostsFile answers name seed old new (outcome.Outside call.LoadAbsent)
   failed : new ≡ old → HostsFile answers name seed old new (outcome.Outside call.Load)
-  wanting : new ≡ old → HostsFile answers name seed old new outcome.Memory
+  without_memory : new ≡ old → HostsFile answers name seed old new outcome.Memory
 
 -- What stands at each moment of hosting; `Come` says that all its moments are of this kind.
 abbrev pub HostsAtEachMoment : ((Moment → Type 0) → Type 0) → RoutineAnswers → Name → Seed → Standing → Type 0

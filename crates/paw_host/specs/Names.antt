@@ -25,12 +25,12 @@ parted_at line None = record { name = line; text = None }
 parted_at line (Some at) = record { name = take at line; text = Some (drop (at + 1) line) }
 
 -- The request of a line, which is parted at its first space.
-abbrev pub parted : Line → Request
-parted line = parted_at line (position (λ b. b == 32) line)
+abbrev pub line_parted : Line → Request
+line_parted line = parted_at line (position (λ b. b == 32) line)
 
 -- What a line asks for, where it is a name, or a name, a space and a text.
 abbrev pub request_in : Line → Option Request
-request_in line = if is_name (parted line).name then Some (parted line) else None
+request_in line = if is_name (line_parted line).name then Some (line_parted line) else None
 
 -- What a typed line asks for; only its first 255 bytes count.
 unfoldable pub request_of : Line → Option Request

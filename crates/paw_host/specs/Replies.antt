@@ -7,7 +7,7 @@ use Rattle.paw_base.specs.declared.limits.TheConstants.{EVENT_LIMIT}
 use Rattle.paw_effects.specs.Story.{Story}
 use Rattle.paw_reading.specs.declared.places.Halt.TheVariants as halt
 use Rattle.paw_reading.specs.Turn.{Ending, Halted, reading, pieces_of}
-use Rattle.paw_state.specs.Record.{last_piece}
+use Rattle.paw_state.specs.State.{last_piece}
 use Rattle.paw_host.specs.Names.{Request, request_of}
 
 -- What there is of a name: no session; one of a game that was begun with this seed and stands at these lines; or a file
@@ -57,25 +57,25 @@ answer_taking g seed lines text =
     else gone_on (At seed lines) (At seed (lines ++ text ∷ [])) (reading g seed (lines ++ text ∷ []))
 
 -- The answer of a session that stands at these lines to its name alone, which is its last piece, or to a text.
-abbrev pub session_told : Story → Seed → Lines → Option Text → Answer
-session_told g seed lines None =
+abbrev pub session_answer : Story → Seed → Lines → Option Text → Answer
+session_answer g seed lines None =
     record { body = last_piece (pieces_of (reading g seed lines)); session = At seed lines }
-session_told g seed lines (Some text) = answer_taking g seed lines text
+session_answer g seed lines (Some text) = answer_taking g seed lines text
 
 -- An answer with this text put in front.
-abbrev pub behind : Text → Answer → Answer
-behind text a = record { body = text ++ a.body; session = a.session }
+abbrev pub with_text_before : Text → Answer → Answer
+with_text_before text a = record { body = text ++ a.body; session = a.session }
 
 -- The answer of a session that was just begun, which takes the text too, if there is one.
 abbrev pub begun_with_text : Story → Option Text → Text → NamedSession → Answer
-begun_with_text g (Some text) body (At seed lines) = behind body (answer_taking g seed lines text)
+begun_with_text g (Some text) body (At seed lines) = with_text_before body (answer_taking g seed lines text)
 begun_with_text g _ body session = record { body = body; session = session }
 
 -- The answer to what is asked of a session: no text, or this one. Where there is no session the game is begun with this
 -- seed.
 unfoldable pub answer : Story → Seed → NamedSession → Option Text → Answer
 answer g seed Absent text = begun_with_text g text (begun_answer g seed).body (begun_answer g seed).session
-answer g seed (At own lines) text = session_told g own lines text
+answer g seed (At own lines) text = session_answer g own lines text
 answer g seed (Refused bytes) text = record { body = codes "refused"; session = Refused bytes }
 
 -- ---- all sessions ----

@@ -56,7 +56,7 @@ pub(crate) struct Opened {
     pub events: u64,
 }
 
-/// The word for a line that brings no piece.
+// The word for a line that brings no piece.
 fn refusal_word(step: Step) -> Option<&'static [u8]>
     ensures value { MatchOption result (refusal_word_of step ≡ None) (λ w. refusal_word_of step ≡ Some w.now) }
     ensures short { IfSome result (λ w. length w.now ≤ 8) }
@@ -69,7 +69,7 @@ fn refusal_word(step: Step) -> Option<&'static [u8]>
     }
 }
 
-/// Plays the piece before the first line.
+// Plays the piece before the first line.
 fn start_anew<T: Tables, F: Fn(u8, u8) -> u8>(player: &mut Player<'_, T, F>, seed: u64) -> Step
     requires seated { IsSeated player.old }
     requires answers { HaveAnswers F.Fn player.old.routines }
@@ -82,9 +82,9 @@ fn start_anew<T: Tables, F: Fn(u8, u8) -> u8>(player: &mut Player<'_, T, F>, see
     player.start()
 }
 
-/// Plays the piece before the first line, and makes a session with it in the attached store, which is empty. None where
-/// the piece is spent or calls too deep, which the reply then says.
-fn begin<S: Stage, T: Tables, F: Fn(u8, u8) -> u8>(
+// Plays the piece before the first line, and makes a session with it in the attached store, which is empty. None where
+// the piece is spent or calls too deep, which the reply then says.
+fn begin_session<S: Stage, T: Tables, F: Fn(u8, u8) -> u8>(
     stage: &mut S,
     player: &mut Player<'_, T, F>,
     room: &mut Room,
@@ -124,8 +124,8 @@ fn begin<S: Stage, T: Tables, F: Fn(u8, u8) -> u8>(
     Ok(Some(Opened { journal, events: 0 }))
 }
 
-/// Resumes the session of the attached store. None where it has no session of the game.
-fn take_up<S: Stage, T: Tables, F: Fn(u8, u8) -> u8>(
+// Resumes the session of the attached store. None where it has no session of the game.
+fn resume_player<S: Stage, T: Tables, F: Fn(u8, u8) -> u8>(
     stage: &mut S,
     player: &mut Player<'_, T, F>,
     room: &mut Room,
@@ -171,7 +171,7 @@ fn take_up<S: Stage, T: Tables, F: Fn(u8, u8) -> u8>(
     Ok(Some(Opened { journal, events }))
 }
 
-/// Whether the game of a player that stands at a prompt is over; otherwise the player waits.
+// Whether the game of a player that stands at a prompt is over; otherwise the player waits.
 fn is_over<T: Tables, F: Fn(u8, u8) -> u8>(player: &Player<'_, T, F>) -> bool
     requires seated { IsSeated player.now }
     requires standing { IsStanding player.now.last }
@@ -184,15 +184,15 @@ fn is_over<T: Tables, F: Fn(u8, u8) -> u8>(player: &Player<'_, T, F>) -> bool
     }
 }
 
-/// Whether a session has all the lines that it may have.
+// Whether a session has all the lines that it may have.
 fn is_full(events: u64) -> bool
     ensures cases { MatchBool result (EVENT_LIMIT ≤ events) (events < EVENT_LIMIT) }
 {
     events >= EVENT_LIMIT
 }
 
-/// Takes a text, and commits the piece that it brings. A session that is over or full takes none, and a piece that is
-/// spent or calls too deep isn't kept, which the reply then says.
+// Takes a text, and commits the piece that it brings. A session that is over or full takes none, and a piece that is
+// spent or calls too deep isn't kept, which the reply then says.
 fn take_text<S: Stage, T: Tables, F: Fn(u8, u8) -> u8>(
     stage: &mut S,
     player: &mut Player<'_, T, F>,
@@ -237,8 +237,8 @@ fn take_text<S: Stage, T: Tables, F: Fn(u8, u8) -> u8>(
     Ok(())
 }
 
-/// The piece of a session that was resumed. It has at most 65,535 bytes, but no clause of `Room::piece` says so: this
-/// cut does.
+// The piece of a session that was resumed. It has at most 65,535 bytes, but no clause of `Room::piece` says so: this
+// cut does.
 fn kept_piece(room: &Room) -> &[u8]
     ensures value { result.now ≡ take PIECE_LIMIT room.now.piece }
     ensures short { length result.now ≤ PIECE_LIMIT }
@@ -247,7 +247,7 @@ fn kept_piece(room: &Room) -> &[u8]
     &piece[..PIECE_LIMIT.min(piece.len())]
 }
 
-/// The answer of a new session in the attached store, which is empty.
+// The answer of a new session in the attached store, which is empty.
 fn answer_new<S: Stage, T: Tables, F: Fn(u8, u8) -> u8>(
     stage: &mut S,
     player: &mut Player<'_, T, F>,
@@ -274,7 +274,7 @@ fn answer_new<S: Stage, T: Tables, F: Fn(u8, u8) -> u8>(
         (InFile (LeftOf g hosted.now.seed Absent
         (answer g hosted.now.seed Absent (option_copied text.entry)).session) old))) }
 {
-    let opened = match begin(
+    let opened = match begin_session(
         stage,
         player,
         room,
@@ -294,7 +294,7 @@ fn answer_new<S: Stage, T: Tables, F: Fn(u8, u8) -> u8>(
     }
 }
 
-/// The answer of the session in the attached store, which isn't empty.
+// The answer of the session in the attached store, which isn't empty.
 fn answer_kept<S: Stage, T: Tables, F: Fn(u8, u8) -> u8>(
     stage: &mut S,
     player: &mut Player<'_, T, F>,
@@ -321,7 +321,7 @@ fn answer_kept<S: Stage, T: Tables, F: Fn(u8, u8) -> u8>(
         (Answers g (answer g hosted.now.seed before (option_copied text.entry)) reply.old reply.new new.disk.bytes))
         (InFile (StoresEither g before (answer g hosted.now.seed before (option_copied text.entry)).session) old))) }
 {
-    let opened = match take_up(
+    let opened = match resume_player(
         stage,
         player,
         room,

@@ -27,7 +27,7 @@ use paw_routines::routines::Routines;
 use paw_stage::Stage;
 use std::alloc::Global;
 
-/// Hosts a game: takes all memory, and then lines until none is left.
+// Hosts a game: takes all memory, and then lines until none is left.
 fn host_game<S: Stage, T: Tables, F: Fn(u8, u8) -> u8>(
     alloc: Global,
     stage: &mut S,

@@ -24,7 +24,7 @@ ghost use Rattle.paw_host.specs.inner.Lines.{host_failure_so_far};
 use crate::answer::{Hosted, answer};
 use crate::names::{Request, StoreName, request_in};
 use crate::outcome::HostOutcome;
-use crate::reply::{Reply, begin};
+use crate::reply::{Reply, begin_reply};
 use paw_base::fault::NoRoom;
 use paw_base::limits::LINE_LIMIT;
 use paw_game::tables::Tables;
@@ -38,11 +38,11 @@ use std::alloc::Global;
 /// The most lines that the host takes.
 pub const HOST_LIMIT: u64 = 1_000_000_000;
 
-/// Makes the reply to a line that asks for nothing.
+// Makes the reply to a line that asks for nothing.
 fn refuse_line(reply: &mut Reply)
     ensures value { reply.new ≡ spoken [] (codes "bad line") }
 {
-    begin(reply, b"");
+    begin_reply(reply, b"");
     reply.push(b"bad line\n");
 }
 
@@ -79,7 +79,7 @@ impl<'a, T: Tables, F: Fn(u8, u8) -> u8> Seats<'a, T, F> {
         })
     }
 
-    /// Does what is asked for, and makes the reply.
+    // Does what is asked for, and makes the reply.
     fn answer<S: Stage>(
         &mut self,
         stage: &mut S,
@@ -105,7 +105,7 @@ impl<'a, T: Tables, F: Fn(u8, u8) -> u8> Seats<'a, T, F> {
             EachMoment S.Stage stage.old stage.new
             (Doing g hosted.now.seed sessions (Some (asks request.entry)) old))) }
     {
-        begin(&mut self.reply, request.name);
+        begin_reply(&mut self.reply, request.name);
         self.store.set(request.name);
         match answer(
             stage,
@@ -123,7 +123,7 @@ impl<'a, T: Tables, F: Fn(u8, u8) -> u8> Seats<'a, T, F> {
         Ok(())
     }
 
-    /// Does what a line asks for, and makes the reply.
+    // Does what a line asks for, and makes the reply.
     fn reply<S: Stage>(
         &mut self,
         stage: &mut S,
@@ -155,7 +155,7 @@ impl<'a, T: Tables, F: Fn(u8, u8) -> u8> Seats<'a, T, F> {
         }
     }
 
-    /// Asks for a line, does what it asks for, and shows the reply. None where a further line may follow.
+    // Asks for a line, does what it asks for, and shows the reply. None where a further line may follow.
     fn serve<S: Stage>(&mut self, stage: &mut S, hosted: &Hosted<'_, T>) -> Option<HostOutcome>
         requires hosted { IsHosted F.Fn
             (T.game hosted.now.tables.now) hosted.now.game hosted.now.rules self.old.player }

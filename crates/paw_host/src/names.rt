@@ -2,7 +2,7 @@
 
 ghost use Rattle.std.specs.Prelude.{◌≡◌, ◌==◌, ◌+◌, ◌≤◌, length, position, true, vec_capacity, IfSome};
 ghost use Rattle.std.specs.List.{list_all};
-ghost use Rattle.paw_host.specs.Names.{is_name_byte, is_name, parted, request_in, store_name};
+ghost use Rattle.paw_host.specs.Names.{is_name_byte, is_name, line_parted, request_in, store_name};
 ghost use Rattle.paw_host.specs.inner.Names.{asks, SpellsRequest};
 ghost use Rattle.paw_host.specs.declared.names.TheConstants.{STORE_LIMIT};
 
@@ -27,7 +27,7 @@ pub(crate) struct Request<'a> {
     pub text: Option<&'a [u8]>,
 }
 
-/// Whether a byte may stand in a name: a to z, or 0 to 9.
+// Whether a byte may stand in a name: a to z, or 0 to 9.
 fn is_name_byte(byte: u8) -> bool
     ensures value { result ≡ is_name_byte byte }
 {
@@ -40,7 +40,7 @@ fn are_name_bytes(name: &[u8]) -> bool
     name.iter().all(|byte| is_name_byte(*byte))
 }
 
-/// Whether this is a name: 1 to 16 such bytes.
+// Whether this is a name: 1 to 16 such bytes.
 fn is_name(name: &[u8]) -> bool
     ensures value { result ≡ is_name name.now }
 {
@@ -54,9 +54,9 @@ fn first_space(line: &[u8]) -> Option<usize>
     line.iter().position(|byte| *byte == b' ')
 }
 
-/// The request of a line, which is parted at its first space.
+// The request of a line, which is parted at its first space.
 fn split_request<'a>(line: &'a [u8]) -> Request<'a>
-    ensures value { asks result ≡ parted line.now }
+    ensures value { asks result ≡ line_parted line.now }
 {
     match first_space(line) {
         Some(at) => Request {
@@ -84,7 +84,7 @@ pub(crate) fn request_in<'a>(line: &'a [u8]) -> Option<Request<'a>>
     }
 }
 
-/// Puts the name of the file that keeps the session of this name, in the memory that is there.
+// Puts the name of the file that keeps the session of this name, in the memory that is there.
 fn spell_store(bytes: &mut Vec<u8>, name: &[u8])
     requires name { is_name name.now ≡ true }
     requires room { STORE_LIMIT ≤ vec_capacity bytes.old }

@@ -64,7 +64,7 @@ impl Reply {
 }
 
 /// Begins the reply to a name, which has at most 16 bytes.
-pub(crate) fn begin(reply: &mut Reply, name: &[u8])
+pub(crate) fn begin_reply(reply: &mut Reply, name: &[u8])
     requires short { length name.now ≤ 16 }
     ensures value { reply.new ≡ codes "[" ++ (name.now ++ codes "]\n") }
 {

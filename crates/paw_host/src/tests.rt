@@ -24,7 +24,7 @@ const HAS: &str = "I have:\nlamp\ncoat\nWhat now?\n> ";
 /// More bytes than any file here has.
 const MOST: usize = 200_000;
 
-/// Syncs the attached store, if there is one, so that the host may begin.
+// Syncs the attached store, if there is one, so that the host may begin.
 fn settle<S: Stage>(rt: &impl Abort, stage: &mut S)
     ensures synced { S.Tells stage.new → IsStable (S.standing stage.new).disk }
 {
@@ -258,7 +258,7 @@ fn stores_that_give_no_session_are_refused(rt: HostRuntime) -> Result<(), Fail> 
     }
     // What stands in the slot that isn't in use is no fault.
     let spoilt = with_byte(alloc, good.as_slice(), 86_528, 200)?;
-    let body = answered(&rt, alloc, spoilt.as_slice())?;
+    let body = answer_of(&rt, alloc, spoilt.as_slice())?;
     assert_eq!(rt; body.as_slice(), FIRST.as_bytes());
     Ok(())
 }
@@ -308,7 +308,7 @@ fn pieces(name: &[u8], taken: usize) -> &'static str {
 }
 
 // The answer that these bytes of a player's store give.
-fn answered(rt: &impl Abort, alloc: Global, bytes: &[u8]) -> Result<Vec<u8>, Fail> {
+fn answer_of(rt: &impl Abort, alloc: Global, bytes: &[u8]) -> Result<Vec<u8>, Fail> {
     let mut stage = stage_of(alloc, &[b"eve"])?;
     stage.add_file("eve.paw", bytes)?;
     assert_eq!(rt; run(rt, alloc, &mut stage)?, HostOutcome::InputEnded);
@@ -349,7 +349,7 @@ fn a_crash_behind_any_call_loses_no_turn(rt: HostRuntime) -> Result<(), Fail> {
         }
         for pick in 0..3u8 {
             if let Some(left) = stage.crash_after(alloc, call, pick)? {
-                let body = answered(&rt, alloc, left.as_slice())?;
+                let body = answer_of(&rt, alloc, left.as_slice())?;
                 // Between a line that is taken and its attach, the store of the line before it is attached.
                 let line = if kind == CallKind::Take {
                     taken - 1
@@ -387,7 +387,7 @@ fn left_over<S: Stage>(
         Ok(left) => left,
         Err(_) => Vec::new(alloc),
     };
-    let body = answered(rt, alloc, left.as_slice())?;
+    let body = answer_of(rt, alloc, left.as_slice())?;
     let fresh = left.is_empty() && body.as_slice() == FIRST.as_bytes();
     assert!(rt;
         fresh

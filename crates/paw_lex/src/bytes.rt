@@ -28,7 +28,7 @@ fn is_allowed(text: bool, byte: u8) -> bool
     matches!(byte, b' '..=b'~') || !text && byte == b'\t'
 }
 
-/// Whether a byte of the line isn't allowed in it.
+// Whether a byte of the line isn't allowed in it.
 fn any_is_forbidden(text: bool, line: &[u8]) -> bool
     ensures value { result ≡ list_any (λ b. not (is_allowed text b)) line.now }
 {

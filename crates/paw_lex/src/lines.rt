@@ -30,7 +30,7 @@ struct Cut {
     whole: usize,
 }
 
-/// The offset of the first byte with this value, or the length where there is none.
+// The offset of the first byte with this value, or the length where there is none.
 fn offset_of_first(bytes: &[u8], byte: u8) -> usize
     ensures value { result ≡ position_or_len (λ b. b == byte) bytes.now }
     ensures within { result ≤ length bytes.now }
@@ -38,7 +38,7 @@ fn offset_of_first(bytes: &[u8], byte: u8) -> usize
     memchr(byte, bytes).unwrap_or(bytes.len())
 }
 
-/// How many bytes a line has without the CR at its end.
+// How many bytes a line has without the CR at its end.
 fn len_without_return(line: &[u8]) -> usize
     ensures value { take result line.now ≡ strip_carriage_return line.now }
     ensures cut { (result ≡ length line.now)
@@ -50,7 +50,7 @@ fn len_without_return(line: &[u8]) -> usize
     }
 }
 
-/// The first line of a text, where it has one.
+// The first line of a text, where it has one.
 fn first_line(text: &[u8]) -> Option<Cut>
     ensures lines { MatchOption result (lines text.now ≡ [])
         (λ cut. lines text.now ≡ take cut.line text.now ∷ lines (drop cut.whole text.now)) }

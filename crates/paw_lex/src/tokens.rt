@@ -21,7 +21,7 @@ fn is_blank(byte: u8) -> bool
     byte == b' ' || byte == b'\t'
 }
 
-/// How many blanks stand first.
+// How many blanks stand first.
 fn blanks(bytes: &[u8]) -> usize
     ensures value { result ≡ prefix_len is_blank bytes.now }
     ensures within { result ≤ length bytes.now }
@@ -29,7 +29,7 @@ fn blanks(bytes: &[u8]) -> usize
     bytes.iter().take_while(|byte| is_blank(**byte)).count()
 }
 
-/// How many bytes stand before the first blank or `;`.
+// How many bytes stand before the first blank or `;`.
 fn token_len(bytes: &[u8]) -> usize
     ensures value { result ≡ position_or_len ends_token bytes.now }
     ensures within { result ≤ length bytes.now }
@@ -40,7 +40,7 @@ fn token_len(bytes: &[u8]) -> usize
         .count()
 }
 
-/// The first token of some bytes, with its offsets in them.
+// The first token of some bytes, with its offsets in them.
 fn first_token(bytes: &[u8]) -> Option<Token>
     ensures tokens { MatchOption result (tokens_of bytes.now ≡ [])
         (λ token. tokens_of bytes.now

@@ -14,9 +14,9 @@ use Rattle.paw_phrase.specs.declared.next.Part.{Part}
 use Rattle.paw_phrase.specs.declared.next.Part.TheVariants as part
 use Rattle.paw_phrase.specs.declared.next.PhraseDraft.{PhraseDraft}
 use Rattle.paw_phrase.specs.Phrase.{Lexeme, lexemes, is_parting, from_phrase, phrase_tokens, bytes_after}
-use Rattle.paw_phrase.specs.Sentence.{blank, with_word, with_tokens, finished, Parsed, IsSentence, IsUnknown}
-use Rattle.paw_phrase.specs.Sentence.{IsNoPhrase, parsed_lexemes, parsed}
-use Rattle.paw_phrase.specs.inner.Draft.{part_of_word, phrase_part_of, with_part, started, draft_outcome}
+use Rattle.paw_phrase.specs.Sentence.{blank, with_word, with_tokens, sentence_finished, Parsed, IsSentence, IsUnknown}
+use Rattle.paw_phrase.specs.Sentence.{IsNoPhrase, parsed_lexemes, phrase_parsed}
+use Rattle.paw_phrase.specs.inner.Draft.{part_of_word, phrase_part_of, with_part, blank_draft, draft_outcome}
 
 -- After a part the draft goes on, or its phrase has ended.
 abbrev pub after_part : Option PhraseDraft → Parsed → (PhraseDraft → Parsed) → Parsed
@@ -61,33 +61,33 @@ draft f s = record { found = f; words = s }
 
 -- What the tokens of a phrase are, where s is filled before them.
 abbrev parsed_tokens : GameLists → ℕ → Sentence → List (List ℕ) → List ℕ → Parsed
-parsed_tokens g e s ts rest = cond (has_known g ts) (IsSentence (finished e (with_tokens g ts s)) rest) (IsUnknown rest)
+parsed_tokens g e s ts rest = cond (has_known g ts) (IsSentence (sentence_finished e (with_tokens g ts s)) rest) (IsUnknown rest)
 
 -- A part after a known word.
 part_of_sentence : (g : GameLists) (e : ℕ) (m : Lexeme) (ms : List Lexeme)
     → ((s : Sentence) → along g e ms (draft found.Sentence s)
-    ≡ IsSentence (finished e (with_tokens g (phrase_tokens g ms) s)) (bytes_after g ms))
+    ≡ IsSentence (sentence_finished e (with_tokens g (phrase_tokens g ms) s)) (bytes_after g ms))
     → (s : Sentence) (p : Part) → Means g m.token p
     → after_part (with_part p (draft found.Sentence s)) (draft_outcome e (draft found.Sentence s) m.after) (along g e ms)
-    ≡ IsSentence (finished e (with_tokens g (phrase_tokens g (m ∷ ms)) s)) (bytes_after g (m ∷ ms))
+    ≡ IsSentence (sentence_finished e (with_tokens g (phrase_tokens g (m ∷ ms)) s)) (bytes_after g (m ∷ ms))
 part_of_sentence g e m ms again s part.Break h = rw h refl
 part_of_sentence g e m ms again s part.Unknown h = again s ∙ rw (h.0)
-    (ap (λ x. IsSentence (finished e x) (bytes_after g ms)) (sym (h.1 (phrase_tokens g ms) s)))
+    (ap (λ x. IsSentence (sentence_finished e x) (bytes_after g ms)) (sym (h.1 (phrase_tokens g ms) s)))
 part_of_sentence g e m ms again s (part.Word value class) h =
-    again (with_word value class s) ∙ rw (h.0) (ap (λ x. IsSentence (finished e x) (bytes_after g ms)) (sym (h.1 (phrase_tokens g ms) s)))
+    again (with_word value class s) ∙ rw (h.0) (ap (λ x. IsSentence (sentence_finished e x) (bytes_after g ms)) (sym (h.1 (phrase_tokens g ms) s)))
 
 -- With a known word.
 with_known_word : (g : GameLists) (e : ℕ) (ms : List Lexeme) (s : Sentence)
-    → along g e ms (draft found.Sentence s) ≡ IsSentence (finished e (with_tokens g (phrase_tokens g ms) s)) (bytes_after g ms)
+    → along g e ms (draft found.Sentence s) ≡ IsSentence (sentence_finished e (with_tokens g (phrase_tokens g ms) s)) (bytes_after g ms)
 unfolding along
 with_known_word g e [] s = refl
 with_known_word g e (m ∷ ms) s = part_of_sentence g e m ms (with_known_word g e ms) s (phrase_part_of g m.token) (means g m.token)
 
 parsed_tokens_are : (g : GameLists) (e : ℕ) (s x : Sentence) (ts : List (List ℕ)) (rest : List ℕ) (b : Bool) → has_known g ts ≡ b
-    → with_tokens g ts s ≡ x → parsed_tokens g e s ts rest ≡ cond b (IsSentence (finished e x) rest) (IsUnknown rest)
+    → with_tokens g ts s ≡ x → parsed_tokens g e s ts rest ≡ cond b (IsSentence (sentence_finished e x) rest) (IsUnknown rest)
 parsed_tokens_are g e s x ts rest b known words =
-    ap (λ c. cond c (IsSentence (finished e (with_tokens g ts s)) rest) (IsUnknown rest)) known
-    ∙ ap (λ y. cond b (IsSentence (finished e y) rest) (IsUnknown rest)) words
+    ap (λ c. cond c (IsSentence (sentence_finished e (with_tokens g ts s)) rest) (IsUnknown rest)) known
+    ∙ ap (λ y. cond b (IsSentence (sentence_finished e y) rest) (IsUnknown rest)) words
 
 -- A part after unknown tokens alone.
 part_of_unknown : (g : GameLists) (e : ℕ) (m : Lexeme) (ms : List Lexeme)
@@ -151,8 +151,8 @@ parsed_from-lexemes : (g : GameLists) (e n a : ℕ) (ms : List Lexeme) → parse
 parsed_from-lexemes g e n a [] = refl
 parsed_from-lexemes g e n a (m ∷ ms) = refl
 
-pub along-started : (g : GameLists) (bytes : List ℕ) (e n a : ℕ) → along g e (lexemes bytes) (started n a) ≡ parsed g bytes e n a
-unfolding parsed
+pub along-started : (g : GameLists) (bytes : List ℕ) (e n a : ℕ) → along g e (lexemes bytes) (blank_draft n a) ≡ phrase_parsed g bytes e n a
+unfolding phrase_parsed
 along-started g bytes e n a = with_no_token g e (lexemes bytes) (blank n a) ∙ parsed_from-lexemes g e n a (from_phrase g (lexemes bytes))
 
 -- One lexeme more is read, from the bytes from i on.

@@ -12,7 +12,7 @@ use Rattle.paw_phrase.specs.Phrase.{is_separator, Lexeme, token_lexeme, separato
 use Rattle.paw_phrase.specs.Phrase.{is_parting}
 use Rattle.paw_phrase.specs.Phrase.{from_phrase}
 use Rattle.paw_phrase.specs.Phrase.{bytes_after}
-use Rattle.paw_phrase.specs.Sentence.{Parsed, IsSentence, IsUnknown, IsNoPhrase, parsed_lexemes, parsed}
+use Rattle.paw_phrase.specs.Sentence.{Parsed, IsSentence, IsUnknown, IsNoPhrase, parsed_lexemes, phrase_parsed}
 pub use Rattle.paw_phrase.specs.inner.Leaving.{LeavesBytes}
 
 -- The bytes that stay pending: all after the first few.
@@ -111,8 +111,9 @@ parsed_lexemes-rest g pending e n a (m ∷ ms) h =
     leaves (IsRest pending) _ _ (bytes_after g (m ∷ ms)) (bytes_after-each (IsRest pending) g (m ∷ ms) (rest-none pending m.after h.0) h)
 
 -- What stays pending is what stands after the first few bytes.
-pub parsed-rest : (g : GameLists) (pending : List ℕ) (earlier noun adjective : ℕ) → LeavesBytes (IsRest pending) (parsed g pending earlier noun adjective)
-unfolding parsed
+pub parsed-rest : (g : GameLists) (pending : List ℕ) (earlier noun adjective : ℕ) →
+    LeavesBytes (IsRest pending) (phrase_parsed g pending earlier noun adjective)
+unfolding phrase_parsed
 parsed-rest g pending e n a = parsed_lexemes-rest g pending e n a (from_phrase g (lexemes pending))
     (from_phrase-each (IsRest pending) g (lexemes pending) (lexemes-rest pending))
 
@@ -123,15 +124,15 @@ leaves-map P Q f IsNoPhrase h = tt
 
 -- A phrase that is taken makes what is pending shorter.
 pub parsed-shorter : (g : GameLists) (pending : List ℕ) (earlier noun adjective : ℕ)
-    → LeavesBytes (λ rest. length rest < length pending) (parsed g pending earlier noun adjective)
+    → LeavesBytes (λ rest. length rest < length pending) (phrase_parsed g pending earlier noun adjective)
 parsed-shorter g pending e n a =
-    leaves-map (IsRest pending) (λ rest. length rest < length pending) (rest-shorter pending) (parsed g pending e n a) (parsed-rest g pending e n a)
+    leaves-map (IsRest pending) (λ rest. length rest < length pending) (rest-shorter pending) (phrase_parsed g pending e n a) (parsed-rest g pending e n a)
 
 -- The same for a phrase that is known to be a sentence, or unknown.
 pub sentence-rest : (g : GameLists) (pending : List ℕ) (earlier noun adjective : ℕ) (s : Sentence) (rest : List ℕ)
-    → parsed g pending earlier noun adjective ≡ IsSentence s rest → IsRest pending rest
+    → phrase_parsed g pending earlier noun adjective ≡ IsSentence s rest → IsRest pending rest
 sentence-rest g pending e n a s rest is = subst (LeavesBytes (IsRest pending)) is (parsed-rest g pending e n a)
 
 pub unknown-rest : (g : GameLists) (pending : List ℕ) (earlier noun adjective : ℕ) (rest : List ℕ)
-    → parsed g pending earlier noun adjective ≡ IsUnknown rest → IsRest pending rest
+    → phrase_parsed g pending earlier noun adjective ≡ IsUnknown rest → IsRest pending rest
 unknown-rest g pending e n a rest is = subst (LeavesBytes (IsRest pending)) is (parsed-rest g pending e n a)

@@ -15,7 +15,7 @@ use Rattle.paw_phrase.specs.declared.Sentence.{Sentence}
 use Rattle.paw_phrase.specs.Phrase.{Lexeme, lexemes, from_phrase, phrase_tokens, bytes_after}
 use Rattle.paw_phrase.specs.Sentence.{blank, or_value, with_noun, with_adjective, with_pronoun, with_word, with_tokens}
 use Rattle.paw_phrase.specs.Sentence.{with_verb, with_new_pronoun}
-use Rattle.paw_phrase.specs.Sentence.{finished, Parsed, IsSentence, IsUnknown, IsNoPhrase, parsed_lexemes, parsed}
+use Rattle.paw_phrase.specs.Sentence.{sentence_finished, Parsed, IsSentence, IsUnknown, IsNoPhrase, parsed_lexemes, phrase_parsed}
 
 -- Each part of the sentence is a byte.
 pub record AreBytes (s : Sentence) : Type 0 where
@@ -133,7 +133,7 @@ with_tokens-bytes g (token ∷ tokens) s valid k =
 
 -- A sentence of bytes, where the bytes of the pronoun and the earlier verb are.
 pub sentence-bytes : (g : GameLists) (tokens : List (List ℕ)) (earlier noun adjective : ℕ) → Valid g → earlier < 256 → noun < 256 → adjective < 256
-    → AreBytes (finished earlier (with_tokens g tokens (blank noun adjective)))
+    → AreBytes (sentence_finished earlier (with_tokens g tokens (blank noun adjective)))
 sentence-bytes g tokens e n a valid he hn ha =
     let words = with_tokens g tokens (blank n a) in
     with_meaning-bytes (with_verb e words) (with_verb-bytes e words he (with_tokens-bytes g tokens (blank n a) valid (blank-bytes n a hn ha)))
@@ -152,11 +152,11 @@ parsed_lexemes-bytes : (g : GameLists) (e n a : ℕ) → Valid g → e < 256 →
 parsed_lexemes-bytes g e n a valid he hn ha [] = tt
 parsed_lexemes-bytes g e n a valid he hn ha (m ∷ ms) =
     let tokens = phrase_tokens g (m ∷ ms) in
-    gives AreBytes _ (finished e (with_tokens g tokens (blank n a))) (bytes_after g (m ∷ ms)) (sentence-bytes g tokens e n a valid he hn ha)
+    gives AreBytes _ (sentence_finished e (with_tokens g tokens (blank n a))) (bytes_after g (m ∷ ms)) (sentence-bytes g tokens e n a valid he hn ha)
 
 -- The sentence that is parsed is one of bytes.
 pub parsed-bytes : (g : GameLists) (pending : List ℕ) (earlier noun adjective : ℕ) (s : Sentence) (rest : List ℕ) → Valid g → earlier < 256
-    → noun < 256 → adjective < 256 → parsed g pending earlier noun adjective ≡ IsSentence s rest → AreBytes s
-unfolding parsed
+    → noun < 256 → adjective < 256 → phrase_parsed g pending earlier noun adjective ≡ IsSentence s rest → AreBytes s
+unfolding phrase_parsed
 parsed-bytes g pending e n a s rest valid he hn ha is =
     subst (Gives AreBytes) is (parsed_lexemes-bytes g e n a valid he hn ha (from_phrase g (lexemes pending)))

@@ -8,7 +8,7 @@ use Rattle.paw_phrase.specs.Phrase.{is_separator, Lexeme, token_lexeme, separato
 use Rattle.paw_phrase.specs.Phrase.{is_parting}
 use Rattle.paw_phrase.specs.Phrase.{from_phrase}
 use Rattle.paw_phrase.specs.Phrase.{bytes_after}
-use Rattle.paw_phrase.specs.Sentence.{parsed_lexemes, parsed}
+use Rattle.paw_phrase.specs.Sentence.{parsed_lexemes, phrase_parsed}
 use Rattle.paw_phrase.specs.inner.Leaving.{LeavesBytes, IsTwoLess, PhrasesTakeTwo}
 use Rattle.paw_phrase.proofs.Phrases.{leaves}
 
@@ -79,6 +79,6 @@ parsed_lexemes-fall g pending e n a (m ∷ ms) h =
 
 -- A phrase that is taken leaves nothing, or at least two bytes less.
 pub phrases_take_two : PhrasesTakeTwo
-unfolding parsed
+unfolding phrase_parsed
 phrases_take_two g pending e n a =
     parsed_lexemes-fall g pending e n a (lexemes pending) (Fall_up _ _ (lexemes pending) (omega arith) (lexemes_from-fall pending []))

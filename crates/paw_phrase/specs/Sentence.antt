@@ -76,8 +76,8 @@ with_new_pronoun s =
     then record s { pronoun_noun = s.noun; pronoun_adjective = s.adjective } else s
 
 -- The sentence that the words of a phrase make, where the sentence before has this verb.
-abbrev pub finished : ℕ → Sentence → Sentence
-finished earlier s = with_new_pronoun (with_verb earlier s)
+abbrev pub sentence_finished : ℕ → Sentence → Sentence
+sentence_finished earlier s = with_new_pronoun (with_verb earlier s)
 
 -- What the next phrase of the pending bytes is: a sentence, or a phrase with no known word, each with the bytes that
 -- stay pending; or no phrase.
@@ -93,9 +93,10 @@ parsed_lexemes g earlier noun adjective [] = IsNoPhrase
 parsed_lexemes g earlier noun adjective (m ∷ ms) =
     let tokens = phrase_tokens g (m ∷ ms) in
     if list_any (λ token. is_some (word_at g token)) tokens
-    then IsSentence (finished earlier (with_tokens g tokens (blank noun adjective))) (bytes_after g (m ∷ ms))
+    then IsSentence (sentence_finished earlier (with_tokens g tokens (blank noun adjective))) (bytes_after g (m ∷ ms))
     else IsUnknown (bytes_after g (m ∷ ms))
 
 -- The next phrase of the pending bytes, after this verb, where a pronoun stands for this noun and adjective.
-unfoldable pub parsed : GameLists → Bytes → ℕ → ℕ → ℕ → Parsed
-parsed g pending earlier noun adjective = parsed_lexemes g earlier noun adjective (from_phrase g (lexemes pending))
+unfoldable pub phrase_parsed : GameLists → Bytes → ℕ → ℕ → ℕ → Parsed
+phrase_parsed g pending earlier noun adjective =
+    parsed_lexemes g earlier noun adjective (from_phrase g (lexemes pending))

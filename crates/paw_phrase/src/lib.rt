@@ -3,7 +3,7 @@
 
 ghost use Rattle.std.specs.Prelude.{◌≡◌};
 ghost use Rattle.paw_phrase.specs.Sentence.{or_value, blank, with_noun, with_adjective};
-ghost use Rattle.paw_phrase.specs.Sentence.{with_pronoun, with_word, finished};
+ghost use Rattle.paw_phrase.specs.Sentence.{with_pronoun, with_word, sentence_finished};
 
 use paw_base::words::{
     ADJECTIVE_CLASS, ADVERB_CLASS, FIRST_NAMED_NOUN, FIRST_PLAIN_NOUN, NO_WORD, NOUN_CLASS,
@@ -35,7 +35,7 @@ pub struct Sentence {
     pub pronoun_adjective: u8,
 }
 
-/// A value fills a part that has none yet.
+// A value fills a part that has none yet.
 fn fill(part: &mut u8, value: u8)
     ensures value { part.new ≡ or_value part.old value }
 {
@@ -62,7 +62,7 @@ impl Sentence {
         }
     }
 
-    /// A noun fills the first of its two places that is free; where both are filled it is ignored.
+    // A noun fills the first of its two places that is free; where both are filled it is ignored.
     fn add_noun(&mut self, value: u8)
         ensures value { self.new ≡ with_noun value self.old }
     {
@@ -73,7 +73,7 @@ impl Sentence {
         }
     }
 
-    /// An adjective belongs to the first noun while there is none yet, then to the second.
+    // An adjective belongs to the first noun while there is none yet, then to the second.
     fn add_adjective(&mut self, value: u8)
         ensures value { self.new ≡ with_adjective value self.old }
     {
@@ -84,7 +84,7 @@ impl Sentence {
         }
     }
 
-    /// A pronoun gives the noun and adjective that it stands for, if it has a noun and a noun's place is free.
+    // A pronoun gives the noun and adjective that it stands for, if it has a noun and a noun's place is free.
     fn add_pronoun(&mut self)
         ensures value { self.new ≡ with_pronoun self.old }
     {
@@ -100,7 +100,7 @@ impl Sentence {
         }
     }
 
-    /// A word of this value and class is added.
+    // A word of this value and class is added.
     fn add(&mut self, value: u8, class: u8)
         ensures value { self.new ≡ with_word value class self.old }
     {
@@ -115,9 +115,9 @@ impl Sentence {
         }
     }
 
-    /// The words of a phrase become its sentence, after this verb.
+    // The words of a phrase become its sentence, after this verb.
     fn finish(&mut self, earlier: u8)
-        ensures value { self.new ≡ finished earlier self.old }
+        ensures value { self.new ≡ sentence_finished earlier self.old }
     {
         if self.verb == NO_WORD {
             self.verb = if self.noun < FIRST_PLAIN_NOUN {

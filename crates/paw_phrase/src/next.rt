@@ -1,7 +1,7 @@
 // Reading the next phrase.
 
 ghost use Rattle.std.specs.Prelude.{◌≡◌, ◌≤◌, ℕ, length, drop};
-ghost use Rattle.paw_phrase.specs.Sentence.{parsed};
+ghost use Rattle.paw_phrase.specs.Sentence.{phrase_parsed};
 ghost use Rattle.paw_phrase.specs.inner.Draft.{phrase_part_of, or_nothing, with_part, draft_outcome};
 ghost use Rattle.paw_phrase.specs.inner.Taking.{TakesPhrase};
 
@@ -34,7 +34,7 @@ struct PhraseReading {
     end: usize,
 }
 
-/// What a token, or a separator (None), is in a phrase.
+// What a token, or a separator (None), is in a phrase.
 fn part_of<T: Tables>(tables: &T, token: Option<[u8; WORD_LENGTH]>) -> Part
     ensures value { result ≡ phrase_part_of (T.game tables.now) token }
 {
@@ -49,7 +49,7 @@ fn part_of<T: Tables>(tables: &T, token: Option<[u8; WORD_LENGTH]>) -> Part
 }
 
 impl PhraseDraft {
-    /// An unknown token begins a phrase.
+    // An unknown token begins a phrase.
     fn with_unknown(self) -> PhraseDraft
         ensures value { result ≡ record self { found = or_nothing self.found } }
     {
@@ -62,7 +62,7 @@ impl PhraseDraft {
         }
     }
 
-    /// The draft with one part more; None where the phrase ends.
+    // The draft with one part more; None where the phrase ends.
     fn with(self, part: Part) -> Option<PhraseDraft>
         ensures value { result ≡ with_part part self }
     {
@@ -84,10 +84,10 @@ impl PhraseDraft {
     }
 }
 
-/// The next phrase of these bytes, where a pronoun stands for this noun and adjective.
+// The next phrase of these bytes, where a pronoun stands for this noun and adjective.
 fn read_phrase<T: Tables>(tables: &T, bytes: &[u8], noun: u8, adjective: u8) -> PhraseReading
     ensures within { result.end ≤ length bytes.now }
-    ensures value { (earlier : ℕ) → parsed (T.game tables.now) bytes.now earlier noun adjective
+    ensures value { (earlier : ℕ) → phrase_parsed (T.game tables.now) bytes.now earlier noun adjective
         ≡ draft_outcome earlier result.draft (drop result.end bytes.now) }
 {
     let mut draft = PhraseDraft {
@@ -116,7 +116,7 @@ fn read_phrase<T: Tables>(tables: &T, bytes: &[u8], noun: u8, adjective: u8) -> 
 /// bytes after it stay pending, and nothing else changes. Empty, where there is no phrase: nothing changes.
 pub fn next_phrase<T: Tables>(tables: &T, pending: &mut Pending, sentence: &mut Sentence) -> Found
     ensures value { TakesPhrase
-        (parsed (T.game tables.now) pending.old.bytes pending.old.earlier
+        (phrase_parsed (T.game tables.now) pending.old.bytes pending.old.earlier
         sentence.old.pronoun_noun sentence.old.pronoun_adjective)
         result pending.old pending.new sentence.old sentence.new }
 {

@@ -85,8 +85,8 @@ const BEFORE: Sentence = Sentence {
     pronoun_adjective: 7,
 };
 
-/// The next phrase of a line, the sentence then, and what stays pending.
-fn taken(rt: &impl Abort, game: &Game, line: &[u8]) -> (Found, Sentence, Pending) {
+// The next phrase of a line, the sentence then, and what stays pending.
+fn phrase_of(rt: &impl Abort, game: &Game, line: &[u8]) -> (Found, Sentence, Pending) {
     assert!(rt; line.len() <= LINE_LIMIT);
     let mut pending = Pending::of(line, EARLIER);
     let mut sentence = BEFORE;
@@ -94,7 +94,7 @@ fn taken(rt: &impl Abort, game: &Game, line: &[u8]) -> (Found, Sentence, Pending
     (found, sentence, pending)
 }
 
-/// Verb, noun, adjective, adverb, preposition, second noun, second adjective.
+// Verb, noun, adjective, adverb, preposition, second noun, second adjective.
 fn words_of(s: &Sentence) -> [u8; 7] {
     [
         s.verb,
@@ -140,7 +140,7 @@ fn words_fill_a_sentence(rt: HostRuntime) -> Result<(), Fail> {
         (b"IN", [30, N, N, N, 3, N, N]),
     ];
     for (line, words) in cases {
-        let (found, sentence, pending) = taken(&rt, &game, line);
+        let (found, sentence, pending) = phrase_of(&rt, &game, line);
         assert_eq!(rt; found, Found::Sentence, "{line:?}");
         assert_eq!(rt; words_of(&sentence), words, "{line:?}");
         assert!(rt; pending.bytes().is_empty(), "{line:?}");
@@ -162,7 +162,7 @@ fn pronouns_stand_for_what_was_named(rt: HostRuntime) -> Result<(), Fail> {
         (b"DROP IT", [52, 7]),
     ];
     for (line, [noun, adjective]) in cases {
-        let (_, sentence, _) = taken(&rt, &game, line);
+        let (_, sentence, _) = phrase_of(&rt, &game, line);
         assert_eq!(rt; sentence.pronoun_noun, noun, "{line:?}");
         assert_eq!(rt; sentence.pronoun_adjective, adjective, "{line:?}");
     }
@@ -195,7 +195,7 @@ fn separators_and_conjunctions_part_phrases(rt: HostRuntime) -> Result<(), Fail>
         (b"WAIT. ", b" "),
     ];
     for (line, rest) in cases {
-        let (found, _, pending) = taken(&rt, &game, line);
+        let (found, _, pending) = phrase_of(&rt, &game, line);
         assert_eq!(rt; found, Found::Sentence, "{line:?}");
         assert_eq!(rt; pending.bytes(), rest, "{line:?}");
     }
@@ -207,7 +207,7 @@ fn other_phrases_change_little(rt: HostRuntime) -> Result<(), Fail> {
     let game = game(rt.alloc())?;
     let unknown: [(&[u8], &[u8]); 2] = [(b"XYZZY PLUGH; LOOK", b" LOOK"), (b"LAMPS", b"")];
     for (line, rest) in unknown {
-        let (found, sentence, pending) = taken(&rt, &game, line);
+        let (found, sentence, pending) = phrase_of(&rt, &game, line);
         assert_eq!(rt; found, Found::Nothing, "{line:?}");
         assert_eq!(rt; sentence, BEFORE, "{line:?}");
         assert_eq!(rt; pending.bytes(), rest, "{line:?}");
@@ -216,7 +216,7 @@ fn other_phrases_change_little(rt: HostRuntime) -> Result<(), Fail> {
     let spaces = [b' '; LINE_LIMIT];
     let none: [&[u8]; 4] = [b"", b"AND THEN .,;:!?\"", b" - ", &spaces];
     for line in none {
-        let (found, sentence, pending) = taken(&rt, &game, line);
+        let (found, sentence, pending) = phrase_of(&rt, &game, line);
         assert_eq!(rt; found, Found::Empty, "{line:?}");
         assert_eq!(rt; sentence, BEFORE, "{line:?}");
         assert_eq!(rt; pending.bytes(), line, "{line:?}");

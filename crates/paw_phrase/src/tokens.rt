@@ -19,7 +19,7 @@ fn is_separator(byte: u8) -> bool
     matches!(byte, b'.' | b',' | b';' | b':' | b'!' | b'?' | b'"')
 }
 
-/// The token that stands first.
+// The token that stands first.
 fn first_token(bytes: &[u8]) -> Lexeme
     requires begins { 0 < length bytes.now }
     requires token { is_ascii_alphanumeric (slice_index bytes.now 0) ≡ true }

@@ -30,7 +30,7 @@ use Rattle.paw_play.specs.inner.Telling.{Plain}
 use Rattle.paw_turn.specs.inner.Player.{IsStanding}
 use Rattle.paw_turn.proofs.Halting.{halted_stands}
 use Rattle.paw_reading.specs.declared.places.Halt.TheVariants as halt
-use Rattle.paw_play.specs.inner.OnTheWay.{IsWalking, Told, refusal_of, seat_state, seat_base, IsRestingStore}
+use Rattle.paw_play.specs.inner.OnTheWay.{IsWalking, ShowsStep, end_if_no_piece, seat_state, seat_base, IsRestingStore}
 use Rattle.paw_play.specs.inner.OnTheWay.{BegunAs, Begins, begun_with}
 use Rattle.paw_play.proofs.Kept.{KeepsLines, step_kept}
 use Rattle.paw_play.proofs.Written.{made_bytes}
@@ -47,7 +47,7 @@ beside_is first kept b =
 
 -- The piece before the first line is spent, or calls too deep.
 pub begin_refused : {F : Type 0} (g : Story) (s : PlayedSession) (first : Standing) (found : Step) (next : PlayerView F)
-    (o : PlayEnd) → StepsTo g s.whole found next [] [] → refusal_of found ≡ Some o → BegunAs s first first o
+    (o : PlayEnd) → StepsTo g s.whole found next [] [] → end_if_no_piece found ≡ Some o → BegunAs s first first o
 begin_refused g s first (step.Waits p) next o plays e = cc
 begin_refused g s first step.Ended next o plays e = cc
 begin_refused g s first (step.Spent kind) next o plays e = let k : o ≡ end.Spent kind = cc in let r = plays.1 [] in rw k (r.0, r.1, refl)
@@ -64,7 +64,7 @@ pub record Begun {F : Type 0} (g : Story) (s : PlayedSession) (first kept : Stan
   pub beside : ChangesStoreOnly first kept
 
 pub begun : {F : Type 0} (g : Story) (seed : ℕ) (digests : Digests) (name : List ℕ) (first kept : Standing) (next : PlayerView F) (found : Step) →
-    IsRestingStore name first → IsSeated next → next.last ≡ found → StepsTo g (reading g seed) found next [] [] → None ≡ refusal_of found →
+    IsRestingStore name first → IsSeated next → next.last ≡ found → StepsTo g (reading g seed) found next [] [] → None ≡ end_if_no_piece found →
     ChangesStoreOnly first kept → Begun g (begun_with g seed digests name) first kept next found
 begun g seed digests name first kept next found store seated last plays fine beside = assumption (shows_piece found fine)
 
@@ -160,7 +160,7 @@ module _ {F : Type 0} {g : Story} {s : PlayedSession} {first kept : Standing} {n
     asked_is new text e = ap (λ (q : Standing). q.asked) e ∙ b.beside.asked ∙ omega arith
 
     -- The session is at its first prompt, or playing it has ended.
-    pub begins_to : {A : Type 0} (a : A) (new : Standing) (o : Option PlayEnd) → Told kept new next.piece found o →
+    pub begins_to : {A : Type 0} (a : A) (new : Standing) (o : Option PlayEnd) → ShowsStep kept new next.piece found o →
         Begins g s first new next (unless_ended o a)
     begins_to a new None told = record {
       walking = subst (λ (q : Standing). IsWalking Plain g s.whole q new next 0)

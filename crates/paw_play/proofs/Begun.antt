@@ -12,7 +12,7 @@ use Rattle.paw_reading.specs.declared.places.Halt.TheVariants as halt
 use Rattle.paw_play.specs.declared.PlayEnd.{PlayEnd}
 use Rattle.paw_play.specs.declared.PlayEnd.TheVariants as end
 use Rattle.paw_play.specs.Session.{story_digests}
-use Rattle.paw_play.specs.Played.{PlayedSession, begun}
+use Rattle.paw_play.specs.Played.{PlayedSession, session_begun}
 use Rattle.paw_play.specs.Play.{MadeAndPlayed, halts, unmade, plays}
 use Rattle.paw_play.specs.inner.OnTheWay.{BegunAs, begun_with}
 
@@ -38,5 +38,6 @@ session_of fresh g X seed game rules measured name is of same =
     ∙ ap (λ r. begun_with (story_of g X) seed (digests_of game r) name) same
 
 -- It is the session of the story, where its digests are those of the story.
-pub own_session : (g : Story) (seed : ℕ) (digests : Digests) (name : List ℕ) → digests ≡ story_digests g → begun_with g seed digests name ≡ begun g seed name
+pub own_session : (g : Story) (seed : ℕ) (digests : Digests) (name : List ℕ) → digests ≡ story_digests g →
+    begun_with g seed digests name ≡ session_begun g seed name
 own_session g seed digests name same = ap (λ d. begun_with g seed d name) same

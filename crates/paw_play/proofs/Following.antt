@@ -12,7 +12,7 @@ use Rattle.paw_journal.specs.inner.Journal.{KeptIn}
 use Rattle.paw_play.specs.declared.PlayEnd.{PlayEnd}
 use Rattle.paw_play.specs.Calls.{walk_calls, play_calls, session_calls}
 use Rattle.paw_play.specs.inner.Calls.{IsNotForCall, call_of_end, failed_so_far, end_failed_or, unless_ended}
-use Rattle.paw_play.specs.inner.OnTheWay.{Told, HoldsSession}
+use Rattle.paw_play.specs.inner.OnTheWay.{ShowsStep, HoldsSession}
 use Rattle.paw_play.specs.declared.line.Session.{Session}
 use Rattle.paw_turn.specs.declared.Step.{Step}
 use Rattle.paw_journal.proofs.Serving.{serves_among}
@@ -60,7 +60,7 @@ serves_unless g (Some o) a old new s = serves_among g walk_calls play_calls (cal
 
 -- The store keeps what it did while the piece was shown.
 pub holds_unless : (tells : Type 0) (events : ℕ) (room : Room) (kept new : Standing) (piece : List ℕ) (step : Step) (o : Option PlayEnd) (session : Session) →
-    session.events ≡ events → (tells → KeptIn session.journal room kept) → (tells → Told kept new piece step o) →
+    session.events ≡ events → (tells → KeptIn session.journal room kept) → (tells → ShowsStep kept new piece step o) →
     IfOk (unless_ended o session) (HoldsSession tells events room new)
 holds_unless tells events room kept new piece step None session e k told =
     record { events = e; kept = λ t. keeps_shown session.journal room kept new (kept.shown ++ piece) (k t) (told t).2 }

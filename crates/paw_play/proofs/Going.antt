@@ -22,7 +22,7 @@ use Rattle.paw_journal.specs.Session.{Digests, Recovered, Shown, recover}
 use Rattle.paw_state.specs.State.{State, IsValidState, FitsFields}
 use Rattle.paw_state.specs.State.{state_bytes}
 use Rattle.paw_state.proofs.Lawful.{bytes_tell_the_state}
-use Rattle.paw_state.specs.Record.{last_piece, state_at}
+use Rattle.paw_state.specs.State.{last_piece, state_at}
 use Rattle.paw_play.specs.Session.{kept_bytes, IsKept}
 use Rattle.paw_play.specs.Stands.{Stands, since_piece, ending_since, reading_since}
 use Rattle.paw_play.specs.Played.{ShowsState, going_on}
@@ -124,7 +124,7 @@ traces_of (Halted halt r) = r.traces
 traces_of Unended = []
 
 module _ (g : Story) (seed : ℕ) (es fs : List (List ℕ)) where
-  -- A reading that ended so ends with more lines as going on from its state and last piece does.
+  -- A reading that ended in this way ends with more lines as going on from its state and last piece does.
   abbrev pub GoesOnFrom : Ending → State → List ℕ → Type 0
   GoesOnFrom e st piece =
       (length (pieces_of e) ≡ suc (length es)) × (length (traces_of e) ≡ suc (length es)) × (x : Ending)

@@ -11,9 +11,9 @@ use Rattle.paw_turn.specs.declared.Step.{Step}
 use Rattle.paw_turn.specs.declared.Step.TheVariants as step
 use Rattle.paw_journal.specs.Session.{Digests, Recovered, Shown}
 use Rattle.paw_process.specs.Kept.{frames_at}
-use Rattle.paw_process.specs.inner.Kept.{kept}
+use Rattle.paw_process.specs.inner.Kept.{machine_kept}
 use Rattle.paw_process.specs.declared.kept.Frames.{Frames}
-use Rattle.paw_state.specs.Record.{last_piece}
+use Rattle.paw_state.specs.State.{last_piece}
 use Rattle.paw_state.specs.State.{State}
 use Rattle.paw_reading.specs.declared.places.Frame.{Frame}
 use Rattle.paw_play.specs.Session.{kept_bytes, IsKept}
@@ -39,8 +39,8 @@ parts events p next frames n = record { world = next.world; frames = frames; pen
 
 -- What a session shows of them, by the path of the machine and the last piece that was closed.
 shown_at : {F : Type 0} (digests : Digests) (events : ℕ) (p : Prompt) (path : List Frame) (next : PlayerView F) (pieces : List (List ℕ)) →
-    kept next.machine ≡ frames_at path next.machine.turning →
-    Shown digests (kept_bytes (parts events p next (kept next.machine) (length next.piece))) next.piece
+    machine_kept next.machine ≡ frames_at path next.machine.turning →
+    Shown digests (kept_bytes (parts events p next (machine_kept next.machine) (length next.piece))) next.piece
     ≡ Shown digests (kept_bytes (parts events p next (frames_at path next.machine.turning) (length (last_piece (pieces ++ next.piece ∷ [])))))
     (last_piece (pieces ++ next.piece ∷ []))
 shown_at digests events p path next pieces is =

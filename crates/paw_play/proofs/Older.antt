@@ -11,7 +11,7 @@ use Rattle.paw_reading.specs.Turn.{Ending, WaitsAt, Halted, reading}
 use Rattle.paw_reading.specs.inner.Saving.{no_positions, EndsKeeping}
 use Rattle.paw_reading.proofs.Saving.{readings_keep_no_position}
 use Rattle.paw_journal.specs.declared.refusal.SessionPart.TheVariants as part
-use Rattle.paw_journal.specs.Session.{Digests, Damaged, Shown, recover, chosen, kept_digests, slot, slot_shows}
+use Rattle.paw_journal.specs.Session.{Digests, Damaged, Shown, recover, slot_in_use, kept_digests, slot, slot_shows}
 use Rattle.paw_journal.specs.Session.{shown_unless, first_unsound, slot_changes}
 use Rattle.paw_journal.specs.Session.{slot_state, shown_state, two_byte_number, most_changes, state_length}
 use Rattle.paw_journal.specs.Session.{first_length, zeros}
@@ -20,7 +20,7 @@ use Rattle.paw_journal.proofs.Recovers.{shown_made, recover_is, recover_made}
 use Rattle.paw_journal.proofs.Fills.{slot_long}
 use Rattle.paw_journal.proofs.Slots.{state_long}
 use Rattle.paw_state.specs.State.{State, IsValidState, FitsFields}
-use Rattle.paw_state.specs.Record.{last_piece, state_at}
+use Rattle.paw_state.specs.State.{last_piece, state_at}
 use Rattle.paw_state.proofs.Lawful.{long_state}
 use Rattle.paw_state.proofs.Unkept.{ends_in_zeros}
 use Rattle.paw_play.specs.Session.{kept_bytes, IsKept}
@@ -54,20 +54,20 @@ shown_first s st first is n =
     ap (λ (x : List ℕ). x ++ behind) (ap (take first_length) form ∙ take_at head behind first_length l) ∙ sym form
 
 -- So does a store whose slot in use is of version 1.
-chosen_first : (bytes : List ℕ) (digests : Digests) (state piece : List ℕ) → form_length (slot_version (slot (chosen bytes) bytes)) ≡ first_length
+chosen_first : (bytes : List ℕ) (digests : Digests) (state piece : List ℕ) → form_length (slot_version (slot (slot_in_use bytes) bytes)) ≡ first_length
     → recover bytes ≡ Shown digests state piece
     → take first_length state ++ zeros (state_length - first_length) ≡ state
 chosen_first bytes digests state piece first e =
     let made = shown_made bytes digests state piece e in
-    let s = slot (chosen bytes) bytes in
+    let s = slot (slot_in_use bytes) bytes in
     let is : shown_state s ≡ state = by_slot (kept_digests bytes) s digests state piece
-    (sym (recover_is (chosen bytes) bytes refl ∙ recover_made (chosen bytes) bytes made) ∙ e) in
-    shown_first s state first is (state_long s (slot_long (chosen bytes) bytes (omega arith) made.long))
+    (sym (recover_is (slot_in_use bytes) bytes refl ∙ recover_made (slot_in_use bytes) bytes made) ∙ e) in
+    shown_first s state first is (state_long s (slot_long (slot_in_use bytes) bytes (omega arith) made.long))
 
 -- ---- the state where a reading ended ----
 
 state_same : (g : GameLists) (v : Valid g) (st : State) → IsValidState g st → FitsFields st → st.world.kept ≡ no_positions
-    → (bytes : List ℕ) (digests : Digests) (state piece : List ℕ) → form_length (slot_version (slot (chosen bytes) bytes)) ≡ first_length
+    → (bytes : List ℕ) (digests : Digests) (state piece : List ℕ) → form_length (slot_version (slot (slot_in_use bytes) bytes)) ≡ first_length
     → recover bytes ≡ Shown digests state piece
     → take first_length state ≡ take first_length (kept_bytes st) → recover bytes ≡ Shown digests (kept_bytes st) piece
 unfolding kept_bytes

@@ -19,13 +19,13 @@ use Rattle.paw_turn.specs.inner.Player.{PlayerView, run_at, IsSeated, StandsClos
 use Rattle.paw_turn.specs.inner.Player.{PlaysTo as StepsTo}
 use Rattle.paw_turn.specs.declared.Step.{Step}
 use Rattle.paw_turn.specs.declared.Step.TheVariants as step
-use Rattle.paw_journal.specs.Session.{Shown, recover, kept_digests, committed}
+use Rattle.paw_journal.specs.Session.{Shown, recover, kept_digests, session_committed}
 use Rattle.paw_journal.specs.inner.Store.{ChangesStoreOnly, InStore, CrashLeavesSuch, IsOldOrNew}
 use Rattle.paw_stage.specs.Across.{IsOneOf}
 use Rattle.paw_journal.specs.Journal.{writing_calls}
 use Rattle.paw_play.specs.declared.PlayEnd.{PlayEnd}
 use Rattle.paw_play.specs.declared.PlayEnd.TheVariants as end
-use Rattle.paw_play.specs.Walk.{first_lines, text_for, advanced, Walks}
+use Rattle.paw_play.specs.Walk.{first_lines, text_for, with_lines_taken, Walks}
 use Rattle.paw_play.specs.Played.{PlayedSession}
 use Rattle.paw_play.specs.Keeping.{AgreesWith, IsUpToDateWith, InPlay, StaysAttached, RestsWith, KeepsAllButLast}
 use Rattle.paw_play.specs.Play.{with_store, Uncommitted, PlaysOn}
@@ -34,7 +34,7 @@ use Rattle.paw_play.specs.inner.Telling.{Plain}
 use Rattle.paw_turn.specs.inner.Player.{IsStanding, step_halt}
 use Rattle.paw_turn.proofs.Halting.{halted_stands}
 use Rattle.paw_reading.specs.declared.places.Halt.TheVariants as halt
-use Rattle.paw_play.specs.inner.OnTheWay.{IsWalking, WalksTo, Told, refusal_of, seat_state, seat_base, IsPlaying}
+use Rattle.paw_play.specs.inner.OnTheWay.{IsWalking, WalksTo, ShowsStep, end_if_no_piece, seat_state, seat_base, IsPlaying}
 use Rattle.paw_play.specs.inner.OnTheWay.{PlaysLineTo}
 use Rattle.paw_play.specs.Written.{bytes_before, store_bytes_after}
 use Rattle.paw_play.proofs.Kept.{KeepsLines, step_kept}
@@ -160,7 +160,7 @@ pub taken : {F : Type 0} (g : Story) (s : PlayedSession) (most n events : ℕ) (
     (found : Step) (w : IsPlaying g s first now seat n) → n < most → IsSeated seat → IsSeated next → next.last ≡ found →
     now.lines ≡ line ∷ mid.lines → given ≡ take 255 line → mid ≡ record now { lines = mid.lines; asked = now.asked + 1 } →
     StepsTo g (λ more. going_on_from g w.walking.prompt (reverse seat.machine.frames) (run_at seat w.walking.pieces w.walking.traces (given ∷ more)))
-    found next w.walking.pieces w.walking.traces → None ≡ refusal_of found → events ≡ s.before + suc n → events ≤ EVENT_LIMIT →
+    found next w.walking.pieces w.walking.traces → None ≡ end_if_no_piece found → events ≡ s.before + suc n → events ≤ EVENT_LIMIT →
     Taken g s most n events first now mid seat next given line found w
 taken g s most n events first now mid seat next given line found w few seated then_seated last lines cut took plays fine counts fit =
     assumption (shows_piece found fine)
@@ -271,7 +271,7 @@ module _ {F : Type 0} {g : Story} {s : PlayedSession} {most n events : ℕ} {fir
       there,
       stands_after (with_store kept first) (with_store kept now) kept kept n (concat w.walking.pieces) [] line walking_with.stands
           (t.lines ∙ ap (λ xs. line ∷ xs) (sym beside.lines)) kept_is (shown_nothing kept)
-          ∙ ap (advanced (with_store kept first) (suc n)) (append-nil (concat w.walking.pieces) ∙ sym (text_is g s first now seat n w t.seated)),
+          ∙ ap (with_lines_taken (with_store kept first) (suc n)) (append-nil (concat w.walking.pieces) ∙ sym (text_is g s first now seat n w t.seated)),
     )
 
     -- It leaves the store attached, and no other file has changed.
@@ -289,7 +289,7 @@ module _ {F : Type 0} {g : Story} {s : PlayedSession} {most n events : ℕ} {fir
 
     module _ (stable : IsStable kept.disk) (is : recover kept.disk.bytes ≡ Shown (kept_digests mid.disk.bytes) (seat_state events next) next.piece)
         (digests : kept_digests kept.disk.bytes ≡ kept_digests mid.disk.bytes)
-        (wrote : kept.disk.bytes ≡ committed (seat_base events next) next.piece mid.disk.bytes) where
+        (wrote : kept.disk.bytes ≡ session_committed (seat_base events next) next.piece mid.disk.bytes) where
       -- One commit was made of the bytes before.
       bytes_more : kept.disk.bytes ≡ store_bytes_after s first.lines (suc n) (bytes_before s first.disk.bytes)
       bytes_more =
@@ -335,7 +335,7 @@ module _ {F : Type 0} {g : Story} {s : PlayedSession} {most n events : ℕ} {fir
       })
 
       -- What comes of showing it.
-      walks_then : (new : Standing) (o : Option PlayEnd) → Told kept new next.piece found o →
+      walks_then : (new : Standing) (o : Option PlayEnd) → ShowsStep kept new next.piece found o →
           WalksTo Plain g s.whole most (with_store kept first) new next (suc n) o
       unfolding walking_with
       walks_then new o told =
@@ -349,7 +349,7 @@ module _ {F : Type 0} {g : Story} {s : PlayedSession} {most n events : ℕ} {fir
       asked_then new text e = ap (λ (q : Standing). q.asked) e ∙ beside.asked ∙ asked_more
 
       -- The session is at the next prompt, or playing on has ended, with the piece shown or not.
-      pub plays_to : {A : Type 0} (a : A) (new : Standing) (o : Option PlayEnd) → Told kept new next.piece found o →
+      pub plays_to : {A : Type 0} (a : A) (new : Standing) (o : Option PlayEnd) → ShowsStep kept new next.piece found o →
           PlaysLineTo g s most first new next n (unless_ended o a)
       plays_to a new None told = record {
         walking = subst (λ (q : Standing). IsWalking Plain g s.whole (with_store q first) new next (suc n)) (sym told.2) (walks_then new None told);
@@ -408,15 +408,15 @@ module _ {F : Type 0} (g : Story) (s : PlayedSession) (most n : ℕ) (first now 
         rests_on s first now mid n mid.lines (now.asked + 1) now.shown took w.rests,
       )
 
-      refused_shows : (o : PlayEnd) → Told mid mid next.piece found (Some o) → Walks s.whole most (with_store mid first) mid o
+      refused_shows : (o : PlayEnd) → ShowsStep mid mid next.piece found (Some o) → Walks s.whole most (with_store mid first) mid o
       refused_shows o told =
           subst (λ (q : Standing). Walks s.whole most (with_store q first) mid o) (sym took)
           (walks_on Plain g s.whole most n (with_store now first) now mid mid seat next given line found (Some o) w.walking few
           seated then_seated last lines cut took plays told)
 
       -- The piece is spent, or a call is too deep.
-      pub plays_refused : (o : PlayEnd) → refusal_of found ≡ Some o → PlaysOn s most first mid o
-      plays_refused o e = elim found as (λ q. found ≡ q → refusal_of q ≡ Some o → PlaysOn s most first mid o) [
+      pub plays_refused : (o : PlayEnd) → end_if_no_piece found ≡ Some o → PlaysOn s most first mid o
+      plays_refused o e = elim found as (λ q. found ≡ q → end_if_no_piece q ≡ Some o → PlaysOn s most first mid o) [
         | step.Waits p ↦ λ is e. cc
         | step.Ended ↦ λ is e. cc
         | step.Spent kind ↦ λ is e. let k : o ≡ end.Spent kind = cc in

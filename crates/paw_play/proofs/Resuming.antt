@@ -24,13 +24,13 @@ use Rattle.paw_turn.specs.declared.Step.TheVariants as step
 use Rattle.paw_journal.specs.Session.{Digests, Shown, recover, kept_digests}
 use Rattle.paw_state.specs.inner.State.{state_of}
 use Rattle.paw_state.specs.inner.Fit.{state_read}
-use Rattle.paw_state.specs.declared.Restored.{Restored}
+use Rattle.paw_state.specs.declared.parts.Restored.{Restored}
 use Rattle.paw_play.specs.declared.PlayEnd.{PlayEnd}
 use Rattle.paw_play.specs.declared.PlayEnd.TheVariants as end
-use Rattle.paw_state.specs.Record.{state_at}
+use Rattle.paw_state.specs.State.{state_at}
 use Rattle.paw_state.proofs.Ruled.{each_of}
 use Rattle.paw_play.specs.Session.{kept_bytes, IsKept}
-use Rattle.paw_play.specs.Walk.{advanced}
+use Rattle.paw_play.specs.Walk.{with_lines_taken}
 use Rattle.paw_play.specs.Played.{PlayedSession, ShowsState, going_on, from_state}
 use Rattle.paw_play.specs.Keeping.{InPlay, RestsWith}
 use Rattle.paw_play.specs.Play.{with_store, PlaysOn}
@@ -152,9 +152,9 @@ module _ {F : Type 0} {g : Story} {name piece : List ℕ} {r : Restored} {first 
   rests_shown : (new : Standing) (text : List ℕ) → new ≡ record first { shown = text } → RestsWith (read_session g name piece r first) first new 0
   rests_shown new text e = rests_on (read_session g name piece r first) first first new 0 first.lines first.asked text e rests_first
 
-  stands_with : (new : Standing) (part : List ℕ) → new ≡ record first { shown = first.shown ++ part } → new ≡ advanced (with_store new first) 0 part
+  stands_with : (new : Standing) (part : List ℕ) → new ≡ record first { shown = first.shown ++ part } → new ≡ with_lines_taken (with_store new first) 0 part
   stands_with new part e =
-      subst (λ q. new ≡ advanced q 0 part) (ap (λ (q : Standing). with_store q first) (sym e)) (first_stands first new part e)
+      subst (λ q. new ≡ with_lines_taken q 0 part) (ap (λ (q : Standing). with_store q first) (sym e)) (first_stands first new part e)
 
   asked_is : (new : Standing) (text : List ℕ) → new ≡ record first { shown = text } → new.asked ≡ first.asked + 0
   asked_is new text e = ap (λ (q : Standing). q.asked) e ∙ omega arith
@@ -191,7 +191,7 @@ module _ {F : Type 0} {g : Story} {name piece : List ℕ} {r : Restored} {first 
       each = tt;
       goes_on = λ more. goes_on_from g r.world r.machine r.pending r.prompt r.events r.piece piece more;
       there = omega arith;
-      stands = stands_with new piece told.1 ∙ ap (advanced (with_store new first) 0) (sym (append-nil piece));
+      stands = stands_with new piece told.1 ∙ ap (with_lines_taken (with_store new first) 0) (sym (append-nil piece));
     };
     rests = rests_shown new (first.shown ++ piece) told.1;
     digests = ap (λ (q : Standing). kept_digests q.disk.bytes) told.1;
@@ -212,7 +212,7 @@ module _ {F : Type 0} {g : Story} {name piece : List ℕ} {r : Restored} {first 
         reading = goes_on_from g r.world r.machine r.pending r.prompt r.events r.piece piece []
             ∙ ap (λ q. going_on_from g q (reverse r.machine.frames) (run_from r.world r.machine r.pending piece [])) told.0;
         there = omega arith;
-        stands = stands_with new piece told.1 ∙ ap (advanced (with_store new first) 0) (sym (append-nil piece));
+        stands = stands_with new piece told.1 ∙ ap (with_lines_taken (with_store new first) 0) (sym (append-nil piece));
       },
     );
     session = (0, asked_is new (first.shown ++ piece) told.1, rests_shown new (first.shown ++ piece) told.1);

@@ -22,10 +22,10 @@ use Rattle.paw_play.specs.declared.PlayEnd.{PlayEnd}
 use Rattle.paw_play.specs.declared.PlayEnd.TheVariants as end
 use Rattle.paw_play.specs.Walk.{first_lines}
 use Rattle.paw_play.specs.Stands.{Stands, IsPlayedWith}
-use Rattle.paw_play.specs.Played.{PlayedSession, begun, from_lines}
+use Rattle.paw_play.specs.Played.{PlayedSession, session_begun, from_lines}
 use Rattle.paw_play.specs.Keeping.{KeptBy, IsUpToDateWith, InPlay, InNewSession, RestsWith}
 use Rattle.paw_play.specs.Play.{PlaysOn, MadeAndPlayed, NewSession, GoesOn, NotYet, attached_to, store_bytes}
-use Rattle.paw_play.specs.Play.{memory, halts, unmade, plays, unattached, occupied, plays_in, unread}
+use Rattle.paw_play.specs.Play.{memory, halts, unmade, plays, unattached, occupied, starts_play, unread}
 use Rattle.paw_play.specs.Laws.{RoundStop, cut_at, came_to, Round, MayBeLeft, BeginsOver, AtRest, StopsWith, AreRounds}
 use Rattle.paw_play.specs.Laws.{left_after}
 use Rattle.paw_play.specs.Laws.{lines_lost, AreKept, AreKeptOf, RoundsStand}
@@ -119,36 +119,36 @@ no_writing c (inr (inl e)) = rw e (λ rest. rest)
 no_writing c (inr (inr h)) = absurd h
 
 module _ (g : Story) (seed : ℕ) (r : Round) (begins : BeginsOver [] r) (made : ¬ IsUnmade (recover r.left)) where
-  first_cut : (m : Moment) → (NotYet r.name r.old m ⊎ InNewSession (begun g seed r.name) r.old m) → MayBeLeft r.name m r.left →
-      KeptOf (begun g seed r.name) r.old (cut_at m) r.left
+  first_cut : (m : Moment) → (NotYet r.name r.old m ⊎ InNewSession (session_begun g seed r.name) r.old m) → MayBeLeft r.name m r.left →
+      KeptOf (session_begun g seed r.name) r.old (cut_at m) r.left
   first_cut m (inl n) may = absurd (made (empty_unmade r.left (not_yet_left r [] m begins n may)))
   first_cut m (inr (inl i)) may = elim (i.leaves r.left (store_left r.name r.left m i.attached may)) [
     | inl none ↦ absurd (made none)
     | inr kept ↦ (0, inl (i.asked ∙ omega arith), omega arith, omega arith, kept)
   ]
-  first_cut m (inr (inr i)) may = cut_keeps (begun g seed r.name) r.old m r.left i may
+  first_cut m (inr (inr i)) may = cut_keeps (session_begun g seed r.name) r.old m r.left i may
 
   still_empty : (new : Standing) → r.left ≡ store_bytes new r.name → store_bytes new r.name ≡ store_bytes r.old r.name → ⊥
   still_empty new left same = made (empty_unmade r.left (left ∙ same ∙ begins.has))
 
-  first_in : (new : Standing) (o : PlayEnd) → MadeAndPlayed (begun g seed r.name) (attached_to r.old r.name) new o → AtRest o →
-      r.left ≡ store_bytes new r.name → KeptOf (begun g seed r.name) r.old (came_to new o) (store_bytes new r.name)
+  first_in : (new : Standing) (o : PlayEnd) → MadeAndPlayed (session_begun g seed r.name) (attached_to r.old r.name) new o → AtRest o →
+      r.left ≡ store_bytes new r.name → KeptOf (session_begun g seed r.name) r.old (came_to new o) (store_bytes new r.name)
   first_in new _ (memory e) rest left = absurd (still_empty new left (bytes_of r.old new r.name e))
   first_in new _ (halts o halt run by cut is e) rest left = absurd (still_empty new left (bytes_of r.old new r.name e))
   first_in new _ (unmade c is e stays) rest left = absurd (no_writing c is rest)
-  first_in new _ (plays o p) rest left = came_keeps (begun g seed r.name) r.old EVENT_LIMIT new o p rest
+  first_in new _ (plays o p) rest left = came_keeps (session_begun g seed r.name) r.old EVENT_LIMIT new o p rest
 
-  first_came : (new : Standing) (o : PlayEnd) → NewSession (begun g seed r.name) r.old new o → AtRest o → r.left ≡ store_bytes new r.name →
-      KeptOf (begun g seed r.name) r.old (came_to new o) (store_bytes new r.name)
+  first_came : (new : Standing) (o : PlayEnd) → NewSession (session_begun g seed r.name) r.old new o → AtRest o → r.left ≡ store_bytes new r.name →
+      KeptOf (session_begun g seed r.name) r.old (came_to new o) (store_bytes new r.name)
   first_came new _ (unattached u) rest left = absurd (still_empty new left (unattached_bytes r.old new r.name u))
   first_came new _ (occupied some e) rest left = absurd (omega (arith, some, ap length begins.has))
-  first_came new _ (plays_in o empty p) rest left = first_in new o p rest left
+  first_came new _ (starts_play o empty p) rest left = first_in new o p rest left
 
-  first_stops : (stop : RoundStop) → StopsWith (λ m. NotYet r.name r.old m ⊎ InNewSession (begun g seed r.name) r.old m)
-      (NewSession (begun g seed r.name) r.old) r.name r.left stop → KeptOf (begun g seed r.name) r.old stop r.left
+  first_stops : (stop : RoundStop) → StopsWith (λ m. NotYet r.name r.old m ⊎ InNewSession (session_begun g seed r.name) r.old m)
+      (NewSession (session_begun g seed r.name) r.old) r.name r.left stop → KeptOf (session_begun g seed r.name) r.old stop r.left
   first_stops (cut_at m) stopped = first_cut m stopped.0 stopped.1
   first_stops (came_to new o) stopped =
-      subst (KeptOf (begun g seed r.name) r.old (came_to new o)) (sym stopped.2) (first_came new o stopped.0 stopped.1 stopped.2)
+      subst (KeptOf (session_begun g seed r.name) r.old (came_to new o)) (sym stopped.2) (first_came new o stopped.0 stopped.1 stopped.2)
 
 -- ---- a later round ----
 

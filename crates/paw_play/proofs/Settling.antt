@@ -25,7 +25,7 @@ use Rattle.paw_reading.specs.Places.{waiting_code}
 use Rattle.paw_reading.specs.inner.Places.{AreOpenAt, StandsRightly, StopsRightly, StopsBounded}
 use Rattle.paw_reading.proofs.Counts.{pieces_of_lines}
 use Rattle.paw_reading.proofs.Rightly.{readings_stop_rightly, readings_are_bounded}
-use Rattle.paw_state.specs.Record.{last_piece, state_at}
+use Rattle.paw_state.specs.State.{last_piece, state_at}
 use Rattle.paw_state.specs.State.{HoldsBytes}
 use Rattle.paw_state.proofs.Ruled.{keeps_of}
 use Rattle.paw_play.specs.Stands.{IsPlayedWith}

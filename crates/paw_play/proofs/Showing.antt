@@ -15,8 +15,8 @@ use Rattle.paw_process.specs.inner.OpenTables.{OpenTables}
 use Rattle.paw_routines.specs.declared.routines.Routines.{Routines}
 use Rattle.paw_stage.specs.Stage.{Standing}
 use Rattle.paw_process.specs.Kept.{waiting_code}
-use Rattle.paw_process.specs.inner.Kept.{kept}
-use Rattle.paw_process.specs.inner.Kept.{restored, waiting_at, WaitsAtPrompt}
+use Rattle.paw_process.specs.inner.Kept.{machine_kept}
+use Rattle.paw_process.specs.inner.Kept.{machine_restored, waiting_at, WaitsAtPrompt}
 use Rattle.paw_process.proofs.Restored.{stands_at}
 use Rattle.paw_process.proofs.Again.{restored_kept}
 use Rattle.paw_turn.specs.inner.Parts.{Fits, IsPending, prompt_step, seat_at}
@@ -27,7 +27,7 @@ use Rattle.paw_journal.proofs.ShownPieces.{shown_long, buffer_long}
 use Rattle.paw_state.specs.State.{State, IsValidState, FitsFields, HoldsBytes}
 use Rattle.paw_state.specs.inner.State.{state_of}
 use Rattle.paw_state.specs.State.{state_bytes}
-use Rattle.paw_state.specs.declared.Restored.{Restored}
+use Rattle.paw_state.specs.declared.parts.Restored.{Restored}
 use Rattle.paw_state.specs.inner.Fit.{IsRead, state_read}
 use Rattle.paw_state.proofs.Told.{piece_told}
 use Rattle.paw_state.proofs.Ruled.{each_of}
@@ -96,7 +96,7 @@ pending_of g s m k fits stands =
 
 pub read_fits : (g : GameLists) (bytes : List ℕ) (r : Restored) → IsRead g bytes r → Fits g r.world r.machine r.pending r.prompt
 read_fits g bytes r is =
-    restored_fits g r.prompt (kept r.machine) r.world r.machine r.pending (world_of g (state_read r) is.keeps is.fits)
+    restored_fits g r.prompt (machine_kept r.machine) r.world r.machine r.pending (world_of g (state_read r) is.keeps is.fits)
     (pending_of g (state_read r) r.machine is.keeps is.fits is.stands)
     is.keeps.rows is.machine is.stands (each_of g (state_read r) is.keeps).frames
 
@@ -134,7 +134,7 @@ module _ (g : Story) (digests : Digests) (bytes : List ℕ) (st : State) (piece 
     (shows : ShowsState g.game digests bytes st piece) where
   -- A machine that is restored from the state.
   machine : OpenTables
-  machine = restored st.frames (waiting_at st.prompt)
+  machine = machine_restored st.frames (waiting_at st.prompt)
 
   state_is : st ≡ state_of st.world machine st.pending st.prompt st.events st.piece
   unfolding machine
@@ -144,10 +144,11 @@ module _ (g : Story) (digests : Digests) (bytes : List ℕ) (st : State) (piece 
   stands : StandsClosed (prompt_step st.prompt) machine
   unfolding machine
   stands =
-      let at : WaitsAtPrompt st.prompt (restored st.frames (waiting_at st.prompt)) =
+      let at : WaitsAtPrompt st.prompt (machine_restored st.frames (waiting_at st.prompt)) =
       stands_at g.game st.prompt st.frames valid shows.keeps.rows (each_of g.game st shows.keeps).frames in
-      (restored_fits g.game st.prompt st.frames st.world (restored st.frames (waiting_at st.prompt)) st.pending (world_of g.game st shows.keeps shows.fits)
-      (pending_of g.game st (restored st.frames (waiting_at st.prompt)) shows.keeps shows.fits at) shows.keeps.rows refl at
+      (restored_fits g.game st.prompt st.frames st.world (machine_restored st.frames (waiting_at st.prompt)) st.pending
+      (world_of g.game st shows.keeps shows.fits)
+      (pending_of g.game st (machine_restored st.frames (waiting_at st.prompt)) shows.keeps shows.fits at) shows.keeps.rows refl at
       (each_of g.game st shows.keeps).frames).machine
 
   long : length piece ≡ st.piece

@@ -23,14 +23,14 @@ use Rattle.paw_journal.specs.Session.{Digests, Shown, recover, state_length}
 use Rattle.paw_journal.specs.declared.refusal.JournalRefusal.{JournalRefusal}
 use Rattle.paw_journal.specs.declared.refusal.JournalRefusal.TheVariants as refusal
 use Rattle.paw_play.specs.declared.PlayEnd.{PlayEnd}
-use Rattle.paw_state.specs.Record.{last_piece, state_at}
+use Rattle.paw_state.specs.State.{last_piece, state_at}
 use Rattle.paw_play.specs.Session.{kept_bytes, story_digests, IsOfStory, IsKept}
 use Rattle.paw_play.specs.Walk.{EndingOf, first_lines}
 use Rattle.paw_play.specs.Stands.{Stands, IsPlayedWith, ending_since, reading_since}
-use Rattle.paw_play.specs.Played.{PlayedSession, ShowsState, GoesOnFrom, from_shown, behind, begun, from_lines}
+use Rattle.paw_play.specs.Played.{PlayedSession, ShowsState, GoesOnFrom, from_shown, from_played, session_begun, from_lines}
 use Rattle.paw_play.specs.Played.{from_state, going_on, resumed_run}
 use Rattle.paw_play.specs.Keeping.{KeptBy}
-use Rattle.paw_play.specs.Play.{PlaysOn, Refuses, Resumed, no_state, plays_on, PlaysAgain, refused, wanting, plays_up}
+use Rattle.paw_play.specs.Play.{PlaysOn, Refuses, Resumed, no_state, plays_on, PlaysAgain, refused, without_memory, resumes_play}
 use Rattle.paw_play.specs.Play.{GoesOn, memory, unattached, unread, plays, attached_to, store_bytes}
 use Rattle.paw_play.specs.Laws.{StandingShows, StandingGoesOn, KeptLinesStand, GoingOnIsTheReading}
 use Rattle.paw_play.proofs.Going.{IsSettled, Settles, goes_on, since_past, waiting_goes, whole_kept}
@@ -100,7 +100,7 @@ count_lines n lines there = length-map (take n lines) (take 255) ∙ length-take
 
 -- Those that it took.
 pub begun_stands : (g : Story) (seed : ℕ) (lines : List (List ℕ)) (name : List ℕ) (n : ℕ) (bytes : List ℕ) → n ≤ length lines → n ≤ EVENT_LIMIT →
-    KeptBy (begun g seed name) lines n bytes → Stands g seed (first_lines n lines) bytes
+    KeptBy (session_begun g seed name) lines n bytes → Stands g seed (first_lines n lines) bytes
 begun_stands g seed lines name n bytes there few kept =
     let count : length (first_lines n lines) ≡ n = count_lines n lines there in
     let all : 0 + n ≡ length (first_lines n lines) = omega (arith, count) in
@@ -148,7 +148,7 @@ same_session whole by before past digests name e f = cc
 pub is_shown : (g : Story) (name bytes : List ℕ) (s : PlayedSession) → GoesOnFrom g name bytes s → IsShown g name bytes s
 is_shown g name bytes _ (from_shown st piece digests belongs shows) =
     record { digests = digests; belongs = belongs; state = st; piece = piece; shows = shows; same = refl }
-is_shown g name bytes _ (behind seed es played stands) =
+is_shown g name bytes _ (from_played seed es played stands) =
     let shown = shown_of g seed es bytes played stands in
     let goes = λ (fs : List (List ℕ)). standing_goes_on g seed es fs bytes stands.digests shown.0 shown.1 played stands shown.2 in
     record {
@@ -210,9 +210,9 @@ module _ (g : Story) (name : List ℕ) (old new : Standing) (valid : Valid g.gam
   goes_again : (o : PlayEnd) → PlaysAgain g name old new o → GoesOn (from_state g st piece d name) old new o
   goes_again _ (unattached u) = unattached u
   goes_again _ (unread e) = unread e
-  goes_again _ (wanting e) = memory e
+  goes_again _ (without_memory e) = memory e
   goes_again _ (refused r h e) = absurd (never_refused g d (store_bytes old name) (kept_bytes st) piece r of shows.shown h)
-  goes_again _ (plays_up o e mine up) = goes_up e o up
+  goes_again _ (resumes_play o e mine up) = goes_up e o up
 
 -- How resuming a session that goes on from the bytes of its store ends.
 pub again_goes_on : (g : Story) (name : List ℕ) (old new : Standing) (s : PlayedSession) → Valid g.game → GoesOnFrom g name (store_bytes old name) s →

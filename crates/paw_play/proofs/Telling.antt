@@ -20,9 +20,9 @@ use Rattle.paw_turn.specs.declared.Step.{Step}
 use Rattle.paw_turn.specs.declared.Step.TheVariants as step
 use Rattle.paw_play.specs.Traces.{step_line, more_line, steps_text, traced_pieces}
 use Rattle.paw_play.specs.inner.Telling.{ShowSteps, Plain, Stepped, kept_text, seat_text, HaveSteps}
-use Rattle.paw_play.specs.inner.Telling.{told_pieces, told_run, told_ending}
+use Rattle.paw_play.specs.inner.Telling.{shown_pieces, shown_run, shown_ending}
 use Rattle.paw_turn.specs.inner.Player.{IsStanding}
-use Rattle.paw_play.specs.inner.OnTheWay.{refusal_of}
+use Rattle.paw_play.specs.inner.OnTheWay.{end_if_no_piece}
 
 -- ---- texts ----
 
@@ -51,7 +51,7 @@ traced_more (p ∷ pieces) (t ∷ traces) piece steps each =
 -- One piece more of a player.
 pub pieces_more : {F : Type 0} (telling : ShowSteps) (next : PlayerView F) (pieces : List (List ℕ)) (traces : List (List Read)) (steps : List Read) →
     HaveSteps telling pieces traces → next.machine.steps ≡ kept_steps steps →
-    concat (told_pieces telling (pieces ++ next.piece ∷ []) (traces ++ steps ∷ [])) ≡ concat (told_pieces telling pieces traces) ++ seat_text telling next
+    concat (shown_pieces telling (pieces ++ next.piece ∷ []) (traces ++ steps ∷ [])) ≡ concat (shown_pieces telling pieces traces) ++ seat_text telling next
 pieces_more Plain next pieces traces steps each kept = joined_more pieces next.piece
 pieces_more Stepped next pieces traces steps each kept =
     ap concat (traced_more pieces traces next.piece steps each) ∙ joined_more (traced_pieces pieces traces) (steps_text steps ++ next.piece)
@@ -64,7 +64,7 @@ steps_more Plain pieces traces piece steps each = tt
 steps_more Stepped pieces traces piece steps each = omega (arith, length-append traces (steps ∷ []), length-append pieces (piece ∷ []), each)
 
 -- Before the first piece there is none to show.
-pub told_none : (telling : ShowSteps) → concat (told_pieces telling [] []) ≡ []
+pub told_none : (telling : ShowSteps) → concat (shown_pieces telling [] []) ≡ []
 told_none Plain = refl
 told_none Stepped = refl
 
@@ -75,36 +75,36 @@ steps_none Stepped = refl
 -- ---- endings ----
 
 pub waits_told : (telling : ShowSteps) (p : Prompt) (path : List Frame) (r : Run) →
-    told_ending telling (WaitsAt p path r) ≡ WaitsAt p path (told_run telling r)
+    shown_ending telling (WaitsAt p path r) ≡ WaitsAt p path (shown_run telling r)
 waits_told Plain p path r = refl
 waits_told Stepped p path r = refl
 
-pub halts_told : (telling : ShowSteps) (halt : Halt) (r : Run) → told_ending telling (Halted halt r) ≡ Halted halt (told_run telling r)
+pub halts_told : (telling : ShowSteps) (halt : Halt) (r : Run) → shown_ending telling (Halted halt r) ≡ Halted halt (shown_run telling r)
 halts_told Plain halt r = refl
 halts_told Stepped halt r = refl
 
 -- How pieces are shown changes nothing of the lines to come.
-pub same_lines : (telling : ShowSteps) (r : Run) → (told_run telling r).events ≡ r.events
+pub same_lines : (telling : ShowSteps) (r : Run) → (shown_run telling r).events ≡ r.events
 same_lines Plain r = refl
 same_lines Stepped r = refl
 
 -- The closed pieces of a run with these, as they are shown.
 pub told_is : (telling : ShowSteps) (r : Run) (pieces : List (List ℕ)) (traces : List (List Read)) → r.pieces ≡ pieces → r.traces ≡ traces →
-    concat (told_run telling r).pieces ≡ concat (told_pieces telling pieces traces)
+    concat (shown_run telling r).pieces ≡ concat (shown_pieces telling pieces traces)
 told_is Plain r pieces traces e f = ap concat e
 told_is Stepped r pieces traces e f = ap (λ ps. concat (traced_pieces ps r.traces)) e ∙ ap (λ ts. concat (traced_pieces pieces ts)) f
 
 -- The text of a player's last piece comes last.
 pub told_more : {F : Type 0} (telling : ShowSteps) (next : PlayerView F) (pieces : List (List ℕ)) (traces : List (List Read)) (steps : List Read) →
     HaveSteps telling pieces traces → next.machine.steps ≡ kept_steps steps →
-    concat (told_run telling (run_at next (pieces ++ next.piece ∷ []) (traces ++ steps ∷ []) [])).pieces
-    ≡ concat (told_pieces telling pieces traces) ++ seat_text telling next
+    concat (shown_run telling (run_at next (pieces ++ next.piece ∷ []) (traces ++ steps ∷ []) [])).pieces
+    ≡ concat (shown_pieces telling pieces traces) ++ seat_text telling next
 told_more telling next pieces traces steps each kept =
     told_is telling (run_at next (pieces ++ next.piece ∷ []) (traces ++ steps ∷ []) []) (pieces ++ next.piece ∷ []) (traces ++ steps ∷ []) refl refl
     ∙ pieces_more telling next pieces traces steps each kept
 
 -- A step that isn't refused brings a piece.
-pub shows_piece : (found : Step) → None ≡ refusal_of found → IsStanding found
+pub shows_piece : (found : Step) → None ≡ end_if_no_piece found → IsStanding found
 shows_piece (step.Waits p) h = tt
 shows_piece step.Ended h = tt
 shows_piece (step.Spent kind) h = cc

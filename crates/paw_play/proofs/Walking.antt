@@ -13,7 +13,7 @@ use Rattle.paw_reading.specs.declared.places.Frame.{Frame}
 use Rattle.paw_reading.specs.Run.{Run, Step as Read}
 use Rattle.paw_reading.specs.declared.places.Halt.{Halt}
 use Rattle.paw_reading.specs.declared.places.Halt.TheVariants as halt
-use Rattle.paw_reading.specs.Reading.{Waits, asked}
+use Rattle.paw_reading.specs.Reading.{Waits, prompt_asked}
 use Rattle.paw_reading.specs.GoingOn.{on_path}
 use Rattle.paw_reading.specs.Turn.{WaitsAt, at_main, reading, going_on_from, text_of}
 use Rattle.paw_process.specs.inner.OpenTables.{OpenTables}
@@ -24,11 +24,11 @@ use Rattle.paw_turn.specs.declared.Step.TheVariants as step
 use Rattle.paw_play.specs.declared.PlayEnd.{PlayEnd}
 use Rattle.paw_play.specs.declared.PlayEnd.TheVariants as end
 use Rattle.paw_stage.specs.declared.StageCall.TheVariants as call
-use Rattle.paw_play.specs.Walk.{EndingOf, first_lines, advanced, text_before, PartShown, WalkWaits, WalkHalts}
-use Rattle.paw_play.specs.inner.Telling.{ShowSteps, seat_text, told_pieces, HaveSteps, told_run, told_ending}
+use Rattle.paw_play.specs.Walk.{EndingOf, first_lines, with_lines_taken, text_before, PartShown, WalkWaits, WalkHalts}
+use Rattle.paw_play.specs.inner.Telling.{ShowSteps, seat_text, shown_pieces, HaveSteps, shown_run, shown_ending}
 use Rattle.paw_play.specs.inner.Telling.{with_shown_steps}
 use Rattle.paw_turn.specs.inner.Player.{IsStanding}
-use Rattle.paw_play.specs.inner.OnTheWay.{IsWalking, Told, WalksTo}
+use Rattle.paw_play.specs.inner.OnTheWay.{IsWalking, ShowsStep, WalksTo}
 use Rattle.paw_turn.proofs.Halting.{plays_halted}
 use Rattle.paw_play.proofs.Telling.{pieces_more, told_more, steps_more, told_none, steps_none, waits_told, halts_told}
 use Rattle.paw_play.proofs.Telling.{same_lines, told_is}
@@ -70,7 +70,8 @@ lines_more lines n line rest more h =
 -- ---- what stands ----
 
 played_more : (old : Standing) (n : ℕ) (text part line : List ℕ) (rest : List (List ℕ)) → drop n old.lines ≡ line ∷ rest →
-    record (advanced old n text) { lines = rest; asked = old.asked + n + 1; shown = (old.shown ++ text) ++ part } ≡ advanced old (suc n) (text ++ part)
+    record (with_lines_taken old n text) { lines = rest; asked = old.asked + n + 1; shown = (old.shown ++ text) ++ part }
+    ≡ with_lines_taken old (suc n) (text ++ part)
 played_more old n text part line rest h =
     let m = drop_more old.lines n line rest h in
     let a : old.asked + n + 1 ≡ old.asked + suc n = omega arith in
@@ -78,8 +79,9 @@ played_more old n text part line rest h =
     rw (a, s, m.0) refl
 
 -- Once a line was taken and a text shown.
-pub stands_after : (first now mid new : Standing) (n : ℕ) (text part line : List ℕ) → now ≡ advanced first n text → now.lines ≡ line ∷ mid.lines →
-    mid ≡ record now { lines = mid.lines; asked = now.asked + 1 } → new ≡ record mid { shown = mid.shown ++ part } → new ≡ advanced first (suc n) (text ++ part)
+pub stands_after : (first now mid new : Standing) (n : ℕ) (text part line : List ℕ) → now ≡ with_lines_taken first n text → now.lines ≡ line ∷ mid.lines →
+    mid ≡ record now { lines = mid.lines; asked = now.asked + 1 } → new ≡ record mid { shown = mid.shown ++ part } →
+    new ≡ with_lines_taken first (suc n) (text ++ part)
 stands_after first now mid new n text part line e l m s =
     let d : drop n first.lines ≡ line ∷ mid.lines = ap (λ (q : Standing). q.lines) (sym e) ∙ l in
     s ∙ ap (λ (q : Standing). record q { shown = q.shown ++ part }) m
@@ -90,7 +92,7 @@ stands_after first now mid new n text part line e l m s =
 
 path_waits : (g : Story) (p : Prompt) (lv : ℕ) (path : List Frame) (r : Run) → 0 < length path →
     on_path g p lv path (record r { events = [] }) ≡ Waits p path (record r { events = [] })
-unfolding asked
+unfolding prompt_asked
 path_waits g p lv [] r h = absurd (omega arith)
 path_waits g p lv (f ∷ []) r h = refl
 path_waits g p lv (f ∷ b ∷ path) r h = rw (path_waits g p (suc lv) (b ∷ path) r (omega arith)) refl
@@ -121,19 +123,19 @@ waiting telling g whole n first now seat w seated =
     let r : Run = run_at seat w.pieces w.traces [] in (
       w.prompt,
       path,
-      told_run telling r,
+      shown_run telling r,
       record {
         reading = ap (with_shown_steps telling whole) (sym (append-nil (first_lines n first.lines)))
-            ∙ ap (told_ending telling) (w.goes_on [] ∙ on_waits g w.prompt seat.machine r stands) ∙ waits_told telling w.prompt path r;
+            ∙ ap (shown_ending telling) (w.goes_on [] ∙ on_waits g w.prompt seat.machine r stands) ∙ waits_told telling w.prompt path r;
         there = w.there;
-        stands = w.stands ∙ ap (advanced first n) (sym (told_is telling r w.pieces w.traces refl refl));
+        stands = w.stands ∙ ap (with_lines_taken first n) (sym (told_is telling r w.pieces w.traces refl refl));
       },
     )
 
 -- The text of what was read of the lines so far.
 pub text_so_far : {F : Type 0} (telling : ShowSteps) (g : Story) (whole : EndingOf) (n : ℕ) (first now : Standing) (seat : PlayerView F)
     (w : IsWalking telling g whole first now seat n) → IsSeated seat →
-    text_of (with_shown_steps telling whole (first_lines n first.lines)) ≡ concat (told_pieces telling w.pieces w.traces)
+    text_of (with_shown_steps telling whole (first_lines n first.lines)) ≡ concat (shown_pieces telling w.pieces w.traces)
 unfolding waiting
 text_so_far telling g whole n first now seat w seated =
     ap text_of (waiting telling g whole n first now seat w seated).3.reading
@@ -143,15 +145,15 @@ text_so_far telling g whole n first now seat w seated =
 pub text_shown : {F : Type 0} (telling : ShowSteps) (g : Story) (whole : EndingOf) (s : Step) (next : PlayerView F)
     (pieces : List (List ℕ)) (traces : List (List Read)) → HaveSteps telling pieces traces → IsStanding s → StandsClosed s next.machine →
     PlaysTo g whole s next pieces traces →
-    text_of (with_shown_steps telling whole []) ≡ concat (told_pieces telling pieces traces) ++ seat_text telling next
+    text_of (with_shown_steps telling whole []) ≡ concat (shown_pieces telling pieces traces) ++ seat_text telling next
 text_shown telling g whole (step.Waits p) next pieces traces each h m plays =
     let r : Run = run_at next (pieces ++ next.piece ∷ []) (traces ++ plays.0 ∷ []) [] in
-    ap (λ e. text_of (told_ending telling e)) (plays.1.1 [] ∙ on_waits g p next.machine r m)
+    ap (λ e. text_of (shown_ending telling e)) (plays.1.1 [] ∙ on_waits g p next.machine r m)
     ∙ ap text_of (waits_told telling p (reverse next.machine.frames) r)
     ∙ told_more telling next pieces traces plays.0 each plays.1.0
 text_shown telling g whole step.Ended next pieces traces each h m plays =
     let r : Run = run_at next (pieces ++ next.piece ∷ []) (traces ++ plays.0 ∷ []) [] in
-    ap (λ e. text_of (told_ending telling e)) (plays.1.1 []) ∙ ap text_of (halts_told telling halt.Over r)
+    ap (λ e. text_of (shown_ending telling e)) (plays.1.1 []) ∙ ap text_of (halts_told telling halt.Over r)
     ∙ told_more telling next pieces traces plays.0 each plays.1.0
 text_shown telling g whole (step.Spent kind) next pieces traces each h m plays = absurd h
 text_shown telling g whole (step.TooDeep u) next pieces traces each h m plays = absurd h
@@ -165,9 +167,9 @@ module _ {F : Type 0} (telling : ShowSteps) (g : Story) (whole after : EndingOf)
     (pieces : List (List ℕ)) (traces : List (List Read)) (each : HaveSteps telling pieces traces)
     (last : next.last ≡ s) (seated : IsSeated next) (there : n ≤ length first.lines)
     (whole_after : (more : List (List ℕ)) → whole (first_lines n first.lines ++ more) ≡ after more)
-    (earlier : text_before (with_shown_steps telling whole) first.lines n ≡ concat (told_pieces telling pieces traces))
+    (earlier : text_before (with_shown_steps telling whole) first.lines n ≡ concat (shown_pieces telling pieces traces))
     (stands_with : (part : List ℕ) → new ≡ record mid { shown = mid.shown ++ part } →
-    new ≡ advanced first n (concat (told_pieces telling pieces traces) ++ part))
+    new ≡ with_lines_taken first n (concat (shown_pieces telling pieces traces) ++ part))
     (plays : PlaysTo g after s next pieces traces) where
   read_all : whole (first_lines n first.lines) ≡ after []
   read_all = ap whole (sym (append-nil (first_lines n first.lines))) ∙ whole_after []
@@ -176,13 +178,13 @@ module _ {F : Type 0} (telling : ShowSteps) (g : Story) (whole after : EndingOf)
   shown_part : IsStanding s → 0 < length (seat_text telling next) → (m : ℕ) →
       new ≡ record mid { shown = mid.shown ++ take m (seat_text telling next) } → PartShown (with_shown_steps telling whole) first new n
   shown_part shows some m e = record {
-    shown = concat (told_pieces telling pieces traces) ++ take m (seat_text telling next);
+    shown = concat (shown_pieces telling pieces traces) ++ take m (seat_text telling next);
     rest = drop m (seat_text telling next);
-    part = append_assoc (concat (told_pieces telling pieces traces)) (take m (seat_text telling next)) (drop m (seat_text telling next))
-        ∙ ap (λ t. concat (told_pieces telling pieces traces) ++ t) (take-append-drop m (seat_text telling next)) ∙ sym all;
+    part = append_assoc (concat (shown_pieces telling pieces traces)) (take m (seat_text telling next)) (drop m (seat_text telling next))
+        ∙ ap (λ t. concat (shown_pieces telling pieces traces) ++ t) (take-append-drop m (seat_text telling next)) ∙ sym all;
     last = take m (seat_text telling next);
     before = ap (λ t. t ++ take m (seat_text telling next)) (sym earlier);
-    grows = omega (arith, some, ap length earlier, ap length all ∙ length-append (concat (told_pieces telling pieces traces)) (seat_text telling next));
+    grows = omega (arith, some, ap length earlier, ap length all ∙ length-append (concat (shown_pieces telling pieces traces)) (seat_text telling next));
     there = there;
     stands = stands_with (take m (seat_text telling next)) e;
   }
@@ -190,8 +192,8 @@ module _ {F : Type 0} (telling : ShowSteps) (g : Story) (whole after : EndingOf)
       machine_stands : StandsClosed s next.machine
       machine_stands = subst (λ q. StandsClosed q next.machine) last seated.machine
 
-      all : text_of (with_shown_steps telling whole (first_lines n first.lines)) ≡ concat (told_pieces telling pieces traces) ++ seat_text telling next
-      all = ap (λ e. text_of (told_ending telling e)) read_all ∙ text_shown telling g after s next pieces traces each shows machine_stands plays
+      all : text_of (with_shown_steps telling whole (first_lines n first.lines)) ≡ concat (shown_pieces telling pieces traces) ++ seat_text telling next
+      all = ap (λ e. text_of (shown_ending telling e)) read_all ∙ text_shown telling g after s next pieces traces each shows machine_stands plays
 
   -- The reading has ended for good, and no more was shown.
   halts : (most : ℕ) → n ≤ most → (halt : Halt) → PlayHalts after halt next pieces traces → new ≡ mid →
@@ -200,17 +202,17 @@ module _ {F : Type 0} (telling : ShowSteps) (g : Story) (whole after : EndingOf)
       let e = stopped.1 [] in (
         n,
         few,
-        told_run telling e.0,
+        shown_run telling e.0,
         same_lines telling e.0 ∙ e.4,
         record {
-          reading = ap (told_ending telling) (read_all ∙ e.1) ∙ halts_told telling halt e.0;
+          reading = ap (shown_ending telling) (read_all ∙ e.1) ∙ halts_told telling halt e.0;
           there = there;
           stands = stands_with [] (same ∙ shown_nothing mid)
-              ∙ ap (advanced first n) (append-nil (concat (told_pieces telling pieces traces)) ∙ sym (told_is telling e.0 pieces traces e.2 e.3));
+              ∙ ap (with_lines_taken first n) (append-nil (concat (shown_pieces telling pieces traces)) ∙ sym (told_is telling e.0 pieces traces e.2 e.3));
         },
       )
 
-  pub comes_to : (most : ℕ) → n ≤ most → (o : Option PlayEnd) → Told mid new (seat_text telling next) s o →
+  pub comes_to : (most : ℕ) → n ≤ most → (o : Option PlayEnd) → ShowsStep mid new (seat_text telling next) s o →
       WalksTo telling g whole most first new next n o
   comes_to most few None told =
       let at : PlaysTo g after (step.Waits told.0) next pieces traces = subst (λ q. PlaysTo g after q next pieces traces) told.1 plays in
@@ -223,20 +225,20 @@ module _ {F : Type 0} (telling : ShowSteps) (g : Story) (whole after : EndingOf)
         goes_on = λ more. whole_after more ∙ at.1.1 more;
         there = there;
         stands = stands_with (seat_text telling next) told.2
-            ∙ ap (advanced first n) (sym (pieces_more telling next pieces traces at.0 each at.1.0));
+            ∙ ap (with_lines_taken first n) (sym (pieces_more telling next pieces traces at.0 each at.1.0));
       }
   comes_to most few (Some end.Ended) told =
       let at : PlaysTo g after step.Ended next pieces traces = subst (λ q. PlaysTo g after q next pieces traces) told.0 plays in
       let r : Run = run_at next (pieces ++ next.piece ∷ []) (traces ++ at.0 ∷ []) [] in (
         n,
         few,
-        told_run telling r,
+        shown_run telling r,
         same_lines telling r,
         record {
-          reading = ap (told_ending telling) (read_all ∙ at.1.1 []) ∙ halts_told telling halt.Over r;
+          reading = ap (shown_ending telling) (read_all ∙ at.1.1 []) ∙ halts_told telling halt.Over r;
           there = there;
           stands = stands_with (seat_text telling next) told.1
-              ∙ ap (advanced first n) (sym (told_more telling next pieces traces at.0 each at.1.0));
+              ∙ ap (with_lines_taken first n) (sym (told_more telling next pieces traces at.0 each at.1.0));
         },
       )
   comes_to most few (Some (end.Spent kind)) told =
@@ -272,14 +274,14 @@ pub walks_on : {F : Type 0} (telling : ShowSteps) (g : Story) (whole : EndingOf)
     (w : IsWalking telling g whole first now seat n) → n < most → IsSeated seat → IsSeated next → next.last ≡ s →
     now.lines ≡ line ∷ mid.lines → given ≡ take 255 line → mid ≡ record now { lines = mid.lines; asked = now.asked + 1 } →
     PlaysTo g (λ more. going_on_from g w.prompt (reverse seat.machine.frames) (run_at seat w.pieces w.traces (given ∷ more))) s next w.pieces w.traces →
-    Told mid new (seat_text telling next) s o → WalksTo telling g whole most first new next (suc n) o
+    ShowsStep mid new (seat_text telling next) s o → WalksTo telling g whole most first new next (suc n) o
 walks_on telling g whole most n first now mid new seat next given line s o w few seated then_seated last lines cut took plays told =
     comes_to telling g whole (λ more. going_on_from g w.prompt (reverse seat.machine.frames) (run_at seat w.pieces w.traces (given ∷ more)))
     (suc n) first mid new next s w.pieces w.traces w.each last then_seated
     (one_more telling g whole n first now mid seat given line w lines cut)
     (whole_after telling g whole n first now mid seat given line w lines cut)
     (text_so_far telling g whole n first now seat w seated)
-    (λ part e. stands_after first now mid new n (concat (told_pieces telling w.pieces w.traces)) part line w.stands lines took e)
+    (λ part e. stands_after first now mid new n (concat (shown_pieces telling w.pieces w.traces)) part line w.stands lines took e)
     plays most (omega (arith, few)) o told
 
 module _ {F : Type 0} (telling : ShowSteps) (g : Story) (whole : EndingOf) (most n : ℕ) (first now new : Standing) (seat : PlayerView F)
@@ -309,22 +311,22 @@ long_walk telling g whole most n first now seat w seated all =
 
 -- ---- the first piece ----
 
-pub first_stands : (old new : Standing) (part : List ℕ) → new ≡ record old { shown = old.shown ++ part } → new ≡ advanced old 0 part
+pub first_stands : (old new : Standing) (part : List ℕ) → new ≡ record old { shown = old.shown ++ part } → new ≡ with_lines_taken old 0 part
 first_stands old new part e = let a : old.asked + 0 ≡ old.asked = omega arith in e ∙ rw a refl
 
 -- After piece 0 the walk is at the first prompt, or has ended this way.
 pub walk_begins : {F : Type 0} (telling : ShowSteps) (g : Story) (whole : EndingOf) (most : ℕ) (old new : Standing) (seat : PlayerView F) (s : Step)
     (o : Option PlayEnd) → IsSeated seat → seat.last ≡ s →
-    PlaysTo g whole s seat [] [] → Told old new (seat_text telling seat) s o → WalksTo telling g whole most old new seat 0 o
+    PlaysTo g whole s seat [] [] → ShowsStep old new (seat_text telling seat) s o → WalksTo telling g whole most old new seat 0 o
 walk_begins telling g whole most old new seat s o seated last plays told =
     comes_to telling g whole whole 0 old old new seat s [] [] (steps_none telling) last seated (omega arith) (λ more. refl) (sym (told_none telling))
-    (λ part e. first_stands old new part e ∙ ap (λ t. advanced old 0 (t ++ part)) (sym (told_none telling)))
+    (λ part e. first_stands old new part e ∙ ap (λ t. with_lines_taken old 0 (t ++ part)) (sym (told_none telling)))
     plays most (omega arith) o told
 
 -- A player that was new has played piece 0.
 pub walk_starts : {F : Type 0} (telling : ShowSteps) (g : Story) (seed most : ℕ) (old new : Standing) (fresh seat : PlayerView F) (s : Step)
     (o : Option PlayEnd) → IsNew fresh seed → IsSeated seat → seat.last ≡ s →
-    PlaysTo g (reading g fresh.world.seed) s seat [] [] → Told old new (seat_text telling seat) s o →
+    PlaysTo g (reading g fresh.world.seed) s seat [] [] → ShowsStep old new (seat_text telling seat) s o →
     WalksTo telling g (reading g seed) most old new seat 0 o
 walk_starts telling g seed most old new fresh seat s o is seated last plays told =
     let at : fresh.world.seed ≡ seed = ap (λ (w : World). w.seed) is.world in

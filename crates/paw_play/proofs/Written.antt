@@ -4,8 +4,8 @@ use Rattle.std.specs.Prelude.{◌-◌}
 use Rattle.paw_base.specs.Bytes.{zeros}
 use Rattle.paw_reading.specs.Turn.{Ending, pieces_of}
 use Rattle.paw_journal.specs.Session.{Digests, Shown, recover, recover_by, base_length, state_length, made_session}
-use Rattle.paw_journal.specs.Session.{committed}
-use Rattle.paw_state.specs.Record.{last_piece}
+use Rattle.paw_journal.specs.Session.{session_committed}
+use Rattle.paw_state.specs.State.{last_piece}
 use Rattle.paw_play.specs.Session.{state_after, IsKept}
 use Rattle.paw_play.specs.Walk.{first_lines}
 use Rattle.paw_play.specs.Played.{PlayedSession}
@@ -30,9 +30,9 @@ piece_is : (digests : Digests) (events : ℕ) (e : Ending) (state piece : List �
 piece_is digests events e state piece k = shown_piece_is digests state piece (state_after events e) (last_piece (pieces_of e)) k.shown
 
 committed_same : (state base piece last old bytes : List ℕ) → state ≡ base → piece ≡ last → old ≡ bytes →
-    committed state piece old ≡ committed base last bytes
+    session_committed state piece old ≡ session_committed base last bytes
 committed_same state base piece last old bytes e f g =
-    ap (λ x. committed x piece old) e ∙ ap (λ x. committed base x old) f ∙ ap (λ x. committed base last x) g
+    ap (λ x. session_committed x piece old) e ∙ ap (λ x. session_committed base x old) f ∙ ap (λ x. session_committed base last x) g
 
 pub made_same : (digests : Digests) (state base piece last : List ℕ) → state ≡ base → piece ≡ last →
     made_session digests state piece ≡ made_session digests base last
@@ -41,7 +41,7 @@ made_same digests state base piece last e f = ap (λ x. made_session digests x p
 -- One commit more.
 pub more_bytes : (s : PlayedSession) (n : ℕ) (lines : List (List ℕ)) (state piece begun old new : List ℕ) →
     IsKept s.digests (s.before + suc n) (s.whole (first_lines (suc n) lines)) (Shown s.digests state piece) →
-    new ≡ committed (state ++ zeros (base_length - state_length)) piece old → old ≡ store_bytes_after s lines n begun →
+    new ≡ session_committed (state ++ zeros (base_length - state_length)) piece old → old ≡ store_bytes_after s lines n begun →
     new ≡ store_bytes_after s lines (suc n) begun
 more_bytes s n lines state piece begun old new k wrote before =
     let e : Ending = s.whole (first_lines (suc n) lines) in

@@ -18,13 +18,13 @@ use Rattle.paw_reading.specs.Turn.{WaitsAt, reading, pieces_of}
 use Rattle.paw_reading.specs.Bounds.{ValidStory}
 use Rattle.paw_journal.specs.Session.{Digests, IsUnmade, recover}
 use Rattle.paw_state.specs.State.{State, IsValidState, FitsFields}
-use Rattle.paw_state.specs.Record.{last_piece, state_at}
+use Rattle.paw_state.specs.State.{last_piece, state_at}
 use Rattle.paw_play.specs.declared.PlayEnd.{PlayEnd}
 use Rattle.paw_play.specs.declared.PlayEnd.TheVariants as end
 use Rattle.paw_play.specs.Walk.{end_halt, first_lines}
 use Rattle.paw_play.specs.Session.{IsOfStory}
 use Rattle.paw_play.specs.Stands.{Stands, IsPlayedWith, reading_since}
-use Rattle.paw_play.specs.Played.{PlayedSession, ShowsState, begun, from_lines, going_on}
+use Rattle.paw_play.specs.Played.{PlayedSession, ShowsState, session_begun, from_lines, going_on}
 use Rattle.paw_play.specs.Keeping.{KeptBy, InPlay, InNewSession}
 use Rattle.paw_play.specs.Play.{store_bytes, NotYet, NewSession, GoesOn}
 
@@ -52,7 +52,7 @@ StandingGoesOn =
 -- stand for those and these.
 pub record KeptLinesStand : Type 0 where
   pub first : (g : Story) (seed : Seed) (lines : Lines) (name : Name) (n : ℕ) (bytes : Bytes) →
-      n ≤ length lines → n ≤ EVENT_LIMIT → KeptBy (begun g seed name) lines n bytes →
+      n ≤ length lines → n ≤ EVENT_LIMIT → KeptBy (session_begun g seed name) lines n bytes →
       Stands g seed (first_lines n lines) bytes
   pub later : (g : Story) (seed : Seed) (es lines : Lines) (digests : Digests) (name : Name) (n : ℕ)
       (bytes : Bytes) → IsOfStory g digests → n ≤ length lines → length es + n ≤ EVENT_LIMIT →
@@ -128,7 +128,7 @@ GoesOnUntil s r = PlaysUntil (InPlay s r.old) (GoesOn s r.old) r
 -- The first round: the game is played from its start, over a file that is missing or empty.
 abbrev pub IsFirstRound : Story → Seed → Round → Type 0
 IsFirstRound g seed r = BeginsOver [] r
-    × PlaysUntil (InNewSession (begun g seed r.name) r.old) (NewSession (begun g seed r.name) r.old) r
+    × PlaysUntil (InNewSession (session_begun g seed r.name) r.old) (NewSession (session_begun g seed r.name) r.old) r
 
 -- A later round: the session of these bytes is resumed, and goes on after whatever lines they stand for.
 abbrev pub IsLaterRound : Story → Seed → Bytes → Round → Type 0

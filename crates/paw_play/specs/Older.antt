@@ -5,8 +5,9 @@ use Rattle.paw_base.specs.declared.limits.TheConstants.{EVENT_LIMIT}
 use Rattle.paw_effects.specs.Story.{Story}
 use Rattle.paw_reading.specs.Turn.{Ending, reading, pieces_of}
 use Rattle.paw_reading.specs.Saving.{NeverSaves}
-use Rattle.paw_journal.specs.Session.{Digests, Shown, recover, chosen, slot, slot_version, form_length, first_length}
-use Rattle.paw_state.specs.Record.{last_piece}
+use Rattle.paw_journal.specs.Session.{Digests, Shown, recover, slot_in_use, slot, slot_version, form_length}
+use Rattle.paw_journal.specs.Session.{first_length}
+use Rattle.paw_state.specs.State.{last_piece}
 use Rattle.paw_play.specs.Session.{IsOfStory, state_after, IsPlayed}
 use Rattle.paw_play.specs.Stands.{Stands, IsPlayedWith}
 
@@ -15,7 +16,7 @@ use Rattle.paw_play.specs.Stands.{Stands, IsPlayedWith}
 -- reading ended after this number of lines.
 pub record KeepsAsOlder (digests : Digests) (events : ℕ) (e : Ending) (bytes : Bytes) : Type 0 where
   pub played : IsPlayed e
-  pub first : form_length (slot_version (slot (chosen bytes) bytes)) ≡ first_length
+  pub first : form_length (slot_version (slot (slot_in_use bytes) bytes)) ≡ first_length
   pub state : Bytes
   pub shown : recover bytes ≡ Shown digests state (last_piece (pieces_of e))
   pub same : take first_length state ≡ take first_length (state_after events e)

@@ -1,7 +1,7 @@
 -- How playing with a session ends, what it leaves, and what stands at each moment of it.
 use Rattle.std.specs.Prelude.{take, ◌-◌, ◌≡◌, ◌≢◌, ◌⊎◌, ℕ, suc, ◌<◌, ◌≤◌, [], length, None, false, Some}
 use Rattle.paw_base.specs.Bytes.{Bytes, Name, Text, zeros}
-use Rattle.paw_stage.specs.Stage.{Standing, Unattached, file_bytes, made_if_missing, opened}
+use Rattle.paw_stage.specs.Stage.{Standing, Unattached, file_bytes, made_if_missing, with_store_opened}
 use Rattle.paw_stage.specs.Moments.{Moment}
 use Rattle.paw_stage.specs.Across.{IsOneOf}
 use Rattle.paw_stage.specs.declared.StageCall.{StageCall}
@@ -20,7 +20,7 @@ use Rattle.paw_state.specs.State.{State}
 use Rattle.paw_state.specs.Fit.{Fit, Unfit}
 use Rattle.paw_play.specs.declared.PlayEnd.{PlayEnd}
 use Rattle.paw_play.specs.declared.PlayEnd.TheVariants as end
-use Rattle.paw_play.specs.Walk.{end_halt, EndingOf, text_for, advanced, Walks}
+use Rattle.paw_play.specs.Walk.{end_halt, EndingOf, text_for, with_lines_taken, Walks}
 use Rattle.paw_play.specs.Session.{story_digests, IsOfStory}
 use Rattle.paw_play.specs.Played.{PlayedSession, from_state, ShowsState}
 use Rattle.paw_play.specs.Keeping.{StaysAttached, LeavesStore}
@@ -35,7 +35,7 @@ with_store now old = record old { files = now.files; attached = now.attached; di
 abbrev pub Uncommitted : EndingOf → ℕ → Standing → Standing → Type 0
 Uncommitted whole most old new =
     (n : ℕ) × (n < most) × (suc n ≤ length old.lines)
-    × (new ≡ advanced (with_store new old) (suc n) (text_for whole old.lines n))
+    × (new ≡ with_lines_taken (with_store new old) (suc n) (text_for whole old.lines n))
 
 -- The lines that were taken and the text that was shown, by how playing on ended: as for a walk, except that a commit
 -- may fail, and that memory is never lacking.
@@ -58,7 +58,7 @@ store_bytes s name = file_bytes s name
 
 -- What stands once the store of this name is attached.
 abbrev pub attached_to : Standing → Name → Standing
-attached_to old name = opened name old
+attached_to old name = with_store_opened name old
 
 -- A moment at which the store isn't attached yet: nothing was asked or shown, and no file has changed, except that the
 -- store's file may be there now, empty.
@@ -88,7 +88,7 @@ pub data NewSession (s : PlayedSession) (old new : Standing) : PlayEnd → Type 
   occupied : 0 < length (store_bytes old s.name) → new ≡ attached_to old s.name →
       NewSession s old new (end.Occupied (length (store_bytes old s.name)))
   -- The store is empty: the session is made in it and played.
-  plays_in : (o : PlayEnd) → store_bytes old s.name ≡ [] → MadeAndPlayed s (attached_to old s.name) new o →
+  starts_play : (o : PlayEnd) → store_bytes old s.name ≡ [] → MadeAndPlayed s (attached_to old s.name) new o →
       NewSession s old new o
 
 -- ---- a session that is resumed ----
@@ -129,9 +129,9 @@ pub data Resumed (g : Story) (digests : Digests) (name : Name) (old new : Standi
 pub data PlaysAgain (g : Story) (name : Name) (old new : Standing) : PlayEnd → Type 0 where
   unattached : Unattached old new → PlaysAgain g name old new (end.Outside call.Attach)
   unread : new ≡ attached_to old name → PlaysAgain g name old new (end.Outside call.Read)
-  wanting : new ≡ attached_to old name → PlaysAgain g name old new end.Memory
+  without_memory : new ≡ attached_to old name → PlaysAgain g name old new end.Memory
   -- The store has no session of this story.
   refused : (r : JournalRefusal) → Refuses (story_digests g) (store_bytes old name) r → new ≡ attached_to old name →
       PlaysAgain g name old new (end.Refused r)
-  plays_up : (o : PlayEnd) (digests : Digests) → IsOfStory g digests →
+  resumes_play : (o : PlayEnd) (digests : Digests) → IsOfStory g digests →
       Resumed g digests name (attached_to old name) new o → PlaysAgain g name old new o

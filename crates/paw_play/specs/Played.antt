@@ -20,8 +20,8 @@ pub record PlayedSession : Type 0 where
   pub name : Name
 
 -- The session of a story that is begun with this seed.
-abbrev pub begun : Story → Seed → Name → PlayedSession
-begun g seed name = record { whole = reading g seed; before = 0; digests = story_digests g; name = name }
+abbrev pub session_begun : Story → Seed → Name → PlayedSession
+session_begun g seed name = record { whole = reading g seed; before = 0; digests = story_digests g; name = name }
 
 -- The session of a story that goes on after these lines: its reading begins with their last piece.
 abbrev pub from_lines : Story → Seed → Lines → Digests → Name → PlayedSession
@@ -62,5 +62,5 @@ pub record ShowsState (g : GameLists) (digests : Digests) (bytes : Bytes) (st : 
 pub data GoesOnFrom (g : Story) (name : Name) (bytes : Bytes) : PlayedSession → Type 0 where
   from_shown : (st : State) (piece : Text) (digests : Digests) → IsOfStory g digests →
       ShowsState g.game digests bytes st piece → GoesOnFrom g name bytes (from_state g st piece digests name)
-  behind : (seed : Seed) (es : Lines) → IsPlayedWith g seed es → (stands : Stands g seed es bytes) →
+  from_played : (seed : Seed) (es : Lines) → IsPlayedWith g seed es → (stands : Stands g seed es bytes) →
       GoesOnFrom g name bytes (from_lines g seed es stands.digests name)

@@ -11,7 +11,7 @@ use Rattle.paw_reading.specs.Turn.{Ending, WaitsAt, Halted, pieces_of}
 use Rattle.paw_journal.specs.Session.{Digests, BelongsTo, Recovered, Shown}
 use Rattle.paw_state.specs.State.{State}
 use Rattle.paw_state.specs.State.{state_bytes}
-use Rattle.paw_state.specs.Record.{last_piece, state_at}
+use Rattle.paw_state.specs.State.{last_piece, state_at}
 
 -- The digests of a story: that of its game, and that of its routines.
 abbrev pub story_digests : Story → Digests

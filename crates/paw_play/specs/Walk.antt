@@ -30,14 +30,14 @@ abbrev pub first_lines : ℕ → Lines → Lines
 first_lines n lines = map (take LINE_LIMIT) (take n lines)
 
 -- What stands once n more lines were taken, and this text was shown besides; all else stays.
-abbrev pub advanced : Standing → ℕ → Text → Standing
-advanced old n text = record old { lines = drop n old.lines; asked = old.asked + n; shown = old.shown ++ text }
+abbrev pub with_lines_taken : Standing → ℕ → Text → Standing
+with_lines_taken old n text = record old { lines = drop n old.lines; asked = old.asked + n; shown = old.shown ++ text }
 
 -- The first n lines were taken, the reading of them ends this way, and the text of its closed pieces was shown.
 pub record TakesLines (whole : EndingOf) (old new : Standing) (n : ℕ) (e : Ending) : Type 0 where
   pub reading : whole (first_lines n old.lines) ≡ e
   pub there : n ≤ length old.lines
-  pub stands : new ≡ advanced old n (text_of e)
+  pub stands : new ≡ with_lines_taken old n (text_of e)
 
 -- The text of the reading of the first n lines.
 abbrev pub text_for : EndingOf → Lines → ℕ → Text
@@ -58,7 +58,7 @@ pub record PartShown (whole : EndingOf) (old new : Standing) (n : ℕ) : Type 0 
   pub before : shown ≡ text_before whole old.lines n ++ last
   pub grows : length (text_before whole old.lines n) < length (text_for whole old.lines n)
   pub there : n ≤ length old.lines
-  pub stands : new ≡ advanced old n shown
+  pub stands : new ≡ with_lines_taken old n shown
 
 -- The first n lines were taken, and the reading of them waits.
 abbrev pub WalkWaits : EndingOf → Standing → Standing → ℕ → Type 0

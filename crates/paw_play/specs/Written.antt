@@ -2,8 +2,8 @@
 use Rattle.std.specs.Prelude.{ℕ, zero, suc, ◌+◌, ◌-◌, [], ◌∷◌, ◌++◌}
 use Rattle.paw_base.specs.Bytes.{Bytes, Lines, zeros}
 use Rattle.paw_reading.specs.Turn.{Ending, pieces_of}
-use Rattle.paw_journal.specs.Session.{base_length, state_length, made_session, committed}
-use Rattle.paw_state.specs.Record.{last_piece}
+use Rattle.paw_journal.specs.Session.{base_length, state_length, made_session, session_committed}
+use Rattle.paw_state.specs.State.{last_piece}
 use Rattle.paw_play.specs.Session.{state_after}
 use Rattle.paw_play.specs.Walk.{first_lines}
 use Rattle.paw_play.specs.Played.{PlayedSession}
@@ -23,5 +23,5 @@ bytes_before s (b ∷ bytes) = b ∷ bytes
 abbrev pub store_bytes_after : PlayedSession → Lines → ℕ → Bytes → Bytes
 store_bytes_after s lines zero bytes = bytes
 store_bytes_after s lines (suc n) bytes =
-    committed (base_after (s.before + suc n) (s.whole (first_lines (suc n) lines)))
+    session_committed (base_after (s.before + suc n) (s.whole (first_lines (suc n) lines)))
     (last_piece (pieces_of (s.whole (first_lines (suc n) lines)))) (store_bytes_after s lines n bytes)

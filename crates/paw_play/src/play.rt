@@ -11,7 +11,7 @@ ghost use Rattle.paw_routines.specs.Routines.{HaveAnswers};
 ghost use Rattle.paw_routines.specs.Measure.{measure};
 ghost use Rattle.paw_journal.specs.inner.Session.{digests_of};
 ghost use Rattle.paw_journal.specs.inner.Journal.{IsAtRest, KeptIn};
-ghost use Rattle.paw_play.specs.Played.{begun};
+ghost use Rattle.paw_play.specs.Played.{session_begun};
 ghost use Rattle.paw_play.specs.Keeping.{InPlay, InNewSession};
 ghost use Rattle.paw_play.specs.Play.{NotYet, PlaysOn, MadeAndPlayed, NewSession, store_bytes};
 ghost use Rattle.paw_play.specs.inner.OnTheWay.{EachStory, EachStarting, Begins, IsRestingStore, begun_with};
@@ -65,7 +65,7 @@ pub(crate) fn play_lines<S: Stage, T: Tables, F: Fn(u8, u8) -> u8>(
     }
 }
 
-/// Plays the piece before the first line; makes a session with it in the attached store, which is empty, and shows it.
+// Plays the piece before the first line; makes a session with it in the attached store, which is empty, and shows it.
 fn make_session<S: Stage, T: Tables, F: Fn(u8, u8) -> u8>(
     stage: &mut S,
     player: &mut Player<'_, T, F>,
@@ -105,7 +105,7 @@ fn make_session<S: Stage, T: Tables, F: Fn(u8, u8) -> u8>(
     )
 }
 
-/// Makes what a new session is played with, and plays it in the attached store, which is empty.
+// Makes what a new session is played with, and plays it in the attached store, which is empty.
 fn play_in<S: Stage, T: Tables, F: Fn(u8, u8) -> u8>(
     alloc: Global,
     stage: &mut S,
@@ -160,10 +160,12 @@ pub fn play_loop<S: Stage, T: Tables, F: Fn(u8, u8) -> u8>(
     ensures serves { FailsOnlyBy S.Stage session_calls (call_of_end result) stage.old stage.new }
     ensures refused { IsNotForCall result }
     ensures plays { IfTelling S.Stage stage.old stage.new (λ old new.
-        EachStory F.Fn routines.now (T.game tables.now) (λ g. NewSession (begun g seed name.now) old new result)) }
+        EachStory F.Fn routines.now (T.game tables.now)
+        (λ g. NewSession (session_begun g seed name.now) old new result)) }
     ensures any_moment { IfTelling S.Stage stage.old stage.new (λ old new.
         EachStory F.Fn routines.now (T.game tables.now) (λ g. store_bytes old name.now ≡ [] →
-        InTwoParts S.Stage stage.old stage.new (NotYet name.now old) (InNewSession (begun g seed name.now) old))) }
+        InTwoParts S.Stage stage.old stage.new (NotYet name.now old)
+        (InNewSession (session_begun g seed name.now) old))) }
 {
     let at = match attach(stage, name) {
         Ok(at) => at,

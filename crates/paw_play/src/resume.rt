@@ -26,13 +26,14 @@ use crate::show::show;
 use paw_effects::act::Prompt;
 use paw_game::tables::Tables;
 use paw_journal::{Journal, JournalRefusal, Room, attach};
+use paw_reading::places::Halt;
 use paw_routines::routines::Routines;
 use paw_stage::{Stage, StageCall};
 use paw_state::read_state;
 use paw_turn::Player;
 use std::alloc::Global;
 
-/// Shows the last piece of a session again. None where the session waits for a line; otherwise how playing it ends.
+// Shows the last piece of a session again. None where the session waits for a line; otherwise how playing it ends.
 fn show_again<S: Stage>(stage: &mut S, piece: &[u8], prompt: Prompt) -> Option<PlayEnd>
     ensures serves { FailsOnlyBy S.Stage play_calls (failed_so_far result) stage.old stage.new }
     ensures refused { IfSome result IsNotForCall }
@@ -43,13 +44,13 @@ fn show_again<S: Stage>(stage: &mut S, piece: &[u8], prompt: Prompt) -> Option<P
         return Some(PlayEnd::Outside(StageCall::Show));
     }
     if prompt == Prompt::Over {
-        Some(PlayEnd::Ended)
+        Some(crate::end_of(Halt::Over))
     } else {
         None
     }
 }
 
-/// How playing ends where no session is found.
+// How playing ends where no session is found.
 fn not_found(refusal: JournalRefusal) -> PlayEnd
     ensures value { result ≡ end_of refusal }
 {
@@ -62,7 +63,7 @@ fn not_found(refusal: JournalRefusal) -> PlayEnd
     }
 }
 
-/// Resumes the session of the attached store, whose state and piece are in the room.
+// Resumes the session of the attached store, whose state and piece are in the room.
 fn play_recovered<S: Stage, T: Tables, F: Fn(u8, u8) -> u8>(
     alloc: Global,
     stage: &mut S,

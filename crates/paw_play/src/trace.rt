@@ -17,7 +17,7 @@ use paw_base::rows::condact_row;
 use paw_base::steps::{StepRow, Steps};
 use std::alloc::Global;
 
-/// Puts a number in decimal.
+// Puts a number in decimal.
 fn put_number(text: &mut Piece, number: u32) -> bool
     ensures puts { Puts text.old text.new result (decimal number) }
 {
@@ -25,7 +25,7 @@ fn put_number(text: &mut Piece, number: u32) -> bool
     text.push(digits.format(number).as_bytes())
 }
 
-/// Puts the name of a condact.
+// Puts the name of a condact.
 fn put_name(text: &mut Piece, code: u8) -> bool
     ensures puts { Puts text.old text.new result (name_of code) }
 {
@@ -35,7 +35,7 @@ fn put_name(text: &mut Piece, code: u8) -> bool
     }
 }
 
-/// Puts the address of a condact.
+// Puts the address of a condact.
 fn put_address(text: &mut Piece, table: u8, entry: u16, at: u8) -> bool
     ensures puts { Puts text.old text.new result (step_address table entry at) }
     ensures short { length (step_address table entry at) ≤ 13 }
@@ -47,7 +47,7 @@ fn put_address(text: &mut Piece, table: u8, entry: u16, at: u8) -> bool
         && put_number(text, u32::from(at))
 }
 
-/// Puts yes, or no for a condition that failed.
+// Puts yes, or no for a condition that failed.
 fn put_answer(text: &mut Piece, yes: bool) -> bool
     ensures puts { Puts text.old text.new result (answer_text yes) }
 {
@@ -58,7 +58,7 @@ fn put_answer(text: &mut Piece, yes: bool) -> bool
     }
 }
 
-/// Puts the line of a step, if it fits.
+// Puts the line of a step, if it fits.
 fn put_line(text: &mut Piece, step: StepRow) -> bool
     ensures puts { Puts text.old text.new result (step_line step) }
     ensures short { length (step_line step) ≤ 27 }
@@ -69,7 +69,7 @@ fn put_line(text: &mut Piece, step: StepRow) -> bool
         && put_answer(text, step.yes)
 }
 
-/// Puts the line of a step, which has at most 27 bytes.
+// Puts the line of a step, which has at most 27 bytes.
 fn put_step(text: &mut Piece, step: StepRow)
     requires room { length text.old + 27 ≤ PIECE_LIMIT }
     ensures line { text.new ≡ text.old ++ step_line step }
@@ -78,7 +78,7 @@ fn put_step(text: &mut Piece, step: StepRow)
     let _fits = put_line(text, step);
 }
 
-/// Puts the number of further steps, if there are any.
+// Puts the number of further steps, if there are any.
 fn put_more(text: &mut Piece, more: u32) -> bool
     ensures puts { Puts text.old text.new result (more_line more) }
 {
@@ -88,21 +88,21 @@ fn put_more(text: &mut Piece, more: u32) -> bool
     text.push(b"[") && put_number(text, more) && text.push(b" more]\n")
 }
 
-/// The steps that have a line: the first 1,000. `Steps::rows` gives no more, but no clause of it says so: this cut
-/// does.
-fn told_steps(steps: &[StepRow]) -> &[StepRow]
+// The steps that have a line: the first 1,000. `Steps::rows` gives no more, but no clause of it says so: this cut
+// does.
+fn steps_to_show(steps: &[StepRow]) -> &[StepRow]
     ensures value { result.now ≡ take STEP_LIMIT steps.now }
     ensures few { length result.now ≤ STEP_LIMIT }
 {
     &steps[..STEP_LIMIT.min(steps.len())]
 }
 
-/// Writes the text of steps.
+// Writes the text of steps.
 fn write_steps(text: &mut Piece, steps: &Steps)
     ensures text { text.new ≡ kept_text steps.now }
 {
     text.clear();
-    for step in told_steps(steps.rows()) {
+    for step in steps_to_show(steps.rows()) {
         put_step(text, *step);
     }
     // This fits too: at most 1,000 lines of at most 27 bytes stand before it, and a piece may hold 65,535.

@@ -12,7 +12,7 @@ ghost use Rattle.paw_stage.specs.Moments.{InShow};
 ghost use Rattle.paw_turn.specs.inner.Player.{IsSeated};
 ghost use Rattle.paw_play.specs.Walk.{EndingOf, Walks};
 ghost use Rattle.paw_play.specs.inner.Telling.{seat_text, with_shown_steps};
-ghost use Rattle.paw_play.specs.inner.OnTheWay.{EachStory, IsWalking, StillPlays, WalksTo, Told, refusal_of};
+ghost use Rattle.paw_play.specs.inner.OnTheWay.{EachStory, IsWalking, StillPlays, WalksTo, ShowsStep, end_if_no_piece};
 ghost use Rattle.paw_play.specs.Calls.{walk_calls};
 ghost use Rattle.paw_play.specs.inner.Calls.{IsNotForCall, call_of_end, failed_so_far};
 
@@ -30,7 +30,7 @@ use std::alloc::Global;
 /// The end of playing at a line that brings no piece, because play ended before it was closed. None where it brings
 /// one.
 pub(crate) fn end_without_piece(step: Step) -> Option<PlayEnd>
-    ensures value { result ≡ refusal_of step }
+    ensures value { result ≡ end_if_no_piece step }
     ensures fine { failed_so_far result ≡ None }
 {
     match halt_of(step) {
@@ -39,10 +39,10 @@ pub(crate) fn end_without_piece(step: Step) -> Option<PlayEnd>
     }
 }
 
-/// Shows the player's last piece after its preface, as one text.
-///
-/// # Errors
-/// Failed where a show failed; a first part of the text was shown then.
+// Shows the player's last piece after its preface, as one text.
+//
+// # Errors
+// Failed where a show failed; a first part of the text was shown then.
 fn show_last<P: Preface, S: Stage, T: Tables, F: Fn(u8, u8) -> u8>(
     preface: &mut P,
     stage: &mut S,
@@ -73,7 +73,7 @@ pub(crate) fn show_step<P: Preface, S: Stage, T: Tables, F: Fn(u8, u8) -> u8>(
     ensures serves { FailsOnlyBy S.Stage walk_calls (failed_so_far result) stage.old stage.new }
     ensures refused { IfSome result IsNotForCall }
     ensures meaning { IfTelling S.Stage stage.old stage.new (λ old new.
-        Told old new (seat_text P.telling player.now) step result) }
+        ShowsStep old new (seat_text P.telling player.now) step result) }
     ensures time { AtEachMoment S.Stage stage.old stage.new (λ s. InShow s (seat_text P.telling player.now)) }
 {
     if let Some(end) = end_without_piece(step) {
@@ -83,13 +83,13 @@ pub(crate) fn show_step<P: Preface, S: Stage, T: Tables, F: Fn(u8, u8) -> u8>(
         return Some(PlayEnd::Outside(StageCall::Show));
     }
     if step == Step::Ended {
-        Some(PlayEnd::Ended)
+        Some(end_of(Halt::Over))
     } else {
         None
     }
 }
 
-/// Asks for a line, takes it, and shows the piece that it brings.
+// Asks for a line, takes it, and shows the piece that it brings.
 fn walk_line<P: Preface, S: Stage, T: Tables, F: Fn(u8, u8) -> u8>(
     preface: &mut P,
     stage: &mut S,
@@ -117,7 +117,7 @@ fn walk_line<P: Preface, S: Stage, T: Tables, F: Fn(u8, u8) -> u8>(
     }
 }
 
-/// Takes lines, at most this many, until the game is over or no line is left.
+// Takes lines, at most this many, until the game is over or no line is left.
 fn walk_lines<P: Preface, S: Stage, T: Tables, F: Fn(u8, u8) -> u8>(
     preface: &mut P,
     stage: &mut S,

@@ -5,20 +5,21 @@ use Rattle.std.specs.Prelude.{OnOk}
 use Rattle.std.specs.List.{flat_map}
 use Rattle.std.proofs.lemmas.Grind.{flat_map-append}
 use Rattle.std.proofs.lemmas.List.{append_assoc, append-nil, take_more, map-append, length-take-le}
-use Rattle.paw_print.specs.Canonical.{numbered, with_line_end, written}
+use Rattle.paw_print.specs.Canonical.{numbered_lines, with_line_end, with_line_ends}
 
 -- More lines.
-pub written_more : (a b c z : List ℕ) (xs ys : List (List ℕ)) → b ≡ a ++ written xs → c ≡ b ++ z → z ≡ written ys → c ≡ a ++ written (xs ++ ys)
+pub written_more : (a b c z : List ℕ) (xs ys : List (List ℕ)) → b ≡ a ++ with_line_ends xs → c ≡ b ++ z → z ≡ with_line_ends ys →
+    c ≡ a ++ with_line_ends (xs ++ ys)
 written_more a b c z xs ys first second is =
     second
     ∙ ap (λ (t : List ℕ). t ++ z) first
-    ∙ append_assoc a (written xs) z
-    ∙ ap (λ (t : List ℕ). a ++ (written xs ++ t)) is
+    ∙ append_assoc a (with_line_ends xs) z
+    ∙ ap (λ (t : List ℕ). a ++ (with_line_ends xs ++ t)) is
     ∙ ap (λ (t : List ℕ). a ++ t) (sym (flat_map-append with_line_end xs ys))
 
 -- The same where the last step may have failed.
-pub written_last : {T E : Type 0} (r : Result T E) (a b c z : List ℕ) (xs ys : List (List ℕ)) → b ≡ a ++ written xs
-    → OnOk r (c ≡ b ++ z) → z ≡ written ys → OnOk r (c ≡ a ++ written (xs ++ ys))
+pub written_last : {T E : Type 0} (r : Result T E) (a b c z : List ℕ) (xs ys : List (List ℕ)) → b ≡ a ++ with_line_ends xs
+    → OnOk r (c ≡ b ++ z) → z ≡ with_line_ends ys → OnOk r (c ≡ a ++ with_line_ends (xs ++ ys))
 written_last (Ok _) a b c z xs ys first second is = written_more a b c z xs ys first second is
 written_last (Err _) a b c z xs ys first second is = tt
 
@@ -28,55 +29,57 @@ take_next {A} xs i x h is = sym (take_more xs i x h ∙ ap (λ (y : A). take i x
 
 -- A line for each row.
 pub map_more : {A : Type 0} (f : A → List ℕ) (before : List (List ℕ)) (xs : List A) (i : ℕ) (x : A) (a b c : List ℕ) → i < length xs → x ≡ get_or xs i x
-    → b ≡ a ++ written (before ++ map f (take i xs)) → c ≡ b ++ with_line_end (f x) → c ≡ a ++ written (before ++ map f (take (i + 1) xs))
+    → b ≡ a ++ with_line_ends (before ++ map f (take i xs)) → c ≡ b ++ with_line_end (f x) → c ≡ a ++ with_line_ends (before ++ map f (take (i + 1) xs))
 map_more {A} f before xs i x a b c h is first second =
     written_more a b c (with_line_end (f x)) (before ++ map f (take i xs)) (f x ∷ []) first second (sym (append-nil (with_line_end (f x))))
-    ∙ ap (λ (ls : List (List ℕ)). a ++ written ls)
+    ∙ ap (λ (ls : List (List ℕ)). a ++ with_line_ends ls)
     (append_assoc before (map f (take i xs)) (f x ∷ [])
     ∙ ap (λ (ls : List (List ℕ)). before ++ ls) (sym (map-append f (take i xs) (x ∷ [])))
     ∙ ap (λ (ys : List A). before ++ map f ys) (take_next xs i x h is))
 
 -- Lines for each row.
 pub rows_more : {A : Type 0} (g : A → List (List ℕ)) (before : List (List ℕ)) (xs : List A) (i : ℕ) (x : A) (a b c : List ℕ) → i < length xs → x ≡ get_or xs i x
-    → b ≡ a ++ written (before ++ flat_map g (take i xs)) → c ≡ b ++ written (g x) → c ≡ a ++ written (before ++ flat_map g (take (i + 1) xs))
+    → b ≡ a ++ with_line_ends (before ++ flat_map g (take i xs)) → c ≡ b ++ with_line_ends (g x) →
+    c ≡ a ++ with_line_ends (before ++ flat_map g (take (i + 1) xs))
 rows_more {A} g before xs i x a b c h is first second =
-    written_more a b c (written (g x)) (before ++ flat_map g (take i xs)) (g x) first second refl
-    ∙ ap (λ (ls : List (List ℕ)). a ++ written ls)
+    written_more a b c (with_line_ends (g x)) (before ++ flat_map g (take i xs)) (g x) first second refl
+    ∙ ap (λ (ls : List (List ℕ)). a ++ with_line_ends ls)
     (append_assoc before (flat_map g (take i xs)) (g x)
     ∙ ap (λ (ls : List (List ℕ)). before ++ (flat_map g (take i xs) ++ ls)) (sym (append-nil (g x)))
     ∙ ap (λ (ls : List (List ℕ)). before ++ ls) (sym (flat_map-append g (take i xs) (x ∷ [])))
     ∙ ap (λ (ys : List A). before ++ flat_map g ys) (take_next xs i x h is))
 
 pub numbered-push : {A : Type 0} (g : ℕ → A → List (List ℕ)) (n : ℕ) (xs : List A) (x : A)
-    → numbered g n (xs ++ x ∷ []) ≡ numbered g n xs ++ g (n + length xs) x
+    → numbered_lines g n (xs ++ x ∷ []) ≡ numbered_lines g n xs ++ g (n + length xs) x
 numbered-push g n [] x =
     let e : n + 0 ≡ n = omega arith in
     append-nil (g n x) ∙ ap (λ k. g k x) (sym e)
 numbered-push g n (y ∷ ys) x =
     let e : suc n + length ys ≡ n + suc (length ys) = omega arith in
     ap (λ (ls : List (List ℕ)). g n y ++ ls) (numbered-push g (suc n) ys x)
-    ∙ sym (append_assoc (g n y) (numbered g (suc n) ys) (g (suc n + length ys) x))
-    ∙ ap (λ k. (g n y ++ numbered g (suc n) ys) ++ g k x) e
+    ∙ sym (append_assoc (g n y) (numbered_lines g (suc n) ys) (g (suc n + length ys) x))
+    ∙ ap (λ k. (g n y ++ numbered_lines g (suc n) ys) ++ g k x) e
 
 numbered-take : {A : Type 0} (g : ℕ → A → List (List ℕ)) (xs : List A) (i : ℕ) (x : A) → i < length xs
-    → numbered g 0 (take i xs ++ x ∷ []) ≡ numbered g 0 (take i xs) ++ g i x
+    → numbered_lines g 0 (take i xs ++ x ∷ []) ≡ numbered_lines g 0 (take i xs) ++ g i x
 numbered-take {A} g xs i x h =
     let e : 0 + length (take i xs) ≡ i = zero-add (length (take i xs)) ∙ length-take-le i xs (omega arith) in
-    numbered-push g 0 (take i xs) x ∙ ap (λ k. numbered g 0 (take i xs) ++ g k x) e
+    numbered-push g 0 (take i xs) x ∙ ap (λ k. numbered_lines g 0 (take i xs) ++ g k x) e
 
 -- Lines for each row and its number.
 pub numbered_more : {A : Type 0} (g : ℕ → A → List (List ℕ)) (before : List (List ℕ)) (xs : List A) (i : ℕ) (x : A)
     (a b c : List ℕ) → i < length xs → x ≡ get_or xs i x
-    → b ≡ a ++ written (before ++ numbered g 0 (take i xs)) → c ≡ b ++ written (g i x) → c ≡ a ++ written (before ++ numbered g 0 (take (i + 1) xs))
+    → b ≡ a ++ with_line_ends (before ++ numbered_lines g 0 (take i xs)) → c ≡ b ++ with_line_ends (g i x) →
+    c ≡ a ++ with_line_ends (before ++ numbered_lines g 0 (take (i + 1) xs))
 numbered_more {A} g before xs i x a b c h is first second =
-    written_more a b c (written (g i x)) (before ++ numbered g 0 (take i xs)) (g i x) first second refl
-    ∙ ap (λ (ls : List (List ℕ)). a ++ written ls)
-    (append_assoc before (numbered g 0 (take i xs)) (g i x)
+    written_more a b c (with_line_ends (g i x)) (before ++ numbered_lines g 0 (take i xs)) (g i x) first second refl
+    ∙ ap (λ (ls : List (List ℕ)). a ++ with_line_ends ls)
+    (append_assoc before (numbered_lines g 0 (take i xs)) (g i x)
     ∙ ap (λ (ls : List (List ℕ)). before ++ ls) (sym (numbered-take g xs i x h))
-    ∙ ap (λ (ys : List A). before ++ numbered g 0 ys) (take_next xs i x h is))
+    ∙ ap (λ (ys : List A). before ++ numbered_lines g 0 ys) (take_next xs i x h is))
 
 -- Rows of which a part is printed.
 pub numbered-map : {A B : Type 0} (g : ℕ → B → List (List ℕ)) (part : A → B) (n : ℕ) (xs : List A)
-    → numbered g n (map part xs) ≡ numbered (λ k x. g k (part x)) n xs
+    → numbered_lines g n (map part xs) ≡ numbered_lines (λ k x. g k (part x)) n xs
 numbered-map g part n [] = refl
 numbered-map g part n (x ∷ xs) = ap (λ (ls : List (List ℕ)). g n (part x) ++ ls) (numbered-map g part (suc n) xs)

@@ -14,13 +14,13 @@ use Rattle.paw_base.specs.Condacts.{name_of, first_kind, second_kind, is_indirec
 use Rattle.paw_game.specs.declared.parts.Word.{Word}
 
 -- Tokens, each after one space.
-abbrev pub behind_spaces : Tokens → Line
-behind_spaces tokens = flat_map (λ t. 32 ∷ t) tokens
+abbrev pub after_spaces : Tokens → Line
+after_spaces tokens = flat_map (λ t. 32 ∷ t) tokens
 
 -- Tokens in a row: the first, and then the others, each after one space.
-abbrev pub spaced : Tokens → Line
-spaced [] = []
-spaced (t ∷ ts) = t ++ behind_spaces ts
+abbrev pub tokens_spaced : Tokens → Line
+tokens_spaced [] = []
+tokens_spaced (t ∷ ts) = t ++ after_spaces ts
 
 -- ---- words ----
 
@@ -104,4 +104,4 @@ first_tokens ws c =
 -- The line of a condact: its name and its parameters, each after one space.
 abbrev pub condact_line : List Word → Condact → Line
 condact_line ws c =
-    behind_spaces (name_of c.code ∷ (first_tokens ws c ++ parameter_tokens ws (second_kind c.code) c.b))
+    after_spaces (name_of c.code ∷ (first_tokens ws c ++ parameter_tokens ws (second_kind c.code) c.b))

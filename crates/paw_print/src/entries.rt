@@ -4,9 +4,9 @@ ghost use Rattle.std.specs.Prelude.{◌≡◌, ◌++◌, ◌∷◌, [], OnOk, co
 ghost use Rattle.std.specs.List.{AllByRecursion};
 ghost use Rattle.paw_base.specs.declared.words.TheConstants.{NOUN_CLASS};
 ghost use Rattle.paw_base.specs.Condacts.{first_kind, is_indirect};
-ghost use Rattle.paw_print.specs.Lines.{behind_spaces, condact_line, value_token, verb_token};
-ghost use Rattle.paw_print.specs.Lines.{first_tokens, parameter_tokens, spaced};
-ghost use Rattle.paw_print.specs.Canonical.{with_line_end, entry_lines, numbered, table_lines, written};
+ghost use Rattle.paw_print.specs.Lines.{after_spaces, condact_line, value_token, verb_token};
+ghost use Rattle.paw_print.specs.Lines.{first_tokens, parameter_tokens, tokens_spaced};
+ghost use Rattle.paw_print.specs.Canonical.{with_line_end, entry_lines, numbered_lines, table_lines, with_line_ends};
 ghost use Rattle.paw_print.specs.inner.Known.{IsKnown, IsKnownEntry, IsKnownTable};
 
 use crate::rows::{Written, end_line, write_flag, write_number, write_token};
@@ -17,7 +17,7 @@ use paw_base::rows::{ParamKind, condact_row};
 use paw_base::words::{ADJECTIVE_CLASS, ADVERB_CLASS, NOUN_CLASS, PREPOSITION_CLASS};
 use paw_game::parts::{Entry, Table};
 
-/// Writes a parameter after one space; nothing where the condact has none.
+// Writes a parameter after one space; nothing where the condact has none.
 fn write_parameter(
     vocabulary: &WordsByValue,
     kind: ParamKind,
@@ -25,7 +25,7 @@ fn write_parameter(
     out: &mut Vec<u8>,
 ) -> Written
     ensures writes { OnOk result
-        (out.new.items ≡ out.old.items ++ behind_spaces (parameter_tokens vocabulary.now kind value)) }
+        (out.new.items ≡ out.old.items ++ after_spaces (parameter_tokens vocabulary.now kind value)) }
 {
     match kind {
         ParamKind::Absent => Ok(()),
@@ -37,7 +37,7 @@ fn write_parameter(
     }
 }
 
-/// Whether a condact is indirect.
+// Whether a condact is indirect.
 fn is_indirect(condact: Condact) -> bool
     requires known { IsKnown condact }
     ensures value { result ≡ is_indirect condact.code }
@@ -45,7 +45,7 @@ fn is_indirect(condact: Condact) -> bool
     INDIRECT <= condact.code
 }
 
-/// Writes the first parameter of a condact, which is of this kind where the condact isn't indirect.
+// Writes the first parameter of a condact, which is of this kind where the condact isn't indirect.
 fn write_first(
     vocabulary: &WordsByValue,
     kind: ParamKind,
@@ -55,7 +55,7 @@ fn write_first(
     requires known { IsKnown condact }
     requires kind { kind ≡ first_kind condact.code }
     ensures writes { OnOk result
-        (out.new.items ≡ out.old.items ++ behind_spaces (first_tokens vocabulary.now condact)) }
+        (out.new.items ≡ out.old.items ++ after_spaces (first_tokens vocabulary.now condact)) }
 {
     if is_indirect(condact) {
         write_flag(condact.a, out)
@@ -64,7 +64,7 @@ fn write_first(
     }
 }
 
-/// Writes the line of a condact.
+// Writes the line of a condact.
 fn write_condact(vocabulary: &WordsByValue, condact: Condact, out: &mut Vec<u8>) -> Written
     requires known { IsKnown condact }
     ensures writes { OnOk result
@@ -77,11 +77,11 @@ fn write_condact(vocabulary: &WordsByValue, condact: Condact, out: &mut Vec<u8>)
     end_line(out)
 }
 
-/// Writes condacts, a line for each.
+// Writes condacts, a line for each.
 fn write_condacts(vocabulary: &WordsByValue, condacts: &[Condact], out: &mut Vec<u8>) -> Written
     requires known { AllByRecursion IsKnown condacts.now }
     ensures writes { OnOk result
-        (out.new.items ≡ out.old.items ++ written (map (condact_line vocabulary.now) condacts.now)) }
+        (out.new.items ≡ out.old.items ++ with_line_ends (map (condact_line vocabulary.now) condacts.now)) }
 {
     for condact in condacts {
         write_condact(vocabulary, *condact, out)?;
@@ -89,10 +89,10 @@ fn write_condacts(vocabulary: &WordsByValue, condacts: &[Condact], out: &mut Vec
     Ok(())
 }
 
-/// Writes the line of an entry's words.
+// Writes the line of an entry's words.
 fn write_head(vocabulary: &WordsByValue, entry: &Entry, out: &mut Vec<u8>) -> Written
     ensures writes { OnOk result
-        (out.new.items ≡ out.old.items ++ with_line_end (spaced (verb_token vocabulary.now entry.now.verb
+        (out.new.items ≡ out.old.items ++ with_line_end (tokens_spaced (verb_token vocabulary.now entry.now.verb
         ∷ value_token vocabulary.now NOUN_CLASS entry.now.noun ∷ []))) }
 {
     vocabulary.write_verb(entry.verb, out)?;
@@ -100,26 +100,27 @@ fn write_head(vocabulary: &WordsByValue, entry: &Entry, out: &mut Vec<u8>) -> Wr
     end_line(out)
 }
 
-/// Writes an entry: its words, and its condacts.
+// Writes an entry: its words, and its condacts.
 fn write_entry(vocabulary: &WordsByValue, entry: &Entry, out: &mut Vec<u8>) -> Written
     requires known { IsKnownEntry entry.now }
-    ensures writes { OnOk result (out.new.items ≡ out.old.items ++ written (entry_lines vocabulary.now entry.now)) }
+    ensures writes { OnOk result (out.new.items
+        ≡ out.old.items ++ with_line_ends (entry_lines vocabulary.now entry.now)) }
 {
     write_head(vocabulary, entry, out)?;
     write_condacts(vocabulary, &entry.condacts.rows, out)
 }
 
-/// Writes the header of a table.
+// Writes the header of a table.
 fn write_table_header(number: usize, out: &mut Vec<u8>) -> Written
     ensures writes { OnOk result
-        (out.new.items ≡ out.old.items ++ with_line_end (spaced (codes "/PRO" ∷ decimal number ∷ []))) }
+        (out.new.items ≡ out.old.items ++ with_line_end (tokens_spaced (codes "/PRO" ∷ decimal number ∷ []))) }
 {
     out.extend_from_slice(b"/PRO")?;
     write_number(number, out)?;
     end_line(out)
 }
 
-/// Writes a table: its header, and its entries.
+// Writes a table: its header, and its entries.
 fn write_table(
     vocabulary: &WordsByValue,
     number: usize,
@@ -128,7 +129,7 @@ fn write_table(
 ) -> Written
     requires known { IsKnownTable entries.now }
     ensures writes { OnOk result
-        (out.new.items ≡ out.old.items ++ written (table_lines vocabulary.now number entries.now)) }
+        (out.new.items ≡ out.old.items ++ with_line_ends (table_lines vocabulary.now number entries.now)) }
 {
     write_table_header(number, out)?;
     for entry in entries {
@@ -145,7 +146,7 @@ pub(crate) fn write_tables(
 ) -> Written
     requires known { AllByRecursion IsKnownTable tables.now }
     ensures writes { OnOk result
-        (out.new.items ≡ out.old.items ++ written (numbered (table_lines vocabulary.now) 0 tables.now)) }
+        (out.new.items ≡ out.old.items ++ with_line_ends (numbered_lines (table_lines vocabulary.now) 0 tables.now)) }
 {
     for (number, table) in tables.iter().enumerate() {
         write_table(vocabulary, number, &table.rows, out)?;

@@ -1,8 +1,8 @@
 // The objects of a source.
 
 ghost use Rattle.std.specs.Prelude.{◌≡◌, ◌++◌, ◌∷◌, [], OnOk, decimal};
-ghost use Rattle.paw_print.specs.Lines.{behind_spaces, kind_token, object_tokens, spaced};
-ghost use Rattle.paw_print.specs.Canonical.{with_line_end, objects_lines, written};
+ghost use Rattle.paw_print.specs.Lines.{after_spaces, kind_token, object_tokens, tokens_spaced};
+ghost use Rattle.paw_print.specs.Canonical.{with_line_end, objects_lines, with_line_ends};
 
 use crate::rows::{Written, end_line, write_digits, write_header, write_number, write_token};
 use crate::vocabulary::WordsByValue;
@@ -10,7 +10,7 @@ use paw_base::parts::ObjectFacts;
 use paw_base::words::{ADJECTIVE_CLASS, NOUN_CLASS};
 use paw_game::parts::ObjectRow;
 
-/// The kind of an object: whether it is a container, and whether it may be worn.
+// The kind of an object: whether it is a container, and whether it may be worn.
 fn kind_token(container: bool, wearable: bool) -> &'static [u8]
     ensures value { result.now ≡ kind_token container wearable }
 {
@@ -22,18 +22,18 @@ fn kind_token(container: bool, wearable: bool) -> &'static [u8]
     }
 }
 
-/// Writes the place, the weight and the kind of an object, each after one space.
+// Writes the place, the weight and the kind of an object, each after one space.
 fn write_place_and_kind(facts: &ObjectFacts, out: &mut Vec<u8>) -> Written
     ensures writes { let kind = kind_token facts.now.container facts.now.wearable in
         let tokens = decimal facts.now.start ∷ decimal facts.now.weight ∷ kind ∷ [] in
-        OnOk result (out.new.items ≡ out.old.items ++ behind_spaces tokens) }
+        OnOk result (out.new.items ≡ out.old.items ++ after_spaces tokens) }
 {
     write_number(facts.start as usize, out)?;
     write_number(facts.weight as usize, out)?;
     write_token(kind_token(facts.container, facts.wearable), out)
 }
 
-/// Writes the line of an object.
+// Writes the line of an object.
 fn write_object(
     vocabulary: &WordsByValue,
     number: usize,
@@ -41,7 +41,8 @@ fn write_object(
     out: &mut Vec<u8>,
 ) -> Written
     ensures writes { OnOk result
-        (out.new.items ≡ out.old.items ++ with_line_end (spaced (object_tokens vocabulary.now number facts.now))) }
+        (out.new.items ≡ out.old.items ++ with_line_end
+        (tokens_spaced (object_tokens vocabulary.now number facts.now))) }
 {
     write_digits(number, out)?;
     write_place_and_kind(facts, out)?;
@@ -56,7 +57,8 @@ pub(crate) fn write_objects(
     objects: &[ObjectRow],
     out: &mut Vec<u8>,
 ) -> Written
-    ensures writes { OnOk result (out.new.items ≡ out.old.items ++ written (objects_lines vocabulary.now objects.now)) }
+    ensures writes { OnOk result (out.new.items
+        ≡ out.old.items ++ with_line_ends (objects_lines vocabulary.now objects.now)) }
 {
     write_header(b"/OBJ", out)?;
     for (number, object) in objects.iter().enumerate() {

@@ -2,7 +2,7 @@
 
 ghost use Rattle.std.specs.Prelude.{◌≡◌, ◌++◌, IfOk, OnOk};
 ghost use Rattle.std.specs.List.{AllByRecursion};
-ghost use Rattle.paw_print.specs.Canonical.{canonical_lines, canonical_of, written};
+ghost use Rattle.paw_print.specs.Canonical.{canonical_lines, canonical_of, with_line_ends};
 ghost use Rattle.paw_print.specs.inner.Known.{IsKnownTable};
 
 use crate::entries::write_tables;
@@ -16,10 +16,10 @@ use paw_game::game::Game;
 use paw_game::parts::GameParts;
 use std::alloc::Global;
 
-/// Writes the lines of a canonical source.
+// Writes the lines of a canonical source.
 fn write_game(parts: &GameParts, out: &mut Vec<u8>) -> Written
     requires known { AllByRecursion IsKnownTable parts.now.tables }
-    ensures writes { OnOk result (out.new.items ≡ out.old.items ++ written (canonical_lines parts.now)) }
+    ensures writes { OnOk result (out.new.items ≡ out.old.items ++ with_line_ends (canonical_lines parts.now)) }
 {
     let vocabulary = WordsByValue::new(&parts.words);
     vocabulary.write_words(out)?;

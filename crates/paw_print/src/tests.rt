@@ -27,7 +27,7 @@ const TWO_ROOMS: &str = concat!(
     "/PRO 0\nSING _\n NOTAT 1\n MES 0\n EQ @7 3\n MES @100\n DONE\n* N\n/PRO 1\n/PRO 2\n",
 );
 
-/// One location with an empty text, and three empty tables.
+// One location with an empty text, and three empty tables.
 fn smallest(alloc: Global) -> Result<GameParts, AllocError> {
     Ok(GameParts {
         words: Vec::new(alloc),
@@ -40,7 +40,7 @@ fn smallest(alloc: Global) -> Result<GameParts, AllocError> {
     })
 }
 
-/// Table 0 with these entries, and two empty tables.
+// Table 0 with these entries, and two empty tables.
 fn tables(alloc: Global, entries: Vec<Entry>) -> Result<Vec<Table>, AllocError> {
     Ok(vec![in alloc;
         Table { rows: entries },
@@ -49,7 +49,7 @@ fn tables(alloc: Global, entries: Vec<Entry>) -> Result<Vec<Table>, AllocError> 
     ]?)
 }
 
-/// The game of these parts has this source.
+// The game of these parts has this source.
 fn assert_source(
     rt: &impl Abort,
     alloc: Global,
@@ -62,7 +62,7 @@ fn assert_source(
     Ok(())
 }
 
-/// Two verbs and two nouns, each pair with one value, a message, an object, a location, and an entry of two condacts.
+// Two verbs and two nouns, each pair with one value, a message, an object, a location, and an entry of two condacts.
 fn lantern(alloc: Global) -> Result<GameParts, AllocError> {
     let lamp = ObjectFacts {
         noun: 50,
@@ -92,8 +92,8 @@ fn lantern(alloc: Global) -> Result<GameParts, AllocError> {
     Ok(parts)
 }
 
-/// Two locations with an exit each, a message that ends with a line end, and an entry of five condacts, two of them
-/// indirect.
+// Two locations with an exit each, a message that ends with a line end, and an entry of five condacts, two of them
+// indirect.
 fn two_rooms(alloc: Global) -> Result<GameParts, AllocError> {
     let mut parts = smallest(alloc)?;
     parts.words = vec![in alloc;

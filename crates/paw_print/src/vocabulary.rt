@@ -4,9 +4,9 @@ ghost use Rattle.std.specs.Prelude.{◌≡◌, ◌≤◌, ◌++◌, ◌∷◌, �
 ghost use Rattle.std.specs.List.{position_or_len};
 ghost use Rattle.std.specs.Option.{option_map_or};
 ghost use Rattle.paw_base.specs.declared.words.TheConstants.{PREPOSITION_CLASS};
-ghost use Rattle.paw_print.specs.Lines.{class_name, spelled_letters, spaced};
+ghost use Rattle.paw_print.specs.Lines.{class_name, spelled_letters, tokens_spaced};
 ghost use Rattle.paw_print.specs.Lines.{first_word, value_token, verb_token, word_token};
-ghost use Rattle.paw_print.specs.Canonical.{with_line_end, words_lines, written};
+ghost use Rattle.paw_print.specs.Canonical.{with_line_end, words_lines, with_line_ends};
 ghost use Rattle.paw_print.specs.inner.Words.{TellsFirst};
 
 use crate::rows::{Written, end_line, write_header, write_number, write_token};
@@ -64,7 +64,7 @@ impl<'a> WordsByValue<'a> {
 
     /// Writes the section of the words.
     pub(crate) fn write_words(&self, out: &mut Vec<u8>) -> Written
-        ensures writes { OnOk result (out.new.items ≡ out.old.items ++ written (words_lines self.now)) }
+        ensures writes { OnOk result (out.new.items ≡ out.old.items ++ with_line_ends (words_lines self.now)) }
     {
         write_header(b"/VOC", out)?;
         let words = self.words;
@@ -74,8 +74,8 @@ impl<'a> WordsByValue<'a> {
         Ok(())
     }
 
-    /// The first word of a class with a value, for the classes whose words stand in lines: verbs, adverbs, nouns,
-    /// adjectives and prepositions.
+    // The first word of a class with a value, for the classes whose words stand in lines: verbs, adverbs, nouns,
+    // adjectives and prepositions.
     fn first_word(&self, class: u8, value: u8) -> Option<Word>
         requires class { class ≤ PREPOSITION_CLASS }
         ensures word { result ≡ first_word self.now class value }
@@ -108,7 +108,7 @@ impl<'a> WordsByValue<'a> {
     }
 }
 
-/// The first word of the class with each value.
+// The first word of the class with each value.
 fn first_words(words: &[Word], class: u8) -> [Option<Word>; 256]
     ensures value { TellsFirst result words.now class }
 {
@@ -122,7 +122,7 @@ fn first_words(words: &[Word], class: u8) -> [Option<Word>; 256]
     first
 }
 
-/// Writes a value where words stand: `*` for 1, `_` for 255, and otherwise its word.
+// Writes a value where words stand: `*` for 1, `_` for 255, and otherwise its word.
 fn write_value(value: u8, word: Option<Word>, out: &mut Vec<u8>) -> Written
     ensures writes { OnOk result (out.new.items ≡ out.old.items ++ word_token value word) }
 {
@@ -133,7 +133,7 @@ fn write_value(value: u8, word: Option<Word>, out: &mut Vec<u8>) -> Written
     }
 }
 
-/// Writes the letters of a word; nothing where there is none.
+// Writes the letters of a word; nothing where there is none.
 fn write_letters(word: Option<Word>, out: &mut Vec<u8>) -> Written
     ensures writes { OnOk result (out.new.items ≡ out.old.items ++ option_map_or spelled_letters word []) }
 {
@@ -143,7 +143,7 @@ fn write_letters(word: Option<Word>, out: &mut Vec<u8>) -> Written
     }
 }
 
-/// The letters of a word, without the spaces that fill them up.
+// The letters of a word, without the spaces that fill them up.
 fn letters_of(word: &Word) -> &[u8]
     ensures value { result.now ≡ spelled_letters word.now }
 {
@@ -151,7 +151,7 @@ fn letters_of(word: &Word) -> &[u8]
     &word.letters[..count]
 }
 
-/// How many letters stand before the first space.
+// How many letters stand before the first space.
 fn letter_count(letters: &[u8]) -> usize
     ensures value { result ≡ position_or_len (λ b. b == 32) letters.now }
     ensures within { result ≤ length letters.now }
@@ -159,7 +159,7 @@ fn letter_count(letters: &[u8]) -> usize
     letters.iter().take_while(|letter| **letter != b' ').count()
 }
 
-/// The name of a class of words.
+// The name of a class of words.
 fn class_name(class: u8) -> &'static [u8]
     ensures value { result.now ≡ class_name class }
 {
@@ -174,10 +174,10 @@ fn class_name(class: u8) -> &'static [u8]
     }
 }
 
-/// Writes the line of a word.
+// Writes the line of a word.
 fn write_word(word: &Word, out: &mut Vec<u8>) -> Written
     ensures writes { let tokens = spelled_letters word.now ∷ decimal word.now.value ∷ class_name word.now.class ∷ [] in
-        OnOk result (out.new.items ≡ out.old.items ++ with_line_end (spaced tokens)) }
+        OnOk result (out.new.items ≡ out.old.items ++ with_line_end (tokens_spaced tokens)) }
 {
     out.extend_from_slice(letters_of(word))?;
     write_number(word.value as usize, out)?;

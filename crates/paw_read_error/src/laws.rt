@@ -14,6 +14,6 @@ pub fn answers_tell_the_reading()
 {}
 
 /// Memory may be lacking whatever is read.
-pub fn memory_may_be_wanting()
+pub fn memory_may_be_lacking()
     ensures always { (f : ℕ → ℕ) (r : Result ℕ ℕ) → Gives f (Err unread.Memory) r }
 {}

@@ -4,7 +4,7 @@ use crate::read_error::ReadError;
 use std::alloc::AllocError;
 use std::test::Fail;
 
-/// The first even number; where there is none, the fault is how many numbers there are.
+// The first even number; where there is none, the fault is how many numbers there are.
 fn first_even(numbers: &[u8]) -> Result<u8, ReadError<usize>> {
     for &n in numbers {
         if n % 2 == 0 {

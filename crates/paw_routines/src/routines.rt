@@ -38,7 +38,7 @@ impl<F: Fn(u8, u8) -> u8> Routines<F> {
         }
     }
 
-    /// What routine n gives for each value from 0 to 255.
+    // What routine n gives for each value from 0 to 255.
     fn answers_of(&self, n: u8) -> [u8; 256]
         requires answers { HaveAnswers F.Fn self.now }
         requires is_routine { n < self.now.count }

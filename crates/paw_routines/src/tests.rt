@@ -29,7 +29,7 @@ fn three_routines(rt: HostRuntime) {
     assert_eq!(rt; routines.measure(), measure);
 }
 
-/// A routine that promises its answer only modulo 256.
+// A routine that promises its answer only modulo 256.
 fn count_on(_: u8, x: u8) -> u8
     ensures value { result % 256 ≡ (x + 1) % 256 }
 {

@@ -12,7 +12,7 @@ use Rattle.paw_game.specs.Image.{image}
 use Rattle.paw_lex.specs.Lines.{lines_of}
 use Rattle.paw_read_error.specs.Bind.{◌>>=◌}
 use Rattle.paw_grammar.specs.GrammarState.{Spelt, nothing_yet, game_of}
-use Rattle.paw_grammar.specs.Spells.{after_line, begins_table, fault, at_line, whole, spelled_after, spelled}
+use Rattle.paw_grammar.specs.Spells.{after_line, begins_table, fault, at_line, whole, spelled_after, game_spelled}
 use Rattle.paw_source.specs.inner.Laws.{after_lines, HasFault, HasNone, NamesTheFirst, IsNamedRightly}
 
 found : (p n : ℕ) (d : Spelt) (before : List (List ℕ)) (line : List ℕ) (behind : List (List ℕ)) (e : Spelt)
@@ -35,8 +35,8 @@ found p n d (l ∷ before) line behind e k none here =
 
 -- A source that isn't too long is read line by line.
 short : (source : List ℕ) → length source ≤ SOURCE_LIMIT
-    → spelled source ≡ spelled_after (count_by begins_table (lines_of source)) 0 nothing_yet (lines_of source)
-unfolding spelled
+    → game_spelled source ≡ spelled_after (count_by begins_table (lines_of source)) 0 nothing_yet (lines_of source)
+unfolding game_spelled
 short source h =
     let no : nat_lt SOURCE_LIMIT (length source) ≡ false = grind (arith, nat_tests, h) in
     rw no refl

@@ -5,7 +5,7 @@ use Rattle.std.specs.Option.{ok_or}
 use Rattle.paw_base.specs.declared.fault.SourceKind.{SourceKind}
 use Rattle.paw_base.specs.declared.fault.SourceKind.TheVariants as kind
 use Rattle.paw_read_error.specs.Bind.{◌>>=◌}
-use Rattle.paw_grammar.specs.Tokens.{ended, read_by}
+use Rattle.paw_grammar.specs.Tokens.{end_of_line, read_by}
 use Rattle.paw_grammar.specs.Numbers.{number, in_range, number_with}
 
 -- No fault at a test.
@@ -38,7 +38,7 @@ and_true true b h = (refl, h)
 and_true false b h = absurd cc
 
 -- The line ends.
-pub at_end : {A : Type 0} (ts : List (List ℕ)) (x : Result A SourceKind) (e : A) → (ended ts >>= λ _. x) ≡ Ok e → x ≡ Ok e
+pub at_end : {A : Type 0} (ts : List (List ℕ)) (x : Result A SourceKind) (e : A) → (end_of_line ts >>= λ _. x) ≡ Ok e → x ≡ Ok e
 at_end {A} [] x e h = h
 at_end {A} (t ∷ ts) x e h = absurd cc
 

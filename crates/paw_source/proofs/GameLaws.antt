@@ -21,7 +21,7 @@ use Rattle.paw_grammar.specs.declared.section.Section.{Section}
 use Rattle.paw_grammar.specs.declared.section.Section.TheVariants as section
 use Rattle.paw_grammar.specs.GrammarState.{Spelt, nothing_yet, objects_of, all_exits, game_of}
 use Rattle.paw_grammar.specs.GrammarRows.{bounds_of}
-use Rattle.paw_grammar.specs.Spells.{after_line, begins_table, at_line, fault, whole, spelled_after, spelled}
+use Rattle.paw_grammar.specs.Spells.{after_line, begins_table, at_line, fault, whole, spelled_after, game_spelled}
 use Rattle.paw_source.specs.inner.Laws.{after_lines, DraftsAreValid, SpellsValidGames}
 use Rattle.paw_source.proofs.Faultless.{passes, bound, ok_is}
 use Rattle.paw_source.proofs.TextLaws.{both}
@@ -164,7 +164,7 @@ drafts_are_valid source d h three =
     (nothing_keeps (count_by begins_table (lines_of source))) h) three (omega (arith, counted))
 
 pub spells_valid_games : SpellsValidGames
-unfolding spelled
+unfolding game_spelled
 spells_valid_games source g h =
     let a = passes (nat_lt SOURCE_LIMIT (length source)) (fault 0 kind.TooBig)
     (spelled_after (count_by begins_table (lines_of source)) 0 nothing_yet (lines_of source)) g h in

@@ -8,7 +8,7 @@ use Rattle.paw_base.specs.declared.fault.SourceKind.{SourceKind}
 use Rattle.paw_base.specs.declared.fault.SourceKind.TheVariants as kind
 use Rattle.paw_grammar.specs.declared.section.Section.TheVariants as section
 use Rattle.paw_read_error.specs.Bind.{◌>>=◌}
-use Rattle.paw_grammar.specs.Tokens.{ended}
+use Rattle.paw_grammar.specs.Tokens.{end_of_line}
 use Rattle.paw_grammar.specs.Numbers.{number_below}
 use Rattle.paw_grammar.specs.GrammarState.{Spelt}
 use Rattle.paw_grammar.specs.GrammarHeads.{section_opened, lacks_rows, pro_header}
@@ -27,8 +27,8 @@ pub table_opened : (d e : Spelt) (ts : List (List ℕ)) → pro_header d ts ≡ 
 table_opened d e ts h =
     let made = with_table d in
     let last : Result Spelt SourceKind = cond (lacks_rows d) (Err kind.Missing) (Ok made) in
-    let a = bound (number_below TABLE_LIMIT ts) (λ n. cond (not (eqb n.0 (length d.tables))) (Err kind.Section) (ended n.1 >>= λ _. last)) e h in
-    let rest = ended a.0.1 >>= λ _. last in
+    let a = bound (number_below TABLE_LIMIT ts) (λ n. cond (not (eqb n.0 (length d.tables))) (Err kind.Section) (end_of_line n.1 >>= λ _. last)) e h in
+    let rest = end_of_line a.0.1 >>= λ _. last in
     let b = passes (not (eqb a.0.0 (length d.tables))) kind.Section rest e a.2 in
     let f = passes (lacks_rows d) kind.Missing (Ok made) e (at_end a.0.1 last e b.1) in
     let low = ltb-true a.0.0 TABLE_LIMIT (number_ok (λ n. nat_lt n TABLE_LIMIT) ts a.0 a.1) in

@@ -33,10 +33,10 @@ use Rattle.paw_grammar.specs.declared.bounds.Bounds.{Bounds}
 use Rattle.paw_read_error.specs.Bind.{◌>>=◌}
 use Rattle.paw_grammar.specs.Tokens.{read_by, at_most, at_is_next}
 use Rattle.paw_grammar.specs.Numbers.{number, in_range, number_within, number_below, row_number}
-use Rattle.paw_grammar.specs.Vocabulary.{index_among, word, class, object_kind, declared, word_or_none, verb_word}
+use Rattle.paw_grammar.specs.Vocabulary.{index_among, word, class, object_kind, with_word_declared, word_or_none, verb_word}
 use Rattle.paw_grammar.specs.Vocabulary.{entry_verb, entry_noun}
 use Rattle.paw_grammar.specs.Condacts.{first_place, any_place, place_names, place_up_to, table, parameter}
-use Rattle.paw_grammar.specs.Condacts.{is_indirect_before, flag_behind_at, first_parameter, code_of}
+use Rattle.paw_grammar.specs.Condacts.{is_indirect_before, flag_after_at, first_parameter, code_of}
 use Rattle.paw_grammar.specs.Condacts.{condact, condacts_in, with_more_condacts, more_condacts}
 use Rattle.paw_grammar.specs.GrammarState.{last_or, with_last}
 use Rattle.paw_grammar.specs.GrammarRows.{voc_row, exit_row, object_row, entry_row, no_entry, more_row}
@@ -56,7 +56,7 @@ voc_row_ok ws vs ts kept h =
     bound_then _ (class b.1) _ vs h (λ c c_ok h.
     let made : Word = record { letters = a.0; value = b.0; class = c.0 } in
     let one : is_word made ≡ true = rw (word_ok ts a a_ok, number_ok (is_within LEAST_WORD GREATEST_WORD) a.1 b b_ok, class_ok b.1 c c_ok) refl in
-    declared_ok made ws vs one kept (at_end c.1 (declared made ws) vs h))))
+    declared_ok made ws vs one kept (at_end c.1 (with_word_declared made ws) vs h))))
 
 -- ---- exits
 
@@ -250,7 +250,7 @@ parameter_ok bounds ws g kind.Noun ts x has h = rw has.words (word_or_none_ok ws
 parameter_ok bounds ws g kind.Adjective ts x has h = rw has.words (word_or_none_ok ws ADJECTIVE_CLASS ts x h)
 parameter_ok bounds ws g kind.Preposition ts x has h = rw has.words (word_or_none_ok ws PREPOSITION_CLASS ts x h)
 
-flag_ok : (ts : List (List ℕ)) (x : ℕ × List (List ℕ)) → flag_behind_at ts ≡ Ok x → nat_lt x.0 FLAG_COUNT ≡ true
+flag_ok : (ts : List (List ℕ)) (x : ℕ × List (List ℕ)) → flag_after_at ts ≡ Ok x → nat_lt x.0 FLAG_COUNT ≡ true
 flag_ok ts x h =
     let b = bound (read_by fault.Number (λ t. number (drop 1 t)) ts) (in_range (λ n. nat_lt n FLAG_COUNT)) x h in
     in_range_ok (λ n. nat_lt n FLAG_COUNT) b.0 x b.2

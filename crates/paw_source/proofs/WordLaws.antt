@@ -24,7 +24,7 @@ use Rattle.paw_game.specs.Valid.{is_verb_value, is_word_or_none, is_wildcard}
 use Rattle.paw_game.specs.Tables.{word_of}
 use Rattle.paw_grammar.specs.Tokens.{is_named}
 use Rattle.paw_grammar.specs.Vocabulary.{is_word_token, letters_of, letters_in, word, class_names, index_among}
-use Rattle.paw_grammar.specs.Vocabulary.{class, words_with, declared, in_class, as_verb, known, or_none}
+use Rattle.paw_grammar.specs.Vocabulary.{class, words_with, with_word_declared, in_class, as_verb, declared_word, or_none}
 use Rattle.paw_grammar.specs.Vocabulary.{or_any, word_or_none, verb_word, entry_verb, entry_noun}
 use Rattle.paw_source.proofs.Faultless.{passes, ok_is, some_is, read_ok}
 
@@ -168,7 +168,7 @@ put_words w (u ∷ us) one all =
     ]
 
 -- A word that is declared leaves the words in order, and no more than 2,000.
-pub declared_ok : (w : Word) (ws vs : List Word) → is_word w ≡ true → words_are_valid ws ≡ true → declared w ws ≡ Ok vs → words_are_valid vs ≡ true
+pub declared_ok : (w : Word) (ws vs : List Word) → is_word w ≡ true → words_are_valid ws ≡ true → with_word_declared w ws ≡ Ok vs → words_are_valid vs ≡ true
 declared_ok w ws vs one kept h =
     let p = and_parts (nat_le (length ws) WORD_LIMIT) (list_all is_word ws && words_rise ws) kept in
     let q = and_parts (list_all is_word ws) (words_rise ws) p.1 in
@@ -190,7 +190,7 @@ found_has l (u ∷ us) w h =
       | false ↦ λ e. grind (arith, found_has l us w e)
     ] h
 
-known_has : (ws : List Word) (t : List ℕ) (w : Word) → known ws t ≡ Some w → has_word ws w.class w.value ≡ true
+known_has : (ws : List Word) (t : List ℕ) (w : Word) → declared_word ws t ≡ Some w → has_word ws w.class w.value ≡ true
 known_has ws t w h =
     elim (is_word_token t) as (λ b. cond b (word_of (letters_of t) ws) None ≡ Some w → has_word ws w.class w.value ≡ true) [
       | true ↦ λ e. found_has (letters_of t) ws w e
@@ -231,8 +231,8 @@ verb_has ws v (Some w) from h =
 
 pub verb_word_ok : (ws : List Word) (ts : List (List ℕ)) (x : ℕ × List (List ℕ)) → verb_word ws ts ≡ Ok x → is_verb_value ws x.0 ≡ true
 verb_word_ok ws ts x h =
-    let r = read_ok kind.Word (λ t. as_verb (known ws t)) ts x h in
-    verb_has ws x.0 (known ws r.0) (known_has ws r.0) r.1
+    let r = read_ok kind.Word (λ t. as_verb (declared_word ws t)) ts x h in
+    verb_has ws x.0 (declared_word ws r.0) (known_has ws r.0) r.1
 
 -- `_` is no word, and anything else what it means.
 none_or : (f : List ℕ → Option ℕ) (t : List ℕ) (v : ℕ) (good : Bool) → (f t ≡ Some v → good ≡ true) → or_none f t ≡ Some v → (eqb v NO_WORD || good) ≡ true
@@ -251,16 +251,17 @@ any_or f t v good from h =
 
 pub word_or_none_ok : (ws : List Word) (c : ℕ) (ts : List (List ℕ)) (x : ℕ × List (List ℕ)) → word_or_none ws c ts ≡ Ok x → is_word_or_none ws c x.0 ≡ true
 word_or_none_ok ws c ts x h =
-    let r = read_ok kind.Word (or_none (λ t. in_class c (known ws t))) ts x h in
-    none_or (λ t. in_class c (known ws t)) r.0 x.0 (has_word ws c x.0) (class_has ws c x.0 (known ws r.0) (known_has ws r.0)) r.1
+    let r = read_ok kind.Word (or_none (λ t. in_class c (declared_word ws t))) ts x h in
+    none_or (λ t. in_class c (declared_word ws t)) r.0 x.0 (has_word ws c x.0) (class_has ws c x.0 (declared_word ws r.0) (known_has ws r.0)) r.1
 
 pub entry_verb_ok : (ws : List Word) (ts : List (List ℕ)) (x : ℕ × List (List ℕ)) → entry_verb ws ts ≡ Ok x → (is_wildcard x.0 || is_verb_value ws x.0) ≡ true
 entry_verb_ok ws ts x h =
-    let r = read_ok kind.Word (or_any (λ t. as_verb (known ws t))) ts x h in
-    any_or (λ t. as_verb (known ws t)) r.0 x.0 (is_verb_value ws x.0) (verb_has ws x.0 (known ws r.0) (known_has ws r.0)) r.1
+    let r = read_ok kind.Word (or_any (λ t. as_verb (declared_word ws t))) ts x h in
+    any_or (λ t. as_verb (declared_word ws t)) r.0 x.0 (is_verb_value ws x.0) (verb_has ws x.0 (declared_word ws r.0) (known_has ws r.0)) r.1
 
 pub entry_noun_ok : (ws : List Word) (ts : List (List ℕ)) (x : ℕ × List (List ℕ)) → entry_noun ws ts ≡ Ok x → (is_wildcard x.0 || has_word ws NOUN_CLASS x.0)
     ≡ true
 entry_noun_ok ws ts x h =
-    let r = read_ok kind.Word (or_any (λ t. in_class NOUN_CLASS (known ws t))) ts x h in
-    any_or (λ t. in_class NOUN_CLASS (known ws t)) r.0 x.0 (has_word ws NOUN_CLASS x.0) (class_has ws NOUN_CLASS x.0 (known ws r.0) (known_has ws r.0)) r.1
+    let r = read_ok kind.Word (or_any (λ t. in_class NOUN_CLASS (declared_word ws t))) ts x h in
+    any_or (λ t. in_class NOUN_CLASS (declared_word ws t)) r.0 x.0 (has_word ws NOUN_CLASS x.0)
+    (class_has ws NOUN_CLASS x.0 (declared_word ws r.0) (known_has ws r.0)) r.1

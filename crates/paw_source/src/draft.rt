@@ -73,14 +73,14 @@ impl Model for Draft {
         d.facts.items d.tables.items };
 }
 
-/// A fault of a line.
+// A fault of a line.
 fn fault(kind: SourceKind) -> Result<(), LineError>
     ensures value { result ≡ Err (Fault kind) }
 {
     Err(ReadError::Fault(kind))
 }
 
-/// The section whose header comes next.
+// The section whose header comes next.
 fn next_section(section: Section) -> Section
     ensures value { result ≡ (next_header section).1 }
 {
@@ -96,7 +96,7 @@ fn next_section(section: Section) -> Section
     }
 }
 
-/// The name of the header that comes next.
+// The name of the header that comes next.
 fn next_name(section: Section) -> &'static [u8]
     ensures value { result.now ≡ (next_header section).0 }
 {
@@ -206,7 +206,7 @@ impl Draft {
         self.header(alloc, name, tokens)
     }
 
-    /// Begins the item of this number in the section that is open.
+    // Begins the item of this number in the section that is open.
     fn item(&mut self, alloc: Global, number: u32) -> Result<(), LineError>
         ensures gives { Gives (λ _. self.new) result (item_in self.old.section self.old number) }
     {
@@ -221,7 +221,7 @@ impl Draft {
         }
     }
 
-    /// Begins the text of this number in the section that is open.
+    // Begins the text of this number in the section that is open.
     fn new_text(&mut self, alloc: Global, number: u32) -> Result<(), LineError>
         requires texts { 0 < text_limit self.old.section }
         ensures gives { Gives (λ _. self.new) result (new_text self.old.section self.old number) }
@@ -238,7 +238,7 @@ impl Draft {
         }
     }
 
-    /// Begins the exits of the location of this number; those passed over have none.
+    // Begins the exits of the location of this number; those passed over have none.
     fn new_exits(&mut self, alloc: Global, number: u32) -> Result<(), LineError>
         ensures gives { Gives (λ _. self.new) result (new_exits self.old number) }
     {
@@ -250,7 +250,7 @@ impl Draft {
         Ok(())
     }
 
-    /// Reads a header, which has to be the next in order.
+    // Reads a header, which has to be the next in order.
     fn header(&mut self, alloc: Global, name: &[u8], tokens: &mut Tokens) -> Result<(), LineError>
         ensures gives { Gives (λ _. self.new) result (header self.old name.now tokens.old) }
     {
@@ -260,7 +260,7 @@ impl Draft {
         self.open(alloc, next_section(self.section), tokens)
     }
 
-    /// Opens the next section, by the tokens after the name of its header.
+    // Opens the next section, by the tokens after the name of its header.
     fn open(&mut self, alloc: Global, next: Section, tokens: &mut Tokens) -> Result<(), LineError>
         ensures gives { Gives (λ _. self.new) result (header_of next self.old tokens.old) }
     {
@@ -277,7 +277,7 @@ impl Draft {
         }
     }
 
-    /// Opens a section whose header has no further token.
+    // Opens a section whose header has no further token.
     fn plain_header(&mut self, section: Section, tokens: &mut Tokens) -> Result<(), LineError>
         requires table { HasTable section 0 }
         ensures gives { Gives (λ _. self.new) result (plain_header section self.old tokens.old) }
@@ -288,7 +288,7 @@ impl Draft {
         Ok(())
     }
 
-    /// Opens the section of the exits, which needs a location.
+    // Opens the section of the exits, which needs a location.
     fn con_header(&mut self, tokens: &mut Tokens) -> Result<(), LineError>
         ensures gives { Gives (λ _. self.new) result (con_header self.old tokens.old) }
     {
@@ -301,7 +301,7 @@ impl Draft {
         Ok(())
     }
 
-    /// Opens the next table, whose number the header has; the first one needs a row for each object.
+    // Opens the next table, whose number the header has; the first one needs a row for each object.
     fn pro_header(&mut self, alloc: Global, tokens: &mut Tokens) -> Result<(), LineError>
         ensures gives { Gives (λ _. self.new) result (pro_header self.old tokens.old) }
     {
@@ -345,7 +345,7 @@ impl Draft {
         }
     }
 
-    /// Reads a row of `/CON`: an exit of the location of the last item.
+    // Reads a row of `/CON`: an exit of the location of the last item.
     fn con_row(&mut self, tokens: &mut Tokens) -> Result<(), LineError>
         ensures gives { Gives (λ _. self.new) result (con_row self.old tokens.old) }
     {
@@ -358,7 +358,7 @@ impl Draft {
         exit_row(&self.words, locations, exits, tokens)
     }
 
-    /// Reads a row of `/OBJ`: the facts of the next object.
+    // Reads a row of `/OBJ`: the facts of the next object.
     fn obj_row(&mut self, tokens: &mut Tokens) -> Result<(), LineError>
         ensures gives { Gives (λ _. self.new) result (obj_row self.old tokens.old) }
     {
@@ -370,7 +370,7 @@ impl Draft {
         Ok(())
     }
 
-    /// How many rows of each sort parameters may name.
+    // How many rows of each sort parameters may name.
     fn bounds(&self, tables: u32) -> Bounds
         ensures value { result ≡ bounds_of tables self.now }
         ensures small { AreSmall result }
@@ -384,7 +384,7 @@ impl Draft {
         }
     }
 
-    /// Reads a row of the last table: an entry, or more condacts of its last entry.
+    // Reads a row of the last table: an entry, or more condacts of its last entry.
     fn pro_row(
         &mut self,
         alloc: Global,

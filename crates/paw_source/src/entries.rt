@@ -64,7 +64,7 @@ pub(crate) fn more_row(
     add_condacts(scope, &mut entry.condacts, tokens)
 }
 
-/// Adds the condacts of a line to those of an entry.
+// Adds the condacts of a line to those of an entry.
 fn add_condacts(
     scope: &Scope,
     condacts: &mut Condacts,

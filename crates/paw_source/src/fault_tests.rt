@@ -300,8 +300,8 @@ fn fault_in(alloc: Global, source: &[u8]) -> Result<Option<SourceFault>, Fail> {
     }
 }
 
-/// The parts, one after another.
-fn joined(alloc: Global, parts: &[&str]) -> Result<Vec<u8>, AllocError> {
+// The parts, one after another.
+fn join(alloc: Global, parts: &[&str]) -> Result<Vec<u8>, AllocError> {
     let mut source = Vec::new(alloc);
     for part in parts {
         source.extend_from_slice(part.as_bytes())?;
@@ -319,7 +319,7 @@ fn lines_in(source: &[u8]) -> u32 {
     lines
 }
 
-/// The number of the last line.
+// The number of the last line.
 fn last_line(source: &[u8]) -> u32 {
     let ended = lines_in(source);
     if source.ends_with(b"\n") {
@@ -329,7 +329,7 @@ fn last_line(source: &[u8]) -> u32 {
     }
 }
 
-/// The first text, after what stands before it, whose last line hasn't the first fault or has one of another kind.
+// The first text, after what stands before it, whose last line hasn't the first fault or has one of another kind.
 fn wrong_case(
     alloc: Global,
     before: &[&str],
@@ -370,39 +370,39 @@ fn the_fault_of_the_last_line_is_named(rt: HostRuntime) -> Result<(), Fail> {
 fn the_first_fault_is_named(rt: HostRuntime) -> Result<(), Fail> {
     let alloc = rt.alloc();
     for (before, text, line, kind) in ELSEWHERE {
-        let line = lines_in(&joined(alloc, before)?).saturating_add(line);
+        let line = lines_in(&join(alloc, before)?).saturating_add(line);
         let source = with_lines(alloc, before, text, 1)?;
         assert_eq!(rt; fault_in(alloc, &source)?, Some(SourceFault { line, kind }));
     }
     Ok(())
 }
 
-/// What stands before, and then this number of items.
+// What stands before, and then this number of items.
 fn with_items(alloc: Global, before: &str, count: u32) -> Result<Vec<u8>, AllocError> {
-    let mut source = joined(alloc, &[before])?;
+    let mut source = join(alloc, &[before])?;
     for number in 0..count {
         source.extend_from_slice(format!(in alloc; "/{number}\n")?.as_bytes())?;
     }
     Ok(source)
 }
 
-/// This number of words.
+// This number of words.
 fn with_words(alloc: Global, count: u32) -> Result<Vec<u8>, AllocError> {
-    let mut source = joined(alloc, &["/VOC\n"])?;
+    let mut source = join(alloc, &["/VOC\n"])?;
     for number in 0..count {
         source.extend_from_slice(format!(in alloc; "A{number} 2 verb\n")?.as_bytes())?;
     }
     Ok(source)
 }
 
-/// What stands before, and then a line this number of times.
+// What stands before, and then a line this number of times.
 fn with_lines(
     alloc: Global,
     before: &[&str],
     line: &str,
     count: u32,
 ) -> Result<Vec<u8>, AllocError> {
-    let mut source = joined(alloc, before)?;
+    let mut source = join(alloc, before)?;
     for _ in 0..count {
         source.extend_from_slice(line.as_bytes())?;
     }
@@ -413,7 +413,7 @@ fn with_lines(
 fn too_much_is_too_big(rt: HostRuntime) -> Result<(), Fail> {
     let alloc = rt.alloc();
     let table = &[WORDS, TEXTS, ROWS, "/PRO 0\n_ _\n"];
-    let lines = lines_in(&joined(alloc, table)?);
+    let lines = lines_in(&join(alloc, table)?);
     let text = "a line of twenty-one.\n";
     let messages = "/VOC\n/STX\n/MTX\n";
     let objects = "/VOC\n/STX\n/MTX\n/OTX\n";

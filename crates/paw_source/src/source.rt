@@ -9,7 +9,7 @@ ghost use Rattle.paw_lex.specs.inner.Lines.{line_bytes, LiesIn};
 ghost use Rattle.paw_base.specs.declared.limits.TheConstants.{IMAGE_LIMIT, SOURCE_LIMIT, TABLE_LEAST};
 ghost use Rattle.paw_grammar.specs.Tokens.{is_named};
 ghost use Rattle.paw_grammar.specs.GrammarState.{Spelt, game_of, nothing_yet};
-ghost use Rattle.paw_grammar.specs.Spells.{begins_table, spelled_after, spelled, whole};
+ghost use Rattle.paw_grammar.specs.Spells.{begins_table, spelled_after, game_spelled, whole};
 ghost use Rattle.paw_source.specs.inner.Laws.{after_lines};
 ghost use Rattle.paw_source.specs.inner.Refusals.{ReadsSource, refused_at_line};
 
@@ -27,7 +27,7 @@ use paw_lex::{Line, Lines};
 use paw_read_error::read_error::ReadError;
 use std::alloc::Global;
 
-/// Whether the first token is the header of a table.
+// Whether the first token is the header of a table.
 fn is_pro(tokens: &mut Tokens) -> bool
     ensures value { result ≡ is_named (slice_index_or tokens.old 0 []) (codes "/PRO") }
 {
@@ -37,7 +37,7 @@ fn is_pro(tokens: &mut Tokens) -> bool
     }
 }
 
-/// Whether a line begins with `/` and its first token is `/PRO`.
+// Whether a line begins with `/` and its first token is `/PRO`.
 fn begins_table(source: &[u8], line: &Line) -> bool
     requires span { LiesIn source.now line.now }
     ensures value { result ≡ begins_table (line_bytes source.now line.now) }
@@ -45,7 +45,7 @@ fn begins_table(source: &[u8], line: &Line) -> bool
     begins_with_slash(&source[line.from..line.to]) && is_pro(&mut Tokens::new(source, line))
 }
 
-/// How many lines begin a table.
+// How many lines begin a table.
 fn count_tables(source: &[u8]) -> u32
     requires short { length source.now ≤ SOURCE_LIMIT }
     ensures value { result ≡ count_by begins_table (lines_of source.now) }
@@ -60,7 +60,7 @@ fn count_tables(source: &[u8]) -> u32
     tables
 }
 
-/// The refusal of a source for a line that is refused.
+// The refusal of a source for a line that is refused.
 fn at_line(line: u32, refused: LineError) -> SourceRefusal
     ensures value { result ≡ refused_at_line line refused }
 {
@@ -70,7 +70,7 @@ fn at_line(line: u32, refused: LineError) -> SourceRefusal
     }
 }
 
-/// The game of a draft that has read this number of lines.
+// The game of a draft that has read this number of lines.
 fn whole(alloc: Global, lines: u32, draft: Draft) -> Result<Game, SourceRefusal>
     requires count { lines ≤ SOURCE_LIMIT }
     requires valid { TABLE_LEAST ≤ length draft.tables → Valid (game_of draft) }
@@ -90,7 +90,7 @@ fn whole(alloc: Global, lines: u32, draft: Draft) -> Result<Game, SourceRefusal>
     Ok(game)
 }
 
-/// The game of the lines of a source, of which `tables` begin a table.
+// The game of the lines of a source, of which `tables` begin a table.
 #[tactic(auto, unfolding(paw_grammar::specs::Spells::spelled_after, crate::specs::inner::Laws::after_lines))]
 fn read_lines(alloc: Global, tables: u32, source: &[u8]) -> Result<Game, SourceRefusal>
     requires short { length source.now ≤ SOURCE_LIMIT }
@@ -118,9 +118,9 @@ fn read_lines(alloc: Global, tables: u32, source: &[u8]) -> Result<Game, SourceR
 /// Fault exactly where the source spells none: the line and the kind of its first fault. Line 0 and TooBig stand for a
 /// source of more than 8,388,608 bytes; the number of lines plus one says that table 2 is missing, or, with TooBig,
 /// that the image would have more than 4,194,304 bytes. Memory only where there is none.
-#[tactic(auto, unfolding(paw_grammar::specs::Spells::spelled))]
+#[tactic(auto, unfolding(paw_grammar::specs::Spells::game_spelled))]
 pub fn read_source(alloc: Global, bytes: &[u8]) -> Result<Game, SourceRefusal>
-    ensures value { ReadsSource result (spelled bytes.now) }
+    ensures value { ReadsSource result (game_spelled bytes.now) }
     ensures small { IfOk result (λ game. length (image game) ≤ IMAGE_LIMIT) }
 {
     if bytes.len() > SOURCE_LIMIT {

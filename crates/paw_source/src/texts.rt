@@ -52,7 +52,7 @@ pub(crate) fn text_line(texts: &mut Vec<Text>, begun: bool, line: &[u8]) -> Resu
     join(text, begun, line)
 }
 
-/// Adds a line to a text.
+// Adds a line to a text.
 fn join(text: &mut Text, begun: bool, line: &[u8]) -> Result<(), LineError>
     ensures gives { Gives (λ _. text.new) result (at_most TEXT_LIMIT (with_line begun text.old line.now)) }
 {
@@ -66,7 +66,7 @@ fn join(text: &mut Text, begun: bool, line: &[u8]) -> Result<(), LineError>
     Ok(())
 }
 
-/// Whether a line of this length fits after a text of this length.
+// Whether a line of this length fits after a text of this length.
 fn has_room(text: usize, begun: bool, line: usize) -> bool
     ensures value { result ≡ nat_le (text + (if begun then suc line else line)) TEXT_LIMIT }
 {

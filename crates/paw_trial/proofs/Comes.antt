@@ -19,9 +19,9 @@ use Rattle.paw_play.proofs.Halts.{ends_by_halt}
 use Rattle.paw_play.specs.Walk.{end_halt, first_lines, WalkHalts}
 use Rattle.paw_play.specs.inner.OnTheWay.{end_of_halt}
 use Rattle.paw_play.specs.Stands.{Stands}
-use Rattle.paw_play.specs.Played.{PlayedSession, begun, from_lines, behind}
+use Rattle.paw_play.specs.Played.{PlayedSession, session_begun, from_lines, from_played}
 use Rattle.paw_play.specs.Keeping.{KeptBy}
-use Rattle.paw_play.specs.Play.{PlaysOn, MadeAndPlayed, memory, halts, unmade, plays, unattached, occupied, plays_in}
+use Rattle.paw_play.specs.Play.{PlaysOn, MadeAndPlayed, memory, halts, unmade, plays, unattached, occupied, starts_play}
 use Rattle.paw_play.specs.Play.{NewSession, PlaysAgain, GoesOn}
 use Rattle.paw_play.specs.Play.{store_bytes, attached_to, with_store}
 use Rattle.paw_play.specs.Play as of
@@ -55,13 +55,13 @@ pub ready_stable : (h : Half) (n : ℕ) (m : Memory) → IsReadyFor h n m → Is
 ready_stable half.First n m is = subst (λ (x : Memory). IsStable (standing_of x).disk) (sym is) (record { kept = refl; longest = refl; dirty = refl })
 ready_stable half.Second n m holds = holds.stable
 
--- A trial stops as the reading that has ended so.
+-- A trial stops as the reading does that has ended in this way.
 stops_as : (halt : Halt) (r : Run) → TrialStopsAs (trial_end halt) (Halted halt r)
 stops_as halt.Over r = refl
 stops_as (halt.Spent kind) r = refl
 stops_as (halt.TooDeep table) r = refl
 
--- Where play has ended so a trial stops.
+-- Where play has ended in this way a trial stops.
 stops_by : (halt : Halt) → stop_of (end_of_halt halt) ≡ Some (trial_end halt)
 stops_by halt.Over = refl
 stops_by (halt.Spent kind) = refl
@@ -121,22 +121,22 @@ module _ (n : ℕ) (es lines rest : List (List ℕ)) (all : (es ++ lines) ++ res
 -- ---- the first half ----
 
 module _ (n : ℕ) (old new : Standing) (is : old.lines ≡ first_half n) where
-  made : (o : PlayEnd) → MadeAndPlayed (begun (trial_story n) n trial_store) old new o → HoldsOrStops n (first_half n) new (stop_of o)
+  made : (o : PlayEnd) → MadeAndPlayed (session_begun (trial_story n) n trial_store) old new o → HoldsOrStops n (first_half n) new (stop_of o)
   made _ (memory e) = tt
   made _ (halts o halt r by cut e same) =
       subst (λ x. HoldsOrStops n (first_half n) new x) (sym (stop_halted o halt by))
       (stops_later n [] (trial_lines n) (trial_end halt) refl (subst (TrialStopsAs (trial_end halt)) (sym e) (stops_as halt r)))
   made _ (unmade c w e stays) = tt
   made _ (plays o p) =
-      half_comes n [] (first_half n) (second_half n) (both_halves n) (first_are n) (begun (trial_story n) n trial_store) refl
+      half_comes n [] (first_half n) (second_half n) (both_halves n) (first_are n) (session_begun (trial_story n) n trial_store) refl
       (λ stop fs h. h) (λ fs h. h) (λ k bytes there few kept. begun_stands (trial_story n) n (first_half n) trial_store k bytes there (omega (arith, few)) kept)
       EVENT_LIMIT old new o is p
 
 first_comes : (n : ℕ) (old new : Standing) (o : PlayEnd) → old.lines ≡ first_half n →
-    NewSession (begun (trial_story n) n trial_store) old new o → HoldsOrStops n (first_half n) new (stop_of o)
+    NewSession (session_begun (trial_story n) n trial_store) old new o → HoldsOrStops n (first_half n) new (stop_of o)
 first_comes n old new _ is (unattached u) = tt
 first_comes n old new _ is (occupied some e) = tt
-first_comes n old new _ is (plays_in o empty p) = made n (attached_to old trial_store) new is o p
+first_comes n old new _ is (starts_play o empty p) = made n (attached_to old trial_store) new is o p
 
 -- ---- the second half ----
 
@@ -162,7 +162,7 @@ second_comes n old new o low is stands p =
     subst (λ lines. HoldsOrStops n lines new (stop_of o)) (both_halves n)
     (taken_up n old new is stands o
     (again_goes_on (trial_story n) trial_store old new (from_lines (trial_story n) n (first_half n) stands.digests trial_store) played.valid.game
-    (behind n (first_half n) played stands) o p))
+    (from_played n (first_half n) played stands) o p))
 
 -- ---- either half ----
 

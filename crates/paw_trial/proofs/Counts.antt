@@ -6,7 +6,7 @@ use Rattle.paw_game.specs.Game.{GameLists}
 use Rattle.paw_reading.specs.Turn.{Ending, WaitsAt}
 use Rattle.paw_journal.specs.Session.{Digests, Recovered, Shown, recover, state_length}
 use Rattle.paw_state.specs.State.{State}
-use Rattle.paw_state.specs.Record.{state_at}
+use Rattle.paw_state.specs.State.{state_at}
 use Rattle.paw_state.proofs.EachField.{state_same}
 use Rattle.paw_play.specs.Session.{kept_bytes, IsKept}
 use Rattle.paw_play.specs.Stands.{Stands}

@@ -2,7 +2,7 @@
 use Rattle.std.proofs.Common.{◌≡◌, ℕ, List, ◌++◌, sym, subst}
 use Rattle.paw_effects.specs.Story.{Story}
 use Rattle.paw_reading.specs.Turn.{Ending, WaitsAt, Halted, reading}
-use Rattle.paw_reading.specs.inner.Turn.{followed}
+use Rattle.paw_reading.specs.inner.Turn.{ending_followed}
 use Rattle.paw_reading.proofs.Followed.{going_on_is_reading}
 use Rattle.paw_play.specs.Stands.{ending_since}
 use Rattle.paw_gen.specs.Trial.{trial_lines}
@@ -13,7 +13,7 @@ use Rattle.paw_trial.specs.inner.Trial.{TrialStopsAs}
 use Rattle.paw_trial.specs.inner.Session.{Waits}
 
 -- More lines change nothing.
-stays : (g : Story) (fs : List (List ℕ)) (stop : TrialEnd) (e : Ending) → TrialStopsAs stop e → TrialStopsAs stop (followed g fs e)
+stays : (g : Story) (fs : List (List ℕ)) (stop : TrialEnd) (e : Ending) → TrialStopsAs stop e → TrialStopsAs stop (ending_followed g fs e)
 stays g fs end.Memory e h = tt
 stays g fs stop (Halted halt r) h = h
 stays g fs stop e h = absurd h

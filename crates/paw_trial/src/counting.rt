@@ -18,7 +18,7 @@ use paw_stage::MemoryStage;
 use paw_state::STATE_ROOM;
 use std::alloc::Global;
 
-/// What the bytes of a state, which begin with the flags, count.
+// What the bytes of a state, which begin with the flags, count.
 fn counts_in(state: &[u8; STATE_ROOM]) -> Tally
     ensures value { result ≡ tally_in state.now }
 {

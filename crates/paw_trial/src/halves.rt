@@ -34,7 +34,7 @@ pub(crate) fn new_stage(alloc: Global) -> Result<MemoryStage, NoRoom>
     MemoryStage::new(alloc, CALLS, BYTES)
 }
 
-/// Adds lines to those that are left.
+// Adds lines to those that are left.
 fn add_lines(alloc: Global, stage: &mut MemoryStage, lines: &[Text]) -> Result<(), NoRoom>
     ensures added { OnOk result (stage.new ≡ record stage.old { lines = stage.old.lines ++ lines.now }) }
 {
@@ -44,8 +44,8 @@ fn add_lines(alloc: Global, stage: &mut MemoryStage, lines: &[Text]) -> Result<(
     Ok(())
 }
 
-/// How a trial stops where playing ends this way before its lines are taken: with its halt or, without one, for lack of
-/// memory or of the stage's room.
+// How a trial stops where playing ends this way before its lines are taken: with its halt or, without one, for lack of
+// memory or of the stage's room.
 fn stop_early(end: PlayEnd) -> TrialEnd
     ensures value { result ≡ stop_early end }
 {
@@ -55,7 +55,7 @@ fn stop_early(end: PlayEnd) -> TrialEnd
     }
 }
 
-/// How a trial stops where playing ends this way; None where no line is left.
+// How a trial stops where playing ends this way; None where no line is left.
 fn stop_of(end: PlayEnd) -> Option<TrialEnd>
     ensures value { result ≡ stop_of end }
 {
@@ -73,8 +73,8 @@ fn stop_of(end: PlayEnd) -> Option<TrialEnd>
     }
 }
 
-/// Plays the lines that are left, with no routines: the first half with a new session, and the second with that session
-/// resumed.
+// Plays the lines that are left, with no routines: the first half with a new session, and the second with that session
+// resumed.
 fn play_lines<F: Fn(u8, u8) -> u8>(
     alloc: Global,
     setting: &TrialSetup,

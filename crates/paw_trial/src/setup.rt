@@ -49,7 +49,7 @@ impl Model for TrialSetup {
         × (s.n < 65536) };
 }
 
-/// The image of a game that isn't too long.
+// The image of a game that isn't too long.
 fn image_of(alloc: Global, game: &Game) -> Result<Vec<u8>, NoRoom>
     requires fits { length (image game.now) ≤ IMAGE_LIMIT }
     ensures value { IfOk result (λ v. v.items ≡ image game.now) }

@@ -14,7 +14,7 @@ use paw_gen::{line_count, location_count, object_count};
 use paw_routines::routines::Routines;
 use std::alloc::Global;
 
-/// The line of a trial whose session counts this.
+// The line of a trial whose session counts this.
 fn line_of(alloc: Global, n: u16, tally: Tally) -> Result<String, NoRoom>
     requires tally { IsTallyOf (trial_reading n) tally }
     ensures text { IfOk result (λ line. IsTextOf n (trial_reading n) (string_bytes line)) }
@@ -33,7 +33,7 @@ fn line_of(alloc: Global, n: u16, tally: Tally) -> Result<String, NoRoom>
     Ok(line)
 }
 
-/// Plays both halves, and gives what the session counts then.
+// Plays both halves, and gives what the session counts then.
 fn play_halves(alloc: Global, n: u16) -> Result<Tally, TrialEnd>
     ensures counts { IfOk result (IsTallyOf (trial_reading n)) }
     ensures stops { IfErr result (λ e. TrialStopsAs e (trial_reading n)) }

@@ -13,21 +13,21 @@ unfolding breaks_from
 breaks_from-empty w at before = refl
 
 -- A byte ends its line, or a space is a break, or the line goes on after it.
-pub data Step (w at before b : ℕ) (bs : List ℕ) : Type 0 where
+pub data NextBreak (w at before b : ℕ) (bs : List ℕ) : Type 0 where
   ends_line : eqb b line_feed ≡ true → breaks_from w at before (b ∷ bs) ≡ breaks_from w (suc at) 0 bs
-      → Step w at before b bs
+      → NextBreak w at before b bs
   breaks : eqb b line_feed ≡ false → eqb b space ≡ true → w < before + 1 + word_length bs
-      → breaks_from w at before (b ∷ bs) ≡ at ∷ breaks_from w (suc at) 0 bs → Step w at before b bs
+      → breaks_from w at before (b ∷ bs) ≡ at ∷ breaks_from w (suc at) 0 bs → NextBreak w at before b bs
   goes_on : eqb b line_feed ≡ false → (eqb b space ≡ true → before + 1 + word_length bs ≤ w)
-      → breaks_from w at before (b ∷ bs) ≡ breaks_from w (suc at) (suc before) bs → Step w at before b bs
+      → breaks_from w at before (b ∷ bs) ≡ breaks_from w (suc at) (suc before) bs → NextBreak w at before b bs
 
-pub step : (w at before b : ℕ) (bs : List ℕ) → Step w at before b bs
+pub step : (w at before b : ℕ) (bs : List ℕ) → NextBreak w at before b bs
 unfolding breaks_from
 step w at before b bs =
-    elim (eqb b line_feed) as (λ v. eqb b line_feed ≡ v → Step w at before b bs) [
+    elim (eqb b line_feed) as (λ v. eqb b line_feed ≡ v → NextBreak w at before b bs) [
       | true ↦ λ e. ends_line e (rw e refl)
-      | false ↦ λ e. elim (eqb b space) as (λ v. eqb b space ≡ v → Step w at before b bs) [
-        | true ↦ λ f. elim (ltb w (before + 1 + word_length bs)) as (λ v. ltb w (before + 1 + word_length bs) ≡ v → Step w at before b bs) [
+      | false ↦ λ e. elim (eqb b space) as (λ v. eqb b space ≡ v → NextBreak w at before b bs) [
+        | true ↦ λ f. elim (ltb w (before + 1 + word_length bs)) as (λ v. ltb w (before + 1 + word_length bs) ≡ v → NextBreak w at before b bs) [
           | true ↦ λ g. breaks e f (ltb-true _ _ g) (rw (e, f, g) refl)
           | false ↦ λ g. goes_on e (λ _. ltb-false _ _ g) (rw (e, f, g) refl)
         ] refl

@@ -5,7 +5,7 @@ use Rattle.std.specs.Prelude.{⊤, slice_get, unwrap_or}
 use Rattle.std.specs.List.{onto_first}
 use Rattle.std.proofs.lemmas.Bool.{or_right}
 use Rattle.paw_wrap.specs.FirstFit.{space, line_feed, word_length, breaks_from, with_byte, AreSpaces, AreFewest}
-use Rattle.paw_wrap.proofs.Breaking.{Step, step, breaks_from-empty, word_length-cons}
+use Rattle.paw_wrap.proofs.Breaking.{NextBreak, step, breaks_from-empty, word_length-cons}
 use Rattle.paw_wrap.proofs.LineWidths.{lines, has_space, first_line, lines-line_feed, lines-other, first_line-onto}
 use Rattle.paw_wrap.proofs.LineWidths.{drop-onto, FitsBehind, fits_behind}
 
@@ -86,9 +86,9 @@ fewest w at before other ahead n [] bytes broken begun fit = rw (breaks_from-emp
 fewest w at before other ahead n (b ∷ bs) [] broken begun fit = absurd broken
 fewest w at before other ahead n (b ∷ bs) (c ∷ cs) (inl (same, more)) begun fit =
     elim (step w at before b bs) as (λ _. length (breaks_from w at before (b ∷ bs)) ≤ n + ahead) [
-      | Step.ends_line e r ↦
+      | NextBreak.ends_line e r ↦
           rw r (fewest w (suc at) 0 0 ahead n bs cs more (inl (omega arith)) (after_line_feed w other c cs (ap (λ x. eqb x line_feed) (sym same) ∙ e) fit))
-      | Step.breaks e f g r ↦
+      | NextBreak.breaks e f g r ↦
           let line : eqb c line_feed ≡ false = ap (λ x. eqb x line_feed) (sym same) ∙ e in
           let blank : eqb c space ≡ true = ap (λ x. eqb x space) (sym same) ∙ f in
           rw r (elim begun as (λ _. suc (length (breaks_from w (suc at) 0 bs)) ≤ n + ahead) [
@@ -96,7 +96,7 @@ fewest w at before other ahead n (b ∷ bs) (c ∷ cs) (inl (same, more)) begun 
             | inr one ↦
                 omega (arith, one, fewest w (suc at) 0 (suc other) 0 n bs cs more (inl (omega arith)) (after_other w other c cs line fit))
           ])
-      | Step.goes_on e f r ↦
+      | NextBreak.goes_on e f r ↦
           let line : eqb c line_feed ≡ false = ap (λ x. eqb x line_feed) (sym same) ∙ e in
           let still : (suc before ≤ suc other) ⊎ (1 ≤ ahead) =
           elim begun as (λ _. (suc before ≤ suc other) ⊎ (1 ≤ ahead)) [
@@ -108,10 +108,10 @@ fewest w at before other ahead n (b ∷ bs) (c ∷ cs) (inl (same, more)) begun 
 fewest w at before other ahead n (b ∷ bs) (c ∷ cs) (inr (m, less, was, lf, more)) begun fit =
     let left : FitsBehind w 0 (lines cs) = after_line_feed w other c cs (ap (λ x. eqb x line_feed) lf) fit in
     elim (step w at before b bs) as (λ _. length (breaks_from w at before (b ∷ bs)) ≤ n + ahead) [
-      | Step.ends_line e r ↦ absurd (let never : eqb b line_feed ≡ false = ap (λ x. eqb x line_feed) was in cc)
-      | Step.breaks e f g r ↦
+      | NextBreak.ends_line e r ↦ absurd (let never : eqb b line_feed ≡ false = ap (λ x. eqb x line_feed) was in cc)
+      | NextBreak.breaks e f g r ↦
           rw r (omega (arith, less, fewest w (suc at) 0 0 0 m bs cs more (inl (omega arith)) left))
-      | Step.goes_on e f r ↦
+      | NextBreak.goes_on e f r ↦
           rw r (omega (arith, less, fewest w (suc at) (suc before) 0 1 m bs cs more (inr (omega arith)) left))
     ]
 

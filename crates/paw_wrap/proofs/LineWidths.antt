@@ -3,7 +3,7 @@ use Rattle.std.proofs.Common.{◌≡◌, ℕ, suc, ◌≤◌, ◌+◌, Bool, tru
 use Rattle.std.proofs.Common.{refl, sym, ap, ◌∙◌, inl, inr, arith}
 use Rattle.std.specs.List.{AllByRecursion, list_any, slice_split, onto_first}
 use Rattle.paw_wrap.specs.FirstFit.{space, line_feed, word_length, breaks_from, FitsLine}
-use Rattle.paw_wrap.proofs.Breaking.{Step, step, left_true}
+use Rattle.paw_wrap.proofs.Breaking.{NextBreak, step, left_true}
 use Rattle.paw_wrap.proofs.Undoing.{wrapped, wrapped-kept, wrapped-broken}
 
 abbrev pub lines : List ℕ → List (List ℕ)
@@ -79,9 +79,9 @@ unfolding breaks_from
 first_word w before [] h = omega arith
 first_word w before (b ∷ bs) h =
     elim (step w 0 before b bs) as (λ _. length (first_line (lines (wrapped w before (b ∷ bs)))) ≤ word_length (b ∷ bs)) [
-      | Step.ends_line e r ↦ rw (wrapped-kept w before 0 b bs r, lines-line_feed b (wrapped w 0 bs) e) (omega arith)
-      | Step.breaks e f g r ↦ rw (wrapped-broken w before b bs r) (omega arith)
-      | Step.goes_on e f r ↦
+      | NextBreak.ends_line e r ↦ rw (wrapped-kept w before 0 b bs r, lines-line_feed b (wrapped w 0 bs) e) (omega arith)
+      | NextBreak.breaks e f g r ↦ rw (wrapped-broken w before b bs r) (omega arith)
+      | NextBreak.goes_on e f r ↦
           let more : first_line (lines (wrapped w before (b ∷ bs))) ≡ b ∷ first_line (lines (wrapped w (suc before) bs)) =
           ap (λ bytes. first_line (lines bytes)) (wrapped-kept w before (suc before) b bs r)
           ∙ ap first_line (lines-other b (wrapped w (suc before) bs) e) ∙ first_line-onto b (lines (wrapped w (suc before) bs)) in
@@ -95,8 +95,8 @@ unfolding breaks_from
 wrapped_fits w before [] = record { first = λ never. absurd (cc); rest = tt }
 wrapped_fits w before (b ∷ bs) =
     elim (step w 0 before b bs) as (λ _. FitsBehind w before (lines (wrapped w before (b ∷ bs)))) [
-      | Step.ends_line e r ↦ rw (wrapped-kept w before 0 b bs r) (behind_line_feed w before b (wrapped w 0 bs) e (wrapped_fits w 0 bs))
-      | Step.breaks e f g r ↦ rw (wrapped-broken w before b bs r) (behind_line_feed w before line_feed (wrapped w 0 bs) refl (wrapped_fits w 0 bs))
-      | Step.goes_on e f r ↦ rw (wrapped-kept w before (suc before) b bs r)
+      | NextBreak.ends_line e r ↦ rw (wrapped-kept w before 0 b bs r) (behind_line_feed w before b (wrapped w 0 bs) e (wrapped_fits w 0 bs))
+      | NextBreak.breaks e f g r ↦ rw (wrapped-broken w before b bs r) (behind_line_feed w before line_feed (wrapped w 0 bs) refl (wrapped_fits w 0 bs))
+      | NextBreak.goes_on e f r ↦ rw (wrapped-kept w before (suc before) b bs r)
           (behind_other w before b (word_length bs) (wrapped w (suc before) bs) e (wrapped_fits w (suc before) bs) f (first_word w (suc before) bs))
     ]

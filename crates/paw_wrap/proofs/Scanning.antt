@@ -6,7 +6,7 @@ use Rattle.std.proofs.lemmas.Bool.{eqb-true, lt-ltb, le-ltb, ne_eqb}
 use Rattle.std.proofs.lemmas.List.{get_or-drop, drop-drop, take_all, drop_all}
 use Rattle.std.proofs.lemmas.List.Sums.{passes_at_first}
 use Rattle.paw_wrap.specs.FirstFit.{space, line_feed, ends_word, word_length, breaks_from}
-use Rattle.paw_wrap.proofs.Breaking.{Step, step, left_true, breaks_from-empty, breaks_from-word}
+use Rattle.paw_wrap.proofs.Breaking.{NextBreak, step, left_true, breaks_from-empty, breaks_from-word}
 
 after_line_feed : (w at before b : ℕ) (bs : List ℕ) → b ≡ line_feed → breaks_from w at before (b ∷ bs) ≡ breaks_from w (suc at) 0 bs
 unfolding breaks_from
@@ -122,9 +122,9 @@ inside_from w at before (b ∷ bs) i =
     let more : at + suc (length bs) ≡ suc at + length bs = omega arith in
     elim (step w at before b bs) as
     (λ _. i < length (breaks_from w at before (b ∷ bs)) → get_or (breaks_from w at before (b ∷ bs)) i 0 < at + suc (length bs)) [
-      | Step.ends_line e r ↦ rw (r, more) (inside_from w (suc at) 0 bs i)
-      | Step.breaks e f g r ↦ rw (r, more) (more_inside at (length bs) (breaks_from w (suc at) 0 bs) (inside_from w (suc at) 0 bs) i)
-      | Step.goes_on e f r ↦ rw (r, more) (inside_from w (suc at) (suc before) bs i)
+      | NextBreak.ends_line e r ↦ rw (r, more) (inside_from w (suc at) 0 bs i)
+      | NextBreak.breaks e f g r ↦ rw (r, more) (more_inside at (length bs) (breaks_from w (suc at) 0 bs) (inside_from w (suc at) 0 bs) i)
+      | NextBreak.goes_on e f r ↦ rw (r, more) (inside_from w (suc at) (suc before) bs i)
     ]
 
 -- Each break is an offset of the text.

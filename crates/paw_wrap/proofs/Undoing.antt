@@ -2,7 +2,7 @@
 use Rattle.std.proofs.Common.{◌≡◌, ℕ, suc, true, eqb, List, [], ◌∷◌, map, set, refl, sym, ap, ◌∙◌}
 use Rattle.std.proofs.lemmas.Bool.{eqb-true}
 use Rattle.paw_wrap.specs.FirstFit.{space, line_feed, breaks_from, with_byte}
-use Rattle.paw_wrap.proofs.Breaking.{Step, step, breaks_from-suc}
+use Rattle.paw_wrap.proofs.Breaking.{NextBreak, step, breaks_from-suc}
 
 with_byte-suc : (c x : ℕ) (places bytes : List ℕ) → with_byte c (map suc places) (x ∷ bytes) ≡ x ∷ with_byte c places bytes
 with_byte-suc c x [] bytes = refl
@@ -54,7 +54,7 @@ unfolding breaks_from
 undone w before [] = refl
 undone w before (b ∷ bs) =
     elim (step w 0 before b bs) as (λ _. with_byte space (breaks_from w 0 before (b ∷ bs)) (wrapped w before (b ∷ bs)) ≡ b ∷ bs) [
-      | Step.ends_line e r ↦ undone-kept w before 0 b bs r (undone w 0 bs)
-      | Step.breaks e f g r ↦ undone-broken w before b bs f r (undone w 0 bs)
-      | Step.goes_on e f r ↦ undone-kept w before (suc before) b bs r (undone w (suc before) bs)
+      | NextBreak.ends_line e r ↦ undone-kept w before 0 b bs r (undone w 0 bs)
+      | NextBreak.breaks e f g r ↦ undone-broken w before b bs f r (undone w 0 bs)
+      | NextBreak.goes_on e f r ↦ undone-kept w before (suc before) b bs r (undone w (suc before) bs)
     ]

@@ -30,7 +30,7 @@ impl Model for Wrapped {
     ghost view = { λ w. record { bytes = w.bytes.items; breaks = w.breaks.items } };
 }
 
-/// How many bytes stand before the first space or LF, or before the end where there is none.
+// How many bytes stand before the first space or LF, or before the end where there is none.
 fn word_length(text: &[u8]) -> usize
     ensures value { result ≡ word_length text.now }
     ensures within { result ≤ length text.now }
@@ -40,7 +40,7 @@ fn word_length(text: &[u8]) -> usize
         .count()
 }
 
-/// The offsets at which first fit breaks the text, in rising order.
+// The offsets at which first fit breaks the text, in rising order.
 fn first_fit_breaks(alloc: Global, width: u8, text: &[u8]) -> Result<Vec<u32>, NoRoom>
     requires fits { length text.now ≤ WRAP_LIMIT }
     ensures value { IfOk result (λ breaks. breaks.items ≡ breaks_from width 0 0 text.now) }

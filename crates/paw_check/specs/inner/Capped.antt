@@ -14,13 +14,13 @@ use Rattle.paw_check.specs.Costs.{with_call, counting}
 -- ---- numbers ----
 
 -- A number as 32 bits hold it: any above the greatest becomes the greatest.
-abbrev pub capped : ℕ → ℕ
-capped n = min n (2 ^ 32 - 1)
+abbrev pub in_32_bits : ℕ → ℕ
+in_32_bits n = min n (2 ^ 32 - 1)
 
 -- A row of 256 numbers holds these, by verb, or by table.
 pub record HoldsCapped (row : List ℕ) (f : ℕ → ℕ) : Type 0 where
   pub long : length row ≡ 256
-  pub each : (v : ℕ) → v < 256 → slice_index_or row v 0 ≡ capped (f v)
+  pub each : (v : ℕ) → v < 256 → slice_index_or row v 0 ≡ in_32_bits (f v)
 
 -- The number in these rows at a table and a verb; 0 past their end.
 abbrev pub cell_at : List (List ℕ) → ℕ → ℕ → ℕ

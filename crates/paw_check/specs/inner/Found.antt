@@ -6,13 +6,13 @@ use Rattle.paw_game.specs.declared.parts.Entry.{Entry}
 use Rattle.paw_check.specs.Calls.{is_call_of}
 use Rattle.paw_check.specs.Costs.{with_call}
 use Rattle.paw_check.specs.declared.sums.TableSums.{TableSums}
-use Rattle.paw_check.specs.inner.Capped.{HoldsCapped, capped, cell_at, dot, is_doall, over_every, over_verb}
+use Rattle.paw_check.specs.inner.Capped.{HoldsCapped, in_32_bits, cell_at, dot, is_doall, over_every, over_verb}
 
 -- This is found in these entries.
 pub record IsFound (x : TableSums) (takes : Condact → ℕ) (changing : Bool) (called : List (List ℕ))
     (es : List Entry) : Type 0 where
-  pub doalls : x.doalls ≡ capped (over_every changing (count_by is_doall) es)
-  pub own : x.own ≡ capped (over_every changing (sum_by takes) es)
+  pub doalls : x.doalls ≡ in_32_bits (over_every changing (count_by is_doall) es)
+  pub own : x.own ≡ in_32_bits (over_every changing (sum_by takes) es)
   pub calls : HoldsCapped x.calls (λ u. over_every changing (count_by (is_call_of u)) es)
   pub verb_doalls : HoldsCapped x.verb_doalls (λ v. over_verb changing v (count_by is_doall) es)
   pub verb_taken : HoldsCapped x.verb_taken

@@ -7,18 +7,18 @@ use Rattle.paw_game.specs.Tables.{table_at}
 use Rattle.paw_check.specs.Calls.{turn_tables}
 use Rattle.paw_check.specs.Costs.{cost, counting, passed_over, with_call, all_verbs}
 use Rattle.paw_check.specs.Measures.{greatest}
-use Rattle.paw_check.specs.inner.Capped.{capped, cell_at, condacts_of_entries}
+use Rattle.paw_check.specs.inner.Capped.{in_32_bits, cell_at, condacts_of_entries}
 
 -- Rows hold what reading each table takes for each verb, where the tables that it calls take what these rows hold.
 abbrev pub HoldsLevel : GameLists → (Condact → ℕ) → Bool → List (List ℕ) → List (List ℕ) → Type 0
 HoldsLevel g own changing called rows = (t v : ℕ) → v < 256 → cell_at rows t v
-    ≡ capped (passed_over g (with_call own (λ u. cell_at called u v))
+    ≡ in_32_bits (passed_over g (with_call own (λ u. cell_at called u v))
     (condacts_of_entries (counting changing v (table_at g t))))
 
 -- Rows hold what reading each table takes for each verb, with n levels of calls below it.
 abbrev pub HoldsCosts : GameLists → (Condact → ℕ) → Bool → ℕ → List (List ℕ) → Type 0
 HoldsCosts g own changing n rows =
-    (t v : ℕ) → v < 256 → cell_at rows t v ≡ capped (cost g own (counting changing v) n t)
+    (t v : ℕ) → v < 256 → cell_at rows t v ≡ in_32_bits (cost g own (counting changing v) n t)
 
 -- What reading a table takes with the verb for which it takes most.
 abbrev pub most_taken : GameLists → (Condact → ℕ) → Bool → ℕ → ℕ

@@ -12,7 +12,7 @@ use Rattle.paw_check.specs.declared.prints.Printed.{Printed}
 use Rattle.paw_check.specs.declared.prints.Printed.TheVariants as printed
 use Rattle.paw_check.specs.declared.prints.Prints.{Prints}
 use Rattle.paw_check.specs.declared.prints.TheConstants.{PRINTED}
-use Rattle.paw_check.specs.inner.Capped.{capped}
+use Rattle.paw_check.specs.inner.Capped.{in_32_bits}
 
 -- ---- texts ----
 
@@ -51,9 +51,9 @@ kind_in p printed.Score c = p.score
 kind_in p printed.Here c = p.here
 kind_in p printed.There c = p.there
 kind_in p (printed.Put s) c = slice_index_or p.system s 0
-kind_in p (printed.Said s) c = capped (slice_index_or p.system s 0 + 1)
+kind_in p (printed.Said s) c = in_32_bits (slice_index_or p.system s 0 + 1)
 kind_in p printed.Message c = named_in p.messages p.any_message c
-kind_in p printed.MessageLine c = capped (named_in p.messages p.any_message c + 1)
+kind_in p printed.MessageLine c = in_32_bits (named_in p.messages p.any_message c + 1)
 kind_in p printed.System c = named_in p.system p.any_system c
 
 -- The most bytes that a condact prints.

@@ -20,7 +20,7 @@ use Rattle.paw_journal.specs.Journal.{writing_calls}
 use Rattle.paw_journal.specs.inner.Store.{InStore}
 use Rattle.paw_journal.specs.inner.Journal.{KeptIn}
 use Rattle.paw_journal.specs.inner.Room.{Room}
-use Rattle.paw_state.specs.Record.{last_piece}
+use Rattle.paw_state.specs.State.{last_piece}
 use Rattle.paw_play.specs.Walk.{EndingOf}
 use Rattle.paw_play.specs.Stands.{Stands, IsPlayedWith, reading_since}
 use Rattle.paw_play.specs.Laws.{ShowsSome, MayBeLeft}

@@ -37,6 +37,7 @@ pub record LeavesStage {S : Type 0} (g : Ghosts S) (calls : List StageCall) (fai
   pub left : IfTelling g old new Left
 
 -- What calls promise: `Done` of what they gave, and `Inside` of each moment of them, at which a crash may come.
-pub record DoneWithMoments {S : Type 0} (g : Ghosts S) (old new : S) (Done : Type 0) (Inside : Moment → Type 0) : Type 0 where
+pub record DoneWithMoments {S : Type 0} (g : Ghosts S) (old new : S) (Done : Type 0)
+    (Inside : Moment → Type 0) : Type 0 where
   pub meaning : Done
   pub any_moment : EachMoment g old new Inside

@@ -9,8 +9,9 @@ use Rattle.paw_phrase.specs.declared.Found.TheVariants as found
 use Rattle.paw_phrase.specs.declared.next.Part.{Part}
 use Rattle.paw_phrase.specs.declared.next.Part.TheVariants as part
 use Rattle.paw_phrase.specs.declared.next.PhraseDraft.{PhraseDraft}
-use Rattle.paw_phrase.specs.Sentence.{blank, with_word, finished, Parsed, IsSentence, IsUnknown, IsNoPhrase}
+use Rattle.paw_phrase.specs.Sentence.{blank, with_word, sentence_finished, Parsed, IsSentence, IsUnknown, IsNoPhrase}
 
+-- What a word of the game is in a phrase, by its value and class; where the game lacks it, it is unknown.
 abbrev pub part_of_word : Option (ℕ × ℕ) → Part
 part_of_word None = part.Unknown
 part_of_word (Some word) = if word.1 == CONJUNCTION_CLASS then part.Break else part.Word word.0 word.1
@@ -39,14 +40,15 @@ with_part part.Unknown d = Some (record d { found = or_nothing d.found })
 with_part (part.Word value class) d = Some (record { found = found.Sentence; words = with_word value class d.words })
 
 -- A draft of which nothing is read yet.
-abbrev pub started : ℕ → ℕ → PhraseDraft
-started noun adjective = record { found = found.Empty; words = blank noun adjective }
+abbrev pub blank_draft : ℕ → ℕ → PhraseDraft
+blank_draft noun adjective = record { found = found.Empty; words = blank noun adjective }
 
 -- What a draft is where its phrase ends, with the bytes after it.
 abbrev pub found_outcome : ℕ → Found → PhraseDraft → Bytes → Parsed
-found_outcome earlier found.Sentence d rest = IsSentence (finished earlier d.words) rest
+found_outcome earlier found.Sentence d rest = IsSentence (sentence_finished earlier d.words) rest
 found_outcome earlier found.Nothing d rest = IsUnknown rest
 found_outcome earlier found.Empty d rest = IsNoPhrase
 
+-- The phrase that a draft makes, with the bytes after it.
 abbrev pub draft_outcome : ℕ → PhraseDraft → Bytes → Parsed
 draft_outcome earlier d rest = found_outcome earlier d.found d rest

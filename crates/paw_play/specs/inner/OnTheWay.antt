@@ -26,7 +26,7 @@ use Rattle.paw_turn.specs.declared.Step.{Step}
 use Rattle.paw_turn.specs.declared.Step.TheVariants as step
 use Rattle.paw_base.specs.Bytes.{Bytes, Lines, Name, RoutineAnswers, Seed, Text, Texts, zeros}
 use Rattle.paw_journal.specs.Session.{Digests, Recovered, Shown, recover, kept_digests, base_length, state_length}
-use Rattle.paw_journal.specs.Session.{committed}
+use Rattle.paw_journal.specs.Session.{session_committed}
 use Rattle.paw_journal.specs.inner.Store.{InStore, CrashLeavesSuch, IsOldOrNew}
 use Rattle.paw_journal.specs.inner.Room.{Room}
 use Rattle.paw_journal.specs.inner.Journal.{IsAtRest, KeptIn}
@@ -38,11 +38,11 @@ use Rattle.paw_play.specs.declared.PlayEnd.{PlayEnd}
 use Rattle.paw_play.specs.declared.PlayEnd.TheVariants as end
 use Rattle.paw_play.specs.declared.line.Session.{Session}
 use Rattle.paw_play.specs.Session.{kept_bytes}
-use Rattle.paw_play.specs.Walk.{end_halt, EndingOf, first_lines, text_for, text_before, advanced, Walks}
+use Rattle.paw_play.specs.Walk.{end_halt, EndingOf, first_lines, text_for, text_before, with_lines_taken, Walks}
 use Rattle.paw_play.specs.Played.{PlayedSession}
 use Rattle.paw_play.specs.Keeping.{StaysAttached, RestsWith}
 use Rattle.paw_play.specs.Play.{PlaysOn, with_store}
-use Rattle.paw_play.specs.inner.Telling.{ShowSteps, Plain, HaveSteps, told_pieces, with_shown_steps}
+use Rattle.paw_play.specs.inner.Telling.{ShowSteps, Plain, HaveSteps, shown_pieces, with_shown_steps}
 
 -- ---- a walk ----
 
@@ -68,7 +68,7 @@ pub record IsWalking {F : Type 0} (telling : ShowSteps) (g : Story) (whole : End
       whole (first_lines n old.lines ++ more)
       ≡ going_on_from g prompt (reverse seat.machine.frames) (run_at seat pieces traces more)
   pub there : n ≤ length old.lines
-  pub stands : now ≡ advanced old n (concat (told_pieces telling pieces traces))
+  pub stands : now ≡ with_lines_taken old n (concat (shown_pieces telling pieces traces))
 
 -- The end of playing that a halt is.
 abbrev pub end_of_halt : Halt → PlayEnd
@@ -77,18 +77,18 @@ end_of_halt (halt.Spent kind) = end.Spent kind
 end_of_halt (halt.TooDeep table) = end.TooDeep table
 
 -- How playing ends at a line that brings no piece.
-abbrev pub refusal_of : Step → Option PlayEnd
-refusal_of s = if brings_piece s then None else option_map end_of_halt (step_halt s)
+abbrev pub end_if_no_piece : Step → Option PlayEnd
+end_if_no_piece s = if brings_piece s then None else option_map end_of_halt (step_halt s)
 
 -- What showing a line's piece does: it is shown where the player waits or is over, and where it is over no other line
 -- may be asked for; nothing is shown of a piece that is spent or of a call too deep; or a part is shown of a piece that
 -- isn't empty, and the call failed.
-abbrev pub Told : Standing → Standing → Text → Step → Option PlayEnd → Type 0
-Told old new piece s None = (p : Prompt) × (s ≡ step.Waits p) × (new ≡ record old { shown = old.shown ++ piece })
-Told old new piece s (Some end.Ended) = (s ≡ step.Ended) × (new ≡ record old { shown = old.shown ++ piece })
-Told old new piece s (Some (end.Outside call.Show)) =
+abbrev pub ShowsStep : Standing → Standing → Text → Step → Option PlayEnd → Type 0
+ShowsStep old new piece s None = (p : Prompt) × (s ≡ step.Waits p) × (new ≡ record old { shown = old.shown ++ piece })
+ShowsStep old new piece s (Some end.Ended) = (s ≡ step.Ended) × (new ≡ record old { shown = old.shown ++ piece })
+ShowsStep old new piece s (Some (end.Outside call.Show)) =
     IsStanding s × (0 < length piece) × (n : ℕ) × (new ≡ record old { shown = old.shown ++ take n piece })
-Told old new piece s (Some o) = MatchOption (end_halt o) ⊥ (λ halt. (step_halt s ≡ Some halt) × (new ≡ old))
+ShowsStep old new piece s (Some o) = MatchOption (end_halt o) ⊥ (λ halt. (step_halt s ≡ Some halt) × (new ≡ old))
 
 -- After n lines the walk is at a prompt, or has ended this way.
 abbrev pub WalksTo : {F : Type 0} → ShowSteps → Story → EndingOf → ℕ → Standing → Standing → PlayerView F → ℕ →
@@ -124,7 +124,7 @@ pub record IsRestingStore (name : Name) (s : Standing) : Type 0 where
   pub stable : IsStable s.disk
   pub file : s.files name ≡ Some s.disk.bytes
 
--- Play ended so before the piece before the first line was closed, and nothing was changed.
+-- Play ended in this way before the piece before the first line was closed, and nothing was changed.
 abbrev pub HaltsAtOnce : PlayedSession → Standing → Standing → Halt → Type 0
 HaltsAtOnce s first now halt = (r : Run) × (s.whole [] ≡ Halted halt r) × (now ≡ first)
 
@@ -219,7 +219,7 @@ Commits events seat old new = recover new.disk.bytes ≡ shown_then events seat 
 
 -- The store's bytes are what the commit of the player makes of what they were.
 abbrev pub Writes : {F : Type 0} → ℕ → PlayerView F → Standing → Standing → Type 0
-Writes events seat old new = new.disk.bytes ≡ committed (seat_base events seat) seat.piece old.disk.bytes
+Writes events seat old new = new.disk.bytes ≡ session_committed (seat_base events seat) seat.piece old.disk.bytes
 
 -- A moment at which a crash leaves what the session showed before, or the player.
 abbrev pub InCommit : {F : Type 0} → ℕ → PlayerView F → Standing → Moment → Type 0

@@ -28,9 +28,9 @@ abbrev pub seat_text : {F : Type 0} → ShowSteps → PlayerView F → Text
 seat_text telling p = preface telling p.machine.steps ++ p.piece
 
 -- Closed pieces with their steps, as they are shown.
-abbrev pub told_pieces : ShowSteps → Texts → List (List Read) → Texts
-told_pieces Plain pieces traces = pieces
-told_pieces Stepped pieces traces = traced_pieces pieces traces
+abbrev pub shown_pieces : ShowSteps → Texts → List (List Read) → Texts
+shown_pieces Plain pieces traces = pieces
+shown_pieces Stepped pieces traces = traced_pieces pieces traces
 
 -- Where pieces are shown after their steps, each has its own.
 abbrev pub HaveSteps : ShowSteps → Texts → List (List Read) → Type 0
@@ -38,15 +38,15 @@ HaveSteps Plain pieces traces = Unit {0}
 HaveSteps Stepped pieces traces = length traces ≡ length pieces
 
 -- The run, with its pieces shown this way.
-abbrev pub told_run : ShowSteps → Run → Run
-told_run Plain r = r
-told_run Stepped r = traced_run r
+abbrev pub shown_run : ShowSteps → Run → Run
+shown_run Plain r = r
+shown_run Stepped r = traced_run r
 
 -- The ending, with its pieces shown this way.
-abbrev pub told_ending : ShowSteps → Ending → Ending
-told_ending Plain e = e
-told_ending Stepped e = traced_ending e
+abbrev pub shown_ending : ShowSteps → Ending → Ending
+shown_ending Plain e = e
+shown_ending Stepped e = traced_ending e
 
 -- The reading, with its pieces shown this way.
 abbrev pub with_shown_steps : ShowSteps → EndingOf → EndingOf
-with_shown_steps telling whole lines = told_ending telling (whole lines)
+with_shown_steps telling whole lines = shown_ending telling (whole lines)

@@ -5,6 +5,7 @@ use Rattle.paw_base.specs.declared.parts.Condact.{Condact}
 use Rattle.paw_base.specs.inner.Condacts.{IsCode}
 use Rattle.paw_game.specs.declared.parts.Entry.{Entry}
 
+-- The code of a condact has a row in the table of condacts.
 abbrev pub IsKnown : Condact → Type 0
 IsKnown c = IsCode c.code
 

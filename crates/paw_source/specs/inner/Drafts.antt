@@ -32,5 +32,6 @@ pub record AreShort (opened : Section) (ss ms ns ls : Texts) (fs : List ObjectFa
   pub tables : length ts ≤ TABLE_LIMIT
   pub open_table : HasTable opened (length ts)
 
+-- No list of a draft is longer than a game's may be.
 abbrev pub IsShortDraft : Spelt → Type 0
 IsShortDraft d = AreShort d.section d.system d.messages d.names d.locations d.facts d.tables

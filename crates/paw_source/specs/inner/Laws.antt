@@ -10,7 +10,7 @@ use Rattle.paw_read_error.specs.Bind.{◌>>=◌}
 use Rattle.paw_lex.specs.Lines.{lines_of}
 use Rattle.paw_grammar.specs.GrammarState.{Spelt, nothing_yet, game_of}
 use Rattle.paw_base.specs.declared.fault.SourceFault.{SourceFault}
-use Rattle.paw_grammar.specs.Spells.{after_line, begins_table, fault, spelled, Spells}
+use Rattle.paw_grammar.specs.Spells.{after_line, begins_table, fault, game_spelled, Spells}
 
 -- What the lines spell after what is spelled already, where none of them has a fault.
 unfoldable pub after_lines : ℕ → Spelt → Lines → Result Spelt SourceKind
@@ -37,17 +37,18 @@ pub record HasNone (p : ℕ) (d : Spelt) (ls : Lines) : Type 0 where
 abbrev pub FirstFault : Bytes → ℕ → SourceKind → Type 0
 FirstFault source n k = HasFault (count_by begins_table (lines_of source)) nothing_yet (lines_of source) n k
 
+-- No line of a source has a fault.
 abbrev pub HasNoFault : Bytes → Type 0
 HasNoFault source = HasNone (count_by begins_table (lines_of source)) nothing_yet (lines_of source)
 
 -- The first line with a fault is named, by its number, where the source isn't too long.
 abbrev pub NamesTheFirst : Type 0
 NamesTheFirst = (source : Bytes) (n : ℕ) (k : SourceKind) → length source ≤ SOURCE_LIMIT → FirstFault source n k
-    → spelled source ≡ Err (fault (suc n) k)
+    → game_spelled source ≡ Err (fault (suc n) k)
 
 -- The line that is named is the first with a fault, or, where no line has one, the line after the last.
 abbrev pub IsNamedRightly : Type 0
-IsNamedRightly = (source : Bytes) (f : SourceFault) → length source ≤ SOURCE_LIMIT → spelled source ≡ Err f
+IsNamedRightly = (source : Bytes) (f : SourceFault) → length source ≤ SOURCE_LIMIT → game_spelled source ≡ Err f
     → ((n : ℕ) × (f.line ≡ suc n) × FirstFault source n f.kind)
     ⊎ ((f.line ≡ suc (length (lines_of source))) × HasNoFault source)
 

@@ -13,7 +13,7 @@ use Rattle.paw_reading.specs.Turn.{Ending, WaitsAt, reading}
 use Rattle.paw_play.specs.declared.PlayEnd.{PlayEnd}
 use Rattle.paw_play.specs.declared.PlayEnd.TheVariants as play
 use Rattle.paw_play.specs.Walk.{end_halt}
-use Rattle.paw_play.specs.Played.{begun}
+use Rattle.paw_play.specs.Played.{session_begun}
 use Rattle.paw_play.specs.Play.{store_bytes, NewSession, PlaysAgain}
 use Rattle.paw_play.specs.Stands.{Stands}
 use Rattle.paw_gen.specs.Trial.{trial_lines}
@@ -67,7 +67,7 @@ IsReadyFor half.Second n m = HoldsLines n (first_half n) (standing_of m)
 
 -- The lines of a half are played: with a new session, or with that session resumed.
 abbrev pub PlaysHalf : Half → ℕ → Standing → Standing → PlayEnd → Type 0
-PlaysHalf half.First n old new end = NewSession (begun (trial_story n) n trial_store) old new end
+PlaysHalf half.First n old new end = NewSession (session_begun (trial_story n) n trial_store) old new end
 PlaysHalf half.Second n old new end = PlaysAgain (trial_story n) trial_store old new end
 
 -- The session holds these lines, or the trial stops.

@@ -1,7 +1,7 @@
 use Rattle.std.proofs.Common.{◌≡◌, ap, ◌∙◌, sym, arith, get_or, length, [], rules}
 use Rattle.std.proofs.lemmas.Option.{unwrap_or-slice_get}
 use Rattle.paw_game.specs.Game.{GameLists}
-use Rattle.paw_check.specs.inner.Capped.{capped}
+use Rattle.paw_check.specs.inner.Capped.{in_32_bits}
 use Rattle.paw_check.specs.inner.Own.{own_in}
 use Rattle.paw_check.proofs.Cells.{before_none, before_more, before_all}
 use Rattle.paw_check.proofs.costs.level.Goals as goal
@@ -20,7 +20,7 @@ loop-number-preserved c =
 
 pub returns-clause-value : goal.returns-clause-value
 returns-clause-value c =
-    let many : c.count_of-objects.result ≡ capped (length c.args.parts.now.objects) = search rules in
+    let many : c.count_of-objects.result ≡ in_32_bits (length c.args.parts.now.objects) = search rules in
     let whole = rw (c.as_slice-tables.ensures.value ∙ ap (λ (h : GameLists). h.tables) c.parts.view_is) at c.loop-number-test.false in
     let holds = rw (c.as_slice-tables.ensures.value ∙ ap (λ (h : GameLists). h.tables) c.parts.view_is) at c.loop-number.invariant in
     before_all c.args.parts.now c.count_of-objects.result (own_in c.args.own.now) c.args.changing c.args.called.now c.loop-number.rows.items

@@ -3,7 +3,7 @@ use Rattle.paw_game.specs.Game.{GameLists}
 use Rattle.paw_game.specs.declared.parts.ObjectRow.{ObjectRow}
 use Rattle.paw_game.proofs.Counts.{few_system}
 use Rattle.paw_check.specs.Measures.{greatest}
-use Rattle.paw_check.specs.inner.Capped.{capped}
+use Rattle.paw_check.specs.inner.Capped.{in_32_bits}
 use Rattle.paw_check.proofs.TextLaws.{holds_measures}
 use Rattle.paw_check.proofs.texts.system_of.Goals as goal
 
@@ -17,6 +17,6 @@ returns c =
     let holds = rw (c.deref-2.ensures.value ∙ ap (λ (g : GameLists). g.system) c.parts.view_is) at c.measures.ensures.value in
     record {
       value = holds_measures c.args.parts.now c.longest_name.result c.args.parts.now.system c.measures.result
-          (c.longest_name.ensures.value ∙ ap (λ (os : List ObjectRow). capped (greatest (map (λ o. length o.text) os)))
+          (c.longest_name.ensures.value ∙ ap (λ (os : List ObjectRow). in_32_bits (greatest (map (λ o. length o.text) os)))
           (c.deref.ensures.value ∙ ap (λ (g : GameLists). g.objects) c.parts.view_is)) holds;
     }

@@ -1,7 +1,7 @@
 use Rattle.std.proofs.Common.{◌≡◌, ◌⊎◌, ◌∙◌, ℕ, List, sym, subst, inl, inr, Some}
 use Rattle.std.proofs.lemmas.Result.{on_ok_weaker}
 use Rattle.std.specs.Option.{option_copied}
-use Rattle.paw_stage.specs.Stage.{Standing, Unattached, file_bytes, opened}
+use Rattle.paw_stage.specs.Stage.{Standing, Unattached, file_bytes, with_store_opened}
 use Rattle.paw_stage.specs.Across.{EachMoment}
 use Rattle.paw_stage.proofs.Time.{Passes_map, Passes_on}
 use Rattle.paw_journal.specs.inner.Journal.{failed_stage_call}
@@ -23,7 +23,7 @@ use Rattle.paw_host.proofs.answer.answer.Goals as goal
 -- Nothing is answered while the store is attached.
 attaches : (g : Over) (c : After-attach g) (tells : g.S.Stage.Tells c.args.stage.now) (X : List (List ℕ)) (before after : NamedSession)
     → Stores (story_of c.args.player.now.game X) before (file_bytes (g.S.Stage.standing c.args.stage.now) c.args.store.now)
-    → (g.S.Stage.standing c.attach.new.stage ≡ opened c.args.store.now (g.S.Stage.standing c.args.stage.now))
+    → (g.S.Stage.standing c.attach.new.stage ≡ with_store_opened c.args.store.now (g.S.Stage.standing c.args.stage.now))
     ⊎ Unattached (g.S.Stage.standing c.args.stage.now) (g.S.Stage.standing c.attach.new.stage)
     → EachMoment g.S.Stage c.args.stage.now c.attach.new.stage
     (InAnswer (story_of c.args.player.now.game X) c.args.hosted.now.seed c.args.store.now before after (g.S.Stage.standing c.args.stage.now))

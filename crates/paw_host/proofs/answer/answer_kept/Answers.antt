@@ -24,20 +24,20 @@ use Rattle.paw_host.proofs.answer.answer_kept.Goals as goal
 
 pub take_text-requires-clause-player : goal.take_text-requires-clause-player
 take_text-requires-clause-player g c = record {
-  seated = c.take_up.ensures.stays.seated;
-  answers = subst (λ r. HaveAnswers g.F.Fn r) (sym c.take_up.ensures.stays.routines) c.requires.hosted.prepared.answers;
+  seated = c.resume_player.ensures.stays.seated;
+  answers = subst (λ r. HaveAnswers g.F.Fn r) (sym c.resume_player.ensures.stays.routines) c.requires.hosted.prepared.answers;
   stands = rw c.in-Ok-Some.field-0-is at c.in-Ok-Some.ensures.opened;
 }
 
 pub take_text-requires-clause-kept : goal.take_text-requires-clause-kept
-take_text-requires-clause-kept g c = λ tells. rw c.in-Ok-Some.field-0-is at (c.in-Ok-Some.ensures.kept (c.take_up.ensures.reads.serves.tells.1 tells))
+take_text-requires-clause-kept g c = λ tells. rw c.in-Ok-Some.field-0-is at (c.in-Ok-Some.ensures.kept (c.resume_player.ensures.reads.serves.tells.1 tells))
 
 -- ---- there is no session ----
 
 pub returns-in-Ok-None-clause-leaves : goal.returns-in-Ok-None-clause-leaves
 returns-in-Ok-None-clause-leaves g c =
     leaves_read g.S.Stage _ _ _ _ c.in-Ok-None.ensures.reads
-    (λ tells. subst IsAtRest (sym (c.take_up.ensures.reads.still tells)) (c.requires.store.rests tells))
+    (λ tells. subst IsAtRest (sym (c.resume_player.ensures.reads.still tells)) (c.requires.store.rests tells))
 
 pub returns-in-Ok-None-clause-promises : goal.returns-in-Ok-None-clause-promises
 returns-in-Ok-None-clause-promises g c = λ tells X answers before may stores.
@@ -49,11 +49,11 @@ returns-in-Ok-None-clause-promises g c = λ tells X answers before may stores.
     record {
       meaning =
           subst (λ (q : Standing). Answers story (answer story seed before (option_copied c.args.text)) c.args.reply.now c.push.new.self q.disk.bytes)
-          (sym (c.take_up.ensures.reads.still tells))
+          (sym (c.resume_player.ensures.reads.still tells))
           (kept_refused story seed old.disk.bytes (omega (arith, c.requires.some, c.requires.store.attached tells)) before (option_copied c.args.text)
           c.args.reply.now c.push.new.self may stores t c.push.ensures.value);
       any_moment =
-          Passes_map _ _ _ _ _ (InFile (StoresEither story before after) old) (c.take_up.ensures.reads.time tells)
+          Passes_map _ _ _ _ _ (InFile (StoresEither story before after) old) (c.resume_player.ensures.reads.time tells)
           (λ m i. still_in_file story before after old m (c.requires.store.rests tells).stable stores i);
     }
 
@@ -70,14 +70,14 @@ returns-in-Err-clause-promises g c = λ tells X answers before may stores.
     record {
       meaning = tt;
       any_moment =
-          Passes_map _ _ _ _ _ (InFile (StoresEither story before after) old) (c.take_up.ensures.reads.time tells)
+          Passes_map _ _ _ _ _ (InFile (StoresEither story before after) old) (c.resume_player.ensures.reads.time tells)
           (λ m i. still_in_file story before after old m (c.requires.store.rests tells).stable stores i);
     }
 
 -- ---- a text is taken ----
 
 pub returns-in-Some-clause-stays : goal.returns-in-Some-clause-stays
-returns-in-Some-clause-stays g c = stays_on c.take_up.ensures.stays c.take_text.ensures.stays
+returns-in-Some-clause-stays g c = stays_on c.resume_player.ensures.stays c.take_text.ensures.stays
 
 pub returns-in-Some-clause-leaves : goal.returns-in-Some-clause-leaves
 returns-in-Some-clause-leaves g c = record {
@@ -85,9 +85,9 @@ returns-in-Some-clause-leaves g c = record {
       serves_then g.S.Stage _ _ (failed_stage_call c.take_text.result) _ _ _ c.in-Ok-Some.ensures.reads.serves
       (serves_among g.S.Stage _ _ (failed_stage_call c.take_text.result) _ _ writes_kept c.take_text.ensures.leaves.serves);
   beside = λ tells.
-      subst (λ q. ChangesStoreOnly q (g.S.Stage.standing c.take_text.new.stage)) (c.take_up.ensures.reads.still tells)
-      (c.take_text.ensures.leaves.beside (c.take_up.ensures.reads.serves.tells.0 tells));
-  left = λ tells. c.take_text.ensures.leaves.left (c.take_up.ensures.reads.serves.tells.0 tells);
+      subst (λ q. ChangesStoreOnly q (g.S.Stage.standing c.take_text.new.stage)) (c.resume_player.ensures.reads.still tells)
+      (c.take_text.ensures.leaves.beside (c.resume_player.ensures.reads.serves.tells.0 tells));
+  left = λ tells. c.take_text.ensures.leaves.left (c.resume_player.ensures.reads.serves.tells.0 tells);
 }
 
 pub returns-in-Some-clause-promises : goal.returns-in-Some-clause-promises
@@ -96,10 +96,10 @@ returns-in-Some-clause-promises g c = λ tells X answers before may stores.
     let seed = c.args.hosted.now.seed in
     let text = c.in-Some.text.now in
     let old : Standing = g.S.Stage.standing c.args.stage.now in
-    let mid : Standing = g.S.Stage.standing c.take_up.new.stage in
+    let mid : Standing = g.S.Stage.standing c.resume_player.new.stage in
     let new : Standing = g.S.Stage.standing c.take_text.new.stage in
-    let game = c.take_up.ensures.stays.game in
-    let own = subst (λ r. AreAnswersOf g.F.Fn r X) (sym c.take_up.ensures.stays.routines) answers in
+    let game = c.resume_player.ensures.stays.game in
+    let own = subst (λ r. AreAnswersOf g.F.Fn r X) (sym c.resume_player.ensures.stays.routines) answers in
     let t = rw c.in-Ok-Some.field-0-is at (c.in-Ok-Some.ensures.meaning tells X answers) in
     let rests = (c.requires.store.rests tells).stable in
     record {
@@ -112,10 +112,10 @@ returns-in-Some-clause-promises g c = λ tells X answers before may stores.
           let u = t.1 first es played stands in
           subst (λ (h : GameLists). OnOk c.take_text.result
           (Answers (story_of h X) (answer_taking (story_of h X) first es text) c.args.reply.now c.take_text.new.reply new.disk.bytes)) game
-          (c.take_text.ensures.promises (c.take_up.ensures.reads.serves.tells.0 tells) X own first es
-          (subst (λ (h : GameLists). SitsAt (story_of h X) first es c.take_up.new.player) (sym game) u.0) u.1
+          (c.take_text.ensures.promises (c.resume_player.ensures.reads.serves.tells.0 tells) X own first es
+          (subst (λ (h : GameLists). SitsAt (story_of h X) first es c.resume_player.new.player) (sym game) u.0) u.1
           (subst (λ (h : GameLists). Stands (story_of h X) first es mid.disk.bytes) (sym game)
-          (subst (λ (q : Standing). Stands story first es q.disk.bytes) (sym (c.take_up.ensures.reads.still tells)) stands))).meaning));
+          (subst (λ (q : Standing). Stands story first es q.disk.bytes) (sym (c.resume_player.ensures.reads.still tells)) stands))).meaning));
       any_moment =
           subst (λ x. Passes (g.S.Stage.clock c.args.stage.now) (g.S.Stage.clock c.take_text.new.stage) (g.S.Stage.since c.args.stage.now)
           (g.S.Stage.since c.take_text.new.stage) (InFile (StoresEither story before (answer story seed before x).session) old))
@@ -128,13 +128,13 @@ returns-in-Some-clause-promises g c = λ tells X answers before may stores.
           let u = t.1 first es played stands in
           let after : NamedSession = (answer_taking story first es text).session in
           Passes_on _ _ _ _ _ _ (InFile (StoresEither story (At first es) after) old) _
-          (Passes_map _ _ _ _ _ (InFile (StoresEither story (At first es) after) old) (c.take_up.ensures.reads.time tells)
+          (Passes_map _ _ _ _ _ (InFile (StoresEither story (At first es) after) old) (c.resume_player.ensures.reads.time tells)
           (λ m i. still_in_file story (At first es) after old m rests here i))
-          (c.take_text.ensures.promises (c.take_up.ensures.reads.serves.tells.0 tells) X own first es
-          (subst (λ (h : GameLists). SitsAt (story_of h X) first es c.take_up.new.player) (sym game) u.0) u.1
+          (c.take_text.ensures.promises (c.resume_player.ensures.reads.serves.tells.0 tells) X own first es
+          (subst (λ (h : GameLists). SitsAt (story_of h X) first es c.resume_player.new.player) (sym game) u.0) u.1
           (subst (λ (h : GameLists). Stands (story_of h X) first es mid.disk.bytes) (sym game)
-          (subst (λ (q : Standing). Stands story first es q.disk.bytes) (sym (c.take_up.ensures.reads.still tells)) stands))).any_moment
-          (λ m i. subst (λ q. InFile (StoresEither story (At first es) after) q m) (c.take_up.ensures.reads.still tells)
+          (subst (λ (q : Standing). Stands story first es q.disk.bytes) (sym (c.resume_player.ensures.reads.still tells)) stands))).any_moment
+          (λ m i. subst (λ q. InFile (StoresEither story (At first es) after) q m) (c.resume_player.ensures.reads.still tells)
           (subst (λ (h : GameLists). InFile (StoresEither (story_of h X) (At first es) (answer_taking (story_of h X) first es text).session) mid m) game i)))
           stores);
     }
@@ -155,12 +155,12 @@ returns-in-None-clause-promises g c = λ tells X answers before may stores.
     record {
       meaning =
           subst (λ (q : Standing). Answers story (answer story seed before (option_copied c.args.text)) c.args.reply.now c.push-in-None.new.self q.disk.bytes)
-          (sym (c.take_up.ensures.reads.still tells))
+          (sym (c.resume_player.ensures.reads.still tells))
           (subst (λ x. Answers story (answer story seed before x) c.args.reply.now c.push-in-None.new.self old.disk.bytes) (sym (ap option_copied c.in-None.is))
           (kept_told story seed old.disk.bytes (omega (arith, c.requires.some, c.requires.store.attached tells)) before
           c.args.reply.now c.push-in-None.new.self c.kept_piece.result.now may stores t.0
           (λ own es played stands. c.kept_piece.ensures.value ∙ (t.1 own es played stands).2) c.push-in-None.ensures.value));
       any_moment =
-          Passes_map _ _ _ _ _ (InFile (StoresEither story before after) old) (c.take_up.ensures.reads.time tells)
+          Passes_map _ _ _ _ _ (InFile (StoresEither story before after) old) (c.resume_player.ensures.reads.time tells)
           (λ m i. still_in_file story before after old m (c.requires.store.rests tells).stable stores i);
     }

@@ -2,7 +2,7 @@ use Rattle.std.proofs.Common.{Some, None, sym, ap, ◌∙◌, arith, length-drop
 use Rattle.std.proofs.lemmas.List.{take_rest}
 use Rattle.paw_phrase.specs.declared.Found.TheVariants as found
 use Rattle.paw_phrase.specs.Phrase.{lexemes}
-use Rattle.paw_phrase.specs.Sentence.{parsed}
+use Rattle.paw_phrase.specs.Sentence.{phrase_parsed}
 use Rattle.paw_phrase.proofs.Drafts.{along, along-started, along-lexeme, along-end}
 use Rattle.paw_phrase.proofs.next.read_phrase.Goals as goal
 
@@ -22,7 +22,7 @@ loop-lexeme-preserved g c =
     let within = rw (take_rest s c.loop-lexeme.end) at c.in-Some.ensures.within in (
       omega (arith, length-drop c.loop-lexeme.end s, within),
       λ e. along-lexeme game e s c.loop-lexeme.end c.in-Some.lexeme.end c.in-Some.lexeme.token c.loop-lexeme.draft c.part_of.result (Some c.in-Some-with.longer)
-          (parsed game s e c.args.noun c.args.adjective) (c.loop-lexeme.invariant.1 e) c.in-Some.ensures.value c.part_of.ensures.value
+          (phrase_parsed game s e c.args.noun c.args.adjective) (c.loop-lexeme.invariant.1 e) c.in-Some.ensures.value c.part_of.ensures.value
           c.in-Some-with.ensures.value,
     )
 
@@ -31,11 +31,11 @@ returns-in-None-clause-value g c e =
     let game = g.T.Tables.game c.args.tables.now in
     let s = c.args.bytes.now in
     along-lexeme game e s c.loop-lexeme.end c.in-Some.lexeme.end c.in-Some.lexeme.token c.loop-lexeme.draft c.part_of.result None
-    (parsed game s e c.args.noun c.args.adjective) (c.loop-lexeme.invariant.1 e) c.in-Some.ensures.value c.part_of.ensures.value c.in-None.ensures.value
+    (phrase_parsed game s e c.args.noun c.args.adjective) (c.loop-lexeme.invariant.1 e) c.in-Some.ensures.value c.part_of.ensures.value c.in-None.ensures.value
 
 pub returns-clause-value : goal.returns-clause-value
 returns-clause-value g c e =
     let game = g.T.Tables.game c.args.tables.now in
     let s = c.args.bytes.now in
-    along-end game e s c.loop-lexeme.end c.loop-lexeme.draft (parsed game s e c.args.noun c.args.adjective)
+    along-end game e s c.loop-lexeme.end c.loop-lexeme.draft (phrase_parsed game s e c.args.noun c.args.adjective)
     (c.loop-lexeme.invariant.1 e) c.in_default.ensures.value

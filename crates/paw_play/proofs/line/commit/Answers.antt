@@ -2,7 +2,7 @@ use Rattle.std.proofs.Common.{◌≡◌, List, ap, ◌∙◌, subst}
 use Rattle.std.specs.Prelude.{OnOk, ℕ}
 use Rattle.paw_stage.specs.Stage.{Standing}
 use Rattle.paw_stage.specs.Moments.{Passes}
-use Rattle.paw_journal.specs.Session.{Digests, Recovered, Shown, recover, kept_digests, committed}
+use Rattle.paw_journal.specs.Session.{Digests, Recovered, Shown, recover, kept_digests, session_committed}
 use Rattle.paw_journal.specs.inner.Store.{InStore, CrashLeavesSuch, IsOldOrNew}
 use Rattle.paw_play.specs.inner.OnTheWay.{seat_state, seat_base}
 use Rattle.paw_play.proofs.line.commit.Goals as goal
@@ -26,8 +26,8 @@ returns-clause-exact g c = λ tells.
     let old : List ℕ = (g.S.Stage.standing c.args.stage.now).disk.bytes in
     let new : List ℕ = (g.S.Stage.standing c.commit.new.stage).disk.bytes in
     subst (λ x. OnOk c.commit.result (new ≡ x))
-    (ap (λ x. committed x c.piece.result.now old) c.put_state.ensures.base
-    ∙ ap (λ x. committed (seat_base c.args.events c.args.player.now) x old) c.piece.ensures.value)
+    (ap (λ x. session_committed x c.piece.result.now old) c.put_state.ensures.base
+    ∙ ap (λ x. session_committed (seat_base c.args.events c.args.player.now) x old) c.piece.ensures.value)
     (c.commit.ensures.exact tells)
 
 pub returns-clause-any_moment : goal.returns-clause-any_moment

@@ -3,9 +3,9 @@ use Rattle.paw_stage.proofs.Time.{Passes_map}
 use Rattle.paw_stage.specs.Stage.{Standing}
 use Rattle.paw_routines.specs.Measure.{measure}
 use Rattle.paw_journal.specs.inner.Session.{digests_of}
-use Rattle.paw_play.specs.Played.{PlayedSession, begun}
+use Rattle.paw_play.specs.Played.{PlayedSession, session_begun}
 use Rattle.paw_play.specs.Keeping.{InNewSession}
-use Rattle.paw_play.specs.Play.{MadeAndPlayed, unattached, occupied, plays_in}
+use Rattle.paw_play.specs.Play.{MadeAndPlayed, unattached, occupied, starts_play}
 use Rattle.paw_play.specs.inner.OnTheWay.{IsRestingStore}
 use Rattle.paw_play.proofs.Attaching.{store_attached, store_empty, at_new_attach, new_from}
 use Rattle.paw_play.proofs.Begun.{own_session}
@@ -37,8 +37,8 @@ returns-clause-plays g c = λ tells X answers.
     let name = c.args.name.now in
     let own = own_session story c.args.seed (digests_of c.args.game.now (measure X)) name (ap (λ d. digests_of d (measure X)) c.requires.game) in
     let store : IsRestingStore name after_attach = subst (IsRestingStore name) (sym a.1) (store_attached old name) in
-    plays_in c.play_in.result (store_empty old _ name c.in-Ok.at.length a (omega (arith, c.if-at-ne0.false)))
-    (subst (λ q. MadeAndPlayed (begun story c.args.seed name) q after_play_in c.play_in.result) a.1
+    starts_play c.play_in.result (store_empty old _ name c.in-Ok.at.length a (omega (arith, c.if-at-ne0.false)))
+    (subst (λ q. MadeAndPlayed (session_begun story c.args.seed name) q after_play_in c.play_in.result) a.1
     (subst (λ s. MadeAndPlayed s after_attach after_play_in c.play_in.result) own
     (c.play_in.ensures.plays (c.attach.ensures.serves.tells.0 tells) X answers name store)))
 
@@ -59,7 +59,7 @@ returns-clause-any_moment g c = λ tells X answers empty.
     let name = c.args.name.now in
     let a = c.in-Ok.ensures.attached tells in
     let now = c.attach.ensures.serves.tells.0 tells in
-    let s : PlayedSession = begun story c.args.seed name in
+    let s : PlayedSession = session_begun story c.args.seed name in
     let own = own_session story c.args.seed (digests_of c.args.game.now (measure X)) name (ap (λ d. digests_of d (measure X)) c.requires.game) in
     let store : IsRestingStore name after_attach = subst (IsRestingStore name) (sym a.1) (store_attached old name) in
     then_attached g.S.Stage g.met.S.Stage.only_now g.met.S.Stage.counts_now c.args.stage.now c.attach.new.stage c.play_in.new.stage

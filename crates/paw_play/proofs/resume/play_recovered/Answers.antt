@@ -6,7 +6,7 @@ use Rattle.paw_routines.specs.Routines.{AreAnswersOf, HaveAnswers}
 use Rattle.paw_effects.specs.Story.{story_of}
 use Rattle.std.specs.Prelude.{Result, Ok, Err, IsOk}
 use Rattle.paw_state.specs.declared.StateFault.{StateFault}
-use Rattle.paw_state.specs.declared.Restored.{Restored}
+use Rattle.paw_state.specs.declared.parts.Restored.{Restored}
 use Rattle.paw_state.specs.Fit.{Fit, Unfit}
 use Rattle.paw_state.specs.inner.Fit.{state_read}
 use Rattle.paw_state.proofs.Ruled.{each_of}

@@ -11,7 +11,7 @@ use Rattle.paw_play.specs.inner.Calls.{call_of_end}
 use Rattle.paw_play.specs.Session.{IsOfStory}
 use Rattle.paw_play.specs.Played.{ShowsState, from_state}
 use Rattle.paw_play.specs.Keeping.{InPlay}
-use Rattle.paw_play.specs.Play.{NotYet, Resumed, store_bytes, unattached, wanting, plays_up, attached_to}
+use Rattle.paw_play.specs.Play.{NotYet, Resumed, store_bytes, unattached, without_memory, resumes_play, attached_to}
 use Rattle.paw_play.specs.inner.OnTheWay.{IsRestingStore, end_of}
 use Rattle.paw_play.proofs.Attaching.{store_attached}
 use Rattle.paw_play.proofs.Standing.{is_shown, again_goes_on}
@@ -32,7 +32,7 @@ returns-in-Err-clause-plays g c = λ tells X answers.
     rw (the_only_one c.in-Err.call call.Attach c.in-Err.ensures.serves.among) (unattached (c.in-Err.ensures.left tells))
 
 pub returns-in_default-clause-plays : goal.returns-in_default-clause-plays
-returns-in_default-clause-plays g c = λ tells X answers. wanting (c.in-Ok.ensures.attached tells).1
+returns-in_default-clause-plays g c = λ tells X answers. without_memory (c.in-Ok.ensures.attached tells).1
 
 pub returns-in-Err-find-clause-refused : goal.returns-in-Err-find-clause-refused
 returns-in-Err-find-clause-refused g c = rw c.not_found.ensures.value (not_for_call c.in-Err-find.refusal)
@@ -68,7 +68,7 @@ returns-clause-plays g c = λ tells X answers.
     (subst (λ d. BelongsTo d c.measure.result digests) c.requires.game (c.in-Ok-find.ensures.belongs now)) in
     let is : after_find ≡ attached_to old name = c.find.ensures.still now ∙ a.1 in
     let store : IsRestingStore name after_find = subst (IsRestingStore name) (sym is) (store_attached old name) in
-    plays_up c.play_recovered.result digests belongs
+    resumes_play c.play_recovered.result digests belongs
     (subst (λ q. Resumed story digests name q after_take_up c.play_recovered.result) is
     (c.play_recovered.ensures.plays (c.find.ensures.serves.tells.0 now) X answers name store))
 

@@ -1,6 +1,6 @@
 use Rattle.std.proofs.Common.{List, ℕ, ◌++◌, ◌∙◌, ap}
 use Rattle.paw_game.specs.Game.{GameLists}
-use Rattle.paw_print.specs.Canonical.{canonical_lines, canonical_of, written}
+use Rattle.paw_print.specs.Canonical.{canonical_lines, canonical_of, with_line_ends}
 use Rattle.paw_print.proofs.KnownCodes.{valid_known}
 use Rattle.paw_print.proofs.printer.canonical.Goals as goal
 
@@ -14,6 +14,6 @@ returns c =
     record {
       value =
           c.in_ok-write_game.ensures.writes
-          ∙ ap (λ (t : List ℕ). t ++ written (canonical_lines c.parts.result.now)) out
-          ∙ ap (λ (g : GameLists). written (canonical_lines g)) c.parts.ensures.value;
+          ∙ ap (λ (t : List ℕ). t ++ with_line_ends (canonical_lines c.parts.result.now)) out
+          ∙ ap (λ (g : GameLists). with_line_ends (canonical_lines g)) c.parts.ensures.value;
     }

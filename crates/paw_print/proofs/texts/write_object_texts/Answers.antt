@@ -3,7 +3,7 @@ use Rattle.std.specs.Prelude.{codes}
 use Rattle.std.proofs.lemmas.List.{take_all}
 use Rattle.paw_game.specs.declared.parts.ObjectRow.{ObjectRow}
 use Rattle.paw_print.specs.Lines.{text_lines}
-use Rattle.paw_print.specs.Canonical.{numbered, written}
+use Rattle.paw_print.specs.Canonical.{numbered_lines, with_line_ends}
 use Rattle.paw_print.proofs.Growing.{numbered_more, numbered-map}
 use Rattle.paw_print.proofs.texts.write_object_texts.Goals as goal
 
@@ -22,6 +22,6 @@ returns c =
     record {
       writes =
           c.loop-number.invariant
-          ∙ ap (λ (ls : List (List ℕ)). c.args.out.now.items ++ written (codes "/OTX" ∷ ls))
-          (ap (numbered text_rows 0) all ∙ sym (numbered-map text_lines (λ (o : ObjectRow). o.text) 0 c.args.objects.now));
+          ∙ ap (λ (ls : List (List ℕ)). c.args.out.now.items ++ with_line_ends (codes "/OTX" ∷ ls))
+          (ap (numbered_lines text_rows 0) all ∙ sym (numbered-map text_lines (λ (o : ObjectRow). o.text) 0 c.args.objects.now));
     }

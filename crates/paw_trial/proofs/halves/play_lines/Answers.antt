@@ -3,7 +3,7 @@ use Rattle.sha2.specs.Sha256.{sha256}
 use Rattle.paw_game.specs.Image.{image}
 use Rattle.paw_stage.specs.inner.Memory.{standing_of}
 use Rattle.paw_effects.specs.Story.{story_of}
-use Rattle.paw_play.specs.Played.{begun}
+use Rattle.paw_play.specs.Played.{session_begun}
 use Rattle.paw_play.specs.Play.{NewSession, PlaysAgain}
 use Rattle.paw_trial.specs.inner.Session.{PlaysHalf, trial_store}
 use Rattle.paw_trial.proofs.halves.play_lines.Goals as goal
@@ -28,8 +28,8 @@ returns-in-First g c = record {
       let new = standing_of c.play_loop.new.stage in
       let seed : c.from-seed.result ≡ n = omega arith in
       subst (λ h. PlaysHalf h n old new c.play_loop.result) (sym c.in-First.is)
-      (subst (λ g. NewSession (begun (story_of g []) n trial_store) old new c.play_loop.result) c.game-game.ensures.value
-      (subst (λ s. NewSession (begun (story_of c.game-game.result.now []) s trial_store) old new c.play_loop.result) seed
+      (subst (λ g. NewSession (session_begun (story_of g []) n trial_store) old new c.play_loop.result) c.game-game.ensures.value
+      (subst (λ s. NewSession (session_begun (story_of c.game-game.result.now []) s trial_store) old new c.play_loop.result) seed
       (c.play_loop.ensures.plays tt [] c.requires.answers)));
 }
 

@@ -10,8 +10,8 @@ use Rattle.paw_host.proofs.Named.{name_short}
 use Rattle.paw_host.proofs.Serving.{does_request, doing_request}
 use Rattle.paw_host.proofs.lines.Seats.answer.Goals as goal
 
-pub begin-requires : goal.begin-requires
-begin-requires g c = record { short = leb-true (length c.args.request.name.now) 16 (name_short c.args.request.name.now c.requires.name) }
+pub begin_reply-requires : goal.begin_reply-requires
+begin_reply-requires g c = record { short = leb-true (length c.args.request.name.now) 16 (name_short c.args.request.name.now c.requires.name) }
 
 pub returns-in-Err-clause-leaves : goal.returns-in-Err-clause-leaves
 returns-in-Err-clause-leaves g c = record {
@@ -36,7 +36,7 @@ returns-clause-done g c = λ tells X answers sessions may stores.
     let old = g.S.Stage.standing c.args.stage.now in
     let here = subst (λ x. Stores story (sessions name) (file_bytes old x)) (sym is) (stores name c.requires.name) in
     does_request story c.args.hosted.now.seed sessions old _ (asks c.args.request) store _ _ _ stores c.requires.name is
-    (c.answer.ensures.leaves.beside tells) (c.in-Ok.ensures.leaves.left tells).attached c.begin.ensures.value
+    (c.answer.ensures.leaves.beside tells) (c.in-Ok.ensures.leaves.left tells).attached c.begin_reply.ensures.value
     (c.in-Ok.ensures.promises tells X answers (sessions name) (may name c.requires.name) here).meaning
     c.push.ensures.value
 

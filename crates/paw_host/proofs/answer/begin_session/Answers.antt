@@ -11,7 +11,7 @@ use Rattle.paw_host.specs.inner.Answers.{InFile, LeftOfBeginning}
 use Rattle.paw_host.proofs.Leaving.{leaves_none}
 use Rattle.paw_host.proofs.Sitting.{shows_by}
 use Rattle.paw_host.proofs.Opening.{sits, first_answer, first_stands, first_refused, in_beginning}
-use Rattle.paw_host.proofs.answer.begin.Goals as goal
+use Rattle.paw_host.proofs.answer.begin_session.Goals as goal
 
 same_digests : (a b c d : List ℕ) → a ≡ c → b ≡ d → digests_of a b ≡ digests_of c d
 same_digests a b c d e f = ap (λ x. digests_of x b) e ∙ ap (digests_of c) f

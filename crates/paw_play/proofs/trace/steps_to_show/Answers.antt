@@ -1,6 +1,6 @@
 use Rattle.std.proofs.lemmas.List.{take_min}
 use Rattle.paw_base.specs.declared.limits.TheConstants.{STEP_LIMIT}
-use Rattle.paw_play.proofs.trace.told_steps.Goals as goal
+use Rattle.paw_play.proofs.trace.steps_to_show.Goals as goal
 
 pub returns-clause-value : goal.returns-clause-value
 returns-clause-value c = rw c.min.ensures (take_min STEP_LIMIT c.args.steps.now)

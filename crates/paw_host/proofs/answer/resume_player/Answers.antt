@@ -12,7 +12,7 @@ use Rattle.paw_effects.specs.declared.act.Prompt.TheVariants as prompt
 use Rattle.paw_journal.specs.Session.{BelongsTo, recover, kept_digests}
 use Rattle.paw_journal.specs.inner.Session.{session_shown}
 use Rattle.paw_state.specs.declared.StateFault.{StateFault}
-use Rattle.paw_state.specs.declared.Restored.{Restored}
+use Rattle.paw_state.specs.declared.parts.Restored.{Restored}
 use Rattle.paw_state.specs.Fit.{Fit}
 use Rattle.paw_state.specs.State.{IsValidState}
 use Rattle.paw_state.specs.inner.Fit.{IsRead, state_read}
@@ -27,7 +27,7 @@ use Rattle.paw_play.specs.Session.{IsOfStory}
 use Rattle.paw_play.proofs.Showing.{read_fits}
 use Rattle.paw_host.specs.inner.Seats.{StandsAfter, StaysSeated}
 use Rattle.paw_host.proofs.Opening.{taken_up, unfit_shows_none}
-use Rattle.paw_host.proofs.answer.take_up.Goals as goal
+use Rattle.paw_host.proofs.answer.resume_player.Goals as goal
 
 not_ok : (r : Result Restored StateFault) (e : StateFault) → r ≡ Err e → IsOk r → ⊥
 not_ok (Ok x) e is h = cc
