@@ -20,6 +20,4 @@ mod positions;
 pub mod presence;
 mod referring;
 mod signs;
-#[cfg(test)]
-mod tests;
 pub mod text;

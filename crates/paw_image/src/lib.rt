@@ -20,8 +20,6 @@ mod parts;
 pub mod refusal;
 mod rows;
 mod tables;
-#[cfg(test)]
-mod tests;
 mod texts;
 mod version;
 pub mod view;

@@ -3,3 +3,5 @@
 
 pub mod laws;
 pub mod places;
+#[cfg(test)]
+mod tests;

@@ -6,6 +6,8 @@ use paw_base::fault::{SourceFault, SourceKind};
 use paw_image::encoder::encode;
 use std::test::Fail;
 
+mod images;
+
 /// One location with a lamp, and an entry that takes it.
 const LAMP: &[u8] =
     b"/VOC\nTAKE 30 verb\nGET 30 verb\nLANTERN 50 noun\nLAMP 50 noun\n/STX\n/MTX\n/0\nTaken.\n\

@@ -1,10 +1,13 @@
-use crate::decoder::decode;
-use crate::encoder::{encode, image_length};
-use crate::refusal::ImageRefusal;
-use crate::view::View;
+// Images that are read and written, by both readers. They stand here, where few functions are proved once more with
+// them.
+
 use paw_base::parts::{Condact, Counts, ObjectFacts};
 use paw_game::parts::GamePart;
 use paw_game::tables::Tables;
+use paw_image::decoder::decode;
+use paw_image::encoder::{encode, image_length};
+use paw_image::refusal::ImageRefusal;
+use paw_image::view::View;
 use std::alloc::{AllocError, Global};
 use std::test::Fail;
 

@@ -1,4 +1,5 @@
-// Condacts of a small game, read one after the other.
+// Condacts of a small game, read one after the other. They stand here, where few functions are proved once more with
+// them.
 
 ghost use Rattle.std.specs.Prelude.{◌≡◌, ◌+◌, ◌-◌, ◌*◌, ◌%◌, ◌<◌, ◌^◌, IfOk, map};
 ghost use Rattle.paw_effects.specs.Worlds.{IsOf};
@@ -15,13 +16,6 @@ mod indirect;
 mod object_actions;
 mod prints;
 
-use crate::act::Act;
-use crate::act::Effect;
-use crate::act::Prompt;
-use crate::act::Truth;
-use crate::condact::act;
-use crate::condact::is_condition;
-use crate::condact::test;
 use paw_base::codes::ABILITY;
 use paw_base::codes::ABSENT;
 use paw_base::codes::ADD;
@@ -102,6 +96,13 @@ use paw_base::words::ADVERB_CLASS;
 use paw_base::words::NO_WORD;
 use paw_base::words::NOUN_CLASS;
 use paw_base::words::PREPOSITION_CLASS;
+use paw_effects::act::Act;
+use paw_effects::act::Effect;
+use paw_effects::act::Prompt;
+use paw_effects::act::Truth;
+use paw_effects::condact::act;
+use paw_effects::condact::is_condition;
+use paw_effects::condact::test;
 use paw_game::game::Game;
 use paw_game::parts::Condacts;
 use paw_game::parts::Entry;

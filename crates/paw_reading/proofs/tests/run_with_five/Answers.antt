@@ -1,6 +1,6 @@
 use Rattle.std.proofs.Common.{arith, ◌<◌, ◌+◌, ◌*◌, ◌%◌, rules, ℕ}
 use Rattle.paw_routines.proofs.FunctionAnswers.{answers_of, stand_for}
-use Rattle.paw_effects.proofs.tests.run_with_five.Goals as goal
+use Rattle.paw_reading.proofs.tests.run_with_five.Goals as goal
 
 -- What each routine gives.
 given : ℕ → ℕ → ℕ

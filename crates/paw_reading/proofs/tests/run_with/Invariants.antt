@@ -1,5 +1,5 @@
 use Rattle.paw_effects.specs.Worlds.{IsOf}
-use Rattle.paw_effects.proofs.tests.run_with.Given as goal
+use Rattle.paw_reading.proofs.tests.run_with.Given as goal
 
 -- The world is the game's.
 abbrev pub invariant-loop-entry : goal.invariant-loop-entry
