@@ -6,8 +6,6 @@ mod exits;
 mod objects;
 mod printer;
 mod rows;
-#[cfg(test)]
-mod tests;
 mod texts;
 mod vocabulary;
 

@@ -7,8 +7,6 @@ ghost use Rattle.paw_trial.specs.inner.Trial.{trial_end, trial_halt};
 mod counting;
 mod halves;
 mod setup;
-#[cfg(test)]
-mod tests;
 mod trial;
 
 use paw_base::fault::SpentKind;
